@@ -1,0 +1,52 @@
+-- Words on lists of numbers and on sets, which are tests.
+use Rattle.std.specs.Prelude.{ℕ, zero, suc, ◌+◌, Bool, true, false, not, ◌||◌, ◌&&◌, ◌==◌, List, [], ◌∷◌, if◌then◌else◌}
+use Rattle.std.specs.List.{list_any, range_with_len}
+
+-- a set of applicants or of programs
+abbrev pub Set : Type 0
+Set = ℕ → Bool
+
+-- whether a list has a number
+abbrev pub has : List ℕ → Set
+has xs a = list_any (λ x. x == a) xs
+
+-- how many elements of a list pass a test
+abbrev pub count : {X : Type 0} → (X → Bool) → List X → ℕ
+count test [] = 0
+count test (x ∷ xs) = (if test x then 1 else 0) + count test xs
+
+-- the front of a list before the first element that passes a test: all of it where none does
+abbrev pub until : {X : Type 0} → (X → Bool) → List X → List X
+until test [] = []
+until test (x ∷ xs) = if test x then [] else (x ∷ until test xs)
+
+-- the front of a list up to the first element that passes a test, that element included
+abbrev pub through : {X : Type 0} → (X → Bool) → List X → List X
+through test [] = []
+through test (x ∷ xs) = if test x then (x ∷ []) else (x ∷ through test xs)
+
+-- how many members of a set stand above a number on a list
+abbrev pub above : Set → List ℕ → ℕ → ℕ
+above set xs a = count set (until (λ x. x == a) xs)
+
+-- a set with one number more
+abbrev pub with_one : Set → ℕ → Set
+with_one set a b = (b == a) || set b
+
+-- a set without one number
+abbrev pub without : Set → ℕ → Set
+without set a b = not (b == a) && set b
+
+-- the numbers below n, in order
+abbrev pub below : ℕ → List ℕ
+below n = range_with_len 0 n
+
+-- how many numbers below n are in a set
+abbrev pub count_below : Set → ℕ → ℕ
+count_below set zero = 0
+count_below set (suc n) = (if set n then 1 else 0) + count_below set n
+
+-- whether no number stands twice on a list
+abbrev pub is_distinct : List ℕ → Bool
+is_distinct [] = true
+is_distinct (x ∷ xs) = not (has xs x) && is_distinct xs
