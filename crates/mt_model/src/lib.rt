@@ -2,10 +2,14 @@
 //! the limits of an input, a match, and in `specs/` the definitions that every contract cites.
 #![tactic(auto)]
 
+mod events;
 mod limits;
 mod matching;
 mod numbers;
+mod verdict;
 
+pub use events::{Event, Reply};
 pub use limits::{LIMITS, LIMITS_2, Limits};
 pub use matching::{Match, Places};
 pub use numbers::{Agent, AppNo, CoupleNo, ProgNo};
+pub use verdict::{Blocker, Verdict};
