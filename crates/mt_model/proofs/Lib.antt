@@ -1,1 +1,2 @@
 mod Scratch
+pub mod SinglesFacts
