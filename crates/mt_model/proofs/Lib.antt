@@ -1,3 +1,2 @@
 mod Scratch
-pub mod SinglesFacts
 pub mod FlatListsFacts
