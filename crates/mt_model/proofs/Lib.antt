@@ -1,2 +1,1 @@
-mod Scratch
 pub mod FlatListsFacts

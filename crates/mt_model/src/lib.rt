@@ -3,6 +3,7 @@
 #![tactic(auto)]
 
 mod events;
+pub mod examples;
 mod flat_lists;
 mod limits;
 mod matching;
