@@ -1,1 +1,2 @@
 pub mod FlatListsFacts
+pub mod BelowFacts

@@ -2,9 +2,12 @@
 #![tactic(auto)]
 
 mod drain;
+mod refusal;
+mod text;
 
 
 
 pub use drain::{Drain, Wrote, put_all};
+pub use refusal::{RefusalLine, refused};
 
 

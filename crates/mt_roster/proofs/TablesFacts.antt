@@ -1,7 +1,6 @@
 -- What a roster's tables say of the market that they are seen as.
 use Rattle.std.proofs.Common.{◌≡◌, ℕ, zero, suc, ◌+◌, ◌<◌, List, [], ◌∷◌, map, length, get_or, refl, ap, ◌∙◌, arith, add-suc, sym}
-use Rattle.std.specs.List.{range_with_len}
-use Rattle.mt_model.specs.Lists.{below}
+use Rattle.mt_model.proofs.BelowFacts.{length-map_below, map_below_at}
 use Rattle.mt_model.specs.Market.{Program, Pair, Partners, applicants, program_of, couple_of, agent_of}
 use Rattle.mt_model.specs.declared.numbers.Agent.{Agent}
 use Rattle.mt_roster.specs.View.{registered_of, AreTables}
@@ -34,21 +33,6 @@ couple_at [] (p ∷ ps) i h = absurd (omega arith)
 couple_at (m ∷ ms) [] i h = absurd (omega arith)
 couple_at (m ∷ ms) (p ∷ ps) zero h = refl
 couple_at (m ∷ ms) (p ∷ ps) (suc i) h = couple_at ms ps i (omega arith)
-
-length-map_range : {X : Type 0} (f : ℕ → X) (a n : ℕ) → length (map f (range_with_len a n)) ≡ n
-length-map_range f a zero = refl
-length-map_range f a (suc n) = ap suc (length-map_range f (a + 1) n)
-
-pub length-map_below : {X : Type 0} (f : ℕ → X) (n : ℕ) → length (map f (below n)) ≡ n
-length-map_below f n = length-map_range f 0 n
-
-map_range_at : {X : Type 0} (f : ℕ → X) (a n i : ℕ) (d : X) → i < n → get_or (map f (range_with_len a n)) i d ≡ f (a + i)
-map_range_at f a zero i d h = absurd (omega arith)
-map_range_at f a (suc n) zero d h = let e : a ≡ a + 0 = omega arith in ap f e
-map_range_at f a (suc n) (suc i) d h = let e : a + 1 + i ≡ a + suc i = omega arith in map_range_at f (a + 1) n i d (omega arith) ∙ ap f e
-
-pub map_below_at : {X : Type 0} (f : ℕ → X) (n i : ℕ) (d : X) → i < n → get_or (map f (below n)) i d ≡ f i
-map_below_at f n i d h = let e : 0 + i ≡ i = omega arith in map_range_at f 0 n i d h ∙ ap f e
 
 -- Below, t are the tables of a roster.
 pub count_of_programs : (t : Inside) → AreTables t → length (registered_of t).market.programs ≡ length t.quotas.items
