@@ -1,2 +1,3 @@
 mod Scratch
 pub mod SinglesFacts
+pub mod Totals
