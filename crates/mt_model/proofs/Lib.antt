@@ -1,3 +1,4 @@
 mod Scratch
 pub mod SinglesFacts
 pub mod Totals
+pub mod Seats
