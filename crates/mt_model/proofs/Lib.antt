@@ -1,2 +1,5 @@
+pub mod ChoiceLemmas
+pub mod ListLemmas
 mod Scratch
 pub mod SinglesFacts
+pub mod TakenLemmas
