@@ -1,6 +1,9 @@
-mod Scratch
-pub mod SinglesFacts
-pub mod Totals
-pub mod Seats
+pub mod ChoiceLemmas
+pub mod ListLemmas
 pub mod RuralAssumed
 pub mod RuralLemmas
+mod Scratch
+pub mod Seats
+pub mod SinglesFacts
+pub mod TakenLemmas
+pub mod Totals
