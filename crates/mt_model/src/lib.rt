@@ -3,6 +3,7 @@
 #![tactic(auto)]
 
 mod events;
+pub mod laws;
 mod limits;
 mod matching;
 mod numbers;
