@@ -1,4 +1,5 @@
 pub mod ChoiceLemmas
+pub mod LegalBestLemmas
 pub mod ListLemmas
 pub mod RuralAssumed
 pub mod RuralLemmas

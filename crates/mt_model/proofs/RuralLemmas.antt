@@ -80,7 +80,7 @@ placed_in_best m b n best st a h = by_places (place_of b a) refl (place_of n a) 
         absurd (both_ways (at n q a) (best.none_better a q too_good n st) at_q)
 
 -- a program's places, counted by the market's applicants
-filled_of : (m : Market) (n : Places) → IsStableForSingles m n → (p : ℕ) → filled n p ≡ count_below (at n p) (applicants m)
+pub filled_of : (m : Market) (n : Places) → IsStableForSingles m n → (p : ℕ) → filled n p ≡ count_below (at n p) (applicants m)
 filled_of m n st p = filled_by_applicant n p ∙ ap (count_below (at n p)) st.one_each
 
 -- whoever is on the list and in the set, with fewer than quota of it above, is chosen
@@ -133,12 +133,11 @@ places_within : (m : Market) → IsWellFormed m → (n : Places) → IsStableFor
 places_within m w n st a p h = w.lists_within a p (st.on_list a p h)
 
 -- how many applicants a match places
-placed : Market → Places → ℕ
+abbrev pub placed : Market → Places → ℕ
 placed m n = count_below (λ a. is_some (place_of n a)) (applicants m)
 
 -- as many as a match places, its programs have
-placed_total : (m : Market) → IsWellFormed m → (n : Places) → IsStableForSingles m n → total_below (filled n) (length m.programs) ≡ placed m n
-unfolding placed
+pub placed_total : (m : Market) → IsWellFormed m → (n : Places) → IsStableForSingles m n → total_below (filled n) (length m.programs) ≡ placed m n
 placed_total m w n st = placed_count n (length m.programs) (places_within m w n st) ∙ ap (count_below (λ a. is_some (place_of n a))) st.one_each
 
 -- a number that no applicant has is unplaced
@@ -154,7 +153,6 @@ unfilled_past m n st p past =
 -- the totals of a stable match and the best one agree
 totals_agree : (m : Market) → IsWellFormed m → (b n : Places) → IsBest m b → IsTrue (stable (singles_market m) n) →
     (total_below (filled n) (length m.programs) ≤ total_below (filled b) (length m.programs)) × (placed m b ≤ placed m n)
-unfolding placed
 totals_agree m w b n best st =
     let of_b : total_below (filled b) (length m.programs) ≡ placed m b = placed_total m w b (stable_facts m b best.is_stable) in
     let of_n : total_below (filled n) (length m.programs) ≡ placed m n = placed_total m w n (stable_facts m n st) in
@@ -174,7 +172,6 @@ as_many_as_best m w b n best st p =
 -- a stable match places whom the best one places
 placed_as_in_best : (m : Market) → IsWellFormed m → (b n : Places) → IsBest m b → IsTrue (stable (singles_market m) n) → (a : ℕ) →
     is_some (place_of n a) ≡ is_some (place_of b a)
-unfolding placed
 placed_as_in_best m w b n best st a =
     elim (cases_lt a (applicants m)) [
       inl within ↦

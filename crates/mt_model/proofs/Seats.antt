@@ -26,24 +26,30 @@ one_program (Some q) k h =
     let one : count_below (λ p. q == p) k ≡ (if nat_lt q k then 1 else 0) = count_below-one q k in
     grind (arith, nat_tests)
 
+-- as many of the first n applicants are placed as the programs have of them
+pub placed_by_program : (places : Places) (n k : ℕ) → ((a p : ℕ) → IsTrue (at places p a) → p < k) →
+    total_below (λ p. count_below (at places p) n) k ≡ count_below (λ a. is_some (place_of places a)) n
+placed_by_program places n k h =
+    total_below-swap (λ p. one_in (at places p)) n k
+    ∙ total_below-same (λ a. total_below (λ p. one_in (at places p) a) k) (one_in (λ a. is_some (place_of places a))) n (λ a l. one_program (place_of places a) k (h a))
+
 -- as many applicants are placed as places are filled
 pub placed_count : (places : Places) (k : ℕ) → ((a p : ℕ) → IsTrue (at places p a) → p < k) →
     total_below (filled places) k ≡ count_below (λ a. is_some (place_of places a)) (length places)
 placed_count places k h =
     total_below-same (filled places) (λ p. count_below (at places p) (length places)) k (λ p l. filled_by_applicant places p)
-    ∙ total_below-swap (λ p. one_in (at places p)) (length places) k
-    ∙ total_below-same (λ a. total_below (λ p. one_in (at places p) a) k) (one_in (λ a. is_some (place_of places a))) (length places) (λ a l. one_program (place_of places a) k (h a))
+    ∙ placed_by_program places (length places) k h
 
 -- the first of a list is on it
 has-head : (x : ℕ) (xs : List ℕ) → IsTrue (has (x ∷ xs) x)
 has-head x xs = grind (arith, nat_tests)
 
 -- what is on the rest of a list is on it
-has-tail : (x : ℕ) (xs : List ℕ) (a : ℕ) → IsTrue (has xs a) → IsTrue (has (x ∷ xs) a)
+pub has-tail : (x : ℕ) (xs : List ℕ) (a : ℕ) → IsTrue (has xs a) → IsTrue (has (x ∷ xs) a)
 has-tail x xs a h = grind (arith, nat_tests)
 
 -- what is on the rest of a list without repeats isn't its first
-not_head : (x : ℕ) (xs : List ℕ) (a : ℕ) → IsTrue (is_distinct (x ∷ xs)) → IsTrue (has xs a) → IsFalse (x == a)
+pub not_head : (x : ℕ) (xs : List ℕ) (a : ℕ) → IsTrue (is_distinct (x ∷ xs)) → IsTrue (has xs a) → IsFalse (x == a)
 not_head x xs a d h =
     let new : IsTrue (not (has xs x)) = (and_parts (not (has xs x)) (is_distinct xs) d).0 in
     elim (cases_Bool (x == a)) [

@@ -1,6 +1,7 @@
 //! Laws of the definitions: each is the contract of a function that does nothing.
 
 mod floors;
+mod rural_law;
 
 pub use floors::{
     best_exists, due_at_most, due_proposals_are_made, event_due, event_keeps_legal,
@@ -8,3 +9,4 @@ pub use floors::{
     events_keep_recorded, events_keep_strict, legal_from_passed, made_at_most, opening_is_strict,
     order_free, quiet_counts, result_of_floor, strict_best,
 };
+pub use rural_law::{legal_best, rural};

@@ -4,7 +4,10 @@ use Rattle.std.specs.Prelude.{◌≡◌, ℕ, ◌<◌, [], is_some, IsTrue}
 use Rattle.mt_model.specs.Market.{Market, program_of, singles_market}
 use Rattle.mt_model.specs.Matching.{Places, place_of, at, filled}
 use Rattle.mt_model.specs.Stability.{stable}
+use Rattle.mt_model.specs.Best.{IsBest}
+use Rattle.mt_model.specs.Floor.{Floor, IsLegal, is_quiet}
 use Rattle.mt_model.specs.WellFormed.{IsWellFormed}
+use Rattle.mt_model.specs.Laws.Floors.{IsResult}
 
 -- Two matches place the same applicants and equally many at each program, and a program with a free post
 -- has the same applicants in both.
@@ -24,3 +27,9 @@ abbrev pub FillAlikeWithoutCouples : Type 0
 FillAlikeWithoutCouples =
     (m : Market) → IsWellFormed m → m.couples ≡ [] → (s t : Places) →
     IsTrue (stable m s) → IsTrue (stable m t) → FillsAlike m s t
+
+-- a legal floor on which no event is due has the best match as its result
+abbrev pub LegalBest : Type 0
+LegalBest =
+    (m : Market) → IsWellFormed m → (f : Floor) → IsLegal m f → IsTrue (is_quiet m f)
+    → (places : Places) → IsResult m f places → IsBest m places
