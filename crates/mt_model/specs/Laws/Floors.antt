@@ -68,6 +68,10 @@ EventDue = (m : Market) (f : Floor) (e : Event) → IsTrue (is_due m f e) → re
 abbrev pub DueAtMost : Type 0
 DueAtMost = (m : Market) (f : Floor) → IsRecorded m f → (es : List Event) → due_count m f es ≤ 2 * live_entries m
 
+-- from each recorded floor, some list of events ends where no event is due
+abbrev pub QuietIsReached : Type 0
+QuietIsReached = (m : Market) (f : Floor) → IsRecorded m f → (es : List Event) × IsTrue (is_quiet m (after_all m f es))
+
 -- whether an event is a proposal
 abbrev pub is_proposal : Event → Bool
 is_proposal (Propose a) = true

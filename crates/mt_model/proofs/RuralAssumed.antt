@@ -1,0 +1,10 @@
+-- What the other laws give, until they stand.
+use Rattle.mt_model.specs.Laws.Floors.{BestExists, StrictBest}
+
+-- a best match exists
+pub best_exists : BestExists
+best_exists m w = ?
+
+-- a strict floor on which no event is due has the best match as its result
+pub strict_best : StrictBest
+strict_best m w f strict quiet places result = ?
