@@ -245,7 +245,7 @@ pub record IsDropped (m : Market) (f : Floor) (a k p : ℕ) : Type 0 where
   pub out : IsFalse (held m f p a)
 
 -- an element stands at each place of a list
-get_some : (xs : List ℕ) (k : ℕ) → k < length xs → (p : ℕ) × (slice_get xs k ≡ Some p)
+pub get_some : (xs : List ℕ) (k : ℕ) → k < length xs → (p : ℕ) × (slice_get xs k ≡ Some p)
 get_some [] k h = absurd (omega arith)
 get_some (x ∷ xs) zero h = (x, refl)
 get_some (x ∷ xs) (suc k) h = get_some xs k (omega arith)
