@@ -4,6 +4,7 @@ pub mod FloorBest
 pub mod FloorChoices
 pub mod FloorEvents
 pub mod FloorLists
+pub mod FloorQuiet
 pub mod FloorRuns
 pub mod FloorSums
 pub mod LegalBestLemmas
