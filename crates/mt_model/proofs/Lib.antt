@@ -1,7 +1,7 @@
 pub mod ChoiceLemmas
 pub mod ExclusionLemmas
+pub mod FlatListsFacts
 pub mod ListLemmas
-mod Scratch
 pub mod SinglesFacts
 pub mod TakenLemmas
 pub mod WellFormedLemmas
