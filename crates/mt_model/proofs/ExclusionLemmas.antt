@@ -9,10 +9,11 @@ use Rattle.mt_model.specs.Choice.{choice}
 use Rattle.mt_model.specs.Stability.{stable}
 use Rattle.mt_model.specs.Best.{IsExcluded, IsBest, better_programs}
 use Rattle.mt_model.specs.WellFormed.{IsWellFormed}
+use Rattle.mt_model.specs.Laws.Singles.{IsStableForSingles, Exclusion, ExclusionByQuota, BestIsAtLeast, BestIsUnique}
 use Rattle.mt_model.proofs.ListLemmas.{one_higher, until_nobody, until_eqb_sym, has-until, above-with_one, count-slice_set, one_not_of, above-le, above-lt, until-itself, until-filter, passes_before, count_agree, count-le}
 use Rattle.mt_model.proofs.ChoiceLemmas.{IsChosenFrom, choice_from_facts}
 use Rattle.mt_model.proofs.TakenLemmas.{at-slice_set_other}
-use Rattle.mt_model.proofs.SinglesFacts.{IsStableForSingles, stable_facts, at_past}
+use Rattle.mt_model.proofs.SinglesFacts.{stable_facts, at_past}
 
 lt_of_there : (places : Places) (a p : ℕ) → IsTrue (at places p a) → a < length places
 lt_of_there places a p there =
@@ -37,20 +38,27 @@ count-at places p (x ∷ xs) distinct =
     | inr elsewhere ↦ let after : count (at places p) xs ≤ filled places p = count-at places p xs parts.1 in rw elsewhere (omega arith)
     ]
 
--- A program and a set of singles that have it on their lists, each with only excluded programs above it on
--- its live list.
-pub record Contenders (m : Market) (p : ℕ) (set : Set) : Type 0 where
-  pub on_lists : (b : ℕ) → IsTrue (set b) → IsTrue (has (list_of m b) p)
-  pub rest_excluded : (b q : ℕ) → IsTrue (set b) → IsTrue (has (until (λ x. x == p) (live m b)) q) → IsExcluded m b q
+-- In a stable match a single that a program of its list would choose, and that isn't there, has a program
+-- above it on its live list.
+has_better : (m : Market) (places : Places) → IsStableForSingles m places
+    → (b p : ℕ) → IsTrue (has (list_of m b) p) → IsTrue (choice (program_of m p) (with_one (at places p) b) b) → IsFalse (at places p b)
+    → (q : ℕ) × IsTrue (at places q b) × IsTrue (has (until (λ x. x == p) (live m b)) q)
+has_better m places facts b p on_list chosen not_there =
+    let not_better : IsFalse (has (better_programs m places b) p) = false_from_ne_true _ (λ better. both_ways _ (facts.none_block b p better) chosen) in
+    let r = passes_before (λ q. at places q b) (list_of m b) p on_list not_better not_there in
+    (r.0, r.1, until-filter (λ q. has (program_of m q).ranking b) (list_of m b) p r.0 r.2 (facts.listed b r.0 r.1))
 
--- Where quota or more of such a set are above an applicant, a stable match doesn't have it at the program:
--- fewer of those there would be above it than of the set, so that one of the set above it isn't there, would
--- be chosen, and blocks.
-not_there : (m : Market) → IsWellFormed m → (p : ℕ) (set : Set) → Contenders m p set
-    → (a : ℕ) → (program_of m p).quota ≤ above set (program_of m p).ranking a
-    → (places : Places) → IsTrue (stable (singles_market m) places) → IsTrue (at places p a) → ⊥
-not_there m well p set contenders a full places is_stable there =
-    let facts = stable_facts m places is_stable in
+-- Where quota or more of a set are above an applicant that is at the program in a stable match, one of the
+-- set isn't there and would be chosen: fewer of those there are above the applicant.
+pub record LeftOut (m : Market) (places : Places) (p : ℕ) (set : Set) : Type 0 where
+  pub single : ℕ
+  pub is_member : IsTrue (set single)
+  pub is_elsewhere : IsFalse (at places p single)
+  pub is_chosen : IsTrue (choice (program_of m p) (with_one (at places p) single) single)
+
+one_left_out : (m : Market) → IsWellFormed m → (places : Places) → IsStableForSingles m places → (p : ℕ) (set : Set) (a : ℕ) → IsTrue (at places p a)
+    → (program_of m p).quota ≤ above set (program_of m p).ranking a → LeftOut m places p set
+one_left_out m well places facts p set a there full =
     let ranking : List ℕ = (program_of m p).ranking in
     let few_above : above (at places p) ranking a < count (at places p) ranking = above-lt (at places p) ranking a (facts.listed a p there) there in
     let few_there : count (at places p) ranking ≤ filled places p = count-at places p ranking (well.rankings_distinct p) in
@@ -59,38 +67,37 @@ not_there m well p set contenders a full places is_stable there =
     let b : ℕ = r.0 in
     let no_more_above : above (at places p) ranking b ≤ above (at places p) ranking a = above-le (at places p) ranking a b r.1 in
     let same_above : above (with_one (at places p) b) ranking b ≡ above (at places p) ranking b = above-with_one (at places p) ranking b in
-    let chosen : IsTrue (choice (program_of m p) (with_one (at places p) b) b) =
-      choice_from_facts (program_of m p) (with_one (at places p) b) b (record {
+    record {
+      single = b;
+      is_member = r.2;
+      is_elsewhere = r.3;
+      is_chosen = choice_from_facts (program_of m p) (with_one (at places p) b) b (record {
         is_listed = has-until (λ x. x == a) ranking b r.1;
         is_member = or_left _ _ (eq-eqb b b refl);
-        has_few_above = omega arith }) in
-    let not_better : IsFalse (has (better_programs m places b) p) = false_from_ne_true (has (better_programs m places b) p) (λ better. both_ways (choice (program_of m p) (with_one (at places p) b) b) (facts.none_block b p better) chosen) in
-    let up = passes_before (λ q. at places q b) (list_of m b) p (contenders.on_lists b r.2) not_better r.3 in
-    let on_live = until-filter (λ q. has (program_of m q).ranking b) (list_of m b) p up.0 up.2 (facts.listed b up.0 up.1) in
-    both_ways _ (contenders.rest_excluded b up.0 r.2 on_live places is_stable) up.1
+        has_few_above = omega arith }) }
 
-pub quota_above_excludes : (m : Market) → IsWellFormed m → (p : ℕ) (set : Set) → Contenders m p set
-    → (a : ℕ) → (program_of m p).quota ≤ above set (program_of m p).ranking a → IsExcluded m a p
-quota_above_excludes m well p set contenders a full places is_stable =
-    false_from_ne_true _ (not_there m well p set contenders a full places is_stable)
+-- who has quota or more of such a set above it is excluded, since the one left out blocks
+pub exclusion_by_quota_lem : ExclusionByQuota
+exclusion_by_quota_lem m well p set on_lists rest_excluded a full places is_stable = false_from_ne_true _ λ there.
+    let facts = stable_facts m places is_stable in
+    let left = one_left_out m well places facts p set a there full in
+    let r = has_better m places facts left.single p (on_lists left.single left.is_member) left.is_chosen left.is_elsewhere in
+    both_ways _ (rest_excluded left.single r.0 left.is_member r.2 places is_stable) r.1
 
--- whoever such a set's program doesn't choose is excluded there
-pub not_chosen_excludes : (m : Market) → IsWellFormed m → (p : ℕ) (set : Set) → Contenders m p set
-    → (a : ℕ) → IsTrue (set a) → IsFalse (choice (program_of m p) set a) → IsExcluded m a p
-not_chosen_excludes m well p set contenders a in_set not_chosen places is_stable = false_from_ne_true _ λ there.
-    elim (cases_lt (above set (program_of m p).ranking a) (program_of m p).quota) [
-      inl few ↦ both_ways _ not_chosen (choice_from_facts (program_of m p) set a (record {
-        is_listed = (stable_facts m places is_stable).listed a p there; is_member = in_set; has_few_above = few }))
-    | inr full ↦ not_there m well p set contenders a full places is_stable there
+-- of such a set, whoever isn't chosen is excluded: it isn't listed, or has quota or more of the set above it
+pub exclusion_lem : Exclusion
+exclusion_lem m well p set on_lists rest_excluded a in_set not_chosen places is_stable = elim (cases_lt (above set (program_of m p).ranking a) (program_of m p).quota) [
+      inl few ↦ false_from_ne_true _ (λ there. both_ways _ not_chosen (choice_from_facts (program_of m p) set a (record {
+        is_listed = (stable_facts m places is_stable).listed a p there; is_member = in_set; has_few_above = few })))
+    | inr full ↦ exclusion_by_quota_lem m well p set on_lists rest_excluded a full places is_stable
     ]
 
 -- a stable match has no single at a program that it wants more than its place in the best match
-pub best_is_at_least : (m : Market) (best places : Places) → IsBest m best → IsTrue (stable (singles_market m) places)
-    → (a p : ℕ) → IsTrue (at places p a) → IsFalse (has (better_programs m best a) p)
-best_is_at_least m best places is_best is_stable a p there =
+pub best_is_at_least_lem : BestIsAtLeast
+best_is_at_least_lem m best places is_best is_stable a p there =
     false_from_ne_true _ (λ better. both_ways _ (is_best.none_better a p better places is_stable) there)
 
--- where a list is strict, two places on it that are both at least as good as the other are one
+-- two places on a list, neither of them better than the other, are one
 same_place : (xs : List ℕ) (s t : Option ℕ)
     → ((p : ℕ) → IsTrue (is_program p s) → IsTrue (has xs p)) → ((p : ℕ) → IsTrue (is_program p t) → IsTrue (has xs p))
     → ((p : ℕ) → IsTrue (is_program p s) → IsFalse (has (until (λ q. is_program q t) xs) p))
@@ -110,11 +117,11 @@ same_place xs (Some p) (Some q) on_s on_t s_no_better t_no_better = elim (cases_
     ]
 
 -- no more than one match is best
-pub best_is_unique : (m : Market) (s t : Places) → IsBest m s → IsBest m t → s ≡ t
-best_is_unique m s t best_s best_t =
+pub best_is_unique_lem : BestIsUnique
+best_is_unique_lem m s t best_s best_t =
     let facts_s = stable_facts m s best_s.is_stable in
     let facts_t = stable_facts m t best_t.is_stable in
     ext_get_or None s t (facts_s.one_each ∙ sym facts_t.one_each)
       (λ a a_in. same_place (list_of m a) (place_of s a) (place_of t a) (facts_s.on_list a) (facts_t.on_list a)
-        (λ p there. best_is_at_least m t s best_t best_s.is_stable a p there)
-        (λ p there. best_is_at_least m s t best_s best_t.is_stable a p there))
+        (λ p there. best_is_at_least_lem m t s best_t best_s.is_stable a p there)
+        (λ p there. best_is_at_least_lem m s t best_s best_t.is_stable a p there))

@@ -6,6 +6,7 @@ use Rattle.std.proofs.lemmas.List.{get_or_past}
 use Rattle.mt_model.specs.Lists.{Set, has, below, is_distinct}
 use Rattle.mt_model.specs.Market.{Market, Program, applicants, program_of, list_of, couple_of, agent_of}
 use Rattle.mt_model.specs.WellFormed.{IsMember, IsWellFormed, is_list_within, is_empty, is_couple, has_member, has_two_members, is_well_formed}
+use Rattle.mt_model.specs.Laws.Singles.{WellFormedTest}
 use Rattle.mt_model.specs.declared.numbers.Agent.{Agent}
 use Rattle.mt_model.specs.declared.numbers.Agent.TheVariants.{Single, Couple}
 use Rattle.mt_model.proofs.ListLemmas.{all_below, each_below, each_has, all_from_has}
@@ -95,3 +96,6 @@ test_from_well_formed m h =
         and_from _ _
           (and_from _ _ (member_from_facts m c (couple_of m c).first (h.first_member c c_in)) (member_from_facts m c (couple_of m c).second (h.second_member c c_in)))
           (not_from_false _ (ne_eqb _ _ (h.two_members c c_in)))))
+
+pub well_formed_test_lem : WellFormedTest
+well_formed_test_lem m = (well_formed_from_test m, test_from_well_formed m)

@@ -1,0 +1,2 @@
+pub mod Singles
+pub mod Taken
