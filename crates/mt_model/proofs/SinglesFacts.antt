@@ -1,20 +1,19 @@
 -- What it means, fact by fact, that a match of the singles' market is stable.
-use Rattle.std.proofs.Common.{◌≡◌, ℕ, ◌≤◌, ◌<◌, Bool, true, false, not, ◌&&◌, ◌||◌, ◌==◌, nat_le, List, [], ◌∷◌, map, length, is_some, Option, Some, None, IsTrue, IsFalse, refl, ap, sym, ◌∙◌, subst, eqb-true, eq-eqb, le-leb, leb-true, inl, inr, ◌⊎◌, arith}
+use Rattle.std.proofs.Common.{◌≡◌, ℕ, ◌≤◌, ◌<◌, true, false, not, ◌&&◌, ◌||◌, ◌==◌, nat_le, List, [], ◌∷◌, map, length, is_some, Option, Some, None, IsTrue, IsFalse, refl, ap, sym, ◌∙◌, subst, eqb-true, eq-eqb, le-leb, leb-true, inl, inr, arith}
 use Rattle.std.specs.List.{list_any, list_all}
 use Rattle.std.proofs.lemmas.Bool.{and_parts, and_from, or_left, or_right, or_cases, cases_lt, not-true, not_from_false, both_ways, false_from_ne_true}
 use Rattle.std.proofs.lemmas.Bool.Decides.{nat_tests}
 use Rattle.std.proofs.lemmas.List.{get_or_past}
 use Rattle.std.proofs.lemmas.List.Folds.{list_all-map}
 use mathlib.Core.Path.{fun_ext}
-use Rattle.mt_model.specs.Lists.{Set, has, with_one, until, below, count}
+use Rattle.mt_model.specs.Lists.{Set, has, with_one, until, below}
 use Rattle.mt_model.specs.Market.{Market, Program, applicants, program_of, list_of, singles_market, agents}
-use Rattle.mt_model.specs.Matching.{Places, at, filled, place_of, is_program, is_same_place, holds, single_placement, Placement, options, none_placed, better}
+use Rattle.mt_model.specs.Matching.{Places, at, filled, place_of, is_program, is_same_place, holds, single_placement, none_placed, better}
 use Rattle.mt_model.specs.Choice.{choice}
 use Rattle.mt_model.specs.Stability.{stable, fits, has_own_option, is_listed, blocks, would_be_taken}
 use Rattle.mt_model.specs.Best.{better_programs}
 use Rattle.mt_model.specs.Laws.Singles.{StabilityOfSingles}
 pub use Rattle.mt_model.specs.Laws.Singles.{IsStableForSingles}
-use Rattle.mt_model.specs.declared.numbers.Agent.{Agent}
 use Rattle.mt_model.specs.declared.numbers.Agent.TheVariants.{Single}
 use Rattle.mt_model.proofs.ListLemmas.{all_below, each_below, none_below, each_fails_below, count_none, none_has, none_from_each, list_any-map, until-map, filter_all}
 use Rattle.mt_model.proofs.TakenLemmas.{single_taken_lem}

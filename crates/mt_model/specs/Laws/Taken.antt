@@ -1,6 +1,6 @@
 -- The laws of which options would be taken: what the one definition says of a single, of a couple at two
 -- programs, at one program, and with one member unplaced. The rule for couples is this project's own.
-use Rattle.std.specs.Prelude.{◌≡◌, ◌≢◌, ◌↔◌, ℕ, ◌<◌, ◌≤◌, true, false, List, [], ◌∷◌, length, Option, Some, None, IsTrue, IsFalse}
+use Rattle.std.specs.Prelude.{◌≡◌, ◌≢◌, ◌↔◌, ℕ, ◌<◌, ◌≤◌, true, false, [], ◌∷◌, length, Some, None, IsTrue, IsFalse}
 use Rattle.mt_model.specs.Lists.{with_one}
 use Rattle.mt_model.specs.Market.{Market, program_of}
 use Rattle.mt_model.specs.Matching.{Places, at, single_placement, couple_placement, unplaced}
@@ -24,7 +24,7 @@ PairTaken =
     (m : Market) (places : Places) (a b x y : ℕ) → a < length places → b < length places → a ≢ b → x ≢ y
     → IsTrue (would_be_taken m places (couple_placement a b (Some x, Some y)))
     ↔ (IsTrue (choice (program_of m x) (with_one (at (taken_out places a b) x) a) a)
-      × IsTrue (choice (program_of m y) (with_one (at (taken_out places a b) y) b) b))
+    × IsTrue (choice (program_of m y) (with_one (at (taken_out places a b) y) b) b))
 
 -- One program would take both members where it chooses both from those there and the two.
 abbrev pub SameProgramTaken : Type 0
@@ -32,7 +32,7 @@ SameProgramTaken =
     (m : Market) (places : Places) (a b x : ℕ) → a < length places → b < length places
     → IsTrue (would_be_taken m places (couple_placement a b (Some x, Some x)))
     ↔ (IsTrue (choice (program_of m x) (with_one (with_one (at (taken_out places a b) x) a) b) a)
-      × IsTrue (choice (program_of m x) (with_one (with_one (at (taken_out places a b) x) a) b) b))
+    × IsTrue (choice (program_of m x) (with_one (with_one (at (taken_out places a b) x) a) b) b))
 
 -- A pair with one member unplaced would be taken where the other one's program chooses it.
 abbrev pub FirstAloneTaken : Type 0

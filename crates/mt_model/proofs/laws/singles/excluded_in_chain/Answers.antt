@@ -43,6 +43,7 @@ excluded_above_second (suc (suc b)) q h above = absurd (grind (arith, nat_tests,
 
 pub returns : goal.returns
 returns c = record {
-    well_formed = well_formed;
-    first_at_first = first_at_first;
-    second_at_second = exclusion_lem chain well_formed 1 (has (0 ∷ 1 ∷ [])) wanted_second excluded_above_second 1 refl refl }
+  well_formed = well_formed;
+  first_at_first = first_at_first;
+  second_at_second = exclusion_lem chain well_formed 1 (has (0 ∷ 1 ∷ [])) wanted_second excluded_above_second 1 refl refl;
+}
