@@ -2,6 +2,8 @@
 
 mod floors;
 mod rural_law;
+mod singles;
+mod taken;
 
 pub use floors::{
     best_exists, due_at_most, due_proposals_are_made, event_due, event_keeps_legal,
@@ -10,3 +12,11 @@ pub use floors::{
     order_free, quiet_counts, quiet_is_reached, result_of_floor, strict_best,
 };
 pub use rural_law::{legal_best, rural};
+pub use singles::{
+    best_is_at_least, best_is_unique, choice_in_words, excluded_in_chain, exclusion,
+    exclusion_by_quota, growing_choice, none_comes_back, stability_of_singles, well_formed_test,
+};
+pub use taken::{
+    half_pair_taken, never_twice_at_one, pair_taken, same_program_taken, single_taken,
+    taken_in_examples,
+};
