@@ -1,4 +1,8 @@
 pub mod ChoiceLemmas
+pub mod FloorAssumed
+pub mod FloorChoices
+pub mod FloorEvents
+pub mod FloorLists
 pub mod LegalBestLemmas
 pub mod ListLemmas
 pub mod RuralAssumed
