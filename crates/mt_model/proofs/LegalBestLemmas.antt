@@ -1,50 +1,28 @@
 -- A legal floor on which no event is due is strict: no program holds anybody that has gone on.
-use Rattle.std.proofs.Common.{◌≡◌, ℕ, zero, suc, ◌+◌, ◌-◌, ◌<◌, ◌≤◌, Bool, true, false, not, ◌&&◌, ◌==◌, nat_lt, if◌then◌else◌, IsTrue, IsFalse, List, [], ◌∷◌, length, take, filter, Option, Some, None, is_some, refl, sym, ◌∙◌, ap, arith, ◌⊎◌, inl, inr}
+use Rattle.std.proofs.Common.{◌≡◌, ℕ, zero, suc, ◌-◌, ◌<◌, ◌≤◌, Bool, true, false, ◌==◌, if◌then◌else◌, IsTrue, IsFalse, List, [], ◌∷◌, length, take, filter, Option, Some, None, is_some, refl, sym, ◌∙◌, ap, arith, ◌⊎◌, inl, inr}
 use Rattle.std.specs.Prelude.{slice_get}
-use Rattle.std.proofs.lemmas.Bool.{cases_Bool, cases_lt, both_ways, and_parts, and_from, or_from, eqb-true, eq-eqb, false≢true}
+use Rattle.std.proofs.lemmas.Bool.{cases_Bool, cases_lt, both_ways, and_from, false≢true}
 use Rattle.std.proofs.lemmas.Bool.Decides.{nat_tests}
 use Rattle.std.proofs.lemmas.List.{get_or_past, take_all}
-use Rattle.mt_model.specs.Lists.{Set, has, until, above, with_one, is_distinct, total_below, count_below}
-use Rattle.mt_model.specs.Market.{Market, Program, applicants, program_of, list_of, live, singles_market}
+use Rattle.mt_model.specs.Lists.{Set, has, until, with_one, total_below, count_below}
+use Rattle.mt_model.specs.Market.{Market, applicants, program_of, list_of, live, singles_market}
 use Rattle.mt_model.specs.Matching.{Places, place_of, is_program, at, filled}
 use Rattle.mt_model.specs.Choice.{choice}
 use Rattle.mt_model.specs.Stability.{stable}
-use Rattle.mt_model.specs.Best.{IsExcluded, IsBest, better_programs}
-use Rattle.mt_model.specs.Floor.{Floor, held, tried, gone, last_tried, is_held_by, IsRecorded, IsLegal, IsStrict, is_settled, is_quiet}
+use Rattle.mt_model.specs.Best.{IsBest, better_programs}
+use Rattle.mt_model.specs.Floor.{Floor, held, tried, gone, last_tried, is_held_by, IsLegal, IsStrict, is_settled, is_quiet}
 use Rattle.mt_model.specs.WellFormed.{IsWellFormed}
 use Rattle.mt_model.specs.Laws.Floors.{IsResult, place_on}
 use Rattle.mt_model.specs.Laws.Rural.{LegalBest}
+use Rattle.mt_model.proofs.ChoiceLemmas.{IsChosenFrom, choice_facts}
+use Rattle.mt_model.proofs.FloorEvents.{live_parts, live_distinct, gone_from_front, tried_from_received}
+use Rattle.mt_model.proofs.FloorLists.{has-filter, has-from_take, has-take_before}
 use Rattle.mt_model.proofs.ListLemmas.{each_below}
 use Rattle.mt_model.proofs.SinglesFacts.{IsStableForSingles, stable_facts}
 use Rattle.mt_model.proofs.Totals.{total_below-mono, total_below-tight, count_below-mono, count_below-tight}
-use Rattle.mt_model.proofs.Seats.{has-tail, not_head, placed_by_program, chosen_count}
+use Rattle.mt_model.proofs.Seats.{placed_by_program, chosen_count}
 use Rattle.mt_model.proofs.RuralAssumed.{best_exists, strict_best}
 use Rattle.mt_model.proofs.RuralLemmas.{place_at, at_place, better_than_none, better_than_place, filled_of, taken_where_free, placed_total}
-
--- Lists.
-
--- what a filter keeps is on the list and passes
-has-filter : (test : Set) (xs : List ℕ) (p : ℕ) → has (filter test xs) p ≡ (has xs p && test p)
-has-filter test [] p = refl
-has-filter test (x ∷ xs) p = grind (arith, nat_tests, has-filter test xs p)
-
--- a filter of a list without repeats has none
-is_distinct-filter : (test : Set) (xs : List ℕ) → IsTrue (is_distinct xs) → IsTrue (is_distinct (filter test xs))
-is_distinct-filter test [] d = refl
-is_distinct-filter test (x ∷ xs) d = grind (arith, nat_tests, is_distinct-filter test xs, has-filter test xs x)
-
--- what is on the front of a list is on the list
-has-take : (k : ℕ) (xs : List ℕ) (p : ℕ) → IsTrue (has (take k xs) p) → IsTrue (has xs p)
-has-take zero xs p h = absurd (false≢true h)
-has-take (suc k) [] p h = h
-has-take (suc k) (x ∷ xs) p h = grind (arith, nat_tests, has-take k xs p)
-
--- a longer front has more
-has-take-more : (k l : ℕ) (xs : List ℕ) (p : ℕ) → k ≤ l → IsTrue (has (take k xs) p) → IsTrue (has (take l xs) p)
-has-take-more zero l xs p le h = absurd (false≢true h)
-has-take-more (suc k) zero xs p le h = absurd (omega arith)
-has-take-more (suc k) (suc l) [] p le h = h
-has-take-more (suc k) (suc l) (x ∷ xs) p le h = grind (arith, nat_tests, has-take-more k l xs p)
 
 -- whatever is on a front of a list stands above what isn't on the front without its last
 above_rest : (k : ℕ) (xs : List ℕ) (p q : ℕ) → IsTrue (has (take (suc k) xs) p) → IsFalse (has (take k xs) q) → IsFalse (q == p) →
@@ -64,41 +42,17 @@ above-filter : (test : Set) (xs : List ℕ) (p q : ℕ) → IsTrue (test q) → 
 above-filter test [] p q t h = h
 above-filter test (x ∷ xs) p q t h = grind (arith, nat_tests, above-filter test xs p q)
 
--- what stands at a place of a list is on it
-has-slice_get : (k : ℕ) (xs : List ℕ) (p : ℕ) → slice_get xs k ≡ Some p → IsTrue (has xs p)
-has-slice_get k [] p at_k = cc
-has-slice_get zero (x ∷ xs) p at_k = let e : x ≡ p = cc in grind (arith, nat_tests)
-has-slice_get (suc k) (x ∷ xs) p at_k = has-tail x xs p (has-slice_get k xs p at_k)
-
--- an element of a list without repeats isn't before itself
-not_before_itself : (k : ℕ) (xs : List ℕ) (p : ℕ) → IsTrue (is_distinct xs) → slice_get xs k ≡ Some p → IsFalse (has (take k xs) p)
-not_before_itself zero xs p d at_k = refl
-not_before_itself (suc k) [] p d at_k = refl
-not_before_itself (suc k) (x ∷ xs) p d at_k =
-    or_from (x == p) (has (take k xs) p)
-        (not_head x xs p d (has-slice_get k xs p at_k))
-        (not_before_itself k xs p (and_parts (not (has xs x)) (is_distinct xs) d).1 at_k)
-
--- Floors.
-
--- what a single's live list has is on its list, and has it on its own
-live-parts : (m : Market) (a p : ℕ) → IsTrue (has (live m a) p) → IsTrue (has (list_of m a) p) × IsTrue (has (program_of m p).ranking a)
-live-parts m a p h = and_parts (has (list_of m a) p) (has (program_of m p).ranking a) (sym (has-filter (λ q. has (program_of m q).ranking a) (list_of m a) p) ∙ h)
-
 -- a place of a stable match is on the live list
 on_live : (m : Market) (b : Places) → IsStableForSingles m b → (a q : ℕ) → IsTrue (at b q a) → IsTrue (has (live m a) q)
 on_live m b st a q h =
-    has-filter (λ r. has (program_of m r).ranking a) (list_of m a) q ∙ and_from (has (list_of m a) q) (has (program_of m q).ranking a) (st.on_list a q h) (st.listed a q h)
+    has-filter (λ r. has (program_of m r).ranking a) (list_of m a) q
+    ∙ and_from (has (program_of m q).ranking a) (has (list_of m a) q) (st.listed a q h) (st.on_list a q h)
 
--- whom a program holds it has received and lists
-held-parts : (m : Market) (f : Floor) (p a : ℕ) → IsTrue (held m f p a) → IsTrue (has (program_of m p).ranking a) × IsTrue (f.received p a)
-held-parts m f p a h =
-    and_parts (has (program_of m p).ranking a) (f.received p a)
-        (and_parts (has (program_of m p).ranking a && f.received p a) (nat_lt (above (f.received p) (program_of m p).ranking a) (program_of m p).quota) h).0
-
--- whom a program has received has it on the live list
-received_live : (m : Market) (f : Floor) → IsRecorded m f → (a p : ℕ) → IsTrue (f.received p a) → IsTrue (has (live m a) p)
-received_live m f r a p h = has-take (f.made a) (live m a) p (sym (r.receives a p) ∙ h)
+-- a program that holds somebody is a program of the market
+held_within : (m : Market) → IsWellFormed m → (f : Floor) → IsLegal m f → (p a : ℕ) → IsTrue (held m f p a) → p < length m.programs
+held_within m w f legal p a h =
+    let on_tried : IsTrue (has (tried m f a) p) = tried_from_received m f legal.recorded a p (choice_facts (program_of m p) (f.received p) a h).is_member in
+    w.lists_within a p (live_parts m a p (has-from_take (live m a) (f.made a) p on_tried)).1
 
 -- on a legal floor no single has gone from its place in a stable match
 not_gone : (m : Market) (f : Floor) → IsLegal m f → (b : Places) → IsTrue (stable (singles_market m) b) → (a q : ℕ) → IsTrue (at b q a) → IsFalse (has (gone m f a) q)
@@ -111,7 +65,7 @@ not_gone m f legal b st a q h =
 before_gone : (m : Market) (f : Floor) (a q : ℕ) → IsFalse (has (gone m f a) q) → IsFalse (has (take (f.made a - 1) (live m a)) q)
 before_gone m f a q h =
     elim (cases_Bool (has (take (f.made a - 1) (live m a)) q)) [
-      inl there ↦ absurd (both_ways (has (gone m f a) q) h (has-take-more (f.made a - 1) (f.made a - (if f.standing a then 1 else 0)) (live m a) q (grind arith) there))
+      inl there ↦ absurd (both_ways (has (gone m f a) q) h (gone_from_front m f a q there))
     | inr out ↦ out ]
 
 -- whomever a program holds that has a free post in the best match, the best match has there
@@ -121,16 +75,16 @@ held_in_best m w f legal b best p free a h = by_place (place_of b a) refl
   where
     st : IsStableForSingles m b
     st = stable_facts m b best.is_stable
-    listed : IsTrue (has (program_of m p).ranking a)
-    listed = (held-parts m f p a h).0
+    chosen : IsChosenFrom (program_of m p) (f.received p) a
+    chosen = choice_facts (program_of m p) (f.received p) a h
     on_tried : IsTrue (has (tried m f a) p)
-    on_tried = sym (legal.recorded.receives a p) ∙ (held-parts m f p a h).1
+    on_tried = tried_from_received m f legal.recorded a p chosen.is_member
     unwanted : IsTrue (has (better_programs m b a) p) → ⊥
     unwanted wanted =
-        both_ways (choice (program_of m p) (with_one (at b p) a) a) (st.none_block a p wanted) (taken_where_free m w b st p a free listed)
+        both_ways (choice (program_of m p) (with_one (at b p) a) a) (st.none_block a p wanted) (taken_where_free m w b st p a free chosen.is_listed)
     by_place : (o : Option ℕ) → place_of b a ≡ o → IsTrue (at b p a)
     by_place None e =
-        absurd (unwanted (rw (better_than_none m b a e) (live-parts m a p (has-take (f.made a) (live m a) p on_tried)).0))
+        absurd (unwanted (rw (better_than_none m b a e) (live_parts m a p (has-from_take (live m a) (f.made a) p on_tried)).1))
     by_place (Some q) e =
         elim (cases_Bool (q == p)) [
           inl same ↦ ap (is_program p) e ∙ same
@@ -218,8 +172,7 @@ best_placed m f legal quiet places result b best a within h =
 result_within : (m : Market) → IsWellFormed m → (f : Floor) → IsLegal m f → IsTrue (is_quiet m f) → (places : Places) → IsResult m f places → (a p : ℕ) →
     IsTrue (at places p a) → p < length m.programs
 result_within m w f legal quiet places result a p h =
-    let live_there : IsTrue (has (live m a) p) = received_live m f legal.recorded a p (held-parts m f p a (result_held m f quiet places result p a h)).1 in
-    w.lists_within a p (live-parts m a p live_there).0
+    held_within m w f legal p a (result_held m f quiet places result p a h)
 
 -- on a legal and quiet floor each program has as many in the result as it holds
 as_many_as_held : (m : Market) → IsWellFormed m → (f : Floor) → IsLegal m f → IsTrue (is_quiet m f) → (places : Places) → IsResult m f places → (p : ℕ) → p < length m.programs →
@@ -243,10 +196,10 @@ as_many_as_held m w f legal quiet places result p within =
 held_result : (m : Market) → IsWellFormed m → (f : Floor) → IsLegal m f → IsTrue (is_quiet m f) → (places : Places) → IsResult m f places → (p a : ℕ) →
     IsTrue (held m f p a) → IsTrue (at places p a)
 held_result m w f legal quiet places result p a h =
-    let parts = held-parts m f p a h in
-    let p_within : p < length m.programs = w.lists_within a p (live-parts m a p (received_live m f legal.recorded a p parts.1)).0 in
-    let as_many : count_below (at places p) (applicants m) ≡ count_below (held m f p) (applicants m) = as_many_as_held m w f legal quiet places result p p_within in
-    count_below-tight (at places p) (held m f p) (applicants m) (λ c l. result_held m f quiet places result p c) (omega arith) a (w.rankings_within p a parts.0) ∙ h
+    let chosen : IsChosenFrom (program_of m p) (f.received p) a = choice_facts (program_of m p) (f.received p) a h in
+    let as_many : count_below (at places p) (applicants m) ≡ count_below (held m f p) (applicants m) =
+        as_many_as_held m w f legal quiet places result p (held_within m w f legal p a h) in
+    count_below-tight (at places p) (held m f p) (applicants m) (λ c l. result_held m f quiet places result p c) (omega arith) a (w.rankings_within p a chosen.is_listed) ∙ h
 
 -- no program that a single has gone from holds it
 none_held_gone : (m : Market) → IsWellFormed m → (f : Floor) → IsLegal m f → IsTrue (is_quiet m f) → (places : Places) → IsResult m f places → (a p : ℕ) →
@@ -263,8 +216,7 @@ none_held_gone m w f legal quiet places result a p went =
     not_last : IsTrue (f.standing a) → last_tried m f a ≡ Some p → IsFalse (has (gone m f a) p)
     not_last stands last =
         ap (λ (s : Bool). has (take (f.made a - (if s then 1 else 0)) (live m a)) p) stands
-        ∙ not_before_itself (f.made a - 1) (live m a) p
-            (is_distinct-filter (λ q. has (program_of m q).ranking a) (list_of m a) (w.lists_distinct a))
+        ∙ has-take_before (live m a) (f.made a - 1) p (live_distinct m w a)
             (entry_of (f.made a == 0) (slice_get (live m a) (f.made a - 1)) last)
 
 -- a legal and quiet floor is strict

@@ -1,17 +1,18 @@
 -- How a stable match of the singles compares with the best one.
-use Rattle.std.proofs.Common.{◌≡◌, ℕ, ◌<◌, ◌≤◌, Bool, true, false, ◌&&◌, ◌==◌, nat_lt, IsTrue, IsFalse, List, [], ◌∷◌, length, Option, Some, None, is_some, refl, sym, ◌∙◌, ap, arith, ◌⊎◌, inl, inr}
-use Rattle.std.proofs.lemmas.Bool.{cases_Bool, cases_lt, both_ways, and_parts, or_left, eqb-true, eq-eqb, false≢true, lt-ltb, and_from}
+use Rattle.std.proofs.Common.{◌≡◌, ℕ, ◌<◌, ◌≤◌, false, ◌&&◌, ◌==◌, IsTrue, IsFalse, List, [], ◌∷◌, length, Option, Some, None, is_some, refl, sym, ◌∙◌, ap, arith, ◌⊎◌, inl, inr}
+use Rattle.std.proofs.lemmas.Bool.{cases_Bool, cases_lt, both_ways, and_parts, or_left, eqb-true, eq-eqb, false≢true}
 use Rattle.std.proofs.lemmas.Bool.Decides.{nat_tests}
 use Rattle.std.proofs.lemmas.List.{get_or_past}
-use Rattle.mt_model.specs.Lists.{Set, has, count, until, above, with_one, total_below, count_below}
+use Rattle.mt_model.specs.Lists.{has, count, until, above, with_one, total_below, count_below}
 use Rattle.mt_model.specs.Market.{Market, Program, applicants, program_of, list_of, singles_market}
 use Rattle.mt_model.specs.Matching.{Places, place_of, is_program, at, filled}
 use Rattle.mt_model.specs.Choice.{choice}
 use Rattle.mt_model.specs.Stability.{stable}
-use Rattle.mt_model.specs.Best.{IsExcluded, IsBest, better_programs}
+use Rattle.mt_model.specs.Best.{IsBest, better_programs}
 use Rattle.mt_model.specs.WellFormed.{IsWellFormed}
 use Rattle.mt_model.specs.Laws.Rural.{FillsAlike, SinglesFillAlike, FillAlikeWithoutCouples}
 use Rattle.mt_model.proofs.SinglesFacts.{IsStableForSingles, stable_facts}
+use Rattle.mt_model.proofs.ChoiceLemmas.{choice_from_facts}
 use Rattle.mt_model.proofs.RuralAssumed.{best_exists}
 use Rattle.mt_model.proofs.Totals.{total_below-mono, total_below-tight, count_below-mono, count_below-tight}
 use Rattle.mt_model.proofs.Seats.{filled_by_applicant, placed_count, listed_count, above-le-count, above-with_one}
@@ -83,10 +84,6 @@ placed_in_best m b n best st a h = by_places (place_of b a) refl (place_of n a) 
 pub filled_of : (m : Market) (n : Places) → IsStableForSingles m n → (p : ℕ) → filled n p ≡ count_below (at n p) (applicants m)
 filled_of m n st p = filled_by_applicant n p ∙ ap (count_below (at n p)) st.one_each
 
--- whoever is on the list and in the set, with fewer than quota of it above, is chosen
-chosen_if : (p : Program) (set : Set) (a : ℕ) → IsTrue (has p.ranking a) → IsTrue (set a) → above set p.ranking a < p.quota → IsTrue (choice p set a)
-chosen_if p set a listed in_set few = and_from (has p.ranking a && set a) (nat_lt (above set p.ranking a) p.quota) (and_from (has p.ranking a) (set a) listed in_set) (lt-ltb (above set p.ranking a) p.quota few)
-
 -- a program with a free post would take whomever it lists
 pub taken_where_free : (m : Market) → IsWellFormed m → (n : Places) → IsStableForSingles m n → (p a : ℕ) →
     filled n p < (program_of m p).quota → IsTrue (has (program_of m p).ranking a) →
@@ -99,7 +96,8 @@ taken_where_free m w n st p a free listed =
     let all : filled n p ≡ count_below (at n p) (applicants m) = filled_of m n st p in
     let few : above (with_one (at n p) a) (program_of m p).ranking a < (program_of m p).quota =
         omega (arith, along, fewer, all, above-with_one (at n p) (program_of m p).ranking a, above-le-count (at n p) (program_of m p).ranking a) in
-    chosen_if (program_of m p) (with_one (at n p) a) a listed (or_left (a == a) (at n p a) (eq-eqb a a refl)) few
+    choice_from_facts (program_of m p) (with_one (at n p) a) a
+        (record { is_listed = listed; is_member = or_left (a == a) (at n p a) (eq-eqb a a refl); has_few_above = few })
 
 -- whoever the best match places at a program with a free post in a stable match is there in that match
 stays_where_free : (m : Market) → IsWellFormed m → (b n : Places) → IsBest m b → IsTrue (stable (singles_market m) n) → (p : ℕ) →
