@@ -1,4 +1,6 @@
 pub mod ChoiceLemmas
+pub mod ExclusionLemmas
+pub mod FlatListsFacts
 pub mod FloorAssumed
 pub mod FloorChoices
 pub mod FloorEvents
@@ -7,8 +9,8 @@ pub mod LegalBestLemmas
 pub mod ListLemmas
 pub mod RuralAssumed
 pub mod RuralLemmas
-mod Scratch
 pub mod Seats
 pub mod SinglesFacts
 pub mod TakenLemmas
 pub mod Totals
+pub mod WellFormedLemmas
