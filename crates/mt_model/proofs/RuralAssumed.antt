@@ -1,8 +1,5 @@
 -- What the other laws give, until they stand.
-use Rattle.std.proofs.Common.{IsTrue}
-use Rattle.mt_model.specs.Market.{Market}
-use Rattle.mt_model.specs.WellFormed.{IsWellFormed, is_well_formed}
-use Rattle.mt_model.specs.Laws.Floors.{BestExists, StrictBest}
+use Rattle.mt_model.specs.Laws.Floors.{BestExists, StrictBest, OpeningIsStrict}
 
 -- a best match exists
 pub best_exists : BestExists
@@ -12,5 +9,6 @@ best_exists m w = ?
 pub strict_best : StrictBest
 strict_best m w f strict quiet places result = ?
 
-pub well_formed_from_test : (m : Market) → IsTrue (is_well_formed m) → IsWellFormed m
-well_formed_from_test m h = ?
+-- the opening floor is strict
+pub opening_is_strict : OpeningIsStrict
+opening_is_strict m = ?

@@ -1,6 +1,6 @@
 -- How a stable match of the singles compares with the best one.
-use Rattle.std.proofs.Common.{◌≡◌, ℕ, ◌<◌, ◌≤◌, false, ◌&&◌, ◌==◌, IsTrue, IsFalse, List, [], ◌∷◌, length, Option, Some, None, is_some, refl, sym, ◌∙◌, ap, arith, ◌⊎◌, inl, inr}
-use Rattle.std.proofs.lemmas.Bool.{cases_Bool, cases_lt, both_ways, and_parts, or_left, eqb-true, eq-eqb, false≢true}
+use Rattle.std.proofs.Common.{◌≡◌, ℕ, ◌<◌, ◌≤◌, false, ◌==◌, IsTrue, IsFalse, List, [], ◌∷◌, length, Option, Some, None, is_some, refl, sym, ◌∙◌, ap, arith, ◌⊎◌, inl, inr}
+use Rattle.std.proofs.lemmas.Bool.{cases_Bool, cases_lt, both_ways, or_left, eqb-true, eq-eqb, false≢true}
 use Rattle.std.proofs.lemmas.Bool.Decides.{nat_tests}
 use Rattle.std.proofs.lemmas.List.{get_or_past}
 use Rattle.mt_model.specs.Lists.{has, count, until, above, with_one, total_below, count_below}
@@ -13,9 +13,10 @@ use Rattle.mt_model.specs.WellFormed.{IsWellFormed}
 use Rattle.mt_model.specs.Laws.Rural.{FillsAlike, SinglesFillAlike, FillAlikeWithoutCouples}
 use Rattle.mt_model.proofs.SinglesFacts.{IsStableForSingles, stable_facts}
 use Rattle.mt_model.proofs.ChoiceLemmas.{choice_from_facts}
+use Rattle.mt_model.proofs.ExclusionLemmas.{count-at}
 use Rattle.mt_model.proofs.RuralAssumed.{best_exists}
 use Rattle.mt_model.proofs.Totals.{total_below-mono, total_below-tight, count_below-mono, count_below-tight}
-use Rattle.mt_model.proofs.Seats.{filled_by_applicant, placed_count, listed_count, above-le-count, above-with_one}
+use Rattle.mt_model.proofs.Seats.{filled_by_applicant, placed_count, above-le-count, above-with_one}
 
 -- a place that is this program
 place_is : (p : ℕ) (o : Option ℕ) → IsTrue (is_program p o) → o ≡ Some p
@@ -89,13 +90,9 @@ pub taken_where_free : (m : Market) → IsWellFormed m → (n : Places) → IsSt
     filled n p < (program_of m p).quota → IsTrue (has (program_of m p).ranking a) →
     IsTrue (choice (program_of m p) (with_one (at n p) a) a)
 taken_where_free m w n st p a free listed =
-    let along : count (at n p) (program_of m p).ranking ≡ count_below (λ c. has (program_of m p).ranking c && at n p c) (applicants m) =
-        listed_count (at n p) (program_of m p).ranking (applicants m) (w.rankings_distinct p) (w.rankings_within p) in
-    let fewer : count_below (λ c. has (program_of m p).ranking c && at n p c) (applicants m) ≤ count_below (at n p) (applicants m) =
-        count_below-mono (λ c. has (program_of m p).ranking c && at n p c) (at n p) (applicants m) (λ c lc e. (and_parts (has (program_of m p).ranking c) (at n p c) e).1) in
-    let all : filled n p ≡ count_below (at n p) (applicants m) = filled_of m n st p in
+    let there : count (at n p) (program_of m p).ranking ≤ filled n p = count-at n p (program_of m p).ranking (w.rankings_distinct p) in
     let few : above (with_one (at n p) a) (program_of m p).ranking a < (program_of m p).quota =
-        omega (arith, along, fewer, all, above-with_one (at n p) (program_of m p).ranking a, above-le-count (at n p) (program_of m p).ranking a) in
+        omega (arith, there, above-with_one (at n p) (program_of m p).ranking a, above-le-count (at n p) (program_of m p).ranking a) in
     choice_from_facts (program_of m p) (with_one (at n p) a) a
         (record { is_listed = listed; is_member = or_left (a == a) (at n p a) (eq-eqb a a refl); has_few_above = few })
 
