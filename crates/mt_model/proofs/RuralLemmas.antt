@@ -1,20 +1,22 @@
 -- How a stable match of the singles compares with the best one.
-use Rattle.std.proofs.Common.{◌≡◌, ℕ, ◌<◌, ◌≤◌, Bool, true, false, ◌&&◌, ◌==◌, nat_lt, IsTrue, IsFalse, List, [], ◌∷◌, length, Option, Some, None, is_some, refl, sym, ◌∙◌, ap, arith, ◌⊎◌, inl, inr}
-use Rattle.std.proofs.lemmas.Bool.{cases_Bool, cases_lt, both_ways, and_parts, or_left, eqb-true, eq-eqb, false≢true, lt-ltb, and_from}
+use Rattle.std.proofs.Common.{◌≡◌, ℕ, ◌<◌, ◌≤◌, false, ◌==◌, IsTrue, IsFalse, List, [], ◌∷◌, length, Option, Some, None, is_some, refl, sym, ◌∙◌, ap, arith, ◌⊎◌, inl, inr}
+use Rattle.std.proofs.lemmas.Bool.{cases_Bool, cases_lt, both_ways, or_left, eqb-true, eq-eqb, false≢true}
 use Rattle.std.proofs.lemmas.Bool.Decides.{nat_tests}
 use Rattle.std.proofs.lemmas.List.{get_or_past}
-use Rattle.mt_model.specs.Lists.{Set, has, count, until, above, with_one, total_below, count_below}
+use Rattle.mt_model.specs.Lists.{has, count, until, above, with_one, total_below, count_below}
 use Rattle.mt_model.specs.Market.{Market, Program, applicants, program_of, list_of, singles_market}
 use Rattle.mt_model.specs.Matching.{Places, place_of, is_program, at, filled}
 use Rattle.mt_model.specs.Choice.{choice}
 use Rattle.mt_model.specs.Stability.{stable}
-use Rattle.mt_model.specs.Best.{IsExcluded, IsBest, better_programs}
+use Rattle.mt_model.specs.Best.{IsBest, better_programs}
 use Rattle.mt_model.specs.WellFormed.{IsWellFormed}
-use Rattle.mt_model.specs.Laws.Rural.{FillsAlike, SinglesFillAlike, FillAlikeWithoutCouples}
+use Rattle.mt_model.specs.Laws.Rural.{SinglesFillAlike, FillAlikeWithoutCouples}
 use Rattle.mt_model.proofs.SinglesFacts.{IsStableForSingles, stable_facts}
+use Rattle.mt_model.proofs.ChoiceLemmas.{choice_from_facts}
+use Rattle.mt_model.proofs.ExclusionLemmas.{count-at}
 use Rattle.mt_model.proofs.RuralAssumed.{best_exists}
 use Rattle.mt_model.proofs.Totals.{total_below-mono, total_below-tight, count_below-mono, count_below-tight}
-use Rattle.mt_model.proofs.Seats.{filled_by_applicant, placed_count, listed_count, above-le-count, above-with_one}
+use Rattle.mt_model.proofs.Seats.{filled_by_applicant, placed_count, above-le-count, above-with_one}
 
 -- a place that is this program
 place_is : (p : ℕ) (o : Option ℕ) → IsTrue (is_program p o) → o ≡ Some p
@@ -48,89 +50,20 @@ one_above : (xs : List ℕ) (p q : ℕ) → IsTrue (has xs p) → IsTrue (has xs
 one_above [] p q hp hq d = absurd (false≢true hp)
 one_above (x ∷ xs) p q hp hq d = grind (arith, nat_tests, one_above xs p q)
 
--- whoever isn't at its best place in a stable match wants that place more
-wants_best_place : (m : Market) (b n : Places) → IsBest m b → IsTrue (stable (singles_market m) n) → (a p : ℕ) →
-    IsTrue (at b p a) → IsFalse (at n p a) → IsTrue (has (better_programs m n a) p)
-wants_best_place m b n best st a p at_b not_n = by_place (place_of n a) refl
-  where
-    on_list : IsTrue (has (list_of m a) p)
-    on_list = (stable_facts m b best.is_stable).on_list a p at_b
-    by_place : (o : Option ℕ) → place_of n a ≡ o → IsTrue (has (better_programs m n a) p)
-    by_place None e = rw (better_than_none m n a e) on_list
-    by_place (Some q) e =
-        let at_q : IsTrue (at n q a) = at_place n q a e in
-        let other : IsFalse (q == p) = ap (is_program p) (sym e) ∙ not_n in
-        elim (one_above (list_of m a) p q on_list ((stable_facts m n st).on_list a q at_q) other) [
-          inl wanted ↦ rw (better_than_place m n a q e) wanted
-        | inr below ↦
-            (let too_good : IsTrue (has (better_programs m b a) q) = rw (better_than_place m b a p (place_at b p a at_b)) below in
-            absurd (both_ways (at n q a) (best.none_better a q too_good n st) at_q)) ]
-
--- whoever is placed in a stable match is placed in the best one
-placed_in_best : (m : Market) (b n : Places) → IsBest m b → IsTrue (stable (singles_market m) n) → (a : ℕ) →
-    IsTrue (is_some (place_of n a)) → IsTrue (is_some (place_of b a))
-placed_in_best m b n best st a h = by_places (place_of b a) refl (place_of n a) refl
-  where
-    by_places : (o : Option ℕ) → place_of b a ≡ o → (r : Option ℕ) → place_of n a ≡ r → IsTrue (is_some (place_of b a))
-    by_places (Some p) e r e' = ap is_some e
-    by_places None e None e' = absurd (both_ways (is_some (place_of n a)) (ap is_some e') h)
-    by_places None e (Some q) e' =
-        let at_q : IsTrue (at n q a) = at_place n q a e' in
-        let too_good : IsTrue (has (better_programs m b a) q) = rw (better_than_none m b a e) ((stable_facts m n st).on_list a q at_q) in
-        absurd (both_ways (at n q a) (best.none_better a q too_good n st) at_q)
-
 -- a program's places, counted by the market's applicants
 pub filled_of : (m : Market) (n : Places) → IsStableForSingles m n → (p : ℕ) → filled n p ≡ count_below (at n p) (applicants m)
 filled_of m n st p = filled_by_applicant n p ∙ ap (count_below (at n p)) st.one_each
-
--- whoever is on the list and in the set, with fewer than quota of it above, is chosen
-chosen_if : (p : Program) (set : Set) (a : ℕ) → IsTrue (has p.ranking a) → IsTrue (set a) → above set p.ranking a < p.quota → IsTrue (choice p set a)
-chosen_if p set a listed in_set few = and_from (has p.ranking a && set a) (nat_lt (above set p.ranking a) p.quota) (and_from (has p.ranking a) (set a) listed in_set) (lt-ltb (above set p.ranking a) p.quota few)
 
 -- a program with a free post would take whomever it lists
 pub taken_where_free : (m : Market) → IsWellFormed m → (n : Places) → IsStableForSingles m n → (p a : ℕ) →
     filled n p < (program_of m p).quota → IsTrue (has (program_of m p).ranking a) →
     IsTrue (choice (program_of m p) (with_one (at n p) a) a)
 taken_where_free m w n st p a free listed =
-    let along : count (at n p) (program_of m p).ranking ≡ count_below (λ c. has (program_of m p).ranking c && at n p c) (applicants m) =
-        listed_count (at n p) (program_of m p).ranking (applicants m) (w.rankings_distinct p) (w.rankings_within p) in
-    let fewer : count_below (λ c. has (program_of m p).ranking c && at n p c) (applicants m) ≤ count_below (at n p) (applicants m) =
-        count_below-mono (λ c. has (program_of m p).ranking c && at n p c) (at n p) (applicants m) (λ c lc e. (and_parts (has (program_of m p).ranking c) (at n p c) e).1) in
-    let all : filled n p ≡ count_below (at n p) (applicants m) = filled_of m n st p in
+    let there : count (at n p) (program_of m p).ranking ≤ filled n p = count-at n p (program_of m p).ranking (w.rankings_distinct p) in
     let few : above (with_one (at n p) a) (program_of m p).ranking a < (program_of m p).quota =
-        omega (arith, along, fewer, all, above-with_one (at n p) (program_of m p).ranking a, above-le-count (at n p) (program_of m p).ranking a) in
-    chosen_if (program_of m p) (with_one (at n p) a) a listed (or_left (a == a) (at n p a) (eq-eqb a a refl)) few
-
--- whoever the best match places at a program with a free post in a stable match is there in that match
-stays_where_free : (m : Market) → IsWellFormed m → (b n : Places) → IsBest m b → IsTrue (stable (singles_market m) n) → (p : ℕ) →
-    filled n p < (program_of m p).quota → (a : ℕ) → IsTrue (at b p a) → IsTrue (at n p a)
-stays_where_free m w b n best st p free a h =
-    elim (cases_Bool (at n p a)) [
-      inl there ↦ there
-    | inr elsewhere ↦
-        (let wanted : IsTrue (has (better_programs m n a) p) = wants_best_place m b n best st a p h elsewhere in
-        let listed : IsTrue (has (program_of m p).ranking a) = (stable_facts m b best.is_stable).listed a p h in
-        absurd (both_ways (choice (program_of m p) (with_one (at n p) a) a)
-            ((stable_facts m n st).none_block a p wanted)
-            (taken_where_free m w n (stable_facts m n st) p a free listed))) ]
-
--- no program has more applicants in the best match than in a stable one
-fewest_in_best : (m : Market) → IsWellFormed m → (b n : Places) → IsBest m b → IsTrue (stable (singles_market m) n) → (p : ℕ) →
-    filled b p ≤ filled n p
-fewest_in_best m w b n best st p =
-    let of_b : filled b p ≡ count_below (at b p) (applicants m) = filled_of m b (stable_facts m b best.is_stable) p in
-    let of_n : filled n p ≡ count_below (at n p) (applicants m) = filled_of m n (stable_facts m n st) p in
-    let within : filled b p ≤ (program_of m p).quota = (stable_facts m b best.is_stable).within p in
-    elim (cases_lt (filled n p) (program_of m p).quota) [
-      inl free ↦
-        (let all_stay : count_below (at b p) (applicants m) ≤ count_below (at n p) (applicants m) =
-            count_below-mono (at b p) (at n p) (applicants m) (λ a l. stays_where_free m w b n best st p free a) in
-        omega (arith, of_b, of_n, all_stay))
-    | inr full ↦ omega arith ]
-
--- the places of a stable match are programs of the market
-places_within : (m : Market) → IsWellFormed m → (n : Places) → IsStableForSingles m n → (a p : ℕ) → IsTrue (at n p a) → p < length m.programs
-places_within m w n st a p h = w.lists_within a p (st.on_list a p h)
+        omega (arith, there, above-with_one (at n p) (program_of m p).ranking a, above-le-count (at n p) (program_of m p).ranking a) in
+    choice_from_facts (program_of m p) (with_one (at n p) a) a
+        (record { is_listed = listed; is_member = or_left (a == a) (at n p a) (eq-eqb a a refl); has_few_above = few })
 
 -- how many applicants a match places
 abbrev pub placed : Market → Places → ℕ
@@ -138,7 +71,9 @@ placed m n = count_below (λ a. is_some (place_of n a)) (applicants m)
 
 -- as many as a match places, its programs have
 pub placed_total : (m : Market) → IsWellFormed m → (n : Places) → IsStableForSingles m n → total_below (filled n) (length m.programs) ≡ placed m n
-placed_total m w n st = placed_count n (length m.programs) (places_within m w n st) ∙ ap (count_below (λ a. is_some (place_of n a))) st.one_each
+placed_total m w n st =
+    placed_count n (length m.programs) (λ a p h. w.lists_within a p (st.on_list a p h))
+    ∙ ap (count_below (λ a. is_some (place_of n a))) st.one_each
 
 -- a number that no applicant has is unplaced
 unplaced_past : (m : Market) (n : Places) → IsStableForSingles m n → (a : ℕ) → applicants m ≤ a → place_of n a ≡ None
@@ -150,63 +85,113 @@ unfilled_past m n st p past =
     let none : (program_of m p).quota ≡ 0 = ap (λ (x : Program). x.quota) (get_or_past m.programs p (record { quota = 0; ranking = [] }) past) in
     omega (arith, none, st.within p)
 
--- the totals of a stable match and the best one agree
-totals_agree : (m : Market) → IsWellFormed m → (b n : Places) → IsBest m b → IsTrue (stable (singles_market m) n) →
-    (total_below (filled n) (length m.programs) ≤ total_below (filled b) (length m.programs)) × (placed m b ≤ placed m n)
-totals_agree m w b n best st =
-    let of_b : total_below (filled b) (length m.programs) ≡ placed m b = placed_total m w b (stable_facts m b best.is_stable) in
-    let of_n : total_below (filled n) (length m.programs) ≡ placed m n = placed_total m w n (stable_facts m n st) in
-    let programs_have : total_below (filled b) (length m.programs) ≤ total_below (filled n) (length m.programs) =
-        total_below-mono (filled b) (filled n) (length m.programs) (λ p l. fewest_in_best m w b n best st p) in
-    let are_placed : placed m n ≤ placed m b =
-        count_below-mono (λ a. is_some (place_of n a)) (λ a. is_some (place_of b a)) (applicants m) (λ a l. placed_in_best m b n best st a) in
-    omega arith
+-- Below, b is the best match of a well-formed market, and n a stable one.
+module _ (m : Market) (w : IsWellFormed m) (b : Places) (best : IsBest m b) (n : Places) (n_stable : IsTrue (stable (singles_market m) n)) where
+  of_b : IsStableForSingles m b
+  of_b = stable_facts m b best.is_stable
 
--- a stable match has as many at each program as the best one
-as_many_as_best : (m : Market) → IsWellFormed m → (b n : Places) → IsBest m b → IsTrue (stable (singles_market m) n) → (p : ℕ) → filled n p ≡ filled b p
-as_many_as_best m w b n best st p =
-    elim (cases_lt p (length m.programs)) [
-      inl within ↦ sym (total_below-tight (filled b) (filled n) (length m.programs) (λ q l. fewest_in_best m w b n best st q) (totals_agree m w b n best st).0 p within)
-    | inr past ↦ unfilled_past m n (stable_facts m n st) p past ∙ sym (unfilled_past m b (stable_facts m b best.is_stable) p past) ]
+  of_n : IsStableForSingles m n
+  of_n = stable_facts m n n_stable
 
--- a stable match places whom the best one places
-placed_as_in_best : (m : Market) → IsWellFormed m → (b n : Places) → IsBest m b → IsTrue (stable (singles_market m) n) → (a : ℕ) →
-    is_some (place_of n a) ≡ is_some (place_of b a)
-placed_as_in_best m w b n best st a =
-    elim (cases_lt a (applicants m)) [
-      inl within ↦
-        count_below-tight (λ c. is_some (place_of n c)) (λ c. is_some (place_of b c)) (applicants m) (λ c l. placed_in_best m b n best st c) (totals_agree m w b n best st).1 a within
-    | inr past ↦ ap is_some (unplaced_past m n (stable_facts m n st) a past ∙ sym (unplaced_past m b (stable_facts m b best.is_stable) a past)) ]
+  -- a stable match has nobody where it would be better off than in the best one
+  not_better : (a q : ℕ) → place_of n a ≡ Some q → IsTrue (has (better_programs m b a) q) → ⊥
+  not_better a q e too_good = both_ways (at n q a) (best.none_better a q too_good n n_stable) (at_place n q a e)
 
--- a program with a free post in a stable match has there whom it has in the best one
-same_as_best_where_free : (m : Market) → IsWellFormed m → (b n : Places) → IsBest m b → IsTrue (stable (singles_market m) n) → (p : ℕ) →
-    filled n p < (program_of m p).quota → (a : ℕ) → at n p a ≡ at b p a
-same_as_best_where_free m w b n best st p free a =
-    elim (cases_lt a (applicants m)) [
-      inl within ↦
-        (let of_b : filled b p ≡ count_below (at b p) (applicants m) = filled_of m b (stable_facts m b best.is_stable) p in
-        let of_n : filled n p ≡ count_below (at n p) (applicants m) = filled_of m n (stable_facts m n st) p in
-        let as_many : filled n p ≡ filled b p = as_many_as_best m w b n best st p in
-        sym (count_below-tight (at b p) (at n p) (applicants m) (λ c l. stays_where_free m w b n best st p free c) (omega arith) a within))
-    | inr past ↦ ap (is_program p) (unplaced_past m n (stable_facts m n st) a past ∙ sym (unplaced_past m b (stable_facts m b best.is_stable) a past)) ]
+  -- whoever isn't at its best place in a stable match wants that place more
+  wants_best_place : (a p : ℕ) → IsTrue (at b p a) → IsFalse (at n p a) → IsTrue (has (better_programs m n a) p)
+  wants_best_place a p at_b not_n = by_place (place_of n a) refl
+    where
+      by_place : (o : Option ℕ) → place_of n a ≡ o → IsTrue (has (better_programs m n a) p)
+      by_place None e = rw (better_than_none m n a e) (of_b.on_list a p at_b)
+      by_place (Some q) e =
+          let other : IsFalse (q == p) = ap (is_program p) (sym e) ∙ not_n in
+          elim (one_above (list_of m a) p q (of_b.on_list a p at_b) (of_n.on_list a q (at_place n q a e)) other) [
+            inl wanted ↦ rw (better_than_place m n a q e) wanted
+          | inr below ↦ absurd (not_better a q e (rw (better_than_place m b a p (place_at b p a at_b)) below)) ]
 
--- any two stable matches of the singles fill the market alike
-pub alike : (m : Market) → IsWellFormed m → (b s t : Places) → IsBest m b → IsTrue (stable (singles_market m) s) → IsTrue (stable (singles_market m) t) → FillsAlike m s t
-alike m w b s t best st_s st_t = record {
-    same_placed = λ a. placed_as_in_best m w b s best st_s a ∙ sym (placed_as_in_best m w b t best st_t a);
-    equally_many = λ p. as_many_as_best m w b s best st_s p ∙ sym (as_many_as_best m w b t best st_t p);
-    same_where_free = λ p free a.
-        let as_many : filled s p ≡ filled t p = as_many_as_best m w b s best st_s p ∙ sym (as_many_as_best m w b t best st_t p) in
-        same_as_best_where_free m w b s best st_s p free a ∙ sym (same_as_best_where_free m w b t best st_t p (omega arith) a) }
+  -- whoever is placed in a stable match is placed in the best one
+  placed_in_best : (a : ℕ) → IsTrue (is_some (place_of n a)) → IsTrue (is_some (place_of b a))
+  placed_in_best a h = by_places (place_of b a) refl (place_of n a) refl
+    where
+      by_places : (o : Option ℕ) → place_of b a ≡ o → (r : Option ℕ) → place_of n a ≡ r → IsTrue (is_some (place_of b a))
+      by_places (Some p) e r e' = ap is_some e
+      by_places None e None e' = absurd (both_ways (is_some (place_of n a)) (ap is_some e') h)
+      by_places None e (Some q) e' = absurd (not_better a q e' (rw (better_than_none m b a e) (of_n.on_list a q (at_place n q a e'))))
 
--- the rural law
+  -- whoever the best match places at a program with a free post in a stable match is there in that match
+  stays_where_free : (p : ℕ) → filled n p < (program_of m p).quota → (a : ℕ) → IsTrue (at b p a) → IsTrue (at n p a)
+  stays_where_free p free a h =
+      elim (cases_Bool (at n p a)) [
+        inl there ↦ there
+      | inr elsewhere ↦
+          absurd (both_ways (choice (program_of m p) (with_one (at n p) a) a)
+              (of_n.none_block a p (wants_best_place a p h elsewhere))
+              (taken_where_free m w n of_n p a free (of_b.listed a p h))) ]
+
+  -- no program has more applicants in the best match than in a stable one
+  fewest_in_best : (p : ℕ) → filled b p ≤ filled n p
+  fewest_in_best p =
+      elim (cases_lt (filled n p) (program_of m p).quota) [
+        inl free ↦
+          (let all_stay = count_below-mono (at b p) (at n p) (applicants m) (λ a l. stays_where_free p free a) in
+          omega (arith, all_stay, filled_of m b of_b p, filled_of m n of_n p))
+      | inr full ↦ omega (arith, of_b.within p) ]
+
+  -- the totals of a stable match and of the best one agree
+  totals_agree : (total_below (filled n) (length m.programs) ≤ total_below (filled b) (length m.programs)) × (placed m b ≤ placed m n)
+  totals_agree =
+      let programs_have = total_below-mono (filled b) (filled n) (length m.programs) (λ p l. fewest_in_best p) in
+      let are_placed = count_below-mono (λ a. is_some (place_of n a)) (λ a. is_some (place_of b a)) (applicants m) (λ a l. placed_in_best a) in
+      omega (arith, programs_have, are_placed, placed_total m w b of_b, placed_total m w n of_n)
+
+  -- a stable match has as many at each program as the best one
+  as_many_as_best : (p : ℕ) → filled n p ≡ filled b p
+  as_many_as_best p =
+      elim (cases_lt p (length m.programs)) [
+        inl within ↦ sym (total_below-tight (filled b) (filled n) (length m.programs) (λ q l. fewest_in_best q) totals_agree.0 p within)
+      | inr past ↦ unfilled_past m n of_n p past ∙ sym (unfilled_past m b of_b p past) ]
+
+  -- a number that no applicant has is unplaced in both
+  same_past : (a : ℕ) → applicants m ≤ a → place_of n a ≡ place_of b a
+  same_past a past = unplaced_past m n of_n a past ∙ sym (unplaced_past m b of_b a past)
+
+  -- a stable match places whom the best one places
+  placed_as_in_best : (a : ℕ) → is_some (place_of n a) ≡ is_some (place_of b a)
+  placed_as_in_best a =
+      elim (cases_lt a (applicants m)) [
+        inl within ↦ count_below-tight (λ c. is_some (place_of n c)) (λ c. is_some (place_of b c)) (applicants m) (λ c l. placed_in_best c) totals_agree.1 a within
+      | inr past ↦ ap is_some (same_past a past) ]
+
+  -- a program with a free post in a stable match has there whom it has in the best one
+  same_as_best_where_free : (p : ℕ) → filled n p < (program_of m p).quota → (a : ℕ) → at n p a ≡ at b p a
+  same_as_best_where_free p free a =
+      elim (cases_lt a (applicants m)) [
+        inl within ↦
+          (let no_more : count_below (at n p) (applicants m) ≤ count_below (at b p) (applicants m) =
+              omega (arith, as_many_as_best p, filled_of m b of_b p, filled_of m n of_n p) in
+          sym (count_below-tight (at b p) (at n p) (applicants m) (λ c l. stays_where_free p free c) no_more a within))
+      | inr past ↦ ap (is_program p) (same_past a past) ]
+
+-- any two stable matches of the singles fill the market as the best one does, and so alike
 pub singles_fill_alike : SinglesFillAlike
-singles_fill_alike m w s t st_s st_t = let best = best_exists m w in alike m w best.0 s t best.1 st_s st_t
+singles_fill_alike m w s t s_stable t_stable = record {
+    same_placed = λ a. placed_as_in_best m w b best s s_stable a ∙ sym (placed_as_in_best m w b best t t_stable a);
+    equally_many = equally_many;
+    same_where_free = λ p free a.
+        same_as_best_where_free m w b best s s_stable p free a
+        ∙ sym (same_as_best_where_free m w b best t t_stable p (omega (arith, equally_many p)) a) }
+  where
+    b : Places
+    b = (best_exists m w).0
+    best : IsBest m b
+    best = (best_exists m w).1
+    equally_many : (p : ℕ) → filled s p ≡ filled t p
+    equally_many p = as_many_as_best m w b best s s_stable p ∙ sym (as_many_as_best m w b best t t_stable p)
 
--- the rural law of a market without couples
+-- without couples any two stable matches fill the market alike
 pub fill_alike_without_couples : FillAlikeWithoutCouples
-fill_alike_without_couples m w no_couples s t st_s st_t =
-    singles_fill_alike m w s t (for_singles s st_s) (for_singles t st_t)
+fill_alike_without_couples m w no_couples s t s_stable t_stable =
+    singles_fill_alike m w s t (for_singles s s_stable) (for_singles t t_stable)
   where
     for_singles : (n : Places) → IsTrue (stable m n) → IsTrue (stable (singles_market m) n)
-    for_singles n st = rw no_couples at st
+    for_singles n n_stable = rw no_couples at n_stable

@@ -1,4 +1,4 @@
-ghost use Rattle.mt_model.specs.Laws.Rural.{SinglesFillAlike, FillAlikeWithoutCouples, LegalBest};
+ghost use Rattle.mt_model.specs.Laws.Rural.{SinglesFillAlike, FillAlikeWithoutCouples, LegalBest, ChainMeetsPremises};
 
 /// Any two stable matches of the singles place the same applicants and equally many at each program, and a
 /// program with a free post has the same applicants in both (the rural hospitals theorem).
@@ -10,6 +10,7 @@ pub fn rural()
 
 /// A legal floor on which no event is due has the best match as its result.
 pub fn legal_best()
-    ensures { LegalBest }
+    ensures law { LegalBest }
+    ensures example { ChainMeetsPremises }
 {
 }
