@@ -1,12 +1,14 @@
 -- The laws of floors: what an event keeps, how many events are due, and that a strict floor on which no
 -- event is due is the best match, however it was reached (McVitie and Wilson 1971).
-use Rattle.std.specs.Prelude.{◌≡◌, ◌≢◌, ℕ, ◌+◌, ◌*◌, ◌<◌, ◌≤◌, Bool, true, false, ◌&&◌, List, [], ◌∷◌, map, length, Option, None, IsTrue, IsFalse, if◌then◌else◌}
+use Rattle.std.specs.Prelude.{◌≡◌, ◌≢◌, ℕ, ◌+◌, ◌*◌, ◌<◌, ◌≤◌, Bool, true, false, ◌&&◌, List, [], ◌∷◌, map, length, Option, Some, None, IsTrue, IsFalse, if◌then◌else◌}
 use Rattle.mt_model.specs.Lists.{has, below, total_below, count_below}
 use Rattle.mt_model.specs.Market.{Market, applicants, live_entries}
 use Rattle.mt_model.specs.Matching.{Places, place_of}
 use Rattle.mt_model.specs.Best.{IsExcluded, IsBest, proposed_to, proposals}
 use Rattle.mt_model.specs.WellFormed.{IsWellFormed}
 use Rattle.mt_model.specs.Floor.{Floor, tried, gone, last_tried, IsRecorded, IsLegal, IsStrict, opening, is_due, is_quiet, after, after_all, reply_of, due_count}
+use Rattle.mt_model.specs.Examples.Markets.{chain}
+use Rattle.mt_model.specs.Examples.Events.{by_wishes, from_the_last}
 use Rattle.mt_model.specs.declared.events.Event.{Event}
 use Rattle.mt_model.specs.declared.events.Event.TheVariants.{Propose, Notice}
 use Rattle.mt_model.specs.declared.events.Reply.TheVariants.{NotDue}
@@ -102,6 +104,17 @@ StrictBest =
     (m : Market) → IsWellFormed m → (f : Floor) → IsStrict m f → IsTrue (is_quiet m f)
     → (places : Places) → IsResult m f places → IsBest m places
 
+-- The premises of that law, together.
+pub record HasStrictEnd (m : Market) (f : Floor) (places : Places) : Type 0 where
+  pub well_formed : IsWellFormed m
+  pub strict : IsStrict m f
+  pub quiet : IsTrue (is_quiet m f)
+  pub result : IsResult m f places
+
+-- An example: after the events of the rejection chain its floor meets them, with the chain's stable match.
+abbrev pub ChainHasStrictEnd : Type 0
+ChainHasStrictEnd = HasStrictEnd chain (after_all chain opening by_wishes) (Some 1 ∷ Some 0 ∷ None ∷ [])
+
 -- there is a best match
 abbrev pub BestExists : Type 0
 BestExists = (m : Market) → IsWellFormed m → (places : Places) × IsBest m places
@@ -130,3 +143,12 @@ OrderFree =
     (m : Market) → IsWellFormed m → (es fs : List Event)
     → IsTrue (is_quiet m (after_all m opening es)) → IsTrue (is_quiet m (after_all m opening fs))
     → AreAlike m (after_all m opening es) (after_all m opening fs) × IsBest m (result_of m (after_all m opening es))
+
+-- An example: two lists of events in the rejection chain.
+pub record ChainInTwoOrders : Type 0 where
+  pub wishes_quiet : IsTrue (is_quiet chain (after_all chain opening by_wishes))
+  pub last_quiet : IsTrue (is_quiet chain (after_all chain opening from_the_last))
+  pub wishes_result : result_of chain (after_all chain opening by_wishes) ≡ Some 1 ∷ Some 0 ∷ None ∷ []
+  pub last_result : result_of chain (after_all chain opening from_the_last) ≡ Some 1 ∷ Some 0 ∷ None ∷ []
+  pub received_by_first : count_below ((after_all chain opening from_the_last).received 0) 3 ≡ 3
+  pub received_by_second : count_below ((after_all chain opening from_the_last).received 1) 3 ≡ 2

@@ -1,4 +1,4 @@
-ghost use Rattle.mt_model.specs.Laws.Floors.{ResultOfFloor, OpeningIsStrict, LegalFromPassed, EventKeepsRecorded, EventKeepsLegal, EventKeepsStrict, EventsKeepRecorded, EventsKeepLegal, EventsKeepStrict, EventNotDue, EventDue, DueAtMost, QuietIsReached, DueProposalsAreMade, MadeAtMost, StrictBest, BestExists, QuietCounts, OrderFree};
+ghost use Rattle.mt_model.specs.Laws.Floors.{ResultOfFloor, OpeningIsStrict, LegalFromPassed, EventKeepsRecorded, EventKeepsLegal, EventKeepsStrict, EventsKeepRecorded, EventsKeepLegal, EventsKeepStrict, EventNotDue, EventDue, DueAtMost, QuietIsReached, DueProposalsAreMade, MadeAtMost, StrictBest, ChainHasStrictEnd, BestExists, QuietCounts, OrderFree, ChainInTwoOrders};
 
 /// Each floor has a result, with one place for each applicant.
 pub fn result_of_floor()
@@ -92,7 +92,8 @@ pub fn made_at_most()
 
 /// A strict floor on which no event is due has the best match as its result.
 pub fn strict_best()
-    ensures { StrictBest }
+    ensures law { StrictBest }
+    ensures example { ChainHasStrictEnd }
 {
 }
 
@@ -110,6 +111,7 @@ pub fn quiet_counts()
 
 /// Whatever the order of the events, they end in the same proposals and in the best match.
 pub fn order_free()
-    ensures { OrderFree }
+    ensures law { OrderFree }
+    ensures example { ChainInTwoOrders }
 {
 }
