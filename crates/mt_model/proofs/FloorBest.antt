@@ -94,14 +94,16 @@ placed_from_held m f s a p on = go (cases_Bool (f.standing a))
   where
     has_tried : IsTrue (has (tried m f a) p)
     has_tried = tried_from_received m f s.legal.recorded a p (choice_facts (program_of m p) (f.received p) a on).is_member
+
     not_gone : IsFalse (has (gone m f a) p)
     not_gone = false_from_ne_true _ (λ left. both_ways _ (s.let_go a p left) on)
+
     go : (IsTrue (f.standing a)) ⊎ (IsFalse (f.standing a)) → (k : ℕ) × IsPlaced m f a k p
     go (inl stands) =
         let l = last_facts m f s.legal.recorded a stands in
         let front : IsFalse (has (take l.0 (live m a)) p) = ap (λ ps. has ps p) (sym (gone_where_standing m f a l.0 l.1 stands l.2)) ∙ not_gone in
         let both : IsTrue (has (take l.0 (live m a)) p || (l.1 == p)) =
-            sym (has-take-suc (live m a) l.0 l.1 p l.2.last) ∙ ap (λ n. has (take n (live m a)) p) (sym l.2.made_more) ∙ has_tried in
+        sym (has-take-suc (live m a) l.0 l.1 p l.2.last) ∙ ap (λ n. has (take n (live m a)) p) (sym l.2.made_more) ∙ has_tried in
         let same : l.1 ≡ p = eqb-true _ _ (second _ _ front both) in
         (l.0, subst (λ (q : ℕ). IsPlaced m f a l.0 q) same (record { stands = stands; last = l.2 }))
       where
@@ -116,6 +118,7 @@ gone_from_better m f r quiet places result a p listed better = go (cases_Bool (f
   where
     on_live : IsTrue (has (until (λ q. at places q a) (live m a)) p)
     on_live = has-until-filter (λ q. at places q a) (λ q. has (program_of m q).ranking a) (list_of m a) p better listed
+
     go : (IsTrue (f.standing a)) ⊎ (IsFalse (f.standing a)) → IsTrue (has (gone m f a) p)
     go (inl stands) =
         let l = last_facts m f r a stands in
@@ -140,8 +143,9 @@ unchosen_if_better m wf f s quiet places result a p better = go (cases_Bool (has
         let on : IsTrue (f.received p a) = s.legal.recorded.receives a p ∙ tried_from_gone m f a p left in
         let at_least = above-choice (program_of m p) (f.received p) a (wf.rankings_distinct p) listed on (s.let_go a p left) in
         let more = count-le (held m f p) (with_one (at places p) a) (until (λ b. b == a) (program_of m p).ranking)
-            (λ b held_b. let placed = placed_from_held m f s b p held_b in or_right _ _ (placed_from m f places result b placed.0 p placed.1)) in
+        (λ b held_b. let placed = placed_from_held m f s b p held_b in or_right _ _ (placed_from m f places result b placed.0 p placed.1)) in
         omega (arith, at_least, more)
+
     go : (IsTrue (has (program_of m p).ranking a)) ⊎ (IsFalse (has (program_of m p).ranking a)) → IsFalse (choice (program_of m p) (with_one (at places p) a) a)
     go (inl listed) = and_right _ _ (le-ltb _ _ (full listed))
     go (inr unlisted) = and_left _ _ (and_left _ _ unlisted)
@@ -154,17 +158,18 @@ strict_best_lem m wf f s quiet places result = record {
     on_list = λ a p there. (live_parts m a p (placed_live a p there)).1;
     listed = λ a p there. (live_parts m a p (placed_live a p there)).0;
     within = λ p.
-      let few = chosen_count (program_of m p) (f.received p) (applicants m) (wf.rankings_distinct p) (wf.rankings_within p) in
-      let all_held = count_below-mono (at places p) (held m f p) (applicants m)
-          (λ a low there. let placed = placed_facts m f s.legal.recorded places result a p there in held_where_quiet m f quiet a placed.0 p placed.1) in
-      omega (arith, few, all_held, filled_by_applicant places p, ap (λ n. count_below (at places p) n) result.one_each);
-    none_block = unchosen_if_better m wf f s quiet places result
+        let few = chosen_count (program_of m p) (f.received p) (applicants m) (wf.rankings_distinct p) (wf.rankings_within p) in
+        let all_held = count_below-mono (at places p) (held m f p) (applicants m)
+        (λ a low there. let placed = placed_facts m f s.legal.recorded places result a p there in held_where_quiet m f quiet a placed.0 p placed.1) in
+        omega (arith, few, all_held, filled_by_applicant places p, ap (λ n. count_below (at places p) n) result.one_each);
+    none_block = unchosen_if_better m wf f s quiet places result;
   });
-  none_better = λ a p better. by_listing a p better (cases_Bool (has (program_of m p).ranking a))
+  none_better = λ a p better. by_listing a p better (cases_Bool (has (program_of m p).ranking a));
 }
   where
     placed_live : (a p : ℕ) → IsTrue (at places p a) → IsTrue (has (live m a) p)
     placed_live a p there = let placed = placed_facts m f s.legal.recorded places result a p there in has-get (live m a) placed.0 p placed.1.last.last
+
     by_listing : (a p : ℕ) → IsTrue (has (better_programs m places a) p) → (IsTrue (has (program_of m p).ranking a)) ⊎ (IsFalse (has (program_of m p).ranking a)) → IsExcluded m a p
     by_listing a p better (inl listed) = s.legal.passed a p (gone_from_better m f s.legal.recorded quiet places result a p listed better)
     by_listing a p better (inr unlisted) = excluded_if_unlisted m a p unlisted

@@ -54,7 +54,7 @@ above-first_few set k q [] a distinct = omega arith
 above-first_few set k q (x ∷ xs) a distinct =
     joined (set x) (first_few set k q (x ∷ xs) x) (x == a) _ _ _ (first_few-head set k q x xs)
     (count_agree (first_few set k q (x ∷ xs)) (first_few set (k + (if set x then 1 else 0)) q xs) (until (λ y. y == a) xs)
-      (λ y on. first_few-tail set k q x xs distinct y (has-until (λ z. z == a) xs y on)))
+    (λ y on. first_few-tail set k q x xs distinct y (has-until (λ z. z == a) xs y on)))
     (above-first_few set (k + (if set x then 1 else 0)) q xs a (and_parts (not (has xs x)) (is_distinct xs) distinct).1)
     _ _ (above-cons set x xs a) (above-cons (first_few set k q (x ∷ xs)) x xs a)
   where

@@ -88,7 +88,7 @@ tried_same m f a p q n = rw (made_same m f a p) (has-take-suc (live m a) (f.made
 tried_other : (m : Market) (f : Floor) (a p b : ℕ) → b ≢ a → tried m (proposed_at m f a p) b ≡ tried m f b
 tried_other m f a p b other = ap (λ k. take k (live m b)) (made_other m f a p b other)
 
-pub standing_same : (m : Market) (f : Floor) (a p : ℕ) → (proposed_at m f a p).standing a ≡ choice (program_of m p) (receives_one f p a) a
+standing_same : (m : Market) (f : Floor) (a p : ℕ) → (proposed_at m f a p).standing a ≡ choice (program_of m p) (receives_one f p a) a
 standing_same m f a p = rw (eq-eqb a a refl) refl
 
 pub standing_other : (m : Market) (f : Floor) (a p b : ℕ) → b ≢ a → (proposed_at m f a p).standing b ≡ f.standing b
@@ -108,7 +108,7 @@ received_there : (m : Market) (f : Floor) (a p : ℕ) → (proposed_at m f a p).
 received_there m f a p = rw (eq-eqb p p refl) refl
 
 -- what is so of one number and of each other one is so of each
-pub one_and_others : (P : ℕ → Type 0) (a : ℕ) → P a → ((b : ℕ) → b ≢ a → P b) → (b : ℕ) → P b
+one_and_others : (P : ℕ → Type 0) (a : ℕ) → P a → ((b : ℕ) → b ≢ a → P b) → (b : ℕ) → P b
 one_and_others P a here others b = go (cases_eq b a)
   where
     go : (b ≡ a) ⊎ (b ≢ a) → P b
@@ -124,14 +124,14 @@ within_get (x ∷ xs) (suc k) p e = omega (arith, within_get xs k p e)
 proposal_keeps_recorded : (m : Market) (f : Floor) (a p : ℕ) → IsNext m f a p → IsRecorded m f → IsRecorded m (proposed_at m f a p)
 proposal_keeps_recorded m f a p n r = record {
   within = one_and_others (λ b. (proposed_at m f a p).made b ≤ length (live m b)) a
-    (rw (made_same m f a p) (within_get (live m a) (f.made a) p n.next))
-    (λ b other. rw (made_other m f a p b other) (r.within b));
+      (rw (made_same m f a p) (within_get (live m a) (f.made a) p n.next))
+      (λ b other. rw (made_other m f a p b other) (r.within b));
   proposed = one_and_others (λ b. IsTrue ((proposed_at m f a p).standing b) → 0 < (proposed_at m f a p).made b) a
-    (λ stands. rw (made_same m f a p) (omega arith))
-    (λ b other stands. rw (made_other m f a p b other) (r.proposed b (sym (standing_other m f a p b other) ∙ stands)));
+      (λ stands. rw (made_same m f a p) (omega arith))
+      (λ b other stands. rw (made_other m f a p b other) (r.proposed b (sym (standing_other m f a p b other) ∙ stands)));
   receives = one_and_others (λ b. (q : ℕ) → (proposed_at m f a p).received q b ≡ has (tried m (proposed_at m f a p) b) q) a
-    (λ q. received_same m f a p q ∙ ap (λ t. t || (p == q)) (r.receives a q) ∙ sym (tried_same m f a p q n))
-    (λ b other q. received_other m f a p q b other ∙ r.receives b q ∙ ap (λ ps. has ps q) (sym (tried_other m f a p b other)))
+      (λ q. received_same m f a p q ∙ ap (λ t. t || (p == q)) (r.receives a q) ∙ sym (tried_same m f a p q n))
+      (λ b other q. received_other m f a p q b other ∙ r.receives b q ∙ ap (λ ps. has ps q) (sym (tried_other m f a p b other)));
 }
 
 -- who doesn't stand has gone from all that it has tried
@@ -143,15 +143,15 @@ proposal_keeps_front : (m : Market) (f : Floor) (a p : ℕ) → IsNext m f a p
     → ((b q : ℕ) → IsTrue (has (gone m f b) q) → IsExcluded m b q) → HasPassed m (proposed_at m f a p)
 proposal_keeps_front m f a p n passed = record {
   front = one_and_others (λ b. (q : ℕ) → IsTrue (has (take ((proposed_at m f a p).made b - 1) (live m b)) q) → IsExcluded m b q) a
-    (λ q on.
+      (λ q on.
       let e : (proposed_at m f a p).made a - 1 ≡ f.made a = omega (arith, made_same m f a p) in
       passed a q (rw (gone_where_free m f a n.free) (subst (λ (k : ℕ). IsTrue (has (take k (live m a)) q)) e on)))
-    (λ b other q on.
-      passed b q (gone_from_front m f b q (subst (λ (k : ℕ). IsTrue (has (take (k - 1) (live m b)) q)) (made_other m f a p b other) on)))
+      (λ b other q on.
+      passed b q (gone_from_front m f b q (subst (λ (k : ℕ). IsTrue (has (take (k - 1) (live m b)) q)) (made_other m f a p b other) on)));
 }
 
 -- what an applicant has gone from, by whether it stands and how much it has tried
-pub gone_from : (m : Market) (f : Floor) (a : ℕ) (b : Bool) (k : ℕ) → f.standing a ≡ b → f.made a ≡ k → gone m f a ≡ take (k - (if b then 1 else 0)) (live m a)
+gone_from : (m : Market) (f : Floor) (a : ℕ) (b : Bool) (k : ℕ) → f.standing a ≡ b → f.made a ≡ k → gone m f a ≡ take (k - (if b then 1 else 0)) (live m a)
 gone_from m f a b k stands makes = ap₂ (λ (s : Bool) (n : ℕ). take (n - (if s then 1 else 0)) (live m a)) stands makes
 
 -- an applicant that is kept at a proposal has gone from what it tried before
@@ -188,13 +188,16 @@ proposal_keeps_passed m wf f a p n r passed =
   where
     before : (q : ℕ) → IsTrue (has (tried m f a) q) → IsExcluded m a q
     before q on = passed a q (rw (gone_where_free m f a n.free) on)
+
     refused : IsFalse ((proposed_at m f a p).standing a) → IsExcluded m a p
     refused free =
         refused_is_excluded m wf (proposed_at m f a p) (proposal_keeps_recorded m f a p n r) (proposal_keeps_front m f a p n passed)
         a p (is_received m f a p) (held_same m f a p ∙ free)
+
     before_or_now : (q : ℕ) → IsFalse ((proposed_at m f a p).standing a) → (IsTrue (has (tried m f a) q)) ⊎ (p ≡ q) → IsExcluded m a q
     before_or_now q free (inl on) = before q on
     before_or_now q free (inr same) = subst (λ (x : ℕ). IsExcluded m a x) same (refused free)
+
     kept_or_not : (q : ℕ) → IsTrue (has (gone m (proposed_at m f a p) a) q) → (IsTrue ((proposed_at m f a p).standing a)) ⊎ (IsFalse ((proposed_at m f a p).standing a)) → IsExcluded m a q
     kept_or_not q on (inl kept) = before q (ap (λ ps. has ps q) (sym (gone_if_kept m f a p kept)) ∙ on)
     kept_or_not q on (inr free) = before_or_now q free (gone_if_refused m f a p q n free on)
@@ -213,6 +216,7 @@ proposal_keeps_out m f a p b q (inl other) out = there_or_not (cases_eq q p)
     at_program x there out_x =
         let e : (proposed_at m f a p).received x ≡ receives_one f x a = ap (λ (y : ℕ). (proposed_at m f a p).received y) there ∙ received_there m f a p ∙ ap (λ (y : ℕ). receives_one f y a) (sym there) in
         ap (λ (set : Set). choice (program_of m x) set b) e ∙ choice_with_one (program_of m x) (f.received x) a b other out_x
+
     there_or_not : (q ≡ p) ⊎ (q ≢ p) → IsFalse (held m (proposed_at m f a p) q b)
     there_or_not (inl there) = at_program q there out
     there_or_not (inr elsewhere) = ap (λ (set : Set). choice (program_of m q) set b) (received_elsewhere m f a p q elsewhere) ∙ out
@@ -222,17 +226,19 @@ proposal_keeps_strict : (m : Market) → IsWellFormed m → (f : Floor) (a p : �
 proposal_keeps_strict m wf f a p n s = record {
   legal = proposal_keeps_legal m wf f a p n s.legal;
   let_go = one_and_others (λ b. (q : ℕ) → IsTrue (has (gone m (proposed_at m f a p) b) q) → IsFalse (held m (proposed_at m f a p) q b)) a
-    (λ q on. kept_or_not q on (cases_Bool ((proposed_at m f a p).standing a)))
-    (λ b other q on. proposal_keeps_out m f a p b q (inl other) (s.let_go b q (subst (λ ps. IsTrue (has ps q)) (gone_other m f a p b other) on)))
+      (λ q on. kept_or_not q on (cases_Bool ((proposed_at m f a p).standing a)))
+      (λ b other q on. proposal_keeps_out m f a p b q (inl other) (s.let_go b q (subst (λ ps. IsTrue (has ps q)) (gone_other m f a p b other) on)));
 }
   where
     before : (q : ℕ) → IsTrue (has (tried m f a) q) → IsFalse (held m (proposed_at m f a p) q a)
     before q on =
         proposal_keeps_out m f a p a q (inr (λ same. both_ways _ (has-take_before (live m a) (f.made a) p (live_distinct m wf a) n.next) (subst (λ (x : ℕ). IsTrue (has (tried m f a) x)) same on)))
         (s.let_go a q (rw (gone_where_free m f a n.free) on))
+
     before_or_now : (q : ℕ) → IsFalse ((proposed_at m f a p).standing a) → (IsTrue (has (tried m f a) q)) ⊎ (p ≡ q) → IsFalse (held m (proposed_at m f a p) q a)
     before_or_now q free (inl on) = before q on
     before_or_now q free (inr same) = subst (λ (x : ℕ). IsFalse (held m (proposed_at m f a p) x a)) same (held_same m f a p ∙ free)
+
     kept_or_not : (q : ℕ) → IsTrue (has (gone m (proposed_at m f a p) a) q) → (IsTrue ((proposed_at m f a p).standing a)) ⊎ (IsFalse ((proposed_at m f a p).standing a)) → IsFalse (held m (proposed_at m f a p) q a)
     kept_or_not q on (inl kept) = before q (ap (λ ps. has ps q) (sym (gone_if_kept m f a p kept)) ∙ on)
     kept_or_not q on (inr free) = before_or_now q free (gone_if_refused m f a p q n free on)
@@ -289,7 +295,7 @@ notice_keeps_recorded : (m : Market) (f : Floor) (a : ℕ) → IsRecorded m f �
 notice_keeps_recorded m f a r = record {
   within = r.within;
   proposed = λ b stands. r.proposed b (and_parts _ _ stands).1;
-  receives = r.receives
+  receives = r.receives;
 }
 
 -- after a notice the applicant has gone from the program too
@@ -330,7 +336,7 @@ notice_keeps_legal m wf f a k p d l =
 notice_keeps_strict : (m : Market) → IsWellFormed m → (f : Floor) (a k p : ℕ) → IsDropped m f a k p → IsStrict m f → IsStrict m (noticed f a)
 notice_keeps_strict m wf f a k p d s = record {
   legal = notice_keeps_legal m wf f a k p d s.legal;
-  let_go = after_notice m f a k p d (λ b q. IsFalse (held m f q b)) s.let_go d.out
+  let_go = after_notice m f a k p d (λ b q. IsFalse (held m f q b)) s.let_go d.out;
 }
 
 -- what is so after each due proposal and after each due notice is so after each event that is due

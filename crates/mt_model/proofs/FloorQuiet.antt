@@ -24,15 +24,16 @@ tried_to_place m wf f r quiet places result a = go (cases_Bool (f.standing a))
   where
     some_inj : {x y : ℕ} → Some x ≡ Some y → x ≡ y
     some_inj e = cc
+
     go : (IsTrue (f.standing a)) ⊎ (IsFalse (f.standing a)) → tried m f a ≡ proposed_to m places a
     go (inl stands) =
         let l = last_facts m f r a stands in
         let there = placed_from m f places result a l.0 l.1 (record { stands = stands; last = l.2 }) in
         let none_before : (q : ℕ) → IsTrue (has (take l.0 (live m a)) q) → IsFalse (at places q a) =
-            λ q on. false_from_ne_true _ (λ at_q.
-              let placed = placed_facts m f r places result a q at_q in
-              let same : q ≡ l.1 = some_inj (sym placed.1.last.last_is ∙ l.2.last_is) in
-              both_ways _ (has-take_before (live m a) l.0 l.1 (live_distinct m wf a) l.2.last) (subst (λ (x : ℕ). IsTrue (has (take l.0 (live m a)) x)) same on)) in
+        λ q on. false_from_ne_true _ (λ at_q.
+        let placed = placed_facts m f r places result a q at_q in
+        let same : q ≡ l.1 = some_inj (sym placed.1.last.last_is ∙ l.2.last_is) in
+        both_ways _ (has-take_before (live m a) l.0 l.1 (live_distinct m wf a) l.2.last) (subst (λ (x : ℕ). IsTrue (has (take l.0 (live m a)) x)) same on)) in
         ap (λ n. take n (live m a)) l.2.made_more ∙ sym (through-get (λ q. at places q a) (live m a) l.0 l.1 l.2.last there none_before)
     go (inr free) =
         tried_where_quiet m f r quiet a free
@@ -42,7 +43,7 @@ pub quiet_counts_lem : QuietCounts
 quiet_counts_lem m wf f r quiet places result = record {
   same_tried = tried_to_place m wf f r quiet places result;
   same_counts = λ p. count_below-same (f.received p) (λ a. has (proposed_to m places a) p) (applicants m)
-    (λ a low. r.receives a p ∙ ap (λ ps. has ps p) (tried_to_place m wf f r quiet places result a))
+      (λ a low. r.receives a p ∙ ap (λ ps. has ps p) (tried_to_place m wf f r quiet places result a));
 }
 
 -- A floor that events have reached from the opening one, on which no event is due.
@@ -58,7 +59,7 @@ end_facts m wf es quiet =
     record {
       strict = strict;
       best = strict_best_lem m wf f strict quiet (result_of m f) (result_of_floor_lem m f);
-      on_the_way = quiet_counts_lem m wf f strict.legal.recorded quiet (result_of m f) (result_of_floor_lem m f)
+      on_the_way = quiet_counts_lem m wf f strict.legal.recorded quiet (result_of m f) (result_of_floor_lem m f);
     }
 
 -- a recorded floor's proposals are as many as the programs tried
@@ -70,11 +71,12 @@ ends_alike : (m : Market) → IsWellFormed m → (f g : Floor) → IsEnd m f →
 ends_alike m wf f g ef eg = record {
   same_made = λ a. sym (made_is m f ef.strict.legal.recorded a) ∙ ap length (tried_alike a) ∙ made_is m g eg.strict.legal.recorded a;
   same_received = λ p a. ef.strict.legal.recorded.receives a p ∙ ap (λ ps. has ps p) (tried_alike a) ∙ sym (eg.strict.legal.recorded.receives a p);
-  same_result = same_result
+  same_result = same_result;
 }
   where
     same_result : result_of m f ≡ result_of m g
     same_result = best_is_unique_lem m (result_of m f) (result_of m g) ef.best eg.best
+
     tried_alike : (a : ℕ) → tried m f a ≡ tried m g a
     tried_alike a = ef.on_the_way.same_tried a ∙ ap (λ places. proposed_to m places a) same_result ∙ sym (eg.on_the_way.same_tried a)
 

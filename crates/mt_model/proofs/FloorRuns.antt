@@ -122,8 +122,10 @@ due_where_unsettled m f r a unsettled = go (cases_Bool (f.standing a))
     if_false : (b x y : Bool) → IsFalse (if b then x else y) → (IsTrue b → IsFalse x) × (IsFalse b → IsFalse y)
     if_false true x y h = (λ t. h, λ e. absurd (both_ways true e refl))
     if_false false x y h = (λ t. absurd (both_ways false refl t), λ e. h)
+
     parts : (IsTrue (f.standing a) → IsFalse (is_held_by m f a (last_tried m f a))) × (IsFalse (f.standing a) → IsFalse (f.made a == length (live m a)))
     parts = if_false (f.standing a) (is_held_by m f a (last_tried m f a)) (f.made a == length (live m a)) unsettled
+
     go : (IsTrue (f.standing a)) ⊎ (IsFalse (f.standing a)) → (e : Event) × IsTrue (is_due m f e)
     go (inl stands) = (Notice a, and_from _ _ stands (not_from_false _ (parts.0 stands)))
     go (inr free) =
@@ -158,15 +160,15 @@ opening_is_strict_lem m = record {
   legal = record {
     recorded = record { within = λ a. omega arith; proposed = λ a stands. absurd (both_ways false refl stands); receives = λ a p. refl };
     passed = λ a p left. absurd (both_ways false refl left);
-    refused = λ a p on. absurd (both_ways false refl on)
+    refused = λ a p on. absurd (both_ways false refl on);
   };
-  let_go = λ a p left. absurd (both_ways false refl left)
+  let_go = λ a p left. absurd (both_ways false refl left);
 }
 
 pub result_of_floor_lem : ResultOfFloor
 result_of_floor_lem m f = record {
   one_each = length-map-range_with_len (place_on m f) 0 (applicants m);
-  each_place = λ a low. get_or-map-range_with_len (place_on m f) 0 (applicants m) a a None low (omega arith)
+  each_place = λ a low. get_or-map-range_with_len (place_on m f) 0 (applicants m) a a None low (omega arith);
 }
 
 -- there is a best match

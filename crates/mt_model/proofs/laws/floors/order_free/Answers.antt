@@ -12,5 +12,5 @@ returns-clause-example c = record {
   wishes_result = refl;
   last_result = refl;
   received_by_first = refl;
-  received_by_second = refl
+  received_by_second = refl;
 }

@@ -21,5 +21,5 @@ returns-clause-example c =
       well_formed = well_formed;
       strict = events_keep_strict_lem chain well_formed opening by_wishes (opening_is_strict_lem chain);
       quiet = refl;
-      result = result_of_floor_lem chain (after_all chain opening by_wishes)
+      result = result_of_floor_lem chain (after_all chain opening by_wishes);
     }
