@@ -28,4 +28,5 @@ returns-clause-example c =
       well_formed = w;
       legal = events_keep_legal_lem chain w opening by_wishes (opening_is_strict chain).legal;
       quiet = refl;
-      result = record { one_each = refl; each_place = places_on_chain } }
+      result = record { one_each = refl; each_place = places_on_chain };
+    }
