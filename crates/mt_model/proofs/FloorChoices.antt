@@ -1,25 +1,12 @@
--- A program's choice as the set grows, and how many it takes.
+-- A program's choice as the set grows, and that it is full above whom it refuses.
 use Rattle.std.proofs.Common.{◌≡◌, ℕ, zero, suc, ◌+◌, ◌-◌, ◌<◌, ◌≤◌, Bool, true, false, not, ◌&&◌, ◌||◌, ◌==◌, nat_lt, List, [], ◌∷◌, IsTrue, IsFalse, refl, ap, ap₂, sym, ◌∙◌, if◌then◌else◌, arith, eqb-true, eq-eqb, ne_eqb, ◌≢◌, ◌⊎◌, inl, inr, min, ltb-true, ltb-false, lt-ltb, subst, le_trans}
 use Rattle.std.proofs.lemmas.Bool.{both_ways, or_left, or_right, or_cases, or_parts, and_parts, and_from, cases_Bool, cases_eq, false_from_ne_true, not-true}
 use Rattle.std.proofs.lemmas.Bool.Decides.{nat_tests}
 use Rattle.mt_model.specs.Lists.{Set, has, until, is_distinct, with_one, above, count}
 use Rattle.mt_model.specs.Market.{Program}
 use Rattle.mt_model.specs.Choice.{choice}
-
--- who is chosen is listed, is of the set, and has fewer than quota of the set above it
-pub record IsTaken (p : Program) (set : Set) (a : ℕ) : Type 0 where
-  pub listed : IsTrue (has p.ranking a)
-  pub member : IsTrue (set a)
-  pub few_above : above set p.ranking a < p.quota
-
-pub taken_facts : (p : Program) (set : Set) (a : ℕ) → IsTrue (choice p set a) → IsTaken p set a
-taken_facts p set a h =
-    let parts = and_parts (has p.ranking a && set a) (nat_lt (above set p.ranking a) p.quota) h in
-    let first = and_parts (has p.ranking a) (set a) parts.0 in
-    record { listed = first.0; member = first.1; few_above = ltb-true _ _ parts.1 }
-
-pub taken_from_facts : (p : Program) (set : Set) (a : ℕ) → IsTaken p set a → IsTrue (choice p set a)
-taken_from_facts p set a h = and_from _ _ (and_from _ _ h.listed h.member) (lt-ltb _ _ h.few_above)
+use Rattle.mt_model.proofs.ChoiceLemmas.{choice_facts, choice_from_facts}
+use Rattle.mt_model.proofs.Seats.{not_head}
 
 -- a larger set counts at least as many
 pub count_grows : (s t : Set) → ((a : ℕ) → IsTrue (s a) → IsTrue (t a)) → (xs : List ℕ) → count s xs ≤ count t xs
@@ -34,9 +21,9 @@ choice_with_one p set a b other out = false_from_ne_true _ taken_before
     was_member on = grind (arith, nat_tests)
     taken_before : IsTrue (choice p (with_one set a) b) → ⊥
     taken_before now =
-        let facts = taken_facts p (with_one set a) b now in
+        let facts = choice_facts p (with_one set a) b now in
         let more = count_grows set (with_one set a) (λ x on. or_right _ _ on) (until (λ x. x == b) p.ranking) in
-        both_ways _ out (taken_from_facts p set b (record { listed = facts.listed; member = was_member facts.member; few_above = omega (arith, facts.few_above, more) }))
+        both_ways _ out (choice_from_facts p set b (record { is_listed = facts.is_listed; is_member = was_member facts.is_member; has_few_above = omega (arith, facts.has_few_above, more) }))
 
 -- sets that agree on a list count alike on it
 pub count_alike : (s t : Set) (xs : List ℕ) → ((a : ℕ) → IsTrue (has xs a) → s a ≡ t a) → count s xs ≡ count t xs
@@ -69,22 +56,8 @@ first_few-head set k q x xs = let e : k + above set (x ∷ xs) x ≡ k = rw (abo
 first_few-tail : (set : Set) (k q x : ℕ) (xs : List ℕ) → IsTrue (is_distinct (x ∷ xs)) → (y : ℕ) → IsTrue (has xs y)
     → first_few set k q (x ∷ xs) y ≡ first_few set (k + (if set x then 1 else 0)) q xs y
 first_few-tail set k q x xs distinct y on =
-    let e : k + above set (x ∷ xs) y ≡ k + (if set x then 1 else 0) + above set xs y = rw (above-cons set x xs y, other) (omega arith) in
+    let e : k + above set (x ∷ xs) y ≡ k + (if set x then 1 else 0) + above set xs y = rw (above-cons set x xs y, not_head x xs y distinct on) (omega arith) in
     ap (λ n. set y && nat_lt n q) e
-  where
-    other : IsFalse (x == y)
-    other = false_from_ne_true _ (λ same. both_ways _ (not-true _ (and_parts _ _ distinct).0) (subst (λ (z : ℕ). IsTrue (has xs z)) (sym (eqb-true x y same)) on))
-
--- the first few of a list are at most q
-count-first_few : (set : Set) (k q : ℕ) (xs : List ℕ) → IsTrue (is_distinct xs) → count (first_few set k q xs) xs ≤ q - k
-count-first_few set k q [] distinct = omega arith
-count-first_few set k q (x ∷ xs) distinct =
-    joined (set x) (first_few set k q (x ∷ xs) x) _ _ (first_few-head set k q x xs)
-    (count_alike (first_few set k q (x ∷ xs)) (first_few set (k + (if set x then 1 else 0)) q xs) xs (first_few-tail set k q x xs distinct))
-    (count-first_few set (k + (if set x then 1 else 0)) q xs (and_parts (not (has xs x)) (is_distinct xs) distinct).1)
-  where
-    joined : (b taken : Bool) (n n' : ℕ) → taken ≡ (b && nat_lt k q) → n ≡ n' → n' ≤ q - (k + (if b then 1 else 0)) → (if taken then 1 else 0) + n ≤ q - k
-    joined b taken n n' is alike rest = grind (arith, nat_tests)
 
 -- above a number, the first few are q, or all members of the set there
 above-first_few : (set : Set) (k q : ℕ) (xs : List ℕ) (a : ℕ) → IsTrue (is_distinct xs) → min q (k + above set xs a) ≤ k + above (first_few set k q xs) xs a
@@ -106,11 +79,6 @@ choice-first_few p set a on = by_tests (has p.ranking a) (set a) (above set p.ra
   where
     by_tests : (listed member : Bool) (n : ℕ) → IsTrue listed → (listed && member && nat_lt n p.quota) ≡ (member && nat_lt (0 + n) p.quota)
     by_tests listed member n h = grind (arith, nat_tests)
-
--- a program chooses no more than its quota
-pub count-choice : (p : Program) (set : Set) → IsTrue (is_distinct p.ranking) → count (choice p set) p.ranking ≤ p.quota
-count-choice p set distinct =
-    omega (arith, count-first_few set 0 p.quota p.ranking distinct, count_alike (choice p set) (first_few set 0 p.quota p.ranking) p.ranking (choice-first_few p set))
 
 -- above whom a program lists and doesn't choose, it chooses its quota
 pub above-choice : (p : Program) (set : Set) (a : ℕ) → IsTrue (is_distinct p.ranking) → IsTrue (has p.ranking a) → IsTrue (set a) → IsFalse (choice p set a)

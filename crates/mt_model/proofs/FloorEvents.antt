@@ -75,10 +75,10 @@ next_facts m f a p e =
     let facts = if_none (f.standing a) (slice_get (live m a) (f.made a)) p e in
     record { free = facts.0; next = facts.1 }
 
-made_same : (m : Market) (f : Floor) (a p : ℕ) → (proposed_at m f a p).made a ≡ suc (f.made a)
+pub made_same : (m : Market) (f : Floor) (a p : ℕ) → (proposed_at m f a p).made a ≡ suc (f.made a)
 made_same m f a p = rw (eq-eqb a a refl) (add-one (f.made a))
 
-made_other : (m : Market) (f : Floor) (a p b : ℕ) → b ≢ a → (proposed_at m f a p).made b ≡ f.made b
+pub made_other : (m : Market) (f : Floor) (a p b : ℕ) → b ≢ a → (proposed_at m f a p).made b ≡ f.made b
 made_other m f a p b other = rw (ne_eqb b a other) refl
 
 -- after a proposal an applicant has tried the program too
@@ -88,10 +88,10 @@ tried_same m f a p q n = rw (made_same m f a p) (has-take-suc (live m a) (f.made
 tried_other : (m : Market) (f : Floor) (a p b : ℕ) → b ≢ a → tried m (proposed_at m f a p) b ≡ tried m f b
 tried_other m f a p b other = ap (λ k. take k (live m b)) (made_other m f a p b other)
 
-standing_same : (m : Market) (f : Floor) (a p : ℕ) → (proposed_at m f a p).standing a ≡ choice (program_of m p) (receives_one f p a) a
+pub standing_same : (m : Market) (f : Floor) (a p : ℕ) → (proposed_at m f a p).standing a ≡ choice (program_of m p) (receives_one f p a) a
 standing_same m f a p = rw (eq-eqb a a refl) refl
 
-standing_other : (m : Market) (f : Floor) (a p b : ℕ) → b ≢ a → (proposed_at m f a p).standing b ≡ f.standing b
+pub standing_other : (m : Market) (f : Floor) (a p b : ℕ) → b ≢ a → (proposed_at m f a p).standing b ≡ f.standing b
 standing_other m f a p b other = rw (ne_eqb b a other) refl
 
 -- after a proposal, the program has received the applicant too
@@ -108,14 +108,14 @@ received_there : (m : Market) (f : Floor) (a p : ℕ) → (proposed_at m f a p).
 received_there m f a p = rw (eq-eqb p p refl) refl
 
 -- what is so of one number and of each other one is so of each
-one_and_others : (P : ℕ → Type 0) (a : ℕ) → P a → ((b : ℕ) → b ≢ a → P b) → (b : ℕ) → P b
+pub one_and_others : (P : ℕ → Type 0) (a : ℕ) → P a → ((b : ℕ) → b ≢ a → P b) → (b : ℕ) → P b
 one_and_others P a here others b = go (cases_eq b a)
   where
     go : (b ≡ a) ⊎ (b ≢ a) → P b
     go (inl same) = subst P (sym same) here
     go (inr other) = others b other
 
-within_get : (xs : List ℕ) (k p : ℕ) → slice_get xs k ≡ Some p → k < length xs
+pub within_get : (xs : List ℕ) (k p : ℕ) → slice_get xs k ≡ Some p → k < length xs
 within_get [] k p e = cc
 within_get (x ∷ xs) zero p e = omega arith
 within_get (x ∷ xs) (suc k) p e = omega (arith, within_get xs k p e)
@@ -135,7 +135,7 @@ proposal_keeps_recorded m f a p n r = record {
 }
 
 -- who doesn't stand has gone from all that it has tried
-gone_where_free : (m : Market) (f : Floor) (a : ℕ) → IsFalse (f.standing a) → gone m f a ≡ tried m f a
+pub gone_where_free : (m : Market) (f : Floor) (a : ℕ) → IsFalse (f.standing a) → gone m f a ≡ tried m f a
 gone_where_free m f a free = let e : f.made a - (if f.standing a then 1 else 0) ≡ f.made a = rw free (omega arith) in ap (λ k. take k (live m a)) e
 
 -- after a proposal, all programs tried but the last are excluded
@@ -151,7 +151,7 @@ proposal_keeps_front m f a p n passed = record {
 }
 
 -- what an applicant has gone from, by whether it stands and how much it has tried
-gone_from : (m : Market) (f : Floor) (a : ℕ) (b : Bool) (k : ℕ) → f.standing a ≡ b → f.made a ≡ k → gone m f a ≡ take (k - (if b then 1 else 0)) (live m a)
+pub gone_from : (m : Market) (f : Floor) (a : ℕ) (b : Bool) (k : ℕ) → f.standing a ≡ b → f.made a ≡ k → gone m f a ≡ take (k - (if b then 1 else 0)) (live m a)
 gone_from m f a b k stands makes = ap₂ (λ (s : Bool) (n : ℕ). take (n - (if s then 1 else 0)) (live m a)) stands makes
 
 -- an applicant that is kept at a proposal has gone from what it tried before
@@ -245,7 +245,7 @@ pub record IsDropped (m : Market) (f : Floor) (a k p : ℕ) : Type 0 where
   pub out : IsFalse (held m f p a)
 
 -- an element stands at each place of a list
-get_some : (xs : List ℕ) (k : ℕ) → k < length xs → (p : ℕ) × (slice_get xs k ≡ Some p)
+pub get_some : (xs : List ℕ) (k : ℕ) → k < length xs → (p : ℕ) × (slice_get xs k ≡ Some p)
 get_some [] k h = absurd (omega arith)
 get_some (x ∷ xs) zero h = (x, refl)
 get_some (x ∷ xs) (suc k) h = get_some xs k (omega arith)
@@ -264,6 +264,10 @@ last_facts m f r a stands =
     let e : last_tried m f a ≡ slice_get (live m a) (f.made a - 1) = rw (ne_eqb (f.made a) 0 (omega arith)) refl in
     (f.made a - 1, found.0, record { made_more = omega arith; last = found.1; last_is = e ∙ found.1 })
 
+-- who stands has gone from all that it has tried but the last
+pub gone_where_standing : (m : Market) (f : Floor) (a k p : ℕ) → IsTrue (f.standing a) → HasLast m f a k p → gone m f a ≡ take k (live m a)
+gone_where_standing m f a k p stands l = gone_from m f a true (suc k) stands l.made_more ∙ ap (λ n. take n (live m a)) (omega arith)
+
 dropped_facts : (m : Market) (f : Floor) → IsRecorded m f → (a : ℕ) → IsTrue (is_due m f (Notice a)) → (k p : ℕ) × IsDropped m f a k p
 dropped_facts m f r a due =
     let parts = and_parts (f.standing a) _ due in
@@ -272,13 +276,13 @@ dropped_facts m f r a due =
     (l.0, l.1, record { stands = parts.0; made_more = l.2.made_more; last = l.2.last; out = out })
 
 -- the floor after a notice
-abbrev noticed : Floor → ℕ → Floor
+abbrev pub noticed : Floor → ℕ → Floor
 noticed f a = record f { standing = without f.standing a }
 
-noticed_same : (f : Floor) (a : ℕ) → IsFalse ((noticed f a).standing a)
+pub noticed_same : (f : Floor) (a : ℕ) → IsFalse ((noticed f a).standing a)
 noticed_same f a = rw (eq-eqb a a refl) refl
 
-noticed_other : (f : Floor) (a b : ℕ) → b ≢ a → (noticed f a).standing b ≡ f.standing b
+pub noticed_other : (f : Floor) (a b : ℕ) → b ≢ a → (noticed f a).standing b ≡ f.standing b
 noticed_other f a b other = rw (ne_eqb b a other) refl
 
 notice_keeps_recorded : (m : Market) (f : Floor) (a : ℕ) → IsRecorded m f → IsRecorded m (noticed f a)
@@ -329,21 +333,39 @@ notice_keeps_strict m wf f a k p d s = record {
   let_go = after_notice m f a k p d (λ b q. IsFalse (held m f q b)) s.let_go d.out
 }
 
--- a property of floors that due proposals and due notices keep
+-- what is so after each due proposal and after each due notice is so after each event that is due
+pub after_due : (m : Market) (P : Floor → Type 0) (f : Floor) → IsRecorded m f
+    → ((a p : ℕ) → IsNext m f a p → P (proposed_at m f a p)) → ((a k p : ℕ) → IsDropped m f a k p → P (noticed f a))
+    → (e : Event) → IsTrue (is_due m f e) → P (after m f e)
+after_due m P f r by_proposal by_notice (Propose a) due = go (next_entry m f a) refl due
+  where
+    go : (o : Option ℕ) → next_entry m f a ≡ o → IsTrue (is_some o) → P (after_proposal m f a o)
+    go None e h = absurd (both_ways false refl h)
+    go (Some p) e h = by_proposal a p (next_facts m f a p e)
+after_due m P f r by_proposal by_notice (Notice a) due =
+    let d = dropped_facts m f r a due in
+    let now : after m f (Notice a) ≡ noticed f a = ap (λ b. if b then (noticed f a) else f) due in
+    subst P (sym now) (by_notice a d.0 d.1 d.2)
+
+-- an event that isn't due changes nothing
+pub after_not_due : (m : Market) (f : Floor) (e : Event) → IsFalse (is_due m f e) → after m f e ≡ f
+after_not_due m f (Propose a) h = go (next_entry m f a) h
+  where
+    go : (o : Option ℕ) → IsFalse (is_some o) → after_proposal m f a o ≡ f
+    go None h = refl
+    go (Some p) h = absurd (both_ways true h refl)
+after_not_due m f (Notice a) h = ap (λ b. if b then (noticed f a) else f) h
+
+-- a property of recorded floors that due proposals and due notices keep
 event_keeps : (m : Market) (P : Floor → Type 0) → ((f : Floor) → P f → IsRecorded m f)
     → ((f : Floor) (a p : ℕ) → IsNext m f a p → P f → P (proposed_at m f a p))
     → ((f : Floor) (a k p : ℕ) → IsDropped m f a k p → P f → P (noticed f a))
     → (f : Floor) (e : Event) → P f → P (after m f e)
-event_keeps m P recorded by_proposal by_notice f (Propose a) h = go (next_entry m f a) refl
+event_keeps m P recorded by_proposal by_notice f e h = go (cases_Bool (is_due m f e))
   where
-    go : (o : Option ℕ) → next_entry m f a ≡ o → P (after_proposal m f a o)
-    go None e = h
-    go (Some p) e = by_proposal f a p (next_facts m f a p e) h
-event_keeps m P recorded by_proposal by_notice f (Notice a) h = go (is_due m f (Notice a)) refl
-  where
-    go : (b : Bool) → is_due m f (Notice a) ≡ b → P (if b then (noticed f a) else f)
-    go true due = let d = dropped_facts m f (recorded f h) a due in by_notice f a d.0 d.1 d.2 h
-    go false due = h
+    go : (IsTrue (is_due m f e)) ⊎ (IsFalse (is_due m f e)) → P (after m f e)
+    go (inl due) = after_due m P f (recorded f h) (λ a p n. by_proposal f a p n h) (λ a k p d. by_notice f a k p d h) e due
+    go (inr not_due) = subst P (sym (after_not_due m f e not_due)) h
 
 pub event_keeps_recorded_lem : (m : Market) (f : Floor) (e : Event) → IsRecorded m f → IsRecorded m (after m f e)
 event_keeps_recorded_lem m f e r =

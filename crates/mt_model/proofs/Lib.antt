@@ -2,9 +2,13 @@ pub mod ChoiceLemmas
 pub mod ExclusionLemmas
 pub mod FlatListsFacts
 pub mod FloorAssumed
+pub mod FloorBest
 pub mod FloorChoices
 pub mod FloorEvents
 pub mod FloorLists
+pub mod FloorQuiet
+pub mod FloorRuns
+pub mod FloorSums
 pub mod LegalBestLemmas
 pub mod ListLemmas
 pub mod RuralAssumed

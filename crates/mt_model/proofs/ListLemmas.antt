@@ -1,10 +1,10 @@
 -- Lists of numbers as sets: what passes a test, what stands before a first one, and how many.
-use Rattle.std.proofs.Common.{◌≡◌, ℕ, zero, suc, ◌+◌, ◌<◌, ◌≤◌, Bool, true, false, not, ◌&&◌, ◌||◌, ◌==◌, List, [], ◌∷◌, map, filter, length, IsTrue, IsFalse, refl, ap, sym, ◌∙◌, arith, eqb-true, eq-eqb, ne_eqb, slice_index_or, slice_set, if◌then◌else◌, ◌⊎◌, ◌≢◌, subst, inl, inr, eq-or-lt_of_le}
+use Rattle.std.proofs.Common.{◌≡◌, ℕ, zero, suc, ◌+◌, ◌<◌, ◌≤◌, Bool, true, false, not, ◌||◌, ◌==◌, List, [], ◌∷◌, map, filter, length, IsTrue, IsFalse, refl, ap, sym, ◌∙◌, arith, eq-eqb, ne_eqb, slice_index_or, slice_set, if◌then◌else◌, ◌⊎◌, ◌≢◌, subst, inl, inr, eq-or-lt_of_le}
 use Rattle.std.specs.List.{list_any, list_all, range_with_len}
-use Rattle.std.proofs.lemmas.Bool.{and_parts, and_from, or_parts, or_from, or_left, or_right, not-true, not-false, not_from_true, not_from_false, or_cases, cases_Bool, both_ways}
+use Rattle.std.proofs.lemmas.Bool.{and_parts, and_from, or_parts, or_from, or_left, or_right, not-true, not-false, not_from_true, not_from_false, cases_Bool, both_ways}
 use Rattle.std.proofs.lemmas.Bool.Decides.{nat_tests}
 use mathlib.Core.Path.{fun_ext}
-use Rattle.mt_model.specs.Lists.{Set, has, until, count, above, below, with_one, is_distinct}
+use Rattle.mt_model.specs.Lists.{Set, has, until, count, above, below, with_one}
 
 -- all numbers of a range pass where each of them does
 all_in_range : (test : Set) (a n : ℕ) → ((k : ℕ) → a ≤ k → k < a + n → IsTrue (test k)) → IsTrue (list_all test (range_with_len a n))
@@ -113,12 +113,12 @@ pub one_not_of : (s t : Set) (xs : List ℕ) → count t xs < count s xs → (b 
 one_not_of s t [] fewer = absurd (omega arith)
 one_not_of s t (x ∷ xs) fewer =
     let later : count t xs < count s xs → (b : ℕ) × IsTrue (has (x ∷ xs) b) × IsTrue (s b) × IsFalse (t b) =
-        λ lt. let r = one_not_of s t xs lt in (r.0, or_right _ _ r.1, r.2, r.3) in
+    λ lt. let r = one_not_of s t xs lt in (r.0, or_right _ _ r.1, r.2, r.3) in
     elim (cases_Bool (t x)) [
-      inl in_t ↦ later (grind (arith, nat_tests))
-    | inr not_t ↦ elim (cases_Bool (s x)) [
-        inl in_s ↦ (x, or_left _ _ (eq-eqb x x refl), in_s, not_t)
-      | inr not_s ↦ later (grind (arith, nat_tests))
+      | inl in_t ↦ later (grind (arith, nat_tests))
+      | inr not_t ↦ elim (cases_Bool (s x)) [
+        | inl in_s ↦ (x, or_left _ _ (eq-eqb x x refl), in_s, not_t)
+        | inr not_s ↦ later (grind (arith, nat_tests))
       ]
     ]
 
@@ -165,9 +165,9 @@ pub until-filter : (test : Set) (xs : List ℕ) (p q : ℕ) → IsTrue (has (unt
     → IsTrue (has (until (λ x. x == p) (filter test xs)) q)
 until-filter test [] p q on passes = on
 until-filter test (x ∷ xs) p q on passes = elim (cases_Bool (test x)) [
-      inl kept ↦ rw kept (grind (arith, nat_tests, until-filter test xs p q))
-    | inr dropped ↦ rw dropped (grind (arith, nat_tests, until-filter test xs p q))
-    ]
+  | inl kept ↦ rw kept (grind (arith, nat_tests, until-filter test xs p q))
+  | inr dropped ↦ rw dropped (grind (arith, nat_tests, until-filter test xs p q))
+]
 
 -- what stands above p on a list still does with one more at the front that isn't p
 until_later : (xs : List ℕ) (x p q : ℕ) → IsFalse (x == p) → IsTrue (has (until (λ y. y == p) xs) q) → IsTrue (has (until (λ y. y == p) (x ∷ xs)) q)
@@ -178,15 +178,15 @@ pub passes_before : (test : Set) (xs : List ℕ) (p : ℕ) → IsTrue (has xs p)
     → (q : ℕ) × IsTrue (test q) × IsTrue (has (until (λ x. x == p) xs) q)
 passes_before test [] p on none fails = absurd (both_ways false refl on)
 passes_before test (x ∷ xs) p on none fails = elim (cases_Bool (test x)) [
-      inl here ↦
-        let other : IsFalse (x == p) = ne_eqb x p (λ same. both_ways _ fails (subst (λ (y : ℕ). IsTrue (test y)) same here)) in
-        (x, here, rw other (or_left _ _ (eq-eqb x x refl)))
-    | inr not_here ↦
-        let none' : IsFalse ((x == p) || has (until test xs) p) = rw not_here at none in
-        let parts = or_parts (x == p) (has (until test xs) p) none' in
-        let r = passes_before test xs p (grind (arith, nat_tests, parts.0, on)) parts.1 fails in
-        (r.0, r.1, until_later xs x p r.0 parts.0 r.2)
-    ]
+  | inl here ↦
+      let other : IsFalse (x == p) = ne_eqb x p (λ same. both_ways _ fails (subst (λ (y : ℕ). IsTrue (test y)) same here)) in
+      (x, here, rw other (or_left _ _ (eq-eqb x x refl)))
+  | inr not_here ↦
+      let none' : IsFalse ((x == p) || has (until test xs) p) = rw not_here at none in
+      let parts = or_parts (x == p) (has (until test xs) p) none' in
+      let r = passes_before test xs p (grind (arith, nat_tests, parts.0, on)) parts.1 fails in
+      (r.0, r.1, until_later xs x p r.0 parts.0 r.2)
+]
 
 -- whoever else is in a set is in it besides one more
 pub with_one-same : (set : Set) (a b : ℕ) → b ≡ a → with_one set a b ≡ true
@@ -199,7 +199,7 @@ with_one-other set a b other = ap (λ (r : Bool). r || set b) (ne_eqb b a other)
 pub above-with_one : (set : Set) (xs : List ℕ) (b : ℕ) → above (with_one set b) xs b ≡ above set xs b
 above-with_one set xs b =
     count_agree (with_one set b) set (until (λ x. x == b) xs)
-      (λ c higher. with_one-other set b c (λ same. both_ways _ (until-itself xs b) (subst (λ (d : ℕ). IsTrue (has (until (λ x. x == b) xs) d)) same higher)))
+    (λ c higher. with_one-other set b c (λ same. both_ways _ (until-itself xs b) (subst (λ (d : ℕ). IsTrue (has (until (λ x. x == b) xs) d)) same higher)))
 
 -- one less passes where one that does is replaced by one that doesn't
 pub count-slice_set : {X : Type 0} (test : X → Bool) (xs : List X) (i : ℕ) (y d : X) → i < length xs → IsTrue (test (slice_index_or xs i d)) → IsFalse (test y)

@@ -1,30 +1,22 @@
 -- What it means, fact by fact, that a match of the singles' market is stable.
-use Rattle.std.proofs.Common.{◌≡◌, ℕ, ◌≤◌, ◌<◌, Bool, true, false, not, ◌&&◌, ◌||◌, ◌==◌, nat_le, List, [], ◌∷◌, map, length, is_some, Option, Some, None, IsTrue, IsFalse, refl, ap, sym, ◌∙◌, subst, eqb-true, eq-eqb, le-leb, leb-true, inl, inr, ◌⊎◌, arith}
+use Rattle.std.proofs.Common.{◌≡◌, ℕ, ◌≤◌, ◌<◌, true, false, not, ◌&&◌, ◌||◌, ◌==◌, nat_le, List, [], ◌∷◌, map, length, is_some, Option, Some, None, IsTrue, IsFalse, refl, ap, sym, ◌∙◌, subst, eqb-true, eq-eqb, le-leb, leb-true, inl, inr, arith}
 use Rattle.std.specs.List.{list_any, list_all}
 use Rattle.std.proofs.lemmas.Bool.{and_parts, and_from, or_left, or_right, or_cases, cases_lt, not-true, not_from_false, both_ways, false_from_ne_true}
 use Rattle.std.proofs.lemmas.Bool.Decides.{nat_tests}
 use Rattle.std.proofs.lemmas.List.{get_or_past}
 use Rattle.std.proofs.lemmas.List.Folds.{list_all-map}
 use mathlib.Core.Path.{fun_ext}
-use Rattle.mt_model.specs.Lists.{Set, has, with_one, until, below, count}
+use Rattle.mt_model.specs.Lists.{Set, has, with_one, until, below}
 use Rattle.mt_model.specs.Market.{Market, Program, applicants, program_of, list_of, singles_market, agents}
-use Rattle.mt_model.specs.Matching.{Places, at, filled, place_of, is_program, is_same_place, holds, single_placement, Placement, options, none_placed, better}
+use Rattle.mt_model.specs.Matching.{Places, at, filled, place_of, is_program, is_same_place, holds, single_placement, none_placed, better}
 use Rattle.mt_model.specs.Choice.{choice}
 use Rattle.mt_model.specs.Stability.{stable, fits, has_own_option, is_listed, blocks, would_be_taken}
 use Rattle.mt_model.specs.Best.{better_programs}
-use Rattle.mt_model.specs.declared.numbers.Agent.{Agent}
+use Rattle.mt_model.specs.Laws.Singles.{StabilityOfSingles}
+pub use Rattle.mt_model.specs.Laws.Singles.{IsStableForSingles}
 use Rattle.mt_model.specs.declared.numbers.Agent.TheVariants.{Single}
 use Rattle.mt_model.proofs.ListLemmas.{all_below, each_below, none_below, each_fails_below, count_none, none_has, none_from_each, list_any-map, until-map, filter_all}
-use Rattle.mt_model.proofs.TakenLemmas.{single_taken}
-
--- A match of the singles is stable where each has one place, on both lists; programs keep their quotas; and
--- no program that a single wants more would choose it from those there and the single.
-pub record IsStableForSingles (m : Market) (places : Places) : Type 0 where
-  pub one_each : length places ≡ applicants m
-  pub on_list : (a p : ℕ) → IsTrue (at places p a) → IsTrue (has (list_of m a) p)
-  pub listed : (a p : ℕ) → IsTrue (at places p a) → IsTrue (has (program_of m p).ranking a)
-  pub within : (p : ℕ) → filled places p ≤ (program_of m p).quota
-  pub none_block : (a p : ℕ) → IsTrue (has (better_programs m places a) p) → IsFalse (choice (program_of m p) (with_one (at places p) a) a)
+use Rattle.mt_model.proofs.TakenLemmas.{single_taken_lem}
 
 -- without couples every applicant is an agent
 pub agents-singles_market : (m : Market) → agents (singles_market m) ≡ map Single (below (applicants m))
@@ -49,7 +41,7 @@ blocks-Single : (m : Market) (places : Places) (a : ℕ) → a < length places
 blocks-Single m places a a_in =
     ap (list_any (would_be_taken (singles_market m) places)) (better-Single m places a)
     ∙ list_any-map (would_be_taken (singles_market m) places) (single_placement a) (better_programs m places a)
-    ∙ ap (λ test. list_any test (better_programs m places a)) (fun_ext λ p. single_taken (singles_market m) places a p a_in)
+    ∙ ap (λ test. list_any test (better_programs m places a)) (fun_ext λ p. single_taken_lem (singles_market m) places a p a_in)
 
 -- a single has an option of its own where it is nowhere, or at a program of its list
 has_own_option-Single : (m : Market) (places : Places) (a : ℕ)
@@ -180,3 +172,6 @@ stable_from_facts m places h = stable_from_parts (singles_market m) places (reco
       blocks-Single m places a (let e = h.one_each in omega arith)
       ∙ none_from_each (λ p. choice (program_of m p) (with_one (at places p) a) a) (better_programs m places a) (h.none_block a));
 })
+
+pub stability_of_singles_lem : StabilityOfSingles
+stability_of_singles_lem m places = (stable_facts m places, stable_from_facts m places)

@@ -1,13 +1,13 @@
 -- Which options would be taken, in the terms of the programs' choices.
-use Rattle.std.proofs.Common.{◌≡◌, ◌≢◌, ◌⊎◌, ◌↔◌, ℕ, ◌<◌, ◌≤◌, Bool, true, false, ◌&&◌, ◌||◌, ◌==◌, List, [], ◌∷◌, length, Option, Some, None, slice_set, slice_index_or, IsTrue, IsFalse, refl, ap, sym, ◌∙◌, inl, inr, arith, eqb-true, eq-eqb, ne_eqb, get_or-set_same, get_or-set_other, length-set, subst, if◌then◌else◌}
+use Rattle.std.proofs.Common.{◌≡◌, ◌≢◌, ◌↔◌, ℕ, ◌<◌, ◌≤◌, Bool, true, false, ◌&&◌, ◌||◌, ◌==◌, length, Option, Some, None, slice_set, IsTrue, IsFalse, refl, ap, sym, ◌∙◌, inl, inr, arith, eq-eqb, ne_eqb, get_or-set_same, get_or-set_other, length-set, if◌then◌else◌}
 use mathlib.Core.Path.{fun_ext}
-use Rattle.std.proofs.lemmas.Bool.{cases_eq, and_parts, and_from, both_ways, false_from_ne_true}
+use Rattle.std.proofs.lemmas.Bool.{cases_eq, and_parts, and_from, false_from_ne_true}
 use Rattle.std.proofs.lemmas.Bool.Decides.{nat_tests}
 use Rattle.mt_model.specs.Lists.{Set, with_one, until, above}
-use Rattle.mt_model.specs.Market.{Market, Program, program_of}
-use Rattle.mt_model.specs.Matching.{Places, place_of, is_program, at, single_placement, couple_placement, send, unplaced}
+use Rattle.mt_model.specs.Market.{Program, program_of}
+use Rattle.mt_model.specs.Matching.{Places, is_program, at, couple_placement, send}
 use Rattle.mt_model.specs.Choice.{choice}
-use Rattle.mt_model.specs.Stability.{would_be_taken, is_chosen}
+use Rattle.mt_model.specs.Laws.Taken.{taken_out, SingleTaken, PairTaken, SameProgramTaken, FirstAloneTaken, SecondAloneTaken, NeverTwiceAtOne}
 use Rattle.mt_model.proofs.ListLemmas.{count_has, one_higher}
 use Rattle.mt_model.proofs.ChoiceLemmas.{choice_facts}
 
@@ -22,9 +22,9 @@ at-slice_set_other places a b p place other = ap (is_program p) (get_or-set_othe
 at_moved : (places : Places) (a p b : ℕ) (place : Option ℕ) → a < length places
     → at (slice_set places a place) p b ≡ (if b == a then is_program p place else at places p b)
 at_moved places a p b place a_in = elim (cases_eq b a) [
-      inl same ↦ rw (eq-eqb b a same) (ap (at (slice_set places a place) p) same ∙ at-slice_set_same places a p place a_in)
-    | inr other ↦ rw (ne_eqb b a other) (at-slice_set_other places a b p place other)
-    ]
+  | inl same ↦ rw (eq-eqb b a same) (ap (at (slice_set places a place) p) same ∙ at-slice_set_same places a p place a_in)
+  | inr other ↦ rw (ne_eqb b a other) (at-slice_set_other places a b p place other)
+]
 
 -- the same where two applicants were moved
 at_moved_both : (places : Places) (a b p c : ℕ) (s t : Option ℕ) → a < length places → b < length places
@@ -46,22 +46,21 @@ and-true true = refl
 and-true false = refl
 
 -- a single would be taken where the program chooses it from those there and itself
-pub single_taken : (m : Market) (places : Places) (a p : ℕ) → a < length places
-    → would_be_taken m places (single_placement a p) ≡ choice (program_of m p) (with_one (at places p) a) a
-single_taken m places a p a_in = and-true _ ∙ ap (λ (set : Set). choice (program_of m p) set a) (at-slice_set places a p a_in)
+pub single_taken_lem : SingleTaken
+single_taken_lem m places a p a_in = and-true _ ∙ ap (λ (set : Set). choice (program_of m p) set a) (at-slice_set places a p a_in)
 
 -- who is at a program where both members of a couple were taken out
-taken_out : (places : Places) (a b p c : ℕ) → a < length places → b < length places
-    → at (unplaced (a ∷ b ∷ []) places) p c ≡ (if c == b then false else (if c == a then false else at places p c))
-taken_out places a b p c a_in b_in = at_moved_both places a b p c None None a_in b_in
+at-taken_out : (places : Places) (a b p c : ℕ) → a < length places → b < length places
+    → at (taken_out places a b) p c ≡ (if c == b then false else (if c == a then false else at places p c))
+at-taken_out places a b p c a_in b_in = at_moved_both places a b p c None None a_in b_in
 
 -- who is at the first member's program, the couple taken out first, where the second is sent elsewhere
 at_first : (places : Places) (a b p : ℕ) (t : Option ℕ) → a < length places → b < length places → a ≢ b → IsFalse (is_program p t)
-    → at (send (couple_placement a b (Some p, t)) places) p ≡ with_one (at (unplaced (a ∷ b ∷ []) places) p) a
+    → at (send (couple_placement a b (Some p, t)) places) p ≡ with_one (at (taken_out places a b) p) a
 at_first places a b p t a_in b_in apart elsewhere = fun_ext λ c.
     at_moved_both places a b p c (Some p) t a_in b_in
     ∙ tests c (at places p c)
-    ∙ sym (ap (λ (r : Bool). (c == a) || r) (taken_out places a b p c a_in b_in))
+    ∙ sym (ap (λ (r : Bool). (c == a) || r) (at-taken_out places a b p c a_in b_in))
   where
     tests : (c : ℕ) (was : Bool)
         → (if c == b then is_program p t else (if c == a then p == p else was)) ≡ ((c == a) || (if c == b then false else (if c == a then false else was)))
@@ -69,11 +68,11 @@ at_first places a b p t a_in b_in apart elsewhere = fun_ext λ c.
 
 -- who is at the second member's program, the couple taken out first, where the first is sent elsewhere
 at_second : (places : Places) (a b p : ℕ) (s : Option ℕ) → a < length places → b < length places → IsFalse (is_program p s)
-    → at (send (couple_placement a b (s, Some p)) places) p ≡ with_one (at (unplaced (a ∷ b ∷ []) places) p) b
+    → at (send (couple_placement a b (s, Some p)) places) p ≡ with_one (at (taken_out places a b) p) b
 at_second places a b p s a_in b_in elsewhere = fun_ext λ c.
     at_moved_both places a b p c s (Some p) a_in b_in
     ∙ tests c (at places p c)
-    ∙ sym (ap (λ (r : Bool). (c == b) || r) (taken_out places a b p c a_in b_in))
+    ∙ sym (ap (λ (r : Bool). (c == b) || r) (at-taken_out places a b p c a_in b_in))
   where
     tests : (c : ℕ) (was : Bool)
         → (if c == b then p == p else (if c == a then is_program p s else was)) ≡ ((c == b) || (if c == b then false else (if c == a then false else was)))
@@ -81,11 +80,11 @@ at_second places a b p s a_in b_in elsewhere = fun_ext λ c.
 
 -- who is at the program to which both members are sent
 at_both : (places : Places) (a b p : ℕ) → a < length places → b < length places
-    → at (send (couple_placement a b (Some p, Some p)) places) p ≡ with_one (with_one (at (unplaced (a ∷ b ∷ []) places) p) a) b
+    → at (send (couple_placement a b (Some p, Some p)) places) p ≡ with_one (with_one (at (taken_out places a b) p) a) b
 at_both places a b p a_in b_in = fun_ext λ c.
     at_moved_both places a b p c (Some p) (Some p) a_in b_in
     ∙ tests c (at places p c)
-    ∙ sym (ap (λ (r : Bool). (c == b) || ((c == a) || r)) (taken_out places a b p c a_in b_in))
+    ∙ sym (ap (λ (r : Bool). (c == b) || ((c == a) || r)) (at-taken_out places a b p c a_in b_in))
   where
     tests : (c : ℕ) (was : Bool)
         → (if c == b then p == p else (if c == a then p == p else was)) ≡ ((c == b) || ((c == a) || (if c == b then false else (if c == a then false else was))))
@@ -93,38 +92,30 @@ at_both places a b p a_in b_in = fun_ext λ c.
 
 -- two tests pass together where each does
 both_tests : (x y u v : Bool) → x ≡ u → y ≡ v → IsTrue (x && (y && true)) ↔ (IsTrue u × IsTrue v)
-both_tests x y u v x_is_u y_is_v = 
+both_tests x y u v x_is_u y_is_v =
     rw (x_is_u, y_is_v) ((λ h. let parts = and_parts u (v && true) h in (parts.0, sym (and-true v) ∙ parts.1)), (λ h. and_from u (v && true) h.0 (and-true v ∙ h.1)))
 
 -- a couple would be taken at two programs where each chooses its member, the couple taken out first
-pub pair_taken : (m : Market) (places : Places) (a b x y : ℕ) → a < length places → b < length places → a ≢ b → x ≢ y
-    → IsTrue (would_be_taken m places (couple_placement a b (Some x, Some y)))
-    ↔ (IsTrue (choice (program_of m x) (with_one (at (unplaced (a ∷ b ∷ []) places) x) a) a)
-      × IsTrue (choice (program_of m y) (with_one (at (unplaced (a ∷ b ∷ []) places) y) b) b))
-pair_taken m places a b x y a_in b_in apart other =
+pub pair_taken_lem : PairTaken
+pair_taken_lem m places a b x y a_in b_in apart other =
     both_tests _ _ _ _
-      (ap (λ (set : Set). choice (program_of m x) set a) (at_first places a b x (Some y) a_in b_in apart (ne_eqb y x (λ same. other (sym same)))))
-      (ap (λ (set : Set). choice (program_of m y) set b) (at_second places a b y (Some x) a_in b_in (ne_eqb x y other)))
+    (ap (λ (set : Set). choice (program_of m x) set a) (at_first places a b x (Some y) a_in b_in apart (ne_eqb y x (λ same. other (sym same)))))
+    (ap (λ (set : Set). choice (program_of m y) set b) (at_second places a b y (Some x) a_in b_in (ne_eqb x y other)))
 
 -- a couple would be taken at one program where it chooses both members, the couple taken out first
-pub same_program_taken : (m : Market) (places : Places) (a b x : ℕ) → a < length places → b < length places
-    → IsTrue (would_be_taken m places (couple_placement a b (Some x, Some x)))
-    ↔ (IsTrue (choice (program_of m x) (with_one (with_one (at (unplaced (a ∷ b ∷ []) places) x) a) b) a)
-      × IsTrue (choice (program_of m x) (with_one (with_one (at (unplaced (a ∷ b ∷ []) places) x) a) b) b))
-same_program_taken m places a b x a_in b_in =
+pub same_program_taken_lem : SameProgramTaken
+same_program_taken_lem m places a b x a_in b_in =
     both_tests _ _ _ _
-      (ap (λ (set : Set). choice (program_of m x) set a) (at_both places a b x a_in b_in))
-      (ap (λ (set : Set). choice (program_of m x) set b) (at_both places a b x a_in b_in))
+    (ap (λ (set : Set). choice (program_of m x) set a) (at_both places a b x a_in b_in))
+    (ap (λ (set : Set). choice (program_of m x) set b) (at_both places a b x a_in b_in))
 
 -- a couple of which one member stays unplaced would be taken where the other one's program chooses it
-pub first_alone_taken : (m : Market) (places : Places) (a b x : ℕ) → a < length places → b < length places → a ≢ b
-    → would_be_taken m places (couple_placement a b (Some x, None)) ≡ choice (program_of m x) (with_one (at (unplaced (a ∷ b ∷ []) places) x) a) a
-first_alone_taken m places a b x a_in b_in apart =
+pub first_alone_taken_lem : FirstAloneTaken
+first_alone_taken_lem m places a b x a_in b_in apart =
     and-true _ ∙ ap (λ (set : Set). choice (program_of m x) set a) (at_first places a b x None a_in b_in apart refl)
 
-pub second_alone_taken : (m : Market) (places : Places) (a b y : ℕ) → a < length places → b < length places
-    → would_be_taken m places (couple_placement a b (None, Some y)) ≡ choice (program_of m y) (with_one (at (unplaced (a ∷ b ∷ []) places) y) b) b
-second_alone_taken m places a b y a_in b_in =
+pub second_alone_taken_lem : SecondAloneTaken
+second_alone_taken_lem m places a b y a_in b_in =
     and-true _ ∙ ap (λ (set : Set). choice (program_of m y) set b) (at_second places a b y None a_in b_in refl)
 
 -- no program with a quota of one or less chooses two
@@ -133,18 +124,17 @@ chosen_once p set a b apart small chosen_a chosen_b =
     let first = choice_facts p set a chosen_a in
     let second = choice_facts p set b chosen_b in
     elim (one_higher p.ranking a b apart first.is_listed second.is_listed) [
-      inl b_higher ↦
-        let some : 0 < above set p.ranking a = count_has set (until (λ x. x == a) p.ranking) b b_higher second.is_member in
-        let few = first.has_few_above in omega arith
-    | inr a_higher ↦
-        let some : 0 < above set p.ranking b = count_has set (until (λ x. x == b) p.ranking) a a_higher first.is_member in
-        let few = second.has_few_above in omega arith
+      | inl b_higher ↦
+          let some : 0 < above set p.ranking a = count_has set (until (λ x. x == a) p.ranking) b b_higher second.is_member in
+          let few = first.has_few_above in omega arith
+      | inr a_higher ↦
+          let some : 0 < above set p.ranking b = count_has set (until (λ x. x == b) p.ranking) a a_higher first.is_member in
+          let few = second.has_few_above in omega arith
     ]
 
 -- a couple is never taken twice by a program with a quota of one or less
-pub never_twice_at_one : (m : Market) (places : Places) (a b x : ℕ) → a ≢ b → (program_of m x).quota ≤ 1
-    → IsFalse (would_be_taken m places (couple_placement a b (Some x, Some x)))
-never_twice_at_one m places a b x apart small = false_from_ne_true _ (λ taken.
+pub never_twice_at_one_lem : NeverTwiceAtOne
+never_twice_at_one_lem m places a b x apart small = false_from_ne_true _ (λ taken.
     let set : Set = at (send (couple_placement a b (Some x, Some x)) places) x in
     let parts = and_parts (choice (program_of m x) set a) (choice (program_of m x) set b && true) taken in
     chosen_once (program_of m x) set a b apart small parts.0 (sym (and-true (choice (program_of m x) set b)) ∙ parts.1))

@@ -1,11 +1,11 @@
 -- The test of a well-formed market, and the facts that it stands for.
-use Rattle.std.proofs.Common.{◌≡◌, ◌≢◌, ◌↔◌, ℕ, zero, suc, ◌<◌, ◌≤◌, Bool, true, false, not, ◌&&◌, ◌==◌, nat_lt, List, [], ◌∷◌, length, IsTrue, IsFalse, refl, ap, sym, ◌∙◌, subst, inl, inr, arith, get_or, eqb-true, eq-eqb, ne_eqb, ltb-true, lt-ltb}
+use Rattle.std.proofs.Common.{◌≡◌, ℕ, zero, suc, ◌<◌, Bool, false, not, ◌&&◌, ◌==◌, nat_lt, List, [], ◌∷◌, length, IsTrue, refl, ap, sym, ◌∙◌, get_or, eqb-true, eq-eqb, ne_eqb, ltb-true, lt-ltb}
 use Rattle.std.specs.List.{list_all}
-use Rattle.std.proofs.lemmas.Bool.{and_parts, and_from, eqb-false, both_ways, cases_lt, not-true, not_from_false}
-use Rattle.std.proofs.lemmas.List.{get_or_past}
-use Rattle.mt_model.specs.Lists.{Set, has, below, is_distinct}
+use Rattle.std.proofs.lemmas.Bool.{and_parts, and_from, eqb-false, both_ways, not-true, not_from_false}
+use Rattle.mt_model.specs.Lists.{has, below, is_distinct}
 use Rattle.mt_model.specs.Market.{Market, Program, applicants, program_of, list_of, couple_of, agent_of}
 use Rattle.mt_model.specs.WellFormed.{IsMember, IsWellFormed, is_list_within, is_empty, is_couple, has_member, has_two_members, is_well_formed}
+use Rattle.mt_model.specs.Laws.Singles.{WellFormedTest}
 use Rattle.mt_model.specs.declared.numbers.Agent.{Agent}
 use Rattle.mt_model.specs.declared.numbers.Agent.TheVariants.{Single, Couple}
 use Rattle.mt_model.proofs.ListLemmas.{all_below, each_below, each_has, all_from_has}
@@ -45,7 +45,8 @@ member_facts m c a h =
     record {
       within = ltb-true _ _ first.0;
       no_list = nil_from_is_empty (list_of m a) first.1;
-      belongs = couple_from_is_couple c (agent_of m a) parts.1 }
+      belongs = couple_from_is_couple c (agent_of m a) parts.1;
+    }
 
 member_from_facts : (m : Market) (c a : ℕ) → IsMember m c a → IsTrue (has_member m c a)
 member_from_facts m c a h =
@@ -53,13 +54,14 @@ member_from_facts m c a h =
 
 pub well_formed_from_test : (m : Market) → IsTrue (is_well_formed m) → IsWellFormed m
 well_formed_from_test m h = record {
-    lists_distinct = λ a. (on_lists a).0;
-    lists_within = λ a. (on_lists a).1;
-    rankings_distinct = λ p. (on_rankings p).0;
-    rankings_within = λ p. (on_rankings p).1;
-    first_member = λ c c_in. member_facts m c (couple_of m c).first (on_couples c c_in).0;
-    second_member = λ c c_in. member_facts m c (couple_of m c).second (on_couples c c_in).1;
-    two_members = λ c c_in. eqb-false _ _ (not-true _ (on_couples c c_in).2) }
+  lists_distinct = λ a. (on_lists a).0;
+  lists_within = λ a. (on_lists a).1;
+  rankings_distinct = λ p. (on_rankings p).0;
+  rankings_within = λ p. (on_rankings p).1;
+  first_member = λ c c_in. member_facts m c (couple_of m c).first (on_couples c c_in).0;
+  second_member = λ c c_in. member_facts m c (couple_of m c).second (on_couples c c_in).1;
+  two_members = λ c c_in. eqb-false _ _ (not-true _ (on_couples c c_in).2);
+}
   where
     parts : IsTrue (list_all (λ p. is_list_within (applicants m) (Program.ranking p)) m.programs && list_all (is_list_within (length m.programs)) m.lists)
         × IsTrue (list_all (has_two_members m) (below (length m.couples)))
@@ -73,7 +75,7 @@ well_formed_from_test m h = record {
 
     on_rankings : (p : ℕ) → IsTrue (is_distinct (program_of m p).ranking) × ((a : ℕ) → IsTrue (has (program_of m p).ranking a) → a < applicants m)
     on_rankings p = list_within_parts (applicants m) (program_of m p).ranking
-      (all_at (λ q. is_list_within (applicants m) (Program.ranking q)) m.programs p (record { quota = 0; ranking = [] }) lists.0 refl)
+        (all_at (λ q. is_list_within (applicants m) (Program.ranking q)) m.programs p (record { quota = 0; ranking = [] }) lists.0 refl)
 
     on_couples : (c : ℕ) → c < length m.couples
         → IsTrue (has_member m c (couple_of m c).first) × IsTrue (has_member m c (couple_of m c).second) × IsTrue (not ((couple_of m c).first == (couple_of m c).second))
@@ -86,12 +88,15 @@ well_formed_from_test m h = record {
 pub test_from_well_formed : (m : Market) → IsWellFormed m → IsTrue (is_well_formed m)
 test_from_well_formed m h =
     and_from _ _
-      (and_from _ _
-        (all_from_indexes (λ p. is_list_within (applicants m) (Program.ranking p)) m.programs (record { quota = 0; ranking = [] })
-          (λ p. list_within_from (applicants m) (program_of m p).ranking (h.rankings_distinct p) (h.rankings_within p)))
-        (all_from_indexes (is_list_within (length m.programs)) m.lists []
-          (λ a. list_within_from (length m.programs) (list_of m a) (h.lists_distinct a) (h.lists_within a))))
-      (all_below (has_two_members m) (length m.couples) (λ c c_in.
-        and_from _ _
-          (and_from _ _ (member_from_facts m c (couple_of m c).first (h.first_member c c_in)) (member_from_facts m c (couple_of m c).second (h.second_member c c_in)))
-          (not_from_false _ (ne_eqb _ _ (h.two_members c c_in)))))
+    (and_from _ _
+    (all_from_indexes (λ p. is_list_within (applicants m) (Program.ranking p)) m.programs (record { quota = 0; ranking = [] })
+    (λ p. list_within_from (applicants m) (program_of m p).ranking (h.rankings_distinct p) (h.rankings_within p)))
+    (all_from_indexes (is_list_within (length m.programs)) m.lists []
+    (λ a. list_within_from (length m.programs) (list_of m a) (h.lists_distinct a) (h.lists_within a))))
+    (all_below (has_two_members m) (length m.couples) (λ c c_in.
+    and_from _ _
+    (and_from _ _ (member_from_facts m c (couple_of m c).first (h.first_member c c_in)) (member_from_facts m c (couple_of m c).second (h.second_member c c_in)))
+    (not_from_false _ (ne_eqb _ _ (h.two_members c c_in)))))
+
+pub well_formed_test_lem : WellFormedTest
+well_formed_test_lem m = (well_formed_from_test m, test_from_well_formed m)

@@ -68,6 +68,10 @@ EventDue = (m : Market) (f : Floor) (e : Event) → IsTrue (is_due m f e) → re
 abbrev pub DueAtMost : Type 0
 DueAtMost = (m : Market) (f : Floor) → IsRecorded m f → (es : List Event) → due_count m f es ≤ 2 * live_entries m
 
+-- from each recorded floor, some list of events ends where no event is due
+abbrev pub QuietIsReached : Type 0
+QuietIsReached = (m : Market) (f : Floor) → IsRecorded m f → (es : List Event) × IsTrue (is_quiet m (after_all m f es))
+
 -- whether an event is a proposal
 abbrev pub is_proposal : Event → Bool
 is_proposal (Propose a) = true
@@ -105,8 +109,8 @@ BestExists = (m : Market) → IsWellFormed m → (places : Places) × IsBest m p
 -- The proposals on a floor are those on the way to a match: each applicant has proposed to the programs down
 -- to its place, and each program has received as many proposals as it does on the way to the match.
 pub record HasProposalsOf (m : Market) (f : Floor) (places : Places) : Type 0 where
-  pub tried_alike : (a : ℕ) → tried m f a ≡ proposed_to m places a
-  pub received_alike : (p : ℕ) → count_below (f.received p) (applicants m) ≡ proposals m places p
+  pub same_tried : (a : ℕ) → tried m f a ≡ proposed_to m places a
+  pub same_counts : (p : ℕ) → count_below (f.received p) (applicants m) ≡ proposals m places p
 
 -- on a floor on which no event is due, the proposals are those of its result
 abbrev pub QuietCounts : Type 0
@@ -116,9 +120,9 @@ QuietCounts =
 
 -- Two floors agree where the same proposals are made and received, and they have the same result.
 pub record AreAlike (m : Market) (f g : Floor) : Type 0 where
-  pub made_alike : (a : ℕ) → f.made a ≡ g.made a
-  pub received_alike : (p a : ℕ) → f.received p a ≡ g.received p a
-  pub result_alike : result_of m f ≡ result_of m g
+  pub same_made : (a : ℕ) → f.made a ≡ g.made a
+  pub same_received : (p a : ℕ) → f.received p a ≡ g.received p a
+  pub same_result : result_of m f ≡ result_of m g
 
 -- Any two lists of events from the opening floor until no event is due end alike, in the best match.
 abbrev pub OrderFree : Type 0

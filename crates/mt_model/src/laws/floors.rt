@@ -1,4 +1,4 @@
-ghost use Rattle.mt_model.specs.Laws.Floors.{ResultOfFloor, OpeningIsStrict, LegalFromPassed, EventKeepsRecorded, EventKeepsLegal, EventKeepsStrict, EventsKeepRecorded, EventsKeepLegal, EventsKeepStrict, EventNotDue, EventDue, DueAtMost, DueProposalsAreMade, MadeAtMost, StrictBest, BestExists, QuietCounts, OrderFree};
+ghost use Rattle.mt_model.specs.Laws.Floors.{ResultOfFloor, OpeningIsStrict, LegalFromPassed, EventKeepsRecorded, EventKeepsLegal, EventKeepsStrict, EventsKeepRecorded, EventsKeepLegal, EventsKeepStrict, EventNotDue, EventDue, DueAtMost, QuietIsReached, DueProposalsAreMade, MadeAtMost, StrictBest, BestExists, QuietCounts, OrderFree};
 
 /// Each floor has a result, with one place for each applicant.
 pub fn result_of_floor()
@@ -69,6 +69,12 @@ pub fn event_due()
 /// No list of events has more due ones than twice the live entries.
 pub fn due_at_most()
     ensures { DueAtMost }
+{
+}
+
+/// From each recorded floor, some list of events ends where no event is due.
+pub fn quiet_is_reached()
+    ensures { QuietIsReached }
 {
 }
 
