@@ -20,7 +20,8 @@ use Rattle.mt_model.proofs.ListLemmas.{each_below, until-filter, passes_before}
 use Rattle.mt_model.proofs.SinglesFacts.{IsStableForSingles, stable_facts}
 use Rattle.mt_model.proofs.Totals.{total_below-mono, total_below-tight, count_below-mono, count_below-tight}
 use Rattle.mt_model.proofs.Seats.{placed_by_program, chosen_count}
-use Rattle.mt_model.proofs.RuralAssumed.{best_exists, strict_best}
+use Rattle.mt_model.proofs.FloorBest.{strict_best_lem}
+use Rattle.mt_model.proofs.FloorRuns.{best_exists_lem}
 use Rattle.mt_model.proofs.RuralLemmas.{place_at, somewhere, filled_of, taken_where_free, placed_total}
 
 -- a place of a stable match is on the live list
@@ -147,7 +148,7 @@ module _ (m : Market) (w : IsWellFormed m) (f : Floor) (legal : IsLegal m f) whe
     -- each program has as many in the result as it holds
     as_many_as_held : (p : ℕ) → p < length m.programs → count_below (at places p) (applicants m) ≡ count_below (held m f p) (applicants m)
     as_many_as_held p within =
-        let (b, best) = best_exists m w in
+        let (b, best) = best_exists_lem m w in
         let few_held = total_below-mono (λ q. count_below (held m f q) (applicants m)) (filled b) (length m.programs) (λ q l. fewest_held b best q) in
         let many_placed = count_below-mono (λ a. is_some (place_of b a)) (λ a. is_some (place_of places a)) (applicants m) (best_placed b best) in
         let of_b = placed_total m w b (stable_facts m b best.is_stable) in
@@ -181,4 +182,4 @@ module _ (m : Market) (w : IsWellFormed m) (f : Floor) (legal : IsLegal m f) whe
 
 -- a legal floor on which no event is due is strict, and so its result is best
 pub legal_floor_best : LegalBest
-legal_floor_best m w f legal quiet places result = strict_best m w f (floor_strict m w f legal quiet places result) quiet places result
+legal_floor_best m w f legal quiet places result = strict_best_lem m w f (floor_strict m w f legal quiet places result) quiet places result

@@ -12,9 +12,9 @@ use Rattle.mt_model.specs.WellFormed.{IsWellFormed}
 use Rattle.mt_model.specs.Laws.Rural.{SinglesFillAlike, FillAlikeWithoutCouples}
 use Rattle.mt_model.proofs.SinglesFacts.{IsStableForSingles, stable_facts}
 use Rattle.mt_model.proofs.ChoiceLemmas.{choice_from_facts}
-use Rattle.mt_model.proofs.ExclusionLemmas.{count-at, best_is_at_least}
+use Rattle.mt_model.proofs.ExclusionLemmas.{count-at, best_is_at_least_lem}
 use Rattle.mt_model.proofs.ListLemmas.{until_nobody, until_eqb_sym, passes_before, above-with_one}
-use Rattle.mt_model.proofs.RuralAssumed.{best_exists}
+use Rattle.mt_model.proofs.FloorRuns.{best_exists_lem}
 use Rattle.mt_model.proofs.Totals.{total_below-mono, total_below-tight, count_below-mono, count_below-tight}
 use Rattle.mt_model.proofs.Seats.{filled_by_applicant, placed_count, above-le-count}
 
@@ -94,13 +94,13 @@ module _ (m : Market) (w : IsWellFormed m) (b : Places) (best : IsBest m b) (n :
   wants_best_place : (a p : ℕ) → IsTrue (at b p a) → IsFalse (at n p a) → IsTrue (has (better_programs m n a) p)
   wants_best_place a p at_b not_n = true_from_ne_false (has (better_programs m n a) p) (λ unwanted.
       let (q, at_q, above_p) = passes_before (λ q. at n q a) (list_of m a) p (of_b.on_list a p at_b) unwanted not_n in
-      both_ways (has (better_programs m b a) q) (best_is_at_least m b n best n_stable a q at_q) (rw (better_than_place m b a p at_b) above_p))
+      both_ways (has (better_programs m b a) q) (best_is_at_least_lem m b n best n_stable a q at_q) (rw (better_than_place m b a p at_b) above_p))
 
   -- whoever is placed in a stable match is placed in the best one
   placed_in_best : (a : ℕ) → IsTrue (is_some (place_of n a)) → IsTrue (is_some (place_of b a))
   placed_in_best a h = true_from_ne_false (is_some (place_of b a)) (λ unplaced.
       let (q, at_q) = somewhere n a h in
-      both_ways (has (better_programs m b a) q) (best_is_at_least m b n best n_stable a q at_q) (rw (better_than_none m b a unplaced) (of_n.on_list a q at_q)))
+      both_ways (has (better_programs m b a) q) (best_is_at_least_lem m b n best n_stable a q at_q) (rw (better_than_none m b a unplaced) (of_n.on_list a q at_q)))
 
   -- whoever the best match places at a program with a free post in a stable match is there in that match
   stays_where_free : (p : ℕ) → filled n p < (program_of m p).quota → (a : ℕ) → IsTrue (at b p a) → IsTrue (at n p a)
@@ -168,10 +168,10 @@ singles_fill_alike m w s t s_stable t_stable = record {
 }
   where
     b : Places
-    b = (best_exists m w).0
+    b = (best_exists_lem m w).0
 
     best : IsBest m b
-    best = (best_exists m w).1
+    best = (best_exists_lem m w).1
 
     equally_many : (p : ℕ) → filled s p ≡ filled t p
     equally_many p = as_many_as_best m w b best s s_stable p ∙ sym (as_many_as_best m w b best t t_stable p)
