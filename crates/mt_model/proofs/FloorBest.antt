@@ -13,13 +13,13 @@ use Rattle.mt_model.specs.Best.{IsExcluded, IsBest, better_programs}
 use Rattle.mt_model.specs.WellFormed.{IsWellFormed}
 use Rattle.mt_model.specs.Floor.{Floor, held, tried, gone, last_tried, is_held_by, is_settled, is_quiet, IsRecorded, IsLegal, IsStrict}
 use Rattle.mt_model.specs.Laws.Floors.{place_on, IsResult, StrictBest}
-use Rattle.mt_model.proofs.ListLemmas.{each_below}
+use Rattle.mt_model.proofs.ListLemmas.{each_below, count-le, has-until}
 use Rattle.mt_model.proofs.ChoiceLemmas.{choice_facts}
 use Rattle.mt_model.proofs.Totals.{count_below-mono}
 use Rattle.mt_model.proofs.Seats.{chosen_count, filled_by_applicant}
 use Rattle.mt_model.proofs.SinglesFacts.{stable_facts, stable_from_facts, at_past}
 use Rattle.mt_model.proofs.FloorLists.{has-filter, has-get, has-take-suc, has-until-get, has-until-filter}
-use Rattle.mt_model.proofs.FloorChoices.{above-choice, count_grows, has-from_until}
+use Rattle.mt_model.proofs.FloorChoices.{above-choice}
 use Rattle.mt_model.proofs.FloorEvents.{live_parts, tried_from_gone, tried_from_received, gone_where_free, gone_where_standing, HasLast, last_facts}
 
 -- only applicants have live entries
@@ -122,7 +122,7 @@ gone_from_better m f r quiet places result a p listed better = go (cases_Bool (f
         let there = placed_from m f places result a l.0 l.1 (record { stands = stands; last = l.2 }) in
         ap (λ ps. has ps p) (gone_where_standing m f a l.0 l.1 stands l.2) ∙ has-until-get (λ q. at places q a) (live m a) l.0 l.1 p l.2.last there on_live
     go (inr free) =
-        ap (λ ps. has ps p) (gone_where_free m f a free ∙ tried_where_quiet m f r quiet a free) ∙ has-from_until (λ q. at places q a) (live m a) p on_live
+        ap (λ ps. has ps p) (gone_where_free m f a free ∙ tried_where_quiet m f r quiet a free) ∙ has-until (λ q. at places q a) (live m a) p on_live
 
 -- a program that doesn't list an applicant can't have it
 excluded_if_unlisted : (m : Market) (a p : ℕ) → IsFalse (has (program_of m p).ranking a) → IsExcluded m a p
@@ -139,9 +139,8 @@ unchosen_if_better m wf f s quiet places result a p better = go (cases_Bool (has
         let left = gone_from_better m f s.legal.recorded quiet places result a p listed better in
         let on : IsTrue (f.received p a) = s.legal.recorded.receives a p ∙ tried_from_gone m f a p left in
         let at_least = above-choice (program_of m p) (f.received p) a (wf.rankings_distinct p) listed on (s.let_go a p left) in
-        let more = count_grows (held m f p) (with_one (at places p) a)
-            (λ b held_b. let placed = placed_from_held m f s b p held_b in or_right _ _ (placed_from m f places result b placed.0 p placed.1))
-            (until (λ b. b == a) (program_of m p).ranking) in
+        let more = count-le (held m f p) (with_one (at places p) a) (until (λ b. b == a) (program_of m p).ranking)
+            (λ b held_b. let placed = placed_from_held m f s b p held_b in or_right _ _ (placed_from m f places result b placed.0 p placed.1)) in
         omega (arith, at_least, more)
     go : (IsTrue (has (program_of m p).ranking a)) ⊎ (IsFalse (has (program_of m p).ranking a)) → IsFalse (choice (program_of m p) (with_one (at places p) a) a)
     go (inl listed) = and_right _ _ (le-ltb _ _ (full listed))

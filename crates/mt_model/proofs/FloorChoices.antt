@@ -5,38 +5,13 @@ use Rattle.std.proofs.lemmas.Bool.Decides.{nat_tests}
 use Rattle.mt_model.specs.Lists.{Set, has, until, is_distinct, with_one, above, count}
 use Rattle.mt_model.specs.Market.{Program}
 use Rattle.mt_model.specs.Choice.{choice}
-use Rattle.mt_model.proofs.ChoiceLemmas.{choice_facts, choice_from_facts}
-use Rattle.mt_model.proofs.Seats.{not_head}
-
--- a larger set counts at least as many
-pub count_grows : (s t : Set) → ((a : ℕ) → IsTrue (s a) → IsTrue (t a)) → (xs : List ℕ) → count s xs ≤ count t xs
-count_grows s t within [] = omega arith
-count_grows s t within (x ∷ xs) = let here = within x in grind (arith, nat_tests, count_grows s t within xs)
+use Rattle.mt_model.proofs.ListLemmas.{count_agree, has-until}
+use Rattle.mt_model.proofs.ChoiceLemmas.{growing_choice_lem}
 
 -- the choice from a set with one member more takes nobody else whom the set's choice doesn't take
 pub choice_with_one : (p : Program) (set : Set) (a b : ℕ) → b ≢ a → IsFalse (choice p set b) → IsFalse (choice p (with_one set a) b)
-choice_with_one p set a b other out = false_from_ne_true _ taken_before
-  where
-    was_member : IsTrue (with_one set a b) → IsTrue (set b)
-    was_member on = grind (arith, nat_tests)
-    taken_before : IsTrue (choice p (with_one set a) b) → ⊥
-    taken_before now =
-        let facts = choice_facts p (with_one set a) b now in
-        let more = count_grows set (with_one set a) (λ x on. or_right _ _ on) (until (λ x. x == b) p.ranking) in
-        both_ways _ out (choice_from_facts p set b (record { is_listed = facts.is_listed; is_member = was_member facts.is_member; has_few_above = omega (arith, facts.has_few_above, more) }))
-
--- sets that agree on a list count alike on it
-pub count_alike : (s t : Set) (xs : List ℕ) → ((a : ℕ) → IsTrue (has xs a) → s a ≡ t a) → count s xs ≡ count t xs
-count_alike s t [] same = refl
-count_alike s t (x ∷ xs) same =
-    let here : s x ≡ t x = same x (or_left _ _ (eq-eqb x x refl)) in
-    let rest : count s xs ≡ count t xs = count_alike s t xs (λ a on. same a (or_right _ _ on)) in
-    ap₂ (λ (b : Bool) (n : ℕ). (if b then 1 else 0) + n) here rest
-
--- the front of a list has only what the list has
-pub has-from_until : (test : Set) (xs : List ℕ) (a : ℕ) → IsTrue (has (until test xs) a) → IsTrue (has xs a)
-has-from_until test [] a on = on
-has-from_until test (x ∷ xs) a on = grind (arith, nat_tests, has-from_until test xs a)
+choice_with_one p set a b other out =
+    false_from_ne_true _ (λ now. elim (growing_choice_lem p set a b now) [ inl same ↦ other same | inr before ↦ both_ways _ out before ])
 
 count_front : (set : Set) (x : ℕ) (xs : List ℕ) (here : Bool) → count set (if here then [] else (x ∷ xs)) ≡ (if here then 0 else ((if set x then 1 else 0) + count set xs))
 count_front set x xs true = refl
@@ -56,16 +31,30 @@ first_few-head set k q x xs = let e : k + above set (x ∷ xs) x ≡ k = rw (abo
 first_few-tail : (set : Set) (k q x : ℕ) (xs : List ℕ) → IsTrue (is_distinct (x ∷ xs)) → (y : ℕ) → IsTrue (has xs y)
     → first_few set k q (x ∷ xs) y ≡ first_few set (k + (if set x then 1 else 0)) q xs y
 first_few-tail set k q x xs distinct y on =
-    let e : k + above set (x ∷ xs) y ≡ k + (if set x then 1 else 0) + above set xs y = rw (above-cons set x xs y, not_head x xs y distinct on) (omega arith) in
+    let e : k + above set (x ∷ xs) y ≡ k + (if set x then 1 else 0) + above set xs y = rw (above-cons set x xs y, other) (omega arith) in
     ap (λ n. set y && nat_lt n q) e
+  where
+    other : IsFalse (x == y)
+    other = ne_eqb x y (λ same. both_ways _ (not-true _ (and_parts (not (has xs x)) (is_distinct xs) distinct).0) (subst (λ (z : ℕ). IsTrue (has xs z)) (sym same) on))
+
+-- the first few of a list are at most q
+count-first_few : (set : Set) (k q : ℕ) (xs : List ℕ) → IsTrue (is_distinct xs) → count (first_few set k q xs) xs ≤ q - k
+count-first_few set k q [] distinct = omega arith
+count-first_few set k q (x ∷ xs) distinct =
+    joined (set x) (first_few set k q (x ∷ xs) x) _ _ (first_few-head set k q x xs)
+    (count_agree (first_few set k q (x ∷ xs)) (first_few set (k + (if set x then 1 else 0)) q xs) xs (first_few-tail set k q x xs distinct))
+    (count-first_few set (k + (if set x then 1 else 0)) q xs (and_parts (not (has xs x)) (is_distinct xs) distinct).1)
+  where
+    joined : (b taken : Bool) (n n' : ℕ) → taken ≡ (b && nat_lt k q) → n ≡ n' → n' ≤ q - (k + (if b then 1 else 0)) → (if taken then 1 else 0) + n ≤ q - k
+    joined b taken n n' is alike rest = grind (arith, nat_tests)
 
 -- above a number, the first few are q, or all members of the set there
 above-first_few : (set : Set) (k q : ℕ) (xs : List ℕ) (a : ℕ) → IsTrue (is_distinct xs) → min q (k + above set xs a) ≤ k + above (first_few set k q xs) xs a
 above-first_few set k q [] a distinct = omega arith
 above-first_few set k q (x ∷ xs) a distinct =
     joined (set x) (first_few set k q (x ∷ xs) x) (x == a) _ _ _ (first_few-head set k q x xs)
-    (count_alike (first_few set k q (x ∷ xs)) (first_few set (k + (if set x then 1 else 0)) q xs) (until (λ y. y == a) xs)
-      (λ y on. first_few-tail set k q x xs distinct y (has-from_until (λ z. z == a) xs y on)))
+    (count_agree (first_few set k q (x ∷ xs)) (first_few set (k + (if set x then 1 else 0)) q xs) (until (λ y. y == a) xs)
+      (λ y on. first_few-tail set k q x xs distinct y (has-until (λ z. z == a) xs y on)))
     (above-first_few set (k + (if set x then 1 else 0)) q xs a (and_parts (not (has xs x)) (is_distinct xs) distinct).1)
     _ _ (above-cons set x xs a) (above-cons (first_few set k q (x ∷ xs)) x xs a)
   where
@@ -80,12 +69,17 @@ choice-first_few p set a on = by_tests (has p.ranking a) (set a) (above set p.ra
     by_tests : (listed member : Bool) (n : ℕ) → IsTrue listed → (listed && member && nat_lt n p.quota) ≡ (member && nat_lt (0 + n) p.quota)
     by_tests listed member n h = grind (arith, nat_tests)
 
+-- a program chooses no more than its quota
+pub count-choice : (p : Program) (set : Set) → IsTrue (is_distinct p.ranking) → count (choice p set) p.ranking ≤ p.quota
+count-choice p set distinct =
+    omega (arith, count-first_few set 0 p.quota p.ranking distinct, count_agree (choice p set) (first_few set 0 p.quota p.ranking) p.ranking (choice-first_few p set))
+
 -- above whom a program lists and doesn't choose, it chooses its quota
 pub above-choice : (p : Program) (set : Set) (a : ℕ) → IsTrue (is_distinct p.ranking) → IsTrue (has p.ranking a) → IsTrue (set a) → IsFalse (choice p set a)
     → p.quota ≤ above (choice p set) p.ranking a
 above-choice p set a distinct listed member out =
     let few = above-first_few set 0 p.quota p.ranking a distinct in
-    let alike = count_alike (choice p set) (first_few set 0 p.quota p.ranking) (until (λ y. y == a) p.ranking) (λ y on. choice-first_few p set y (has-from_until (λ z. z == a) p.ranking y on)) in
+    let alike = count_agree (choice p set) (first_few set 0 p.quota p.ranking) (until (λ y. y == a) p.ranking) (λ y on. choice-first_few p set y (has-until (λ z. z == a) p.ranking y on)) in
     omega (arith, few, alike, full)
   where
     full : p.quota ≤ above set p.ranking a

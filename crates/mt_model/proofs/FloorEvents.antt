@@ -10,9 +10,9 @@ use Rattle.mt_model.specs.WellFormed.{IsWellFormed}
 use Rattle.mt_model.specs.Floor.{Floor, held, tried, gone, last_tried, next_entry, is_held_by, IsRecorded, IsLegal, IsStrict, opening, is_due, after, after_all, after_proposal, proposed_at, receives_one}
 use Rattle.mt_model.specs.declared.events.Event.{Event}
 use Rattle.mt_model.specs.declared.events.Event.TheVariants.{Propose, Notice}
-use Rattle.mt_model.proofs.FloorLists.{has-filter, distinct-filter, has-until_front, has-from_take, has-take-le, has-take-suc, has-get, has-take_before}
+use Rattle.mt_model.proofs.FloorLists.{has-filter, distinct-filter, has-until-take, has-from_take, has-take-le, has-take-suc, has-get, has-take_before}
 use Rattle.mt_model.proofs.FloorChoices.{choice_with_one}
-use Rattle.mt_model.proofs.FloorAssumed.{exclusion_lem}
+use Rattle.mt_model.proofs.ExclusionLemmas.{exclusion_lem}
 
 -- on a live list are the programs of the list that list the applicant
 pub live_parts : (m : Market) (a p : ℕ) → IsTrue (has (live m a) p) → IsTrue (has (program_of m p).ranking a) × IsTrue (has (list_of m a) p)
@@ -51,7 +51,7 @@ pub refused_is_excluded : (m : Market) → IsWellFormed m → (f : Floor) → Is
 refused_is_excluded m wf f r passed a p on out =
     exclusion_lem m wf p (f.received p)
     (λ b on_b. (live_parts m b p (has-from_take (live m b) (f.made b) p (tried_from_received m f r b p on_b))).1)
-    (λ b q on_b before. passed.front b q (has-until_front (live m b) (f.made b) p q (tried_from_received m f r b p on_b) before))
+    (λ b q on_b before. passed.front b q (has-until-take (live m b) (f.made b) p q (tried_from_received m f r b p on_b) before))
     a on out
 
 -- the third clause of a legal floor follows from the first two

@@ -15,14 +15,14 @@ distinct-filter test [] h = refl
 distinct-filter test (x ∷ xs) h = grind (arith, nat_tests, has-filter test xs x, distinct-filter test xs)
 
 -- what stands before an element of a front stands in that front but for its last element
-pub has-until : (xs : List ℕ) (k p q : ℕ) → IsTrue (has (take (suc k) xs) p) → IsTrue (has (until (λ x. x == p) xs) q) → IsTrue (has (take k xs) q)
-has-until [] k p q on before = absurd (both_ways false refl before)
-has-until (x ∷ xs) zero p q on before = grind (arith, nat_tests)
-has-until (x ∷ xs) (suc k) p q on before = grind (arith, nat_tests, has-until xs k p q)
+has-before_last : (xs : List ℕ) (k p q : ℕ) → IsTrue (has (take (suc k) xs) p) → IsTrue (has (until (λ x. x == p) xs) q) → IsTrue (has (take k xs) q)
+has-before_last [] k p q on before = absurd (both_ways false refl before)
+has-before_last (x ∷ xs) zero p q on before = grind (arith, nat_tests)
+has-before_last (x ∷ xs) (suc k) p q on before = grind (arith, nat_tests, has-before_last xs k p q)
 
-pub has-until_front : (xs : List ℕ) (n p q : ℕ) → IsTrue (has (take n xs) p) → IsTrue (has (until (λ x. x == p) xs) q) → IsTrue (has (take (n - 1) xs) q)
-has-until_front xs zero p q on before = absurd (both_ways false refl on)
-has-until_front xs (suc k) p q on before = let e : suc k - 1 ≡ k = omega arith in rw e (has-until xs k p q on before)
+pub has-until-take : (xs : List ℕ) (n p q : ℕ) → IsTrue (has (take n xs) p) → IsTrue (has (until (λ x. x == p) xs) q) → IsTrue (has (take (n - 1) xs) q)
+has-until-take xs zero p q on before = absurd (both_ways false refl on)
+has-until-take xs (suc k) p q on before = let e : suc k - 1 ≡ k = omega arith in rw e (has-before_last xs k p q on before)
 
 -- a front has only what the list has
 pub has-from_take : (xs : List ℕ) (k q : ℕ) → IsTrue (has (take k xs) q) → IsTrue (has xs q)

@@ -11,7 +11,7 @@ use Rattle.mt_model.specs.Floor.{Floor, tried, is_quiet, IsRecorded, IsStrict, o
 use Rattle.mt_model.specs.Laws.Floors.{IsResult, result_of, HasProposalsOf, QuietCounts, AreAlike, OrderFree}
 use Rattle.mt_model.specs.declared.events.Event.{Event}
 use Rattle.mt_model.proofs.Totals.{count_below-same}
-use Rattle.mt_model.proofs.FloorAssumed.{best_is_unique_lem}
+use Rattle.mt_model.proofs.ExclusionLemmas.{best_is_unique_lem}
 use Rattle.mt_model.proofs.FloorLists.{has-take_before, through-get, through_none}
 use Rattle.mt_model.proofs.FloorEvents.{live_distinct, last_facts, events_keep_strict_lem}
 use Rattle.mt_model.proofs.FloorBest.{placed_facts, placed_from, tried_where_quiet, strict_best_lem}
@@ -74,7 +74,7 @@ ends_alike m wf f g ef eg = record {
 }
   where
     same_result : result_of m f ≡ result_of m g
-    same_result = best_is_unique_lem m wf (result_of m f) (result_of m g) ef.best eg.best
+    same_result = best_is_unique_lem m (result_of m f) (result_of m g) ef.best eg.best
     tried_alike : (a : ℕ) → tried m f a ≡ tried m g a
     tried_alike a = ef.on_the_way.same_tried a ∙ ap (λ places. proposed_to m places a) same_result ∙ sym (eg.on_the_way.same_tried a)
 

@@ -15,7 +15,7 @@ use Rattle.mt_model.specs.Laws.Floors.{IsResult}
 use Rattle.mt_model.specs.Laws.Rural.{LegalBest}
 use Rattle.mt_model.proofs.ChoiceLemmas.{IsChosenFrom, choice_facts}
 use Rattle.mt_model.proofs.FloorEvents.{live_parts, live_distinct, gone_from_front, tried_from_received}
-use Rattle.mt_model.proofs.FloorLists.{has-until_front, has-filter, has-from_take, has-take_before}
+use Rattle.mt_model.proofs.FloorLists.{has-until-take, has-filter, has-from_take, has-take_before}
 use Rattle.mt_model.proofs.ListLemmas.{each_below, until-filter, passes_before}
 use Rattle.mt_model.proofs.SinglesFacts.{IsStableForSingles, stable_facts}
 use Rattle.mt_model.proofs.Totals.{total_below-mono, total_below-tight, count_below-mono, count_below-tight}
@@ -78,7 +78,7 @@ module _ (m : Market) (w : IsWellFormed m) (f : Floor) (legal : IsLegal m f) whe
       went_from : (q : ℕ) → IsTrue (at b q a) → IsTrue (has (until (λ x. x == p) (list_of m a)) q) → IsTrue (has (gone m f a) q)
       went_from q at_q above_p =
           let on_live = until-filter (λ r. has (program_of m r).ranking a) (list_of m a) p q above_p (of_b.listed a q at_q) in
-          gone_from_front m f a q (has-until_front (live m a) (f.made a) p q (tried_from_received m f legal.recorded a p chosen.is_member) on_live)
+          gone_from_front m f a q (has-until-take (live m a) (f.made a) p q (tried_from_received m f legal.recorded a p chosen.is_member) on_live)
 
       not_elsewhere : IsFalse (at b p a) → ⊥
       not_elsewhere elsewhere =

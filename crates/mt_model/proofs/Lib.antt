@@ -1,7 +1,6 @@
 pub mod ChoiceLemmas
 pub mod ExclusionLemmas
 pub mod FlatListsFacts
-pub mod FloorAssumed
 pub mod FloorBest
 pub mod FloorChoices
 pub mod FloorEvents

@@ -1,12 +1,13 @@
 -- How many places a match fills, counted by programs, by applicants and along a program's list.
-use Rattle.std.proofs.Common.{◌≡◌, ℕ, ◌+◌, ◌-◌, ◌<◌, ◌≤◌, Bool, false, not, ◌&&◌, ◌||◌, if◌then◌else◌, ◌==◌, IsTrue, IsFalse, List, [], ◌∷◌, length, get_or, Option, Some, None, is_some, refl, sym, ◌∙◌, ap, arith, inl, inr, nat_lt}
+use Rattle.std.proofs.Common.{◌≡◌, ℕ, ◌<◌, ◌≤◌, Bool, false, not, ◌&&◌, ◌||◌, if◌then◌else◌, ◌==◌, IsTrue, IsFalse, List, [], ◌∷◌, length, get_or, Option, Some, None, is_some, refl, sym, ◌∙◌, ap, arith, inl, inr, nat_lt}
 use Rattle.std.proofs.lemmas.Bool.{cases_Bool, and_from, and_parts, eqb-true}
 use Rattle.std.proofs.lemmas.Bool.Decides.{nat_tests}
 use Rattle.mt_model.specs.Lists.{Set, has, count, above, is_distinct, total_below, count_below}
 use Rattle.mt_model.specs.Market.{Program}
 use Rattle.mt_model.specs.Matching.{Places, place_of, is_program, at, filled}
 use Rattle.mt_model.specs.Choice.{choice}
-use Rattle.mt_model.proofs.ListLemmas.{count_agree}
+use Rattle.mt_model.proofs.ChoiceLemmas.{choice_facts}
+use Rattle.mt_model.proofs.FloorChoices.{count-choice}
 use Rattle.mt_model.proofs.Totals.{one_in, total_below-same, total_below-swap, total_below-zero, total_below-front, count_below-mono, count_below-same, count_below-or, count_below-one, count_below-none}
 
 -- the elements of a list that pass a test, counted by their places
@@ -50,7 +51,7 @@ has-tail : (x : ℕ) (xs : List ℕ) (a : ℕ) → IsTrue (has xs a) → IsTrue 
 has-tail x xs a h = grind (arith, nat_tests)
 
 -- what is on the rest of a list without repeats isn't its first
-pub not_head : (x : ℕ) (xs : List ℕ) (a : ℕ) → IsTrue (is_distinct (x ∷ xs)) → IsTrue (has xs a) → IsFalse (x == a)
+not_head : (x : ℕ) (xs : List ℕ) (a : ℕ) → IsTrue (is_distinct (x ∷ xs)) → IsTrue (has xs a) → IsFalse (x == a)
 not_head x xs a d h =
     let new : IsTrue (not (has xs x)) = (and_parts (not (has xs x)) (is_distinct xs) d).0 in
     elim (cases_Bool (x == a)) [
@@ -104,40 +105,13 @@ pub above-le-count : (set : Set) (xs : List ℕ) (a : ℕ) → above set xs a �
 above-le-count set [] a = omega arith
 above-le-count set (x ∷ xs) a = grind (arith, above-le-count set xs a)
 
--- the first of a list has nobody above it
-above-head : (set : Set) (x : ℕ) (xs : List ℕ) → above set (x ∷ xs) x ≡ 0
-above-head set x xs = grind (arith, nat_tests)
-
--- whoever is further down a list has its first above it
-above-tail : (set : Set) (x : ℕ) (xs : List ℕ) (a : ℕ) → IsFalse (x == a) → above set (x ∷ xs) a ≡ one_in set x + above set xs a
-above-tail set x xs a h = grind (arith, nat_tests)
-
--- the members of a set with fewer than q of it above them on a list
-abbrev first_of_list : Set → List ℕ → ℕ → Set
-first_of_list set xs q a = set a && nat_lt (above set xs a) q
-
--- of a list without repeats at most q members of a set have fewer than q of them above
-count-first_of_list : (set : Set) (xs : List ℕ) (q : ℕ) → IsTrue (is_distinct xs) → count (first_of_list set xs q) xs ≤ q
-count-first_of_list set [] q d = omega arith
-count-first_of_list set (x ∷ xs) q d =
-    let rest = count-first_of_list set xs (q - one_in set x) (and_parts (not (has xs x)) (is_distinct xs) d).1 in
-    let moved = count_agree (first_of_list set (x ∷ xs) q) (first_of_list set xs (q - one_in set x)) xs (λ a l. further_down a (not_head x xs a d l)) in
-    omega (arith, rest, moved, at_head)
-  where
-    further_down : (a : ℕ) → IsFalse (x == a) → first_of_list set (x ∷ xs) q a ≡ first_of_list set xs (q - one_in set x) a
-    further_down a h = rw (above-tail set x xs a h) (grind (arith, nat_tests))
-    at_head : one_in (first_of_list set (x ∷ xs) q) x + (q - one_in set x) ≤ q
-    at_head = rw (above-head set x xs) (grind (arith, nat_tests))
-
 -- a program chooses no more than its quota
 pub chosen_count : (p : Program) (set : Set) (n : ℕ) → IsTrue (is_distinct p.ranking) → ((a : ℕ) → IsTrue (has p.ranking a) → a < n) →
     count_below (choice p set) n ≤ p.quota
 chosen_count p set n d h =
-    let few = count-first_of_list set p.ranking p.quota d in
-    let listed = listed_count (first_of_list set p.ranking p.quota) p.ranking n d h in
-    let same = count_below-same (choice p set) (λ a. has p.ranking a && first_of_list set p.ranking p.quota a) n
-        (λ a l. regrouped (has p.ranking a) (set a) (nat_lt (above set p.ranking a) p.quota)) in
-    omega (arith, few, listed, same)
-  where
-    regrouped : (x y z : Bool) → (x && y && z) ≡ (x && (y && z))
-    regrouped x y z = grind arith
+    let few : count (choice p set) p.ranking ≤ p.quota = count-choice p set d in
+    let listed : count (choice p set) p.ranking ≡ count_below (λ a. has p.ranking a && choice p set a) n = listed_count (choice p set) p.ranking n d h in
+    let same : count_below (choice p set) n ≤ count_below (λ a. has p.ranking a && choice p set a) n =
+    count_below-mono (choice p set) (λ a. has p.ranking a && choice p set a) n
+    (λ a l chosen. and_from (has p.ranking a) (choice p set a) (choice_facts p set a chosen).is_listed chosen) in
+    omega arith
