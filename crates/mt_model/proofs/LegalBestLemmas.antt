@@ -1,45 +1,28 @@
 -- A legal floor on which no event is due is strict: no program holds anybody that has gone on.
-use Rattle.std.proofs.Common.{◌≡◌, ℕ, zero, suc, ◌-◌, ◌<◌, ◌≤◌, Bool, true, false, ◌==◌, if◌then◌else◌, IsTrue, IsFalse, List, [], ◌∷◌, length, take, filter, Option, Some, None, is_some, refl, sym, ◌∙◌, ap, arith, ◌⊎◌, inl, inr}
+use Rattle.std.proofs.Common.{◌≡◌, ℕ, ◌-◌, ◌<◌, ◌≤◌, Bool, true, false, ◌==◌, if◌then◌else◌, IsTrue, IsFalse, List, length, take, Option, Some, None, is_some, refl, sym, ◌∙◌, ap, arith, inl, inr}
 use Rattle.std.specs.Prelude.{slice_get}
-use Rattle.std.proofs.lemmas.Bool.{cases_Bool, cases_lt, both_ways, and_from, false_from_ne_true, false≢true}
+use Rattle.std.proofs.lemmas.Bool.{cases_lt, both_ways, and_from, false_from_ne_true, true_from_ne_false, false≢true}
 use Rattle.std.proofs.lemmas.Bool.Decides.{nat_tests}
 use Rattle.std.proofs.lemmas.List.{get_or_past, take_all}
-use Rattle.mt_model.specs.Lists.{Set, has, until, count_below}
+use Rattle.mt_model.specs.Lists.{has, until, count_below}
 use Rattle.mt_model.specs.Market.{Market, applicants, program_of, list_of, live, singles_market}
 use Rattle.mt_model.specs.Matching.{Places, place_of, is_program, at, filled}
 use Rattle.mt_model.specs.Stability.{stable}
 use Rattle.mt_model.specs.Best.{IsBest, better_programs}
 use Rattle.mt_model.specs.Floor.{Floor, held, tried, gone, last_tried, is_held_by, IsLegal, IsStrict, is_settled, is_quiet}
 use Rattle.mt_model.specs.WellFormed.{IsWellFormed}
-use Rattle.mt_model.specs.Laws.Floors.{IsResult, place_on}
+use Rattle.mt_model.specs.Laws.Floors.{IsResult}
 use Rattle.mt_model.specs.Laws.Rural.{LegalBest}
 use Rattle.mt_model.proofs.ChoiceLemmas.{IsChosenFrom, choice_facts}
 use Rattle.mt_model.proofs.FloorEvents.{live_parts, live_distinct, gone_from_front, tried_from_received}
-use Rattle.mt_model.proofs.FloorLists.{has-filter, has-from_take, has-take_before}
-use Rattle.mt_model.proofs.ListLemmas.{each_below}
+use Rattle.mt_model.proofs.FloorLists.{has-until-take, has-filter, has-from_take, has-take_before}
+use Rattle.mt_model.proofs.ListLemmas.{each_below, until-filter, passes_before}
 use Rattle.mt_model.proofs.SinglesFacts.{IsStableForSingles, stable_facts}
 use Rattle.mt_model.proofs.Totals.{total_below-mono, total_below-tight, count_below-mono, count_below-tight}
 use Rattle.mt_model.proofs.Seats.{placed_by_program, chosen_count}
-use Rattle.mt_model.proofs.RuralAssumed.{best_exists, strict_best}
-use Rattle.mt_model.proofs.RuralLemmas.{place_at, at_place, better_than_none, better_than_place, filled_of, taken_where_free, placed_total}
-
--- whatever is on a front of a list stands above what isn't on the front without its last
-above_rest : (k : ℕ) (xs : List ℕ) (p q : ℕ) → IsTrue (has (take (suc k) xs) p) → IsFalse (has (take k xs) q) → IsFalse (q == p) →
-    IsTrue (has (until (λ x. q == x) xs) p)
-above_rest k [] p q hp hq d = absurd (false≢true hp)
-above_rest zero (x ∷ xs) p q hp hq d = grind (arith, nat_tests)
-above_rest (suc k) (x ∷ xs) p q hp hq d = grind (arith, nat_tests, above_rest k xs p q)
-
-above_last : (k : ℕ) (xs : List ℕ) (p q : ℕ) → IsTrue (has (take k xs) p) → IsFalse (has (take (k - 1) xs) q) → IsFalse (q == p) →
-    IsTrue (has (until (λ x. q == x) xs) p)
-above_last zero xs p q hp hq d = absurd (false≢true hp)
-above_last (suc k) xs p q hp hq d = let one_less : suc k - 1 ≡ k = omega arith in above_rest k xs p q hp (rw one_less at hq) d
-
--- what stands above q on a filtered list, q passing the filter, stands above it on the list
-above-filter : (test : Set) (xs : List ℕ) (p q : ℕ) → IsTrue (test q) → IsTrue (has (until (λ x. q == x) (filter test xs)) p) →
-    IsTrue (has (until (λ x. q == x) xs) p)
-above-filter test [] p q t h = h
-above-filter test (x ∷ xs) p q t h = grind (arith, nat_tests, above-filter test xs p q)
+use Rattle.mt_model.proofs.FloorBest.{strict_best_lem}
+use Rattle.mt_model.proofs.FloorRuns.{best_exists_lem}
+use Rattle.mt_model.proofs.RuralLemmas.{place_at, somewhere, filled_of, taken_where_free, placed_total}
 
 -- a place of a stable match is on the live list
 on_live : (m : Market) (b : Places) → IsStableForSingles m b → (a q : ℕ) → IsTrue (at b q a) → IsTrue (has (live m a) q)
@@ -81,34 +64,35 @@ module _ (m : Market) (w : IsWellFormed m) (f : Floor) (legal : IsLegal m f) whe
 
   -- whomever a program holds that has a free post in the best match, the best match has there
   held_in_best : (b : Places) → IsBest m b → (p : ℕ) → filled b p < (program_of m p).quota → (a : ℕ) → IsTrue (held m f p a) → IsTrue (at b p a)
-  held_in_best b best p free a h = by_place (place_of b a) refl
+  held_in_best b best p free a h = true_from_ne_false (at b p a) not_elsewhere
     where
       of_b : IsStableForSingles m b
       of_b = stable_facts m b best.is_stable
+
       chosen : IsChosenFrom (program_of m p) (f.received p) a
       chosen = choice_facts (program_of m p) (f.received p) a h
-      unwanted : IsTrue (has (better_programs m b a) p) → ⊥
-      unwanted wanted = both_ways _ (of_b.none_block a p wanted) (taken_where_free m w b of_b p a free chosen.is_listed)
-      not_before : (q : ℕ) → IsTrue (at b q a) → IsFalse (has (take (f.made a - 1) (live m a)) q)
-      not_before q at_q = false_from_ne_true _ (λ before. both_ways _ (not_gone b best.is_stable a q at_q) (gone_from_front m f a q before))
-      by_place : (o : Option ℕ) → place_of b a ≡ o → IsTrue (at b p a)
-      by_place None e = absurd (unwanted (rw (better_than_none m b a e) (held_listed p a h)))
-      by_place (Some q) e =
-          elim (cases_Bool (q == p)) [
-            inl same ↦ ap (is_program p) e ∙ same
-          | inr other ↦
-              (let at_q : IsTrue (at b q a) = at_place b q a e in
-              let above_on_live : IsTrue (has (until (λ x. q == x) (live m a)) p) =
-                  above_last (f.made a) (live m a) p q (tried_from_received m f legal.recorded a p chosen.is_member) (not_before q at_q) other in
-              absurd (unwanted (rw (better_than_place m b a q e) (above-filter (λ r. has (program_of m r).ranking a) (list_of m a) p q (of_b.listed a q at_q) above_on_live)))) ]
+
+      unwanted : IsFalse (has (better_programs m b a) p)
+      unwanted = false_from_ne_true _ (λ wanted. both_ways _ (of_b.none_block a p wanted) (taken_where_free m w b of_b p a free chosen.is_listed))
+
+      went_from : (q : ℕ) → IsTrue (at b q a) → IsTrue (has (until (λ x. x == p) (list_of m a)) q) → IsTrue (has (gone m f a) q)
+      went_from q at_q above_p =
+          let on_live = until-filter (λ r. has (program_of m r).ranking a) (list_of m a) p q above_p (of_b.listed a q at_q) in
+          gone_from_front m f a q (has-until-take (live m a) (f.made a) p q (tried_from_received m f legal.recorded a p chosen.is_member) on_live)
+
+      not_elsewhere : IsFalse (at b p a) → ⊥
+      not_elsewhere elsewhere =
+          let (q, at_q, above_p) = passes_before (λ q. at b q a) (list_of m a) p (held_listed p a h) unwanted elsewhere in
+          both_ways _ (not_gone b best.is_stable a q at_q) (went_from q at_q above_p)
 
   -- no program holds more than it has in the best match
   fewest_held : (b : Places) → IsBest m b → (p : ℕ) → count_below (held m f p) (applicants m) ≤ filled b p
   fewest_held b best p =
       let of_b = filled_of m b (stable_facts m b best.is_stable) p in
       elim (cases_lt (filled b p) (program_of m p).quota) [
-        inl free ↦ (let all_there = count_below-mono (held m f p) (at b p) (applicants m) (λ a l. held_in_best b best p free a) in omega (arith, of_b, all_there))
-      | inr full ↦ omega (arith, chosen_count (program_of m p) (f.received p) (applicants m) (w.rankings_distinct p) (w.rankings_within p)) ]
+        | inl free ↦ (let all_there = count_below-mono (held m f p) (at b p) (applicants m) (λ a l. held_in_best b best p free a) in omega (arith, of_b, all_there))
+        | inr full ↦ omega (arith, chosen_count (program_of m p) (f.received p) (applicants m) (w.rankings_distinct p) (w.rankings_within p))
+      ]
 
   -- Besides, no event is due, and the places are the floor's result.
   module _ (quiet : IsTrue (is_quiet m f)) (places : Places) (result : IsResult m f places) where
@@ -119,10 +103,11 @@ module _ (m : Market) (w : IsWellFormed m) (f : Floor) (legal : IsLegal m f) whe
     result_stands : (p a : ℕ) → IsTrue (at places p a) → (a < applicants m) × IsTrue (f.standing a) × (last_tried m f a ≡ Some p)
     result_stands p a h =
         elim (cases_lt a (applicants m)) [
-          inl within ↦
-            (let stands = if-some (f.standing a) (last_tried m f a) p (sym (result.each_place a within) ∙ place_at places p a h) in
-            (within, stands.0, stands.1))
-        | inr past ↦ absurd (both_ways (at places p a) (ap (is_program p) (get_or_past places a None (omega (arith, result.one_each)))) h) ]
+          | inl within ↦
+              (let stands = if-some (f.standing a) (last_tried m f a) p (sym (result.each_place a within) ∙ place_at places p a h) in
+              (within, stands.0, stands.1))
+          | inr past ↦ absurd (both_ways (at places p a) (ap (is_program p) (get_or_past places a None (omega (arith, result.one_each)))) h)
+        ]
 
     -- whoever stands is held where it proposed last
     standing_held : (a : ℕ) → a < applicants m → IsTrue (f.standing a) → IsTrue (is_held_by m f a (last_tried m f a))
@@ -142,40 +127,42 @@ module _ (m : Market) (w : IsWellFormed m) (f : Floor) (legal : IsLegal m f) whe
 
     -- whoever the best match places is placed in the result
     best_placed : (b : Places) → IsBest m b → (a : ℕ) → a < applicants m → IsTrue (is_some (place_of b a)) → IsTrue (is_some (place_of places a))
-    best_placed b best a within h = ap is_some (result.each_place a within) ∙ by_standing (cases_Bool (f.standing a))
+    best_placed b best a within h =
+        ap is_some (result.each_place a within)
+        ∙ ap (λ (s : Bool). is_some (if s then last_tried m f a else None)) stands
+        ∙ held_somewhere (last_tried m f a) (standing_held a within stands)
       where
         held_somewhere : (o : Option ℕ) → IsTrue (is_held_by m f a o) → IsTrue (is_some o)
         held_somewhere None e = absurd (false≢true e)
         held_somewhere (Some p) e = refl
-        has_stayed : (o : Option ℕ) → place_of b a ≡ o → IsFalse (f.standing a) → ⊥
-        has_stayed None e walks = both_ways (is_some (place_of b a)) (ap is_some e) h
-        has_stayed (Some q) e walks =
-            let at_q : IsTrue (at b q a) = at_place b q a e in
+
+        has_stayed : IsFalse (f.standing a) → ⊥
+        has_stayed walks =
+            let (q, at_q) = somewhere b a h in
             both_ways (has (gone m f a) q) (not_gone b best.is_stable a q at_q)
-                (ap (λ (xs : List ℕ). has xs q) (gone_all a within walks) ∙ on_live m b (stable_facts m b best.is_stable) a q at_q)
-        by_standing : IsTrue (f.standing a) ⊎ IsFalse (f.standing a) → IsTrue (is_some (place_on m f a))
-        by_standing (inl stands) =
-            ap (λ (s : Bool). is_some (if s then last_tried m f a else None)) stands ∙ held_somewhere (last_tried m f a) (standing_held a within stands)
-        by_standing (inr walks) = absurd (has_stayed (place_of b a) refl walks)
+            (ap (λ (xs : List ℕ). has xs q) (gone_all a within walks) ∙ on_live m b (stable_facts m b best.is_stable) a q at_q)
+
+        stands : IsTrue (f.standing a)
+        stands = true_from_ne_false (f.standing a) has_stayed
 
     -- each program has as many in the result as it holds
     as_many_as_held : (p : ℕ) → p < length m.programs → count_below (at places p) (applicants m) ≡ count_below (held m f p) (applicants m)
     as_many_as_held p within =
-        let (b, best) = best_exists m w in
+        let (b, best) = best_exists_lem m w in
         let few_held = total_below-mono (λ q. count_below (held m f q) (applicants m)) (filled b) (length m.programs) (λ q l. fewest_held b best q) in
         let many_placed = count_below-mono (λ a. is_some (place_of b a)) (λ a. is_some (place_of places a)) (applicants m) (best_placed b best) in
         let of_b = placed_total m w b (stable_facts m b best.is_stable) in
         let of_result = placed_by_program places (applicants m) (length m.programs) (λ a q h. w.lists_within a q (held_listed q a (result_held q a h))) in
         total_below-tight (λ q. count_below (at places q) (applicants m)) (λ q. count_below (held m f q) (applicants m)) (length m.programs)
-            (λ q l. count_below-mono (at places q) (held m f q) (applicants m) (λ a la. result_held q a))
-            (omega (arith, few_held, of_b, many_placed, of_result)) p within
+        (λ q l. count_below-mono (at places q) (held m f q) (applicants m) (λ a la. result_held q a))
+        (omega (arith, few_held, of_b, many_placed, of_result)) p within
 
     -- whomever a program holds is there in the result
     held_result : (p a : ℕ) → IsTrue (held m f p a) → IsTrue (at places p a)
     held_result p a h =
         let as_many = as_many_as_held p (w.lists_within a p (held_listed p a h)) in
         count_below-tight (at places p) (held m f p) (applicants m) (λ c l. result_held p c) (omega (arith, as_many)) a
-            (w.rankings_within p a (choice_facts (program_of m p) (f.received p) a h).is_listed)
+        (w.rankings_within p a (choice_facts (program_of m p) (f.received p) a h).is_listed)
         ∙ h
 
     -- whoever stands has not gone from where it proposed last
@@ -186,10 +173,13 @@ module _ (m : Market) (w : IsWellFormed m) (f : Floor) (legal : IsLegal m f) whe
 
     -- no program that a single has gone from holds it, so the floor is strict
     floor_strict : IsStrict m f
-    floor_strict = record { legal = legal; let_go = λ a p went. false_from_ne_true (held m f p a) (λ holds.
-        let stands = result_stands p a (held_result p a holds) in
-        both_ways (has (gone m f a) p) (not_gone_last a p stands.1 stands.2) went) }
+    floor_strict = record {
+      legal = legal;
+      let_go = λ a p went. false_from_ne_true (held m f p a) (λ holds.
+          let stands = result_stands p a (held_result p a holds) in
+          both_ways (has (gone m f a) p) (not_gone_last a p stands.1 stands.2) went);
+    }
 
 -- a legal floor on which no event is due is strict, and so its result is best
 pub legal_floor_best : LegalBest
-legal_floor_best m w f legal quiet places result = strict_best m w f (floor_strict m w f legal quiet places result) quiet places result
+legal_floor_best m w f legal quiet places result = strict_best_lem m w f (floor_strict m w f legal quiet places result) quiet places result

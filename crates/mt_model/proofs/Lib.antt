@@ -10,7 +10,6 @@ pub mod FloorRuns
 pub mod FloorSums
 pub mod LegalBestLemmas
 pub mod ListLemmas
-pub mod RuralAssumed
 pub mod RuralLemmas
 pub mod Seats
 pub mod SinglesFacts

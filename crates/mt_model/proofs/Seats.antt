@@ -2,7 +2,7 @@
 use Rattle.std.proofs.Common.{◌≡◌, ℕ, ◌<◌, ◌≤◌, Bool, false, not, ◌&&◌, ◌||◌, if◌then◌else◌, ◌==◌, IsTrue, IsFalse, List, [], ◌∷◌, length, get_or, Option, Some, None, is_some, refl, sym, ◌∙◌, ap, arith, inl, inr, nat_lt}
 use Rattle.std.proofs.lemmas.Bool.{cases_Bool, and_from, and_parts, eqb-true}
 use Rattle.std.proofs.lemmas.Bool.Decides.{nat_tests}
-use Rattle.mt_model.specs.Lists.{Set, has, count, above, with_one, is_distinct, total_below, count_below}
+use Rattle.mt_model.specs.Lists.{Set, has, count, above, is_distinct, total_below, count_below}
 use Rattle.mt_model.specs.Market.{Program}
 use Rattle.mt_model.specs.Matching.{Places, place_of, is_program, at, filled}
 use Rattle.mt_model.specs.Choice.{choice}
@@ -55,8 +55,9 @@ not_head : (x : ℕ) (xs : List ℕ) (a : ℕ) → IsTrue (is_distinct (x ∷ xs
 not_head x xs a d h =
     let new : IsTrue (not (has xs x)) = (and_parts (not (has xs x)) (is_distinct xs) d).0 in
     elim (cases_Bool (x == a)) [
-      inl same ↦ (let e : x ≡ a = eqb-true x a same in let gone : IsTrue (not (has xs a)) = rw e at new in grind arith)
-    | inr other ↦ other ]
+      | inl same ↦ (let e : x ≡ a = eqb-true x a same in let gone : IsTrue (not (has xs a)) = rw e at new in grind arith)
+      | inr other ↦ other
+    ]
 
 -- the members of a set that are the first of a list or on the rest of it
 split_members : (set rest : Set) (x a : ℕ) → (((x == a) || rest a) && set a) ≡ (((x == a) && set a) || (rest a && set a))
@@ -66,17 +67,20 @@ split_members set rest x a = grind (arith, nat_tests)
 count_below-at : (set : Set) (x n : ℕ) → x < n → count_below (λ a. (x == a) && set a) n ≡ one_in set x
 count_below-at set x n l =
     elim (cases_Bool (set x)) [
-      inl yes_x ↦
-        (let same : (a : ℕ) → a < n → ((x == a) && set a) ≡ (x == a) = λ a la. first_in set x a yes_x in
-        let one : count_below (λ a. x == a) n ≡ (if nat_lt x n then 1 else 0) = count_below-one x n in
-        count_below-same (λ a. (x == a) && set a) (λ a. x == a) n same ∙ one ∙ both_one set x n l yes_x)
-    | inr no_x ↦
-        (count_below-none (λ a. (x == a) && set a) n (λ a. first_out set x a no_x) ∙ ap (λ (b : Bool). if b then 1 else 0) (sym no_x)) ]
+      | inl yes_x ↦
+          (let same : (a : ℕ) → a < n → ((x == a) && set a) ≡ (x == a) = λ a la. first_in set x a yes_x in
+          let one : count_below (λ a. x == a) n ≡ (if nat_lt x n then 1 else 0) = count_below-one x n in
+          count_below-same (λ a. (x == a) && set a) (λ a. x == a) n same ∙ one ∙ both_one set x n l yes_x)
+      | inr no_x ↦
+          (count_below-none (λ a. (x == a) && set a) n (λ a. first_out set x a no_x) ∙ ap (λ (b : Bool). if b then 1 else 0) (sym no_x))
+    ]
   where
     first_in : (set : Set) (x a : ℕ) → IsTrue (set x) → ((x == a) && set a) ≡ (x == a)
     first_in set x a y = grind (arith, nat_tests)
+
     first_out : (set : Set) (x a : ℕ) → IsFalse (set x) → ((x == a) && set a) ≡ false
     first_out set x a n' = grind (arith, nat_tests)
+
     both_one : (set : Set) (x n : ℕ) → x < n → IsTrue (set x) → (if nat_lt x n then 1 else 0) ≡ one_in set x
     both_one set x n l y = grind (arith, nat_tests)
 
@@ -86,7 +90,7 @@ pub listed_count : (set : Set) (xs : List ℕ) (n : ℕ) → IsTrue (is_distinct
 listed_count set [] n d h = sym (count_below-none (λ a. false) n (λ a. refl))
 listed_count set (x ∷ xs) n d h =
     let rest : count set xs ≡ count_below (λ a. has xs a && set a) n =
-        listed_count set xs n (and_parts (not (has xs x)) (is_distinct xs) d).1 (λ a l. h a (has-tail x xs a l)) in
+    listed_count set xs n (and_parts (not (has xs x)) (is_distinct xs) d).1 (λ a l. h a (has-tail x xs a l)) in
     let first : count_below (λ a. (x == a) && set a) n ≡ one_in set x = count_below-at set x n (h x (has-head x xs)) in
     let apart : (a : ℕ) → IsTrue ((x == a) && set a) → IsFalse (has xs a && set a) = λ a e. not_both set x xs a (not_head x xs a d) e in
     let both = count_below-or (λ a. (x == a) && set a) (λ a. has xs a && set a) n apart in
@@ -101,11 +105,6 @@ pub above-le-count : (set : Set) (xs : List ℕ) (a : ℕ) → above set xs a �
 above-le-count set [] a = omega arith
 above-le-count set (x ∷ xs) a = grind (arith, above-le-count set xs a)
 
--- whoever joins a set isn't above itself
-pub above-with_one : (set : Set) (xs : List ℕ) (a : ℕ) → above (with_one set a) xs a ≡ above set xs a
-above-with_one set [] a = refl
-above-with_one set (x ∷ xs) a = grind (arith, nat_tests, above-with_one set xs a)
-
 -- a program chooses no more than its quota
 pub chosen_count : (p : Program) (set : Set) (n : ℕ) → IsTrue (is_distinct p.ranking) → ((a : ℕ) → IsTrue (has p.ranking a) → a < n) →
     count_below (choice p set) n ≤ p.quota
@@ -113,6 +112,6 @@ chosen_count p set n d h =
     let few : count (choice p set) p.ranking ≤ p.quota = count-choice p set d in
     let listed : count (choice p set) p.ranking ≡ count_below (λ a. has p.ranking a && choice p set a) n = listed_count (choice p set) p.ranking n d h in
     let same : count_below (choice p set) n ≤ count_below (λ a. has p.ranking a && choice p set a) n =
-        count_below-mono (choice p set) (λ a. has p.ranking a && choice p set a) n
-            (λ a l chosen. and_from (has p.ranking a) (choice p set a) (choice_facts p set a chosen).is_listed chosen) in
+    count_below-mono (choice p set) (λ a. has p.ranking a && choice p set a) n
+    (λ a l chosen. and_from (has p.ranking a) (choice p set a) (choice_facts p set a chosen).is_listed chosen) in
     omega arith

@@ -43,8 +43,9 @@ total_below-tight f g (suc n) h s k l =
     let below : (j : ℕ) → j < n → f j ≤ g j = λ j lj. h j (omega arith) in
     let rest : total_below f n ≤ total_below g n = total_below-mono f g n below in
     elim (cases_lt k n) [
-      inl lt ↦ total_below-tight f g n below (omega arith) k lt
-    | inr ge ↦ (let same : k ≡ n = omega arith in rw same (omega arith)) ]
+      | inl lt ↦ total_below-tight f g n below (omega arith) k lt
+      | inr ge ↦ (let same : k ≡ n = omega arith in rw same (omega arith))
+    ]
 
 -- a sum of sums of two terms
 pub total_below-add : (f g : ℕ → ℕ) (n : ℕ) → total_below (λ k. f k + g k) n ≡ total_below f n + total_below g n

@@ -5,12 +5,10 @@ ghost use Rattle.mt_model.specs.Laws.Rural.{SinglesFillAlike, FillAlikeWithoutCo
 pub fn rural()
     ensures singles { SinglesFillAlike }
     ensures without_couples { FillAlikeWithoutCouples }
-{
-}
+{}
 
 /// A legal floor on which no event is due has the best match as its result.
 pub fn legal_best()
     ensures law { LegalBest }
     ensures example { ChainMeetsPremises }
-{
-}
+{}

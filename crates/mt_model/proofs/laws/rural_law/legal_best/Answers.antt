@@ -7,7 +7,7 @@ use Rattle.mt_model.specs.WellFormed.{IsWellFormed}
 use Rattle.mt_model.specs.Laws.Floors.{place_on}
 use Rattle.mt_model.proofs.FloorEvents.{events_keep_legal_lem}
 use Rattle.mt_model.proofs.LegalBestLemmas.{legal_floor_best}
-use Rattle.mt_model.proofs.RuralAssumed.{opening_is_strict}
+use Rattle.mt_model.proofs.FloorRuns.{opening_is_strict_lem}
 use Rattle.mt_model.proofs.WellFormedLemmas.{well_formed_from_test}
 use Rattle.mt_model.proofs.laws.rural_law.legal_best.Goals as goal
 
@@ -26,6 +26,7 @@ returns-clause-example c =
     let w : IsWellFormed chain = well_formed_from_test chain refl in
     record {
       well_formed = w;
-      legal = events_keep_legal_lem chain w opening by_wishes (opening_is_strict chain).legal;
+      legal = events_keep_legal_lem chain w opening by_wishes (opening_is_strict_lem chain).legal;
       quiet = refl;
-      result = record { one_each = refl; each_place = places_on_chain } }
+      result = record { one_each = refl; each_place = places_on_chain };
+    }
