@@ -1,24 +1,22 @@
 -- A strict floor on which no event is due has the best match as its result.
-use Rattle.std.proofs.Common.{◌≡◌, ℕ, zero, suc, ◌+◌, ◌-◌, ◌<◌, ◌≤◌, Bool, true, false, not, ◌&&◌, ◌||◌, ◌==◌, nat_lt, List, [], ◌∷◌, length, take, Option, Some, None, slice_get, IsTrue, IsFalse, refl, ap, ap₂, sym, ◌∙◌, if◌then◌else◌, arith, subst, eqb-true, eq-eqb, ◌⊎◌, inl, inr, le-ltb, le_of_eq}
+use Rattle.std.proofs.Common.{◌≡◌, ℕ, ◌<◌, ◌≤◌, Bool, true, false, ◌||◌, ◌==◌, List, [], length, take, Option, Some, None, IsTrue, IsFalse, refl, ap, sym, ◌∙◌, if◌then◌else◌, arith, subst, eqb-true, eq-eqb, ◌⊎◌, inl, inr, le-ltb, le_of_eq}
 use Rattle.std.specs.List.{filter}
-use Rattle.std.proofs.lemmas.Bool.{both_ways, or_left, or_right, or_cases, and_parts, and_from, and_left, and_right, cases_Bool, cases_lt, false_from_ne_true}
-use Rattle.std.proofs.lemmas.Bool.Decides.{nat_tests}
+use Rattle.std.proofs.lemmas.Bool.{both_ways, or_right, and_left, and_right, cases_Bool, cases_lt, false_from_ne_true}
 use Rattle.std.proofs.lemmas.List.{get_or_past, take_all}
-use Rattle.mt_model.specs.Lists.{Set, has, until, with_one, above, count, count_below, below}
-use Rattle.mt_model.specs.Market.{Market, Program, program_of, list_of, live, applicants, singles_market}
-use Rattle.mt_model.specs.Matching.{Places, at, place_of, is_program, filled}
+use Rattle.mt_model.specs.Lists.{has, until, with_one, above, count_below}
+use Rattle.mt_model.specs.Market.{Market, program_of, list_of, live, applicants}
+use Rattle.mt_model.specs.Matching.{Places, at, place_of, is_program}
 use Rattle.mt_model.specs.Choice.{choice}
-use Rattle.mt_model.specs.Stability.{stable}
-use Rattle.mt_model.specs.Best.{IsExcluded, IsBest, better_programs}
+use Rattle.mt_model.specs.Best.{IsExcluded, better_programs}
 use Rattle.mt_model.specs.WellFormed.{IsWellFormed}
-use Rattle.mt_model.specs.Floor.{Floor, held, tried, gone, last_tried, is_held_by, is_settled, is_quiet, IsRecorded, IsLegal, IsStrict}
-use Rattle.mt_model.specs.Laws.Floors.{place_on, IsResult, StrictBest}
+use Rattle.mt_model.specs.Floor.{Floor, held, tried, gone, last_tried, is_held_by, is_settled, is_quiet, IsRecorded, IsStrict}
+use Rattle.mt_model.specs.Laws.Floors.{IsResult, StrictBest}
 use Rattle.mt_model.proofs.ListLemmas.{each_below, count-le, has-until}
 use Rattle.mt_model.proofs.ChoiceLemmas.{choice_facts}
 use Rattle.mt_model.proofs.Totals.{count_below-mono}
 use Rattle.mt_model.proofs.Seats.{chosen_count, filled_by_applicant}
 use Rattle.mt_model.proofs.SinglesFacts.{stable_facts, stable_from_facts, at_past}
-use Rattle.mt_model.proofs.FloorLists.{has-filter, has-get, has-take-suc, has-until-get, has-until-filter}
+use Rattle.mt_model.proofs.FloorLists.{has-get, has-take-suc, has-until-get, has-until-filter}
 use Rattle.mt_model.proofs.FloorChoices.{above-choice}
 use Rattle.mt_model.proofs.FloorEvents.{live_parts, tried_from_gone, tried_from_received, gone_where_free, gone_where_standing, HasLast, last_facts}
 

@@ -1,6 +1,6 @@
 -- A program's choice as the set grows, and that it is full above whom it refuses.
-use Rattle.std.proofs.Common.{◌≡◌, ℕ, zero, suc, ◌+◌, ◌-◌, ◌<◌, ◌≤◌, Bool, true, false, not, ◌&&◌, ◌||◌, ◌==◌, nat_lt, List, [], ◌∷◌, IsTrue, IsFalse, refl, ap, ap₂, sym, ◌∙◌, if◌then◌else◌, arith, eqb-true, eq-eqb, ne_eqb, ◌≢◌, ◌⊎◌, inl, inr, min, ltb-true, ltb-false, lt-ltb, subst, le_trans}
-use Rattle.std.proofs.lemmas.Bool.{both_ways, or_left, or_right, or_cases, or_parts, and_parts, and_from, cases_Bool, cases_eq, false_from_ne_true, not-true}
+use Rattle.std.proofs.Common.{◌≡◌, ℕ, ◌+◌, ◌-◌, ◌≤◌, Bool, true, false, not, ◌&&◌, ◌==◌, nat_lt, List, [], ◌∷◌, IsTrue, IsFalse, refl, ap, sym, if◌then◌else◌, arith, eq-eqb, ne_eqb, ◌≢◌, inl, inr, min, ltb-false, subst}
+use Rattle.std.proofs.lemmas.Bool.{both_ways, and_parts, and_from, false_from_ne_true, not-true}
 use Rattle.std.proofs.lemmas.Bool.Decides.{nat_tests}
 use Rattle.mt_model.specs.Lists.{Set, has, until, is_distinct, with_one, above, count}
 use Rattle.mt_model.specs.Market.{Program}

@@ -1,16 +1,16 @@
 -- What an event keeps of a floor.
-use Rattle.std.proofs.Common.{◌≡◌, ℕ, zero, suc, ◌+◌, ◌-◌, ◌<◌, ◌≤◌, Bool, true, false, not, ◌&&◌, ◌||◌, ◌==◌, nat_lt, List, [], ◌∷◌, length, take, filter, Option, Some, None, is_some, slice_get, IsTrue, IsFalse, refl, ap, ap₂, sym, ◌∙◌, arith, subst, eqb-true, eq-eqb, ne_eqb, ◌≢◌, ◌⊎◌, inl, inr, if◌then◌else◌, add-one}
-use Rattle.std.proofs.lemmas.Bool.{both_ways, or_left, or_right, or_cases, or_parts, and_parts, and_from, cases_Bool, cases_eq, not-true}
+use Rattle.std.proofs.Common.{◌≡◌, ℕ, zero, suc, ◌-◌, ◌<◌, ◌≤◌, Bool, true, false, not, ◌||◌, ◌==◌, List, [], ◌∷◌, length, take, Option, Some, None, is_some, slice_get, IsTrue, IsFalse, refl, ap, ap₂, sym, ◌∙◌, arith, subst, eq-eqb, ne_eqb, ◌≢◌, ◌⊎◌, inl, inr, if◌then◌else◌, add-one}
+use Rattle.std.proofs.lemmas.Bool.{both_ways, or_right, and_parts, cases_Bool, cases_eq, not-true}
 use Rattle.std.proofs.lemmas.Bool.Decides.{nat_tests}
-use Rattle.mt_model.specs.Lists.{Set, has, until, through, is_distinct, with_one, without, above, count}
-use Rattle.mt_model.specs.Market.{Market, Program, program_of, list_of, live, applicants}
+use Rattle.mt_model.specs.Lists.{Set, has, is_distinct, without}
+use Rattle.mt_model.specs.Market.{Market, program_of, list_of, live}
 use Rattle.mt_model.specs.Choice.{choice}
 use Rattle.mt_model.specs.Best.{IsExcluded}
 use Rattle.mt_model.specs.WellFormed.{IsWellFormed}
-use Rattle.mt_model.specs.Floor.{Floor, held, tried, gone, last_tried, next_entry, is_held_by, IsRecorded, IsLegal, IsStrict, opening, is_due, after, after_all, after_proposal, proposed_at, receives_one}
+use Rattle.mt_model.specs.Floor.{Floor, held, tried, gone, last_tried, next_entry, is_held_by, IsRecorded, IsLegal, IsStrict, is_due, after, after_all, after_proposal, proposed_at, receives_one}
 use Rattle.mt_model.specs.declared.events.Event.{Event}
 use Rattle.mt_model.specs.declared.events.Event.TheVariants.{Propose, Notice}
-use Rattle.mt_model.proofs.FloorLists.{has-filter, distinct-filter, has-until-take, has-from_take, has-take-le, has-take-suc, has-get, has-take_before}
+use Rattle.mt_model.proofs.FloorLists.{has-filter, distinct-filter, has-until-take, has-from_take, has-take-le, has-take-suc, has-take_before}
 use Rattle.mt_model.proofs.FloorChoices.{choice_with_one}
 use Rattle.mt_model.proofs.ExclusionLemmas.{exclusion_lem}
 

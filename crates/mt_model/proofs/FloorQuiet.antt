@@ -1,8 +1,8 @@
 -- On a floor on which no event is due, the proposals are those on the way to its result; so the order of the
 -- events doesn't matter.
-use Rattle.std.proofs.Common.{◌≡◌, ℕ, zero, suc, ◌+◌, Bool, true, false, ◌||◌, List, [], ◌∷◌, length, take, Option, Some, None, IsTrue, IsFalse, refl, ap, sym, ◌∙◌, ◌⊎◌, inl, inr, subst, length-take-le, arith}
+use Rattle.std.proofs.Common.{◌≡◌, ℕ, List, length, take, Some, IsTrue, IsFalse, ap, sym, ◌∙◌, ◌⊎◌, inl, inr, subst, length-take-le}
 use Rattle.std.proofs.lemmas.Bool.{both_ways, cases_Bool, false_from_ne_true}
-use Rattle.mt_model.specs.Lists.{Set, has, through, count_below}
+use Rattle.mt_model.specs.Lists.{has}
 use Rattle.mt_model.specs.Market.{Market, live, applicants}
 use Rattle.mt_model.specs.Matching.{Places, at}
 use Rattle.mt_model.specs.Best.{IsBest, proposed_to}

@@ -1,22 +1,19 @@
 -- How many events are due, and that they come to an end.
-use Rattle.std.proofs.Common.{◌≡◌, ℕ, zero, suc, ◌+◌, ◌-◌, ◌*◌, ◌<◌, ◌≤◌, Bool, true, false, not, ◌&&◌, ◌||◌, ◌==◌, List, [], ◌∷◌, length, take, Option, Some, None, is_some, slice_get, IsTrue, IsFalse, refl, ap, ap₂, sym, ◌∙◌, if◌then◌else◌, arith, subst, eqb-true, eq-eqb, ◌≢◌, ◌⊎◌, inl, inr}
+use Rattle.std.proofs.Common.{◌≡◌, ℕ, zero, suc, ◌+◌, ◌-◌, ◌*◌, ◌<◌, ◌≤◌, Bool, true, false, ◌==◌, List, [], ◌∷◌, length, Option, Some, None, is_some, slice_get, IsTrue, IsFalse, refl, ap, ap₂, sym, ◌∙◌, if◌then◌else◌, arith, ◌≢◌, ◌⊎◌, inl, inr}
 use Rattle.std.specs.List.{list_all, range_with_len}
-use Rattle.std.proofs.lemmas.Bool.{both_ways, and_parts, and_from, and_cases, cases_Bool, cases_lt, false_from_ne_true, not_from_false, eqb-false}
+use Rattle.std.proofs.lemmas.Bool.{both_ways, and_from, and_cases, cases_Bool, not_from_false, eqb-false}
 use Rattle.std.proofs.lemmas.List.FromFn.{length-map-range_with_len, get_or-map-range_with_len}
 use Rattle.std.proofs.lemmas.Bool.Decides.{nat_tests}
-use Rattle.mt_model.specs.Lists.{Set, has, below, total_below}
-use Rattle.mt_model.specs.Market.{Market, Program, program_of, live, applicants, live_entries}
-use Rattle.mt_model.specs.Matching.{Places}
-use Rattle.mt_model.specs.Best.{IsBest}
-use Rattle.mt_model.specs.WellFormed.{IsWellFormed}
-use Rattle.mt_model.specs.Floor.{Floor, held, last_tried, next_entry, is_held_by, is_settled, is_quiet, is_due, after, after_all, after_proposal, proposed_at, IsRecorded, IsLegal, IsStrict, opening, due_count}
-use Rattle.mt_model.specs.Laws.Floors.{DueAtMost, QuietIsReached, is_proposal, due_proposals, proposals_made, DueProposalsAreMade, MadeAtMost, place_on, result_of, IsResult, ResultOfFloor, BestExists}
+use Rattle.mt_model.specs.Lists.{Set, has, total_below}
+use Rattle.mt_model.specs.Market.{Market, live, applicants, live_entries}
+use Rattle.mt_model.specs.Floor.{Floor, last_tried, next_entry, is_held_by, is_settled, is_quiet, is_due, after, after_all, after_proposal, proposed_at, IsRecorded, IsStrict, opening, due_count}
+use Rattle.mt_model.specs.Laws.Floors.{DueAtMost, QuietIsReached, is_proposal, due_proposals, proposals_made, DueProposalsAreMade, MadeAtMost, place_on, result_of, ResultOfFloor, BestExists}
 use Rattle.mt_model.specs.declared.events.Event.{Event}
 use Rattle.mt_model.specs.declared.events.Event.TheVariants.{Propose, Notice}
 use Rattle.mt_model.proofs.Totals.{total_below-mono}
 use Rattle.mt_model.proofs.FloorSums.{total_below-one_more, total_below-twice}
 use Rattle.mt_model.proofs.FloorLists.{has-get}
-use Rattle.mt_model.proofs.FloorEvents.{IsNext, next_facts, IsDropped, noticed, after_due, after_not_due, made_same, made_other, standing_same, standing_other, noticed_same, noticed_other, within_get, get_some, event_keeps_recorded_lem, events_keep_strict_lem}
+use Rattle.mt_model.proofs.FloorEvents.{IsNext, next_facts, IsDropped, noticed, after_due, after_not_due, made_same, made_other, standing_other, noticed_same, noticed_other, within_get, get_some, event_keeps_recorded_lem, events_keep_strict_lem}
 use Rattle.mt_model.proofs.FloorBest.{applicant_from_live, strict_best_lem}
 
 -- what an applicant with so many live entries and proposals has yet to do: twice the entries left, and one

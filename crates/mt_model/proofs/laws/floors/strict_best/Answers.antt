@@ -1,10 +1,8 @@
-use Rattle.std.proofs.Common.{◌≡◌, ℕ, zero, suc, ◌<◌, [], ◌∷◌, Some, None, refl, arith}
+use Rattle.std.proofs.Common.{refl}
 use Rattle.mt_model.specs.Examples.Markets.{chain}
 use Rattle.mt_model.specs.Examples.Events.{by_wishes}
-use Rattle.mt_model.specs.Matching.{place_of}
 use Rattle.mt_model.specs.Floor.{opening, after_all}
 use Rattle.mt_model.specs.WellFormed.{IsWellFormed}
-use Rattle.mt_model.specs.Laws.Floors.{place_on}
 use Rattle.mt_model.proofs.FloorBest.{strict_best_lem}
 use Rattle.mt_model.proofs.FloorEvents.{events_keep_strict_lem}
 use Rattle.mt_model.proofs.FloorRuns.{opening_is_strict_lem, result_of_floor_lem}
