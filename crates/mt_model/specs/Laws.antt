@@ -1,0 +1,4 @@
+pub mod Floors
+pub mod Rural
+pub mod Singles
+pub mod Taken
