@@ -13,7 +13,8 @@ use Rattle.mt_model.proofs.ChoiceLemmas.{choice_from_facts}
 use Rattle.mt_model.proofs.TakenLemmas.{at-slice_set_other}
 use Rattle.mt_model.proofs.SinglesFacts.{stable_facts, at_past}
 
-lt_of_there : (places : Places) (a p : ℕ) → IsTrue (at places p a) → a < length places
+-- who is at a program has a place
+pub lt_of_there : (places : Places) (a p : ℕ) → IsTrue (at places p a) → a < length places
 lt_of_there places a p there =
     elim (cases_lt a (length places)) [ inl low ↦ low | inr high ↦ absurd (both_ways _ (at_past places a p high) there) ]
 

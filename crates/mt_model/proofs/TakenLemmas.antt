@@ -12,7 +12,7 @@ use Rattle.mt_model.proofs.ListLemmas.{count_has, one_higher}
 use Rattle.mt_model.proofs.ChoiceLemmas.{choice_facts}
 
 -- who is at a program where one applicant was moved
-at-slice_set_same : (places : Places) (a p : ℕ) (place : Option ℕ) → a < length places → at (slice_set places a place) p a ≡ is_program p place
+pub at-slice_set_same : (places : Places) (a p : ℕ) (place : Option ℕ) → a < length places → at (slice_set places a place) p a ≡ is_program p place
 at-slice_set_same places a p place a_in = ap (is_program p) (get_or-set_same places a place None a_in)
 
 pub at-slice_set_other : (places : Places) (a b p : ℕ) (place : Option ℕ) → b ≢ a → at (slice_set places a place) p b ≡ at places p b
