@@ -1,5 +1,5 @@
 -- Stability by choices and by blocking pairs is one thing.
-use Rattle.std.proofs.Common.{◌≡◌, ◌≢◌, ◌⊎◌, ℕ, ◌+◌, ◌<◌, ◌≤◌, not, ◌==◌, ◌||◌, List, [], ◌∷◌, length, Option, Some, None, slice_set, IsTrue, IsFalse, refl, ap, sym, ◌∙◌, subst, inl, inr, arith, eq-eqb, ne_eqb, eqb-true}
+use Rattle.std.proofs.Common.{◌≡◌, ◌≢◌, ℕ, ◌+◌, ◌<◌, ◌≤◌, not, ◌==◌, ◌||◌, List, [], ◌∷◌, length, None, slice_set, IsTrue, IsFalse, refl, ap, sym, ◌∙◌, subst, inl, inr, arith, eq-eqb, ne_eqb, eqb-true}
 use Rattle.std.proofs.lemmas.Bool.{and_parts, or_left, or_right, or_cases, cases_Bool, cases_lt, cases_eq, both_ways, false_from_ne_true, not-true}
 use Rattle.std.proofs.lemmas.Bool.Decides.{nat_tests}
 use Rattle.mt_model.specs.Lists.{Set, has, until, count, above, with_one, is_distinct}
@@ -7,9 +7,8 @@ use Rattle.mt_model.specs.Market.{Market, program_of, list_of, singles_market}
 use Rattle.mt_model.specs.Matching.{Places, at, filled, is_program}
 use Rattle.mt_model.specs.Choice.{choice}
 use Rattle.mt_model.specs.Stability.{stable}
-use Rattle.mt_model.specs.Best.{better_programs}
 use Rattle.mt_model.specs.WellFormed.{IsWellFormed}
-use Rattle.mt_model.specs.Laws.Singles.{IsStableForSingles, HasRoomFor, IsBlockingPair, IsStableByPairs, StabilityByPairs}
+use Rattle.mt_model.specs.Laws.Singles.{HasRoomFor, IsStableByPairs, StabilityByPairs}
 use Rattle.mt_model.proofs.ListLemmas.{above-with_one, above-le, above-lt, count-slice_set, count-le, count_none}
 use Rattle.mt_model.proofs.ChoiceLemmas.{choice_facts, choice_from_facts}
 use Rattle.mt_model.proofs.TakenLemmas.{at-slice_set_same, at-slice_set_other}
@@ -56,7 +55,7 @@ one_below set [] a distinct on not_in some = absurd (omega arith)
 one_below set (x ∷ xs) a distinct on not_in some =
     let parts = and_parts (not (has xs x)) (is_distinct xs) distinct in
     let apart : (b : ℕ) → IsTrue (has xs b) → IsFalse (x == b) =
-      λ b later. ne_eqb x b (λ same. both_ways _ (not-true _ parts.0) (subst (λ (c : ℕ). IsTrue (has xs c)) (sym same) later)) in
+    λ b later. ne_eqb x b (λ same. both_ways _ (not-true _ parts.0) (subst (λ (c : ℕ). IsTrue (has xs c)) (sym same) later)) in
     elim (cases_eq x a) [
       | inl same ↦
           let rest : 0 < count set xs = grind (arith, nat_tests, ap set same) in
@@ -85,8 +84,8 @@ filled-le places p (x ∷ xs) all = elim (cases_Bool (at places p x)) [
       let x_in : x < length places = lt_of_there places x p there in
       let none_left : IsFalse (at left p x) = at-slice_set_same places x p None x_in in
       let stays : (b : ℕ) → IsTrue (at left p b) → (b ≢ x) × IsTrue (at places p b) = λ b there_left.
-        let other : b ≢ x = λ same. both_ways _ none_left (subst (λ (c : ℕ). IsTrue (at left p c)) same there_left) in
-        (other, sym (at-slice_set_other places x b p None other) ∙ there_left) in
+      let other : b ≢ x = λ same. both_ways _ none_left (subst (λ (c : ℕ). IsTrue (at left p c)) same there_left) in
+      (other, sym (at-slice_set_other places x b p None other) ∙ there_left) in
       let rest : filled left p ≤ count (at left p) xs = filled-le left p xs (λ b there_left. still_on x xs b (stays b there_left).0 (all b (stays b there_left).1)) in
       let fewer : count (at left p) xs ≤ count (at places p) xs = count-le (at left p) (at places p) xs (λ b there_left. (stays b there_left).1) in
       let less : filled left p + 1 ≡ filled places p = count-slice_set (is_program p) places x None None x_in there refl in
@@ -107,11 +106,11 @@ chosen_from_room m well places a p listed within is_listed room =
     let few_there : count (at places p) ranking ≤ filled places p = count-at places p ranking (well.rankings_distinct p) in
     let no_more_above : above (at places p) ranking a ≤ count (at places p) ranking = count-until-le (at places p) (λ x. x == a) ranking in
     let few_above : above (at places p) ranking a < (program_of m p).quota = elim room [
-        | inl free ↦ omega arith
-        | inr less ↦
-            let fewer : above (at places p) ranking a ≤ above (at places p) ranking less.0 = above-le (at places p) ranking less.0 a less.2 in
-            let one_less : above (at places p) ranking less.0 < count (at places p) ranking = above-lt (at places p) ranking less.0 (listed less.0 less.1) less.1 in
-            omega arith
+      | inl free ↦ omega arith
+      | inr less ↦
+          let fewer : above (at places p) ranking a ≤ above (at places p) ranking less.0 = above-le (at places p) ranking less.0 a less.2 in
+          let one_less : above (at places p) ranking less.0 < count (at places p) ranking = above-lt (at places p) ranking less.0 (listed less.0 less.1) less.1 in
+          omega arith
     ] in
     choice_from_facts (program_of m p) (with_one (at places p) a) a
     (record { is_listed = is_listed; is_member = or_left _ _ (eq-eqb a a refl); has_few_above = omega arith })
@@ -146,16 +145,19 @@ stability_by_pairs_lem m well places = (by_pairs, by_choices)
           listed = facts.listed;
           within = facts.within;
           no_blocking_pair = λ a p pair.
-            both_ways _ (facts.none_block a p pair.is_better)
-              (chosen_from_room m well places a p (λ b there. facts.listed b p there) (facts.within p) pair.is_listed pair.has_room) }
+              both_ways _ (facts.none_block a p pair.is_better)
+              (chosen_from_room m well places a p (λ b there. facts.listed b p there) (facts.within p) pair.is_listed pair.has_room);
+        }
 
     by_choices : IsStableByPairs m places → IsTrue (stable (singles_market m) places)
     by_choices facts = stable_from_facts m places (record {
-        one_each = facts.one_each;
-        on_list = facts.on_list;
-        listed = facts.listed;
-        within = facts.within;
-        none_block = λ a p better. false_from_ne_true _ (λ chosen. facts.no_blocking_pair a p (record {
-          is_better = better;
-          is_listed = (choice_facts (program_of m p) (with_one (at places p) a) a chosen).is_listed;
-          has_room = room_from_chosen m well places a p (λ b there. facts.listed b p there) (until-fails (λ q. at places q a) (list_of m a) p better) chosen })) })
+      one_each = facts.one_each;
+      on_list = facts.on_list;
+      listed = facts.listed;
+      within = facts.within;
+      none_block = λ a p better. false_from_ne_true _ (λ chosen. facts.no_blocking_pair a p (record {
+        is_better = better;
+        is_listed = (choice_facts (program_of m p) (with_one (at places p) a) a chosen).is_listed;
+        has_room = room_from_chosen m well places a p (λ b there. facts.listed b p there) (until-fails (λ q. at places q a) (list_of m a) p better) chosen;
+      }));
+    })

@@ -1,4 +1,4 @@
-ghost use Rattle.mt_model.specs.Laws.Singles.{ChoiceInWords, GrowingChoice, NoneComesBack, StabilityOfSingles, StabilityByPairs, Exclusion, ExclusionByQuota, BestIsUnique, BestIsAtLeast, WellFormedTest, ExcludedInChain};
+ghost use Rattle.mt_model.specs.Laws.Singles.{ChoiceInWords, GrowingChoice, NoneComesBack, StabilityOfSingles, StabilityByPairs, Exclusion, ExclusionByQuota, BestIsUnique, BestIsAtLeast, WellFormedTest, ChosenForTwoPosts, ExcludedInChain};
 
 /// A program chooses who is on its list, is of the set, and has fewer than quota of the set above it.
 pub fn choice_in_words()
@@ -51,6 +51,11 @@ pub fn best_is_at_least()
 /// The test of a well-formed market tests just that.
 pub fn well_formed_test()
     ensures { WellFormedTest }
+{}
+
+/// A program's choice as its set grows.
+pub fn chosen_for_two_posts()
+    ensures { ChosenForTwoPosts }
 {}
 
 /// Exclusion applied twice, in the market of the rejection chain.
