@@ -1,4 +1,5 @@
 pub mod BelowFacts
+pub mod BlockingPairLemmas
 pub mod ChoiceLemmas
 pub mod ExclusionLemmas
 pub mod FlatListsFacts
