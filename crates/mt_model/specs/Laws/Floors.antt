@@ -131,18 +131,21 @@ QuietCounts =
     (m : Market) → IsWellFormed m → (f : Floor) → IsRecorded m f → IsTrue (is_quiet m f)
     → (places : Places) → IsResult m f places → HasProposalsOf m f places
 
--- Two floors agree where the same proposals are made and received, and they have the same result.
-pub record AreAlike (m : Market) (f g : Floor) : Type 0 where
+-- Two floors end alike where they have the same proposals made and received and the same result, and where
+-- that is the best match and the proposals are those on the way to it.
+pub record EndAlike (m : Market) (f g : Floor) : Type 0 where
   pub same_made : (a : ℕ) → f.made a ≡ g.made a
   pub same_received : (p a : ℕ) → f.received p a ≡ g.received p a
   pub same_result : result_of m f ≡ result_of m g
+  pub best : IsBest m (result_of m f)
+  pub on_the_way : HasProposalsOf m f (result_of m f)
 
--- Any two lists of events from the opening floor until no event is due end alike, in the best match.
+-- any two lists of events from the opening floor until no event is due end alike
 abbrev pub OrderFree : Type 0
 OrderFree =
     (m : Market) → IsWellFormed m → (es fs : List Event)
     → IsTrue (is_quiet m (after_all m opening es)) → IsTrue (is_quiet m (after_all m opening fs))
-    → AreAlike m (after_all m opening es) (after_all m opening fs) × IsBest m (result_of m (after_all m opening es))
+    → EndAlike m (after_all m opening es) (after_all m opening fs)
 
 -- An example: two lists of events in the rejection chain.
 pub record ChainInTwoOrders : Type 0 where
