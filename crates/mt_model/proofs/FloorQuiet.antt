@@ -15,7 +15,7 @@ use Rattle.mt_model.proofs.ExclusionLemmas.{best_is_unique_lem}
 use Rattle.mt_model.proofs.FloorLists.{has-take_before, through-get, through_none}
 use Rattle.mt_model.proofs.FloorEvents.{live_distinct, last_facts, events_keep_strict_lem}
 use Rattle.mt_model.proofs.FloorBest.{placed_facts, placed_from, tried_where_quiet, strict_best_lem}
-use Rattle.mt_model.proofs.FloorRuns.{opening_is_strict_lem, result_of_floor_lem}
+use Rattle.mt_model.proofs.FloorRuns.{opening_is_strict_lem, result_of_is_result}
 
 -- on a floor on which no event is due, an applicant has tried its live list down to its place
 tried_to_place : (m : Market) → IsWellFormed m → (f : Floor) → IsRecorded m f → IsTrue (is_quiet m f)
@@ -60,8 +60,8 @@ end_facts m wf es quiet =
     let strict : IsStrict m f = events_keep_strict_lem m wf opening es (opening_is_strict_lem m) in
     record {
       strict = strict;
-      best = strict_best_lem m wf f strict quiet (result_of m f) (result_of_floor_lem m f);
-      on_the_way = quiet_counts_lem m wf f strict.legal.recorded quiet (result_of m f) (result_of_floor_lem m f);
+      best = strict_best_lem m wf f strict quiet (result_of m f) (result_of_is_result m f);
+      on_the_way = quiet_counts_lem m wf f strict.legal.recorded quiet (result_of m f) (result_of_is_result m f);
     }
 
 -- a recorded floor's proposals are as many as the programs tried

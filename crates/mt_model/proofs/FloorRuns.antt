@@ -1,13 +1,14 @@
 -- How many events are due, and that they come to an end.
-use Rattle.std.proofs.Common.{◌≡◌, ℕ, zero, suc, ◌+◌, ◌-◌, ◌*◌, ◌<◌, ◌≤◌, Bool, true, false, ◌==◌, List, [], ◌∷◌, length, Option, Some, None, is_some, slice_get, IsTrue, IsFalse, refl, ap, ap₂, sym, ◌∙◌, if◌then◌else◌, arith, ◌≢◌, ◌⊎◌, inl, inr}
+use Rattle.std.proofs.Common.{◌≡◌, ℕ, zero, suc, ◌+◌, ◌-◌, ◌*◌, ◌<◌, ◌≤◌, Bool, true, false, ◌==◌, List, [], ◌∷◌, length, Option, Some, None, is_some, slice_get, IsTrue, IsFalse, refl, ap, ap₂, sym, ◌∙◌, if◌then◌else◌, arith, subst, ◌≢◌, ◌⊎◌, inl, inr}
 use Rattle.std.specs.List.{list_all, range_with_len}
 use Rattle.std.proofs.lemmas.Bool.{both_ways, and_from, and_cases, cases_Bool, not_from_false, eqb-false}
-use Rattle.std.proofs.lemmas.List.FromFn.{length-map-range_with_len, get_or-map-range_with_len}
+use Rattle.std.proofs.lemmas.List.FromFn.{length-map-range_with_len, get_or-map-range_with_len, fill_by_all}
 use Rattle.std.proofs.lemmas.Bool.Decides.{nat_tests}
 use Rattle.mt_model.specs.Lists.{Set, has, total_below}
 use Rattle.mt_model.specs.Market.{Market, live, applicants, live_entries}
+use Rattle.mt_model.specs.Matching.{Places}
 use Rattle.mt_model.specs.Floor.{Floor, last_tried, next_entry, is_held_by, is_settled, is_quiet, is_due, after, after_all, after_proposal, proposed_at, IsRecorded, opening, due_count}
-use Rattle.mt_model.specs.Laws.Floors.{OpeningIsStrict, DueAtMost, QuietIsReached, is_proposal, due_proposals, proposals_made, DueProposalsAreMade, MadeAtMost, place_on, result_of, ResultOfFloor, BestExists}
+use Rattle.mt_model.specs.Laws.Floors.{OpeningIsStrict, DueAtMost, QuietIsReached, is_proposal, due_proposals, proposals_made, DueProposalsAreMade, MadeAtMost, place_on, result_of, IsResult, ResultOfFloor, BestExists}
 use Rattle.mt_model.specs.declared.events.Event.{Event}
 use Rattle.mt_model.specs.declared.events.Event.TheVariants.{Propose, Notice}
 use Rattle.mt_model.proofs.Totals.{total_below-mono}
@@ -175,11 +176,18 @@ opening_is_strict_lem m = record {
 }
 
 -- each floor has a result
-pub result_of_floor_lem : ResultOfFloor
-result_of_floor_lem m f = record {
+pub result_of_is_result : (m : Market) (f : Floor) → IsResult m f (result_of m f)
+result_of_is_result m f = record {
   one_each = length-map-range_with_len (place_on m f) 0 (applicants m);
   each_place = λ a low. get_or-map-range_with_len (place_on m f) 0 (applicants m) a a None low (omega arith);
 }
+
+-- and no other one
+pub result_of_floor_lem : ResultOfFloor
+result_of_floor_lem m f places = (
+  (λ result. fill_by_all (place_on m f) places (applicants m) None result.one_each result.each_place),
+  (λ same. subst (λ (r : Places). IsResult m f r) (sym same) (result_of_is_result m f)),
+)
 
 -- there is a best match
 pub best_exists_lem : BestExists
@@ -187,4 +195,4 @@ best_exists_lem m wf =
     let strict = opening_is_strict_lem m in
     let end = quiet_is_reached_lem m opening strict.legal.recorded in
     let f : Floor = after_all m opening end.0 in
-    (result_of m f, strict_best_lem m wf f (events_keep_strict_lem m wf opening end.0 strict) end.1 (result_of m f) (result_of_floor_lem m f))
+    (result_of m f, strict_best_lem m wf f (events_keep_strict_lem m wf opening end.0 strict) end.1 (result_of m f) (result_of_is_result m f))

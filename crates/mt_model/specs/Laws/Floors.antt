@@ -1,6 +1,6 @@
 -- The laws of floors: what an event keeps, how many events are due, and that a strict floor on which no
 -- event is due is the best match, however it was reached (McVitie and Wilson 1971).
-use Rattle.std.specs.Prelude.{◌≡◌, ◌≢◌, ℕ, ◌+◌, ◌*◌, ◌<◌, ◌≤◌, Bool, true, false, ◌&&◌, List, [], ◌∷◌, map, length, Option, Some, None, IsTrue, IsFalse, if◌then◌else◌}
+use Rattle.std.specs.Prelude.{◌≡◌, ◌≢◌, ◌↔◌, ℕ, ◌+◌, ◌*◌, ◌<◌, ◌≤◌, Bool, true, false, ◌&&◌, List, [], ◌∷◌, map, length, Option, Some, None, IsTrue, IsFalse, if◌then◌else◌}
 use Rattle.mt_model.specs.Lists.{has, below, total_below, count_below}
 use Rattle.mt_model.specs.Market.{Market, applicants, live_entries}
 use Rattle.mt_model.specs.Matching.{Places, place_of}
@@ -26,8 +26,9 @@ pub record IsResult (m : Market) (f : Floor) (places : Places) : Type 0 where
 abbrev pub result_of : Market → Floor → Places
 result_of m f = map (place_on m f) (below (applicants m))
 
+-- it is the one match that is
 abbrev pub ResultOfFloor : Type 0
-ResultOfFloor = (m : Market) (f : Floor) → IsResult m f (result_of m f)
+ResultOfFloor = (m : Market) (f : Floor) (places : Places) → IsResult m f places ↔ (places ≡ result_of m f)
 
 -- the opening floor is strict, and so legal and recorded
 abbrev pub OpeningIsStrict : Type 0
