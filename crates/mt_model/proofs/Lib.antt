@@ -1,3 +1,4 @@
+pub mod BlockingPairLemmas
 pub mod ChoiceLemmas
 pub mod ExclusionLemmas
 pub mod FlatListsFacts

@@ -13,8 +13,9 @@ pub use floors::{
 };
 pub use rural_law::{legal_best, rural};
 pub use singles::{
-    best_is_at_least, best_is_unique, choice_in_words, excluded_in_chain, exclusion,
-    exclusion_by_quota, growing_choice, none_comes_back, stability_of_singles, well_formed_test,
+    best_is_at_least, best_is_unique, choice_in_words, chosen_for_two_posts, excluded_in_chain,
+    exclusion, exclusion_by_quota, growing_choice, none_comes_back, stability_by_pairs,
+    stability_of_singles, well_formed_test,
 };
 pub use taken::{
     half_pair_taken, never_twice_at_one, pair_taken, same_program_taken, single_taken,
