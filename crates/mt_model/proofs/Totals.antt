@@ -16,6 +16,7 @@ one_in-mono s t a h = grind arith
 same_members : (s t : Set) (a : ℕ) → one_in s a ≡ one_in t a → s a ≡ t a
 same_members s t a h = grind arith
 
+-- 1 and 0 of a union of sets that share nobody add up
 one_in-or : (s t : Set) (a : ℕ) → (IsTrue (s a) → IsFalse (t a)) → (if s a || t a then 1 else 0) ≡ one_in s a + one_in t a
 one_in-or s t a h = grind arith
 

@@ -1,5 +1,5 @@
 -- What holds of all stable matches of the singles (the rural hospitals theorem: Gale and Sotomayor 1985,
--- Roth 1986).
+-- Roth 1986; Gusfield and Irving 1989), and that a legal floor ends in the best one.
 use Rattle.std.specs.Prelude.{◌≡◌, ℕ, ◌<◌, [], ◌∷◌, Some, None, is_some, IsTrue}
 use Rattle.mt_model.specs.Market.{Market, program_of, singles_market}
 use Rattle.mt_model.specs.Matching.{Places, place_of, at, filled}
