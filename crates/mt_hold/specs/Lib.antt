@@ -1,0 +1,5 @@
+pub mod Flags
+pub mod Holding
+pub mod Inside
+pub mod Laws
+pub mod Row

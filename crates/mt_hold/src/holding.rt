@@ -1,0 +1,138 @@
+ghost use Rattle.std.specs.Prelude.{◌≡◌, ◌↔◌, ◌<◌, ◌≤◌, ◌+◌, ◌/◌, ℕ, IfOk, IsTrue, IsFalse, length, vec_len, vec_capacity};
+ghost use Rattle.mt_model.specs.Lists.{with_one};
+ghost use Rattle.mt_hold.specs.Flags.{flag};
+ghost use Rattle.mt_hold.specs.Row.{Rises, IsInsertedInOrder};
+
+use std::alloc::{AllocError, Global};
+use std::marker::Model;
+
+/// What came of a proposal.
+#[derive(Clone, Copy, Debug, PartialEq, Eq)]
+pub enum Taken {
+    /// The rank is held, and nobody was dropped for it.
+    Kept,
+    /// The rank is held, and this one no longer.
+    KeptInstead(u32),
+    /// The rank isn't held.
+    Refused,
+}
+
+/// What a program holds of the proposals that it received, by the ranks of the applicants on its list: the
+/// rank is the position from 0.
+#[derive(Debug, Drop)]
+pub struct Hold {
+    quota: u32,
+    list_len: u32,
+    count: u32,
+    // One bit for each rank: whether a proposal came from there.
+    received: Vec<u64>,
+    // The held ranks, in ascending order. It has room for all that can ever be held.
+    row: Vec<u32>,
+}
+
+impl Model for Hold {
+    ghost use Rattle.std.specs.Prelude.{◌≡◌};
+    ghost use Rattle.mt_hold.specs.Holding.{Holding};
+
+    ghost Value = { Holding };
+
+    ghost use Rattle.mt_hold.specs.Inside.{holding_of, IsSound};
+
+    ghost view = { holding_of };
+
+    ghost invariant = { IsSound };
+}
+
+impl Hold {
+    ghost use Rattle.mt_hold.specs.Holding.{ranks, has_received, received_count, held, opened, receive};
+
+    /// The holding of a program with a list of `list_len` applicants that has received nothing. All the memory
+    /// that it will ever use is taken here.
+    pub fn open(alloc: Global, quota: u32, list_len: u32) -> Result<Hold, AllocError>
+        ensures { IfOk result (λ hold. hold ≡ opened quota list_len) }
+    {
+        let received = vec![in alloc; 0u64; list_len.div_ceil(64) as usize]?;
+        let row = Vec::with_capacity(alloc, quota.min(list_len) as usize)?;
+        Ok(Hold {
+            quota,
+            list_len,
+            count: 0,
+            received,
+            row,
+        })
+    }
+
+    /// Receives a proposal from a rank, and says whether it is held and whom it displaced.
+    pub fn propose(&mut self, rank: u32) -> Taken
+        requires on_list { rank < ranks self.old }
+        requires first_time { IsFalse (has_received self.old rank) }
+        ensures received { self.new ≡ receive self.old rank }
+
+        // Refused exactly where it isn't held, and another rank exactly where that was held and is no longer.
+        ensures refused { (result ≡ Taken.Refused) ↔ IsFalse (held self.new rank) }
+        ensures dropped { (other : ℕ) → (result ≡ Taken.KeptInstead other)
+            ↔ (IsTrue (held self.old other) × IsFalse (held self.new other)) }
+    {
+        set_flag(self.received.as_mut_slice(), rank);
+        self.count += 1;
+        let full = self.row.len() == self.quota as usize;
+        if full && self.row.last().is_none_or(|last| *last < rank) {
+            return Taken::Refused;
+        }
+        let dropped = if full { self.row.pop() } else { None };
+        insert_in_order(&mut self.row, rank);
+        match dropped {
+            None => Taken::Kept,
+            Some(last) => Taken::KeptInstead(last),
+        }
+    }
+
+    /// Whether the rank is held.
+    pub fn holds(&self, rank: u32) -> bool
+        ensures { result ≡ held self.now rank }
+    {
+        self.row.binary_search(&rank).is_ok()
+    }
+
+    /// Whether a proposal from the rank was received.
+    pub fn received(&self, rank: u32) -> bool
+        requires { rank < ranks self.now }
+        ensures { result ≡ has_received self.now rank }
+    {
+        is_flagged(self.received.as_slice(), rank)
+    }
+
+    /// From how many ranks a proposal was received.
+    pub fn count(&self) -> u32
+        ensures { result ≡ received_count self.now }
+    {
+        self.count
+    }
+}
+
+// Whether the rank's bit is set.
+fn is_flagged(words: &[u64], rank: u32) -> bool
+    requires { rank / 64 < length words.now }
+    ensures { result ≡ flag words.now rank }
+{
+    (words[rank as usize / 64] >> (rank % 64)) & 1 == 1
+}
+
+// Sets the rank's bit.
+fn set_flag(words: &mut [u64], rank: u32)
+    requires { rank / 64 < length words.old }
+    ensures { (other : ℕ) → flag words.new other ≡ with_one (flag words.old) rank other }
+{
+    words[rank as usize / 64] |= 1 << (rank % 64);
+}
+
+// Puts the rank in its place in a row that ascends and has room.
+fn insert_in_order(row: &mut Vec<u32>, rank: u32)
+    requires ascending { Rises row.old.items }
+    requires room { vec_len row.old < vec_capacity row.old }
+    ensures inserted { IsInsertedInOrder row.old.items rank row.new.items }
+    ensures capacity { vec_capacity row.old ≤ vec_capacity row.new }
+{
+    let at = row.partition_point(|other| *other < rank);
+    row.insert(at, rank).unwrap();
+}
