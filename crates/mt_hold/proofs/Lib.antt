@@ -1,0 +1,4 @@
+pub mod Chosen
+pub mod Counting
+pub mod Lists
+pub mod Rows
