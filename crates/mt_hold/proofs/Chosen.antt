@@ -1,14 +1,11 @@
 -- Whom a holding holds, told by how many others were received from better ranks.
-use Rattle.std.proofs.Common.{◌≡◌, ◌≢◌, ℕ, zero, suc, ◌+◌, ◌<◌, ◌≤◌, Bool, true, false, cond, List, [], ◌∷◌, length, get_or, refl, sym, ap, ◌∙◌, inl, inr, arith, add-one, eqb, ltb, ◌||◌, ◌&&◌, IsTrue, IsFalse}
-use Rattle.std.specs.List.{range_with_len, list_any}
-use Rattle.std.proofs.lemmas.Bool.{cases_lt, cases_eq, cases_Bool, ne_eqb, eq-eqb, and_parts, ltb-true, ltb-false, lt-ltb, le-ltb, and_from, and_right, or_right, false≢true}
-use Rattle.std.proofs.lemmas.Bool.Decides.{nat_tests}
-use Rattle.std.proofs.lemmas.List.FromFn.{length-range_with_len}
-use Rattle.mt_model.specs.Lists.{Set, has, until, above, count, below, with_one, count_below}
-use Rattle.mt_model.specs.Market.{Program}
+use Rattle.std.proofs.Common.{◌≡◌, ℕ, zero, suc, ◌+◌, ◌<◌, ◌≤◌, true, false, refl, sym, ap, ◌∙◌, inl, inr, arith, eqb, ltb, ◌&&◌}
+use Rattle.std.specs.List.{range_with_len}
+use Rattle.std.proofs.lemmas.Bool.{cases_lt, cases_eq, ne_eqb, eq-eqb, and_parts, ltb-true, lt-ltb, le-ltb, and_from, and_right, or_right, false≢true}
+use Rattle.mt_model.specs.Lists.{Set, has, above, below, with_one, count_below}
 use Rattle.mt_model.specs.Choice.{choice}
 use Rattle.mt_hold.specs.Holding.{Holding, ranks, has_received, held}
-use Rattle.mt_hold.proofs.Counting.{count_suc, count_same, count_past, count-le, same_from_count, count-with_one_above, count-with_one_below, with_one_same, with_one_other}
+use Rattle.mt_hold.proofs.Counting.{count_suc, count_same, count_past, count-le, same_from_count, count-with_one_above, count-with_one_below, with_one_same}
 
 -- whether a rank below n is among the first `quota` members of a set
 abbrev pub chosen : ℕ → ℕ → Set → Set

@@ -1,7 +1,6 @@
 -- How many members of a set stand below a number.
-use Rattle.std.proofs.Common.{◌≡◌, ◌≢◌, ℕ, zero, suc, ◌+◌, ◌<◌, ◌≤◌, Bool, true, false, cond, refl, sym, ap, ◌∙◌, inl, inr, arith, add-one, eqb, ltb, ◌||◌}
-use Rattle.std.proofs.lemmas.Bool.{cases_lt, cases_eq, cases_order, cases_Bool, ne_eqb, eq-eqb}
-use Rattle.std.proofs.lemmas.Bool.Decides.{nat_tests}
+use Rattle.std.proofs.Common.{◌≡◌, ◌≢◌, ℕ, zero, suc, ◌+◌, ◌<◌, ◌≤◌, Bool, true, false, cond, refl, inl, inr, arith, add-one}
+use Rattle.std.proofs.lemmas.Bool.{cases_eq, cases_order, ne_eqb, eq-eqb}
 use Rattle.mt_model.specs.Lists.{Set, with_one, count_below}
 
 pub count_suc : (s : Set) (k : ℕ) → count_below s (k + 1) ≡ cond (s k) 1 0 + count_below s k
@@ -64,3 +63,7 @@ count-with_one_above s r (suc k) out h =
     elim (cases_eq k r) [
       inl e ↦ rw (e, with_one_same s r, out) (omega (arith, count-with_one_below s r r (omega arith)))
     | inr ne ↦ rw (with_one_other s r k ne) (omega (arith, count-with_one_above s r k out (omega arith))) ]
+
+-- a number that isn't a member leaves fewer members than numbers
+pub count_missing : (s : Set) (n r : ℕ) → r < n → s r ≡ false → count_below s n + 1 ≤ n
+count_missing s n r low out = omega (arith, count-with_one_above s r n out low, count_most (with_one s r) n)

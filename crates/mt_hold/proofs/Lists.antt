@@ -1,12 +1,12 @@
 -- Lists without repeats, and what flags by position tell of a set.
-use Rattle.std.proofs.Common.{◌≡◌, ◌≢◌, ℕ, zero, suc, ◌+◌, ◌<◌, ◌≤◌, Bool, true, false, not, cond, List, [], ◌∷◌, length, get_or, set, replicate, refl, sym, ap, subst, ◌∙◌, inl, inr, arith, add-one, eqb, ltb, ◌||◌, ◌&&◌, IsTrue, IsFalse}
-use Rattle.std.proofs.lemmas.Bool.{cases_eq, cases_lt, cases_Bool, ne_eqb, eq-eqb, and_parts, not-true, or_parts, true≢false, false≢true, lt-ltb}
+use Rattle.std.proofs.Common.{◌≡◌, ◌≢◌, ℕ, zero, suc, ◌+◌, ◌<◌, Bool, true, false, not, cond, List, [], ◌∷◌, length, get_or, refl, sym, ap, ◌∙◌, inl, inr, arith, IsTrue}
+use Rattle.std.proofs.lemmas.Bool.{cases_eq, ne_eqb, eq-eqb, and_parts, not-true, false≢true, lt-ltb}
 use Rattle.std.proofs.lemmas.List.{get_or-set_same, get_or-set_other, get_or-replicate, length-replicate, length-set}
-use Rattle.mt_model.specs.Lists.{Set, has, until, above, count, with_one, count_below, is_distinct}
+use Rattle.mt_model.specs.Lists.{Set, has, above, count, count_below, is_distinct}
 use Rattle.mt_model.specs.Market.{Program}
 use Rattle.mt_model.specs.Choice.{choice}
-use Rattle.mt_hold.specs.Holding.{Holding, ranks, has_received, received_count, held, opened, receive}
-use Rattle.mt_hold.specs.Laws.{IsHoldingOf, HeldIsChoice, OpenedIsEmpty, ReceiveAddsOne, CountIsMembers}
+use Rattle.mt_hold.specs.Holding.{ranks, has_received}
+use Rattle.mt_hold.specs.Laws.{HeldIsChoice, OpenedIsEmpty, ReceiveAddsOne, CountIsMembers}
 use Rattle.mt_hold.proofs.Counting.{count_suc}
 use Rattle.mt_hold.proofs.Chosen.{chosen, held-chosen}
 

@@ -1,13 +1,16 @@
 -- Rows of members of a set, and what an insertion in order does to them.
-use Rattle.std.proofs.Common.{subst, ◌≡◌, ◌≢◌, ℕ, ◌+◌, ◌-◌, ◌<◌, ◌≤◌, Bool, true, false, List, ◌++◌, ◌∷◌, [], length, get_or, take, min, refl, sym, ap, ◌∙◌, inl, inr, arith}
+use Rattle.std.proofs.Common.{subst, Result, Ok, Err, is_ok, MatchResult, ◌≡◌, ℕ, ◌+◌, ◌-◌, ◌<◌, ◌≤◌, true, false, List, [], length, get_or, take, sym, ap, ◌∙◌, inl, inr, arith}
 use Rattle.std.specs.List.{insert}
-use Rattle.std.proofs.lemmas.Bool.{cases_lt, cases_order, false≢true}
+use Rattle.std.proofs.lemmas.Bool.{cases_lt, cases_order, cases_eq, cases_Bool, false≢true}
 use Rattle.std.proofs.lemmas.List.Edits.{length-insert, get_or-insert_below, get_or-insert_at, get_or-insert_above}
-use Rattle.std.proofs.lemmas.List.{get_or-take, length-take}
+use Rattle.std.proofs.lemmas.List.{get_or-take, length-take, get_or_default}
+use Rattle.std.proofs.lemmas.List.Sorted.{searched}
+use Rattle.std.specs.List.Sorted.{IsNonDecreasingBy, IsBinarySearchResult}
+use Rattle.std.specs.Ordering.{nat_cmp}
 use Rattle.mt_model.specs.Lists.{Set, with_one, count_below}
 use Rattle.mt_hold.specs.Row.{IsFrontOf, IsRowOf, Rises, SplitsAt, IsInsertedInOrder}
 use Rattle.mt_hold.proofs.Counting.{count-le, count_past, same_from_count, count-with_one_above, count-with_one_below, with_one_same}
-use Rattle.mt_hold.proofs.Chosen.{chosen, still_member, chosen_from, IsChosen, IsChosen-from}
+use Rattle.mt_hold.proofs.Chosen.{chosen, still_member, chosen_from, IsChosen-from}
 
 pub Rises-from_front : (n : ℕ) (s : Set) (row : List ℕ) → IsFrontOf n s row → Rises row
 Rises-from_front n s row f i j l h =
@@ -103,3 +106,38 @@ chosen_in_row quota n s row r k h =
     let i = count_below s k in
     let in_row : i < length row = omega (arith, c.few, count_past s k n c.member c.within, r.len) in
     (i, in_row, same_from_count s (get_or row i 0) k (r.front.member i in_row) c.member (r.front.place i in_row))
+
+pub IsNonDecreasing-from_rises : (row : List ℕ) → Rises row → IsNonDecreasingBy (λ x. x) row
+IsNonDecreasing-from_rises row up i j d le h =
+    elim (cases_eq i j) [
+      inl e ↦ rw e (omega arith)
+    | inr ne ↦
+        let less : get_or row i 0 < get_or row j 0 = up i j (omega arith) h in
+        omega (arith, get_or_default row i 0 d (omega arith), get_or_default row j 0 d h) ]
+
+-- a binary search in a row finds just who is chosen
+pub found_exactly : (quota n : ℕ) (s : Set) (row : List ℕ) (rank : ℕ) (r : Result ℕ ℕ) → IsRowOf quota n s row → IsBinarySearchResult (λ y. nat_cmp y rank) row r → is_ok r ≡ chosen quota n s rank
+found_exactly quota n s row rank r is found =
+    go r (searched row rank r found (λ i j le h. IsNonDecreasing-from_rises row (Rises-from_front n s row is.front) i j 0 le h))
+  where
+    go : (r : Result ℕ ℕ) → MatchResult r (λ i. (i < length row) × (get_or row i 0 ≡ rank)) (λ i. (i ≤ length row) × ((k : ℕ) → k < i → get_or row k 0 < rank) × ((k : ℕ) → i ≤ k → k < length row → rank < get_or row k 0)) → is_ok r ≡ chosen quota n s rank
+    go (Ok i) at = sym (ap (chosen quota n s) (sym at.1) ∙ row_chosen quota n s row is i at.0)
+    go (Err i) at =
+        elim (cases_Bool (chosen quota n s rank)) [
+          inl yes' ↦ absurd (nowhere i at (chosen_in_row quota n s row is rank yes'))
+        | inr no' ↦ sym no' ]
+      where
+        nowhere : (i : ℕ) → (i ≤ length row) × ((k : ℕ) → k < i → get_or row k 0 < rank) × ((k : ℕ) → i ≤ k → k < length row → rank < get_or row k 0) → (k : ℕ) × (k < length row) × (get_or row k 0 ≡ rank) → ⊥
+        nowhere i at k =
+            elim (cases_lt k.0 i) [
+              inl l ↦ omega (arith, at.1 k.0 l, k.2)
+            | inr l ↦ omega (arith, at.2 k.0 l k.1, k.2) ]
+
+-- the row of a set without members
+pub IsRowOf-empty : (quota n : ℕ) (s : Set) → count_below s n ≡ 0 → IsRowOf quota n s []
+IsRowOf-empty quota n s none = record {
+  len = omega arith;
+  front = record {
+    within = λ i h. absurd (omega arith);
+    member = λ i h. absurd (omega arith);
+    place = λ i h. absurd (omega arith) } }

@@ -1,5 +1,5 @@
 -- What a holding by ranks says of a program's own list of applicants.
-use Rattle.std.specs.Prelude.{◌≡◌, ℕ, ◌<◌, List, length, slice_index, IsTrue, false}
+use Rattle.std.specs.Prelude.{◌≡◌, ℕ, ◌<◌, length, slice_index, IsTrue, false}
 use Rattle.mt_model.specs.Lists.{Set, with_one, count, is_distinct}
 use Rattle.mt_model.specs.Market.{Program}
 use Rattle.mt_model.specs.Choice.{choice}

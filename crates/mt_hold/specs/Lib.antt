@@ -1,3 +1,4 @@
+pub mod Entered
 pub mod Flags
 pub mod Holding
 pub mod Inside

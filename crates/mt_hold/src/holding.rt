@@ -1,7 +1,8 @@
-ghost use Rattle.std.specs.Prelude.{◌≡◌, ◌↔◌, ◌<◌, ◌≤◌, ◌+◌, ◌/◌, ℕ, IfOk, IsTrue, IsFalse, length, vec_len, vec_capacity};
+ghost use Rattle.std.specs.Prelude.{◌≡◌, ◌↔◌, ◌<◌, ◌≤◌, ◌+◌, ◌/◌, ℕ, IfOk, IsTrue, IsFalse, length, vec_len, vec_capacity, min};
 ghost use Rattle.mt_model.specs.Lists.{with_one};
 ghost use Rattle.mt_hold.specs.Flags.{flag};
 ghost use Rattle.mt_hold.specs.Row.{Rises, IsInsertedInOrder};
+ghost use Rattle.mt_hold.specs.Entered.{IsEntered};
 
 use std::alloc::{AllocError, Global};
 use std::marker::Model;
@@ -75,16 +76,7 @@ impl Hold {
     {
         set_flag(self.received.as_mut_slice(), rank);
         self.count += 1;
-        let full = self.row.len() == self.quota as usize;
-        if full && self.row.last().is_none_or(|last| *last < rank) {
-            return Taken::Refused;
-        }
-        let dropped = if full { self.row.pop() } else { None };
-        insert_in_order(&mut self.row, rank);
-        match dropped {
-            None => Taken::Kept,
-            Some(last) => Taken::KeptInstead(last),
-        }
+        enter_row(&mut self.row, self.quota, rank)
     }
 
     /// Whether the rank is held.
@@ -124,6 +116,26 @@ fn set_flag(words: &mut [u64], rank: u32)
     ensures { (other : ℕ) → flag words.new other ≡ with_one (flag words.old) rank other }
 {
     words[rank as usize / 64] |= 1 << (rank % 64);
+}
+
+// Puts the rank in its place in an ascending row of at most `quota`, where there is room or the last, which then
+// leaves, comes after it.
+fn enter_row(row: &mut Vec<u32>, quota: u32, rank: u32) -> Taken
+    requires ascending { Rises row.old.items }
+    requires bounded { vec_len row.old ≤ quota }
+    requires room { min quota (vec_len row.old + 1) ≤ vec_capacity row.old }
+    ensures entered { IsEntered quota row.old.items rank result row.new.items }
+    ensures capacity { vec_capacity row.old ≤ vec_capacity row.new }
+{
+    if row.len() < quota as usize {
+        insert_in_order(row, rank);
+        return Taken::Kept;
+    }
+    let Some(last) = row.pop_if(|last| rank < *last) else {
+        return Taken::Refused;
+    };
+    insert_in_order(row, rank);
+    Taken::KeptInstead(last)
 }
 
 // Puts the rank in its place in a row that ascends and has room.

@@ -1,9 +1,18 @@
-use Rattle.std.proofs.Common.{rules, ◌≡◌, ◌↔◌, ◌<◌, ◌≤◌, ◌+◌, ◌/◌, ℕ, IfOk, IsTrue, IsFalse, length, vec_len, vec_capacity, ◌-◌, ◌*◌, ◌%◌, Bool, true, false, nat_eq, nat_lt, List, [], ◌∷◌, ◌++◌, slice_index_or, slice_set, bit_and, bit_or, Fits, w8, w32, w64, Bor, MutBor}
-use Rattle.mt_model.specs.Lists.{with_one}
-use Rattle.mt_hold.specs.Flags.{flag}
-use Rattle.mt_hold.specs.Row.{Rises, IsInsertedInOrder}
+use Rattle.std.proofs.Common.{ltb, arith, rules}
+use Rattle.std.proofs.lemmas.Bool.{ltb-true, ltb-false}
+use Rattle.std.proofs.lemmas.List.Sorted.{IsPartitionPoint-from_clause, IsPartitionedBy-ltb}
+use Rattle.mt_hold.proofs.Rows.{IsNonDecreasing-from_rises}
 use Rattle.mt_hold.proofs.holding.insert_in_order.Goals as goal
 
--- src/holding.rt:130:1
 pub returns-clause-inserted : goal.returns-clause-inserted
-returns-clause-inserted c = ?
+returns-clause-inserted c =
+    let xs = c.args.row.now.items in
+    let clause = rw c.deref.ensures.value at c.partition_point-at.ensures.partitioned in
+    let parts = IsPartitionPoint-from_clause (λ x. ltb x c.args.rank) xs c.partition_point-at.result clause (IsPartitionedBy-ltb (λ x. x) xs c.args.rank (IsNonDecreasing-from_rises xs c.requires.ascending)) (λ a r q k. search rules) in
+    record {
+      index = c.partition_point-at.result;
+      splits = record {
+        within = omega (arith, c.partition_point-at.ensures.bound, c.deref.ensures.len);
+        before = λ i h. ltb-true _ _ (parts.0 i 0 (omega arith) h);
+        after = λ i low h. ltb-false _ _ (parts.1 i 0 low h) };
+      is = rw c.unwrap.ensures at c.insert.ensures.items }

@@ -1,10 +1,14 @@
-use Rattle.std.proofs.Common.{rules, ◌≡◌, ◌↔◌, ◌<◌, ◌≤◌, ◌+◌, ◌/◌, ℕ, IfOk, IsTrue, IsFalse, length, vec_len, vec_capacity, ◌-◌, ◌*◌, ◌%◌, Bool, true, false, nat_eq, nat_lt, List, [], ◌∷◌, ◌++◌, slice_index_or, slice_set, bit_and, bit_or, Fits, w8, w32, w64, Bor, MutBor}
-use Rattle.mt_model.specs.Lists.{with_one}
+use Rattle.std.proofs.Common.{sym, ◌∙◌}
 use Rattle.mt_hold.specs.Flags.{flag}
-use Rattle.mt_hold.specs.Row.{Rises, IsInsertedInOrder}
-use Rattle.mt_hold.specs.Holding.{ranks, has_received, received_count, held, opened, receive}
+use Rattle.mt_hold.proofs.Bits.{held-flags}
+use Rattle.mt_hold.proofs.Rows.{found_exactly}
 use Rattle.mt_hold.proofs.holding.Hold.holds.Goals as goal
 
--- src/holding.rt:91:5
 pub returns : goal.returns
-returns c = ?
+returns c =
+    let a = c.self.inside in
+    let found = rw c.deref.ensures.value at c.binary_search.ensures.position in
+    rw (← c.self.view_is)
+    (c.is_ok.ensures.value
+      ∙ found_exactly a.quota a.list_len (flag a.received.items) a.row.items c.args.rank c.binary_search.result c.self.invariant.row found
+      ∙ sym (held-flags a.quota a.list_len a.received.items c.args.rank))

@@ -1,14 +1,27 @@
-use Rattle.std.proofs.Common.{rules, ◌≡◌, ◌↔◌, ◌<◌, ◌≤◌, ◌+◌, ◌/◌, ℕ, IfOk, IsTrue, IsFalse, length, vec_len, vec_capacity, ◌-◌, ◌*◌, ◌%◌, Bool, true, false, nat_eq, nat_lt, List, [], ◌∷◌, ◌++◌, slice_index_or, slice_set, bit_and, bit_or, Fits, w8, w32, w64, Bor, MutBor}
-use Rattle.mt_model.specs.Lists.{with_one}
-use Rattle.mt_hold.specs.Flags.{flag}
-use Rattle.mt_hold.specs.Row.{Rises, IsInsertedInOrder}
-use Rattle.mt_hold.specs.Holding.{ranks, has_received, received_count, held, opened, receive}
+use Rattle.std.proofs.Common.{ℕ, ap, sym, ◌∙◌, arith, length}
+use Rattle.std.proofs.lemmas.List.{length-replicate}
+use Rattle.std.proofs.lemmas.Grind.{div_ceil_times}
+use Rattle.mt_model.specs.Lists.{count_below}
+use Rattle.mt_hold.specs.Holding.{Holding}
+use Rattle.mt_hold.specs.Flags.{flag, flags}
+use Rattle.mt_hold.proofs.Bits.{count-zeros, flags-zeros}
+use Rattle.mt_hold.proofs.Rows.{IsRowOf-empty}
 use Rattle.mt_hold.proofs.holding.Hold.open.Goals as goal
 
--- src/holding.rt:56:9
 pub invariant_of-result : goal.invariant_of-result
-invariant_of-result c = ?
+invariant_of-result c =
+    let m = c.div_ceil.result in
+    let n = c.args.list_len in
+    let zeros = c.in_ok-received.ensures.items_if_clones_equal (λ y e. e) in
+    let none = ap (λ words. count_below (flag words) n) zeros ∙ count-zeros m n in
+    record {
+      words = omega (arith, ap length zeros, length-replicate {A = ℕ} m 0, (div_ceil_times n 64 (omega arith)).0, c.div_ceil.ensures);
+      counted = sym none;
+      row = rw c.in_ok-row.ensures.items (IsRowOf-empty c.args.quota n (flag c.in_ok-received.received.items) none);
+      room = omega (arith, c.min.ensures, c.in_ok-row.ensures.capacity) }
 
--- src/holding.rt:51:5
 pub returns : goal.returns
-returns c = ?
+returns c =
+    let zeros = c.in_ok-received.ensures.items_if_clones_equal (λ y e. e) in
+    ap {B = Holding} (λ f. record { quota = c.args.quota; received = f })
+    (ap (λ words. flags words c.args.list_len) zeros ∙ flags-zeros c.div_ceil.result c.args.list_len)

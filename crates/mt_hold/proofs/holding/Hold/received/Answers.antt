@@ -1,14 +1,16 @@
-use Rattle.std.proofs.Common.{rules, ◌≡◌, ◌↔◌, ◌<◌, ◌≤◌, ◌+◌, ◌/◌, ℕ, IfOk, IsTrue, IsFalse, length, vec_len, vec_capacity, ◌-◌, ◌*◌, ◌%◌, Bool, true, false, nat_eq, nat_lt, List, [], ◌∷◌, ◌++◌, slice_index_or, slice_set, bit_and, bit_or, Fits, w8, w32, w64, Bor, MutBor}
-use Rattle.mt_model.specs.Lists.{with_one}
+use Rattle.std.proofs.Common.{arith, ap, sym, ◌∙◌, length}
+use Rattle.mt_hold.specs.Holding.{ranks}
 use Rattle.mt_hold.specs.Flags.{flag}
-use Rattle.mt_hold.specs.Row.{Rises, IsInsertedInOrder}
-use Rattle.mt_hold.specs.Holding.{ranks, has_received, received_count, held, opened, receive}
+use Rattle.mt_hold.proofs.Bits.{length-flags, get_or-flags}
 use Rattle.mt_hold.proofs.holding.Hold.received.Goals as goal
 
--- src/holding.rt:102:9
 pub is_flagged-requires : goal.is_flagged-requires
-is_flagged-requires c = ?
+is_flagged-requires c =
+    omega (arith, ap ranks c.self.view_is, length-flags c.self.inside.received.items c.self.inside.list_len, c.self.invariant.words, ap length c.as_slice.ensures.value)
 
--- src/holding.rt:98:5
 pub returns : goal.returns
-returns c = ?
+returns c =
+    rw (← c.self.view_is)
+    (c.is_flagged.ensures ∙ ap (λ words. flag words c.args.rank) c.as_slice.ensures.value
+      ∙ sym (get_or-flags c.self.inside.received.items c.self.inside.list_len c.args.rank
+        (omega (arith, ap ranks c.self.view_is, length-flags c.self.inside.received.items c.self.inside.list_len))))
