@@ -18,8 +18,9 @@ marked words rank = set words (rank / 64) (bit_or (get_or words (rank / 64) 0) (
 pub flag-marked : (words : List ℕ) (rank : ℕ) → rank / 64 < length words → (other : ℕ) → flag (marked words rank) other ≡ with_one (flag words) rank other
 flag-marked words rank h other =
     elim (cases_eq other rank) [
-      inl e ↦ rw (e, with_one_same (flag words) rank, get_or-set_same words (rank / 64) _ 0 h, bit_at_set_same w64 (get_or words (rank / 64) 0) (rank % 64) (omega arith)) refl
-    | inr ne ↦ rw (with_one_other (flag words) rank other ne) (unmarked other ne (cases_eq (other / 64) (rank / 64))) ]
+      | inl e ↦ rw (e, with_one_same (flag words) rank, get_or-set_same words (rank / 64) _ 0 h, bit_at_set_same w64 (get_or words (rank / 64) 0) (rank % 64) (omega arith)) refl
+      | inr ne ↦ rw (with_one_other (flag words) rank other ne) (unmarked other ne (cases_eq (other / 64) (rank / 64)))
+    ]
   where
     unmarked : (other : ℕ) → other ≢ rank → (other / 64 ≡ rank / 64) ⊎ (other / 64 ≢ rank / 64) → flag (marked words rank) other ≡ flag words other
     unmarked other ne (inl same) =
@@ -39,6 +40,7 @@ count-flags words n = omega (arith, from 0 n, ap (count_below (flag words)) at_z
   where
     at_zero : 0 + n ≡ n
     at_zero = omega arith
+
     from : (a n : ℕ) → count_below (flag words) a + count (λ b. b) (map (flag words) (range_with_len a n)) ≡ count_below (flag words) (a + n)
     from a zero = omega (arith, ap (count_below (flag words)) end)
       where
@@ -61,10 +63,10 @@ flags-with_one words new n rank low same =
     same_lists (flags new n) (set (flags words n) rank true)
     (length-flags new n ∙ sym (length-set (flags words n) rank true ∙ length-flags words n))
     (λ k d h.
-      let in_list : k < n = omega (arith, length-flags new n) in
-      let in_set : k < length (set (flags words n) rank true) = omega (arith, length-set (flags words n) rank true, length-flags words n) in
-      get_or_default (flags new n) k d false h ∙ get_or-flags new n k in_list ∙ same k ∙ at k in_list (cases_eq k rank)
-      ∙ get_or_default (set (flags words n) rank true) k false d in_set)
+    let in_list : k < n = omega (arith, length-flags new n) in
+    let in_set : k < length (set (flags words n) rank true) = omega (arith, length-set (flags words n) rank true, length-flags words n) in
+    get_or_default (flags new n) k d false h ∙ get_or-flags new n k in_list ∙ same k ∙ at k in_list (cases_eq k rank)
+    ∙ get_or_default (set (flags words n) rank true) k false d in_set)
   where
     at : (k : ℕ) → k < n → (k ≡ rank) ⊎ (k ≢ rank) → with_one (flag words) rank k ≡ get_or (set (flags words n) rank true) k false
     at k h (inl e) = rw (e, with_one_same (flag words) rank) (sym (get_or-set_same (flags words n) rank true false (omega (arith, length-flags words n))))
@@ -87,6 +89,6 @@ pub flags-zeros : (m n : ℕ) → flags (replicate m 0) n ≡ replicate n false
 flags-zeros m n =
     same_lists (flags (replicate m 0) n) (replicate n false) (length-flags (replicate m 0) n ∙ sym (length-replicate n false))
     (λ k d h.
-      let low : k < n = omega (arith, length-flags (replicate m 0) n) in
-      get_or_default (flags (replicate m 0) n) k d false h ∙ get_or-flags (replicate m 0) n k low ∙ flag-zeros m k
-      ∙ sym (get_or-replicate n k false d low))
+    let low : k < n = omega (arith, length-flags (replicate m 0) n) in
+    get_or_default (flags (replicate m 0) n) k d false h ∙ get_or-flags (replicate m 0) n k low ∙ flag-zeros m k
+    ∙ sym (get_or-replicate n k false d low))

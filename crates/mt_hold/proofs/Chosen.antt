@@ -15,8 +15,9 @@ has-range : (a n k : ℕ) → a ≤ k → has (range_with_len a n) k ≡ ltb k (
 has-range a zero k h = sym (le-ltb k (a + 0) (omega arith))
 has-range a (suc n) k h =
     elim (cases_eq a k) [
-      inl e ↦ rw (eq-eqb a k e) (sym (lt-ltb k (a + suc n) (omega arith)))
-    | inr ne ↦ rw (ne_eqb a k ne) (has-range (a + 1) n k (omega arith) ∙ ap (ltb k) (omega arith)) ]
+      | inl e ↦ rw (eq-eqb a k e) (sym (lt-ltb k (a + suc n) (omega arith)))
+      | inr ne ↦ rw (ne_eqb a k ne) (has-range (a + 1) n k (omega arith) ∙ ap (ltb k) (omega arith))
+    ]
 
 has-below : (n k : ℕ) → has (below n) k ≡ ltb k n
 has-below n k = has-range 0 n k (omega arith) ∙ ap (ltb k) (omega arith)
@@ -25,8 +26,9 @@ above-range : (s : Set) (a n k : ℕ) → a ≤ k → k < a + n → count_below 
 above-range s a zero k low high = absurd (omega arith)
 above-range s a (suc n) k low high =
     elim (cases_eq a k) [
-      inl e ↦ rw (eq-eqb a k e) (omega (arith, ap (count_below s) e))
-    | inr ne ↦ rw (ne_eqb a k ne) (omega (arith, above-range s (a + 1) n k (omega arith) (omega arith), count_suc s a)) ]
+      | inl e ↦ rw (eq-eqb a k e) (omega (arith, ap (count_below s) e))
+      | inr ne ↦ rw (ne_eqb a k ne) (omega (arith, above-range s (a + 1) n k (omega arith) (omega arith), count_suc s a))
+    ]
 
 pub above-below : (s : Set) (n k : ℕ) → k < n → above s (below n) k ≡ count_below s k
 above-below s n k h = omega (arith, above-range s 0 n k (omega arith) (omega arith))
@@ -35,17 +37,20 @@ above-below s n k h = omega (arith, above-range s 0 n k (omega arith) (omega ari
 choice-below : (quota n : ℕ) (set : Set) (rank : ℕ) → choice (record { quota = quota; ranking = below n }) set rank ≡ chosen quota n set rank
 choice-below quota n set rank =
     elim (cases_lt rank n) [
-      inl low ↦ rw (has-below n rank, lt-ltb rank n low, above-below set n rank low) refl
-    | inr high ↦ rw (has-below n rank, le-ltb rank n high) refl ]
+      | inl low ↦ rw (has-below n rank, lt-ltb rank n low, above-below set n rank low) refl
+      | inr high ↦ rw (has-below n rank, le-ltb rank n high) refl
+    ]
 
 chosen_same : (quota n : ℕ) (s t : Set) (rank : ℕ) → ((k : ℕ) → k < n → s k ≡ t k) → chosen quota n s rank ≡ chosen quota n t rank
 chosen_same quota n s t rank same =
     elim (cases_lt rank n) [
-      inl low ↦ rw (same rank low, count_same s t rank (λ k h. same k (omega arith))) refl
-    | inr high ↦ rw (le-ltb rank n high) refl ]
+      | inl low ↦ rw (same rank low, count_same s t rank (λ k h. same k (omega arith))) refl
+      | inr high ↦ rw (le-ltb rank n high) refl
+    ]
 
 -- `held` is `chosen` from what was received
 pub held-chosen : (h : Holding) (set : Set) → ((k : ℕ) → k < ranks h → has_received h k ≡ set k) → (rank : ℕ) → held h rank ≡ chosen h.quota (ranks h) set rank
+unfolding held
 held-chosen h set same rank =
     choice-below h.quota (ranks h) (has_received h) rank ∙ chosen_same h.quota (ranks h) (has_received h) set rank same
 
@@ -84,8 +89,9 @@ still_member s r k h = or_right (eqb k r) (s k) h
 one_more_at_most : (s : Set) (r k : ℕ) → s r ≡ false → count_below (with_one s r) k ≤ count_below s k + 1
 one_more_at_most s r k out =
     elim (cases_lt r k) [
-      inl h ↦ omega (arith, count-with_one_above s r k out h)
-    | inr h ↦ omega (arith, count-with_one_below s r k h) ]
+      | inl h ↦ omega (arith, count-with_one_above s r k out h)
+      | inr h ↦ omega (arith, count-with_one_below s r k h)
+    ]
 
 -- who has two posts left, or more, stays chosen
 stays : (quota n : ℕ) (s : Set) (r k : ℕ) → s r ≡ false → IsChosen quota n s k → count_below s k + 1 < quota → chosen quota n (with_one s r) k ≡ true
@@ -108,8 +114,9 @@ stays_where_refused quota n s r out many k h =
     before : (s : Set) (r k : ℕ) → count_below s k < count_below s r → k ≤ r
     before s r k l =
         elim (cases_lt r k) [
-          inl h ↦ absurd (omega (arith, count-le s r k (omega arith)))
-        | inr h ↦ h ]
+          | inl h ↦ absurd (omega (arith, count-le s r k (omega arith)))
+          | inr h ↦ h
+        ]
 
 -- the last one chosen falls out where a better one comes, and no other does
 pub last_falls : (quota n : ℕ) (s : Set) (r last : ℕ) → s r ≡ false → r < last → count_below s last + 1 ≡ quota → chosen quota n (with_one s r) last ≡ false
@@ -117,9 +124,10 @@ last_falls quota n s r last out better at_end =
     not_chosen quota n (with_one s r) last (omega (arith, count-with_one_above s r last out better))
 
 pub only_last_falls : (quota n : ℕ) (s : Set) (r last : ℕ) → s r ≡ false → s last ≡ true → count_below s last + 1 ≡ quota
-  → (k : ℕ) → chosen quota n s k ≡ true → chosen quota n (with_one s r) k ≡ false → k ≡ last
+    → (k : ℕ) → chosen quota n s k ≡ true → chosen quota n (with_one s r) k ≡ false → k ≡ last
 only_last_falls quota n s r last out member at_end k was isn't =
     let c = IsChosen-from quota n s k was in
     elim (cases_lt (count_below s k + 1) quota) [
-      inl spare ↦ absurd (false≢true (sym isn't ∙ stays quota n s r k out c spare))
-    | inr full ↦ same_from_count s k last c.member member (omega (arith, c.few)) ]
+      | inl spare ↦ absurd (false≢true (sym isn't ∙ stays quota n s r k out c spare))
+      | inr full ↦ same_from_count s k last c.member member (omega (arith, c.few))
+    ]

@@ -20,8 +20,9 @@ pub count-le : (s : Set) (j k : ℕ) → j ≤ k → count_below s j ≤ count_b
 count-le s j zero h = let e : j ≡ 0 = omega arith in rw e (omega arith)
 count-le s j (suc k) h =
     elim (cases_eq j (suc k)) [
-      inl e ↦ rw e (omega arith)
-    | inr ne ↦ omega (arith, count-le s j k (omega arith), step_up (s k) (count_below s k)) ]
+      | inl e ↦ rw e (omega arith)
+      | inr ne ↦ omega (arith, count-le s j k (omega arith), step_up (s k) (count_below s k))
+    ]
 
 pub count_past : (s : Set) (j k : ℕ) → s j ≡ true → j < k → count_below s j < count_below s k
 count_past s j k h l = omega (arith, count-le s (j + 1) k (omega arith), count_in s j h)
@@ -38,9 +39,10 @@ count_most s (suc k) = omega (arith, count_most s k, at_most_one (s k))
 pub same_from_count : (s : Set) (a b : ℕ) → s a ≡ true → s b ≡ true → count_below s a ≡ count_below s b → a ≡ b
 same_from_count s a b ha hb e =
     elim (cases_order a b) [
-      inl same ↦ same
-    | inr (inl l) ↦ absurd (omega (arith, count_past s a b ha l))
-    | inr (inr l) ↦ absurd (omega (arith, count_past s b a hb l)) ]
+      | inl same ↦ same
+      | inr (inl l) ↦ absurd (omega (arith, count_past s a b ha l))
+      | inr (inr l) ↦ absurd (omega (arith, count_past s b a hb l))
+    ]
 
 -- the counts of two sets that are equal below a number
 pub count_same : (s t : Set) (n : ℕ) → ((k : ℕ) → k < n → s k ≡ t k) → count_below s n ≡ count_below t n
@@ -61,8 +63,9 @@ pub count-with_one_above : (s : Set) (r k : ℕ) → s r ≡ false → r < k →
 count-with_one_above s r zero out h = absurd (omega arith)
 count-with_one_above s r (suc k) out h =
     elim (cases_eq k r) [
-      inl e ↦ rw (e, with_one_same s r, out) (omega (arith, count-with_one_below s r r (omega arith)))
-    | inr ne ↦ rw (with_one_other s r k ne) (omega (arith, count-with_one_above s r k out (omega arith))) ]
+      | inl e ↦ rw (e, with_one_same s r, out) (omega (arith, count-with_one_below s r r (omega arith)))
+      | inr ne ↦ rw (with_one_other s r k ne) (omega (arith, count-with_one_above s r k out (omega arith)))
+    ]
 
 -- a number that isn't a member leaves fewer members than numbers
 pub count_missing : (s : Set) (n r : ℕ) → r < n → s r ≡ false → count_below s n + 1 ≤ n

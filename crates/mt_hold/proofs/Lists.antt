@@ -15,8 +15,9 @@ has-at [] k h = absurd (omega arith)
 has-at (x ∷ xs) zero h = rw (eq-eqb x x refl) refl
 has-at (x ∷ xs) (suc k) h =
     elim (cases_eq x (get_or xs k 0)) [
-      inl e ↦ rw (eq-eqb x (get_or xs k 0) e) refl
-    | inr ne ↦ rw (ne_eqb x (get_or xs k 0) ne) (has-at xs k (omega arith)) ]
+      | inl e ↦ rw (eq-eqb x (get_or xs k 0) e) refl
+      | inr ne ↦ rw (ne_eqb x (get_or xs k 0) ne) (has-at xs k (omega arith))
+    ]
 
 -- the head of a list without repeats stands nowhere else
 head_differs : (x : ℕ) (xs : List ℕ) (k : ℕ) → IsTrue (is_distinct (x ∷ xs)) → k < length xs → x ≢ get_or xs k 0
@@ -37,7 +38,7 @@ same_position (x ∷ xs) (suc j) (suc k) d hj hk e = ap suc (same_position xs j 
 
 -- as many members of a set stand above position k as flags are set before it; the flags begin at j
 above-at : (s flags : Set) (xs : List ℕ) (j k : ℕ) → IsTrue (is_distinct xs) → ((i : ℕ) → i < length xs → flags (j + i) ≡ s (get_or xs i 0))
-  → k < length xs → count_below flags j + above s xs (get_or xs k 0) ≡ count_below flags (j + k)
+    → k < length xs → count_below flags j + above s xs (get_or xs k 0) ≡ count_below flags (j + k)
 above-at s flags [] j k d same h = absurd (omega arith)
 above-at s flags (x ∷ xs) j zero d same h = rw (eq-eqb x x refl) (omega (arith, ap (count_below flags) e))
   where
@@ -49,21 +50,25 @@ above-at s flags (x ∷ xs) j (suc k) d same h =
   where
     first : flags j ≡ s x
     first = ap flags (omega arith) ∙ same 0 (omega arith)
+
     later : (i : ℕ) → i < length xs → flags (j + 1 + i) ≡ s (get_or xs i 0)
     later i l = ap flags (omega arith) ∙ same (suc i) (omega arith)
+
     e : j + 1 + k ≡ j + suc k
     e = omega arith
 
 -- who stands at a rank is chosen exactly where the rank is
 choice-at : (p : Program) (s flags : Set) → IsTrue (is_distinct p.ranking) → ((k : ℕ) → k < length p.ranking → flags k ≡ s (get_or p.ranking k 0))
-  → (k : ℕ) → k < length p.ranking → choice p s (get_or p.ranking k 0) ≡ chosen p.quota (length p.ranking) flags k
+    → (k : ℕ) → k < length p.ranking → choice p s (get_or p.ranking k 0) ≡ chosen p.quota (length p.ranking) flags k
 choice-at p s flags d same k h =
     rw (has-at p.ranking k h, ← same k h, e, lt-ltb k (length p.ranking) h) refl
   where
     shifted : (i : ℕ) → i < length p.ranking → flags (0 + i) ≡ s (get_or p.ranking i 0)
     shifted i l = ap flags (omega arith) ∙ same i l
+
     at_zero : 0 + k ≡ k
     at_zero = omega arith
+
     e : above s p.ranking (get_or p.ranking k 0) ≡ count_below flags k
     e = omega (arith, above-at s flags p.ranking 0 k d shifted h, ap (count_below flags) at_zero)
 
@@ -78,21 +83,26 @@ pub opened_is_empty : OpenedIsEmpty
 opened_is_empty p = record {
   quota = refl;
   listed = length-replicate (length p.ranking) false;
-  received = λ k h. get_or-replicate (length p.ranking) k false false h }
+  received = λ k h. get_or-replicate (length p.ranking) k false false h;
+}
 
 pub receive_adds_one : ReceiveAddsOne
 receive_adds_one p s h d of rank l = record {
   quota = of.quota;
   listed = length-set h.received rank true ∙ of.listed;
   received = λ k in_list. elim (cases_eq k rank) [
-      inl e ↦ rw (e, get_or-set_same h.received rank true false (omega (arith, of.listed)), eq-eqb (get_or p.ranking rank 0) (get_or p.ranking rank 0) refl) refl
+    | inl e ↦ rw (e, get_or-set_same h.received rank true false (omega (arith, of.listed)), eq-eqb (get_or p.ranking rank 0) (get_or p.ranking rank 0) refl) refl
     | inr ne ↦
-        rw (get_or-set_other h.received rank k true false ne,
-          ne_eqb (get_or p.ranking k 0) (get_or p.ranking rank 0) (λ same. ne (same_position p.ranking k rank d in_list l same)))
-        (of.received k in_list) ] }
+        rw (
+          get_or-set_other h.received rank k true false ne,
+          ne_eqb (get_or p.ranking k 0) (get_or p.ranking rank 0) (λ same. ne (same_position p.ranking k rank d in_list l same)),
+        )
+        (of.received k in_list)
+  ];
+}
 
 count-members : (s : Set) (xs : List ℕ) (flags : List Bool) → length flags ≡ length xs → ((k : ℕ) → k < length xs → get_or flags k false ≡ s (get_or xs k 0))
-  → count (λ b. b) flags ≡ count s xs
+    → count (λ b. b) flags ≡ count s xs
 count-members s [] [] len same = refl
 count-members s [] (b ∷ flags) len same = absurd (omega arith)
 count-members s (x ∷ xs) [] len same = absurd (omega arith)

@@ -22,6 +22,6 @@ pub words_written : (v : Vec ℕ Global) (before new : List ℕ) → length befo
 words_written v before new len same = with_items_is v new (same ∙ len)
 
 pub flags_written : (v : Vec ℕ Global) (before new : List ℕ) (rank : ℕ) → before ≡ v.items → length before ≡ vec_len v → length new ≡ length before
-  → ((k : ℕ) → flag new k ≡ with_one (flag before) rank k) → flag (with_items v new).items ≡ with_one (flag v.items) rank
+    → ((k : ℕ) → flag new k ≡ with_one (flag before) rank k) → flag (with_items v new).items ≡ with_one (flag v.items) rank
 flags_written v before new rank was len same marked =
     ap flag (words_written v before new len same) ∙ fun_ext marked ∙ ap (λ words. with_one (flag words) rank) was

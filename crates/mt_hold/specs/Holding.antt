@@ -27,7 +27,7 @@ abbrev pub numbered_by_rank : Holding → Program
 numbered_by_rank h = record { quota = h.quota; ranking = below (ranks h) }
 
 -- the ranks that are held: the choice from those received
-abbrev pub held : Holding → Set
+unfoldable pub held : Holding → Set
 held h = choice (numbered_by_rank h) (has_received h)
 
 -- the holding of a program that has received nothing

@@ -15,7 +15,7 @@ pub record IsHoldingOf (p : Program) (set : Set) (h : Holding) : Type 0 where
 -- the holding holds a rank exactly where the program chooses the applicant at that rank from the set
 abbrev pub HeldIsChoice : Type 0
 HeldIsChoice = (p : Program) (set : Set) (h : Holding) → IsTrue (is_distinct p.ranking) → IsHoldingOf p set h
-  → (rank : ℕ) → rank < length p.ranking → held h rank ≡ choice p set (slice_index p.ranking rank)
+    → (rank : ℕ) → rank < length p.ranking → held h rank ≡ choice p set (slice_index p.ranking rank)
 
 -- a program that has received nobody has the opened holding
 abbrev pub OpenedIsEmpty : Type 0
@@ -24,7 +24,7 @@ OpenedIsEmpty = (p : Program) → IsHoldingOf p (λ a. false) (opened p.quota (l
 -- a proposal from a rank adds the applicant at that rank to the set
 abbrev pub ReceiveAddsOne : Type 0
 ReceiveAddsOne = (p : Program) (set : Set) (h : Holding) → IsTrue (is_distinct p.ranking) → IsHoldingOf p set h
-  → (rank : ℕ) → rank < length p.ranking → IsHoldingOf p (with_one set (slice_index p.ranking rank)) (receive h rank)
+    → (rank : ℕ) → rank < length p.ranking → IsHoldingOf p (with_one set (slice_index p.ranking rank)) (receive h rank)
 
 -- as many ranks are received as members of the set stand on the program's list
 abbrev pub CountIsMembers : Type 0

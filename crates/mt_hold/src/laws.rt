@@ -5,23 +5,19 @@ ghost use Rattle.mt_hold.specs.Laws.{HeldIsChoice, OpenedIsEmpty, ReceiveAddsOne
 /// received. The list has no applicant twice.
 pub fn held_is_choice()
     ensures { HeldIsChoice }
-{
-}
+{}
 
 /// A holding that was just opened is that of a program that has received nobody.
 pub fn opened_is_empty()
     ensures { OpenedIsEmpty }
-{
-}
+{}
 
 /// A proposal from a rank adds the applicant at that rank to those received, and no other.
 pub fn receive_adds_one()
     ensures { ReceiveAddsOne }
-{
-}
+{}
 
 /// As many ranks are received as there are applicants on the list from whom a proposal was received.
 pub fn count_is_members()
     ensures { CountIsMembers }
-{
-}
+{}

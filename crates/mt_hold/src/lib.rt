@@ -4,5 +4,7 @@
 
 mod holding;
 pub mod laws;
+#[cfg(test)]
+mod tests;
 
 pub use holding::{Hold, Taken};

@@ -14,5 +14,7 @@ returns-clause-inserted c =
       splits = record {
         within = omega (arith, c.partition_point-at.ensures.bound, c.deref.ensures.len);
         before = λ i h. ltb-true _ _ (parts.0 i 0 (omega arith) h);
-        after = λ i low h. ltb-false _ _ (parts.1 i 0 low h) };
-      is = rw c.unwrap.ensures at c.insert.ensures.items }
+        after = λ i low h. ltb-false _ _ (parts.1 i 0 low h);
+      };
+      is = rw c.unwrap.ensures at c.insert.ensures.items;
+    }

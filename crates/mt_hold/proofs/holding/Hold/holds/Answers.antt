@@ -10,5 +10,5 @@ returns c =
     let found = rw c.deref.ensures.value at c.binary_search.ensures.position in
     rw (← c.self.view_is)
     (c.is_ok.ensures.value
-      ∙ found_exactly a.quota a.list_len (flag a.received.items) a.row.items c.args.rank c.binary_search.result c.self.invariant.row found
-      ∙ sym (held-flags a.quota a.list_len a.received.items c.args.rank))
+    ∙ found_exactly a.quota a.list_len (flag a.received.items) a.row.items c.args.rank c.binary_search.result c.self.invariant.row found
+    ∙ sym (held-flags a.quota a.list_len a.received.items c.args.rank))

@@ -18,7 +18,8 @@ invariant_of-result c =
       words = omega (arith, ap length zeros, length-replicate {A = ℕ} m 0, (div_ceil_times n 64 (omega arith)).0, c.div_ceil.ensures);
       counted = sym none;
       row = rw c.in_ok-row.ensures.items (IsRowOf-empty c.args.quota n (flag c.in_ok-received.received.items) none);
-      room = omega (arith, c.min.ensures, c.in_ok-row.ensures.capacity) }
+      room = omega (arith, c.min.ensures, c.in_ok-row.ensures.capacity);
+    }
 
 pub returns : goal.returns
 returns c =

@@ -50,8 +50,9 @@ invariant_of-self c =
       words = omega (arith, c.self.invariant.words, ap length written, c.set_flag.auto.words, ap length c.as_mut_slice.ensures.value);
       counted = omega (arith, ap (λ s. count_below s a.list_len) marked, c.self.invariant.counted, count-with_one_above (flag a.received.items) rank a.list_len out low);
       row = subst (λ s. IsRowOf a.quota a.list_len s c.enter_row.new.row.items) (sym marked)
-        (row_entered a.quota a.list_len (flag a.received.items) a.row.items c.enter_row.new.row.items rank c.enter_row.result c.self.invariant.row low out c.enter_row.ensures.entered);
-      room = omega (arith, c.self.invariant.room, c.enter_row.ensures.capacity) }
+          (row_entered a.quota a.list_len (flag a.received.items) a.row.items c.enter_row.new.row.items rank c.enter_row.result c.self.invariant.row low out c.enter_row.ensures.entered);
+      room = omega (arith, c.self.invariant.room, c.enter_row.ensures.capacity);
+    }
 
 pub returns-clause-received : goal.returns-clause-received
 returns-clause-received c =
@@ -62,7 +63,7 @@ returns-clause-received c =
     let marked = flags_written a.received c.as_mut_slice.result.now c.set_flag.new.words rank c.as_mut_slice.ensures.value len c.set_flag.auto.words c.set_flag.ensures in
     rw (← c.self.view_is)
     (ap {B = Holding} (λ f. record { quota = a.quota; received = f })
-      (flags-with_one a.received.items (with_items a.received c.set_flag.new.words).items a.list_len rank low (λ k. ap (λ s. s k) marked)))
+    (flags-with_one a.received.items (with_items a.received c.set_flag.new.words).items a.list_len rank low (λ k. ap (λ s. s k) marked)))
 
 pub returns-clause-refused : goal.returns-clause-refused
 returns-clause-refused c =

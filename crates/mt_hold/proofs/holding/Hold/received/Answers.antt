@@ -12,5 +12,5 @@ pub returns : goal.returns
 returns c =
     rw (← c.self.view_is)
     (c.is_flagged.ensures ∙ ap (λ words. flag words c.args.rank) c.as_slice.ensures.value
-      ∙ sym (get_or-flags c.self.inside.received.items c.self.inside.list_len c.args.rank
-        (omega (arith, ap ranks c.self.view_is, length-flags c.self.inside.received.items c.self.inside.list_len))))
+    ∙ sym (get_or-flags c.self.inside.received.items c.self.inside.list_len c.args.rank
+    (omega (arith, ap ranks c.self.view_is, length-flags c.self.inside.received.items c.self.inside.list_len))))
