@@ -1,4 +1,4 @@
-ghost use Rattle.std.specs.Prelude.{◌≡◌, ◌↔◌, ◌<◌, IsTrue, IsFalse, length, slice_index};
+ghost use Rattle.std.specs.Prelude.{◌≡◌, ◌↔◌, ◌<◌, ℕ, IsTrue, IsFalse, length, slice_index};
 ghost use Rattle.mt_model.specs.Lists.{Set, with_one, is_distinct};
 ghost use Rattle.mt_model.specs.Market.{Program};
 ghost use Rattle.mt_model.specs.Choice.{choice};
@@ -92,6 +92,18 @@ fn without_a_post_everybody_is_refused(rt: HostRuntime) -> Result<(), Fail> {
     Ok(())
 }
 
+// Proposes the rank to both, where it wasn't received yet, and says whether they gave one reply.
+fn one_reply(hold: &mut Hold, plain: &mut Plain, rank: u32) -> Result<bool, AllocError>
+    requires { rank < ranks hold.old }
+    ensures { ranks hold.new ≡ ranks hold.old }
+{
+    if hold.received(rank) {
+        return Ok(true);
+    }
+    let expected = plain.propose(rank)?;
+    Ok(propose_one(hold, rank) == expected)
+}
+
 // Makes up to 100 proposals from ranks that a seed gives, and says whether both ways of holding agreed on each
 // reply, and in the end on every rank.
 fn both_agree(alloc: Global, quota: u32, list_len: u32, mut seed: u64) -> Result<bool, AllocError>
@@ -107,11 +119,11 @@ fn both_agree(alloc: Global, quota: u32, list_len: u32, mut seed: u64) -> Result
             .wrapping_mul(6_364_136_223_846_793_005)
             .wrapping_add(1_442_695_040_888_963_407);
         let rank = (seed >> 33) as u32 % list_len;
-        if !hold.received(rank) && propose_one(&mut hold, rank) != plain.propose(rank)? {
+        if !one_reply(&mut hold, &mut plain, rank)? {
             return Ok(false);
         }
     }
-    let same = (0..list_len).all(|rank| { hold.holds(rank) == plain.holds(rank) });
+    let same = (0..list_len).all(|rank| hold.holds(rank) == plain.holds(rank));
     Ok(same && hold.count() as usize == plain.ranks.len())
 }
 
