@@ -1,6 +1,6 @@
 -- What a holding by ranks says of a program's own list of applicants.
 use Rattle.std.specs.Prelude.{◌≡◌, ℕ, ◌<◌, length, slice_index, IsTrue, false}
-use Rattle.mt_model.specs.Lists.{Set, with_one, count, is_distinct}
+use Rattle.mt_model.specs.Lists.{Set, has, with_one, count, count_below, is_distinct}
 use Rattle.mt_model.specs.Market.{Program}
 use Rattle.mt_model.specs.Choice.{choice}
 use Rattle.mt_hold.specs.Holding.{Holding, ranks, has_received, received_count, held, opened, receive}
@@ -29,3 +29,8 @@ ReceiveAddsOne = (p : Program) (set : Set) (h : Holding) → IsTrue (is_distinct
 -- as many ranks are received as members of the set stand on the program's list
 abbrev pub CountIsMembers : Type 0
 CountIsMembers = (p : Program) (set : Set) (h : Holding) → IsHoldingOf p set h → received_count h ≡ count set p.ranking
+
+-- as many ranks are received as the set has members, where all members stand on the program's list and are below n
+abbrev pub CountIsSize : Type 0
+CountIsSize = (p : Program) (set : Set) (h : Holding) (n : ℕ) → IsTrue (is_distinct p.ranking) → IsHoldingOf p set h
+    → ((a : ℕ) → IsTrue (set a) → IsTrue (has p.ranking a)) → ((a : ℕ) → IsTrue (set a) → a < n) → received_count h ≡ count_below set n

@@ -19,7 +19,8 @@ pub enum Taken {
 }
 
 /// What a program holds of the proposals that it received, by the ranks of the applicants on its list: the
-/// rank is the position from 0.
+/// rank is the position from 0, so a lower one is wanted more. As in deferred acceptance (Gale and Shapley 1962),
+/// it holds the best of all that it has received, as many as its quota.
 #[derive(Debug, Drop)]
 pub struct Hold {
     quota: u32,
@@ -47,8 +48,8 @@ impl Model for Hold {
 impl Hold {
     ghost use Rattle.mt_hold.specs.Holding.{ranks, has_received, received_count, held, opened, receive};
 
-    /// The holding of a program with a list of `list_len` applicants that has received nothing. All the memory
-    /// that it will ever use is taken here.
+    /// The holding of a program with that quota and a list of `list_len` applicants, which has received nothing.
+    /// It takes all the memory that the holding will ever use, and its one error is that there isn't enough.
     pub fn open(alloc: Global, quota: u32, list_len: u32) -> Result<Hold, AllocError>
         ensures { IfOk result (λ hold. hold ≡ opened quota list_len) }
     {
@@ -63,7 +64,8 @@ impl Hold {
         })
     }
 
-    /// Receives a proposal from a rank, and says whether it is held and whom it displaced.
+    /// Receives a proposal from a rank, holds it where it is among the best `quota` received, and says so, and which
+    /// rank was displaced by it. It takes no memory.
     pub fn propose(&mut self, rank: u32) -> Taken
         requires on_list { rank < ranks self.old }
         requires first_time { IsFalse (has_received self.old rank) }

@@ -1,5 +1,5 @@
 //! What a holding by ranks says of the program's own list of applicants, whatever that list is.
-ghost use Rattle.mt_hold.specs.Laws.{HeldIsChoice, OpenedIsEmpty, ReceiveAddsOne, CountIsMembers};
+ghost use Rattle.mt_hold.specs.Laws.{HeldIsChoice, OpenedIsEmpty, ReceiveAddsOne, CountIsMembers, CountIsSize};
 
 /// A rank is held exactly where the applicant at that rank is in the program's choice from all that it
 /// received. The list has no applicant twice.
@@ -20,4 +20,10 @@ pub fn receive_adds_one()
 /// As many ranks are received as there are applicants on the list from whom a proposal was received.
 pub fn count_is_members()
     ensures { CountIsMembers }
+{}
+
+/// Where only applicants on the list propose, and all are below a number, as many ranks are received as there are
+/// numbers below it from which a proposal was received. The list has no applicant twice.
+pub fn count_is_size()
+    ensures { CountIsSize }
 {}
