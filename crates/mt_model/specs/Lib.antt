@@ -1,2 +1,4 @@
+pub mod Examples
 pub mod Lists
 pub mod Market
+pub mod Registration

@@ -2,6 +2,7 @@
 //! the limits of an input, a match, and in `specs/` the definitions that every contract cites.
 #![tactic(auto)]
 
+pub mod examples;
 mod limits;
 mod matching;
 mod numbers;

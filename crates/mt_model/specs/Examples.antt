@@ -1,0 +1,3 @@
+-- Worked examples, which the definitions are tried on.
+pub mod Registration
+pub mod RegistrationText

@@ -1,0 +1,60 @@
+-- The market of records without a fault: the withdrawn rows dropped, and the others by number, in order of
+-- registration from 0. (This project's own format.)
+use Rattle.std.specs.Prelude.{ℕ, Bool, true, ◌&&◌, List, [], ◌∷◌, map, filter, flat_map, filter_map, Option, Some, None, option_map}
+use Rattle.mt_model.specs.Market.{Market, Program, Partners, Pair}
+use Rattle.mt_model.specs.Registration.Ids.{Bytes, has_id, number_of, numbers_of}
+use Rattle.mt_model.specs.Registration.Records.{Record, ProgramRecord, ApplicantRecord, CoupleRecord, WithdrawRecord, OfProgram, OfCouple, IdPair}
+use Rattle.mt_model.specs.Registration.Rows.{ids_of, applicant_ids, remaining}
+
+-- the ids of a market's programs, applicants and couples, by number
+pub record Names : Type 0 where
+  pub programs : List Bytes
+  pub applicants : List Bytes
+  pub couples : List Bytes
+
+-- a market with its names
+pub record Registered : Type 0 where
+  pub market : Market
+  pub names : Names
+
+abbrev pub names_of : List Record → Names
+names_of records = record { programs = ids_of OfProgram records; applicants = applicant_ids records; couples = ids_of OfCouple records }
+
+-- a list of pairs by numbers: a pair that names a program which is not among these leaves it
+abbrev pub pairs_by_number : List Bytes → List IdPair → List Pair
+pairs_by_number programs pairs = map by_number (filter stands pairs)
+  where
+    known : Option Bytes → Bool
+    known None = true
+    known (Some id) = has_id programs id
+    stands : IdPair → Bool
+    stands p = known p.0 && known p.1
+    by_number : IdPair → Pair
+    by_number p = (option_map (number_of programs) p.0, option_map (number_of programs) p.1)
+
+-- what each record gives to the market, by these names: a program; the list of each applicant that it registers,
+-- which is empty for a member; a couple
+abbrev pub program_in : Names → Record → Option Program
+program_in names (ProgramRecord id quota list) = Some (record { quota = quota; ranking = numbers_of names.applicants list })
+program_in names _ = None
+
+abbrev pub lists_in : Names → Record → List (List ℕ)
+lists_in names (ApplicantRecord id list) = numbers_of names.programs list ∷ []
+lists_in names (CoupleRecord id a b pairs) = [] ∷ [] ∷ []
+lists_in names _ = []
+
+abbrev pub couple_in : Names → Record → Option Partners
+couple_in names (CoupleRecord id a b pairs) =
+    Some (record { first = number_of names.applicants a; second = number_of names.applicants b; pairs = pairs_by_number names.programs pairs })
+couple_in names _ = None
+
+abbrev pub market_by : Names → List Record → Market
+market_by names records =
+    record { programs = filter_map (program_in names) records; lists = flat_map (lists_in names) records; couples = filter_map (couple_in names) records }
+
+-- the market of these records, after their withdrawals
+abbrev pub registered : List Record → Registered
+registered records = by_names (names_of (remaining records))
+  where
+    by_names : Names → Registered
+    by_names names = record { market = market_by names (remaining records); names = names }
