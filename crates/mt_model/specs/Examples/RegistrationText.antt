@@ -20,14 +20,20 @@ abbrev pub fields_of : List ℕ → List Bytes
 fields_of [] = []
 fields_of (b ∷ bs) = between_commas (b ∷ bs)
 
--- the records of these lines
+-- the records of these lines, and of these lines after the one that names a version
 abbrev pub file : List String → List (List Bytes)
 file lines = map (λ line. fields_of (codes line)) lines
+
+abbrev pub file_1 : List String → List (List Bytes)
+file_1 lines = file ("match,1" ∷ lines)
+
+abbrev pub file_2 : List String → List (List Bytes)
+file_2 lines = file ("match,2" ∷ lines)
 
 -- the ids of this line
 abbrev pub ids : String → List Bytes
 ids line = fields_of (codes line)
 
--- refused with this code, in this record, with this id
+-- refused with this code, at this record, with this id
 abbrev pub refused : ℕ → ℕ → String → Result Registered Fault
 refused code row id = Err (record { code = code; row = row; id = codes id })
