@@ -8,7 +8,7 @@ pub mod Numbering
 use Rattle.std.specs.Prelude.{ℕ, List, [], ◌∷◌, map, Option, Some, None, Result, Ok, Err}
 use Rattle.std.specs.Option.{option_map_or}
 use Rattle.mt_model.specs.Registration.Ids.{Bytes}
-use Rattle.mt_model.specs.Registration.Faults.{Fault, fault_at, no_version, nobody}
+use Rattle.mt_model.specs.Registration.Faults.{Fault, charge_alone, fault_at, no_version}
 use Rattle.mt_model.specs.Registration.Records.{Rules, Record, rules_of}
 use Rattle.mt_model.specs.Registration.Passes.{Numbered, numbered_from, first_pass, second_pass, contents, on_result}
 use Rattle.mt_model.specs.Registration.Numbering.{Registered, registered}
@@ -18,8 +18,8 @@ use Rattle.mt_model.specs.Registration.Numbering.{Registered, registered}
 abbrev pub market_under : Rules → List (Numbered (List Bytes)) → Result Registered Fault
 market_under rules rows =
     on_result (first_pass rules [] rows)
-        (λ records. option_map_or (λ fault. Err fault) (second_pass records) (Ok (registered (contents records))))
-        (λ fault. Err fault)
+    (λ records. option_map_or (λ fault. Err fault) (second_pass records) (Ok (registered (contents records))))
+    (λ fault. Err fault)
 
 -- the market of a file of records, or its first fault. A record is a list of fields without its trailing empty
 -- ones. Records are counted from 1; one without a field is passed over. The first that has one names the version
@@ -27,5 +27,5 @@ abbrev pub market_of : List (List Bytes) → Result Registered Fault
 market_of rows = from_first (numbered_from 1 rows)
   where
     from_first : List (Numbered (List Bytes)) → Result Registered Fault
-    from_first [] = Err (fault_at 0 (no_version, nobody))
-    from_first (row ∷ rest) = option_map_or (λ rules. market_under rules rest) (rules_of row.1) (Err (fault_at row.0 (no_version, nobody)))
+    from_first [] = Err (fault_at 0 (charge_alone no_version))
+    from_first (row ∷ rest) = option_map_or (λ rules. market_under rules rest) (rules_of row.1) (Err (fault_at row.0 (charge_alone no_version)))

@@ -23,9 +23,9 @@ crossed_market = record {
   market = record {
     programs = record { quota = 1; ranking = 1 ∷ 0 ∷ [] } ∷ record { quota = 1; ranking = 0 ∷ 1 ∷ [] } ∷ [];
     lists = (0 ∷ 1 ∷ []) ∷ (1 ∷ 0 ∷ []) ∷ [];
-    couples = []
+    couples = [];
   };
-  names = record { programs = ids "P1,P2"; applicants = ids "a1,a2"; couples = [] }
+  names = record { programs = ids "P1,P2"; applicants = ids "a1,a2"; couples = [] };
 }
 
 -- the same without P1
@@ -34,9 +34,9 @@ crossed_without_program = record {
   market = record {
     programs = record { quota = 1; ranking = 0 ∷ 1 ∷ [] } ∷ [];
     lists = (0 ∷ []) ∷ (0 ∷ []) ∷ [];
-    couples = []
+    couples = [];
   };
-  names = record { programs = ids "P2"; applicants = ids "a1,a2"; couples = [] }
+  names = record { programs = ids "P2"; applicants = ids "a1,a2"; couples = [] };
 }
 
 -- a third applicant, whose first choice is wanted by another
@@ -55,9 +55,9 @@ contested_without_applicant = record {
   market = record {
     programs = record { quota = 1; ranking = 0 ∷ 1 ∷ [] } ∷ record { quota = 1; ranking = 0 ∷ [] } ∷ [];
     lists = (1 ∷ 0 ∷ []) ∷ (0 ∷ []) ∷ [];
-    couples = []
+    couples = [];
   };
-  names = record { programs = ids "P1,P2"; applicants = ids "a2,a3"; couples = [] }
+  names = record { programs = ids "P1,P2"; applicants = ids "a2,a3"; couples = [] };
 }
 
 -- a couple that wants one program twice, and a single
@@ -73,9 +73,9 @@ single_between_members_market = record {
   market = record {
     programs = record { quota = 2; ranking = 1 ∷ 0 ∷ 2 ∷ [] } ∷ [];
     lists = (0 ∷ []) ∷ [] ∷ [] ∷ [];
-    couples = record { first = 1; second = 2; pairs = (Some 0, Some 0) ∷ [] } ∷ []
+    couples = record { first = 1; second = 2; pairs = (Some 0, Some 0) ∷ [] } ∷ [];
   };
-  names = record { programs = ids "x"; applicants = ids "s,a,b"; couples = ids "c" }
+  names = record { programs = ids "x"; applicants = ids "s,a,b"; couples = ids "c" };
 }
 
 -- a single and a couple of which one member may stay unplaced
@@ -92,9 +92,9 @@ half_placed_market = record {
   market = record {
     programs = record { quota = 1; ranking = 1 ∷ 0 ∷ [] } ∷ record { quota = 1; ranking = 0 ∷ 2 ∷ [] } ∷ [];
     lists = (0 ∷ 1 ∷ []) ∷ [] ∷ [] ∷ [];
-    couples = record { first = 1; second = 2; pairs = (Some 0, Some 1) ∷ (Some 0, None) ∷ [] } ∷ []
+    couples = record { first = 1; second = 2; pairs = (Some 0, Some 1) ∷ (Some 0, None) ∷ [] } ∷ [];
   };
-  names = record { programs = ids "x,y"; applicants = ids "s,a,b"; couples = ids "c" }
+  names = record { programs = ids "x,y"; applicants = ids "s,a,b"; couples = ids "c" };
 }
 
 -- the same without the couple
@@ -103,9 +103,9 @@ half_placed_without_couple = record {
   market = record {
     programs = record { quota = 1; ranking = 0 ∷ [] } ∷ record { quota = 1; ranking = 0 ∷ [] } ∷ [];
     lists = (0 ∷ 1 ∷ []) ∷ [];
-    couples = []
+    couples = [];
   };
-  names = record { programs = ids "x,y"; applicants = ids "s"; couples = [] }
+  names = record { programs = ids "x,y"; applicants = ids "s"; couples = [] };
 }
 
 -- three couples
@@ -138,30 +138,30 @@ three_couples_without_program = record {
         record { first = 0; second = 1; pairs = (Some 0, Some 1) ∷ [] }
         ∷ record { first = 2; second = 3; pairs = (Some 3, Some 4) ∷ [] }
         ∷ record { first = 4; second = 5; pairs = (Some 1, Some 2) ∷ [] }
-        ∷ []
+        ∷ [];
   };
-  names = record { programs = ids "p,r,t,u,v"; applicants = ids "d1,d2,a1,a2,e1,e2"; couples = ids "D,A,E" }
+  names = record { programs = ids "p,r,t,u,v"; applicants = ids "d1,d2,a1,a2,e1,e2"; couples = ids "D,A,E" };
 }
 
 -- nobody, and nothing to be placed at
 abbrev pub empty_market : Registered
 empty_market = record {
   market = record { programs = []; lists = []; couples = [] };
-  names = record { programs = []; applicants = []; couples = [] }
+  names = record { programs = []; applicants = []; couples = [] };
 }
 
 -- one applicant that lists nothing
 abbrev pub one_applicant : String → Registered
 one_applicant id = record {
   market = record { programs = []; lists = [] ∷ []; couples = [] };
-  names = record { programs = []; applicants = ids id; couples = [] }
+  names = record { programs = []; applicants = ids id; couples = [] };
 }
 
 -- one program that lists nobody, with the largest quota
 abbrev pub largest_program : Registered
 largest_program = record {
   market = record { programs = record { quota = 9999; ranking = [] } ∷ []; lists = []; couples = [] };
-  names = record { programs = ids "P"; applicants = []; couples = [] }
+  names = record { programs = ids "P"; applicants = []; couples = [] };
 }
 
 -- a couple's pairs that send one member alone, A at first and then B
@@ -170,9 +170,9 @@ each_member_alone = record {
   market = record {
     programs = record { quota = 1; ranking = [] } ∷ [];
     lists = [] ∷ [] ∷ [];
-    couples = record { first = 0; second = 1; pairs = (Some 0, None) ∷ (None, Some 0) ∷ [] } ∷ []
+    couples = record { first = 0; second = 1; pairs = (Some 0, None) ∷ (None, Some 0) ∷ [] } ∷ [];
   };
-  names = record { programs = ids "x"; applicants = ids "a,b"; couples = ids "c" }
+  names = record { programs = ids "x"; applicants = ids "a,b"; couples = ids "c" };
 }
 
 -- a program, an applicant and a couple of one name
@@ -187,7 +187,7 @@ one_name =
 abbrev pub one_name_without_couple : Registered
 one_name_without_couple = record {
   market = record { programs = record { quota = 1; ranking = 0 ∷ [] } ∷ []; lists = (0 ∷ []) ∷ []; couples = [] };
-  names = record { programs = ids "n"; applicants = ids "n"; couples = [] }
+  names = record { programs = ids "n"; applicants = ids "n"; couples = [] };
 }
 
 abbrev pub one_name_without_program : Registered
@@ -195,9 +195,9 @@ one_name_without_program = record {
   market = record {
     programs = [];
     lists = [] ∷ [] ∷ [] ∷ [];
-    couples = record { first = 1; second = 2; pairs = [] } ∷ []
+    couples = record { first = 1; second = 2; pairs = [] } ∷ [];
   };
-  names = record { programs = []; applicants = ids "n,a,b"; couples = ids "n" }
+  names = record { programs = []; applicants = ids "n,a,b"; couples = ids "n" };
 }
 
 -- version 2 with limits that a few records pass
@@ -225,7 +225,7 @@ at_the_limits_market = record {
   market = record {
     programs = record { quota = 0; ranking = [] } ∷ record { quota = 0; ranking = [] } ∷ [];
     lists = [] ∷ [] ∷ [] ∷ [];
-    couples = record { first = 1; second = 2; pairs = (Some 0, Some 0) ∷ (Some 1, Some 1) ∷ [] } ∷ []
+    couples = record { first = 1; second = 2; pairs = (Some 0, Some 0) ∷ (Some 1, Some 1) ∷ [] } ∷ [];
   };
-  names = record { programs = ids "x,y"; applicants = ids "s,a,b"; couples = ids "c" }
+  names = record { programs = ids "x,y"; applicants = ids "s,a,b"; couples = ids "c" };
 }

@@ -1,5 +1,5 @@
 -- The faults of a file of records, by their codes. (This project's own format.)
-use Rattle.std.specs.Prelude.{ℕ, List, []}
+use Rattle.std.specs.Prelude.{ℕ, []}
 use Rattle.mt_model.specs.Registration.Ids.{Bytes}
 
 -- the fault of a file: its code, the number of the record at fault (0 where there is none), and the id
@@ -13,13 +13,16 @@ pub record Fault : Type 0 where
 abbrev pub Charge : Type 0
 Charge = ℕ × Bytes
 
--- no id
-abbrev pub nobody : Bytes
-nobody = []
+abbrev pub charge : ℕ → Bytes → Charge
+charge code id = (code, id)
 
--- the fault of record n
+-- a fault that no id is at
+abbrev pub charge_alone : ℕ → Charge
+charge_alone code = charge code []
+
+-- a fault of record n
 abbrev pub fault_at : ℕ → Charge → Fault
-fault_at n charge = record { code = charge.0; row = n; id = charge.1 }
+fault_at n c = record { code = c.0; row = n; id = c.1 }
 
 -- no record has a field, or the first that has one names no version
 abbrev pub no_version : ℕ

@@ -3,7 +3,7 @@
 use Rattle.std.specs.Prelude.{ℕ, Bool, true, ◌&&◌, List, [], ◌∷◌, map, filter, flat_map, filter_map, Option, Some, None, option_map}
 use Rattle.mt_model.specs.Market.{Market, Program, Partners, Pair}
 use Rattle.mt_model.specs.Registration.Ids.{Bytes, has_id, number_of, numbers_of}
-use Rattle.mt_model.specs.Registration.Records.{Record, ProgramRecord, ApplicantRecord, CoupleRecord, WithdrawRecord, OfProgram, OfCouple, IdPair}
+use Rattle.mt_model.specs.Registration.Records.{Record, ProgramRecord, ApplicantRecord, CoupleRecord, OfProgram, OfCouple, IdPair}
 use Rattle.mt_model.specs.Registration.Rows.{ids_of, applicant_ids, remaining}
 
 -- the ids of a market's programs, applicants and couples, by number
@@ -27,8 +27,10 @@ pairs_by_number programs pairs = map by_number (filter stands pairs)
     known : Option Bytes → Bool
     known None = true
     known (Some id) = has_id programs id
+
     stands : IdPair → Bool
     stands p = known p.0 && known p.1
+
     by_number : IdPair → Pair
     by_number p = (option_map (number_of programs) p.0, option_map (number_of programs) p.1)
 

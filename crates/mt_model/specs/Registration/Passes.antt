@@ -1,11 +1,11 @@
 -- The two passes over the records of a file, each of which ends at its first fault. (This project's own format.)
-use Rattle.std.specs.Prelude.{ℕ, ◌+◌, Bool, not, ◌||◌, ◌&&◌, nat_lt, List, [], ◌∷◌, ◌++◌, map, length, find, flat_map, filter_map, Option, Some, None, option_map, option_to_list, Result, Ok, Err, bytes_eq, if◌then◌else◌}
+use Rattle.std.specs.Prelude.{ℕ, ◌+◌, Bool, not, ◌||◌, ◌&&◌, nat_lt, List, [], ◌∷◌, ◌++◌, map, length, find, flat_map, Option, Some, None, option_map, option_to_list, Result, Ok, Err, bytes_eq}
 use Rattle.std.specs.Bool.{then_some}
 use Rattle.std.specs.Option.{option_eq, option_map_or}
 use Rattle.mt_model.specs.declared.limits.Limits.{Limits}
 use Rattle.mt_model.specs.Registration.Ids.{Bytes, has_id, all_differ}
-use Rattle.mt_model.specs.Registration.Faults.{Fault, Charge, fault_at, duplicate_id, duplicate_entry, too_many, unknown_applicant, unknown_program, not_registered}
-use Rattle.mt_model.specs.Registration.Records.{Rules, Record, ProgramRecord, ApplicantRecord, CoupleRecord, WithdrawRecord, Kind, OfProgram, OfApplicant, OfCouple, IdPair, record_of}
+use Rattle.mt_model.specs.Registration.Faults.{Fault, Charge, charge, fault_at, duplicate_id, duplicate_entry, too_many, unknown_applicant, unknown_program, not_registered}
+use Rattle.mt_model.specs.Registration.Records.{Rules, Record, ProgramRecord, ApplicantRecord, CoupleRecord, WithdrawRecord, OfProgram, OfCouple, IdPair, record_of}
 use Rattle.mt_model.specs.Registration.Rows.{id_of, ids_of, withdrawn, applicant_ids, entry_count}
 
 -- a record with its number in the file
@@ -28,17 +28,24 @@ first_of [] = None
 first_of (Some x ∷ rest) = Some x
 first_of (None ∷ rest) = first_of rest
 
+-- the first id of a list that is one of these, and the first that isn't
+abbrev pub first_in : List Bytes → List Bytes → Option Bytes
+first_in ids list = find (has_id ids) list
+
+abbrev pub first_not_in : List Bytes → List Bytes → Option Bytes
+first_not_in ids list = find (λ id. not (has_id ids id)) list
+
 -- the first id of a record, in the order own, A, B, that is registered already
-abbrev pub id_registered_before : List Record → Record → Option Bytes
-id_registered_before before (ProgramRecord id quota list) = find (has_id (ids_of OfProgram before)) (id ∷ [])
-id_registered_before before (ApplicantRecord id list) = find (has_id (applicant_ids before)) (id ∷ [])
-id_registered_before before (CoupleRecord id a b pairs) =
+abbrev pub registered_before : List Record → Record → Option Bytes
+registered_before before (ProgramRecord id quota list) = first_in (ids_of OfProgram before) (id ∷ [])
+registered_before before (ApplicantRecord id list) = first_in (applicant_ids before) (id ∷ [])
+registered_before before (CoupleRecord id a b pairs) =
     first_of
-    ( find (has_id (ids_of OfCouple before)) (id ∷ [])
-    ∷ find (has_id (applicant_ids before)) (a ∷ [])
-    ∷ find (has_id (a ∷ applicant_ids before)) (b ∷ [])
+    (first_in (ids_of OfCouple before) (id ∷ [])
+    ∷ first_in (applicant_ids before) (a ∷ [])
+    ∷ first_in (a ∷ applicant_ids before) (b ∷ [])
     ∷ [])
-id_registered_before before (WithdrawRecord kind id) = None
+registered_before before (WithdrawRecord kind id) = None
 
 -- whether an id or a pair stands twice in a record's list, or what it withdraws was withdrawn before
 abbrev pub says_twice : List Record → Record → Bool
@@ -60,9 +67,9 @@ are_too_many limits records =
 abbrev pub clash : Rules → List Record → Record → Option Charge
 clash rules before r =
     first_of
-    ( option_map (λ id. (duplicate_id, id)) (id_registered_before before r)
-    ∷ then_some (says_twice before r) (duplicate_entry, id_of r)
-    ∷ then_some (are_too_many rules.limits (before ++ r ∷ [])) (too_many, id_of r)
+    (option_map (charge duplicate_id) (registered_before before r)
+    ∷ then_some (says_twice before r) (charge duplicate_entry (id_of r))
+    ∷ then_some (are_too_many rules.limits (before ++ r ∷ [])) (charge too_many (id_of r))
     ∷ [])
 
 -- one of two ways on, by what a result is
@@ -74,27 +81,26 @@ on_result (Err e) f g = g e
 abbrev pub next_record : Rules → List Record → List Bytes → Result Record Charge
 next_record rules before fields =
     on_result (record_of rules fields)
-        (λ r. option_map_or (λ charge. Err charge) (clash rules before r) (Ok r))
-        (λ charge. Err charge)
+    (λ r. option_map_or (λ c. Err c) (clash rules before r) (Ok r))
+    (λ c. Err c)
 
 -- the first pass: the records taken apart, after those before them, or the first fault
 abbrev pub first_pass : Rules → List (Numbered Record) → List (Numbered (List Bytes)) → Result (List (Numbered Record)) Fault
 first_pass rules before [] = Ok before
 first_pass rules before (row ∷ rows) =
     on_result (next_record rules (contents before) row.1)
-        (λ r. first_pass rules (before ++ (row.0, r) ∷ []) rows)
-        (λ charge. Err (fault_at row.0 charge))
+    (λ r. first_pass rules (before ++ (row.0, r) ∷ []) rows)
+    (λ c. Err (fault_at row.0 c))
 
 -- the first id that a record names and that none of all the records registers
 abbrev pub unknown_id : List Record → Record → Option Charge
-unknown_id all (ProgramRecord id quota list) = option_map (λ a. (unknown_applicant, a)) (find (λ a. not (has_id (applicant_ids all) a)) list)
-unknown_id all (ApplicantRecord id list) = option_map (λ p. (unknown_program, p)) (find (λ p. not (has_id (ids_of OfProgram all) p)) list)
-unknown_id all (CoupleRecord id a b pairs) =
-    option_map (λ p. (unknown_program, p)) (find (λ p. not (has_id (ids_of OfProgram all) p)) (flat_map programs_of pairs))
+unknown_id all (ProgramRecord id quota list) = option_map (charge unknown_applicant) (first_not_in (applicant_ids all) list)
+unknown_id all (ApplicantRecord id list) = option_map (charge unknown_program) (first_not_in (ids_of OfProgram all) list)
+unknown_id all (CoupleRecord id a b pairs) = option_map (charge unknown_program) (first_not_in (ids_of OfProgram all) (flat_map named pairs))
   where
-    programs_of : IdPair → List Bytes
-    programs_of p = option_to_list p.0 ++ option_to_list p.1
-unknown_id all (WithdrawRecord kind id) = option_map (λ i. (not_registered, i)) (find (λ i. not (has_id (ids_of kind all) i)) (id ∷ []))
+    named : IdPair → List Bytes
+    named p = option_to_list p.0 ++ option_to_list p.1
+unknown_id all (WithdrawRecord kind id) = option_map (charge not_registered) (first_not_in (ids_of kind all) (id ∷ []))
 
 -- the second pass: the first record that names an unknown id
 abbrev pub second_pass : List (Numbered Record) → Option Fault

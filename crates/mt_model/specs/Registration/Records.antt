@@ -4,7 +4,7 @@ use Rattle.std.specs.List.{list_all}
 use Rattle.mt_model.specs.declared.limits.Limits.{Limits}
 use Rattle.mt_model.specs.declared.limits.TheConstants.{LIMITS, LIMITS_2}
 use Rattle.mt_model.specs.Registration.Ids.{Bytes, is_dash, is_id, quota_of}
-use Rattle.mt_model.specs.Registration.Faults.{Charge, nobody, unknown_kind, field_count, bad_id, bad_quota}
+use Rattle.mt_model.specs.Registration.Faults.{Charge, charge, charge_alone, unknown_kind, field_count, bad_id, bad_quota}
 
 -- what a version of the format allows: the limits, whether rows may be withdrawn, and whether one of the
 -- two ids of a pair may be `-`
@@ -63,10 +63,10 @@ two_by_two (x ∷ y ∷ fields) = option_map (λ ps. (x, y) ∷ ps) (two_by_two 
 
 -- whether two fields are a pair: two ids, or where the version allows it one id and one `-`
 abbrev pub is_pair : Rules → Bytes × Bytes → Bool
-is_pair rules p = (id p.0 && id p.1) || (rules.half_pairs && ((id p.0 && is_dash p.1) || (is_dash p.0 && id p.1)))
+is_pair rules p = (an_id p.0 && an_id p.1) || (rules.half_pairs && ((an_id p.0 && is_dash p.1) || (is_dash p.0 && an_id p.1)))
   where
-    id : Bytes → Bool
-    id field = is_id rules.limits.id_bytes field
+    an_id : Bytes → Bool
+    an_id field = is_id rules.limits.id_bytes field
 
 abbrev pub pair_of : Bytes × Bytes → IdPair
 pair_of p = (place p.0, place p.1)
@@ -77,13 +77,13 @@ pair_of p = (place p.0, place p.1)
 -- a record by the fields after its first, for each kind of record: its faults in the order of their codes
 abbrev pub program_record : Rules → List Bytes → Result Record Charge
 program_record rules (id ∷ quota ∷ list) =
-    if are_ids rules (id ∷ list) then ok_or (option_map (λ n. ProgramRecord id n list) (quota_of quota)) (bad_quota, id)
-    else Err (bad_id, nobody)
-program_record rules _ = Err (field_count, nobody)
+    if are_ids rules (id ∷ list) then ok_or (option_map (λ n. ProgramRecord id n list) (quota_of quota)) (charge bad_quota id)
+    else Err (charge_alone bad_id)
+program_record rules _ = Err (charge_alone field_count)
 
 abbrev pub applicant_record : Rules → List Bytes → Result Record Charge
-applicant_record rules (id ∷ list) = if are_ids rules (id ∷ list) then Ok (ApplicantRecord id list) else Err (bad_id, nobody)
-applicant_record rules [] = Err (field_count, nobody)
+applicant_record rules (id ∷ list) = if are_ids rules (id ∷ list) then Ok (ApplicantRecord id list) else Err (charge_alone bad_id)
+applicant_record rules [] = Err (charge_alone field_count)
 
 abbrev pub couple_record : Rules → List Bytes → Result Record Charge
 couple_record rules (id ∷ a ∷ b ∷ fields) = with_pairs (two_by_two fields)
@@ -91,26 +91,26 @@ couple_record rules (id ∷ a ∷ b ∷ fields) = with_pairs (two_by_two fields)
     with_pairs : Option (List (Bytes × Bytes)) → Result Record Charge
     with_pairs (Some pairs) =
         if are_ids rules (id ∷ a ∷ b ∷ []) && list_all (is_pair rules) pairs then Ok (CoupleRecord id a b (map pair_of pairs))
-        else Err (bad_id, nobody)
-    with_pairs None = Err (field_count, nobody)
-couple_record rules _ = Err (field_count, nobody)
+        else Err (charge_alone bad_id)
+    with_pairs None = Err (charge_alone field_count)
+couple_record rules _ = Err (charge_alone field_count)
 
 abbrev pub withdraw_record : Rules → List Bytes → Result Record Charge
-withdraw_record rules [] = Err (field_count, nobody)
+withdraw_record rules [] = Err (charge_alone field_count)
 withdraw_record rules (word ∷ fields) = with_kind (kind_of word) fields
   where
     with_kind : Option Kind → List Bytes → Result Record Charge
-    with_kind None fields = Err (unknown_kind, nobody)
-    with_kind (Some kind) (id ∷ []) = if are_ids rules (id ∷ []) then Ok (WithdrawRecord kind id) else Err (bad_id, nobody)
-    with_kind (Some kind) _ = Err (field_count, nobody)
+    with_kind None fields = Err (charge_alone unknown_kind)
+    with_kind (Some kind) (id ∷ []) = if are_ids rules (id ∷ []) then Ok (WithdrawRecord kind id) else Err (charge_alone bad_id)
+    with_kind (Some kind) _ = Err (charge_alone field_count)
 
--- a record by all its fields
+-- a record by all its fields, of which there is one at least
 abbrev pub record_of : Rules → List Bytes → Result Record Charge
-record_of rules [] = Err (unknown_kind, nobody)
+record_of rules [] = Err (charge_alone unknown_kind)
 record_of rules (word ∷ fields) = if rules.withdrawals && bytes_eq word (codes "withdraw") then withdraw_record rules fields else with_kind (kind_of word)
   where
     with_kind : Option Kind → Result Record Charge
     with_kind (Some OfProgram) = program_record rules fields
     with_kind (Some OfApplicant) = applicant_record rules fields
     with_kind (Some OfCouple) = couple_record rules fields
-    with_kind None = Err (unknown_kind, nobody)
+    with_kind None = Err (charge_alone unknown_kind)

@@ -1,5 +1,5 @@
 -- What a list of records registers, and what it withdraws. (This project's own format.)
-use Rattle.std.specs.Prelude.{ℕ, ◌*◌, Bool, true, false, not, List, [], ◌∷◌, filter, length, sum_by, Option, Some, None, flat_map, filter_map, if◌then◌else◌}
+use Rattle.std.specs.Prelude.{ℕ, ◌*◌, Bool, false, not, List, [], ◌∷◌, filter, length, sum_by, Option, Some, None, flat_map, filter_map}
 use Rattle.mt_model.specs.Registration.Ids.{Bytes, has_id}
 use Rattle.mt_model.specs.Registration.Records.{Record, ProgramRecord, ApplicantRecord, CoupleRecord, WithdrawRecord, Kind, OfProgram, OfApplicant, OfCouple}
 

@@ -13,16 +13,14 @@ pub fn accepted_files()
     ensures no_couple { market_of (file_1 crossed) ≡ Ok crossed_market }
     ensures no_couple_as_version_2 { market_of (file_2 crossed) ≡ Ok crossed_market }
     ensures couple { market_of (file_1 single_between_members) ≡ Ok single_between_members_market }
-{
-}
+{}
 
 /// A record without a field is passed over but counted, and zeros may lead a quota.
 pub fn padded_files()
     ensures accepted { market_of (file ("match,1" ∷ "program,P1,1,a2,a1" ∷ "program,P2,01,a1,a2" ∷ "" ∷ "applicant,a1,P1,P2" ∷ "applicant,a2,P2,P1" ∷ [])) ≡ Ok crossed_market }
     ensures blank_before_the_version { market_of (file ("" ∷ "match,1" ∷ crossed)) ≡ Ok crossed_market }
     ensures counted { market_of (file ("" ∷ "match,1" ∷ "" ∷ "post,P" ∷ [])) ≡ refused unknown_kind 4 "" }
-{
-}
+{}
 
 /// The longest id and the largest quota are taken, and what is one more is refused.
 pub fn largest_values()
@@ -32,8 +30,7 @@ pub fn largest_values()
     ensures longer_id_of_version_2 { market_of (file_2 ("applicant,abcdefghijklmnopqrstuvwxyz012345abcdefghijklmnopqrstuvwxyz0123456" ∷ [])) ≡ refused bad_id 2 "" }
     ensures largest_quota { market_of (file_1 ("program,P,9999" ∷ [])) ≡ Ok largest_program }
     ensures larger_quota { market_of (file_1 ("program,P,10000" ∷ [])) ≡ refused bad_quota 2 "P" }
-{
-}
+{}
 
 /// The first record that has a field names the version.
 pub fn files_of_no_version()
@@ -43,8 +40,7 @@ pub fn files_of_no_version()
     ensures no_number { market_of (file ("" ∷ "match" ∷ crossed)) ≡ refused no_version 2 "" }
     ensures one_field_more { market_of (file ("match,1,1" ∷ crossed)) ≡ refused no_version 1 "" }
     ensures before_other_faults { market_of (file ("match,01" ∷ "post,P" ∷ [])) ≡ refused no_version 1 "" }
-{
-}
+{}
 
 /// A record is a program, an applicant or a couple, and in version 2 also a withdrawal of one of these.
 pub fn records_of_no_kind()
@@ -52,8 +48,7 @@ pub fn records_of_no_kind()
     ensures no_withdrawal_in_version_1 { market_of (file_1 (crossed ++ "withdraw,program,P1" ∷ [])) ≡ refused unknown_kind 6 "" }
     ensures withdrawal_of_no_kind { market_of (file_2 (crossed ++ "withdraw,post,P1" ∷ [])) ≡ refused unknown_kind 6 "" }
     ensures before_the_field_count { market_of (file_2 ("withdraw,post" ∷ [])) ≡ refused unknown_kind 2 "" }
-{
-}
+{}
 
 /// Each kind of record has its own number of fields.
 pub fn records_of_wrong_length()
@@ -65,8 +60,7 @@ pub fn records_of_wrong_length()
     ensures withdrawal_of_nothing { market_of (file_2 ("withdraw" ∷ [])) ≡ refused field_count 2 "" }
     ensures withdrawal_of_two { market_of (file_2 ("withdraw,program,P1,P2" ∷ [])) ≡ refused field_count 2 "" }
     ensures before_the_ids { market_of (file_1 ("couple,c,a,b,x!" ∷ [])) ≡ refused field_count 2 "" }
-{
-}
+{}
 
 /// Ids are of ASCII letters, digits and `.`, `_`, `:`, `-`, and none is the single `-`.
 pub fn fields_that_are_no_ids()
@@ -79,8 +73,7 @@ pub fn fields_that_are_no_ids()
     ensures dash_in_a_list { market_of (file_2 ("applicant,a,-" ∷ [])) ≡ refused bad_id 2 "" }
     ensures withdrawal { market_of (file_2 ("withdraw,program,-" ∷ [])) ≡ refused bad_id 2 "" }
     ensures before_the_quota { market_of (file_1 ("program,P,x,b!" ∷ [])) ≡ refused bad_id 2 "" }
-{
-}
+{}
 
 /// A quota is one to four digits.
 pub fn fields_that_are_no_quotas()
@@ -89,8 +82,7 @@ pub fn fields_that_are_no_quotas()
     ensures empty { market_of (file_1 ("program,P,,a" ∷ [])) ≡ refused bad_quota 2 "P" }
     ensures five_digits { market_of (file_1 ("program,P,00001" ∷ [])) ≡ refused bad_quota 2 "P" }
     ensures before_the_second_id { market_of (file_1 ("program,P,1" ∷ "program,P,x" ∷ [])) ≡ refused bad_quota 3 "P" }
-{
-}
+{}
 
 /// An id is registered once in its name space. A couple's members are applicants.
 pub fn ids_registered_twice()
@@ -102,8 +94,7 @@ pub fn ids_registered_twice()
     ensures then_the_first_member { market_of (file_1 ("couple,c,a,b" ∷ "couple,d,b,b" ∷ [])) ≡ refused duplicate_id 3 "b" }
     ensures withdrawn { market_of (file_2 ("applicant,a" ∷ "withdraw,applicant,a" ∷ "applicant,a" ∷ [])) ≡ refused duplicate_id 4 "a" }
     ensures before_the_list { market_of (file_1 ("program,P,1" ∷ "program,P,1,a,a" ∷ [])) ≡ refused duplicate_id 3 "P" }
-{
-}
+{}
 
 /// No id stands twice in a list, no pair twice in a couple's, and nothing is withdrawn twice.
 pub fn entries_that_stand_twice()
@@ -112,8 +103,7 @@ pub fn entries_that_stand_twice()
     ensures pair { market_of (file_1 ("couple,c,a,b,x,y,y,x,x,y" ∷ [])) ≡ refused duplicate_entry 2 "c" }
     ensures withdrawal { market_of (file_2 (crossed ++ "withdraw,program,P1" ∷ "withdraw,program,P1" ∷ [])) ≡ refused duplicate_entry 7 "P1" }
     ensures before_the_limits { market_of_small ("program,P,1,a,b,c,d,a" ∷ []) ≡ refused duplicate_entry 2 "P" }
-{
-}
+{}
 
 /// The counts of applicants, programs, couples and list entries have limits. What is withdrawn counts,
 /// and so does a `-` in a pair.
@@ -125,16 +115,14 @@ pub fn counts_above_the_limits()
     ensures entries { market_of_small ("applicant,s,x" ∷ "couple,c,a,b,x,x,y,-" ∷ []) ≡ refused too_many 3 "c" }
     ensures withdrawn { market_of_small ("program,p1,0" ∷ "program,p2,0" ∷ "withdraw,program,p1" ∷ "program,p3,0" ∷ []) ≡ refused too_many 5 "p3" }
     ensures before_unknown_ids { market_of_small ("applicant,s,x,y,z,u,v" ∷ []) ≡ refused too_many 2 "s" }
-{
-}
+{}
 
 /// A program lists applicants that some record registers.
 pub fn unknown_applicants()
     ensures listed { market_of (file_1 ("program,P,1,z" ∷ [])) ≡ refused unknown_applicant 2 "z" }
     ensures first_in_the_list { market_of (file_1 ("program,P,1,a,z,y" ∷ "applicant,a" ∷ [])) ≡ refused unknown_applicant 2 "z" }
     ensures record_before_an_unknown_program { market_of (file_1 ("program,P,1,z" ∷ "applicant,a,Q" ∷ [])) ≡ refused unknown_applicant 2 "z" }
-{
-}
+{}
 
 /// Applicants and couples list programs that some record registers.
 pub fn unknown_programs()
@@ -142,8 +130,7 @@ pub fn unknown_programs()
     ensures last_line_cut { market_of (file_1 ("program,P1,1,a2,a1" ∷ "program,P2,1,a1,a2" ∷ "applicant,a1,P1,P2" ∷ "applicant,a2,P2,P" ∷ [])) ≡ refused unknown_program 5 "P" }
     ensures in_a_pair { market_of (file_2 ("program,x,1" ∷ "couple,c,a,b,x,-,-,y,z,x" ∷ [])) ≡ refused unknown_program 3 "y" }
     ensures first_pass_before_it { market_of (file_1 ("applicant,a,Q" ∷ "program,P,1,b!" ∷ [])) ≡ refused bad_id 3 "" }
-{
-}
+{}
 
 /// A withdrawal names a record of its kind, which may stand before or after it.
 pub fn withdrawals_of_nothing()
@@ -151,24 +138,21 @@ pub fn withdrawals_of_nothing()
     ensures other_kind { market_of (file_2 (crossed ++ "withdraw,couple,P1" ∷ [])) ≡ refused not_registered 6 "P1" }
     ensures record_before_an_unknown_program { market_of (file_2 ("withdraw,program,Q" ∷ "applicant,a,R" ∷ [])) ≡ refused not_registered 2 "Q" }
     ensures record_after_an_unknown_program { market_of (file_2 ("applicant,a,R" ∷ "withdraw,program,Q" ∷ [])) ≡ refused unknown_program 2 "R" }
-{
-}
+{}
 
 /// Of two records at fault the first is named, whatever the codes.
 pub fn first_record_at_fault()
     ensures quota_before_kind { market_of (file_1 ("program,P,x" ∷ "post,P" ∷ [])) ≡ refused bad_quota 2 "P" }
     ensures id_before_field_count { market_of (file_1 ("applicant,a!" ∷ "applicant" ∷ [])) ≡ refused bad_id 2 "" }
     ensures second_id_before_kind { market_of (file_1 ("program,P,1" ∷ "program,P,1" ∷ "post,P" ∷ [])) ≡ refused duplicate_id 3 "P" }
-{
-}
+{}
 
 /// One of the two ids of a pair may be `-` in version 2; `x,-` is another pair than `-,x`.
 pub fn one_member_unplaced()
     ensures second { market_of (file_2 half_placed) ≡ Ok half_placed_market }
     ensures each { market_of (file_2 ("program,x,1" ∷ "couple,c,a,b,x,-,-,x" ∷ [])) ≡ Ok each_member_alone }
     ensures twice { market_of (file_2 ("program,x,1" ∷ "couple,c,a,b,x,-,-,x,x,-" ∷ [])) ≡ refused duplicate_entry 3 "c" }
-{
-}
+{}
 
 /// The withdrawn rows leave the market, and their ids all lists; the others move up.
 pub fn withdrawn_rows()
@@ -176,19 +160,16 @@ pub fn withdrawn_rows()
     ensures applicant { market_of (file_2 ("withdraw,applicant,a1" ∷ contested)) ≡ Ok contested_without_applicant }
     ensures couple_with_its_members { market_of (file_2 (half_placed ++ "withdraw,couple,c" ∷ [])) ≡ Ok half_placed_without_couple }
     ensures everything { market_of (file_2 ("withdraw,program,x" ∷ "withdraw,couple,c" ∷ single_between_members ++ "withdraw,applicant,s" ∷ [])) ≡ Ok empty_market }
-{
-}
+{}
 
 /// A pair that names a withdrawn program leaves its list.
 pub fn pairs_of_withdrawn_programs()
     ensures both_named { market_of (file_2 (three_couples ++ "withdraw,program,q" ∷ [])) ≡ Ok three_couples_without_program }
     ensures one_named { market_of (file_2 ("program,x,1" ∷ "program,y,1" ∷ "couple,c,a,b,y,-,x,-,y,x,-,x" ∷ "withdraw,program,y" ∷ [])) ≡ Ok each_member_alone }
-{
-}
+{}
 
 /// Programs, applicants and couples are three name spaces.
 pub fn one_name_three_times()
     ensures couple_withdrawn { market_of (file_2 (one_name ++ "withdraw,couple,n" ∷ [])) ≡ Ok one_name_without_couple }
     ensures program_withdrawn { market_of (file_2 (one_name ++ "withdraw,program,n" ∷ [])) ≡ Ok one_name_without_program }
-{
-}
+{}
