@@ -1,0 +1,3 @@
+mod Scratch
+pub mod SinglesFacts
+pub mod FlatListsFacts

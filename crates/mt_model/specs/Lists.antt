@@ -41,10 +41,14 @@ without set a b = not (b == a) && set b
 abbrev pub below : ℕ → List ℕ
 below n = range_with_len 0 n
 
+-- the sum of a function over the numbers below n
+abbrev pub total_below : (ℕ → ℕ) → ℕ → ℕ
+total_below f zero = 0
+total_below f (suc n) = f n + total_below f n
+
 -- how many numbers below n are in a set
 abbrev pub count_below : Set → ℕ → ℕ
-count_below set zero = 0
-count_below set (suc n) = (if set n then 1 else 0) + count_below set n
+count_below set n = total_below (λ a. if set a then 1 else 0) n
 
 -- whether no number stands twice on a list
 abbrev pub is_distinct : List ℕ → Bool

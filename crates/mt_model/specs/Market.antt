@@ -2,9 +2,8 @@
 -- programs, and couples with rank order lists of pairs. Applicants, programs and couples are numbers, by
 -- order of registration from 0. (Gale and Shapley 1962; couples as in Roth and Peranson 1999, with pairs
 -- of which one member may be unplaced by this project's own rule.)
-use Rattle.std.specs.Prelude.{ℕ, ◌+◌, Bool, true, false, not, ◌||◌, ◌&&◌, ◌==◌, List, [], ◌∷◌, ◌++◌, map, filter, length, Option, Some, None, slice_index_or, if◌then◌else◌}
-use Rattle.std.specs.List.{list_any, flat_map, find, position_from}
-use Rattle.mt_model.specs.Lists.{has, below, Set}
+use Rattle.std.specs.Prelude.{ℕ, ◌+◌, Bool, true, ◌||◌, ◌==◌, List, [], ◌∷◌, map, filter, length, Option, slice_index_or, if◌then◌else◌}
+use Rattle.mt_model.specs.Lists.{has, below, total_below}
 use Rattle.mt_model.specs.declared.numbers.Agent.{Agent}
 use Rattle.mt_model.specs.declared.numbers.Agent.TheVariants.{Single, Couple}
 
@@ -54,6 +53,10 @@ singles_market m = record m { couples = [] }
 abbrev pub live : Market → ℕ → List ℕ
 live m a = filter (λ p. has (program_of m p).ranking a) (list_of m a)
 
+-- how many live entries there are in all
+abbrev pub live_entries : Market → ℕ
+live_entries m = total_below (λ a. length (live m a)) (applicants m)
+
 -- whether an applicant is one of these two
 abbrev pub is_member : Partners → ℕ → Bool
 is_member c a = (c.first == a) || (c.second == a)
@@ -82,3 +85,14 @@ leads m a = leads_agent (agent_of m a)
 -- every agent once: by the number of the single or of the couple's first member
 abbrev pub agents : Market → List Agent
 agents m = map (agent_of m) (filter (leads m) (below (applicants m)))
+
+-- the ids of programs, applicants and couples, by number
+pub record Names : Type 0 where
+  pub programs : List (List ℕ)
+  pub applicants : List (List ℕ)
+  pub couples : List (List ℕ)
+
+-- a market with its ids, which matter for the text alone
+pub record Registered : Type 0 where
+  pub market : Market
+  pub names : Names

@@ -11,7 +11,8 @@ use Rattle.mt_model.specs.Registration.Ids.{Bytes}
 use Rattle.mt_model.specs.Registration.Faults.{Fault, charge_alone, fault_at, no_version}
 use Rattle.mt_model.specs.Registration.Records.{Rules, Record, rules_of}
 use Rattle.mt_model.specs.Registration.Passes.{Numbered, numbered_from, first_pass, second_pass, contents, on_result}
-use Rattle.mt_model.specs.Registration.Numbering.{Registered, registered}
+use Rattle.mt_model.specs.Registration.Numbering.{registered}
+use Rattle.mt_model.specs.Market.{Registered}
 
 -- the market of the records after the first, by the rules of a version: the first pass, then where that found no
 -- fault the second, and then the market

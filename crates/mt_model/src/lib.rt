@@ -3,10 +3,16 @@
 #![tactic(auto)]
 
 pub mod examples;
+mod events;
+mod flat_lists;
 mod limits;
 mod matching;
 mod numbers;
+mod verdict;
 
+pub use events::{Event, Reply};
+pub use flat_lists::FlatLists;
 pub use limits::{LIMITS, LIMITS_2, Limits};
 pub use matching::{Match, Places};
 pub use numbers::{Agent, AppNo, CoupleNo, ProgNo};
+pub use verdict::{Blocker, Verdict};

@@ -3,7 +3,7 @@ use Rattle.std.specs.Prelude.{ℕ, ◌==◌, List, [], ◌∷◌, map, Result, E
 use Prim.Native.String.{String}
 use Rattle.mt_model.specs.Registration.Ids.{Bytes}
 use Rattle.mt_model.specs.Registration.Faults.{Fault}
-use Rattle.mt_model.specs.Registration.Numbering.{Registered}
+use Rattle.mt_model.specs.Market.{Market, Registered}
 
 -- a byte put before the first of these fields
 abbrev pub onto_first : ℕ → List Bytes → List Bytes
@@ -30,9 +30,12 @@ file_1 lines = file ("match,1" ∷ lines)
 abbrev pub file_2 : List String → List (List Bytes)
 file_2 lines = file ("match,2" ∷ lines)
 
--- the ids of this line
-abbrev pub ids : String → List Bytes
-ids line = fields_of (codes line)
+-- a market with the ids of its programs, of its applicants and of its couples
+abbrev pub named : Market → String → String → String → Registered
+named m programs applicants couples = record { market = m; names = record { programs = ids programs; applicants = ids applicants; couples = ids couples } }
+  where
+    ids : String → List Bytes
+    ids line = fields_of (codes line)
 
 -- refused with this code, at this record, with this id
 abbrev pub refused : ℕ → ℕ → String → Result Registered Fault

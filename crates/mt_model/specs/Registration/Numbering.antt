@@ -1,22 +1,12 @@
 -- The market of records without a fault: the withdrawn rows dropped, and the others by number, in order of
 -- registration from 0. (This project's own format.)
 use Rattle.std.specs.Prelude.{ℕ, Bool, true, ◌&&◌, List, [], ◌∷◌, map, filter, flat_map, filter_map, Option, Some, None, option_map}
-use Rattle.mt_model.specs.Market.{Market, Program, Partners, Pair}
+use Rattle.mt_model.specs.Market.{Market, Program, Partners, Pair, Names, Registered}
 use Rattle.mt_model.specs.Registration.Ids.{Bytes, has_id, number_of, numbers_of}
 use Rattle.mt_model.specs.Registration.Records.{Record, ProgramRecord, ApplicantRecord, CoupleRecord, OfProgram, OfCouple, IdPair}
 use Rattle.mt_model.specs.Registration.Rows.{ids_of, applicant_ids, remaining}
 
--- the ids of a market's programs, applicants and couples, by number
-pub record Names : Type 0 where
-  pub programs : List Bytes
-  pub applicants : List Bytes
-  pub couples : List Bytes
-
--- a market with its names
-pub record Registered : Type 0 where
-  pub market : Market
-  pub names : Names
-
+-- the ids that records register, each in order of registration
 abbrev pub names_of : List Record → Names
 names_of records = record { programs = ids_of OfProgram records; applicants = applicant_ids records; couples = ids_of OfCouple records }
 

@@ -1,0 +1,74 @@
+-- A match, who is where in it, and where an option sends an agent's members.
+use Rattle.std.specs.Prelude.{ℕ, Bool, true, false, not, ◌&&◌, ◌==◌, List, [], ◌∷◌, map, Option, Some, None, slice_index_or, slice_set, if◌then◌else◌, is_some}
+use Rattle.std.specs.List.{list_all}
+use Rattle.mt_model.specs.Lists.{Set, until, count}
+use Rattle.mt_model.specs.Market.{Market, Pair, list_of, couple_of, members}
+use Rattle.mt_model.specs.declared.numbers.Agent.{Agent}
+use Rattle.mt_model.specs.declared.numbers.Agent.TheVariants.{Single, Couple}
+
+-- a match: for each applicant, by number, the program where it is placed, or none
+abbrev pub Places : Type 0
+Places = List (Option ℕ)
+
+-- where an applicant is placed
+abbrev pub place_of : Places → ℕ → Option ℕ
+place_of places a = slice_index_or places a None
+
+-- whether a place is this program
+abbrev pub is_program : ℕ → Option ℕ → Bool
+is_program p None = false
+is_program p (Some q) = q == p
+
+-- the applicants that are placed at a program
+abbrev pub at : Places → ℕ → Set
+at places p a = is_program p (place_of places a)
+
+-- how many applicants are placed at a program
+abbrev pub filled : Places → ℕ → ℕ
+filled places p = count (is_program p) places
+
+-- whether two places are the same
+abbrev pub is_same_place : Option ℕ → Option ℕ → Bool
+is_same_place None None = true
+is_same_place None (Some q) = false
+is_same_place (Some p) None = false
+is_same_place (Some p) (Some q) = p == q
+
+-- what an option asks for: a place for each member of the agent
+abbrev pub Placement : Type 0
+Placement = List (ℕ × Option ℕ)
+
+-- the placement of a single at a program, and of a couple at a pair
+abbrev pub single_placement : ℕ → ℕ → Placement
+single_placement a p = (a, Some p) ∷ []
+
+abbrev pub couple_placement : ℕ → ℕ → Pair → Placement
+couple_placement a b pair = (a, pair.0) ∷ (b, pair.1) ∷ []
+
+-- the options of an agent, the most wanted first
+abbrev pub options : Market → Agent → List Placement
+options m (Single a) = map (single_placement a) (list_of m a)
+options m (Couple c) = map (couple_placement (couple_of m c).first (couple_of m c).second) (couple_of m c).pairs
+
+-- the match with the members of a placement moved to where it sends them, the others as they were
+abbrev pub send : Placement → Places → Places
+send [] places = places
+send (s ∷ sent) places = send sent (slice_set places s.0 s.1)
+
+-- whether a match places each member where the placement sends it
+abbrev pub holds : Places → Placement → Bool
+holds places sent = list_all (λ s. is_same_place (place_of places s.0) s.1) sent
+
+-- the match with these applicants unplaced
+abbrev pub unplaced : List ℕ → Places → Places
+unplaced [] places = places
+unplaced (a ∷ xs) places = unplaced xs (slice_set places a None)
+
+-- whether none of these applicants is placed
+abbrev pub none_placed : Places → List ℕ → Bool
+none_placed places xs = list_all (λ a. not (is_some (place_of places a))) xs
+
+-- an agent's options that are better than what it has: those earlier on its list. Where it has none of
+-- them, all are better
+abbrev pub better : Market → Places → Agent → List Placement
+better m places agent = until (holds places) (options m agent)

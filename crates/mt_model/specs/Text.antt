@@ -1,0 +1,75 @@
+-- What the program writes: the text of a match, or one refusal line. This project's own format.
+use Rattle.std.specs.Prelude.{ℕ, ◌+◌, ◌-◌, Bool, not, ◌==◌, List, [], ◌∷◌, ◌++◌, map, length, Option, Some, None, is_some, slice_index_or, codes, decimal, if◌then◌else◌}
+use Rattle.std.specs.List.{flat_map, join_with_byte, list_any}
+use Rattle.mt_model.specs.Lists.{below, count, total_below}
+use Rattle.mt_model.specs.Market.{Market, Names, applicants, program_of}
+use Rattle.mt_model.specs.Matching.{Places, place_of, filled}
+
+-- a line: its fields with commas between them, and a line feed
+abbrev pub line : List (List ℕ) → List ℕ
+line fields = join_with_byte 44 fields ++ 10 ∷ []
+
+-- the id of a number
+abbrev pub name_of : List (List ℕ) → ℕ → List ℕ
+name_of ids n = slice_index_or ids n []
+
+-- a place is a program's id, or a dash
+abbrev pub place_text : Names → Option ℕ → List ℕ
+place_text names None = codes "-"
+place_text names (Some p) = name_of names.programs p
+
+abbrev pub applicant_line : Names → Places → ℕ → List ℕ
+applicant_line names places a = line (codes "applicant" ∷ name_of names.applicants a ∷ place_text names (place_of places a) ∷ [])
+
+-- a program's quota, how many are placed there, and how many proposals it received from singles
+abbrev pub program_line : Market → Names → Places → List ℕ → ℕ → List ℕ
+program_line m names places received p =
+    line (codes "program" ∷ name_of names.programs p ∷ decimal (program_of m p).quota ∷ decimal (filled places p) ∷ decimal (slice_index_or received p 0) ∷ [])
+
+-- how many applicants have no place
+abbrev pub unmatched : Places → ℕ
+unmatched places = count (λ place. not (is_some place)) places
+
+-- how many posts there are, and how many of them are filled
+abbrev pub positions : Market → ℕ
+positions m = total_below (λ p. (program_of m p).quota) (length m.programs)
+
+abbrev pub all_filled : Market → Places → ℕ
+all_filled m places = total_below (filled places) (length m.programs)
+
+abbrev pub totals_line : Market → Places → List ℕ
+totals_line m places =
+    line (codes "totals" ∷ decimal (applicants m) ∷ decimal (unmatched places) ∷ decimal (positions m) ∷ decimal (positions m - all_filled m places) ∷ [])
+
+-- the text of a match: every applicant, every program, and the totals
+abbrev pub published : Market → Names → Places → List ℕ → List ℕ
+published m names places received =
+    line (codes "match" ∷ codes "1" ∷ codes "published" ∷ [])
+    ++ flat_map (applicant_line names places) (below (applicants m))
+    ++ flat_map (program_line m names places received) (below (length m.programs))
+    ++ totals_line m places
+
+-- the codes of the refusals, each with its name
+abbrev pub refusals : List (ℕ × List ℕ)
+refusals =
+    (10, codes "TooLarge") ∷ (11, codes "TwoMarks") ∷ (12, codes "NoVersion") ∷ (13, codes "UnknownKind") ∷ (14, codes "FieldCount")
+    ∷ (15, codes "BadId") ∷ (16, codes "BadQuota") ∷ (17, codes "DuplicateId") ∷ (18, codes "DuplicateEntry") ∷ (19, codes "TooMany")
+    ∷ (20, codes "UnknownApplicant") ∷ (21, codes "UnknownProgram") ∷ (22, codes "NotRegistered")
+    ∷ (30, codes "OutOfMemory") ∷ (31, codes "ReadFault") ∷ (40, codes "NotStable") ∷ (41, codes "BudgetSpent") ∷ []
+
+abbrev pub is_known_code : ℕ → Bool
+is_known_code code = list_any (λ r. r.0 == code) refusals
+
+abbrev pub name_among : List (ℕ × List ℕ) → ℕ → List ℕ
+name_among [] code = []
+name_among (r ∷ rs) code = if r.0 == code then r.1 else name_among rs code
+
+-- an id that is absent is a dash
+abbrev pub id_text : List ℕ → List ℕ
+id_text [] = codes "-"
+id_text (b ∷ bytes) = b ∷ bytes
+
+-- the one line of a refusal: its code and name, the record's number, and the id at fault
+abbrev pub refused : ℕ → ℕ → List ℕ → List ℕ
+refused code row id =
+    line (codes "match" ∷ codes "1" ∷ codes "refused" ∷ decimal code ∷ name_among refusals code ∷ decimal row ∷ id_text id ∷ [])
