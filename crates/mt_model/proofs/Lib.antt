@@ -1,3 +1,4 @@
 mod Scratch
 pub mod SinglesFacts
 pub mod FlatListsFacts
+pub mod VersionFacts

@@ -2,8 +2,8 @@
 //! the limits of an input, a match, and in `specs/` the definitions that every contract cites.
 #![tactic(auto)]
 
-pub mod examples;
 mod events;
+pub mod examples;
 mod flat_lists;
 mod limits;
 mod matching;

@@ -85,32 +85,35 @@ abbrev pub applicant_record : Rules → List Bytes → Result Record Charge
 applicant_record rules (id ∷ list) = if are_ids rules (id ∷ list) then Ok (ApplicantRecord id list) else Err (charge_alone bad_id)
 applicant_record rules [] = Err (charge_alone field_count)
 
+abbrev pub couple_by_pairs : Rules → Bytes → Bytes → Bytes → Option (List (Bytes × Bytes)) → Result Record Charge
+couple_by_pairs rules id a b None = Err (charge_alone field_count)
+couple_by_pairs rules id a b (Some pairs) =
+    if are_ids rules (id ∷ a ∷ b ∷ []) && list_all (is_pair rules) pairs then Ok (CoupleRecord id a b (map pair_of pairs))
+    else Err (charge_alone bad_id)
+
 abbrev pub couple_record : Rules → List Bytes → Result Record Charge
-couple_record rules (id ∷ a ∷ b ∷ fields) = with_pairs (two_by_two fields)
-  where
-    with_pairs : Option (List (Bytes × Bytes)) → Result Record Charge
-    with_pairs (Some pairs) =
-        if are_ids rules (id ∷ a ∷ b ∷ []) && list_all (is_pair rules) pairs then Ok (CoupleRecord id a b (map pair_of pairs))
-        else Err (charge_alone bad_id)
-    with_pairs None = Err (charge_alone field_count)
+couple_record rules (id ∷ a ∷ b ∷ fields) = couple_by_pairs rules id a b (two_by_two fields)
 couple_record rules _ = Err (charge_alone field_count)
+
+abbrev pub withdraw_by_kind : Rules → Option Kind → List Bytes → Result Record Charge
+withdraw_by_kind rules None fields = Err (charge_alone unknown_kind)
+withdraw_by_kind rules (Some kind) (id ∷ []) = if are_ids rules (id ∷ []) then Ok (WithdrawRecord kind id) else Err (charge_alone bad_id)
+withdraw_by_kind rules (Some kind) _ = Err (charge_alone field_count)
 
 abbrev pub withdraw_record : Rules → List Bytes → Result Record Charge
 withdraw_record rules [] = Err (charge_alone field_count)
-withdraw_record rules (word ∷ fields) = with_kind (kind_of word) fields
-  where
-    with_kind : Option Kind → List Bytes → Result Record Charge
-    with_kind None fields = Err (charge_alone unknown_kind)
-    with_kind (Some kind) (id ∷ []) = if are_ids rules (id ∷ []) then Ok (WithdrawRecord kind id) else Err (charge_alone bad_id)
-    with_kind (Some kind) _ = Err (charge_alone field_count)
+withdraw_record rules (word ∷ fields) = withdraw_by_kind rules (kind_of word) fields
+
+-- a record by its first field: a withdrawal, or else one of a kind
+abbrev pub record_by_kind : Rules → Option Kind → List Bytes → Result Record Charge
+record_by_kind rules (Some OfProgram) fields = program_record rules fields
+record_by_kind rules (Some OfApplicant) fields = applicant_record rules fields
+record_by_kind rules (Some OfCouple) fields = couple_record rules fields
+record_by_kind rules None fields = Err (charge_alone unknown_kind)
 
 -- a record by all its fields, of which there is one at least
 abbrev pub record_of : Rules → List Bytes → Result Record Charge
 record_of rules [] = Err (charge_alone unknown_kind)
-record_of rules (word ∷ fields) = if rules.withdrawals && bytes_eq word (codes "withdraw") then withdraw_record rules fields else with_kind (kind_of word)
-  where
-    with_kind : Option Kind → Result Record Charge
-    with_kind (Some OfProgram) = program_record rules fields
-    with_kind (Some OfApplicant) = applicant_record rules fields
-    with_kind (Some OfCouple) = couple_record rules fields
-    with_kind None = Err (charge_alone unknown_kind)
+record_of rules (word ∷ fields) =
+    if rules.withdrawals && bytes_eq word (codes "withdraw") then withdraw_record rules fields
+    else record_by_kind rules (kind_of word) fields
