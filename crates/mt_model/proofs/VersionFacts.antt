@@ -1,4 +1,4 @@
--- What is taken as version 1 is taken as version 2, and as the same market.
+-- What is accepted as version 1 is accepted as version 2, and as the same market.
 use Rattle.std.proofs.Common.{◌≡◌, ℕ, ◌+◌, Bool, true, false, ◌&&◌, ◌||◌, List, [], ◌∷◌, ◌++◌, length, Option, Some, None, Result, Ok, Err, refl, ◌∙◌, arith, ap, nat_le, nat_lt, zero, suc, add-zero}
 use Rattle.std.specs.Prelude.{if◌then◌else◌, codes, bytes_eq, replicate}
 use Rattle.std.specs.List.{list_all}

@@ -1,4 +1,4 @@
--- What holds of every file that is taken.
+-- What holds of every file that is accepted.
 use Rattle.std.specs.Prelude.{◌≡◌, ℕ, ◌+◌, ◌*◌, ◌≤◌, Bool, true, ◌||◌, ◌&&◌, ◌==◌, nat_lt, List, [], ◌∷◌, ◌++◌, length, replicate, sum_by, Option, Some, None, is_some, Ok, codes, bytes_eq, IsTrue}
 use Rattle.std.specs.List.{list_all}
 use Rattle.std.specs.Option.{option_eq}
@@ -43,14 +43,14 @@ pub record IsRegistration (r : Registered) : Type 0 where
   pub few_entries : list_entries r.market ≤ LIMITS_2.entries
   pub quotas : (p : ℕ) → (program_of r.market p).quota ≤ LIMITS_2.quota
 
-abbrev pub TakenIsRegistration : Type 0
-TakenIsRegistration = (rows : List (List Bytes)) (r : Registered) → market_of rows ≡ Ok r → IsRegistration r
+abbrev pub AcceptedIsRegistration : Type 0
+AcceptedIsRegistration = (rows : List (List Bytes)) (r : Registered) → market_of rows ≡ Ok r → IsRegistration r
 
 -- a file of this version: some records without a field, the one that names the version, and then others
 abbrev pub file_of : Bytes → ℕ → List (List Bytes) → List (List Bytes)
 file_of version blanks rows = replicate blanks [] ++ (codes "match" ∷ version ∷ []) ∷ rows
 
--- what is taken as version 1 is taken as version 2, and as the same market
+-- what is accepted as version 1 is accepted as version 2, and as the same market
 abbrev pub VersionsAgree : Type 0
 VersionsAgree =
     (blanks : ℕ) (rows : List (List Bytes)) (r : Registered)

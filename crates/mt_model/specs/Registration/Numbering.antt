@@ -10,19 +10,20 @@ use Rattle.mt_model.specs.Registration.Rows.{ids_of, applicant_ids, remaining}
 abbrev pub names_of : List Record → Names
 names_of records = record { programs = ids_of OfProgram records; applicants = applicant_ids records; couples = ids_of OfCouple records }
 
--- a list of pairs by numbers: a pair that names a program which is not among these leaves it
-abbrev pub pairs_by_number : List Bytes → List IdPair → List Pair
-pairs_by_number programs pairs = map by_number (filter stands pairs)
+-- whether a pair names none but these programs, and a pair by their numbers
+abbrev pub names_only : List Bytes → IdPair → Bool
+names_only programs p = is_one p.0 && is_one p.1
   where
-    known : Option Bytes → Bool
-    known None = true
-    known (Some id) = has_id programs id
+    is_one : Option Bytes → Bool
+    is_one None = true
+    is_one (Some id) = has_id programs id
 
-    stands : IdPair → Bool
-    stands p = known p.0 && known p.1
+abbrev pub pair_by_number : List Bytes → IdPair → Pair
+pair_by_number programs p = (option_map (number_of programs) p.0, option_map (number_of programs) p.1)
 
-    by_number : IdPair → Pair
-    by_number p = (option_map (number_of programs) p.0, option_map (number_of programs) p.1)
+-- a list of pairs by numbers: a pair that names another program leaves it
+abbrev pub pairs_by_number : List Bytes → List IdPair → List Pair
+pairs_by_number programs pairs = map (pair_by_number programs) (filter (names_only programs) pairs)
 
 -- what each record gives to the market, by these names: a program; the list of each applicant that it registers,
 -- which is empty for a member; a couple

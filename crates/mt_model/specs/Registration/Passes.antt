@@ -47,14 +47,15 @@ registered_before before (CoupleRecord id a b pairs) =
     ∷ [])
 registered_before before (WithdrawRecord kind id) = None
 
+-- whether two pairs name the same for each member
+abbrev pub is_same_pair : IdPair → IdPair → Bool
+is_same_pair p q = option_eq bytes_eq p.0 q.0 && option_eq bytes_eq p.1 q.1
+
 -- whether an id or a pair stands twice in a record's list, or what it withdraws was withdrawn before
 abbrev pub says_twice : List Record → Record → Bool
 says_twice before (ProgramRecord id quota list) = not (all_differ bytes_eq list)
 says_twice before (ApplicantRecord id list) = not (all_differ bytes_eq list)
-says_twice before (CoupleRecord id a b pairs) = not (all_differ same_pair pairs)
-  where
-    same_pair : IdPair → IdPair → Bool
-    same_pair p q = option_eq bytes_eq p.0 q.0 && option_eq bytes_eq p.1 q.1
+says_twice before (CoupleRecord id a b pairs) = not (all_differ is_same_pair pairs)
 says_twice before (WithdrawRecord kind id) = has_id (withdrawn kind before) id
 
 -- whether the records are more than a version takes
