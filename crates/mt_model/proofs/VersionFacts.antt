@@ -133,7 +133,7 @@ first_pass_of_either before (row ∷ rows) rs h =
     go g (Ok r) f k = rw (f r refl) (g r k)
     go g (Err e) f k = cc
 
-market_of_either : (rows : List (Numbered (List Bytes))) (r : Registered) → market_under version_1 rows ≡ Ok r → market_under version_2 rows ≡ Ok r
+pub market_of_either : (rows : List (Numbered (List Bytes))) (r : Registered) → market_under version_1 rows ≡ Ok r → market_under version_2 rows ≡ Ok r
 market_of_either rows r h = go (first_pass version_1 [] rows) (first_pass_of_either [] rows) h
   where
     rest : List (Numbered Record) → Result Registered Fault

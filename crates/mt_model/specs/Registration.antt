@@ -23,11 +23,12 @@ market_under rules rows =
     (λ records. option_map_or (λ fault. Err fault) (second_pass records) (Ok (registered (contents records))))
     (λ fault. Err fault)
 
+-- the same of all the records that have a field: the first of them names the version
+abbrev pub market_of_numbered : List (Numbered (List Bytes)) → Result Registered Fault
+market_of_numbered [] = Err (fault_at 0 (charge_alone no_version))
+market_of_numbered (row ∷ rows) = option_map_or (λ rules. market_under rules rows) (rules_of row.1) (Err (fault_at row.0 (charge_alone no_version)))
+
 -- the market of a file of records, or its first fault. A record is a list of fields without its trailing empty
--- ones. Records are counted from 1; one without a field is passed over. The first that has one names the version
+-- ones. Records are counted from 1, and one without a field is passed over
 abbrev pub market_of : List (List Bytes) → Result Registered Fault
-market_of rows = from_first (numbered_from 1 rows)
-  where
-    from_first : List (Numbered (List Bytes)) → Result Registered Fault
-    from_first [] = Err (fault_at 0 (charge_alone no_version))
-    from_first (row ∷ rest) = option_map_or (λ rules. market_under rules rest) (rules_of row.1) (Err (fault_at row.0 (charge_alone no_version)))
+market_of rows = market_of_numbered (numbered_from 1 rows)

@@ -8,16 +8,16 @@ use Rattle.mt_model.specs.WellFormed.{IsWellFormed}
 use Rattle.mt_model.specs.Registration.{market_of}
 use Rattle.mt_model.specs.Registration.Ids.{Bytes, is_id, all_differ}
 
--- a pair of programs below n and none, not none twice
-abbrev pub is_pair_below : ℕ → Pair → Bool
-is_pair_below n p = (is_some p.0 || is_some p.1) && below_n p.0 && below_n p.1
-  where
-    below_n : Option ℕ → Bool
-    below_n None = true
-    below_n (Some x) = nat_lt x n
+-- a pair of programs below n: one of the two may be none
+abbrev pub is_none_or_below : ℕ → Option ℕ → Bool
+is_none_or_below n None = true
+is_none_or_below n (Some x) = nat_lt x n
 
-abbrev pub is_same_pair : Pair → Pair → Bool
-is_same_pair p q = option_eq ◌==◌ p.0 q.0 && option_eq ◌==◌ p.1 q.1
+abbrev pub is_pair_below : ℕ → Pair → Bool
+is_pair_below n p = (is_some p.0 || is_some p.1) && is_none_or_below n p.0 && is_none_or_below n p.1
+
+abbrev pub are_same_places : Pair → Pair → Bool
+are_same_places p q = option_eq ◌==◌ p.0 q.0 && option_eq ◌==◌ p.1 q.1
 
 -- names that fit so many rows: an id for each, and none twice
 pub record AreNames (n : ℕ) (ids : List Bytes) : Type 0 where
@@ -33,7 +33,7 @@ list_entries m = sum_by (λ p. length (Program.ranking p)) m.programs + sum_by l
 pub record IsRegistration (r : Registered) : Type 0 where
   pub well_formed : IsWellFormed r.market
   pub pairs_below : (c : ℕ) → IsTrue (list_all (is_pair_below (length r.market.programs)) (couple_of r.market c).pairs)
-  pub pairs_differ : (c : ℕ) → IsTrue (all_differ is_same_pair (couple_of r.market c).pairs)
+  pub pairs_differ : (c : ℕ) → IsTrue (all_differ are_same_places (couple_of r.market c).pairs)
   pub program_names : AreNames (length r.market.programs) r.names.programs
   pub applicant_names : AreNames (applicants r.market) r.names.applicants
   pub couple_names : AreNames (length r.market.couples) r.names.couples

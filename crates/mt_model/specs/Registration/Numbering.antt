@@ -11,12 +11,12 @@ abbrev pub names_of : List Record → Names
 names_of records = record { programs = ids_of OfProgram records; applicants = applicant_ids records; couples = ids_of OfCouple records }
 
 -- whether a pair names none but these programs, and a pair by their numbers
+abbrev pub is_none_or_in : List Bytes → Option Bytes → Bool
+is_none_or_in programs None = true
+is_none_or_in programs (Some id) = has_id programs id
+
 abbrev pub names_only : List Bytes → IdPair → Bool
-names_only programs p = is_one p.0 && is_one p.1
-  where
-    is_one : Option Bytes → Bool
-    is_one None = true
-    is_one (Some id) = has_id programs id
+names_only programs p = is_none_or_in programs p.0 && is_none_or_in programs p.1
 
 abbrev pub pair_by_number : List Bytes → IdPair → Pair
 pair_by_number programs p = (option_map (number_of programs) p.0, option_map (number_of programs) p.1)
