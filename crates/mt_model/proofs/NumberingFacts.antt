@@ -15,7 +15,7 @@ use Rattle.mt_model.specs.Registration.Records.{Record, ProgramRecord, Applicant
 use Rattle.mt_model.specs.Registration.Rows.{ids_of, applicant_ids, own_id, applicants_of, entries_of, entry_count}
 use Rattle.mt_model.specs.Registration.Passes.{are_too_many, is_same_pair}
 use Rattle.mt_model.specs.Registration.Numbering.{is_none_or_in, names_only, pair_by_number, names_of, program_in, lists_in, couple_in, market_by, pairs_by_number}
-use Rattle.mt_model.specs.Registration.Laws.{is_none_or_below, is_pair_below, are_same_places, list_entries}
+use Rattle.mt_model.specs.Laws.Registration.{is_none_or_below, is_pair_below, are_same_places, list_entries}
 use Rattle.std.specs.Option.{option_eq, option_map}
 use Rattle.mt_model.proofs.IdFacts.{Within, within_nil, within_cons, within_more, number_below, same_number, numbers_distinct, numbers_below, numbers_short, differ_parts, neither, not_true, or_left, or_right, same_id, is_same, itself}
 

@@ -22,7 +22,7 @@ use Rattle.mt_model.specs.Registration.Records.{Rules, Record, ProgramRecord, Ap
 use Rattle.mt_model.specs.Registration.Rows.{ids_of, applicant_ids, own_id, applicants_of, remaining}
 use Rattle.mt_model.specs.Registration.Passes.{Numbered, numbered_from, contents, first_of, on_result, are_too_many, is_same_pair, says_twice, registered_before, clash, next_record, first_pass, second_pass}
 use Rattle.mt_model.specs.Registration.Numbering.{registered}
-use Rattle.mt_model.specs.Registration.Laws.{IsRegistration, AcceptedIsRegistration}
+use Rattle.mt_model.specs.Laws.Registration.{IsRegistration, AcceptedIsRegistration}
 use Rattle.mt_model.proofs.IdFacts.{differ_push, neither, not_true}
 use Rattle.mt_model.proofs.NumberingFacts.{AreSound, sound_within, is_good, names_one, both}
 use Rattle.mt_model.proofs.RegisteredFacts.{registered_sound}

@@ -15,7 +15,7 @@ use Rattle.mt_model.specs.Registration.Records.{Record, ProgramRecord, Applicant
 use Rattle.mt_model.specs.Registration.Rows.{ids_of, applicant_ids, entries_of, entry_count}
 use Rattle.mt_model.specs.Registration.Passes.{is_same_pair}
 use Rattle.mt_model.specs.Registration.Numbering.{names_of, program_in, lists_in, couple_in, market_by, pairs_by_number}
-use Rattle.mt_model.specs.Registration.Laws.{is_pair_below, are_same_places, list_entries, AreNames, IsRegistration}
+use Rattle.mt_model.specs.Laws.Registration.{is_pair_below, are_same_places, list_entries, AreNames, IsRegistration}
 use Rattle.mt_model.proofs.IdFacts.{number_below, same_number, numbers_distinct, numbers_below, numbers_short, differ_parts, neither, not_true, or_left, or_right, same_id, is_same, itself}
 use Rattle.mt_model.proofs.NumberingFacts.{AreSound, is_good, names_one, at_each, both, pairs_below, pairs_differ, pairs_short, not_above}
 

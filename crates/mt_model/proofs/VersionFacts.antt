@@ -14,7 +14,7 @@ use Rattle.mt_model.specs.Registration.Rows.{entry_count, applicant_ids, ids_of}
 use Rattle.mt_model.specs.Registration.Numbering.{registered}
 use Rattle.std.specs.Bool.{then_some}
 use Rattle.std.specs.Option.{option_map_or}
-use Rattle.mt_model.specs.Registration.Laws.{VersionsAgree}
+use Rattle.mt_model.specs.Laws.Registration.{VersionsAgree}
 
 -- what a test that holds gives, one that it implies gives too
 weaker : (s t : Bool) (o : Result Record Charge) (e : Charge) (r : Record) → (s ≡ true → t ≡ true) → (if s then o else Err e) ≡ Ok r → (if t then o else Err e) ≡ Ok r

@@ -3,6 +3,7 @@ pub mod Choice
 pub mod Examples
 pub mod FlatLists
 pub mod Floor
+pub mod Laws
 pub mod Lists
 pub mod Market
 pub mod Matching

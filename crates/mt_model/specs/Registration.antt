@@ -5,7 +5,6 @@ pub mod Records
 pub mod Rows
 pub mod Passes
 pub mod Numbering
-pub mod Laws
 use Rattle.std.specs.Prelude.{ℕ, List, [], ◌∷◌, map, Option, Some, None, Result, Ok, Err}
 use Rattle.std.specs.Option.{option_map_or}
 use Rattle.mt_model.specs.Registration.Ids.{Bytes}

@@ -5,6 +5,7 @@
 mod events;
 pub mod examples;
 mod flat_lists;
+pub mod laws;
 mod limits;
 mod matching;
 mod numbers;

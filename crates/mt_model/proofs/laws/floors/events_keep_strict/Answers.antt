@@ -1,0 +1,5 @@
+use Rattle.mt_model.proofs.laws.floors.events_keep_strict.Goals as goal
+use Rattle.mt_model.proofs.FloorEvents.{events_keep_strict_lem}
+
+pub returns : goal.returns
+returns c = events_keep_strict_lem

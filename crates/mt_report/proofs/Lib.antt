@@ -1,0 +1,3 @@
+pub mod AppendsFacts
+pub mod LineFacts
+pub mod CountFacts

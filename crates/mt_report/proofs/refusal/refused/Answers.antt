@@ -1,0 +1,12 @@
+use Rattle.std.proofs.Common.{◌≡◌, [], ◌++◌, ◌∙◌}
+use Rattle.std.specs.Prelude.{codes, decimal}
+use Rattle.mt_model.specs.Text.{name_among, refusals, id_text}
+use Rattle.mt_report.proofs.LineFacts.{refusal_pieces}
+use Rattle.mt_report.proofs.refusal.refused.Goals as goal
+
+pub returns : goal.returns
+returns c =
+    let pushed : c.push-9.new.self
+    ≡ (((((((([] ++ codes "match,1,refused,") ++ decimal c.args.code) ++ codes ",") ++ name_among refusals c.args.code) ++ codes ",") ++ decimal c.args.row) ++ codes ",")
+    ++ id_text c.args.id.now) ++ codes "\n" = cc in
+    pushed ∙ refusal_pieces (decimal c.args.code) (name_among refusals c.args.code) (decimal c.args.row) (id_text c.args.id.now)

@@ -1,0 +1,107 @@
+ghost use Rattle.std.specs.Prelude.{◌≡◌, ◌+◌, ◌≤◌, ◌++◌, [], length, IsTrue};
+ghost use Rattle.mt_model.specs.Text.{id_text, is_known_code, name_among, refusals, refused as refused_text};
+
+use itoa::Buffer;
+use std::marker::Model;
+
+/// The line of a refusal, without memory of its own.
+#[derive(Debug, Drop)]
+pub struct RefusalLine {
+    bytes: [u8; 128],
+    len: usize,
+}
+
+impl Model for RefusalLine {
+    ghost use Rattle.std.specs.Prelude.{ℕ, List, take, ◌≤◌};
+
+    ghost Value = { List ℕ };
+
+    ghost view = { λ l. take l.len l.bytes };
+
+    ghost invariant = { λ l. l.len ≤ 128 };
+}
+
+impl RefusalLine {
+    /// The bytes of the line, its line feed included.
+    pub fn as_bytes(&self) -> &[u8]
+        ensures { result.now ≡ self.now }
+    {
+        &self.bytes[..self.len]
+    }
+
+    fn new() -> Self
+        ensures { result ≡ [] }
+    {
+        RefusalLine {
+            bytes: [0; 128],
+            len: 0,
+        }
+    }
+
+    /// Adds bytes at the end.
+    fn push(&mut self, text: &[u8])
+        requires { length self.old + length text.now ≤ 128 }
+        ensures { self.new ≡ self.old ++ text.now }
+    {
+        let end = self.len + text.len();
+        self.bytes[self.len..end].copy_from_slice(text);
+        self.len = end;
+    }
+}
+
+/// The name of a refusal's code.
+fn code_name(code: u16) -> &'static [u8]
+    requires { IsTrue (is_known_code code) }
+    ensures name { result.now ≡ name_among refusals code }
+    ensures short { length result.now ≤ 16 }
+{
+    match code {
+        10 => b"TooLarge",
+        11 => b"TwoMarks",
+        12 => b"NoVersion",
+        13 => b"UnknownKind",
+        14 => b"FieldCount",
+        15 => b"BadId",
+        16 => b"BadQuota",
+        17 => b"DuplicateId",
+        18 => b"DuplicateEntry",
+        19 => b"TooMany",
+        20 => b"UnknownApplicant",
+        21 => b"UnknownProgram",
+        22 => b"NotRegistered",
+        30 => b"OutOfMemory",
+        31 => b"ReadFault",
+        40 => b"NotStable",
+        41 => b"BudgetSpent",
+        _ => unreachable!(),
+    }
+}
+
+/// An id, or `-` where it is absent.
+fn id_or_dash(id: &[u8]) -> &[u8]
+    ensures text { result.now ≡ id_text id.now }
+    ensures short { length id.now ≤ 64 → length result.now ≤ 64 }
+{
+    if id.is_empty() { b"-" } else { id }
+}
+
+/// The one line of a refusal: its code and name, the number of the record at fault, 0 where there is none,
+/// and the id at fault. An empty id is absent, and prints as `-`.
+pub fn refused(code: u16, row: u64, id: &[u8]) -> RefusalLine
+    requires known { IsTrue (is_known_code code) }
+    requires short { length id.now ≤ 64 }
+    ensures { result ≡ refused_text code row id.now }
+{
+    let mut digits = Buffer::new();
+    let mut line = RefusalLine::new();
+    line.push(b"match,1,refused,");
+    line.push(digits.format(code).as_bytes());
+    line.push(b",");
+    line.push(code_name(code));
+    line.push(b",");
+    line.push(digits.format(row).as_bytes());
+    line.push(b",");
+    line.push(id_or_dash(id));
+    line.push(b"\n");
+    line
+}

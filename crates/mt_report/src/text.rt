@@ -1,0 +1,216 @@
+ghost use Rattle.std.specs.Prelude.{◌≡◌, ℕ, ◌+◌, ◌*◌, ◌<◌, ◌≤◌, ◌^◌, ◌++◌, [], ◌∷◌, map, length, codes, decimal, None, slice_index, IfOk, IsTrue, OnOk};
+ghost use Rattle.std.specs.List.{flat_map};
+ghost use Rattle.mt_model.specs.Lists.{below, total_below};
+ghost use Rattle.mt_model.specs.Market.{applicants, program_of};
+ghost use Rattle.mt_model.specs.Matching.{at, filled, place_of};
+ghost use Rattle.mt_model.specs.Text.{all_filled, applicant_line, line, place_text, positions, program_line, published as published_text, totals_line, unmatched};
+ghost use Rattle.mt_report.specs.Places.{ArePlaces};
+
+use itoa::Buffer;
+use mt_model::{AppNo, Match, ProgNo};
+use mt_roster::Roster;
+use std::alloc::{AllocError, Global};
+
+/// Adds a comma and a number.
+fn push_number(text: &mut Vec<u8>, number: u64) -> Result<(), AllocError>
+    ensures ok { OnOk result (text.new.items ≡ text.old.items ++ codes "," ++ decimal number) }
+{
+    let mut digits = Buffer::new();
+    text.push(b',')?;
+    text.extend_from_slice(digits.format(number).as_bytes())
+}
+
+/// Adds the line of an applicant.
+fn push_applicant(text: &mut Vec<u8>, id: &[u8], place: &[u8]) -> Result<(), AllocError>
+    ensures ok { OnOk result (text.new.items ≡ text.old.items ++ line (codes "applicant" ∷ id.now ∷ place.now ∷ [])) }
+{
+    text.extend_from_slice(b"applicant,")?;
+    text.extend_from_slice(id)?;
+    text.push(b',')?;
+    text.extend_from_slice(place)?;
+    text.push(b'\n')?;
+    Ok(())
+}
+
+/// Adds the line of a program.
+fn push_program(
+    text: &mut Vec<u8>,
+    id: &[u8],
+    quota: u32,
+    filled: u32,
+    received: u32,
+) -> Result<(), AllocError>
+    ensures ok { OnOk result (text.new.items ≡ text.old.items ++ line (codes "program" ∷ id.now ∷ decimal quota ∷ decimal filled ∷ decimal received ∷ [])) }
+{
+    text.extend_from_slice(b"program,")?;
+    text.extend_from_slice(id)?;
+    push_number(text, u64::from(quota))?;
+    push_number(text, u64::from(filled))?;
+    push_number(text, u64::from(received))?;
+    text.push(b'\n')?;
+    Ok(())
+}
+
+/// The id of a place, or `-`.
+fn place_id<'a>(roster: &'a Roster, matched: &Match, applicant: AppNo) -> &'a [u8]
+    requires { ArePlaces roster.now.market matched.now.places }
+    ensures { result.now ≡ place_text roster.now.names (place_of matched.now.places applicant) }
+{
+    match matched.place(applicant) {
+        Some(program) => roster.program_id(program),
+        None => b"-",
+    }
+}
+
+/// Adds the lines of all applicants.
+fn push_applicants(text: &mut Vec<u8>, roster: &Roster, matched: &Match) -> Result<(), AllocError>
+    requires { ArePlaces roster.now.market matched.now.places }
+    ensures ok { OnOk result (text.new.items ≡ text.old.items ++ flat_map (applicant_line roster.now.names matched.now.places) (below (applicants roster.now.market))) }
+{
+    for number in 0..roster.applicants() {
+        let applicant = AppNo(number);
+        let place = place_id(roster, matched, applicant);
+        push_applicant(text, roster.applicant_id(applicant), place)?;
+    }
+    Ok(())
+}
+
+/// Adds the lines of all programs, with how many are placed at each and how many proposals each received.
+fn push_programs(
+    text: &mut Vec<u8>,
+    roster: &Roster,
+    matched: &Match,
+    counts: &[u32],
+    received: &[u32],
+) -> Result<(), AllocError>
+    requires counts { counts.now ≡ map (filled matched.now.places) (below (length roster.now.market.programs)) }
+    requires received { length received.now ≡ length roster.now.market.programs }
+    ensures ok { OnOk result (text.new.items ≡ text.old.items ++ flat_map (program_line roster.now.market roster.now.names matched.now.places received.now) (below (length roster.now.market.programs))) }
+{
+    for number in 0..roster.programs() {
+        let program = ProgNo(number);
+        let at = program.index();
+        push_program(
+            text,
+            roster.program_id(program),
+            roster.quota(program),
+            counts[at],
+            received[at],
+        )?;
+    }
+    Ok(())
+}
+
+/// How many applicants are placed at each program.
+fn filled_counts(
+    alloc: Global,
+    programs: usize,
+    places: &[Option<ProgNo>],
+) -> Result<Vec<u32>, AllocError>
+    requires within { (a p : ℕ) → IsTrue (at places.now p a) → p < programs }
+    requires few { length places.now < 2 ^ 32 }
+    ensures { IfOk result (λ v. v.items ≡ map (filled places.now) (below programs)) }
+{
+    let mut counts = vec![in alloc; 0u32; programs]?;
+    for place in places {
+        if let Some(program) = place {
+            counts[program.index()] += 1;
+        }
+    }
+    Ok(counts)
+}
+
+/// How many applicants have no place.
+fn unmatched_count(places: &[Option<ProgNo>]) -> u32
+    requires { length places.now < 2 ^ 32 }
+    ensures { result ≡ unmatched places.now }
+{
+    let mut count = 0;
+    for place in places {
+        if place.is_none() {
+            count += 1;
+        }
+    }
+    count
+}
+
+/// How many posts there are.
+fn position_count(roster: &Roster) -> u64
+    ensures { result ≡ positions roster.now.market }
+{
+    let mut count = 0;
+    for number in 0..roster.programs() {
+        count += u64::from(roster.quota(ProgNo(number)));
+    }
+    count
+}
+
+/// The sum of the programs' counts.
+fn filled_total(counts: &[u32]) -> u64
+    requires { length counts.now < 2 ^ 32 }
+    ensures { result ≡ total_below (slice_index counts.now) (length counts.now) }
+{
+    let mut total = 0;
+    for count in counts {
+        total += u64::from(*count);
+    }
+    total
+}
+
+/// Adds the line of these totals.
+fn push_numbers(
+    text: &mut Vec<u8>,
+    applicants: u32,
+    unmatched: u32,
+    positions: u64,
+    unfilled: u64,
+) -> Result<(), AllocError>
+    ensures ok { OnOk result (text.new.items ≡ text.old.items ++ line (codes "totals" ∷ decimal applicants ∷ decimal unmatched ∷ decimal positions ∷ decimal unfilled ∷ [])) }
+{
+    text.extend_from_slice(b"totals")?;
+    push_number(text, u64::from(applicants))?;
+    push_number(text, u64::from(unmatched))?;
+    push_number(text, positions)?;
+    push_number(text, unfilled)?;
+    text.push(b'\n')?;
+    Ok(())
+}
+
+/// Adds the line of the totals.
+fn push_totals(
+    text: &mut Vec<u8>,
+    roster: &Roster,
+    matched: &Match,
+    counts: &[u32],
+) -> Result<(), AllocError>
+    requires places { ArePlaces roster.now.market matched.now.places }
+    requires counts { counts.now ≡ map (filled matched.now.places) (below (length roster.now.market.programs)) }
+    ensures ok { OnOk result (text.new.items ≡ text.old.items ++ totals_line roster.now.market matched.now.places) }
+{
+    let applicants = roster.applicants();
+    let unmatched = unmatched_count(matched.places.as_slice());
+    let positions = position_count(roster);
+    let unfilled = positions.saturating_sub(filled_total(counts));
+    push_numbers(text, applicants, unmatched, positions, unfilled)
+}
+
+/// The text of a match: every applicant with its place, every program with how many are placed there and how
+/// many proposals of singles it received, and the totals. There is one place for each applicant, each of
+/// them a program of the roster, and one number of proposals for each program.
+pub fn published(
+    alloc: Global,
+    roster: &Roster,
+    matched: &Match,
+    received: &[u32],
+) -> Result<Vec<u8>, AllocError>
+    requires places { ArePlaces roster.now.market matched.now.places }
+    requires received { length received.now ≡ length roster.now.market.programs }
+    ensures { IfOk result (λ v. v.items ≡ published_text roster.now.market roster.now.names matched.now.places received.now) }
+{
+    let counts = filled_counts(alloc, roster.programs() as usize, matched.places.as_slice())?;
+    let mut text = Vec::from_slice(alloc, b"match,1,published\n")?;
+    push_applicants(&mut text, roster, matched)?;
+    push_programs(&mut text, roster, matched, &counts, received)?;
+    push_totals(&mut text, roster, matched, &counts)?;
+    Ok(text)
+}
