@@ -1,8 +1,7 @@
 -- Lists of ids, and the numbers of ids on them.
-use Rattle.std.proofs.Common.{◌≡◌, ◌≢◌, ℕ, zero, suc, ◌+◌, ◌<◌, ◌≤◌, Bool, true, false, not, ◌&&◌, ◌||◌, List, [], ◌∷◌, ◌++◌, map, length, get_or, Option, Some, None, refl, ◌∙◌, arith, ap, sym, cond, nat_lt}
-use Rattle.std.specs.Prelude.{filter, bytes_eq, IsTrue, ◌==◌}
-use Rattle.std.specs.List.{list_all, list_any, position_or_len}
-use Rattle.std.proofs.lemmas.Bool.{and_parts}
+use Rattle.std.proofs.Common.{◌≡◌, ◌≢◌, suc, ◌+◌, ◌<◌, ◌≤◌, Bool, true, false, not, ◌&&◌, ◌||◌, List, [], ◌∷◌, ◌++◌, map, length, refl, arith, sym, cond, nat_lt}
+use Rattle.std.specs.Prelude.{filter, bytes_eq, ◌==◌}
+use Rattle.std.specs.List.{list_all}
 use Rattle.std.proofs.lemmas.Bool.Decides.{nat_tests}
 use Rattle.std.proofs.lemmas.Slice.Eq.{bytes_eq-Decides}
 use Rattle.std.proofs.lemmas.List.Folds.{list_any-append}
@@ -63,6 +62,7 @@ number_listed ids (y ∷ ys) x h k = by (has_id ids y) refl (number_listed ids y
     here : (c : Bool) → (number_of ids y == number_of ids x) ≡ c → has_id ids y ≡ true → (has (numbers_of ids ys) (number_of ids x) ≡ true → has_id ys x ≡ true) → (c || has (numbers_of ids ys) (number_of ids x)) ≡ true → has_id (y ∷ ys) x ≡ true
     here true e i ih k = or_left _ _ ((bytes_eq-Decides x y).1 (sym (same_number ids y x i h (grind (arith, nat_tests)))))
     here false e i ih k = or_right _ _ (ih k)
+
     by : (b : Bool) → has_id ids y ≡ b → (has (numbers_of ids ys) (number_of ids x) ≡ true → has_id ys x ≡ true) → has (map (number_of ids) (cond b (y ∷ filter (has_id ids) ys) (filter (has_id ids) ys))) (number_of ids x) ≡ true → has_id (y ∷ ys) x ≡ true
     by true i ih k = here (number_of ids y == number_of ids x) refl i ih k
     by false i ih k = or_right _ _ (ih k)
@@ -118,7 +118,7 @@ pub within_cons : (z : Bytes) (xs ys : List Bytes) → Within xs ys → Within (
 within_cons z xs ys w = record {
   listed = λ x h. either (bytes_eq x z) (has_id xs x) (has_id ys x) (w.listed x) h;
   differ = λ h. let p : (has_id ys z ≡ false) × (all_differ bytes_eq ys ≡ true) = differ_parts z ys h in differ_join z xs (not_true _ (λ k. cc (p.0, w.listed z k))) (w.differ p.1);
-  short = let s : length xs ≤ length ys = w.short in omega arith
+  short = let s : length xs ≤ length ys = w.short in omega arith;
 }
   where
     either : (a b c : Bool) → (b ≡ true → c ≡ true) → (a || b) ≡ true → (a || c) ≡ true
@@ -129,7 +129,7 @@ pub within_more : (z : Bytes) (xs ys : List Bytes) → Within xs ys → Within x
 within_more z xs ys w = record {
   listed = λ x h. or_right (bytes_eq x z) _ (w.listed x h);
   differ = λ h. w.differ (differ_parts z ys h).1;
-  short = let s : length xs ≤ length ys = w.short in omega arith
+  short = let s : length xs ≤ length ys = w.short in omega arith;
 }
 
 pub neither : (a b : Bool) → (a || b) ≡ false → (a ≡ false) × (b ≡ false)

@@ -1,23 +1,19 @@
 -- The market of records that have no fault, by numbers.
-use Rattle.std.proofs.Common.{◌≡◌, ◌≢◌, ℕ, zero, suc, ◌+◌, ◌*◌, ◌<◌, ◌≤◌, Bool, true, false, not, ◌&&◌, ◌||◌, List, [], ◌∷◌, ◌++◌, map, length, get_or, Option, Some, None, refl, ◌∙◌, arith, ap, sym, cond, nat_lt, nat_le}
-use Rattle.std.specs.Prelude.{filter, bytes_eq, IsTrue, ◌==◌, filter_map, flat_map, sum_by, is_some}
+use Rattle.std.proofs.Common.{◌≡◌, ℕ, zero, suc, ◌<◌, ◌≤◌, Bool, true, false, not, ◌&&◌, ◌||◌, List, [], ◌∷◌, map, length, get_or, Option, Some, None, refl, arith, cond, nat_lt, nat_le}
+use Rattle.std.specs.Prelude.{filter, bytes_eq, ◌==◌, is_some}
 use Rattle.std.specs.List.{list_all, list_any}
 use Rattle.std.proofs.lemmas.Bool.{and_parts}
 use Rattle.std.proofs.lemmas.Bool.Decides.{nat_tests}
 use Rattle.std.proofs.lemmas.List.Sums.{sum_by-cons}
 use Rattle.mt_model.specs.declared.limits.TheConstants.{LIMITS_2}
-use Rattle.mt_model.specs.declared.numbers.Agent.{Agent}
-use Rattle.mt_model.specs.declared.numbers.Agent.TheVariants.{Single, Couple}
-use Rattle.mt_model.specs.Lists.{has, is_distinct}
-use Rattle.mt_model.specs.Market.{Market, Program, Partners, Pair, Names, Registered, applicants, list_of, program_of, couple_of, agent_of, agent_from, is_member}
-use Rattle.mt_model.specs.Registration.Ids.{Bytes, is_id, has_id, number_of, numbers_of, all_differ}
-use Rattle.mt_model.specs.Registration.Records.{Record, ProgramRecord, ApplicantRecord, CoupleRecord, WithdrawRecord, Kind, OfProgram, OfApplicant, OfCouple, IdPair}
-use Rattle.mt_model.specs.Registration.Rows.{ids_of, applicant_ids, own_id, applicants_of, entries_of, entry_count}
+use Rattle.mt_model.specs.Registration.Ids.{Bytes, is_id, number_of, all_differ}
+use Rattle.mt_model.specs.Registration.Records.{Record, ProgramRecord, ApplicantRecord, CoupleRecord, WithdrawRecord, OfProgram, OfCouple, IdPair}
+use Rattle.mt_model.specs.Registration.Rows.{ids_of, applicant_ids, entries_of, entry_count}
 use Rattle.mt_model.specs.Registration.Passes.{are_too_many, is_same_pair}
-use Rattle.mt_model.specs.Registration.Numbering.{is_none_or_in, names_only, pair_by_number, names_of, program_in, lists_in, couple_in, market_by, pairs_by_number}
-use Rattle.mt_model.specs.Laws.Registration.{is_none_or_below, is_pair_below, are_same_places, list_entries}
+use Rattle.mt_model.specs.Registration.Numbering.{is_none_or_in, names_only, pair_by_number, pairs_by_number}
+use Rattle.mt_model.specs.Laws.Registration.{is_none_or_below, is_pair_below, are_same_places}
 use Rattle.std.specs.Option.{option_eq, option_map}
-use Rattle.mt_model.proofs.IdFacts.{Within, within_nil, within_cons, within_more, number_below, same_number, numbers_distinct, numbers_below, numbers_short, differ_parts, neither, not_true, or_left, or_right, same_id, is_same, itself}
+use Rattle.mt_model.proofs.IdFacts.{Within, within_nil, within_cons, within_more, number_below, same_number, neither, not_true, or_left, or_right, is_same}
 
 abbrev pub names_one : IdPair → Bool
 names_one p = is_some p.0 || is_some p.1
@@ -118,7 +114,7 @@ module _ (stays : Record → Bool) where
     couples_differ = (couples_within rs).differ s.couples_differ;
     applicants_differ = (applicants_within rs).differ s.applicants_differ;
     all_good = good_within rs s.all_good;
-    few = few_within _ _ _ _ _ _ _ _ (applicants_within rs).short (programs_within rs).short (couples_within rs).short (entries_within rs) s.few
+    few = few_within _ _ _ _ _ _ _ _ (applicants_within rs).short (programs_within rs).short (couples_within rs).short (entries_within rs) s.few;
   }
 
 -- what passes at each element and at the default, passes at each place
@@ -163,9 +159,11 @@ pair_listed ids p h (q ∷ ps) k = by (names_only ids q) refl (pair_listed ids p
         let b : (is_none_or_in ids q.0 ≡ true) × (is_none_or_in ids q.1 ≡ true) = and_parts (is_none_or_in ids q.0) _ n in
         let c : (option_eq ◌==◌ (option_map (number_of ids) p.0) (option_map (number_of ids) q.0) ≡ true) × (option_eq ◌==◌ (option_map (number_of ids) p.1) (option_map (number_of ids) q.1) ≡ true) = and_parts _ _ e in
         both _ _ (same_place ids p.0 q.0 a.0 b.0 c.0) (same_place ids p.1 q.1 a.1 b.1 c.1)
+
     here : (c : Bool) → (c ≡ true → is_same_pair p q ≡ true) → (list_any (are_same_places (pair_by_number ids p)) (pairs_by_number ids ps) ≡ true → list_any (is_same_pair p) ps ≡ true) → (c || list_any (are_same_places (pair_by_number ids p)) (pairs_by_number ids ps)) ≡ true → list_any (is_same_pair p) (q ∷ ps) ≡ true
     here true s ih k = or_left _ _ (s refl)
     here false s ih k = or_right _ _ (ih k)
+
     by : (b : Bool) → names_only ids q ≡ b → (list_any (are_same_places (pair_by_number ids p)) (pairs_by_number ids ps) ≡ true → list_any (is_same_pair p) ps ≡ true) → list_any (are_same_places (pair_by_number ids p)) (map (pair_by_number ids) (cond b (q ∷ filter (names_only ids) ps) (filter (names_only ids) ps))) ≡ true → list_any (is_same_pair p) (q ∷ ps) ≡ true
     by true n ih k = here (are_same_places (pair_by_number ids p) (pair_by_number ids q)) (same n) ih k
     by false n ih k = or_right _ _ (ih k)

@@ -1,9 +1,9 @@
 -- A file that is accepted registers a well formed market with names that fit it.
-use Rattle.std.proofs.Common.{◌≡◌, ℕ, zero, suc, ◌+◌, ◌*◌, ◌<◌, ◌≤◌, Bool, true, false, not, ◌&&◌, ◌||◌, List, [], ◌∷◌, ◌++◌, map, length, Option, Some, None, Result, Ok, Err, refl, ◌∙◌, arith, ap, sym, subst, cond, nat_lt, nat_le}
-use Rattle.std.specs.Prelude.{if◌then◌else◌, codes, bytes_eq, filter_map, flat_map, is_some, option_map, ok_or, find}
+use Rattle.std.proofs.Common.{◌≡◌, ℕ, ◌≤◌, Bool, true, false, not, ◌&&◌, ◌||◌, List, [], ◌∷◌, ◌++◌, map, length, Option, Some, None, Result, Ok, Err, refl, arith, sym, subst, cond, nat_lt, nat_le}
+use Rattle.std.specs.Prelude.{if◌then◌else◌, codes, bytes_eq, is_some, option_map, ok_or}
 use Rattle.std.specs.Option.{option_map_or}
 use Rattle.std.specs.Bool.{then_some}
-use Rattle.std.specs.List.{list_all, list_any}
+use Rattle.std.specs.List.{list_all}
 use Rattle.std.specs.Char.{is_ascii_digit, is_ascii_alphanumeric, digit_value}
 use Rattle.mt_model.specs.Lists.{has}
 use Rattle.std.specs.Str.Parse.{digits_value}
@@ -15,15 +15,15 @@ use Rattle.std.proofs.lemmas.List.Folds.{list_all-append, list_any-append}
 use Rattle.std.proofs.lemmas.Grind.{flat_map-append}
 use Rattle.mt_model.specs.Market.{Registered}
 use Rattle.mt_model.specs.declared.limits.TheConstants.{LIMITS_2}
-use Rattle.mt_model.specs.Registration.{market_of, market_of_numbered, market_under}
+use Rattle.mt_model.specs.Registration.{market_of_numbered, market_under}
 use Rattle.mt_model.specs.Registration.Ids.{Bytes, is_id, is_dash, quota_of, has_id, all_differ}
 use Rattle.mt_model.specs.Registration.Faults.{Charge, Fault, charge, fault_at, duplicate_id}
-use Rattle.mt_model.specs.Registration.Records.{Rules, Record, ProgramRecord, ApplicantRecord, CoupleRecord, WithdrawRecord, Kind, OfProgram, OfApplicant, OfCouple, version_1, version_2, rules_of, are_ids, is_pair, pair_of, two_by_two, record_of, record_by_kind, program_record, applicant_record, couple_by_pairs, couple_record, withdraw_by_kind, withdraw_record, kind_of}
+use Rattle.mt_model.specs.Registration.Records.{Record, ProgramRecord, ApplicantRecord, CoupleRecord, WithdrawRecord, Kind, OfProgram, OfApplicant, OfCouple, version_1, version_2, rules_of, are_ids, is_pair, pair_of, two_by_two, record_of, record_by_kind, program_record, applicant_record, couple_by_pairs, withdraw_by_kind, withdraw_record, kind_of}
 use Rattle.mt_model.specs.Registration.Rows.{ids_of, applicant_ids, own_id, applicants_of, remaining}
-use Rattle.mt_model.specs.Registration.Passes.{Numbered, numbered_from, contents, first_of, on_result, are_too_many, is_same_pair, says_twice, registered_before, clash, next_record, first_pass, second_pass}
+use Rattle.mt_model.specs.Registration.Passes.{Numbered, numbered_from, contents, first_of, on_result, are_too_many, says_twice, registered_before, clash, next_record, first_pass, second_pass}
 use Rattle.mt_model.specs.Registration.Numbering.{registered}
 use Rattle.mt_model.specs.Laws.Registration.{IsRegistration, AcceptedIsRegistration}
-use Rattle.mt_model.proofs.IdFacts.{differ_push, neither, not_true}
+use Rattle.mt_model.proofs.IdFacts.{differ_push, neither}
 use Rattle.mt_model.proofs.NumberingFacts.{AreSound, sound_within, is_good, names_one, both}
 use Rattle.mt_model.proofs.RegisteredFacts.{registered_sound}
 use Rattle.mt_model.proofs.VersionFacts.{market_of_either}
@@ -202,7 +202,7 @@ module _ (rs : List Record) (s : AreSound rs) where
         couples_differ = same_ids OfCouple (ProgramRecord id quota list) refl s.couples_differ;
         applicants_differ = same_applicants (ProgramRecord id quota list) refl;
         all_good = more_good (ProgramRecord id quota list) g;
-        few = f
+        few = f;
       }
   sound_push (ApplicantRecord id list) n g f =
       let i : has_id (applicant_ids rs) id ≡ false = not_found _ id n in
@@ -211,7 +211,7 @@ module _ (rs : List Record) (s : AreSound rs) where
         couples_differ = same_ids OfCouple (ApplicantRecord id list) refl s.couples_differ;
         applicants_differ = rw flat_map-append (differ_push (applicant_ids rs) id i s.applicants_differ);
         all_good = more_good (ApplicantRecord id list) g;
-        few = f
+        few = f;
       }
   sound_push (CoupleRecord id a b pairs) n g f =
       let o : (cond (has_id (ids_of OfCouple rs) id) (Some id) None ≡ None) × (cond (has_id (applicant_ids rs) a) (Some a) None ≡ None) × (cond (has_id (a ∷ applicant_ids rs) b) (Some b) None ≡ None) = none_of _ _ _ n in
@@ -225,7 +225,7 @@ module _ (rs : List Record) (s : AreSound rs) where
         couples_differ = new_id OfCouple (CoupleRecord id a b pairs) id refl i s.couples_differ;
         applicants_differ = rw flat_map-append (rw append_assoc at d);
         all_good = more_good (CoupleRecord id a b pairs) g;
-        few = f
+        few = f;
       }
   sound_push (WithdrawRecord kind id) n g f =
       record {
@@ -233,7 +233,7 @@ module _ (rs : List Record) (s : AreSound rs) where
         couples_differ = same_ids OfCouple (WithdrawRecord kind id) (own_none OfCouple) s.couples_differ;
         applicants_differ = same_applicants (WithdrawRecord kind id) refl;
         all_good = more_good (WithdrawRecord kind id) g;
-        few = f
+        few = f;
       }
     where
       own_none : (k : Kind) → own_id k (WithdrawRecord kind id) ≡ None
@@ -278,6 +278,7 @@ sound_market rows r h = by (first_pass version_2 [] rows) (λ rs. sound_pass [] 
     second : (rs : List (Numbered Record)) (o : Option Fault) → AreSound (contents rs) → option_map_or (λ fault. Err fault) o (Ok (registered (contents rs))) ≡ Ok r → IsRegistration r
     second rs (Some fault) s k = cc
     second rs None s k = let e : registered (contents rs) ≡ r = cc in subst IsRegistration e (sound_registered (contents rs) s)
+
     by : (o : Result (List (Numbered Record)) Fault) → ((rs : List (Numbered Record)) → o ≡ Ok rs → AreSound (contents rs))
         → on_result o (λ records. option_map_or (λ fault. Err fault) (second_pass records) (Ok (registered (contents records)))) (λ fault. Err fault) ≡ Ok r → IsRegistration r
     by (Ok rs) f k = second rs (second_pass rs) (f rs refl) k

@@ -1,21 +1,20 @@
 -- The market of records without a fault is well formed, and its names fit it.
-use Rattle.std.proofs.Common.{◌≡◌, ◌≢◌, ℕ, zero, suc, ◌+◌, ◌*◌, ◌<◌, ◌≤◌, Bool, true, false, not, ◌&&◌, ◌||◌, List, [], ◌∷◌, ◌++◌, map, length, get_or, Option, Some, None, refl, ◌∙◌, arith, ap, sym, subst, cond, nat_lt, nat_le}
-use Rattle.std.specs.Prelude.{bytes_eq, IsTrue, ◌==◌, filter_map, flat_map, sum_by}
+use Rattle.std.proofs.Common.{◌≡◌, ◌≢◌, ℕ, zero, suc, ◌+◌, ◌<◌, ◌≤◌, Bool, true, false, not, ◌&&◌, ◌||◌, List, [], ◌∷◌, length, get_or, refl, ◌∙◌, arith, ap, sym, subst, cond, nat_lt, nat_le}
+use Rattle.std.specs.Prelude.{bytes_eq, ◌==◌, filter_map, flat_map}
 use Rattle.std.specs.List.{list_all, list_any}
 use Rattle.std.proofs.lemmas.Bool.{and_parts}
 use Rattle.std.proofs.lemmas.Bool.Decides.{nat_tests}
 use Rattle.std.proofs.lemmas.List.Sums.{sum_by-cons}
-use Rattle.mt_model.specs.declared.numbers.Agent.{Agent}
-use Rattle.mt_model.specs.declared.numbers.Agent.TheVariants.{Single, Couple}
+use Rattle.mt_model.specs.declared.numbers.Agent.TheVariants.{Couple}
 use Rattle.mt_model.specs.Lists.{has, is_distinct}
-use Rattle.mt_model.specs.Market.{Market, Program, Partners, Pair, Names, Registered, applicants, list_of, program_of, couple_of, agent_of, agent_from, is_member}
+use Rattle.mt_model.specs.Market.{Market, Program, Partners, Names, list_of, program_of, couple_of, agent_from}
 use Rattle.mt_model.specs.WellFormed.{IsWellFormed, IsMember}
 use Rattle.mt_model.specs.Registration.Ids.{Bytes, is_id, has_id, number_of, numbers_of, all_differ}
 use Rattle.mt_model.specs.Registration.Records.{Record, ProgramRecord, ApplicantRecord, CoupleRecord, WithdrawRecord, OfProgram, OfCouple, IdPair}
 use Rattle.mt_model.specs.Registration.Rows.{ids_of, applicant_ids, entries_of, entry_count}
 use Rattle.mt_model.specs.Registration.Passes.{is_same_pair}
 use Rattle.mt_model.specs.Registration.Numbering.{names_of, program_in, lists_in, couple_in, market_by, pairs_by_number}
-use Rattle.mt_model.specs.Laws.Registration.{is_pair_below, are_same_places, list_entries, AreNames, IsRegistration}
+use Rattle.mt_model.specs.Laws.Registration.{is_pair_below, are_same_places, list_entries, IsRegistration}
 use Rattle.mt_model.proofs.IdFacts.{number_below, same_number, numbers_distinct, numbers_below, numbers_short, differ_parts, neither, not_true, or_left, or_right, same_id, is_same, itself}
 use Rattle.mt_model.proofs.NumberingFacts.{AreSound, is_good, names_one, at_each, both, pairs_below, pairs_differ, pairs_short, not_above}
 
@@ -82,19 +81,31 @@ module _ (N : Names) where
   entries_short : (rs : List Record) → list_entries (market_by N rs) ≤ entry_count rs
   entries_short [] = omega arith
   entries_short (ProgramRecord id quota list ∷ rs) =
-      omega (arith, entries_short rs, numbers_short N.applicants list,
-          sum_by-cons entries_of (ProgramRecord id quota list) rs,
-          sum_by-cons (λ p. length (Program.ranking p)) (record { quota = quota; ranking = numbers_of N.applicants list }) (filter_map (program_in N) rs))
+      omega (
+        arith,
+        entries_short rs,
+        numbers_short N.applicants list,
+        sum_by-cons entries_of (ProgramRecord id quota list) rs,
+        sum_by-cons (λ p. length (Program.ranking p)) (record { quota = quota; ranking = numbers_of N.applicants list }) (filter_map (program_in N) rs),
+      )
   entries_short (ApplicantRecord id list ∷ rs) =
-      omega (arith, entries_short rs, numbers_short N.programs list,
-          sum_by-cons entries_of (ApplicantRecord id list) rs,
-          sum_by-cons (length {A = ℕ}) (numbers_of N.programs list) (flat_map (lists_in N) rs))
+      omega (
+        arith,
+        entries_short rs,
+        numbers_short N.programs list,
+        sum_by-cons entries_of (ApplicantRecord id list) rs,
+        sum_by-cons (length {A = ℕ}) (numbers_of N.programs list) (flat_map (lists_in N) rs),
+      )
   entries_short (CoupleRecord id a b pairs ∷ rs) =
-      omega (arith, entries_short rs, pairs_short N.programs pairs,
-          sum_by-cons entries_of (CoupleRecord id a b pairs) rs,
-          sum_by-cons (length {A = ℕ}) [] ([] ∷ flat_map (lists_in N) rs),
-          sum_by-cons (length {A = ℕ}) [] (flat_map (lists_in N) rs),
-          sum_by-cons (λ c. length (Partners.pairs c)) (record { first = number_of N.applicants a; second = number_of N.applicants b; pairs = pairs_by_number N.programs pairs }) (filter_map (couple_in N) rs))
+      omega (
+        arith,
+        entries_short rs,
+        pairs_short N.programs pairs,
+        sum_by-cons entries_of (CoupleRecord id a b pairs) rs,
+        sum_by-cons (length {A = ℕ}) [] ([] ∷ flat_map (lists_in N) rs),
+        sum_by-cons (length {A = ℕ}) [] (flat_map (lists_in N) rs),
+        sum_by-cons (λ c. length (Partners.pairs c)) (record { first = number_of N.applicants a; second = number_of N.applicants b; pairs = pairs_by_number N.programs pairs }) (filter_map (couple_in N) rs),
+      )
   entries_short (WithdrawRecord kind id ∷ rs) = omega (arith, entries_short rs, sum_by-cons entries_of (WithdrawRecord kind id) rs)
 
 -- a couple's member
@@ -181,10 +192,10 @@ other_number : (ids xs : List Bytes) (a x : Bytes) → has_id ids a ≡ true →
 other_number ids xs a x h k n m =
     not_true _
     (λ e.
-      let s : number_of ids a ≡ number_of ids x = grind (arith, nat_tests) in
-      let i : a ≡ x = same_number ids a x h (all_listed ids xs x k m) s in
-      let l : has_id xs a ≡ true = subst (λ (z : Bytes). has_id xs z ≡ true) (sym i) m in
-      cc)
+    let s : number_of ids a ≡ number_of ids x = grind (arith, nat_tests) in
+    let i : a ≡ x = same_number ids a x h (all_listed ids xs x k m) s in
+    let l : has_id xs a ≡ true = subst (λ (z : Bytes). has_id xs z ≡ true) (sym i) m in
+    cc)
 
 module _ (N : Names) (d : Partners) where
   belongs : (side : Bool) (rs : List Record) (k c : ℕ) → all_differ bytes_eq (applicant_ids rs) ≡ true → list_all (has_id N.applicants) (applicant_ids rs) ≡ true
@@ -293,7 +304,7 @@ module _ (rs : List Record) (s : AreSound rs) where
       record {
         within = rw (m.1, e) l;
         no_list = rw m.1 n;
-        belongs = belongs names no_couple side rs 0 c s.applicants_differ listed h ∙ ap Couple zero_plus
+        belongs = belongs names no_couple side rs 0 c s.applicants_differ listed h ∙ ap Couple zero_plus;
       }
 
   program_sound : (p : ℕ) → is_sound_program names (program_of market p) ≡ true
@@ -322,7 +333,7 @@ module _ (rs : List Record) (s : AreSound rs) where
     rankings_within = λ p a h. let l : a < length names.applicants = has_below (length names.applicants) (program_of market p).ranking a (and_parts (is_distinct (program_of market p).ranking) _ (and_parts (is_distinct (program_of market p).ranking && list_all (λ b. nat_lt b (length names.applicants)) (program_of market p).ranking) _ (program_sound p)).0).1 h in rw long_lists l;
     first_member = member true;
     second_member = member false;
-    two_members = λ c h. two_members names no_couple rs c s.applicants_differ listed h
+    two_members = λ c h. two_members names no_couple rs c s.applicants_differ listed h;
   }
 
   pub registered_sound : IsRegistration (record { market = market_by (names_of rs) rs; names = names_of rs })
@@ -341,7 +352,7 @@ module _ (rs : List Record) (s : AreSound rs) where
         few_applicants = rw long_lists (not_above _ _ r.0);
         few_couples = rw long_couples (not_above _ _ q.1);
         few_entries = let l : entry_count rs ≤ 8_000_000 = not_above _ _ p.1 in omega (arith, entries_short names rs);
-        quotas = λ i. let t : nat_le (program_of market i).quota 9999 ≡ true = (and_parts (is_distinct (program_of market i).ranking && list_all (λ b. nat_lt b (length names.applicants)) (program_of market i).ranking) _ (program_sound i)).1 in at_most _ _ t
+        quotas = λ i. let t : nat_le (program_of market i).quota 9999 ≡ true = (and_parts (is_distinct (program_of market i).ranking && list_all (λ b. nat_lt b (length names.applicants)) (program_of market i).ranking) _ (program_sound i)).1 in at_most _ _ t;
       }
     where
       at_most : (n m : ℕ) → nat_le n m ≡ true → n ≤ m
