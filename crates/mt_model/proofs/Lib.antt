@@ -10,11 +10,16 @@ pub mod FloorLists
 pub mod FloorQuiet
 pub mod FloorRuns
 pub mod FloorSums
+pub mod IdFacts
 pub mod LegalBestLemmas
 pub mod ListLemmas
+pub mod NumberingFacts
+pub mod PassFacts
+pub mod RegisteredFacts
 pub mod RuralLemmas
 pub mod Seats
 pub mod SinglesFacts
 pub mod TakenLemmas
 pub mod Totals
+pub mod VersionFacts
 pub mod WellFormedLemmas

@@ -1,4 +1,5 @@
 pub mod Floors
+pub mod Registration
 pub mod Rural
 pub mod Singles
 pub mod Taken
