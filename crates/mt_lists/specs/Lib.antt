@@ -1,0 +1,3 @@
+pub mod Tap
+pub mod Records
+pub mod Rows

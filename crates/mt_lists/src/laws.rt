@@ -1,0 +1,1 @@
+//! What the definitions give on worked examples, by computation.

@@ -1,0 +1,138 @@
+ghost use Rattle.std.specs.Prelude.{◌≡◌, ◌<◌, ◌==◌, List, ℕ, drop, length, map, slice_get, take, Some, IfOk};
+ghost use Rattle.std.specs.Option.{option_copied};
+ghost use Rattle.std.specs.Iterator.{YieldsFirstRef, item_count};
+ghost use Rattle.csv.specs.Records.{fields_of};
+ghost use Rattle.mt_lists.specs.Records.{without_trailing_empty};
+
+use std::alloc::{AllocError, Global};
+use std::marker::Model;
+
+use csv::ByteRecord;
+
+/// The fields of a record, in order. Their bytes lie in one block, and the places where they end in another.
+#[derive(Debug, Drop)]
+pub struct Row {
+    record: ByteRecord,
+}
+
+impl Model for Row {
+    ghost use Rattle.std.specs.Prelude.{List, ℕ};
+    ghost use Rattle.csv.specs.Records.{fields_of};
+
+    ghost Value = { List (List ℕ) };
+
+    ghost view = { λ row. fields_of row.record };
+}
+
+impl Row {
+    ghost use Rattle.mt_lists.specs.Rows.{fields_left};
+
+    /// A row of these fields.
+    pub fn from_fields(alloc: Global, fields: &[&[u8]]) -> Result<Row, AllocError>
+        ensures { IfOk result (λ row. row ≡ map (λ field. field.now) fields.now) }
+    {
+        Ok(Row {
+            record: ByteRecord::from_fields(alloc, fields)?,
+        })
+    }
+
+    // The fields of a record without the empty ones at its end, which the record loses too.
+    pub(crate) fn trimmed(record: &mut ByteRecord) -> Result<Row, AllocError>
+        ensures { IfOk result (λ row. row ≡ without_trailing_empty (fields_of record.old)) }
+    {
+        record.truncate(kept_fields(record));
+        Ok(Row {
+            record: record.clone()?,
+        })
+    }
+
+    /// How many fields there are.
+    pub fn len(&self) -> usize
+        ensures { result ≡ length self.now }
+    {
+        self.record.len()
+    }
+
+    /// Whether there is no field.
+    pub fn is_empty(&self) -> bool
+        ensures { result ≡ (length self.now == 0) }
+    {
+        self.record.is_empty()
+    }
+
+    /// The field at a place from 0.
+    pub fn field(&self, i: usize) -> &[u8]
+        requires { i < length self.now }
+        ensures { slice_get self.now i ≡ Some result.now }
+    {
+        self.record.get(i).unwrap()
+    }
+
+    /// The field at a place from 0, if there is one.
+    pub fn get(&self, i: usize) -> Option<&[u8]>
+        ensures { option_copied result ≡ slice_get self.now i }
+    {
+        self.record.get(i)
+    }
+
+    /// The fields in turn.
+    pub fn iter(&self) -> Fields<'_>
+        ensures { fields_left result ≡ self.now }
+    {
+        Fields { row: self, at: 0 }
+    }
+}
+
+// How many fields are left without the empty ones at the end.
+fn kept_fields(record: &ByteRecord) -> usize
+    ensures { take result (fields_of record.now) ≡ without_trailing_empty (fields_of record.now) }
+{
+    for i in (0..record.len()).rev() {
+        if let Some(field) = record.get(i) {
+            if !field.is_empty() {
+                return i + 1;
+            }
+        }
+    }
+    0
+}
+
+/// The fields of a row in turn.
+#[derive(Clone, Copy, Debug)]
+pub struct Fields<'r> {
+    row: &'r Row,
+    at: usize,
+}
+
+impl<'r> Iterator for Fields<'r> {
+    ghost use Rattle.mt_lists.specs.Rows.{fields_left};
+
+    type Item = &'r [u8];
+
+    ghost next_gives = { YieldsFirstRef fields_left };
+
+    ghost remaining = { item_count fields_left };
+
+    fn next(&mut self) -> Option<&'r [u8]> {
+        if self.at >= self.row.len() {
+            return None;
+        }
+        let field = self.row.field(self.at);
+        self.at += 1;
+        Some(field)
+    }
+}
+
+impl<'r> IntoIterator for &'r Row {
+    ghost use Rattle.mt_lists.specs.Rows.{fields_left};
+
+    type Item = &'r [u8];
+
+    type IntoIter = Fields<'r>;
+
+    ghost into_iter_gives = { λ row fields. fields_left fields ≡ row.now };
+
+    fn into_iter(self) -> Fields<'r> {
+        self.iter()
+    }
+}
