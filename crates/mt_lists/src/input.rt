@@ -1,6 +1,6 @@
-ghost use Rattle.std.specs.Prelude.{◌≡◌, ◌≢◌, ◌↔◌, ◌<◌, ◌≤◌, ◌+◌, ℕ, List, length, IfOk, IfSome, OnOk, IsErrOf};
-ghost use Rattle.std.specs.Io.KnownBytes.{Consumes, IsAtEnd};
-ghost use Rattle.mt_lists.specs.Tap.{bytes_left, failures_of, reads_of};
+ghost use Rattle.std.specs.Prelude.{◌≡◌, ◌↔◌, ◌<◌, ◌≤◌, ◌+◌, length, IfOk, IfSome, OnOk, IsErrOf};
+ghost use Rattle.std.specs.Io.KnownBytes.{IsAtEnd};
+ghost use Rattle.mt_lists.specs.Tap.{LosesAtMost, bytes_left, failures_of, reads_of};
 
 use std::alloc::Global;
 use std::io::Read;
@@ -45,14 +45,14 @@ pub fn read_all<R: Read>(
     ensures fault { IsErrOf result ReadEnd.Fault ↔ (failures_of tap.old < failures_of tap.new) }
 
     // What the call takes of the input, and what it counts.
-    ensures taken { (front : List ℕ) × Consumes (bytes_left R.remaining tap.old) (bytes_left R.remaining tap.new) front × (length front ≤ limit + 1) }
+    ensures taken { LosesAtMost (limit + 1) (bytes_left R.remaining tap.old) (bytes_left R.remaining tap.new) }
     ensures reads { (reads_of tap.old ≤ reads_of tap.new) × (reads_of tap.new ≤ reads_of tap.old + limit + 1) }
     ensures failures { (failures_of tap.old ≤ failures_of tap.new) × (failures_of tap.new ≤ failures_of tap.old + 1) }
 {
-    let mut piece = match vec![in alloc; 0u8; PIECE] {
-        Ok(piece) => piece,
-        Err(_) => return Err(ReadEnd::Memory),
+    let Ok(mut buffer) = vec![in alloc; 0u8; PIECE] else {
+        return Err(ReadEnd::Memory);
     };
+    let piece = buffer.as_mut_slice();
     let mut bytes = Vec::new(alloc);
     loop {
         let room = limit - bytes.len();

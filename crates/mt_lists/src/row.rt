@@ -1,8 +1,8 @@
-ghost use Rattle.std.specs.Prelude.{◌≡◌, ◌<◌, ◌==◌, List, ℕ, drop, length, map, slice_get, take, Some, IfOk};
+ghost use Rattle.std.specs.Prelude.{◌≡◌, ◌<◌, ◌==◌, List, ℕ, [], drop, length, map, slice_get, slice_index_or, take, Some, IfOk};
 ghost use Rattle.std.specs.Option.{option_copied};
 ghost use Rattle.std.specs.Iterator.{YieldsFirstRef, item_count};
 ghost use Rattle.csv.specs.Records.{fields_of};
-ghost use Rattle.mt_lists.specs.Records.{without_trailing_empty};
+ghost use Rattle.mt_lists.specs.Records.{is_empty_field, without_trailing_empty};
 
 use std::alloc::{AllocError, Global};
 use std::marker::Model;
@@ -65,7 +65,7 @@ impl Row {
         requires { i < length self.now }
         ensures { slice_get self.now i ≡ Some result.now }
     {
-        self.record.get(i).unwrap()
+        self.get(i).unwrap()
     }
 
     /// The field at a place from 0, if there is one.
@@ -83,18 +83,23 @@ impl Row {
     }
 }
 
-// How many fields are left without the empty ones at the end.
+// How many fields stay without the empty ones at the end.
 fn kept_fields(record: &ByteRecord) -> usize
     ensures { take result (fields_of record.now) ≡ without_trailing_empty (fields_of record.now) }
 {
-    for i in (0..record.len()).rev() {
-        if let Some(field) = record.get(i) {
-            if !field.is_empty() {
-                return i + 1;
-            }
-        }
+    let mut kept = record.len();
+    while kept > 0 && is_empty_at(record, kept - 1) {
+        kept -= 1;
     }
-    0
+    kept
+}
+
+// Whether the field at a place has no byte.
+fn is_empty_at(record: &ByteRecord, i: usize) -> bool
+    requires { i < length (fields_of record.now) }
+    ensures { result ≡ is_empty_field (slice_index_or (fields_of record.now) i []) }
+{
+    record.get(i).unwrap().is_empty()
 }
 
 /// The fields of a row in turn.

@@ -1,0 +1,11 @@
+use Rattle.std.proofs.Common.{Bor, ℕ, List, [], Some, length}
+use Rattle.std.specs.Option.{unwrap_or}
+use Rattle.csv.specs.Reading.{source_of}
+use Rattle.mt_lists.proofs.SplitFacts.{SplitSoFar, bytes_unread}
+use Rattle.mt_lists.proofs.splitting.read_rows.Given as goal
+
+abbrev pub invariant-loop-rows : goal.invariant-loop-rows
+invariant-loop-rows l = SplitSoFar l.fn.text l.reader l.rows.items
+
+abbrev pub decreases-loop-rows : goal.decreases-loop-rows
+decreases-loop-rows l = bytes_unread l.reader
