@@ -28,26 +28,26 @@ after_end-rests (term.Any t) c = refl
 
 in_field-rests : (cfg : Config) (c : ℕ) → Rests (in_field cfg c)
 in_field-rests cfg c =
-    Rests-if (c == cfg.delimiter) _ _ (λ h. cc h) (Rests-if (ends_with cfg.terminator c) _ _ (λ h. after_end-rests cfg.terminator c) (λ h. cc h))
+    Rests-if (c == cfg.delimiter) _ _ (λ h. cc) (Rests-if (ends_with cfg.terminator c) _ _ (λ h. after_end-rests cfg.terminator c) (λ h. cc))
 
 start_field-rests : (cfg : Config) (c : ℕ) → Rests (start_field cfg c)
-start_field-rests cfg c = Rests-if (cfg.quoting && (c == cfg.quote)) _ _ (λ h. cc h) (in_field-rests cfg c)
+start_field-rests cfg c = Rests-if (cfg.quoting && (c == cfg.quote)) _ _ (λ h. cc) (in_field-rests cfg c)
 
 start_record-rests : (cfg : Config) (c : ℕ) → Rests (start_record cfg c)
 start_record-rests cfg c =
-    Rests-if (ends_with cfg.terminator c) _ _ (λ h. cc h) (Rests-if (is_byte cfg.comment c) _ _ (λ h. cc h) (start_field-rests cfg c))
+    Rests-if (ends_with cfg.terminator c) _ _ (λ h. cc) (Rests-if (is_byte cfg.comment c) _ _ (λ h. cc) (start_field-rests cfg c))
 
 step-rests : (cfg : Config) (s : State) (c : ℕ) → Rests (step cfg s c)
 step-rests cfg st.StartRecord c = start_record-rests cfg c
 step-rests cfg st.StartField c = start_field-rests cfg c
 step-rests cfg st.InField c = in_field-rests cfg c
 step-rests cfg st.InQuoted c =
-    Rests-if (cfg.quoting && (c == cfg.quote)) _ _ (λ h. cc h) (Rests-if (cfg.quoting && is_byte cfg.escape c) _ _ (λ h. cc h) (λ h. cc h))
-step-rests cfg st.InEscape c = λ h. cc h
+    Rests-if (cfg.quoting && (c == cfg.quote)) _ _ (λ h. cc) (Rests-if (cfg.quoting && is_byte cfg.escape c) _ _ (λ h. cc) (λ h. cc))
+step-rests cfg st.InEscape c = λ h. cc
 step-rests cfg st.AfterQuote c =
-    Rests-if (cfg.quoting && cfg.double_quote && (c == cfg.quote)) _ _ (λ h. cc h) (in_field-rests cfg c)
-step-rests cfg st.InComment c = Rests-if (c == 10) _ _ (λ h. cc h) (λ h. cc h)
-step-rests cfg st.AfterCr c = Rests-if (c == 10) _ _ (λ h. cc h) (start_record-rests cfg c)
+    Rests-if (cfg.quoting && cfg.double_quote && (c == cfg.quote)) _ _ (λ h. cc) (in_field-rests cfg c)
+step-rests cfg st.InComment c = Rests-if (c == 10) _ _ (λ h. cc) (λ h. cc)
+step-rests cfg st.AfterCr c = Rests-if (c == 10) _ _ (λ h. cc) (start_record-rests cfg c)
 
 -- a record that was read leaves no more bytes than there were, and no record begun
 record Leaves (p : Read) (xs : List ℕ) : Type 0 where

@@ -1,9 +1,9 @@
 -- Reading the whole of an input.
-use Rattle.std.proofs.Common.{◌≡◌, ℕ, ◌+◌, ◌-◌, ◌≤◌, ◌<◌, List, [], ◌++◌, length, take, drop, min, ◌^◌, Option, None, Some, refl, sym, arith, length-append}
-use Rattle.std.proofs.lemmas.List.{append-nil, length-take, nil_from_length, take-append-le, take-take}
+use Rattle.std.proofs.Common.{◌≡◌, ℕ, ◌+◌, ◌-◌, ◌≤◌, ◌<◌, List, [], ◌++◌, length, take, min, ◌^◌, Option, None, Some, refl, sym, arith, length-append}
+use Rattle.std.proofs.lemmas.List.{append-nil, length-take, nil_from_length}
 use Rattle.std.specs.Option.{IfSome}
 use Rattle.std.specs.Io.KnownBytes.{Consumes, IsAtEnd, Keeps}
-use Rattle.std.proofs.KnownBytes.{Consumes-kept, Consumes-nil, Consumes-trans, Consumes-whole, Keeps-refl}
+use Rattle.std.proofs.KnownBytes.{Consumes-kept, Consumes-nil, Consumes-trans, Consumes-whole}
 use Rattle.mt_lists.specs.declared.tap.Tap.{Tap}
 use Rattle.mt_lists.specs.Tap.{LosesAtMost, bytes_left, failures_of, reads_of}
 

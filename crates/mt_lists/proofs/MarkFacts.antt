@@ -1,12 +1,12 @@
 -- Marks at the start of an input.
-use Rattle.std.proofs.Common.{◌≡◌, ◌≢◌, ℕ, List, [], ◌∷◌, ◌++◌, drop, length, nat_eq, Bool, true, false, Some, None, refl, sym, ap, subst, ◌∙◌, ◌==◌, ◌+◌, inl, inr, arith, Option, Bor, MatchOption, take}
+use Rattle.std.proofs.Common.{◌≡◌, ◌≢◌, ℕ, List, [], ◌∷◌, ◌++◌, drop, length, nat_eq, true, false, Some, None, refl, ◌+◌, inl, inr, arith, Option, Bor, MatchOption, take}
 use Rattle.std.specs.List.{starts_with}
 use Rattle.std.specs.Cmp.Lexicographic.{pointwise}
-use Rattle.std.proofs.lemmas.Bool.{cases_Bool, and_parts, false≢true}
+use Rattle.std.proofs.lemmas.Bool.{cases_Bool}
 use Rattle.std.proofs.lemmas.Bool.Decides.{Decides-eqb, nat_tests}
 use Rattle.std.proofs.lemmas.Slice.Eq.{starts_is, strip_prefix_is}
 use Rattle.csv.specs.Reading.{is_bom, strip_bom}
-use Rattle.mt_lists.specs.Records.{mark, records_of, rows_of, without_mark}
+use Rattle.mt_lists.specs.Records.{mark, records_of, rows_of}
 
 -- a text that is no mark and more has no mark at its start
 pub no_mark : (text : List ℕ) → ((rest : List ℕ) → text ≢ mark ++ rest) → starts_with nat_eq text mark ≡ false

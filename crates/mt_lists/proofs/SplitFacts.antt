@@ -1,9 +1,8 @@
 -- The rows of a text, one after the other.
-use Rattle.std.proofs.Common.{◌≡◌, ◌<◌, ℕ, List, [], ◌∷◌, ◌++◌, length, map, Option, Some, None, Result, Ok, Err, Bor, Bool, true, false, refl, sym, ◌∙◌, ap, inl, append_assoc}
+use Rattle.std.proofs.Common.{◌≡◌, ◌<◌, ℕ, List, [], ◌∷◌, ◌++◌, length, map, Option, Some, Result, Ok, Err, Bor, true, false, refl, sym, ◌∙◌, inl, append_assoc}
 use Rattle.std.specs.Option.{unwrap_or}
 use Rattle.std.specs.Result.{MatchResult, is_ok}
 use Rattle.std.proofs.lemmas.List.{append-nil}
-use Rattle.csv.specs.declared.parser.Config.{Config}
 use Rattle.csv.specs.declared.parser.State.{State}
 use Rattle.csv.specs.declared.parser.State.TheVariants as st
 use Rattle.csv.specs.declared.reader.Reader.{Reader}
@@ -59,8 +58,7 @@ pub one_row_more : (text : List ℕ) (old new : Reader (Bor (List ℕ))) (rows :
 one_row_more text old new rows fields so_far found first =
     let at = found_next old new fields so_far.left so_far.config so_far.source found in
     let p : Read = (fields, new.state, at.after) in
-    let less = next-shorter default_config old.state so_far.left p so_far.idle at.next in
-    (
+    let less = next-shorter default_config old.state so_far.left p so_far.idle at.next in (
       record {
         trim = found.3 ∙ so_far.trim;
         ready = inl first;

@@ -2,11 +2,10 @@ ghost use Rattle.std.specs.Prelude.{◌≡◌, ◌↔◌, ◌<◌, ◌≤◌, �
 ghost use Rattle.std.specs.Io.KnownBytes.{IsAtEnd};
 ghost use Rattle.mt_lists.specs.Tap.{LosesAtMost, bytes_left, failures_of, reads_of};
 
+use crate::tap::Tap;
 use std::alloc::Global;
 use std::io::Read;
 use thiserror::Error;
-
-use crate::tap::Tap;
 
 /// Why an input was not read whole.
 #[derive(Clone, Copy, Debug, PartialEq, Eq, Error)]
@@ -28,11 +27,7 @@ const PIECE: usize = 1 << 16;
 /// Reads to the end of the input, and gives all its bytes. It ends at the first of these: a read failed, more than
 /// `limit` bytes came, memory was refused, or the input is at its end. A failed read is not made again. It asks for one
 /// byte more than `limit` in all.
-pub fn read_all<R: Read>(
-    alloc: Global,
-    tap: &mut Tap<R>,
-    limit: usize,
-) -> Result<Vec<u8>, ReadEnd>
+pub fn read_all<R: Read>(alloc: Global, tap: &mut Tap<R>, limit: usize) -> Result<Vec<u8>, ReadEnd>
     requires { reads_of tap.old + limit < u64.MAX }
 
     // At most `limit` bytes come, and they are all that were left.
@@ -44,9 +39,10 @@ pub fn read_all<R: Read>(
     ensures too_large { IsErrOf result ReadEnd.TooLarge → IfSome (bytes_left R.remaining tap.old) (λ left. limit < length left) }
     ensures fault { IsErrOf result ReadEnd.Fault ↔ (failures_of tap.old < failures_of tap.new) }
 
-    // What the call takes of the input, and what it counts.
+    // What the call takes of the input, and what it counts. Each read but the last one takes a byte.
     ensures taken { LosesAtMost (limit + 1) (bytes_left R.remaining tap.old) (bytes_left R.remaining tap.new) }
     ensures reads { (reads_of tap.old ≤ reads_of tap.new) × (reads_of tap.new ≤ reads_of tap.old + limit + 1) }
+    ensures each_took { IfOk result (λ bytes. reads_of tap.new ≤ reads_of tap.old + length bytes.items + 1) }
     ensures failures { (failures_of tap.old ≤ failures_of tap.new) × (failures_of tap.new ≤ failures_of tap.old + 1) }
 {
     let Ok(mut buffer) = vec![in alloc; 0u8; PIECE] else {

@@ -3,11 +3,12 @@
 #![tactic(auto)]
 
 mod input;
+pub mod laws;
 mod row;
 mod splitting;
 mod tap;
-
-pub mod laws;
+#[cfg(test)]
+mod tests;
 
 pub use input::{ReadEnd, read_all};
 pub use row::{Fields, Row};

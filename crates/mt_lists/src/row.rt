@@ -4,10 +4,9 @@ ghost use Rattle.std.specs.Iterator.{YieldsFirstRef, item_count};
 ghost use Rattle.csv.specs.Records.{fields_of};
 ghost use Rattle.mt_lists.specs.Records.{is_empty_field, without_trailing_empty};
 
+use csv::ByteRecord;
 use std::alloc::{AllocError, Global};
 use std::marker::Model;
-
-use csv::ByteRecord;
 
 /// The fields of a record, in order. Their bytes lie in one block, and the places where they end in another.
 #[derive(Debug, Drop)]

@@ -2,12 +2,10 @@ ghost use Rattle.std.specs.Prelude.{◌≡◌, ◌↔◌, Bool, false, nat_eq, N
 ghost use Rattle.std.specs.List.{starts_with};
 ghost use Rattle.mt_lists.specs.Records.{mark, records_of, rows_of, without_mark};
 
-use std::alloc::Global;
-
-use csv::{ByteRecord, ReaderBuilder};
-use thiserror::Error;
-
 use crate::row::Row;
+use csv::{ByteRecord, ReaderBuilder};
+use std::alloc::Global;
+use thiserror::Error;
 
 /// Why an input was not split into records.
 #[derive(Clone, Copy, Debug, PartialEq, Eq, Error)]

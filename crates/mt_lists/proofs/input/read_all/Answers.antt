@@ -1,4 +1,4 @@
-use Rattle.std.proofs.Common.{◌≡◌, ◌≤◌, ◌+◌, ◌-◌, ◌++◌, length, take, drop, true, arith, rules, length-append, length-drop}
+use Rattle.std.proofs.Common.{◌≡◌, ◌≤◌, ◌-◌, ◌++◌, length, take, drop, true, arith, rules, length-append, length-drop}
 use Rattle.std.specs.Result.{is_ok}
 use Rattle.std.proofs.lemmas.List.{length-take, take-append-le}
 use Rattle.mt_lists.proofs.InputFacts.{all_came, asked_len, ended_before, ended_within, more_than, nothing_yet, one_more}

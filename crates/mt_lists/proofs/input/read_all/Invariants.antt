@@ -1,4 +1,4 @@
-use Rattle.std.proofs.Common.{◌≡◌, ◌≤◌, ◌+◌, ◌-◌, length}
+use Rattle.std.proofs.Common.{◌≡◌, ◌+◌, ◌-◌, length}
 use Rattle.mt_lists.proofs.InputFacts.{ReadSoFar}
 use Rattle.mt_lists.proofs.input.read_all.Given as goal
 

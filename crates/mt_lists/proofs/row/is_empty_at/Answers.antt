@@ -1,5 +1,5 @@
-use Rattle.std.proofs.Common.{◌≡◌, ◌∙◌, List, ℕ, [], get_or, Some, rules, sym}
-use Rattle.csv.specs.Records.{field_at, fields_of}
+use Rattle.std.proofs.Common.{◌≡◌, ◌∙◌, [], get_or, sym}
+use Rattle.csv.specs.Records.{fields_of}
 use Rattle.csv.proofs.RecordFacts.{field-get}
 use Rattle.mt_lists.proofs.RowFacts.{field_there, field_at-slice_get}
 use Rattle.mt_lists.proofs.row.is_empty_at.Goals as goal

@@ -1,6 +1,5 @@
-use Rattle.std.proofs.Common.{◌≡◌, ◌<◌, ◌-◌, ℕ, [], get_or, length, false, arith}
+use Rattle.std.proofs.Common.{arith}
 use Rattle.csv.specs.Records.{fields_of}
-use Rattle.mt_lists.specs.Records.{is_empty_field}
 use Rattle.mt_lists.proofs.RowFacts.{kept_are}
 use Rattle.mt_lists.proofs.row.kept_fields.Goals as goal
 

@@ -1,4 +1,4 @@
-use Rattle.std.proofs.Common.{◌≡◌, ◌≤◌, ◌<◌, ◌-◌, ℕ, [], get_or, length, true}
+use Rattle.std.proofs.Common.{◌≡◌, ◌≤◌, ◌<◌, ℕ, [], get_or, length, true}
 use Rattle.csv.specs.Records.{fields_of}
 use Rattle.mt_lists.specs.Records.{is_empty_field}
 use Rattle.mt_lists.proofs.row.kept_fields.Given as goal

@@ -1,4 +1,4 @@
-use Rattle.std.proofs.Common.{◌≡◌, ◌∙◌, ◌++◌, ◌∷◌, [], Ok, true, rules, inr}
+use Rattle.std.proofs.Common.{◌≡◌, ◌∙◌, ◌++◌, ◌∷◌, [], true, rules, inr}
 use Rattle.std.specs.Result.{is_ok}
 use Rattle.csv.specs.Records.{fields_of}
 use Rattle.mt_lists.specs.Records.{without_trailing_empty}

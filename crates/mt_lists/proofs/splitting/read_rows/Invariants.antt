@@ -1,6 +1,3 @@
-use Rattle.std.proofs.Common.{Bor, ℕ, List, [], Some, length}
-use Rattle.std.specs.Option.{unwrap_or}
-use Rattle.csv.specs.Reading.{source_of}
 use Rattle.mt_lists.proofs.SplitFacts.{SplitSoFar, bytes_unread}
 use Rattle.mt_lists.proofs.splitting.read_rows.Given as goal
 

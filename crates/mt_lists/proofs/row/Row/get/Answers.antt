@@ -1,4 +1,4 @@
-use Rattle.std.proofs.Common.{◌∙◌, rules}
+use Rattle.std.proofs.Common.{◌∙◌}
 use Rattle.csv.specs.Records.{fields_of}
 use Rattle.mt_lists.proofs.RowFacts.{field_at-slice_get}
 use Rattle.mt_lists.proofs.row.Row.get.Goals as goal
