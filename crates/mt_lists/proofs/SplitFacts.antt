@@ -8,7 +8,7 @@ use Rattle.csv.specs.declared.parser.State.TheVariants as st
 use Rattle.csv.specs.declared.reader.Reader.{Reader}
 use Rattle.csv.specs.declared.reader.Trim.TheVariants as trim
 use Rattle.csv.specs.Machine.{Read, ends_at_end, next_record}
-use Rattle.csv.specs.Reading.{Reached, ReadRecord, Ready, default_config, source_of}
+use Rattle.csv.specs.Reading.{Reached, ReadRecord, Ready, default_config, is_flexible, source_of}
 use Rattle.csv.proofs.ReadFacts.{rows-end, rows-more}
 use Rattle.mt_lists.specs.Records.{rows_of, without_trailing_empty}
 use Rattle.mt_lists.proofs.CsvFacts.{next-shorter, records_left, records_left-none, records_left-some}
@@ -28,6 +28,7 @@ bytes_unread reader = length (unwrap_or (unread reader) [])
 
 -- a reader that gave these rows of a text, and has yet to give the others
 pub record SplitSoFar (text : List ℕ) (reader : Reader (Bor (List ℕ))) (rows : List (List (List ℕ))) : Type 0 where
+  pub flexible : is_flexible reader ≡ true
   pub trim : reader.trim ≡ trim.None
   pub ready : Ready reader
   pub config : reader.config ≡ default_config
@@ -53,13 +54,14 @@ found_next old new fields left config source found =
 
 -- one row more, and fewer bytes left
 pub one_row_more : (text : List ℕ) (old new : Reader (Bor (List ℕ))) (rows : List (List (List ℕ))) (fields : List (List ℕ)) → SplitSoFar text old rows
-    → ReadRecord (λ s. Some s.now) old new true fields → new.first ≡ true
+    → ReadRecord (λ s. Some s.now) old new true fields → new.first ≡ true → is_flexible new ≡ true
     → SplitSoFar text new (rows ++ without_trailing_empty fields ∷ []) × (bytes_unread new < bytes_unread old)
-one_row_more text old new rows fields so_far found first =
+one_row_more text old new rows fields so_far found first flexible =
     let at = found_next old new fields so_far.left so_far.config so_far.source found in
     let p : Read = (fields, new.state, at.after) in
     let less = next-shorter default_config old.state so_far.left p so_far.idle at.next in (
       record {
+        flexible = flexible;
         trim = found.3 ∙ so_far.trim;
         ready = inl first;
         config = found.2 ∙ so_far.config;
@@ -79,11 +81,12 @@ no_row_more text old new rows fields so_far ended =
     sym (so_far.rows_are ∙ rw (records_left-none old.state so_far.left none) (append-nil rows))
 
 -- a reader that has yet to read
-pub no_row_yet : (text : List ℕ) (reader : Reader (Bor (List ℕ))) (rows : List (List (List ℕ))) → reader.trim ≡ trim.None → Ready reader → reader.config ≡ default_config
+pub no_row_yet : (text : List ℕ) (reader : Reader (Bor (List ℕ))) (rows : List (List (List ℕ))) → is_flexible reader ≡ true → reader.trim ≡ trim.None → Ready reader → reader.config ≡ default_config
     → reader.state ≡ st.StartRecord → unread reader ≡ Some text → rows ≡ [] → SplitSoFar text reader rows
 unfolding rows_of
-no_row_yet text reader rows plain ready config start source none =
+no_row_yet text reader rows flexible plain ready config start source none =
     record {
+      flexible = flexible;
       trim = plain;
       ready = ready;
       config = config;

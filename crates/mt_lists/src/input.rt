@@ -24,26 +24,31 @@ pub enum ReadEnd {
 // How many bytes a read asks for at most.
 const PIECE: usize = 1 << 16;
 
-/// Reads to the end of the input, and gives all its bytes. It ends at the first of these: a read failed, more than
-/// `limit` bytes came, memory was refused, or the input is at its end. A failed read is not made again. It asks for one
-/// byte more than `limit` in all.
+/// Reads to the end of the input, and gives all its bytes. It ends at the first of these: a read failed, more
+/// than `limit` bytes came, memory was refused, or the input is at its end. A failed read is not made again. In
+/// all it asks for one byte more than `limit`, and after a refusal the reader stands where the last read left it.
 pub fn read_all<R: Read>(alloc: Global, tap: &mut Tap<R>, limit: usize) -> Result<Vec<u8>, ReadEnd>
     requires { reads_of tap.old + limit < u64.MAX }
 
-    // At most `limit` bytes come, and they are all that were left.
+    // The bytes are all that were left, and at most `limit`.
     ensures within { IfOk result (λ bytes. length bytes.items ≤ limit) }
-    ensures whole { IfOk result (λ bytes. IfSome (bytes_left R.remaining tap.old) (λ left. bytes.items ≡ left)) }
+    ensures whole { IfOk result (λ bytes. IfSome (bytes_left R.remaining tap.old)
+        (λ left. bytes.items ≡ left)) }
     ensures ended { OnOk result (IsAtEnd (bytes_left R.remaining tap.new)) }
 
-    // Which refusal comes.
-    ensures too_large { IsErrOf result ReadEnd.TooLarge → IfSome (bytes_left R.remaining tap.old) (λ left. limit < length left) }
+    // So `TooLarge` comes exactly where there were more, unless a read failed or memory was refused.
+    ensures too_large { IsErrOf result ReadEnd.TooLarge → IfSome (bytes_left R.remaining tap.old)
+        (λ left. limit < length left) }
     ensures fault { IsErrOf result ReadEnd.Fault ↔ (failures_of tap.old < failures_of tap.new) }
 
-    // What the call takes of the input, and what it counts. Each read but the last one takes a byte.
-    ensures taken { LosesAtMost (limit + 1) (bytes_left R.remaining tap.old) (bytes_left R.remaining tap.new) }
-    ensures reads { (reads_of tap.old ≤ reads_of tap.new) × (reads_of tap.new ≤ reads_of tap.old + limit + 1) }
-    ensures each_took { IfOk result (λ bytes. reads_of tap.new ≤ reads_of tap.old + length bytes.items + 1) }
-    ensures failures { (failures_of tap.old ≤ failures_of tap.new) × (failures_of tap.new ≤ failures_of tap.old + 1) }
+    // What it takes of the input, and what it counts. Each read but the last one takes a byte.
+    ensures taken { LosesAtMost (limit + 1) (bytes_left R.remaining tap.old)
+        (bytes_left R.remaining tap.new) }
+    ensures reads { (reads_of tap.old ≤ reads_of tap.new)
+        × (reads_of tap.new ≤ reads_of tap.old + limit + 1) }
+    ensures turns { IfOk result (λ bytes. reads_of tap.new ≤ reads_of tap.old + length bytes.items + 1) }
+    ensures failures { (failures_of tap.old ≤ failures_of tap.new)
+        × (failures_of tap.new ≤ failures_of tap.old + 1) }
 {
     let Ok(mut buffer) = vec![in alloc; 0u8; PIECE] else {
         return Err(ReadEnd::Memory);

@@ -1,4 +1,4 @@
-ghost use Rattle.std.specs.Prelude.{◌≡◌, ◌<◌, ◌==◌, List, ℕ, [], drop, length, map, slice_get, slice_index_or, take, Some, IfOk};
+ghost use Rattle.std.specs.Prelude.{◌≡◌, ◌<◌, ◌==◌, [], length, map, slice_get, slice_index_or, take, Some, IfOk};
 ghost use Rattle.std.specs.Option.{option_copied};
 ghost use Rattle.std.specs.Iterator.{YieldsFirstRef, item_count};
 ghost use Rattle.csv.specs.Records.{fields_of};
@@ -36,12 +36,12 @@ impl Row {
     }
 
     // The fields of a record without the empty ones at its end, which the record loses too.
-    pub(crate) fn trimmed(record: &mut ByteRecord) -> Result<Row, AllocError>
-        ensures { IfOk result (λ row. row ≡ without_trailing_empty (fields_of record.old)) }
+    pub(crate) fn trimmed(raw: &mut ByteRecord) -> Result<Row, AllocError>
+        ensures { IfOk result (λ row. row ≡ without_trailing_empty (fields_of raw.old)) }
     {
-        record.truncate(kept_fields(record));
+        raw.truncate(kept_fields(raw));
         Ok(Row {
-            record: record.clone()?,
+            record: raw.clone()?,
         })
     }
 
@@ -83,22 +83,22 @@ impl Row {
 }
 
 // How many fields stay without the empty ones at the end.
-fn kept_fields(record: &ByteRecord) -> usize
-    ensures { take result (fields_of record.now) ≡ without_trailing_empty (fields_of record.now) }
+fn kept_fields(raw: &ByteRecord) -> usize
+    ensures { take result (fields_of raw.now) ≡ without_trailing_empty (fields_of raw.now) }
 {
-    let mut kept = record.len();
-    while kept > 0 && is_empty_at(record, kept - 1) {
+    let mut kept = raw.len();
+    while kept > 0 && is_empty_at(raw, kept - 1) {
         kept -= 1;
     }
     kept
 }
 
 // Whether the field at a place has no byte.
-fn is_empty_at(record: &ByteRecord, i: usize) -> bool
-    requires { i < length (fields_of record.now) }
-    ensures { result ≡ is_empty_field (slice_index_or (fields_of record.now) i []) }
+fn is_empty_at(raw: &ByteRecord, i: usize) -> bool
+    requires { i < length (fields_of raw.now) }
+    ensures { result ≡ is_empty_field (slice_index_or (fields_of raw.now) i []) }
 {
-    record.get(i).unwrap().is_empty()
+    raw.get(i).unwrap().is_empty()
 }
 
 /// The fields of a row in turn.

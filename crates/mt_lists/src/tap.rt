@@ -14,7 +14,7 @@ pub struct Tap<R> {
     reader: R,
     reads: u64,
     failures: u64,
-    ghost failed_reads: { failures ≤ reads },
+    pub ghost failures_are_reads: { failures ≤ reads },
 }
 
 impl<R: Read> Tap<R> {
@@ -36,14 +36,17 @@ impl<R: Read> Tap<R> {
         }
     }
 
-    /// Asks the reader once for the next bytes, at most as many as the buffer holds, and gives how many came. A read
-    /// that was interrupted counts as one that failed.
+    /// Asks the reader once for the next bytes, at most as many as the buffer holds, and gives how many came. A
+    /// read that was interrupted counts as one that failed.
     pub fn read(&mut self, buf: &mut [u8]) -> Result<usize, SourceFault>
         requires { reads_of self.old < u64.MAX }
         ensures reads { reads_of self.new ≡ reads_of self.old + 1 }
         ensures failures { failures_of self.new ≡ failures_of self.old + (if is_err result then 1 else 0) }
+
+        // The answer of the reader itself: these are the clauses of its `read`.
         ensures within { ReadsAtMost result buf.new }
-        ensures bytes { ReadConsumes (bytes_left R.remaining self.old) (bytes_left R.remaining self.new) result buf.new }
+        ensures bytes { ReadConsumes (bytes_left R.remaining self.old)
+            (bytes_left R.remaining self.new) result buf.new }
     {
         self.reads += 1;
         match self.reader.read(buf) {

@@ -75,8 +75,10 @@ fn rows_of_input<R: Read>(
     limit: usize,
 ) -> Result<Vec<Row>, Refusal>
     requires { reads_of tap.old + limit < u64.MAX }
-    ensures rows { IfOk result (λ rows. IfSome (bytes_left R.remaining tap.old) (λ bytes. records_of bytes ≡ Some rows.items)) }
-    ensures two_marks { IsErrOf result (Refusal.List ListFault.TwoMarks) → IfSome (bytes_left R.remaining tap.old) (λ bytes. records_of bytes ≡ None) }
+    ensures rows { IfOk result (λ rows. IfSome (bytes_left R.remaining tap.old)
+        (λ bytes. records_of bytes ≡ Some rows.items)) }
+    ensures two_marks { IsErrOf result (Refusal.List ListFault.TwoMarks) → IfSome (bytes_left R.remaining tap.old)
+        (λ bytes. records_of bytes ≡ None) }
     ensures fault { IsErrOf result (Refusal.Input ReadEnd.Fault) ↔ (failures_of tap.old < failures_of tap.new) }
 {
     let bytes = match read_all(alloc, tap, limit) {
