@@ -1,9 +1,9 @@
-ghost use Rattle.std.specs.Prelude.{◌≡◌, ◌↔◌, ◌<◌, ◌≤◌, ◌+◌, length, IfOk, IfSome, OnOk, IsErrOf};
+ghost use Rattle.std.specs.Prelude.{◌≡◌, ◌↔◌, ◌<◌, ◌≤◌, ◌+◌, length, vec_len, IfOk, IfSome, OnOk, IsErrOf};
 ghost use Rattle.std.specs.Io.KnownBytes.{IsAtEnd};
 ghost use Rattle.mt_lists.specs.Tap.{LosesAtMost, bytes_left, failures_of, reads_of};
 
 use crate::tap::Tap;
-use std::alloc::Global;
+use std::alloc::{AllocError, Global};
 use std::io::Read;
 use thiserror::Error;
 
@@ -50,7 +50,7 @@ pub fn read_all<R: Read>(alloc: Global, tap: &mut Tap<R>, limit: usize) -> Resul
     ensures failures { (failures_of tap.old ≤ failures_of tap.new)
         × (failures_of tap.new ≤ failures_of tap.old + 1) }
 {
-    let Ok(mut buffer) = vec![in alloc; 0u8; PIECE] else {
+    let Ok(mut buffer) = zeroes(alloc, PIECE) else {
         return Err(ReadEnd::Memory);
     };
     let piece = buffer.as_mut_slice();
@@ -72,4 +72,11 @@ pub fn read_all<R: Read>(alloc: Global, tap: &mut Tap<R>, limit: usize) -> Resul
             return Err(ReadEnd::Memory);
         }
     }
+}
+
+// A buffer of so many bytes.
+fn zeroes(alloc: Global, len: usize) -> Result<Vec<u8>, AllocError>
+    ensures { IfOk result (λ buffer. vec_len buffer ≡ len) }
+{
+    vec![in alloc; 0; len]
 }
