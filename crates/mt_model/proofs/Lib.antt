@@ -1,2 +1,4 @@
+pub mod RoundsLists
+pub mod RoundsSets
 mod Scratch
 pub mod SinglesFacts
