@@ -1,0 +1,134 @@
+-- The agents of a market, their members and their options.
+use Rattle.std.proofs.Common.{◌≡◌, ℕ, zero, suc, ◌+◌, ◌<◌, ◌≤◌, Bool, true, false, not, ◌&&◌, ◌||◌, ◌==◌, cond, List, [], ◌∷◌, map, filter, length, Option, Some, None, ◌⊎◌, inl, inr, refl, ap, ap₂, sym, ◌∙◌, arith, subst, slice_index_or, if◌then◌else◌, eq-eqb, eqb-true, IsTrue}
+use Rattle.std.specs.List.{list_any}
+use Rattle.std.proofs.lemmas.Bool.{cases_Bool, cases_eq, cases_lt, and_parts, or_cases, and_from, or_left, or_right, or_from, or_parts, false≢true, true_from_ne_false, false_from_ne_true, not-true, not_from_false, not_from_true, ne_eqb}
+use Rattle.mt_model.specs.Lists.{has, below, is_distinct}
+use Rattle.mt_model.specs.Market.{Market, Partners, Pair, applicants, list_of, couple_of, is_member, agent_from, agent_of, members, leads, agents}
+use Rattle.mt_model.specs.Matching.{Placement, single_placement, couple_placement, options}
+use Rattle.mt_model.specs.WellFormed.{IsMember, IsWellFormed}
+use Rattle.mt_model.specs.Rounds.{is_same_agent}
+use Rattle.mt_model.specs.declared.numbers.Agent.{Agent}
+use Rattle.mt_model.specs.declared.numbers.Agent.TheVariants.{Single, Couple}
+use Rattle.mt_model.proofs.RoundsLists.{In, in_has, has_in, in_image, of_image, in_kept, of_kept, in_below, of_below, found, finds}
+use Rattle.mt_model.proofs.RoundsSets.{has_head, has_rest}
+use Rattle.mt_model.proofs.RoundsPlaces.{movers}
+
+-- the same agent is the same agent
+pub is_same_agent_refl : (g : Agent) → is_same_agent g g ≡ true
+is_same_agent_refl (Single a) = eq-eqb a a refl
+is_same_agent_refl (Couple c) = eq-eqb c c refl
+
+pub same_agent : (g h : Agent) → is_same_agent g h ≡ true → g ≡ h
+same_agent (Single a) (Single b) e = ap Single (eqb-true a b e)
+same_agent (Single a) (Couple d) e = absurd (false≢true e)
+same_agent (Couple c) (Single b) e = absurd (false≢true e)
+same_agent (Couple c) (Couple d) e = ap Couple (eqb-true c d e)
+
+-- whether an agent stands on a list of agents
+pub on_list : (g : Agent) (gs : List Agent) → In g gs → list_any (is_same_agent g) gs ≡ true
+on_list g gs i = finds (is_same_agent g) g gs i (is_same_agent_refl g)
+
+pub of_list : (g : Agent) (gs : List Agent) → list_any (is_same_agent g) gs ≡ true → In g gs
+of_list g gs h = let w = found (is_same_agent g) gs h in subst (λ x. In x gs) (sym (same_agent g w.0 w.2)) w.1
+
+-- An agent of the market: its members are applicants that belong to it alone.
+pub record IsAgent (m : Market) (g : Agent) : Type 0 where
+  pub within : (a : ℕ) → has (members m g) a ≡ true → a < applicants m
+  pub belongs : (a : ℕ) → has (members m g) a ≡ true → agent_of m a ≡ g
+  pub distinct : is_distinct (members m g) ≡ true
+
+-- the couple whose member an applicant is
+agent_from_couple : (xs : List Partners) (c a d : ℕ) (none : Partners) → agent_from xs c a ≡ Couple d
+    → (k : ℕ) × (k < length xs) × (d ≡ c + k) × (is_member (slice_index_or xs k none) a ≡ true)
+agent_from_couple [] c a d none e = absurd cc
+agent_from_couple (x ∷ xs) c a d none e =
+    let here = λ (t : is_member x a ≡ true). let is : c ≡ d = (let at : Couple c ≡ Couple d = rw t at e in cc) in
+            (let r : (k : ℕ) × (k < length (x ∷ xs)) × (d ≡ c + k) × (is_member (slice_index_or (x ∷ xs) k none) a ≡ true) = (0, omega arith, omega arith, t) in r) in
+    let later = λ (t : is_member x a ≡ false). let w = agent_from_couple xs (c + 1) a d none (rw t at e) in
+            (let r : (k : ℕ) × (k < length (x ∷ xs)) × (d ≡ c + k) × (is_member (slice_index_or (x ∷ xs) k none) a ≡ true) = (suc w.0, omega arith, omega arith, w.3) in r) in
+    elim (cases_Bool (is_member x a)) [ inl t ↦ here t | inr t ↦ later t ]
+
+agent_from_single : (xs : List Partners) (c a b : ℕ) → agent_from xs c a ≡ Single b → b ≡ a
+agent_from_single [] c a b e = cc
+agent_from_single (x ∷ xs) c a b e = elim (cases_Bool (is_member x a)) [
+    inl t ↦ absurd (let at : Couple c ≡ Single b = rw t at e in cc)
+    | inr t ↦ agent_from_single xs (c + 1) a b (rw t at e) ]
+
+-- who stands on a list of one or two
+only_one : (x a : ℕ) → has (x ∷ []) a ≡ true → x ≡ a
+only_one x a h = elim (or_cases (x == a) false h) [ inl e ↦ eqb-true x a e | inr e ↦ absurd (false≢true e) ]
+
+one_of_two : (x y a : ℕ) → has (x ∷ y ∷ []) a ≡ true → (x ≡ a) ⊎ (y ≡ a)
+one_of_two x y a h = elim (or_cases (x == a) (has (y ∷ []) a) h) [ inl e ↦ inl (eqb-true x a e) | inr e ↦ inr (only_one y a e) ]
+
+-- the two members of a couple
+couple_members : (m : Market) → IsWellFormed m → (c : ℕ) → c < length m.couples → IsAgent m (Couple c)
+couple_members m wf c l =
+    let one = wf.first_member c l in
+    let two = wf.second_member c l in
+    let apart = wf.two_members c l in
+    record {
+        within = λ a i. elim (one_of_two _ _ a i) [ inl e ↦ subst (λ x. x < applicants m) e one.within | inr e ↦ subst (λ x. x < applicants m) e two.within ];
+        belongs = λ a i. elim (one_of_two _ _ a i) [ inl e ↦ subst (λ x. agent_of m x ≡ Couple c) e one.belongs | inr e ↦ subst (λ x. agent_of m x ≡ Couple c) e two.belongs ];
+        distinct = rw (ne_eqb (couple_of m c).second (couple_of m c).first (λ e. apart (sym e))) refl
+    }
+
+single_member : (m : Market) (a : ℕ) → a < applicants m → agent_of m a ≡ Single a → IsAgent m (Single a)
+single_member m a l e = record {
+    within = λ b i. subst (λ x. x < applicants m) (only_one a b i) l;
+    belongs = λ b i. subst (λ x. agent_of m x ≡ Single a) (only_one a b i) e;
+    distinct = refl
+}
+
+-- an applicant belongs to an agent of the market
+pub agent_of_applicant : (m : Market) → IsWellFormed m → (a : ℕ) → a < applicants m → IsAgent m (agent_of m a)
+agent_of_applicant m wf a l = by_kind (agent_of m a) refl
+  where
+    by_kind : (g : Agent) → agent_of m a ≡ g → IsAgent m g
+    by_kind (Single b) e =
+        let is : b ≡ a = agent_from_single m.couples 0 a b e in
+        single_member m b (subst (λ x. x < applicants m) (sym is) l) (subst (λ x. agent_of m x ≡ Single b) (sym is) e)
+    by_kind (Couple c) e =
+        let w = agent_from_couple m.couples 0 a c (record { first = 0; second = 0; pairs = [] }) e in
+        couple_members m wf c (omega arith)
+
+either_member : (p : Partners) (a : ℕ) → is_member p a ≡ true → has (p.first ∷ p.second ∷ []) a ≡ true
+either_member p a h = elim (or_cases (p.first == a) (p.second == a) h) [
+    inl e ↦ or_left (p.first == a) (has (p.second ∷ []) a) e
+    | inr e ↦ or_right (p.first == a) (has (p.second ∷ []) a) (or_left (p.second == a) false e) ]
+
+-- and is a member of it
+pub member_of_agent : (m : Market) (a : ℕ) → has (members m (agent_of m a)) a ≡ true
+member_of_agent m a = by_kind (agent_of m a) refl
+  where
+    by_kind : (g : Agent) → agent_of m a ≡ g → has (members m g) a ≡ true
+    by_kind (Single b) e = or_left (b == a) false (eq-eqb b a (agent_from_single m.couples 0 a b e))
+    by_kind (Couple c) e =
+        let w = agent_from_couple m.couples 0 a c (record { first = 0; second = 0; pairs = [] }) e in
+        let is : w.0 ≡ c = omega arith in
+        either_member (couple_of m c) a (subst (λ k. is_member (couple_of m k) a ≡ true) is w.3)
+
+-- the agents of the market are those that it lists
+pub agent_on_list : (m : Market) (g : Agent) → IsAgent m g → In g (agents m)
+agent_on_list m (Single a) h =
+    let is = h.belongs a (has_head a []) in
+    let leading : leads m a ≡ true = rw is refl in
+    subst (λ g. In g (agents m)) is (in_image (agent_of m) a (filter (leads m) (below (applicants m))) (in_kept (leads m) a (below (applicants m)) (in_below a (applicants m) (h.within a (has_head a []))) leading))
+agent_on_list m (Couple c) h =
+    let a = (couple_of m c).first in
+    let i = has_head a ((couple_of m c).second ∷ []) in
+    let is = h.belongs a i in
+    let leading : leads m a ≡ true = rw is (eq-eqb a a refl) in
+    subst (λ g. In g (agents m)) is (in_image (agent_of m) a (filter (leads m) (below (applicants m))) (in_kept (leads m) a (below (applicants m)) (in_below a (applicants m) (h.within a i)) leading))
+
+pub agent_from_list : (m : Market) → IsWellFormed m → (g : Agent) → In g (agents m) → IsAgent m g
+agent_from_list m wf g i =
+    let w = of_image (agent_of m) g (filter (leads m) (below (applicants m))) i in
+    let v = of_kept (leads m) w.0 (below (applicants m)) w.1 in
+    subst (IsAgent m) w.2 (agent_of_applicant m wf w.0 (of_below w.0 (applicants m) v.0))
+
+-- an option names its agent's members
+pub option_movers : (m : Market) (g : Agent) (sent : Placement) → In sent (options m g) → movers sent ≡ members m g
+option_movers m (Single a) sent i = let w = of_image (single_placement a) sent (list_of m a) i in sym (ap movers w.2)
+option_movers m (Couple c) sent i =
+    let w = of_image (couple_placement (couple_of m c).first (couple_of m c).second) sent (couple_of m c).pairs i in sym (ap movers w.2)
