@@ -1,5 +1,7 @@
 pub mod RoundsAgents
+pub mod RoundsFits
 pub mod RoundsLists
+pub mod RoundsMove
 pub mod RoundsPlaces
 pub mod RoundsSets
 mod Scratch
