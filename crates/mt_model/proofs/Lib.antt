@@ -1,5 +1,6 @@
 pub mod RoundsAgents
 pub mod RoundsFits
+pub mod RoundsKeep
 pub mod RoundsLists
 pub mod RoundsMove
 pub mod RoundsPlaces

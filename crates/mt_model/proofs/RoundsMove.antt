@@ -2,7 +2,7 @@
 use Rattle.std.proofs.Common.{◌≡◌, ℕ, zero, suc, ◌+◌, ◌<◌, ◌≤◌, Bool, true, false, not, ◌&&◌, ◌||◌, ◌==◌, cond, List, [], ◌∷◌, ◌++◌, map, filter, length, Option, Some, None, ◌⊎◌, inl, inr, refl, ap, ap₂, sym, ◌∙◌, arith, subst, if◌then◌else◌, flat_map, is_some, IsTrue}
 use Rattle.std.specs.List.{list_any, list_all}
 use Rattle.std.proofs.lemmas.Bool.{cases_Bool, cases_eq, cases_lt, and_parts, or_cases, and_from, or_left, or_right, or_from, or_parts, false≢true, true_from_ne_false, false_from_ne_true, not-true, not_from_false, not_from_true, both_ways}
-use Rattle.mt_model.specs.Lists.{Set, has, below, count, above, is_distinct}
+use Rattle.mt_model.specs.Lists.{Set, has, below, count, above, until, is_distinct}
 use Rattle.mt_model.specs.Market.{Market, Program, applicants, program_of, agent_of, members, agents}
 use Rattle.mt_model.specs.Matching.{Places, Placement, place_of, is_program, at, filled, options, send, holds, unplaced, none_placed, better}
 use Rattle.mt_model.specs.Choice.{choice}
@@ -53,6 +53,11 @@ option_entry {m} {h} ah o i a j =
     let w = of_image (λ (s : ℕ × Option ℕ). s.0) a o (has_in a (movers o) (subst (λ xs. has xs a ≡ true) (sym (option_movers m h o i)) j)) in
     (w.0.1, subst (λ b. In (b, w.0.1) o) w.2 w.1)
 
+-- whom an option names is a member of its agent
+pub option_member : (m : Market) (h : Agent) (o : Placement) → In o (options m h) → (a : ℕ) (v : Option ℕ) → In (a, v) o → has (members m h) a ≡ true
+option_member m h o i a v j =
+    subst (λ xs. has xs a ≡ true) (option_movers m h o i) (in_has a (movers o) (in_image (λ (t : ℕ × Option ℕ). t.0) (a, v) o j))
+
 -- in a match of the market it is there then
 option_there : {m : Market} {h : Agent} → IsAgent m h → (o : Placement) → In o (options m h) → (places : Places) → length places ≡ applicants m
     → (a : ℕ) (v : Option ℕ) → has (members m h) a ≡ true → In (a, v) o → place_of (send o places) a ≡ v
@@ -61,7 +66,7 @@ option_there {m} {h} ah o i places e a v j k =
     send_there o places a v (subst (λ xs. is_distinct xs ≡ true) (sym (option_movers m h o i)) ah.distinct) (omega arith) k
 
 -- and nobody else is moved
-option_elsewhere : (m : Market) (h : Agent) (o : Placement) → In o (options m h) → (places : Places) (a : ℕ) → has (members m h) a ≡ false
+pub option_elsewhere : (m : Market) (h : Agent) (o : Placement) → In o (options m h) → (places : Places) (a : ℕ) → has (members m h) a ≡ false
     → place_of (send o places) a ≡ place_of places a
 option_elsewhere m h o i places a j = send_elsewhere o places a (subst (λ xs. has xs a ≡ false) (sym (option_movers m h o i)) j)
 
@@ -76,7 +81,7 @@ chosen_there {m} {old} {g} {sent} mv a p i h =
     (sent_to sent a p here, each _ (a, Some p) sent mv.taken here)
 
 -- who is displaced, and where
-of_displaced : (m : Market) (moved : Places) (sent : Placement) (a : ℕ) → In a (displaced m moved sent)
+pub of_displaced : (m : Market) (moved : Places) (sent : Placement) (a : ℕ) → In a (displaced m moved sent)
     → (p : ℕ) × In p (programs_sent_to sent) × (displaced_at m moved p a ≡ true) × (has (program_of m p).ranking a ≡ true)
 of_displaced m moved sent a i =
     let w = of_joined (λ p. filter (displaced_at m moved p) (program_of m p).ranking) a (programs_sent_to sent) i in
@@ -126,7 +131,7 @@ stays_in {m} {old} {g} {sent} mv h ag d a i =
         both_ways (is_displaced m old sent h) d (on_list h (map (agent_of m) (displaced m (send sent old) sent)) (subst (λ x. In x (map (agent_of m) (displaced m (send sent old) sent))) is its))))
 
 -- two agents share no member
-apart : {m : Market} {g h : Agent} → IsAgent m g → IsAgent m h → is_same_agent h g ≡ false → (a : ℕ) → has (members m h) a ≡ true → has (members m g) a ≡ false
+pub apart : {m : Market} {g h : Agent} → IsAgent m g → IsAgent m h → is_same_agent h g ≡ false → (a : ℕ) → has (members m h) a ≡ true → has (members m g) a ≡ false
 apart {m} {g} {h} ag ah d a i =
     false_from_ne_true (has (members m g) a) (λ j. false≢true (sym d ∙ ap (is_same_agent h) (sym (ag.belongs a j) ∙ ah.belongs a i) ∙ is_same_agent_refl h))
 
@@ -166,7 +171,7 @@ own_after {m} {old} {g} {sent} mv h ah = elim (cases_Bool (is_displaced m old se
     new = match_after m old sent
     mover_has : list_any (holds new) (options m g) ≡ true
     mover_has = finds (holds new) sent (options m g) mv.option (all_pass _ sent (λ s i.
-        let j : has (members m g) s.0 ≡ true = subst (λ xs. has xs s.0 ≡ true) (option_movers m g sent mv.option) (in_has s.0 (movers sent) (in_image (λ (t : ℕ × Option ℕ). t.0) s sent i)) in
+        let j = option_member m g sent mv.option s.0 s.1 i in
         let there = stays_in mv g mv.agent (mover_stays mv) s.0 j ∙ option_there mv.agent sent mv.option old mv.fitting.one_each s.0 s.1 j i in
         rw there (is_same_place_refl s.1)))
 
@@ -206,3 +211,64 @@ fits_after {m} {old} {g} {sent} mv = record {
     within = λ p. few_after mv p
 }
 
+
+-- at a program that nobody left, who was there and absent any more was displaced there
+gone_from : (m : Market) (old moved new : Places) (p a : ℕ) → length old ≡ applicants m → is_left m old moved new p ≡ false
+    → at old p a ≡ true → at new p a ≡ false → displaced_at m moved p a ≡ true
+gone_from m old moved new p a e kept was absent = true_from_ne_false (displaced_at m moved p a) (λ d.
+    let l = placed_within old p a was in
+    both_ways (is_left m old moved new p) kept
+    (finds _ a (below (applicants m)) (in_below a (applicants m) (omega arith)) (rw (was, absent, d) refl)))
+
+-- at a program that nobody left no fewer stand above anybody than before
+room_shrinks : {m : Market} {old : Places} {g : Agent} {sent : Placement} → IsMove m old g sent → (p : ℕ)
+    → is_left m old (send sent old) (match_after m old sent) p ≡ false
+    → (b : ℕ) → above (at old p) (program_of m p).ranking b ≤ above (at (match_after m old sent) p) (program_of m p).ranking b
+room_shrinks {m} {old} {g} {sent} mv p kept =
+    no_fewer_above (at old p) (at moved p) (at new p) (program_of m p).ranking (program_of m p).quota (mv.fitting.within p)
+    (λ a i was absent.
+        let d = and_parts (at moved p a) (not (choice (program_of m p) (at moved p) a)) (gone a was absent) in
+        not_chosen (program_of m p) (at moved p) a i d.0 (not-true (choice (program_of m p) (at moved p) a) d.1))
+    (λ a i there high. true_from_ne_false (at new p a) (λ absent. chosen_stays a (chosen_from (program_of m p) (at moved p) a i there high) there absent))
+  where
+    moved : Places
+    moved = send sent old
+    new : Places
+    new = match_after m old sent
+    gone : (a : ℕ) → at old p a ≡ true → at new p a ≡ false → displaced_at m moved p a ≡ true
+    gone a was absent = gone_from m old moved new p a mv.fitting.one_each kept was absent
+    chosen_stays : (a : ℕ) → choice (program_of m p) (at moved p) a ≡ true → at moved p a ≡ true → at new p a ≡ false → ⊥
+    chosen_stays a chosen there absent = elim (cases_Bool (has (members m g) a)) [
+        inl i ↦ both_ways (at new p a) absent (ap (is_program p) (stays_in mv g mv.agent (mover_stays mv) a i) ∙ there)
+        | inr i ↦
+            let was : at old p a ≡ true = ap (is_program p) (sym (option_elsewhere m g sent mv.option old a i)) ∙ there in
+            let d = and_parts (at moved p a) (not (choice (program_of m p) (at moved p) a)) (gone a was absent) in
+            both_ways (choice (program_of m p) (at moved p) a) (not-true (choice (program_of m p) (at moved p) a) d.1) chosen ]
+
+-- At a program that nobody left, an agent that neither moved nor was displaced would be taken after the move
+-- only where it would have been taken before.
+pub taken_before : {m : Market} {old : Places} {g : Agent} {sent : Placement} → IsMove m old g sent → (h : Agent) → IsAgent m h
+    → is_displaced m old sent h ≡ false → is_same_agent h g ≡ false
+    → (o : Placement) → In o (options m h) → (b p : ℕ) → In (b, Some p) o
+    → is_left m old (send sent old) (match_after m old sent) p ≡ false
+    → is_chosen m (send o (match_after m old sent)) b (Some p) ≡ true → is_chosen m (send o old) b (Some p) ≡ true
+taken_before {m} {old} {g} {sent} mv h ah d other o i b p j kept chosen =
+    let rank = (program_of m p).ranking in
+    let parts = chosen_parts (program_of m p) (at (send o new) p) b chosen in
+    let there : at (send o old) p b ≡ true = at_some (send o old) p b (option_there ah o i old mv.fitting.one_each b (Some p) (option_member m h o i b (Some p) j) j) in
+    let shift = count_shift (at (send o old) p) (at (send o new) p) (at old p) (at new p) (until (λ x. x == b) rank) same_shift in
+    let room = room_shrinks mv p kept b in
+    let high = parts.2 in
+    chosen_from (program_of m p) (at (send o old) p) b parts.0 there (omega arith)
+  where
+    new : Places
+    new = match_after m old sent
+    new_len : length new ≡ applicants m
+    new_len = (fits_after mv).one_each
+    same_shift : (a : ℕ) → ((at (send o old) p a ≡ at (send o new) p a) × (at old p a ≡ at new p a)) ⊎ ((at (send o old) p a ≡ at old p a) × (at (send o new) p a ≡ at new p a))
+    same_shift a = elim (cases_Bool (has (members m h) a)) [
+        inl k ↦
+            let w = option_entry ah o i a k in
+            inl (ap (is_program p) (option_there ah o i old mv.fitting.one_each a w.0 k w.1 ∙ sym (option_there ah o i new new_len a w.0 k w.1)),
+            ap (is_program p) (sym (untouched mv h ah d other a k)))
+        | inr k ↦ inr (ap (is_program p) (option_elsewhere m h o i old a k), ap (is_program p) (option_elsewhere m h o i new a k)) ]

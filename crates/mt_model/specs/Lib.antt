@@ -2,6 +2,7 @@ pub mod Best
 pub mod Choice
 pub mod Examples
 pub mod Floor
+pub mod Laws
 pub mod Lists
 pub mod Market
 pub mod Matching
