@@ -5,5 +5,6 @@ pub mod RoundsLists
 pub mod RoundsMove
 pub mod RoundsPlaces
 pub mod RoundsSets
+pub mod RoundsStage
 mod Scratch
 pub mod SinglesFacts

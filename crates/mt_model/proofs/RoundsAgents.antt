@@ -58,11 +58,11 @@ agent_from_single (x ∷ xs) c a b e = elim (cases_Bool (is_member x a)) [
 only_one : (x a : ℕ) → has (x ∷ []) a ≡ true → x ≡ a
 only_one x a h = elim (or_cases (x == a) false h) [ inl e ↦ eqb-true x a e | inr e ↦ absurd (false≢true e) ]
 
-one_of_two : (x y a : ℕ) → has (x ∷ y ∷ []) a ≡ true → (x ≡ a) ⊎ (y ≡ a)
+pub one_of_two : (x y a : ℕ) → has (x ∷ y ∷ []) a ≡ true → (x ≡ a) ⊎ (y ≡ a)
 one_of_two x y a h = elim (or_cases (x == a) (has (y ∷ []) a) h) [ inl e ↦ inl (eqb-true x a e) | inr e ↦ inr (only_one y a e) ]
 
 -- the two members of a couple
-couple_members : (m : Market) → IsWellFormed m → (c : ℕ) → c < length m.couples → IsAgent m (Couple c)
+pub couple_members : (m : Market) → IsWellFormed m → (c : ℕ) → c < length m.couples → IsAgent m (Couple c)
 couple_members m wf c l =
     let one = wf.first_member c l in
     let two = wf.second_member c l in
@@ -73,12 +73,19 @@ couple_members m wf c l =
         distinct = rw (ne_eqb (couple_of m c).second (couple_of m c).first (λ e. apart (sym e))) refl
     }
 
-single_member : (m : Market) (a : ℕ) → a < applicants m → agent_of m a ≡ Single a → IsAgent m (Single a)
+pub single_member : (m : Market) (a : ℕ) → a < applicants m → agent_of m a ≡ Single a → IsAgent m (Single a)
 single_member m a l e = record {
     within = λ b i. subst (λ x. x < applicants m) (only_one a b i) l;
     belongs = λ b i. subst (λ x. agent_of m x ≡ Single a) (only_one a b i) e;
     distinct = refl
 }
+
+-- a couple that is an agent of the market is one of its couples
+pub couple_number : (m : Market) (c : ℕ) → IsAgent m (Couple c) → c < length m.couples
+couple_number m c h =
+    let a = (couple_of m c).first in
+    let w = agent_from_couple m.couples 0 a c (record { first = 0; second = 0; pairs = [] }) (h.belongs a (has_head a ((couple_of m c).second ∷ []))) in
+    omega arith
 
 -- an applicant belongs to an agent of the market
 pub agent_of_applicant : (m : Market) → IsWellFormed m → (a : ℕ) → a < applicants m → IsAgent m (agent_of m a)

@@ -10,7 +10,7 @@ use Rattle.mt_model.specs.Choice.{choice}
 use Rattle.mt_model.specs.Stability.{is_chosen, fits, would_be_taken, blocks}
 use Rattle.mt_model.specs.WellFormed.{IsWellFormed}
 use Rattle.mt_model.specs.Rounds.{Work, is_same_agent, joined, all_joined, has_entered, first_taken, programs_sent_to, displaced_at, displaced, after_move, is_left, reopened_at, to_look_at, after_taking, round_of, round}
-use Rattle.mt_model.specs.Laws.Rounds.{is_on, IsRoundState, RoundKeeps}
+use Rattle.mt_model.specs.Laws.Rounds.{is_on, IsRoundState, RoundKeeps, IsFittingState, RoundFits}
 use Rattle.mt_model.specs.declared.numbers.Agent.{Agent}
 use Rattle.mt_model.proofs.RoundsLists.{In, found, finds, in_has, has_in, in_left, in_right, in_either, in_image, of_image, in_kept, of_kept, in_joined, of_joined, in_below, of_below, each, all_pass, fails_at, of_until}
 use Rattle.mt_model.proofs.RoundsPlaces.{at_none}
@@ -92,14 +92,14 @@ not_mover : (k : ℕ) (g h : Agent) → has_entered k g ≡ true → has_entered
 not_mover k g h e o = false_from_ne_true (is_same_agent h g) (λ same. both_ways (has_entered k h) o (ap (has_entered k) (same_agent h g same) ∙ e))
 
 -- where none of a list is placed, each is unplaced
-no_place : (v : Option ℕ) → not (is_some v) ≡ true → v ≡ None
+pub no_place : (v : Option ℕ) → not (is_some v) ≡ true → v ≡ None
 no_place None h = refl
 no_place (Some p) h = absurd (false≢true h)
 
-is_unplaced : (places : Places) (xs : List ℕ) (a : ℕ) → none_placed places xs ≡ true → has xs a ≡ true → place_of places a ≡ None
+pub is_unplaced : (places : Places) (xs : List ℕ) (a : ℕ) → none_placed places xs ≡ true → has xs a ≡ true → place_of places a ≡ None
 is_unplaced places xs a h i = no_place (place_of places a) (each _ a xs h (has_in a xs i))
 
-are_unplaced : (places : Places) (xs : List ℕ) → ((a : ℕ) → has xs a ≡ true → place_of places a ≡ None) → none_placed places xs ≡ true
+pub are_unplaced : (places : Places) (xs : List ℕ) → ((a : ℕ) → has xs a ≡ true → place_of places a ≡ None) → none_placed places xs ≡ true
 are_unplaced places xs h = all_pass _ xs (λ a i. rw (h a (in_has a xs i)) refl)
 
 -- who is looked at after a move
@@ -118,47 +118,67 @@ left_programs m old sent = filter (is_left m old (send sent old) (match_after m 
 abbrev reopened : Market → ℕ → Places → Placement → List Agent
 reopened m k old sent = flat_map (reopened_at m k (match_after m old sent)) (left_programs m old sent)
 
+-- What holds of the displaced applicants' agents, of the agent that moved, and of who blocks at a program, holds
+-- of each agent that is looked at.
+all_looked_at : (P : Agent → Type 0) (m : Market) (k : ℕ) (old : Places) (g : Agent) (sent : Placement)
+    → ((z : ℕ) → In z (displaced m (send sent old) sent) → P (agent_of m z)) → P g
+    → ((p a : ℕ) → has (program_of m p).ranking a ≡ true → has_entered k (agent_of m a) ≡ true → P (agent_of m a))
+    → (h : Agent) → In h (looked_at m k old g sent) → P h
+all_looked_at P m k old g sent of_gone of_mover of_listed h i = elim (in_either h (displaced_agents m old sent ++ mover_again m old g sent) (reopened m k old sent) i) [
+    inl j ↦ elim (in_either h (displaced_agents m old sent) (mover_again m old g sent) j) [
+        inl d ↦ let z = of_image (agent_of m) h (displaced m (send sent old) sent) d in subst P z.2 (of_gone z.0 z.1)
+        | inr again ↦ elim (cases_Bool (blocks m (match_after m old sent) g)) [
+            inl t ↦ mover (rw t at again)
+            | inr t ↦ absurd (rw t at again) ] ]
+    | inr j ↦
+        let w = of_joined (reopened_at m k (match_after m old sent)) h (left_programs m old sent) j in
+        let kept = of_kept (λ x. has_entered k x && blocks m (match_after m old sent) x) h (map (agent_of m) (program_of m w.0).ranking) w.2 in
+        let a = of_image (agent_of m) h (program_of m w.0).ranking kept.0 in
+        let entered = (and_parts (has_entered k h) (blocks m (match_after m old sent) h) kept.1).0 in
+        subst P a.2 (of_listed w.0 a.0 (in_has a.0 (program_of m w.0).ranking a.1) (ap (has_entered k) a.2 ∙ entered)) ]
+  where
+    mover : In h (g ∷ []) → P h
+    mover (inl e) = subst P e of_mover
+    mover (inr i) = absurd i
+
+-- a displaced applicant's agent is one of the market
+displaced_agent : {m : Market} {old : Places} {g : Agent} {sent : Placement} → IsMove m old g sent → (z : ℕ) → In z (displaced m (send sent old) sent) → IsAgent m (agent_of m z)
+displaced_agent {m} {old} {g} {sent} mv z i =
+    let w = of_displaced m (send sent old) sent z i in
+    agent_of_applicant m mv.well_formed z (mv.well_formed.rankings_within w.0 z w.3)
+
+-- who is looked at is an agent of the market
+pub looked_at_agent : {m : Market} {old : Places} {g : Agent} {sent : Placement} → IsMove m old g sent → (k : ℕ) (h : Agent) → In h (looked_at m k old g sent) → IsAgent m h
+looked_at_agent {m} {old} {g} {sent} mv k =
+    all_looked_at (IsAgent m) m k old g sent (displaced_agent mv) mv.agent
+    (λ p a i e. agent_of_applicant m mv.well_formed a (mv.well_formed.rankings_within p a i))
+
 module _ (m : Market) (k : ℕ) (old : Places) (g : Agent) (sent : Placement) (ws : List Agent) (mv : IsMove m old g sent) (g_entered : has_entered k g ≡ true)
     (state : IsRoundState m k (record { places = old; waiting = g ∷ ws })) where
   -- a displaced applicant's agent has entered
-  displaced_entered : (z : ℕ) → In z (displaced m (send sent old) sent) → IsAgent m (agent_of m z) × (has_entered k (agent_of m z) ≡ true)
+  displaced_entered : (z : ℕ) → In z (displaced m (send sent old) sent) → has_entered k (agent_of m z) ≡ true
   displaced_entered z i =
       let w = of_displaced m (send sent old) sent z i in
-      let az = agent_of_applicant m mv.well_formed z (mv.well_formed.rankings_within w.0 z w.3) in
+      let az = displaced_agent mv z i in
       let member = member_of_agent m z in
       let there = (and_parts (at (send sent old) w.0 z) (not (choice (program_of m w.0) (at (send sent old) w.0) z)) w.2).0 in
-      (az, true_from_ne_false (has_entered k (agent_of m z)) (λ out.
+      true_from_ne_false (has_entered k (agent_of m z)) (λ out.
           let before = is_unplaced old (members m (agent_of m z)) z (state.outside_unplaced (agent_of m z) (on_list (agent_of m z) (agents m) (agent_on_list m (agent_of m z) az)) out) member in
           let unmoved = option_elsewhere m g sent mv.option old z (apart mv.agent az (not_mover k g (agent_of m z) g_entered out) z member) in
-          both_ways (at (send sent old) w.0 z) (at_none (send sent old) w.0 z (unmoved ∙ before)) there))
+          both_ways (at (send sent old) w.0 z) (at_none (send sent old) w.0 z (unmoved ∙ before)) there)
 
-  is_mover : (h : Agent) → In h (g ∷ []) → IsAgent m h × (has_entered k h ≡ true)
-  is_mover h (inl e) = subst (λ x. IsAgent m x × (has_entered k x ≡ true)) e (mv.agent, g_entered)
-  is_mover h (inr i) = absurd i
+  -- who is looked at has entered
+  looked_at_entered : (h : Agent) → In h (looked_at m k old g sent) → has_entered k h ≡ true
+  looked_at_entered = all_looked_at (λ h. has_entered k h ≡ true) m k old g sent displaced_entered g_entered (λ p a i e. e)
 
-  -- who is looked at is an agent of the market that has entered
-  looked_at_entered : (h : Agent) → In h (looked_at m k old g sent) → IsAgent m h × (has_entered k h ≡ true)
-  looked_at_entered h i = elim (in_either h (displaced_agents m old sent ++ mover_again m old g sent) (reopened m k old sent) i) [
-      inl j ↦ elim (in_either h (displaced_agents m old sent) (mover_again m old g sent) j) [
-          inl d ↦
-              let z = of_image (agent_of m) h (displaced m (send sent old) sent) d in
-              subst (λ x. IsAgent m x × (has_entered k x ≡ true)) z.2 (displaced_entered z.0 z.1)
-          | inr again ↦ elim (cases_Bool (blocks m (match_after m old sent) g)) [
-              inl t ↦ is_mover h (rw t at again)
-              | inr t ↦ absurd (rw t at again) ] ]
-      | inr j ↦
-          let w = of_joined (reopened_at m k (match_after m old sent)) h (left_programs m old sent) j in
-          let kept = of_kept (λ x. has_entered k x && blocks m (match_after m old sent) x) h (map (agent_of m) (program_of m w.0).ranking) w.2 in
-          let a = of_image (agent_of m) h (program_of m w.0).ranking kept.0 in
-          let l = mv.well_formed.rankings_within w.0 a.0 (in_has a.0 (program_of m w.0).ranking a.1) in
-          (subst (IsAgent m) a.2 (agent_of_applicant m mv.well_formed a.0 l), (and_parts (has_entered k h) (blocks m (match_after m old sent) h) kept.1).0) ]
-
+  -- a couple that has not entered stays unplaced
   outside_after : (h : Agent) → IsAgent m h → has_entered k h ≡ false → none_placed (match_after m old sent) (members m h) ≡ true
   outside_after h ah out = are_unplaced (match_after m old sent) (members m h) (λ a i. elim (cases_Bool (is_displaced m old sent h)) [
       inl d ↦ goes_out mv h d a i
       | inr d ↦ untouched mv h ah d (not_mover k g h g_entered out) a i
           ∙ is_unplaced old (members m h) a (state.outside_unplaced h (on_list h (agents m) (agent_on_list m h ah)) out) i ])
 
+  -- an agent that is on the list neither before nor now does not block
   quiet_after : (h : Agent) → IsAgent m h → has_entered k h ≡ true → is_on ws h ≡ false
       → (In h (looked_at m k old g sent) → ⊥) → blocks m (match_after m old sent) h ≡ false
   quiet_after h ah entered off unseen =
@@ -183,8 +203,8 @@ module _ (m : Market) (k : ℕ) (old : Places) (g : Agent) (sent : Placement) (w
       waiting_entered = λ h on. elim (or_cases (is_on ws h) (is_on (looked_at m k old g sent) h) (sym (on_all_joined ws (looked_at m k old g sent) h) ∙ on)) [
           inl before ↦ state.waiting_entered h (or_right (is_same_agent h g) (is_on ws h) before)
           | inr now ↦
-              let w = looked_at_entered h (of_list h (looked_at m k old g sent) now) in
-              (on_list h (agents m) (agent_on_list m h w.0), w.1) ];
+              let i = of_list h (looked_at m k old g sent) now in
+              (on_list h (agents m) (agent_on_list m h (looked_at_agent mv k h i)), looked_at_entered h i) ];
       outside_unplaced = λ h on out. outside_after h (agent_from_list m mv.well_formed h (of_list h (agents m) on)) out;
       none_blocks = λ h on entered off.
           let parts = or_parts (is_on ws h) (is_on (looked_at m k old g sent) h) (sym (on_all_joined ws (looked_at m k old g sent) h) ∙ off) in
@@ -204,6 +224,19 @@ keep_looked m k places g ws quiet state = record {
         | inr other ↦ state.none_blocks h on entered (or_from (is_same_agent h g) (is_on ws h) other off) ]
 }
 
+-- the agent at the front of the list moves to the option that it takes
+move_from : (m : Market) → IsWellFormed m → (places : Places) (g : Agent) → fits m places ≡ true → is_on (agents m) g ≡ true
+    → (sent : Placement) → first_taken m places g ≡ Some sent → IsMove m places g sent
+move_from m wf places g fit on sent e =
+    let w = found_first (would_be_taken m places) sent (better m places g) e in
+    record {
+        well_formed = wf;
+        fitting = fitting_facts m wf places fit;
+        agent = agent_from_list m wf g (of_list g (agents m) on);
+        option = of_until (holds places) sent (options m g) w.0;
+        taken = w.1
+    }
+
 keep_round_of : (m : Market) → IsWellFormed m → (k : ℕ) (places : Places) (waiting : List Agent)
     → IsRoundState m k (record { places = places; waiting = waiting }) → IsRoundState m k (round_of m k places waiting)
 keep_round_of m wf k places [] state = state
@@ -211,19 +244,33 @@ keep_round_of m wf k places (g ∷ ws) state = by_choice (first_taken m places g
   where
     front : IsTrue (is_on (agents m) g) × IsTrue (has_entered k g)
     front = state.waiting_entered g (or_left (is_same_agent g g) (is_on ws g) (is_same_agent_refl g))
-    move_to : (sent : Placement) → first_taken m places g ≡ Some sent → IsMove m places g sent
-    move_to sent e =
-        let w = found_first (would_be_taken m places) sent (better m places g) e in
-        record {
-            well_formed = wf;
-            fitting = fitting_facts m wf places state.fitting;
-            agent = agent_from_list m wf g (of_list g (agents m) front.0);
-            option = of_until (holds places) sent (options m g) w.0;
-            taken = w.1
-        }
     by_choice : (o : Option Placement) → first_taken m places g ≡ o → IsRoundState m k (after_taking m k places g ws o)
     by_choice None e = keep_looked m k places g ws (found_none (would_be_taken m places) (better m places g) e) state
-    by_choice (Some sent) e = keep_move m k places g sent ws (move_to sent e) front.1 state
+    by_choice (Some sent) e = keep_move m k places g sent ws (move_from m wf places g state.fitting front.0 sent e) front.1 state
 
 pub keep_round : RoundKeeps
 keep_round m wf k w state = keep_round_of m wf k w.places w.waiting state
+
+-- The same for what holds from any match that fits.
+fitting_round_of : (m : Market) → IsWellFormed m → (k : ℕ) (places : Places) (waiting : List Agent)
+    → IsFittingState m (record { places = places; waiting = waiting }) → IsFittingState m (round_of m k places waiting)
+fitting_round_of m wf k places [] state = state
+fitting_round_of m wf k places (g ∷ ws) state = by_choice (first_taken m places g) refl
+  where
+    rest : (h : Agent) → is_on ws h ≡ true → is_on (agents m) h ≡ true
+    rest h on = state.waiting_agents h (or_right (is_same_agent h g) (is_on ws h) on)
+    front : is_on (agents m) g ≡ true
+    front = state.waiting_agents g (or_left (is_same_agent g g) (is_on ws g) (is_same_agent_refl g))
+    after : (sent : Placement) → IsMove m places g sent → IsFittingState m (after_taking m k places g ws (Some sent))
+    after sent mv = record {
+        fitting = fits_from m wf (match_after m places sent) (fits_after mv);
+        waiting_agents = λ h on. elim (or_cases (is_on ws h) (is_on (looked_at m k places g sent) h) (sym (on_all_joined ws (looked_at m k places g sent) h) ∙ on)) [
+            inl before ↦ rest h before
+            | inr now ↦ on_list h (agents m) (agent_on_list m h (looked_at_agent mv k h (of_list h (looked_at m k places g sent) now))) ]
+    }
+    by_choice : (o : Option Placement) → first_taken m places g ≡ o → IsFittingState m (after_taking m k places g ws o)
+    by_choice None e = record { fitting = state.fitting; waiting_agents = rest }
+    by_choice (Some sent) e = after sent (move_from m wf places g state.fitting front sent e)
+
+pub fitting_round : RoundFits
+fitting_round m wf k w state = fitting_round_of m wf k w.places w.waiting state

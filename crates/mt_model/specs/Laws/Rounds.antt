@@ -26,6 +26,15 @@ pub record IsRoundState (m : Market) (k : ℕ) (w : Work) : Type 0 where
 abbrev pub RoundKeeps : Type 0
 RoundKeeps = (m : Market) → IsWellFormed m → (k : ℕ) (w : Work) → IsRoundState m k w → IsRoundState m k (round m k w)
 
+-- What holds of it from any match that fits: the match fits, and on the work list are agents of the market.
+pub record IsFittingState (m : Market) (w : Work) : Type 0 where
+  pub fitting : IsTrue (fits m w.places)
+  pub waiting_agents : (g : Agent) → IsTrue (is_on w.waiting g) → IsTrue (is_on (agents m) g)
+
+-- a round keeps that too
+abbrev pub RoundFits : Type 0
+RoundFits = (m : Market) → IsWellFormed m → (k : ℕ) (w : Work) → IsFittingState m w → IsFittingState m (round m k w)
+
 -- whatever a stage ends in, from the best match of the singles, is stable
 abbrev pub StageIsStable : Type 0
 StageIsStable =
