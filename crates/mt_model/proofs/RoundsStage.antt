@@ -30,7 +30,7 @@ settled_keeps P m k keeps left w r e holds = go left w.places w.waiting e holds
     go (suc left) places (g ∷ ws) e holds = go left (round_of m k places (g ∷ ws)).places (round_of m k places (g ∷ ws)).waiting e (keeps (record { places = places; waiting = g ∷ ws }) holds)
 
 -- what a chain of two that gives something goes through
-chained : {X Y : Type 0} (f : X → Option Y) (o : Option X) (y : Y) → option_and_then f o ≡ Some y → (x : X) × (o ≡ Some x) × (f x ≡ Some y)
+pub chained : {X Y : Type 0} (f : X → Option Y) (o : Option X) (y : Y) → option_and_then f o ≡ Some y → (x : X) × (o ≡ Some x) × (f x ≡ Some y)
 chained f None y e = absurd cc
 chained f (Some x) y e = (x, refl, e)
 
@@ -48,7 +48,7 @@ entered_keeps P m keeps start (suc n) left places r l e holds =
     subst (λ k. P k r.0) (omega arith) rest
 
 -- what a stage that gives something ends in
-stage_end : (m : Market) (places : Places) (budget : ℕ) (r : Places × ℕ) → stage m places budget ≡ Some r
+pub stage_end : (m : Market) (places : Places) (budget : ℕ) (r : Places × ℕ) → stage m places budget ≡ Some r
     → (q : Places × ℕ) × (entered m (below (length m.couples)) budget places ≡ Some q) × (r ≡ (q.0, budget - q.1))
 stage_end m places budget r e = ended (entered m (below (length m.couples)) budget places) refl e
   where
