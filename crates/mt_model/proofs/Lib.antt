@@ -1,3 +1,8 @@
+pub mod BlockingPairLemmas
+pub mod ChoiceLemmas
+pub mod ExclusionLemmas
+pub mod FlatListsFacts
+pub mod ListLemmas
 pub mod RoundsAgents
 pub mod RoundsCounted
 pub mod RoundsFits
@@ -7,5 +12,6 @@ pub mod RoundsMove
 pub mod RoundsPlaces
 pub mod RoundsSets
 pub mod RoundsStage
-mod Scratch
 pub mod SinglesFacts
+pub mod TakenLemmas
+pub mod WellFormedLemmas

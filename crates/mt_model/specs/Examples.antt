@@ -1,1 +1,5 @@
+pub mod Events
 pub mod Markets
+pub mod Rounds
+pub mod Stability
+pub mod Text

@@ -88,7 +88,8 @@ abbrev pub proposed_at : Market → Floor → ℕ → ℕ → Floor
 proposed_at m f a p = record {
   made = λ b. if b == a then (f.made a + 1) else f.made b;
   standing = λ b. if b == a then choice (program_of m p) (receives_one f p a) a else f.standing b;
-  received = λ q. if q == p then receives_one f p a else f.received q }
+  received = λ q. if q == p then receives_one f p a else f.received q;
+}
 
 -- the floor after an event; one that isn't due changes nothing
 abbrev pub after_proposal : Market → Floor → ℕ → Option ℕ → Floor

@@ -1,6 +1,7 @@
 pub mod Best
 pub mod Choice
 pub mod Examples
+pub mod FlatLists
 pub mod Floor
 pub mod Laws
 pub mod Lists

@@ -53,6 +53,10 @@ singles_market m = record m { couples = [] }
 abbrev pub live : Market → ℕ → List ℕ
 live m a = filter (λ p. has (program_of m p).ranking a) (list_of m a)
 
+-- the singles' market with live lists alone: nothing else can be a place, or block
+abbrev pub live_market : Market → Market
+live_market m = record { programs = m.programs; lists = map (live m) (below (applicants m)); couples = [] }
+
 -- how many live entries there are in all
 abbrev pub live_entries : Market → ℕ
 live_entries m = total_below (λ a. length (live m a)) (applicants m)

@@ -3,12 +3,16 @@
 #![tactic(auto)]
 
 mod events;
+pub mod examples;
+mod flat_lists;
+pub mod laws;
 mod limits;
 mod matching;
 mod numbers;
 mod verdict;
 
 pub use events::{Event, Reply};
+pub use flat_lists::FlatLists;
 pub use limits::{LIMITS, LIMITS_2, Limits};
 pub use matching::{Match, Places};
 pub use numbers::{Agent, AppNo, CoupleNo, ProgNo};

@@ -1,8 +1,7 @@
 ghost use Rattle.std.specs.Prelude.{◌≡◌, ◌<◌, ℕ, List, Option, None, length, slice_index_or};
 
-use std::marker::Model;
-
 use crate::numbers::{AppNo, ProgNo};
+use std::marker::Model;
 
 /// One place for each applicant, by number: a program, or none.
 #[derive(Debug, Drop)]

@@ -5,16 +5,16 @@ use Rattle.mt_model.specs.Market.{Market, Program, Pair, Partners}
 use Rattle.mt_model.specs.Matching.{Places}
 use Rattle.mt_model.specs.Rounds.{Work, round}
 
-abbrev program : ℕ → List ℕ → Program
+abbrev pub program : ℕ → List ℕ → Program
 program quota ranking = record { quota = quota; ranking = ranking }
 
-abbrev couple : ℕ → ℕ → List Pair → Partners
+abbrev pub couple : ℕ → ℕ → List Pair → Partners
 couple first second pairs = record { first = first; second = second; pairs = pairs }
 
-abbrev market : List Program → List (List ℕ) → List Partners → Market
+abbrev pub market : List Program → List (List ℕ) → List Partners → Market
 market programs lists couples = record { programs = programs; lists = lists; couples = couples }
 
-abbrev both : ℕ → ℕ → Pair
+abbrev pub both : ℕ → ℕ → Pair
 both x y = (Some x, Some y)
 
 -- Two applicants and two programs that want each other crosswise.
@@ -70,11 +70,11 @@ half_pair = market (program 1 (1 ∷ 0 ∷ []) ∷ program 1 (0 ∷ 2 ∷ []) �
 -- Three couples; the third takes out the first, which opens a seat for the second.
 --     program,p,1,d1,a1    program,q,1,a2    program,r,1,e1,d2    program,t,1,e2    program,u,1,a1    program,v,1,a2
 --     couple,D,d1,d2,p,r    couple,A,a1,a2,p,q,u,v    couple,E,e1,e2,r,t
-abbrev six_programs : List Program
+abbrev pub six_programs : List Program
 six_programs =
     program 1 (0 ∷ 2 ∷ []) ∷ program 1 (3 ∷ []) ∷ program 1 (4 ∷ 1 ∷ []) ∷ program 1 (5 ∷ []) ∷ program 1 (2 ∷ []) ∷ program 1 (3 ∷ []) ∷ []
 
-abbrev no_lists : ℕ → List (List ℕ)
+abbrev pub no_lists : ℕ → List (List ℕ)
 no_lists zero = []
 no_lists (suc n) = [] ∷ no_lists n
 

@@ -1,0 +1,79 @@
+-- What a roster's tables say of the market that they are seen as.
+use Rattle.std.proofs.Common.{◌≡◌, ℕ, zero, suc, ◌+◌, ◌<◌, List, [], ◌∷◌, map, length, get_or, refl, ap, ◌∙◌, arith, add-suc, sym}
+use Rattle.std.specs.List.{range_with_len}
+use Rattle.mt_model.specs.Lists.{below}
+use Rattle.mt_model.specs.Market.{Program, Pair, Partners, applicants, program_of, couple_of, agent_of}
+use Rattle.mt_model.specs.declared.numbers.Agent.{Agent}
+use Rattle.mt_roster.specs.View.{registered_of, AreTables}
+use Rattle.mt_roster.specs.declared.tables.Roster.TheInside.{Inside}
+use Rattle.mt_roster.specs.Tables.{programs_with, couples_with}
+
+pub length-programs_with : (qs : List ℕ) (rs : List (List ℕ)) → length rs ≡ length qs → length (programs_with qs rs) ≡ length qs
+length-programs_with [] rs h = refl
+length-programs_with (q ∷ qs) [] h = absurd (omega arith)
+length-programs_with (q ∷ qs) (r ∷ rs) h = ap suc (length-programs_with qs rs (omega arith))
+
+pub program_at : (qs : List ℕ) (rs : List (List ℕ)) (i : ℕ) → length rs ≡ length qs
+    → get_or (programs_with qs rs) i (record { quota = 0; ranking = [] }) ≡ record { quota = get_or qs i 0; ranking = get_or rs i [] }
+program_at [] [] i h = refl
+program_at [] (r ∷ rs) i h = absurd (omega arith)
+program_at (q ∷ qs) [] i h = absurd (omega arith)
+program_at (q ∷ qs) (r ∷ rs) zero h = refl
+program_at (q ∷ qs) (r ∷ rs) (suc i) h = program_at qs rs i (omega arith)
+
+pub length-couples_with : (ms : List (ℕ × ℕ)) (ps : List (List Pair)) → length ps ≡ length ms → length (couples_with ms ps) ≡ length ms
+length-couples_with [] ps h = refl
+length-couples_with (m ∷ ms) [] h = absurd (omega arith)
+length-couples_with (m ∷ ms) (p ∷ ps) h = ap suc (length-couples_with ms ps (omega arith))
+
+pub couple_at : (ms : List (ℕ × ℕ)) (ps : List (List Pair)) (i : ℕ) → length ps ≡ length ms
+    → get_or (couples_with ms ps) i (record { first = 0; second = 0; pairs = [] })
+      ≡ record { first = (get_or ms i (0, 0)).0; second = (get_or ms i (0, 0)).1; pairs = get_or ps i [] }
+couple_at [] [] i h = refl
+couple_at [] (p ∷ ps) i h = absurd (omega arith)
+couple_at (m ∷ ms) [] i h = absurd (omega arith)
+couple_at (m ∷ ms) (p ∷ ps) zero h = refl
+couple_at (m ∷ ms) (p ∷ ps) (suc i) h = couple_at ms ps i (omega arith)
+
+length-map_range : {X : Type 0} (f : ℕ → X) (a n : ℕ) → length (map f (range_with_len a n)) ≡ n
+length-map_range f a zero = refl
+length-map_range f a (suc n) = ap suc (length-map_range f (a + 1) n)
+
+pub length-map_below : {X : Type 0} (f : ℕ → X) (n : ℕ) → length (map f (below n)) ≡ n
+length-map_below f n = length-map_range f 0 n
+
+map_range_at : {X : Type 0} (f : ℕ → X) (a n i : ℕ) (d : X) → i < n → get_or (map f (range_with_len a n)) i d ≡ f (a + i)
+map_range_at f a zero i d h = absurd (omega arith)
+map_range_at f a (suc n) zero d h = let e : a ≡ a + 0 = omega arith in ap f e
+map_range_at f a (suc n) (suc i) d h = let e : a + 1 + i ≡ a + suc i = omega arith in map_range_at f (a + 1) n i d (omega arith) ∙ ap f e
+
+pub map_below_at : {X : Type 0} (f : ℕ → X) (n i : ℕ) (d : X) → i < n → get_or (map f (below n)) i d ≡ f i
+map_below_at f n i d h = let e : 0 + i ≡ i = omega arith in map_range_at f 0 n i d h ∙ ap f e
+
+-- Below, t are the tables of a roster.
+pub count_of_programs : (t : Inside) → AreTables t → length (registered_of t).market.programs ≡ length t.quotas.items
+count_of_programs t h = length-programs_with t.quotas.items t.rankings h.rankings
+
+pub count_of_couples : (t : Inside) → AreTables t → length (registered_of t).market.couples ≡ length t.members.items
+count_of_couples t h = length-couples_with t.members.items t.pairs h.pairs
+
+pub count_of_agents : (t : Inside) → AreTables t → length t.agents.items ≡ applicants (registered_of t).market
+count_of_agents t h = ap length h.agents ∙ length-map_below (agent_of (registered_of t).market) (length t.lists)
+
+pub quota_at : (t : Inside) (p : ℕ) → AreTables t → get_or t.quotas.items p 0 ≡ (program_of (registered_of t).market p).quota
+quota_at t p h = ap (λ (x : Program). x.quota) (sym (program_at t.quotas.items t.rankings p h.rankings))
+
+pub ranking_at : (t : Inside) (p : ℕ) → AreTables t → get_or t.rankings p [] ≡ (program_of (registered_of t).market p).ranking
+ranking_at t p h = ap (λ (x : Program). x.ranking) (sym (program_at t.quotas.items t.rankings p h.rankings))
+
+pub first_at : (t : Inside) (c : ℕ) → AreTables t → (get_or t.members.items c (0, 0)).0 ≡ (couple_of (registered_of t).market c).first
+first_at t c h = ap (λ (x : Partners). x.first) (sym (couple_at t.members.items t.pairs c h.pairs))
+
+pub second_at : (t : Inside) (c : ℕ) → AreTables t → (get_or t.members.items c (0, 0)).1 ≡ (couple_of (registered_of t).market c).second
+second_at t c h = ap (λ (x : Partners). x.second) (sym (couple_at t.members.items t.pairs c h.pairs))
+
+pub pairs_at : (t : Inside) (c : ℕ) → AreTables t → get_or t.pairs c [] ≡ (couple_of (registered_of t).market c).pairs
+pairs_at t c h = ap (λ (x : Partners). x.pairs) (sym (couple_at t.members.items t.pairs c h.pairs))
+
+pub agent_at : (t : Inside) (a : ℕ) (d : Agent) → AreTables t → a < applicants (registered_of t).market → get_or t.agents.items a d ≡ agent_of (registered_of t).market a
+agent_at t a d h i = ap (λ xs. get_or xs a d) h.agents ∙ map_below_at (agent_of (registered_of t).market) (length t.lists) a d i

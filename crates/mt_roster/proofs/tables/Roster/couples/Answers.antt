@@ -1,0 +1,11 @@
+use Rattle.std.proofs.Common.{◌≡◌, ◌<◌, arith, ap, sym, ◌∙◌, length, get_or, []}
+use Rattle.std.proofs.lemmas.List.{get_or_read_under}
+use Rattle.mt_model.specs.Market.{Registered, applicants, program_of, couple_of, agent_of}
+use Rattle.mt_roster.proofs.TablesFacts.{count_of_couples}
+use Rattle.mt_roster.proofs.tables.Roster.couples.Goals as goal
+
+pub overflow_cast-result : goal.overflow_cast-result
+overflow_cast-result c = omega (arith, count_of_couples c.self.inside c.self.invariant, c.self.invariant.roster.few_couples)
+
+pub returns-clause-count : goal.returns-clause-count
+returns-clause-count c = omega (arith, count_of_couples c.self.inside c.self.invariant, ap (λ (r : Registered). length r.market.couples) c.self.view_is)

@@ -1,0 +1,14 @@
+use Rattle.std.proofs.Common.{◌≡◌, ◌<◌, arith, ap, sym, ◌∙◌, length, get_or, []}
+use Rattle.std.proofs.lemmas.List.{get_or_read_under}
+use Rattle.mt_model.specs.Market.{Registered, applicants, program_of, couple_of, agent_of}
+use Rattle.mt_roster.proofs.TablesFacts.{count_of_programs, ranking_at}
+use Rattle.mt_roster.proofs.tables.Roster.program_list.Goals as goal
+
+pub list-requires : goal.list-requires
+list-requires c = omega (arith, count_of_programs c.self.inside c.self.invariant, c.self.invariant.rankings, ap (λ (r : Registered). length r.market.programs) c.self.view_is)
+
+pub returns : goal.returns
+returns c =
+    c.list.ensures ∙ ap (λ i. get_or c.self.inside.rankings i []) c.index.ensures
+    ∙ ranking_at c.self.inside c.args.program c.self.invariant
+    ∙ ap (λ (r : Registered). (program_of r.market c.args.program).ranking) c.self.view_is
