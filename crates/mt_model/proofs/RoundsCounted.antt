@@ -88,12 +88,12 @@ mapped f o x e = rw e refl
 mapped_none : {X Y : Type 0} (f : X → Y) (o : Option X) → o ≡ None → option_map f o ≡ None
 mapped_none f o e = rw e refl
 
-pub stage_rounds : StageRounds
-stage_rounds m places budget r e =
+pub stage_rounds_lem : StageRounds
+stage_rounds_lem m places budget r e =
     let q = stage_end m places budget r e in
     let u = entered_uses m (below (length m.couples)) budget places q.0 q.1 in
     let split = u.split in
-    let count : r.1 ≡ u.used = ap (λ x. x.1) q.2 ∙ omega arith in
+    let made : r.1 ≡ budget - q.0.1 = ap (λ x. x.1) q.2 in
     record {
         within = omega arith;
         enough = λ b l.

@@ -16,7 +16,7 @@ use Rattle.mt_model.proofs.RoundsLists.{In, found, finds, in_has, has_in, in_lef
 use Rattle.mt_model.proofs.RoundsPlaces.{at_none}
 use Rattle.mt_model.proofs.RoundsAgents.{IsAgent, is_same_agent_refl, same_agent, on_list, of_list, agent_of_applicant, member_of_agent, agent_on_list, agent_from_list}
 use Rattle.mt_model.proofs.RoundsFits.{IsFitting, fitting_facts, fits_from, listing_program, same_better}
-use Rattle.mt_model.proofs.RoundsSets.{chosen_parts}
+use Rattle.mt_model.proofs.ChoiceLemmas.{choice_facts}
 use Rattle.mt_model.proofs.RoundsMove.{option_member, option_elsewhere, of_displaced, apart, IsMove, match_after, is_displaced, mover_stays, goes_out, stays_in, untouched, fits_after, taken_before}
 
 or_nothing : (b : Bool) → b ≡ (b || false)
@@ -75,7 +75,7 @@ stays_quiet {m} {old} {g} {sent} mv k h ah d other entered unseen quiet = false_
     refused o b' i taken b (Some p) j c =
         let opt = of_until (holds old) o (options m h) i in
         let now = each _ (b, Some p) o taken j in
-        let ranked = (chosen_parts (program_of m p) (at (send o new) p) b now).0 in
+        let ranked = (choice_facts (program_of m p) (at (send o new) p) b now).is_listed in
         let is : agent_of m b ≡ h = ah.belongs b (option_member m h o opt b (Some p) j) in
         elim (cases_Bool (is_left m old (send sent old) new p)) [
             inl left ↦ unseen p (listing_program m p b ranked) left (subst (λ x. In x (reopened_at m k new p)) is (in_reopened m k new p b ranked (ap (has_entered k) is ∙ entered) (ap (blocks m new) is ∙ b')))

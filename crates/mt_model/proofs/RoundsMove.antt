@@ -12,7 +12,8 @@ use Rattle.mt_model.specs.Rounds.{is_same_agent, programs_sent_to, displaced_at,
 use Rattle.mt_model.specs.declared.numbers.Agent.{Agent}
 use Rattle.mt_model.specs.declared.numbers.Agent.TheVariants.{Single, Couple}
 use Rattle.mt_model.proofs.RoundsLists.{In, found, finds, in_has, has_in, in_image, of_image, in_kept, of_kept, in_joined, of_joined, in_below, of_below, each, all_pass, fails_at, of_until}
-use Rattle.mt_model.proofs.RoundsSets.{count_within, no_fewer_above, count_shift, chosen_parts, chosen_from, not_chosen, count_of_choice}
+use Rattle.mt_model.proofs.RoundsSets.{count_within, no_fewer_above, count_shift, not_chosen, count_of_choice}
+use Rattle.mt_model.proofs.ChoiceLemmas.{choice_facts, choice_from_facts}
 use Rattle.mt_model.proofs.RoundsPlaces.{is_program_some, at_some, at_none, placed_within, movers, send_there, send_elsewhere, length-send, length-unplaced, unplaced_there, unplaced_elsewhere, is_same_place_refl}
 use Rattle.mt_model.proofs.RoundsAgents.{IsAgent, is_same_agent_refl, same_agent, on_list, of_list, agent_of_applicant, member_of_agent, option_movers}
 use Rattle.mt_model.proofs.RoundsFits.{IsFitting, listing_program, same_own_option, same_better}
@@ -181,7 +182,7 @@ listed_after : {m : Market} {old : Places} {g : Agent} {sent : Placement} → Is
 listed_after {m} {old} {g} {sent} mv a p h =
     let there = (was_there m old sent a p h).0 in
     elim (cases_Bool (has (members m g) a)) [
-        inl i ↦ (chosen_parts (program_of m p) (at (send sent old) p) a (chosen_there mv a p i there).1).0
+        inl i ↦ (choice_facts (program_of m p) (at (send sent old) p) a (chosen_there mv a p i there).1).is_listed
         | inr i ↦ mv.fitting.listed a p (ap (is_program p) (sym (option_elsewhere m g sent mv.option old a i)) ∙ there) ]
 
 -- no program has more than its quota after the move
@@ -229,7 +230,7 @@ room_shrinks {m} {old} {g} {sent} mv p kept =
     (λ a i was absent.
         let d = and_parts (at moved p a) (not (choice (program_of m p) (at moved p) a)) (gone a was absent) in
         not_chosen (program_of m p) (at moved p) a i d.0 (not-true (choice (program_of m p) (at moved p) a) d.1))
-    (λ a i there high. true_from_ne_false (at new p a) (λ absent. chosen_stays a (chosen_from (program_of m p) (at moved p) a i there high) there absent))
+    (λ a i there high. true_from_ne_false (at new p a) (λ absent. chosen_stays a (choice_from_facts (program_of m p) (at moved p) a (record { is_listed = i; is_member = there; has_few_above = high })) there absent))
   where
     moved : Places
     moved = send sent old
@@ -254,12 +255,12 @@ pub taken_before : {m : Market} {old : Places} {g : Agent} {sent : Placement} �
     → is_chosen m (send o (match_after m old sent)) b (Some p) ≡ true → is_chosen m (send o old) b (Some p) ≡ true
 taken_before {m} {old} {g} {sent} mv h ah d other o i b p j kept chosen =
     let rank = (program_of m p).ranking in
-    let parts = chosen_parts (program_of m p) (at (send o new) p) b chosen in
+    let now = choice_facts (program_of m p) (at (send o new) p) b chosen in
     let there : at (send o old) p b ≡ true = at_some (send o old) p b (option_there ah o i old mv.fitting.one_each b (Some p) (option_member m h o i b (Some p) j) j) in
     let shift = count_shift (at (send o old) p) (at (send o new) p) (at old p) (at new p) (until (λ x. x == b) rank) same_shift in
     let room = room_shrinks mv p kept b in
-    let high = parts.2 in
-    chosen_from (program_of m p) (at (send o old) p) b parts.0 there (omega arith)
+    let few = now.has_few_above in
+    choice_from_facts (program_of m p) (at (send o old) p) b (record { is_listed = now.is_listed; is_member = there; has_few_above = omega arith })
   where
     new : Places
     new = match_after m old sent

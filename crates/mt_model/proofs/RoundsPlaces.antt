@@ -6,7 +6,8 @@ use Rattle.std.proofs.lemmas.Bool.{cases_Bool, cases_eq, cases_lt, and_parts, or
 use Rattle.mt_model.specs.Lists.{Set, has, count, is_distinct}
 use Rattle.mt_model.specs.Matching.{Places, Placement, place_of, is_program, at, filled, is_same_place, send, holds, unplaced, none_placed}
 use Rattle.mt_model.proofs.RoundsLists.{In, in_has, in_image, all_pass, same_all}
-use Rattle.mt_model.proofs.RoundsSets.{has_head, has_rest, other_than, count_same}
+use Rattle.mt_model.proofs.RoundsSets.{has_head, has_rest, other_than}
+use Rattle.mt_model.proofs.ListLemmas.{count_agree}
 
 -- a place at a program is that program
 pub is_program_some : (p : ℕ) (v : Option ℕ) → is_program p v ≡ true → v ≡ Some p
@@ -132,6 +133,6 @@ filled_is_count (x ∷ xs) places p d within on_list =
     let without_x = slice_set places x None in
     let still = λ (a : ℕ) (h : at without_x p a ≡ true). in_rest places x xs p a h (on_list a) in
     let rest = filled_is_count xs without_x p apart.1 (λ a i. rw (length-set places x None) (within a (has_rest x xs a i))) still in
-    let same = count_same (at without_x p) (at places p) xs (λ a i. ap (is_program p) (placed_elsewhere places x a None (other_than x a xs (not-true (has xs x) apart.0) i))) in
+    let same = count_agree (at without_x p) (at places p) xs (λ a i. ap (is_program p) (placed_elsewhere places x a None (other_than x a xs (not-true (has xs x) apart.0) i))) in
     let less = filled_less places p x (within x (has_head x xs)) in
     omega arith

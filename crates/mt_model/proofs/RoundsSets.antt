@@ -6,6 +6,7 @@ use Rattle.std.proofs.lemmas.Bool.Decides.{nat_tests}
 use Rattle.mt_model.specs.Lists.{Set, has, until, count, above, is_distinct}
 use Rattle.mt_model.specs.Market.{Program}
 use Rattle.mt_model.specs.Choice.{choice}
+use Rattle.mt_model.proofs.ChoiceLemmas.{choice_facts, choice_from_facts}
 
 -- the head and the rest of a list stand on it
 pub has_head : (x : ℕ) (xs : List ℕ) → has (x ∷ xs) x ≡ true
@@ -28,12 +29,6 @@ count_within s t (x ∷ xs) h =
     let rest = count_within s t xs (λ a i. h a (has_rest x xs a i)) in
     let head = h x (has_head x xs) in
     grind (arith, rest, head)
-
--- sets that agree on a list have as many there
-pub count_same : (s t : Set) (xs : List ℕ) → ((a : ℕ) → has xs a ≡ true → s a ≡ t a) → count s xs ≡ count t xs
-count_same s t [] h = refl
-count_same s t (x ∷ xs) h =
-    rw (h x (has_head x xs), count_same s t xs (λ a i. h a (has_rest x xs a i)))
 
 -- no more of a set stand above an applicant than on the whole list
 pub above-le-count : (s : Set) (xs : List ℕ) (b : ℕ) → above s xs b ≤ count s xs
@@ -139,35 +134,18 @@ count_of_high s (x ∷ xs) k quota l d h =
             let rest = count_of_high s xs k quota l apart.1 (λ a i in_set. let z : above s (x ∷ xs) a ≡ 0 + above s xs a = rw e at (past a i) in let u = h a (has_rest x xs a i) in_set in omega arith) in
             rw e (omega arith) ]
 
-all_three : (u v w : Bool) → (u && v && w) ≡ true → (u ≡ true) × (v ≡ true) × (w ≡ true)
-all_three true true true h = (refl, refl, refl)
-all_three true true false h = absurd (false≢true h)
-all_three true false w h = absurd (false≢true h)
-all_three false v w h = absurd (false≢true h)
-
--- who is chosen is on the program's list and in the set, and has fewer than quota of the set above it
-pub chosen_parts : (p : Program) (set : Set) (a : ℕ) → choice p set a ≡ true
-    → (has p.ranking a ≡ true) × (set a ≡ true) × (above set p.ranking a < p.quota)
-chosen_parts p set a h =
-    let w = all_three (has p.ranking a) (set a) (nat_lt (above set p.ranking a) p.quota) h in
-    (w.0, w.1, ltb-true (above set p.ranking a) p.quota w.2)
-
-pub chosen_from : (p : Program) (set : Set) (a : ℕ) → has p.ranking a ≡ true → set a ≡ true → above set p.ranking a < p.quota
-    → choice p set a ≡ true
-chosen_from p set a listed in_set high = rw (listed, in_set, lt-ltb (above set p.ranking a) p.quota high)
-
 -- who is on the list and in the set and isn't chosen has at least quota of the set above it
 pub not_chosen : (p : Program) (set : Set) (a : ℕ) → has p.ranking a ≡ true → set a ≡ true → choice p set a ≡ false
     → p.quota ≤ above set p.ranking a
 not_chosen p set a listed in_set h =
-    elim (cases_lt (above set p.ranking a) p.quota) [ inl high ↦ absurd (false≢true (sym h ∙ chosen_from p set a listed in_set high)) | inr le ↦ le ]
+    elim (cases_lt (above set p.ranking a) p.quota) [ inl high ↦ absurd (false≢true (sym h ∙ choice_from_facts p set a (record { is_listed = listed; is_member = in_set; has_few_above = high }))) | inr le ↦ le ]
 
 -- a program chooses at most quota applicants
 pub count_of_choice : (p : Program) (set : Set) → is_distinct p.ranking ≡ true → count (choice p set) p.ranking ≤ p.quota
 count_of_choice p set d =
     let high = λ (a : ℕ) (i : has p.ranking a ≡ true) (c : choice p set a ≡ true).
-            (let fewer = count_within (choice p set) set (until (λ x. x == a) p.ranking) (λ b j d. (chosen_parts p set b d).1) in
-            let h = (chosen_parts p set a c).2 in
+            (let fewer = count_within (choice p set) set (until (λ x. x == a) p.ranking) (λ b j d. (choice_facts p set b d).is_member) in
+            let h = (choice_facts p set a c).has_few_above in
             let r : 0 + above (choice p set) p.ranking a < p.quota = omega arith in r) in
     let le = count_of_high (choice p set) p.ranking 0 p.quota (omega arith) d high in
     omega arith

@@ -169,8 +169,8 @@ singles_settled m wf places h = record {
             (finds (blocks (singles_market m) places) (Single a) (agents (singles_market m)) (agent_on_list (singles_market m) (Single a) single) t))
     quiet (Couple c) i b = absurd (let l : c < 0 = ltb-true c 0 b in omega arith)
 
-pub stage_is_stable : StageIsStable
-stage_is_stable m wf places best budget r e =
+pub stage_is_stable_lem : StageIsStable
+stage_is_stable_lem m wf places best budget r e =
     let q = stage_end m places budget r e in
     let step = λ (k left : ℕ) (old : Places) (t : Places × ℕ) (l : k < length m.couples) (done : settled m k left old (Couple k ∷ []) ≡ Some t) (s : IsSettled m k old).
             couple_settles m wf k t.0 (settled_keeps (IsRoundState m k) m k (keep_round m wf k) left (record { places = old; waiting = Couple k ∷ [] }) t done (couple_enters m wf k old l s)) in
@@ -178,8 +178,8 @@ stage_is_stable m wf places best budget r e =
     let all : IsSettled m (length m.couples) q.0.0 = subst (λ n. IsSettled m n q.0.0) (omega arith) last in
     subst (λ x. stable m x.0 ≡ true) (sym q.2) (all_settled m wf q.0.0 all)
 
-pub stage_fits : StageFits
-stage_fits m wf places fit budget r e =
+pub stage_fits_lem : StageFits
+stage_fits_lem m wf places fit budget r e =
     let q = stage_end m places budget r e in
     let step = λ (k left : ℕ) (old : Places) (t : Places × ℕ) (l : k < length m.couples) (done : settled m k left old (Couple k ∷ []) ≡ Some t) (s : fits m old ≡ true).
             (settled_keeps (IsFittingState m) m k (fitting_round m wf k) left (record { places = old; waiting = Couple k ∷ [] }) t done (alone k old l s)).fitting in

@@ -1,8 +1,12 @@
 //! Laws of the definitions: each is the contract of a function that does nothing.
 
+mod rounds;
 mod singles;
 mod taken;
 
+pub use rounds::{
+    premises_of_rounds, round_fits, round_keeps, stage_fits, stage_is_stable, stage_rounds,
+};
 pub use singles::{
     best_is_at_least, best_is_unique, choice_in_words, chosen_for_two_posts, excluded_in_chain,
     exclusion, exclusion_by_quota, growing_choice, none_comes_back, stability_by_pairs,

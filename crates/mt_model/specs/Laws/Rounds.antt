@@ -1,5 +1,5 @@
 -- What the couples' rounds keep, and where they end.
-use Rattle.std.specs.Prelude.{◌≡◌, ℕ, ◌<◌, ◌≤◌, Bool, List, Option, Some, None, IsTrue, IsFalse}
+use Rattle.std.specs.Prelude.{◌≡◌, ℕ, ◌<◌, ◌≤◌, Bool, List, [], ◌∷◌, Option, Some, None, IsTrue, IsFalse}
 use Rattle.std.specs.List.{list_any}
 use Rattle.mt_model.specs.Market.{Market, agents, members}
 use Rattle.mt_model.specs.Matching.{Places, none_placed}
@@ -7,7 +7,9 @@ use Rattle.mt_model.specs.Stability.{fits, blocks, stable}
 use Rattle.mt_model.specs.Best.{IsBest}
 use Rattle.mt_model.specs.Rounds.{Work, is_same_agent, has_entered, round, stage}
 use Rattle.mt_model.specs.WellFormed.{IsWellFormed}
+use Rattle.mt_model.specs.Examples.Markets.{three_couples, nobody}
 use Rattle.mt_model.specs.declared.numbers.Agent.{Agent}
+use Rattle.mt_model.specs.declared.numbers.Agent.TheVariants.{Couple}
 
 -- whether an agent is on a list of agents
 abbrev pub is_on : List Agent → Agent → Bool
@@ -56,3 +58,12 @@ pub record NeedsRounds (m : Market) (places : Places) (budget : ℕ) (r : Places
 
 abbrev pub StageRounds : Type 0
 StageRounds = (m : Market) (places : Places) (budget : ℕ) (r : Places × ℕ) → stage m places budget ≡ Some r → NeedsRounds m places budget r
+
+-- In the market of three couples, who are all its agents, the best match of the singles places nobody, and a
+-- stage from it ends. The state is so where the second couple enters: the first one is placed, the third one
+-- has not entered.
+pub record PremisesOfRounds : Type 0 where
+  pub well_formed : IsWellFormed three_couples
+  pub best : IsBest three_couples (nobody 6)
+  pub ends : stage three_couples (nobody 6) 5 ≡ Some (None ∷ None ∷ Some 0 ∷ Some 1 ∷ Some 2 ∷ Some 3 ∷ [], 5)
+  pub state : IsRoundState three_couples 1 (record { places = Some 0 ∷ Some 2 ∷ None ∷ None ∷ None ∷ None ∷ []; waiting = Couple 1 ∷ [] })
