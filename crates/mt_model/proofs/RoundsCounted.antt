@@ -82,24 +82,32 @@ entered_uses m (k ∷ ks) left places r e =
                 (ap (λ n. settled m k n places (Couple k ∷ [])) (omega arith) ∙ one.enough (b - one.used)) ∙ rest.too_few (b - one.used) (omega arith) ]
     }
 
+-- a mapped result
 mapped : {X Y : Type 0} (f : X → Y) (o : Option X) (x : X) → o ≡ Some x → option_map f o ≡ Some (f x)
 mapped f o x e = rw e refl
 
 mapped_none : {X Y : Type 0} (f : X → Y) (o : Option X) → o ≡ None → option_map f o ≡ None
 mapped_none f o e = rw e refl
 
-pub stage_rounds_lem : StageRounds
-stage_rounds_lem m places budget r e =
-    let q = stage_end m places budget r e in
-    let u = entered_uses m (below (length m.couples)) budget places q.0 q.1 in
+-- what a stage gives is what its couples' rounds give
+stage_gives : (m : Market) (places : Places) (b : ℕ) (q : Places × ℕ) → entered m (below (length m.couples)) b places ≡ Some q
+    → stage m places b ≡ Some (q.0, b - q.1)
+stage_gives m places b q e = mapped (λ t. (t.0, b - t.1)) (entered m (below (length m.couples)) b places) q e
+
+rounds_used : (m : Market) (places : Places) (budget : ℕ) (q : Places × ℕ) → Uses (λ b. entered m (below (length m.couples)) b places) budget q
+    → NeedsRounds m places budget (q.0, budget - q.1)
+rounds_used m places budget q u =
     let split = u.split in
-    let made : r.1 ≡ budget - q.0.1 = ap (λ x. x.1) q.2 in
     record {
         within = omega arith;
         enough = λ b l.
-            let run : entered m (below (length m.couples)) b places ≡ Some (q.0.0, b - u.used) = ap (λ n. entered m (below (length m.couples)) n places) (omega arith) ∙ u.enough (b - u.used) in
-            let same : b - (b - u.used) ≡ budget - q.0.1 = omega arith in
-            mapped (λ t. (t.0, b - t.1)) (entered m (below (length m.couples)) b places) (q.0.0, b - u.used) run
-            ∙ ap (λ n. Some (q.0.0, n)) same ∙ ap Some (sym q.2);
+            let run : entered m (below (length m.couples)) b places ≡ Some (q.0, b - u.used) = ap (λ n. entered m (below (length m.couples)) n places) (omega arith) ∙ u.enough (b - u.used) in
+            let same : b - (b - u.used) ≡ budget - q.1 = omega arith in
+            stage_gives m places b (q.0, b - u.used) run ∙ ap (λ n. Some (q.0, n)) same;
         too_few = λ b l. mapped_none (λ t. (t.0, b - t.1)) (entered m (below (length m.couples)) b places) (u.too_few b (omega arith))
     }
+
+pub stage_rounds_lem : StageRounds
+stage_rounds_lem m places budget r e =
+    let q = stage_end m places budget r e in
+    subst (NeedsRounds m places budget) (sym q.2) (rounds_used m places budget q.0 (entered_uses m (below (length m.couples)) budget places q.0 q.1))

@@ -169,26 +169,39 @@ singles_settled m wf places h = record {
             (finds (blocks (singles_market m) places) (Single a) (agents (singles_market m)) (agent_on_list (singles_market m) (Single a) single) t))
     quiet (Couple c) i b = absurd (let l : c < 0 = ltb-true c 0 b in omega arith)
 
-pub stage_is_stable_lem : StageIsStable
-stage_is_stable_lem m wf places best budget r e =
+-- from any stable match of the singles a stage ends in a stable match
+pub stage_from_stable : (m : Market) → IsWellFormed m → (places : Places) → stable (singles_market m) places ≡ true
+    → (budget : ℕ) (r : Places × ℕ) → stage m places budget ≡ Some r → stable m r.0 ≡ true
+stage_from_stable m wf places h budget r e =
     let q = stage_end m places budget r e in
-    let step = λ (k left : ℕ) (old : Places) (t : Places × ℕ) (l : k < length m.couples) (done : settled m k left old (Couple k ∷ []) ≡ Some t) (s : IsSettled m k old).
-            couple_settles m wf k t.0 (settled_keeps (IsRoundState m k) m k (keep_round m wf k) left (record { places = old; waiting = Couple k ∷ [] }) t done (couple_enters m wf k old l s)) in
-    let last = entered_keeps (IsSettled m) m step 0 (length m.couples) budget places q.0 (omega arith) q.1 (singles_settled m wf places best.is_stable) in
+    let last = entered_keeps (IsSettled m) m couple_done 0 (length m.couples) budget places q.0 (omega arith) q.1 (singles_settled m wf places h) in
     let all : IsSettled m (length m.couples) q.0.0 = subst (λ n. IsSettled m n q.0.0) (omega arith) last in
     subst (λ x. stable m x.0 ≡ true) (sym q.2) (all_settled m wf q.0.0 all)
+  where
+    couple_done : (k left : ℕ) (old : Places) (t : Places × ℕ) → k < length m.couples → settled m k left old (Couple k ∷ []) ≡ Some t
+        → IsSettled m k old → IsSettled m (k + 1) t.0
+    couple_done k left old t l done s =
+        couple_settles m wf k t.0 (settled_keeps (IsRoundState m k) m k (keep_round m wf k) left (record { places = old; waiting = Couple k ∷ [] }) t done (couple_enters m wf k old l s))
+
+pub stage_is_stable_lem : StageIsStable
+stage_is_stable_lem m wf places best = stage_from_stable m wf places best.is_stable
+
+-- a couple comes onto the empty list, whatever blocks
+couple_waits : (m : Market) → IsWellFormed m → (k : ℕ) (places : Places) → k < length m.couples → fits m places ≡ true
+    → IsFittingState m (record { places = places; waiting = Couple k ∷ [] })
+couple_waits m wf k places l fit = record { fitting = fit; waiting_agents = λ g on. only g (of_list g (Couple k ∷ []) on) }
+  where
+    only : (g : Agent) → In g (Couple k ∷ []) → is_on (agents m) g ≡ true
+    only g (inl e) = subst (λ x. is_on (agents m) x ≡ true) e (on_list (Couple k) (agents m) (agent_on_list m (Couple k) (couple_members m wf k l)))
+    only g (inr none) = absurd none
 
 pub stage_fits_lem : StageFits
 stage_fits_lem m wf places fit budget r e =
     let q = stage_end m places budget r e in
-    let step = λ (k left : ℕ) (old : Places) (t : Places × ℕ) (l : k < length m.couples) (done : settled m k left old (Couple k ∷ []) ≡ Some t) (s : fits m old ≡ true).
-            (settled_keeps (IsFittingState m) m k (fitting_round m wf k) left (record { places = old; waiting = Couple k ∷ [] }) t done (alone k old l s)).fitting in
-    let last = entered_keeps (λ n old. fits m old ≡ true) m step 0 (length m.couples) budget places q.0 (omega arith) q.1 fit in
+    let last = entered_keeps (λ n old. fits m old ≡ true) m couple_done 0 (length m.couples) budget places q.0 (omega arith) q.1 fit in
     subst (λ x. fits m x.0 ≡ true) (sym q.2) last
   where
-    alone : (k : ℕ) (old : Places) → k < length m.couples → fits m old ≡ true → IsFittingState m (record { places = old; waiting = Couple k ∷ [] })
-    alone k old l s = record { fitting = s; waiting_agents = λ g on. first l (of_list g (Couple k ∷ []) on) }
-      where
-        first : {g : Agent} → k < length m.couples → In g (Couple k ∷ []) → is_on (agents m) g ≡ true
-        first {g} l (inl e) = subst (λ x. is_on (agents m) x ≡ true) e (on_list (Couple k) (agents m) (agent_on_list m (Couple k) (couple_members m wf k l)))
-        first {g} l (inr i) = absurd i
+    couple_done : (k left : ℕ) (old : Places) (t : Places × ℕ) → k < length m.couples → settled m k left old (Couple k ∷ []) ≡ Some t
+        → fits m old ≡ true → fits m t.0 ≡ true
+    couple_done k left old t l done fit =
+        (settled_keeps (IsFittingState m) m k (fitting_round m wf k) left (record { places = old; waiting = Couple k ∷ [] }) t done (couple_waits m wf k old l fit)).fitting
