@@ -1,16 +1,16 @@
 -- The agents of a market, their members and their options.
-use Rattle.std.proofs.Common.{◌≡◌, ℕ, zero, suc, ◌+◌, ◌<◌, ◌≤◌, Bool, true, false, not, ◌&&◌, ◌||◌, ◌==◌, cond, List, [], ◌∷◌, map, filter, length, Option, Some, None, ◌⊎◌, inl, inr, refl, ap, ap₂, sym, ◌∙◌, arith, subst, slice_index_or, if◌then◌else◌, eq-eqb, eqb-true, IsTrue}
+use Rattle.std.proofs.Common.{◌≡◌, ℕ, suc, ◌+◌, ◌<◌, true, false, ◌==◌, List, [], ◌∷◌, filter, length, ◌⊎◌, inl, inr, refl, ap, sym, arith, subst, slice_index_or, eq-eqb, eqb-true}
 use Rattle.std.specs.List.{list_any}
-use Rattle.std.proofs.lemmas.Bool.{cases_Bool, cases_eq, cases_lt, and_parts, or_cases, and_from, or_left, or_right, or_from, or_parts, false≢true, true_from_ne_false, false_from_ne_true, not-true, not_from_false, not_from_true, ne_eqb}
+use Rattle.std.proofs.lemmas.Bool.{cases_Bool, or_cases, or_left, or_right, false≢true, ne_eqb}
 use Rattle.mt_model.specs.Lists.{has, below, is_distinct}
-use Rattle.mt_model.specs.Market.{Market, Partners, Pair, applicants, list_of, couple_of, is_member, agent_from, agent_of, members, leads, agents}
+use Rattle.mt_model.specs.Market.{Market, Partners, applicants, list_of, couple_of, is_member, agent_from, agent_of, members, leads, agents}
 use Rattle.mt_model.specs.Matching.{Placement, single_placement, couple_placement, options}
-use Rattle.mt_model.specs.WellFormed.{IsMember, IsWellFormed}
+use Rattle.mt_model.specs.WellFormed.{IsWellFormed}
 use Rattle.mt_model.specs.Rounds.{is_same_agent}
 use Rattle.mt_model.specs.declared.numbers.Agent.{Agent}
 use Rattle.mt_model.specs.declared.numbers.Agent.TheVariants.{Single, Couple}
-use Rattle.mt_model.proofs.RoundsLists.{In, in_has, has_in, in_image, of_image, in_kept, of_kept, in_below, of_below, found, finds}
-use Rattle.mt_model.proofs.RoundsSets.{has_head, has_rest}
+use Rattle.mt_model.proofs.RoundsLists.{In, in_image, of_image, in_kept, of_kept, in_below, of_below, found, finds}
+use Rattle.mt_model.proofs.RoundsSets.{has_head}
 use Rattle.mt_model.proofs.RoundsPlaces.{movers}
 
 -- the same agent is the same agent
@@ -43,16 +43,17 @@ agent_from_couple : (xs : List Partners) (c a d : ℕ) (none : Partners) → age
 agent_from_couple [] c a d none e = absurd cc
 agent_from_couple (x ∷ xs) c a d none e =
     let here = λ (t : is_member x a ≡ true). let is : c ≡ d = (let at : Couple c ≡ Couple d = rw t at e in cc) in
-            (let r : (k : ℕ) × (k < length (x ∷ xs)) × (d ≡ c + k) × (is_member (slice_index_or (x ∷ xs) k none) a ≡ true) = (0, omega arith, omega arith, t) in r) in
+    (let r : (k : ℕ) × (k < length (x ∷ xs)) × (d ≡ c + k) × (is_member (slice_index_or (x ∷ xs) k none) a ≡ true) = (0, omega arith, omega arith, t) in r) in
     let later = λ (t : is_member x a ≡ false). let w = agent_from_couple xs (c + 1) a d none (rw t at e) in
-            (let r : (k : ℕ) × (k < length (x ∷ xs)) × (d ≡ c + k) × (is_member (slice_index_or (x ∷ xs) k none) a ≡ true) = (suc w.0, omega arith, omega arith, w.3) in r) in
+    (let r : (k : ℕ) × (k < length (x ∷ xs)) × (d ≡ c + k) × (is_member (slice_index_or (x ∷ xs) k none) a ≡ true) = (suc w.0, omega arith, omega arith, w.3) in r) in
     elim (cases_Bool (is_member x a)) [ inl t ↦ here t | inr t ↦ later t ]
 
 agent_from_single : (xs : List Partners) (c a b : ℕ) → agent_from xs c a ≡ Single b → b ≡ a
 agent_from_single [] c a b e = cc
 agent_from_single (x ∷ xs) c a b e = elim (cases_Bool (is_member x a)) [
-    inl t ↦ absurd (let at : Couple c ≡ Single b = rw t at e in cc)
-    | inr t ↦ agent_from_single xs (c + 1) a b (rw t at e) ]
+  | inl t ↦ absurd (let at : Couple c ≡ Single b = rw t at e in cc)
+  | inr t ↦ agent_from_single xs (c + 1) a b (rw t at e)
+]
 
 -- who stands on a list of one or two
 only_one : (x a : ℕ) → has (x ∷ []) a ≡ true → x ≡ a
@@ -68,16 +69,16 @@ couple_members m wf c l =
     let two = wf.second_member c l in
     let apart = wf.two_members c l in
     record {
-        within = λ a i. elim (one_of_two _ _ a i) [ inl e ↦ subst (λ x. x < applicants m) e one.within | inr e ↦ subst (λ x. x < applicants m) e two.within ];
-        belongs = λ a i. elim (one_of_two _ _ a i) [ inl e ↦ subst (λ x. agent_of m x ≡ Couple c) e one.belongs | inr e ↦ subst (λ x. agent_of m x ≡ Couple c) e two.belongs ];
-        distinct = rw (ne_eqb (couple_of m c).second (couple_of m c).first (λ e. apart (sym e))) refl
+      within = λ a i. elim (one_of_two _ _ a i) [ inl e ↦ subst (λ x. x < applicants m) e one.within | inr e ↦ subst (λ x. x < applicants m) e two.within ];
+      belongs = λ a i. elim (one_of_two _ _ a i) [ inl e ↦ subst (λ x. agent_of m x ≡ Couple c) e one.belongs | inr e ↦ subst (λ x. agent_of m x ≡ Couple c) e two.belongs ];
+      distinct = rw (ne_eqb (couple_of m c).second (couple_of m c).first (λ e. apart (sym e))) refl;
     }
 
 pub single_member : (m : Market) (a : ℕ) → a < applicants m → agent_of m a ≡ Single a → IsAgent m (Single a)
 single_member m a l e = record {
-    within = λ b i. subst (λ x. x < applicants m) (only_one a b i) l;
-    belongs = λ b i. subst (λ x. agent_of m x ≡ Single a) (only_one a b i) e;
-    distinct = refl
+  within = λ b i. subst (λ x. x < applicants m) (only_one a b i) l;
+  belongs = λ b i. subst (λ x. agent_of m x ≡ Single a) (only_one a b i) e;
+  distinct = refl;
 }
 
 -- a couple that is an agent of the market is one of its couples
@@ -101,8 +102,9 @@ agent_of_applicant m wf a l = by_kind (agent_of m a) refl
 
 either_member : (p : Partners) (a : ℕ) → is_member p a ≡ true → has (p.first ∷ p.second ∷ []) a ≡ true
 either_member p a h = elim (or_cases (p.first == a) (p.second == a) h) [
-    inl e ↦ or_left (p.first == a) (has (p.second ∷ []) a) e
-    | inr e ↦ or_right (p.first == a) (has (p.second ∷ []) a) (or_left (p.second == a) false e) ]
+  | inl e ↦ or_left (p.first == a) (has (p.second ∷ []) a) e
+  | inr e ↦ or_right (p.first == a) (has (p.second ∷ []) a) (or_left (p.second == a) false e)
+]
 
 -- and is a member of it
 pub member_of_agent : (m : Market) (a : ℕ) → has (members m (agent_of m a)) a ≡ true

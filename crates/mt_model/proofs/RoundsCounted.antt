@@ -1,5 +1,5 @@
 -- How many rounds a stage makes: what it needs, and it is spent on less.
-use Rattle.std.proofs.Common.{◌≡◌, ℕ, zero, suc, ◌+◌, ◌-◌, ◌<◌, ◌≤◌, List, [], ◌∷◌, length, Option, Some, None, inl, inr, refl, ap, sym, ◌∙◌, arith, subst, option_map, option_and_then, suc-add}
+use Rattle.std.proofs.Common.{◌≡◌, ℕ, zero, suc, ◌+◌, ◌-◌, ◌<◌, List, [], ◌∷◌, length, Option, Some, None, inl, inr, refl, ap, sym, ◌∙◌, arith, subst, option_map, option_and_then, suc-add}
 use Rattle.std.proofs.lemmas.Bool.{cases_lt}
 use Rattle.mt_model.specs.Lists.{below}
 use Rattle.mt_model.specs.Market.{Market}
@@ -26,10 +26,10 @@ uses_none run left places r always e =
     let is : places ≡ r.0 = cc in
     let rest : left ≡ r.1 = cc in
     record {
-        used = 0;
-        split = omega arith;
-        enough = λ more. always (0 + more) ∙ (let n : 0 + more ≡ more = omega arith in cc);
-        too_few = λ b l. absurd (omega arith)
+      used = 0;
+      split = omega arith;
+      enough = λ more. always (0 + more) ∙ (let n : 0 + more ≡ more = omega arith in cc);
+      too_few = λ b l. absurd (omega arith);
     }
 
 -- a run that makes a round is spent on one round more than the run after it
@@ -48,10 +48,10 @@ settled_uses m k (suc left) places (g ∷ ws) r e =
     let next = round_of m k places (g ∷ ws) in
     let rest = settled_uses m k left next.places next.waiting r e in
     record {
-        used = suc rest.used;
-        split = (let s = rest.split in omega arith);
-        enough = λ more. rw suc-add (rest.enough more);
-        too_few = one_more m k places g ws rest.used rest.too_few
+      used = suc rest.used;
+      split = (let s = rest.split in omega arith);
+      enough = λ more. rw suc-add (rest.enough more);
+      too_few = one_more m k places g ws rest.used rest.too_few;
     }
 
 -- a chain of two goes on from what the first gives
@@ -70,16 +70,17 @@ entered_uses m (k ∷ ks) left places r e =
     let one = settled_uses m k left places (Couple k ∷ []) w.0 w.1 in
     let rest = entered_uses m ks w.0.1 w.0.0 r w.2 in
     record {
-        used = one.used + rest.used;
-        split = (let s = one.split in let t = rest.split in omega arith);
-        enough = λ more.
-            through (λ q. entered m ks q.1 q.0) (settled m k (one.used + rest.used + more) places (Couple k ∷ [])) (w.0.0, rest.used + more)
-            (ap (λ n. settled m k n places (Couple k ∷ [])) (omega arith) ∙ one.enough (rest.used + more)) ∙ rest.enough more;
-        too_few = λ b l. elim (cases_lt b one.used) [
-            inl few ↦ through_none (λ q. entered m ks q.1 q.0) (settled m k b places (Couple k ∷ [])) (one.too_few b few)
-            | inr le ↦
-                through (λ q. entered m ks q.1 q.0) (settled m k b places (Couple k ∷ [])) (w.0.0, b - one.used)
-                (ap (λ n. settled m k n places (Couple k ∷ [])) (omega arith) ∙ one.enough (b - one.used)) ∙ rest.too_few (b - one.used) (omega arith) ]
+      used = one.used + rest.used;
+      split = (let s = one.split in let t = rest.split in omega arith);
+      enough = λ more.
+          through (λ q. entered m ks q.1 q.0) (settled m k (one.used + rest.used + more) places (Couple k ∷ [])) (w.0.0, rest.used + more)
+          (ap (λ n. settled m k n places (Couple k ∷ [])) (omega arith) ∙ one.enough (rest.used + more)) ∙ rest.enough more;
+      too_few = λ b l. elim (cases_lt b one.used) [
+        | inl few ↦ through_none (λ q. entered m ks q.1 q.0) (settled m k b places (Couple k ∷ [])) (one.too_few b few)
+        | inr le ↦
+            through (λ q. entered m ks q.1 q.0) (settled m k b places (Couple k ∷ [])) (w.0.0, b - one.used)
+            (ap (λ n. settled m k n places (Couple k ∷ [])) (omega arith) ∙ one.enough (b - one.used)) ∙ rest.too_few (b - one.used) (omega arith)
+      ];
     }
 
 -- a mapped result
@@ -99,12 +100,12 @@ rounds_used : (m : Market) (places : Places) (budget : ℕ) (q : Places × ℕ) 
 rounds_used m places budget q u =
     let split = u.split in
     record {
-        within = omega arith;
-        enough = λ b l.
-            let run : entered m (below (length m.couples)) b places ≡ Some (q.0, b - u.used) = ap (λ n. entered m (below (length m.couples)) n places) (omega arith) ∙ u.enough (b - u.used) in
-            let same : b - (b - u.used) ≡ budget - q.1 = omega arith in
-            stage_gives m places b (q.0, b - u.used) run ∙ ap (λ n. Some (q.0, n)) same;
-        too_few = λ b l. mapped_none (λ t. (t.0, b - t.1)) (entered m (below (length m.couples)) b places) (u.too_few b (omega arith))
+      within = omega arith;
+      enough = λ b l.
+          let run : entered m (below (length m.couples)) b places ≡ Some (q.0, b - u.used) = ap (λ n. entered m (below (length m.couples)) n places) (omega arith) ∙ u.enough (b - u.used) in
+          let same : b - (b - u.used) ≡ budget - q.1 = omega arith in
+          stage_gives m places b (q.0, b - u.used) run ∙ ap (λ n. Some (q.0, n)) same;
+      too_few = λ b l. mapped_none (λ t. (t.0, b - t.1)) (entered m (below (length m.couples)) b places) (u.too_few b (omega arith));
     }
 
 pub stage_rounds_lem : StageRounds

@@ -1,16 +1,16 @@
 -- A match that fits, fact by fact, and what its facts are read from.
-use Rattle.std.proofs.Common.{◌≡◌, ℕ, zero, suc, ◌+◌, ◌<◌, ◌≤◌, Bool, true, false, not, ◌&&◌, ◌||◌, ◌==◌, cond, List, [], ◌∷◌, map, filter, length, Option, Some, None, ◌⊎◌, inl, inr, refl, ap, ap₂, sym, ◌∙◌, arith, subst, if◌then◌else◌, eq-eqb, eqb-true, nat_le, leb-true, le-leb, IsTrue}
-use Rattle.std.specs.List.{list_any, list_all}
-use Rattle.std.proofs.lemmas.Bool.{cases_Bool, cases_eq, cases_lt, and_parts, or_cases, and_from, or_left, or_right, or_from, or_parts, false≢true, true_from_ne_false, false_from_ne_true, not-true}
+use Rattle.std.proofs.Common.{◌≡◌, ℕ, ◌<◌, ◌≤◌, Bool, true, false, ◌&&◌, ◌||◌, ◌==◌, [], length, Option, Some, None, inl, inr, refl, ap₂, arith, subst, eq-eqb, eqb-true, nat_le, leb-true, le-leb}
+use Rattle.std.specs.List.{list_all}
+use Rattle.std.proofs.lemmas.Bool.{cases_lt, false≢true}
 use Rattle.std.proofs.lemmas.List.{get_or_past}
-use Rattle.mt_model.specs.Lists.{has, below, count, is_distinct}
-use Rattle.mt_model.specs.Market.{Market, Program, applicants, program_of, members, agents}
-use Rattle.mt_model.specs.Matching.{Places, Placement, place_of, at, filled, options, holds, none_placed, better}
+use Rattle.mt_model.specs.Lists.{has, below, count}
+use Rattle.mt_model.specs.Market.{Market, applicants, program_of, members, agents}
+use Rattle.mt_model.specs.Matching.{Places, place_of, at, filled, options, holds, better}
 use Rattle.mt_model.specs.Stability.{is_listed, has_own_option, fits}
 use Rattle.mt_model.specs.WellFormed.{IsWellFormed}
 use Rattle.mt_model.specs.declared.numbers.Agent.{Agent}
-use Rattle.mt_model.proofs.RoundsLists.{In, in_has, has_in, in_below, of_below, each, all_pass, same_any, same_until}
-use Rattle.mt_model.proofs.RoundsPlaces.{is_program_some, at_some, placed_within, filled_is_count, movers, holds_same, none_placed_same}
+use Rattle.mt_model.proofs.RoundsLists.{in_below, each, all_pass, same_any, same_until}
+use Rattle.mt_model.proofs.RoundsPlaces.{is_program_some, at_some, placed_within, filled_is_count, holds_same, none_placed_same}
 use Rattle.mt_model.proofs.RoundsAgents.{IsAgent, agent_on_list, agent_from_list, option_movers}
 
 -- What it means that a match fits: each agent has an option of its list or nothing, each placed applicant is
@@ -35,8 +35,9 @@ program_past m p h = get_or_past m.programs p (record { quota = 0; ranking = [] 
 -- who is on a program's list is on that of a program of the market
 pub listing_program : (m : Market) (p a : ℕ) → has (program_of m p).ranking a ≡ true → p < length m.programs
 listing_program m p a h = elim (cases_lt p (length m.programs)) [
-    inl l ↦ l
-    | inr past ↦ absurd (false≢true (rw (program_past m p past) at h)) ]
+  | inl l ↦ l
+  | inr past ↦ absurd (false≢true (rw (program_past m p past) at h))
+]
 
 -- how many are placed at a program whose list has them all
 filled_of_list : (m : Market) → IsWellFormed m → (places : Places) (p : ℕ) → length places ≡ applicants m
@@ -47,19 +48,20 @@ filled_of_list m wf places p e listed =
 pub fitting_facts : (m : Market) → IsWellFormed m → (places : Places) → fits m places ≡ true → IsFitting m places
 fitting_facts m wf places h =
     let parts = all_four (length places == applicants m) (list_all (has_own_option m places) (agents m))
-            (list_all (λ a. is_listed m a (place_of places a)) (below (applicants m)))
-            (list_all (λ p. nat_le (filled places p) (program_of m p).quota) (below (length m.programs))) h in
+    (list_all (λ a. is_listed m a (place_of places a)) (below (applicants m)))
+    (list_all (λ p. nat_le (filled places p) (program_of m p).quota) (below (length m.programs))) h in
     let one_each = eqb-true (length places) (applicants m) parts.0 in
     let listed = λ (a p : ℕ) (i : at places p a ≡ true). listed_from m places a p (is_program_some p (place_of places a) i)
-            (each _ a (below (applicants m)) parts.2 (in_below a (applicants m) (let l = placed_within places p a i in omega arith))) in
+    (each _ a (below (applicants m)) parts.2 (in_below a (applicants m) (let l = placed_within places p a i in omega arith))) in
     let few = λ (p : ℕ) (l : p < length m.programs). leb-true (filled places p) (program_of m p).quota (each _ p (below (length m.programs)) parts.3 (in_below p (length m.programs) l)) in
     record {
-        one_each = one_each;
-        own = λ g i. each (has_own_option m places) g (agents m) parts.1 (agent_on_list m g i);
-        listed = listed;
-        within = λ p. elim (cases_lt p (length m.programs)) [
-            inl l ↦ (let e = filled_of_list m wf places p one_each (λ a. listed a p) in let f = few p l in omega arith)
-            | inr past ↦ rw (program_past m p past) (omega arith) ]
+      one_each = one_each;
+      own = λ g i. each (has_own_option m places) g (agents m) parts.1 (agent_on_list m g i);
+      listed = listed;
+      within = λ p. elim (cases_lt p (length m.programs)) [
+        | inl l ↦ (let e = filled_of_list m wf places p one_each (λ a. listed a p) in let f = few p l in omega arith)
+        | inr past ↦ rw (program_past m p past) (omega arith)
+      ];
     }
   where
     listed_from : (m : Market) (places : Places) (a p : ℕ) → place_of places a ≡ Some p → is_listed m a (place_of places a) ≡ true → has (program_of m p).ranking a ≡ true
@@ -71,10 +73,12 @@ listed_place m places f a (Some p) e = f.listed a p (at_some places p a e)
 
 pub fits_from : (m : Market) → IsWellFormed m → (places : Places) → IsFitting m places → fits m places ≡ true
 fits_from m wf places f =
-    rw (eq-eqb (length places) (applicants m) f.one_each,
-    all_pass (has_own_option m places) (agents m) (λ g i. f.own g (agent_from_list m wf g i)),
-    all_pass (λ a. is_listed m a (place_of places a)) (below (applicants m)) (λ a i. listed_place m places f a (place_of places a) refl),
-    all_pass (λ p. nat_le (filled places p) (program_of m p).quota) (below (length m.programs)) (λ p i. le-leb (filled places p) (program_of m p).quota (let e = filled_of_list m wf places p f.one_each (λ a. f.listed a p) in let l = f.within p in omega arith))) refl
+    rw (
+      eq-eqb (length places) (applicants m) f.one_each,
+      all_pass (has_own_option m places) (agents m) (λ g i. f.own g (agent_from_list m wf g i)),
+      all_pass (λ a. is_listed m a (place_of places a)) (below (applicants m)) (λ a i. listed_place m places f a (place_of places a) refl),
+      all_pass (λ p. nat_le (filled places p) (program_of m p).quota) (below (length m.programs)) (λ p i. le-leb (filled places p) (program_of m p).quota (let e = filled_of_list m wf places p f.one_each (λ a. f.listed a p) in let l = f.within p in omega arith)),
+    ) refl
 
 -- what an agent has, and what is better, go by its members' places
 pub same_own_option : (m : Market) (P Q : Places) (g : Agent) → ((a : ℕ) → has (members m g) a ≡ true → place_of P a ≡ place_of Q a)

@@ -1,23 +1,23 @@
 -- What holds between two rounds is kept by a round.
-use Rattle.std.proofs.Common.{◌≡◌, ℕ, zero, suc, ◌+◌, ◌<◌, ◌≤◌, Bool, true, false, not, ◌&&◌, ◌||◌, ◌==◌, cond, List, [], ◌∷◌, ◌++◌, map, filter, length, Option, Some, None, ◌⊎◌, inl, inr, refl, ap, ap₂, sym, ◌∙◌, arith, subst, if◌then◌else◌, flat_map, find, is_some, IsTrue, IsFalse}
-use Rattle.std.specs.List.{list_any, list_all}
+use Rattle.std.proofs.Common.{◌≡◌, ℕ, ◌<◌, Bool, true, false, not, ◌&&◌, ◌||◌, List, [], ◌∷◌, ◌++◌, map, filter, length, Option, Some, None, inl, inr, refl, ap, sym, ◌∙◌, subst, if◌then◌else◌, flat_map, find, is_some, IsTrue}
+use Rattle.std.specs.List.{list_any}
 use Rattle.std.proofs.lemmas.List.Folds.{list_any-append}
-use Rattle.std.proofs.lemmas.Bool.{cases_Bool, and_parts, or_cases, and_from, or_left, or_right, or_from, or_parts, false≢true, true_from_ne_false, false_from_ne_true, not-true, not_from_false, not_from_true, both_ways}
-use Rattle.mt_model.specs.Lists.{has, below, until}
-use Rattle.mt_model.specs.Market.{Market, Program, applicants, program_of, agent_of, members, agents}
+use Rattle.std.proofs.lemmas.Bool.{cases_Bool, and_parts, or_cases, and_from, or_left, or_right, or_from, or_parts, false≢true, true_from_ne_false, false_from_ne_true, both_ways}
+use Rattle.mt_model.specs.Lists.{has, below}
+use Rattle.mt_model.specs.Market.{Market, program_of, agent_of, members, agents}
 use Rattle.mt_model.specs.Matching.{Places, Placement, place_of, at, options, send, holds, none_placed, better}
 use Rattle.mt_model.specs.Choice.{choice}
 use Rattle.mt_model.specs.Stability.{is_chosen, fits, would_be_taken, blocks}
 use Rattle.mt_model.specs.WellFormed.{IsWellFormed}
-use Rattle.mt_model.specs.Rounds.{Work, is_same_agent, joined, all_joined, has_entered, first_taken, programs_sent_to, displaced_at, displaced, after_move, is_left, reopened_at, to_look_at, after_taking, round_of, round}
+use Rattle.mt_model.specs.Rounds.{is_same_agent, joined, all_joined, has_entered, first_taken, displaced, is_left, reopened_at, to_look_at, after_taking, round_of}
 use Rattle.mt_model.specs.Laws.Rounds.{is_on, IsRoundState, RoundKeeps, IsFittingState, RoundFits}
 use Rattle.mt_model.specs.declared.numbers.Agent.{Agent}
-use Rattle.mt_model.proofs.RoundsLists.{In, found, finds, in_has, has_in, in_left, in_right, in_either, in_image, of_image, in_kept, of_kept, in_joined, of_joined, in_below, of_below, each, all_pass, fails_at, of_until}
+use Rattle.mt_model.proofs.RoundsLists.{In, found, finds, in_has, has_in, in_left, in_right, in_either, in_image, of_image, in_kept, of_kept, in_joined, of_joined, in_below, each, all_pass, fails_at, of_until}
 use Rattle.mt_model.proofs.RoundsPlaces.{at_none}
 use Rattle.mt_model.proofs.RoundsAgents.{IsAgent, is_same_agent_refl, same_agent, on_list, of_list, agent_of_applicant, member_of_agent, agent_on_list, agent_from_list}
-use Rattle.mt_model.proofs.RoundsFits.{IsFitting, fitting_facts, fits_from, listing_program, same_better}
+use Rattle.mt_model.proofs.RoundsFits.{fitting_facts, fits_from, listing_program, same_better}
 use Rattle.mt_model.proofs.ChoiceLemmas.{choice_facts}
-use Rattle.mt_model.proofs.RoundsMove.{option_member, option_elsewhere, of_displaced, apart, IsMove, match_after, is_displaced, mover_stays, goes_out, stays_in, untouched, fits_after, taken_before}
+use Rattle.mt_model.proofs.RoundsMove.{option_member, option_elsewhere, of_displaced, apart, IsMove, match_after, is_displaced, goes_out, untouched, fits_after, taken_before}
 
 or_nothing : (b : Bool) → b ≡ (b || false)
 or_nothing true = refl
@@ -30,10 +30,12 @@ or_assoc false b c = refl
 -- who is on the work list once others joined
 on_joined : (ws : List Agent) (g h : Agent) → is_on (joined ws g) h ≡ (is_on ws h || is_same_agent h g)
 on_joined ws g h = elim (cases_Bool (is_on ws g)) [
-    inl t ↦ rw t (elim (cases_Bool (is_same_agent h g)) [
-        inl same ↦ rw (same, subst (λ x. is_on ws x ≡ true) (sym (same_agent h g same)) t) refl
-        | inr other ↦ rw other (or_nothing (is_on ws h)) ])
-    | inr t ↦ rw t (list_any-append (is_same_agent h) ws (g ∷ []) ∙ ap (λ b. is_on ws h || b) (sym (or_nothing (is_same_agent h g)))) ]
+  | inl t ↦ rw t (elim (cases_Bool (is_same_agent h g)) [
+    | inl same ↦ rw (same, subst (λ x. is_on ws x ≡ true) (sym (same_agent h g same)) t) refl
+    | inr other ↦ rw other (or_nothing (is_on ws h))
+  ])
+  | inr t ↦ rw t (list_any-append (is_same_agent h) ws (g ∷ []) ∙ ap (λ b. is_on ws h || b) (sym (or_nothing (is_same_agent h g))))
+]
 
 pub on_all_joined : (ws gs : List Agent) (h : Agent) → is_on (all_joined ws gs) h ≡ (is_on ws h || is_on gs h)
 on_all_joined ws [] h = or_nothing (is_on ws h)
@@ -51,8 +53,9 @@ found_first {X} p x (y ∷ xs) e =
 found_none : {X : Type 0} (p : X → Bool) (xs : List X) → find p xs ≡ None → list_any p xs ≡ false
 found_none p [] e = refl
 found_none {X} p (y ∷ xs) e = elim (cases_Bool (p y)) [
-    inl t ↦ absurd (let at : ◌≡◌ {A = Option X} (Some y) None = rw t at e in cc)
-    | inr t ↦ rw t (found_none p xs (rw t at e)) ]
+  | inl t ↦ absurd (let at : ◌≡◌ {A = Option X} (Some y) None = rw t at e in cc)
+  | inr t ↦ rw t (found_none p xs (rw t at e))
+]
 
 -- who of a program's list is looked at again
 in_reopened : (m : Market) (k : ℕ) (new : Places) (p a : ℕ) → has (program_of m p).ranking a ≡ true
@@ -70,6 +73,7 @@ stays_quiet {m} {old} {g} {sent} mv k h ah d other entered unseen quiet = false_
   where
     new : Places
     new = match_after m old sent
+
     refused : (o : Placement) → blocks m new h ≡ true → In o (better m old h) → would_be_taken m new o ≡ true → (b : ℕ) (v : Option ℕ) → In (b, v) o → is_chosen m (send o old) b v ≡ false → ⊥
     refused o b' i taken b None j c = false≢true (sym c)
     refused o b' i taken b (Some p) j c =
@@ -78,8 +82,10 @@ stays_quiet {m} {old} {g} {sent} mv k h ah d other entered unseen quiet = false_
         let ranked = (choice_facts (program_of m p) (at (send o new) p) b now).is_listed in
         let is : agent_of m b ≡ h = ah.belongs b (option_member m h o opt b (Some p) j) in
         elim (cases_Bool (is_left m old (send sent old) new p)) [
-            inl left ↦ unseen p (listing_program m p b ranked) left (subst (λ x. In x (reopened_at m k new p)) is (in_reopened m k new p b ranked (ap (has_entered k) is ∙ entered) (ap (blocks m new) is ∙ b')))
-            | inr kept ↦ both_ways (is_chosen m (send o old) b (Some p)) c (taken_before mv h ah d other o opt b p j kept now) ]
+          | inl left ↦ unseen p (listing_program m p b ranked) left (subst (λ x. In x (reopened_at m k new p)) is (in_reopened m k new p b ranked (ap (has_entered k) is ∙ entered) (ap (blocks m new) is ∙ b')))
+          | inr kept ↦ both_ways (is_chosen m (send o old) b (Some p)) c (taken_before mv h ah d other o opt b p j kept now)
+        ]
+
     not_at : blocks m new h ≡ true → ((o : Placement) × In o (better m new h) × (would_be_taken m new o ≡ true)) → ⊥
     not_at blocked w =
         let i : In w.0 (better m old h) = subst (λ xs. In w.0 xs) (same_better m new old h (untouched mv h ah d other)) w.1 in
@@ -125,17 +131,20 @@ all_looked_at : (P : Agent → Type 0) (m : Market) (k : ℕ) (old : Places) (g 
     → ((p a : ℕ) → has (program_of m p).ranking a ≡ true → has_entered k (agent_of m a) ≡ true → P (agent_of m a))
     → (h : Agent) → In h (looked_at m k old g sent) → P h
 all_looked_at P m k old g sent of_gone of_mover of_listed h i = elim (in_either h (displaced_agents m old sent ++ mover_again m old g sent) (reopened m k old sent) i) [
-    inl j ↦ elim (in_either h (displaced_agents m old sent) (mover_again m old g sent) j) [
-        inl d ↦ let z = of_image (agent_of m) h (displaced m (send sent old) sent) d in subst P z.2 (of_gone z.0 z.1)
-        | inr again ↦ elim (cases_Bool (blocks m (match_after m old sent) g)) [
-            inl t ↦ mover (rw t at again)
-            | inr t ↦ absurd (rw t at again) ] ]
-    | inr j ↦
-        let w = of_joined (reopened_at m k (match_after m old sent)) h (left_programs m old sent) j in
-        let kept = of_kept (λ x. has_entered k x && blocks m (match_after m old sent) x) h (map (agent_of m) (program_of m w.0).ranking) w.2 in
-        let a = of_image (agent_of m) h (program_of m w.0).ranking kept.0 in
-        let entered = (and_parts (has_entered k h) (blocks m (match_after m old sent) h) kept.1).0 in
-        subst P a.2 (of_listed w.0 a.0 (in_has a.0 (program_of m w.0).ranking a.1) (ap (has_entered k) a.2 ∙ entered)) ]
+  | inl j ↦ elim (in_either h (displaced_agents m old sent) (mover_again m old g sent) j) [
+    | inl d ↦ let z = of_image (agent_of m) h (displaced m (send sent old) sent) d in subst P z.2 (of_gone z.0 z.1)
+    | inr again ↦ elim (cases_Bool (blocks m (match_after m old sent) g)) [
+      | inl t ↦ mover (rw t at again)
+      | inr t ↦ absurd (rw t at again)
+    ]
+  ]
+  | inr j ↦
+      let w = of_joined (reopened_at m k (match_after m old sent)) h (left_programs m old sent) j in
+      let kept = of_kept (λ x. has_entered k x && blocks m (match_after m old sent) x) h (map (agent_of m) (program_of m w.0).ranking) w.2 in
+      let a = of_image (agent_of m) h (program_of m w.0).ranking kept.0 in
+      let entered = (and_parts (has_entered k h) (blocks m (match_after m old sent) h) kept.1).0 in
+      subst P a.2 (of_listed w.0 a.0 (in_has a.0 (program_of m w.0).ranking a.1) (ap (has_entered k) a.2 ∙ entered))
+]
   where
     mover : In h (g ∷ []) → P h
     mover (inl e) = subst P e of_mover
@@ -163,9 +172,9 @@ module _ (m : Market) (k : ℕ) (old : Places) (g : Agent) (sent : Placement) (w
       let member = member_of_agent m z in
       let there = (and_parts (at (send sent old) w.0 z) (not (choice (program_of m w.0) (at (send sent old) w.0) z)) w.2).0 in
       true_from_ne_false (has_entered k (agent_of m z)) (λ out.
-          let before = is_unplaced old (members m (agent_of m z)) z (state.outside_unplaced (agent_of m z) (on_list (agent_of m z) (agents m) (agent_on_list m (agent_of m z) az)) out) member in
-          let unmoved = option_elsewhere m g sent mv.option old z (apart mv.agent az (not_mover k g (agent_of m z) g_entered out) z member) in
-          both_ways (at (send sent old) w.0 z) (at_none (send sent old) w.0 z (unmoved ∙ before)) there)
+      let before = is_unplaced old (members m (agent_of m z)) z (state.outside_unplaced (agent_of m z) (on_list (agent_of m z) (agents m) (agent_on_list m (agent_of m z) az)) out) member in
+      let unmoved = option_elsewhere m g sent mv.option old z (apart mv.agent az (not_mover k g (agent_of m z) g_entered out) z member) in
+      both_ways (at (send sent old) w.0 z) (at_none (send sent old) w.0 z (unmoved ∙ before)) there)
 
   -- who is looked at has entered
   looked_at_entered : (h : Agent) → In h (looked_at m k old g sent) → has_entered k h ≡ true
@@ -174,54 +183,58 @@ module _ (m : Market) (k : ℕ) (old : Places) (g : Agent) (sent : Placement) (w
   -- a couple that has not entered stays unplaced
   outside_after : (h : Agent) → IsAgent m h → has_entered k h ≡ false → none_placed (match_after m old sent) (members m h) ≡ true
   outside_after h ah out = are_unplaced (match_after m old sent) (members m h) (λ a i. elim (cases_Bool (is_displaced m old sent h)) [
-      inl d ↦ goes_out mv h d a i
-      | inr d ↦ untouched mv h ah d (not_mover k g h g_entered out) a i
-          ∙ is_unplaced old (members m h) a (state.outside_unplaced h (on_list h (agents m) (agent_on_list m h ah)) out) i ])
+    | inl d ↦ goes_out mv h d a i
+    | inr d ↦ untouched mv h ah d (not_mover k g h g_entered out) a i
+        ∙ is_unplaced old (members m h) a (state.outside_unplaced h (on_list h (agents m) (agent_on_list m h ah)) out) i
+  ])
 
   -- an agent that is on the list neither before nor now does not block
   quiet_after : (h : Agent) → IsAgent m h → has_entered k h ≡ true → is_on ws h ≡ false
       → (In h (looked_at m k old g sent) → ⊥) → blocks m (match_after m old sent) h ≡ false
   quiet_after h ah entered off unseen =
       let d : is_displaced m old sent h ≡ false = false_from_ne_true (is_displaced m old sent h) (λ t.
-              unseen (in_left h (displaced_agents m old sent ++ mover_again m old g sent) (reopened m k old sent)
-              (in_left h (displaced_agents m old sent) (mover_again m old g sent) (of_list h (displaced_agents m old sent) t)))) in
+      unseen (in_left h (displaced_agents m old sent ++ mover_again m old g sent) (reopened m k old sent)
+      (in_left h (displaced_agents m old sent) (mover_again m old g sent) (of_list h (displaced_agents m old sent) t)))) in
       elim (cases_Bool (is_same_agent h g)) [
-          inl same ↦ false_from_ne_true (blocks m (match_after m old sent) h) (λ b.
-              let is = same_agent h g same in
-              let b' : blocks m (match_after m old sent) g ≡ true = subst (λ x. blocks m (match_after m old sent) x ≡ true) is b in
-              unseen (in_left h (displaced_agents m old sent ++ mover_again m old g sent) (reopened m k old sent)
-              (in_right h (displaced_agents m old sent) (mover_again m old g sent) (rw b' (inl (sym is))))))
-          | inr other ↦ stays_quiet mv k h ah d other entered
-              (λ p l left i. unseen (in_right h (displaced_agents m old sent ++ mover_again m old g sent) (reopened m k old sent)
-                  (in_joined (reopened_at m k (match_after m old sent)) p h (left_programs m old sent)
-                  (in_kept (is_left m old (send sent old) (match_after m old sent)) p (below (length m.programs)) (in_below p (length m.programs) l) left) i)))
-              (state.none_blocks h (on_list h (agents m) (agent_on_list m h ah)) entered (or_from (is_same_agent h g) (is_on ws h) other off)) ]
+        | inl same ↦ false_from_ne_true (blocks m (match_after m old sent) h) (λ b.
+            let is = same_agent h g same in
+            let b' : blocks m (match_after m old sent) g ≡ true = subst (λ x. blocks m (match_after m old sent) x ≡ true) is b in
+            unseen (in_left h (displaced_agents m old sent ++ mover_again m old g sent) (reopened m k old sent)
+            (in_right h (displaced_agents m old sent) (mover_again m old g sent) (rw b' (inl (sym is))))))
+        | inr other ↦ stays_quiet mv k h ah d other entered
+            (λ p l left i. unseen (in_right h (displaced_agents m old sent ++ mover_again m old g sent) (reopened m k old sent)
+            (in_joined (reopened_at m k (match_after m old sent)) p h (left_programs m old sent)
+            (in_kept (is_left m old (send sent old) (match_after m old sent)) p (below (length m.programs)) (in_below p (length m.programs) l) left) i)))
+            (state.none_blocks h (on_list h (agents m) (agent_on_list m h ah)) entered (or_from (is_same_agent h g) (is_on ws h) other off))
+      ]
 
   keep_move : IsRoundState m k (after_taking m k old g ws (Some sent))
   keep_move = record {
-      fitting = fits_from m mv.well_formed (match_after m old sent) (fits_after mv);
-      waiting_entered = λ h on. elim (or_cases (is_on ws h) (is_on (looked_at m k old g sent) h) (sym (on_all_joined ws (looked_at m k old g sent) h) ∙ on)) [
-          inl before ↦ state.waiting_entered h (or_right (is_same_agent h g) (is_on ws h) before)
-          | inr now ↦
-              let i = of_list h (looked_at m k old g sent) now in
-              (on_list h (agents m) (agent_on_list m h (looked_at_agent mv k h i)), looked_at_entered h i) ];
-      outside_unplaced = λ h on out. outside_after h (agent_from_list m mv.well_formed h (of_list h (agents m) on)) out;
-      none_blocks = λ h on entered off.
-          let parts = or_parts (is_on ws h) (is_on (looked_at m k old g sent) h) (sym (on_all_joined ws (looked_at m k old g sent) h) ∙ off) in
-          quiet_after h (agent_from_list m mv.well_formed h (of_list h (agents m) on)) entered parts.0
-          (λ i. both_ways (is_on (looked_at m k old g sent) h) parts.1 (on_list h (looked_at m k old g sent) i))
+    fitting = fits_from m mv.well_formed (match_after m old sent) (fits_after mv);
+    waiting_entered = λ h on. elim (or_cases (is_on ws h) (is_on (looked_at m k old g sent) h) (sym (on_all_joined ws (looked_at m k old g sent) h) ∙ on)) [
+      | inl before ↦ state.waiting_entered h (or_right (is_same_agent h g) (is_on ws h) before)
+      | inr now ↦
+          let i = of_list h (looked_at m k old g sent) now in
+          (on_list h (agents m) (agent_on_list m h (looked_at_agent mv k h i)), looked_at_entered h i)
+    ];
+    outside_unplaced = λ h on out. outside_after h (agent_from_list m mv.well_formed h (of_list h (agents m) on)) out;
+    none_blocks = λ h on entered off.
+        let parts = or_parts (is_on ws h) (is_on (looked_at m k old g sent) h) (sym (on_all_joined ws (looked_at m k old g sent) h) ∙ off) in
+        quiet_after h (agent_from_list m mv.well_formed h (of_list h (agents m) on)) entered parts.0
+        (λ i. both_ways (is_on (looked_at m k old g sent) h) parts.1 (on_list h (looked_at m k old g sent) i));
   }
 
 -- an agent that has nothing better that would be taken is off the list
 keep_looked : (m : Market) (k : ℕ) (places : Places) (g : Agent) (ws : List Agent) → blocks m places g ≡ false
     → IsRoundState m k (record { places = places; waiting = g ∷ ws }) → IsRoundState m k (record { places = places; waiting = ws })
 keep_looked m k places g ws quiet state = record {
-    fitting = state.fitting;
-    waiting_entered = λ h on. state.waiting_entered h (or_right (is_same_agent h g) (is_on ws h) on);
-    outside_unplaced = state.outside_unplaced;
-    none_blocks = λ h on entered off. elim (cases_Bool (is_same_agent h g)) [
-        inl same ↦ ap (blocks m places) (same_agent h g same) ∙ quiet
-        | inr other ↦ state.none_blocks h on entered (or_from (is_same_agent h g) (is_on ws h) other off) ]
+  fitting = state.fitting;
+  waiting_entered = λ h on. state.waiting_entered h (or_right (is_same_agent h g) (is_on ws h) on);
+  outside_unplaced = state.outside_unplaced;
+  none_blocks = λ h on entered off. elim (cases_Bool (is_same_agent h g)) [
+    | inl same ↦ ap (blocks m places) (same_agent h g same) ∙ quiet
+    | inr other ↦ state.none_blocks h on entered (or_from (is_same_agent h g) (is_on ws h) other off)
+  ];
 }
 
 -- the agent at the front of the list moves to the option that it takes
@@ -230,11 +243,11 @@ move_from : (m : Market) → IsWellFormed m → (places : Places) (g : Agent) �
 move_from m wf places g fit on sent e =
     let w = found_first (would_be_taken m places) sent (better m places g) e in
     record {
-        well_formed = wf;
-        fitting = fitting_facts m wf places fit;
-        agent = agent_from_list m wf g (of_list g (agents m) on);
-        option = of_until (holds places) sent (options m g) w.0;
-        taken = w.1
+      well_formed = wf;
+      fitting = fitting_facts m wf places fit;
+      agent = agent_from_list m wf g (of_list g (agents m) on);
+      option = of_until (holds places) sent (options m g) w.0;
+      taken = w.1;
     }
 
 keep_round_of : (m : Market) → IsWellFormed m → (k : ℕ) (places : Places) (waiting : List Agent)
@@ -244,6 +257,7 @@ keep_round_of m wf k places (g ∷ ws) state = by_choice (first_taken m places g
   where
     front : IsTrue (is_on (agents m) g) × IsTrue (has_entered k g)
     front = state.waiting_entered g (or_left (is_same_agent g g) (is_on ws g) (is_same_agent_refl g))
+
     by_choice : (o : Option Placement) → first_taken m places g ≡ o → IsRoundState m k (after_taking m k places g ws o)
     by_choice None e = keep_looked m k places g ws (found_none (would_be_taken m places) (better m places g) e) state
     by_choice (Some sent) e = keep_move m k places g sent ws (move_from m wf places g state.fitting front.0 sent e) front.1 state
@@ -259,15 +273,19 @@ fitting_round_of m wf k places (g ∷ ws) state = by_choice (first_taken m place
   where
     rest : (h : Agent) → is_on ws h ≡ true → is_on (agents m) h ≡ true
     rest h on = state.waiting_agents h (or_right (is_same_agent h g) (is_on ws h) on)
+
     front : is_on (agents m) g ≡ true
     front = state.waiting_agents g (or_left (is_same_agent g g) (is_on ws g) (is_same_agent_refl g))
+
     after : (sent : Placement) → IsMove m places g sent → IsFittingState m (after_taking m k places g ws (Some sent))
     after sent mv = record {
-        fitting = fits_from m wf (match_after m places sent) (fits_after mv);
-        waiting_agents = λ h on. elim (or_cases (is_on ws h) (is_on (looked_at m k places g sent) h) (sym (on_all_joined ws (looked_at m k places g sent) h) ∙ on)) [
-            inl before ↦ rest h before
-            | inr now ↦ on_list h (agents m) (agent_on_list m h (looked_at_agent mv k h (of_list h (looked_at m k places g sent) now))) ]
+      fitting = fits_from m wf (match_after m places sent) (fits_after mv);
+      waiting_agents = λ h on. elim (or_cases (is_on ws h) (is_on (looked_at m k places g sent) h) (sym (on_all_joined ws (looked_at m k places g sent) h) ∙ on)) [
+        | inl before ↦ rest h before
+        | inr now ↦ on_list h (agents m) (agent_on_list m h (looked_at_agent mv k h (of_list h (looked_at m k places g sent) now)))
+      ];
     }
+
     by_choice : (o : Option Placement) → first_taken m places g ≡ o → IsFittingState m (after_taking m k places g ws o)
     by_choice None e = record { fitting = state.fitting; waiting_agents = rest }
     by_choice (Some sent) e = after sent (move_from m wf places g state.fitting front sent e)

@@ -1,22 +1,21 @@
 -- What a round does to the match: an agent takes an option that would be taken, and whoever is displaced goes.
-use Rattle.std.proofs.Common.{◌≡◌, ℕ, zero, suc, ◌+◌, ◌<◌, ◌≤◌, Bool, true, false, not, ◌&&◌, ◌||◌, ◌==◌, cond, List, [], ◌∷◌, ◌++◌, map, filter, length, Option, Some, None, ◌⊎◌, inl, inr, refl, ap, ap₂, sym, ◌∙◌, arith, subst, if◌then◌else◌, flat_map, is_some, IsTrue}
-use Rattle.std.specs.List.{list_any, list_all}
-use Rattle.std.proofs.lemmas.Bool.{cases_Bool, cases_eq, cases_lt, and_parts, or_cases, and_from, or_left, or_right, or_from, or_parts, false≢true, true_from_ne_false, false_from_ne_true, not-true, not_from_false, not_from_true, both_ways}
-use Rattle.mt_model.specs.Lists.{Set, has, below, count, above, until, is_distinct}
-use Rattle.mt_model.specs.Market.{Market, Program, applicants, program_of, agent_of, members, agents}
-use Rattle.mt_model.specs.Matching.{Places, Placement, place_of, is_program, at, filled, options, send, holds, unplaced, none_placed, better}
+use Rattle.std.proofs.Common.{◌≡◌, ℕ, ◌≤◌, Bool, true, false, not, ◌==◌, List, [], ◌∷◌, map, filter, length, Option, Some, None, ◌⊎◌, inl, inr, refl, ap, sym, ◌∙◌, arith, subst, flat_map}
+use Rattle.std.specs.List.{list_any}
+use Rattle.std.proofs.lemmas.Bool.{cases_Bool, and_parts, and_from, or_left, or_right, false≢true, true_from_ne_false, false_from_ne_true, not-true, not_from_false, both_ways}
+use Rattle.mt_model.specs.Lists.{has, below, count, above, until, is_distinct}
+use Rattle.mt_model.specs.Market.{Market, applicants, program_of, agent_of, members}
+use Rattle.mt_model.specs.Matching.{Places, Placement, place_of, is_program, at, options, send, holds, none_placed}
 use Rattle.mt_model.specs.Choice.{choice}
-use Rattle.mt_model.specs.Stability.{is_chosen, has_own_option, fits, would_be_taken, blocks}
+use Rattle.mt_model.specs.Stability.{is_chosen, has_own_option, would_be_taken}
 use Rattle.mt_model.specs.WellFormed.{IsWellFormed}
 use Rattle.mt_model.specs.Rounds.{is_same_agent, programs_sent_to, displaced_at, displaced, after_move, is_left}
 use Rattle.mt_model.specs.declared.numbers.Agent.{Agent}
-use Rattle.mt_model.specs.declared.numbers.Agent.TheVariants.{Single, Couple}
-use Rattle.mt_model.proofs.RoundsLists.{In, found, finds, in_has, has_in, in_image, of_image, in_kept, of_kept, in_joined, of_joined, in_below, of_below, each, all_pass, fails_at, of_until}
+use Rattle.mt_model.proofs.RoundsLists.{In, finds, in_has, has_in, in_image, of_image, in_kept, of_kept, in_joined, of_joined, in_below, each, all_pass}
 use Rattle.mt_model.proofs.RoundsSets.{count_within, no_fewer_above, count_shift, not_chosen, count_of_choice}
 use Rattle.mt_model.proofs.ChoiceLemmas.{choice_facts, choice_from_facts}
 use Rattle.mt_model.proofs.RoundsPlaces.{is_program_some, at_some, at_none, placed_within, movers, send_there, send_elsewhere, length-send, length-unplaced, unplaced_there, unplaced_elsewhere, is_same_place_refl}
 use Rattle.mt_model.proofs.RoundsAgents.{IsAgent, is_same_agent_refl, same_agent, on_list, of_list, agent_of_applicant, member_of_agent, option_movers}
-use Rattle.mt_model.proofs.RoundsFits.{IsFitting, listing_program, same_own_option, same_better}
+use Rattle.mt_model.proofs.RoundsFits.{IsFitting, same_own_option}
 
 -- the programs that a placement sends somebody to
 pub sent_to : (sent : Placement) (a p : ℕ) → In (a, Some p) sent → In p (programs_sent_to sent)
@@ -124,12 +123,12 @@ pub stays_in : {m : Market} {old : Places} {g : Agent} {sent : Placement} → Is
     → (a : ℕ) → has (members m h) a ≡ true → place_of (match_after m old sent) a ≡ place_of (send sent old) a
 stays_in {m} {old} {g} {sent} mv h ag d a i =
     unplaced_elsewhere (taken_out m old sent) (send sent old) a (false_from_ne_true (has (taken_out m old sent) a) (λ t.
-        let z = of_joined (λ b. members m (agent_of m b)) a (displaced m (send sent old) sent) (has_in a (taken_out m old sent) t) in
-        let w = of_displaced m (send sent old) sent z.0 z.1 in
-        let az = agent_of_applicant m mv.well_formed z.0 (mv.well_formed.rankings_within w.0 z.0 w.3) in
-        let is : agent_of m z.0 ≡ h = sym (az.belongs a (in_has a (members m (agent_of m z.0)) z.2)) ∙ ag.belongs a i in
-        let its = in_image (agent_of m) z.0 (displaced m (send sent old) sent) z.1 in
-        both_ways (is_displaced m old sent h) d (on_list h (map (agent_of m) (displaced m (send sent old) sent)) (subst (λ x. In x (map (agent_of m) (displaced m (send sent old) sent))) is its))))
+    let z = of_joined (λ b. members m (agent_of m b)) a (displaced m (send sent old) sent) (has_in a (taken_out m old sent) t) in
+    let w = of_displaced m (send sent old) sent z.0 z.1 in
+    let az = agent_of_applicant m mv.well_formed z.0 (mv.well_formed.rankings_within w.0 z.0 w.3) in
+    let is : agent_of m z.0 ≡ h = sym (az.belongs a (in_has a (members m (agent_of m z.0)) z.2)) ∙ ag.belongs a i in
+    let its = in_image (agent_of m) z.0 (displaced m (send sent old) sent) z.1 in
+    both_ways (is_displaced m old sent h) d (on_list h (map (agent_of m) (displaced m (send sent old) sent)) (subst (λ x. In x (map (agent_of m) (displaced m (send sent old) sent))) is its))))
 
 -- two agents share no member
 pub apart : {m : Market} {g h : Agent} → IsAgent m g → IsAgent m h → is_same_agent h g ≡ false → (a : ℕ) → has (members m h) a ≡ true → has (members m g) a ≡ false
@@ -146,8 +145,9 @@ untouched {m} {old} {g} {sent} mv h ag d other a i = stays_in mv h ag d a i ∙ 
 pub was_there : (m : Market) (old : Places) (sent : Placement) (a p : ℕ) → at (match_after m old sent) p a ≡ true
     → (at (send sent old) p a ≡ true) × (has (taken_out m old sent) a ≡ false)
 was_there m old sent a p h = elim (cases_Bool (has (taken_out m old sent) a)) [
-    inl out ↦ absurd (false≢true (sym (at_none (match_after m old sent) p a (unplaced_there (taken_out m old sent) (send sent old) a out)) ∙ h))
-    | inr t ↦ (ap (is_program p) (sym (unplaced_elsewhere (taken_out m old sent) (send sent old) a t)) ∙ h, t) ]
+  | inl out ↦ absurd (false≢true (sym (at_none (match_after m old sent) p a (unplaced_there (taken_out m old sent) (send sent old) a out)) ∙ h))
+  | inr t ↦ (ap (is_program p) (sym (unplaced_elsewhere (taken_out m old sent) (send sent old) a t)) ∙ h, t)
+]
 
 -- who is placed after the move at a program that somebody was sent to is chosen there
 chosen_after : (m : Market) (old : Places) (sent : Placement) (a p : ℕ) → In p (programs_sent_to sent) → has (program_of m p).ranking a ≡ true
@@ -155,21 +155,24 @@ chosen_after : (m : Market) (old : Places) (sent : Placement) (a p : ℕ) → In
 chosen_after m old sent a p i ranked h =
     let w = was_there m old sent a p h in
     true_from_ne_false (choice (program_of m p) (at (send sent old) p) a) (λ c.
-        let d = in_displaced m (send sent old) sent a p i (and_from (at (send sent old) p a) _ w.0 (not_from_false _ c)) ranked in
-        let out = in_joined (λ b. members m (agent_of m b)) a a (displaced m (send sent old) sent) d (has_in a (members m (agent_of m a)) (member_of_agent m a)) in
-        both_ways (has (taken_out m old sent) a) w.1 (in_has a (taken_out m old sent) out))
+    let d = in_displaced m (send sent old) sent a p i (and_from (at (send sent old) p a) _ w.0 (not_from_false _ c)) ranked in
+    let out = in_joined (λ b. members m (agent_of m b)) a a (displaced m (send sent old) sent) d (has_in a (members m (agent_of m a)) (member_of_agent m a)) in
+    both_ways (has (taken_out m old sent) a) w.1 (in_has a (taken_out m old sent) out))
 
 -- each agent has an option of its list or nothing after the move
 own_after : {m : Market} {old : Places} {g : Agent} {sent : Placement} → IsMove m old g sent → (h : Agent) → IsAgent m h
     → has_own_option m (match_after m old sent) h ≡ true
 own_after {m} {old} {g} {sent} mv h ah = elim (cases_Bool (is_displaced m old sent h)) [
-    inl d ↦ or_right (list_any (holds new) (options m h)) (none_placed new (members m h)) (all_pass _ (members m h) (λ a i. rw (goes_out mv h d a (in_has a (members m h) i)) refl))
-    | inr d ↦ elim (cases_Bool (is_same_agent h g)) [
-        inl same ↦ or_left (list_any (holds new) (options m h)) (none_placed new (members m h)) (subst (λ x. list_any (holds new) (options m x) ≡ true) (sym (same_agent h g same)) mover_has)
-        | inr other ↦ same_own_option m new old h (untouched mv h ah d other) ∙ mv.fitting.own h ah ] ]
+  | inl d ↦ or_right (list_any (holds new) (options m h)) (none_placed new (members m h)) (all_pass _ (members m h) (λ a i. rw (goes_out mv h d a (in_has a (members m h) i)) refl))
+  | inr d ↦ elim (cases_Bool (is_same_agent h g)) [
+    | inl same ↦ or_left (list_any (holds new) (options m h)) (none_placed new (members m h)) (subst (λ x. list_any (holds new) (options m x) ≡ true) (sym (same_agent h g same)) mover_has)
+    | inr other ↦ same_own_option m new old h (untouched mv h ah d other) ∙ mv.fitting.own h ah
+  ]
+]
   where
     new : Places
     new = match_after m old sent
+
     mover_has : list_any (holds new) (options m g) ≡ true
     mover_has = finds (holds new) sent (options m g) mv.option (all_pass _ sent (λ s i.
         let j = option_member m g sent mv.option s.0 s.1 i in
@@ -182,36 +185,38 @@ listed_after : {m : Market} {old : Places} {g : Agent} {sent : Placement} → Is
 listed_after {m} {old} {g} {sent} mv a p h =
     let there = (was_there m old sent a p h).0 in
     elim (cases_Bool (has (members m g) a)) [
-        inl i ↦ (choice_facts (program_of m p) (at (send sent old) p) a (chosen_there mv a p i there).1).is_listed
-        | inr i ↦ mv.fitting.listed a p (ap (is_program p) (sym (option_elsewhere m g sent mv.option old a i)) ∙ there) ]
+      | inl i ↦ (choice_facts (program_of m p) (at (send sent old) p) a (chosen_there mv a p i there).1).is_listed
+      | inr i ↦ mv.fitting.listed a p (ap (is_program p) (sym (option_elsewhere m g sent mv.option old a i)) ∙ there)
+    ]
 
 -- no program has more than its quota after the move
 few_after : {m : Market} {old : Places} {g : Agent} {sent : Placement} → IsMove m old g sent → (p : ℕ)
     → count (at (match_after m old sent) p) (program_of m p).ranking ≤ (program_of m p).quota
 few_after {m} {old} {g} {sent} mv p = elim (cases_Bool (has (programs_sent_to sent) p)) [
-    inl i ↦
-        let le = count_within (at (match_after m old sent) p) (choice (program_of m p) (at (send sent old) p)) (program_of m p).ranking (λ a j h. chosen_after m old sent a p (has_in p (programs_sent_to sent) i) j h) in
-        let few = count_of_choice (program_of m p) (at (send sent old) p) (mv.well_formed.rankings_distinct p) in
-        omega arith
-    | inr i ↦
-        let le = count_within (at (match_after m old sent) p) (at old p) (program_of m p).ranking (λ a j h. was_at_unsent a (was_there m old sent a p h).0 i) in
-        let few = mv.fitting.within p in
-        omega arith ]
+  | inl i ↦
+      let le = count_within (at (match_after m old sent) p) (choice (program_of m p) (at (send sent old) p)) (program_of m p).ranking (λ a j h. chosen_after m old sent a p (has_in p (programs_sent_to sent) i) j h) in
+      let few = count_of_choice (program_of m p) (at (send sent old) p) (mv.well_formed.rankings_distinct p) in
+      omega arith
+  | inr i ↦
+      let le = count_within (at (match_after m old sent) p) (at old p) (program_of m p).ranking (λ a j h. was_at_unsent a (was_there m old sent a p h).0 i) in
+      let few = mv.fitting.within p in
+      omega arith
+]
   where
     was_at_unsent : (a : ℕ) → at (send sent old) p a ≡ true → has (programs_sent_to sent) p ≡ false → at old p a ≡ true
     was_at_unsent a h none = elim (cases_Bool (has (members m g) a)) [
-        inl i ↦ absurd (both_ways (has (programs_sent_to sent) p) none (in_has p (programs_sent_to sent) (chosen_there mv a p i h).0))
-        | inr i ↦ ap (is_program p) (sym (option_elsewhere m g sent mv.option old a i)) ∙ h ]
+      | inl i ↦ absurd (both_ways (has (programs_sent_to sent) p) none (in_has p (programs_sent_to sent) (chosen_there mv a p i h).0))
+      | inr i ↦ ap (is_program p) (sym (option_elsewhere m g sent mv.option old a i)) ∙ h
+    ]
 
 -- the match after the move fits
 pub fits_after : {m : Market} {old : Places} {g : Agent} {sent : Placement} → IsMove m old g sent → IsFitting m (match_after m old sent)
 fits_after {m} {old} {g} {sent} mv = record {
-    one_each = length-unplaced (taken_out m old sent) (send sent old) ∙ length-send sent old ∙ mv.fitting.one_each;
-    own = own_after mv;
-    listed = λ a p h. listed_after mv a p h;
-    within = λ p. few_after mv p
+  one_each = length-unplaced (taken_out m old sent) (send sent old) ∙ length-send sent old ∙ mv.fitting.one_each;
+  own = own_after mv;
+  listed = λ a p h. listed_after mv a p h;
+  within = λ p. few_after mv p;
 }
-
 
 -- at a program that nobody left, who was there and absent any more was displaced there
 gone_from : (m : Market) (old moved new : Places) (p a : ℕ) → length old ≡ applicants m → is_left m old moved new p ≡ false
@@ -228,23 +233,27 @@ room_shrinks : {m : Market} {old : Places} {g : Agent} {sent : Placement} → Is
 room_shrinks {m} {old} {g} {sent} mv p kept =
     no_fewer_above (at old p) (at moved p) (at new p) (program_of m p).ranking (program_of m p).quota (mv.fitting.within p)
     (λ a i was absent.
-        let d = and_parts (at moved p a) (not (choice (program_of m p) (at moved p) a)) (gone a was absent) in
-        not_chosen (program_of m p) (at moved p) a i d.0 (not-true (choice (program_of m p) (at moved p) a) d.1))
+    let d = and_parts (at moved p a) (not (choice (program_of m p) (at moved p) a)) (gone a was absent) in
+    not_chosen (program_of m p) (at moved p) a i d.0 (not-true (choice (program_of m p) (at moved p) a) d.1))
     (λ a i there high. true_from_ne_false (at new p a) (λ absent. chosen_stays a (choice_from_facts (program_of m p) (at moved p) a (record { is_listed = i; is_member = there; has_few_above = high })) there absent))
   where
     moved : Places
     moved = send sent old
+
     new : Places
     new = match_after m old sent
+
     gone : (a : ℕ) → at old p a ≡ true → at new p a ≡ false → displaced_at m moved p a ≡ true
     gone a was absent = gone_from m old moved new p a mv.fitting.one_each kept was absent
+
     chosen_stays : (a : ℕ) → choice (program_of m p) (at moved p) a ≡ true → at moved p a ≡ true → at new p a ≡ false → ⊥
     chosen_stays a chosen there absent = elim (cases_Bool (has (members m g) a)) [
-        inl i ↦ both_ways (at new p a) absent (ap (is_program p) (stays_in mv g mv.agent (mover_stays mv) a i) ∙ there)
-        | inr i ↦
-            let was : at old p a ≡ true = ap (is_program p) (sym (option_elsewhere m g sent mv.option old a i)) ∙ there in
-            let d = and_parts (at moved p a) (not (choice (program_of m p) (at moved p) a)) (gone a was absent) in
-            both_ways (choice (program_of m p) (at moved p) a) (not-true (choice (program_of m p) (at moved p) a) d.1) chosen ]
+      | inl i ↦ both_ways (at new p a) absent (ap (is_program p) (stays_in mv g mv.agent (mover_stays mv) a i) ∙ there)
+      | inr i ↦
+          let was : at old p a ≡ true = ap (is_program p) (sym (option_elsewhere m g sent mv.option old a i)) ∙ there in
+          let d = and_parts (at moved p a) (not (choice (program_of m p) (at moved p) a)) (gone a was absent) in
+          both_ways (choice (program_of m p) (at moved p) a) (not-true (choice (program_of m p) (at moved p) a) d.1) chosen
+    ]
 
 -- At a program that nobody left, an agent that neither moved nor was displaced would be taken after the move
 -- only where it would have been taken before.
@@ -264,12 +273,17 @@ taken_before {m} {old} {g} {sent} mv h ah d other o i b p j kept chosen =
   where
     new : Places
     new = match_after m old sent
+
     new_len : length new ≡ applicants m
     new_len = (fits_after mv).one_each
+
     same_shift : (a : ℕ) → ((at (send o old) p a ≡ at (send o new) p a) × (at old p a ≡ at new p a)) ⊎ ((at (send o old) p a ≡ at old p a) × (at (send o new) p a ≡ at new p a))
     same_shift a = elim (cases_Bool (has (members m h) a)) [
-        inl k ↦
-            let w = option_entry ah o i a k in
-            inl (ap (is_program p) (option_there ah o i old mv.fitting.one_each a w.0 k w.1 ∙ sym (option_there ah o i new new_len a w.0 k w.1)),
-            ap (is_program p) (sym (untouched mv h ah d other a k)))
-        | inr k ↦ inr (ap (is_program p) (option_elsewhere m h o i old a k), ap (is_program p) (option_elsewhere m h o i new a k)) ]
+      | inl k ↦
+          let w = option_entry ah o i a k in
+          inl (
+            ap (is_program p) (option_there ah o i old mv.fitting.one_each a w.0 k w.1 ∙ sym (option_there ah o i new new_len a w.0 k w.1)),
+            ap (is_program p) (sym (untouched mv h ah d other a k)),
+          )
+      | inr k ↦ inr (ap (is_program p) (option_elsewhere m h o i old a k), ap (is_program p) (option_elsewhere m h o i new a k))
+    ]

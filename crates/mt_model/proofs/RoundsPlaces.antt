@@ -1,11 +1,10 @@
 -- Who is where after an agent's members were sent and displaced applicants taken out.
-use Rattle.std.proofs.Common.{◌≡◌, ℕ, zero, suc, ◌+◌, ◌<◌, ◌≤◌, Bool, true, false, not, ◌&&◌, ◌||◌, ◌==◌, cond, List, [], ◌∷◌, map, length, Option, Some, None, ◌⊎◌, inl, inr, refl, ap, ap₂, sym, ◌∙◌, arith, is_some, slice_set, slice_index_or, if◌then◌else◌, eq-eqb, eqb-true, get_or, set}
-use Rattle.std.specs.List.{list_all}
-use Rattle.std.proofs.lemmas.List.{length-set, get_or-set_same, get_or-set_other, get_or_past, set_past}
-use Rattle.std.proofs.lemmas.Bool.{cases_Bool, cases_eq, cases_lt, and_parts, or_cases, and_from, or_left, or_right, or_parts, false≢true, true_from_ne_false, false_from_ne_true, not-true, not_from_false, not_from_true}
-use Rattle.mt_model.specs.Lists.{Set, has, count, is_distinct}
+use Rattle.std.proofs.Common.{◌≡◌, ℕ, zero, suc, ◌+◌, ◌<◌, true, false, not, ◌==◌, List, [], ◌∷◌, map, length, Option, Some, None, inl, inr, refl, ap, sym, ◌∙◌, arith, is_some, slice_set, if◌then◌else◌, eq-eqb, eqb-true}
+use Rattle.std.proofs.lemmas.List.{length-set, get_or-set_same, get_or-set_other, get_or_past}
+use Rattle.std.proofs.lemmas.Bool.{cases_Bool, cases_lt, and_parts, or_cases, or_parts, false≢true, false_from_ne_true, not-true}
+use Rattle.mt_model.specs.Lists.{has, count, is_distinct}
 use Rattle.mt_model.specs.Matching.{Places, Placement, place_of, is_program, at, filled, is_same_place, send, holds, unplaced, none_placed}
-use Rattle.mt_model.proofs.RoundsLists.{In, in_has, in_image, all_pass, same_all}
+use Rattle.mt_model.proofs.RoundsLists.{In, in_has, in_image, same_all}
 use Rattle.mt_model.proofs.RoundsSets.{has_head, has_rest, other_than}
 use Rattle.mt_model.proofs.ListLemmas.{count_agree}
 
@@ -75,8 +74,9 @@ none_at : (places : Places) (x a : ℕ) → (x == a) ≡ true → place_of (slic
 none_at places x a same =
     let is : x ≡ a = eqb-true x a same in
     elim (cases_lt a (length places)) [
-        inl l ↦ rw is (placed_there places a None l)
-        | inr past ↦ get_or_past (slice_set places x None) a None (rw (length-set places x None) past) ]
+      | inl l ↦ rw is (placed_there places a None l)
+      | inr past ↦ get_or_past (slice_set places x None) a None (rw (length-set places x None) past)
+    ]
 
 -- a place that is none stays none
 stays_none : (xs : List ℕ) (places : Places) (a : ℕ) → place_of places a ≡ None → place_of (unplaced xs places) a ≡ None
@@ -88,8 +88,9 @@ stays_none (x ∷ xs) places a e =
 pub unplaced_there : (xs : List ℕ) (places : Places) (a : ℕ) → has xs a ≡ true → place_of (unplaced xs places) a ≡ None
 unplaced_there [] places a h = absurd (false≢true h)
 unplaced_there (x ∷ xs) places a h = elim (or_cases (x == a) (has xs a) h) [
-    inl same ↦ stays_none xs (slice_set places x None) a (none_at places x a same)
-    | inr rest ↦ unplaced_there xs (slice_set places x None) a rest ]
+  | inl same ↦ stays_none xs (slice_set places x None) a (none_at places x a same)
+  | inr rest ↦ unplaced_there xs (slice_set places x None) a rest
+]
 
 -- whether a match gives what a placement asks for goes by the places of those it names
 pub holds_same : (P Q : Places) (sent : Placement) → ((a : ℕ) → has (movers sent) a ≡ true → place_of P a ≡ place_of Q a)
@@ -119,10 +120,12 @@ filled_less (v ∷ places) p (suc x) l = let rest = filled_less places p x (omeg
 in_rest : (places : Places) (x : ℕ) (xs : List ℕ) (p a : ℕ) → at (slice_set places x None) p a ≡ true
     → (at places p a ≡ true → has (x ∷ xs) a ≡ true) → has xs a ≡ true
 in_rest places x xs p a h on_list = elim (cases_Bool (x == a)) [
-    inl same ↦ absurd (false≢true (sym (at_none (slice_set places x None) p a (none_at places x a same)) ∙ h))
-    | inr other ↦ elim (or_cases (x == a) (has xs a) (on_list (ap (is_program p) (sym (placed_elsewhere places x a None other)) ∙ h))) [
-        inl same ↦ absurd (false≢true (sym other ∙ same))
-        | inr i ↦ i ] ]
+  | inl same ↦ absurd (false≢true (sym (at_none (slice_set places x None) p a (none_at places x a same)) ∙ h))
+  | inr other ↦ elim (or_cases (x == a) (has xs a) (on_list (ap (is_program p) (sym (placed_elsewhere places x a None other)) ∙ h))) [
+    | inl same ↦ absurd (false≢true (sym other ∙ same))
+    | inr i ↦ i
+  ]
+]
 
 -- where everybody at a program is on a list, as many are there as of that list
 pub filled_is_count : (xs : List ℕ) (places : Places) (p : ℕ) → is_distinct xs ≡ true → ((a : ℕ) → has xs a ≡ true → a < length places)

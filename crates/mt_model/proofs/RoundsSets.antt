@@ -1,8 +1,7 @@
 -- How many of a set stand above an applicant: the reason that a program that nobody left refuses whom it
 -- refused before.
-use Rattle.std.proofs.Common.{◌≡◌, ℕ, zero, suc, ◌+◌, ◌<◌, ◌≤◌, Bool, true, false, not, ◌&&◌, ◌||◌, ◌==◌, cond, List, [], ◌∷◌, length, ◌⊎◌, inl, inr, refl, ap, sym, ◌∙◌, arith, IsTrue, IsFalse, nat_lt, eq-eqb, eqb-true, ltb-true, lt-ltb, if◌then◌else◌}
-use Rattle.std.proofs.lemmas.Bool.{cases_Bool, cases_eq, cases_lt, and_parts, or_cases, and_from, or_left, or_right, false≢true, true_from_ne_false, false_from_ne_true, not-true, not_from_false}
-use Rattle.std.proofs.lemmas.Bool.Decides.{nat_tests}
+use Rattle.std.proofs.Common.{◌≡◌, ℕ, ◌+◌, ◌<◌, ◌≤◌, Bool, true, false, not, ◌&&◌, ◌==◌, List, [], ◌∷◌, ◌⊎◌, inl, inr, refl, ap, sym, ◌∙◌, arith, eq-eqb, eqb-true, if◌then◌else◌}
+use Rattle.std.proofs.lemmas.Bool.{cases_Bool, cases_lt, and_parts, and_from, or_left, or_right, false≢true, false_from_ne_true, not-true, not_from_false}
 use Rattle.mt_model.specs.Lists.{Set, has, until, count, above, is_distinct}
 use Rattle.mt_model.specs.Market.{Program}
 use Rattle.mt_model.specs.Choice.{choice}
@@ -71,7 +70,7 @@ out_past_head : (s t : Set) (x : ℕ) (xs : List ℕ) (b : ℕ) → (s x && not 
     → StandsOut s t xs b → StandsOut s t (x ∷ xs) b
 out_past_head s t x xs b past e y =
     let other : (x == y.who) ≡ false = false_from_ne_true (x == y.who) (λ same. let is : x ≡ y.who = eqb-true x y.who same in
-            false≢true (sym past ∙ and_from (s x) (not (t x)) (ap s is ∙ y.in_one) (not_from_false (t x) (ap t is ∙ y.not_other)))) in
+    false≢true (sym past ∙ and_from (s x) (not (t x)) (ap s is ∙ y.in_one) (not_from_false (t x) (ap t is ∙ y.not_other)))) in
     let s_above = above_rest s x xs y.who other in
     let t_above = above_rest t x xs y.who other in
     let t_at = above_rest t x xs b e in
@@ -84,8 +83,9 @@ out_past_head s t x xs b past e y =
 pub stands_out : (s t : Set) (xs : List ℕ) (b : ℕ) → above t xs b < above s xs b → StandsOut s t xs b
 stands_out s t [] b h = absurd (omega arith)
 stands_out s t (x ∷ xs) b h = elim (cases_Bool (x == b)) [
-    inl e ↦ absurd (let z = above_head s x xs b e in omega arith)
-    | inr e ↦ elim (cases_Bool (s x && not (t x))) [ inl here ↦ out_at_head s t x xs b here | inr past ↦ out_past_head s t x xs b past e (stands_out s t xs b (fewer_past s t x xs b past e h)) ] ]
+  | inl e ↦ absurd (let z = above_head s x xs b e in omega arith)
+  | inr e ↦ elim (cases_Bool (s x && not (t x))) [ inl here ↦ out_at_head s t x xs b here | inr past ↦ out_past_head s t x xs b past e (stands_out s t xs b (fewer_past s t x xs b past e h)) ]
+]
 
 -- Where each who is gone from a program had a full quota above it among those who would be there, and those
 -- with fewer above them are there now, no fewer stand above anybody than before.
@@ -126,13 +126,14 @@ count_of_high s (x ∷ xs) k quota l d h =
     let apart = and_parts (not (has xs x)) (is_distinct xs) d in
     let past = λ (a : ℕ) (i : has xs a ≡ true). above_rest s x xs a (other_than x a xs (not-true (has xs x) apart.0) i) in
     elim (cases_Bool (s x)) [
-        inl e ↦
-            let here : k < quota = (let z = above_head s x xs x (eq-eqb x x refl) in let u = h x (has_head x xs) e in omega arith) in
-            let rest = count_of_high s xs (k + 1) quota (omega arith) apart.1 (λ a i in_set. let z : above s (x ∷ xs) a ≡ 1 + above s xs a = rw e at (past a i) in let u = h a (has_rest x xs a i) in_set in omega arith) in
-            rw e (omega arith)
-        | inr e ↦
-            let rest = count_of_high s xs k quota l apart.1 (λ a i in_set. let z : above s (x ∷ xs) a ≡ 0 + above s xs a = rw e at (past a i) in let u = h a (has_rest x xs a i) in_set in omega arith) in
-            rw e (omega arith) ]
+      | inl e ↦
+          let here : k < quota = (let z = above_head s x xs x (eq-eqb x x refl) in let u = h x (has_head x xs) e in omega arith) in
+          let rest = count_of_high s xs (k + 1) quota (omega arith) apart.1 (λ a i in_set. let z : above s (x ∷ xs) a ≡ 1 + above s xs a = rw e at (past a i) in let u = h a (has_rest x xs a i) in_set in omega arith) in
+          rw e (omega arith)
+      | inr e ↦
+          let rest = count_of_high s xs k quota l apart.1 (λ a i in_set. let z : above s (x ∷ xs) a ≡ 0 + above s xs a = rw e at (past a i) in let u = h a (has_rest x xs a i) in_set in omega arith) in
+          rw e (omega arith)
+    ]
 
 -- who is on the list and in the set and isn't chosen has at least quota of the set above it
 pub not_chosen : (p : Program) (set : Set) (a : ℕ) → has p.ranking a ≡ true → set a ≡ true → choice p set a ≡ false
@@ -144,8 +145,8 @@ not_chosen p set a listed in_set h =
 pub count_of_choice : (p : Program) (set : Set) → is_distinct p.ranking ≡ true → count (choice p set) p.ranking ≤ p.quota
 count_of_choice p set d =
     let high = λ (a : ℕ) (i : has p.ranking a ≡ true) (c : choice p set a ≡ true).
-            (let fewer = count_within (choice p set) set (until (λ x. x == a) p.ranking) (λ b j d. (choice_facts p set b d).is_member) in
-            let h = (choice_facts p set a c).has_few_above in
-            let r : 0 + above (choice p set) p.ranking a < p.quota = omega arith in r) in
+    (let fewer = count_within (choice p set) set (until (λ x. x == a) p.ranking) (λ b j d. (choice_facts p set b d).is_member) in
+    let h = (choice_facts p set a c).has_few_above in
+    let r : 0 + above (choice p set) p.ranking a < p.quota = omega arith in r) in
     let le = count_of_high (choice p set) p.ranking 0 p.quota (omega arith) d high in
     omega arith

@@ -1,23 +1,22 @@
 -- Where a stage ends, and how many rounds it makes.
-use Rattle.std.proofs.Common.{◌≡◌, ℕ, zero, suc, ◌+◌, ◌-◌, ◌<◌, ◌≤◌, Bool, true, false, not, ◌&&◌, ◌||◌, ◌==◌, List, [], ◌∷◌, map, length, Option, Some, None, ◌⊎◌, inl, inr, refl, ap, ap₂, sym, ◌∙◌, arith, subst, if◌then◌else◌, is_some, nat_le, nat_lt, IsTrue, IsFalse, option_map, suc-add, zero-add, ltb-true, lt-ltb, leb-true, le-leb, leb-false, le-ltb, ◌≢◌, eq-eqb, option_and_then}
-use Rattle.std.specs.List.{list_any, list_all, range_with_len}
-use Rattle.std.proofs.lemmas.Bool.{cases_Bool, cases_eq, cases_lt, and_parts, or_cases, and_from, or_left, or_right, or_from, or_parts, false≢true, true_from_ne_false, false_from_ne_true, not-true, not_from_false, both_ways, lt-leb}
+use Rattle.std.proofs.Common.{◌≡◌, ℕ, zero, suc, ◌+◌, ◌-◌, ◌<◌, ◌≤◌, Bool, true, false, not, ◌==◌, List, [], ◌∷◌, length, Option, Some, None, inl, inr, refl, sym, ◌∙◌, arith, subst, nat_lt, IsTrue, option_map, ltb-true, lt-ltb, leb-true, le-leb, leb-false, le-ltb, ◌≢◌, eq-eqb, option_and_then}
+use Rattle.std.specs.List.{list_any, range_with_len}
+use Rattle.std.proofs.lemmas.Bool.{and_parts, or_cases, and_from, or_right, or_parts, false≢true, false_from_ne_true, not-true, not_from_false, both_ways}
 use Rattle.std.proofs.lemmas.Bool.Decides.{nat_tests}
-use Rattle.mt_model.specs.Lists.{has, below}
-use Rattle.mt_model.specs.Market.{Market, Partners, applicants, program_of, list_of, couple_of, singles_market, agent_of, members, agents}
-use Rattle.mt_model.specs.Matching.{Places, Placement, place_of, options, holds, none_placed}
+use Rattle.mt_model.specs.Lists.{below}
+use Rattle.mt_model.specs.Market.{Market, singles_market, members, agents}
+use Rattle.mt_model.specs.Matching.{Places, place_of, options, holds, none_placed}
 use Rattle.mt_model.specs.Stability.{has_own_option, fits, blocks, stable}
-use Rattle.mt_model.specs.Best.{IsBest}
 use Rattle.mt_model.specs.WellFormed.{IsMember, IsWellFormed}
-use Rattle.mt_model.specs.Rounds.{Work, is_same_agent, has_entered, round, round_of, settled, entered, stage}
-use Rattle.mt_model.specs.Laws.Rounds.{is_on, IsRoundState, IsFittingState, StageIsStable, StageFits, NeedsRounds, StageRounds}
+use Rattle.mt_model.specs.Rounds.{Work, has_entered, round, round_of, settled, entered, stage}
+use Rattle.mt_model.specs.Laws.Rounds.{is_on, IsRoundState, IsFittingState, StageIsStable, StageFits}
 use Rattle.mt_model.specs.declared.numbers.Agent.{Agent}
 use Rattle.mt_model.specs.declared.numbers.Agent.TheVariants.{Single, Couple}
-use Rattle.mt_model.proofs.RoundsLists.{In, has_in, in_has, all_pass, each, found, finds}
+use Rattle.mt_model.proofs.RoundsLists.{In, found, finds}
 use Rattle.mt_model.proofs.RoundsSets.{has_head}
-use Rattle.mt_model.proofs.RoundsAgents.{IsAgent, one_of_two, same_agent, is_same_agent_refl, on_list, of_list, agent_on_list, agent_from_list, single_member, couple_members, couple_number}
+use Rattle.mt_model.proofs.RoundsAgents.{IsAgent, one_of_two, on_list, of_list, agent_on_list, agent_from_list, single_member, couple_members, couple_number}
 use Rattle.mt_model.proofs.RoundsFits.{IsFitting, fitting_facts, fits_from}
-use Rattle.mt_model.proofs.RoundsKeep.{no_place, is_unplaced, are_unplaced, keep_round, fitting_round}
+use Rattle.mt_model.proofs.RoundsKeep.{is_unplaced, are_unplaced, keep_round, fitting_round}
 
 -- what each round keeps holds once the work list is empty
 settled_keeps : (P : Work → Type 0) (m : Market) (k : ℕ) → ((w : Work) → P w → P (round m k w)) → (left : ℕ) (w : Work) (r : Places × ℕ)
@@ -92,10 +91,10 @@ before_all m (Couple c) i = lt-ltb c (length m.couples) (couple_number m c i)
 couple_enters : (m : Market) → IsWellFormed m → (k : ℕ) (places : Places) → k < length m.couples → IsSettled m k places
     → IsRoundState m k (record { places = places; waiting = Couple k ∷ [] })
 couple_enters m wf k places l s = record {
-    fitting = s.fitting;
-    waiting_entered = λ g on. first (of_list g (Couple k ∷ []) on);
-    outside_unplaced = λ g on out. s.outside g (agent_from_list m wf g (of_list g (agents m) on)) (not_before k g out);
-    none_blocks = λ g on entered off. s.quiet g (agent_from_list m wf g (of_list g (agents m) on)) (before_entered k g entered off)
+  fitting = s.fitting;
+  waiting_entered = λ g on. first (of_list g (Couple k ∷ []) on);
+  outside_unplaced = λ g on out. s.outside g (agent_from_list m wf g (of_list g (agents m) on)) (not_before k g out);
+  none_blocks = λ g on entered off. s.quiet g (agent_from_list m wf g (of_list g (agents m) on)) (before_entered k g entered off);
 }
   where
     first : {g : Agent} → In g (Couple k ∷ []) → IsTrue (is_on (agents m) g) × IsTrue (has_entered k g)
@@ -105,68 +104,76 @@ couple_enters m wf k places l s = record {
 -- and its rounds end
 couple_settles : (m : Market) → IsWellFormed m → (k : ℕ) (places : Places) → IsRoundState m k (record { places = places; waiting = [] }) → IsSettled m (k + 1) places
 couple_settles m wf k places s = record {
-    fitting = s.fitting;
-    outside = λ g i out. s.outside_unplaced g (on_list g (agents m) (agent_on_list m g i)) (sym (before_next k g) ∙ out);
-    quiet = λ g i entered. s.none_blocks g (on_list g (agents m) (agent_on_list m g i)) (sym (before_next k g) ∙ entered) refl
+  fitting = s.fitting;
+  outside = λ g i out. s.outside_unplaced g (on_list g (agents m) (agent_on_list m g i)) (sym (before_next k g) ∙ out);
+  quiet = λ g i entered. s.none_blocks g (on_list g (agents m) (agent_on_list m g i)) (sym (before_next k g) ∙ entered) refl;
 }
 
 -- once all couples have entered the match is stable
 all_settled : (m : Market) → IsWellFormed m → (places : Places) → IsSettled m (length m.couples) places → stable m places ≡ true
 all_settled m wf places s =
     and_from (fits m places) _ s.fitting (not_from_false _ (false_from_ne_true (list_any (blocks m places) (agents m)) (λ t.
-        let w = found (blocks m places) (agents m) t in
-        let i = agent_from_list m wf w.0 w.1 in
-        both_ways (blocks m places w.0) (s.quiet w.0 i (before_all m w.0 i)) w.2)))
+    let w = found (blocks m places) (agents m) t in
+    let i = agent_from_list m wf w.0 w.1 in
+    both_ways (blocks m places w.0) (s.quiet w.0 i (before_all m w.0 i)) w.2)))
 
 -- without its couples a market is well formed too
 well_formed_singles : (m : Market) → IsWellFormed m → IsWellFormed (singles_market m)
 well_formed_singles m wf = record {
-    lists_distinct = wf.lists_distinct;
-    lists_within = wf.lists_within;
-    rankings_distinct = wf.rankings_distinct;
-    rankings_within = wf.rankings_within;
-    first_member = λ c l. absurd (omega arith);
-    second_member = λ c l. absurd (omega arith);
-    two_members = λ c l. absurd (omega arith)
+  lists_distinct = wf.lists_distinct;
+  lists_within = wf.lists_within;
+  rankings_distinct = wf.rankings_distinct;
+  rankings_within = wf.rankings_within;
+  first_member = λ c l. absurd (omega arith);
+  second_member = λ c l. absurd (omega arith);
+  two_members = λ c l. absurd (omega arith);
 }
 
 -- the best match of the singles is where the couples start
 singles_settled : (m : Market) → IsWellFormed m → (places : Places) → stable (singles_market m) places ≡ true → IsSettled m 0 places
 singles_settled m wf places h = record {
-    fitting = fits_from m wf places (record { one_each = fit.one_each; own = own; listed = fit.listed; within = fit.within });
-    outside = outside;
-    quiet = quiet
+  fitting = fits_from m wf places (record { one_each = fit.one_each; own = own; listed = fit.listed; within = fit.within });
+  outside = outside;
+  quiet = quiet;
 }
   where
     parts : (fits (singles_market m) places ≡ true) × (not (list_any (blocks (singles_market m) places) (agents (singles_market m))) ≡ true)
     parts = and_parts (fits (singles_market m) places) (not (list_any (blocks (singles_market m) places) (agents (singles_market m)))) h
+
     fit : IsFitting (singles_market m) places
     fit = fitting_facts (singles_market m) (well_formed_singles m wf) places parts.0
+
     member_unplaced : (c a : ℕ) → IsMember m c a → place_of places a ≡ None
     member_unplaced c a i =
         let own : has_own_option (singles_market m) places (Single a) ≡ true = fit.own (Single a) (single_member (singles_market m) a i.within refl) in
         let none : list_any (holds places) (options m (Single a)) ≡ false = rw i.no_list refl in
         elim (or_cases (list_any (holds places) (options m (Single a))) (none_placed places (a ∷ [])) own) [
-            inl t ↦ absurd (both_ways (list_any (holds places) (options m (Single a))) none t)
-            | inr t ↦ is_unplaced places (a ∷ []) a t (has_head a []) ]
+          | inl t ↦ absurd (both_ways (list_any (holds places) (options m (Single a))) none t)
+          | inr t ↦ is_unplaced places (a ∷ []) a t (has_head a [])
+        ]
+
     couple_unplaced : (c : ℕ) → IsAgent m (Couple c) → none_placed places (members m (Couple c)) ≡ true
     couple_unplaced c i =
         let l = couple_number m c i in
         are_unplaced places (members m (Couple c)) (λ a j. elim (one_of_two _ _ a j) [
-            inl e ↦ subst (λ x. place_of places x ≡ None) e (member_unplaced c _ (wf.first_member c l))
-            | inr e ↦ subst (λ x. place_of places x ≡ None) e (member_unplaced c _ (wf.second_member c l)) ])
+          | inl e ↦ subst (λ x. place_of places x ≡ None) e (member_unplaced c _ (wf.first_member c l))
+          | inr e ↦ subst (λ x. place_of places x ≡ None) e (member_unplaced c _ (wf.second_member c l))
+        ])
+
     own : (g : Agent) → IsAgent m g → has_own_option m places g ≡ true
     own (Single a) i = fit.own (Single a) (single_member (singles_market m) a (i.within a (has_head a [])) refl)
     own (Couple c) i = or_right (list_any (holds places) (options m (Couple c))) _ (couple_unplaced c i)
+
     outside : (g : Agent) → IsAgent m g → is_before 0 g ≡ false → none_placed places (members m g) ≡ true
     outside (Single a) i out = absurd (false≢true (sym out))
     outside (Couple c) i out = couple_unplaced c i
+
     quiet : (g : Agent) → IsAgent m g → is_before 0 g ≡ true → blocks m places g ≡ false
     quiet (Single a) i b =
         let single = single_member (singles_market m) a (i.within a (has_head a [])) refl in
         false_from_ne_true (blocks m places (Single a)) (λ t.
-            both_ways (list_any (blocks (singles_market m) places) (agents (singles_market m))) (not-true _ parts.1)
-            (finds (blocks (singles_market m) places) (Single a) (agents (singles_market m)) (agent_on_list (singles_market m) (Single a) single) t))
+        both_ways (list_any (blocks (singles_market m) places) (agents (singles_market m))) (not-true _ parts.1)
+        (finds (blocks (singles_market m) places) (Single a) (agents (singles_market m)) (agent_on_list (singles_market m) (Single a) single) t))
     quiet (Couple c) i b = absurd (let l : c < 0 = ltb-true c 0 b in omega arith)
 
 -- from any stable match of the singles a stage ends in a stable match

@@ -2,7 +2,7 @@ use Rattle.std.proofs.Common.{◌≡◌, ℕ, zero, suc, true, false, [], ◌∷
 use Rattle.std.proofs.lemmas.Bool.{false≢true}
 use Rattle.mt_model.specs.Best.{better_programs}
 use Rattle.mt_model.specs.Examples.Markets.{three_couples, nobody}
-use Rattle.mt_model.specs.Laws.Rounds.{is_on, IsRoundState}
+use Rattle.mt_model.specs.Laws.Rounds.{is_on}
 use Rattle.mt_model.specs.Lists.{has}
 use Rattle.mt_model.specs.Market.{list_of, agents, members}
 use Rattle.mt_model.specs.Matching.{Places, none_placed}
@@ -51,8 +51,8 @@ returns c = record {
     fitting = refl;
     waiting_entered = λ g on. second_waits g (of_list g (Couple 1 ∷ []) on);
     outside_unplaced = λ g on. each_couple (λ x. has_entered 1 x ≡ false → none_placed first_placed (members three_couples x) ≡ true)
-      (λ e. absurd (false≢true (sym e))) (λ e. absurd (false≢true (sym e))) (λ e. refl) g (of_list g (agents three_couples) on);
+        (λ e. absurd (false≢true (sym e))) (λ e. absurd (false≢true (sym e))) (λ e. refl) g (of_list g (agents three_couples) on);
     none_blocks = λ g on. each_couple (λ x. has_entered 1 x ≡ true → is_on (Couple 1 ∷ []) x ≡ false → blocks three_couples first_placed x ≡ false)
-      (λ e f. refl) (λ e f. absurd (false≢true (sym f))) (λ e f. absurd (false≢true e)) g (of_list g (agents three_couples) on);
+        (λ e f. refl) (λ e f. absurd (false≢true (sym f))) (λ e f. absurd (false≢true e)) g (of_list g (agents three_couples) on);
   };
 }
