@@ -10,6 +10,7 @@ pub mod RoundsKeep
 pub mod RoundsLists
 pub mod RoundsMove
 pub mod RoundsPlaces
+pub mod RoundsRoom
 pub mod RoundsSets
 pub mod RoundsStage
 pub mod SinglesFacts

@@ -1,17 +1,17 @@
 -- The agents of a market, their members and their options.
-use Rattle.std.proofs.Common.{◌≡◌, ℕ, suc, ◌+◌, ◌<◌, true, false, ◌==◌, List, [], ◌∷◌, filter, length, ◌⊎◌, inl, inr, refl, ap, sym, arith, subst, slice_index_or, eq-eqb, eqb-true}
+use Rattle.std.proofs.Common.{◌≡◌, ℕ, suc, ◌+◌, ◌<◌, true, false, ◌==◌, List, [], ◌∷◌, filter, length, ◌⊎◌, inl, inr, refl, ap, sym, arith, subst, slice_index_or, eq-eqb, eqb-true, Option, ◌∙◌}
 use Rattle.std.specs.List.{list_any}
-use Rattle.std.proofs.lemmas.Bool.{cases_Bool, or_cases, or_left, or_right, false≢true, ne_eqb}
+use Rattle.std.proofs.lemmas.Bool.{cases_Bool, or_cases, or_left, or_right, false≢true, ne_eqb, false_from_ne_true, both_ways}
 use Rattle.mt_model.specs.Lists.{has, below, is_distinct}
 use Rattle.mt_model.specs.Market.{Market, Partners, applicants, list_of, couple_of, is_member, agent_from, agent_of, members, leads, agents}
-use Rattle.mt_model.specs.Matching.{Placement, single_placement, couple_placement, options}
+use Rattle.mt_model.specs.Matching.{Placement, single_placement, couple_placement, options, Places, place_of, send}
 use Rattle.mt_model.specs.WellFormed.{IsWellFormed}
 use Rattle.mt_model.specs.Rounds.{is_same_agent}
 use Rattle.mt_model.specs.declared.numbers.Agent.{Agent}
 use Rattle.mt_model.specs.declared.numbers.Agent.TheVariants.{Single, Couple}
-use Rattle.mt_model.proofs.RoundsLists.{In, in_image, of_image, in_kept, of_kept, in_below, of_below, found, finds}
+use Rattle.mt_model.proofs.RoundsLists.{In, in_image, of_image, in_kept, of_kept, in_below, of_below, found, finds, has_in, in_has}
 use Rattle.mt_model.proofs.RoundsSets.{has_head}
-use Rattle.mt_model.proofs.RoundsPlaces.{movers}
+use Rattle.mt_model.proofs.RoundsPlaces.{movers, send_there, send_elsewhere}
 
 -- the same agent is the same agent
 pub is_same_agent_refl : (g : Agent) → is_same_agent g g ≡ true
@@ -141,3 +141,35 @@ pub option_movers : (m : Market) (g : Agent) (sent : Placement) → In sent (opt
 option_movers m (Single a) sent i = let w = of_image (single_placement a) sent (list_of m a) i in sym (ap movers w.2)
 option_movers m (Couple c) sent i =
     let w = of_image (couple_placement (couple_of m c).first (couple_of m c).second) sent (couple_of m c).pairs i in sym (ap movers w.2)
+
+-- two agents share no member
+pub apart : {m : Market} {g h : Agent} → IsAgent m g → IsAgent m h → is_same_agent h g ≡ false
+    → (a : ℕ) → has (members m h) a ≡ true → has (members m g) a ≡ false
+apart {m} {g} {h} of_g of_h other a i = false_from_ne_true (has (members m g) a) (λ j.
+    both_ways (is_same_agent h g) other (ap (is_same_agent h) (sym (of_g.belongs a j) ∙ of_h.belongs a i) ∙ is_same_agent_refl h))
+
+-- where an option sends a member of its agent
+pub option_entry : (m : Market) (h : Agent) (o : Placement) → In o (options m h) → (a : ℕ) → has (members m h) a ≡ true
+    → (v : Option ℕ) × In (a, v) o
+option_entry m h o i a member =
+    let named : has (movers o) a ≡ true = subst (λ xs. has xs a ≡ true) (sym (option_movers m h o i)) member in
+    let s = of_image (λ (s : ℕ × Option ℕ). s.0) a o (has_in a (movers o) named) in
+    (s.0.1, subst (λ b. In (b, s.0.1) o) s.2 s.1)
+
+-- whom an option names is a member of its agent
+pub option_member : (m : Market) (h : Agent) (o : Placement) → In o (options m h) → (a : ℕ) (v : Option ℕ) → In (a, v) o → has (members m h) a ≡ true
+option_member m h o i a v sends =
+    subst (λ xs. has xs a ≡ true) (option_movers m h o i) (in_has a (movers o) (in_image (λ (s : ℕ × Option ℕ). s.0) (a, v) o sends))
+
+-- once an agent's members are sent by an option, each is where the option sends it
+pub option_there : {m : Market} {h : Agent} → IsAgent m h → (o : Placement) → In o (options m h) → (places : Places) → length places ≡ applicants m
+    → (a : ℕ) (v : Option ℕ) → In (a, v) o → place_of (send o places) a ≡ v
+option_there {m} {h} of_h o i places one_each a v sends =
+    let within = of_h.within a (option_member m h o i a v sends) in
+    let distinct : is_distinct (movers o) ≡ true = subst (λ xs. is_distinct xs ≡ true) (sym (option_movers m h o i)) of_h.distinct in
+    send_there o places a v distinct (omega arith) sends
+
+-- and nobody else is moved
+pub option_elsewhere : (m : Market) (h : Agent) (o : Placement) → In o (options m h) → (places : Places) (a : ℕ) → has (members m h) a ≡ false
+    → place_of (send o places) a ≡ place_of places a
+option_elsewhere m h o i places a other = send_elsewhere o places a (subst (λ xs. has xs a ≡ false) (sym (option_movers m h o i)) other)

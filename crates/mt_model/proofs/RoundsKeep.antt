@@ -1,12 +1,11 @@
 -- What holds between two rounds is kept by a round.
-use Rattle.std.proofs.Common.{◌≡◌, ℕ, ◌<◌, Bool, true, false, not, ◌&&◌, ◌||◌, List, [], ◌∷◌, ◌++◌, map, filter, length, Option, Some, None, inl, inr, refl, ap, sym, ◌∙◌, subst, if◌then◌else◌, flat_map, find, is_some, IsTrue}
+use Rattle.std.proofs.Common.{◌≡◌, ℕ, Bool, true, false, not, ◌&&◌, ◌||◌, List, [], ◌∷◌, ◌++◌, map, filter, length, Option, Some, None, inl, inr, refl, ap, sym, ◌∙◌, subst, if◌then◌else◌, flat_map, find, is_some, IsTrue, ◌⊎◌}
 use Rattle.std.specs.List.{list_any}
 use Rattle.std.proofs.lemmas.List.Folds.{list_any-append}
 use Rattle.std.proofs.lemmas.Bool.{cases_Bool, and_parts, or_cases, and_from, or_left, or_right, or_from, or_parts, false≢true, true_from_ne_false, false_from_ne_true, both_ways}
 use Rattle.mt_model.specs.Lists.{has, below}
 use Rattle.mt_model.specs.Market.{Market, program_of, agent_of, members, agents}
 use Rattle.mt_model.specs.Matching.{Places, Placement, place_of, at, options, send, holds, none_placed, better}
-use Rattle.mt_model.specs.Choice.{choice}
 use Rattle.mt_model.specs.Stability.{is_chosen, fits, would_be_taken, blocks}
 use Rattle.mt_model.specs.WellFormed.{IsWellFormed}
 use Rattle.mt_model.specs.Rounds.{is_same_agent, joined, all_joined, has_entered, first_taken, displaced, is_left, reopened_at, to_look_at, after_taking, round_of}
@@ -17,7 +16,9 @@ use Rattle.mt_model.proofs.RoundsPlaces.{at_none}
 use Rattle.mt_model.proofs.RoundsAgents.{IsAgent, is_same_agent_refl, same_agent, on_list, of_list, agent_of_applicant, member_of_agent, agent_on_list, agent_from_list}
 use Rattle.mt_model.proofs.RoundsFits.{fitting_facts, fits_from, listing_program, same_better}
 use Rattle.mt_model.proofs.ChoiceLemmas.{choice_facts}
-use Rattle.mt_model.proofs.RoundsMove.{option_member, option_elsewhere, of_displaced, apart, IsMove, match_after, is_displaced, goes_out, untouched, fits_after, taken_before}
+use Rattle.mt_model.proofs.RoundsAgents.{option_member, option_elsewhere, apart}
+use Rattle.mt_model.proofs.RoundsMove.{IsMove, match_after, is_displaced, displaced_agents, displaced_agent, displaced_parts, of_displaced, goes_out, untouched, fits_after}
+use Rattle.mt_model.proofs.RoundsRoom.{taken_before}
 
 or_nothing : (b : Bool) → b ≡ (b || false)
 or_nothing true = refl
@@ -30,75 +31,41 @@ or_assoc false b c = refl
 -- who is on the work list once others joined
 on_joined : (ws : List Agent) (g h : Agent) → is_on (joined ws g) h ≡ (is_on ws h || is_same_agent h g)
 on_joined ws g h = elim (cases_Bool (is_on ws g)) [
-  | inl t ↦ rw t (elim (cases_Bool (is_same_agent h g)) [
-    | inl same ↦ rw (same, subst (λ x. is_on ws x ≡ true) (sym (same_agent h g same)) t) refl
+  | inl there ↦ rw there (elim (cases_Bool (is_same_agent h g)) [
+    | inl same ↦ rw (same, subst (λ x. is_on ws x ≡ true) (sym (same_agent h g same)) there) refl
     | inr other ↦ rw other (or_nothing (is_on ws h))
   ])
-  | inr t ↦ rw t (list_any-append (is_same_agent h) ws (g ∷ []) ∙ ap (λ b. is_on ws h || b) (sym (or_nothing (is_same_agent h g))))
+  | inr absent ↦ rw absent (list_any-append (is_same_agent h) ws (g ∷ []) ∙ ap (λ b. is_on ws h || b) (sym (or_nothing (is_same_agent h g))))
 ]
 
-pub on_all_joined : (ws gs : List Agent) (h : Agent) → is_on (all_joined ws gs) h ≡ (is_on ws h || is_on gs h)
+on_all_joined : (ws gs : List Agent) (h : Agent) → is_on (all_joined ws gs) h ≡ (is_on ws h || is_on gs h)
 on_all_joined ws [] h = or_nothing (is_on ws h)
 on_all_joined ws (g ∷ gs) h =
     on_all_joined (joined ws g) gs h ∙ ap (λ b. b || is_on gs h) (on_joined ws g h) ∙ or_assoc (is_on ws h) (is_same_agent h g) (is_on gs h)
 
--- what is found first passes
+-- what is found first stands on the list and passes
 found_first : {X : Type 0} (p : X → Bool) (x : X) (xs : List X) → find p xs ≡ Some x → In x xs × (p x ≡ true)
 found_first p x [] e = absurd cc
-found_first {X} p x (y ∷ xs) e =
-    let here = λ (t : p y ≡ true). let is : y ≡ x = (let at : Some y ≡ Some x = rw t at e in cc) in (let r : In x (y ∷ xs) × (p x ≡ true) = (inl is, ap p (sym is) ∙ t) in r) in
-    let later = λ (t : p y ≡ false). let w = found_first p x xs (rw t at e) in (let r : In x (y ∷ xs) × (p x ≡ true) = (inr w.0, w.1) in r) in
-    elim (cases_Bool (p y)) [ inl t ↦ here t | inr t ↦ later t ]
+found_first {X} p x (y ∷ xs) e = elim (cases_Bool (p y)) [ inl t ↦ here t | inr t ↦ later (found_first p x xs (rw t at e)) ]
+  where
+    here : p y ≡ true → In x (y ∷ xs) × (p x ≡ true)
+    here t =
+        let found_it : Some y ≡ Some x = rw t at e in
+        let is : y ≡ x = cc in
+        (inl is, ap p (sym is) ∙ t)
+
+    later : In x xs × (p x ≡ true) → In x (y ∷ xs) × (p x ≡ true)
+    later w = (inr w.0, w.1)
 
 found_none : {X : Type 0} (p : X → Bool) (xs : List X) → find p xs ≡ None → list_any p xs ≡ false
 found_none p [] e = refl
 found_none {X} p (y ∷ xs) e = elim (cases_Bool (p y)) [
-  | inl t ↦ absurd (let at : ◌≡◌ {A = Option X} (Some y) None = rw t at e in cc)
+  | inl t ↦ absurd (let found_it : ◌≡◌ {A = Option X} (Some y) None = rw t at e in cc)
   | inr t ↦ rw t (found_none p xs (rw t at e))
 ]
 
--- who of a program's list is looked at again
-in_reopened : (m : Market) (k : ℕ) (new : Places) (p a : ℕ) → has (program_of m p).ranking a ≡ true
-    → has_entered k (agent_of m a) ≡ true → blocks m new (agent_of m a) ≡ true → In (agent_of m a) (reopened_at m k new p)
-in_reopened m k new p a i e b =
-    in_kept (λ g. has_entered k g && blocks m new g) (agent_of m a) (map (agent_of m) (program_of m p).ranking)
-    (in_image (agent_of m) a (program_of m p).ranking (has_in a (program_of m p).ranking i)) (and_from _ _ e b)
-
--- An agent that did not block, neither moved nor was displaced, and isn't looked at again, does not block.
-stays_quiet : {m : Market} {old : Places} {g : Agent} {sent : Placement} → IsMove m old g sent → (k : ℕ) (h : Agent) → IsAgent m h
-    → is_displaced m old sent h ≡ false → is_same_agent h g ≡ false → has_entered k h ≡ true
-    → ((p : ℕ) → p < length m.programs → is_left m old (send sent old) (match_after m old sent) p ≡ true → In h (reopened_at m k (match_after m old sent) p) → ⊥)
-    → blocks m old h ≡ false → blocks m (match_after m old sent) h ≡ false
-stays_quiet {m} {old} {g} {sent} mv k h ah d other entered unseen quiet = false_from_ne_true (blocks m new h) (λ b. not_at b (found (would_be_taken m new) (better m new h) b))
-  where
-    new : Places
-    new = match_after m old sent
-
-    refused : (o : Placement) → blocks m new h ≡ true → In o (better m old h) → would_be_taken m new o ≡ true → (b : ℕ) (v : Option ℕ) → In (b, v) o → is_chosen m (send o old) b v ≡ false → ⊥
-    refused o b' i taken b None j c = false≢true (sym c)
-    refused o b' i taken b (Some p) j c =
-        let opt = of_until (holds old) o (options m h) i in
-        let now = each _ (b, Some p) o taken j in
-        let ranked = (choice_facts (program_of m p) (at (send o new) p) b now).is_listed in
-        let is : agent_of m b ≡ h = ah.belongs b (option_member m h o opt b (Some p) j) in
-        elim (cases_Bool (is_left m old (send sent old) new p)) [
-          | inl left ↦ unseen p (listing_program m p b ranked) left (subst (λ x. In x (reopened_at m k new p)) is (in_reopened m k new p b ranked (ap (has_entered k) is ∙ entered) (ap (blocks m new) is ∙ b')))
-          | inr kept ↦ both_ways (is_chosen m (send o old) b (Some p)) c (taken_before mv h ah d other o opt b p j kept now)
-        ]
-
-    not_at : blocks m new h ≡ true → ((o : Placement) × In o (better m new h) × (would_be_taken m new o ≡ true)) → ⊥
-    not_at blocked w =
-        let i : In w.0 (better m old h) = subst (λ xs. In w.0 xs) (same_better m new old h (untouched mv h ah d other)) w.1 in
-        let before : would_be_taken m old w.0 ≡ false = false_from_ne_true (would_be_taken m old w.0) (λ t. both_ways (blocks m old h) quiet (finds (would_be_taken m old) w.0 (better m old h) i t)) in
-        let f = fails_at _ w.0 before in
-        refused w.0 blocked i w.2 f.0.0 f.0.1 f.1 f.2
-
--- a couple that has not entered is not one that has
-not_mover : (k : ℕ) (g h : Agent) → has_entered k g ≡ true → has_entered k h ≡ false → is_same_agent h g ≡ false
-not_mover k g h e o = false_from_ne_true (is_same_agent h g) (λ same. both_ways (has_entered k h) o (ap (has_entered k) (same_agent h g same) ∙ e))
-
--- where none of a list is placed, each is unplaced
-pub no_place : (v : Option ℕ) → not (is_some v) ≡ true → v ≡ None
+-- where none of a list is placed, each is unplaced, and the other way round
+no_place : (v : Option ℕ) → not (is_some v) ≡ true → v ≡ None
 no_place None h = refl
 no_place (Some p) h = absurd (false≢true h)
 
@@ -108,13 +75,11 @@ is_unplaced places xs a h i = no_place (place_of places a) (each _ a xs h (has_i
 pub are_unplaced : (places : Places) (xs : List ℕ) → ((a : ℕ) → has xs a ≡ true → place_of places a ≡ None) → none_placed places xs ≡ true
 are_unplaced places xs h = all_pass _ xs (λ a i. rw (h a (in_has a xs i)) refl)
 
--- who is looked at after a move
-abbrev looked_at : Market → ℕ → Places → Agent → Placement → List Agent
-looked_at m k old g sent = to_look_at m k old g sent (send sent old) (match_after m old sent)
+-- an agent that has not entered is not one that has
+not_mover : (k : ℕ) (g h : Agent) → has_entered k g ≡ true → has_entered k h ≡ false → is_same_agent h g ≡ false
+not_mover k g h entered out = false_from_ne_true (is_same_agent h g) (λ same. both_ways (has_entered k h) out (ap (has_entered k) (same_agent h g same) ∙ entered))
 
-abbrev displaced_agents : Market → Places → Placement → List Agent
-displaced_agents m old sent = map (agent_of m) (displaced m (send sent old) sent)
-
+-- who is looked at after a move: the displaced, who moved, and who is on the lists of left programs
 abbrev mover_again : Market → Places → Agent → Placement → List Agent
 mover_again m old g sent = if blocks m (match_after m old sent) g then (g ∷ []) else []
 
@@ -124,89 +89,130 @@ left_programs m old sent = filter (is_left m old (send sent old) (match_after m 
 abbrev reopened : Market → ℕ → Places → Placement → List Agent
 reopened m k old sent = flat_map (reopened_at m k (match_after m old sent)) (left_programs m old sent)
 
--- What holds of the displaced applicants' agents, of the agent that moved, and of who blocks at a program, holds
--- of each agent that is looked at.
+abbrev looked_at : Market → ℕ → Places → Agent → Placement → List Agent
+looked_at m k old g sent = to_look_at m k old g sent (send sent old) (match_after m old sent)
+
+-- the agent of an applicant of a left program's list is looked at where it has entered and blocks
+in_reopened : (m : Market) (k : ℕ) (old : Places) (sent : Placement) (p a : ℕ) → is_left m old (send sent old) (match_after m old sent) p ≡ true
+    → has (program_of m p).ranking a ≡ true → has_entered k (agent_of m a) ≡ true → blocks m (match_after m old sent) (agent_of m a) ≡ true
+    → In (agent_of m a) (reopened m k old sent)
+in_reopened m k old sent p a left listed entered blocking =
+    in_joined (reopened_at m k (match_after m old sent)) p (agent_of m a) (left_programs m old sent)
+    (in_kept (is_left m old (send sent old) (match_after m old sent)) p (below (length m.programs)) (in_below p (length m.programs) (listing_program m p a listed)) left)
+    (in_kept (λ g. has_entered k g && blocks m (match_after m old sent) g) (agent_of m a) (map (agent_of m) (program_of m p).ranking)
+    (in_image (agent_of m) a (program_of m p).ranking (has_in a (program_of m p).ranking listed)) (and_from _ _ entered blocking))
+
+-- What holds of the displaced applicants' agents, of the agent that moved, and of the entered agents on the
+-- programs' lists, holds of each agent that is looked at.
 all_looked_at : (P : Agent → Type 0) (m : Market) (k : ℕ) (old : Places) (g : Agent) (sent : Placement)
     → ((z : ℕ) → In z (displaced m (send sent old) sent) → P (agent_of m z)) → P g
     → ((p a : ℕ) → has (program_of m p).ranking a ≡ true → has_entered k (agent_of m a) ≡ true → P (agent_of m a))
     → (h : Agent) → In h (looked_at m k old g sent) → P h
 all_looked_at P m k old g sent of_gone of_mover of_listed h i = elim (in_either h (displaced_agents m old sent ++ mover_again m old g sent) (reopened m k old sent) i) [
   | inl j ↦ elim (in_either h (displaced_agents m old sent) (mover_again m old g sent) j) [
-    | inl d ↦ let z = of_image (agent_of m) h (displaced m (send sent old) sent) d in subst P z.2 (of_gone z.0 z.1)
-    | inr again ↦ elim (cases_Bool (blocks m (match_after m old sent) g)) [
-      | inl t ↦ mover (rw t at again)
-      | inr t ↦ absurd (rw t at again)
-    ]
+    | inl out ↦ let z = of_image (agent_of m) h (displaced m (send sent old) sent) out in subst P z.2 (of_gone z.0 z.1)
+    | inr again ↦ elim (cases_Bool (blocks m (match_after m old sent) g)) [ inl t ↦ mover (rw t at again) | inr t ↦ absurd (rw t at again) ]
   ]
   | inr j ↦
-      let w = of_joined (reopened_at m k (match_after m old sent)) h (left_programs m old sent) j in
-      let kept = of_kept (λ x. has_entered k x && blocks m (match_after m old sent) x) h (map (agent_of m) (program_of m w.0).ranking) w.2 in
-      let a = of_image (agent_of m) h (program_of m w.0).ranking kept.0 in
+      let p = of_joined (reopened_at m k (match_after m old sent)) h (left_programs m old sent) j in
+      let kept = of_kept (λ x. has_entered k x && blocks m (match_after m old sent) x) h (map (agent_of m) (program_of m p.0).ranking) p.2 in
+      let a = of_image (agent_of m) h (program_of m p.0).ranking kept.0 in
       let entered = (and_parts (has_entered k h) (blocks m (match_after m old sent) h) kept.1).0 in
-      subst P a.2 (of_listed w.0 a.0 (in_has a.0 (program_of m w.0).ranking a.1) (ap (has_entered k) a.2 ∙ entered))
+      subst P a.2 (of_listed p.0 a.0 (in_has a.0 (program_of m p.0).ranking a.1) (ap (has_entered k) a.2 ∙ entered))
 ]
   where
     mover : In h (g ∷ []) → P h
     mover (inl e) = subst P e of_mover
-    mover (inr i) = absurd i
+    mover (inr none) = absurd none
 
--- a displaced applicant's agent is one of the market
-displaced_agent : {m : Market} {old : Places} {g : Agent} {sent : Placement} → IsMove m old g sent → (z : ℕ) → In z (displaced m (send sent old) sent) → IsAgent m (agent_of m z)
-displaced_agent {m} {old} {g} {sent} mv z i =
-    let w = of_displaced m (send sent old) sent z i in
-    agent_of_applicant m mv.well_formed z (mv.well_formed.rankings_within w.0 z w.3)
+module _ {m : Market} {old : Places} {g : Agent} {sent : Placement} (mv : IsMove m old g sent) where
+  -- who is looked at is an agent of the market
+  looked_at_agent : (k : ℕ) (h : Agent) → In h (looked_at m k old g sent) → IsAgent m h
+  looked_at_agent k = all_looked_at (IsAgent m) m k old g sent (displaced_agent mv) mv.agent
+      (λ p a listed entered. agent_of_applicant m mv.well_formed a (mv.well_formed.rankings_within p a listed))
 
--- who is looked at is an agent of the market
-pub looked_at_agent : {m : Market} {old : Places} {g : Agent} {sent : Placement} → IsMove m old g sent → (k : ℕ) (h : Agent) → In h (looked_at m k old g sent) → IsAgent m h
-looked_at_agent {m} {old} {g} {sent} mv k =
-    all_looked_at (IsAgent m) m k old g sent (displaced_agent mv) mv.agent
-    (λ p a i e. agent_of_applicant m mv.well_formed a (mv.well_formed.rankings_within p a i))
+  -- An agent that did not block, neither moved nor was displaced, and isn't looked at again, does not block.
+  stays_quiet : (k : ℕ) (h : Agent) → IsAgent m h → is_displaced m old sent h ≡ false → is_same_agent h g ≡ false → has_entered k h ≡ true
+      → (In h (reopened m k old sent) → ⊥) → blocks m old h ≡ false → blocks m (match_after m old sent) h ≡ false
+  stays_quiet k h of_h stays other entered unseen quiet =
+      false_from_ne_true (blocks m (match_after m old sent) h) (λ blocking. by_option blocking (found (would_be_taken m (match_after m old sent)) (better m (match_after m old sent) h) blocking))
+    where
+      -- no better option has a member whom its program chooses only now
+      no_change : blocks m (match_after m old sent) h ≡ true → (o : Placement) → In o (options m h) → would_be_taken m (match_after m old sent) o ≡ true
+          → (b : ℕ) (v : Option ℕ) → In (b, v) o → is_chosen m (send o old) b v ≡ false → ⊥
+      no_change blocking o i taken b None sends refused = false≢true (sym refused)
+      no_change blocking o i taken b (Some p) sends refused =
+          let now = each _ (b, Some p) o taken sends in
+          let listed = (choice_facts (program_of m p) (at (send o (match_after m old sent)) p) b now).is_listed in
+          let is : agent_of m b ≡ h = of_h.belongs b (option_member m h o i b (Some p) sends) in
+          elim (cases_Bool (is_left m old (send sent old) (match_after m old sent) p)) [
+            | inl left ↦ unseen (subst (λ x. In x (reopened m k old sent)) is
+                (in_reopened m k old sent p b left listed (ap (has_entered k) is ∙ entered) (ap (blocks m (match_after m old sent)) is ∙ blocking)))
+            | inr kept ↦ both_ways (is_chosen m (send o old) b (Some p)) refused (taken_before mv h of_h stays other o i b p sends kept now)
+          ]
 
-module _ (m : Market) (k : ℕ) (old : Places) (g : Agent) (sent : Placement) (ws : List Agent) (mv : IsMove m old g sent) (g_entered : has_entered k g ≡ true)
-    (state : IsRoundState m k (record { places = old; waiting = g ∷ ws })) where
-  -- a displaced applicant's agent has entered
+      by_option : blocks m (match_after m old sent) h ≡ true
+          → ((o : Placement) × In o (better m (match_after m old sent) h) × (would_be_taken m (match_after m old sent) o ≡ true)) → ⊥
+      by_option blocking o =
+          let was_better : In o.0 (better m old h) = subst (λ xs. In o.0 xs) (same_better m (match_after m old sent) old h (untouched mv h of_h stays other)) o.1 in
+          let not_before : would_be_taken m old o.0 ≡ false = false_from_ne_true (would_be_taken m old o.0) (λ t.
+          both_ways (blocks m old h) quiet (finds (would_be_taken m old) o.0 (better m old h) was_better t)) in
+          let s = fails_at _ o.0 not_before in
+          no_change blocking o.0 (of_until (holds old) o.0 (options m h) was_better) o.2 s.0.0 s.0.1 s.1 s.2
+
+-- The state after a move.
+module _ (m : Market) (k : ℕ) (old : Places) (g : Agent) (sent : Placement) (ws : List Agent) (mv : IsMove m old g sent)
+    (g_entered : has_entered k g ≡ true) (state : IsRoundState m k (record { places = old; waiting = g ∷ ws })) where
+  -- a displaced applicant's agent has entered, since nobody else was placed
   displaced_entered : (z : ℕ) → In z (displaced m (send sent old) sent) → has_entered k (agent_of m z) ≡ true
   displaced_entered z i =
-      let w = of_displaced m (send sent old) sent z i in
-      let az = displaced_agent mv z i in
+      let p = of_displaced m (send sent old) sent z i in
+      let of_z = displaced_agent mv z i in
       let member = member_of_agent m z in
-      let there = (and_parts (at (send sent old) w.0 z) (not (choice (program_of m w.0) (at (send sent old) w.0) z)) w.2).0 in
       true_from_ne_false (has_entered k (agent_of m z)) (λ out.
-      let before = is_unplaced old (members m (agent_of m z)) z (state.outside_unplaced (agent_of m z) (on_list (agent_of m z) (agents m) (agent_on_list m (agent_of m z) az)) out) member in
-      let unmoved = option_elsewhere m g sent mv.option old z (apart mv.agent az (not_mover k g (agent_of m z) g_entered out) z member) in
-      both_ways (at (send sent old) w.0 z) (at_none (send sent old) w.0 z (unmoved ∙ before)) there)
+      let on = on_list (agent_of m z) (agents m) (agent_on_list m (agent_of m z) of_z) in
+      let before = is_unplaced old (members m (agent_of m z)) z (state.outside_unplaced (agent_of m z) on out) member in
+      let unmoved = option_elsewhere m g sent mv.option old z (apart mv.agent of_z (not_mover k g (agent_of m z) g_entered out) z member) in
+      both_ways (at (send sent old) p.0 z) (at_none (send sent old) p.0 z (unmoved ∙ before)) (displaced_parts m (send sent old) p.0 z p.2).0)
 
   -- who is looked at has entered
   looked_at_entered : (h : Agent) → In h (looked_at m k old g sent) → has_entered k h ≡ true
-  looked_at_entered = all_looked_at (λ h. has_entered k h ≡ true) m k old g sent displaced_entered g_entered (λ p a i e. e)
+  looked_at_entered = all_looked_at (λ h. has_entered k h ≡ true) m k old g sent displaced_entered g_entered (λ p a listed entered. entered)
 
   -- a couple that has not entered stays unplaced
   outside_after : (h : Agent) → IsAgent m h → has_entered k h ≡ false → none_placed (match_after m old sent) (members m h) ≡ true
-  outside_after h ah out = are_unplaced (match_after m old sent) (members m h) (λ a i. elim (cases_Bool (is_displaced m old sent h)) [
-    | inl d ↦ goes_out mv h d a i
-    | inr d ↦ untouched mv h ah d (not_mover k g h g_entered out) a i
-        ∙ is_unplaced old (members m h) a (state.outside_unplaced h (on_list h (agents m) (agent_on_list m h ah)) out) i
-  ])
+  outside_after h of_h out =
+      let before = state.outside_unplaced h (on_list h (agents m) (agent_on_list m h of_h)) out in
+      are_unplaced (match_after m old sent) (members m h) (λ a member. elim (cases_Bool (is_displaced m old sent h)) [
+        | inl gone ↦ goes_out m old sent h gone a member
+        | inr stays ↦ untouched mv h of_h stays (not_mover k g h g_entered out) a member ∙ is_unplaced old (members m h) a before member
+      ])
 
   -- an agent that is on the list neither before nor now does not block
-  quiet_after : (h : Agent) → IsAgent m h → has_entered k h ≡ true → is_on ws h ≡ false
-      → (In h (looked_at m k old g sent) → ⊥) → blocks m (match_after m old sent) h ≡ false
-  quiet_after h ah entered off unseen =
-      let d : is_displaced m old sent h ≡ false = false_from_ne_true (is_displaced m old sent h) (λ t.
-      unseen (in_left h (displaced_agents m old sent ++ mover_again m old g sent) (reopened m k old sent)
-      (in_left h (displaced_agents m old sent) (mover_again m old g sent) (of_list h (displaced_agents m old sent) t)))) in
+  quiet_after : (h : Agent) → IsAgent m h → has_entered k h ≡ true → is_on ws h ≡ false → (In h (looked_at m k old g sent) → ⊥)
+      → blocks m (match_after m old sent) h ≡ false
+  quiet_after h of_h entered off unseen =
       elim (cases_Bool (is_same_agent h g)) [
-        | inl same ↦ false_from_ne_true (blocks m (match_after m old sent) h) (λ b.
-            let is = same_agent h g same in
-            let b' : blocks m (match_after m old sent) g ≡ true = subst (λ x. blocks m (match_after m old sent) x ≡ true) is b in
-            unseen (in_left h (displaced_agents m old sent ++ mover_again m old g sent) (reopened m k old sent)
-            (in_right h (displaced_agents m old sent) (mover_again m old g sent) (rw b' (inl (sym is))))))
-        | inr other ↦ stays_quiet mv k h ah d other entered
-            (λ p l left i. unseen (in_right h (displaced_agents m old sent ++ mover_again m old g sent) (reopened m k old sent)
-            (in_joined (reopened_at m k (match_after m old sent)) p h (left_programs m old sent)
-            (in_kept (is_left m old (send sent old) (match_after m old sent)) p (below (length m.programs)) (in_below p (length m.programs) l) left) i)))
-            (state.none_blocks h (on_list h (agents m) (agent_on_list m h ah)) entered (or_from (is_same_agent h g) (is_on ws h) other off))
+        | inl same ↦ false_from_ne_true (blocks m (match_after m old sent) h) (λ blocking. of_front (inr (mover_seen same blocking)))
+        | inr other ↦
+            let stays : is_displaced m old sent h ≡ false =
+            false_from_ne_true (is_displaced m old sent h) (λ out. of_front (inl (of_list h (displaced_agents m old sent) out))) in
+            let before = state.none_blocks h (on_list h (agents m) (agent_on_list m h of_h)) entered (or_from (is_same_agent h g) (is_on ws h) other off) in
+            stays_quiet mv k h of_h stays other entered
+            (λ i. unseen (in_right h (displaced_agents m old sent ++ mover_again m old g sent) (reopened m k old sent) i)) before
       ]
+    where
+      of_front : In h (displaced_agents m old sent) ⊎ In h (mover_again m old g sent) → ⊥
+      of_front i = unseen (in_left h (displaced_agents m old sent ++ mover_again m old g sent) (reopened m k old sent) (elim i [
+        | inl out ↦ in_left h (displaced_agents m old sent) (mover_again m old g sent) out
+        | inr again ↦ in_right h (displaced_agents m old sent) (mover_again m old g sent) again
+      ]))
+
+      mover_seen : is_same_agent h g ≡ true → blocks m (match_after m old sent) h ≡ true → In h (mover_again m old g sent)
+      mover_seen same blocking =
+          let is = same_agent h g same in
+          let again : blocks m (match_after m old sent) g ≡ true = subst (λ x. blocks m (match_after m old sent) x ≡ true) is blocking in
+          rw again (inl (sym is))
 
   keep_move : IsRoundState m k (after_taking m k old g ws (Some sent))
   keep_move = record {
