@@ -37,17 +37,27 @@ pub record IsAgent (m : Market) (g : Agent) : Type 0 where
   pub belongs : (a : ℕ) → has (members m g) a ≡ true → agent_of m a ≡ g
   pub distinct : is_distinct (members m g) ≡ true
 
--- the couple whose member an applicant is
-agent_from_couple : (xs : List Partners) (c a d : ℕ) (none : Partners) → agent_from xs c a ≡ Couple d
-    → (k : ℕ) × (k < length xs) × (d ≡ c + k) × (is_member (slice_index_or xs k none) a ≡ true)
-agent_from_couple [] c a d none e = absurd cc
-agent_from_couple (x ∷ xs) c a d none e =
-    let here = λ (t : is_member x a ≡ true). let is : c ≡ d = (let at : Couple c ≡ Couple d = rw t at e in cc) in
-    (let r : (k : ℕ) × (k < length (x ∷ xs)) × (d ≡ c + k) × (is_member (slice_index_or (x ∷ xs) k none) a ≡ true) = (0, omega arith, omega arith, t) in r) in
-    let later = λ (t : is_member x a ≡ false). let w = agent_from_couple xs (c + 1) a d none (rw t at e) in
-    (let r : (k : ℕ) × (k < length (x ∷ xs)) × (d ≡ c + k) × (is_member (slice_index_or (x ∷ xs) k none) a ≡ true) = (suc w.0, omega arith, omega arith, w.3) in r) in
-    elim (cases_Bool (is_member x a)) [ inl t ↦ here t | inr t ↦ later t ]
+-- the couple to which an applicant belongs, and that has it as a member
+abbrev HasMember : List Partners → ℕ → ℕ → ℕ → Partners → Type 0
+HasMember xs c a d none = (k : ℕ) × (k < length xs) × (d ≡ c + k) × (is_member (slice_index_or xs k none) a ≡ true)
 
+agent_from_couple : (xs : List Partners) (c a d : ℕ) (none : Partners) → agent_from xs c a ≡ Couple d → HasMember xs c a d none
+agent_from_couple [] c a d none e = absurd cc
+agent_from_couple (x ∷ xs) c a d none e = elim (cases_Bool (is_member x a)) [
+  | inl t ↦ here t
+  | inr t ↦ later (agent_from_couple xs (c + 1) a d none (rw t at e))
+]
+  where
+    here : is_member x a ≡ true → HasMember (x ∷ xs) c a d none
+    here t =
+        let both : Couple c ≡ Couple d = rw t at e in
+        let is : c ≡ d = cc in
+        (0, omega arith, omega arith, t)
+
+    later : HasMember xs (c + 1) a d none → HasMember (x ∷ xs) c a d none
+    later w = (suc w.0, omega arith, omega arith, w.3)
+
+-- an applicant that is a single is that single
 agent_from_single : (xs : List Partners) (c a b : ℕ) → agent_from xs c a ≡ Single b → b ≡ a
 agent_from_single [] c a b e = cc
 agent_from_single (x ∷ xs) c a b e = elim (cases_Bool (is_member x a)) [
@@ -69,8 +79,14 @@ couple_members m wf c l =
     let two = wf.second_member c l in
     let apart = wf.two_members c l in
     record {
-      within = λ a i. elim (one_of_two _ _ a i) [ inl e ↦ subst (λ x. x < applicants m) e one.within | inr e ↦ subst (λ x. x < applicants m) e two.within ];
-      belongs = λ a i. elim (one_of_two _ _ a i) [ inl e ↦ subst (λ x. agent_of m x ≡ Couple c) e one.belongs | inr e ↦ subst (λ x. agent_of m x ≡ Couple c) e two.belongs ];
+      within = λ a i. elim (one_of_two _ _ a i) [
+        | inl e ↦ subst (λ x. x < applicants m) e one.within
+        | inr e ↦ subst (λ x. x < applicants m) e two.within
+      ];
+      belongs = λ a i. elim (one_of_two _ _ a i) [
+        | inl e ↦ subst (λ x. agent_of m x ≡ Couple c) e one.belongs
+        | inr e ↦ subst (λ x. agent_of m x ≡ Couple c) e two.belongs
+      ];
       distinct = rw (ne_eqb (couple_of m c).second (couple_of m c).first (λ e. apart (sym e))) refl;
     }
 
@@ -118,17 +134,20 @@ member_of_agent m a = by_kind (agent_of m a) refl
         either_member (couple_of m c) a (subst (λ k. is_member (couple_of m k) a ≡ true) is w.3)
 
 -- the agents of the market are those that it lists
+leader_on_list : (m : Market) (g : Agent) (a : ℕ) → a < applicants m → leads m a ≡ true → agent_of m a ≡ g → In g (agents m)
+leader_on_list m g a within leading is =
+    subst (λ h. In h (agents m)) is
+    (in_image (agent_of m) a (filter (leads m) (below (applicants m))) (in_kept (leads m) a (below (applicants m)) (in_below a (applicants m) within) leading))
+
 pub agent_on_list : (m : Market) (g : Agent) → IsAgent m g → In g (agents m)
 agent_on_list m (Single a) h =
     let is = h.belongs a (has_head a []) in
-    let leading : leads m a ≡ true = rw is refl in
-    subst (λ g. In g (agents m)) is (in_image (agent_of m) a (filter (leads m) (below (applicants m))) (in_kept (leads m) a (below (applicants m)) (in_below a (applicants m) (h.within a (has_head a []))) leading))
+    leader_on_list m (Single a) a (h.within a (has_head a [])) (rw is refl) is
 agent_on_list m (Couple c) h =
     let a = (couple_of m c).first in
     let i = has_head a ((couple_of m c).second ∷ []) in
     let is = h.belongs a i in
-    let leading : leads m a ≡ true = rw is (eq-eqb a a refl) in
-    subst (λ g. In g (agents m)) is (in_image (agent_of m) a (filter (leads m) (below (applicants m))) (in_kept (leads m) a (below (applicants m)) (in_below a (applicants m) (h.within a i)) leading))
+    leader_on_list m (Couple c) a (h.within a i) (rw is (eq-eqb a a refl)) is
 
 pub agent_from_list : (m : Market) → IsWellFormed m → (g : Agent) → In g (agents m) → IsAgent m g
 agent_from_list m wf g i =

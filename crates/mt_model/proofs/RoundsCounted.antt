@@ -102,7 +102,8 @@ rounds_used m places budget q u =
     record {
       within = omega arith;
       enough = λ b l.
-          let run : entered m (below (length m.couples)) b places ≡ Some (q.0, b - u.used) = ap (λ n. entered m (below (length m.couples)) n places) (omega arith) ∙ u.enough (b - u.used) in
+          let run : entered m (below (length m.couples)) b places ≡ Some (q.0, b - u.used) =
+          ap (λ n. entered m (below (length m.couples)) n places) (omega arith) ∙ u.enough (b - u.used) in
           let same : b - (b - u.used) ≡ budget - q.1 = omega arith in
           stage_gives m places b (q.0, b - u.used) run ∙ ap (λ n. Some (q.0, n)) same;
       too_few = λ b l. mapped_none (λ t. (t.0, b - t.1)) (entered m (below (length m.couples)) b places) (u.too_few b (omega arith));

@@ -5,11 +5,11 @@ use Rattle.std.proofs.lemmas.Bool.{cases_lt, false≢true}
 use Rattle.std.proofs.lemmas.List.{get_or_past}
 use Rattle.mt_model.specs.Lists.{has, below, count}
 use Rattle.mt_model.specs.Market.{Market, applicants, program_of, members, agents}
-use Rattle.mt_model.specs.Matching.{Places, place_of, at, filled, options, holds, better}
+use Rattle.mt_model.specs.Matching.{Places, place_of, at, filled, options, holds, better, Placement}
 use Rattle.mt_model.specs.Stability.{is_listed, has_own_option, fits}
 use Rattle.mt_model.specs.WellFormed.{IsWellFormed}
 use Rattle.mt_model.specs.declared.numbers.Agent.{Agent}
-use Rattle.mt_model.proofs.RoundsLists.{in_below, each, all_pass, same_any, same_until}
+use Rattle.mt_model.proofs.RoundsLists.{in_below, each, all_pass, same_any, same_until, In}
 use Rattle.mt_model.proofs.RoundsPlaces.{is_program_some, at_some, placed_within, filled_is_count, holds_same, none_placed_same}
 use Rattle.mt_model.proofs.RoundsAgents.{IsAgent, agent_on_list, agent_from_list, option_movers}
 
@@ -45,28 +45,41 @@ filled_of_list : (m : Market) → IsWellFormed m → (places : Places) (p : ℕ)
 filled_of_list m wf places p e listed =
     filled_is_count (program_of m p).ranking places p (wf.rankings_distinct p) (λ a i. let l = wf.rankings_within p a i in omega arith) listed
 
+-- what the test of a match that fits tests
 pub fitting_facts : (m : Market) → IsWellFormed m → (places : Places) → fits m places ≡ true → IsFitting m places
-fitting_facts m wf places h =
-    let parts = all_four (length places == applicants m) (list_all (has_own_option m places) (agents m))
-    (list_all (λ a. is_listed m a (place_of places a)) (below (applicants m)))
-    (list_all (λ p. nat_le (filled places p) (program_of m p).quota) (below (length m.programs))) h in
-    let one_each = eqb-true (length places) (applicants m) parts.0 in
-    let listed = λ (a p : ℕ) (i : at places p a ≡ true). listed_from m places a p (is_program_some p (place_of places a) i)
-    (each _ a (below (applicants m)) parts.2 (in_below a (applicants m) (let l = placed_within places p a i in omega arith))) in
-    let few = λ (p : ℕ) (l : p < length m.programs). leb-true (filled places p) (program_of m p).quota (each _ p (below (length m.programs)) parts.3 (in_below p (length m.programs) l)) in
-    record {
-      one_each = one_each;
-      own = λ g i. each (has_own_option m places) g (agents m) parts.1 (agent_on_list m g i);
-      listed = listed;
-      within = λ p. elim (cases_lt p (length m.programs)) [
-        | inl l ↦ (let e = filled_of_list m wf places p one_each (λ a. listed a p) in let f = few p l in omega arith)
-        | inr past ↦ rw (program_past m p past) (omega arith)
-      ];
-    }
+fitting_facts m wf places h = record { one_each = one_each; own = own; listed = listed; within = within }
   where
-    listed_from : (m : Market) (places : Places) (a p : ℕ) → place_of places a ≡ Some p → is_listed m a (place_of places a) ≡ true → has (program_of m p).ranking a ≡ true
-    listed_from m places a p e i = rw e at i
+    parts : (((length places == applicants m) ≡ true) × (list_all (has_own_option m places) (agents m) ≡ true)
+        × (list_all (λ a. is_listed m a (place_of places a)) (below (applicants m)) ≡ true)
+        × (list_all (λ p. nat_le (filled places p) (program_of m p).quota) (below (length m.programs)) ≡ true))
+    parts = all_four (length places == applicants m) (list_all (has_own_option m places) (agents m))
+        (list_all (λ a. is_listed m a (place_of places a)) (below (applicants m)))
+        (list_all (λ p. nat_le (filled places p) (program_of m p).quota) (below (length m.programs))) h
 
+    one_each : length places ≡ applicants m
+    one_each = eqb-true (length places) (applicants m) parts.0
+
+    own : (g : Agent) → IsAgent m g → has_own_option m places g ≡ true
+    own g i = each (has_own_option m places) g (agents m) parts.1 (agent_on_list m g i)
+
+    listed : (a p : ℕ) → at places p a ≡ true → has (program_of m p).ranking a ≡ true
+    listed a p here =
+        let l = placed_within places p a here in
+        let one = one_each in
+        let placed = each (λ b. is_listed m b (place_of places b)) a (below (applicants m)) parts.2 (in_below a (applicants m) (omega arith)) in
+        rw (is_program_some p (place_of places a) here) at placed
+
+    within : (p : ℕ) → count (at places p) (program_of m p).ranking ≤ (program_of m p).quota
+    within p = elim (cases_lt p (length m.programs)) [
+      | inl l ↦
+          let few = each (λ q. nat_le (filled places q) (program_of m q).quota) p (below (length m.programs)) parts.3 (in_below p (length m.programs) l) in
+          let le = leb-true (filled places p) (program_of m p).quota few in
+          let same = filled_of_list m wf places p one_each (λ a. listed a p) in
+          omega arith
+      | inr past ↦ rw (program_past m p past) (omega arith)
+    ]
+
+-- and the other way round
 listed_place : (m : Market) (places : Places) → IsFitting m places → (a : ℕ) (v : Option ℕ) → place_of places a ≡ v → is_listed m a v ≡ true
 listed_place m places f a None e = refl
 listed_place m places f a (Some p) e = f.listed a p (at_some places p a e)
@@ -77,17 +90,26 @@ fits_from m wf places f =
       eq-eqb (length places) (applicants m) f.one_each,
       all_pass (has_own_option m places) (agents m) (λ g i. f.own g (agent_from_list m wf g i)),
       all_pass (λ a. is_listed m a (place_of places a)) (below (applicants m)) (λ a i. listed_place m places f a (place_of places a) refl),
-      all_pass (λ p. nat_le (filled places p) (program_of m p).quota) (below (length m.programs)) (λ p i. le-leb (filled places p) (program_of m p).quota (let e = filled_of_list m wf places p f.one_each (λ a. f.listed a p) in let l = f.within p in omega arith)),
+      all_pass (λ p. nat_le (filled places p) (program_of m p).quota) (below (length m.programs)) (λ p i. within p),
     ) refl
+  where
+    within : (p : ℕ) → nat_le (filled places p) (program_of m p).quota ≡ true
+    within p =
+        let same = filled_of_list m wf places p f.one_each (λ a. f.listed a p) in
+        let few = f.within p in
+        le-leb (filled places p) (program_of m p).quota (omega arith)
+
+-- an option is held alike where the agent's members have the same places
+same_holds : (m : Market) (P Q : Places) (g : Agent) → ((a : ℕ) → has (members m g) a ≡ true → place_of P a ≡ place_of Q a)
+    → (o : Placement) → In o (options m g) → holds P o ≡ holds Q o
+same_holds m P Q g h o i = holds_same P Q o (λ a j. h a (subst (λ xs. has xs a ≡ true) (option_movers m g o i) j))
 
 -- what an agent has, and what is better, go by its members' places
 pub same_own_option : (m : Market) (P Q : Places) (g : Agent) → ((a : ℕ) → has (members m g) a ≡ true → place_of P a ≡ place_of Q a)
     → has_own_option m P g ≡ has_own_option m Q g
 same_own_option m P Q g h =
-    ap₂ ◌||◌ (same_any (holds P) (holds Q) (options m g) (λ sent i. holds_same P Q sent (λ a j. h a (subst (λ xs. has xs a ≡ true) (option_movers m g sent i) j))))
-    (none_placed_same P Q (members m g) h)
+    ap₂ ◌||◌ (same_any (holds P) (holds Q) (options m g) (same_holds m P Q g h)) (none_placed_same P Q (members m g) h)
 
 pub same_better : (m : Market) (P Q : Places) (g : Agent) → ((a : ℕ) → has (members m g) a ≡ true → place_of P a ≡ place_of Q a)
     → better m P g ≡ better m Q g
-same_better m P Q g h =
-    same_until (holds P) (holds Q) (options m g) (λ sent i. holds_same P Q sent (λ a j. h a (subst (λ xs. has xs a ≡ true) (option_movers m g sent i) j)))
+same_better m P Q g h = same_until (holds P) (holds Q) (options m g) (same_holds m P Q g h)

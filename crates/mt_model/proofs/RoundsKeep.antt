@@ -77,7 +77,8 @@ are_unplaced places xs h = all_pass _ xs (λ a i. rw (h a (in_has a xs i)) refl)
 
 -- an agent that has not entered is not one that has
 not_mover : (k : ℕ) (g h : Agent) → has_entered k g ≡ true → has_entered k h ≡ false → is_same_agent h g ≡ false
-not_mover k g h entered out = false_from_ne_true (is_same_agent h g) (λ same. both_ways (has_entered k h) out (ap (has_entered k) (same_agent h g same) ∙ entered))
+not_mover k g h entered out = false_from_ne_true (is_same_agent h g) (λ same.
+    both_ways (has_entered k h) out (ap (has_entered k) (same_agent h g same) ∙ entered))
 
 -- who is looked at after a move: the displaced, who moved, and who is on the lists of left programs
 abbrev mover_again : Market → Places → Agent → Placement → List Agent
@@ -98,7 +99,8 @@ in_reopened : (m : Market) (k : ℕ) (old : Places) (sent : Placement) (p a : �
     → In (agent_of m a) (reopened m k old sent)
 in_reopened m k old sent p a left listed entered blocking =
     in_joined (reopened_at m k (match_after m old sent)) p (agent_of m a) (left_programs m old sent)
-    (in_kept (is_left m old (send sent old) (match_after m old sent)) p (below (length m.programs)) (in_below p (length m.programs) (listing_program m p a listed)) left)
+    (in_kept (is_left m old (send sent old) (match_after m old sent)) p (below (length m.programs))
+    (in_below p (length m.programs) (listing_program m p a listed)) left)
     (in_kept (λ g. has_entered k g && blocks m (match_after m old sent) g) (agent_of m a) (map (agent_of m) (program_of m p).ranking)
     (in_image (agent_of m) a (program_of m p).ranking (has_in a (program_of m p).ranking listed)) (and_from _ _ entered blocking))
 
@@ -135,7 +137,8 @@ module _ {m : Market} {old : Places} {g : Agent} {sent : Placement} (mv : IsMove
   stays_quiet : (k : ℕ) (h : Agent) → IsAgent m h → is_displaced m old sent h ≡ false → is_same_agent h g ≡ false → has_entered k h ≡ true
       → (In h (reopened m k old sent) → ⊥) → blocks m old h ≡ false → blocks m (match_after m old sent) h ≡ false
   stays_quiet k h of_h stays other entered unseen quiet =
-      false_from_ne_true (blocks m (match_after m old sent) h) (λ blocking. by_option blocking (found (would_be_taken m (match_after m old sent)) (better m (match_after m old sent) h) blocking))
+      false_from_ne_true (blocks m (match_after m old sent) h) (λ blocking.
+      by_option blocking (found (would_be_taken m (match_after m old sent)) (better m (match_after m old sent) h) blocking))
     where
       -- no better option has a member whom its program chooses only now
       no_change : blocks m (match_after m old sent) h ≡ true → (o : Placement) → In o (options m h) → would_be_taken m (match_after m old sent) o ≡ true

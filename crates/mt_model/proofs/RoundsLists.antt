@@ -84,10 +84,16 @@ in_kept p x (y ∷ xs) (inr i) e =
 
 pub of_kept : {X : Type 0} (p : X → Bool) (x : X) (xs : List X) → In x (filter p xs) → In x xs × (p x ≡ true)
 of_kept p x [] i = absurd i
-of_kept p x (y ∷ xs) i =
-    let later = λ (j : In x (filter p xs)). let w = of_kept p x xs j in (let r : In x (y ∷ xs) × (p x ≡ true) = (inr w.0, w.1) in r) in
-    let at_true = λ (t : p y ≡ true) (j : In x (y ∷ filter p xs)). (let r : In x (y ∷ xs) × (p x ≡ true) = elim j [ inl e ↦ (inl e, ap p (sym e) ∙ t) | inr k ↦ later k ] in r) in
-    elim (cases_Bool (p y)) [ inl t ↦ at_true t (rw t at i) | inr t ↦ later (rw t at i) ]
+of_kept {X} p x (y ∷ xs) i =
+    let rest = λ (j : In x (filter p xs)). of_kept p x xs j in
+    elim (cases_Bool (p y)) [ inl t ↦ at_true t rest (rw t at i) | inr t ↦ later (rest (rw t at i)) ]
+  where
+    later : In x xs × (p x ≡ true) → In x (y ∷ xs) × (p x ≡ true)
+    later w = (inr w.0, w.1)
+
+    at_true : p y ≡ true → (In x (filter p xs) → In x xs × (p x ≡ true)) → In x (y ∷ filter p xs) → In x (y ∷ xs) × (p x ≡ true)
+    at_true t rest (inl e) = (inl e, ap p (sym e) ∙ t)
+    at_true t rest (inr j) = later (rest j)
 
 -- standing on lists joined end to end
 pub in_joined : {X Y : Type 0} (f : X → List Y) (x : X) (y : Y) (xs : List X) → In x xs → In y (f x) → In y (flat_map f xs)

@@ -78,7 +78,8 @@ is_displaced m old sent h = list_any (is_same_agent h) (displaced_agents m old s
 displaced_goes : (m : Market) (old : Places) (sent : Placement) (z a : ℕ) → In z (displaced m (send sent old) sent)
     → has (members m (agent_of m z)) a ≡ true → has (taken_out m old sent) a ≡ true
 displaced_goes m old sent z a i member =
-    in_has a (taken_out m old sent) (in_joined (λ b. members m (agent_of m b)) z a (displaced m (send sent old) sent) i (has_in a (members m (agent_of m z)) member))
+    let out = in_joined (λ b. members m (agent_of m b)) z a (displaced m (send sent old) sent) i (has_in a (members m (agent_of m z)) member) in
+    in_has a (taken_out m old sent) out
 
 -- an agent with a displaced member is unplaced as a whole
 pub goes_out : (m : Market) (old : Places) (sent : Placement) (h : Agent) → is_displaced m old sent h ≡ true
@@ -139,7 +140,8 @@ module _ {m : Market} {old : Places} {g : Agent} {sent : Placement} (mv : IsMove
       unplaced_elsewhere (taken_out m old sent) (send sent old) a (false_from_ne_true (has (taken_out m old sent) a) (λ out.
       let z = of_joined (λ b. members m (agent_of m b)) a (displaced m (send sent old) sent) (has_in a (taken_out m old sent) out) in
       let is : agent_of m z.0 ≡ h = sym ((displaced_agent z.0 z.1).belongs a (in_has a (members m (agent_of m z.0)) z.2)) ∙ of_h.belongs a member in
-      let its : In h (displaced_agents m old sent) = subst (λ x. In x (displaced_agents m old sent)) is (in_image (agent_of m) z.0 (displaced m (send sent old) sent) z.1) in
+      let its : In h (displaced_agents m old sent) =
+      subst (λ x. In x (displaced_agents m old sent)) is (in_image (agent_of m) z.0 (displaced m (send sent old) sent) z.1) in
       both_ways (is_displaced m old sent h) stays (on_list h (displaced_agents m old sent) its)))
 
   -- an agent that neither moved nor was displaced is where it was
@@ -191,7 +193,8 @@ module _ {m : Market} {old : Places} {g : Agent} {sent : Placement} (mv : IsMove
         let few = count_of_choice (program_of m p) (at (send sent old) p) (mv.well_formed.rankings_distinct p) in
         omega arith
     | inr unsent ↦
-        let fewer = count_within (at (match_after m old sent) p) (at old p) (program_of m p).ranking (λ a listed here. unmoved unsent a (was_there m old sent a p here).0) in
+        let fewer = count_within (at (match_after m old sent) p) (at old p) (program_of m p).ranking
+        (λ a listed here. unmoved unsent a (was_there m old sent a p here).0) in
         let few = mv.fitting.within p in
         omega arith
   ]

@@ -136,6 +136,7 @@ filled_is_count (x ∷ xs) places p d within on_list =
     let without_x = slice_set places x None in
     let still = λ (a : ℕ) (h : at without_x p a ≡ true). in_rest places x xs p a h (on_list a) in
     let rest = filled_is_count xs without_x p apart.1 (λ a i. rw (length-set places x None) (within a (has_rest x xs a i))) still in
-    let same = count_agree (at without_x p) (at places p) xs (λ a i. ap (is_program p) (placed_elsewhere places x a None (other_than x a xs (not-true (has xs x) apart.0) i))) in
+    let same = count_agree (at without_x p) (at places p) xs (λ a i.
+    ap (is_program p) (placed_elsewhere places x a None (other_than x a xs (not-true (has xs x) apart.0) i))) in
     let less = filled_less places p x (within x (has_head x xs)) in
     omega arith

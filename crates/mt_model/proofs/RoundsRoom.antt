@@ -10,7 +10,7 @@ use Rattle.mt_model.specs.Rounds.{is_same_agent, displaced_at, is_left}
 use Rattle.mt_model.specs.declared.numbers.Agent.{Agent}
 use Rattle.mt_model.proofs.RoundsLists.{In, finds, in_below}
 use Rattle.mt_model.proofs.RoundsSets.{no_fewer_above, count_shift, not_chosen}
-use Rattle.mt_model.proofs.ChoiceLemmas.{choice_facts, choice_from_facts}
+use Rattle.mt_model.proofs.ChoiceLemmas.{choice_facts, choice_from_facts, IsChosenFrom}
 use Rattle.mt_model.proofs.RoundsPlaces.{at_some, placed_within}
 use Rattle.mt_model.proofs.RoundsAgents.{IsAgent}
 use Rattle.mt_model.proofs.RoundsAgents.{option_entry, option_there, option_elsewhere}
@@ -52,7 +52,8 @@ module _ {m : Market} {old : Places} {g : Agent} {sent : Placement} (mv : IsMove
       stays : (a : ℕ) → has (program_of m p).ranking a ≡ true → at (send sent old) p a ≡ true
           → above (at (send sent old) p) (program_of m p).ranking a < (program_of m p).quota → at (match_after m old sent) p a ≡ true
       stays a listed there high =
-          chosen_stays p kept a (choice_from_facts (program_of m p) (at (send sent old) p) a (record { is_listed = listed; is_member = there; has_few_above = high }))
+          let facts : IsChosenFrom (program_of m p) (at (send sent old) p) a = record { is_listed = listed; is_member = there; has_few_above = high } in
+          chosen_stays p kept a (choice_from_facts (program_of m p) (at (send sent old) p) a facts)
 
   -- sending an agent that neither moved nor was displaced changes who is at a program as it did before
   same_shift : (h : Agent) → IsAgent m h → is_displaced m old sent h ≡ false → is_same_agent h g ≡ false
@@ -79,7 +80,8 @@ module _ {m : Market} {old : Places} {g : Agent} {sent : Placement} (mv : IsMove
       let now = choice_facts (program_of m p) (at (send o (match_after m old sent)) p) b chosen in
       let there = at_some (send o old) p b (option_there of_h o i old mv.fitting.one_each b (Some p) sends) in
       let higher = until (λ x. x == b) (program_of m p).ranking in
-      let shift = count_shift (at (send o old) p) (at (send o (match_after m old sent)) p) (at old p) (at (match_after m old sent) p) higher (same_shift h of_h stays other o i p) in
+      let shift = count_shift (at (send o old) p) (at (send o (match_after m old sent)) p) (at old p) (at (match_after m old sent) p) higher
+      (same_shift h of_h stays other o i p) in
       let room = room_shrinks p kept b in
       let few = now.has_few_above in
       choice_from_facts (program_of m p) (at (send o old) p) b (record { is_listed = now.is_listed; is_member = there; has_few_above = omega arith })

@@ -1,7 +1,7 @@
 -- How many of a set stand above an applicant: the reason that a program that nobody left refuses whom it
 -- refused before.
 use Rattle.std.proofs.Common.{◌≡◌, ℕ, ◌+◌, ◌<◌, ◌≤◌, Bool, true, false, not, ◌&&◌, ◌==◌, List, [], ◌∷◌, ◌⊎◌, inl, inr, refl, ap, sym, ◌∙◌, arith, eq-eqb, eqb-true, if◌then◌else◌}
-use Rattle.std.proofs.lemmas.Bool.{cases_Bool, cases_lt, and_parts, and_from, or_left, or_right, false≢true, false_from_ne_true, not-true, not_from_false}
+use Rattle.std.proofs.lemmas.Bool.{cases_Bool, cases_lt, and_parts, and_from, or_left, or_right, false≢true, false_from_ne_true, not-true, not_from_false, both_ways}
 use Rattle.mt_model.specs.Lists.{Set, has, until, count, above, is_distinct}
 use Rattle.mt_model.specs.Market.{Program}
 use Rattle.mt_model.specs.Choice.{choice}
@@ -84,7 +84,10 @@ pub stands_out : (s t : Set) (xs : List ℕ) (b : ℕ) → above t xs b < above 
 stands_out s t [] b h = absurd (omega arith)
 stands_out s t (x ∷ xs) b h = elim (cases_Bool (x == b)) [
   | inl e ↦ absurd (let z = above_head s x xs b e in omega arith)
-  | inr e ↦ elim (cases_Bool (s x && not (t x))) [ inl here ↦ out_at_head s t x xs b here | inr past ↦ out_past_head s t x xs b past e (stands_out s t xs b (fewer_past s t x xs b past e h)) ]
+  | inr e ↦ elim (cases_Bool (s x && not (t x))) [
+    | inl here ↦ out_at_head s t x xs b here
+    | inr past ↦ out_past_head s t x xs b past e (stands_out s t xs b (fewer_past s t x xs b past e h))
+  ]
 ]
 
 -- Where each who is gone from a program had a full quota above it among those who would be there, and those
@@ -122,31 +125,47 @@ other_than x a xs h i = false_from_ne_true (x == a) (λ same. false≢true (sym 
 count_of_high : (s : Set) (xs : List ℕ) (k quota : ℕ) → k ≤ quota → is_distinct xs ≡ true
     → ((a : ℕ) → has xs a ≡ true → s a ≡ true → k + above s xs a < quota) → k + count s xs ≤ quota
 count_of_high s [] k quota l d h = omega arith
-count_of_high s (x ∷ xs) k quota l d h =
-    let apart = and_parts (not (has xs x)) (is_distinct xs) d in
-    let past = λ (a : ℕ) (i : has xs a ≡ true). above_rest s x xs a (other_than x a xs (not-true (has xs x) apart.0) i) in
-    elim (cases_Bool (s x)) [
-      | inl e ↦
-          let here : k < quota = (let z = above_head s x xs x (eq-eqb x x refl) in let u = h x (has_head x xs) e in omega arith) in
-          let rest = count_of_high s xs (k + 1) quota (omega arith) apart.1 (λ a i in_set. let z : above s (x ∷ xs) a ≡ 1 + above s xs a = rw e at (past a i) in let u = h a (has_rest x xs a i) in_set in omega arith) in
-          rw e (omega arith)
-      | inr e ↦
-          let rest = count_of_high s xs k quota l apart.1 (λ a i in_set. let z : above s (x ∷ xs) a ≡ 0 + above s xs a = rw e at (past a i) in let u = h a (has_rest x xs a i) in_set in omega arith) in
-          rw e (omega arith)
-    ]
+count_of_high s (x ∷ xs) k quota l d h = elim (cases_Bool (s x)) [
+  | inl e ↦
+      let first = above_head s x xs x (eq-eqb x x refl) in
+      let high = h x (has_head x xs) e in
+      let rest = count_of_high s xs (k + 1) quota (omega arith) apart.1 (λ a i in_set. one_lower e a i (h a (has_rest x xs a i) in_set)) in
+      rw e (omega arith)
+  | inr e ↦
+      let rest = count_of_high s xs k quota l apart.1 (λ a i in_set. as_low e a i (h a (has_rest x xs a i) in_set)) in
+      rw e (omega arith)
+]
+  where
+    apart : (not (has xs x) ≡ true) × (is_distinct xs ≡ true)
+    apart = and_parts (not (has xs x)) (is_distinct xs) d
+
+    past : (a : ℕ) → has xs a ≡ true → above s (x ∷ xs) a ≡ (if s x then 1 else 0) + above s xs a
+    past a i = above_rest s x xs a (other_than x a xs (not-true (has xs x) apart.0) i)
+
+    one_lower : s x ≡ true → (a : ℕ) → has xs a ≡ true → k + above s (x ∷ xs) a < quota → k + 1 + above s xs a < quota
+    one_lower e a i high = let split : above s (x ∷ xs) a ≡ 1 + above s xs a = rw e at (past a i) in omega arith
+
+    as_low : s x ≡ false → (a : ℕ) → has xs a ≡ true → k + above s (x ∷ xs) a < quota → k + above s xs a < quota
+    as_low e a i high = let split : above s (x ∷ xs) a ≡ 0 + above s xs a = rw e at (past a i) in omega arith
 
 -- who is on the list and in the set and isn't chosen has at least quota of the set above it
 pub not_chosen : (p : Program) (set : Set) (a : ℕ) → has p.ranking a ≡ true → set a ≡ true → choice p set a ≡ false
     → p.quota ≤ above set p.ranking a
-not_chosen p set a listed in_set h =
-    elim (cases_lt (above set p.ranking a) p.quota) [ inl high ↦ absurd (false≢true (sym h ∙ choice_from_facts p set a (record { is_listed = listed; is_member = in_set; has_few_above = high }))) | inr le ↦ le ]
+not_chosen p set a listed in_set refused = elim (cases_lt (above set p.ranking a) p.quota) [
+  | inl high ↦
+      let chosen = choice_from_facts p set a (record { is_listed = listed; is_member = in_set; has_few_above = high }) in
+      absurd (both_ways (choice p set a) refused chosen)
+  | inr low ↦ low
+]
 
 -- a program chooses at most quota applicants
 pub count_of_choice : (p : Program) (set : Set) → is_distinct p.ranking ≡ true → count (choice p set) p.ranking ≤ p.quota
 count_of_choice p set d =
-    let high = λ (a : ℕ) (i : has p.ranking a ≡ true) (c : choice p set a ≡ true).
-    (let fewer = count_within (choice p set) set (until (λ x. x == a) p.ranking) (λ b j d. (choice_facts p set b d).is_member) in
-    let h = (choice_facts p set a c).has_few_above in
-    let r : 0 + above (choice p set) p.ranking a < p.quota = omega arith in r) in
-    let le = count_of_high (choice p set) p.ranking 0 p.quota (omega arith) d high in
+    let few = count_of_high (choice p set) p.ranking 0 p.quota (omega arith) d high in
     omega arith
+  where
+    high : (a : ℕ) → has p.ranking a ≡ true → choice p set a ≡ true → 0 + above (choice p set) p.ranking a < p.quota
+    high a i chosen =
+        let fewer = count_within (choice p set) set (until (λ x. x == a) p.ranking) (λ b j c. (choice_facts p set b c).is_member) in
+        let few = (choice_facts p set a chosen).has_few_above in
+        omega arith

@@ -1,5 +1,5 @@
 -- Where a stage ends, and how many rounds it makes.
-use Rattle.std.proofs.Common.{◌≡◌, ℕ, zero, suc, ◌+◌, ◌-◌, ◌<◌, ◌≤◌, Bool, true, false, not, ◌==◌, List, [], ◌∷◌, length, Option, Some, None, inl, inr, refl, sym, ◌∙◌, arith, subst, nat_lt, IsTrue, option_map, ltb-true, lt-ltb, leb-true, le-leb, leb-false, le-ltb, ◌≢◌, eq-eqb, option_and_then}
+use Rattle.std.proofs.Common.{◌≡◌, ℕ, zero, suc, ◌+◌, ◌-◌, ◌<◌, ◌≤◌, Bool, true, false, not, ◌==◌, List, [], ◌∷◌, length, Option, Some, None, inl, inr, refl, sym, ◌∙◌, arith, subst, nat_lt, option_map, ltb-true, lt-ltb, leb-true, le-leb, leb-false, le-ltb, ◌≢◌, eq-eqb, option_and_then}
 use Rattle.std.specs.List.{list_any, range_with_len}
 use Rattle.std.proofs.lemmas.Bool.{and_parts, or_cases, and_from, or_right, or_parts, false≢true, false_from_ne_true, not-true, not_from_false, both_ways}
 use Rattle.std.proofs.lemmas.Bool.Decides.{nat_tests}
@@ -21,12 +21,18 @@ use Rattle.mt_model.proofs.RoundsKeep.{is_unplaced, are_unplaced, keep_round, fi
 -- what each round keeps holds once the work list is empty
 settled_keeps : (P : Work → Type 0) (m : Market) (k : ℕ) → ((w : Work) → P w → P (round m k w)) → (left : ℕ) (w : Work) (r : Places × ℕ)
     → settled m k left w.places w.waiting ≡ Some r → P w → P (record { places = r.0; waiting = [] })
-settled_keeps P m k keeps left w r e holds = go left w.places w.waiting e holds
+settled_keeps P m k keeps left w r e holds = down left w.places w.waiting e holds
   where
-    go : (left : ℕ) (places : Places) (ws : List Agent) → settled m k left places ws ≡ Some r → P (record { places = places; waiting = ws }) → P (record { places = r.0; waiting = [] })
-    go left places [] e holds = let is : places ≡ r.0 = (let both : ◌≡◌ {A = Option (Places × ℕ)} (Some (places, left)) (Some r) = e in cc) in subst (λ x. P (record { places = x; waiting = [] })) is holds
-    go zero places (g ∷ ws) e holds = absurd (let both : ◌≡◌ {A = Option (Places × ℕ)} None (Some r) = e in cc)
-    go (suc left) places (g ∷ ws) e holds = go left (round_of m k places (g ∷ ws)).places (round_of m k places (g ∷ ws)).waiting e (keeps (record { places = places; waiting = g ∷ ws }) holds)
+    down : (left : ℕ) (places : Places) (ws : List Agent) → settled m k left places ws ≡ Some r
+        → P (record { places = places; waiting = ws }) → P (record { places = r.0; waiting = [] })
+    down left places [] e holds =
+        let both : ◌≡◌ {A = Option (Places × ℕ)} (Some (places, left)) (Some r) = e in
+        let is : places ≡ r.0 = cc in
+        subst (λ x. P (record { places = x; waiting = [] })) is holds
+    down zero places (g ∷ ws) e holds = absurd (let both : ◌≡◌ {A = Option (Places × ℕ)} None (Some r) = e in cc)
+    down (suc left) places (g ∷ ws) e holds =
+        let next = round_of m k places (g ∷ ws) in
+        down left next.places next.waiting e (keeps (record { places = places; waiting = g ∷ ws }) holds)
 
 -- what a chain of two that gives something goes through
 pub chained : {X Y : Type 0} (f : X → Option Y) (o : Option X) (y : Y) → option_and_then f o ≡ Some y → (x : X) × (o ≡ Some x) × (f x ≡ Some y)
@@ -35,11 +41,13 @@ chained f (Some x) y e = (x, refl, e)
 
 -- what each couple's rounds keep holds once all of these couples have entered
 entered_keeps : (P : ℕ → Places → Type 0) (m : Market)
-    → ((k left : ℕ) (places : Places) (r : Places × ℕ) → k < length m.couples → settled m k left places (Couple k ∷ []) ≡ Some r → P k places → P (k + 1) r.0)
+    → ((k left : ℕ) (places : Places) (r : Places × ℕ) → k < length m.couples → settled m k left places (Couple k ∷ []) ≡ Some r
+    → P k places → P (k + 1) r.0)
     → (start n left : ℕ) (places : Places) (r : Places × ℕ) → start + n ≤ length m.couples
     → entered m (range_with_len start n) left places ≡ Some r → P start places → P (start + n) r.0
 entered_keeps P m keeps start zero left places r l e holds =
-    let is : places ≡ r.0 = (let both : ◌≡◌ {A = Option (Places × ℕ)} (Some (places, left)) (Some r) = e in cc) in
+    let both : ◌≡◌ {A = Option (Places × ℕ)} (Some (places, left)) (Some r) = e in
+    let is : places ≡ r.0 = cc in
     subst (λ k. P k r.0) (omega arith) (subst (P start) is holds)
 entered_keeps P m keeps start (suc n) left places r l e holds =
     let w = chained (λ q. entered m (range_with_len (start + 1) n) q.1 q.0) (settled m start left places (Couple start ∷ [])) r e in
@@ -87,22 +95,29 @@ before_all : (m : Market) (g : Agent) → IsAgent m g → is_before (length m.co
 before_all m (Single a) i = refl
 before_all m (Couple c) i = lt-ltb c (length m.couples) (couple_number m c i)
 
+-- who is on a list of one couple is that couple, which is an agent of the market
+only_couple : (m : Market) → IsWellFormed m → (k : ℕ) → k < length m.couples → (g : Agent) → is_on (Couple k ∷ []) g ≡ true
+    → (is_on (agents m) g ≡ true) × (has_entered k g ≡ true)
+only_couple m wf k l g on = of_it (of_list g (Couple k ∷ []) on)
+  where
+    of_it : In g (Couple k ∷ []) → (is_on (agents m) g ≡ true) × (has_entered k g ≡ true)
+    of_it (inl e) = subst (λ x. (is_on (agents m) x ≡ true) × (has_entered k x ≡ true)) e
+        (on_list (Couple k) (agents m) (agent_on_list m (Couple k) (couple_members m wf k l)), le-leb k k (omega arith))
+    of_it (inr none) = absurd none
+
 -- a couple comes onto the empty list
 couple_enters : (m : Market) → IsWellFormed m → (k : ℕ) (places : Places) → k < length m.couples → IsSettled m k places
     → IsRoundState m k (record { places = places; waiting = Couple k ∷ [] })
 couple_enters m wf k places l s = record {
   fitting = s.fitting;
-  waiting_entered = λ g on. first (of_list g (Couple k ∷ []) on);
+  waiting_entered = only_couple m wf k l;
   outside_unplaced = λ g on out. s.outside g (agent_from_list m wf g (of_list g (agents m) on)) (not_before k g out);
   none_blocks = λ g on entered off. s.quiet g (agent_from_list m wf g (of_list g (agents m) on)) (before_entered k g entered off);
 }
-  where
-    first : {g : Agent} → In g (Couple k ∷ []) → IsTrue (is_on (agents m) g) × IsTrue (has_entered k g)
-    first {g} (inl e) = subst (λ x. IsTrue (is_on (agents m) x) × IsTrue (has_entered k x)) e (on_list (Couple k) (agents m) (agent_on_list m (Couple k) (couple_members m wf k l)), le-leb k k (omega arith))
-    first {g} (inr i) = absurd i
 
 -- and its rounds end
-couple_settles : (m : Market) → IsWellFormed m → (k : ℕ) (places : Places) → IsRoundState m k (record { places = places; waiting = [] }) → IsSettled m (k + 1) places
+couple_settles : (m : Market) → IsWellFormed m → (k : ℕ) (places : Places) → IsRoundState m k (record { places = places; waiting = [] })
+    → IsSettled m (k + 1) places
 couple_settles m wf k places s = record {
   fitting = s.fitting;
   outside = λ g i out. s.outside_unplaced g (on_list g (agents m) (agent_on_list m g i)) (sym (before_next k g) ∙ out);
@@ -188,7 +203,8 @@ stage_from_stable m wf places h budget r e =
     couple_done : (k left : ℕ) (old : Places) (t : Places × ℕ) → k < length m.couples → settled m k left old (Couple k ∷ []) ≡ Some t
         → IsSettled m k old → IsSettled m (k + 1) t.0
     couple_done k left old t l done s =
-        couple_settles m wf k t.0 (settled_keeps (IsRoundState m k) m k (keep_round m wf k) left (record { places = old; waiting = Couple k ∷ [] }) t done (couple_enters m wf k old l s))
+        let start : Work = record { places = old; waiting = Couple k ∷ [] } in
+        couple_settles m wf k t.0 (settled_keeps (IsRoundState m k) m k (keep_round m wf k) left start t done (couple_enters m wf k old l s))
 
 pub stage_is_stable_lem : StageIsStable
 stage_is_stable_lem m wf places best = stage_from_stable m wf places best.is_stable
@@ -196,11 +212,7 @@ stage_is_stable_lem m wf places best = stage_from_stable m wf places best.is_sta
 -- a couple comes onto the empty list, whatever blocks
 couple_waits : (m : Market) → IsWellFormed m → (k : ℕ) (places : Places) → k < length m.couples → fits m places ≡ true
     → IsFittingState m (record { places = places; waiting = Couple k ∷ [] })
-couple_waits m wf k places l fit = record { fitting = fit; waiting_agents = λ g on. only g (of_list g (Couple k ∷ []) on) }
-  where
-    only : (g : Agent) → In g (Couple k ∷ []) → is_on (agents m) g ≡ true
-    only g (inl e) = subst (λ x. is_on (agents m) x ≡ true) e (on_list (Couple k) (agents m) (agent_on_list m (Couple k) (couple_members m wf k l)))
-    only g (inr none) = absurd none
+couple_waits m wf k places l fit = record { fitting = fit; waiting_agents = λ g on. (only_couple m wf k l g on).0 }
 
 pub stage_fits_lem : StageFits
 stage_fits_lem m wf places fit budget r e =
@@ -211,4 +223,5 @@ stage_fits_lem m wf places fit budget r e =
     couple_done : (k left : ℕ) (old : Places) (t : Places × ℕ) → k < length m.couples → settled m k left old (Couple k ∷ []) ≡ Some t
         → fits m old ≡ true → fits m t.0 ≡ true
     couple_done k left old t l done fit =
-        (settled_keeps (IsFittingState m) m k (fitting_round m wf k) left (record { places = old; waiting = Couple k ∷ [] }) t done (couple_waits m wf k old l fit)).fitting
+        let start : Work = record { places = old; waiting = Couple k ∷ [] } in
+        (settled_keeps (IsFittingState m) m k (fitting_round m wf k) left start t done (couple_waits m wf k old l fit)).fitting
