@@ -18,6 +18,7 @@ pub is_same_agent_refl : (g : Agent) → is_same_agent g g ≡ true
 is_same_agent_refl (Single a) = eq-eqb a a refl
 is_same_agent_refl (Couple c) = eq-eqb c c refl
 
+-- agents that are tested the same are the same
 pub same_agent : (g h : Agent) → is_same_agent g h ≡ true → g ≡ h
 same_agent (Single a) (Single b) e = ap Single (eqb-true a b e)
 same_agent (Single a) (Couple d) e = absurd (false≢true e)
@@ -28,6 +29,7 @@ same_agent (Couple c) (Couple d) e = ap Couple (eqb-true c d e)
 pub on_list : (g : Agent) (gs : List Agent) → In g gs → list_any (is_same_agent g) gs ≡ true
 on_list g gs i = finds (is_same_agent g) g gs i (is_same_agent_refl g)
 
+-- and the other way round
 pub of_list : (g : Agent) (gs : List Agent) → list_any (is_same_agent g) gs ≡ true → In g gs
 of_list g gs h = let w = found (is_same_agent g) gs h in subst (λ x. In x gs) (sym (same_agent g w.0 w.2)) w.1
 
@@ -65,10 +67,11 @@ agent_from_single (x ∷ xs) c a b e = elim (cases_Bool (is_member x a)) [
   | inr t ↦ agent_from_single xs (c + 1) a b (rw t at e)
 ]
 
--- who stands on a list of one or two
+-- who stands on a list of one
 only_one : (x a : ℕ) → has (x ∷ []) a ≡ true → x ≡ a
 only_one x a h = elim (or_cases (x == a) false h) [ inl e ↦ eqb-true x a e | inr e ↦ absurd (false≢true e) ]
 
+-- who stands on a list of two
 pub one_of_two : (x y a : ℕ) → has (x ∷ y ∷ []) a ≡ true → (x ≡ a) ⊎ (y ≡ a)
 one_of_two x y a h = elim (or_cases (x == a) (has (y ∷ []) a) h) [ inl e ↦ inl (eqb-true x a e) | inr e ↦ inr (only_one y a e) ]
 
@@ -90,6 +93,7 @@ couple_members m wf c l =
       distinct = rw (ne_eqb (couple_of m c).second (couple_of m c).first (λ e. apart (sym e))) refl;
     }
 
+-- a single is an agent of the market
 pub single_member : (m : Market) (a : ℕ) → a < applicants m → agent_of m a ≡ Single a → IsAgent m (Single a)
 single_member m a l e = record {
   within = λ b i. subst (λ x. x < applicants m) (only_one a b i) l;
@@ -116,6 +120,7 @@ agent_of_applicant m wf a l = by_kind (agent_of m a) refl
         let w = agent_from_couple m.couples 0 a c (record { first = 0; second = 0; pairs = [] }) e in
         couple_members m wf c (omega arith)
 
+-- who is one of a couple's two members stands on their list
 either_member : (p : Partners) (a : ℕ) → is_member p a ≡ true → has (p.first ∷ p.second ∷ []) a ≡ true
 either_member p a h = elim (or_cases (p.first == a) (p.second == a) h) [
   | inl e ↦ or_left (p.first == a) (has (p.second ∷ []) a) e
@@ -139,6 +144,7 @@ leader_on_list m g a within leading is =
     subst (λ h. In h (agents m)) is
     (in_image (agent_of m) a (filter (leads m) (below (applicants m))) (in_kept (leads m) a (below (applicants m)) (in_below a (applicants m) within) leading))
 
+-- an agent of the market is on its list of agents
 pub agent_on_list : (m : Market) (g : Agent) → IsAgent m g → In g (agents m)
 agent_on_list m (Single a) h =
     let is = h.belongs a (has_head a []) in
@@ -149,6 +155,7 @@ agent_on_list m (Couple c) h =
     let is = h.belongs a i in
     leader_on_list m (Couple c) a (h.within a i) (rw is (eq-eqb a a refl)) is
 
+-- and the other way round
 pub agent_from_list : (m : Market) → IsWellFormed m → (g : Agent) → In g (agents m) → IsAgent m g
 agent_from_list m wf g i =
     let w = of_image (agent_of m) g (filter (leads m) (below (applicants m))) i in

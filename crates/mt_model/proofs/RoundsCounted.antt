@@ -58,6 +58,7 @@ settled_uses m k (suc left) places (g ∷ ws) r e =
 through : {X Y : Type 0} (f : X → Option Y) (o : Option X) (x : X) → o ≡ Some x → option_and_then f o ≡ f x
 through f o x e = rw e refl
 
+-- a chain of two gives nothing where the first gives nothing
 through_none : {X Y : Type 0} (f : X → Option Y) (o : Option X) → o ≡ None → option_and_then f o ≡ None
 through_none f o e = rw e refl
 
@@ -87,6 +88,7 @@ entered_uses m (k ∷ ks) left places r e =
 mapped : {X Y : Type 0} (f : X → Y) (o : Option X) (x : X) → o ≡ Some x → option_map f o ≡ Some (f x)
 mapped f o x e = rw e refl
 
+-- no result is mapped to none
 mapped_none : {X Y : Type 0} (f : X → Y) (o : Option X) → o ≡ None → option_map f o ≡ None
 mapped_none f o e = rw e refl
 
@@ -95,6 +97,7 @@ stage_gives : (m : Market) (places : Places) (b : ℕ) (q : Places × ℕ) → e
     → stage m places b ≡ Some (q.0, b - q.1)
 stage_gives m places b q e = mapped (λ t. (t.0, b - t.1)) (entered m (below (length m.couples)) b places) q e
 
+-- the rounds used are those that the stage needs
 rounds_used : (m : Market) (places : Places) (budget : ℕ) (q : Places × ℕ) → Uses (λ b. entered m (below (length m.couples)) b places) budget q
     → NeedsRounds m places budget (q.0, budget - q.1)
 rounds_used m places budget q u =
@@ -109,6 +112,7 @@ rounds_used m places budget q u =
       too_few = λ b l. mapped_none (λ t. (t.0, b - t.1)) (entered m (below (length m.couples)) b places) (u.too_few b (omega arith));
     }
 
+-- how many rounds a stage needs
 pub stage_rounds_lem : StageRounds
 stage_rounds_lem m places budget r e =
     let q = stage_end m places budget r e in

@@ -21,6 +21,7 @@ pub record IsFitting (m : Market) (places : Places) : Type 0 where
   pub listed : (a p : ℕ) → at places p a ≡ true → has (program_of m p).ranking a ≡ true
   pub within : (p : ℕ) → count (at places p) (program_of m p).ranking ≤ (program_of m p).quota
 
+-- four tests that all pass
 all_four : (t u v w : Bool) → (t && u && v && w) ≡ true → (t ≡ true) × (u ≡ true) × (v ≡ true) × (w ≡ true)
 all_four true true true true h = (refl, refl, refl, refl)
 all_four true true true false h = absurd (false≢true h)
@@ -79,11 +80,12 @@ fitting_facts m wf places h = record { one_each = one_each; own = own; listed = 
       | inr past ↦ rw (program_past m p past) (omega arith)
     ]
 
--- and the other way round
+-- where an applicant is placed its program lists it
 listed_place : (m : Market) (places : Places) → IsFitting m places → (a : ℕ) (v : Option ℕ) → place_of places a ≡ v → is_listed m a v ≡ true
 listed_place m places f a None e = refl
 listed_place m places f a (Some p) e = f.listed a p (at_some places p a e)
 
+-- what passes the test of a match that fits
 pub fits_from : (m : Market) → IsWellFormed m → (places : Places) → IsFitting m places → fits m places ≡ true
 fits_from m wf places f =
     rw (
@@ -110,6 +112,7 @@ pub same_own_option : (m : Market) (P Q : Places) (g : Agent) → ((a : ℕ) →
 same_own_option m P Q g h =
     ap₂ ◌||◌ (same_any (holds P) (holds Q) (options m g) (same_holds m P Q g h)) (none_placed_same P Q (members m g) h)
 
+-- and so does what is better
 pub same_better : (m : Market) (P Q : Places) (g : Agent) → ((a : ℕ) → has (members m g) a ≡ true → place_of P a ≡ place_of Q a)
     → better m P g ≡ better m Q g
 same_better m P Q g h = same_until (holds P) (holds Q) (options m g) (same_holds m P Q g h)

@@ -20,10 +20,12 @@ use Rattle.mt_model.proofs.RoundsAgents.{option_member, option_elsewhere, apart}
 use Rattle.mt_model.proofs.RoundsMove.{IsMove, match_after, is_displaced, displaced_agents, displaced_agent, displaced_parts, of_displaced, goes_out, untouched, fits_after}
 use Rattle.mt_model.proofs.RoundsRoom.{taken_before}
 
+-- a test or nothing
 or_nothing : (b : Bool) → b ≡ (b || false)
 or_nothing true = refl
 or_nothing false = refl
 
+-- tests one after the other
 or_assoc : (a b c : Bool) → ((a || b) || c) ≡ (a || (b || c))
 or_assoc true b c = refl
 or_assoc false b c = refl
@@ -38,6 +40,7 @@ on_joined ws g h = elim (cases_Bool (is_on ws g)) [
   | inr absent ↦ rw absent (list_any-append (is_same_agent h) ws (g ∷ []) ∙ ap (λ b. is_on ws h || b) (sym (or_nothing (is_same_agent h g))))
 ]
 
+-- who is on the work list once all of these joined
 on_all_joined : (ws gs : List Agent) (h : Agent) → is_on (all_joined ws gs) h ≡ (is_on ws h || is_on gs h)
 on_all_joined ws [] h = or_nothing (is_on ws h)
 on_all_joined ws (g ∷ gs) h =
@@ -57,6 +60,7 @@ found_first {X} p x (y ∷ xs) e = elim (cases_Bool (p y)) [ inl t ↦ here t | 
     later : In x xs × (p x ≡ true) → In x (y ∷ xs) × (p x ≡ true)
     later w = (inr w.0, w.1)
 
+-- where nothing is found nothing passes
 found_none : {X : Type 0} (p : X → Bool) (xs : List X) → find p xs ≡ None → list_any p xs ≡ false
 found_none p [] e = refl
 found_none {X} p (y ∷ xs) e = elim (cases_Bool (p y)) [
@@ -64,14 +68,16 @@ found_none {X} p (y ∷ xs) e = elim (cases_Bool (p y)) [
   | inr t ↦ rw t (found_none p xs (rw t at e))
 ]
 
--- where none of a list is placed, each is unplaced, and the other way round
+-- what is not some place is none
 no_place : (v : Option ℕ) → not (is_some v) ≡ true → v ≡ None
 no_place None h = refl
 no_place (Some p) h = absurd (false≢true h)
 
+-- where none of a list is placed, each is unplaced
 pub is_unplaced : (places : Places) (xs : List ℕ) (a : ℕ) → none_placed places xs ≡ true → has xs a ≡ true → place_of places a ≡ None
 is_unplaced places xs a h i = no_place (place_of places a) (each _ a xs h (has_in a xs i))
 
+-- where each of a list is unplaced, none of it is placed
 pub are_unplaced : (places : Places) (xs : List ℕ) → ((a : ℕ) → has xs a ≡ true → place_of places a ≡ None) → none_placed places xs ≡ true
 are_unplaced places xs h = all_pass _ xs (λ a i. rw (h a (in_has a xs i)) refl)
 
@@ -80,16 +86,19 @@ not_mover : (k : ℕ) (g h : Agent) → has_entered k g ≡ true → has_entered
 not_mover k g h entered out = false_from_ne_true (is_same_agent h g) (λ same.
     both_ways (has_entered k h) out (ap (has_entered k) (same_agent h g same) ∙ entered))
 
--- who is looked at after a move: the displaced, who moved, and who is on the lists of left programs
+-- the agent that moved, where it blocks
 abbrev mover_again : Market → Places → Agent → Placement → List Agent
 mover_again m old g sent = if blocks m (match_after m old sent) g then (g ∷ []) else []
 
+-- the programs that were left
 abbrev left_programs : Market → Places → Placement → List ℕ
 left_programs m old sent = filter (is_left m old (send sent old) (match_after m old sent)) (below (length m.programs))
 
+-- the agents on the lists of left programs that block
 abbrev reopened : Market → ℕ → Places → Placement → List Agent
 reopened m k old sent = flat_map (reopened_at m k (match_after m old sent)) (left_programs m old sent)
 
+-- all who are looked at after a move
 abbrev looked_at : Market → ℕ → Places → Agent → Placement → List Agent
 looked_at m k old g sent = to_look_at m k old g sent (send sent old) (match_after m old sent)
 
@@ -259,6 +268,7 @@ move_from m wf places g fit on sent e =
       taken = w.1;
     }
 
+-- a round of a match and a work list
 keep_round_of : (m : Market) → IsWellFormed m → (k : ℕ) (places : Places) (waiting : List Agent)
     → IsRoundState m k (record { places = places; waiting = waiting }) → IsRoundState m k (round_of m k places waiting)
 keep_round_of m wf k places [] state = state
@@ -271,6 +281,7 @@ keep_round_of m wf k places (g ∷ ws) state = by_choice (first_taken m places g
     by_choice None e = keep_looked m k places g ws (found_none (would_be_taken m places) (better m places g) e) state
     by_choice (Some sent) e = keep_move m k places g sent ws (move_from m wf places g state.fitting front.0 sent e) front.1 state
 
+-- a round keeps its state
 pub keep_round : RoundKeeps
 keep_round m wf k w state = keep_round_of m wf k w.places w.waiting state
 
@@ -299,5 +310,6 @@ fitting_round_of m wf k places (g ∷ ws) state = by_choice (first_taken m place
     by_choice None e = record { fitting = state.fitting; waiting_agents = rest }
     by_choice (Some sent) e = after sent (move_from m wf places g state.fitting front sent e)
 
+-- a round keeps a match that fits
 pub fitting_round : RoundFits
 fitting_round m wf k w state = fitting_round_of m wf k w.places w.waiting state

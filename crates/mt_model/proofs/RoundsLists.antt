@@ -40,24 +40,27 @@ fails_at {X} p (x ∷ xs) h =
     let in_rest = λ (r : list_all p xs ≡ false). let w = fails_at p xs r in (let t : (y : X) × In y (x ∷ xs) × (p y ≡ false) = (w.0, inr w.1, w.2) in t) in
     elim (and_cases (p x) (list_all p xs) h) [ inl here ↦ (x, inl refl, here) | inr r ↦ in_rest r ]
 
--- a list of numbers has what stands on it, and no more
+-- what a list of numbers has stands on it
 pub has_in : (a : ℕ) (xs : List ℕ) → has xs a ≡ true → In a xs
 has_in a [] h = absurd (false≢true h)
 has_in a (x ∷ xs) h = elim (or_cases (x == a) (has xs a) h) [ inl e ↦ inl (eqb-true x a e) | inr r ↦ inr (has_in a xs r) ]
 
+-- and a list of numbers has what stands on it
 pub in_has : (a : ℕ) (xs : List ℕ) → In a xs → has xs a ≡ true
 in_has a xs i = finds (λ x. x == a) a xs i (eq-eqb a a refl)
 
--- standing on two lists joined
+-- standing on the first of two lists joined
 pub in_left : {X : Type 0} (x : X) (xs ys : List X) → In x xs → In x (xs ++ ys)
 in_left x [] ys i = absurd i
 in_left x (y ∷ xs) ys (inl e) = inl e
 in_left x (y ∷ xs) ys (inr i) = inr (in_left x xs ys i)
 
+-- standing on the second of two lists joined
 pub in_right : {X : Type 0} (x : X) (xs ys : List X) → In x ys → In x (xs ++ ys)
 in_right x [] ys i = i
 in_right x (y ∷ xs) ys i = inr (in_right x xs ys i)
 
+-- what stands on two lists joined stands on one of them
 pub in_either : {X : Type 0} (x : X) (xs ys : List X) → In x (xs ++ ys) → In x xs ⊎ In x ys
 in_either x [] ys i = inr i
 in_either x (y ∷ xs) ys (inl e) = inl (inl e)
@@ -69,6 +72,7 @@ in_image f x [] i = i
 in_image f x (y ∷ xs) (inl e) = inl (ap f e)
 in_image f x (y ∷ xs) (inr i) = inr (in_image f x xs i)
 
+-- what stands on a list's image is an image
 pub of_image : {X Y : Type 0} (f : X → Y) (y : Y) (xs : List X) → In y (map f xs) → (x : X) × In x xs × (f x ≡ y)
 of_image f y [] i = absurd i
 of_image f y (x ∷ xs) (inl e) = (x, inl refl, e)
@@ -82,6 +86,7 @@ in_kept p x (y ∷ xs) (inr i) e =
     let kept = in_kept p x xs i e in
     elim (cases_Bool (p y)) [ inl t ↦ rw t (inr kept) | inr t ↦ rw t kept ]
 
+-- what a filter keeps stands on the list and passes
 pub of_kept : {X : Type 0} (p : X → Bool) (x : X) (xs : List X) → In x (filter p xs) → In x xs × (p x ≡ true)
 of_kept p x [] i = absurd i
 of_kept {X} p x (y ∷ xs) i =
@@ -101,6 +106,7 @@ in_joined f x y [] i j = absurd i
 in_joined f x y (z ∷ xs) (inl e) j = in_left y (f z) (flat_map f xs) (subst (λ w. In y (f w)) (sym e) j)
 in_joined f x y (z ∷ xs) (inr i) j = in_right y (f z) (flat_map f xs) (in_joined f x y xs i j)
 
+-- what stands on lists joined end to end stands on one of them
 pub of_joined : {X Y : Type 0} (f : X → List Y) (y : Y) (xs : List X) → In y (flat_map f xs) → (x : X) × In x xs × In y (f x)
 of_joined f y [] i = absurd i
 of_joined {X} f y (z ∷ xs) i =
@@ -114,15 +120,17 @@ of_until p x (y ∷ xs) i =
     let after = λ (j : In x (y ∷ until p xs)). (let r : In x (y ∷ xs) = elim j [ inl e ↦ inl e | inr k ↦ inr (of_until p x xs k) ] in r) in
     elim (cases_Bool (p y)) [ inl t ↦ absurd (rw t at i) | inr t ↦ after (rw t at i) ]
 
--- tests that agree on a list find alike, and stop alike
+-- tests that agree on a list find alike
 pub same_any : {X : Type 0} (p q : X → Bool) (xs : List X) → ((x : X) → In x xs → p x ≡ q x) → list_any p xs ≡ list_any q xs
 same_any p q [] h = refl
 same_any p q (x ∷ xs) h = ap₂ ◌||◌ (h x (inl refl)) (same_any p q xs (λ y i. h y (inr i)))
 
+-- tests that agree on a list pass alike
 pub same_all : {X : Type 0} (p q : X → Bool) (xs : List X) → ((x : X) → In x xs → p x ≡ q x) → list_all p xs ≡ list_all q xs
 same_all p q [] h = refl
 same_all p q (x ∷ xs) h = ap₂ ◌&&◌ (h x (inl refl)) (same_all p q xs (λ y i. h y (inr i)))
 
+-- and stop alike
 pub same_until : {X : Type 0} (p q : X → Bool) (xs : List X) → ((x : X) → In x xs → p x ≡ q x) → until p xs ≡ until q xs
 same_until p q [] h = refl
 same_until p q (x ∷ xs) h = ap₂ (λ b ys. cond b [] (x ∷ ys)) (h x (inl refl)) (same_until p q xs (λ y i. h y (inr i)))
@@ -133,13 +141,16 @@ in_range a start zero l u = absurd (omega arith)
 in_range a start (suc n) l u =
     elim (cases_eq start a) [ inl e ↦ inl e | inr d ↦ inr (in_range a (start + 1) n (omega arith) (omega arith)) ]
 
+-- and the other way round
 of_range : (a start n : ℕ) → In a (range_with_len start n) → (start ≤ a) × (a < start + n)
 of_range a start zero i = absurd i
 of_range a start (suc n) (inl e) = (omega arith, omega arith)
 of_range a start (suc n) (inr i) = let w = of_range a (start + 1) n i in (omega arith, omega arith)
 
+-- a number below a bound
 pub in_below : (a n : ℕ) → a < n → In a (below n)
 in_below a n h = in_range a 0 n (omega arith) (omega arith)
 
+-- and the other way round
 pub of_below : (a n : ℕ) → In a (below n) → a < n
 of_below a n i = let w = of_range a 0 n i in omega arith

@@ -39,6 +39,7 @@ of_displaced m moved sent a i =
     let kept = of_kept (displaced_at m moved p.0) a (program_of m p.0).ranking p.2 in
     (p.0, p.1, kept.1, in_has a (program_of m p.0).ranking kept.0)
 
+-- who is displaced at a program that somebody is sent to is among the displaced
 in_displaced : (m : Market) (moved : Places) (sent : Placement) (a p : ℕ) → In p (programs_sent_to sent) → displaced_at m moved p a ≡ true
     → has (program_of m p).ranking a ≡ true → In a (displaced m moved sent)
 in_displaced m moved sent a p i displaced_here listed =
@@ -60,13 +61,15 @@ pub record IsMove (m : Market) (old : Places) (g : Agent) (sent : Placement) : T
   pub option : In sent (options m g)
   pub taken : would_be_taken m old sent ≡ true
 
--- the displaced applicants' agents, all their members, and the match without them
+-- the displaced applicants' agents
 abbrev pub displaced_agents : Market → Places → Placement → List Agent
 displaced_agents m old sent = map (agent_of m) (displaced m (send sent old) sent)
 
+-- all members of those agents, who are taken out
 abbrev taken_out : Market → Places → Placement → List ℕ
 taken_out m old sent = flat_map (λ a. members m (agent_of m a)) (displaced m (send sent old) sent)
 
+-- the match with everybody sent and those taken out
 abbrev pub match_after : Market → Places → Placement → Places
 match_after m old sent = after_move m (send sent old) sent
 

@@ -13,9 +13,11 @@ pub is_program_some : (p : ℕ) (v : Option ℕ) → is_program p v ≡ true →
 is_program_some p None h = absurd (false≢true h)
 is_program_some p (Some q) h = ap Some (eqb-true q p h)
 
+-- who is placed at a program is there
 pub at_some : (places : Places) (p a : ℕ) → place_of places a ≡ Some p → at places p a ≡ true
 at_some places p a e = rw e (eq-eqb p p refl)
 
+-- who is unplaced is nowhere
 pub at_none : (places : Places) (p a : ℕ) → place_of places a ≡ None → at places p a ≡ false
 at_none places p a e = rw e refl
 
@@ -24,10 +26,11 @@ pub placed_within : (places : Places) (p a : ℕ) → at places p a ≡ true →
 placed_within places p a h =
     elim (cases_lt a (length places)) [ inl l ↦ l | inr past ↦ absurd (false≢true (sym (at_none places p a (get_or_past places a None past)) ∙ h)) ]
 
--- one applicant moved
+-- one applicant moved is there
 placed_there : (places : Places) (a : ℕ) (v : Option ℕ) → a < length places → place_of (slice_set places a v) a ≡ v
 placed_there places a v l = get_or-set_same places a v None l
 
+-- the others stay where they were
 placed_elsewhere : (places : Places) (a b : ℕ) (v : Option ℕ) → (a == b) ≡ false → place_of (slice_set places a v) b ≡ place_of places b
 placed_elsewhere places a b v d = get_or-set_other places a b v None (λ same. false≢true (sym d ∙ eq-eqb a b (sym same)))
 
@@ -36,6 +39,7 @@ pub length-send : (sent : Placement) (places : Places) → length (send sent pla
 length-send [] places = refl
 length-send (s ∷ sent) places = length-send sent (slice_set places s.0 s.1) ∙ length-set places s.0 s.1
 
+-- also where some are taken out
 pub length-unplaced : (xs : List ℕ) (places : Places) → length (unplaced xs places) ≡ length places
 length-unplaced [] places = refl
 length-unplaced (x ∷ xs) places = length-unplaced xs (slice_set places x None) ∙ length-set places x None
@@ -70,6 +74,7 @@ unplaced_elsewhere (x ∷ xs) places a h =
     let apart = or_parts (x == a) (has xs a) h in
     unplaced_elsewhere xs (slice_set places x None) a apart.1 ∙ placed_elsewhere places x a None apart.0
 
+-- who is taken out is unplaced
 none_at : (places : Places) (x a : ℕ) → (x == a) ≡ true → place_of (slice_set places x None) a ≡ None
 none_at places x a same =
     let is : x ≡ a = eqb-true x a same in
@@ -85,6 +90,7 @@ stays_none (x ∷ xs) places a e =
     stays_none xs (slice_set places x None) a
     (elim (cases_Bool (x == a)) [ inl same ↦ none_at places x a same | inr other ↦ placed_elsewhere places x a None other ∙ e ])
 
+-- who is among those taken out has no place
 pub unplaced_there : (xs : List ℕ) (places : Places) (a : ℕ) → has xs a ≡ true → place_of (unplaced xs places) a ≡ None
 unplaced_there [] places a h = absurd (false≢true h)
 unplaced_there (x ∷ xs) places a h = elim (or_cases (x == a) (has xs a) h) [
@@ -97,6 +103,7 @@ pub holds_same : (P Q : Places) (sent : Placement) → ((a : ℕ) → has (mover
     → holds P sent ≡ holds Q sent
 holds_same P Q sent h = same_all _ _ sent (λ s i. ap (λ v. is_same_place v s.1) (h s.0 (in_has s.0 (movers sent) (in_image (λ t. t.0) s sent i))))
 
+-- whether a list is unplaced goes by the places on it
 pub none_placed_same : (P Q : Places) (xs : List ℕ) → ((a : ℕ) → has xs a ≡ true → place_of P a ≡ place_of Q a)
     → none_placed P xs ≡ none_placed Q xs
 none_placed_same P Q xs h = same_all _ _ xs (λ a i. ap (λ v. not (is_some v)) (h a (in_has a xs i)))
@@ -117,6 +124,7 @@ filled_less [] p x l = absurd (omega arith)
 filled_less (v ∷ places) p zero l = omega arith
 filled_less (v ∷ places) p (suc x) l = let rest = filled_less places p x (omega arith) in omega arith
 
+-- who is at a program still, once the head is taken out, is on the rest of the list
 in_rest : (places : Places) (x : ℕ) (xs : List ℕ) (p a : ℕ) → at (slice_set places x None) p a ≡ true
     → (at places p a ≡ true → has (x ∷ xs) a ≡ true) → has xs a ≡ true
 in_rest places x xs p a h on_list = elim (cases_Bool (x == a)) [

@@ -7,17 +7,19 @@ use Rattle.mt_model.specs.Market.{Program}
 use Rattle.mt_model.specs.Choice.{choice}
 use Rattle.mt_model.proofs.ChoiceLemmas.{choice_facts, choice_from_facts}
 
--- the head and the rest of a list stand on it
+-- the head of a list stands on it
 pub has_head : (x : ℕ) (xs : List ℕ) → has (x ∷ xs) x ≡ true
 has_head x xs = or_left (x == x) (has xs x) (eq-eqb x x refl)
 
+-- the rest of a list stands on it
 pub has_rest : (x : ℕ) (xs : List ℕ) (a : ℕ) → has xs a ≡ true → has (x ∷ xs) a ≡ true
 has_rest x xs a h = or_right (x == a) (has xs a) h
 
--- nobody stands above the head, and the head stands above the others
+-- nobody stands above the head
 above_head : (s : Set) (x : ℕ) (xs : List ℕ) (b : ℕ) → (x == b) ≡ true → above s (x ∷ xs) b ≡ 0
 above_head s x xs b e = rw e refl
 
+-- the head stands above the others
 above_rest : (s : Set) (x : ℕ) (xs : List ℕ) (b : ℕ) → (x == b) ≡ false → above s (x ∷ xs) b ≡ (if s x then 1 else 0) + above s xs b
 above_rest s x xs b e = rw e refl
 
@@ -46,6 +48,7 @@ pub record StandsOut (s t : Set) (xs : List ℕ) (b : ℕ) : Type 0 where
   pub fewer : above s xs who ≤ above t xs who
   pub higher : above t xs who ≤ above t xs b
 
+-- somebody at the head of the list
 out_at_head : (s t : Set) (x : ℕ) (xs : List ℕ) (b : ℕ) → (s x && not (t x)) ≡ true → StandsOut s t (x ∷ xs) b
 out_at_head s t x xs b here =
     let only = and_parts (s x) (not (t x)) here in
@@ -53,11 +56,13 @@ out_at_head s t x xs b here =
     let none_of_t = above_head t x xs x (eq-eqb x x refl) in
     record { who = x; on_list = has_head x xs; in_one = only.0; not_other = not-true (t x) only.1; fewer = omega arith; higher = omega arith }
 
+-- of one who is in a set only with the other there is no more to count
 no_more : (u v : Bool) → (u && not v) ≡ false → (if u then 1 else 0) ≤ (if v then 1 else 0)
 no_more true true h = omega arith
 no_more true false h = absurd (false≢true (sym h))
 no_more false v h = omega arith
 
+-- the head that is no such one leaves fewer on the rest
 fewer_past : (s t : Set) (x : ℕ) (xs : List ℕ) (b : ℕ) → (s x && not (t x)) ≡ false → (x == b) ≡ false
     → above t (x ∷ xs) b < above s (x ∷ xs) b → above t xs b < above s xs b
 fewer_past s t x xs b past e h =
@@ -66,6 +71,7 @@ fewer_past s t x xs b past e h =
     let le = no_more (s x) (t x) past in
     omega arith
 
+-- somebody on the rest of the list
 out_past_head : (s t : Set) (x : ℕ) (xs : List ℕ) (b : ℕ) → (s x && not (t x)) ≡ false → (x == b) ≡ false
     → StandsOut s t xs b → StandsOut s t (x ∷ xs) b
 out_past_head s t x xs b past e y =

@@ -76,14 +76,17 @@ record IsSettled (m : Market) (n : ℕ) (places : Places) : Type 0 where
   outside : (g : Agent) → IsAgent m g → is_before n g ≡ false → none_placed places (members m g) ≡ true
   quiet : (g : Agent) → IsAgent m g → is_before n g ≡ true → blocks m places g ≡ false
 
+-- the agents before the next couple are those that have entered
 before_next : (n : ℕ) (g : Agent) → is_before (n + 1) g ≡ has_entered n g
 before_next n (Single a) = refl
 before_next n (Couple c) = grind (arith, nat_tests)
 
+-- an agent that has not entered is not one of the first
 not_before : (k : ℕ) (g : Agent) → has_entered k g ≡ false → is_before k g ≡ false
 not_before k (Single a) h = absurd (false≢true (sym h))
 not_before k (Couple c) h = let above : k < c = leb-false c k h in le-ltb c k (omega arith)
 
+-- an entered agent that is not the couple itself came before it
 before_entered : (k : ℕ) (g : Agent) → has_entered k g ≡ true → is_on (Couple k ∷ []) g ≡ false → is_before k g ≡ true
 before_entered k (Single a) h off = refl
 before_entered k (Couple c) h off =
@@ -91,6 +94,7 @@ before_entered k (Couple c) h off =
     let ne : c ≢ k = (λ e. false≢true (sym (or_parts (c == k) false off).0 ∙ eq-eqb c k e)) in
     lt-ltb c k (omega arith)
 
+-- all agents are singles or one of all couples
 before_all : (m : Market) (g : Agent) → IsAgent m g → is_before (length m.couples) g ≡ true
 before_all m (Single a) i = refl
 before_all m (Couple c) i = lt-ltb c (length m.couples) (couple_number m c i)
@@ -206,6 +210,7 @@ stage_from_stable m wf places h budget r e =
         let start : Work = record { places = old; waiting = Couple k ∷ [] } in
         couple_settles m wf k t.0 (settled_keeps (IsRoundState m k) m k (keep_round m wf k) left start t done (couple_enters m wf k old l s))
 
+-- from the best match of the singles a stage ends in a stable match
 pub stage_is_stable_lem : StageIsStable
 stage_is_stable_lem m wf places best = stage_from_stable m wf places best.is_stable
 
@@ -214,6 +219,7 @@ couple_waits : (m : Market) → IsWellFormed m → (k : ℕ) (places : Places) �
     → IsFittingState m (record { places = places; waiting = Couple k ∷ [] })
 couple_waits m wf k places l fit = record { fitting = fit; waiting_agents = λ g on. (only_couple m wf k l g on).0 }
 
+-- from a match that fits a stage ends in one that fits
 pub stage_fits_lem : StageFits
 stage_fits_lem m wf places fit budget r e =
     let q = stage_end m places budget r e in
