@@ -7,9 +7,9 @@ use Rattle.mt_model.specs.Stability.{fits, blocks, stable}
 use Rattle.mt_model.specs.Best.{IsBest}
 use Rattle.mt_model.specs.Rounds.{Work, is_same_agent, has_entered, round, stage}
 use Rattle.mt_model.specs.WellFormed.{IsWellFormed}
-use Rattle.mt_model.specs.Examples.Markets.{three_couples, nobody}
+use Rattle.mt_model.specs.Examples.Markets.{three_couples, partner_withdraws, nobody}
 use Rattle.mt_model.specs.declared.numbers.Agent.{Agent}
-use Rattle.mt_model.specs.declared.numbers.Agent.TheVariants.{Couple}
+use Rattle.mt_model.specs.declared.numbers.Agent.TheVariants.{Single, Couple}
 
 -- whether an agent is on a list of agents
 abbrev pub is_on : List Agent → Agent → Bool
@@ -59,11 +59,14 @@ pub record NeedsRounds (m : Market) (places : Places) (budget : ℕ) (r : Places
 abbrev pub StageRounds : Type 0
 StageRounds = (m : Market) (places : Places) (budget : ℕ) (r : Places × ℕ) → stage m places budget ≡ Some r → NeedsRounds m places budget r
 
--- In the market of three couples, who are all its agents, the best match of the singles places nobody, and a
--- stage from it ends. The state is so where the second couple enters: the first one is placed, the third one
--- has not entered.
+-- What these laws ask for is so where the partner withdraws: the single alone is placed best, a stage ends, and
+-- once the second couple moved the first couple and the single are still to be looked at. It is so in the
+-- market of three couples where the second one enters, the first one placed and the third one outside.
 pub record PremisesOfRounds : Type 0 where
-  pub well_formed : IsWellFormed three_couples
-  pub best : IsBest three_couples (nobody 6)
-  pub ends : stage three_couples (nobody 6) 5 ≡ Some (None ∷ None ∷ Some 0 ∷ Some 1 ∷ Some 2 ∷ Some 3 ∷ [], 5)
-  pub state : IsRoundState three_couples 1 (record { places = Some 0 ∷ Some 2 ∷ None ∷ None ∷ None ∷ None ∷ []; waiting = Couple 1 ∷ [] })
+  pub well_formed : IsWellFormed partner_withdraws
+  pub best : IsBest partner_withdraws (Some 0 ∷ nobody 4)
+  pub ends : stage partner_withdraws (Some 0 ∷ nobody 4) 5 ≡ Some (Some 0 ∷ None ∷ None ∷ Some 0 ∷ Some 1 ∷ [], 5)
+  pub all_entered : IsRoundState partner_withdraws 1
+      (record { places = None ∷ None ∷ None ∷ Some 0 ∷ Some 1 ∷ []; waiting = Couple 0 ∷ Single 0 ∷ [] })
+  pub one_outside : IsRoundState three_couples 1
+      (record { places = Some 0 ∷ Some 2 ∷ None ∷ None ∷ None ∷ None ∷ []; waiting = Couple 1 ∷ [] })

@@ -27,7 +27,7 @@ pub fn stage_rounds()
     ensures { StageRounds }
 {}
 
-/// What these laws ask for is so in the market of three couples.
+/// What these laws ask for is so in two of the example markets.
 pub fn premises_of_rounds()
     ensures { PremisesOfRounds }
 {}
