@@ -86,12 +86,14 @@ filled-le places p (x ∷ xs) all = elim (cases_Bool (at places p x)) [
       let stays : (b : ℕ) → IsTrue (at left p b) → (b ≢ x) × IsTrue (at places p b) = λ b there_left.
       let other : b ≢ x = λ same. both_ways _ none_left (subst (λ (c : ℕ). IsTrue (at left p c)) same there_left) in
       (other, sym (at-slice_set_other places x b p None other) ∙ there_left) in
-      let rest : filled left p ≤ count (at left p) xs = filled-le left p xs (λ b there_left. still_on x xs b (stays b there_left).0 (all b (stays b there_left).1)) in
+      let rest : filled left p ≤ count (at left p) xs =
+      filled-le left p xs (λ b there_left. still_on x xs b (stays b there_left).0 (all b (stays b there_left).1)) in
       let fewer : count (at left p) xs ≤ count (at places p) xs = count-le (at left p) (at places p) xs (λ b there_left. (stays b there_left).1) in
       let less : filled left p + 1 ≡ filled places p = count-slice_set (is_program p) places x None None x_in there refl in
       rw there (omega arith)
   | inr elsewhere ↦
-      let rest : filled places p ≤ count (at places p) xs = filled-le places p xs (λ b there. still_on x xs b (λ same. both_ways _ elsewhere (subst (λ (c : ℕ). IsTrue (at places p c)) same there)) (all b there)) in
+      let other : (b : ℕ) → IsTrue (at places p b) → b ≢ x = λ b there same. both_ways _ elsewhere (subst (λ (c : ℕ). IsTrue (at places p c)) same there) in
+      let rest : filled places p ≤ count (at places p) xs = filled-le places p xs (λ b there. still_on x xs b (other b there) (all b there)) in
       rw elsewhere (omega arith)
 ]
 

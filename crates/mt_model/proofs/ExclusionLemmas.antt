@@ -55,6 +55,7 @@ pub record LeftOut (m : Market) (places : Places) (p : ℕ) (set : Set) : Type 0
   pub is_elsewhere : IsFalse (at places p single)
   pub is_chosen : IsTrue (choice (program_of m p) (with_one (at places p) single) single)
 
+-- the one left out
 one_left_out : (m : Market) → IsWellFormed m → (places : Places) → IsStableForSingles m places → (p : ℕ) (set : Set) (a : ℕ) → IsTrue (at places p a)
     → (program_of m p).quota ≤ above set (program_of m p).ranking a → LeftOut m places p set
 one_left_out m well places facts p set a there full =
