@@ -16,6 +16,16 @@ pub mod ListLemmas
 pub mod NumberingFacts
 pub mod PassFacts
 pub mod RegisteredFacts
+pub mod RoundsAgents
+pub mod RoundsCounted
+pub mod RoundsFits
+pub mod RoundsKeep
+pub mod RoundsLists
+pub mod RoundsMove
+pub mod RoundsPlaces
+pub mod RoundsRoom
+pub mod RoundsSets
+pub mod RoundsStage
 pub mod RuralLemmas
 pub mod Seats
 pub mod SinglesFacts

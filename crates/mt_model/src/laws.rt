@@ -2,6 +2,7 @@
 
 mod floors;
 mod registration;
+mod rounds;
 mod rural_law;
 mod singles;
 mod taken;
@@ -13,6 +14,9 @@ pub use floors::{
     order_free, quiet_counts, quiet_is_reached, result_of_floor, strict_best,
 };
 pub use registration::{accepted_is_registration, versions_agree};
+pub use rounds::{
+    premises_of_rounds, round_fits, round_keeps, stage_fits, stage_is_stable, stage_rounds,
+};
 pub use rural_law::{legal_best, rural};
 pub use singles::{
     best_is_at_least, best_is_unique, choice_in_words, chosen_for_two_posts, excluded_in_chain,
