@@ -2,6 +2,7 @@
 #![tactic(auto)]
 
 mod ended;
+pub mod laws;
 mod options;
 
 pub use ended::Ended;
