@@ -1,5 +1,5 @@
 -- Lists that grow side by side, each within the room that it was given.
-use Rattle.std.specs.Prelude.{◌≡◌, ℕ, zero, suc, ◌+◌, ◌-◌, ◌≤◌, ◌<◌, List, [], ◌∷◌, ◌++◌, map, length, replicate, slice_range, slice_index, slice_index_or, slice_set}
+use Rattle.std.specs.Prelude.{ℕ, ◌+◌, ◌-◌, ◌≤◌, List, [], ◌∷◌, ◌++◌, length, replicate, slice_range, slice_index, slice_index_or, slice_set}
 use Rattle.mt_ranks.specs.declared.entries.Live.{Live}
 
 -- the lists, and how long each may become

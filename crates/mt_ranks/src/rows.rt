@@ -1,5 +1,5 @@
-ghost use Rattle.std.specs.Prelude.{◌≡◌, ◌+◌, ◌<◌, ◌≤◌, ◌^◌, length, sum, slice_index, IfOk};
-ghost use Rattle.mt_ranks.specs.Rows.{empty_rows, row_of, HasRoom, with_entry, starts_from};
+ghost use Rattle.std.specs.Prelude.{◌≡◌, ◌+◌, ◌<◌, ◌≤◌, ◌^◌, length, sum, slice_index, slice_index_or, [], IfOk};
+ghost use Rattle.mt_ranks.specs.Rows.{parts, ArePartsOf, empty_rows, row_of, HasRoom, with_entry, starts_from};
 
 use std::alloc::{AllocError, Global};
 use std::marker::Model;
@@ -44,6 +44,18 @@ fn begins(alloc: Global, sizes: &[usize]) -> Result<(Vec<usize>, usize), AllocEr
     Ok((starts, total))
 }
 
+/// The part with this number, among those that begin and end at these places.
+#[tactic(auto, using(crate::proofs::RowFacts::part_bounds, crate::proofs::RowFacts::length_ends))]
+fn part<'a>(items: &'a [Live], starts: &[usize], ends: &[usize], number: usize) -> &'a [Live]
+    requires parts { ArePartsOf (length items.now) starts.now ends.now }
+    requires within { number < length starts.now }
+    ensures { result.now ≡ slice_index_or (parts starts.now ends.now items.now) number [] }
+{
+    let start = starts[number];
+    let end = ends[number];
+    &items[start..end]
+}
+
 impl Rows {
     /// Empty rows, with room for these sizes.
     pub(crate) fn with_sizes(alloc: Global, sizes: &[usize]) -> Result<Rows, AllocError>
@@ -69,7 +81,7 @@ impl Rows {
         requires { number < length self.now.lists }
         ensures { result.now ≡ row_of self.now number }
     {
-        &self.items[self.starts[number]..self.ends[number]]
+        part(&self.items, &self.starts, &self.ends, number)
     }
 
     /// Adds an entry at the end of a row that has room.

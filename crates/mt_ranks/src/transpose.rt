@@ -13,8 +13,8 @@ use crate::rows::Rows;
 /// Counts each applicant that a program lists.
 fn count_listed(counts: &mut [usize], ranking: &[AppNo])
     requires within { (a : ℕ) → IsTrue (has ranking.now a) → a < length counts.old }
-    requires fits { (a : ℕ) → slice_index counts.old a + count (λ x. x == a) ranking.now < 2 ^ 64 }
-    ensures { (a : ℕ) → slice_index counts.new a ≡ slice_index counts.old a + count (λ x. x == a) ranking.now }
+    requires fits { (a : ℕ) → a < length counts.old → slice_index counts.old a + count (λ x. x == a) ranking.now < 2 ^ 64 }
+    ensures { (a : ℕ) → a < length counts.old → slice_index counts.new a ≡ slice_index counts.old a + count (λ x. x == a) ranking.now }
 {
     for applicant in ranking {
         counts[applicant.index()] += 1;
@@ -41,11 +41,11 @@ fn listed(
 /// Adds to the rows of the applicants that a program lists their ranks there.
 fn add_ranking(rows: &mut Rows, program: ProgNo, ranking: &[AppNo])
     requires within { (a : ℕ) → IsTrue (has ranking.now a) → a < length rows.old.lists }
-    requires room { (a : ℕ) → HasRoom rows.old a (count (λ x. x == a) ranking.now) }
+    requires room { (a : ℕ) → a < length rows.old.lists → HasRoom rows.old a (count (λ x. x == a) ranking.now) }
     requires short { length ranking.now < 2 ^ 32 }
     ensures sizes { rows.new.sizes ≡ rows.old.sizes }
     ensures len { length rows.new.lists ≡ length rows.old.lists }
-    ensures rows { (a : ℕ) → row_of rows.new a ≡ row_of rows.old a ++ entries_in program 0 ranking.now a }
+    ensures rows { (a : ℕ) → a < length rows.old.lists → row_of rows.new a ≡ row_of rows.old a ++ entries_in program 0 ranking.now a }
 {
     for (rank, applicant) in ranking.iter().enumerate() {
         rows.push(
