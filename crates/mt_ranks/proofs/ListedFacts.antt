@@ -1,11 +1,11 @@
 -- How often programs list an applicant, and at what ranks.
-use Rattle.std.proofs.Common.{◌≡◌, ℕ, zero, suc, ◌+◌, ◌<◌, ◌≤◌, List, [], ◌∷◌, ◌++◌, Bool, true, false, cond, eqb, IsTrue, not, ◌&&◌, ◌||◌, length, get_or, set, map, take, drop, refl, sym, inl, inr, zero-add, ap, ◌∙◌, arith, length-append}
-use Rattle.std.proofs.lemmas.Bool.{cases_Bool, eqb-true, eqb-false, eq-eqb, ne_eqb, cases_eq, or_cases, or_right, or_left, or_parts, and_parts, false≢true, not_from_false, not-true}
+use Rattle.std.proofs.Common.{◌≡◌, ℕ, zero, suc, ◌+◌, ◌<◌, ◌≤◌, List, [], ◌∷◌, ◌++◌, true, false, eqb, IsTrue, not, length, get_or, set, map, drop, refl, sym, inl, inr, zero-add, ap, ◌∙◌, arith, length-append}
+use Rattle.std.proofs.lemmas.Bool.{cases_Bool, eqb-true, eq-eqb, ne_eqb, cases_eq, or_right, or_parts, and_parts, not-true}
 use Rattle.std.proofs.lemmas.Bool.Decides.{nat_tests}
 use Rattle.std.proofs.lemmas.List.{drop_more, get_or-set_same, get_or-set_other, append_assoc, drop_all, get_or_read, length-set, at_drop_more, at_drop_all, append-nil, get_or-replicate, length-replicate}
 use Rattle.std.proofs.lemmas.List.FromFn.{fill_by_all, get_or-map-range_with_len}
 use Rattle.mt_model.specs.Lists.{has, below, count, is_distinct}
-use Rattle.mt_ranks.specs.Entries.{entries_in, entries_from, times_listed, AreDistinct, AreWithin}
+use Rattle.mt_ranks.specs.Entries.{entries_in, entries_from, times_listed, AreDistinct}
 use Rattle.mt_ranks.specs.Rows.{Filling, empty_rows, row_of, HasRoom, with_entry}
 use Rattle.mt_ranks.specs.declared.entries.Live.{Live}
 
