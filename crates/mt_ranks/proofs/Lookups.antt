@@ -1,11 +1,14 @@
 -- Looking for a program among entries in the order of their programs.
-use Rattle.std.proofs.Common.{◌≡◌, ℕ, zero, suc, ◌+◌, ◌<◌, ◌≤◌, List, [], ◌∷◌, ◌++◌, Option, Some, None, cond, eqb, ltb, IsTrue, Ordering, length, get_or, refl, sym, ap, ◌∙◌, inl, inr, arith, Less, Equal, Greater}
+use Rattle.std.proofs.Common.{◌≡◌, ℕ, zero, suc, ◌+◌, ◌<◌, ◌≤◌, List, [], ◌∷◌, ◌++◌, Some, None, length, take, get_or, refl, sym, ap, ◌∙◌, inl, inr, arith, Less, Equal, Greater}
 use Rattle.std.specs.Ordering.{nat_cmp, ordering_index}
-use Rattle.std.specs.List.{HoldsAt, AllWithin}
-use Rattle.std.specs.List.Sorted.{IsNonDecreasingBy, IsPartitionPoint, IsBinarySearchResult}
-use Rattle.std.proofs.lemmas.Bool.{eq-eqb, ne_eqb, cases_eq, cases_lt}
+use Rattle.std.specs.List.{HoldsAt}
+use Rattle.std.proofs.lemmas.List.Elements.{filter_map-append}
+use Rattle.std.proofs.lemmas.List.{take_more, append-nil}
+use Rattle.std.specs.List.Sorted.{IsNonDecreasingBy, IsPartitionPoint}
+use Rattle.std.proofs.lemmas.Bool.{eq-eqb, ne_eqb, cases_lt}
 use Rattle.std.proofs.lemmas.Bool.Decides.{nat_tests}
-use Rattle.mt_ranks.specs.Entries.{AscendFrom, rank_among}
+use Rattle.mt_ranks.specs.Entries.{AscendFrom, rank_among, entry_among, entries_among}
+use Rattle.mt_model.specs.FlatLists.{with_last}
 use Rattle.mt_ranks.specs.declared.entries.Live.{Live}
 
 equal_means : (a b : ℕ) → nat_cmp a b ≡ Equal → a ≡ b
@@ -54,3 +57,27 @@ absent_by_search xs p i h split =
     absent xs p (λ k d w e. elim (cases_lt k i) as (λ o. ⊥)
       [ inl below ↦ absurd (omega (arith, less_means _ p (parts.0 k d (omega arith) below)))
       | inr above ↦ absurd (omega (arith, greater_means _ p (parts.1 k d above w))) ])
+
+-- Below, a list's entries are looked up one after another.
+pub with_last-append : {X : Type 0} (lists : List (List X)) (xs : List X) (x : X) → with_last (lists ++ xs ∷ []) x ≡ lists ++ (xs ++ x ∷ []) ∷ []
+with_last-append [] xs x = refl
+with_last-append (l ∷ []) xs x = refl
+with_last-append (l ∷ m ∷ ls) xs x = ap (λ rest. l ∷ rest) (with_last-append (m ∷ ls) xs x)
+
+-- the lists so far: those that were there, and one with the entries of the first i programs of a list
+abbrev pub AreLive : List (List Live) → List (List Live) → List Live → List ℕ → ℕ → Type 0
+AreLive lists start es ps i = lists ≡ start ++ entries_among es (take i ps) ∷ []
+
+pub live_more_some : (lists start : List (List Live)) (es : List Live) (ps : List ℕ) (i p r : ℕ) → AreLive lists start es ps i → i < length ps → p ≡ get_or ps i p → Some r ≡ rank_among es p
+    → AreLive (with_last lists (record { program = p; rank = r })) start es ps (i + 1)
+live_more_some lists start es ps i p r inv h at is =
+    let entry : entry_among es p ≡ Some (record { program = p; rank = r }) = rw (← is) refl in
+    let more : take (i + 1) ps ≡ take i ps ++ p ∷ [] = take_more ps i p h ∙ ap (λ q. take i ps ++ q ∷ []) (sym at) in
+    rw (inv, more, filter_map-append (entry_among es) (take i ps) (p ∷ []), entry) (with_last-append start (entries_among es (take i ps)) (record { program = p; rank = r }))
+
+pub live_more_none : (lists start : List (List Live)) (es : List Live) (ps : List ℕ) (i p : ℕ) → AreLive lists start es ps i → i < length ps → p ≡ get_or ps i p → None ≡ rank_among es p
+    → AreLive lists start es ps (i + 1)
+live_more_none lists start es ps i p inv h at is =
+    let entry : entry_among es p ≡ None = rw (← is) refl in
+    let more : take (i + 1) ps ≡ take i ps ++ p ∷ [] = take_more ps i p h ∙ ap (λ q. take i ps ++ q ∷ []) (sym at) in
+    rw (more, filter_map-append (entry_among es) (take i ps) (p ∷ []), entry) (rw append-nil inv)
