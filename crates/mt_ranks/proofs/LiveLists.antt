@@ -1,0 +1,1 @@
+-- What was looked up is the live list.

@@ -1,0 +1,1 @@
+-- The live market of a well-formed market is well formed.

@@ -1,0 +1,1 @@
+-- What the tables say of the market that they are seen as.
