@@ -1,5 +1,5 @@
 -- What an applicant's entries say of its positions on the programs' lists.
-use Rattle.std.proofs.Common.{◌≡◌, ◌==◌, ℕ, zero, suc, ◌+◌, ◌<◌, ◌≤◌, List, [], ◌∷◌, ◌++◌, Bool, true, false, Option, Some, None, cond, eqb, IsTrue, not, ◌&&◌, ◌||◌, map, length, get_or, refl, sym, ap, ◌∙◌, inl, inr, arith}
+use Rattle.std.proofs.Common.{◌≡◌, ◌==◌, ℕ, zero, suc, ◌+◌, ◌<◌, ◌≤◌, List, [], ◌∷◌, ◌++◌, Bool, true, false, Option, Some, None, IfSome, cond, eqb, IsTrue, not, ◌&&◌, ◌||◌, map, length, get_or, refl, sym, ap, ◌∙◌, inl, inr, arith}
 use Rattle.std.specs.Option.{is_some}
 use Rattle.std.specs.List.{position, position_from}
 use Rattle.std.proofs.lemmas.Bool.{cases_Bool, eqb-true, eq-eqb, ne_eqb, cases_eq, and_parts, or_parts, not-true}
@@ -94,3 +94,7 @@ pub IsRank-from_position : (xs : List ℕ) (a r : ℕ) → position (λ x. x == 
 IsRank-from_position xs a r h =
     let at = position-Some (λ x. eqb x a) xs r 0 h in
     record { found = h; within = at.0; stands = eqb-true (get_or xs r 0) a at.1 }
+
+pub found_ranks : (xs : List ℕ) (a : ℕ) (o : Option ℕ) → o ≡ position (λ x. x == a) xs → IfSome o (IsRank xs a)
+found_ranks xs a None h = tt
+found_ranks xs a (Some r) h = IsRank-from_position xs a r (sym h)

@@ -1,6 +1,6 @@
 -- What the tables say of the market that they are seen as.
 use Rattle.std.proofs.Common.{◌≡◌, ◌==◌, ℕ, zero, suc, ◌+◌, ◌<◌, ◌≤◌, List, [], ◌∷◌, Option, false, map, length, get_or, refl, sym, ap, subst, ◌∙◌, inl, inr, arith}
-use Rattle.std.specs.List.{position}
+use Rattle.std.specs.List.{All, position}
 use Rattle.std.proofs.lemmas.Bool.{cases_lt}
 use Rattle.std.proofs.lemmas.List.{get_or-map, get_or_past, length-map}
 use Rattle.std.proofs.lemmas.List.FromFn.{get_or-map-range_with_len, length-map-range_with_len, fill_by_all}
@@ -8,12 +8,13 @@ use Rattle.mt_model.specs.Lists.{has, below}
 use Rattle.mt_model.specs.Market.{Market, Program, applicants, program_of, list_of, live, live_market}
 use Rattle.mt_model.specs.WellFormed.{IsWellFormed}
 use Rattle.mt_roster.specs.Tables.{programs_with}
-use Rattle.mt_ranks.specs.Entries.{entries_from, entries_among, rank_among, AscendFrom, AreDistinct}
-use Rattle.mt_ranks.specs.Ranked.{Ranked, IsRanked, ranked_of, ranked_entry, is_single}
-use Rattle.mt_ranks.specs.Rows.{row_of}
+use Rattle.mt_ranks.specs.Entries.{entries_from, entries_among, rank_among, AscendFrom, AreDistinct, AreWithin}
+use Rattle.mt_ranks.specs.Ranked.{Ranked, IsRanked, IsEntry, ranked_of, ranked_entry, is_single}
+use Rattle.mt_ranks.specs.Rows.{Filling, row_of}
 use Rattle.mt_ranks.specs.View.{programs_in, ranked_in, AreTables}
 use Rattle.mt_ranks.specs.declared.entries.Live.{Live}
 use Rattle.mt_ranks.specs.declared.tables.Ranks.TheInside.{Inside}
+use Rattle.mt_ranks.proofs.ListedFacts.{has_item}
 use Rattle.mt_ranks.proofs.LiveLists.{programs_with-fields, ranking_at, own_entries, entries_among-list, programs_in-ranked}
 use Rattle.mt_ranks.proofs.LiveMarket.{list_of-live_market, live_market_ranked}
 use Rattle.mt_ranks.proofs.Positions.{entries_ascend, rank_among-entries}
@@ -65,6 +66,30 @@ rank_in_row t r a p h v w = ap (λ es. rank_among es p) (row_at t r a h v w) ∙
 
 pub live_list : (t : Inside) (r : Ranked) (a : ℕ) → AreTables t → ranked_in t ≡ r → get_or t.lists a [] ≡ map (ranked_entry r.market a) (list_of r.market a)
 live_list t r a h v = h.live_ranks a ∙ ap (λ (s : Ranked). map (ranked_entry s.market a) (list_of s.market a)) v
+
+-- every entry of a live list names a program with a rank there
+pub live_entries : (t : Inside) (r : Ranked) (a : ℕ) → AreTables t → ranked_in t ≡ r → All (IsEntry r.market a) (map (ranked_entry r.market a) (list_of r.market a))
+live_entries t r a h v k d i =
+    let within : k < length (list_of r.market a) = omega (arith, length-map (list_of r.market a) (ranked_entry r.market a)) in
+    rw (get_or-map (ranked_entry r.market a) (list_of r.market a) k 0 d within)
+    ((is_ranked t r h v).all_ranked a (get_or (list_of r.market a) k 0) (has_item (list_of r.market a) k within))
+
+-- Below, lists are a market's rankings.
+pub rankings_within : (m : Market) (rs : List (List ℕ)) (n : ℕ) → IsWellFormed m → rs ≡ map Program.ranking m.programs → n ≡ applicants m → AreWithin n rs
+rankings_within m rs n w h e p a i =
+    let ranking : get_or rs p [] ≡ (program_of m p).ranking = ap (λ ls. get_or ls p []) h ∙ ranking_at m p in
+    rw e (w.rankings_within p a (rw ranking at i))
+
+pub rankings_apart : (m : Market) (rs : List (List ℕ)) → IsWellFormed m → rs ≡ map Program.ranking m.programs → AreDistinct rs
+rankings_apart m rs w h p =
+    let ranking : get_or rs p [] ≡ (program_of m p).ranking = ap (λ ls. get_or ls p []) h ∙ ranking_at m p in
+    rw ranking (w.rankings_distinct p)
+
+pub rows_ascend : (rs : List (List ℕ)) (rows : Filling) (n a : ℕ) → AreDistinct rs → rows.lists ≡ map (entries_from 0 rs) (below n) → AscendFrom 0 (row_of rows a)
+rows_ascend rs rows n a d h =
+    elim (cases_lt a n) as (λ o. AscendFrom 0 (row_of rows a))
+    [ inl within ↦ rw (h, get_or-map-range_with_len (entries_from 0 rs) 0 n a a [] within (omega arith)) (entries_ascend rs a d)
+    | inr past ↦ rw (h, get_or_past (map (entries_from 0 rs) (below n)) a [] (omega (arith, length-map-range_with_len (entries_from 0 rs) 0 n))) tt ]
 
 -- Below, the tables are made of a market's.
 pub record AreMade (m : Market) (t : Inside) : Type 0 where

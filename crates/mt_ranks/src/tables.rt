@@ -3,7 +3,7 @@ ghost use Rattle.std.specs.List.{position};
 ghost use Rattle.mt_model.specs.Lists.{has, below};
 ghost use Rattle.mt_model.specs.Market.{Program, applicants, program_of, list_of};
 ghost use Rattle.mt_ranks.specs.Entries.{AscendFrom, entries_among};
-ghost use Rattle.mt_ranks.specs.Ranked.{IsRank, IsEntry, IsRanked, ranked_of, ranked_entry, is_single};
+ghost use Rattle.mt_ranks.specs.Ranked.{IsRank, IsEntry, IsRanked, ranked_of, ranked_entry, is_single, is_single_agent};
 ghost use Rattle.mt_ranks.specs.Rows.{row_of};
 
 use std::alloc::{AllocError, Global};
@@ -61,13 +61,23 @@ fn rankings(alloc: Global, roster: &Roster) -> Result<FlatLists<AppNo>, AllocErr
     Ok(rankings)
 }
 
+/// Whether the agent is a single.
+fn is_single(agent: Agent) -> bool
+    ensures { result ≡ is_single_agent agent }
+{
+    match agent {
+        Agent::Single(_) => true,
+        Agent::Couple(_) => false,
+    }
+}
+
 /// Which applicants are singles.
 fn singles(alloc: Global, roster: &Roster) -> Result<Vec<bool>, AllocError>
     ensures { IfOk result (λ v. v.items ≡ map (is_single roster.now.market) (below (applicants roster.now.market))) }
 {
     let mut singles = Vec::with_capacity(alloc, roster.applicants() as usize)?;
     for applicant in 0..roster.applicants() {
-        singles.push(matches!(roster.agent_of(AppNo(applicant)), Agent::Single(_)))?;
+        singles.push(is_single(roster.agent_of(AppNo(applicant))))?;
     }
     Ok(singles)
 }
