@@ -45,14 +45,15 @@ counted_here counts start xs i x inv h at w = omega (arith, inv x w, count_here 
 pub counted_more : (counts start xs : List ℕ) (i x : ℕ) → AreCounted counts start xs i → i < length xs → x ≡ get_or xs i x → x < length counts
     → AreCounted (set counts x (get_or counts x 0 + 1)) start xs (i + 1)
 counted_more counts start xs i x inv h at w a v =
-    elim (cases_eq a x) as (λ o. get_or (set counts x (get_or counts x 0 + 1)) a 0 + count (λ y. eqb y a) (drop (i + 1) xs) ≡ get_or start a 0 + count (λ y. eqb y a) xs)
-    [ inl e ↦ rw (e, get_or-set_same counts x (get_or counts x 0 + 1) 0 w) (counted_here counts start xs i x inv h at w)
-    | inr ne ↦
-      let within : a < length counts = omega (arith, length-set counts x (get_or counts x 0 + 1)) in
-      omega (arith, inv a within, get_or-set_other counts x a (get_or counts x 0 + 1) 0 ne, count_elsewhere xs i a h (λ e. ne (sym e ∙ sym (get_or_read xs i x h at 0)))) ]
+    elim (cases_eq a x) as (λ o. get_or (set counts x (get_or counts x 0 + 1)) a 0 + count (λ y. eqb y a) (drop (i + 1) xs) ≡ get_or start a 0 + count (λ y. eqb y a) xs) [
+      | inl e ↦ rw (e, get_or-set_same counts x (get_or counts x 0 + 1) 0 w) (counted_here counts start xs i x inv h at w)
+      | inr ne ↦
+          let within : a < length counts = omega (arith, length-set counts x (get_or counts x 0 + 1)) in
+          omega (arith, inv a within, get_or-set_other counts x a (get_or counts x 0 + 1) 0 ne, count_elsewhere xs i a h (λ e. ne (sym e ∙ sym (get_or_read xs i x h at 0))))
+    ]
 
 pub item_within : (xs : List ℕ) (i x n : ℕ) → i < length xs → x ≡ get_or xs i x → ((a : ℕ) → IsTrue (has xs a) → a < n) → x < n
-item_within xs i x n h at w = 
+item_within xs i x n h at w =
     let is : x ≡ get_or xs i 0 = get_or_read xs i x h at 0 in
     rw is (w (get_or xs i 0) (has_item xs i h))
 
@@ -68,12 +69,13 @@ pub listed_once : (xs : List ℕ) (a : ℕ) → IsTrue (is_distinct xs) → coun
 listed_once [] a h = omega arith
 listed_once (x ∷ xs) a h =
     let parts : (not (has xs x) ≡ true) × (is_distinct xs ≡ true) = and_parts (not (has xs x)) (is_distinct xs) h in
-    elim (cases_Bool (eqb x a)) as (λ o. count (λ y. eqb y a) (x ∷ xs) ≤ 1)
-    [ inl is_a ↦
-      let same : x ≡ a = eqb-true x a is_a in
-      let rest : count (λ y. eqb y a) xs ≡ 0 = no_more xs a (rw same at (not-true (has xs x) parts.0)) in
-      rw (is_a, rest) (omega arith)
-    | inr other ↦ rw other (omega (arith, listed_once xs a parts.1)) ]
+    elim (cases_Bool (eqb x a)) as (λ o. count (λ y. eqb y a) (x ∷ xs) ≤ 1) [
+      | inl is_a ↦
+          let same : x ≡ a = eqb-true x a is_a in
+          let rest : count (λ y. eqb y a) xs ≡ 0 = no_more xs a (rw same at (not-true (has xs x) parts.0)) in
+          rw (is_a, rest) (omega arith)
+      | inr other ↦ rw other (omega (arith, listed_once xs a parts.1))
+    ]
 
 pub times_listed_few : (rs : List (List ℕ)) (a : ℕ) → AreDistinct rs → times_listed rs a ≤ length rs
 times_listed_few [] a h = omega arith
@@ -127,16 +129,17 @@ pub added_more : (rows start : Filling) (p : ℕ) (xs : List ℕ) (i x : ℕ) �
 added_more rows start p xs i x inv h at w a v =
     let is : x ≡ get_or xs i 0 = get_or_read xs i x h at 0 in
     let within : a < length rows.lists = omega (arith, length-set rows.lists x (row_of rows x ++ record { program = p; rank = i } ∷ [])) in
-    elim (cases_eq a x) as (λ o. row_of (with_entry rows x (record { program = p; rank = i })) a ++ entries_in p (i + 1) (drop (i + 1) xs) a ≡ row_of start a ++ entries_in p 0 xs a)
-    [ inl e ↦
-      let here : entries_in p i (drop i xs) a ≡ record { program = p; rank = i } ∷ entries_in p (i + 1) (drop (i + 1) xs) a = entries_here p xs i a h (sym is ∙ sym e) in
-      let row : row_of (with_entry rows x (record { program = p; rank = i })) a ≡ row_of rows a ++ record { program = p; rank = i } ∷ [] =
+    elim (cases_eq a x) as (λ o. row_of (with_entry rows x (record { program = p; rank = i })) a ++ entries_in p (i + 1) (drop (i + 1) xs) a ≡ row_of start a ++ entries_in p 0 xs a) [
+      | inl e ↦
+          let here : entries_in p i (drop i xs) a ≡ record { program = p; rank = i } ∷ entries_in p (i + 1) (drop (i + 1) xs) a = entries_here p xs i a h (sym is ∙ sym e) in
+          let row : row_of (with_entry rows x (record { program = p; rank = i })) a ≡ row_of rows a ++ record { program = p; rank = i } ∷ [] =
           rw e (get_or-set_same rows.lists x (row_of rows x ++ record { program = p; rank = i } ∷ []) [] w) in
-      rw row (append_assoc (row_of rows a) (record { program = p; rank = i } ∷ []) (entries_in p (i + 1) (drop (i + 1) xs) a) ∙ ap (λ es. row_of rows a ++ es) (sym here) ∙ inv a within)
-    | inr ne ↦
-      let elsewhere : entries_in p i (drop i xs) a ≡ entries_in p (i + 1) (drop (i + 1) xs) a = entries_elsewhere p xs i a h (λ e. ne (sym e ∙ sym is)) in
-      let row : row_of (with_entry rows x (record { program = p; rank = i })) a ≡ row_of rows a = get_or-set_other rows.lists x a (row_of rows x ++ record { program = p; rank = i } ∷ []) [] ne in
-      rw row (ap (λ es. row_of rows a ++ es) (sym elsewhere) ∙ inv a within) ]
+          rw row (append_assoc (row_of rows a) (record { program = p; rank = i } ∷ []) (entries_in p (i + 1) (drop (i + 1) xs) a) ∙ ap (λ es. row_of rows a ++ es) (sym here) ∙ inv a within)
+      | inr ne ↦
+          let elsewhere : entries_in p i (drop i xs) a ≡ entries_in p (i + 1) (drop (i + 1) xs) a = entries_elsewhere p xs i a h (λ e. ne (sym e ∙ sym is)) in
+          let row : row_of (with_entry rows x (record { program = p; rank = i })) a ≡ row_of rows a = get_or-set_other rows.lists x a (row_of rows x ++ record { program = p; rank = i } ∷ []) [] ne in
+          rw row (ap (λ es. row_of rows a ++ es) (sym elsewhere) ∙ inv a within)
+    ]
 
 pub added_all : (rows start : Filling) (p : ℕ) (xs : List ℕ) (i a : ℕ) → AreAdded rows start p xs i → length xs ≤ i → a < length rows.lists
     → row_of rows a ≡ row_of start a ++ entries_in p 0 xs a
@@ -156,8 +159,16 @@ pub entered_room : (rows : Filling) (rs : List (List ℕ)) (p a n : ℕ) → Are
 entered_room rows rs p a n inv s h l w =
     let size : get_or rows.sizes a 0 ≡ times_listed rs a = rw s (get_or-map-range_with_len (times_listed rs) 0 n a a 0 (omega arith) (omega arith)) in
     let all : length (row_of rows a ++ entries_from p (drop p rs) a) ≡ length (entries_from 0 rs a) = ap length (inv a w) in
-    omega (arith, size, all, ap length (entries_front rs p a h), length-append (row_of rows a) (entries_from p (drop p rs) a),
-    length-append (entries_in p 0 (get_or rs p []) a) (entries_from (p + 1) (drop (p + 1) rs) a), length-entries_in p 0 (get_or rs p []) a, length-entries_from 0 rs a)
+    omega (
+      arith,
+      size,
+      all,
+      ap length (entries_front rs p a h),
+      length-append (row_of rows a) (entries_from p (drop p rs) a),
+      length-append (entries_in p 0 (get_or rs p []) a) (entries_from (p + 1) (drop (p + 1) rs) a),
+      length-entries_in p 0 (get_or rs p []) a,
+      length-entries_from 0 rs a,
+    )
 
 pub entered_more : (rows new : Filling) (rs : List (List ℕ)) (p : ℕ) → AreEntered rows rs p → p < length rs → length new.lists ≡ length rows.lists
     → ((a : ℕ) → a < length rows.lists → row_of new a ≡ row_of rows a ++ entries_in p 0 (get_or rs p []) a) → AreEntered new rs (p + 1)

@@ -1,14 +1,13 @@
 -- What is looked up for each applicant is its live list.
-use Rattle.std.proofs.Common.{◌≡◌, ◌==◌, ℕ, zero, suc, ◌+◌, ◌<◌, ◌≤◌, List, [], ◌∷◌, Bool, true, false, Option, Some, None, cond, eqb, map, filter, length, get_or, unwrap_or, refl, sym, ap, ◌∙◌, inl, inr, arith}
+use Rattle.std.proofs.Common.{◌≡◌, ◌==◌, ℕ, List, [], ◌∷◌, true, false, Option, Some, None, map, filter, length, get_or, unwrap_or, refl, sym, ap, ◌∙◌, inl, inr, arith}
 use Rattle.std.specs.Option.{is_some}
-use Rattle.std.specs.List.{position, cons_option}
+use Rattle.std.specs.List.{position}
 use Rattle.std.proofs.lemmas.Bool.{cases_lt}
 use Rattle.std.proofs.lemmas.List.{get_or-map, get_or_past, length-map}
-use Rattle.std.proofs.lemmas.List.FromFn.{get_or-map-range_with_len}
-use Rattle.mt_model.specs.Lists.{has, below}
-use Rattle.mt_model.specs.Market.{Market, Program, applicants, program_of, list_of, live, live_market}
+use Rattle.mt_model.specs.Lists.{has}
+use Rattle.mt_model.specs.Market.{Market, Program, program_of, list_of, live}
 use Rattle.mt_roster.specs.Tables.{programs_with}
-use Rattle.mt_ranks.specs.Entries.{entries_from, rank_among, entry_among, entries_among}
+use Rattle.mt_ranks.specs.Entries.{entries_from, rank_among, entries_among}
 use Rattle.mt_ranks.specs.Ranked.{ranked_entry, rank_of}
 use Rattle.mt_ranks.specs.View.{programs_in}
 use Rattle.mt_ranks.specs.declared.entries.Live.{Live}
@@ -20,11 +19,12 @@ programs_with-fields (p ∷ ps) = ap (λ rest. p ∷ rest) (programs_with-fields
 
 pub ranking_at : (m : Market) (p : ℕ) → get_or (map Program.ranking m.programs) p [] ≡ (program_of m p).ranking
 ranking_at m p =
-    elim (cases_lt p (length m.programs)) as (λ o. get_or (map Program.ranking m.programs) p [] ≡ (program_of m p).ranking)
-    [ inl within ↦ get_or-map Program.ranking m.programs p (record { quota = 0; ranking = [] }) [] within
-    | inr past ↦
-      let none : program_of m p ≡ record { quota = 0; ranking = [] } = get_or_past m.programs p (record { quota = 0; ranking = [] }) past in
-      get_or_past (map Program.ranking m.programs) p [] (omega (arith, length-map m.programs Program.ranking)) ∙ ap (λ (q : Program). q.ranking) (sym none) ]
+    elim (cases_lt p (length m.programs)) as (λ o. get_or (map Program.ranking m.programs) p [] ≡ (program_of m p).ranking) [
+      | inl within ↦ get_or-map Program.ranking m.programs p (record { quota = 0; ranking = [] }) [] within
+      | inr past ↦
+          let none : program_of m p ≡ record { quota = 0; ranking = [] } = get_or_past m.programs p (record { quota = 0; ranking = [] }) past in
+          get_or_past (map Program.ranking m.programs) p [] (omega (arith, length-map m.programs Program.ranking)) ∙ ap (λ (q : Program). q.ranking) (sym none)
+    ]
 
 -- an applicant's entries, by the market's own lists
 abbrev pub own_entries : Market → ℕ → List Live

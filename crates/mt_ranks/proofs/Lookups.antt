@@ -53,10 +53,11 @@ pub absent_by_search : (xs : List Live) (p i : ℕ) → AscendFrom 0 xs
     → None ≡ rank_among xs p
 absent_by_search xs p i h split =
     let parts : IsPartitionPoint (λ (y : Live). nat_cmp y.program p ≡ Less) (λ (y : Live). nat_cmp y.program p ≡ Greater) xs i =
-        split (λ j k d le w. cmp_rises (get_or xs j d).program (get_or xs k d).program p (programs_rise 0 xs j k d h le w)) in
-    absent xs p (λ k d w e. elim (cases_lt k i) as (λ o. ⊥)
-      [ inl below ↦ absurd (omega (arith, less_means _ p (parts.0 k d (omega arith) below)))
-      | inr above ↦ absurd (omega (arith, greater_means _ p (parts.1 k d above w))) ])
+    split (λ j k d le w. cmp_rises (get_or xs j d).program (get_or xs k d).program p (programs_rise 0 xs j k d h le w)) in
+    absent xs p (λ k d w e. elim (cases_lt k i) as (λ o. ⊥) [
+      | inl below ↦ absurd (omega (arith, less_means _ p (parts.0 k d (omega arith) below)))
+      | inr above ↦ absurd (omega (arith, greater_means _ p (parts.1 k d above w)))
+    ])
 
 -- Below, a list's entries are looked up one after another.
 pub with_last-append : {X : Type 0} (lists : List (List X)) (xs : List X) (x : X) → with_last (lists ++ xs ∷ []) x ≡ lists ++ (xs ++ x ∷ []) ∷ []

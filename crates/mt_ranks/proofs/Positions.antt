@@ -1,8 +1,8 @@
 -- What an applicant's entries say of its positions on the programs' lists.
-use Rattle.std.proofs.Common.{◌≡◌, ◌==◌, ℕ, zero, suc, ◌+◌, ◌<◌, ◌≤◌, List, [], ◌∷◌, ◌++◌, Bool, true, false, Option, Some, None, IfSome, cond, eqb, IsTrue, not, ◌&&◌, ◌||◌, map, length, get_or, refl, sym, ap, ◌∙◌, inl, inr, arith}
+use Rattle.std.proofs.Common.{◌≡◌, ◌==◌, ℕ, zero, suc, ◌+◌, ◌<◌, ◌≤◌, List, [], ◌∷◌, ◌++◌, true, false, Option, Some, None, IfSome, eqb, IsTrue, not, get_or, refl, sym, ap, ◌∙◌, inl, inr, arith}
 use Rattle.std.specs.Option.{is_some}
 use Rattle.std.specs.List.{position, position_from}
-use Rattle.std.proofs.lemmas.Bool.{cases_Bool, eqb-true, eq-eqb, ne_eqb, cases_eq, and_parts, or_parts, not-true}
+use Rattle.std.proofs.lemmas.Bool.{cases_Bool, eqb-true, eq-eqb, ne_eqb, and_parts, or_parts, not-true}
 use Rattle.std.proofs.lemmas.Iterator.Adapters.{position_from-zero}
 use Rattle.std.proofs.lemmas.List.Quantifiers.{position-Some}
 use Rattle.mt_model.specs.Lists.{has, is_distinct}
@@ -19,16 +19,18 @@ or_else (Some x) o = Some x
 rank_here : (p i : ℕ) (xs : List ℕ) (a : ℕ) (rest : List Live) → rank_among (entries_in p i xs a ++ rest) p ≡ or_else (position_from (λ x. eqb x a) i xs) (rank_among rest p)
 rank_here p i [] a rest = refl
 rank_here p i (x ∷ xs) a rest =
-    elim (cases_Bool (eqb x a)) as (λ o. rank_among (entries_in p i (x ∷ xs) a ++ rest) p ≡ or_else (position_from (λ y. eqb y a) i (x ∷ xs)) (rank_among rest p))
-    [ inl is_a ↦ rw is_a (rw (eq-eqb p p refl) refl)
-    | inr other ↦ rw other (rank_here p (i + 1) xs a rest) ]
+    elim (cases_Bool (eqb x a)) as (λ o. rank_among (entries_in p i (x ∷ xs) a ++ rest) p ≡ or_else (position_from (λ y. eqb y a) i (x ∷ xs)) (rank_among rest p)) [
+      | inl is_a ↦ rw is_a (rw (eq-eqb p p refl) refl)
+      | inr other ↦ rw other (rank_here p (i + 1) xs a rest)
+    ]
 
 rank_elsewhere : (p q i : ℕ) (xs : List ℕ) (a : ℕ) (rest : List Live) → (q ≡ p → ⊥) → rank_among (entries_in q i xs a ++ rest) p ≡ rank_among rest p
 rank_elsewhere p q i [] a rest ne = refl
 rank_elsewhere p q i (x ∷ xs) a rest ne =
-    elim (cases_Bool (eqb x a)) as (λ o. rank_among (entries_in q i (x ∷ xs) a ++ rest) p ≡ rank_among rest p)
-    [ inl is_a ↦ rw is_a (rw (ne_eqb q p ne) (rank_elsewhere p q (i + 1) xs a rest ne))
-    | inr other ↦ rw other (rank_elsewhere p q (i + 1) xs a rest ne) ]
+    elim (cases_Bool (eqb x a)) as (λ o. rank_among (entries_in q i (x ∷ xs) a ++ rest) p ≡ rank_among rest p) [
+      | inl is_a ↦ rw is_a (rw (ne_eqb q p ne) (rank_elsewhere p q (i + 1) xs a rest ne))
+      | inr other ↦ rw other (rank_elsewhere p q (i + 1) xs a rest ne)
+    ]
 
 rank_before : (p q : ℕ) (rs : List (List ℕ)) (a : ℕ) → p < q → rank_among (entries_from q rs a) p ≡ None
 rank_before p q [] a h = refl
@@ -65,11 +67,12 @@ ascend_here : (p i : ℕ) (xs : List ℕ) (a : ℕ) (rest : List Live) → IsTru
 ascend_here p i [] a rest d up = AscendFrom-weaker p (p + 1) rest (omega arith) up
 ascend_here p i (x ∷ xs) a rest d up =
     let parts : (not (has xs x) ≡ true) × (is_distinct xs ≡ true) = and_parts (not (has xs x)) (is_distinct xs) d in
-    elim (cases_Bool (eqb x a)) as (λ o. AscendFrom p (entries_in p i (x ∷ xs) a ++ rest))
-    [ inl is_a ↦
-      let none : entries_in p (i + 1) xs a ≡ [] = no_entries p (i + 1) xs a (rw (eqb-true x a is_a) at (not-true (has xs x) parts.0)) in
-      rw (is_a, none) (omega arith, up)
-    | inr other ↦ rw other (ascend_here p (i + 1) xs a rest parts.1 up) ]
+    elim (cases_Bool (eqb x a)) as (λ o. AscendFrom p (entries_in p i (x ∷ xs) a ++ rest)) [
+      | inl is_a ↦
+          let none : entries_in p (i + 1) xs a ≡ [] = no_entries p (i + 1) xs a (rw (eqb-true x a is_a) at (not-true (has xs x) parts.0)) in
+          rw (is_a, none) (omega arith, up)
+      | inr other ↦ rw other (ascend_here p (i + 1) xs a rest parts.1 up)
+    ]
 
 ascend_from : (p : ℕ) (rs : List (List ℕ)) (a : ℕ) → AreDistinct rs → AscendFrom p (entries_from p rs a)
 ascend_from p [] a d = tt
@@ -82,9 +85,10 @@ entries_ascend rs a d = ascend_from 0 rs a d
 has-position_from : (i : ℕ) (xs : List ℕ) (a : ℕ) → has xs a ≡ is_some (position_from (λ x. eqb x a) i xs)
 has-position_from i [] a = refl
 has-position_from i (x ∷ xs) a =
-    elim (cases_Bool (eqb x a)) as (λ o. has (x ∷ xs) a ≡ is_some (position_from (λ y. eqb y a) i (x ∷ xs)))
-    [ inl is_a ↦ rw is_a refl
-    | inr other ↦ rw other (has-position_from (i + 1) xs a) ]
+    elim (cases_Bool (eqb x a)) as (λ o. has (x ∷ xs) a ≡ is_some (position_from (λ y. eqb y a) i (x ∷ xs))) [
+      | inl is_a ↦ rw is_a refl
+      | inr other ↦ rw other (has-position_from (i + 1) xs a)
+    ]
 
 -- a list has a number exactly where the number has a position on it
 pub has-position : (xs : List ℕ) (a : ℕ) → has xs a ≡ is_some (position (λ x. x == a) xs)

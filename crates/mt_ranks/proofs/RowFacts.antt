@@ -188,6 +188,6 @@ pushed_seen ss es xs f k e x h v i r at =
     let n = row_exists ss es xs f k h v i in
     let is : e ≡ get_or es k 0 = get_or_read es k e n.1 at 0 in
     let lists : parts ss (set es k (get_or es k 0 + 1)) (set xs (get_or es k 0) x) ≡ set (parts ss es xs) k (get_or (parts ss es xs) k [] ++ x ∷ []) =
-        parts-push ss es xs k x h n.0 (has_room ss es xs f k h v i r) in
+    parts-push ss es xs k x h n.0 (has_room ss es xs f k h v i r) in
     let size : length (set xs (get_or es k 0) x) ≡ length xs = length-set xs (get_or es k 0) x in
     rw (← v, is, lists, size) refl

@@ -27,9 +27,10 @@ total_past x (suc n) h = rw (ne_eqb x n (omega arith)) (omega (arith, total_past
 total_one : (x n : ℕ) → x < n → total_below (λ a. cond (eqb x a) 1 0) n ≡ 1
 total_one x zero h = absurd (omega arith)
 total_one x (suc n) h =
-    elim (cases_eq x n) as (λ o. total_below (λ a. cond (eqb x a) 1 0) (suc n) ≡ 1)
-    [ inl e ↦ rw (eq-eqb x n e) (omega (arith, total_past x n (omega arith)))
-    | inr ne ↦ rw (ne_eqb x n ne) (omega (arith, total_one x n (omega arith))) ]
+    elim (cases_eq x n) as (λ o. total_below (λ a. cond (eqb x a) 1 0) (suc n) ≡ 1) [
+      | inl e ↦ rw (eq-eqb x n e) (omega (arith, total_past x n (omega arith)))
+      | inr ne ↦ rw (ne_eqb x n ne) (omega (arith, total_one x n (omega arith)))
+    ]
 
 total_counts : (xs : List ℕ) (n : ℕ) → ((a : ℕ) → IsTrue (has xs a) → a < n) → total_below (λ a. count (λ x. eqb x a) xs) n ≡ length xs
 total_counts [] n h = total_none n
@@ -47,7 +48,7 @@ pub sum_listed : (rs : List (List ℕ)) (n : ℕ) → AreDistinct rs → length 
 sum_listed rs n apart h =
     let len : length (map (times_listed rs) (below n)) ≡ n = length-map-range_with_len (times_listed rs) 0 n in
     let each : All (λ x. x ≤ 20000) (map (times_listed rs) (below n)) =
-        λ k d i.
-          let at : get_or (map (times_listed rs) (below n)) k d ≡ times_listed rs k = get_or-map-range_with_len (times_listed rs) 0 n k k d (omega arith) (omega arith) in
-          omega (arith, times_listed_few rs k apart) in
+    λ k d i.
+    let at : get_or (map (times_listed rs) (below n)) k d ≡ times_listed rs k = get_or-map-range_with_len (times_listed rs) 0 n k k d (omega arith) (omega arith) in
+    omega (arith, times_listed_few rs k apart) in
     rw len at (sum_by-le (λ x. x) 20000 (map (times_listed rs) (below n)) each)

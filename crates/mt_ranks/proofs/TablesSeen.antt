@@ -1,10 +1,10 @@
 -- What the tables say of the market that they are seen as.
-use Rattle.std.proofs.Common.{◌≡◌, ◌==◌, ℕ, zero, suc, ◌+◌, ◌<◌, ◌≤◌, List, [], ◌∷◌, Option, false, map, length, get_or, refl, sym, ap, subst, ◌∙◌, inl, inr, arith}
+use Rattle.std.proofs.Common.{◌≡◌, ◌==◌, ℕ, zero, suc, ◌<◌, ◌≤◌, List, [], ◌∷◌, map, length, get_or, refl, sym, ap, subst, ◌∙◌, inl, inr, arith}
 use Rattle.std.specs.List.{All, position}
 use Rattle.std.proofs.lemmas.Bool.{cases_lt}
 use Rattle.std.proofs.lemmas.List.{get_or-map, get_or_past, length-map}
 use Rattle.std.proofs.lemmas.List.FromFn.{get_or-map-range_with_len, length-map-range_with_len, fill_by_all}
-use Rattle.mt_model.specs.Lists.{has, below}
+use Rattle.mt_model.specs.Lists.{below}
 use Rattle.mt_model.specs.Market.{Market, Program, applicants, program_of, list_of, live, live_market}
 use Rattle.mt_model.specs.WellFormed.{IsWellFormed}
 use Rattle.mt_roster.specs.Tables.{programs_with}
@@ -12,7 +12,6 @@ use Rattle.mt_ranks.specs.Entries.{entries_from, entries_among, rank_among, Asce
 use Rattle.mt_ranks.specs.Ranked.{Ranked, IsRanked, IsEntry, ranked_of, ranked_entry, is_single}
 use Rattle.mt_ranks.specs.Rows.{Filling, row_of}
 use Rattle.mt_ranks.specs.View.{programs_in, ranked_in, AreTables}
-use Rattle.mt_ranks.specs.declared.entries.Live.{Live}
 use Rattle.mt_ranks.specs.declared.tables.Ranks.TheInside.{Inside}
 use Rattle.mt_ranks.proofs.ListedFacts.{has_item}
 use Rattle.mt_ranks.proofs.LiveLists.{programs_with-fields, ranking_at, own_entries, entries_among-list, programs_in-ranked}
@@ -87,9 +86,10 @@ rankings_apart m rs w h p =
 
 pub rows_ascend : (rs : List (List ℕ)) (rows : Filling) (n a : ℕ) → AreDistinct rs → rows.lists ≡ map (entries_from 0 rs) (below n) → AscendFrom 0 (row_of rows a)
 rows_ascend rs rows n a d h =
-    elim (cases_lt a n) as (λ o. AscendFrom 0 (row_of rows a))
-    [ inl within ↦ rw (h, get_or-map-range_with_len (entries_from 0 rs) 0 n a a [] within (omega arith)) (entries_ascend rs a d)
-    | inr past ↦ rw (h, get_or_past (map (entries_from 0 rs) (below n)) a [] (omega (arith, length-map-range_with_len (entries_from 0 rs) 0 n))) tt ]
+    elim (cases_lt a n) as (λ o. AscendFrom 0 (row_of rows a)) [
+      | inl within ↦ rw (h, get_or-map-range_with_len (entries_from 0 rs) 0 n a a [] within (omega arith)) (entries_ascend rs a d)
+      | inr past ↦ rw (h, get_or_past (map (entries_from 0 rs) (below n)) a [] (omega (arith, length-map-range_with_len (entries_from 0 rs) 0 n))) tt
+    ]
 
 -- Below, the tables are made of a market's.
 pub record AreMade (m : Market) (t : Inside) : Type 0 where
@@ -105,7 +105,7 @@ made_count m t h = ap length h.lists ∙ length-map-range_with_len (λ a. entrie
 made_list : (m : Market) (t : Inside) (a : ℕ) → AreMade m t → a < applicants m → get_or t.lists a [] ≡ map (ranked_entry m a) (live m a)
 made_list m t a h w =
     let row : row_of t.rows a ≡ own_entries m a =
-        ap (λ rows. get_or rows a []) h.rows ∙ get_or-map-range_with_len (entries_from 0 t.rankings) 0 (applicants m) a a [] w (omega arith) ∙ ap (λ rs. entries_from 0 rs a) h.rankings in
+    ap (λ rows. get_or rows a []) h.rows ∙ get_or-map-range_with_len (entries_from 0 t.rankings) 0 (applicants m) a a [] w (omega arith) ∙ ap (λ rs. entries_from 0 rs a) h.rankings in
     ap (λ ls. get_or ls a []) h.lists
     ∙ get_or-map-range_with_len (λ b. entries_among (row_of t.rows b) (list_of m b)) 0 (applicants m) a a [] w (omega arith)
     ∙ ap (λ es. entries_among es (list_of m a)) row ∙ entries_among-list m a
@@ -114,18 +114,19 @@ pub made_seen : (m : Market) (t : Inside) → AreMade m t → ranked_in t ≡ ra
 made_seen m t h =
     let programs : programs_with t.quotas.items t.rankings ≡ m.programs = rw (h.quotas, h.rankings) (programs_with-fields m.programs) in
     let lists : map programs_in t.lists ≡ map (live m) (below (applicants m)) =
-        fill_by_all (live m) (map programs_in t.lists) (applicants m) [] (length-map t.lists programs_in ∙ made_count m t h)
-        (λ a w. get_or-map programs_in t.lists a [] [] (omega (arith, made_count m t h)) ∙ ap programs_in (made_list m t a h w) ∙ programs_in-ranked m a (live m a)) in
+    fill_by_all (live m) (map programs_in t.lists) (applicants m) [] (length-map t.lists programs_in ∙ made_count m t h)
+    (λ a w. get_or-map programs_in t.lists a [] [] (omega (arith, made_count m t h)) ∙ ap programs_in (made_list m t a h w) ∙ programs_in-ranked m a (live m a)) in
     let singles : t.singles.items ≡ map (is_single m) (below (applicants m)) = h.singles in
     cc
 
 made_ranks : (m : Market) (t : Inside) (a : ℕ) → AreMade m t → get_or t.lists a [] ≡ map (ranked_entry (live_market m) a) (list_of (live_market m) a)
 made_ranks m t a h =
-    elim (cases_lt a (applicants m)) as (λ o. get_or t.lists a [] ≡ map (ranked_entry (live_market m) a) (list_of (live_market m) a))
-    [ inl within ↦ made_list m t a h within ∙ ap (map (ranked_entry m a)) (sym (list_of-live_market m a))
-    | inr past ↦
-      let none : list_of (live_market m) a ≡ [] = get_or_past (map (live m) (below (applicants m))) a [] (omega (arith, length-map-range_with_len (live m) 0 (applicants m))) in
-      get_or_past t.lists a [] (omega (arith, made_count m t h)) ∙ ap (map (ranked_entry (live_market m) a)) (sym none) ]
+    elim (cases_lt a (applicants m)) as (λ o. get_or t.lists a [] ≡ map (ranked_entry (live_market m) a) (list_of (live_market m) a)) [
+      | inl within ↦ made_list m t a h within ∙ ap (map (ranked_entry m a)) (sym (list_of-live_market m a))
+      | inr past ↦
+          let none : list_of (live_market m) a ≡ [] = get_or_past (map (live m) (below (applicants m))) a [] (omega (arith, length-map-range_with_len (live m) 0 (applicants m))) in
+          get_or_past t.lists a [] (omega (arith, made_count m t h)) ∙ ap (map (ranked_entry (live_market m) a)) (sym none)
+    ]
 
 pub made_tables : (m : Market) (t : Inside) → AreMade m t → IsWellFormed m → applicants m ≤ 100000 → length m.programs ≤ 20000 → AreTables t
 made_tables m t h w some_applicants some_programs =
@@ -136,4 +137,5 @@ made_tables m t h w some_applicants some_programs =
       rankings = ap length h.rankings ∙ length-map m.programs Program.ranking ∙ sym (length-map m.programs Program.quota) ∙ sym (ap length h.quotas);
       rows = rw n at h.rows;
       live_ranks = subst RanksIn (sym seen) (λ a. made_ranks m t a h);
-      ranked = subst IsRanked (sym seen) (live_market_ranked m w some_applicants some_programs) }
+      ranked = subst IsRanked (sym seen) (live_market_ranked m w some_applicants some_programs);
+    }

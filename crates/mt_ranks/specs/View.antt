@@ -1,11 +1,10 @@
 -- What rank tables mean.
 use Rattle.std.specs.Prelude.{◌≡◌, ℕ, [], List, map, length, slice_index_or}
 use Rattle.mt_model.specs.Lists.{below}
-use Rattle.mt_model.specs.Market.{Market, applicants, list_of}
+use Rattle.mt_model.specs.Market.{list_of}
 use Rattle.mt_roster.specs.Tables.{programs_with}
 use Rattle.mt_ranks.specs.Entries.{entries_from}
 use Rattle.mt_ranks.specs.Ranked.{Ranked, IsRanked, ranked_entry}
-use Rattle.mt_ranks.specs.Rows.{row_of}
 use Rattle.mt_ranks.specs.declared.entries.Live.{Live}
 use Rattle.mt_ranks.specs.declared.tables.Ranks.TheInside.{Inside}
 
@@ -16,7 +15,8 @@ programs_in entries = map (λ (x : Live). x.program) entries
 abbrev pub ranked_in : Inside → Ranked
 ranked_in t = record {
   market = record { programs = programs_with t.quotas.items t.rankings; lists = map programs_in t.lists; couples = [] };
-  singles = t.singles.items }
+  singles = t.singles.items;
+}
 
 -- The tables fit: a row for each applicant has its place on every program's list, and live lists have ranks.
 pub record AreTables (t : Inside) : Type 0 where

@@ -1,9 +1,8 @@
 ghost use Rattle.std.specs.Prelude.{◌≡◌, ◌++◌, ◌∷◌, [], OnOk};
 ghost use Rattle.mt_ranks.specs.Entries.{AscendFrom, rank_among, entries_among};
 
-use std::alloc::AllocError;
-
 use mt_model::{FlatLists, ProgNo};
+use std::alloc::AllocError;
 
 /// An entry of a live list: a program that lists the applicant, and the applicant's rank there, its position
 /// from 0 on the program's list.

@@ -1,12 +1,10 @@
 ghost use Rattle.std.specs.Prelude.{◌≡◌, ◌+◌, ◌<◌, ◌≤◌, ◌^◌, length, sum, slice_index, slice_index_or, [], IfOk};
 ghost use Rattle.mt_ranks.specs.Rows.{parts, ArePartsOf, empty_rows, row_of, HasRoom, with_entry, starts_from};
 
+use crate::entries::Live;
+use mt_model::ProgNo;
 use std::alloc::{AllocError, Global};
 use std::marker::Model;
-
-use mt_model::ProgNo;
-
-use crate::entries::Live;
 
 /// Lists of entries that grow side by side, one after another in one vector, each within the room that it
 /// was given.

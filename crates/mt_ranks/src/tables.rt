@@ -6,15 +6,13 @@ ghost use Rattle.mt_ranks.specs.Entries.{AscendFrom, entries_among};
 ghost use Rattle.mt_ranks.specs.Ranked.{IsRank, IsEntry, IsRanked, ranked_of, ranked_entry, is_single, is_single_agent};
 ghost use Rattle.mt_ranks.specs.Rows.{row_of};
 
-use std::alloc::{AllocError, Global};
-use std::marker::Model;
-
-use mt_model::{Agent, AppNo, FlatLists, ProgNo};
-use mt_roster::Roster;
-
 use crate::entries::{Live, push_live, rank_at};
 use crate::rows::Rows;
 use crate::transpose::transpose;
+use mt_model::{Agent, AppNo, FlatLists, ProgNo};
+use mt_roster::Roster;
+use std::alloc::{AllocError, Global};
+use std::marker::Model;
 
 /// The rank tables of a market: live lists with ranks, the programs' lists, and every rank on them. They show
 /// the singles' market with live lists alone, and who is a single.
@@ -83,11 +81,7 @@ fn singles(alloc: Global, roster: &Roster) -> Result<Vec<bool>, AllocError>
 }
 
 /// The live lists of singles, and an empty one for each member.
-fn live_lists(
-    alloc: Global,
-    roster: &Roster,
-    rows: &Rows,
-) -> Result<FlatLists<Live>, AllocError>
+fn live_lists(alloc: Global, roster: &Roster, rows: &Rows) -> Result<FlatLists<Live>, AllocError>
     requires rows { length rows.now.lists ≡ applicants roster.now.market }
     requires ascend { (a : ℕ) → AscendFrom 0 (row_of rows.now a) }
     ensures { IfOk result (λ lists. lists ≡ map (λ a. entries_among (row_of rows.now a) (list_of roster.now.market a)) (below (applicants roster.now.market))) }
@@ -151,7 +145,10 @@ impl Ranks {
     pub fn is_single(&self, applicant: AppNo) -> bool
         ensures { result ≡ slice_index_or self.now.singles applicant false }
     {
-        self.singles.get(applicant.index()).copied().unwrap_or(false)
+        self.singles
+            .get(applicant.index())
+            .copied()
+            .unwrap_or(false)
     }
 
     /// The applicant's live list: the programs on its list that list it too, the most wanted first, with its

@@ -3,12 +3,10 @@ ghost use Rattle.mt_model.specs.Lists.{has, below, count};
 ghost use Rattle.mt_ranks.specs.Entries.{entries_in, entries_from, times_listed, AreWithin, AreDistinct};
 ghost use Rattle.mt_ranks.specs.Rows.{row_of, HasRoom};
 
-use std::alloc::{AllocError, Global};
-
-use mt_model::{AppNo, FlatLists, ProgNo};
-
 use crate::entries::Live;
 use crate::rows::Rows;
+use mt_model::{AppNo, FlatLists, ProgNo};
+use std::alloc::{AllocError, Global};
 
 /// Counts each applicant that a program lists.
 fn count_listed(counts: &mut [usize], ranking: &[AppNo])

@@ -9,6 +9,6 @@ pub loop-applicant-preserved : goal.loop-applicant-preserved
 loop-applicant-preserved c =
     let pushed : c.push_live.new.lists ≡ c.loop-applicant.lists ++ entries_among c.row.result.now c.single_list.result.now ∷ [] = c.in_ok-push_live.ensures in
     let step : c.push_live.new.lists ≡ c.loop-applicant.lists ++ entries_among (row_of c.args.rows.now c.loop-applicant.applicant) (list_of c.args.roster.now.market c.loop-applicant.applicant) ∷ [] =
-        rw (c.row.ensures, c.single_list.ensures) at pushed in
+    rw (c.row.ensures, c.single_list.ensures) at pushed in
     step ∙ ap (λ ls. ls ++ entries_among (row_of c.args.rows.now c.loop-applicant.applicant) (list_of c.args.roster.now.market c.loop-applicant.applicant) ∷ []) c.loop-applicant.invariant
     ∙ sym (map-range_with_len_more (λ a. entries_among (row_of c.args.rows.now a) (list_of c.args.roster.now.market a)) 0 c.loop-applicant.applicant c.loop-applicant.applicant (omega arith))

@@ -20,12 +20,13 @@ push-requires-clause-room c =
 pub loop-rank-preserved : goal.loop-rank-preserved
 loop-rank-preserved c =
     let w : c.index-ranking-rank.result < length c.loop-rank.rows.lists =
-        omega (arith, c.loop-rank.invariant.len, item_within c.args.ranking.now c.loop-rank.rank c.index-ranking-rank.result _ c.loop-rank-test.true c.index-ranking-rank.is c.requires.within) in
+    omega (arith, c.loop-rank.invariant.len, item_within c.args.ranking.now c.loop-rank.rank c.index-ranking-rank.result _ c.loop-rank-test.true c.index-ranking-rank.is c.requires.within) in
     record {
       len = omega (arith, ap (λ (f : Filling). length f.lists) c.push.ensures, length-set c.loop-rank.rows.lists c.index.result (row_of c.loop-rank.rows c.index.result ++ record { program = c.args.program; rank = c.loop-rank.rank } ∷ []));
       sizes = ap (λ (f : Filling). f.sizes) c.push.ensures ∙ c.loop-rank.invariant.sizes;
       added = rw (c.push.ensures, c.index.ensures)
-        (added_more c.loop-rank.rows c.args.rows.now c.args.program c.args.ranking.now c.loop-rank.rank c.index-ranking-rank.result c.loop-rank.invariant.added c.loop-rank-test.true c.index-ranking-rank.is w) }
+          (added_more c.loop-rank.rows c.args.rows.now c.args.program c.args.ranking.now c.loop-rank.rank c.index-ranking-rank.result c.loop-rank.invariant.added c.loop-rank-test.true c.index-ranking-rank.is w);
+    }
 
 pub returns-clause-rows : goal.returns-clause-rows
 returns-clause-rows c a w =

@@ -21,7 +21,8 @@ loop-program-init c =
     record {
       len = ap (λ (f : Filling). length f.lists) fresh ∙ length-replicate {A = List Live} (length (map (times_listed c.args.rankings.now) (below c.args.applicants))) [] ∙ length-map-range_with_len (times_listed c.args.rankings.now) 0 c.args.applicants;
       sizes = ap (λ (f : Filling). f.sizes) fresh;
-      entered = entered_none c.in_ok-rows.rows c.args.rankings.now (map (times_listed c.args.rankings.now) (below c.args.applicants)) fresh }
+      entered = entered_none c.in_ok-rows.rows c.args.rankings.now (map (times_listed c.args.rankings.now) (below c.args.applicants)) fresh;
+    }
 
 pub add_ranking-requires-clause-room : goal.add_ranking-requires-clause-room
 add_ranking-requires-clause-room c a w =

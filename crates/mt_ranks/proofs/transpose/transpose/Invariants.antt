@@ -8,4 +8,5 @@ abbrev pub invariant-loop-program : goal.invariant-loop-program
 invariant-loop-program l = record {
   len : length l.rows.lists ≡ l.applicants;
   sizes : l.rows.sizes ≡ map (times_listed l.rankings) (below l.applicants);
-  entered : AreEntered l.rows l.rankings l.program }
+  entered : AreEntered l.rows l.rankings l.program;
+}

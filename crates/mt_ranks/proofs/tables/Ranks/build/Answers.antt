@@ -1,4 +1,4 @@
-use Rattle.std.proofs.Common.{◌≡◌, ◌∙◌, ap, rules, arith, length}
+use Rattle.std.proofs.Common.{◌∙◌, ap, length}
 use Rattle.std.proofs.lemmas.List.FromFn.{length-map-range_with_len}
 use Rattle.mt_ranks.specs.Entries.{entries_from}
 use Rattle.mt_ranks.proofs.TablesSeen.{AreMade, made_tables, made_seen, rankings_within, rankings_apart, rows_ascend}
@@ -26,7 +26,8 @@ made c = record {
   rankings = c.in_ok-rankings.ensures;
   rows = rw c.applicants.ensures.count at c.in_ok-rows.ensures;
   lists = c.in_ok-lists.ensures;
-  singles = c.in_ok-singles.ensures }
+  singles = c.in_ok-singles.ensures;
+}
 
 pub invariant_of-result : goal.invariant_of-result
 invariant_of-result c =
