@@ -43,3 +43,44 @@ pub(crate) fn push_live(
     }
     Ok(())
 }
+
+#[cfg(test)]
+mod tests {
+    use super::*;
+    use std::test::Fail;
+
+    fn entry(program: u32, rank: u32) -> Live
+        ensures { result ≡ record { program = program; rank = rank } }
+    {
+        Live {
+            program: ProgNo(program),
+            rank,
+        }
+    }
+
+    #[test]
+    fn a_rank_by_the_program(rt: HostRuntime) -> Result<(), Fail> {
+        let entries = [entry(1, 4), entry(3, 0), entry(7, 2)];
+        assert_eq!(rt; rank_at(&entries, ProgNo(1)), Some(4));
+        assert_eq!(rt; rank_at(&entries, ProgNo(3)), Some(0));
+        assert_eq!(rt; rank_at(&entries, ProgNo(7)), Some(2));
+        assert_eq!(rt; rank_at(&entries, ProgNo(0)), None);
+        assert_eq!(rt; rank_at(&entries, ProgNo(5)), None);
+        assert_eq!(rt; rank_at(&entries, ProgNo(8)), None);
+        Ok(())
+    }
+
+    #[test]
+    fn a_live_list_in_the_order_of_the_list(rt: HostRuntime) -> Result<(), Fail> {
+        let mut lists = FlatLists::new(rt.alloc());
+        let list = [ProgNo(7), ProgNo(2), ProgNo(1)];
+        push_live(
+            &mut lists,
+            &list,
+            &[entry(1, 4), entry(3, 0), entry(7, 2)],
+        )?;
+        assert_eq!(rt; lists.len(), 1);
+        assert_eq!(rt; lists.list(0), [entry(7, 2), entry(1, 4)].as_slice());
+        Ok(())
+    }
+}
