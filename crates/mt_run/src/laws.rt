@@ -5,5 +5,4 @@ ghost use Rattle.mt_run.specs.Laws.{OneAnswer};
 /// The answer depends on the bytes and the budget alone.
 pub fn one_answer()
     ensures { OneAnswer }
-{
-}
+{}
