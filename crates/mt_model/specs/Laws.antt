@@ -1,4 +1,5 @@
 pub mod Floors
+pub mod Live
 pub mod Registration
 pub mod Rounds
 pub mod Rural
