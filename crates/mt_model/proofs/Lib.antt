@@ -17,3 +17,4 @@ pub mod SinglesFacts
 pub mod TakenLemmas
 pub mod Totals
 pub mod WellFormedLemmas
+pub mod VerdictLemmas
