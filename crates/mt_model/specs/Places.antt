@@ -1,4 +1,4 @@
--- What the text of a match asks of it.
+-- What is asked of a match of a market, whoever made it.
 use Rattle.std.specs.Prelude.{◌≡◌, ℕ, ◌<◌, length, IsTrue}
 use Rattle.mt_model.specs.Market.{Market, applicants}
 use Rattle.mt_model.specs.Matching.{Places, at}

@@ -1,0 +1,2 @@
+pub mod MarketFacts
+pub mod PlacedFacts

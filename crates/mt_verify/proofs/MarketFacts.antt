@@ -1,0 +1,34 @@
+-- What a roster's market says of its lists and of a match.
+use Rattle.std.proofs.Common.{◌≡◌, ℕ, zero, suc, ◌+◌, ◌<◌, ◌≤◌, Bool, true, false, ◌&&◌, List, [], ◌∷◌, length, IsTrue, IsFalse, refl, ap, sym, ◌∙◌, arith, inl, inr, if◌then◌else◌}
+use Rattle.std.proofs.lemmas.Bool.{cases_Bool, and_parts, and_from}
+use Rattle.std.proofs.lemmas.Bool.Decides.{nat_tests}
+use Rattle.mt_model.specs.Lists.{Set, has, count, is_distinct, count_below}
+use Rattle.mt_model.specs.Market.{Market, Registered, applicants, program_of, list_of}
+use Rattle.mt_model.proofs.Seats.{listed_count}
+use Rattle.mt_roster.specs.Tables.{IsRoster}
+
+count_below-le : (s : Set) (n : ℕ) → count_below s n ≤ n
+count_below-le s zero = omega arith
+count_below-le s (suc n) = one_or_none (s n) (count_below s n) n (count_below-le s n)
+  where
+    one_or_none : (b : Bool) (k n : ℕ) → k ≤ n → (if b then 1 else 0) + k ≤ suc n
+    one_or_none true k n h = omega arith
+    one_or_none false k n h = omega arith
+
+count_all : (xs : List ℕ) → count (λ x. true) xs ≡ length xs
+count_all [] = refl
+count_all (x ∷ xs) = omega (arith, count_all xs)
+
+-- a list without repeats of numbers below n has no more than n
+pub length_of_distinct : (xs : List ℕ) (n : ℕ) → IsTrue (is_distinct xs) → ((a : ℕ) → IsTrue (has xs a) → a < n) → length xs ≤ n
+length_of_distinct xs n distinct within =
+    omega (arith, count_all xs, listed_count (λ x. true) xs n distinct within, count_below-le (λ a. has xs a && true) n)
+
+-- Below, the market is a roster's.
+pub few_ranked : (r : Registered) → IsRoster r → (p : ℕ) → length (program_of r.market p).ranking ≤ 100000
+few_ranked r h p =
+    omega (arith, h.few_applicants, length_of_distinct (program_of r.market p).ranking (applicants r.market) (h.well_formed.rankings_distinct p) (h.well_formed.rankings_within p))
+
+pub few_listed : (r : Registered) → IsRoster r → (a : ℕ) → length (list_of r.market a) ≤ 20000
+few_listed r h a =
+    omega (arith, h.few_programs, length_of_distinct (list_of r.market a) (length r.market.programs) (h.well_formed.lists_distinct a) (h.well_formed.lists_within a))

@@ -1,0 +1,7 @@
+//! Whether a match of a residency market is stable, or else the first finding against it, whoever made it.
+#![tactic(auto)]
+
+mod listed;
+mod placed;
+
+pub use mt_model::{Blocker, Verdict};

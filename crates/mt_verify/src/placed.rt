@@ -1,0 +1,53 @@
+ghost use Rattle.std.specs.Prelude.{◌≡◌, ◌≤◌, ◌^◌, ◌++◌, [], ◌∷◌, map, length, nat_lt, IfOk, OnOk};
+ghost use Rattle.std.specs.List.Sorted.{IsNonDecreasing};
+ghost use Rattle.mt_model.specs.Lists.{below, count};
+ghost use Rattle.mt_model.specs.Matching.{at};
+ghost use Rattle.mt_verify.specs.Placed.{ranks_from, placed_ranks};
+
+use std::alloc::{AllocError, Global};
+
+use mt_model::{AppNo, FlatLists, Match, ProgNo};
+use mt_roster::Roster;
+
+/// Adds, as a list of its own, where those that are placed at a program stand on its list.
+fn push_placed(
+    lists: &mut FlatLists<u32>,
+    ranking: &[AppNo],
+    matched: &Match,
+    program: ProgNo,
+) -> Result<(), AllocError>
+    requires { length ranking.now ≤ 2 ^ 32 }
+    ensures { OnOk result (lists.new ≡ lists.old ++ ranks_from 0 (at matched.now.places program) ranking.now ∷ []) }
+{
+    lists.begin()?;
+    for (rank, applicant) in ranking.iter().enumerate() {
+        if matched.place(*applicant) == Some(program) {
+            lists.push(rank as u32)?;
+        }
+    }
+    Ok(())
+}
+
+/// For each program the ranks of those that are placed there, in rising order.
+pub(crate) fn placed_by_program(
+    alloc: Global,
+    roster: &Roster,
+    matched: &Match,
+) -> Result<FlatLists<u32>, AllocError>
+    ensures { IfOk result (λ lists. lists ≡ map (placed_ranks roster.now.market matched.now.places) (below (length roster.now.market.programs))) }
+{
+    let mut lists = FlatLists::new(alloc);
+    for number in 0..roster.programs() {
+        let program = ProgNo(number);
+        push_placed(&mut lists, roster.program_list(program), matched, program)?;
+    }
+    Ok(lists)
+}
+
+/// How many of these rising ranks are below a rank.
+pub(crate) fn count_above(ranks: &[u32], rank: u32) -> usize
+    requires { IsNonDecreasing ranks.now }
+    ensures { result ≡ count (λ r. nat_lt r rank) ranks.now }
+{
+    ranks.partition_point(|placed| *placed < rank)
+}
