@@ -1,2 +1,3 @@
 pub mod MarketFacts
+pub mod OptionFacts
 pub mod PlacedFacts

@@ -1,10 +1,13 @@
 -- What a roster's market says of its lists and of a match.
-use Rattle.std.proofs.Common.{◌≡◌, ℕ, zero, suc, ◌+◌, ◌<◌, ◌≤◌, Bool, true, false, ◌&&◌, List, [], ◌∷◌, length, IsTrue, IsFalse, refl, ap, sym, ◌∙◌, arith, inl, inr, if◌then◌else◌}
+use Rattle.std.proofs.Common.{◌≡◌, ℕ, zero, suc, ◌+◌, ◌<◌, ◌≤◌, Bool, true, false, ◌&&◌, List, [], ◌∷◌, length, IsTrue, IsFalse, refl, ap, sym, ◌∙◌, arith, inl, inr, if◌then◌else◌, Option, Some, eq-eqb}
 use Rattle.std.proofs.lemmas.Bool.{cases_Bool, and_parts, and_from}
 use Rattle.std.proofs.lemmas.Bool.Decides.{nat_tests}
 use Rattle.mt_model.specs.Lists.{Set, has, count, is_distinct, count_below}
-use Rattle.mt_model.specs.Market.{Market, Registered, applicants, program_of, list_of}
+use Rattle.mt_model.specs.Market.{Market, Registered, applicants, program_of, list_of, live}
+use Rattle.mt_model.specs.Matching.{Places, place_of, at, is_program}
+use Rattle.mt_model.proofs.BelowFacts.{length-map_below}
 use Rattle.mt_model.proofs.Seats.{listed_count}
+use Rattle.mt_ranks.specs.Ranked.{Ranked, ranked_of}
 use Rattle.mt_roster.specs.Tables.{IsRoster}
 
 count_below-le : (s : Set) (n : ℕ) → count_below s n ≤ n
@@ -32,3 +35,17 @@ few_ranked r h p =
 pub few_listed : (r : Registered) → IsRoster r → (a : ℕ) → length (list_of r.market a) ≤ 20000
 few_listed r h a =
     omega (arith, h.few_programs, length_of_distinct (list_of r.market a) (length r.market.programs) (h.well_formed.lists_distinct a) (h.well_formed.lists_within a))
+
+-- Below, r are the rank tables of the market m.
+pub ranked_programs : (r : Ranked) (m : Market) → r ≡ ranked_of m → length r.market.programs ≡ length m.programs
+ranked_programs r m is = ap (λ (x : Ranked). length x.market.programs) is
+
+pub ranked_applicants : (r : Ranked) (m : Market) → r ≡ ranked_of m → applicants r.market ≡ applicants m
+ranked_applicants r m is = ap (λ (x : Ranked). applicants x.market) is ∙ length-map_below (live m) (applicants m)
+
+pub ranked_program : (r : Ranked) (m : Market) (p : ℕ) → r ≡ ranked_of m → program_of r.market p ≡ program_of m p
+ranked_program r m p is = ap (λ (x : Ranked). program_of x.market p) is
+
+-- where an applicant's place was read, it is there
+pub at_place : (places : Places) (a p : ℕ) (place : Option ℕ) → place ≡ place_of places a → place ≡ Some p → IsTrue (at places p a)
+at_place places a p place read is = ap (is_program p) (sym read ∙ is) ∙ eq-eqb p p refl

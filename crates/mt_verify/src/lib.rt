@@ -3,5 +3,6 @@
 
 mod listed;
 mod placed;
+mod verifier;
 
 pub use mt_model::{Blocker, Verdict};

@@ -5,7 +5,7 @@ ghost use Rattle.mt_model.specs.Matching.{is_program, is_same_place};
 use mt_model::ProgNo;
 
 /// Whether a single's place is on its list, or none.
-fn is_own_place(list: &[ProgNo], place: Option<ProgNo>) -> bool
+pub(crate) fn is_own_place(list: &[ProgNo], place: Option<ProgNo>) -> bool
     ensures { result ≡ (list_any (λ p. is_program p place) list.now || not (is_some place)) }
 {
     match place {
@@ -15,7 +15,7 @@ fn is_own_place(list: &[ProgNo], place: Option<ProgNo>) -> bool
 }
 
 /// Whether the places of a couple's members are a pair of its list, or both none.
-fn is_own_pair(
+pub(crate) fn is_own_pair(
     list: &[(Option<ProgNo>, Option<ProgNo>)],
     first: Option<ProgNo>,
     second: Option<ProgNo>,

@@ -1,0 +1,99 @@
+ghost use Rattle.std.specs.Prelude.{◌≡◌, ℕ, ◌<◌, ◌≤◌, ◌==◌, ◌&&◌, length, map, IfOk, IfSome, IsFalse, not, min, position};
+ghost use Rattle.std.specs.List.{find};
+ghost use Rattle.mt_model.specs.Lists.{below};
+ghost use Rattle.mt_model.specs.Market.{agent_of, applicants, couple_of};
+ghost use Rattle.mt_model.specs.Matching.{better, couple_placement, place_of, send, single_placement};
+ghost use Rattle.mt_model.specs.Places.{ArePlaces};
+ghost use Rattle.mt_model.specs.Stability.{has_own_option, is_chosen, is_listed, would_be_taken};
+ghost use Rattle.mt_model.specs.Verdict.{is_over, is_unlisted, lowest_number};
+ghost use Rattle.mt_ranks.specs.Ranked.{ranked_of};
+ghost use Rattle.mt_verify.specs.Asked.{ArePairs, IsAgentOf};
+ghost use Rattle.mt_verify.specs.Placed.{placed_ranks};
+
+use std::alloc::{AllocError, Global};
+
+use mt_model::{Agent, AppNo, CoupleNo, FlatLists, Match, ProgNo};
+use mt_ranks::Ranks;
+use mt_roster::Roster;
+
+use crate::listed::{is_own_pair, is_own_place};
+use crate::placed::{count_above, placed_by_program};
+
+/// A match beside the market that it is judged by, with the ranks of those placed at each program.
+#[derive(Drop)]
+pub(crate) struct Verifier<'a> {
+    roster: &'a Roster,
+    ranks: &'a Ranks,
+    matched: &'a Match,
+    placed: FlatLists<u32>,
+    ghost one_market: { ranks.now ≡ ranked_of roster.now.market },
+    ghost are_places: { ArePlaces roster.now.market matched.now.places },
+    ghost are_pairs: { ArePairs roster.now.market },
+    ghost placed_there: { placed ≡ map (placed_ranks roster.now.market matched.now.places) (below (length roster.now.market.programs)) },
+}
+
+impl<'a> Verifier<'a> {
+    /// The match beside its market. The only error is want of memory.
+    pub(crate) fn new(
+        alloc: Global,
+        roster: &'a Roster,
+        ranks: &'a Ranks,
+        matched: &'a Match,
+    ) -> Result<Self, AllocError>
+        requires ranks { ranks.now ≡ ranked_of roster.now.market }
+        requires places { ArePlaces roster.now.market matched.now.places }
+        requires pairs { ArePairs roster.now.market }
+        ensures market { IfOk result (λ v. v.roster.now ≡ roster.entry.now) }
+        ensures places { IfOk result (λ v. v.matched.now ≡ matched.entry.now) }
+    {
+        let placed = placed_by_program(alloc, roster, matched)?;
+        Ok(Verifier {
+            roster,
+            ranks,
+            matched,
+            placed,
+        })
+    }
+
+    /// Whether the applicant is unplaced, or its program lists it.
+    fn is_listed(&self, applicant: AppNo) -> bool
+        requires { applicant < applicants self.now.roster.now.market }
+        ensures { result ≡ is_listed self.now.roster.now.market applicant (place_of self.now.matched.now.places applicant) }
+    {
+        match self.matched.place(applicant) {
+            None => true,
+            Some(program) => self.ranks.rank(program, applicant).is_some(),
+        }
+    }
+
+    /// Whether the applicant has the lowest number of its agent, and the agent neither has an option of its
+    /// list nor is unplaced.
+    fn is_off_own_list(&self, applicant: AppNo) -> bool
+        requires { applicant < applicants self.now.roster.now.market }
+        ensures { result ≡ (let g = agent_of self.now.roster.now.market applicant in (lowest_number self.now.roster.now.market g == applicant) && not (has_own_option self.now.roster.now.market self.now.matched.now.places g)) }
+    {
+        match self.roster.agent_of(applicant) {
+            Agent::Single(_) => {
+                !is_own_place(self.roster.single_list(applicant), self.matched.place(applicant))
+            }
+            Agent::Couple(couple) => {
+                let (first, second) = self.roster.members(couple);
+                applicant.0 == first.0.min(second.0)
+                    && !is_own_pair(
+                        self.roster.couple_list(couple),
+                        self.matched.place(first),
+                        self.matched.place(second),
+                    )
+            }
+        }
+    }
+
+    /// Whether the applicant's place isn't allowed, by its agent's list, which is reported at the agent's
+    /// lowest number, or by its program's list.
+    fn is_unlisted(&self, applicant: AppNo) -> bool
+        requires { applicant < applicants self.now.roster.now.market }
+        ensures { result ≡ is_unlisted self.now.roster.now.market self.now.matched.now.places applicant }
+    {
+        self.is_off_own_list(applicant) || !self.is_listed(applicant)
+    }
+}
