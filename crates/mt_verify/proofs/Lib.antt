@@ -1,3 +1,5 @@
+pub mod FindFacts
 pub mod MarketFacts
 pub mod OptionFacts
 pub mod PlacedFacts
+pub mod TakenFacts

@@ -1,14 +1,22 @@
 -- What a roster's market says of its lists and of a match.
-use Rattle.std.proofs.Common.{◌≡◌, ℕ, zero, suc, ◌+◌, ◌<◌, ◌≤◌, Bool, true, false, ◌&&◌, List, [], ◌∷◌, length, IsTrue, IsFalse, refl, ap, sym, ◌∙◌, arith, inl, inr, if◌then◌else◌, Option, Some, eq-eqb}
-use Rattle.std.proofs.lemmas.Bool.{cases_Bool, and_parts, and_from}
+use Rattle.std.proofs.Common.{◌≡◌, ℕ, zero, suc, ◌+◌, ◌<◌, ◌≤◌, Bool, true, false, ◌&&◌, List, [], ◌∷◌, length, IsTrue, IsFalse, refl, ap, sym, ◌∙◌, arith, inl, inr, if◌then◌else◌, Option, Some, None, eq-eqb, eqb-true, subst}
+use Rattle.std.proofs.lemmas.Bool.{both_ways}
 use Rattle.std.proofs.lemmas.Bool.Decides.{nat_tests}
 use Rattle.mt_model.specs.Lists.{Set, has, count, is_distinct, count_below}
 use Rattle.mt_model.specs.Market.{Market, Registered, applicants, program_of, list_of, live}
-use Rattle.mt_model.specs.Matching.{Places, place_of, at, is_program}
+use Rattle.mt_model.specs.Matching.{Places, place_of, at, filled, is_program}
 use Rattle.mt_model.proofs.BelowFacts.{length-map_below}
-use Rattle.mt_model.proofs.Seats.{listed_count}
+use Rattle.mt_model.proofs.Seats.{filled_by_applicant, listed_count}
+use Rattle.mt_model.specs.Places.{ArePlaces}
+use Rattle.mt_model.specs.Stability.{is_listed}
+use Rattle.mt_model.specs.Verdict.{is_unlisted}
+use Rattle.mt_model.specs.WellFormed.{IsWellFormed}
+use Rattle.mt_model.proofs.Totals.{count_below-same}
+use Rattle.mt_model.proofs.VerdictLemmas.{allowed_parts}
 use Rattle.mt_ranks.specs.Ranked.{Ranked, ranked_of}
 use Rattle.mt_roster.specs.Tables.{IsRoster}
+use Rattle.mt_verify.specs.Placed.{placed_ranks}
+use Rattle.mt_verify.proofs.PlacedFacts.{length-ranks_from}
 
 count_below-le : (s : Set) (n : ℕ) → count_below s n ≤ n
 count_below-le s zero = omega arith
@@ -49,3 +57,23 @@ ranked_program r m p is = ap (λ (x : Ranked). program_of x.market p) is
 -- where an applicant's place was read, it is there
 pub at_place : (places : Places) (a p : ℕ) (place : Option ℕ) → place ≡ place_of places a → place ≡ Some p → IsTrue (at places p a)
 at_place places a p place read is = ap (is_program p) (sym read ∙ is) ∙ eq-eqb p p refl
+
+-- who is at a program is on its list, where its place is allowed
+listed_there : (m : Market) (a p : ℕ) (place : Option ℕ) → IsTrue (is_listed m a place) → IsTrue (is_program p place) → IsTrue (has (program_of m p).ranking a)
+listed_there m a p None listed there = absurd (both_ways false refl there)
+listed_there m a p (Some q) listed there = subst (λ (r : ℕ). IsTrue (has (program_of m r).ranking a)) (eqb-true q p there) listed
+
+-- where all places are allowed, as many are placed at a program as are placed on its list
+pub filled_ranks : (m : Market) (places : Places) → IsWellFormed m → ArePlaces m places → ((a : ℕ) → a < applicants m → IsFalse (is_unlisted m places a))
+    → (p : ℕ) → length (placed_ranks m places p) ≡ filled places p
+filled_ranks m places formed are listed p =
+    length-ranks_from 0 (at places p) (program_of m p).ranking
+    ∙ listed_count (at places p) (program_of m p).ranking (applicants m) (formed.rankings_distinct p) (formed.rankings_within p)
+    ∙ count_below-same (λ a. has (program_of m p).ranking a && at places p a) (at places p) (applicants m) (λ a a_in.
+      both_or_none (has (program_of m p).ranking a) (at places p a) (listed_there m a p (place_of places a) (allowed_parts m places a (listed a a_in)).0))
+    ∙ sym (filled_by_applicant places p ∙ ap (count_below (at places p)) are.one_each)
+  where
+    both_or_none : (x y : Bool) → (IsTrue y → IsTrue x) → (x && y) ≡ y
+    both_or_none true y h = refl
+    both_or_none false true h = h refl
+    both_or_none false false h = refl

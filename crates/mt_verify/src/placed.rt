@@ -2,6 +2,7 @@ ghost use Rattle.std.specs.Prelude.{◌≡◌, ◌≤◌, ◌^◌, ◌++◌, [],
 ghost use Rattle.std.specs.List.Sorted.{IsNonDecreasing};
 ghost use Rattle.mt_model.specs.Lists.{below, count};
 ghost use Rattle.mt_model.specs.Matching.{at};
+ghost use Rattle.mt_roster.specs.Tables.{IsRoster};
 ghost use Rattle.mt_verify.specs.Placed.{ranks_from, placed_ranks};
 
 use std::alloc::{AllocError, Global};
@@ -34,7 +35,8 @@ pub(crate) fn placed_by_program(
     roster: &Roster,
     matched: &Match,
 ) -> Result<FlatLists<u32>, AllocError>
-    ensures { IfOk result (λ lists. lists ≡ map (placed_ranks roster.now.market matched.now.places) (below (length roster.now.market.programs))) }
+    ensures roster { IsRoster roster.now }
+    ensures placed { IfOk result (λ lists. lists ≡ map (placed_ranks roster.now.market matched.now.places) (below (length roster.now.market.programs))) }
 {
     let mut lists = FlatLists::new(alloc);
     for number in 0..roster.programs() {
@@ -45,7 +47,7 @@ pub(crate) fn placed_by_program(
 }
 
 /// How many of these rising ranks are below a rank.
-pub(crate) fn count_above(ranks: &[u32], rank: u32) -> usize
+pub(crate) fn count_below(ranks: &[u32], rank: u32) -> usize
     requires { IsNonDecreasing ranks.now }
     ensures { result ≡ count (λ r. nat_lt r rank) ranks.now }
 {

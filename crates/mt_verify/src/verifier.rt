@@ -1,23 +1,26 @@
-ghost use Rattle.std.specs.Prelude.{◌≡◌, ℕ, ◌<◌, ◌≤◌, ◌==◌, ◌&&◌, length, map, IfOk, IfSome, IsFalse, not, min, position};
+ghost use Rattle.std.specs.Prelude.{◌≡◌, ℕ, ◌<◌, ◌==◌, ◌&&◌, length, map, IfOk, IsFalse, is_some, not, position};
 ghost use Rattle.std.specs.List.{find};
-ghost use Rattle.mt_model.specs.Lists.{below};
-ghost use Rattle.mt_model.specs.Market.{agent_of, applicants, couple_of};
-ghost use Rattle.mt_model.specs.Matching.{better, couple_placement, place_of, send, single_placement};
+ghost use Rattle.mt_model.specs.Lists.{below, has};
+ghost use Rattle.mt_model.specs.Market.{agent_of, applicants, program_of};
+ghost use Rattle.mt_model.specs.Matching.{place_of};
 ghost use Rattle.mt_model.specs.Places.{ArePlaces};
-ghost use Rattle.mt_model.specs.Stability.{has_own_option, is_chosen, is_listed, would_be_taken};
+ghost use Rattle.mt_model.specs.Stability.{has_own_option, is_listed};
 ghost use Rattle.mt_model.specs.Verdict.{is_over, is_unlisted, lowest_number};
 ghost use Rattle.mt_ranks.specs.Ranked.{ranked_of};
-ghost use Rattle.mt_verify.specs.Asked.{ArePairs, IsAgentOf};
+ghost use Rattle.mt_roster.specs.Tables.{IsRoster};
+ghost use Rattle.mt_verify.specs.Asked.{ArePairs};
 ghost use Rattle.mt_verify.specs.Placed.{placed_ranks};
+
+mod taken;
 
 use std::alloc::{AllocError, Global};
 
-use mt_model::{Agent, AppNo, CoupleNo, FlatLists, Match, ProgNo};
+use mt_model::{Agent, AppNo, FlatLists, Match, ProgNo};
 use mt_ranks::Ranks;
 use mt_roster::Roster;
 
 use crate::listed::{is_own_pair, is_own_place};
-use crate::placed::{count_above, placed_by_program};
+use crate::placed::placed_by_program;
 
 /// A match beside the market that it is judged by, with the ranks of those placed at each program.
 #[derive(Drop)]
@@ -26,6 +29,7 @@ pub(crate) struct Verifier<'a> {
     ranks: &'a Ranks,
     matched: &'a Match,
     placed: FlatLists<u32>,
+    ghost is_roster: { IsRoster roster.now },
     ghost one_market: { ranks.now ≡ ranked_of roster.now.market },
     ghost are_places: { ArePlaces roster.now.market matched.now.places },
     ghost are_pairs: { ArePairs roster.now.market },
@@ -55,6 +59,16 @@ impl<'a> Verifier<'a> {
         })
     }
 
+    /// The applicant's rank on the program's list, its position from 0, where the list has it.
+    fn rank(&self, program: ProgNo, applicant: AppNo) -> Option<u32>
+        requires program { program < length self.now.roster.now.market.programs }
+        requires applicant { applicant < applicants self.now.roster.now.market }
+        ensures position { result ≡ position (λ x. x == applicant) (program_of self.now.roster.now.market program).ranking }
+        ensures listed { is_some result ≡ has (program_of self.now.roster.now.market program).ranking applicant }
+    {
+        self.ranks.rank(program, applicant)
+    }
+
     /// Whether the applicant is unplaced, or its program lists it.
     fn is_listed(&self, applicant: AppNo) -> bool
         requires { applicant < applicants self.now.roster.now.market }
@@ -62,7 +76,7 @@ impl<'a> Verifier<'a> {
     {
         match self.matched.place(applicant) {
             None => true,
-            Some(program) => self.ranks.rank(program, applicant).is_some(),
+            Some(program) => self.rank(program, applicant).is_some(),
         }
     }
 
@@ -95,5 +109,39 @@ impl<'a> Verifier<'a> {
         ensures { result ≡ is_unlisted self.now.roster.now.market self.now.matched.now.places applicant }
     {
         self.is_off_own_list(applicant) || !self.is_listed(applicant)
+    }
+
+    /// The first applicant whose place isn't allowed.
+    fn first_unlisted(&self) -> Option<AppNo>
+        ensures { result ≡ find (is_unlisted self.now.roster.now.market self.now.matched.now.places) (below (applicants self.now.roster.now.market)) }
+    {
+        for number in 0..self.roster.applicants() {
+            if self.is_unlisted(AppNo(number)) {
+                return Some(AppNo(number));
+            }
+        }
+        None
+    }
+
+    /// Whether more applicants are placed at the program than its quota. Each of them is on its list.
+    fn is_over(&self, program: ProgNo) -> bool
+        requires within { program < length self.now.roster.now.market.programs }
+        requires listed { (a : ℕ) → a < applicants self.now.roster.now.market → IsFalse (is_unlisted self.now.roster.now.market self.now.matched.now.places a) }
+        ensures { result ≡ is_over self.now.roster.now.market self.now.matched.now.places program }
+    {
+        self.placed.list(program.index()).len() > self.roster.quota(program) as usize
+    }
+
+    /// The first program with more applicants than its quota.
+    fn first_over(&self) -> Option<ProgNo>
+        requires { (a : ℕ) → a < applicants self.now.roster.now.market → IsFalse (is_unlisted self.now.roster.now.market self.now.matched.now.places a) }
+        ensures { result ≡ find (is_over self.now.roster.now.market self.now.matched.now.places) (below (length self.now.roster.now.market.programs)) }
+    {
+        for number in 0..self.roster.programs() {
+            if self.is_over(ProgNo(number)) {
+                return Some(ProgNo(number));
+            }
+        }
+        None
     }
 }
