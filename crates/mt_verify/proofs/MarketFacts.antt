@@ -1,11 +1,11 @@
 -- What a roster's market says of its lists and of a match.
-use Rattle.std.proofs.Common.{◌≡◌, ℕ, zero, suc, ◌+◌, ◌<◌, ◌≤◌, Bool, true, false, ◌&&◌, List, [], ◌∷◌, length, IsTrue, IsFalse, refl, ap, sym, ◌∙◌, arith, inl, inr, if◌then◌else◌, Option, Some, None, eq-eqb, eqb-true, subst}
+use Rattle.std.proofs.Common.{◌≡◌, ℕ, zero, suc, ◌+◌, ◌<◌, ◌≤◌, Bool, true, false, ◌&&◌, List, [], ◌∷◌, length, IsTrue, IsFalse, refl, ap, sym, ◌∙◌, arith, inl, inr, if◌then◌else◌, Option, Some, None, eq-eqb, eqb-true, subst, map, get_or}
 use Rattle.std.proofs.lemmas.Bool.{both_ways}
 use Rattle.std.proofs.lemmas.Bool.Decides.{nat_tests}
-use Rattle.mt_model.specs.Lists.{Set, has, count, is_distinct, count_below}
+use Rattle.mt_model.specs.Lists.{Set, has, below, count, is_distinct, count_below}
 use Rattle.mt_model.specs.Market.{Market, Registered, applicants, program_of, list_of, live}
 use Rattle.mt_model.specs.Matching.{Places, place_of, at, filled, is_program}
-use Rattle.mt_model.proofs.BelowFacts.{length-map_below}
+use Rattle.mt_model.proofs.BelowFacts.{length-map_below, map_below_at}
 use Rattle.mt_model.proofs.Seats.{filled_by_applicant, listed_count}
 use Rattle.mt_model.specs.Places.{ArePlaces}
 use Rattle.mt_model.specs.Stability.{is_listed}
@@ -77,3 +77,13 @@ filled_ranks m places formed are listed p =
     both_or_none true y h = refl
     both_or_none false true h = h refl
     both_or_none false false h = refl
+
+-- the ranks of those placed at a program, where the lists of all programs hold them
+pub placed_at : (m : Market) (places : Places) (lists : List (List ℕ)) (p k : ℕ) → lists ≡ map (placed_ranks m places) (below (length m.programs)) → k ≡ p
+    → p < length m.programs → get_or lists k [] ≡ placed_ranks m places p
+placed_at m places lists p k are same within =
+    ap (λ xss. get_or xss k []) are ∙ ap (λ i. get_or (map (placed_ranks m places) (below (length m.programs))) i []) same
+    ∙ map_below_at (placed_ranks m places) (length m.programs) p [] within
+
+pub length_of_placed : (m : Market) (places : Places) (lists : List (List ℕ)) → lists ≡ map (placed_ranks m places) (below (length m.programs)) → length lists ≡ length m.programs
+length_of_placed m places lists are = ap length are ∙ length-map_below (placed_ranks m places) (length m.programs)
