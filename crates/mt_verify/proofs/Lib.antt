@@ -1,3 +1,4 @@
+pub mod BlockingFacts
 pub mod FindFacts
 pub mod MarketFacts
 pub mod OptionFacts

@@ -15,7 +15,7 @@ and-true true = refl
 and-true false = refl
 
 -- a match places a single where a placement sends it
-holds_single : (p : ℕ) (place : Option ℕ) → (is_same_place place (Some p) && true) ≡ is_program p place
+pub holds_single : (p : ℕ) (place : Option ℕ) → (is_same_place place (Some p) && true) ≡ is_program p place
 holds_single p None = refl
 holds_single p (Some q) = and-true (q == p)
 

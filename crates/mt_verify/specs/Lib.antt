@@ -1,3 +1,4 @@
 pub mod Asked
+pub mod Blocking
 pub mod Moved
 pub mod Placed

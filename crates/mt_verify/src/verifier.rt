@@ -5,17 +5,18 @@ ghost use Rattle.mt_model.specs.Market.{agent_of, applicants, program_of};
 ghost use Rattle.mt_model.specs.Matching.{place_of};
 ghost use Rattle.mt_model.specs.Places.{ArePlaces};
 ghost use Rattle.mt_model.specs.Stability.{has_own_option, is_listed};
-ghost use Rattle.mt_model.specs.Verdict.{is_over, is_unlisted, lowest_number};
+ghost use Rattle.mt_model.specs.Verdict.{is_over, is_unlisted, lowest_number, verdict_of};
 ghost use Rattle.mt_ranks.specs.Ranked.{ranked_of};
 ghost use Rattle.mt_roster.specs.Tables.{IsRoster};
 ghost use Rattle.mt_verify.specs.Asked.{ArePairs};
 ghost use Rattle.mt_verify.specs.Placed.{placed_ranks};
 
+mod blocking;
 mod taken;
 
 use std::alloc::{AllocError, Global};
 
-use mt_model::{Agent, AppNo, FlatLists, Match, ProgNo};
+use mt_model::{Agent, AppNo, FlatLists, Match, ProgNo, Verdict};
 use mt_ranks::Ranks;
 use mt_roster::Roster;
 
@@ -143,5 +144,21 @@ impl<'a> Verifier<'a> {
             }
         }
         None
+    }
+
+    /// The first finding against the match, or that it is stable.
+    pub(crate) fn verdict(&self) -> Verdict
+        ensures { result ≡ verdict_of self.now.roster.now.market self.now.matched.now.places }
+    {
+        if let Some(applicant) = self.first_unlisted() {
+            return Verdict::Unlisted(applicant);
+        }
+        if let Some(program) = self.first_over() {
+            return Verdict::Over(program);
+        }
+        match self.first_blocker() {
+            Some(blocker) => Verdict::Blocks(blocker),
+            None => Verdict::Stable,
+        }
     }
 }
