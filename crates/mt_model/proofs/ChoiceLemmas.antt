@@ -13,12 +13,14 @@ pub record IsChosenFrom (p : Program) (set : Set) (a : ℕ) : Type 0 where
   pub is_member : IsTrue (set a)
   pub has_few_above : above set p.ranking a < p.quota
 
+-- what the test of a choice says
 pub choice_facts : (p : Program) (set : Set) (a : ℕ) → IsTrue (choice p set a) → IsChosenFrom p set a
 choice_facts p set a h =
     let parts = and_parts (has p.ranking a && set a) (nat_lt (above set p.ranking a) p.quota) h in
     let first = and_parts (has p.ranking a) (set a) parts.0 in
     record { is_listed = first.0; is_member = first.1; has_few_above = ltb-true _ _ parts.1 }
 
+-- the test of a choice passes where those facts hold
 pub choice_from_facts : (p : Program) (set : Set) (a : ℕ) → IsChosenFrom p set a → IsTrue (choice p set a)
 choice_from_facts p set a h = and_from _ _ (and_from _ _ h.is_listed h.is_member) (lt-ltb _ _ h.has_few_above)
 

@@ -13,7 +13,8 @@ use Rattle.mt_model.proofs.ChoiceLemmas.{choice_from_facts}
 use Rattle.mt_model.proofs.TakenLemmas.{at-slice_set_other}
 use Rattle.mt_model.proofs.SinglesFacts.{stable_facts, at_past}
 
-lt_of_there : (places : Places) (a p : ℕ) → IsTrue (at places p a) → a < length places
+-- who is at a program has a place
+pub lt_of_there : (places : Places) (a p : ℕ) → IsTrue (at places p a) → a < length places
 lt_of_there places a p there =
     elim (cases_lt a (length places)) [ inl low ↦ low | inr high ↦ absurd (both_ways _ (at_past places a p high) there) ]
 
@@ -54,6 +55,7 @@ pub record LeftOut (m : Market) (places : Places) (p : ℕ) (set : Set) : Type 0
   pub is_elsewhere : IsFalse (at places p single)
   pub is_chosen : IsTrue (choice (program_of m p) (with_one (at places p) single) single)
 
+-- the one left out
 one_left_out : (m : Market) → IsWellFormed m → (places : Places) → IsStableForSingles m places → (p : ℕ) (set : Set) (a : ℕ) → IsTrue (at places p a)
     → (program_of m p).quota ≤ above set (program_of m p).ranking a → LeftOut m places p set
 one_left_out m well places facts p set a there full =

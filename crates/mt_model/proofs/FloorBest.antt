@@ -38,10 +38,12 @@ pub record IsPlaced (m : Market) (f : Floor) (a k p : ℕ) : Type 0 where
   pub stands : IsTrue (f.standing a)
   pub last : HasLast m f a k p
 
+-- a place that is a program is that program
 program_from_place : (p : ℕ) (o : Option ℕ) → IsTrue (is_program p o) → o ≡ Some p
 program_from_place p None h = absurd (both_ways false refl h)
 program_from_place p (Some q) h = ap (λ x. Some x) (eqb-true q p h)
 
+-- what a place that there is only for who stands tells
 if_some : (b : Bool) (o : Option ℕ) (p : ℕ) → (if b then o else None) ≡ Some p → IsTrue b × (o ≡ Some p)
 if_some true o p e = (refl, e)
 if_some false o p e = cc
@@ -69,13 +71,14 @@ placed_from m f places result a k p h =
     let here : place_of places a ≡ Some p = result.each_place a low ∙ ap (λ b. if b then last_tried m f a else None) h.stands ∙ h.last.last_is in
     ap (is_program p) here ∙ eq-eqb p p refl
 
--- on a floor on which no event is due, who stands is held, and who doesn't has used its live list
+-- on a floor on which no event is due, who is placed is held
 pub held_where_quiet : (m : Market) (f : Floor) → IsTrue (is_quiet m f) → (a k p : ℕ) → IsPlaced m f a k p → IsTrue (held m f p a)
 held_where_quiet m f quiet a k p h =
     let low = applicant_from_live m a p (has-get (live m a) k p h.last.last) in
     let settled = each_below (is_settled m f) (applicants m) quiet a low in
     ap (is_held_by m f a) (sym h.last.last_is) ∙ ap (λ b. if b then is_held_by m f a (last_tried m f a) else (f.made a == length (live m a))) (sym h.stands) ∙ settled
 
+-- on a floor on which no event is due, who doesn't stand has tried its whole live list
 pub tried_where_quiet : (m : Market) (f : Floor) → IsRecorded m f → IsTrue (is_quiet m f) → (a : ℕ) → IsFalse (f.standing a) → tried m f a ≡ live m a
 tried_where_quiet m f r quiet a free = go (cases_lt a (applicants m))
   where

@@ -13,6 +13,7 @@ pub choice_with_one : (p : Program) (set : Set) (a b : ℕ) → b ≢ a → IsFa
 choice_with_one p set a b other out =
     false_from_ne_true _ (λ now. elim (growing_choice_lem p set a b now) [ inl same ↦ other same | inr before ↦ both_ways _ out before ])
 
+-- a count of a front that is empty or begins with a number
 count_front : (set : Set) (x : ℕ) (xs : List ℕ) (here : Bool) → count set (if here then [] else (x ∷ xs)) ≡ (if here then 0 else ((if set x then 1 else 0) + count set xs))
 count_front set x xs true = refl
 count_front set x xs false = refl
@@ -25,9 +26,11 @@ above-cons set x xs a = count_front set x (until (λ y. y == a) xs) (x == a)
 abbrev first_few : Set → ℕ → ℕ → List ℕ → Set
 first_few set k q xs x = set x && nat_lt (k + above set xs x) q
 
+-- at a list's head nobody of it stands above
 first_few-head : (set : Set) (k q x : ℕ) (xs : List ℕ) → first_few set k q (x ∷ xs) x ≡ (set x && nat_lt k q)
 first_few-head set k q x xs = let e : k + above set (x ∷ xs) x ≡ k = rw (above-cons set x xs x, eq-eqb x x refl) (omega arith) in ap (λ n. set x && nat_lt n q) e
 
+-- further down a list its head counts with the others
 first_few-tail : (set : Set) (k q x : ℕ) (xs : List ℕ) → IsTrue (is_distinct (x ∷ xs)) → (y : ℕ) → IsTrue (has xs y)
     → first_few set k q (x ∷ xs) y ≡ first_few set (k + (if set x then 1 else 0)) q xs y
 first_few-tail set k q x xs distinct y on =
@@ -63,6 +66,7 @@ above-first_few set k q (x ∷ xs) a distinct =
         → min q (k + all) ≤ k + all_few
     joined b taken here n few few' is alike rest all all_few e1 e2 = grind (arith, nat_tests)
 
+-- a program's choice is the first few of its list up to the quota
 choice-first_few : (p : Program) (set : Set) (a : ℕ) → IsTrue (has p.ranking a) → choice p set a ≡ first_few set 0 p.quota p.ranking a
 choice-first_few p set a on = by_tests (has p.ranking a) (set a) (above set p.ranking a) on
   where

@@ -8,6 +8,7 @@ use Rattle.mt_model.specs.Choice.{choice}
 use Rattle.mt_model.specs.Best.{IsExcluded}
 use Rattle.mt_model.specs.WellFormed.{IsWellFormed}
 use Rattle.mt_model.specs.Floor.{Floor, held, tried, gone, last_tried, next_entry, is_held_by, IsRecorded, IsLegal, IsStrict, is_due, after, after_all, after_proposal, proposed_at, receives_one}
+use Rattle.mt_model.specs.Laws.Floors.{LegalFromPassed, EventKeepsRecorded, EventKeepsLegal, EventKeepsStrict, EventsKeepRecorded, EventsKeepLegal, EventsKeepStrict}
 use Rattle.mt_model.specs.declared.events.Event.{Event}
 use Rattle.mt_model.specs.declared.events.Event.TheVariants.{Propose, Notice}
 use Rattle.mt_model.proofs.FloorLists.{has-filter, distinct-filter, has-until-take, has-from_take, has-take-le, has-take-suc, has-take_before}
@@ -22,9 +23,11 @@ live_parts m a p h = and_parts _ _ (sym (has-filter (λ q. has (program_of m q).
 pub live_distinct : (m : Market) → IsWellFormed m → (a : ℕ) → IsTrue (is_distinct (live m a))
 live_distinct m wf a = distinct-filter (λ q. has (program_of m q).ranking a) (list_of m a) (wf.lists_distinct a)
 
+-- who has gone from a program counts it among its proposals
 gone_count : (b : Bool) (n : ℕ) → n - (if b then 1 else 0) ≤ n
 gone_count b n = omega arith
 
+-- all proposals but the last are gone from
 front_count : (b : Bool) (n : ℕ) → n - 1 ≤ n - (if b then 1 else 0)
 front_count true n = omega arith
 front_count false n = omega arith
@@ -55,8 +58,7 @@ refused_is_excluded m wf f r passed a p on out =
     a on out
 
 -- the third clause of a legal floor follows from the first two
-pub legal_from_passed_lem : (m : Market) → IsWellFormed m → (f : Floor) → IsRecorded m f
-    → ((a p : ℕ) → IsTrue (has (gone m f a) p) → IsExcluded m a p) → IsLegal m f
+pub legal_from_passed_lem : LegalFromPassed
 legal_from_passed_lem m wf f r passed =
     let has_passed : HasPassed m f = record { front = λ a p h. passed a p (gone_from_front m f a p h) } in
     record { recorded = r; passed = passed; refused = refused_is_excluded m wf f r has_passed }
@@ -66,15 +68,18 @@ pub record IsNext (m : Market) (f : Floor) (a p : ℕ) : Type 0 where
   pub free : IsFalse (f.standing a)
   pub next : slice_get (live m a) (f.made a) ≡ Some p
 
+-- what an entry that there is only for who doesn't stand tells
 if_none : (b : Bool) (o : Option ℕ) (p : ℕ) → (if b then None else o) ≡ Some p → IsFalse b × (o ≡ Some p)
 if_none true o p e = cc
 if_none false o p e = (refl, e)
 
+-- the next entry of an applicant is a proposal that is due
 pub next_facts : (m : Market) (f : Floor) (a p : ℕ) → next_entry m f a ≡ Some p → IsNext m f a p
 next_facts m f a p e =
     let facts = if_none (f.standing a) (slice_get (live m a) (f.made a)) p e in
     record { free = facts.0; next = facts.1 }
 
+-- how many proposals have been made after one more, by its applicant and by another one
 pub made_same : (m : Market) (f : Floor) (a p : ℕ) → (proposed_at m f a p).made a ≡ suc (f.made a)
 made_same m f a p = rw (eq-eqb a a refl) (add-one (f.made a))
 
@@ -85,9 +90,11 @@ made_other m f a p b other = rw (ne_eqb b a other) refl
 tried_same : (m : Market) (f : Floor) (a p q : ℕ) → IsNext m f a p → has (tried m (proposed_at m f a p) a) q ≡ (has (tried m f a) q || (p == q))
 tried_same m f a p q n = rw (made_same m f a p) (has-take-suc (live m a) (f.made a) p q n.next)
 
+-- after a proposal, another applicant has tried what it had
 tried_other : (m : Market) (f : Floor) (a p b : ℕ) → b ≢ a → tried m (proposed_at m f a p) b ≡ tried m f b
 tried_other m f a p b other = ap (λ k. take k (live m b)) (made_other m f a p b other)
 
+-- who stands after a proposal: its applicant where the program chooses it, another one where it stood
 standing_same : (m : Market) (f : Floor) (a p : ℕ) → (proposed_at m f a p).standing a ≡ choice (program_of m p) (receives_one f p a) a
 standing_same m f a p = rw (eq-eqb a a refl) refl
 
@@ -98,12 +105,15 @@ standing_other m f a p b other = rw (ne_eqb b a other) refl
 received_same : (m : Market) (f : Floor) (a p q : ℕ) → (proposed_at m f a p).received q a ≡ (f.received q a || (p == q))
 received_same m f a p q = grind (arith, nat_tests)
 
+-- of another applicant, no program has received more
 received_other : (m : Market) (f : Floor) (a p q b : ℕ) → b ≢ a → (proposed_at m f a p).received q b ≡ f.received q b
 received_other m f a p q b other = grind (arith, nat_tests)
 
+-- another program has received whom it had
 received_elsewhere : (m : Market) (f : Floor) (a p q : ℕ) → q ≢ p → (proposed_at m f a p).received q ≡ f.received q
 received_elsewhere m f a p q other = rw (ne_eqb q p other) refl
 
+-- the program has received one more
 received_there : (m : Market) (f : Floor) (a p : ℕ) → (proposed_at m f a p).received p ≡ receives_one f p a
 received_there m f a p = rw (eq-eqb p p refl) refl
 
@@ -115,6 +125,7 @@ one_and_others P a here others b = go (cases_eq b a)
     go (inl same) = subst P (sym same) here
     go (inr other) = others b other
 
+-- a place at which an element stands is within the list
 pub within_get : (xs : List ℕ) (k p : ℕ) → slice_get xs k ≡ Some p → k < length xs
 within_get [] k p e = cc
 within_get (x ∷ xs) zero p e = omega arith
@@ -160,6 +171,7 @@ gone_if_kept m f a p kept =
     let e : suc (f.made a) - 1 ≡ f.made a = omega arith in
     gone_from m (proposed_at m f a p) a true (suc (f.made a)) kept (made_same m f a p) ∙ ap (λ k. take k (live m a)) e
 
+-- after a proposal, another applicant has gone from what it had
 gone_other : (m : Market) (f : Floor) (a p b : ℕ) → b ≢ a → gone m (proposed_at m f a p) b ≡ gone m f b
 gone_other m f a p b other = gone_from m (proposed_at m f a p) b (f.standing b) (f.made b) (standing_other m f a p b other) (made_other m f a p b other)
 
@@ -174,6 +186,7 @@ gone_if_refused m f a p q n free on =
 is_received : (m : Market) (f : Floor) (a p : ℕ) → IsTrue ((proposed_at m f a p).received p a)
 is_received m f a p = received_same m f a p p ∙ or_right _ _ (eq-eqb p p refl)
 
+-- after a proposal, the program holds its applicant where this one stands
 held_same : (m : Market) (f : Floor) (a p : ℕ) → held m (proposed_at m f a p) p a ≡ (proposed_at m f a p).standing a
 held_same m f a p = ap (λ (set : Set). choice (program_of m p) set a) (received_there m f a p) ∙ sym (standing_same m f a p)
 
@@ -262,6 +275,7 @@ pub record HasLast (m : Market) (f : Floor) (a k p : ℕ) : Type 0 where
   pub last : slice_get (live m a) k ≡ Some p
   pub last_is : last_tried m f a ≡ Some p
 
+-- on a recorded floor, who stands has such a program
 pub last_facts : (m : Market) (f : Floor) → IsRecorded m f → (a : ℕ) → IsTrue (f.standing a) → (k p : ℕ) × HasLast m f a k p
 last_facts m f r a stands =
     let made_some = r.proposed a stands in
@@ -274,6 +288,7 @@ last_facts m f r a stands =
 pub gone_where_standing : (m : Market) (f : Floor) (a k p : ℕ) → IsTrue (f.standing a) → HasLast m f a k p → gone m f a ≡ take k (live m a)
 gone_where_standing m f a k p stands l = gone_from m f a true (suc k) stands l.made_more ∙ ap (λ n. take n (live m a)) (omega arith)
 
+-- a notice that is due is one
 dropped_facts : (m : Market) (f : Floor) → IsRecorded m f → (a : ℕ) → IsTrue (is_due m f (Notice a)) → (k p : ℕ) × IsDropped m f a k p
 dropped_facts m f r a due =
     let parts = and_parts (f.standing a) _ due in
@@ -285,12 +300,14 @@ dropped_facts m f r a due =
 abbrev pub noticed : Floor → ℕ → Floor
 noticed f a = record f { standing = without f.standing a }
 
+-- who stands after a notice: its applicant doesn't, another one as before
 pub noticed_same : (f : Floor) (a : ℕ) → IsFalse ((noticed f a).standing a)
 noticed_same f a = rw (eq-eqb a a refl) refl
 
 pub noticed_other : (f : Floor) (a b : ℕ) → b ≢ a → (noticed f a).standing b ≡ f.standing b
 noticed_other f a b other = rw (ne_eqb b a other) refl
 
+-- a notice keeps a floor recorded
 notice_keeps_recorded : (m : Market) (f : Floor) (a : ℕ) → IsRecorded m f → IsRecorded m (noticed f a)
 notice_keeps_recorded m f a r = record {
   within = r.within;
@@ -309,6 +326,7 @@ gone_if_dropped m f a k p q d on =
     before_or_last : {x y : Bool} → x ≡ y → IsTrue (y || (p == q)) → (IsTrue x) ⊎ (p ≡ q)
     before_or_last e both = grind (arith, nat_tests)
 
+-- after a notice, another applicant has gone from what it had
 gone_after_notice : (m : Market) (f : Floor) (a b : ℕ) → b ≢ a → gone m (noticed f a) b ≡ gone m f b
 gone_after_notice m f a b other = gone_from m (noticed f a) b (f.standing b) (f.made b) (noticed_other f a b other) refl
 
@@ -324,15 +342,18 @@ after_notice m f a k p d P before now =
     before_or_now q (inl on) = before a q on
     before_or_now q (inr same) = subst (λ (x : ℕ). P a x) same now
 
+-- the program that drops an applicant has received it
 received_at_last : (m : Market) (f : Floor) → IsRecorded m f → (a k p : ℕ) → IsDropped m f a k p → IsTrue (f.received p a)
 received_at_last m f r a k p d =
     r.receives a p ∙ ap (λ n. has (take n (live m a)) p) d.made_more ∙ has-take-suc (live m a) k p p d.last ∙ or_right _ _ (eq-eqb p p refl)
 
+-- a notice keeps a floor legal
 notice_keeps_legal : (m : Market) → IsWellFormed m → (f : Floor) (a k p : ℕ) → IsDropped m f a k p → IsLegal m f → IsLegal m (noticed f a)
 notice_keeps_legal m wf f a k p d l =
     legal_from_passed_lem m wf (noticed f a) (notice_keeps_recorded m f a l.recorded)
     (after_notice m f a k p d (λ b q. IsExcluded m b q) l.passed (l.refused a p (received_at_last m f l.recorded a k p d) d.out))
 
+-- a notice keeps a floor strict
 notice_keeps_strict : (m : Market) → IsWellFormed m → (f : Floor) (a k p : ℕ) → IsDropped m f a k p → IsStrict m f → IsStrict m (noticed f a)
 notice_keeps_strict m wf f a k p d s = record {
   legal = notice_keeps_legal m wf f a k p d s.legal;
@@ -373,15 +394,18 @@ event_keeps m P recorded by_proposal by_notice f e h = go (cases_Bool (is_due m 
     go (inl due) = after_due m P f (recorded f h) (λ a p n. by_proposal f a p n h) (λ a k p d. by_notice f a k p d h) e due
     go (inr not_due) = subst P (sym (after_not_due m f e not_due)) h
 
-pub event_keeps_recorded_lem : (m : Market) (f : Floor) (e : Event) → IsRecorded m f → IsRecorded m (after m f e)
+-- an event keeps a floor recorded
+pub event_keeps_recorded_lem : EventKeepsRecorded
 event_keeps_recorded_lem m f e r =
     event_keeps m (λ g. IsRecorded m g) (λ g h. h) (λ g a p n h. proposal_keeps_recorded m g a p n h) (λ g a k p d h. notice_keeps_recorded m g a h) f e r
 
-pub event_keeps_legal_lem : (m : Market) → IsWellFormed m → (f : Floor) (e : Event) → IsLegal m f → IsLegal m (after m f e)
+-- an event keeps a floor legal
+pub event_keeps_legal_lem : EventKeepsLegal
 event_keeps_legal_lem m wf f e l =
     event_keeps m (λ g. IsLegal m g) (λ g h. h.recorded) (λ g a p n h. proposal_keeps_legal m wf g a p n h) (λ g a k p d h. notice_keeps_legal m wf g a k p d h) f e l
 
-pub event_keeps_strict_lem : (m : Market) → IsWellFormed m → (f : Floor) (e : Event) → IsStrict m f → IsStrict m (after m f e)
+-- an event keeps a floor strict
+pub event_keeps_strict_lem : EventKeepsStrict
 event_keeps_strict_lem m wf f e s =
     event_keeps m (λ g. IsStrict m g) (λ g h. h.legal.recorded) (λ g a p n h. proposal_keeps_strict m wf g a p n h) (λ g a k p d h. notice_keeps_strict m wf g a k p d h) f e s
 
@@ -390,11 +414,14 @@ events_keep : (m : Market) (P : Floor → Type 0) → ((f : Floor) (e : Event) �
 events_keep m P keeps f [] h = h
 events_keep m P keeps f (e ∷ es) h = events_keep m P keeps (after m f e) es (keeps f e h)
 
-pub events_keep_recorded_lem : (m : Market) (f : Floor) (es : List Event) → IsRecorded m f → IsRecorded m (after_all m f es)
+-- events keep a floor recorded
+pub events_keep_recorded_lem : EventsKeepRecorded
 events_keep_recorded_lem m f es = events_keep m (λ g. IsRecorded m g) (event_keeps_recorded_lem m) f es
 
-pub events_keep_legal_lem : (m : Market) → IsWellFormed m → (f : Floor) (es : List Event) → IsLegal m f → IsLegal m (after_all m f es)
+-- events keep a floor legal
+pub events_keep_legal_lem : EventsKeepLegal
 events_keep_legal_lem m wf f es = events_keep m (λ g. IsLegal m g) (event_keeps_legal_lem m wf) f es
 
-pub events_keep_strict_lem : (m : Market) → IsWellFormed m → (f : Floor) (es : List Event) → IsStrict m f → IsStrict m (after_all m f es)
+-- events keep a floor strict
+pub events_keep_strict_lem : EventsKeepStrict
 events_keep_strict_lem m wf f es = events_keep m (λ g. IsStrict m g) (event_keeps_strict_lem m wf) f es

@@ -20,6 +20,7 @@ has-before_last [] k p q on before = absurd (both_ways false refl before)
 has-before_last (x ∷ xs) zero p q on before = grind (arith, nat_tests)
 has-before_last (x ∷ xs) (suc k) p q on before = grind (arith, nat_tests, has-before_last xs k p q)
 
+-- the same of a front of any length
 pub has-until-take : (xs : List ℕ) (n p q : ℕ) → IsTrue (has (take n xs) p) → IsTrue (has (until (λ x. x == p) xs) q) → IsTrue (has (take (n - 1) xs) q)
 has-until-take xs zero p q on before = absurd (both_ways false refl on)
 has-until-take xs (suc k) p q on before = let e : suc k - 1 ≡ k = omega arith in rw e (has-before_last xs k p q on before)

@@ -8,14 +8,14 @@ use Rattle.mt_model.specs.Matching.{Places, at}
 use Rattle.mt_model.specs.Best.{IsBest, proposed_to}
 use Rattle.mt_model.specs.WellFormed.{IsWellFormed}
 use Rattle.mt_model.specs.Floor.{Floor, tried, is_quiet, IsRecorded, IsStrict, opening, after_all}
-use Rattle.mt_model.specs.Laws.Floors.{IsResult, result_of, HasProposalsOf, QuietCounts, AreAlike, OrderFree}
+use Rattle.mt_model.specs.Laws.Floors.{IsResult, result_of, HasProposalsOf, QuietCounts, EndAlike, OrderFree}
 use Rattle.mt_model.specs.declared.events.Event.{Event}
 use Rattle.mt_model.proofs.Totals.{count_below-same}
 use Rattle.mt_model.proofs.ExclusionLemmas.{best_is_unique_lem}
 use Rattle.mt_model.proofs.FloorLists.{has-take_before, through-get, through_none}
 use Rattle.mt_model.proofs.FloorEvents.{live_distinct, last_facts, events_keep_strict_lem}
 use Rattle.mt_model.proofs.FloorBest.{placed_facts, placed_from, tried_where_quiet, strict_best_lem}
-use Rattle.mt_model.proofs.FloorRuns.{opening_is_strict_lem, result_of_floor_lem}
+use Rattle.mt_model.proofs.FloorRuns.{opening_is_strict_lem, result_of_is_result}
 
 -- on a floor on which no event is due, an applicant has tried its live list down to its place
 tried_to_place : (m : Market) → IsWellFormed m → (f : Floor) → IsRecorded m f → IsTrue (is_quiet m f)
@@ -39,6 +39,7 @@ tried_to_place m wf f r quiet places result a = go (cases_Bool (f.standing a))
         tried_where_quiet m f r quiet a free
         ∙ sym (through_none (λ q. at places q a) (live m a) (λ q on. false_from_ne_true _ (λ at_q. both_ways _ free (placed_facts m f r places result a q at_q).1.stands)))
 
+-- so its proposals are those on the way to its result
 pub quiet_counts_lem : QuietCounts
 quiet_counts_lem m wf f r quiet places result = record {
   same_tried = tried_to_place m wf f r quiet places result;
@@ -52,26 +53,29 @@ record IsEnd (m : Market) (f : Floor) : Type 0 where
   best : IsBest m (result_of m f)
   on_the_way : HasProposalsOf m f (result_of m f)
 
+-- events until no event is due lead to such a floor
 end_facts : (m : Market) → IsWellFormed m → (es : List Event) → IsTrue (is_quiet m (after_all m opening es)) → IsEnd m (after_all m opening es)
 end_facts m wf es quiet =
     let f : Floor = after_all m opening es in
     let strict : IsStrict m f = events_keep_strict_lem m wf opening es (opening_is_strict_lem m) in
     record {
       strict = strict;
-      best = strict_best_lem m wf f strict quiet (result_of m f) (result_of_floor_lem m f);
-      on_the_way = quiet_counts_lem m wf f strict.legal.recorded quiet (result_of m f) (result_of_floor_lem m f);
+      best = strict_best_lem m wf f strict quiet (result_of m f) (result_of_is_result m f);
+      on_the_way = quiet_counts_lem m wf f strict.legal.recorded quiet (result_of m f) (result_of_is_result m f);
     }
 
 -- a recorded floor's proposals are as many as the programs tried
 made_is : (m : Market) (f : Floor) → IsRecorded m f → (a : ℕ) → length (tried m f a) ≡ f.made a
 made_is m f r a = length-take-le (f.made a) (live m a) (r.within a)
 
--- two such floors are alike
-ends_alike : (m : Market) → IsWellFormed m → (f g : Floor) → IsEnd m f → IsEnd m g → AreAlike m f g
-ends_alike m wf f g ef eg = record {
+-- two such floors end alike
+ends_alike : (m : Market) (f g : Floor) → IsEnd m f → IsEnd m g → EndAlike m f g
+ends_alike m f g ef eg = record {
   same_made = λ a. sym (made_is m f ef.strict.legal.recorded a) ∙ ap length (tried_alike a) ∙ made_is m g eg.strict.legal.recorded a;
   same_received = λ p a. ef.strict.legal.recorded.receives a p ∙ ap (λ ps. has ps p) (tried_alike a) ∙ sym (eg.strict.legal.recorded.receives a p);
   same_result = same_result;
+  best = ef.best;
+  on_the_way = ef.on_the_way;
 }
   where
     same_result : result_of m f ≡ result_of m g
@@ -80,8 +84,7 @@ ends_alike m wf f g ef eg = record {
     tried_alike : (a : ℕ) → tried m f a ≡ tried m g a
     tried_alike a = ef.on_the_way.same_tried a ∙ ap (λ places. proposed_to m places a) same_result ∙ sym (eg.on_the_way.same_tried a)
 
+-- any two lists of events until no event is due end alike
 pub order_free_lem : OrderFree
 order_free_lem m wf es fs quiet_e quiet_f =
-    let ef = end_facts m wf es quiet_e in
-    let eg = end_facts m wf fs quiet_f in
-    (ends_alike m wf (after_all m opening es) (after_all m opening fs) ef eg, ef.best)
+    ends_alike m (after_all m opening es) (after_all m opening fs) (end_facts m wf es quiet_e) (end_facts m wf fs quiet_f)

@@ -1,13 +1,14 @@
 -- How many events are due, and that they come to an end.
-use Rattle.std.proofs.Common.{◌≡◌, ℕ, zero, suc, ◌+◌, ◌-◌, ◌*◌, ◌<◌, ◌≤◌, Bool, true, false, ◌==◌, List, [], ◌∷◌, length, Option, Some, None, is_some, slice_get, IsTrue, IsFalse, refl, ap, ap₂, sym, ◌∙◌, if◌then◌else◌, arith, ◌≢◌, ◌⊎◌, inl, inr}
+use Rattle.std.proofs.Common.{◌≡◌, ℕ, zero, suc, ◌+◌, ◌-◌, ◌*◌, ◌<◌, ◌≤◌, Bool, true, false, ◌==◌, List, [], ◌∷◌, length, Option, Some, None, is_some, slice_get, IsTrue, IsFalse, refl, ap, ap₂, sym, ◌∙◌, if◌then◌else◌, arith, subst, ◌≢◌, ◌⊎◌, inl, inr}
 use Rattle.std.specs.List.{list_all, range_with_len}
 use Rattle.std.proofs.lemmas.Bool.{both_ways, and_from, and_cases, cases_Bool, not_from_false, eqb-false}
-use Rattle.std.proofs.lemmas.List.FromFn.{length-map-range_with_len, get_or-map-range_with_len}
+use Rattle.std.proofs.lemmas.List.FromFn.{length-map-range_with_len, get_or-map-range_with_len, fill_by_all}
 use Rattle.std.proofs.lemmas.Bool.Decides.{nat_tests}
 use Rattle.mt_model.specs.Lists.{Set, has, total_below}
 use Rattle.mt_model.specs.Market.{Market, live, applicants, live_entries}
-use Rattle.mt_model.specs.Floor.{Floor, last_tried, next_entry, is_held_by, is_settled, is_quiet, is_due, after, after_all, after_proposal, proposed_at, IsRecorded, IsStrict, opening, due_count}
-use Rattle.mt_model.specs.Laws.Floors.{DueAtMost, QuietIsReached, is_proposal, due_proposals, proposals_made, DueProposalsAreMade, MadeAtMost, place_on, result_of, ResultOfFloor, BestExists}
+use Rattle.mt_model.specs.Matching.{Places}
+use Rattle.mt_model.specs.Floor.{Floor, last_tried, next_entry, is_held_by, is_settled, is_quiet, is_due, after, after_all, after_proposal, proposed_at, IsRecorded, opening, due_count}
+use Rattle.mt_model.specs.Laws.Floors.{OpeningIsStrict, DueAtMost, QuietIsReached, is_proposal, due_proposals, proposals_made, DueProposalsAreMade, MadeAtMost, place_on, result_of, IsResult, ResultOfFloor, BestExists}
 use Rattle.mt_model.specs.declared.events.Event.{Event}
 use Rattle.mt_model.specs.declared.events.Event.TheVariants.{Propose, Notice}
 use Rattle.mt_model.proofs.Totals.{total_below-mono}
@@ -21,6 +22,7 @@ use Rattle.mt_model.proofs.FloorBest.{applicant_from_live, strict_best_lem}
 abbrev yet_to_do : ℕ → ℕ → Bool → ℕ
 yet_to_do entries made stands = 2 * (entries - made) + (if stands then 1 else 0)
 
+-- the same of an applicant on a floor
 abbrev left_to_do : Market → Floor → ℕ → ℕ
 left_to_do m f a = yet_to_do (length (live m a)) (f.made a) (f.standing a)
 
@@ -28,9 +30,11 @@ left_to_do m f a = yet_to_do (length (live m a)) (f.made a) (f.standing a)
 abbrev weight : Market → Floor → ℕ
 weight m f = total_below (left_to_do m f) (applicants m)
 
+-- a proposal leaves less to do, whether or not its applicant then stands
 less_after_proposal : (n made made' : ℕ) (b s : Bool) → made < n → made' ≡ suc made → IsFalse b → yet_to_do n made' s < yet_to_do n made b
 less_after_proposal n made made' b s h more free = grind (arith, nat_tests)
 
+-- a notice leaves less to do
 less_after_notice : (n made : ℕ) (b s : Bool) → IsTrue b → IsFalse s → yet_to_do n made s < yet_to_do n made b
 less_after_notice n made b s stands free = grind (arith, nat_tests)
 
@@ -41,12 +45,14 @@ weight_less m f g a p on less same =
     let rises = total_below-one_more (left_to_do m g) (left_to_do m f) (applicants m) a (left_to_do m f a - left_to_do m g a) (omega arith) (λ b other. sym (same b other)) (applicant_from_live m a p on) in
     omega (arith, rises)
 
+-- the weight falls with a proposal
 weight_after_proposal : (m : Market) (f : Floor) (a p : ℕ) → IsNext m f a p → weight m (proposed_at m f a p) < weight m f
 weight_after_proposal m f a p n =
     weight_less m f (proposed_at m f a p) a p (has-get (live m a) (f.made a) p n.next)
     (less_after_proposal (length (live m a)) (f.made a) _ (f.standing a) _ (within_get (live m a) (f.made a) p n.next) (made_same m f a p) n.free)
     (λ b other. ap₂ (yet_to_do (length (live m b))) (made_other m f a p b other) (standing_other m f a p b other))
 
+-- the weight falls with a notice
 weight_after_notice : (m : Market) (f : Floor) (a k p : ℕ) → IsDropped m f a k p → weight m (noticed f a) < weight m f
 weight_after_notice m f a k p d =
     weight_less m f (noticed f a) a p (has-get (live m a) k p d.last)
@@ -67,15 +73,18 @@ due_and_weight m f r (e ∷ es) = step (due_and_weight m (after m f e) (event_ke
     step rest (inl due) = rw due (omega (arith, rest, weight_after_due m f r e due))
     step rest (inr not_due) = rw not_due (omega (arith, rest, ap (weight m) (after_not_due m f e not_due)))
 
+-- an applicant has at most twice its live entries to do
 to_do_at_most : (n made : ℕ) (b : Bool) → made ≤ n → (IsTrue b → 0 < made) → yet_to_do n made b ≤ 2 * n
 to_do_at_most n made true within proposed = omega (arith, proposed refl)
 to_do_at_most n made false within proposed = omega arith
 
+-- the weight is at most twice the live entries
 weight_at_most : (m : Market) (f : Floor) → IsRecorded m f → weight m f ≤ 2 * live_entries m
 weight_at_most m f r =
     let each = total_below-mono (left_to_do m f) (λ a. 2 * length (live m a)) (applicants m) (λ a low. to_do_at_most (length (live m a)) (f.made a) (f.standing a) (r.within a) (r.proposed a)) in
     omega (arith, each, total_below-twice (λ a. length (live m a)) (applicants m))
 
+-- no more events are due than twice the live entries
 pub due_at_most_lem : DueAtMost
 due_at_most_lem m f r es = omega (arith, due_and_weight m f r es, weight_at_most m f r)
 
@@ -92,6 +101,7 @@ made_after_due m f r (Notice a) due =
     let same : proposals_made m (after m f (Notice a)) ≡ proposals_made m f = ap (λ b. proposals_made m (if b then (noticed f a) else f)) due in
     omega (arith, same)
 
+-- the number of proposals made rises by the due proposals
 pub due_proposals_are_made_lem : DueProposalsAreMade
 due_proposals_are_made_lem m f r [] = omega arith
 due_proposals_are_made_lem m f r (e ∷ es) = step (due_proposals_are_made_lem m (after m f e) (event_keeps_recorded_lem m f e r) es) (cases_Bool (is_due m f e))
@@ -101,6 +111,7 @@ due_proposals_are_made_lem m f r (e ∷ es) = step (due_proposals_are_made_lem m
     step rest (inl due) = rw due (omega (arith, rest, made_after_due m f r e due))
     step rest (inr not_due) = rw not_due (omega (arith, rest, ap (proposals_made m) (after_not_due m f e not_due)))
 
+-- no more proposals are made than there are live entries
 pub made_at_most_lem : MadeAtMost
 made_at_most_lem m f r = total_below-mono f.made (λ a. length (live m a)) (applicants m) (λ a low. r.within a)
 
@@ -149,10 +160,12 @@ quiet_within m (suc k) f r bound = elim (cases_Bool (is_quiet m f)) [
       (e.0 ∷ rest.0, rest.1)
 ]
 
+-- from each recorded floor, some list of events ends where no event is due
 pub quiet_is_reached_lem : QuietIsReached
 quiet_is_reached_lem m f r = quiet_within m (weight m f) f r (omega arith)
 
-pub opening_is_strict_lem : (m : Market) → IsStrict m opening
+-- the opening floor is strict
+pub opening_is_strict_lem : OpeningIsStrict
 opening_is_strict_lem m = record {
   legal = record {
     recorded = record { within = λ a. omega arith; proposed = λ a stands. absurd (both_ways false refl stands); receives = λ a p. refl };
@@ -162,11 +175,19 @@ opening_is_strict_lem m = record {
   let_go = λ a p left. absurd (both_ways false refl left);
 }
 
-pub result_of_floor_lem : ResultOfFloor
-result_of_floor_lem m f = record {
+-- each floor has a result
+pub result_of_is_result : (m : Market) (f : Floor) → IsResult m f (result_of m f)
+result_of_is_result m f = record {
   one_each = length-map-range_with_len (place_on m f) 0 (applicants m);
   each_place = λ a low. get_or-map-range_with_len (place_on m f) 0 (applicants m) a a None low (omega arith);
 }
+
+-- and no other one
+pub result_of_floor_lem : ResultOfFloor
+result_of_floor_lem m f places = (
+  (λ result. fill_by_all (place_on m f) places (applicants m) None result.one_each result.each_place),
+  (λ same. subst (λ (r : Places). IsResult m f r) (sym same) (result_of_is_result m f)),
+)
 
 -- there is a best match
 pub best_exists_lem : BestExists
@@ -174,4 +195,4 @@ best_exists_lem m wf =
     let strict = opening_is_strict_lem m in
     let end = quiet_is_reached_lem m opening strict.legal.recorded in
     let f : Floor = after_all m opening end.0 in
-    (result_of m f, strict_best_lem m wf f (events_keep_strict_lem m wf opening end.0 strict) end.1 (result_of m f) (result_of_floor_lem m f))
+    (result_of m f, strict_best_lem m wf f (events_keep_strict_lem m wf opening end.0 strict) end.1 (result_of m f) (result_of_is_result m f))

@@ -4,6 +4,7 @@ use Rattle.std.proofs.lemmas.Bool.{cases_eq}
 use Rattle.mt_model.specs.Lists.{total_below}
 use Rattle.mt_model.proofs.Totals.{total_below-same}
 
+-- the step of the next lemma
 one_more_step : (f g : ℕ → ℕ) (n a d : ℕ) → g a ≡ d + f a → ((b : ℕ) → b ≢ a → g b ≡ f b)
     → (a < n → total_below g n ≡ d + total_below f n) → a < suc n → total_below g (suc n) ≡ d + total_below f (suc n)
 one_more_step f g n a d more same before a_below = last_or_before (cases_eq n a)

@@ -12,6 +12,7 @@ all_in_range test a zero h = refl
 all_in_range test a (suc n) h =
     and_from _ _ (h a (omega arith) (omega arith)) (all_in_range test (a + 1) n (λ k low high. h k (omega arith) (omega arith)))
 
+-- each number of a range passes where all of it does
 each_in_range : (test : Set) (a n : ℕ) → IsTrue (list_all test (range_with_len a n)) → (k : ℕ) → a ≤ k → k < a + n → IsTrue (test k)
 each_in_range test a zero h k low high = absurd (omega arith)
 each_in_range test a (suc n) h k low high =
@@ -21,10 +22,11 @@ each_in_range test a (suc n) h k low high =
       | inr later ↦ each_in_range test (a + 1) n parts.1 k (omega arith) (omega arith)
     ]
 
--- all numbers below n pass where each of them does, and the other way round
+-- all numbers below n pass where each of them does
 pub all_below : (test : Set) (n : ℕ) → ((k : ℕ) → k < n → IsTrue (test k)) → IsTrue (list_all test (below n))
 all_below test n h = all_in_range test 0 n (λ k low high. h k (omega arith))
 
+-- each number below n passes where all of them do
 pub each_below : (test : Set) (n : ℕ) → IsTrue (list_all test (below n)) → (k : ℕ) → k < n → IsTrue (test k)
 each_below test n h k k_below = each_in_range test 0 n h k (omega arith) (omega arith)
 
@@ -33,12 +35,13 @@ pub list_any-not : {X : Type 0} (test : X → Bool) (xs : List X) → list_any t
 list_any-not test [] = refl
 list_any-not test (x ∷ xs) = grind (arith, list_any-not test xs)
 
--- none of the numbers below n passes where each of them fails, and the other way round
+-- none of the numbers below n passes where each of them fails
 pub none_below : (test : Set) (n : ℕ) → ((k : ℕ) → k < n → IsFalse (test k)) → IsFalse (list_any test (below n))
 none_below test n h =
     list_any-not test (below n)
     ∙ not_from_true _ (all_below (λ k. not (test k)) n (λ k k_below. not_from_false _ (h k k_below)))
 
+-- each number below n fails where none of them passes
 pub each_fails_below : (test : Set) (n : ℕ) → IsFalse (list_any test (below n)) → (k : ℕ) → k < n → IsFalse (test k)
 each_fails_below test n h k k_below =
     not-true _ (each_below (λ i. not (test i)) n (not-false _ (sym (list_any-not test (below n)) ∙ h)) k k_below)
@@ -48,6 +51,7 @@ pub each_has : (test : Set) (xs : List ℕ) (a : ℕ) → IsTrue (list_all test 
 each_has test [] a all on = absurd (both_ways false refl on)
 each_has test (x ∷ xs) a all on = grind (arith, nat_tests, each_has test xs a)
 
+-- all of a list pass where whoever is on it does
 pub all_from_has : (test : Set) (xs : List ℕ) → ((a : ℕ) → IsTrue (has xs a) → IsTrue (test a)) → IsTrue (list_all test xs)
 all_from_has test [] h = refl
 all_from_has test (x ∷ xs) h = and_from _ _ (h x (or_left _ _ (eq-eqb x x refl))) (all_from_has test xs (λ a on. h a (or_right _ _ on)))
@@ -62,17 +66,19 @@ pub none_from_each : (test : Set) (xs : List ℕ) → ((a : ℕ) → IsTrue (has
 none_from_each test [] h = refl
 none_from_each test (x ∷ xs) h = or_from _ _ (h x (grind (arith, nat_tests))) (none_from_each test xs (λ a on. h a (or_right _ _ on)))
 
--- a test of mapped elements
+-- whether some mapped element passes
 pub list_any-map : {X Y : Type 0} (test : Y → Bool) (f : X → Y) (xs : List X) → list_any test (map f xs) ≡ list_any (λ x. test (f x)) xs
 list_any-map test f [] = refl
 list_any-map test f (x ∷ xs) = ap (λ (b : Bool). test (f x) || b) (list_any-map test f xs)
 
+-- one step of the next lemma
 until-map_step : {X Y : Type 0} (test : Y → Bool) (f : X → Y) (x : X) (xs : List X) (b : Bool)
     → until test (map f xs) ≡ map f (until (λ y. test (f y)) xs)
     → (if b then [] else (f x ∷ until test (map f xs))) ≡ map f (if b then [] else (x ∷ until (λ y. test (f y)) xs))
 until-map_step test f x xs true h = refl
 until-map_step test f x xs false h = ap (λ ys. f x ∷ ys) h
 
+-- the front of a mapped list
 pub until-map : {X Y : Type 0} (test : Y → Bool) (f : X → Y) (xs : List X) → until test (map f xs) ≡ map f (until (λ x. test (f x)) xs)
 until-map test f [] = refl
 until-map test f (x ∷ xs) = until-map_step test f x xs (test (f x)) (until-map test f xs)
@@ -153,10 +159,11 @@ pub until_nobody : (xs : List ℕ) → until (λ x. false) xs ≡ xs
 until_nobody [] = refl
 until_nobody (x ∷ xs) = ap (λ ys. x ∷ ys) (until_nobody xs)
 
--- a list up to a number, whichever way the test is written
+-- a test of two numbers, with the two exchanged
 eqb_sym : (a b : ℕ) → (a == b) ≡ (b == a)
 eqb_sym a b = grind (arith, nat_tests)
 
+-- the front of a list before a number, whichever way the test is written
 pub until_eqb_sym : (xs : List ℕ) (p : ℕ) → until (λ x. p == x) xs ≡ until (λ x. x == p) xs
 until_eqb_sym xs p = ap (λ (test : Set). until test xs) (fun_ext λ x. eqb_sym p x)
 
@@ -188,10 +195,7 @@ passes_before test (x ∷ xs) p on none fails = elim (cases_Bool (test x)) [
       (r.0, r.1, until_later xs x p r.0 parts.0 r.2)
 ]
 
--- whoever else is in a set is in it besides one more
-pub with_one-same : (set : Set) (a b : ℕ) → b ≡ a → with_one set a b ≡ true
-with_one-same set a b same = ap (λ (r : Bool). r || set b) (eq-eqb b a same)
-
+-- whoever else is in a set with one more is in the set
 pub with_one-other : (set : Set) (a b : ℕ) → b ≢ a → with_one set a b ≡ set b
 with_one-other set a b other = ap (λ (r : Bool). r || set b) (ne_eqb b a other)
 

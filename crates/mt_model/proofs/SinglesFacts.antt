@@ -1,5 +1,5 @@
 -- What it means, fact by fact, that a match of the singles' market is stable.
-use Rattle.std.proofs.Common.{◌≡◌, ℕ, ◌≤◌, ◌<◌, true, false, not, ◌&&◌, ◌||◌, ◌==◌, nat_le, List, [], ◌∷◌, map, length, is_some, Option, Some, None, IsTrue, IsFalse, refl, ap, sym, ◌∙◌, subst, eqb-true, eq-eqb, le-leb, leb-true, inl, inr, arith}
+use Rattle.std.proofs.Common.{◌≡◌, ℕ, ◌≤◌, ◌<◌, Bool, true, false, not, ◌&&◌, ◌||◌, ◌==◌, nat_le, List, [], ◌∷◌, map, length, is_some, Option, Some, None, IsTrue, IsFalse, refl, ap, sym, ◌∙◌, subst, eqb-true, eq-eqb, le-leb, leb-true, inl, inr, arith}
 use Rattle.std.specs.List.{list_any, list_all}
 use Rattle.std.proofs.lemmas.Bool.{and_parts, and_from, or_left, or_right, or_cases, cases_lt, not-true, not_from_false, both_ways, false_from_ne_true}
 use Rattle.std.proofs.lemmas.Bool.Decides.{nat_tests}
@@ -14,6 +14,7 @@ use Rattle.mt_model.specs.Stability.{stable, fits, has_own_option, is_listed, bl
 use Rattle.mt_model.specs.Best.{better_programs}
 use Rattle.mt_model.specs.Laws.Singles.{StabilityOfSingles}
 pub use Rattle.mt_model.specs.Laws.Singles.{IsStableForSingles}
+use Rattle.mt_model.specs.declared.numbers.Agent.{Agent}
 use Rattle.mt_model.specs.declared.numbers.Agent.TheVariants.{Single}
 use Rattle.mt_model.proofs.ListLemmas.{all_below, each_below, none_below, each_fails_below, count_none, none_has, none_from_each, list_any-map, until-map, filter_all}
 use Rattle.mt_model.proofs.TakenLemmas.{single_taken_lem}
@@ -22,11 +23,20 @@ use Rattle.mt_model.proofs.TakenLemmas.{single_taken_lem}
 pub agents-singles_market : (m : Market) → agents (singles_market m) ≡ map Single (below (applicants m))
 agents-singles_market m = ap (map Single) (filter_all (below (applicants m)))
 
+-- a test of all agents, where every applicant is an agent
+list_all-agents : (m : Market) (test : Agent → Bool) → list_all test (agents (singles_market m)) ≡ list_all (λ a. test (Single a)) (below (applicants m))
+list_all-agents m test = ap (list_all test) (agents-singles_market m) ∙ list_all-map test Single (below (applicants m))
+
+-- a test of some agent, where every applicant is an agent
+list_any-agents : (m : Market) (test : Agent → Bool) → list_any test (agents (singles_market m)) ≡ list_any (λ a. test (Single a)) (below (applicants m))
+list_any-agents m test = ap (list_any test) (agents-singles_market m) ∙ list_any-map test Single (below (applicants m))
+
 -- a single has an option where it is at the option's program
 holds-single_placement_at : (places : Places) (a p : ℕ) (place : Option ℕ) → (is_same_place place (Some p) && true) ≡ is_program p place
 holds-single_placement_at places a p None = refl
 holds-single_placement_at places a p (Some q) = grind (arith, nat_tests)
 
+-- a single's options hold where it is at their programs
 holds-single_placement : (places : Places) (a : ℕ) → ◌≡◌ {A = Set} (λ p. holds places (single_placement a p)) (λ p. at places p a)
 holds-single_placement places a = fun_ext λ p. holds-single_placement_at places a p (place_of places a)
 
@@ -62,6 +72,7 @@ own_option_has xs p (Some q) own there =
     has-at_place [] p q same found = found
     has-at_place (x ∷ xs) p q same found = grind (arith, nat_tests, has-at_place xs p q same)
 
+-- a single whose program is on its list has an option of its own, or is nowhere
 own_option_from : (xs : List ℕ) (place : Option ℕ) → ((p : ℕ) → IsTrue (is_program p place) → IsTrue (has xs p))
     → IsTrue (list_any (λ q. is_program q place) xs || (not (is_some place) && true))
 own_option_from xs None h = or_right _ _ refl
@@ -77,6 +88,7 @@ listed_at : (m : Market) (a p : ℕ) (place : Option ℕ) → IsTrue (is_listed 
 listed_at m a p None listed there = absurd (both_ways false refl there)
 listed_at m a p (Some q) listed there = subst (λ (r : ℕ). IsTrue (has (program_of m r).ranking a)) (eqb-true q p there) listed
 
+-- a single's place is listed where its program lists it
 is_listed_from : (m : Market) (a : ℕ) (place : Option ℕ) → ((p : ℕ) → IsTrue (is_program p place) → IsTrue (has (program_of m p).ranking a))
     → IsTrue (is_listed (singles_market m) a place)
 is_listed_from m a None h = refl
@@ -94,6 +106,7 @@ pub record StableParts (m : Market) (places : Places) : Type 0 where
   pub within : IsTrue (list_all (λ p. nat_le (filled places p) (program_of m p).quota) (below (length m.programs)))
   pub none_blocks : IsFalse (list_any (blocks m places) (agents m))
 
+-- a stable match has the five parts
 pub stable_parts : (m : Market) (places : Places) → IsTrue (stable m places) → StableParts m places
 stable_parts m places h =
     let all = and_parts (fits m places) _ h in
@@ -102,11 +115,12 @@ stable_parts m places h =
     let third = and_parts (length places == applicants m) _ second.0 in
     record { one_each = third.0; own_options = third.1; listed = second.1; within = first.1; none_blocks = not-true _ all.1 }
 
+-- a match with the five parts is stable
 pub stable_from_parts : (m : Market) (places : Places) → StableParts m places → IsTrue (stable m places)
 stable_from_parts m places h =
     and_from _ _ (and_from _ _ (and_from _ _ (and_from _ _ h.one_each h.own_options) h.listed) h.within) (not_from_false _ h.none_blocks)
 
--- the test and the facts say the same
+-- a match of the singles that passes the test has these facts
 pub stable_facts : (m : Market) (places : Places) → IsTrue (stable (singles_market m) places) → IsStableForSingles m places
 stable_facts m places h = record { one_each = one_each; on_list = on_list; listed = listed; within = within; none_block = none_block }
   where
@@ -117,15 +131,19 @@ stable_facts m places h = record { one_each = one_each; on_list = on_list; liste
     one_each = eqb-true _ _ parts.one_each
 
     applies : (a p : ℕ) → IsTrue (at places p a) → a < applicants m
-    applies a p there = elim (cases_lt a (applicants m)) [ inl low ↦ low | inr high ↦ absurd (both_ways _ (at_past places a p (let e = one_each in omega arith)) there) ]
+    applies a p there = elim (cases_lt a (applicants m)) [
+      | inl low ↦ low
+      | inr high ↦ absurd (both_ways _ (at_past places a p (let e = one_each in omega arith)) there)
+    ]
 
-    own : IsTrue (list_all (λ a. has_own_option (singles_market m) places (Single a)) (below (applicants m)))
-    own = sym (list_all-map (has_own_option (singles_market m) places) Single (below (applicants m))) ∙ ap (list_all (has_own_option (singles_market m) places)) (sym (agents-singles_market m)) ∙ parts.own_options
+    own_option : (a : ℕ) → a < applicants m → IsTrue (has_own_option (singles_market m) places (Single a))
+    own_option =
+        each_below (λ a. has_own_option (singles_market m) places (Single a)) (applicants m)
+        (sym (list_all-agents m (has_own_option (singles_market m) places)) ∙ parts.own_options)
 
     on_list : (a p : ℕ) → IsTrue (at places p a) → IsTrue (has (list_of m a) p)
     on_list a p there =
-        own_option_has (list_of m a) p (place_of places a)
-        (sym (has_own_option-Single m places a) ∙ each_below (λ b. has_own_option (singles_market m) places (Single b)) (applicants m) own a (applies a p there)) there
+        own_option_has (list_of m a) p (place_of places a) (sym (has_own_option-Single m places a) ∙ own_option a (applies a p there)) there
 
     listed : (a p : ℕ) → IsTrue (at places p a) → IsTrue (has (program_of m p).ranking a)
     listed a p there =
@@ -135,8 +153,9 @@ stable_facts m places h = record { one_each = one_each; on_list = on_list; liste
     none_past : (p : ℕ) → length m.programs ≤ p → filled places p ≡ 0
     none_past p past =
         let unknown : program_of m p ≡ record { quota = 0; ranking = [] } = get_or_past m.programs p _ past in
-        count_none (is_program p) places None
-        (λ a a_in. false_from_ne_true _ (λ there. both_ways false refl (subst (λ (q : Program). IsTrue (has q.ranking a)) unknown (listed a p there))))
+        let unlisted : (a : ℕ) → IsTrue (at places p a) → ⊥ =
+        λ a there. both_ways false refl (subst (λ (q : Program). IsTrue (has q.ranking a)) unknown (listed a p there)) in
+        count_none (is_program p) places None (λ a a_in. false_from_ne_true _ (unlisted a))
 
     within : (p : ℕ) → filled places p ≤ (program_of m p).quota
     within p = elim (cases_lt p (length m.programs)) [
@@ -144,34 +163,38 @@ stable_facts m places h = record { one_each = one_each; on_list = on_list; liste
       | inr high ↦ rw (none_past p high) (omega arith)
     ]
 
-    none_blocks : IsFalse (list_any (λ a. blocks (singles_market m) places (Single a)) (below (applicants m)))
-    none_blocks = sym (list_any-map (blocks (singles_market m) places) Single (below (applicants m))) ∙ ap (list_any (blocks (singles_market m) places)) (sym (agents-singles_market m)) ∙ parts.none_blocks
+    not_blocking : (a : ℕ) → a < applicants m → IsFalse (blocks (singles_market m) places (Single a))
+    not_blocking =
+        each_fails_below (λ a. blocks (singles_market m) places (Single a)) (applicants m)
+        (sym (list_any-agents m (blocks (singles_market m) places)) ∙ parts.none_blocks)
 
     none_block : (a p : ℕ) → IsTrue (has (better_programs m places a) p) → IsFalse (choice (program_of m p) (with_one (at places p) a) a)
     none_block a p better_one = elim (cases_lt a (applicants m)) [
-      | inl low ↦ none_has (λ q. choice (program_of m q) (with_one (at places q) a) a) (better_programs m places a) p
-          (sym (blocks-Single m places a (let e = one_each in omega arith)) ∙ each_fails_below (λ b. blocks (singles_market m) places (Single b)) (applicants m) none_blocks a low) better_one
+      | inl low ↦
+          let a_in : a < length places = (let e = one_each in omega arith) in
+          none_has (λ q. choice (program_of m q) (with_one (at places q) a) a) (better_programs m places a) p
+          (sym (blocks-Single m places a a_in) ∙ not_blocking a low) better_one
       | inr high ↦
           let unknown : list_of m a ≡ [] = get_or_past m.lists a [] high in
           absurd (both_ways false refl (subst (λ (xs : List ℕ). IsTrue (has (until (λ q. at places q a) xs) p)) unknown better_one))
     ]
 
+-- a match with these facts passes the test
 pub stable_from_facts : (m : Market) (places : Places) → IsStableForSingles m places → IsTrue (stable (singles_market m) places)
 stable_from_facts m places h = stable_from_parts (singles_market m) places (record {
   one_each = eq-eqb _ _ h.one_each;
   own_options =
-      ap (list_all (has_own_option (singles_market m) places)) (agents-singles_market m)
-      ∙ list_all-map (has_own_option (singles_market m) places) Single (below (applicants m))
+      list_all-agents m (has_own_option (singles_market m) places)
       ∙ all_below _ (applicants m) (λ a low. has_own_option-Single m places a ∙ own_option_from (list_of m a) (place_of places a) (h.on_list a));
   listed = all_below _ (applicants m) (λ a low. is_listed_from m a (place_of places a) (h.listed a));
   within = all_below _ (length m.programs) (λ p low. le-leb _ _ (h.within p));
   none_blocks =
-      ap (list_any (blocks (singles_market m) places)) (agents-singles_market m)
-      ∙ list_any-map (blocks (singles_market m) places) Single (below (applicants m))
+      list_any-agents m (blocks (singles_market m) places)
       ∙ none_below _ (applicants m) (λ a low.
       blocks-Single m places a (let e = h.one_each in omega arith)
       ∙ none_from_each (λ p. choice (program_of m p) (with_one (at places p) a) a) (better_programs m places a) (h.none_block a));
 })
 
+-- the test and the facts say the same
 pub stability_of_singles_lem : StabilityOfSingles
 stability_of_singles_lem m places = (stable_facts m places, stable_from_facts m places)

@@ -11,10 +11,11 @@ use Rattle.mt_model.specs.Laws.Taken.{taken_out, SingleTaken, PairTaken, SamePro
 use Rattle.mt_model.proofs.ListLemmas.{count_has, one_higher}
 use Rattle.mt_model.proofs.ChoiceLemmas.{choice_facts}
 
--- who is at a program where one applicant was moved
-at-slice_set_same : (places : Places) (a p : ℕ) (place : Option ℕ) → a < length places → at (slice_set places a place) p a ≡ is_program p place
+-- where an applicant is that was moved
+pub at-slice_set_same : (places : Places) (a p : ℕ) (place : Option ℕ) → a < length places → at (slice_set places a place) p a ≡ is_program p place
 at-slice_set_same places a p place a_in = ap (is_program p) (get_or-set_same places a place None a_in)
 
+-- where the others are when one applicant is moved
 pub at-slice_set_other : (places : Places) (a b p : ℕ) (place : Option ℕ) → b ≢ a → at (slice_set places a place) p b ≡ at places p b
 at-slice_set_other places a b p place other = ap (is_program p) (get_or-set_other places a b place None other)
 
@@ -41,6 +42,7 @@ at-slice_set places a p a_in = fun_ext λ b. at_moved places a p b (Some p) a_in
     at_sent true p was = eq-eqb p p refl
     at_sent false p was = refl
 
+-- a test beside one that passes
 and-true : (b : Bool) → (b && true) ≡ b
 and-true true = refl
 and-true false = refl
@@ -114,6 +116,7 @@ pub first_alone_taken_lem : FirstAloneTaken
 first_alone_taken_lem m places a b x a_in b_in apart =
     and-true _ ∙ ap (λ (set : Set). choice (program_of m x) set a) (at_first places a b x None a_in b_in apart refl)
 
+-- and the same for the other member
 pub second_alone_taken_lem : SecondAloneTaken
 second_alone_taken_lem m places a b y a_in b_in =
     and-true _ ∙ ap (λ (set : Set). choice (program_of m y) set b) (at_second places a b y None a_in b_in refl)

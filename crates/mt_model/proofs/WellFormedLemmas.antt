@@ -16,28 +16,32 @@ all_at test [] k d all at_default = at_default
 all_at test (x ∷ xs) zero d all at_default = (and_parts (test x) (list_all test xs) all).0
 all_at test (x ∷ xs) (suc k) d all at_default = all_at test xs k d (and_parts (test x) (list_all test xs) all).1 at_default
 
+-- all elements pass where each does at its index
 all_from_indexes : {X : Type 0} (test : X → Bool) (xs : List X) (d : X) → ((k : ℕ) → IsTrue (test (get_or xs k d))) → IsTrue (list_all test xs)
 all_from_indexes test [] d h = refl
 all_from_indexes test (x ∷ xs) d h = and_from _ _ (h 0) (all_from_indexes test xs d (λ k. h (suc k)))
 
--- a list without repeats, of numbers below n
+-- what the test of a list without repeats, of numbers below n, says
 list_within_parts : (n : ℕ) (xs : List ℕ) → IsTrue (is_list_within n xs) → IsTrue (is_distinct xs) × ((a : ℕ) → IsTrue (has xs a) → a < n)
 list_within_parts n xs h =
     let parts = and_parts (is_distinct xs) (list_all (λ x. nat_lt x n) xs) h in
     (parts.0, (λ a on. ltb-true a n (each_has (λ x. nat_lt x n) xs a parts.1 on)))
 
+-- such a list passes the test
 list_within_from : (n : ℕ) (xs : List ℕ) → IsTrue (is_distinct xs) → ((a : ℕ) → IsTrue (has xs a) → a < n) → IsTrue (is_list_within n xs)
 list_within_from n xs distinct within = and_from _ _ distinct (all_from_has (λ x. nat_lt x n) xs (λ a on. lt-ltb a n (within a on)))
 
+-- a list that passes the test is empty
 nil_from_is_empty : (xs : List ℕ) → IsTrue (is_empty xs) → xs ≡ []
 nil_from_is_empty [] h = refl
 nil_from_is_empty (x ∷ xs) h = absurd (both_ways false refl h)
 
+-- an agent that passes the test is the couple
 couple_from_is_couple : (c : ℕ) (g : Agent) → IsTrue (is_couple c g) → g ≡ Couple c
 couple_from_is_couple c (Single a) h = absurd (both_ways false refl h)
 couple_from_is_couple c (Couple d) h = ap Couple (sym (eqb-true c d h))
 
--- a couple's member
+-- what the test of a couple's member says
 member_facts : (m : Market) (c a : ℕ) → IsTrue (has_member m c a) → IsMember m c a
 member_facts m c a h =
     let parts = and_parts (nat_lt a (applicants m) && is_empty (list_of m a)) (is_couple c (agent_of m a)) h in
@@ -48,10 +52,12 @@ member_facts m c a h =
       belongs = couple_from_is_couple c (agent_of m a) parts.1;
     }
 
+-- a couple's member passes the test
 member_from_facts : (m : Market) (c a : ℕ) → IsMember m c a → IsTrue (has_member m c a)
 member_from_facts m c a h =
     and_from _ _ (and_from _ _ (lt-ltb _ _ h.within) (ap is_empty h.no_list)) (ap (is_couple c) h.belongs ∙ eq-eqb c c refl)
 
+-- a market that passes the test is well formed
 pub well_formed_from_test : (m : Market) → IsTrue (is_well_formed m) → IsWellFormed m
 well_formed_from_test m h = record {
   lists_distinct = λ a. (on_lists a).0;
@@ -85,6 +91,7 @@ well_formed_from_test m h = record {
         let first = and_parts (has_member m c (couple_of m c).first) (has_member m c (couple_of m c).second) last.0 in
         (first.0, first.1, last.1)
 
+-- a well-formed market passes the test
 pub test_from_well_formed : (m : Market) → IsWellFormed m → IsTrue (is_well_formed m)
 test_from_well_formed m h =
     and_from _ _
@@ -98,5 +105,6 @@ test_from_well_formed m h =
     (and_from _ _ (member_from_facts m c (couple_of m c).first (h.first_member c c_in)) (member_from_facts m c (couple_of m c).second (h.second_member c c_in)))
     (not_from_false _ (ne_eqb _ _ (h.two_members c c_in)))))
 
+-- the test tests just that
 pub well_formed_test_lem : WellFormedTest
 well_formed_test_lem m = (well_formed_from_test m, test_from_well_formed m)

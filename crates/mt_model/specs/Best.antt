@@ -1,6 +1,6 @@
 -- The applicant-optimal stable match of the singles (Gale and Shapley 1962), and how many proposals each
 -- program receives on the way to it (McVitie and Wilson 1971).
-use Rattle.std.specs.Prelude.{◌≡◌, ℕ, Bool, false, ◌&&◌, not, List, IsTrue, IsFalse}
+use Rattle.std.specs.Prelude.{ℕ, List, IsTrue, IsFalse}
 use Rattle.mt_model.specs.Lists.{has, until, through, count_below}
 use Rattle.mt_model.specs.Market.{Market, singles_market, applicants, live, list_of}
 use Rattle.mt_model.specs.Matching.{Places, at}

@@ -1,5 +1,5 @@
 -- A program's choice from a set of applicants (Gale and Shapley 1962; Gusfield and Irving 1989).
-use Rattle.std.specs.Prelude.{ℕ, Bool, ◌&&◌, nat_lt}
+use Rattle.std.specs.Prelude.{◌&&◌, nat_lt}
 use Rattle.mt_model.specs.Lists.{Set, has, above}
 use Rattle.mt_model.specs.Market.{Program}
 

@@ -1,11 +1,10 @@
 -- Deferred acceptance one event at a time, in any order (McVitie and Wilson 1971): how far each applicant
 -- is on its live list, which programs have received whom, and what the next events are. That an applicant
 -- learns of its refusal by an event of its own is this project's own rule.
-use Rattle.std.specs.Prelude.{◌≡◌, ℕ, zero, suc, ◌+◌, ◌-◌, ◌<◌, ◌≤◌, Bool, true, false, not, ◌&&◌, ◌==◌, nat_lt, List, [], ◌∷◌, length, take, Option, Some, None, is_some, slice_get, IsTrue, IsFalse, if◌then◌else◌}
+use Rattle.std.specs.Prelude.{◌≡◌, ℕ, ◌+◌, ◌-◌, ◌<◌, ◌≤◌, Bool, false, not, ◌&&◌, ◌==◌, List, [], ◌∷◌, length, take, Option, Some, None, is_some, slice_get, IsTrue, IsFalse, if◌then◌else◌}
 use Rattle.std.specs.List.{find, list_all}
 use Rattle.mt_model.specs.Lists.{Set, has, with_one, without, below}
 use Rattle.mt_model.specs.Market.{Market, program_of, applicants, live}
-use Rattle.mt_model.specs.Matching.{Places}
 use Rattle.mt_model.specs.Choice.{choice}
 use Rattle.mt_model.specs.Best.{IsExcluded}
 use Rattle.mt_model.specs.declared.events.Event.{Event}

@@ -1,4 +1,6 @@
 pub mod Floors
+pub mod Registration
+pub mod Rounds
 pub mod Rural
 pub mod Singles
 pub mod Taken

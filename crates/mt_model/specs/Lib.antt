@@ -8,6 +8,7 @@ pub mod Lists
 pub mod Market
 pub mod Matching
 pub mod Places
+pub mod Registration
 pub mod Rounds
 pub mod Stability
 pub mod Text

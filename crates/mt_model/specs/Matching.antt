@@ -1,8 +1,8 @@
 -- A match, who is where in it, and where an option sends an agent's members.
-use Rattle.std.specs.Prelude.{ℕ, Bool, true, false, not, ◌&&◌, ◌==◌, List, [], ◌∷◌, map, Option, Some, None, slice_index_or, slice_set, if◌then◌else◌, is_some}
+use Rattle.std.specs.Prelude.{ℕ, Bool, true, false, not, ◌==◌, List, [], ◌∷◌, map, Option, Some, None, slice_index_or, slice_set, is_some}
 use Rattle.std.specs.List.{list_all}
 use Rattle.mt_model.specs.Lists.{Set, until, count}
-use Rattle.mt_model.specs.Market.{Market, Pair, list_of, couple_of, members}
+use Rattle.mt_model.specs.Market.{Market, Pair, list_of, couple_of}
 use Rattle.mt_model.specs.declared.numbers.Agent.{Agent}
 use Rattle.mt_model.specs.declared.numbers.Agent.TheVariants.{Single, Couple}
 

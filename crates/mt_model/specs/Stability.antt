@@ -1,6 +1,6 @@
 -- Which matches are stable. Without couples this is the stability of Gusfield and Irving 1989 for
 -- hospitals and residents; how a couple blocks is this project's own rule.
-use Rattle.std.specs.Prelude.{ℕ, Bool, true, not, ◌&&◌, ◌||◌, ◌==◌, nat_le, List, Option, Some, None, length}
+use Rattle.std.specs.Prelude.{ℕ, Bool, true, not, ◌&&◌, ◌||◌, ◌==◌, nat_le, Option, Some, None, length}
 use Rattle.std.specs.List.{list_any, list_all}
 use Rattle.mt_model.specs.Lists.{has, below}
 use Rattle.mt_model.specs.Market.{Market, applicants, program_of, members, agents}

@@ -1,5 +1,5 @@
 -- What the program writes: the text of a match, or one refusal line. This project's own format.
-use Rattle.std.specs.Prelude.{ℕ, ◌+◌, ◌-◌, Bool, not, ◌==◌, List, [], ◌∷◌, ◌++◌, map, length, Option, Some, None, is_some, slice_index_or, codes, decimal, if◌then◌else◌}
+use Rattle.std.specs.Prelude.{ℕ, ◌-◌, Bool, not, ◌==◌, List, [], ◌∷◌, ◌++◌, length, Option, Some, None, is_some, slice_index_or, codes, decimal, if◌then◌else◌}
 use Rattle.std.specs.List.{flat_map, join_with_byte, list_any}
 use Rattle.mt_model.specs.Lists.{below, count, total_below}
 use Rattle.mt_model.specs.Market.{Market, Names, applicants, program_of}

@@ -1,5 +1,5 @@
 -- The first finding against a match, in this project's own order.
-use Rattle.std.specs.Prelude.{ℕ, Bool, not, ◌&&◌, ◌||◌, ◌==◌, nat_le, min, List, Option, Some, None, length, position}
+use Rattle.std.specs.Prelude.{ℕ, Bool, not, ◌&&◌, ◌||◌, ◌==◌, nat_le, min, Option, Some, None, length, position}
 use Rattle.std.specs.List.{find}
 use Rattle.std.specs.Option.{unwrap_or}
 use Rattle.mt_model.specs.Lists.{below}
@@ -8,7 +8,6 @@ use Rattle.mt_model.specs.Matching.{Places, place_of, filled, better}
 use Rattle.mt_model.specs.Stability.{is_listed, has_own_option, would_be_taken, blocks}
 use Rattle.mt_model.specs.declared.numbers.Agent.{Agent}
 use Rattle.mt_model.specs.declared.numbers.Agent.TheVariants.{Single, Couple}
-use Rattle.mt_model.specs.declared.verdict.Blocker.{Blocker}
 use Rattle.mt_model.specs.declared.verdict.Verdict.{Verdict}
 use Rattle.mt_model.specs.declared.verdict.Verdict.TheVariants.{Stable, Unlisted, Over, Blocks}
 

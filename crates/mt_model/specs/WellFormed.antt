@@ -1,8 +1,8 @@
 -- What the laws ask of a market, and what every market that is read from a file has.
-use Rattle.std.specs.Prelude.{◌≡◌, ◌≢◌, ℕ, ◌<◌, Bool, true, false, not, ◌&&◌, ◌||◌, ◌==◌, nat_lt, List, [], ◌∷◌, length, Option, Some, None, is_some, IsTrue}
+use Rattle.std.specs.Prelude.{◌≡◌, ◌≢◌, ℕ, ◌<◌, Bool, true, false, not, ◌&&◌, ◌==◌, nat_lt, List, [], ◌∷◌, length, IsTrue}
 use Rattle.std.specs.List.{list_all}
 use Rattle.mt_model.specs.Lists.{has, below, is_distinct}
-use Rattle.mt_model.specs.Market.{Market, Program, Pair, Partners, applicants, program_of, list_of, couple_of, agent_of}
+use Rattle.mt_model.specs.Market.{Market, Program, applicants, program_of, list_of, couple_of, agent_of}
 use Rattle.mt_model.specs.declared.numbers.Agent.{Agent}
 use Rattle.mt_model.specs.declared.numbers.Agent.TheVariants.{Single, Couple}
 

@@ -1,12 +1,13 @@
 -- How many places of a front of a match are a program.
-use Rattle.std.proofs.Common.{◌≡◌, ℕ, zero, suc, ◌+◌, ◌<◌, ◌≤◌, Bool, true, false, List, [], ◌∷◌, ◌++◌, Option, Some, None, map, length, get_or, set, take, refl, ap, sym, ◌∙◌, inl, inr, arith, add-one}
-use Rattle.std.specs.Prelude.{if◌then◌else◌, IsTrue}
+use Rattle.std.proofs.Common.{◌≡◌, ℕ, zero, suc, ◌+◌, ◌<◌, ◌≤◌, Bool, true, false, List, [], ◌∷◌, ◌++◌, Option, Some, None, map, length, get_or, set, take, refl, ap, sym, ◌∙◌, inl, inr, arith, add-one, length-take}
+use Rattle.std.specs.Prelude.{if◌then◌else◌, IsTrue, is_some, not}
 use Rattle.std.proofs.lemmas.Bool.Decides.{nat_tests}
 use Rattle.std.proofs.lemmas.Bool.{cases_eq}
 use Rattle.std.proofs.lemmas.List.{take_more, get_or_read_under, get_or-set_same, get_or-set_other, ext_get_or}
 use Rattle.mt_model.proofs.BelowFacts.{length-map_below, map_below_at}
 use Rattle.mt_model.specs.Lists.{below, count, total_below}
-use Rattle.mt_model.specs.Matching.{filled, is_program, at, Places}
+use Rattle.mt_model.specs.Matching.{filled, is_program, Places}
+use Rattle.mt_model.specs.Text.{unmatched}
 
 pub count-push : {X : Type 0} (test : X → Bool) (xs : List X) (x : X) → count test (xs ++ x ∷ []) ≡ count test xs + (if test x then 1 else 0)
 count-push test [] x = omega arith
@@ -38,6 +39,7 @@ AreCounts-placed places n i counts q w e l h counted p below = elim (cases_eq p 
   where
     more : filled (take (i + 1) places) p ≡ filled (take i places) p + (if is_program p (Some q) then 1 else 0)
     more = filled_more places i p w ∙ ap (λ o. filled (take i places) p + (if is_program p o then 1 else 0)) e
+
     at_it : p ≡ q → get_or (set counts q (get_or counts q 0 + 1)) p 0 ≡ filled (take (i + 1) places) p
     at_it same =
         let room : q < length counts = omega arith in
@@ -46,6 +48,7 @@ AreCounts-placed places n i counts q w e l h counted p below = elim (cases_eq p 
         let more_one = more ∙ ap (λ b. filled (take i places) p + (if b then 1 else 0)) one in
         let here = ap (λ k. get_or (set counts q (get_or counts q 0 + 1)) k 0) same ∙ now in
         omega (arith, here, more_one, counted p below, ap (λ k. get_or counts k 0) same)
+
     elsewhere : (p ≡ q → ⊥) → get_or (set counts q (get_or counts q 0 + 1)) p 0 ≡ filled (take (i + 1) places) p
     elsewhere other =
         let now = get_or-set_other counts q p (get_or counts q 0 + 1) 0 other in
@@ -73,3 +76,12 @@ total_below-same f g (suc n) h = omega (arith, h n (omega arith), total_below-sa
 
 pub total_below-more : (f : ℕ → ℕ) (n : ℕ) → total_below f (n + 1) ≡ f n + total_below f n
 total_below-more f n = rw add-one refl
+
+-- one place more, of those that have none
+pub unmatched_more : (places : Places) (i : ℕ) → i < length places
+    → unmatched (take (i + 1) places) ≡ unmatched (take i places) + (if not (is_some (get_or places i None)) then 1 else 0)
+unmatched_more places i h =
+    ap (count (λ place. not (is_some place))) (take_more places i None h) ∙ count-push (λ place. not (is_some place)) (take i places) (get_or places i None)
+
+pub unmatched-le : (places : Places) (i : ℕ) → unmatched (take i places) ≤ i
+unmatched-le places i = omega (arith, count-le-length (λ place. not (is_some place)) (take i places), length-take i places)

@@ -6,5 +6,11 @@ use Rattle.mt_model.specs.Text.{line}
 -- the pieces of a refusal
 pub refusal_pieces : (code name row id : List ℕ)
     → (((((((([] ++ codes "match,1,refused,") ++ code) ++ codes ",") ++ name) ++ codes ",") ++ row) ++ codes ",") ++ id) ++ codes "\n"
-      ≡ line (codes "match" ∷ codes "1" ∷ codes "refused" ∷ code ∷ name ∷ row ∷ id ∷ [])
+    ≡ line (codes "match" ∷ codes "1" ∷ codes "refused" ∷ code ∷ name ∷ row ∷ id ∷ [])
 refusal_pieces code name row id = simp append_assoc
+
+-- the pieces of the totals
+pub totals_pieces : (text applicants unmatched positions unfilled : List ℕ)
+    → (((((((((text ++ codes "totals") ++ codes ",") ++ applicants) ++ codes ",") ++ unmatched) ++ codes ",") ++ positions) ++ codes ",") ++ unfilled) ++ codes "\n"
+    ≡ text ++ line (codes "totals" ∷ applicants ∷ unmatched ∷ positions ∷ unfilled ∷ [])
+totals_pieces text applicants unmatched positions unfilled = simp append_assoc

@@ -5,9 +5,9 @@ mod drain;
 mod refusal;
 mod text;
 
-
-
 pub use drain::{Drain, Wrote, put_all};
 pub use refusal::{RefusalLine, refused};
+pub use text::published;
 
-
+#[cfg(test)]
+mod tests;

@@ -1,9 +1,8 @@
 ghost use Rattle.std.specs.Prelude.{◌≡◌, ◌+◌, ◌≤◌, ◌++◌, [], length, IsTrue};
 ghost use Rattle.mt_model.specs.Text.{id_text, is_known_code, name_among, refusals, refused as refused_text};
 
-use std::marker::Model;
-
 use itoa::Buffer;
+use std::marker::Model;
 
 /// The line of a refusal, without memory of its own.
 #[derive(Debug, Drop)]

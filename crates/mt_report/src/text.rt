@@ -6,11 +6,10 @@ ghost use Rattle.mt_model.specs.Matching.{at, filled, place_of};
 ghost use Rattle.mt_model.specs.Text.{all_filled, applicant_line, line, place_text, positions, program_line, published as published_text, totals_line, unmatched};
 ghost use Rattle.mt_model.specs.Places.{ArePlaces};
 
-use std::alloc::{AllocError, Global};
-
 use itoa::Buffer;
 use mt_model::{AppNo, Match, ProgNo};
 use mt_roster::Roster;
+use std::alloc::{AllocError, Global};
 
 /// Adds a comma and a number.
 fn push_number(text: &mut Vec<u8>, number: u64) -> Result<(), AllocError>
@@ -91,13 +90,23 @@ fn push_programs(
     for number in 0..roster.programs() {
         let program = ProgNo(number);
         let at = program.index();
-        push_program(text, roster.program_id(program), roster.quota(program), counts[at], received[at])?;
+        push_program(
+            text,
+            roster.program_id(program),
+            roster.quota(program),
+            counts[at],
+            received[at],
+        )?;
     }
     Ok(())
 }
 
 /// How many applicants are placed at each program.
-fn filled_counts(alloc: Global, programs: usize, places: &[Option<ProgNo>]) -> Result<Vec<u32>, AllocError>
+fn filled_counts(
+    alloc: Global,
+    programs: usize,
+    places: &[Option<ProgNo>],
+) -> Result<Vec<u32>, AllocError>
     requires within { (a p : ℕ) → IsTrue (at places.now p a) → p < programs }
     requires few { length places.now < 2 ^ 32 }
     ensures { IfOk result (λ v. v.items ≡ map (filled places.now) (below programs)) }
@@ -148,8 +157,26 @@ fn filled_total(counts: &[u32]) -> u64
     total
 }
 
-/// Adds the last line: how many applicants there are, how many of them have no place, how many posts there
-/// are, and how many of those aren't filled.
+/// Adds the line of these totals.
+fn push_numbers(
+    text: &mut Vec<u8>,
+    applicants: u32,
+    unmatched: u32,
+    positions: u64,
+    unfilled: u64,
+) -> Result<(), AllocError>
+    ensures ok { OnOk result (text.new.items ≡ text.old.items ++ line (codes "totals" ∷ decimal applicants ∷ decimal unmatched ∷ decimal positions ∷ decimal unfilled ∷ [])) }
+{
+    text.extend_from_slice(b"totals")?;
+    push_number(text, u64::from(applicants))?;
+    push_number(text, u64::from(unmatched))?;
+    push_number(text, positions)?;
+    push_number(text, unfilled)?;
+    text.push(b'\n')?;
+    Ok(())
+}
+
+/// Adds the line of the totals.
 fn push_totals(
     text: &mut Vec<u8>,
     roster: &Roster,
@@ -160,13 +187,30 @@ fn push_totals(
     requires counts { counts.now ≡ map (filled matched.now.places) (below (length roster.now.market.programs)) }
     ensures ok { OnOk result (text.new.items ≡ text.old.items ++ totals_line roster.now.market matched.now.places) }
 {
+    let applicants = roster.applicants();
     let unmatched = unmatched_count(matched.places.as_slice());
     let positions = position_count(roster);
-    text.extend_from_slice(b"totals")?;
-    push_number(text, u64::from(roster.applicants()))?;
-    push_number(text, u64::from(unmatched))?;
-    push_number(text, positions)?;
-    push_number(text, positions.saturating_sub(filled_total(counts)))?;
-    text.push(b'\n')?;
-    Ok(())
+    let unfilled = positions.saturating_sub(filled_total(counts));
+    push_numbers(text, applicants, unmatched, positions, unfilled)
+}
+
+/// The text of a match: every applicant with its place, every program with how many are placed there and how
+/// many proposals of singles it received, and the totals. There is one place for each applicant, each of
+/// them a program of the roster, and one number of proposals for each program.
+pub fn published(
+    alloc: Global,
+    roster: &Roster,
+    matched: &Match,
+    received: &[u32],
+) -> Result<Vec<u8>, AllocError>
+    requires places { ArePlaces roster.now.market matched.now.places }
+    requires received { length received.now ≡ length roster.now.market.programs }
+    ensures { IfOk result (λ v. v.items ≡ published_text roster.now.market roster.now.names matched.now.places received.now) }
+{
+    let counts = filled_counts(alloc, roster.programs() as usize, matched.places.as_slice())?;
+    let mut text = Vec::from_slice(alloc, b"match,1,published\n")?;
+    push_applicants(&mut text, roster, matched)?;
+    push_programs(&mut text, roster, matched, &counts, received)?;
+    push_totals(&mut text, roster, matched, &counts)?;
+    Ok(text)
 }

@@ -1,5 +1,5 @@
 -- Proposals and notices one at a time, in two orders.
-use Rattle.std.specs.Prelude.{◌≡◌, ℕ, Bool, true, false, List, [], ◌∷◌, map}
+use Rattle.std.specs.Prelude.{◌≡◌, ℕ, true, false, List, [], ◌∷◌}
 use Rattle.mt_model.specs.Examples.Markets
 use Rattle.mt_model.specs.Floor.{Floor, opening, after_all, replies, due_count, is_quiet, reply_of}
 use Rattle.mt_model.specs.declared.events.Event.{Event}

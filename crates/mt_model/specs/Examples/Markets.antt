@@ -1,6 +1,6 @@
 -- Small markets that show what the definitions say. Each is given as its file has it, and then in numbers,
 -- by order of registration.
-use Rattle.std.specs.Prelude.{ℕ, zero, suc, List, [], ◌∷◌, Option, Some, None}
+use Rattle.std.specs.Prelude.{ℕ, zero, suc, List, [], ◌∷◌, Some, None}
 use Rattle.mt_model.specs.Market.{Market, Program, Pair, Partners}
 use Rattle.mt_model.specs.Matching.{Places}
 use Rattle.mt_model.specs.Rounds.{Work, round}

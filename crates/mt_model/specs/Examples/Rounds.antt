@@ -1,5 +1,5 @@
 -- The couples' rounds on the small markets, state by state.
-use Rattle.std.specs.Prelude.{◌≡◌, List, [], ◌∷◌, Option, Some, None}
+use Rattle.std.specs.Prelude.{◌≡◌, List, [], ◌∷◌, Some, None}
 use Rattle.mt_model.specs.Examples.Markets
 use Rattle.mt_model.specs.Matching.{Places}
 use Rattle.mt_model.specs.Rounds.{Work, stage}

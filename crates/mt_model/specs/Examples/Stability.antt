@@ -1,12 +1,12 @@
 -- Which matches of the small markets are stable or best, and what there is to say of the others.
-use Rattle.std.specs.Prelude.{◌≡◌, Bool, true, false, List, [], ◌∷◌, Option, Some, None}
+use Rattle.std.specs.Prelude.{◌≡◌, true, false, [], ◌∷◌, Some, None}
 use Rattle.mt_model.specs.Best.{IsBest, proposals}
 use Rattle.mt_model.specs.Examples.Markets
-use Rattle.mt_model.specs.Stability.{stable, fits}
+use Rattle.mt_model.specs.Stability.{stable}
 use Rattle.mt_model.specs.Verdict.{verdict_of}
 use Rattle.mt_model.specs.WellFormed.{is_well_formed}
 use Rattle.mt_model.specs.declared.numbers.Agent.TheVariants.{Single, Couple}
-use Rattle.mt_model.specs.declared.verdict.Verdict.TheVariants.{Stable, Unlisted, Over, Blocks}
+use Rattle.mt_model.specs.declared.verdict.Verdict.TheVariants.{Unlisted, Over, Blocks}
 
 -- Of the two stable matches, the one that gives each applicant its first wish is best.
 pub record CrossedWishes : Type 0 where

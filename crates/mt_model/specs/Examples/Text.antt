@@ -1,7 +1,6 @@
 -- What the program writes, byte for byte.
-use Rattle.std.specs.Prelude.{◌≡◌, [], ◌∷◌, ◌++◌, Some, None, codes}
+use Rattle.std.specs.Prelude.{◌≡◌, [], ◌∷◌, Some, None, codes}
 use Rattle.mt_model.specs.Examples.Markets
-use Rattle.mt_model.specs.Market.{Names}
 use Rattle.mt_model.specs.Text.{published, refused}
 
 -- the text of the best match of the crossed wishes

@@ -1,6 +1,6 @@
 -- The laws of floors: what an event keeps, how many events are due, and that a strict floor on which no
 -- event is due is the best match, however it was reached (McVitie and Wilson 1971).
-use Rattle.std.specs.Prelude.{◌≡◌, ◌≢◌, ℕ, ◌+◌, ◌*◌, ◌<◌, ◌≤◌, Bool, true, false, ◌&&◌, List, [], ◌∷◌, map, length, Option, Some, None, IsTrue, IsFalse, if◌then◌else◌}
+use Rattle.std.specs.Prelude.{◌≡◌, ◌≢◌, ◌↔◌, ℕ, ◌+◌, ◌*◌, ◌<◌, ◌≤◌, Bool, true, false, ◌&&◌, List, [], ◌∷◌, map, length, Option, Some, None, IsTrue, IsFalse, if◌then◌else◌}
 use Rattle.mt_model.specs.Lists.{has, below, total_below, count_below}
 use Rattle.mt_model.specs.Market.{Market, applicants, live_entries}
 use Rattle.mt_model.specs.Matching.{Places, place_of}
@@ -26,8 +26,9 @@ pub record IsResult (m : Market) (f : Floor) (places : Places) : Type 0 where
 abbrev pub result_of : Market → Floor → Places
 result_of m f = map (place_on m f) (below (applicants m))
 
+-- it is the one match that is
 abbrev pub ResultOfFloor : Type 0
-ResultOfFloor = (m : Market) (f : Floor) → IsResult m f (result_of m f)
+ResultOfFloor = (m : Market) (f : Floor) (places : Places) → IsResult m f places ↔ (places ≡ result_of m f)
 
 -- the opening floor is strict, and so legal and recorded
 abbrev pub OpeningIsStrict : Type 0
@@ -131,18 +132,21 @@ QuietCounts =
     (m : Market) → IsWellFormed m → (f : Floor) → IsRecorded m f → IsTrue (is_quiet m f)
     → (places : Places) → IsResult m f places → HasProposalsOf m f places
 
--- Two floors agree where the same proposals are made and received, and they have the same result.
-pub record AreAlike (m : Market) (f g : Floor) : Type 0 where
+-- Two floors end alike where they have the same proposals made and received and the same result, and where
+-- that is the best match and the proposals are those on the way to it.
+pub record EndAlike (m : Market) (f g : Floor) : Type 0 where
   pub same_made : (a : ℕ) → f.made a ≡ g.made a
   pub same_received : (p a : ℕ) → f.received p a ≡ g.received p a
   pub same_result : result_of m f ≡ result_of m g
+  pub best : IsBest m (result_of m f)
+  pub on_the_way : HasProposalsOf m f (result_of m f)
 
--- Any two lists of events from the opening floor until no event is due end alike, in the best match.
+-- any two lists of events from the opening floor until no event is due end alike
 abbrev pub OrderFree : Type 0
 OrderFree =
     (m : Market) → IsWellFormed m → (es fs : List Event)
     → IsTrue (is_quiet m (after_all m opening es)) → IsTrue (is_quiet m (after_all m opening fs))
-    → AreAlike m (after_all m opening es) (after_all m opening fs) × IsBest m (result_of m (after_all m opening es))
+    → EndAlike m (after_all m opening es) (after_all m opening fs)
 
 -- An example: two lists of events in the rejection chain.
 pub record ChainInTwoOrders : Type 0 where

@@ -1,6 +1,6 @@
 -- The laws of a program's choice and of the singles' market: whom a program chooses, what stability means,
 -- who is excluded where, and that one match at most is best.
-use Rattle.std.specs.Prelude.{◌≡◌, ◌⊎◌, ◌↔◌, ℕ, ◌<◌, ◌≤◌, ◌==◌, length, IsTrue, IsFalse}
+use Rattle.std.specs.Prelude.{◌≡◌, ◌⊎◌, ◌↔◌, ℕ, ◌<◌, ◌≤◌, ◌==◌, true, false, [], ◌∷◌, length, IsTrue, IsFalse}
 use Rattle.mt_model.specs.Lists.{Set, has, until, above, with_one}
 use Rattle.mt_model.specs.Market.{Market, Program, applicants, program_of, list_of, live, singles_market}
 use Rattle.mt_model.specs.Matching.{Places, at, filled}
@@ -8,7 +8,7 @@ use Rattle.mt_model.specs.Choice.{choice}
 use Rattle.mt_model.specs.Stability.{stable}
 use Rattle.mt_model.specs.Best.{IsExcluded, IsBest, better_programs}
 use Rattle.mt_model.specs.WellFormed.{IsWellFormed, is_well_formed}
-use Rattle.mt_model.specs.Examples.Markets.{chain}
+use Rattle.mt_model.specs.Examples.Markets.{chain, two_posts}
 
 -- A program chooses who is on its list, is of the set, and has fewer than quota of the set above it.
 abbrev pub ChoiceInWords : Type 0
@@ -37,6 +37,29 @@ pub record IsStableForSingles (m : Market) (places : Places) : Type 0 where
 
 abbrev pub StabilityOfSingles : Type 0
 StabilityOfSingles = (m : Market) (places : Places) → IsTrue (stable (singles_market m) places) ↔ IsStableForSingles m places
+
+-- whether a program has a free post, or somebody there whom it wants less than this applicant
+abbrev pub HasRoomFor : Market → Places → ℕ → ℕ → Type 0
+HasRoomFor m places p a =
+    (filled places p < (program_of m p).quota) ⊎ ((b : ℕ) × IsTrue (at places p b) × IsTrue (has (until (λ x. x == b) (program_of m p).ranking) a))
+
+-- An applicant and a program block where each lists the other, the applicant is unplaced or wants the program
+-- more than its place, and the program has room for it.
+pub record IsBlockingPair (m : Market) (places : Places) (a p : ℕ) : Type 0 where
+  pub is_better : IsTrue (has (better_programs m places a) p)
+  pub is_listed : IsTrue (has (program_of m p).ranking a)
+  pub has_room : HasRoomFor m places p a
+
+-- Stability for hospitals and residents as in Gusfield and Irving 1989.
+pub record IsStableByPairs (m : Market) (places : Places) : Type 0 where
+  pub one_each : length places ≡ applicants m
+  pub on_list : (a p : ℕ) → IsTrue (at places p a) → IsTrue (has (list_of m a) p)
+  pub listed : (a p : ℕ) → IsTrue (at places p a) → IsTrue (has (program_of m p).ranking a)
+  pub within : (p : ℕ) → filled places p ≤ (program_of m p).quota
+  pub no_blocking_pair : (a p : ℕ) → ¬ IsBlockingPair m places a p
+
+abbrev pub StabilityByPairs : Type 0
+StabilityByPairs = (m : Market) → IsWellFormed m → (places : Places) → IsTrue (stable (singles_market m) places) ↔ IsStableByPairs m places
 
 -- Of a set of singles that have the program on their lists, and only excluded programs above it on their
 -- live lists, whoever isn't chosen is excluded there.
@@ -68,6 +91,14 @@ BestIsAtLeast =
 -- The test of a well-formed market tests just that.
 abbrev pub WellFormedTest : Type 0
 WellFormedTest = (m : Market) → IsTrue (is_well_formed m) ↔ IsWellFormed m
+
+-- Two posts and three applicants: with the first two both are chosen, and the third one, whom the program
+-- wants most, drives out whom it wants least.
+pub record ChosenForTwoPosts : Type 0 where
+  pub room_for_both : choice (program_of two_posts 0) (has (0 ∷ 1 ∷ [])) 1 ≡ true
+  pub newcomer : choice (program_of two_posts 0) (with_one (has (0 ∷ 1 ∷ [])) 2) 2 ≡ true
+  pub kept : choice (program_of two_posts 0) (with_one (has (0 ∷ 1 ∷ [])) 2) 0 ≡ true
+  pub driven_out : choice (program_of two_posts 0) (with_one (has (0 ∷ 1 ∷ [])) 2) 1 ≡ false
 
 -- In the market of the rejection chain exclusion applies twice: of the first and the third applicant the
 -- first program doesn't choose the first one, and then of the first two the second program doesn't choose

@@ -1,6 +1,6 @@
 ghost use Rattle.mt_model.specs.Laws.Floors.{ResultOfFloor, OpeningIsStrict, LegalFromPassed, EventKeepsRecorded, EventKeepsLegal, EventKeepsStrict, EventsKeepRecorded, EventsKeepLegal, EventsKeepStrict, EventNotDue, EventDue, DueAtMost, QuietIsReached, DueProposalsAreMade, MadeAtMost, StrictBest, ChainHasStrictEnd, BestExists, QuietCounts, OrderFree, ChainInTwoOrders};
 
-/// Each floor has a result, with one place for each applicant.
+/// Each floor has one result, with one place for each applicant.
 pub fn result_of_floor()
     ensures { ResultOfFloor }
 {}

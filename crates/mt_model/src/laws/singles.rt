@@ -1,4 +1,4 @@
-ghost use Rattle.mt_model.specs.Laws.Singles.{ChoiceInWords, GrowingChoice, NoneComesBack, StabilityOfSingles, Exclusion, ExclusionByQuota, BestIsUnique, BestIsAtLeast, WellFormedTest, ExcludedInChain};
+ghost use Rattle.mt_model.specs.Laws.Singles.{ChoiceInWords, GrowingChoice, NoneComesBack, StabilityOfSingles, StabilityByPairs, Exclusion, ExclusionByQuota, BestIsUnique, BestIsAtLeast, WellFormedTest, ChosenForTwoPosts, ExcludedInChain};
 
 /// A program chooses who is on its list, is of the set, and has fewer than quota of the set above it.
 pub fn choice_in_words()
@@ -16,9 +16,15 @@ pub fn none_comes_back()
 {}
 
 /// A match of the singles is stable where it fits both sides' lists and the quotas, and no program that a
-/// single wants more would choose it (Gusfield and Irving 1989).
+/// single wants more would choose it.
 pub fn stability_of_singles()
     ensures { StabilityOfSingles }
+{}
+
+/// A match of the singles is stable where it fits and no applicant and program block it (Gusfield and Irving
+/// 1989).
+pub fn stability_by_pairs()
+    ensures { StabilityByPairs }
 {}
 
 /// Of a set of singles that have only excluded programs above this one on their live lists, whoever isn't
@@ -45,6 +51,11 @@ pub fn best_is_at_least()
 /// The test of a well-formed market tests just that.
 pub fn well_formed_test()
     ensures { WellFormedTest }
+{}
+
+/// A program's choice as its set grows.
+pub fn chosen_for_two_posts()
+    ensures { ChosenForTwoPosts }
 {}
 
 /// Exclusion applied twice, in the market of the rejection chain.

@@ -6,7 +6,7 @@ use Rattle.mt_report.proofs.drain.put_all.Goals as goal
 pub loop-written-preserved : goal.loop-written-preserved
 loop-written-preserved g c =
     let w : c.loop-written.written + c.offer-taken.result ≤ length c.args.bytes.now =
-        (omega (arith, c.offer-taken.ensures.bound, length-take (length c.args.bytes.now - c.loop-written.written) (drop c.loop-written.written c.args.bytes.now), length-drop c.loop-written.written c.args.bytes.now)) in
+    (omega (arith, c.offer-taken.ensures.bound, length-take (length c.args.bytes.now - c.loop-written.written) (drop c.loop-written.written c.args.bytes.now), length-drop c.loop-written.written c.args.bytes.now)) in
     record {
       within = w;
       appended = rw (← take-front c.args.bytes.now c.loop-written.written c.offer-taken.result w) (Appends-then _ _ _ _ _ c.loop-written.invariant.appended c.offer-taken.ensures.appended);

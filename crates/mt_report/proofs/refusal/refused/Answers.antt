@@ -7,6 +7,6 @@ use Rattle.mt_report.proofs.refusal.refused.Goals as goal
 pub returns : goal.returns
 returns c =
     let pushed : c.push-9.new.self
-        ≡ (((((((([] ++ codes "match,1,refused,") ++ decimal c.args.code) ++ codes ",") ++ name_among refusals c.args.code) ++ codes ",") ++ decimal c.args.row) ++ codes ",")
-          ++ id_text c.args.id.now) ++ codes "\n" = cc in
+    ≡ (((((((([] ++ codes "match,1,refused,") ++ decimal c.args.code) ++ codes ",") ++ name_among refusals c.args.code) ++ codes ",") ++ decimal c.args.row) ++ codes ",")
+    ++ id_text c.args.id.now) ++ codes "\n" = cc in
     pushed ∙ refusal_pieces (decimal c.args.code) (name_among refusals c.args.code) (decimal c.args.row) (id_text c.args.id.now)

@@ -15,6 +15,6 @@ loop-number-preserved c =
     let lines : ℕ → List ℕ = program_line c.args.roster.now.market c.args.roster.now.names c.args.matched.now.places c.args.received.now in
     let within : c.loop-number.number < length c.args.roster.now.market.programs = omega (arith, c.programs-number-end.ensures.count) in
     let counted : get_or c.args.counts.now c.loop-number.number 0 ≡ filled c.args.matched.now.places c.loop-number.number =
-        ap (λ xs. get_or xs c.loop-number.number 0) c.requires.counts ∙ map_below_at (filled c.args.matched.now.places) (length c.args.roster.now.market.programs) c.loop-number.number 0 within in
+    ap (λ xs. get_or xs c.loop-number.number 0) c.requires.counts ∙ map_below_at (filled c.args.matched.now.places) (length c.args.roster.now.market.programs) c.loop-number.number 0 within in
     rw (flat_map-below_more lines c.loop-number.number, c.in_ok-push_program.ensures.ok, c.loop-number.invariant, c.index-at.ensures, c.program_id.ensures, c.quota.ensures, counted)
     (append_assoc c.args.text.now.items (flat_map lines (below c.loop-number.number)) (lines c.loop-number.number))

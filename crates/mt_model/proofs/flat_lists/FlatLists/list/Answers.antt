@@ -1,5 +1,4 @@
-use Rattle.std.proofs.Common.{arith, ap, sym, ◌∙◌, length, get_or, []}
-use Rattle.mt_model.specs.FlatLists.{AreEnds}
+use Rattle.std.proofs.Common.{arith, ap, ◌∙◌, length, get_or, []}
 use Rattle.mt_model.proofs.FlatListsFacts.{length-pieces}
 use Rattle.mt_model.proofs.flat_lists.FlatLists.list.Goals as goal
 

@@ -1,4 +1,4 @@
-use Rattle.std.proofs.Common.{◌≡◌, suc, ◌+◌, ◌-◌, arith, sym, ap, ◌∙◌, length, length-append}
+use Rattle.std.proofs.Common.{◌≡◌, suc, ◌+◌, ◌-◌, arith, ap, ◌∙◌, length, length-append}
 use Rattle.mt_model.specs.FlatLists.{with_last}
 use Rattle.mt_model.proofs.FlatListsFacts.{AreEnds-last, pieces-push, length-pieces}
 use Rattle.mt_model.proofs.flat_lists.FlatLists.push.Goals as goal

@@ -5,7 +5,7 @@ use Rattle.mt_model.specs.Floor.{opening, after_all}
 use Rattle.mt_model.specs.WellFormed.{IsWellFormed}
 use Rattle.mt_model.proofs.FloorBest.{strict_best_lem}
 use Rattle.mt_model.proofs.FloorEvents.{events_keep_strict_lem}
-use Rattle.mt_model.proofs.FloorRuns.{opening_is_strict_lem, result_of_floor_lem}
+use Rattle.mt_model.proofs.FloorRuns.{opening_is_strict_lem, result_of_is_result}
 use Rattle.mt_model.proofs.WellFormedLemmas.{well_formed_from_test}
 use Rattle.mt_model.proofs.laws.floors.strict_best.Goals as goal
 
@@ -19,5 +19,5 @@ returns-clause-example c =
       well_formed = well_formed;
       strict = events_keep_strict_lem chain well_formed opening by_wishes (opening_is_strict_lem chain);
       quiet = refl;
-      result = result_of_floor_lem chain (after_all chain opening by_wishes);
+      result = result_of_is_result chain (after_all chain opening by_wishes);
     }

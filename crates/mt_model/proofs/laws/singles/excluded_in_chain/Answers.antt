@@ -6,7 +6,7 @@ use Rattle.mt_model.specs.Examples.Markets.{chain}
 use Rattle.mt_model.specs.Lists.{has, until}
 use Rattle.mt_model.specs.Market.{list_of, live}
 use Rattle.mt_model.specs.WellFormed.{IsWellFormed}
-use Rattle.mt_model.proofs.ExclusionLemmas.{exclusion_lem}
+use Rattle.mt_model.proofs.ExclusionLemmas.{exclusion_lem, exclusion_by_quota_lem}
 use Rattle.mt_model.proofs.WellFormedLemmas.{well_formed_from_test}
 use Rattle.mt_model.proofs.laws.singles.excluded_in_chain.Goals as goal
 
@@ -45,5 +45,5 @@ pub returns : goal.returns
 returns c = record {
   well_formed = well_formed;
   first_at_first = first_at_first;
-  second_at_second = exclusion_lem chain well_formed 1 (has (0 ∷ 1 ∷ [])) wanted_second excluded_above_second 1 refl refl;
+  second_at_second = exclusion_by_quota_lem chain well_formed 1 (has (0 ∷ 1 ∷ [])) wanted_second excluded_above_second 1 (omega arith);
 }

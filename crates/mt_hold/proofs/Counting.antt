@@ -1,0 +1,72 @@
+-- How many members of a set stand below a number.
+use Rattle.std.proofs.Common.{◌≡◌, ◌≢◌, ℕ, zero, suc, ◌+◌, ◌<◌, ◌≤◌, Bool, true, false, cond, refl, inl, inr, arith, add-one}
+use Rattle.std.proofs.lemmas.Bool.{cases_eq, cases_order, ne_eqb, eq-eqb}
+use Rattle.mt_model.specs.Lists.{Set, with_one, count_below}
+
+pub count_suc : (s : Set) (k : ℕ) → count_below s (k + 1) ≡ cond (s k) 1 0 + count_below s k
+count_suc s k = rw add-one refl
+
+pub count_in : (s : Set) (k : ℕ) → s k ≡ true → count_below s (k + 1) ≡ count_below s k + 1
+count_in s k h = rw (count_suc s k, h) (omega arith)
+
+pub count_out : (s : Set) (k : ℕ) → s k ≡ false → count_below s (k + 1) ≡ count_below s k
+count_out s k h = rw (count_suc s k, h) (omega arith)
+
+step_up : (b : Bool) (m : ℕ) → m ≤ cond b 1 0 + m
+step_up true m = omega arith
+step_up false m = omega arith
+
+pub count-le : (s : Set) (j k : ℕ) → j ≤ k → count_below s j ≤ count_below s k
+count-le s j zero h = let e : j ≡ 0 = omega arith in rw e (omega arith)
+count-le s j (suc k) h =
+    elim (cases_eq j (suc k)) [
+      | inl e ↦ rw e (omega arith)
+      | inr ne ↦ omega (arith, count-le s j k (omega arith), step_up (s k) (count_below s k))
+    ]
+
+pub count_past : (s : Set) (j k : ℕ) → s j ≡ true → j < k → count_below s j < count_below s k
+count_past s j k h l = omega (arith, count-le s (j + 1) k (omega arith), count_in s j h)
+
+pub count_most : (s : Set) (k : ℕ) → count_below s k ≤ k
+count_most s zero = omega arith
+count_most s (suc k) = omega (arith, count_most s k, at_most_one (s k))
+  where
+    at_most_one : (b : Bool) → cond b 1 0 ≤ 1
+    at_most_one true = omega arith
+    at_most_one false = omega arith
+
+-- two members with as many below them are one
+pub same_from_count : (s : Set) (a b : ℕ) → s a ≡ true → s b ≡ true → count_below s a ≡ count_below s b → a ≡ b
+same_from_count s a b ha hb e =
+    elim (cases_order a b) [
+      | inl same ↦ same
+      | inr (inl l) ↦ absurd (omega (arith, count_past s a b ha l))
+      | inr (inr l) ↦ absurd (omega (arith, count_past s b a hb l))
+    ]
+
+-- the counts of two sets that are equal below a number
+pub count_same : (s t : Set) (n : ℕ) → ((k : ℕ) → k < n → s k ≡ t k) → count_below s n ≡ count_below t n
+count_same s t zero h = refl
+count_same s t (suc n) h = rw (h n (omega arith), count_same s t n (λ k l. h k (omega arith))) refl
+
+pub with_one_other : (s : Set) (r k : ℕ) → k ≢ r → with_one s r k ≡ s k
+with_one_other s r k ne = rw (ne_eqb k r ne) refl
+
+pub with_one_same : (s : Set) (r : ℕ) → with_one s r r ≡ true
+with_one_same s r = rw (eq-eqb r r refl) refl
+
+-- one member more counts above it, and not at it or below
+pub count-with_one_below : (s : Set) (r k : ℕ) → k ≤ r → count_below (with_one s r) k ≡ count_below s k
+count-with_one_below s r k h = count_same (with_one s r) s k (λ j l. with_one_other s r j (omega arith))
+
+pub count-with_one_above : (s : Set) (r k : ℕ) → s r ≡ false → r < k → count_below (with_one s r) k ≡ count_below s k + 1
+count-with_one_above s r zero out h = absurd (omega arith)
+count-with_one_above s r (suc k) out h =
+    elim (cases_eq k r) [
+      | inl e ↦ rw (e, with_one_same s r, out) (omega (arith, count-with_one_below s r r (omega arith)))
+      | inr ne ↦ rw (with_one_other s r k ne) (omega (arith, count-with_one_above s r k out (omega arith)))
+    ]
+
+-- a number that isn't a member leaves fewer members than numbers
+pub count_missing : (s : Set) (n r : ℕ) → r < n → s r ≡ false → count_below s n + 1 ≤ n
+count_missing s n r low out = omega (arith, count-with_one_above s r n out low, count_most (with_one s r) n)

@@ -1,0 +1,8 @@
+pub mod Bits
+pub mod Chosen
+pub mod Counting
+pub mod Entering
+pub mod Examples
+pub mod Lists
+pub mod Proposing
+pub mod Rows

@@ -1,0 +1,36 @@
+-- What a holding by ranks says of a program's own list of applicants.
+use Rattle.std.specs.Prelude.{◌≡◌, ℕ, ◌<◌, length, slice_index, IsTrue, false}
+use Rattle.mt_model.specs.Lists.{Set, has, with_one, count, count_below, is_distinct}
+use Rattle.mt_model.specs.Market.{Program}
+use Rattle.mt_model.specs.Choice.{choice}
+use Rattle.mt_hold.specs.Holding.{Holding, ranks, has_received, received_count, held, opened, receive}
+
+-- A holding is a program's, with a set of applicants received: it has the program's quota and a rank for each
+-- applicant on the program's list, and has received those ranks where a member of the set stands.
+pub record IsHoldingOf (p : Program) (set : Set) (h : Holding) : Type 0 where
+  pub quota : h.quota ≡ p.quota
+  pub listed : ranks h ≡ length p.ranking
+  pub received : (rank : ℕ) → rank < length p.ranking → has_received h rank ≡ set (slice_index p.ranking rank)
+
+-- the holding holds a rank exactly where the program chooses the applicant at that rank from the set
+abbrev pub HeldIsChoice : Type 0
+HeldIsChoice = (p : Program) (set : Set) (h : Holding) → IsTrue (is_distinct p.ranking) → IsHoldingOf p set h
+    → (rank : ℕ) → rank < length p.ranking → held h rank ≡ choice p set (slice_index p.ranking rank)
+
+-- a program that has received nobody has the opened holding
+abbrev pub OpenedIsEmpty : Type 0
+OpenedIsEmpty = (p : Program) → IsHoldingOf p (λ a. false) (opened p.quota (length p.ranking))
+
+-- a proposal from a rank adds the applicant at that rank to the set
+abbrev pub ReceiveAddsOne : Type 0
+ReceiveAddsOne = (p : Program) (set : Set) (h : Holding) → IsTrue (is_distinct p.ranking) → IsHoldingOf p set h
+    → (rank : ℕ) → rank < length p.ranking → IsHoldingOf p (with_one set (slice_index p.ranking rank)) (receive h rank)
+
+-- as many ranks are received as members of the set stand on the program's list
+abbrev pub CountIsMembers : Type 0
+CountIsMembers = (p : Program) (set : Set) (h : Holding) → IsHoldingOf p set h → received_count h ≡ count set p.ranking
+
+-- as many ranks are received as the set has members, where all members stand on the program's list and are below n
+abbrev pub CountIsSize : Type 0
+CountIsSize = (p : Program) (set : Set) (h : Holding) (n : ℕ) → IsTrue (is_distinct p.ranking) → IsHoldingOf p set h
+    → ((a : ℕ) → IsTrue (set a) → IsTrue (has p.ranking a)) → ((a : ℕ) → IsTrue (set a) → a < n) → received_count h ≡ count_below set n

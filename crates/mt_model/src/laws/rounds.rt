@@ -1,0 +1,33 @@
+ghost use Rattle.mt_model.specs.Laws.Rounds.{RoundKeeps, RoundFits, StageIsStable, StageFits, StageRounds, PremisesOfRounds};
+
+/// A round keeps its state: the match fits, the work list has agents of the market that have entered, no
+/// couple that has not entered is placed, and no entered agent that is not on the work list blocks.
+pub fn round_keeps()
+    ensures { RoundKeeps }
+{}
+
+/// From any match that fits, a round keeps a match that fits, and a work list of agents of the market.
+pub fn round_fits()
+    ensures { RoundFits }
+{}
+
+/// Whatever a stage ends in, from the best match of the singles, is stable.
+pub fn stage_is_stable()
+    ensures { StageIsStable }
+{}
+
+/// Whatever a stage ends in, from any match that fits, fits.
+pub fn stage_fits()
+    ensures { StageFits }
+{}
+
+/// A stage answers with exactly the rounds that it needs: any budget of at least as many gives the same, and
+/// any smaller one is spent.
+pub fn stage_rounds()
+    ensures { StageRounds }
+{}
+
+/// What these laws ask for is so in two of the example markets.
+pub fn premises_of_rounds()
+    ensures { PremisesOfRounds }
+{}
