@@ -1,9 +1,11 @@
--- What a roster's market says of its lists and of a match.
+-- What the market of an accepted file says of its lists and of a match.
 use Rattle.std.proofs.Common.{◌≡◌, ℕ, zero, suc, ◌+◌, ◌<◌, ◌≤◌, Bool, true, false, ◌&&◌, List, [], ◌∷◌, length, IsTrue, IsFalse, refl, ap, sym, ◌∙◌, arith, inl, inr, if◌then◌else◌, Option, Some, None, eq-eqb, eqb-true, subst, map, get_or}
 use Rattle.std.proofs.lemmas.Bool.{both_ways}
 use Rattle.std.proofs.lemmas.Bool.Decides.{nat_tests}
+use Rattle.std.proofs.lemmas.List.Sums.{get_or-le-sum_by}
+use Rattle.mt_model.specs.Laws.Registration.{IsRegistration}
 use Rattle.mt_model.specs.Lists.{Set, has, below, count, is_distinct, count_below}
-use Rattle.mt_model.specs.Market.{Market, Registered, applicants, program_of, list_of, live}
+use Rattle.mt_model.specs.Market.{Market, Program, Partners, Registered, applicants, program_of, list_of, couple_of, live}
 use Rattle.mt_model.specs.Matching.{Places, place_of, at, filled, is_program}
 use Rattle.mt_model.proofs.BelowFacts.{length-map_below, map_below_at}
 use Rattle.mt_model.proofs.Seats.{filled_by_applicant, listed_count}
@@ -14,35 +16,19 @@ use Rattle.mt_model.specs.WellFormed.{IsWellFormed}
 use Rattle.mt_model.proofs.Totals.{count_below-same}
 use Rattle.mt_model.proofs.VerdictLemmas.{allowed_parts}
 use Rattle.mt_ranks.specs.Ranked.{Ranked, ranked_of}
-use Rattle.mt_roster.specs.Tables.{IsRoster}
 use Rattle.mt_verify.specs.Placed.{placed_ranks}
 use Rattle.mt_verify.proofs.PlacedFacts.{length-ranks_from}
 
-count_below-le : (s : Set) (n : ℕ) → count_below s n ≤ n
-count_below-le s zero = omega arith
-count_below-le s (suc n) = one_or_none (s n) (count_below s n) n (count_below-le s n)
-  where
-    one_or_none : (b : Bool) (k n : ℕ) → k ≤ n → (if b then 1 else 0) + k ≤ suc n
-    one_or_none true k n h = omega arith
-    one_or_none false k n h = omega arith
+-- Below, the market is that of an accepted file. Its lists are no longer than all of them together.
+pub few_ranked : (r : Registered) → IsRegistration r → (p : ℕ) → p < length r.market.programs → length (program_of r.market p).ranking ≤ 8000000
+few_ranked r h p within = omega (arith, h.few_entries, get_or-le-sum_by (λ (x : Program). length x.ranking) r.market.programs p (record { quota = 0; ranking = [] }) within)
 
-count_all : (xs : List ℕ) → count (λ x. true) xs ≡ length xs
-count_all [] = refl
-count_all (x ∷ xs) = omega (arith, count_all xs)
+pub few_listed : (r : Registered) → IsRegistration r → (a : ℕ) → a < applicants r.market → length (list_of r.market a) ≤ 8000000
+few_listed r h a within = omega (arith, h.few_entries, get_or-le-sum_by (length {A = ℕ}) r.market.lists a [] within)
 
--- a list without repeats of numbers below n has no more than n
-pub length_of_distinct : (xs : List ℕ) (n : ℕ) → IsTrue (is_distinct xs) → ((a : ℕ) → IsTrue (has xs a) → a < n) → length xs ≤ n
-length_of_distinct xs n distinct within =
-    omega (arith, count_all xs, listed_count (λ x. true) xs n distinct within, count_below-le (λ a. has xs a && true) n)
-
--- Below, the market is a roster's.
-pub few_ranked : (r : Registered) → IsRoster r → (p : ℕ) → length (program_of r.market p).ranking ≤ 100000
-few_ranked r h p =
-    omega (arith, h.few_applicants, length_of_distinct (program_of r.market p).ranking (applicants r.market) (h.well_formed.rankings_distinct p) (h.well_formed.rankings_within p))
-
-pub few_listed : (r : Registered) → IsRoster r → (a : ℕ) → length (list_of r.market a) ≤ 20000
-few_listed r h a =
-    omega (arith, h.few_programs, length_of_distinct (list_of r.market a) (length r.market.programs) (h.well_formed.lists_distinct a) (h.well_formed.lists_within a))
+pub few_pairs : (r : Registered) → IsRegistration r → (c : ℕ) → c < length r.market.couples → length (couple_of r.market c).pairs ≤ 8000000
+few_pairs r h c within =
+    omega (arith, h.few_entries, get_or-le-sum_by (λ (x : Partners). length x.pairs) r.market.couples c (record { first = 0; second = 0; pairs = [] }) within)
 
 -- Below, r are the rank tables of the market m.
 pub ranked_programs : (r : Ranked) (m : Market) → r ≡ ranked_of m → length r.market.programs ≡ length m.programs

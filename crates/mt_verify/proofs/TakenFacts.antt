@@ -2,7 +2,7 @@
 use Rattle.std.proofs.Common.{◌≡◌, ◌≢◌, ℕ, zero, suc, ◌+◌, ◌<◌, ◌≤◌, Bool, true, false, not, ◌&&◌, ◌==◌, nat_lt, List, [], ◌∷◌, length, take, get_or, Option, Some, None, is_some, IsTrue, IsFalse, refl, ap, sym, ◌∙◌, subst, inl, inr, arith, eq-eqb, ne_eqb, eqb-true, if◌then◌else◌, slice_set, get_or-set_same, get_or-set_other, length-set}
 use mir.Val.{bool_byte}
 use Rattle.std.specs.List.{position}
-use Rattle.std.proofs.lemmas.Bool.{cases_Bool, cases_eq, and_parts, and_from, and_left, or_right, both_ways, lt-ltb, le-ltb, true_from_ne_false, false_from_ne_true, not-true, not_from_false}
+use Rattle.std.proofs.lemmas.Bool.{cases_Bool, cases_eq, and_parts, and_from, or_left, both_ways, lt-ltb, le-ltb, true_from_ne_false, false_from_ne_true, not-true, not_from_false}
 use Rattle.std.proofs.lemmas.Bool.Decides.{nat_tests}
 use Rattle.std.proofs.lemmas.List.{set_comm}
 use Rattle.std.proofs.lemmas.List.Quantifiers.{position-Some}
@@ -11,7 +11,7 @@ use Rattle.mt_model.specs.Market.{Market, Program, program_of}
 use Rattle.mt_model.specs.Matching.{Places, at, is_program, send, couple_placement, single_placement}
 use Rattle.mt_model.specs.Choice.{choice}
 use Rattle.mt_model.specs.Stability.{would_be_taken, is_chosen}
-use Rattle.mt_model.proofs.ListLemmas.{count_agree, count_has, until-itself, with_one-same, above-with_one}
+use Rattle.mt_model.proofs.ListLemmas.{count_agree, count_has, until-itself, above-with_one}
 use Rattle.mt_model.proofs.TakenLemmas.{single_taken_lem, at-slice_set_other}
 use Rattle.mt_ranks.proofs.Positions.{has-position}
 use Rattle.mt_verify.specs.Moved.{at_moved}
@@ -138,7 +138,7 @@ pub single_taken_ranked : (m : Market) (places : Places) (a p k : ℕ) → a < l
 single_taken_ranked m places a p k a_in is_at =
     let q = program_of m p in
     single_taken_lem m places a p a_in
-    ∙ choice_ranked q (with_one (at places p) a) a k is_at (with_one-same (at places p) a a refl)
+    ∙ choice_ranked q (with_one (at places p) a) a k is_at (or_left (a == a) (at places p a) (eq-eqb a a refl))
     ∙ ap (λ (n : ℕ). nat_lt n q.quota)
       (ap (count (with_one (at places p) a)) (sym (until_position q.ranking a k is_at)) ∙ above-with_one (at places p) q.ranking a ∙ ap (count (at places p)) (until_position q.ranking a k is_at))
 

@@ -1,4 +1,3 @@
-pub mod Asked
 pub mod Blocking
 pub mod Moved
 pub mod Placed

@@ -1,8 +1,8 @@
 ghost use Rattle.std.specs.Prelude.{◌≡◌, ◌≤◌, ◌^◌, ◌++◌, [], ◌∷◌, map, length, nat_lt, IfOk, OnOk};
 ghost use Rattle.std.specs.List.Sorted.{IsNonDecreasing};
+ghost use Rattle.mt_model.specs.Laws.Registration.{IsRegistration};
 ghost use Rattle.mt_model.specs.Lists.{below, count};
 ghost use Rattle.mt_model.specs.Matching.{at};
-ghost use Rattle.mt_roster.specs.Tables.{IsRoster};
 ghost use Rattle.mt_verify.specs.Placed.{ranks_from, placed_ranks};
 
 use std::alloc::{AllocError, Global};
@@ -35,8 +35,8 @@ pub(crate) fn placed_by_program(
     roster: &Roster,
     matched: &Match,
 ) -> Result<FlatLists<u32>, AllocError>
-    ensures roster { IsRoster roster.now }
-    ensures placed { IfOk result (λ lists. lists ≡ map (placed_ranks roster.now.market matched.now.places) (below (length roster.now.market.programs))) }
+    requires { IsRegistration roster.now }
+    ensures { IfOk result (λ lists. lists ≡ map (placed_ranks roster.now.market matched.now.places) (below (length roster.now.market.programs))) }
 {
     let mut lists = FlatLists::new(alloc);
     for number in 0..roster.programs() {

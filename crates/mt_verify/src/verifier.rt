@@ -1,5 +1,6 @@
 ghost use Rattle.std.specs.Prelude.{◌≡◌, ℕ, ◌<◌, ◌==◌, ◌&&◌, length, map, IfOk, IsFalse, is_some, not, position};
 ghost use Rattle.std.specs.List.{find};
+ghost use Rattle.mt_model.specs.Laws.Registration.{IsRegistration};
 ghost use Rattle.mt_model.specs.Lists.{below, has};
 ghost use Rattle.mt_model.specs.Market.{agent_of, applicants, program_of};
 ghost use Rattle.mt_model.specs.Matching.{place_of};
@@ -7,8 +8,6 @@ ghost use Rattle.mt_model.specs.Places.{ArePlaces};
 ghost use Rattle.mt_model.specs.Stability.{has_own_option, is_listed};
 ghost use Rattle.mt_model.specs.Verdict.{is_over, is_unlisted, lowest_number, verdict_of};
 ghost use Rattle.mt_ranks.specs.Ranked.{ranked_of};
-ghost use Rattle.mt_roster.specs.Tables.{IsRoster};
-ghost use Rattle.mt_verify.specs.Asked.{ArePairs};
 ghost use Rattle.mt_verify.specs.Placed.{placed_ranks};
 
 mod blocking;
@@ -30,10 +29,9 @@ pub(crate) struct Verifier<'a> {
     ranks: &'a Ranks,
     matched: &'a Match,
     placed: FlatLists<u32>,
-    ghost is_roster: { IsRoster roster.now },
+    ghost is_registration: { IsRegistration roster.now },
     ghost one_market: { ranks.now ≡ ranked_of roster.now.market },
     ghost are_places: { ArePlaces roster.now.market matched.now.places },
-    ghost are_pairs: { ArePairs roster.now.market },
     ghost placed_there: { placed ≡ map (placed_ranks roster.now.market matched.now.places) (below (length roster.now.market.programs)) },
 }
 
@@ -47,7 +45,7 @@ impl<'a> Verifier<'a> {
     ) -> Result<Self, AllocError>
         requires ranks { ranks.now ≡ ranked_of roster.now.market }
         requires places { ArePlaces roster.now.market matched.now.places }
-        requires pairs { ArePairs roster.now.market }
+        requires registration { IsRegistration roster.now }
         ensures market { IfOk result (λ v. v.roster.now ≡ roster.entry.now) }
         ensures places { IfOk result (λ v. v.matched.now ≡ matched.entry.now) }
     {

@@ -1,9 +1,9 @@
 ghost use Rattle.std.specs.Prelude.{◌≡◌, ◌≢◌, ◌<◌, length, take, IsTrue};
+ghost use Rattle.mt_model.specs.Laws.Registration.{is_none_or_below, is_pair_below};
 ghost use Rattle.mt_model.specs.Lists.{has};
 ghost use Rattle.mt_model.specs.Market.{applicants, program_of};
 ghost use Rattle.mt_model.specs.Matching.{at, couple_placement, send, single_placement};
 ghost use Rattle.mt_model.specs.Stability.{is_chosen, would_be_taken};
-ghost use Rattle.mt_verify.specs.Asked.{is_pair_below, is_place_below};
 ghost use Rattle.mt_verify.specs.Moved.{at_moved, count_above};
 
 use mt_model::{AppNo, ProgNo};
@@ -77,7 +77,7 @@ impl Verifier<'_> {
         requires member { member < applicants self.now.roster.now.market }
         requires partner { partner < applicants self.now.roster.now.market }
         requires apart { member ≢ partner }
-        requires place { IsTrue (is_place_below (length self.now.roster.now.market.programs) place) }
+        requires place { IsTrue (is_none_or_below (length self.now.roster.now.market.programs) place) }
         ensures { result ≡ is_chosen self.now.roster.now.market (send (couple_placement member partner (place, partner_place)) self.now.matched.now.places) member place }
     {
         let Some(program) = place else {

@@ -11,7 +11,7 @@ returns-clause-stable c =
     let market = c.args.roster.now.market in
     let places = c.args.matched.now.places in
     let verifier = c.in_ok-verifier.verifier in
-    let formed : IsWellFormed market = subst (λ (r : Registered). IsWellFormed r.market) c.in_ok-verifier.ensures.market verifier.is_roster.well_formed in
+    let formed : IsWellFormed market = subst (λ (r : Registered). IsWellFormed r.market) c.in_ok-verifier.ensures.market verifier.is_registration.well_formed in
     let is : c.verdict.result ≡ verdict_of market places =
         c.verdict.ensures ∙ ap (λ (r : Registered). verdict_of r.market verifier.matched.now.places) c.in_ok-verifier.ensures.market
         ∙ ap (λ (x : Match). verdict_of market x.places) c.in_ok-verifier.ensures.places in

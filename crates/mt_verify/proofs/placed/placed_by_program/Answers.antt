@@ -8,7 +8,7 @@ use Rattle.mt_verify.proofs.MarketFacts.{few_ranked}
 use Rattle.mt_verify.proofs.placed.placed_by_program.Goals as goal
 
 pub push_placed-requires : goal.push_placed-requires
-push_placed-requires c = omega (arith, few_ranked c.args.roster.now c.programs-number-end.ensures.roster c.loop-number.number, ap length c.program_list.ensures)
+push_placed-requires c = omega (arith, few_ranked c.args.roster.now c.requires c.loop-number.number (omega (arith, c.programs-number-end.ensures.count)), ap length c.program_list.ensures)
 
 pub loop-number-preserved : goal.loop-number-preserved
 loop-number-preserved c =

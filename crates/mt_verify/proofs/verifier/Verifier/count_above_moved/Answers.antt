@@ -31,7 +31,7 @@ overflow_add-result c =
     let comes : c.from-2.result ≡ one_if (is_program c.args.program c.args.place) =
         c.from-2.ensures ∙ one_if-from_byte c.eq-comes.result ∙ ap one_if (c.eq-comes.ensures ∙ is_program_read c.args.program c.args.place) in
     omega (arith, c.count_above-there.ensures, count-le-length (at self.matched.now.places c.args.program) (take c.args.rank ranking), length-take c.args.rank ranking,
-      few_ranked self.roster.now self.is_roster c.args.program, one_if_le (is_program c.args.program c.args.place))
+      few_ranked self.roster.now self.is_registration c.args.program c.requires.program, one_if_le (is_program c.args.program c.args.place))
 
 pub returns : goal.returns
 returns c =
@@ -44,4 +44,4 @@ returns c =
     let comes : c.from-2.result ≡ one_if (is_program c.args.program c.args.place) =
         c.from-2.ensures ∙ one_if-from_byte c.eq-comes.result ∙ ap one_if (c.eq-comes.ensures ∙ is_program_read c.args.program c.args.place) in
     omega (arith, c.count_above-there.ensures, one_counts (at self.matched.now.places c.args.program) front c.args.applicant on,
-      count_moved self.matched.now.places c.args.applicant c.args.program c.args.place front (distinct_front ranking c.args.rank (self.is_roster.well_formed.rankings_distinct c.args.program)) on)
+      count_moved self.matched.now.places c.args.applicant c.args.program c.args.place front (distinct_front ranking c.args.rank (self.is_registration.well_formed.rankings_distinct c.args.program)) on)

@@ -2,6 +2,7 @@ use Rattle.std.proofs.Common.{◌≡◌, length, get_or, None, IsTrue, IsFalse, 
 use Rattle.mt_model.specs.Market.{couple_of}
 use Rattle.mt_model.specs.Matching.{place_of, holds, couple_placement}
 use Rattle.mt_verify.proofs.BlockingFacts.{element_read, holds_pair, taken_read, at_own_pair, at_taken_pair, no_pair_more, at_no_pair}
+use Rattle.mt_verify.proofs.MarketFacts.{few_pairs}
 use Rattle.mt_verify.proofs.verifier.Verifier.first_pair.Goals as goal
 
 pub returns-then-eq : goal.returns-then-eq
@@ -33,6 +34,10 @@ returns-then-takes_pair c =
       (element_read items.result.now couple.pairs c.loop-option.option pair (None, None) c.pair-item.is items.ensures c.loop-option-test.true) c.loop-option.invariant other
       (sym (taken_read self.roster.now.market places c.members-first.result.0 c.members-first.result.1 couple.first couple.second pair c.members-first.ensures.first c.members-first.ensures.second)
       ∙ sym c.takes_pair.ensures ∙ c.if-takes_pair.true))
+
+pub overflow_cast-result : goal.overflow_cast-result
+overflow_cast-result c =
+    omega (arith, few_pairs c.args.self.now.roster.now c.args.self.now.is_registration c.args.couple c.requires, ap length c.couple_list-pair-items.ensures)
 
 pub loop-option-preserved : goal.loop-option-preserved
 loop-option-preserved c =

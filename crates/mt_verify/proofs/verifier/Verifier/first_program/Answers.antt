@@ -25,11 +25,11 @@ takes_single-requires-clause-program c =
     let program = c.program-item.result in
     let items = c.single_list-program-items in
     let read : program ≡ get_or list c.loop-option.option 0 = element_read items.result.now list c.loop-option.option program 0 c.program-item.is items.ensures c.loop-option-test.true in
-    self.is_roster.well_formed.lists_within c.args.applicant program
+    self.is_registration.well_formed.lists_within c.args.applicant program
     (list_any_at (λ p. p == program) list c.loop-option.option 0 (omega (arith, ap length items.ensures)) (eq-eqb (get_or list c.loop-option.option 0) program (sym read)))
 
 pub overflow_cast-result : goal.overflow_cast-result
-overflow_cast-result c = omega (arith, few_listed c.args.self.now.roster.now c.args.self.now.is_roster c.args.applicant, ap length c.single_list-program-items.ensures)
+overflow_cast-result c = omega (arith, few_listed c.args.self.now.roster.now c.args.self.now.is_registration c.args.applicant c.requires, ap length c.single_list-program-items.ensures)
 
 pub returns-then-takes_single : goal.returns-then-takes_single
 returns-then-takes_single c =
