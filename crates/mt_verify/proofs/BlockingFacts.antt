@@ -58,14 +58,14 @@ module _ (m : Market) (places : Places) (a : ℕ) where
   at_own_program k p within read none own =
       position_mapped (holds places) (would_be_taken m places) (single_placement a) (list_of m a)
       ∙ stops_at (λ q. holds places (single_placement a q)) (λ q. would_be_taken m places (single_placement a q)) (list_of m a) 0 k within none
-        (subst (λ (q : ℕ). IsTrue (holds places (single_placement a q))) read own)
+      (subst (λ (q : ℕ). IsTrue (holds places (single_placement a q))) read own)
 
   pub at_taken_program : (k p : ℕ) → k < length (list_of m a) → p ≡ get_or (list_of m a) k 0 → NoProgramYet k → IsFalse (holds places (single_placement a p))
       → IsTrue (would_be_taken m places (single_placement a p)) → position (would_be_taken m places) (better m places (Single a)) ≡ Some k
   at_taken_program k p within read none other taken =
       position_mapped (holds places) (would_be_taken m places) (single_placement a) (list_of m a)
       ∙ passes_at (λ q. holds places (single_placement a q)) (λ q. would_be_taken m places (single_placement a q)) (list_of m a) 0 k within none
-        (subst (λ (q : ℕ). IsFalse (holds places (single_placement a q))) read other) (subst (λ (q : ℕ). IsTrue (would_be_taken m places (single_placement a q))) read taken)
+      (subst (λ (q : ℕ). IsFalse (holds places (single_placement a q))) read other) (subst (λ (q : ℕ). IsTrue (would_be_taken m places (single_placement a q))) read taken)
 
   pub at_no_program : NoProgramYet (length (list_of m a)) → position (would_be_taken m places) (better m places (Single a)) ≡ None
   at_no_program none =
@@ -89,7 +89,7 @@ module _ (m : Market) (places : Places) (c : ℕ) where
   at_own_pair k pair within read none own =
       position_mapped (holds places) (would_be_taken m places) placement (couple_of m c).pairs
       ∙ stops_at (λ x. holds places (placement x)) (λ x. would_be_taken m places (placement x)) (couple_of m c).pairs (None, None) k within none
-        (subst (λ (x : Pair). IsTrue (holds places (placement x))) read own)
+      (subst (λ (x : Pair). IsTrue (holds places (placement x))) read own)
 
   pub at_taken_pair : (k : ℕ) (pair : Pair) → k < length (couple_of m c).pairs → pair ≡ get_or (couple_of m c).pairs k (None, None) → NoPairYet k
       → IsFalse (holds places (couple_placement (couple_of m c).first (couple_of m c).second pair))
@@ -98,7 +98,7 @@ module _ (m : Market) (places : Places) (c : ℕ) where
   at_taken_pair k pair within read none other taken =
       position_mapped (holds places) (would_be_taken m places) placement (couple_of m c).pairs
       ∙ passes_at (λ x. holds places (placement x)) (λ x. would_be_taken m places (placement x)) (couple_of m c).pairs (None, None) k within none
-        (subst (λ (x : Pair). IsFalse (holds places (placement x))) read other) (subst (λ (x : Pair). IsTrue (would_be_taken m places (placement x))) read taken)
+      (subst (λ (x : Pair). IsFalse (holds places (placement x))) read other) (subst (λ (x : Pair). IsTrue (would_be_taken m places (placement x))) read taken)
 
   pub no_pair_more : (k : ℕ) (pair : Pair) → pair ≡ get_or (couple_of m c).pairs k (None, None) → NoPairYet k
       → IsFalse (holds places (couple_placement (couple_of m c).first (couple_of m c).second pair))

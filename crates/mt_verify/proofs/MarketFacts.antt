@@ -56,7 +56,7 @@ filled_ranks m places formed are listed p =
     length-ranks_from 0 (at places p) (program_of m p).ranking
     ∙ listed_count (at places p) (program_of m p).ranking (applicants m) (formed.rankings_distinct p) (formed.rankings_within p)
     ∙ count_below-same (λ a. has (program_of m p).ranking a && at places p a) (at places p) (applicants m) (λ a a_in.
-      both_or_none (has (program_of m p).ranking a) (at places p a) (listed_there m a p (place_of places a) (allowed_parts m places a (listed a a_in)).0))
+    both_or_none (has (program_of m p).ranking a) (at places p a) (listed_there m a p (place_of places a) (allowed_parts m places a (listed a a_in)).0))
     ∙ sym (filled_by_applicant places p ∙ ap (count_below (at places p)) are.one_each)
   where
     both_or_none : (x y : Bool) → (IsTrue y → IsTrue x) → (x && y) ≡ y

@@ -36,9 +36,9 @@ own_option-Single m places a =
 
 pub own_option-Couple : (m : Market) (places : Places) (c : ℕ)
     → let a = (couple_of m c).first in let b = (couple_of m c).second in
-      has_own_option m places (Couple c)
-      ≡ (list_any (λ pair. is_same_place (place_of places a) pair.0 && is_same_place (place_of places b) pair.1) (couple_of m c).pairs
-        || (not (is_some (place_of places a)) && not (is_some (place_of places b))))
+    has_own_option m places (Couple c)
+    ≡ (list_any (λ pair. is_same_place (place_of places a) pair.0 && is_same_place (place_of places b) pair.1) (couple_of m c).pairs
+    || (not (is_some (place_of places a)) && not (is_some (place_of places b))))
 own_option-Couple m places c =
     let a = (couple_of m c).first in
     let b = (couple_of m c).second in
@@ -70,7 +70,7 @@ is_off-Single m places a b is = rw (single_is_itself m a b is, eq-eqb a a refl) 
 
 pub is_off-Couple : (m : Market) (places : Places) (a c : ℕ) → agent_of m a ≡ Couple c → a ≡ min (couple_of m c).first (couple_of m c).second
     → let first = (couple_of m c).first in let second = (couple_of m c).second in
-      is_off m places a
-      ≡ not (list_any (λ pair. is_same_place (place_of places first) pair.0 && is_same_place (place_of places second) pair.1) (couple_of m c).pairs
-        || (not (is_some (place_of places first)) && not (is_some (place_of places second))))
+    is_off m places a
+    ≡ not (list_any (λ pair. is_same_place (place_of places first) pair.0 && is_same_place (place_of places second) pair.1) (couple_of m c).pairs
+    || (not (is_some (place_of places first)) && not (is_some (place_of places second))))
 is_off-Couple m places a c is low = rw (is, eq-eqb (min (couple_of m c).first (couple_of m c).second) a (sym low)) (ap not (own_option-Couple m places c))

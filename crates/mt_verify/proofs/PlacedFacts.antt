@@ -125,7 +125,7 @@ count_to_point test (x ∷ xs) zero within point =
 count_to_point test (x ∷ xs) (suc i) within point =
     let here : IsTrue (test x) = point.0 0 0 (omega arith) (omega arith) in
     let rest : count test xs ≡ i = count_to_point test xs i (omega arith)
-        ((λ k d low high. point.0 (suc k) d (omega arith) (omega arith)), (λ k d low high. point.1 (suc k) d (omega arith) (omega arith))) in
+    ((λ k d low high. point.0 (suc k) d (omega arith) (omega arith)), (λ k d low high. point.1 (suc k) d (omega arith) (omega arith))) in
     rw here (omega arith)
 
 -- the front of a list up to a number ends at the number's place

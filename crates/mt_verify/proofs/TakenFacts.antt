@@ -140,7 +140,7 @@ single_taken_ranked m places a p k a_in is_at =
     single_taken_lem m places a p a_in
     ∙ choice_ranked q (with_one (at places p) a) a k is_at (or_left (a == a) (at places p a) (eq-eqb a a refl))
     ∙ ap (λ (n : ℕ). nat_lt n q.quota)
-      (ap (count (with_one (at places p) a)) (sym (until_position q.ranking a k is_at)) ∙ above-with_one (at places p) q.ranking a ∙ ap (count (at places p)) (until_position q.ranking a k is_at))
+    (ap (count (with_one (at places p) a)) (sym (until_position q.ranking a k is_at)) ∙ above-with_one (at places p) q.ranking a ∙ ap (count (at places p)) (until_position q.ranking a k is_at))
 
 pub single_not_taken : (m : Market) (places : Places) (a p : ℕ) → a < length places → position (λ x. x == a) (program_of m p).ranking ≡ None
     → would_be_taken m places (single_placement a p) ≡ false
@@ -171,11 +171,11 @@ module _ (places : Places) (a b p : ℕ) (t : Option ℕ) (a_in : a < length pla
       let q = program_of m p in
       let set : Set = at (send (couple_placement a b (Some p, t)) places) p in
       let same : count set (until (λ x. x == a) q.ranking) ≡ count (at_moved places b t p) (until (λ x. x == a) q.ranking) =
-          count_agree set (at_moved places b t p) (until (λ x. x == a) q.ranking)
-          (λ c higher. others_there c (λ is_a. both_ways _ (until-itself q.ranking a) (subst (λ (x : ℕ). IsTrue (has (until (λ y. y == a) q.ranking) x)) is_a higher))) in
+      count_agree set (at_moved places b t p) (until (λ x. x == a) q.ranking)
+      (λ c higher. others_there c (λ is_a. both_ways _ (until-itself q.ranking a) (subst (λ (x : ℕ). IsTrue (has (until (λ y. y == a) q.ranking) x)) is_a higher))) in
       choice_ranked q set a k is_at member_there
       ∙ ap (λ (n : ℕ). nat_lt n q.quota)
-        (ap (count set) (sym (until_position q.ranking a k is_at)) ∙ same ∙ ap (count (at_moved places b t p)) (until_position q.ranking a k is_at))
+      (ap (count set) (sym (until_position q.ranking a k is_at)) ∙ same ∙ ap (count (at_moved places b t p)) (until_position q.ranking a k is_at))
 
 pub member_unranked : (m : Market) (places : Places) (a p : ℕ) → position (λ x. x == a) (program_of m p).ranking ≡ None → is_chosen m places a (Some p) ≡ false
 member_unranked m places a p none = choice_unranked (program_of m p) (at places p) a none

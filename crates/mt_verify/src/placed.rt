@@ -5,10 +5,9 @@ ghost use Rattle.mt_model.specs.Lists.{below, count};
 ghost use Rattle.mt_model.specs.Matching.{at};
 ghost use Rattle.mt_verify.specs.Placed.{ranks_from, placed_ranks};
 
-use std::alloc::{AllocError, Global};
-
 use mt_model::{AppNo, FlatLists, Match, ProgNo};
 use mt_roster::Roster;
+use std::alloc::{AllocError, Global};
 
 /// Adds, as a list of its own, where those that are placed at a program stand on its list.
 fn push_placed(
@@ -52,4 +51,45 @@ pub(crate) fn count_below(ranks: &[u32], rank: u32) -> usize
     ensures { result ≡ count (λ r. nat_lt r rank) ranks.now }
 {
     ranks.partition_point(|placed| *placed < rank)
+}
+
+#[cfg(test)]
+mod tests {
+    use super::*;
+    use mt_model::Places;
+    use std::test::Fail;
+
+    fn at(program: u32) -> Option<ProgNo> {
+        Some(ProgNo(program))
+    }
+
+    // Applicants 0 and 1 are at program 1, applicant 3 is at program 0, and applicant 2 is unplaced.
+    #[test]
+    fn ranks_of_those_placed(rt: HostRuntime) -> Result<(), Fail> {
+        let places = vec![in rt.alloc(); at(1), at(1), None, at(0)]?;
+        let matched = Match {
+            places: Places::new(places),
+        };
+        let ranking = [AppNo(2), AppNo(0), AppNo(3), AppNo(1)];
+        let mut lists = FlatLists::new(rt.alloc());
+        push_placed(&mut lists, &ranking, &matched, ProgNo(0))?;
+        push_placed(&mut lists, &ranking, &matched, ProgNo(1))?;
+        push_placed(&mut lists, &ranking, &matched, ProgNo(2))?;
+        assert_eq!(rt; lists.len(), 3);
+        assert_eq!(rt; lists.list(0), [2].as_slice());
+        assert_eq!(rt; lists.list(1), [1, 3].as_slice());
+        assert_eq!(rt; lists.list(2).len(), 0);
+        Ok(())
+    }
+
+    #[test]
+    fn ranks_above_a_rank(rt: HostRuntime) {
+        let ranks = [1, 2, 5];
+        assert_eq!(rt; count_below(&ranks, 0), 0);
+        assert_eq!(rt; count_below(&ranks, 1), 0);
+        assert_eq!(rt; count_below(&ranks, 2), 1);
+        assert_eq!(rt; count_below(&ranks, 5), 2);
+        assert_eq!(rt; count_below(&ranks, 6), 3);
+        assert_eq!(rt; count_below(&[], 6), 0);
+    }
 }

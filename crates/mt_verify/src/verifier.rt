@@ -13,14 +13,12 @@ ghost use Rattle.mt_verify.specs.Placed.{placed_ranks};
 mod blocking;
 mod taken;
 
-use std::alloc::{AllocError, Global};
-
+use crate::listed::{is_own_pair, is_own_place};
+use crate::placed::placed_by_program;
 use mt_model::{Agent, AppNo, FlatLists, Match, ProgNo, Verdict};
 use mt_ranks::Ranks;
 use mt_roster::Roster;
-
-use crate::listed::{is_own_pair, is_own_place};
-use crate::placed::placed_by_program;
+use std::alloc::{AllocError, Global};
 
 /// A match beside the market that it is judged by, with the ranks of those placed at each program.
 #[derive(Drop)]
@@ -87,7 +85,10 @@ impl<'a> Verifier<'a> {
     {
         match self.roster.agent_of(applicant) {
             Agent::Single(_) => {
-                !is_own_place(self.roster.single_list(applicant), self.matched.place(applicant))
+                !is_own_place(
+                    self.roster.single_list(applicant),
+                    self.matched.place(applicant),
+                )
             }
             Agent::Couple(couple) => {
                 let (first, second) = self.roster.members(couple);

@@ -7,9 +7,8 @@ ghost use Rattle.mt_model.specs.Stability.{blocks, would_be_taken};
 ghost use Rattle.mt_model.specs.declared.numbers.Agent.TheVariants.{Couple, Single};
 ghost use Rattle.mt_verify.specs.Blocking.{blocker, blocker_led_by};
 
-use mt_model::{Agent, AppNo, Blocker, CoupleNo};
-
 use crate::verifier::Verifier;
+use mt_model::{Agent, AppNo, Blocker, CoupleNo};
 
 impl Verifier<'_> {
     /// The place on the single's list of its first better program that would take it.

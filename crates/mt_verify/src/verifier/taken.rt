@@ -6,10 +6,9 @@ ghost use Rattle.mt_model.specs.Matching.{at, couple_placement, send, single_pla
 ghost use Rattle.mt_model.specs.Stability.{is_chosen, would_be_taken};
 ghost use Rattle.mt_verify.specs.Moved.{at_moved, count_above};
 
-use mt_model::{AppNo, ProgNo};
-
 use crate::placed::count_below;
 use crate::verifier::Verifier;
+use mt_model::{AppNo, ProgNo};
 
 impl Verifier<'_> {
     /// How many of those placed at the program stand above a rank on its list.

@@ -24,14 +24,14 @@ returns-in_err-option-in-Couple c =
     let self = c.args.self.now in
     c.from_residual-in_err-option-in-Couple.ensures
     ∙ sym (led_not_blocking self.roster.now.market self.matched.now.places c.args.applicant (Couple c.in-Couple.couple) (sym c.agent_of.ensures ∙ c.in-Couple.is)
-      (sym c.first_pair.ensures ∙ c.in_err-option-in-Couple.was))
+    (sym c.first_pair.ensures ∙ c.in_err-option-in-Couple.was))
 
 pub returns-in_ok-option-in-Single : goal.returns-in_ok-option-in-Single
 returns-in_ok-option-in-Single c =
     let self = c.args.self.now in
     let alone = single_is_itself self.roster.now.market c.args.applicant c.in-Single.field-0 (sym c.agent_of.ensures ∙ c.in-Single.is) in
     sym (led_and_blocks self.roster.now.market self.matched.now.places c.args.applicant (Single c.args.applicant) alone
-      (leads-Single self.roster.now.market c.args.applicant alone) c.in_ok-option-in-Single.option (sym c.in_ok-option-in-Single.ensures))
+    (leads-Single self.roster.now.market c.args.applicant alone) c.in_ok-option-in-Single.option (sym c.in_ok-option-in-Single.ensures))
 
 pub returns-in_ok-option-in-Couple : goal.returns-in_ok-option-in-Couple
 returns-in_ok-option-in-Couple c =
@@ -39,4 +39,4 @@ returns-in_ok-option-in-Couple c =
     let is : agent_of self.roster.now.market c.args.applicant ≡ Couple c.in-Couple.couple = sym c.agent_of.ensures ∙ c.in-Couple.is in
     let first : c.args.applicant ≡ (couple_of self.roster.now.market c.in-Couple.couple).first = omega arith in
     sym (led_and_blocks self.roster.now.market self.matched.now.places c.args.applicant (Couple c.in-Couple.couple) is
-      (leads-first self.roster.now.market c.in-Couple.couple c.args.applicant is first) c.in_ok-option-in-Couple.option (sym c.in_ok-option-in-Couple.ensures))
+    (leads-first self.roster.now.market c.in-Couple.couple c.args.applicant is first) c.in_ok-option-in-Couple.option (sym c.in_ok-option-in-Couple.ensures))

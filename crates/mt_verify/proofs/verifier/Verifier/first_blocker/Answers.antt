@@ -6,7 +6,7 @@ pub returns-in-Some : goal.returns-in-Some
 returns-in-Some c =
     let self = c.args.self.now in
     sym (blocker_found self.roster.now.market self.matched.now.places c.loop-number.number c.in-Some.blocker (omega (arith, c.applicants-number-end.ensures.count))
-      c.loop-number.invariant (sym c.blocker_led_by.ensures ∙ c.in-Some.is))
+    c.loop-number.invariant (sym c.blocker_led_by.ensures ∙ c.in-Some.is))
 
 pub returns : goal.returns
 returns c =

@@ -13,11 +13,11 @@ returns-then-eq c =
     let pair = c.pair-item.result in
     let items = c.couple_list-pair-items in
     let own : IsTrue (holds places (couple_placement couple.first couple.second pair)) =
-        holds_pair places couple.first couple.second pair c.place.result c.place-2.result
-        (c.place.ensures ∙ ap (place_of places) c.members-first.ensures.first) (c.place-2.ensures ∙ ap (place_of places) c.members-first.ensures.second)
-        ∙ sym c.eq.ensures ∙ c.if-eq.true in
+    holds_pair places couple.first couple.second pair c.place.result c.place-2.result
+    (c.place.ensures ∙ ap (place_of places) c.members-first.ensures.first) (c.place-2.ensures ∙ ap (place_of places) c.members-first.ensures.second)
+    ∙ sym c.eq.ensures ∙ c.if-eq.true in
     sym (at_own_pair self.roster.now.market places c.args.couple c.loop-option.option pair (omega (arith, ap length items.ensures))
-      (element_read items.result.now couple.pairs c.loop-option.option pair (None, None) c.pair-item.is items.ensures c.loop-option-test.true) c.loop-option.invariant own)
+    (element_read items.result.now couple.pairs c.loop-option.option pair (None, None) c.pair-item.is items.ensures c.loop-option-test.true) c.loop-option.invariant own)
 
 pub returns-then-takes_pair : goal.returns-then-takes_pair
 returns-then-takes_pair c =
@@ -27,13 +27,13 @@ returns-then-takes_pair c =
     let pair = c.pair-item.result in
     let items = c.couple_list-pair-items in
     let other : IsFalse (holds places (couple_placement couple.first couple.second pair)) =
-        holds_pair places couple.first couple.second pair c.place.result c.place-2.result
-        (c.place.ensures ∙ ap (place_of places) c.members-first.ensures.first) (c.place-2.ensures ∙ ap (place_of places) c.members-first.ensures.second)
-        ∙ sym c.eq.ensures ∙ c.if-eq.false in
+    holds_pair places couple.first couple.second pair c.place.result c.place-2.result
+    (c.place.ensures ∙ ap (place_of places) c.members-first.ensures.first) (c.place-2.ensures ∙ ap (place_of places) c.members-first.ensures.second)
+    ∙ sym c.eq.ensures ∙ c.if-eq.false in
     sym (at_taken_pair self.roster.now.market places c.args.couple c.loop-option.option pair (omega (arith, ap length items.ensures))
-      (element_read items.result.now couple.pairs c.loop-option.option pair (None, None) c.pair-item.is items.ensures c.loop-option-test.true) c.loop-option.invariant other
-      (sym (taken_read self.roster.now.market places c.members-first.result.0 c.members-first.result.1 couple.first couple.second pair c.members-first.ensures.first c.members-first.ensures.second)
-      ∙ sym c.takes_pair.ensures ∙ c.if-takes_pair.true))
+    (element_read items.result.now couple.pairs c.loop-option.option pair (None, None) c.pair-item.is items.ensures c.loop-option-test.true) c.loop-option.invariant other
+    (sym (taken_read self.roster.now.market places c.members-first.result.0 c.members-first.result.1 couple.first couple.second pair c.members-first.ensures.first c.members-first.ensures.second)
+    ∙ sym c.takes_pair.ensures ∙ c.if-takes_pair.true))
 
 pub overflow_cast-result : goal.overflow_cast-result
 overflow_cast-result c =
@@ -47,16 +47,16 @@ loop-option-preserved c =
     let pair = c.pair-item.result in
     let items = c.couple_list-pair-items in
     let other : IsFalse (holds places (couple_placement couple.first couple.second pair)) =
-        holds_pair places couple.first couple.second pair c.place.result c.place-2.result
-        (c.place.ensures ∙ ap (place_of places) c.members-first.ensures.first) (c.place-2.ensures ∙ ap (place_of places) c.members-first.ensures.second)
-        ∙ sym c.eq.ensures ∙ c.if-eq.false in
+    holds_pair places couple.first couple.second pair c.place.result c.place-2.result
+    (c.place.ensures ∙ ap (place_of places) c.members-first.ensures.first) (c.place-2.ensures ∙ ap (place_of places) c.members-first.ensures.second)
+    ∙ sym c.eq.ensures ∙ c.if-eq.false in
     no_pair_more self.roster.now.market places c.args.couple c.loop-option.option pair
-      (element_read items.result.now couple.pairs c.loop-option.option pair (None, None) c.pair-item.is items.ensures c.loop-option-test.true) c.loop-option.invariant other
-      (sym (taken_read self.roster.now.market places c.members-first.result.0 c.members-first.result.1 couple.first couple.second pair c.members-first.ensures.first c.members-first.ensures.second)
-      ∙ sym c.takes_pair.ensures ∙ c.if-takes_pair.false)
+    (element_read items.result.now couple.pairs c.loop-option.option pair (None, None) c.pair-item.is items.ensures c.loop-option-test.true) c.loop-option.invariant other
+    (sym (taken_read self.roster.now.market places c.members-first.result.0 c.members-first.result.1 couple.first couple.second pair c.members-first.ensures.first c.members-first.ensures.second)
+    ∙ sym c.takes_pair.ensures ∙ c.if-takes_pair.false)
 
 pub returns : goal.returns
 returns c =
     let self = c.args.self.now in
     sym (at_no_pair self.roster.now.market self.matched.now.places c.args.couple
-      (λ j less. c.loop-option.invariant j (omega (arith, ap length c.couple_list-pair-items.ensures))))
+    (λ j less. c.loop-option.invariant j (omega (arith, ap length c.couple_list-pair-items.ensures))))

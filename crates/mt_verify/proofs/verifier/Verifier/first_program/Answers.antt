@@ -13,10 +13,10 @@ returns-then-eq c =
     let program = c.program-item.result in
     let items = c.single_list-program-items in
     let own : IsTrue (holds self.matched.now.places (single_placement c.args.applicant program)) =
-        holds_program self.matched.now.places c.args.applicant program c.place-place.result c.place-place.ensures ∙ sym c.eq.ensures ∙ c.if-eq.true in
+    holds_program self.matched.now.places c.args.applicant program c.place-place.result c.place-place.ensures ∙ sym c.eq.ensures ∙ c.if-eq.true in
     sym (at_own_program self.roster.now.market self.matched.now.places c.args.applicant c.loop-option.option program
-      (omega (arith, ap length items.ensures))
-      (element_read items.result.now list c.loop-option.option program 0 c.program-item.is items.ensures c.loop-option-test.true) c.loop-option.invariant own)
+    (omega (arith, ap length items.ensures))
+    (element_read items.result.now list c.loop-option.option program 0 c.program-item.is items.ensures c.loop-option-test.true) c.loop-option.invariant own)
 
 pub takes_single-requires-clause-program : goal.takes_single-requires-clause-program
 takes_single-requires-clause-program c =
@@ -38,14 +38,14 @@ returns-then-takes_single c =
     let program = c.program-item.result in
     let items = c.single_list-program-items in
     let other : IsFalse (holds self.matched.now.places (single_placement c.args.applicant program)) =
-        holds_program self.matched.now.places c.args.applicant program c.place-place.result c.place-place.ensures ∙ sym c.eq.ensures ∙ c.if-eq.false in
+    holds_program self.matched.now.places c.args.applicant program c.place-place.result c.place-place.ensures ∙ sym c.eq.ensures ∙ c.if-eq.false in
     sym (at_taken_program self.roster.now.market self.matched.now.places c.args.applicant c.loop-option.option program
-      (omega (arith, ap length items.ensures))
-      (element_read items.result.now list c.loop-option.option program 0 c.program-item.is items.ensures c.loop-option-test.true) c.loop-option.invariant other
-      (sym c.takes_single.ensures ∙ c.if-takes_single.true))
+    (omega (arith, ap length items.ensures))
+    (element_read items.result.now list c.loop-option.option program 0 c.program-item.is items.ensures c.loop-option-test.true) c.loop-option.invariant other
+    (sym c.takes_single.ensures ∙ c.if-takes_single.true))
 
 pub returns : goal.returns
 returns c =
     let self = c.args.self.now in
     sym (at_no_program self.roster.now.market self.matched.now.places c.args.applicant
-      (λ j less. c.loop-option.invariant j (omega (arith, ap length c.single_list-program-items.ensures))))
+    (λ j less. c.loop-option.invariant j (omega (arith, ap length c.single_list-program-items.ensures))))

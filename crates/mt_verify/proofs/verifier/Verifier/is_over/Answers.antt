@@ -16,6 +16,6 @@ pub returns : goal.returns
 returns c =
     let self = c.args.self.now in
     let there : length c.list.result.now ≡ filled self.matched.now.places c.args.program =
-        ap length (c.list.ensures ∙ placed_at self.roster.now.market self.matched.now.places self.placed c.args.program c.index.result self.placed_there c.index.ensures c.requires.within)
-        ∙ filled_ranks self.roster.now.market self.matched.now.places self.is_registration.well_formed self.are_places c.requires.listed c.args.program in
+    ap length (c.list.ensures ∙ placed_at self.roster.now.market self.matched.now.places self.placed c.args.program c.index.result self.placed_there c.index.ensures c.requires.within)
+    ∙ filled_ranks self.roster.now.market self.matched.now.places self.is_registration.well_formed self.are_places c.requires.listed c.args.program in
     rw (there, c.quota.ensures) (over_test (program_of self.roster.now.market c.args.program).quota (filled self.matched.now.places c.args.program))

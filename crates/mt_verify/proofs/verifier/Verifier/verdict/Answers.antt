@@ -8,4 +8,3 @@ pub first_over-requires : goal.first_over-requires
 first_over-requires c =
     let self = c.args.self.now in
     none_found_below (is_unlisted self.roster.now.market self.matched.now.places) (applicants self.roster.now.market) (sym c.first_unlisted.ensures ∙ c.in_default.is)
-
