@@ -1,6 +1,6 @@
 -- The laws of the verdict: it is that a match is stable exactly where the match is, and every other verdict
 -- names the first finding against it, in this project's own order.
-use Rattle.std.specs.Prelude.{◌≡◌, ◌↔◌, ℕ, ◌<◌, ◌≤◌, ◌&&◌, [], length, slice_index_or, IsTrue, IsFalse}
+use Rattle.std.specs.Prelude.{◌≡◌, ◌↔◌, ℕ, ◌<◌, ◌≤◌, ◌&&◌, [], ◌∷◌, Some, None, length, slice_index_or, IsTrue, IsFalse}
 use Rattle.mt_model.specs.Lists.{Set}
 use Rattle.mt_model.specs.Market.{Market, applicants, agent_of, leads}
 use Rattle.mt_model.specs.Matching.{Places, options, holds}
@@ -8,8 +8,10 @@ use Rattle.mt_model.specs.Stability.{fits, stable, would_be_taken, blocks}
 use Rattle.mt_model.specs.Verdict.{is_unlisted, is_over, verdict_of}
 use Rattle.mt_model.specs.WellFormed.{IsWellFormed}
 use Rattle.mt_model.specs.declared.numbers.Agent.{Agent}
+use Rattle.mt_model.specs.declared.numbers.Agent.TheVariants.{Single}
 use Rattle.mt_model.specs.declared.verdict.Verdict.{Verdict}
 use Rattle.mt_model.specs.declared.verdict.Verdict.TheVariants.{Stable, Unlisted, Over, Blocks}
+use Rattle.mt_model.specs.Examples.Markets
 
 -- a number is the first below n that passes a test
 pub record IsFirstBelow (test : Set) (n a : ℕ) : Type 0 where
@@ -64,3 +66,8 @@ abbrev pub StableVerdict : Type 0
 StableVerdict =
     (m : Market) → IsWellFormed m → (places : Places) → length places ≡ applicants m
     → (verdict_of m places ≡ Stable) ↔ IsTrue (stable m places)
+
+-- An example: with the applicants of the rejection chain at their first wishes, the third one blocks with the
+-- first program.
+abbrev pub ChainIsBlocked : Type 0
+ChainIsBlocked = IsFirstBlocker Markets.chain (Some 0 ∷ Some 1 ∷ None ∷ []) (Single 2) 0
