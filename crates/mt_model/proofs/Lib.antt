@@ -33,5 +33,6 @@ pub mod Seats
 pub mod SinglesFacts
 pub mod TakenLemmas
 pub mod Totals
+pub mod VerdictLemmas
 pub mod VersionFacts
 pub mod WellFormedLemmas

@@ -5,3 +5,4 @@ pub mod Rounds
 pub mod Rural
 pub mod Singles
 pub mod Taken
+pub mod Verdict

@@ -7,6 +7,7 @@ mod rounds;
 mod rural_law;
 mod singles;
 mod taken;
+mod verdict;
 
 pub use floors::{
     best_exists, due_at_most, due_proposals_are_made, event_due, event_keeps_legal,
@@ -29,3 +30,4 @@ pub use taken::{
     half_pair_taken, never_twice_at_one, pair_taken, same_program_taken, single_taken,
     taken_in_examples,
 };
+pub use verdict::{stable_verdict, verdict_in_words};
