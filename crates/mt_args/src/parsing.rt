@@ -1,0 +1,72 @@
+ghost use Rattle.std.specs.Prelude.{◌≡◌, ◌≢◌, [], ◌∷◌, IfErr, IfOk, Some, codes, false, map, string_bytes, true};
+ghost use Rattle.clap.specs.Words.{fault_of, found_of, kind_of, matches_of, rows_of};
+ghost use Rattle.clap.specs.declared.error.kind.ErrorKind.TheVariants.{DisplayHelp, OutOfMemory};
+ghost use Rattle.mt_args.specs.CommandLine.{AsksForHelp, HasOptions, IfRun, IsWithinLimits, OnHelp, OnUsage, file_in, file_of, is_taken, nrmatch, number_in, number_of};
+
+use crate::command::command;
+use crate::{AskEnd, Asked};
+use clap::error::ErrorKind;
+use clap::{ArgMatches, Error};
+use mt_run::Options;
+use std::alloc::Global;
+
+/// What the words after the program's name ask for.
+pub fn asked(alloc: Global, words: &[String]) -> Result<Asked, AskEnd>
+    ensures taken { IfOk result (λ a. IfRun a (λ _ _. is_taken (map string_bytes words.now) ≡ true)) }
+    ensures file { IfOk result (λ a. IfRun a (λ file _. file ≡ file_of (map string_bytes words.now))) }
+    ensures workers { IfOk result (λ a. IfRun a (λ _ o. Some o.workers ≡ number_of (codes "workers") (map string_bytes words.now))) }
+    ensures budget { IfOk result (λ a. IfRun a (λ _ o. Some o.budget ≡ number_of (codes "budget") (map string_bytes words.now))) }
+    ensures limits { IfOk result (λ a. IfRun a (λ _ o. IsWithinLimits o)) }
+    ensures help { IfOk result (λ a. OnHelp a (AsksForHelp (map string_bytes words.now))) }
+    ensures usage { IfErr result (λ e. OnUsage e (is_taken (map string_bytes words.now) ≡ false)) }
+{
+    match parsed(alloc, words) {
+        Ok(matches) => run_of(alloc, &matches),
+        Err(error) => end_of(alloc, &error),
+    }
+}
+
+fn parsed<'a>(alloc: Global, words: &'a [String]) -> Result<ArgMatches<'a>, Error>
+    ensures rows { IfOk result (λ m. rows_of (found_of m) ≡ matches_of nrmatch (map string_bytes words.entry.now)) }
+    ensures options { IfOk result (λ m. HasOptions (rows_of (found_of m))) }
+    ensures taken { IfOk result (λ _. is_taken (map string_bytes words.entry.now) ≡ true) }
+    ensures err { IfErr result (λ e. kind_of e ≢ OutOfMemory
+        → fault_of nrmatch (map string_bytes words.entry.now) ≡ kind_of e ∷ []) }
+    ensures refused { IfErr result (λ e. kind_of e ≢ OutOfMemory
+        → is_taken (map string_bytes words.entry.now) ≡ false) }
+{
+    command(alloc)?.try_get_matches_from(words)
+}
+
+fn run_of(alloc: Global, matches: &ArgMatches<'_>) -> Result<Asked, AskEnd>
+    requires { HasOptions (rows_of (found_of matches.now)) }
+    ensures run { IfOk result (λ a. OnHelp a ⊥) }
+    ensures file { IfOk result (λ a. IfRun a (λ file _. file ≡ file_in (rows_of (found_of matches.now)))) }
+    ensures workers { IfOk result (λ a. IfRun a (λ _ o. Some o.workers ≡ number_in (codes "workers") (rows_of (found_of matches.now)))) }
+    ensures budget { IfOk result (λ a. IfRun a (λ _ o. Some o.budget ≡ number_in (codes "budget") (rows_of (found_of matches.now)))) }
+    ensures limits { IfOk result (λ a. IfRun a (λ _ o. IsWithinLimits o)) }
+    ensures err { IfErr result (λ e. OnUsage e ⊥) }
+{
+    let file = match matches.get_str("FILE") {
+        Some(path) => Some(String::from_str(alloc, path).map_err(|_| AskEnd::Memory)?),
+        None => None,
+    };
+    let options = Options {
+        workers: matches.get_one("workers").unwrap(),
+        budget: matches.get_one("budget").unwrap(),
+    };
+    Ok(Asked::Run { file, options })
+}
+
+fn end_of(alloc: Global, error: &Error) -> Result<Asked, AskEnd>
+    ensures run { IfOk result (λ a. IfRun a (λ _ _. ⊥)) }
+    ensures help { IfOk result (λ a. OnHelp a (kind_of error.now ≡ DisplayHelp)) }
+    ensures usage { IfErr result (λ e. OnUsage e (kind_of error.now ≢ OutOfMemory)) }
+{
+    let text = format!(in alloc; "{error}").map_err(|_| AskEnd::Memory)?;
+    match error.kind() {
+        ErrorKind::OutOfMemory => Err(AskEnd::Memory),
+        ErrorKind::DisplayHelp => Ok(Asked::Help(text)),
+        _ => Err(AskEnd::Usage(text)),
+    }
+}
