@@ -3,6 +3,7 @@
 
 mod answer;
 mod command;
+pub mod laws;
 mod parsing;
 #[cfg(test)]
 mod tests;
