@@ -1,15 +1,16 @@
 -- What a parse of the command `nrmatch` gives, in both outcomes.
-use Rattle.std.proofs.Common.{◌≡◌, ◌≢◌, ◌∙◌, ◌<◌, ◌≤◌, ◌⊎◌, ℕ, zero, suc, Bool, true, false, List, [], ◌∷◌, length, Option, Some, None, Ok, Err, IfOk, IfErr, refl, sym, ap, subst, inl, inr, arith, codes, map, Result, slice_index}
+use Rattle.std.proofs.Common.{◌≡◌, ◌≢◌, ◌∙◌, ◌<◌, ◌≤◌, ◌⊎◌, ℕ, zero, suc, Bool, true, false, List, [], ◌∷◌, length, Option, Some, None, Ok, Err, IfOk, IfErr, refl, sym, ap, subst, inl, inr, arith, codes, map, Result, slice_index, ◌^◌}
 use Rattle.std.specs.Prelude.{option_map, unwrap_or, pos}
 use Rattle.std.specs.List.{All, slice_index_or, list_all}
 use Rattle.std.specs.Str.{bytes_eq}
+use Rattle.std.specs.Str.Parse.{ExplainsUnsignedError, HasUnsignedDigitsIfOk, IsNumeral, ParsesUnsigned, without_leading_plus}
 use Rattle.std.proofs.lemmas.List.{get_or-map, length-map}
 use Rattle.clap.specs.Facts.{args_of, groups_of, least_values, parser_of_value, unwrap_or_range}
 use Rattle.clap.specs.Texts.{items_of}
 use Rattle.clap.specs.declared.builder.range.ValueRange.{ValueRange}
 use Rattle.clap.specs.Built.{IsAuto, IsParsedFrom}
 use Rattle.clap.specs.Kinds.{FailsBy, IsAmong, Kinds}
-use Rattle.clap.specs.Matches.{found_of, one_text}
+use Rattle.clap.specs.Matches.{ReadsOne, found_of, one_text}
 use Rattle.clap.specs.Simple.{App, IsSimple, app_of, is_ready, is_ready_leaf}
 use Rattle.clap.specs.Takes.{takes}
 use Rattle.clap.specs.Values.{Accepts, kind_of, read_as, reading_of}
@@ -27,7 +28,8 @@ use Rattle.clap.specs.declared.error.Error.{Error}
 use Rattle.clap.specs.declared.error.kind.ErrorKind.{ErrorKind}
 use Rattle.clap.specs.declared.error.kind.ErrorKind.TheVariants.{OutOfMemory}
 use Rattle.clap.specs.declared.parser.matches.ArgMatches.{ArgMatches}
-use Rattle.mt_args.specs.CommandLine.{HasNumber, HasOptions, budget_rule, nrmatch, workers_rule}
+use Rattle.std.specs.declared.num.ParseIntError.{ParseIntError}
+use Rattle.mt_args.specs.CommandLine.{HasNumber, HasOptions, budget_rule, nrmatch, number_at, workers_rule}
 use Rattle.mt_args.proofs.Agreement.{Agrees, passes, fails}
 use Rattle.mt_args.proofs.OptionReads.{AllTakeOne, number_in_range, text_of_option}
 
@@ -180,3 +182,19 @@ options_there old is m p = (
   number_there m 1 64 (codes "workers") (omega arith) (option_text old m p is 1 _ _ workers_at),
   number_there m 1 4294967295 (codes "budget") (omega arith) (option_text old m p is 2 _ _ budget_at),
 )
+
+-- ---- the number of an option
+
+-- what `parse` says of a number of 32 bits
+abbrev pub ReadsU32 : Text → Result ℕ ParseIntError → Type 0
+ReadsU32 t r = ParsesUnsigned 32 10 t r × ExplainsUnsignedError 10 t r × HasUnsignedDigitsIfOk t r
+
+number_read : (t : Text) (r : Option ℕ) → ReadsOne ReadsU32 t r → IsNumeral 10 (without_leading_plus t) → number_at t < 2 ^ 32 → r ≡ Some (number_at t)
+number_read t (Some v) read numeral fits = ap (λ (n : ℕ). Some n) read.0.1
+number_read t None read numeral fits = absurd (read.1.0 (numeral, fits))
+
+-- the number of an option is what a getter reads
+pub option_read : (m : ArgMatches) (id : Text) (low high : ℕ) (there : HasNumber low high id (rows_of (found_of m))) (r : Option ℕ)
+    → ((t : Text) → one_text (found_of m) id ≡ Some t → ReadsOne ReadsU32 t r) → high < 2 ^ 32 → r ≡ Some (number_at there.0)
+option_read m id low high there r reads fits =
+    number_read there.0 r (reads there.0 (one_text-rows (found_of m) id ∙ there.1)) there.2 (omega (arith, there.4))

@@ -1,4 +1,5 @@
-ghost use Rattle.std.specs.Prelude.{◌≡◌, ◌≢◌, [], ◌∷◌, IfErr, IfOk, Some, codes, false, map, string_bytes, true};
+ghost use Rattle.std.specs.Prelude.{◌≡◌, ◌≢◌, [], ◌∷◌, IfErr, IfOk, Some, codes, false, map, option_map, string_bytes, true};
+ghost use Rattle.std.specs.Option.{option_copied};
 ghost use Rattle.clap.specs.Words.{fault_of, found_of, kind_of, matches_of, rows_of};
 ghost use Rattle.clap.specs.declared.error.kind.ErrorKind.TheVariants.{DisplayHelp, OutOfMemory};
 ghost use Rattle.mt_args.specs.CommandLine.{AsksForHelp, HasOptions, IfRun, IsWithinLimits, OnHelp, OnUsage, file_in, file_of, is_taken, nrmatch, number_in, number_of};
@@ -8,7 +9,7 @@ use crate::{AskEnd, Asked};
 use clap::error::ErrorKind;
 use clap::{ArgMatches, Error};
 use mt_run::Options;
-use std::alloc::Global;
+use std::alloc::{AllocError, Global};
 
 /// What the words after the program's name ask for.
 pub fn asked(alloc: Global, words: &[String]) -> Result<Asked, AskEnd>
@@ -47,15 +48,21 @@ fn run_of(alloc: Global, matches: &ArgMatches<'_>) -> Result<Asked, AskEnd>
     ensures limits { IfOk result (λ a. IfRun a (λ _ o. IsWithinLimits o)) }
     ensures err { IfErr result (λ e. OnUsage e ⊥) }
 {
-    let file = match matches.get_str("FILE") {
-        Some(path) => Some(String::from_str(alloc, path).map_err(|_| AskEnd::Memory)?),
-        None => None,
-    };
+    let file = owned(alloc, matches.get_str("FILE")).map_err(|_| AskEnd::Memory)?;
     let options = Options {
         workers: matches.get_one("workers").unwrap(),
         budget: matches.get_one("budget").unwrap(),
     };
     Ok(Asked::Run { file, options })
+}
+
+fn owned(alloc: Global, text: Option<&str>) -> Result<Option<String>, AllocError>
+    ensures { IfOk result (λ t. option_map string_bytes t ≡ option_copied text.entry) }
+{
+    match text {
+        Some(text) => Ok(Some(String::from_str(alloc, text)?)),
+        None => Ok(None),
+    }
 }
 
 fn end_of(alloc: Global, error: &Error) -> Result<Asked, AskEnd>
