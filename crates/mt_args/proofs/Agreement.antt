@@ -1,17 +1,17 @@
 -- `clap`'s test that a simple command takes the words and its list of the kinds of error agree: the test passes exactly
 -- where the list is empty, and where it fails the list has one kind. Of a command without subcommands.
-use Rattle.std.proofs.Common.{◌≡◌, ◌∙◌, ℕ, zero, suc, Bool, true, false, not, ◌&&◌, ◌||◌, ◌==◌, nat_lt, nat_le, List, [], ◌∷◌, length, Option, Some, None, refl, sym, ap, arith, drop, is_some}
-use Rattle.std.specs.Prelude.{if◌then◌else◌, encode_utf8, slice_get, codes}
+use Rattle.std.proofs.Common.{◌≡◌, ◌∙◌, ℕ, zero, suc, Bool, true, false, not, ◌&&◌, ◌||◌, ◌==◌, nat_lt, nat_le, List, [], ◌∷◌, length, Option, Some, None, refl, ap, arith, drop, is_some}
+use Rattle.std.specs.Prelude.{if◌then◌else◌, encode_utf8, slice_get}
 use Rattle.std.specs.Option.{option_map_or}
 use Rattle.std.specs.List.{list_all}
 use Rattle.std.specs.Str.{bytes_eq, chars}
 use Rattle.std.proofs.lemmas.Bool.Decides.{nat_tests}
 use Rattle.clap.specs.Lexer.{long_of, short_of}
-use Rattle.clap.specs.Kinds.{Kinds, or_else, range_kinds, values_kinds, value_kinds, request_kinds}
+use Rattle.clap.specs.Kinds.{Kinds, or_else, range_kinds, request_kinds}
 use Rattle.clap.specs.Facts.{unwrap_or_range}
-use Rattle.clap.specs.Walk.{most_values, values_or_missing, Held, Names, Row, Rule, Step, Text, Waiting, Walk, idle, option, positional, next, trailing, subcommand, value, walked, with_default, subcommand_met, word_met, arg_by_id, arg_by_index, arg_by_long, arg_by_short, attached_value, is_empty, has_row, is_pending, takes_several, takes_values, reacted, settled, finished, walk, walk_from, nothing_held, action_of}
-use Rattle.clap.specs.Takes.{action_passes, bundle_passes, bundle_step_passes, count_passes, default_passes, flag_word_passes, flags_pass, level_passes, long_passes, option_passes, other_passes, positional_passes, react_passes, set_passes, settle_passes, short_passes, step_passes, turn_passes, use_passes, value_passes, values_pass, walk_passes, word_passes, is_valid, built_takes, entered_passes}
-use Rattle.clap.specs.Faults.{action_fault, bundle_fault, bundle_step_fault, check_fault, count_fault, default_fault, defaults_fault, flag_word_fault, flags_fault, level_fault, long_fault, option_fault, other_fault, positional_fault, react_fault, repeat_fault, set_fault, settle_fault, short_fault, step_fault, turn_fault, use_fault, values_fault, walk_fault, word_fault, built_fault, fault_of, given_default_fault}
+use Rattle.clap.specs.Walk.{most_values, values_or_missing, Held, Row, Rule, Step, Text, Waiting, Walk, idle, option, positional, next, trailing, subcommand, value, walked, with_default, subcommand_met, word_met, arg_by_id, arg_by_index, arg_by_long, arg_by_short, attached_value, is_empty, has_row, is_pending, takes_several, takes_values, reacted, settled, finished, walk, walk_from, nothing_held, action_of}
+use Rattle.clap.specs.Takes.{action_passes, bundle_step_passes, count_passes, default_passes, flag_word_passes, flags_pass, level_passes, long_passes, option_passes, other_passes, positional_passes, react_passes, set_passes, settle_passes, short_passes, step_passes, turn_passes, use_passes, value_passes, values_pass, walk_passes, word_passes, is_valid, built_takes, entered_passes}
+use Rattle.clap.specs.Faults.{action_fault, bundle_step_fault, check_fault, count_fault, default_fault, defaults_fault, flag_word_fault, flags_fault, level_fault, long_fault, option_fault, other_fault, positional_fault, react_fault, set_fault, settle_fault, short_fault, step_fault, turn_fault, use_fault, values_fault, walk_fault, word_fault, built_fault, fault_of, given_default_fault}
 use Rattle.clap.specs.Simple.{App, Shape, built, entered}
 use Rattle.clap.specs.Values.{is_request}
 use Rattle.clap.proofs.FaultLemmas.{leaf_fault}

@@ -1,28 +1,23 @@
 -- What a caller reads of an option that has a default, after a parse that succeeds.
-use Rattle.std.proofs.Common.{◌≡◌, ◌∙◌, ◌<◌, ◌≤◌, ◌⊎◌, ℕ, zero, suc, Bool, true, false, List, [], ◌∷◌, length, Option, Some, None, refl, sym, ap, subst, inl, inr, arith, codes, map, ◌++◌, is_some, cond, drop, ◌==◌}
-use Rattle.std.specs.Prelude.{slice_get, option_map, unwrap_or, find, pos, ◌≤ℤ◌}
+use Rattle.std.proofs.Common.{◌≡◌, ◌∙◌, ◌<◌, ◌≤◌, ℕ, zero, suc, Bool, true, false, List, [], ◌∷◌, length, Some, None, refl, sym, ap, subst, inl, inr, arith}
+use Rattle.std.specs.Prelude.{slice_get, find, pos}
 use Rattle.std.specs.List.{All, slice_index_or}
 use Rattle.std.specs.Str.{bytes_eq}
-use Rattle.std.specs.Str.Parse.{IsNumeral, digits_value, starts_with_minus, without_leading_plus}
+use Rattle.std.specs.Str.Parse.{IsNumeral, starts_with_minus, without_leading_plus}
 use Rattle.std.specs.Borrow.{Bor}
 use Rattle.std.proofs.lemmas.Int.{ints}
-use Rattle.std.proofs.lemmas.List.{get_or-map}
-use Rattle.std.proofs.lemmas.List.Elements.{All-get_or, All-drop}
+use Rattle.std.proofs.lemmas.List.Elements.{All-drop}
 use Rattle.std.proofs.lemmas.Slice.Eq.{bytes_eq-Decides}
-use Rattle.clap.specs.Facts.{Entry, EntryPasses, HasId, HasIn, ValuesPass, PassesArg, WantsDefault, args_of, groups_of, least_values, parser_of, parser_of_value}
-use Rattle.clap.specs.Built.{IsAuto, IsParsedFrom, SameRules}
+use Rattle.clap.specs.Facts.{Entry, EntryPasses, HasId, HasIn, ValuesPass, PassesArg, args_of, groups_of, least_values, parser_of}
 use Rattle.clap.specs.Lexer.{without_minus}
-use Rattle.clap.specs.Matches.{matched_of, one_text, found_of, has_subcommand}
+use Rattle.clap.specs.Matches.{one_text}
 use Rattle.clap.specs.Values.{Accepts, IsSignedIn, read_as, reading_of}
-use Rattle.clap.specs.Walk.{Rule, Text, rule_of}
-use Rattle.clap.proofs.CallerLemmas.{default_present, same_rules_by_id}
+use Rattle.clap.specs.Walk.{Text}
 use Rattle.clap.specs.declared.builder.action.ArgAction.TheVariants.{Count, Set}
 use Rattle.clap.specs.declared.builder.arg.Arg.{Arg}
 use Rattle.clap.specs.declared.builder.command.Command.{Command}
 use Rattle.clap.specs.declared.builder.value_parser.ValueParser.{ValueParser}
-use Rattle.clap.specs.declared.parser.matches.ArgMatches.{ArgMatches}
 use Rattle.clap.specs.declared.parser.matches.Found.{Found}
-use Rattle.clap.specs.declared.parser.matches.MatchedArg.{MatchedArg}
 use Rattle.mt_args.specs.CommandLine.{number_at}
 
 -- ---- the number of a text

@@ -1,7 +1,7 @@
 -- What a parse of the command `nrmatch` gives, in both outcomes.
 use Rattle.std.proofs.Common.{◌≡◌, ◌≢◌, ◌∙◌, ◌<◌, ◌≤◌, ◌⊎◌, ℕ, zero, suc, Bool, true, false, List, [], ◌∷◌, length, Option, Some, None, Ok, Err, IfOk, IfErr, refl, sym, ap, subst, inl, inr, arith, codes, map, Result, slice_index, ◌^◌}
-use Rattle.std.specs.Prelude.{option_map, unwrap_or, pos}
-use Rattle.std.specs.List.{All, slice_index_or, list_all}
+use Rattle.std.specs.Prelude.{pos}
+use Rattle.std.specs.List.{slice_index_or, list_all}
 use Rattle.std.specs.Str.{bytes_eq}
 use Rattle.std.specs.Str.Parse.{ExplainsUnsignedError, HasUnsignedDigitsIfOk, IsNumeral, ParsesUnsigned, without_leading_plus}
 use Rattle.std.proofs.lemmas.List.{get_or-map, length-map}
@@ -12,11 +12,9 @@ use Rattle.clap.specs.Built.{IsAuto, IsParsedFrom}
 use Rattle.clap.specs.Kinds.{FailsBy, IsAmong, Kinds}
 use Rattle.clap.specs.Matches.{ReadsOne, found_of, one_text}
 use Rattle.clap.specs.Simple.{App, IsSimple, app_of, is_ready, is_ready_leaf}
-use Rattle.clap.specs.Takes.{takes}
 use Rattle.clap.specs.Values.{Accepts, kind_of, read_as, reading_of}
 use Rattle.clap.specs.Walk.{Rule, Text, rows_of, rule_of, texts}
 use Rattle.clap.proofs.CallerLemmas.{default_present, same_rules_by_id}
-use Rattle.clap.proofs.OnLiterals.{clap_on_literals}
 use Rattle.clap.proofs.SimpleLemmas.{ready_simple, simple_groups, all_simple}
 use Rattle.clap.proofs.WalkLemmas.{one_text-rows}
 use Rattle.clap.specs.declared.builder.action.ArgAction.TheVariants.{Set}

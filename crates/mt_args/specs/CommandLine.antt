@@ -2,15 +2,16 @@
 -- its words ask for. Which words the command takes, what it reads of them, defaults included, and how it refuses others
 -- is `clap`'s own definition of a simple command: `takes`, `matches_of` and `fault_of`. The command, its limits and its
 -- defaults are this project's own.
-use Rattle.std.specs.Prelude.{◌≡◌, ◌≤◌, ℕ, Bool, true, false, List, [], ◌∷◌, Option, Some, None, ⊤}
+use Rattle.std.specs.Prelude.{◌≡◌, ◌≢◌, ◌≤◌, ℕ, Bool, true, List, [], ◌∷◌, Option, Some, ⊤}
 use Rattle.std.specs.Prelude.{option_map, codes, pos, map, String, string_bytes}
 use Rattle.std.specs.Global.{Global}
 use Rattle.std.specs.Str.Parse.{IsNumeral, digits_value, without_leading_plus}
-use Rattle.clap.specs.Words.{App, Row, Rule, Text, fault_of, first_of, matches_of, new_app, new_rule, one_of}
-use Rattle.clap.specs.Words.{Kinds, takes, with_rule}
+use Rattle.clap.specs.Words.{App, Row, Rule, Text, fault_of, first_of, matches_of, new_app}
+use Rattle.clap.specs.Words.{new_rule, one_of, takes, with_rule}
 use Rattle.clap.specs.Simple.{on_top}
 use Rattle.clap.specs.declared.builder.action.ArgAction.TheVariants.{Set}
 use Rattle.clap.specs.declared.builder.value_parser.ValueParser.TheVariants.{Signed}
+use Rattle.clap.specs.declared.error.kind.ErrorKind.{ErrorKind}
 use Rattle.clap.specs.declared.error.kind.ErrorKind.TheVariants.{DisplayHelp}
 use Rattle.mt_args.specs.declared.answer.Asked.{Asked}
 use Rattle.mt_args.specs.declared.answer.Asked.TheVariants.{Run, Help}
@@ -80,9 +81,16 @@ is_taken words = takes nrmatch words
 abbrev pub AsksForHelp : List Text → Type 0
 AsksForHelp words = fault_of nrmatch words ≡ DisplayHelp ∷ []
 
+-- the words are refused for any other reason
+abbrev pub IsMisuse : List Text → Type 0
+IsMisuse words = (kind : ErrorKind) × (kind ≢ DisplayHelp) × (fault_of nrmatch words ≡ kind ∷ [])
+
 -- ---- answers
 
--- the run that an answer asks for
+abbrev pub texts_of : List (String Global) → List Text
+texts_of = map string_bytes
+
+-- a fact of the run that an answer asks for, of an answer that is help, and of a refusal that is usage
 abbrev pub IfRun : Asked → (Option Text → Options → Type 0) → Type 0
 IfRun (Run file options) P = P (option_map string_bytes file) options
 IfRun (Help text) P = ⊤

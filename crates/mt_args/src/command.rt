@@ -6,21 +6,20 @@ use clap::{Arg, ArgAction, Command, value_parser};
 use std::alloc::{AllocError, Global};
 
 const ABOUT: &str = "\
-The main residency match: applicants are matched to training programs by the
-rank order lists of both sides, and couples are matched to pairs of programs.
+The main residency match: applicants are matched to training programs, and
+couples to pairs of programs, by the rank order lists of all of them.
 
-The match, or one line that says why there is none, is written to standard
-output as CSV: a place for each applicant, then each program's quota, places
-filled and proposals received, then totals.";
+Writes CSV to standard output: the match (a place for each applicant; the
+quota, the places filled and the proposals of each program; totals), or one
+line that says why there is none.";
 
-const FILE_HELP: &str =
-    "CSV file with a record for each program, applicant and couple; standard input if left out";
+const FILE_HELP: &str = "\
+CSV file with a record for each program, applicant and couple, and
+their rank order lists; standard input if left out";
 
-const WORKERS_HELP: &str =
-    "How many worker threads match the single applicants, 1 to 64; any number gives the same match";
+const WORKERS_HELP: &str = "Worker threads, 1 to 64; the match is the same for any";
 
-const BUDGET_HELP: &str =
-    "How many rounds the couples may take, 1 to 4294967295; if they need more, no match is published";
+const BUDGET_HELP: &str = "Most rounds for the couples, 1 to 4294967295";
 
 const EXIT_STATUSES: &str = "\
 Exit status:
@@ -29,8 +28,9 @@ Exit status:
   3   no match was published
   4   memory ran out
   5   a read or a write failed
-  64  the command line is not as above";
+  64  the command line is wrong";
 
+// `[--workers N]`.
 fn workers<'a>(alloc: Global) -> Arg<'a>
     ensures rule { rule_of result ≡ workers_rule }
     ensures local { result.global ≡ false }
@@ -44,6 +44,7 @@ fn workers<'a>(alloc: Global) -> Arg<'a>
         .help(WORKERS_HELP)
 }
 
+// `[--budget N]`.
 fn budget<'a>(alloc: Global) -> Arg<'a>
     ensures rule { rule_of result ≡ budget_rule }
     ensures local { result.global ≡ false }
@@ -57,6 +58,7 @@ fn budget<'a>(alloc: Global) -> Arg<'a>
         .help(BUDGET_HELP)
 }
 
+/// The command `nrmatch [FILE] [--workers N] [--budget N]`, whose words begin after the program's name.
 pub(crate) fn command<'a>(alloc: Global) -> Result<Command<'a>, AllocError>
     ensures { IfOk result (λ c. app_of c ≡ nrmatch) }
 {

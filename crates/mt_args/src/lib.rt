@@ -3,6 +3,7 @@
 
 mod answer;
 mod command;
+pub mod examples;
 pub mod laws;
 mod parsing;
 #[cfg(test)]

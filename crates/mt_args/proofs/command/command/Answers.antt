@@ -1,8 +1,7 @@
-use Rattle.std.proofs.Common.{◌≡◌, ◌∙◌, rules, ap, ap₂, refl, codes, true}
+use Rattle.std.proofs.Common.{◌≡◌, ◌∙◌, rules, ap, ap₂, codes, true}
 use Rattle.std.proofs.lemmas.Result.{IfOk-weaker}
 use Rattle.clap.specs.Simple.{app_of_fields, on_top}
-use Rattle.clap.specs.Words.{App, app_of, new_app, with_rule}
-use Rattle.mt_args.specs.CommandLine.{nrmatch}
+use Rattle.clap.specs.Words.{app_of, new_app, with_rule}
 use Rattle.mt_args.proofs.command.command.Goals as goal
 
 pub returns : goal.returns

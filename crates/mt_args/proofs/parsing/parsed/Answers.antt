@@ -1,4 +1,4 @@
-use Rattle.std.proofs.Common.{◌≡◌, ◌≢◌, ◌∙◌, rules, refl, ap, subst, [], ◌∷◌, IfErr, IfOk, true, map, string_bytes, codes}
+use Rattle.std.proofs.Common.{◌≡◌, ◌∙◌, refl, ap, subst, true, map, string_bytes}
 use Rattle.std.proofs.lemmas.Result.{IfOk-weaker}
 use Rattle.clap.specs.Words.{fault_of, app_of, is_simple_and_free}
 use Rattle.clap.specs.Kinds.{FailsBy}

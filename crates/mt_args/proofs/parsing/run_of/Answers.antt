@@ -1,9 +1,9 @@
-use Rattle.std.proofs.Common.{◌≡◌, ◌∙◌, rules, refl, sym, ap, subst, arith, Some, codes, ◌≤◌, string_bytes, ℕ}
+use Rattle.std.proofs.Common.{◌≡◌, ◌∙◌, rules, refl, sym, ap, arith, Some, codes, string_bytes, ℕ}
 use Rattle.std.specs.Prelude.{option_map, unwrap_or}
 use Rattle.std.specs.Option.{option_copied}
-use Rattle.clap.specs.Words.{found_of, one_text, rows_of}
+use Rattle.clap.specs.Words.{found_of}
 use Rattle.clap.proofs.WalkLemmas.{first_value-rows}
-use Rattle.mt_args.specs.CommandLine.{number_at, number_in}
+use Rattle.mt_args.specs.CommandLine.{number_at}
 use Rattle.mt_args.proofs.ParsedFacts.{option_read}
 use Rattle.mt_args.proofs.parsing.run_of.Goals as goal
 
