@@ -1,0 +1,4 @@
+pub mod Ends
+pub mod Floors
+pub mod FloorsView
+pub mod Order
