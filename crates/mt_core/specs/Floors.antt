@@ -38,6 +38,10 @@ pub record IsOpenedWith (m : Market) (t : Tables) : Type 0 where
   pub quotas : (p : ℕ) → (hold_of t p).quota ≡ (program_of m p).quota
   pub lists : (p : ℕ) → ranks (hold_of t p) ≡ length (program_of m p).ranking
 
+-- the holding of a program of a market before it has received anybody
+abbrev pub opened_for : Market → ℕ → Holding
+opened_for m p = opened (program_of m p).quota (length (program_of m p).ranking)
+
 -- the tables after an applicant's proposal to a program on whose list it has this rank
 abbrev pub entered : Tables → ℕ → ℕ → ℕ → Tables
 entered t a p rank = record {

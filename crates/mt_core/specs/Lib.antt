@@ -2,3 +2,4 @@ pub mod Ends
 pub mod Floors
 pub mod FloorsView
 pub mod Order
+pub mod Replies

@@ -37,6 +37,7 @@ pub fn quiet(floor: &Floor, ranks: &Ranks) -> bool
 /// Where the applicant is: at the program that it proposed to last where it stands, else nowhere.
 fn place(floor: &Floor, ranks: &Ranks, applicant: AppNo) -> Option<ProgNo>
     requires opened { IsOpenedWith ranks.now.market floor.now }
+    requires ranked { IsRanked ranks.now }
     requires applicant { applicant < applicants ranks.now.market }
     ensures { let m = ranks.now.market in result ≡ place_on m (floor_of m floor.now) applicant }
 {

@@ -1,14 +1,14 @@
-ghost use Rattle.std.specs.Prelude.{◌≡◌, ◌↔◌, ◌+◌, ◌<◌, ◌^◌, ℕ, false, length, IfOk, IsTrue, IsFalse, slice_index, slice_index_or, slice_set};
-ghost use Rattle.mt_model.specs.Lists.{count_below};
+ghost use Rattle.std.specs.Prelude.{◌≡◌, ◌↔◌, ◌+◌, ◌<◌, ◌^◌, ℕ, false, length, map, IfOk, IsTrue, IsFalse, slice_index, slice_index_or, slice_set};
+ghost use Rattle.mt_model.specs.Lists.{below, count_below};
 ghost use Rattle.mt_model.specs.Market.{Market, applicants};
 ghost use Rattle.mt_model.specs.Floor.{opening, IsStrict};
 ghost use Rattle.mt_model.specs.WellFormed.{IsWellFormed};
 ghost use Rattle.mt_hold.specs.Holding.{ranks, has_received, held, receive};
-ghost use Rattle.mt_core.specs.Floors.{hold_of, floor_of, IsOpenedWith, entered};
+ghost use Rattle.mt_core.specs.Floors.{hold_of, floor_of, opened_for, IsOpenedWith, entered};
 
 use mt_hold::{Hold, Taken};
 use mt_model::{AppNo, ProgNo};
-use mt_ranks::{Live, Ranks};
+use mt_ranks::Ranks;
 use std::alloc::{AllocError, Global};
 use std::marker::Model;
 
@@ -33,7 +33,9 @@ impl Model for Floor {
 }
 
 // For each program a holding that has received nothing.
-fn opened_holds(alloc: Global, ranks: &Ranks) -> Result<Vec<Hold>, AllocError> {
+fn opened_holds(alloc: Global, ranks: &Ranks) -> Result<Vec<Hold>, AllocError>
+    ensures { let m = ranks.now.market in IfOk result (λ holds. holds.items ≡ map (opened_for m) (below (length m.programs))) }
+{
     let mut holds = Vec::with_capacity(alloc, ranks.programs() as usize)?;
     for program in 0..ranks.programs() {
         let program = ProgNo(program);
@@ -70,30 +72,30 @@ impl Floor {
         self.standing[applicant.index()]
     }
 
-    /// Whether the program of the entry holds the applicant whose rank it has.
-    pub(crate) fn holds(&self, entry: Live) -> bool
-        requires { entry.program < length self.now.holds }
-        ensures { result ≡ held (hold_of self.now entry.program) entry.rank }
+    /// Whether the program holds the rank.
+    pub(crate) fn holds(&self, program: ProgNo, rank: u32) -> bool
+        requires { program < length self.now.holds }
+        ensures { result ≡ held (hold_of self.now program) rank }
     {
-        self.holds[entry.program.index()].holds(entry.rank)
+        self.holds[program.index()].holds(rank)
     }
 
-    /// The applicant proposes to the program of the entry, which holds it or not.
-    pub(crate) fn enter(&mut self, applicant: AppNo, entry: Live) -> Taken
+    /// The applicant proposes to the program, on whose list it has this rank.
+    pub(crate) fn enter(&mut self, applicant: AppNo, program: ProgNo, rank: u32) -> Taken
         requires made { applicant < length self.old.made }
         requires standing { applicant < length self.old.standing }
-        requires program { entry.program < length self.old.holds }
+        requires program { program < length self.old.holds }
         requires fits { slice_index self.old.made applicant + 1 < 2 ^ 32 }
-        requires on_list { entry.rank < ranks (hold_of self.old entry.program) }
-        requires first_time { IsFalse (has_received (hold_of self.old entry.program) entry.rank) }
-        ensures tables { self.new ≡ entered self.old applicant entry.program entry.rank }
-        ensures refused { let h = receive (hold_of self.old entry.program) entry.rank in
-            (result ≡ Taken.Refused) ↔ IsFalse (held h entry.rank) }
-        ensures dropped { let h = receive (hold_of self.old entry.program) entry.rank in
+        requires on_list { rank < ranks (hold_of self.old program) }
+        requires first_time { IsFalse (has_received (hold_of self.old program) rank) }
+        ensures tables { self.new ≡ entered self.old applicant program rank }
+        ensures refused { let h = receive (hold_of self.old program) rank in
+            (result ≡ Taken.Refused) ↔ IsFalse (held h rank) }
+        ensures dropped { let h = receive (hold_of self.old program) rank in
             (other : ℕ) → (result ≡ Taken.KeptInstead other)
-            ↔ (IsTrue (held (hold_of self.old entry.program) other) × IsFalse (held h other)) }
+            ↔ (IsTrue (held (hold_of self.old program) other) × IsFalse (held h other)) }
     {
-        let taken = self.holds[entry.program.index()].propose(entry.rank);
+        let taken = self.holds[program.index()].propose(rank);
         self.made[applicant.index()] += 1;
         self.standing[applicant.index()] = taken != Taken::Refused;
         taken
