@@ -75,3 +75,16 @@ pub last_entry_facts : (r : Ranked) → IsRanked r → (f : Floor) (a : ℕ) (en
 last_entry_facts r is f a entry e =
     let facts = entry_facts r.market a (last_tried r.market f a) entry e in
     (facts.0, subst (λ (n : ℕ). CanEnter r.market a entry.program n) facts.1 (entry_can_enter r is a entry.program (last_on_live r.market f a entry.program facts.0)))
+
+-- there is no entry where there is no program
+pub no_entry : (m : Market) (a : ℕ) (o : Option ℕ) → option_map (ranked_entry m a) o ≡ None → o ≡ None
+no_entry m a None e = refl
+no_entry m a (Some p) e = absurd (some_none e)
+  where
+    some_none : {x : Live} → Some x ≡ None → ⊥
+    some_none k = cc
+
+-- a program's list has no more applicants than there may be
+pub ranking_few : (r : Ranked) → IsRanked r → (p : ℕ) → length (program_of r.market p).ranking ≤ 100000
+ranking_few r is p =
+    omega (arith, distinct_length (program_of r.market p).ranking (applicants r.market) (is.well_formed.rankings_distinct p) (is.well_formed.rankings_within p), is.few_applicants)

@@ -1,5 +1,5 @@
 -- What the tables say before any event.
-use Rattle.std.proofs.Common.{◌≡◌, ℕ, ◌<◌, ◌≤◌, List, [], false, Option, Some, None, length, get_or, map, replicate, refl, sym, ap, ◌∙◌, inl, inr, arith}
+use Rattle.std.proofs.Common.{◌≡◌, ℕ, ◌<◌, ◌≤◌, List, [], Bool, false, Option, Some, None, length, get_or, map, replicate, refl, sym, ap, ◌∙◌, inl, inr, arith}
 use Rattle.std.specs.Option.{option_map_or}
 use Rattle.std.proofs.lemmas.Bool.{cases_lt}
 use Rattle.std.proofs.lemmas.List.{get_or-replicate, get_or_past, length-replicate}
@@ -54,3 +54,10 @@ opened_floor m =
     by_rank : (p : ℕ) (o : Option ℕ) → option_map_or (has_received (opened_for m p)) o false ≡ false
     by_rank p None = refl
     by_rank p (Some k) = same_everywhere (length (program_of m p).ranking) k false
+
+pub tables_from : (m : Market) {made : List ℕ} {standing : List Bool} {holds : List Holding} → made ≡ replicate (applicants m) 0 → standing ≡ replicate (applicants m) false
+    → holds ≡ map (opened_for m) (below (length m.programs)) → ◌≡◌ {A = Tables} (record { made = made; standing = standing; holds = holds }) (opened_tables m)
+tables_from m {made} {standing} {holds} same_made same_standing same_holds =
+    ap {B = Tables} (λ x. record { made = x; standing = standing; holds = holds }) same_made
+    ∙ ap {B = Tables} (λ x. record { made = replicate (applicants m) 0; standing = x; holds = holds }) same_standing
+    ∙ ap {B = Tables} (λ x. record { made = replicate (applicants m) 0; standing = replicate (applicants m) false; holds = x }) same_holds

@@ -1,5 +1,6 @@
 -- Floors that events lead to.
-use Rattle.std.proofs.Common.{◌≡◌, ℕ, ◌+◌, ◌*◌, ◌^◌, ◌<◌, ◌≤◌, List, [], ◌∷◌, ◌++◌, length, Bool, if◌then◌else◌, ◌&&◌, refl, sym, ap, ◌∙◌, arith, subst}
+use Rattle.std.proofs.Common.{◌≡◌, ℕ, ◌+◌, ◌*◌, ◌^◌, ◌<◌, ◌≤◌, List, [], ◌∷◌, ◌++◌, length, take, get_or, Bool, if◌then◌else◌, ◌&&◌, refl, sym, ap, ◌∙◌, arith, subst}
+use Rattle.std.proofs.lemmas.List.{take_more}
 use Rattle.mt_model.specs.Lists.{total_below}
 use Rattle.mt_model.specs.Market.{Market, applicants, live, live_entries, list_of}
 use Rattle.mt_model.specs.Floor.{Floor, IsRecorded, IsLegal, IsStrict, is_due, after, after_all, due_count}
@@ -65,9 +66,21 @@ reached_made m f g k is h =
 pub reached_at_most : (m : Market) (f g : Floor) (k : ℕ) → IsReached m f g k → IsRecorded m f → proposals_made m g ≤ live_entries m
 reached_at_most m f g k is h = made_at_most_lem m g (reached_recorded m f g k is h)
 
+-- and no more proposals are made on the way than there are live entries
+pub reached_few : (m : Market) (f g : Floor) (k : ℕ) → IsReached m f g k → IsRecorded m f → k ≤ live_entries m
+reached_few m f g k is h = omega (arith, reached_made m f g k is h, reached_at_most m f g k is h)
+
 -- rank tables have fewer live entries than a machine number can count
 pub few_live_entries : (r : Ranked) → IsRanked r → live_entries r.market < 2 ^ 32
 few_live_entries r is =
     let same : live_entries r.market ≡ total_below (λ a. length (list_of r.market a)) (applicants r.market) =
     total_below-same (λ a. length (live r.market a)) (λ a. length (list_of r.market a)) (applicants r.market) (λ a low. ap length (is.all_live a)) in
     omega (arith, same, is.few_entries)
+
+-- the events up to the next one
+pub after_all-next : (m : Market) (f : Floor) (es : List Event) (i : ℕ) (e : Event) → i < length es → e ≡ get_or es i e → after_all m f (take (i + 1) es) ≡ after m (after_all m f (take i es)) e
+after_all-next m f es i e h at = ap (after_all m f) (take_more es i e h) ∙ ap (λ x. after_all m f (take i es ++ x ∷ [])) (sym at) ∙ after_all-push m f (take i es) e
+
+pub due_count-next : (m : Market) (f : Floor) (es : List Event) (i : ℕ) (e : Event) → i < length es → e ≡ get_or es i e
+    → due_count m f (take (i + 1) es) ≡ due_count m f (take i es) + (if is_due m (after_all m f (take i es)) e then 1 else 0)
+due_count-next m f es i e h at = ap (due_count m f) (take_more es i e h) ∙ ap (λ x. due_count m f (take i es ++ x ∷ [])) (sym at) ∙ due_count-push m f (take i es) e

@@ -1,7 +1,10 @@
 -- What one applicant's notice and proposal leave to be done.
 use Rattle.std.proofs.Common.{◌≡◌, ◌≢◌, ◌==◌, ℕ, suc, ◌+◌, ◌-◌, ◌<◌, ◌≤◌, Bool, true, false, not, ◌&&◌, cond, List, [], ◌∷◌, length, Option, Some, None, is_some, slice_get, IsTrue, IsFalse, if◌then◌else◌, refl, sym, ap, ◌∙◌, arith, subst, inl, inr, eq-eqb, ne_eqb, ◌⊎◌}
-use Rattle.std.proofs.lemmas.Bool.{cases_Bool, cases_eq, both_ways, true≢false, false≢true}
-use Rattle.mt_model.specs.Market.{Market, program_of, live}
+use Rattle.std.proofs.lemmas.Bool.{cases_Bool, cases_eq, both_ways, true≢false, false≢true, or_left, or_right}
+use Rattle.std.specs.List.{find}
+use Rattle.mt_model.specs.Lists.{has}
+use Rattle.mt_model.specs.WellFormed.{IsWellFormed}
+use Rattle.mt_model.specs.Market.{Market, applicants, program_of, live}
 use Rattle.mt_model.specs.Choice.{choice}
 use Rattle.mt_model.specs.Floor.{Floor, held, last_tried, next_entry, is_held_by, is_settled, is_due, after, after_all, after_proposal, proposed_at, receives_one, reply_of, reply_of_proposal, dropped, kept_reply, IsRecorded}
 use Rattle.mt_model.specs.Laws.Floors.{due_proposals, is_proposal}
@@ -126,7 +129,13 @@ kept_settled m g a p n chosen =
     stands = ap (λ b. if b then (choice (program_of m p) (receives_one g p a) a) else (g.standing a)) (eq-eqb a a refl) ∙ chosen
 
     last : last_tried m (proposed_at m g a p) a ≡ Some p
-    last = rw (made_same m g a p) n.next
+    last = ap (λ (k : ℕ). if k == 0 then None else slice_get (live m a) (k - 1)) (made_same m g a p) ∙ at_suc
+      where
+        at_suc : (if suc (g.made a) == 0 then None else slice_get (live m a) (suc (g.made a) - 1)) ≡ Some p
+        at_suc =
+            let some : (suc (g.made a) == 0) ≡ false = ne_eqb (suc (g.made a)) 0 (omega arith) in
+            let before : suc (g.made a) - 1 ≡ g.made a = omega arith in
+            rw (some, before) n.next
 
     there : IsTrue (held m (proposed_at m g a p) p a)
     there = ap (λ b. choice (program_of m p) (if b then (receives_one g p a) else (g.received p)) a) (eq-eqb p p refl) ∙ chosen
@@ -194,11 +203,11 @@ step_settled m f g h a n reply is settled done nobody b low =
     ]
 
 -- all but the displaced one are settled where the applicant is
-pub step_displaced : (m : Market) (f g h : Floor) (a d n : ℕ) → IsStep m f g h a (KeptInstead d) → AreSettledBut m f n a → AreSettledBut m h n d
-step_displaced m f g h a d n is settled b low other =
+pub step_displaced : (m : Market) (f g h : Floor) (a d n : ℕ) (reply : Reply) → IsStep m f g h a reply → reply ≡ KeptInstead d → AreSettledBut m f n a → AreSettledBut m h n d
+step_displaced m f g h a d n reply is named settled b low other =
     elim (cases_eq b a) [
-      | inl same ↦ rw same (reply_settled m f g h a (KeptInstead d) is not_refused not_not_due)
-      | inr apart ↦ others_settled m f g h a n (KeptInstead d) is settled b low apart (λ e. other (sym (inj e)))
+      | inl same ↦ rw same (reply_settled m f g h a reply is (λ e. not_refused (sym named ∙ e)) (λ e. not_not_due (sym named ∙ e)))
+      | inr apart ↦ others_settled m f g h a n reply is settled b low apart (λ e. other (inj (sym e ∙ named)))
     ]
   where
     inj : {x y : ℕ} → KeptInstead x ≡ KeptInstead y → x ≡ y
@@ -211,11 +220,82 @@ step_displaced m f g h a d n is settled b low other =
     not_not_due e = cc
 
 -- all but the applicant are settled where it is refused
-pub step_refused : (m : Market) (f g h : Floor) (a n : ℕ) → IsStep m f g h a Refused → AreSettledBut m f n a → AreSettledBut m h n a
-step_refused m f g h a n is settled b low other = others_settled m f g h a n Refused is settled b low other not_named
+pub step_refused : (m : Market) (f g h : Floor) (a n : ℕ) (reply : Reply) → IsStep m f g h a reply → reply ≡ Refused → AreSettledBut m f n a → AreSettledBut m h n a
+step_refused m f g h a n reply is refused settled b low other = others_settled m f g h a n reply is settled b low other (λ e. not_named (sym refused ∙ e))
   where
     not_named : Refused ≢ KeptInstead b
     not_named e = cc
+
+-- all are settled where the applicant is kept and nobody is displaced
+pub step_kept : (m : Market) (f g h : Floor) (a n : ℕ) (reply : Reply) → IsStep m f g h a reply → reply ≡ Kept → AreSettledBut m f n a → AreSettled m h n
+step_kept m f g h a n reply is kept settled =
+    step_settled m f g h a n reply is settled (reply_settled m f g h a reply is (λ e. not_refused (sym kept ∙ e)) (λ e. not_not_due (sym kept ∙ e))) (λ b e. nobody b (sym kept ∙ e))
+  where
+    not_refused : Kept ≢ Refused
+    not_refused e = cc
+
+    not_not_due : Kept ≢ NotDue
+    not_not_due e = cc
+
+    nobody : (b : ℕ) → Kept ≢ KeptInstead b
+    nobody b e = cc
+
+-- a proposal that can't be made
+abbrev pub IsNoProposal : Reply → Type 0
+IsNoProposal reply = (reply ≡ NotDue) ⊎ (reply ≡ Noticed)
+
+-- all are settled where no proposal is due
+pub step_not_due : (m : Market) (f g h : Floor) (a n : ℕ) (reply : Reply) → IsStep m f g h a reply → IsRecorded m f → IsNoProposal reply → AreSettledBut m f n a → AreSettled m h n
+step_not_due m f g h a n reply is r not_due settled =
+    step_settled m f g h a n reply is settled (not_due_settled m f g h a reply is r not_due) (nobody not_due)
+  where
+    nobody : IsNoProposal reply → (b : ℕ) → reply ≢ KeptInstead b
+    nobody (inl said) b e = differs (sym said ∙ e)
+      where
+        differs : NotDue ≢ KeptInstead b
+        differs k = cc
+    nobody (inr said) b e = differs (sym said ∙ e)
+      where
+        differs : Noticed ≢ KeptInstead b
+        differs k = cc
+
+-- who is found on a list is on it
+find_has : (test : ℕ → Bool) (xs : List ℕ) (x : ℕ) → find test xs ≡ Some x → has xs x ≡ true
+find_has test [] x e = cc
+find_has test (y ∷ ys) x e =
+    elim (cases_Bool (test y)) [
+      | inl passes ↦ or_left (y == x) (has ys x) (eq-eqb y x (inj (ap (λ b. cond b (Some y) (find test ys)) (sym passes) ∙ e)))
+      | inr fails ↦ or_right (y == x) (has ys x) (find_has test ys x (ap (λ b. cond b (Some y) (find test ys)) (sym fails) ∙ e))
+    ]
+  where
+    inj : {u v : ℕ} → Some u ≡ Some v → u ≡ v
+    inj k = cc
+
+-- whom a reply names as displaced is an applicant
+pub named_applicant : (m : Market) → IsWellFormed m → (f : Floor) (a d : ℕ) → reply_of m f (Propose a) ≡ KeptInstead d → d < applicants m
+named_applicant m wf f a d = by_next (next_entry m f a)
+  where
+    by_dropped : (p : ℕ) (b : Bool) (o : Option ℕ) → dropped m f p a ≡ o → (if b then (kept_reply o) else Refused) ≡ KeptInstead d → d < applicants m
+    by_dropped p true None e k = absurd (differs k)
+      where
+        differs : Kept ≢ KeptInstead d
+        differs h = cc
+    by_dropped p true (Some x) e k =
+        wf.rankings_within p d (find_has (λ b. held m f p b && not (choice (program_of m p) (receives_one f p a) b)) (program_of m p).ranking d (e ∙ ap (λ y. Some y) (inj k)))
+      where
+        inj : {x y : ℕ} → KeptInstead x ≡ KeptInstead y → x ≡ y
+        inj h = cc
+    by_dropped p false o e k = absurd (differs k)
+      where
+        differs : Refused ≢ KeptInstead d
+        differs h = cc
+
+    by_next : (o : Option ℕ) → reply_of_proposal m f a o ≡ KeptInstead d → d < applicants m
+    by_next None k = absurd (differs k)
+      where
+        differs : NotDue ≢ KeptInstead d
+        differs h = cc
+    by_next (Some p) k = by_dropped p (choice (program_of m p) (receives_one f p a) a) (dropped m f p a) refl k
 
 -- a step makes one proposal, or none where none is due
 pub step_reached : (m : Market) (f g h : Floor) (a : ℕ) (reply : Reply) → IsStep m f g h a reply → reply ≢ NotDue → IsReached m f h 1
@@ -237,7 +317,7 @@ step_reached m f g h a reply is due = record {
     is_due_now : IsTrue (is_due m (after m f (Notice a)) (Propose a))
     is_due_now = subst (λ (x : Floor). IsTrue (is_due m x (Propose a))) is.notice (by_next (next_entry m g a) refl)
 
-pub step_reached_none : (m : Market) (f g h : Floor) (a : ℕ) (reply : Reply) → IsStep m f g h a reply → (reply ≡ NotDue) ⊎ (reply ≡ Noticed) → IsReached m f h 0
+pub step_reached_none : (m : Market) (f g h : Floor) (a : ℕ) (reply : Reply) → IsStep m f g h a reply → IsNoProposal reply → IsReached m f h 0
 step_reached_none m f g h a reply is not_due = record {
   events = Notice a ∷ Propose a ∷ [];
   floor = is.proposal ∙ ap (λ x. after m x (Propose a)) is.notice;
@@ -256,3 +336,31 @@ step_reached_none m f g h a reply is not_due = record {
 
     not_due_now : IsFalse (is_due m (after m f (Notice a)) (Propose a))
     not_due_now = subst (λ (x : Floor). IsFalse (is_due m x (Propose a))) is.notice (by_next (next_entry m g a) refl not_due)
+
+-- what the reply to an event says of whether it was due
+pub due_from_reply : (m : Market) (f : Floor) (e : Event) → reply_of m f e ≢ NotDue → IsTrue (is_due m f e)
+due_from_reply m f (Propose a) differs = by_next (next_entry m f a) refl
+  where
+    by_next : (o : Option ℕ) → next_entry m f a ≡ o → IsTrue (is_some o)
+    by_next None e = absurd (differs (ap (reply_of_proposal m f a) e))
+    by_next (Some p) e = refl
+due_from_reply m f (Notice a) differs =
+    elim (cases_Bool (is_due m f (Notice a))) [
+      | inl due ↦ due
+      | inr not_due ↦ absurd (differs (ap (λ b. if b then Noticed else NotDue) not_due))
+    ]
+
+pub not_due_from_reply : (m : Market) (f : Floor) (e : Event) → reply_of m f e ≡ NotDue → IsFalse (is_due m f e)
+not_due_from_reply m f (Propose a) same = by_next (next_entry m f a) same
+  where
+    by_next : (o : Option ℕ) → reply_of_proposal m f a o ≡ NotDue → IsFalse (is_some o)
+    by_next None e = refl
+    by_next (Some p) e = absurd (due_reply m f a p e)
+not_due_from_reply m f (Notice a) same =
+    elim (cases_Bool (is_due m f (Notice a))) [
+      | inl due ↦ absurd (differs (ap (λ b. if b then Noticed else NotDue) (sym due) ∙ same))
+      | inr not_due ↦ not_due
+    ]
+  where
+    differs : Noticed ≢ NotDue
+    differs e = cc

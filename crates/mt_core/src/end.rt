@@ -44,7 +44,8 @@ fn place(floor: &Floor, ranks: &Ranks, applicant: AppNo) -> Option<ProgNo>
     if !floor.stands(applicant) {
         return None;
     }
-    last_tried(floor, ranks, applicant).map(|entry| entry.program)
+    let entry = last_tried(floor, ranks, applicant)?;
+    Some(entry.program)
 }
 
 /// The match on a floor on which no event is due: everybody that stands is at the program that it proposed to

@@ -14,22 +14,22 @@ pub returns-in-Propose-clause-legal : goal.returns-in-Propose-clause-legal
 returns-in-Propose-clause-legal c legal =
     let m = c.args.ranks.now.market in
     subst (λ (x : Floor). IsLegal m x) (sym c.propose.ensures.floor)
-    (event_keeps_legal_lem m c.applicants.ensures.ranked.well_formed (floor_of m c.args.floor.now) (Propose c.in-Propose.applicant) legal)
+    (event_keeps_legal_lem m c.applicants-applicants.ensures.ranked.well_formed (floor_of m c.args.floor.now) (Propose c.in-Propose.applicant) legal)
 
 pub returns-in-Propose-clause-strict : goal.returns-in-Propose-clause-strict
 returns-in-Propose-clause-strict c strict =
     let m = c.args.ranks.now.market in
     subst (λ (x : Floor). IsStrict m x) (sym c.propose.ensures.floor)
-    (event_keeps_strict_lem m c.applicants.ensures.ranked.well_formed (floor_of m c.args.floor.now) (Propose c.in-Propose.applicant) strict)
+    (event_keeps_strict_lem m c.applicants-applicants.ensures.ranked.well_formed (floor_of m c.args.floor.now) (Propose c.in-Propose.applicant) strict)
 
 pub returns-in-Notice-clause-legal : goal.returns-in-Notice-clause-legal
 returns-in-Notice-clause-legal c legal =
     let m = c.args.ranks.now.market in
     subst (λ (x : Floor). IsLegal m x) (sym c.notice.ensures.floor)
-    (event_keeps_legal_lem m c.applicants.ensures.ranked.well_formed (floor_of m c.args.floor.now) (Notice c.in-Notice.applicant) legal)
+    (event_keeps_legal_lem m c.applicants-applicants.ensures.ranked.well_formed (floor_of m c.args.floor.now) (Notice c.in-Notice.applicant) legal)
 
 pub returns-in-Notice-clause-strict : goal.returns-in-Notice-clause-strict
 returns-in-Notice-clause-strict c strict =
     let m = c.args.ranks.now.market in
     subst (λ (x : Floor). IsStrict m x) (sym c.notice.ensures.floor)
-    (event_keeps_strict_lem m c.applicants.ensures.ranked.well_formed (floor_of m c.args.floor.now) (Notice c.in-Notice.applicant) strict)
+    (event_keeps_strict_lem m c.applicants-applicants.ensures.ranked.well_formed (floor_of m c.args.floor.now) (Notice c.in-Notice.applicant) strict)

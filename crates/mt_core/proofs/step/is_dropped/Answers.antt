@@ -1,4 +1,4 @@
-use Rattle.std.proofs.Common.{refl, sym, ap, ◌∙◌, not}
+use Rattle.std.proofs.Common.{sym, ap, ◌∙◌, not}
 use Rattle.mt_core.proofs.FloorTables.{standing_of}
 use Rattle.mt_core.proofs.step.is_dropped.Goals as goal
 
@@ -12,4 +12,4 @@ pub returns-else-stands : goal.returns-else-stands
 returns-else-stands c =
     let m = c.args.ranks.now.market in
     let free = standing_of m c.args.floor.now c.args.applicant ∙ sym c.stands.ensures ∙ c.if-stands.false in
-    rw free refl
+    rw free c.if-stands.false
