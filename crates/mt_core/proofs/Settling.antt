@@ -13,7 +13,7 @@ use Rattle.mt_model.specs.declared.events.Event.TheVariants.{Propose, Notice}
 use Rattle.mt_model.specs.declared.events.Reply.{Reply}
 use Rattle.mt_model.specs.declared.events.Reply.TheVariants.{Kept, KeptInstead, Refused, Noticed, NotDue}
 use Rattle.mt_model.proofs.FloorEvents.{noticed, noticed_same, noticed_other, made_same, made_other, standing_other, next_facts, IsNext, get_some, event_keeps_recorded_lem}
-use Rattle.mt_core.specs.Ends.{IsReached, AreSettled, AreSettledBut}
+use Rattle.mt_core.specs.Ends.{IsReached, IsStep, AreSettled, AreSettledBut}
 
 -- whether an applicant is settled, where it stands and where it doesn't
 settled_standing : (m : Market) (f : Floor) (a : ℕ) → IsTrue (f.standing a) → is_settled m f a ≡ is_held_by m f a (last_tried m f a)
@@ -70,12 +70,10 @@ held_after_notice m f a = by_due (is_due m f (Notice a)) refl
         parts true false h k = absurd (true≢false h)
         parts false y h k = absurd (false≢true k)
 
--- One applicant's notice and then its proposal, with the reply to it.
-pub record IsStep (m : Market) (f g h : Floor) (a : ℕ) (reply : Reply) : Type 0 where
-  pub notice : g ≡ after m f (Notice a)
-  pub proposal : h ≡ after m g (Propose a)
-  pub reply_is : reply ≡ reply_of m g (Propose a)
-  pub displaced : (b q : ℕ) → IsTrue (held m g q b) → IsFalse (held m h q b) → reply ≡ KeptInstead b
+-- a notice changes nothing of who is held
+pub held_through_notice : (m : Market) (f : Floor) (a q b : ℕ) → held m (after m f (Notice a)) q b ≡ held m f q b
+held_through_notice m f a q b =
+    elim (cases_Bool (is_due m f (Notice a))) [ inl due ↦ rw due refl | inr not_due ↦ rw not_due refl ]
 
 -- the reply to a proposal that is due isn't that it isn't
 due_reply : (m : Market) (f : Floor) (a p : ℕ) → reply_of_proposal m f a (Some p) ≢ NotDue
@@ -95,10 +93,13 @@ due_reply_noticed m f a p = by_choice (choice (program_of m p) (receives_one f p
     by_choice false o e = cc
 
 -- a proposal leaves every other applicant that isn't displaced
-left_by_proposal : (m : Market) (f g h : Floor) (a b : ℕ) (reply : Reply) → IsStep m f g h a reply → b ≢ a → reply ≢ KeptInstead b → IsLeft m g h b
-left_by_proposal m f g h a b reply is other not_named =
-    record { stands = ap (λ (x : Floor). x.standing b) is.proposal ∙ same.0; makes = ap (λ (x : Floor). x.made b) is.proposal ∙ same.1; holds = holds }
+left_by_proposal : (m : Market) (f h : Floor) (a b : ℕ) (reply : Reply) → IsStep m f h a reply → b ≢ a → reply ≢ KeptInstead b → IsLeft m (after m f (Notice a)) h b
+left_by_proposal m f h a b reply is other not_named =
+    record { stands = ap (λ (x : Floor). x.standing b) is.floor ∙ same.0; makes = ap (λ (x : Floor). x.made b) is.floor ∙ same.1; holds = holds }
   where
+    g : Floor
+    g = after m f (Notice a)
+
     same_by : (o : Option ℕ) → ((after_proposal m g a o).standing b ≡ g.standing b) × ((after_proposal m g a o).made b ≡ g.made b)
     same_by None = (refl, refl)
     same_by (Some p) = (standing_other m g a p b other, made_other m g a p b other)
@@ -110,15 +111,15 @@ left_by_proposal m f g h a b reply is other not_named =
     holds q on =
         elim (cases_Bool (held m h q b)) [
           | inl still ↦ still
-          | inr out ↦ absurd (not_named (is.displaced b q on out))
+          | inr out ↦ absurd (not_named (is.displaced b q (sym (held_through_notice m f a q b) ∙ on) out))
         ]
 
 -- so the others stay settled through a step
-others_settled : (m : Market) (f g h : Floor) (a n : ℕ) (reply : Reply) → IsStep m f g h a reply → AreSettledBut m f n a
+others_settled : (m : Market) (f h : Floor) (a n : ℕ) (reply : Reply) → IsStep m f h a reply → AreSettledBut m f n a
     → (b : ℕ) → b < n → b ≢ a → reply ≢ KeptInstead b → IsTrue (is_settled m h b)
-others_settled m f g h a n reply is settled b low other not_named =
-    settled_left m g h b (left_by_proposal m f g h a b reply is other not_named)
-    (subst (λ (x : Floor). IsTrue (is_settled m x b)) (sym is.notice) (settled_left m f (after m f (Notice a)) b (left_by_notice m f a b other) (settled b low other)))
+others_settled m f h a n reply is settled b low other not_named =
+    settled_left m (after m f (Notice a)) h b (left_by_proposal m f h a b reply is other not_named)
+    (settled_left m f (after m f (Notice a)) b (left_by_notice m f a b other) (settled b low other))
 
 -- a proposal that is kept settles its applicant
 kept_settled : (m : Market) (g : Floor) (a p : ℕ) → IsNext m g a p → IsTrue (choice (program_of m p) (receives_one g p a) a) → IsTrue (is_settled m (proposed_at m g a p) a)
@@ -141,17 +142,20 @@ kept_settled m g a p n chosen =
     there = ap (λ b. choice (program_of m p) (if b then (receives_one g p a) else (g.received p)) a) (eq-eqb p p refl) ∙ chosen
 
 -- so does each step whose reply says that it is kept
-pub reply_settled : (m : Market) (f g h : Floor) (a : ℕ) (reply : Reply) → IsStep m f g h a reply → reply ≢ Refused → reply ≢ NotDue → IsTrue (is_settled m h a)
-reply_settled m f g h a reply is not_refused not_not_due =
-    subst (λ (x : Floor). IsTrue (is_settled m x a)) (sym is.proposal) (by_next (next_entry m g a) refl)
+pub reply_settled : (m : Market) (f h : Floor) (a : ℕ) (reply : Reply) → IsStep m f h a reply → reply ≢ Refused → reply ≢ NotDue → IsTrue (is_settled m h a)
+reply_settled m f h a reply is not_refused not_not_due =
+    subst (λ (x : Floor). IsTrue (is_settled m x a)) (sym is.floor) (by_next (next_entry m g a) refl)
   where
+    g : Floor
+    g = after m f (Notice a)
+
     by_next : (o : Option ℕ) → next_entry m g a ≡ o → IsTrue (is_settled m (after_proposal m g a o) a)
-    by_next None e = absurd (not_not_due (is.reply_is ∙ ap (reply_of_proposal m g a) e))
+    by_next None e = absurd (not_not_due (is.reply ∙ ap (reply_of_proposal m g a) e))
     by_next (Some p) e =
         elim (cases_Bool (choice (program_of m p) (receives_one g p a) a)) [
           | inl chosen ↦ kept_settled m g a p (next_facts m g a p e) chosen
           | inr out ↦
-              absurd (not_refused (is.reply_is ∙ ap (reply_of_proposal m g a) e ∙ ap (λ b. if b then (kept_reply (dropped m g p a)) else Refused) out))
+              absurd (not_refused (is.reply ∙ ap (reply_of_proposal m g a) e ∙ ap (λ b. if b then (kept_reply (dropped m g p a)) else Refused) out))
         ]
 
 -- an applicant without a next entry is settled after its notice
@@ -178,36 +182,33 @@ none_next_settled m f a r none held_if =
         none_some k = cc
 
 -- where the reply says that no proposal was due, the applicant is settled
-pub not_due_settled : (m : Market) (f g h : Floor) (a : ℕ) (reply : Reply) → IsStep m f g h a reply → IsRecorded m f → (reply ≡ NotDue) ⊎ (reply ≡ Noticed) → IsTrue (is_settled m h a)
-not_due_settled m f g h a reply is r not_due =
-    subst (λ (x : Floor). IsTrue (is_settled m x a)) (sym is.proposal) (by_next (next_entry m g a) refl not_due)
+pub not_due_settled : (m : Market) (f h : Floor) (a : ℕ) (reply : Reply) → IsStep m f h a reply → IsRecorded m f → (reply ≡ Noticed) ⊎ (reply ≡ NotDue) → IsTrue (is_settled m h a)
+not_due_settled m f h a reply is r not_due =
+    subst (λ (x : Floor). IsTrue (is_settled m x a)) (sym is.floor) (by_next (next_entry m g a) refl not_due)
   where
-    recorded : IsRecorded m g
-    recorded = subst (λ (x : Floor). IsRecorded m x) (sym is.notice) (event_keeps_recorded_lem m f (Notice a) r)
+    g : Floor
+    g = after m f (Notice a)
 
-    held_if : IsTrue (g.standing a) → IsTrue (is_held_by m g a (last_tried m g a))
-    held_if = subst (λ (x : Floor). IsTrue (x.standing a) → IsTrue (is_held_by m x a (last_tried m x a))) (sym is.notice) (held_after_notice m f a)
-
-    by_next : (o : Option ℕ) → next_entry m g a ≡ o → (reply ≡ NotDue) ⊎ (reply ≡ Noticed) → IsTrue (is_settled m (after_proposal m g a o) a)
-    by_next None e said = none_next_settled m g a recorded e held_if
-    by_next (Some p) e (inl said) = absurd (due_reply m g a p (ap (reply_of_proposal m g a) (sym e) ∙ sym is.reply_is ∙ said))
-    by_next (Some p) e (inr said) = absurd (due_reply_noticed m g a p (ap (reply_of_proposal m g a) (sym e) ∙ sym is.reply_is ∙ said))
+    by_next : (o : Option ℕ) → next_entry m g a ≡ o → (reply ≡ Noticed) ⊎ (reply ≡ NotDue) → IsTrue (is_settled m (after_proposal m g a o) a)
+    by_next None e said = none_next_settled m g a (event_keeps_recorded_lem m f (Notice a) r) e (held_after_notice m f a)
+    by_next (Some p) e (inl said) = absurd (due_reply_noticed m g a p (ap (reply_of_proposal m g a) (sym e) ∙ sym is.reply ∙ said))
+    by_next (Some p) e (inr said) = absurd (due_reply m g a p (ap (reply_of_proposal m g a) (sym e) ∙ sym is.reply ∙ said))
 
 -- all are settled where the applicant is and nobody was displaced
-pub step_settled : (m : Market) (f g h : Floor) (a n : ℕ) (reply : Reply) → IsStep m f g h a reply → AreSettledBut m f n a
+pub step_settled : (m : Market) (f h : Floor) (a n : ℕ) (reply : Reply) → IsStep m f h a reply → AreSettledBut m f n a
     → IsTrue (is_settled m h a) → ((b : ℕ) → reply ≢ KeptInstead b) → AreSettled m h n
-step_settled m f g h a n reply is settled done nobody b low =
+step_settled m f h a n reply is settled done nobody b low =
     elim (cases_eq b a) [
       | inl same ↦ rw same done
-      | inr other ↦ others_settled m f g h a n reply is settled b low other (nobody b)
+      | inr other ↦ others_settled m f h a n reply is settled b low other (nobody b)
     ]
 
 -- all but the displaced one are settled where the applicant is
-pub step_displaced : (m : Market) (f g h : Floor) (a d n : ℕ) (reply : Reply) → IsStep m f g h a reply → reply ≡ KeptInstead d → AreSettledBut m f n a → AreSettledBut m h n d
-step_displaced m f g h a d n reply is named settled b low other =
+pub step_displaced : (m : Market) (f h : Floor) (a d n : ℕ) (reply : Reply) → IsStep m f h a reply → reply ≡ KeptInstead d → AreSettledBut m f n a → AreSettledBut m h n d
+step_displaced m f h a d n reply is named settled b low other =
     elim (cases_eq b a) [
-      | inl same ↦ rw same (reply_settled m f g h a reply is (λ e. not_refused (sym named ∙ e)) (λ e. not_not_due (sym named ∙ e)))
-      | inr apart ↦ others_settled m f g h a n reply is settled b low apart (λ e. other (inj (sym e ∙ named)))
+      | inl same ↦ rw same (reply_settled m f h a reply is (λ e. not_refused (sym named ∙ e)) (λ e. not_not_due (sym named ∙ e)))
+      | inr apart ↦ others_settled m f h a n reply is settled b low apart (λ e. other (inj (sym e ∙ named)))
     ]
   where
     inj : {x y : ℕ} → KeptInstead x ≡ KeptInstead y → x ≡ y
@@ -220,16 +221,16 @@ step_displaced m f g h a d n reply is named settled b low other =
     not_not_due e = cc
 
 -- all but the applicant are settled where it is refused
-pub step_refused : (m : Market) (f g h : Floor) (a n : ℕ) (reply : Reply) → IsStep m f g h a reply → reply ≡ Refused → AreSettledBut m f n a → AreSettledBut m h n a
-step_refused m f g h a n reply is refused settled b low other = others_settled m f g h a n reply is settled b low other (λ e. not_named (sym refused ∙ e))
+pub step_refused : (m : Market) (f h : Floor) (a n : ℕ) (reply : Reply) → IsStep m f h a reply → reply ≡ Refused → AreSettledBut m f n a → AreSettledBut m h n a
+step_refused m f h a n reply is refused settled b low other = others_settled m f h a n reply is settled b low other (λ e. not_named (sym refused ∙ e))
   where
     not_named : Refused ≢ KeptInstead b
     not_named e = cc
 
 -- all are settled where the applicant is kept and nobody is displaced
-pub step_kept : (m : Market) (f g h : Floor) (a n : ℕ) (reply : Reply) → IsStep m f g h a reply → reply ≡ Kept → AreSettledBut m f n a → AreSettled m h n
-step_kept m f g h a n reply is kept settled =
-    step_settled m f g h a n reply is settled (reply_settled m f g h a reply is (λ e. not_refused (sym kept ∙ e)) (λ e. not_not_due (sym kept ∙ e))) (λ b e. nobody b (sym kept ∙ e))
+pub step_kept : (m : Market) (f h : Floor) (a n : ℕ) (reply : Reply) → IsStep m f h a reply → reply ≡ Kept → AreSettledBut m f n a → AreSettled m h n
+step_kept m f h a n reply is kept settled =
+    step_settled m f h a n reply is settled (reply_settled m f h a reply is (λ e. not_refused (sym kept ∙ e)) (λ e. not_not_due (sym kept ∙ e))) (λ b e. nobody b (sym kept ∙ e))
   where
     not_refused : Kept ≢ Refused
     not_refused e = cc
@@ -242,21 +243,21 @@ step_kept m f g h a n reply is kept settled =
 
 -- a proposal that can't be made
 abbrev pub IsNoProposal : Reply → Type 0
-IsNoProposal reply = (reply ≡ NotDue) ⊎ (reply ≡ Noticed)
+IsNoProposal reply = (reply ≡ Noticed) ⊎ (reply ≡ NotDue)
 
 -- all are settled where no proposal is due
-pub step_not_due : (m : Market) (f g h : Floor) (a n : ℕ) (reply : Reply) → IsStep m f g h a reply → IsRecorded m f → IsNoProposal reply → AreSettledBut m f n a → AreSettled m h n
-step_not_due m f g h a n reply is r not_due settled =
-    step_settled m f g h a n reply is settled (not_due_settled m f g h a reply is r not_due) (nobody not_due)
+pub step_not_due : (m : Market) (f h : Floor) (a n : ℕ) (reply : Reply) → IsStep m f h a reply → IsRecorded m f → IsNoProposal reply → AreSettledBut m f n a → AreSettled m h n
+step_not_due m f h a n reply is r not_due settled =
+    step_settled m f h a n reply is settled (not_due_settled m f h a reply is r not_due) (nobody not_due)
   where
     nobody : IsNoProposal reply → (b : ℕ) → reply ≢ KeptInstead b
     nobody (inl said) b e = differs (sym said ∙ e)
       where
-        differs : NotDue ≢ KeptInstead b
+        differs : Noticed ≢ KeptInstead b
         differs k = cc
     nobody (inr said) b e = differs (sym said ∙ e)
       where
-        differs : Noticed ≢ KeptInstead b
+        differs : NotDue ≢ KeptInstead b
         differs k = cc
 
 -- who is found on a list is on it
@@ -272,8 +273,8 @@ find_has test (y ∷ ys) x e =
     inj k = cc
 
 -- whom a reply names as displaced is an applicant
-pub named_applicant : (m : Market) → IsWellFormed m → (f : Floor) (a d : ℕ) → reply_of m f (Propose a) ≡ KeptInstead d → d < applicants m
-named_applicant m wf f a d = by_next (next_entry m f a)
+named_in_market : (m : Market) → IsWellFormed m → (f : Floor) (a d : ℕ) → reply_of m f (Propose a) ≡ KeptInstead d → d < applicants m
+named_in_market m wf f a d = by_next (next_entry m f a)
   where
     by_dropped : (p : ℕ) (b : Bool) (o : Option ℕ) → dropped m f p a ≡ o → (if b then (kept_reply o) else Refused) ≡ KeptInstead d → d < applicants m
     by_dropped p true None e k = absurd (differs k)
@@ -297,45 +298,54 @@ named_applicant m wf f a d = by_next (next_entry m f a)
         differs h = cc
     by_next (Some p) k = by_dropped p (choice (program_of m p) (receives_one f p a) a) (dropped m f p a) refl k
 
+pub named_applicant : (m : Market) → IsWellFormed m → (f h : Floor) (a d : ℕ) (reply : Reply) → IsStep m f h a reply → reply ≡ KeptInstead d → d < applicants m
+named_applicant m wf f h a d reply is named = named_in_market m wf (after m f (Notice a)) a d (sym is.reply ∙ named)
+
 -- a step makes one proposal, or none where none is due
-pub step_reached : (m : Market) (f g h : Floor) (a : ℕ) (reply : Reply) → IsStep m f g h a reply → reply ≢ NotDue → IsReached m f h 1
-step_reached m f g h a reply is due = record {
+pub step_reached : (m : Market) (f h : Floor) (a : ℕ) (reply : Reply) → IsStep m f h a reply → reply ≢ NotDue → IsReached m f h 1
+step_reached m f h a reply is due = record {
   events = Notice a ∷ Propose a ∷ [];
-  floor = is.proposal ∙ ap (λ x. after m x (Propose a)) is.notice;
+  floor = is.floor;
   count = sym (counts (is_due m f (Notice a)) (is_due m (after m f (Notice a)) (Propose a)) is_due_now);
 }
   where
+    g : Floor
+    g = after m f (Notice a)
+
     counts : (x y : Bool) → IsTrue y → (if x && false then 1 else 0) + ((if y && true then 1 else 0) + 0) ≡ 1
     counts true true e = omega arith
     counts false true e = omega arith
     counts x false e = absurd (false≢true e)
 
     by_next : (o : Option ℕ) → next_entry m g a ≡ o → IsTrue (is_some o)
-    by_next None e = absurd (due (is.reply_is ∙ ap (reply_of_proposal m g a) e))
+    by_next None e = absurd (due (is.reply ∙ ap (reply_of_proposal m g a) e))
     by_next (Some p) e = refl
 
     is_due_now : IsTrue (is_due m (after m f (Notice a)) (Propose a))
-    is_due_now = subst (λ (x : Floor). IsTrue (is_due m x (Propose a))) is.notice (by_next (next_entry m g a) refl)
+    is_due_now = by_next (next_entry m g a) refl
 
-pub step_reached_none : (m : Market) (f g h : Floor) (a : ℕ) (reply : Reply) → IsStep m f g h a reply → IsNoProposal reply → IsReached m f h 0
-step_reached_none m f g h a reply is not_due = record {
+pub step_reached_none : (m : Market) (f h : Floor) (a : ℕ) (reply : Reply) → IsStep m f h a reply → IsNoProposal reply → IsReached m f h 0
+step_reached_none m f h a reply is not_due = record {
   events = Notice a ∷ Propose a ∷ [];
-  floor = is.proposal ∙ ap (λ x. after m x (Propose a)) is.notice;
+  floor = is.floor;
   count = sym (counts (is_due m f (Notice a)) (is_due m (after m f (Notice a)) (Propose a)) not_due_now);
 }
   where
+    g : Floor
+    g = after m f (Notice a)
+
     counts : (x y : Bool) → IsFalse y → (if x && false then 1 else 0) + ((if y && true then 1 else 0) + 0) ≡ 0
     counts true false e = omega arith
     counts false false e = omega arith
     counts x true e = absurd (true≢false e)
 
-    by_next : (o : Option ℕ) → next_entry m g a ≡ o → (reply ≡ NotDue) ⊎ (reply ≡ Noticed) → IsFalse (is_some o)
+    by_next : (o : Option ℕ) → next_entry m g a ≡ o → (reply ≡ Noticed) ⊎ (reply ≡ NotDue) → IsFalse (is_some o)
     by_next None e said = refl
-    by_next (Some p) e (inl said) = absurd (due_reply m g a p (ap (reply_of_proposal m g a) (sym e) ∙ sym is.reply_is ∙ said))
-    by_next (Some p) e (inr said) = absurd (due_reply_noticed m g a p (ap (reply_of_proposal m g a) (sym e) ∙ sym is.reply_is ∙ said))
+    by_next (Some p) e (inl said) = absurd (due_reply_noticed m g a p (ap (reply_of_proposal m g a) (sym e) ∙ sym is.reply ∙ said))
+    by_next (Some p) e (inr said) = absurd (due_reply m g a p (ap (reply_of_proposal m g a) (sym e) ∙ sym is.reply ∙ said))
 
     not_due_now : IsFalse (is_due m (after m f (Notice a)) (Propose a))
-    not_due_now = subst (λ (x : Floor). IsFalse (is_due m x (Propose a))) is.notice (by_next (next_entry m g a) refl not_due)
+    not_due_now = by_next (next_entry m g a) refl not_due
 
 -- what the reply to an event says of whether it was due
 pub due_from_reply : (m : Market) (f : Floor) (e : Event) → reply_of m f e ≢ NotDue → IsTrue (is_due m f e)

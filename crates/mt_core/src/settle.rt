@@ -4,7 +4,7 @@ ghost use Rattle.mt_model.specs.Floor.{IsRecorded, IsLegal, IsStrict, after_all,
 ghost use Rattle.mt_model.specs.Laws.Floors.{proposals_made};
 ghost use Rattle.mt_ranks.specs.Ranked.{IsRanked};
 ghost use Rattle.mt_core.specs.Floors.{floor_of, IsOpenedWith};
-ghost use Rattle.mt_core.specs.Ends.{IsReached, AreSettled, AreSettledBut};
+ghost use Rattle.mt_core.specs.Ends.{IsReached, IsStep, AreSettled, AreSettledBut};
 
 use crate::floor::Floor;
 use crate::step::{apply, notice, propose};
@@ -32,6 +32,19 @@ pub fn run(floor: &mut Floor, ranks: &Ranks, events: &[Event]) -> u64
     due
 }
 
+/// The applicant learns whether it is held no longer, and then proposes where it doesn't stand.
+fn go_on(floor: &mut Floor, ranks: &Ranks, applicant: AppNo) -> Reply
+    requires opened { IsOpenedWith ranks.now.market floor.old }
+    requires recorded { IsRecorded ranks.now.market (floor_of ranks.now.market floor.old) }
+    requires ranked { IsRanked ranks.now }
+    requires applicant { applicant < applicants ranks.now.market }
+    ensures step { let m = ranks.now.market in IsStep m (floor_of m floor.old) (floor_of m floor.new) applicant result }
+    ensures opened { IsOpenedWith ranks.now.market floor.new }
+{
+    notice(floor, ranks, applicant);
+    propose(floor, ranks, applicant)
+}
+
 /// Makes the applicant's events, those of whom it displaces, and so on, one applicant at a time, until none is due
 /// for the last of them (McVitie and Wilson 1971). Says how many proposals that were.
 fn settle(floor: &mut Floor, ranks: &Ranks, first: AppNo) -> u64
@@ -48,8 +61,7 @@ fn settle(floor: &mut Floor, ranks: &Ranks, first: AppNo) -> u64
     let mut proposals = 0;
     let mut applicant = first;
     loop {
-        notice(floor, ranks, applicant);
-        match propose(floor, ranks, applicant) {
+        match go_on(floor, ranks, applicant) {
             Reply::Kept => return proposals + 1,
             Reply::KeptInstead(displaced) => applicant = displaced,
             Reply::Refused => {}

@@ -16,5 +16,5 @@ returns-else-stands c =
     let m = c.args.ranks.now.market in
     let a = c.args.applicant in
     let free = standing_of m c.args.floor.now a ∙ sym c.stands.ensures ∙ c.if-stands.false in
-    let len = ap length c.live.ensures.list ∙ length-map (ranked_entry m a) (list_of m a) ∙ ap length (sym (c.requires.ranked.all_live a)) in
+    let len = ap length c.live.ensures.list ∙ length-map (list_of m a) (ranked_entry m a) ∙ ap length (sym (c.requires.ranked.all_live a)) in
     rw free (ap₂ (λ x y. x == y) (c.made.ensures m) len)

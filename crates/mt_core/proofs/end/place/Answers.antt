@@ -15,7 +15,7 @@ pub returns-in_err-entry : goal.returns-in_err-entry
 returns-in_err-entry c =
     let m = c.args.ranks.now.market in
     let stands = standing_of m c.args.floor.now c.args.applicant ∙ sym c.stands.ensures ∙ c.if-not-stands.false in
-    rw stands (sym (no_entry m c.args.applicant (last_tried m (floor_of m c.args.floor.now) c.args.applicant) (sym c.last_tried.ensures ∙ c.in_err-entry.was)))
+    rw (c.from_residual.ensures, stands) (sym (no_entry m c.args.applicant (last_tried m (floor_of m c.args.floor.now) c.args.applicant) (sym c.last_tried.ensures ∙ c.in_err-entry.was)))
 
 pub returns : goal.returns
 returns c =

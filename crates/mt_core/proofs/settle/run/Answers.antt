@@ -1,5 +1,5 @@
-use Rattle.std.proofs.Common.{◌≡◌, ◌≢◌, ◌++◌, ◌∷◌, [], take, sym, ap, ap₂, ◌∙◌, arith, rules, subst}
-use Rattle.mt_model.specs.Floor.{after, after_all, due_count, is_due}
+use Rattle.std.proofs.Common.{◌≡◌, ◌≢◌, ℕ, if◌then◌else◌, take, sym, ap, ◌∙◌, arith, rules}
+use Rattle.mt_model.specs.Floor.{after, after_all, is_due}
 use Rattle.mt_model.specs.declared.events.Reply.TheVariants.{NotDue}
 use Rattle.mt_model.proofs.FloorRuns.{due_at_most_lem}
 use Rattle.mt_core.specs.Floors.{floor_of}
@@ -12,7 +12,10 @@ pub loop-event-preserved : goal.loop-event-preserved
 loop-event-preserved c =
     let m = c.args.ranks.now.market in
     let f = floor_of m c.args.floor.now in
+    let g = floor_of m c.loop-event.floor in
     let i = c.loop-event.event-index in
+    let e = c.event-item.result in
+    let next = due_count-next m f c.args.events.now i e c.loop-event-test.true c.event-item.is in
     record {
       opened = c.apply.ensures.opened;
       recorded = c.apply.ensures.recorded;
@@ -22,12 +25,15 @@ loop-event-preserved c =
           ∙ sym (after_all-next m f c.args.events.now i c.event-item.result c.loop-event-test.true c.event-item.is);
       count = elim c.if-ne.branch [
         | then-ne w ↦
-            let differs : c.apply.result ≢ NotDue = ? in
-            let due : is_due m (floor_of m c.loop-event.floor) c.event-item.result ≡ true = due_from_reply m (floor_of m c.loop-event.floor) c.event-item.result (λ e. differs (c.apply.ensures.reply ∙ e)) in
-            ?
+            let differs : c.apply.result ≢ NotDue = search rules in
+            let due = due_from_reply m g e (λ same. differs (c.apply.ensures.reply ∙ same)) in
+            let one : (if is_due m (after_all m f (take i c.args.events.now)) e then 1 else 0) ≡ 1 = ap {B = ℕ} (λ b. if b then 1 else 0) (ap (λ x. is_due m x e) (sym c.loop-event.invariant.floor) ∙ due) in
+            omega (arith, w.due-is, c.loop-event.invariant.count, next, one)
         | else-ne w ↦
-            let same : c.apply.result ≡ NotDue = ? in
-            ?
+            let same : c.apply.result ≡ NotDue = search rules in
+            let not_due = not_due_from_reply m g e (sym c.apply.ensures.reply ∙ same) in
+            let none : (if is_due m (after_all m f (take i c.args.events.now)) e then 1 else 0) ≡ 0 = ap {B = ℕ} (λ b. if b then 1 else 0) (ap (λ x. is_due m x e) (sym c.loop-event.invariant.floor) ∙ not_due) in
+            omega (arith, w.due-is, c.loop-event.invariant.count, next, none)
       ];
       few = elim c.if-ne.branch [ then-ne w ↦ omega (arith, w.due-is) | else-ne w ↦ omega (arith, w.due-is) ];
     }
