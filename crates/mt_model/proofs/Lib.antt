@@ -13,6 +13,7 @@ pub mod FloorSums
 pub mod IdFacts
 pub mod LegalBestLemmas
 pub mod ListLemmas
+pub mod LiveLemmas
 pub mod NumberingFacts
 pub mod PassFacts
 pub mod RegisteredFacts

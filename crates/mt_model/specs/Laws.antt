@@ -1,4 +1,5 @@
 pub mod Floors
+pub mod Live
 pub mod Registration
 pub mod Rural
 pub mod Singles

@@ -1,6 +1,7 @@
 //! Laws of the definitions: each is the contract of a function that does nothing.
 
 mod floors;
+mod live;
 mod registration;
 mod rural_law;
 mod singles;
@@ -12,6 +13,7 @@ pub use floors::{
     events_keep_recorded, events_keep_strict, legal_from_passed, made_at_most, opening_is_strict,
     order_free, quiet_counts, quiet_is_reached, result_of_floor, strict_best,
 };
+pub use live::live_market_agrees;
 pub use registration::{accepted_is_registration, versions_agree};
 pub use rural_law::{legal_best, rural};
 pub use singles::{
