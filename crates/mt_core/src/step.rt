@@ -79,6 +79,7 @@ pub(crate) fn notice(floor: &mut Floor, ranks: &Ranks, applicant: AppNo) -> Repl
         floor_of m floor.new ≡ after m (floor_of m floor.old) (Event.Notice applicant) }
     ensures reply { let m = ranks.now.market in
         result ≡ reply_of m (floor_of m floor.old) (Event.Notice applicant) }
+    ensures not_due { result ≡ Reply.NotDue → floor.new ≡ floor.old }
     ensures opened { IsOpenedWith ranks.now.market floor.new }
 {
     if !is_dropped(floor, ranks, applicant) {
@@ -111,6 +112,7 @@ pub(crate) fn propose(floor: &mut Floor, ranks: &Ranks, applicant: AppNo) -> Rep
         floor_of m floor.new ≡ after m (floor_of m floor.old) (Event.Propose applicant) }
     ensures reply { let m = ranks.now.market in
         result ≡ reply_of m (floor_of m floor.old) (Event.Propose applicant) }
+    ensures not_due { result ≡ Reply.NotDue → floor.new ≡ floor.old }
 
     // At most one applicant was displaced, the one that the reply names.
     ensures displaced { let m = ranks.now.market in (b p : ℕ) → IsTrue (held m (floor_of m floor.old) p b)
@@ -131,6 +133,7 @@ pub fn apply(floor: &mut Floor, ranks: &Ranks, event: Event) -> Reply
     requires recorded { IsRecorded ranks.now.market (floor_of ranks.now.market floor.old) }
     ensures floor { let m = ranks.now.market in floor_of m floor.new ≡ after m (floor_of m floor.old) event }
     ensures reply { let m = ranks.now.market in result ≡ reply_of m (floor_of m floor.old) event }
+    ensures not_due { result ≡ Reply.NotDue → floor.new ≡ floor.old }
     ensures opened { IsOpenedWith ranks.now.market floor.new }
     ensures recorded { IsRecorded ranks.now.market (floor_of ranks.now.market floor.new) }
     ensures legal { let m = ranks.now.market in IsLegal m (floor_of m floor.old) → IsLegal m (floor_of m floor.new) }

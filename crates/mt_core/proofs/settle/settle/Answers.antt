@@ -126,4 +126,3 @@ loop-displaced-preserved c =
         | in-Refused w ↦ rw w.applicant-is (step_refused m f h a n reply c.go_on.ensures.step w.in-Refused.is (c.loop-displaced.invariant.settled n settled))
       ];
     }
-
