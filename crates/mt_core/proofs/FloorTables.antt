@@ -1,9 +1,9 @@
 -- What tables say of a floor, and how a proposal changes both.
-use Rattle.std.proofs.Common.{◌≡◌, ◌≢◌, ◌==◌, ℕ, ◌+◌, ◌<◌, List, Bool, true, false, not, ◌||◌, ◌&&◌, Option, Some, None, IsTrue, length, get_or, set, refl, sym, ap, ap₂, ◌∙◌, inl, inr, arith, eq-eqb, ne_eqb, get_or-set_same, get_or-set_other, length-set, cond}
+use Rattle.std.proofs.Common.{◌≡◌, ◌≢◌, ◌==◌, ℕ, ◌+◌, ◌<◌, List, Bool, true, false, not, ◌||◌, ◌&&◌, Option, Some, None, IsTrue, length, get_or, set, refl, sym, ap, ◌∙◌, inl, inr, arith, eq-eqb, ne_eqb, get_or-set_same, get_or-set_other, length-set, cond}
 use Rattle.std.specs.Option.{option_map_or, is_some}
 use Rattle.std.proofs.Math.Path.{fun_ext}
 use Rattle.std.proofs.lemmas.Bool.{cases_eq, false≢true}
-use Rattle.mt_model.specs.Lists.{Set, has, is_distinct, with_one, without, count_below}
+use Rattle.mt_model.specs.Lists.{has, is_distinct, with_one, without, count_below}
 use Rattle.mt_model.specs.Market.{Market, program_of, applicants}
 use Rattle.mt_model.specs.Choice.{choice}
 use Rattle.mt_model.specs.WellFormed.{IsWellFormed}

@@ -1,5 +1,5 @@
 -- A list made of the numbers below n, with one more.
-use Rattle.std.proofs.Common.{◌≡◌, ℕ, ◌+◌, [], ◌∷◌, ◌++◌, List, map, ap, ◌∙◌}
+use Rattle.std.proofs.Common.{◌≡◌, ℕ, ◌+◌, [], ◌∷◌, ◌++◌, map, ap, ◌∙◌}
 use Rattle.std.proofs.lemmas.List.{map-append}
 use Rattle.mt_model.specs.Lists.{below}
 use Rattle.mt_model.proofs.BelowFacts.{below_more}

@@ -1,18 +1,16 @@
 -- What a holding answers to a proposal is the reply of the floor.
-use Rattle.std.proofs.Common.{◌≡◌, ◌≢◌, ◌↔◌, ◌==◌, ℕ, zero, suc, ◌+◌, ◌<◌, List, [], ◌∷◌, Bool, true, false, not, ◌&&◌, Option, Some, None, IsTrue, IsFalse, length, get_or, if◌then◌else◌, refl, sym, ap, ap₂, ◌∙◌, arith, subst, inl, inr, ne_eqb, eq-eqb}
+use Rattle.std.proofs.Common.{◌≡◌, ◌≢◌, ◌↔◌, ◌==◌, ℕ, zero, suc, ◌<◌, List, [], ◌∷◌, Bool, true, false, not, ◌&&◌, Option, Some, None, IsTrue, IsFalse, length, get_or, refl, sym, ap, ap₂, ◌∙◌, arith, subst, inl, inr, ne_eqb, eq-eqb}
 use Rattle.std.specs.List.{find}
 use Rattle.std.specs.Option.{is_some}
-use Rattle.std.proofs.lemmas.Bool.{cases_Bool, cases_eq, and_from, and_parts, not_from_false, not-true, both_ways, true≢false, false≢true}
+use Rattle.std.proofs.lemmas.Bool.{cases_Bool, cases_eq, and_from, not_from_false, both_ways, true≢false}
 use Rattle.mt_model.specs.Lists.{has, with_one}
 use Rattle.mt_model.specs.Market.{Market, program_of}
 use Rattle.mt_model.specs.Choice.{choice}
 use Rattle.mt_model.specs.Floor as model
 use Rattle.mt_model.specs.Floor.{Floor, proposed_at, receives_one, kept_reply, dropped, reply_of_proposal}
-use Rattle.mt_model.specs.declared.events.Reply.{Reply}
 use Rattle.mt_model.specs.declared.events.Reply.TheVariants as reply
 use Rattle.mt_model.proofs.ChoiceLemmas.{choice_facts}
 use Rattle.mt_hold.specs.Holding.{ranks, has_received, held, receive}
-use Rattle.mt_hold.specs.Laws.{IsHoldingOf}
 use Rattle.mt_hold.specs.declared.holding.Taken.{Taken}
 use Rattle.mt_hold.specs.declared.holding.Taken.TheVariants.{Kept, KeptInstead, Refused}
 use Rattle.mt_hold.proofs.Lists.{held_is_choice, receive_adds_one}

@@ -1,5 +1,5 @@
 -- How a floor is kept, and which floor of a market that is.
-use Rattle.std.specs.Prelude.{◌≡◌, ℕ, ◌+◌, Bool, false, List, length, Option, slice_index_or, slice_set}
+use Rattle.std.specs.Prelude.{◌≡◌, ℕ, ◌+◌, Bool, false, List, length, slice_index_or, slice_set}
 use Rattle.std.specs.Option.{option_map_or}
 use Rattle.mt_model.specs.Lists.{Set}
 use Rattle.mt_model.specs.Market.{Market, applicants, program_of}

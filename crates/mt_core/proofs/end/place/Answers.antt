@@ -1,4 +1,4 @@
-use Rattle.std.proofs.Common.{refl, sym, ap, ◌∙◌}
+use Rattle.std.proofs.Common.{refl, sym, ◌∙◌}
 use Rattle.mt_model.specs.Floor.{last_tried}
 use Rattle.mt_core.specs.Floors.{floor_of}
 use Rattle.mt_core.proofs.FloorTables.{standing_of}

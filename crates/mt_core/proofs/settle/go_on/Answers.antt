@@ -1,4 +1,4 @@
-use Rattle.std.proofs.Common.{◌≡◌, sym, ap, ◌∙◌, subst}
+use Rattle.std.proofs.Common.{sym, ap, ◌∙◌, subst}
 use Rattle.mt_model.specs.Floor.{Floor, IsRecorded, held, after, reply_of}
 use Rattle.mt_model.specs.declared.events.Event.TheVariants.{Propose, Notice}
 use Rattle.mt_model.proofs.FloorEvents.{event_keeps_recorded_lem}

@@ -1,7 +1,7 @@
-use Rattle.std.proofs.Common.{◌≡◌, ◌≢◌, ℕ, ◌+◌, sym, ap, ◌∙◌, arith, subst, ◌<◌}
+use Rattle.std.proofs.Common.{◌≡◌, ◌≢◌, ℕ, ◌+◌, sym, ◌∙◌, arith, subst}
 use Rattle.mt_model.specs.declared.events.Reply.TheVariants.{Kept, KeptInstead, Refused, NotDue}
 use Rattle.mt_core.specs.Floors.{floor_of}
-use Rattle.mt_core.specs.Ends.{IsReached, AreSettledBut}
+use Rattle.mt_core.specs.Ends.{IsReached}
 use Rattle.mt_core.proofs.Reaching.{reached_more, reached_recorded, reached_made, reached_at_most, reached_few, few_live_entries}
 use Rattle.mt_core.proofs.Settling.{step_reached, step_reached_none, step_kept, step_displaced, step_refused, step_not_due, named_applicant}
 use Rattle.mt_core.proofs.settle.settle.Goals as goal

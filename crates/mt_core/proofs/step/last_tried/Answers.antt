@@ -1,4 +1,4 @@
-use Rattle.std.proofs.Common.{◌≡◌, ◌≢◌, ◌-◌, ◌==◌, ◌≤◌, false, sym, ap, ◌∙◌, arith, ne_eqb}
+use Rattle.std.proofs.Common.{◌≡◌, ◌==◌, false, arith, ne_eqb}
 use Rattle.mt_core.proofs.step.last_tried.Goals as goal
 
 pub returns : goal.returns

@@ -1,7 +1,4 @@
-use Rattle.std.proofs.Common.{◌≡◌, ◌-◌, ◌==◌, true, false, cond, None, slice_get, refl, sym, ap, ◌∙◌}
-use Rattle.std.specs.Option.{option_map}
-use Rattle.mt_model.specs.Market.{live}
-use Rattle.mt_ranks.specs.Ranked.{ranked_entry}
+use Rattle.std.proofs.Common.{refl, sym, ◌∙◌}
 use Rattle.mt_core.proofs.FloorTables.{standing_of}
 use Rattle.mt_core.proofs.step.next_entry.Goals as goal
 

@@ -1,8 +1,7 @@
-use Rattle.std.proofs.Common.{◌≡◌, sym, ap, ap₂, ◌∙◌, subst, arith}
+use Rattle.std.proofs.Common.{sym, ap, ◌∙◌, arith}
 use Rattle.mt_model.specs.Floor as model
-use Rattle.mt_core.specs.Floors.{floor_of, entered}
-use Rattle.mt_core.specs.Replies.{reply_from}
-use Rattle.mt_core.proofs.FloorTables.{made_of, received_by_rank, entered_floor, entered_opened}
+use Rattle.mt_core.specs.Floors.{floor_of}
+use Rattle.mt_core.proofs.FloorTables.{made_of, received_by_rank, entered_floor}
 use Rattle.mt_core.proofs.NextFacts.{next_entry_facts}
 use Rattle.mt_core.proofs.ReplyFacts.{reply_is, displaced_is, named_within}
 use Rattle.mt_core.proofs.step.propose.Goals as goal
