@@ -1,7 +1,8 @@
-ghost use Rattle.mt_model.specs.Laws.Live.{LiveMarketAgrees};
+ghost use Rattle.mt_model.specs.Laws.Live.{LiveMarketAgrees, NothingIsLive};
 
-/// Entries that aren't mutual matter for nothing: the live market has the stable matches, the best match and
-/// the proposals of the singles' market.
+/// A market and its live market have the same stable matches of the singles, the same best one, and the same
+/// numbers of proposals on the way there.
 pub fn live_market_agrees()
-    ensures { LiveMarketAgrees }
+    ensures law { LiveMarketAgrees }
+    ensures example { NothingIsLive }
 {}
