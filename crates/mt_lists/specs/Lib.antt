@@ -1,0 +1,4 @@
+pub mod Tap
+pub mod Records
+pub mod Rows
+pub mod Examples
