@@ -1,1 +1,4 @@
 pub mod TablesFacts
+pub mod DigitFacts
+pub mod KeyFacts
+pub mod FieldFacts

@@ -1,2 +1,4 @@
 pub mod Tables
 pub mod View
+pub mod Fields
+pub mod Records
