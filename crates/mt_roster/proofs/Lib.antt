@@ -2,3 +2,4 @@ pub mod TablesFacts
 pub mod DigitFacts
 pub mod KeyFacts
 pub mod FieldFacts
+pub mod RepeatFacts

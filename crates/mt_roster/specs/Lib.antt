@@ -2,3 +2,4 @@ pub mod Tables
 pub mod View
 pub mod Fields
 pub mod Records
+pub mod Refusals

@@ -1,4 +1,4 @@
-ghost use Rattle.std.specs.Prelude.{◌≡◌, ◌++◌, [], ◌∷◌, not, length, position, bytes_eq, OnErr, IfOk, if◌then◌else◌};
+ghost use Rattle.std.specs.Prelude.{◌≡◌, ◌<◌, ◌^◌, ◌++◌, [], ◌∷◌, not, length, position, bytes_eq, OnErr, IfOk, if◌then◌else◌};
 ghost use Rattle.mt_model.specs.Registration.Ids.{has_id};
 
 use indexmap::IndexSet;
@@ -29,8 +29,18 @@ impl<'a> IdTable<'a> {
         }
     }
 
+    /// No ids, with room for some.
+    pub(crate) fn with_capacity(alloc: Global, capacity: usize) -> Result<Self, AllocError>
+        ensures { IfOk result (λ table. table ≡ []) }
+    {
+        Ok(IdTable {
+            ids: IndexSet::with_capacity(alloc, capacity)?,
+        })
+    }
+
     pub(crate) fn len(&self) -> usize
-        ensures { result ≡ length self.now }
+        ensures len { result ≡ length self.now }
+        ensures small { result < 2 ^ 63 }
     {
         self.ids.len()
     }

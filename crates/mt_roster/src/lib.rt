@@ -5,6 +5,8 @@ mod fields;
 mod id_table;
 mod ids;
 mod record;
+mod refusal;
+mod repeats;
 mod rules;
 mod tables;
 
