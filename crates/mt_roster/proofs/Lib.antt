@@ -1,1 +1,5 @@
 pub mod TablesFacts
+pub mod DigitFacts
+pub mod KeyFacts
+pub mod FieldFacts
+pub mod RepeatFacts

@@ -1,2 +1,5 @@
 pub mod Tables
 pub mod View
+pub mod Fields
+pub mod Records
+pub mod Refusals

@@ -1,6 +1,13 @@
 //! Records to market: the roster of a residency match.
 #![tactic(auto)]
 
+mod fields;
+mod id_table;
+mod ids;
+mod record;
+mod refusal;
+mod repeats;
+mod rules;
 mod tables;
 
 pub use tables::Roster;
