@@ -4,6 +4,7 @@
 mod fields;
 mod id_table;
 mod ids;
+mod numbering;
 mod record;
 mod refusal;
 mod repeats;
