@@ -3,3 +3,5 @@ pub mod DigitFacts
 pub mod KeyFacts
 pub mod FieldFacts
 pub mod RepeatFacts
+pub mod CountFacts
+pub mod RegisterFacts

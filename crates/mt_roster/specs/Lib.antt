@@ -3,3 +3,4 @@ pub mod View
 pub mod Fields
 pub mod Records
 pub mod Refusals
+pub mod Registers

@@ -6,6 +6,7 @@ mod id_table;
 mod ids;
 mod record;
 mod refusal;
+mod register;
 mod repeats;
 mod rules;
 mod tables;

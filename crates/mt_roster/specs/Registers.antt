@@ -1,0 +1,51 @@
+-- What a register's tables say of its records.
+use Rattle.std.specs.Prelude.{◌≡◌, List, [], ◌∷◌, ◌++◌, map, option_to_list}
+use Rattle.mt_model.specs.Registration.Ids.{Bytes}
+use Rattle.mt_model.specs.Registration.Records as model
+use Rattle.mt_model.specs.Registration.Rows.{own_id, withdrawn_id, applicants_of, ids_of, withdrawn, applicant_ids, entry_count}
+use Rattle.mt_model.specs.Registration.Passes.{Numbered, contents}
+use Rattle.mt_roster.specs.declared.register.Numbered as declared
+use Rattle.mt_roster.specs.declared.register.Kinds.{Kinds}
+use Rattle.mt_roster.specs.declared.register.Register.{Register}
+use Rattle.mt_roster.specs.Records.{record_seen}
+
+abbrev pub numbered_seen : declared.Numbered → Numbered model.Record
+numbered_seen n = (n.row, record_seen n.record)
+
+abbrev pub records_seen : Register → List (Numbered model.Record)
+records_seen r = map numbered_seen r.records.items
+
+-- the records without their numbers
+abbrev pub contents_seen : Register → List model.Record
+contents_seen r = contents (records_seen r)
+
+abbrev pub ids_in : Kinds → model.Kind → List Bytes
+ids_in k model.OfProgram = k.programs
+ids_in k model.OfApplicant = k.applicants
+ids_in k model.OfCouple = k.couples
+
+-- The tables are those of the records.
+pub record IsRegister (r : Register) : Type 0 where
+  pub registered : (kind : model.Kind) → ids_in r.registered kind ≡ ids_of kind (contents_seen r)
+  pub applicants : r.applicants ≡ applicant_ids (contents_seen r)
+  pub withdrawn : (kind : model.Kind) → ids_in r.withdrawn kind ≡ withdrawn kind (contents_seen r)
+  pub entries : r.entries ≡ entry_count (contents_seen r)
+
+-- the ids of a kind that an id under a kind adds
+abbrev pub under : model.Kind → Bytes → model.Kind → List Bytes
+under model.OfProgram id model.OfProgram = id ∷ []
+under model.OfApplicant id model.OfApplicant = id ∷ []
+under model.OfCouple id model.OfCouple = id ∷ []
+under _ id _ = []
+
+-- Ids of each kind get one more, of a kind, at the end.
+abbrev pub AddsId : Kinds → Kinds → model.Kind → Bytes → Type 0
+AddsId old new kind id = (k : model.Kind) → ids_in new k ≡ ids_in old k ++ under kind id k
+
+-- A register's tables get what a record registers and withdraws.
+pub record AddsRecord (old new : Register) (r : model.Record) : Type 0 where
+  pub records : new.records ≡ old.records
+  pub registered : (kind : model.Kind) → ids_in new.registered kind ≡ ids_in old.registered kind ++ option_to_list (own_id kind r)
+  pub applicants : new.applicants ≡ old.applicants ++ applicants_of r
+  pub withdrawn : (kind : model.Kind) → ids_in new.withdrawn kind ≡ ids_in old.withdrawn kind ++ option_to_list (withdrawn_id kind r)
+  pub entries : new.entries ≡ old.entries
