@@ -5,3 +5,4 @@ pub mod FieldFacts
 pub mod RepeatFacts
 pub mod CountFacts
 pub mod RegisterFacts
+pub mod PassFacts

@@ -4,3 +4,4 @@ pub mod Fields
 pub mod Records
 pub mod Refusals
 pub mod Registers
+pub mod Passes

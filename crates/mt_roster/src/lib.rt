@@ -2,6 +2,7 @@
 #![tactic(auto)]
 
 mod fields;
+mod first_pass;
 mod id_table;
 mod ids;
 mod record;

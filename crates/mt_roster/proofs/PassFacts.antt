@@ -1,0 +1,103 @@
+-- What is known of a record that the first pass takes.
+use Rattle.std.proofs.Common.{◌≡◌, ℕ, ◌+◌, ◌<◌, ◌≤◌, Bool, true, false, nat_lt, List, [], ◌∷◌, ◌++◌, length, refl, ap, sym, ◌∙◌, Option, Some, None, Result, Ok, Err, arith, subst, drop, get_or}
+use Rattle.std.specs.Prelude.{option_map, ◌==◌}
+use Rattle.std.specs.Option.{option_map_or}
+use Rattle.std.specs.Bool.{then_some}
+use Rattle.std.proofs.lemmas.Bool.Decides.{nat_tests}
+use Rattle.std.proofs.lemmas.List.{drop_more, get_or_default}
+use Rattle.mt_model.proofs.IdFacts.{neither}
+use Rattle.mt_model.specs.Registration.Ids.{Bytes}
+use Rattle.mt_roster.specs.declared.refusal.Refusal.{Refusal}
+use Rattle.mt_roster.specs.declared.refusal.Refusal.TheVariants as refusals
+use Rattle.mt_roster.specs.declared.register.Register.{Register}
+use Rattle.mt_roster.specs.Registers.{records_seen, IsRegister}
+use Rattle.mt_roster.specs.Passes.{Reads, ReadsAt, GivesRegister}
+use Rattle.mt_roster.specs.Refusals.{Refuses}
+use Rattle.mt_model.specs.Registration.Faults.{Charge, Fault, charge, fault_at, duplicate_id}
+use Rattle.mt_model.specs.Registration.Records.{Rules, Record, record_of}
+use Rattle.mt_model.specs.Registration.Rows.{entry_count}
+use Rattle.mt_model.specs.Registration.Passes.{registered_before, says_twice, are_too_many, clash, next_record, on_result, first_of, numbered_from, Numbered, first_pass}
+
+-- a record that doesn't clash with those before it
+pub record IsAccepted (rules : Rules) (before : List Record) (r : Record) : Type 0 where
+  pub new : registered_before before r ≡ None
+  pub once : says_twice before r ≡ false
+  pub few : are_too_many rules.limits (before ++ r ∷ []) ≡ false
+
+parts : (o : Option Bytes) (s t : Bool) (c d : Charge) (q r : Record)
+    → option_map_or (λ e. Err e) (first_of (option_map (charge duplicate_id) o ∷ then_some s c ∷ then_some t d ∷ [])) (Ok q) ≡ Ok r
+    → (q ≡ r) × (o ≡ None) × (s ≡ false) × (t ≡ false)
+parts (Some x) s t c d q r h = cc
+parts None true t c d q r h = cc
+parts None false true c d q r h = cc
+parts None false false c d q r h = (cc, refl, refl, refl)
+
+pub is_accepted : (rules : Rules) (before : List Record) (row : List Bytes) (n : ℕ) (r : Record)
+    → on_result (next_record rules before row) (λ q. Ok q) (λ c. Err (fault_at n c)) ≡ Ok r → IsAccepted rules before r
+is_accepted rules before row n r h = by (record_of rules row) h
+  where
+    beside : (q : Record) (o : Result Record Charge) → o ≡ option_map_or (λ e. Err e) (clash rules before q) (Ok q) → on_result o (λ p. Ok p) (λ c. Err (fault_at n c)) ≡ Ok r → IsAccepted rules before r
+    beside q (Ok p) e k =
+        let s : p ≡ r = cc in
+        let t : (q ≡ r) × (registered_before before q ≡ None) × (says_twice before q ≡ false) × (are_too_many rules.limits (before ++ q ∷ []) ≡ false) = parts _ _ _ _ _ q r (sym e ∙ ap Ok s) in
+        subst (λ (z : Record). IsAccepted rules before z) t.0 (record { new = t.1; once = t.2; few = t.3 })
+    beside q (Err c) e k = cc
+
+    by : (o : Result Record Charge) → on_result (on_result o (λ q. option_map_or (λ e. Err e) (clash rules before q) (Ok q)) (λ c. Err c)) (λ p. Ok p) (λ c. Err (fault_at n c)) ≡ Ok r → IsAccepted rules before r
+    by (Ok q) k = beside q _ refl k
+    by (Err c) k = cc
+
+pub few_entries : (rules : Rules) (rs : List Record) → rules.limits.entries ≤ 8000000 → are_too_many rules.limits rs ≡ false → entry_count rs ≤ 8000000
+few_entries rules rs h k =
+    let f : nat_lt rules.limits.entries (entry_count rs) ≡ false = (neither _ _ k).1 in
+    below rules.limits.entries (entry_count rs) h f
+  where
+    below : (l n : ℕ) → l ≤ 8000000 → nat_lt l n ≡ false → n ≤ 8000000
+    below l n i j = grind (arith, nat_tests)
+
+-- the numbered rows from a place on
+pub skip_empty : (rows : List (List Bytes)) (i n : ℕ) → i < length rows → length (get_or rows i []) ≡ 0 → numbered_from n (drop i rows) ≡ numbered_from (n + 1) (drop (i + 1) rows)
+skip_empty rows i n h e = ap (numbered_from n) (drop_more rows i [] h) ∙ by (get_or rows i []) e
+  where
+    by : (row : List Bytes) → length row ≡ 0 → numbered_from n (row ∷ drop (i + 1) rows) ≡ numbered_from (n + 1) (drop (i + 1) rows)
+    by [] k = refl
+    by (word ∷ fields) k = absurd (omega arith)
+
+pub take_row : (rows : List (List Bytes)) (i n : ℕ) → i < length rows → (length (get_or rows i []) ≡ 0 → ⊥) → numbered_from n (drop i rows) ≡ (n, get_or rows i []) ∷ numbered_from (n + 1) (drop (i + 1) rows)
+take_row rows i n h e = ap (numbered_from n) (drop_more rows i [] h) ∙ by (get_or rows i []) e
+  where
+    by : (row : List Bytes) → (length row ≡ 0 → ⊥) → numbered_from n (row ∷ drop (i + 1) rows) ≡ (n, row) ∷ numbered_from (n + 1) (drop (i + 1) rows)
+    by [] k = absurd (k refl)
+    by (word ∷ fields) k = refl
+
+row_is : (rows : List (List Bytes)) (i : ℕ) (d : List Bytes) → i < length rows → d ≡ get_or rows i d → (length d ≡ 0 → ⊥)
+    → numbered_from (i + 1) (drop i rows) ≡ (i + 1, d) ∷ numbered_from (i + 1 + 1) (drop (i + 1) rows)
+row_is rows i d h at n =
+    let e : get_or rows i [] ≡ d = get_or_default rows i [] d h ∙ sym at in
+    take_row rows i (i + 1) h (λ k. n (ap length (sym e) ∙ k)) ∙ ap (λ row. (i + 1, row) ∷ numbered_from (i + 1 + 1) (drop (i + 1) rows)) e
+
+-- the row at a place is read, where it has a field
+pub reads_row : {Y : Type 0} (rules : Rules) (old new : Register) (rows : List (List Bytes)) (i : ℕ) (d : List Bytes) (result : Result Y Refusal) → i < length rows → d ≡ get_or rows i d
+    → (length d ≡ 0 → ⊥) → Reads rules old new (i + 1, d) result → ReadsAt rules old new rows i result
+reads_row rules old new rows i d (Ok y) h at n r = (r.0, ap (first_pass rules (records_seen old)) (row_is rows i d h at n) ∙ r.1 (numbered_from (i + 1 + 1) (drop (i + 1) rows)))
+reads_row rules old new rows i d (Err (refusals.Fault f)) h at n r = ap (first_pass rules (records_seen old)) (row_is rows i d h at n) ∙ r (numbered_from (i + 1 + 1) (drop (i + 1) rows))
+reads_row rules old new rows i d (Err refusals.Memory) h at n r = tt
+
+-- and passed over, where it has none
+pub skips_row : {Y : Type 0} (rules : Rules) (old : Register) (rows : List (List Bytes)) (i : ℕ) (d : List Bytes) (y : Y) → i < length rows → d ≡ get_or rows i d → length d ≡ 0 → IsRegister old
+    → ReadsAt rules old old rows i (Ok y)
+skips_row rules old rows i d y h at n r = (r, ap (first_pass rules (records_seen old)) (skip_empty rows i (i + 1) h (ap length (get_or_default rows i [] d h ∙ sym at) ∙ n)))
+
+pub is_zero : (n : ℕ) → (n == 0) ≡ true → n ≡ 0
+is_zero n h = grind (arith, nat_tests)
+
+pub is_positive : (n : ℕ) → (n == 0) ≡ false → n ≡ 0 → ⊥
+is_positive n h k = grind (arith, nat_tests)
+
+-- the pass ends where a row is refused
+pub pass_ends : (e : Refusal) (here whole : Result (List (Numbered Record)) Fault) → Refuses e here → here ≡ whole → Refuses e whole
+pass_ends (refusals.Fault f) here whole r h = sym h ∙ r
+pass_ends refusals.Memory here whole r h = tt
+
+pub refused : (result : Result Register Refusal) (e : Refusal) (whole : Result (List (Numbered Record)) Fault) → result ≡ Err e → Refuses e whole → GivesRegister result whole
+refused result e whole h r = rw h r
