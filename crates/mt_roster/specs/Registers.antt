@@ -1,6 +1,7 @@
 -- What a register's tables say of its records.
-use Rattle.std.specs.Prelude.{◌≡◌, List, [], ◌∷◌, ◌++◌, map, option_to_list}
-use Rattle.mt_model.specs.Registration.Ids.{Bytes}
+use Rattle.std.specs.Prelude.{◌≡◌, ◌≤◌, true, List, [], ◌∷◌, ◌++◌, length, map, bytes_eq, option_to_list}
+use Rattle.mt_model.specs.Registration.Ids.{Bytes, all_differ}
+use Rattle.mt_model.specs.declared.limits.Limits.{Limits}
 use Rattle.mt_model.specs.Registration.Records as model
 use Rattle.mt_model.specs.Registration.Rows.{own_id, withdrawn_id, applicants_of, ids_of, withdrawn, applicant_ids, entry_count}
 use Rattle.mt_model.specs.Registration.Passes.{Numbered, contents}
@@ -24,12 +25,30 @@ ids_in k model.OfProgram = k.programs
 ids_in k model.OfApplicant = k.applicants
 ids_in k model.OfCouple = k.couples
 
+-- No id is registered twice, and no more of anything than an input may have.
+pub record AreSound (rs : List model.Record) : Type 0 where
+  pub programs_differ : all_differ bytes_eq (ids_of model.OfProgram rs) ≡ true
+  pub couples_differ : all_differ bytes_eq (ids_of model.OfCouple rs) ≡ true
+  pub applicants_differ : all_differ bytes_eq (applicant_ids rs) ≡ true
+  pub few_programs : length (ids_of model.OfProgram rs) ≤ 20000
+  pub few_couples : length (ids_of model.OfCouple rs) ≤ 10000
+  pub few_applicants : length (applicant_ids rs) ≤ 100000
+  pub few_entries : entry_count rs ≤ 8000000
+
+-- Limits that no version passes.
+pub record AreBounded (limits : Limits) : Type 0 where
+  pub programs : limits.programs ≤ 20000
+  pub couples : limits.couples ≤ 10000
+  pub applicants : limits.applicants ≤ 100000
+  pub entries : limits.entries ≤ 8000000
+
 -- The tables are those of the records.
 pub record IsRegister (r : Register) : Type 0 where
   pub registered : (kind : model.Kind) → ids_in r.registered kind ≡ ids_of kind (contents_seen r)
   pub applicants : r.applicants ≡ applicant_ids (contents_seen r)
   pub withdrawn : (kind : model.Kind) → ids_in r.withdrawn kind ≡ withdrawn kind (contents_seen r)
   pub entries : r.entries ≡ entry_count (contents_seen r)
+  pub sound : AreSound (contents_seen r)
 
 -- the ids of a kind that an id under a kind adds
 abbrev pub under : model.Kind → Bytes → model.Kind → List Bytes

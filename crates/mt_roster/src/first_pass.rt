@@ -3,7 +3,7 @@ ghost use Rattle.mt_model.specs.Registration.Faults.{fault_at};
 ghost use Rattle.mt_model.specs.Registration.Passes.{on_result, next_record, first_pass, numbered_from};
 ghost use Rattle.mt_roster.specs.Records.{record_seen};
 ghost use Rattle.mt_roster.specs.Refusals.{Gives};
-ghost use Rattle.mt_roster.specs.Registers.{records_seen, contents_seen, IsRegister};
+ghost use Rattle.mt_roster.specs.Registers.{contents_seen, AreBounded, IsRegister};
 ghost use Rattle.mt_roster.specs.Passes.{Reads, ReadsAt, GivesRegister};
 
 use crate::record::{Record, record_of};
@@ -43,7 +43,7 @@ fn read_row<'a>(
     number: u64,
     row: &'a Row,
 ) -> Result<(), Refusal<'a>>
-    requires limits { rules.now.limits.entries ≤ 8000000 }
+    requires limits { AreBounded rules.now.limits }
     requires register { IsRegister register.old }
     ensures { Reads rules.now register.old register.new (number, row.now) result }
 {
@@ -60,7 +60,7 @@ fn read_at<'a>(
     rows: &'a [Row],
     i: usize,
 ) -> Result<(), Refusal<'a>>
-    requires limits { rules.now.limits.entries ≤ 8000000 }
+    requires limits { AreBounded rules.now.limits }
     requires register { IsRegister register.old }
     requires within { i < length rows.now }
     ensures { ReadsAt rules.now register.old register.new rows.now i result }
@@ -79,7 +79,7 @@ pub(crate) fn first_pass<'a>(
     rows: &'a [Row],
     from: usize,
 ) -> Result<Register<'a>, Refusal<'a>>
-    requires limits { rules.now.limits.entries ≤ 8000000 }
+    requires limits { AreBounded rules.now.limits }
     requires within { from ≤ length rows.now }
     ensures { GivesRegister result (first_pass rules.now [] (numbered_from (from + 1) (drop from rows.now))) }
 {

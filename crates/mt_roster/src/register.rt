@@ -1,10 +1,9 @@
-ghost use Rattle.std.specs.Prelude.{◌≡◌, ◌+◌, ◌<◌, ◌^◌, ◌||◌, false, nat_lt, ◌++◌, [], ◌∷◌, length, option_map, None, OnOk, IfOk};
+ghost use Rattle.std.specs.Prelude.{◌≡◌, ◌+◌, ◌||◌, false, nat_lt, ◌++◌, [], ◌∷◌, length, option_map, None, OnOk, IfOk};
 ghost use Rattle.std.specs.Option.{option_copied};
-ghost use Rattle.mt_model.specs.Registration.Rows.{entry_count};
 ghost use Rattle.mt_model.specs.Registration.Ids.{has_id};
 ghost use Rattle.mt_model.specs.Registration.Passes.{first_in, registered_before, says_twice, are_too_many, clash};
 ghost use Rattle.mt_roster.specs.Records.{kind_seen, record_seen, charge_seen};
-ghost use Rattle.mt_roster.specs.Registers.{records_seen, contents_seen, ids_in, IsRegister, AddsId, AddsRecord};
+ghost use Rattle.mt_roster.specs.Registers.{records_seen, contents_seen, ids_in, AreSound, IsRegister, AddsId, AddsRecord};
 
 use crate::id_table::IdTable;
 use crate::record::{Charge, Kind, Record};
@@ -217,7 +216,7 @@ impl<'a> Register<'a> {
         requires register { IsRegister self.old }
         requires new { registered_before (contents_seen self.old) (record_seen next) ≡ None }
         requires once { says_twice (contents_seen self.old) (record_seen next) ≡ false }
-        requires room { entry_count (contents_seen self.old ++ record_seen next ∷ []) < 2 ^ 64 }
+        requires sound { AreSound (contents_seen self.old ++ record_seen next ∷ []) }
         ensures register { OnOk result (IsRegister self.new) }
         ensures records { OnOk result (records_seen self.new ≡ records_seen self.old ++ (row, record_seen next.entry) ∷ []) }
     {
