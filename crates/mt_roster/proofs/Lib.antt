@@ -5,3 +5,6 @@ pub mod FieldFacts
 pub mod RepeatFacts
 pub mod NumberingSteps
 pub mod NumberingTables
+pub mod CountFacts
+pub mod RegisterFacts
+pub mod PassFacts

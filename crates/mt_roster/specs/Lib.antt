@@ -4,3 +4,5 @@ pub mod Fields
 pub mod Records
 pub mod Refusals
 pub mod Numbered
+pub mod Registers
+pub mod Passes

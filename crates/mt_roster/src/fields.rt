@@ -1,4 +1,4 @@
-ghost use Rattle.std.specs.Prelude.{◌≡◌, ◌<◌, ◌≤◌, drop, length, map, slice_index_or, [], None};
+ghost use Rattle.std.specs.Prelude.{◌≡◌, ◌*◌, ◌<◌, ◌≤◌, drop, length, map, slice_index_or, [], None};
 ghost use Rattle.std.specs.Option.{option_copied};
 ghost use Rattle.std.specs.List.{list_all};
 ghost use Rattle.mt_model.specs.Registration.Ids.{is_id};
@@ -139,6 +139,13 @@ impl<'a> Pairs<'a> {
         ensures { result ≡ length self.now }
     {
         (self.end - self.from) / 2
+    }
+
+    /// How many fields the pairs have.
+    pub(crate) fn entries(&self) -> usize
+        ensures { result ≡ 2 * length self.now }
+    {
+        (self.end - self.from) / 2 * 2
     }
 
     /// The pair at a place from 0.

@@ -1,4 +1,4 @@
-ghost use Rattle.std.specs.Prelude.{◌≡◌, ◌<◌, ◌^◌, ◌++◌, [], ◌∷◌, not, length, position, bytes_eq, OnErr, IfOk, if◌then◌else◌};
+ghost use Rattle.std.specs.Prelude.{◌≡◌, ◌<◌, ◌^◌, ◌++◌, [], ◌∷◌, not, length, position, bytes_eq, false, OnOk, OnErr, IfOk, if◌then◌else◌};
 ghost use Rattle.mt_model.specs.Registration.Ids.{has_id};
 
 use indexmap::IndexSet;
@@ -66,5 +66,14 @@ impl<'a> IdTable<'a> {
         ensures err { OnErr result (self.new ≡ self.old) }
     {
         Ok(self.ids.insert(id)?)
+    }
+
+    /// Adds an id that is none of them at the end.
+    pub(crate) fn push(&mut self, id: &'a [u8]) -> Result<(), AllocError>
+        requires { has_id self.old id.now ≡ false }
+        ensures { OnOk result (self.new ≡ self.old ++ id.now ∷ []) }
+    {
+        self.add(id)?;
+        Ok(())
     }
 }

@@ -2,11 +2,13 @@
 #![tactic(auto)]
 
 mod fields;
+mod first_pass;
 mod id_table;
 mod ids;
 mod numbering;
 mod record;
 mod refusal;
+mod register;
 mod repeats;
 mod rules;
 mod tables;

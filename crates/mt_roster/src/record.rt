@@ -1,8 +1,10 @@
-ghost use Rattle.std.specs.Prelude.{◌≡◌, ◌≤◌, [], ◌∷◌, drop, length, slice_index_or, option_map, Some};
+ghost use Rattle.std.specs.Prelude.{◌≡◌, ◌≤◌, [], ◌∷◌, drop, length, slice_index_or, option_map, option_to_list, Some};
 ghost use Rattle.mt_model.specs.Registration.Faults.{charge_alone};
 ghost use Rattle.mt_model.specs.Registration.Records.{kind_of, are_ids, program_record, applicant_record, couple_by_pairs, couple_record, withdraw_record, record_of};
+ghost use Rattle.mt_model.specs.Registration.Records.{OfProgram, OfCouple};
+ghost use Rattle.mt_model.specs.Registration.Rows.{id_of, own_id, applicants_of, entries_of};
 ghost use Rattle.mt_roster.specs.Fields.{by_pairs};
-ghost use Rattle.mt_roster.specs.Records.{kind_seen, charge_seen, read_seen};
+ghost use Rattle.mt_roster.specs.Records.{kind_seen, record_seen, charge_seen, read_seen};
 
 use crate::fields::{Ids, Pairs, are_pairs};
 use crate::ids::{is_id, quota_of};
@@ -39,6 +41,63 @@ pub(crate) enum Record<'a> {
         kind: Kind,
         id: &'a [u8],
     },
+}
+
+impl<'a> Record<'a> {
+    /// The record's own id, or the one that it withdraws.
+    pub(crate) fn id(&self) -> &'a [u8]
+        ensures { result.now ≡ id_of (record_seen self.now) }
+    {
+        match self {
+            Record::Program { id, .. } => id,
+            Record::Applicant { id, .. } => id,
+            Record::Couple { id, .. } => id,
+            Record::Withdraw { id, .. } => id,
+        }
+    }
+
+    /// How many applicants it registers.
+    pub(crate) fn applicant_count(&self) -> usize
+        ensures { result ≡ length (applicants_of (record_seen self.now)) }
+    {
+        match self {
+            Record::Applicant { .. } => 1,
+            Record::Couple { .. } => 2,
+            Record::Program { .. } | Record::Withdraw { .. } => 0,
+        }
+    }
+
+    /// How many programs it registers.
+    pub(crate) fn program_count(&self) -> usize
+        ensures { result ≡ length (option_to_list (own_id OfProgram (record_seen self.now))) }
+    {
+        match self {
+            Record::Program { .. } => 1,
+            _ => 0,
+        }
+    }
+
+    /// How many couples it registers.
+    pub(crate) fn couple_count(&self) -> usize
+        ensures { result ≡ length (option_to_list (own_id OfCouple (record_seen self.now))) }
+    {
+        match self {
+            Record::Couple { .. } => 1,
+            _ => 0,
+        }
+    }
+
+    /// How many entries its list has: a pair counts as two.
+    pub(crate) fn entry_count(&self) -> u64
+        ensures { result ≡ entries_of (record_seen self.now) }
+    {
+        match self {
+            Record::Program { list, .. } => list.len() as u64,
+            Record::Applicant { list, .. } => list.len() as u64,
+            Record::Couple { pairs, .. } => pairs.entries() as u64,
+            Record::Withdraw { .. } => 0,
+        }
+    }
 }
 
 /// A fault of a record: its code and the id at fault, which is empty where there is none.
