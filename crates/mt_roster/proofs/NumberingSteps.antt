@@ -11,9 +11,12 @@ use Rattle.mt_model.specs.Market.{Pair}
 use Rattle.mt_model.specs.Registration.Records.{Kind, OfProgram, OfApplicant, OfCouple, Record, ProgramRecord, ApplicantRecord, CoupleRecord, WithdrawRecord, IdPair}
 use Rattle.mt_model.specs.Registration.Rows.{applicants_of, applicant_ids, withdrawn, remaining}
 use Rattle.mt_model.specs.Registration.Numbering.{names_only, pair_by_number, pairs_by_number}
-use Rattle.mt_roster.specs.declared.record.Record.{Record as Checked}
+use Rattle.mt_roster.specs.declared.register.Numbered.{Numbered}
+use Rattle.mt_roster.specs.declared.register.Kinds.{Kinds}
+use Rattle.mt_model.specs.Registration.Passes.{contents}
 use Rattle.mt_roster.specs.Records.{record_seen}
-use Rattle.mt_roster.specs.Numbered.{HaveSame, stays_without, number_in, pair_in, with_more}
+use Rattle.mt_roster.specs.Registers.{numbered_seen, ids_in}
+use Rattle.mt_roster.specs.Numbered.{all_seen, stays_without, number_in, pair_in, with_more}
 
 -- lists held one after another
 module _ {X : Type 0} where
@@ -110,29 +113,11 @@ pairs_by_number-none ids p rest h = by (names_only ids p) h
     by true e = cc
     by false e = refl
 
--- an id that is added, as one more of those to come
-pub add_same : (ids : List Bytes) (x : Bytes) (rest : List Bytes) (id : Bytes)
-    → (has_id (if has_id ids x then ids else ids ++ x ∷ []) id || has_id rest id) ≡ (has_id ids id || has_id (x ∷ rest) id)
-add_same ids x rest id = by (has_id ids x) refl
-  where
-    there : (b : Bool) → bytes_eq id x ≡ b → has_id ids x ≡ true → (has_id ids id || has_id rest id) ≡ (has_id ids id || (b || has_id rest id))
-    there true e h = let s : has_id ids id ≡ true = subst (λ (y : Bytes). has_id ids y ≡ true) (sym (same_id id x e)) h in rw s refl
-    there false e h = refl
-
-    apart : (a b c : Bool) → ((a || (b || false)) || c) ≡ (a || (b || c))
-    apart true b c = refl
-    apart false true c = refl
-    apart false false c = refl
-
-    by : (b : Bool) → has_id ids x ≡ b → (has_id (if b then ids else ids ++ x ∷ []) id || has_id rest id) ≡ (has_id ids id || (bytes_eq id x || has_id rest id))
-    by true h = there (bytes_eq id x) refl h
-    by false h = rw list_any-append (apart (has_id ids id) (bytes_eq id x) (has_id rest id))
-
 -- an applicant of some record is one of all of them
-pub listed_at : (records : List Checked) (i : ℕ) (r : Checked) (id : Bytes) → i < length records → r ≡ get_or records i r
-    → has_id (applicants_of (record_seen r)) id ≡ true → has_id (applicant_ids (map record_seen records)) id ≡ true
+pub listed_at : (records : List Numbered) (i : ℕ) (r : Numbered) (id : Bytes) → i < length records → r ≡ get_or records i r
+    → has_id (applicants_of (record_seen r.record)) id ≡ true → has_id (applicant_ids (all_seen records)) id ≡ true
 listed_at [] i r id h at k = absurd (omega arith)
-listed_at (x ∷ xs) zero r id h at k = rw list_any-append (or_left _ _ (subst (λ (y : Checked). has_id (applicants_of (record_seen y)) id ≡ true) at k))
+listed_at (x ∷ xs) zero r id h at k = rw list_any-append (or_left _ _ (subst (λ (y : Numbered). has_id (applicants_of (record_seen y.record)) id ≡ true) at k))
 listed_at (x ∷ xs) (suc i) r id h at k = rw list_any-append (or_right _ _ (listed_at xs i r id (omega arith) at k))
 
 -- so it has a number
@@ -153,24 +138,29 @@ filter-map f test (x ∷ xs) = by (test (f x)) (filter-map f test xs)
     by false ih = ih
 
 -- a filter by a test that is the same for each kind of record
-module _ (programs applicants couples : List Bytes) (stays : Record → Bool)
-    (at_program : (id : Bytes) (quota : ℕ) (list : List Bytes) → stays (ProgramRecord id quota list) ≡ not (has_id programs id))
-    (at_applicant : (id : Bytes) (list : List Bytes) → stays (ApplicantRecord id list) ≡ not (has_id applicants id))
-    (at_couple : (id a b : Bytes) (pairs : List IdPair) → stays (CoupleRecord id a b pairs) ≡ not (has_id couples id))
+module _ (w : Kinds) (stays : Record → Bool)
+    (at_program : (id : Bytes) (quota : ℕ) (list : List Bytes) → stays (ProgramRecord id quota list) ≡ not (has_id w.programs id))
+    (at_applicant : (id : Bytes) (list : List Bytes) → stays (ApplicantRecord id list) ≡ not (has_id w.applicants id))
+    (at_couple : (id a b : Bytes) (pairs : List IdPair) → stays (CoupleRecord id a b pairs) ≡ not (has_id w.couples id))
     (at_withdrawal : (kind : Kind) (id : Bytes) → stays (WithdrawRecord kind id) ≡ false) where
-  same_test : (r : Record) → stays_without programs applicants couples r ≡ stays r
+  same_test : (r : Record) → stays_without w r ≡ stays r
   same_test (ProgramRecord id quota list) = sym (at_program id quota list)
   same_test (ApplicantRecord id list) = sym (at_applicant id list)
   same_test (CoupleRecord id a b pairs) = sym (at_couple id a b pairs)
   same_test (WithdrawRecord kind id) = sym (at_withdrawal kind id)
 
-  pub same_filter : (rs : List Record) → filter (stays_without programs applicants couples) rs ≡ filter stays rs
+  pub same_filter : (rs : List Record) → filter (stays_without w) rs ≡ filter stays rs
   same_filter [] = refl
   same_filter (r ∷ rs) = rw (same_test r, same_filter rs) refl
 
--- what stays, by ids that are those withdrawn
-pub filter-remaining : (rs : List Record) (programs applicants couples : List Bytes)
-    → HaveSame programs (withdrawn OfProgram rs) → HaveSame applicants (withdrawn OfApplicant rs) → HaveSame couples (withdrawn OfCouple rs)
-    → filter (stays_without programs applicants couples) rs ≡ remaining rs
-filter-remaining rs programs applicants couples p a c =
-    same_filter programs applicants couples _ (λ id quota list. ap not (sym (p id))) (λ id list. ap not (sym (a id))) (λ id x y pairs. ap not (sym (c id))) (λ kind id. refl) rs
+-- what stays, by the ids that are withdrawn
+pub filter-remaining : (rs : List Record) (w : Kinds) → ((kind : Kind) → ids_in w kind ≡ withdrawn kind rs) → filter (stays_without w) rs ≡ remaining rs
+filter-remaining rs w same =
+    let has = λ (id : Bytes) (ids : List Bytes). not (has_id ids id) in
+    same_filter w _ (λ id quota list. ap (has id) (sym (same OfProgram))) (λ id list. ap (has id) (sym (same OfApplicant))) (λ id a b pairs. ap (has id) (sym (same OfCouple)))
+    (λ kind id. refl) rs
+
+-- the records with their numbers taken off, in two steps
+pub contents-all_seen : (records : List Numbered) → contents (map numbered_seen records) ≡ all_seen records
+contents-all_seen [] = refl
+contents-all_seen (r ∷ rs) = ap (λ (xs : List Record). record_seen r.record ∷ xs) (contents-all_seen rs)

@@ -1,21 +1,24 @@
 -- What each table of a roster has from each record, by the ids of programs and of applicants.
-use Rattle.std.specs.Prelude.{◌≡◌, ℕ, Bool, false, not, List, [], ◌∷◌, map, fold, Option, Some, None, option_map, if◌then◌else◌}
+use Rattle.std.specs.Prelude.{ℕ, Bool, false, not, List, [], ◌∷◌, map, fold, Option, Some, None, option_map, if◌then◌else◌}
 use Rattle.mt_model.specs.FlatLists.{with_last}
 use Rattle.mt_model.specs.Market.{Pair, Partners, Registered}
 use Rattle.mt_model.specs.Registration.Ids.{Bytes, has_id, number_of, numbers_of}
 use Rattle.mt_model.specs.Registration.Records.{Record, ProgramRecord, ApplicantRecord, CoupleRecord, WithdrawRecord, IdPair}
 use Rattle.mt_model.specs.Registration.Numbering.{is_none_or_in, names_only, pair_by_number, pairs_by_number, names_of, market_by}
+use Rattle.mt_roster.specs.declared.register.Numbered as declared
+use Rattle.mt_roster.specs.declared.register.Kinds.{Kinds}
+use Rattle.mt_roster.specs.Records.{record_seen}
 
--- two lists have the same ids
-abbrev pub HaveSame : List Bytes → List Bytes → Type 0
-HaveSame xs ys = (id : Bytes) → has_id xs id ≡ has_id ys id
+-- records without their numbers in the file, as those of the definition
+abbrev pub all_seen : List declared.Numbered → List Record
+all_seen records = map (λ (n : declared.Numbered). record_seen n.record) records
 
--- whether a record stays where these ids of programs, of applicants and of couples are withdrawn
-abbrev pub stays_without : List Bytes → List Bytes → List Bytes → Record → Bool
-stays_without programs applicants couples (ProgramRecord id quota list) = not (has_id programs id)
-stays_without programs applicants couples (ApplicantRecord id list) = not (has_id applicants id)
-stays_without programs applicants couples (CoupleRecord id a b pairs) = not (has_id couples id)
-stays_without programs applicants couples (WithdrawRecord kind id) = false
+-- whether a record stays where these ids are withdrawn
+abbrev pub stays_without : Kinds → Record → Bool
+stays_without withdrawn (ProgramRecord id quota list) = not (has_id withdrawn.programs id)
+stays_without withdrawn (ApplicantRecord id list) = not (has_id withdrawn.applicants id)
+stays_without withdrawn (CoupleRecord id a b pairs) = not (has_id withdrawn.couples id)
+stays_without withdrawn (WithdrawRecord kind id) = false
 
 -- the number of an id among these, if it is one of them
 abbrev pub number_in : List Bytes → Bytes → Option ℕ

@@ -6,101 +6,48 @@ ghost use Rattle.mt_model.specs.Lists.{below};
 ghost use Rattle.mt_model.specs.Market.{agent_from};
 ghost use Rattle.mt_model.specs.Registration.Ids.{all_differ, numbers_of};
 ghost use Rattle.mt_model.specs.Registration.Records.{OfProgram};
-ghost use Rattle.mt_model.specs.Registration.Rows.{own_id, ids_of, applicant_ids, withdrawn_id, withdrawn, remaining};
+ghost use Rattle.mt_model.specs.Registration.Rows.{own_id, ids_of, applicant_ids};
 ghost use Rattle.mt_model.specs.Registration.Numbering.{pairs_by_number, registered};
 ghost use Rattle.mt_model.specs.Laws.Registration.{IsRegistration};
 ghost use Rattle.mt_roster.specs.Records.{kind_seen, record_seen};
-ghost use Rattle.mt_roster.specs.Numbered.{HaveSame, stays_without, number_in, place_in, pair_in, with_more, quota_in, ranking_in, lists_by, members_in, pairs_in, bare_couples, registered_by_all};
+ghost use Rattle.mt_roster.specs.Registers.{contents_seen, IsRegister};
+ghost use Rattle.mt_roster.specs.Numbered.{all_seen, stays_without, number_in, place_in, pair_in, with_more, quota_in, ranking_in, lists_by, members_in, pairs_in, bare_couples, registered_by_all};
 
 use crate::fields::{Ids, Pairs};
 use crate::id_table::IdTable;
 use crate::record::{Kind, Record};
+use crate::register::{Kinds, Numbered, Register};
 use crate::tables::Roster;
 use mt_model::{Agent, AppNo, CoupleNo, FlatLists, ProgNo};
 use std::alloc::{AllocError, Global};
 
-/// The id that a record withdraws under a kind, if it does.
-fn withdrawn_id<'a>(kind: Kind, one: &Record<'a>) -> Option<&'a [u8]>
-    ensures { option_copied result ≡ withdrawn_id (kind_seen kind) (record_seen one.now) }
-{
-    let Record::Withdraw { kind: of, id } = one else {
-        return None;
-    };
-    match (kind, *of) {
-        (Kind::Program, Kind::Program)
-        | (Kind::Applicant, Kind::Applicant)
-        | (Kind::Couple, Kind::Couple) => Some(*id),
-        _ => None,
-    }
-}
-
-/// The ids of the withdrawn rows of a kind.
-fn withdrawn_ids<'a>(
-    alloc: Global,
-    kind: Kind,
-    records: &[Record<'a>],
-) -> Result<IdTable<'a>, AllocError>
-    ensures { IfOk result (λ ids. HaveSame ids (withdrawn (kind_seen kind) (map record_seen records.now))) }
-{
-    let mut ids = IdTable::new(alloc);
-    for record in records {
-        if let Some(id) = withdrawn_id(kind, record) {
-            ids.add(id)?;
-        }
-    }
-    Ok(ids)
-}
-
-/// Whether a record stays where these ids of programs, of applicants and of couples are withdrawn.
-fn stays(
-    programs: &IdTable<'_>,
-    applicants: &IdTable<'_>,
-    couples: &IdTable<'_>,
-    one: &Record<'_>,
-) -> bool
-    ensures { result ≡ stays_without programs.now applicants.now couples.now (record_seen one.now) }
+/// Whether a record stays where these ids are withdrawn. A withdrawal itself doesn't.
+fn stays(withdrawn: &Kinds<'_>, one: &Record<'_>) -> bool
+    ensures { result ≡ stays_without withdrawn.now (record_seen one.now) }
 {
     match one {
-        Record::Program { id, .. } => !programs.contains(*id),
-        Record::Applicant { id, .. } => !applicants.contains(*id),
-        Record::Couple { id, .. } => !couples.contains(*id),
+        Record::Program { id, .. } => !withdrawn.programs.contains(*id),
+        Record::Applicant { id, .. } => !withdrawn.applicants.contains(*id),
+        Record::Couple { id, .. } => !withdrawn.couples.contains(*id),
         Record::Withdraw { .. } => false,
     }
 }
 
-/// Drops the records that are withdrawn, where these ids of programs, of applicants and of couples are, and the
-/// withdrawals themselves.
-fn retain(
-    records: &mut Vec<Record<'_>>,
-    programs: &IdTable<'_>,
-    applicants: &IdTable<'_>,
-    couples: &IdTable<'_>,
-)
-    ensures { map record_seen records.new.items
-        ≡ filter (stays_without programs.now applicants.now couples.now) (map record_seen records.old.items) }
+/// Leaves the records that stay where these ids are withdrawn.
+fn retain(records: &mut Vec<Numbered<'_>>, withdrawn: &Kinds<'_>)
+    ensures { all_seen records.new.items ≡ filter (stays_without withdrawn.now) (all_seen records.old.items) }
 {
-    records.retain(|record| stays(programs, applicants, couples, record));
-}
-
-/// The records that stay: neither withdrawals, nor withdrawn by one.
-fn remaining<'a>(alloc: Global, mut records: Vec<Record<'a>>) -> Result<Vec<Record<'a>>, AllocError>
-    ensures { IfOk result (λ left. map record_seen left.items ≡ remaining (map record_seen records.entry.items)) }
-{
-    let programs = withdrawn_ids(alloc, Kind::Program, &records)?;
-    let applicants = withdrawn_ids(alloc, Kind::Applicant, &records)?;
-    let couples = withdrawn_ids(alloc, Kind::Couple, &records)?;
-    retain(&mut records, &programs, &applicants, &couples);
-    Ok(records)
+    records.retain(|numbered| stays(withdrawn, &numbered.record));
 }
 
 /// The programs' ids, in order of registration.
-fn program_table<'a>(alloc: Global, records: &[Record<'a>]) -> Result<IdTable<'a>, AllocError>
-    requires { all_differ bytes_eq (ids_of OfProgram (map record_seen records.now)) ≡ true }
-    ensures { IfOk result (λ ids. ids ≡ ids_of OfProgram (map record_seen records.now)) }
+fn program_table<'a>(alloc: Global, records: &[Numbered<'a>]) -> Result<IdTable<'a>, AllocError>
+    requires { all_differ bytes_eq (ids_of OfProgram (all_seen records.now)) ≡ true }
+    ensures { IfOk result (λ ids. ids ≡ ids_of OfProgram (all_seen records.now)) }
 {
     let mut ids = IdTable::new(alloc);
-    for record in records {
-        if let Record::Program { id, .. } = record {
+    for numbered in records {
+        if let Record::Program { id, .. } = &numbered.record {
             ids.add(*id)?;
         }
     }
@@ -108,13 +55,13 @@ fn program_table<'a>(alloc: Global, records: &[Record<'a>]) -> Result<IdTable<'a
 }
 
 /// The applicants' ids, in order of registration: a couple registers its first and then its second member.
-fn applicant_table<'a>(alloc: Global, records: &[Record<'a>]) -> Result<IdTable<'a>, AllocError>
-    requires { all_differ bytes_eq (applicant_ids (map record_seen records.now)) ≡ true }
-    ensures { IfOk result (λ ids. ids ≡ applicant_ids (map record_seen records.now)) }
+fn applicant_table<'a>(alloc: Global, records: &[Numbered<'a>]) -> Result<IdTable<'a>, AllocError>
+    requires { all_differ bytes_eq (applicant_ids (all_seen records.now)) ≡ true }
+    ensures { IfOk result (λ ids. ids ≡ applicant_ids (all_seen records.now)) }
 {
     let mut ids = IdTable::new(alloc);
-    for record in records {
-        match record {
+    for numbered in records {
+        match &numbered.record {
             Record::Applicant { id, .. } => {
                 ids.add(*id)?;
             }
@@ -155,13 +102,13 @@ fn own_id<'a>(kind: Kind, one: &Record<'a>) -> Option<&'a [u8]>
 fn names_of_kind(
     alloc: Global,
     kind: Kind,
-    records: &[Record<'_>],
+    records: &[Numbered<'_>],
 ) -> Result<FlatLists<u8>, AllocError>
-    ensures { IfOk result (λ names. names ≡ ids_of (kind_seen kind) (map record_seen records.now)) }
+    ensures { IfOk result (λ names. names ≡ ids_of (kind_seen kind) (all_seen records.now)) }
 {
     let mut names = FlatLists::new(alloc);
-    for record in records {
-        if let Some(id) = own_id(kind, record) {
+    for numbered in records {
+        if let Some(id) = own_id(kind, &numbered.record) {
             add_name(&mut names, id)?;
         }
     }
@@ -169,12 +116,12 @@ fn names_of_kind(
 }
 
 /// The ids of the applicants, in order.
-fn applicant_names(alloc: Global, records: &[Record<'_>]) -> Result<FlatLists<u8>, AllocError>
-    ensures { IfOk result (λ names. names ≡ applicant_ids (map record_seen records.now)) }
+fn applicant_names(alloc: Global, records: &[Numbered<'_>]) -> Result<FlatLists<u8>, AllocError>
+    ensures { IfOk result (λ names. names ≡ applicant_ids (all_seen records.now)) }
 {
     let mut names = FlatLists::new(alloc);
-    for record in records {
-        match record {
+    for numbered in records {
+        match &numbered.record {
             Record::Applicant { id, .. } => add_name(&mut names, *id)?,
             Record::Couple { first, second, .. } => {
                 add_name(&mut names, *first)?;
@@ -187,12 +134,12 @@ fn applicant_names(alloc: Global, records: &[Record<'_>]) -> Result<FlatLists<u8
 }
 
 /// The programs' quotas.
-fn quotas(alloc: Global, records: &[Record<'_>]) -> Result<Vec<u32>, AllocError>
-    ensures { IfOk result (λ quotas. quotas.items ≡ filter_map quota_in (map record_seen records.now)) }
+fn quotas(alloc: Global, records: &[Numbered<'_>]) -> Result<Vec<u32>, AllocError>
+    ensures { IfOk result (λ quotas. quotas.items ≡ filter_map quota_in (all_seen records.now)) }
 {
     let mut quotas = Vec::new(alloc);
-    for record in records {
-        if let Record::Program { quota, .. } = record {
+    for numbered in records {
+        if let Record::Program { quota, .. } = &numbered.record {
             quotas.push(*quota)?;
         }
     }
@@ -230,14 +177,14 @@ fn push_applicants(
 fn rankings(
     alloc: Global,
     applicants: &IdTable<'_>,
-    records: &[Record<'_>],
+    records: &[Numbered<'_>],
 ) -> Result<FlatLists<AppNo>, AllocError>
     requires { length applicants.now < 2 ^ 32 }
-    ensures { IfOk result (λ lists. lists ≡ filter_map (ranking_in applicants.now) (map record_seen records.now)) }
+    ensures { IfOk result (λ lists. lists ≡ filter_map (ranking_in applicants.now) (all_seen records.now)) }
 {
     let mut lists = FlatLists::new(alloc);
-    for record in records {
-        if let Record::Program { list, .. } = record {
+    for numbered in records {
+        if let Record::Program { list, .. } = &numbered.record {
             lists.begin()?;
             push_applicants(&mut lists, applicants, list)?;
         }
@@ -267,14 +214,14 @@ fn push_programs(
 fn lists(
     alloc: Global,
     programs: &IdTable<'_>,
-    records: &[Record<'_>],
+    records: &[Numbered<'_>],
 ) -> Result<FlatLists<ProgNo>, AllocError>
     requires { length programs.now < 2 ^ 32 }
-    ensures { IfOk result (λ lists. lists ≡ flat_map (lists_by programs.now) (map record_seen records.now)) }
+    ensures { IfOk result (λ lists. lists ≡ flat_map (lists_by programs.now) (all_seen records.now)) }
 {
     let mut lists = FlatLists::new(alloc);
-    for record in records {
-        match record {
+    for numbered in records {
+        match &numbered.record {
             Record::Applicant { list, .. } => {
                 lists.begin()?;
                 push_programs(&mut lists, programs, list)?;
@@ -293,15 +240,15 @@ fn lists(
 fn members(
     alloc: Global,
     applicants: &IdTable<'_>,
-    records: &[Record<'_>],
+    records: &[Numbered<'_>],
 ) -> Result<Vec<(AppNo, AppNo)>, AllocError>
     requires few { length applicants.now < 2 ^ 32 }
-    requires all { applicants.now ≡ applicant_ids (map record_seen records.now) }
-    ensures { IfOk result (λ members. members.items ≡ filter_map (members_in applicants.now) (map record_seen records.now)) }
+    requires all { applicants.now ≡ applicant_ids (all_seen records.now) }
+    ensures { IfOk result (λ members. members.items ≡ filter_map (members_in applicants.now) (all_seen records.now)) }
 {
     let mut members = Vec::new(alloc);
-    for record in records {
-        if let Record::Couple { first, second, .. } = record {
+    for numbered in records {
+        if let Record::Couple { first, second, .. } = &numbered.record {
             let first = number(applicants, *first).unwrap();
             let second = number(applicants, *second).unwrap();
             members.push((AppNo(first), AppNo(second)))?;
@@ -359,14 +306,14 @@ fn push_pairs(
 fn pairs(
     alloc: Global,
     programs: &IdTable<'_>,
-    records: &[Record<'_>],
+    records: &[Numbered<'_>],
 ) -> Result<FlatLists<(Option<ProgNo>, Option<ProgNo>)>, AllocError>
     requires { length programs.now < 2 ^ 32 }
-    ensures { IfOk result (λ lists. lists ≡ filter_map (pairs_in programs.now) (map record_seen records.now)) }
+    ensures { IfOk result (λ lists. lists ≡ filter_map (pairs_in programs.now) (all_seen records.now)) }
 {
     let mut lists = FlatLists::new(alloc);
-    for record in records {
-        if let Record::Couple { pairs, .. } = record {
+    for numbered in records {
+        if let Record::Couple { pairs, .. } = &numbered.record {
             lists.begin()?;
             push_pairs(&mut lists, programs, pairs)?;
         }
@@ -413,9 +360,9 @@ fn agents(alloc: Global, count: usize, members: &[(AppNo, AppNo)]) -> Result<Vec
 }
 
 /// The market of records none of which is withdrawn.
-fn tables(alloc: Global, records: &[Record<'_>]) -> Result<Roster, AllocError>
-    requires { IsRegistration (registered_by_all (map record_seen records.now)) }
-    ensures { IfOk result (λ roster. roster ≡ registered_by_all (map record_seen records.now)) }
+fn tables(alloc: Global, records: &[Numbered<'_>]) -> Result<Roster, AllocError>
+    requires { IsRegistration (registered_by_all (all_seen records.now)) }
+    ensures { IfOk result (λ roster. roster ≡ registered_by_all (all_seen records.now)) }
 {
     let programs = program_table(alloc, records)?;
     let applicants = applicant_table(alloc, records)?;
@@ -433,11 +380,17 @@ fn tables(alloc: Global, records: &[Record<'_>]) -> Result<Roster, AllocError>
     })
 }
 
-/// The market of records without a fault, after their withdrawals.
-pub(crate) fn register(alloc: Global, records: Vec<Record<'_>>) -> Result<Roster, AllocError>
-    requires { IsRegistration (registered (map record_seen records.items)) }
-    ensures { IfOk result (λ roster. roster ≡ registered (map record_seen records.entry.items)) }
+/// The market of the records that were read, after their withdrawals, where they have no fault.
+pub(crate) fn roster_of(alloc: Global, read: Register<'_>) -> Result<Roster, AllocError>
+    requires read { IsRegister read }
+    requires accepted { IsRegistration (registered (contents_seen read)) }
+    ensures { IfOk result (λ roster. roster ≡ registered (contents_seen read.entry)) }
 {
-    let left = remaining(alloc, records)?;
-    tables(alloc, &left)
+    let Register {
+        mut records,
+        withdrawn,
+        ..
+    } = read;
+    retain(&mut records, &withdrawn);
+    tables(alloc, &records)
 }

@@ -3,5 +3,5 @@ use Rattle.std.proofs.lemmas.Grind.{common_steps}
 use Rattle.mt_roster.proofs.NumberingSteps.{add_keeps}
 use Rattle.mt_roster.proofs.numbering.applicant_table.Goals as goal
 
-pub loop-record-preserved : goal.loop-record-preserved
-loop-record-preserved c = grind (arith, common_steps, add_keeps)
+pub loop-numbered-preserved : goal.loop-numbered-preserved
+loop-numbered-preserved c = grind (arith, common_steps, add_keeps)

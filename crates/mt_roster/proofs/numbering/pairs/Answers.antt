@@ -5,5 +5,5 @@ use Rattle.mt_roster.proofs.NumberingSteps.{begun_step}
 use Rattle.mt_roster.proofs.numbering.pairs.Goals.{in-Couple+in_ok-begin+in_ok-push_pairs, in_default}
 use Rattle.mt_roster.proofs.numbering.pairs.Goals as goal
 
-pub loop-record-preserved : goal.loop-record-preserved
-loop-record-preserved c = elim c.match-record.branch [ in-Couple+in_ok-begin+in_ok-push_pairs w ↦ grind (arith, drop_more, begun_step) | in_default w ↦ grind (arith, common_steps) ]
+pub loop-numbered-preserved : goal.loop-numbered-preserved
+loop-numbered-preserved c = elim c.match-numbered.branch [ in-Couple+in_ok-begin+in_ok-push_pairs w ↦ grind (arith, drop_more, begun_step) | in_default w ↦ grind (arith, common_steps) ]

@@ -5,5 +5,5 @@ use Rattle.mt_roster.proofs.NumberingSteps.{begun_step}
 use Rattle.mt_roster.proofs.numbering.rankings.Goals.{in-Program+in_ok-begin+in_ok-push_applicants, in_default}
 use Rattle.mt_roster.proofs.numbering.rankings.Goals as goal
 
-pub loop-record-preserved : goal.loop-record-preserved
-loop-record-preserved c = elim c.match-record.branch [ in-Program+in_ok-begin+in_ok-push_applicants w ↦ grind (arith, drop_more, begun_step) | in_default w ↦ grind (arith, common_steps) ]
+pub loop-numbered-preserved : goal.loop-numbered-preserved
+loop-numbered-preserved c = elim c.match-numbered.branch [ in-Program+in_ok-begin+in_ok-push_applicants w ↦ grind (arith, drop_more, begun_step) | in_default w ↦ grind (arith, common_steps) ]
