@@ -8,3 +8,4 @@ pub mod NumberingTables
 pub mod CountFacts
 pub mod RegisterFacts
 pub mod PassFacts
+pub mod UnknownFacts

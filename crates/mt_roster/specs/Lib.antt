@@ -6,3 +6,4 @@ pub mod Refusals
 pub mod Numbered
 pub mod Registers
 pub mod Passes
+pub mod Unknown

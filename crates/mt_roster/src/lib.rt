@@ -11,6 +11,8 @@ mod refusal;
 mod register;
 mod repeats;
 mod rules;
+mod second_pass;
 mod tables;
+mod unknown;
 
 pub use tables::Roster;
