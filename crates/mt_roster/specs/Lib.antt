@@ -7,3 +7,5 @@ pub mod Numbered
 pub mod Registers
 pub mod Passes
 pub mod Unknown
+pub mod Faults
+pub mod Read

@@ -1,0 +1,3 @@
+-- A value as itself.
+abbrev pub same : {X : Type 0} → X → X
+same x = x
