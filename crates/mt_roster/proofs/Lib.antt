@@ -9,3 +9,4 @@ pub mod CountFacts
 pub mod RegisterFacts
 pub mod PassFacts
 pub mod UnknownFacts
+pub mod ReadFacts

@@ -135,7 +135,7 @@ take_row rows i n h e = ap (numbered_from n) (drop_more rows i [] h) ∙ by (get
     by [] k = absurd (k refl)
     by (word ∷ fields) k = refl
 
-row_is : (rows : List (List Bytes)) (i : ℕ) (d : List Bytes) → i < length rows → d ≡ get_or rows i d → (length d ≡ 0 → ⊥)
+pub row_is : (rows : List (List Bytes)) (i : ℕ) (d : List Bytes) → i < length rows → d ≡ get_or rows i d → (length d ≡ 0 → ⊥)
     → numbered_from (i + 1) (drop i rows) ≡ (i + 1, d) ∷ numbered_from (i + 1 + 1) (drop (i + 1) rows)
 row_is rows i d h at n =
     let e : get_or rows i [] ≡ d = get_or_default rows i [] d h ∙ sym at in

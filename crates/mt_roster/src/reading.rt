@@ -3,7 +3,7 @@ ghost use Rattle.mt_model.specs.Registration.{market_of};
 ghost use Rattle.mt_model.specs.Registration.Passes.{numbered_from};
 ghost use Rattle.mt_roster.specs.Faults.{Tells};
 ghost use Rattle.mt_roster.specs.Refusals.{Gives};
-ghost use Rattle.mt_roster.specs.Read.{same};
+ghost use Rattle.mt_roster.specs.Read.{NamesNoVersion, same};
 
 use std::alloc::Global;
 
@@ -32,7 +32,9 @@ fn blank_rows(rows: &[Row]) -> usize
 }
 
 /// A refusal because no version is named, at this record.
-fn no_version<'a>(row: u64) -> Refusal<'a> {
+fn no_version<'a>(row: u64) -> Refusal<'a>
+    ensures { NamesNoVersion result row }
+{
     Refusal::Fault(Fault {
         code: NO_VERSION,
         row,
@@ -45,10 +47,10 @@ fn read(alloc: Global, rows: &[Row]) -> Result<Roster, Refusal<'_>>
     ensures { Gives same result (market_of rows.now) }
 {
     let blanks = blank_rows(rows);
-    let Some(first) = rows.get(blanks) else {
+    if blanks == rows.len() {
         return Err(no_version(0));
-    };
-    let Some(rules) = rules_of(first) else {
+    }
+    let Some(rules) = rules_of(&rows[blanks]) else {
         return Err(no_version(blanks as u64 + 1));
     };
     let register = first_pass(alloc, &rules, rows, blanks + 1)?;
@@ -64,5 +66,8 @@ pub fn roster(alloc: Global, rows: &[Row]) -> Result<Roster, RosterError>
     ensures market { IfOk result (λ roster. market_of rows.now ≡ Ok roster) }
     ensures fault { IfErr result (λ error. Tells error (market_of rows.now)) }
 {
-    read(alloc, rows).map_err(|refusal| error_of(&refusal))
+    match read(alloc, rows) {
+        Ok(roster) => Ok(roster),
+        Err(refusal) => Err(error_of(&refusal)),
+    }
 }
