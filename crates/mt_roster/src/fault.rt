@@ -1,9 +1,8 @@
 ghost use Rattle.std.specs.Prelude.{◌≡◌, ◌≤◌, length, IfSome};
 ghost use Rattle.mt_roster.specs.Faults.{IsErrorOf};
 
-use std::marker::Model;
-
 use crate::refusal::{Fault, Refusal};
+use std::marker::Model;
 
 /// An id, or no byte where there is none. It has 64 bytes at most.
 #[derive(Debug, Drop)]

@@ -12,7 +12,6 @@ mod record;
 mod refusal;
 mod register;
 mod repeats;
-
 mod rules;
 mod second_pass;
 mod tables;

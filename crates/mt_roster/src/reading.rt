@@ -5,16 +5,14 @@ ghost use Rattle.mt_roster.specs.Faults.{Tells};
 ghost use Rattle.mt_roster.specs.Refusals.{Gives};
 ghost use Rattle.mt_roster.specs.Read.{NamesNoVersion, same};
 
-use std::alloc::Global;
-
-use mt_lists::Row;
-
 use crate::fault::{RosterError, error_of};
 use crate::first_pass::first_pass;
 use crate::numbering::roster_of;
 use crate::refusal::{Fault, Refusal};
 use crate::rules::rules_of;
 use crate::tables::Roster;
+use mt_lists::Row;
+use std::alloc::Global;
 
 const NO_VERSION: u16 = 12;
 

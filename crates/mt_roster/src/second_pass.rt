@@ -36,7 +36,10 @@ impl<'a> Register<'a> {
                 charge_of(UNKNOWN_APPLICANT, first_unknown(&self.applicants, list))
             }
             Record::Applicant { list, .. } => {
-                charge_of(UNKNOWN_PROGRAM, first_unknown(&self.registered.programs, list))
+                charge_of(
+                    UNKNOWN_PROGRAM,
+                    first_unknown(&self.registered.programs, list),
+                )
             }
             Record::Couple { pairs, .. } => charge_of(
                 UNKNOWN_PROGRAM,
