@@ -97,4 +97,20 @@ impl<T> FlatLists<T> {
         self.ends[last] = self.items.len();
         Ok(())
     }
+
+    /// Adds a list with these elements at the end.
+    pub fn push_list(&mut self, list: &[T]) -> Result<(), AllocError>
+    where
+        T: Copy,
+        ensures ok { OnOk result (self.new ≡ self.old ++ list.now ∷ []) }
+        ensures err { OnErr result (self.new ≡ self.old) }
+    {
+        let start = self.items.len();
+        self.items.extend_from_slice(list)?;
+        if let Err(failed) = self.ends.push(self.items.len()) {
+            self.items.truncate(start);
+            return Err(failed.into());
+        }
+        Ok(())
+    }
 }

@@ -1,0 +1,5 @@
+pub mod Entries
+pub mod Ranked
+pub mod Rows
+pub mod RowsView
+pub mod View

@@ -1,0 +1,63 @@
+-- A market as rank tables show it: its live market, and which of its applicants are singles.
+use Rattle.std.specs.Prelude.{◌≡◌, ℕ, ◌+◌, ◌<◌, ◌≤◌, ◌^◌, Bool, true, false, ◌==◌, List, [], map, length, Option, Some, unwrap_or, IsTrue, slice_index, slice_index_or}
+use Rattle.std.specs.List.{position}
+use Rattle.mt_model.specs.Lists.{has, below, total_below}
+use Rattle.mt_model.specs.Market.{Market, applicants, program_of, list_of, live, live_market, agent_of}
+use Rattle.mt_model.specs.WellFormed.{IsWellFormed}
+use Rattle.mt_model.specs.declared.numbers.Agent.{Agent}
+use Rattle.mt_model.specs.declared.numbers.Agent.TheVariants.{Single, Couple}
+use Rattle.mt_ranks.specs.declared.entries.Live.{Live}
+
+-- whether an agent is a single
+abbrev pub is_single_agent : Agent → Bool
+is_single_agent (Single a) = true
+is_single_agent (Couple c) = false
+
+-- whether an applicant is a single, and no member of a couple
+abbrev pub is_single : Market → ℕ → Bool
+is_single m a = is_single_agent (agent_of m a)
+
+-- a market of singles, and for each applicant whether it is a single
+pub record Ranked : Type 0 where
+  pub market : Market
+  pub singles : List Bool
+
+-- the rank tables of a market: the singles' market with live lists alone, and who is a single in the market
+abbrev pub ranked_of : Market → Ranked
+ranked_of m = record { market = live_market m; singles = map (is_single m) (below (applicants m)) }
+
+-- an applicant's rank on a program's list: its position from 0, where the list has it
+abbrev pub rank_of : Market → ℕ → ℕ → Option ℕ
+rank_of m p a = position (λ x. x == a) (program_of m p).ranking
+
+-- a program that has the applicant on its list, with the applicant's rank there
+abbrev pub ranked_entry : Market → ℕ → ℕ → Live
+ranked_entry m a p = record { program = p; rank = unwrap_or (rank_of m p a) 0 }
+
+-- a number is the applicant's rank on a list: the first place where it stands
+pub record IsRank (ranking : List ℕ) (a rank : ℕ) : Type 0 where
+  pub found : position (λ x. x == a) ranking ≡ Some rank
+  pub within : rank < length ranking
+  pub stands : slice_index ranking rank ≡ a
+
+-- an entry of an applicant's live list names a program that lists the applicant, and its rank there
+pub record IsEntry (m : Market) (a : ℕ) (entry : Live) : Type 0 where
+  pub program : entry.program < length m.programs
+  pub rank : IsRank (program_of m entry.program).ranking a entry.rank
+
+-- how many entries the lists of all applicants and of all programs have together
+abbrev pub entry_count : Market → ℕ
+entry_count m = total_below (λ a. length (list_of m a)) (applicants m) + total_below (λ p. length (program_of m p).ranking) (length m.programs)
+
+-- What all rank tables have: a well-formed market without couples, whose lists are live, a flag for each
+-- applicant, no list for who isn't a single, and no more of anything than an input may have.
+pub record IsRanked (r : Ranked) : Type 0 where
+  pub well_formed : IsWellFormed r.market
+  pub no_couples : r.market.couples ≡ []
+  pub all_live : (a : ℕ) → live r.market a ≡ list_of r.market a
+  pub all_ranked : (a p : ℕ) → IsTrue (has (list_of r.market a) p) → IsEntry r.market a (ranked_entry r.market a p)
+  pub flags : length r.singles ≡ applicants r.market
+  pub member_lists : (a : ℕ) → slice_index_or r.singles a false ≡ false → list_of r.market a ≡ []
+  pub few_applicants : applicants r.market ≤ 100000
+  pub few_programs : length r.market.programs ≤ 20000
+  pub few_entries : entry_count r.market < 2 ^ 32

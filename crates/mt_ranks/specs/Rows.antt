@@ -1,0 +1,53 @@
+-- Lists that grow side by side, each within the room that it was given.
+use Rattle.std.specs.Prelude.{ℕ, ◌+◌, ◌-◌, ◌≤◌, List, [], ◌∷◌, ◌++◌, length, replicate, slice_range, slice_index, slice_index_or, slice_set}
+use Rattle.mt_ranks.specs.declared.entries.Live.{Live}
+
+-- the lists, and how long each may become
+pub record Filling : Type 0 where
+  pub lists : List (List Live)
+  pub sizes : List ℕ
+
+-- empty lists of these sizes
+abbrev pub empty_rows : List ℕ → Filling
+empty_rows sizes = record { lists = replicate (length sizes) []; sizes = sizes }
+
+-- a row
+abbrev pub row_of : Filling → ℕ → List Live
+row_of f k = slice_index_or f.lists k []
+
+-- whether a row has room for so many more
+abbrev pub HasRoom : Filling → ℕ → ℕ → Type 0
+HasRoom f k n = length (row_of f k) + n ≤ slice_index f.sizes k
+
+-- with one element more at the end of a row
+abbrev pub with_entry : Filling → ℕ → Live → Filling
+with_entry f k x = record f { lists = slice_set f.lists k (row_of f k ++ x ∷ []) }
+
+-- Below, the rows begin at one list of places and end at another.
+-- the parts of a list between these places
+abbrev pub parts : {X : Type 0} → List ℕ → List ℕ → List X → List (List X)
+parts [] ends xs = []
+parts (s ∷ starts) [] xs = []
+parts (s ∷ starts) (e ∷ ends) xs = slice_range xs s e ∷ parts starts ends xs
+
+-- where the first of them begins, or else the end
+abbrev pub next_start : List ℕ → ℕ → ℕ
+next_start [] size = size
+next_start (s ∷ starts) size = s
+
+-- how long each part may become: as far as to where the next one begins
+abbrev pub sizes_between : List ℕ → ℕ → List ℕ
+sizes_between [] size = []
+sizes_between (s ∷ starts) size = (next_start starts size - s) ∷ sizes_between starts size
+
+-- each part ends before the next one begins
+abbrev pub ArePartsOf : ℕ → List ℕ → List ℕ → Type 0
+ArePartsOf size [] [] = Unit {0}
+ArePartsOf size [] (e ∷ ends) = ⊥
+ArePartsOf size (s ∷ starts) [] = ⊥
+ArePartsOf size (s ∷ starts) (e ∷ ends) = (s ≤ e) × (e ≤ next_start starts size) × ArePartsOf size starts ends
+
+-- where parts of these sizes begin, the first at a place
+abbrev pub starts_from : ℕ → List ℕ → List ℕ
+starts_from at [] = []
+starts_from at (size ∷ sizes) = at ∷ starts_from (at + size) sizes

@@ -1,0 +1,11 @@
+//! Rank tables of a residency match: for each applicant its live list, and for each program the rank of
+//! every applicant that it lists.
+#![tactic(auto)]
+
+mod entries;
+mod rows;
+mod tables;
+mod transpose;
+
+pub use entries::Live;
+pub use tables::Ranks;

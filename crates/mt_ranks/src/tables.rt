@@ -1,0 +1,183 @@
+ghost use Rattle.std.specs.Prelude.{◌≡◌, ℕ, ◌<◌, ◌==◌, false, [], All, length, map, is_some, slice_index_or, IfOk, IfSome};
+ghost use Rattle.std.specs.List.{position};
+ghost use Rattle.mt_model.specs.Lists.{has, below};
+ghost use Rattle.mt_model.specs.Market.{Program, applicants, program_of, list_of};
+ghost use Rattle.mt_ranks.specs.Entries.{AscendFrom, entries_among};
+ghost use Rattle.mt_ranks.specs.Ranked.{IsRank, IsEntry, IsRanked, ranked_of, ranked_entry, is_single, is_single_agent};
+ghost use Rattle.mt_ranks.specs.Rows.{row_of};
+
+use crate::entries::{Live, push_live, rank_at};
+use crate::rows::Rows;
+use crate::transpose::transpose;
+use mt_model::{Agent, AppNo, FlatLists, ProgNo};
+use mt_roster::Roster;
+use std::alloc::{AllocError, Global};
+use std::marker::Model;
+
+/// The rank tables of a market: live lists with ranks, the programs' lists, and every rank on them. They show
+/// the singles' market with live lists alone, and who is a single.
+#[derive(Debug, Drop)]
+pub struct Ranks {
+    quotas: Vec<u32>,
+    rankings: FlatLists<AppNo>,
+    rows: Rows,
+    lists: FlatLists<Live>,
+    singles: Vec<bool>,
+}
+
+impl Model for Ranks {
+    ghost use Rattle.mt_ranks.specs.Ranked.{Ranked};
+
+    ghost Value = { Ranked };
+
+    ghost use Rattle.mt_ranks.specs.View.{ranked_in, AreTables};
+
+    ghost view = { ranked_in };
+
+    ghost invariant = { AreTables };
+}
+
+/// The programs' quotas.
+fn quotas(alloc: Global, roster: &Roster) -> Result<Vec<u32>, AllocError>
+    ensures { IfOk result (λ v. v.items ≡ map Program.quota roster.now.market.programs) }
+{
+    let mut quotas = Vec::with_capacity(alloc, roster.programs() as usize)?;
+    for program in 0..roster.programs() {
+        quotas.push(roster.quota(ProgNo(program)))?;
+    }
+    Ok(quotas)
+}
+
+/// The programs' lists.
+fn rankings(alloc: Global, roster: &Roster) -> Result<FlatLists<AppNo>, AllocError>
+    ensures { IfOk result (λ lists. lists ≡ map Program.ranking roster.now.market.programs) }
+{
+    let mut rankings = FlatLists::new(alloc);
+    for program in 0..roster.programs() {
+        rankings.push_list(roster.program_list(ProgNo(program)))?;
+    }
+    Ok(rankings)
+}
+
+/// Whether the agent is a single.
+fn is_single(agent: Agent) -> bool
+    ensures { result ≡ is_single_agent agent }
+{
+    match agent {
+        Agent::Single(_) => true,
+        Agent::Couple(_) => false,
+    }
+}
+
+/// Which applicants are singles.
+fn singles(alloc: Global, roster: &Roster) -> Result<Vec<bool>, AllocError>
+    ensures { IfOk result (λ v. v.items ≡ map (is_single roster.now.market) (below (applicants roster.now.market))) }
+{
+    let mut singles = Vec::with_capacity(alloc, roster.applicants() as usize)?;
+    for applicant in 0..roster.applicants() {
+        singles.push(is_single(roster.agent_of(AppNo(applicant))))?;
+    }
+    Ok(singles)
+}
+
+/// The live lists of singles, and an empty one for each member.
+fn live_lists(alloc: Global, roster: &Roster, rows: &Rows) -> Result<FlatLists<Live>, AllocError>
+    requires rows { length rows.now.lists ≡ applicants roster.now.market }
+    requires ascend { (a : ℕ) → AscendFrom 0 (row_of rows.now a) }
+    ensures { IfOk result (λ lists. lists ≡ map (λ a. entries_among (row_of rows.now a) (list_of roster.now.market a)) (below (applicants roster.now.market))) }
+{
+    let mut lists = FlatLists::new(alloc);
+    for applicant in 0..roster.applicants() {
+        push_live(
+            &mut lists,
+            roster.single_list(AppNo(applicant)),
+            rows.row(applicant as usize),
+        )?;
+    }
+    Ok(lists)
+}
+
+impl Ranks {
+    /// The rank tables of a roster. The only error is want of memory.
+    pub fn build(alloc: Global, roster: &Roster) -> Result<Ranks, AllocError>
+        ensures { IfOk result (λ ranks. ranks ≡ ranked_of roster.now.market) }
+    {
+        let quotas = quotas(alloc, roster)?;
+        let rankings = rankings(alloc, roster)?;
+        let rows = transpose(alloc, &rankings, roster.applicants() as usize)?;
+        let lists = live_lists(alloc, roster, &rows)?;
+        let singles = singles(alloc, roster)?;
+        Ok(Ranks {
+            quotas,
+            rankings,
+            rows,
+            lists,
+            singles,
+        })
+    }
+
+    /// How many applicants there are, members of couples included.
+    pub fn applicants(&self) -> u32
+        ensures count { result ≡ applicants self.now.market }
+        ensures ranked { IsRanked self.now }
+    {
+        self.lists.len() as u32
+    }
+
+    /// How many programs there are.
+    pub fn programs(&self) -> u32
+        ensures count { result ≡ length self.now.market.programs }
+        ensures ranked { IsRanked self.now }
+    {
+        self.quotas.len() as u32
+    }
+
+    /// How many posts the program has.
+    pub fn quota(&self, program: ProgNo) -> u32
+        requires { program < length self.now.market.programs }
+        ensures { result ≡ (program_of self.now.market program).quota }
+    {
+        self.quotas[program.index()]
+    }
+
+    /// Whether the applicant is a single, and no member of a couple. A number that no applicant has is not
+    /// one.
+    pub fn is_single(&self, applicant: AppNo) -> bool
+        ensures { result ≡ slice_index_or self.now.singles applicant false }
+    {
+        self.singles
+            .get(applicant.index())
+            .copied()
+            .unwrap_or(false)
+    }
+
+    /// The applicant's live list: the programs on its list that list it too, the most wanted first, with its
+    /// rank on each. It is empty for a couple's member.
+    pub fn live(&self, applicant: AppNo) -> &[Live]
+        requires { applicant < applicants self.now.market }
+        ensures list { result.now ≡ map (ranked_entry self.now.market applicant) (list_of self.now.market applicant) }
+        ensures entries { All (IsEntry self.now.market applicant) result.now }
+        ensures member { slice_index_or self.now.singles applicant false ≡ false → result.now ≡ [] }
+    {
+        self.lists.list(applicant.index())
+    }
+
+    /// The applicants that the program lists, by their ranks: the most wanted first.
+    pub fn by_rank(&self, program: ProgNo) -> &[AppNo]
+        requires { program < length self.now.market.programs }
+        ensures { result.now ≡ (program_of self.now.market program).ranking }
+    {
+        self.rankings.list(program.index())
+    }
+
+    /// The applicant's rank on the program's list, its position from 0, where the list has it.
+    pub fn rank(&self, program: ProgNo, applicant: AppNo) -> Option<u32>
+        requires program { program < length self.now.market.programs }
+        requires applicant { applicant < applicants self.now.market }
+        ensures position { result ≡ position (λ x. x == applicant) (program_of self.now.market program).ranking }
+        ensures listed { is_some result ≡ has (program_of self.now.market program).ranking applicant }
+        ensures found { IfSome result (IsRank (program_of self.now.market program).ranking applicant) }
+    {
+        rank_at(self.rows.row(applicant.index()), program)
+    }
+}

@@ -1,0 +1,104 @@
+ghost use Rattle.std.specs.Prelude.{◌≡◌, ℕ, ◌+◌, ◌<◌, ◌≤◌, ◌^◌, ◌==◌, ◌++◌, length, map, slice_index, IfOk, IsTrue};
+ghost use Rattle.mt_model.specs.Lists.{has, below, count};
+ghost use Rattle.mt_ranks.specs.Entries.{entries_in, entries_from, times_listed, AreWithin, AreDistinct};
+ghost use Rattle.mt_ranks.specs.Rows.{row_of, HasRoom};
+
+use crate::entries::Live;
+use crate::rows::Rows;
+use mt_model::{AppNo, FlatLists, ProgNo};
+use std::alloc::{AllocError, Global};
+
+/// Counts each applicant that a program lists.
+fn count_listed(counts: &mut [usize], ranking: &[AppNo])
+    requires within { (a : ℕ) → IsTrue (has ranking.now a) → a < length counts.old }
+    requires fits { (a : ℕ) → a < length counts.old → slice_index counts.old a + count (λ x. x == a) ranking.now < 2 ^ 64 }
+    ensures { (a : ℕ) → a < length counts.old → slice_index counts.new a ≡ slice_index counts.old a + count (λ x. x == a) ranking.now }
+{
+    for applicant in ranking {
+        counts[applicant.index()] += 1;
+    }
+}
+
+/// How many programs list each applicant.
+fn listed(
+    alloc: Global,
+    rankings: &FlatLists<AppNo>,
+    applicants: usize,
+) -> Result<Vec<usize>, AllocError>
+    requires within { AreWithin applicants rankings.now }
+    requires distinct { AreDistinct rankings.now }
+    ensures { IfOk result (λ counts. counts.items ≡ map (times_listed rankings.now) (below applicants)) }
+{
+    let mut counts = Vec::from_elem(alloc, 0usize, applicants)?;
+    for program in 0..rankings.len() {
+        count_listed(&mut counts, rankings.list(program));
+    }
+    Ok(counts)
+}
+
+/// Adds to the rows of the applicants that a program lists their ranks there.
+fn add_ranking(rows: &mut Rows, program: ProgNo, ranking: &[AppNo])
+    requires within { (a : ℕ) → IsTrue (has ranking.now a) → a < length rows.old.lists }
+    requires room { (a : ℕ) → a < length rows.old.lists → HasRoom rows.old a (count (λ x. x == a) ranking.now) }
+    requires short { length ranking.now < 2 ^ 32 }
+    ensures sizes { rows.new.sizes ≡ rows.old.sizes }
+    ensures len { length rows.new.lists ≡ length rows.old.lists }
+    ensures rows { (a : ℕ) → a < length rows.old.lists → row_of rows.new a ≡ row_of rows.old a ++ entries_in program 0 ranking.now a }
+{
+    for (rank, applicant) in ranking.iter().enumerate() {
+        rows.push(
+            applicant.index(),
+            Live {
+                program,
+                rank: rank as u32,
+            },
+        );
+    }
+}
+
+/// For each applicant the programs that list it, in their order, with its rank on each.
+pub(crate) fn transpose(
+    alloc: Global,
+    rankings: &FlatLists<AppNo>,
+    applicants: usize,
+) -> Result<Rows, AllocError>
+    requires few_applicants { applicants ≤ 100000 }
+    requires few_programs { length rankings.now ≤ 20000 }
+    requires within { AreWithin applicants rankings.now }
+    requires distinct { AreDistinct rankings.now }
+    ensures { IfOk result (λ rows. rows.lists ≡ map (entries_from 0 rankings.now) (below applicants)) }
+{
+    let sizes = listed(alloc, rankings, applicants)?;
+    let mut rows = Rows::with_sizes(alloc, &sizes)?;
+    for program in 0..rankings.len() {
+        add_ranking(&mut rows, ProgNo(program as u32), rankings.list(program));
+    }
+    Ok(rows)
+}
+
+#[cfg(test)]
+mod tests {
+    use super::*;
+    use std::test::Fail;
+
+    fn entry(program: u32, rank: u32) -> Live {
+        Live {
+            program: ProgNo(program),
+            rank,
+        }
+    }
+
+    // The first of two programs lists the applicants 1, 2 and 0, the second one 0 and 1.
+    #[test]
+    fn ranks_by_applicant(rt: HostRuntime) -> Result<(), Fail> {
+        let mut rankings = FlatLists::new(rt.alloc());
+        rankings.push_list(&[AppNo(1), AppNo(2), AppNo(0)])?;
+        rankings.push_list(&[AppNo(0), AppNo(1)])?;
+        let rows = transpose(rt.alloc(), &rankings, 4)?;
+        assert_eq!(rt; rows.row(0), [entry(0, 2), entry(1, 0)].as_slice());
+        assert_eq!(rt; rows.row(1), [entry(0, 0), entry(1, 1)].as_slice());
+        assert_eq!(rt; rows.row(2), [entry(0, 1)].as_slice());
+        assert_eq!(rt; rows.row(3).len(), 0);
+        Ok(())
+    }
+}
