@@ -1,0 +1,4 @@
+pub mod MarketFacts
+pub mod PlaceFacts
+pub mod WaitingFacts
+pub mod RefusedFacts
