@@ -1,4 +1,7 @@
 pub mod MarketFacts
+pub mod OptionFacts
 pub mod PlaceFacts
+pub mod RankFacts
+pub mod SentFacts
 pub mod WaitingFacts
 pub mod RefusedFacts

@@ -1,9 +1,12 @@
 -- A market with a match of it.
-use Rattle.std.specs.Prelude.{◌≡◌, ℕ, ◌<◌, ◌&&◌, not, length, Option, slice_set, IsTrue}
-use Rattle.mt_model.specs.Lists.{Set}
+use Rattle.std.specs.Prelude.{◌≡◌, ℕ, ◌<◌, ◌≤◌, ◌&&◌, not, map, length, Option, slice_set, IsTrue}
+use Rattle.mt_model.specs.Lists.{Set, has, is_distinct}
 use Rattle.mt_model.specs.Market.{Market, Program, applicants}
 use Rattle.mt_model.specs.Choice.{choice}
-use Rattle.mt_model.specs.Matching.{Places, at}
+use Rattle.mt_model.specs.WellFormed.{IsWellFormed}
+use Rattle.mt_model.specs.Matching.{Places, Placement, at}
+use Rattle.mt_model.specs.declared.numbers.Agent.{Agent}
+use Rattle.mt_model.specs.declared.numbers.Agent.TheVariants.{Single, Couple}
 
 pub record Assigned : Type 0 where
   pub market : Market
@@ -18,6 +21,22 @@ pub record ArePlaces (m : Market) (places : Places) : Type 0 where
   pub one_each : length places ≡ applicants m
   pub within : (a p : ℕ) → IsTrue (at places p a) → p < length m.programs
 
+-- What every assignment has: a well-formed market, and a place for each of its applicants.
+pub record IsAssigned (s : Assigned) : Type 0 where
+  pub well_formed : IsWellFormed s.market
+  pub are_places : ArePlaces s.market s.places
+
 -- whether a program refuses an applicant of a set: one that it doesn't choose from the set
 abbrev pub is_refused : Program → Set → Set
 is_refused p set a = set a && not (choice p set a)
+
+-- What is asked of where applicants are sent: two applicants of the market at most, each once.
+pub record AreSent (m : Market) (sent : Placement) : Type 0 where
+  pub distinct : IsTrue (is_distinct (map (λ s. s.0) sent))
+  pub within : (a : ℕ) → IsTrue (has (map (λ s. s.0) sent) a) → a < applicants m
+  pub few : length sent ≤ 2
+
+-- an applicant or a couple of the market
+abbrev pub IsAgentOf : Market → Agent → Type 0
+IsAgentOf m (Single a) = a < applicants m
+IsAgentOf m (Couple c) = c < length m.couples

@@ -6,7 +6,7 @@ ghost use Rattle.mt_model.specs.Matching.{at, place_of};
 ghost use Rattle.mt_model.specs.Rounds.{displaced_at};
 ghost use Rattle.mt_ranks.specs.Ranked.{ranked_of};
 ghost use Rattle.mt_roster.specs.Tables.{IsRoster};
-ghost use Rattle.mt_couples.specs.Assigned.{ArePlaces, is_refused, with_place};
+ghost use Rattle.mt_couples.specs.Assigned.{ArePlaces, IsAssigned, is_refused, with_place};
 
 use mt_model::{AppNo, Match, Places, ProgNo};
 use mt_ranks::Ranks;
@@ -106,7 +106,7 @@ impl<'a> Assignment<'a> {
     pub(crate) fn roster(&self) -> &'a Roster
         ensures market { result.now.market ≡ self.now.market }
         ensures roster { IsRoster result.now }
-        ensures places { ArePlaces self.now.market self.now.places }
+        ensures assigned { IsAssigned self.now }
     {
         self.roster
     }
@@ -130,7 +130,8 @@ impl<'a> Assignment<'a> {
     /// nobody.
     pub(crate) fn rank(&self, program: ProgNo, applicant: AppNo) -> Option<u32>
         requires { applicant < applicants self.now.market }
-        ensures { result ≡ position (λ x. x == applicant) (program_of self.now.market program).ranking }
+        ensures position { result ≡ position (λ x. x == applicant) (program_of self.now.market program).ranking }
+        ensures assigned { IsAssigned self.now }
     {
         if program.0 < self.ranks.programs() {
             self.ranks.rank(program, applicant)
@@ -143,7 +144,8 @@ impl<'a> Assignment<'a> {
     pub(crate) fn ahead(&self, program: ProgNo, rank: u32) -> usize
         requires program { program < length self.now.market.programs }
         requires rank { rank ≤ length (program_of self.now.market program).ranking }
-        ensures { result ≡ count (at self.now.places program) (take rank (program_of self.now.market program).ranking) }
+        ensures count { result ≡ count (at self.now.places program) (take rank (program_of self.now.market program).ranking) }
+        ensures assigned { IsAssigned self.now }
     {
         let ranking = self.ranks.by_rank(program);
         count_at(&self.places, program, &ranking[..rank as usize])

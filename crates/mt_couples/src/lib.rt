@@ -2,4 +2,5 @@
 #![tactic(auto)]
 
 mod assignment;
+mod options;
 mod work_list;
