@@ -1,4 +1,5 @@
 pub mod MarketFacts
+pub mod MoveSteps
 pub mod OptionFacts
 pub mod PlaceFacts
 pub mod RankFacts

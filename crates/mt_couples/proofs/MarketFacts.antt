@@ -1,12 +1,16 @@
 -- What rank tables say of the market that they are of, and who is on its lists.
-use Rattle.std.proofs.Common.{◌≡◌, ℕ, ◌<◌, List, length, get_or, take, IsTrue, refl, ap, ◌∙◌, arith, subst, sym}
+use Rattle.std.proofs.Common.{◌≡◌, ℕ, ◌<◌, List, [], length, get_or, take, IsTrue, refl, ap, ◌∙◌, arith, subst, sym}
 use Rattle.mt_model.proofs.BelowFacts.{length-map_below}
 use Rattle.mt_model.specs.Lists.{has}
-use Rattle.mt_model.specs.Market.{Market, Registered, applicants, program_of, live}
+use Rattle.mt_model.specs.Market.{Market, applicants, program_of, live, agent_of}
+use Rattle.mt_model.specs.declared.numbers.Agent.{Agent}
+use Rattle.mt_model.specs.declared.numbers.Agent.TheVariants.{Single, Couple}
+use Rattle.mt_model.proofs.RoundsAgents.{IsAgent, agent_of_applicant, couple_number}
+use Rattle.mt_model.proofs.RoundsSets.{has_head}
 use Rattle.mt_model.specs.Matching.{Places}
 use Rattle.mt_model.specs.WellFormed.{IsWellFormed}
 use Rattle.mt_ranks.specs.Ranked.{Ranked, ranked_of}
-use Rattle.mt_couples.specs.Assigned.{ArePlaces}
+use Rattle.mt_couples.specs.Assigned.{ArePlaces, IsAgentOf}
 use Rattle.mt_couples.proofs.PlaceFacts.{has_read}
 
 -- Below, r are the rank tables of the market m.
@@ -27,3 +31,15 @@ pub listed_within : (m : Market) (places : Places) (p i a : ℕ) → IsWellForme
     → i < length (program_of m p).ranking → a ≡ get_or (program_of m p).ranking i a → a < length places
 listed_within m places p i a wf are within read =
     omega (arith, are.one_each, wf.rankings_within p a (has_read (program_of m p).ranking i a within read))
+
+-- who an applicant of a well-formed market belongs to is of the market
+pub agent_within : (m : Market) → IsWellFormed m → (a : ℕ) → a < applicants m → IsAgentOf m (agent_of m a)
+agent_within m wf a within = by_kind (agent_of m a) (agent_of_applicant m wf a within)
+  where
+    by_kind : (g : Agent) → IsAgent m g → IsAgentOf m g
+    by_kind (Single b) h = h.within b (has_head b [])
+    by_kind (Couple c) h = couple_number m c h
+
+-- an applicant that stands on a list
+pub read_within : (xs : List ℕ) (i a n : ℕ) → i < length xs → a ≡ get_or xs i a → ((b : ℕ) → IsTrue (has xs b) → b < n) → a < n
+read_within xs i a n within read all = all a (has_read xs i a within read)

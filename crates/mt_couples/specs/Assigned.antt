@@ -12,9 +12,12 @@ pub record Assigned : Type 0 where
   pub market : Market
   pub places : Places
 
--- the match with one applicant moved
+-- the market with another match, and with the match in which one applicant is moved
+abbrev pub with_places : Assigned → Places → Assigned
+with_places s places = record s { places = places }
+
 abbrev pub with_place : Assigned → ℕ → Option ℕ → Assigned
-with_place s a place = record s { places = slice_set s.places a place }
+with_place s a place = with_places s (slice_set s.places a place)
 
 -- one place for each applicant, and each of them a program of the market
 pub record ArePlaces (m : Market) (places : Places) : Type 0 where

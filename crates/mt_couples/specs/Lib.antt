@@ -1,2 +1,3 @@
 pub mod Assigned
+pub mod Moves
 pub mod View

@@ -1,14 +1,14 @@
 ghost use Rattle.std.specs.Prelude.{◌≡◌, ◌==◌, ◌++◌, ◌<◌, ◌≤◌, ℕ, Option, Some, None, length, take, filter, position, IsTrue, OnOk};
 ghost use Rattle.std.specs.Option.{ForSome};
 ghost use Rattle.mt_model.specs.Lists.{count, is_distinct};
-ghost use Rattle.mt_model.specs.Market.{applicants, program_of};
+ghost use Rattle.mt_model.specs.Market.{agent_of, applicants, couple_of, program_of};
 ghost use Rattle.mt_model.specs.Matching.{at, place_of};
 ghost use Rattle.mt_model.specs.Rounds.{displaced_at};
 ghost use Rattle.mt_ranks.specs.Ranked.{ranked_of};
 ghost use Rattle.mt_roster.specs.Tables.{IsRoster};
-ghost use Rattle.mt_couples.specs.Assigned.{ArePlaces, IsAssigned, is_refused, with_place};
+ghost use Rattle.mt_couples.specs.Assigned.{ArePlaces, IsAgentOf, IsAssigned, is_refused, with_place};
 
-use mt_model::{AppNo, Match, Places, ProgNo};
+use mt_model::{Agent, AppNo, CoupleNo, Match, Places, ProgNo};
 use mt_ranks::Ranks;
 use mt_roster::Roster;
 use std::alloc::AllocError;
@@ -109,6 +109,26 @@ impl<'a> Assignment<'a> {
         ensures assigned { IsAssigned self.now }
     {
         self.roster
+    }
+
+    /// The agent that the applicant belongs to.
+    pub(crate) fn agent_of(&self, applicant: AppNo) -> Agent
+        requires { applicant < applicants self.now.market }
+        ensures agent { result ≡ agent_of self.now.market applicant }
+        ensures within { IsAgentOf self.now.market result }
+    {
+        self.roster.agent_of(applicant)
+    }
+
+    /// The couple's two members.
+    pub(crate) fn members(&self, couple: CoupleNo) -> (AppNo, AppNo)
+        requires { couple < length self.now.market.couples }
+        ensures first { result.0 ≡ (couple_of self.now.market couple).first }
+        ensures second { result.1 ≡ (couple_of self.now.market couple).second }
+        ensures first_within { result.0 < applicants self.now.market }
+        ensures second_within { result.1 < applicants self.now.market }
+    {
+        self.roster.members(couple)
     }
 
     /// Where the applicant is placed.

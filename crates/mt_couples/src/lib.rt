@@ -2,5 +2,6 @@
 #![tactic(auto)]
 
 mod assignment;
+mod moves;
 mod options;
 mod work_list;

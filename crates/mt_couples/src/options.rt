@@ -1,4 +1,4 @@
-ghost use Rattle.std.specs.Prelude.{◌≡◌, ◌&&◌, ◌<◌, ◌≤◌, length, take, Contains, Some};
+ghost use Rattle.std.specs.Prelude.{◌≡◌, ◌&&◌, ◌<◌, ◌≤◌, length, take, Contains, IsTrue, Some};
 ghost use Rattle.std.specs.Option.{option_map};
 ghost use Rattle.mt_model.specs.Lists.{count, has};
 ghost use Rattle.mt_model.specs.Market.{applicants, couple_of, program_of};
@@ -85,6 +85,18 @@ impl<'a> Assignment<'a> {
         }
     }
 
+    /// Whether the program chooses an applicant that is there.
+    pub(crate) fn is_kept(&self, program: ProgNo, applicant: AppNo) -> bool
+        requires applicant { applicant < applicants self.now.market }
+        requires there { IsTrue (at self.now.places program applicant) }
+        ensures { result ≡ choice (program_of self.now.market program) (at self.now.places program) applicant }
+    {
+        match self.rank(program, applicant) {
+            Some(rank) => self.ahead(program, rank) < self.quota(program) as usize,
+            None => false,
+        }
+    }
+
     /// Whether each program that somebody is sent to chooses whom it is sent.
     fn would_be_taken(&self, sent: &[(AppNo, Option<ProgNo>)]) -> bool
         requires { AreSent self.now.market sent.now }
@@ -122,7 +134,7 @@ impl<'a> Assignment<'a> {
         requires { couple < length self.now.market.couples }
         ensures { option_map (couple_placement (couple_of self.now.market couple).first (couple_of self.now.market couple).second) result ≡ first_taken self.now.market self.now.places (Couple couple) }
     {
-        let (first, second) = self.roster().members(couple);
+        let (first, second) = self.members(couple);
         let own = (self.place(first), self.place(second));
         for pair in self.roster().couple_list(couple) {
             if own == *pair {

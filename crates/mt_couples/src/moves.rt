@@ -1,0 +1,117 @@
+ghost use Rattle.std.specs.Prelude.{◌≡◌, ◌||◌, ◌<◌, ℕ, map, length, Contains, IsTrue, IfOk, OnOk, Some, ◌∷◌};
+ghost use Rattle.std.specs.List.{list_any};
+ghost use Rattle.mt_model.specs.Lists.{has};
+ghost use Rattle.mt_model.specs.Market.{agent_of, applicants};
+ghost use Rattle.mt_model.specs.Matching.{send};
+ghost use Rattle.mt_model.specs.Matching.{unplaced};
+ghost use Rattle.mt_model.specs.Rounds.{displaced, programs_sent_to};
+ghost use Rattle.mt_couples.specs.Assigned.{AreSent, with_places};
+ghost use Rattle.mt_couples.specs.Moves.{all_members, is_kept_at, is_left_by_movers};
+
+use crate::assignment::Assignment;
+use mt_model::{Agent, AppNo, ProgNo};
+use std::alloc::{AllocError, Global};
+use std::collections::BTreeSet;
+
+impl<'a> Assignment<'a> {
+    /// Sends each applicant to its place.
+    pub(crate) fn send(&mut self, sent: &[(AppNo, Option<ProgNo>)])
+        requires sent { AreSent self.old.market sent.now }
+        requires programs { (p : ℕ) → IsTrue (has (programs_sent_to sent.now) p) → p < length self.old.market.programs }
+        ensures { self.new ≡ with_places self.old (send sent.now self.old.places) }
+    {
+        for (applicant, place) in sent {
+            self.set_place(*applicant, *place);
+        }
+    }
+
+    /// The applicants that the programs of a placement don't choose: by its programs in order, and in a
+    /// program by its list.
+    pub(crate) fn displaced(
+        &self,
+        alloc: Global,
+        sent: &[(AppNo, Option<ProgNo>)],
+    ) -> Result<Vec<AppNo>, AllocError>
+        requires { (p : ℕ) → IsTrue (has (programs_sent_to sent.now) p) → p < length self.now.market.programs }
+        ensures { IfOk result (λ v. v.items ≡ displaced self.now.market self.now.places sent.now) }
+    {
+        let mut displaced = Vec::new(alloc);
+        for (_, place) in sent {
+            if let Some(program) = place {
+                self.add_displaced(*program, &mut displaced)?;
+            }
+        }
+        Ok(displaced)
+    }
+
+    /// Unplaces all members of the agents of these applicants.
+    pub(crate) fn take_out(&mut self, displaced: &[AppNo])
+        requires { (a : ℕ) → IsTrue (has displaced.now a) → a < applicants self.old.market }
+        ensures { self.new ≡ with_places self.old (unplaced (all_members self.old.market displaced.now) self.old.places) }
+    {
+        for applicant in displaced {
+            match self.agent_of(*applicant) {
+                Agent::Single(single) => self.set_place(single, None),
+                Agent::Couple(couple) => {
+                    let (first, second) = self.members(couple);
+                    self.set_place(first, None);
+                    self.set_place(second, None);
+                }
+            }
+        }
+    }
+
+    /// Adds the programs that are left by applicants which are sent elsewhere.
+    pub(crate) fn add_left_by_movers(
+        &self,
+        sent: &[(AppNo, Option<ProgNo>)],
+        left: &mut BTreeSet<ProgNo>,
+    ) -> Result<(), AllocError>
+        ensures { OnOk result ((p : ℕ) → has left.new.keys p ≡ (has left.old.keys p || is_left_by_movers self.now.places sent.now p)) }
+    {
+        for seat in sent {
+            let place = self.place(seat.0);
+            if let Some(program) = place {
+                if seat.1 != place {
+                    left.insert(program)?;
+                }
+            }
+        }
+        Ok(())
+    }
+
+    /// Adds the program where the applicant is, if the program chooses it.
+    fn add_kept(&self, applicant: AppNo, left: &mut BTreeSet<ProgNo>) -> Result<(), AllocError>
+        requires { applicant < applicants self.now.market }
+        ensures { OnOk result ((p : ℕ) → has left.new.keys p ≡ (has left.old.keys p || is_kept_at self.now.market self.now.places p applicant)) }
+    {
+        if let Some(program) = self.place(applicant) {
+            if self.is_kept(program, applicant) {
+                left.insert(program)?;
+            }
+        }
+        Ok(())
+    }
+
+    /// Adds the programs that members of the agents of these applicants are at, where they are chosen.
+    pub(crate) fn add_left_by_partners(
+        &self,
+        displaced: &[AppNo],
+        left: &mut BTreeSet<ProgNo>,
+    ) -> Result<(), AllocError>
+        requires { (a : ℕ) → IsTrue (has displaced.now a) → a < applicants self.now.market }
+        ensures { OnOk result ((p : ℕ) → has left.new.keys p ≡ (has left.old.keys p || list_any (is_kept_at self.now.market self.now.places p) (all_members self.now.market displaced.now))) }
+    {
+        for applicant in displaced {
+            match self.agent_of(*applicant) {
+                Agent::Single(single) => self.add_kept(single, left)?,
+                Agent::Couple(couple) => {
+                    let (first, second) = self.members(couple);
+                    self.add_kept(first, left)?;
+                    self.add_kept(second, left)?;
+                }
+            }
+        }
+        Ok(())
+    }
+}
