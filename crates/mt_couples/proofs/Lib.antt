@@ -1,4 +1,6 @@
+pub mod JoinFacts
 pub mod MarketFacts
+pub mod MoveFacts
 pub mod MoveSteps
 pub mod OptionFacts
 pub mod PlaceFacts

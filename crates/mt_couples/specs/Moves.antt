@@ -5,6 +5,7 @@ use Rattle.mt_model.specs.Market.{Market, program_of, agent_of, members, agents}
 use Rattle.mt_model.specs.Matching.{Places, Placement, is_program, at, options}
 use Rattle.mt_model.specs.Choice.{choice}
 use Rattle.mt_model.specs.Stability.{fits, would_be_taken}
+use Rattle.mt_model.specs.WellFormed.{IsWellFormed}
 use Rattle.mt_model.specs.Laws.Rounds.{is_on}
 use Rattle.mt_model.specs.declared.numbers.Agent.{Agent}
 
@@ -22,6 +23,7 @@ all_members m xs = flat_map (λ a. members m (agent_of m a)) xs
 
 -- In a match that fits, an agent of the market has an option on its list that would be taken.
 pub record IsTaking (m : Market) (places : Places) (g : Agent) (sent : Placement) : Type 0 where
+  pub well_formed : IsWellFormed m
   pub fitting : IsTrue (fits m places)
   pub agent : IsTrue (is_on (agents m) g)
   pub option : Contains (options m g) sent

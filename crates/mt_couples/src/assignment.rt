@@ -1,6 +1,6 @@
 ghost use Rattle.std.specs.Prelude.{◌≡◌, ◌==◌, ◌++◌, ◌<◌, ◌≤◌, ℕ, Option, Some, None, length, take, filter, position, IsTrue, OnOk};
 ghost use Rattle.std.specs.Option.{ForSome};
-ghost use Rattle.mt_model.specs.Lists.{count, is_distinct};
+ghost use Rattle.mt_model.specs.Lists.{count, has, is_distinct};
 ghost use Rattle.mt_model.specs.Market.{agent_of, applicants, couple_of, program_of};
 ghost use Rattle.mt_model.specs.Matching.{at, place_of};
 ghost use Rattle.mt_model.specs.Rounds.{displaced_at};
@@ -136,6 +136,15 @@ impl<'a> Assignment<'a> {
         ensures { result ≡ place_of self.now.places applicant }
     {
         place_in(&self.places, applicant)
+    }
+
+    /// The applicants that the program lists, the most wanted first.
+    pub(crate) fn ranking(&self, program: ProgNo) -> &'a [AppNo]
+        requires { program < length self.now.market.programs }
+        ensures list { result.now ≡ (program_of self.now.market program).ranking }
+        ensures within { (a : ℕ) → IsTrue (has result.now a) → a < applicants self.now.market }
+    {
+        self.ranks.by_rank(program)
     }
 
     /// How many posts the program has.

@@ -4,4 +4,5 @@
 mod assignment;
 mod moves;
 mod options;
+mod rounds;
 mod work_list;

@@ -1,17 +1,26 @@
-ghost use Rattle.std.specs.Prelude.{◌≡◌, ◌||◌, ◌<◌, ℕ, map, length, Contains, IsTrue, IfOk, OnOk, Some, ◌∷◌};
+ghost use Rattle.std.specs.Prelude.{◌≡◌, ◌||◌, ◌<◌, ℕ, filter, length, IsTrue, IfOk, OnOk};
 ghost use Rattle.std.specs.List.{list_any};
-ghost use Rattle.mt_model.specs.Lists.{has};
+ghost use Rattle.mt_model.specs.Lists.{below, has};
 ghost use Rattle.mt_model.specs.Market.{agent_of, applicants};
-ghost use Rattle.mt_model.specs.Matching.{send};
-ghost use Rattle.mt_model.specs.Matching.{unplaced};
-ghost use Rattle.mt_model.specs.Rounds.{displaced, programs_sent_to};
+ghost use Rattle.mt_model.specs.Matching.{send, unplaced};
+ghost use Rattle.mt_model.specs.declared.numbers.Agent.{Agent};
+ghost use Rattle.mt_model.specs.Rounds.{after_move, displaced, is_left, programs_sent_to};
 ghost use Rattle.mt_couples.specs.Assigned.{AreSent, with_places};
-ghost use Rattle.mt_couples.specs.Moves.{all_members, is_kept_at, is_left_by_movers};
+ghost use Rattle.mt_couples.specs.Moves.{all_members, is_kept_at, is_left_by_movers, IsTaking};
 
 use crate::assignment::Assignment;
 use mt_model::{Agent, AppNo, ProgNo};
 use std::alloc::{AllocError, Global};
 use std::collections::BTreeSet;
+
+/// What a move changes besides the places of the agent that moves.
+#[derive(Drop)]
+pub(crate) struct Moved {
+    /// The applicants that are displaced: by the option's programs in order, and in a program by its list.
+    pub(crate) displaced: Vec<AppNo>,
+    /// The programs that somebody left without being displaced there, by number.
+    pub(crate) left: Vec<ProgNo>,
+}
 
 impl<'a> Assignment<'a> {
     /// Sends each applicant to its place.
@@ -113,5 +122,27 @@ impl<'a> Assignment<'a> {
             }
         }
         Ok(())
+    }
+
+    /// Sends each applicant to its place, as an agent's option says that would be taken, and takes out the
+    /// agents of those that are displaced by it.
+    pub(crate) fn move_to(
+        &mut self,
+        alloc: Global,
+        sent: &[(AppNo, Option<ProgNo>)],
+    ) -> Result<Moved, AllocError>
+        requires { (g : Agent) × IsTaking self.old.market self.old.places g sent.now }
+        ensures places { OnOk result (self.new ≡ with_places self.old (after_move self.old.market (send sent.now self.old.places) sent.now)) }
+        ensures displaced { IfOk result (λ r. r.displaced.items ≡ displaced self.old.market (send sent.now self.old.places) sent.now) }
+        ensures left { IfOk result (λ r. r.left.items ≡ filter (is_left self.old.market self.old.places (send sent.now self.old.places) (after_move self.old.market (send sent.now self.old.places) sent.now)) (below (length self.old.market.programs))) }
+    {
+        let mut left = BTreeSet::new(alloc);
+        self.add_left_by_movers(sent, &mut left)?;
+        self.send(sent);
+        let displaced = self.displaced(alloc, sent)?;
+        self.add_left_by_partners(&displaced, &mut left)?;
+        self.take_out(&displaced);
+        let left = left.into_iter().collect(alloc)?;
+        Ok(Moved { displaced, left })
     }
 }

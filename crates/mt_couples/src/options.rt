@@ -148,13 +148,13 @@ impl<'a> Assignment<'a> {
     }
 
     /// Whether the agent has a better option that would be taken.
-    pub(crate) fn blocks(&self, agent: Agent) -> bool
-        requires { IsAgentOf self.now.market agent }
-        ensures { result ≡ blocks self.now.market self.now.places agent }
+    pub(crate) fn blocks(&self, agent: &Agent) -> bool
+        requires { IsAgentOf self.now.market agent.now }
+        ensures { result ≡ blocks self.now.market self.now.places agent.now }
     {
         match agent {
-            Agent::Single(applicant) => self.first_program(applicant).is_some(),
-            Agent::Couple(couple) => self.first_pair(couple).is_some(),
+            Agent::Single(applicant) => self.first_program(*applicant).is_some(),
+            Agent::Couple(couple) => self.first_pair(*couple).is_some(),
         }
     }
 }
