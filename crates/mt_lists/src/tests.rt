@@ -3,6 +3,7 @@ ghost use Rattle.mt_lists.specs.Records.{records_of};
 ghost use Rattle.mt_lists.specs.Tap.{bytes_left, failures_of, reads_of};
 
 use crate::{ListFault, ReadEnd, Row, SourceFault, Tap, laws, read_all, records};
+use mt_model::LIMITS;
 use std::alloc::Global;
 use std::io;
 use std::io::{ErrorKind, Read};
@@ -133,7 +134,7 @@ fn quotes_and_marks(rt: HostRuntime) -> Result<(), Fail> {
     Ok(())
 }
 
-// The input has 84 bytes: twelve reads of seven, and one that finds the end.
+// The input has 84 bytes: twelve reads of seven, and one that finds the end. No failed read is made again.
 #[test]
 fn each_read_fails_once(rt: HostRuntime) -> Result<(), Fail> {
     for k in 1..14 {
@@ -142,36 +143,40 @@ fn each_read_fails_once(rt: HostRuntime) -> Result<(), Fail> {
         } else {
             ErrorKind::Other
         };
-        let mut tap = Tap::new(Pieces::new(PAIRS, 7, k, failure));
-        let result = rows_of_input(rt.alloc(), &mut tap, 1000);
+        let mut source = Pieces::new(PAIRS, 7, k, failure);
+        let mut tap = Tap::new(&mut source);
+        let result = rows_of_input(rt.alloc(), &mut tap, LIMITS.bytes);
         assert!(rt;
             matches!(result, Err(Refusal::Input(ReadEnd::Fault))),
             "read {k}"
         );
         assert_eq!(rt; tap.reads(), u64::from(k));
         assert_eq!(rt; tap.failures(), 1);
+        assert_eq!(rt; source.calls, k);
     }
-    let mut tap = Tap::new(Pieces::new(PAIRS, 7, 14, ErrorKind::Other));
-    let rows = rows_of_input(rt.alloc(), &mut tap, 1000).map_err(|_| "refused")?;
+    let mut source = Pieces::new(PAIRS, 7, 14, ErrorKind::Other);
+    let mut tap = Tap::new(&mut source);
+    let rows = rows_of_input(rt.alloc(), &mut tap, LIMITS.bytes).map_err(|_| "refused")?;
     assert_eq!(rt; rows.len(), 5);
     assert!(rt; has_fields(&rows[4], &[b"applicant", b"a2", b"P2", b"P1"]));
     assert_eq!(rt; tap.reads(), 13);
     assert_eq!(rt; tap.failures(), 0);
+    assert_eq!(rt; source.calls, 13);
     Ok(())
 }
 
 // An interrupted read is not made again by the same call, and the next one goes on.
 #[test]
 fn interrupted_read_fails(rt: HostRuntime) -> Result<(), Fail> {
-    let mut tap = Tap::new(Pieces::new(b"abc", 2, 1, ErrorKind::Interrupted));
+    let mut source = Pieces::new(b"abc", 2, 1, ErrorKind::Interrupted);
+    let mut tap = Tap::new(&mut source);
     let mut buf = [0u8; 8];
     assert_eq!(rt; tap.read(&mut buf), Err(SourceFault));
-    assert_eq!(rt; tap.reads(), 1);
-    assert_eq!(rt; tap.failures(), 1);
+    assert_eq!(rt; (tap.reads(), tap.failures()), (1, 1));
     assert_eq!(rt; tap.read(&mut buf), Ok(2));
     assert!(rt; buf.starts_with(b"ab"));
-    assert_eq!(rt; tap.reads(), 2);
-    assert_eq!(rt; tap.failures(), 1);
+    assert_eq!(rt; (tap.reads(), tap.failures()), (2, 1));
+    assert_eq!(rt; source.calls, 2);
     Ok(())
 }
 

@@ -32,3 +32,10 @@ map_range_at f a (suc n) (suc i) d h = let e : a + 1 + i ≡ a + suc i = omega a
 
 pub map_below_at : {X : Type 0} (f : ℕ → X) (n i : ℕ) (d : X) → i < n → get_or (map f (below n)) i d ≡ f i
 map_below_at f n i d h = let e : 0 + i ≡ i = omega arith in map_range_at f 0 n i d h ∙ ap f e
+
+map-append_one : {X : Type 0} (f : ℕ → X) (xs : List ℕ) (x : ℕ) → map f (xs ++ x ∷ []) ≡ map f xs ++ f x ∷ []
+map-append_one f [] x = refl
+map-append_one f (y ∷ ys) x = ap (λ zs. f y ∷ zs) (map-append_one f ys x)
+
+pub map-below_more : {X : Type 0} (f : ℕ → X) (n : ℕ) → map f (below (n + 1)) ≡ map f (below n) ++ f n ∷ []
+map-below_more f n = ap (map f) (below_more n) ∙ map-append_one f (below n) n

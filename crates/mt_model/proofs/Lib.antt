@@ -13,8 +13,10 @@ pub mod FloorSums
 pub mod IdFacts
 pub mod LegalBestLemmas
 pub mod ListLemmas
+pub mod LiveLemmas
 pub mod NumberingFacts
 pub mod PassFacts
+pub mod PlacesFacts
 pub mod RegisteredFacts
 pub mod RoundsAgents
 pub mod RoundsCounted
@@ -31,5 +33,6 @@ pub mod Seats
 pub mod SinglesFacts
 pub mod TakenLemmas
 pub mod Totals
+pub mod VerdictLemmas
 pub mod VersionFacts
 pub mod WellFormedLemmas

@@ -195,6 +195,10 @@ singles_settled m wf places h = record {
         (finds (blocks (singles_market m) places) (Single a) (agents (singles_market m)) (agent_on_list (singles_market m) (Single a) single) t))
     quiet (Couple c) i b = absurd (let l : c < 0 = ltb-true c 0 b in omega arith)
 
+-- a stable match of the singles fits the whole market: members of couples are unplaced in it
+pub singles_fit : (m : Market) → IsWellFormed m → (places : Places) → stable (singles_market m) places ≡ true → fits m places ≡ true
+singles_fit m wf places h = IsSettled.fitting (singles_settled m wf places h)
+
 -- from any stable match of the singles a stage ends in a stable match
 pub stage_from_stable : (m : Market) → IsWellFormed m → (places : Places) → stable (singles_market m) places ≡ true
     → (budget : ℕ) (r : Places × ℕ) → stage m places budget ≡ Some r → stable m r.0 ≡ true

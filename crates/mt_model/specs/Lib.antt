@@ -7,6 +7,7 @@ pub mod Laws
 pub mod Lists
 pub mod Market
 pub mod Matching
+pub mod Places
 pub mod Registration
 pub mod Rounds
 pub mod Stability

@@ -1,11 +1,13 @@
 //! Laws of the definitions: each is the contract of a function that does nothing.
 
 mod floors;
+mod live;
 mod registration;
 mod rounds;
 mod rural_law;
 mod singles;
 mod taken;
+mod verdict;
 
 pub use floors::{
     best_exists, due_at_most, due_proposals_are_made, event_due, event_keeps_legal,
@@ -13,6 +15,7 @@ pub use floors::{
     events_keep_recorded, events_keep_strict, legal_from_passed, made_at_most, opening_is_strict,
     order_free, quiet_counts, quiet_is_reached, result_of_floor, strict_best,
 };
+pub use live::live_market_agrees;
 pub use registration::{accepted_is_registration, versions_agree};
 pub use rounds::{
     premises_of_rounds, round_fits, round_keeps, stage_fits, stage_is_stable, stage_rounds,
@@ -27,3 +30,4 @@ pub use taken::{
     half_pair_taken, never_twice_at_one, pair_taken, same_program_taken, single_taken,
     taken_in_examples,
 };
+pub use verdict::{stable_verdict, verdict_in_words};

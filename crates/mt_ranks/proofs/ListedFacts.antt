@@ -92,10 +92,6 @@ pub listed_fits : (counts : List ℕ) (rs : List (List ℕ)) (p a : ℕ) → Are
     → get_or counts a 0 + count (λ x. eqb x a) (get_or rs p []) ≤ length rs
 listed_fits counts rs p a inv d h i = omega (arith, inv a i, times_listed-drop rs p a h, times_listed_few rs a d)
 
-pub listed_more : (counts new : List ℕ) (rs : List (List ℕ)) (p : ℕ) → AreListed counts rs p → p < length rs → length new ≡ length counts
-    → ((a : ℕ) → a < length counts → get_or new a 0 ≡ get_or counts a 0 + count (λ x. eqb x a) (get_or rs p [])) → AreListed new rs (p + 1)
-listed_more counts new rs p inv h n step a i = omega (arith, inv a (omega arith), step a (omega arith), times_listed-drop rs p a h)
-
 pub listed_all : (counts : List ℕ) (rs : List (List ℕ)) (p n : ℕ) → AreListed counts rs p → length rs ≤ p → length counts ≡ n → counts ≡ map (times_listed rs) (below n)
 listed_all counts rs p n inv h e =
     fill_by_all (times_listed rs) counts n 0 e (λ a i. omega (arith, inv a (omega arith), at_drop_all (λ ls. times_listed ls a) rs p h))
@@ -169,14 +165,6 @@ entered_room rows rs p a n inv s h l w =
       length-entries_in p 0 (get_or rs p []) a,
       length-entries_from 0 rs a,
     )
-
-pub entered_more : (rows new : Filling) (rs : List (List ℕ)) (p : ℕ) → AreEntered rows rs p → p < length rs → length new.lists ≡ length rows.lists
-    → ((a : ℕ) → a < length rows.lists → row_of new a ≡ row_of rows a ++ entries_in p 0 (get_or rs p []) a) → AreEntered new rs (p + 1)
-entered_more rows new rs p inv h l step a w =
-    let within : a < length rows.lists = omega arith in
-    rw (step a within)
-    (append_assoc (row_of rows a) (entries_in p 0 (get_or rs p []) a) (entries_from (p + 1) (drop (p + 1) rs) a)
-    ∙ ap (λ es. row_of rows a ++ es) (sym (entries_front rs p a h)) ∙ inv a within)
 
 pub entered_all : (rows : Filling) (rs : List (List ℕ)) (p n : ℕ) → AreEntered rows rs p → length rs ≤ p → length rows.lists ≡ n → rows.lists ≡ map (entries_from 0 rs) (below n)
 entered_all rows rs p n inv h l =

@@ -1,4 +1,5 @@
--- A market as rank tables show it: its live market, and which of its applicants are singles.
+-- A market as rank tables show it: its live market, and which of its applicants are singles. Ranks on the
+-- programs' lists are as in the ranking matrices of Gusfield and Irving 1989.
 use Rattle.std.specs.Prelude.{◌≡◌, ℕ, ◌+◌, ◌<◌, ◌≤◌, ◌^◌, Bool, true, false, ◌==◌, List, [], map, length, Option, Some, unwrap_or, IsTrue, slice_index, slice_index_or}
 use Rattle.std.specs.List.{position}
 use Rattle.mt_model.specs.Lists.{has, below, total_below}

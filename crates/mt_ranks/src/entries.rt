@@ -74,11 +74,7 @@ mod tests {
     fn a_live_list_in_the_order_of_the_list(rt: HostRuntime) -> Result<(), Fail> {
         let mut lists = FlatLists::new(rt.alloc());
         let list = [ProgNo(7), ProgNo(2), ProgNo(1)];
-        push_live(
-            &mut lists,
-            &list,
-            &[entry(1, 4), entry(3, 0), entry(7, 2)],
-        )?;
+        push_live(&mut lists, &list, &[entry(1, 4), entry(3, 0), entry(7, 2)])?;
         assert_eq!(rt; lists.len(), 1);
         assert_eq!(rt; lists.list(0), [entry(7, 2), entry(1, 4)].as_slice());
         Ok(())

@@ -1,2 +1,1 @@
 pub mod Drains
-pub mod Places

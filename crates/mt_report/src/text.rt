@@ -4,7 +4,7 @@ ghost use Rattle.mt_model.specs.Lists.{below, total_below};
 ghost use Rattle.mt_model.specs.Market.{applicants, program_of};
 ghost use Rattle.mt_model.specs.Matching.{at, filled, place_of};
 ghost use Rattle.mt_model.specs.Text.{all_filled, applicant_line, line, place_text, positions, program_line, published as published_text, totals_line, unmatched};
-ghost use Rattle.mt_report.specs.Places.{ArePlaces};
+ghost use Rattle.mt_model.specs.Places.{ArePlaces};
 
 use itoa::Buffer;
 use mt_model::{AppNo, Match, ProgNo};

@@ -27,7 +27,7 @@ length-couples_with (m ∷ ms) (p ∷ ps) h = ap suc (length-couples_with ms ps 
 
 pub couple_at : (ms : List (ℕ × ℕ)) (ps : List (List Pair)) (i : ℕ) → length ps ≡ length ms
     → get_or (couples_with ms ps) i (record { first = 0; second = 0; pairs = [] })
-      ≡ record { first = (get_or ms i (0, 0)).0; second = (get_or ms i (0, 0)).1; pairs = get_or ps i [] }
+    ≡ record { first = (get_or ms i (0, 0)).0; second = (get_or ms i (0, 0)).1; pairs = get_or ps i [] }
 couple_at [] [] i h = refl
 couple_at [] (p ∷ ps) i h = absurd (omega arith)
 couple_at (m ∷ ms) [] i h = absurd (omega arith)

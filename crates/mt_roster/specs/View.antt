@@ -8,7 +8,8 @@ use Rattle.mt_roster.specs.declared.tables.Roster.TheInside.{Inside}
 abbrev pub registered_of : Inside → Registered
 registered_of t = record {
   market = record { programs = programs_with t.quotas.items t.rankings; lists = t.lists; couples = couples_with t.members.items t.pairs };
-  names = record { programs = t.program_ids; applicants = t.applicant_ids; couples = t.couple_ids } }
+  names = record { programs = t.program_ids; applicants = t.applicant_ids; couples = t.couple_ids };
+}
 
 -- The tables are of one length each, and every applicant's agent is the market's.
 pub record AreTables (t : Inside) : Type 0 where

@@ -3,9 +3,8 @@ ghost use Rattle.mt_model.specs.Market.{applicants, program_of, list_of, couple_
 ghost use Rattle.mt_model.specs.Text.{name_of};
 ghost use Rattle.mt_roster.specs.Tables.{IsRoster};
 
-use std::marker::Model;
-
 use mt_model::{Agent, AppNo, CoupleNo, FlatLists, ProgNo};
+use std::marker::Model;
 
 /// A market with its ids: programs with quotas and rank order lists, singles with theirs, and couples with
 /// lists of pairs. Numbers are dense, by order of registration from 0.

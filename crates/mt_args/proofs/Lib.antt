@@ -1,0 +1,3 @@
+pub mod Agreement
+pub mod OptionReads
+pub mod ParsedFacts

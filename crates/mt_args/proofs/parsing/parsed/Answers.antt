@@ -1,0 +1,32 @@
+use Rattle.std.proofs.Common.{◌≡◌, ◌∙◌, refl, ap, subst, true, map, string_bytes}
+use Rattle.std.proofs.lemmas.Result.{IfOk-weaker}
+use Rattle.clap.specs.Words.{fault_of, app_of, is_simple_and_free}
+use Rattle.clap.specs.Kinds.{FailsBy}
+use Rattle.clap.proofs.OnLiterals.{clap_on_literals}
+use Rattle.mt_args.specs.CommandLine.{nrmatch}
+use Rattle.mt_args.proofs.Agreement.{command_agrees}
+use Rattle.mt_args.proofs.ParsedFacts.{options_there, refused_by_kind, refused_by_test, taken_by_test}
+use Rattle.mt_args.proofs.parsing.parsed.Goals as goal
+
+free : is_simple_and_free nrmatch ≡ true
+unfolding clap_on_literals
+free = refl
+
+fails_by : (c : goal.After-try_get_matches_from) → FailsBy (fault_of nrmatch (map string_bytes c.args.words.now)) c.try_get_matches_from.result
+fails_by c =
+    let is : app_of c.in_ok-command.field-0 ≡ nrmatch = c.in_ok-command.ensures in
+    subst (λ a. FailsBy (fault_of a (map string_bytes c.args.words.now)) c.try_get_matches_from.result) is
+    (c.try_get_matches_from.ensures.kinds (ap is_simple_and_free is ∙ free))
+
+pub returns-clause-options : goal.returns-clause-options
+returns-clause-options c =
+    IfOk-weaker c.try_get_matches_from.result _ _ (options_there c.in_ok-command.field-0 c.in_ok-command.ensures) c.try_get_matches_from.ensures.parsed
+
+pub returns-clause-taken : goal.returns-clause-taken
+returns-clause-taken c = taken_by_test c.try_get_matches_from.result (command_agrees _) (fails_by c)
+
+pub returns-clause-err : goal.returns-clause-err
+returns-clause-err c = refused_by_kind c.try_get_matches_from.result (command_agrees _) (fails_by c)
+
+pub returns-clause-refused : goal.returns-clause-refused
+returns-clause-refused c = refused_by_test c.try_get_matches_from.result (command_agrees _) (fails_by c)

@@ -1,0 +1,119 @@
+-- The command line `nrmatch [FILE] [--workers N] [--budget N]`: a simple command in the terms of the crate `clap`, and what
+-- its words ask for. Which words the command takes, what it reads of them, defaults included, and how it refuses others
+-- is `clap`'s own definition of a simple command: `takes`, `matches_of` and `fault_of`. The command, its limits and its
+-- defaults are this project's own.
+use Rattle.std.specs.Prelude.{◌≡◌, ◌≢◌, ◌≤◌, ℕ, Bool, true, List, [], ◌∷◌, Option, Some, ⊤}
+use Rattle.std.specs.Prelude.{option_map, codes, pos, map, String, string_bytes}
+use Rattle.std.specs.Global.{Global}
+use Rattle.std.specs.Str.Parse.{IsNumeral, digits_value, without_leading_plus}
+use Rattle.clap.specs.Words.{App, Row, Rule, Text, fault_of, first_of, matches_of, new_app}
+use Rattle.clap.specs.Words.{new_rule, one_of, takes, with_rule}
+use Rattle.clap.specs.Simple.{on_top}
+use Rattle.clap.specs.declared.builder.action.ArgAction.TheVariants.{Set}
+use Rattle.clap.specs.declared.builder.value_parser.ValueParser.TheVariants.{Signed}
+use Rattle.clap.specs.declared.error.kind.ErrorKind.{ErrorKind}
+use Rattle.clap.specs.declared.error.kind.ErrorKind.TheVariants.{DisplayHelp}
+use Rattle.mt_args.specs.declared.answer.Asked.{Asked}
+use Rattle.mt_args.specs.declared.answer.Asked.TheVariants.{Run, Help}
+use Rattle.mt_args.specs.declared.answer.AskEnd.{AskEnd}
+use Rattle.mt_args.specs.declared.answer.AskEnd.TheVariants.{Usage, Memory}
+use Rattle.mt_run.specs.declared.options.Options.{Options}
+
+-- ---- the command
+
+-- `[FILE]`
+abbrev pub file_rule : Rule
+file_rule = new_rule (codes "FILE")
+
+-- `[--workers N]`, 1 to 64, without which it is 4
+abbrev pub workers_rule : Rule
+workers_rule = record (new_rule (codes "workers")) {
+  long = Some (codes "workers");
+  action = Some Set;
+  value_names = 1;
+  parser = Some (Signed (pos 1) (pos 64));
+  defaults = codes "4" ∷ [];
+}
+
+-- `[--budget N]`, 1 to 4,294,967,295, without which it is 1,000,000
+abbrev pub budget_rule : Rule
+budget_rule = record (new_rule (codes "budget")) {
+  long = Some (codes "budget");
+  action = Some Set;
+  value_names = 1;
+  parser = Some (Signed (pos 1) (pos 4294967295));
+  defaults = codes "1000000" ∷ [];
+}
+
+-- the command, whose words begin after the program's name; `--help` and `-h` are added by `clap`
+abbrev pub nrmatch : App
+nrmatch = with_rule (with_rule (with_rule
+    (on_top (λ s. record s { no_binary_name = true }) (new_app (codes "nrmatch")))
+    file_rule) workers_rule) budget_rule
+
+-- ---- what the words ask for
+
+-- the file among the matches, if any
+abbrev pub file_in : List Row → Option Text
+file_in = first_of (codes "FILE")
+
+-- the number that a text of decimal digits writes, with or without a `+` before them
+abbrev pub number_at : Text → ℕ
+number_at digits = digits_value 10 (without_leading_plus digits)
+
+-- the number of an option among the matches, given or by default
+abbrev pub number_in : Text → List Row → Option ℕ
+number_in name rows = option_map number_at (one_of name rows)
+
+-- the file that the words name, if any
+abbrev pub file_of : List Text → Option Text
+file_of words = file_in (matches_of nrmatch words)
+
+-- the number that the words, or the default, give an option
+abbrev pub number_of : Text → List Text → Option ℕ
+number_of name words = number_in name (matches_of nrmatch words)
+
+-- the command takes the words
+abbrev pub is_taken : List Text → Bool
+is_taken words = takes nrmatch words
+
+-- the words are refused because they ask for help
+abbrev pub AsksForHelp : List Text → Type 0
+AsksForHelp words = fault_of nrmatch words ≡ DisplayHelp ∷ []
+
+-- the words are refused for any other reason
+abbrev pub IsMisuse : List Text → Type 0
+IsMisuse words = (kind : ErrorKind) × (kind ≢ DisplayHelp) × (fault_of nrmatch words ≡ kind ∷ [])
+
+-- ---- answers
+
+abbrev pub texts_of : List (String Global) → List Text
+texts_of = map string_bytes
+
+-- a fact of the run that an answer asks for, of an answer that is help, and of a refusal that is usage
+abbrev pub IfRun : Asked → (Option Text → Options → Type 0) → Type 0
+IfRun (Run file options) P = P (option_map string_bytes file) options
+IfRun (Help text) P = ⊤
+
+abbrev pub OnHelp : Asked → Type 0 → Type 0
+OnHelp (Help text) P = P
+OnHelp (Run file options) P = ⊤
+
+abbrev pub OnUsage : AskEnd → Type 0 → Type 0
+OnUsage (Usage text) P = P
+OnUsage Memory P = ⊤
+
+-- what a run is told is within the limits of the command
+abbrev pub IsWithinLimits : Options → Type 0
+IsWithinLimits o = (1 ≤ o.workers) × (o.workers ≤ 64) × (1 ≤ o.budget)
+
+-- ---- inside the crate
+
+-- the text of an option among the matches is a number within its limits
+abbrev pub HasNumber : ℕ → ℕ → Text → List Row → Type 0
+HasNumber low high name rows = (digits : Text) × (one_of name rows ≡ Some digits)
+    × IsNumeral 10 (without_leading_plus digits) × (low ≤ number_at digits) × (number_at digits ≤ high)
+
+-- both options are there
+abbrev pub HasOptions : List Row → Type 0
+HasOptions rows = HasNumber 1 64 (codes "workers") rows × HasNumber 1 4294967295 (codes "budget") rows

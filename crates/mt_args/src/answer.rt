@@ -1,0 +1,27 @@
+use mt_run::Options;
+use thiserror::Error;
+
+/// What the words of a command line ask for.
+#[derive(Debug, Drop, PartialEq, Eq)]
+pub enum Asked {
+    /// A run of the match.
+    Run {
+        /// The path of the input. Where there is none, the input is the standard input.
+        file: Option<String>,
+        /// What the run is told besides its input: 1 to 64 workers, and a budget of at least 1.
+        options: Options,
+    },
+    /// The help text, which goes to the standard output.
+    Help(String),
+}
+
+/// Why the words of a command line are no command.
+#[derive(Debug, Drop, PartialEq, Eq, Error)]
+pub enum AskEnd {
+    /// The words break the usage. The text says how, and goes to the standard error.
+    #[error("{0}")]
+    Usage(String),
+    /// Memory was refused.
+    #[error("out of memory")]
+    Memory,
+}

@@ -1,0 +1,71 @@
+ghost use Rattle.std.specs.Prelude.{◌≡◌, IfOk, false};
+ghost use Rattle.clap.specs.Words.{app_of, rule_of};
+ghost use Rattle.mt_args.specs.CommandLine.{budget_rule, nrmatch, workers_rule};
+
+use clap::{Arg, ArgAction, Command, value_parser};
+use std::alloc::{AllocError, Global};
+
+const ABOUT: &str = "\
+The main residency match: applicants are matched to training programs, and
+couples to pairs of programs, by the rank order lists of all of them.
+
+Writes CSV to standard output: the match (a place for each applicant; the
+quota, the places filled and the proposals of each program; totals), or one
+line that says why there is none.";
+
+const FILE_HELP: &str = "\
+CSV file with a record for each program, applicant and couple, and
+their rank order lists; standard input if left out";
+
+const WORKERS_HELP: &str = "Worker threads, 1 to 64; the match is the same for any";
+
+const BUDGET_HELP: &str = "Most rounds for the couples, 1 to 4294967295";
+
+const EXIT_STATUSES: &str = "\
+Exit status:
+  0   the match was published and wholly written
+  2   the input was refused
+  3   no match was published
+  4   memory ran out
+  5   a read or a write failed
+  64  the command line is wrong";
+
+// `[--workers N]`.
+fn workers<'a>(alloc: Global) -> Arg<'a>
+    ensures rule { rule_of result ≡ workers_rule }
+    ensures local { result.global ≡ false }
+{
+    Arg::new(alloc, "workers")
+        .long("workers")
+        .value_name("N")
+        .action(ArgAction::Set)
+        .value_parser(value_parser!(u32).range(1..=64))
+        .default_value("4")
+        .help(WORKERS_HELP)
+}
+
+// `[--budget N]`.
+fn budget<'a>(alloc: Global) -> Arg<'a>
+    ensures rule { rule_of result ≡ budget_rule }
+    ensures local { result.global ≡ false }
+{
+    Arg::new(alloc, "budget")
+        .long("budget")
+        .value_name("N")
+        .action(ArgAction::Set)
+        .value_parser(value_parser!(u32).range(1..))
+        .default_value("1000000")
+        .help(BUDGET_HELP)
+}
+
+/// The command `nrmatch [FILE] [--workers N] [--budget N]`, whose words begin after the program's name.
+pub(crate) fn command<'a>(alloc: Global) -> Result<Command<'a>, AllocError>
+    ensures { IfOk result (λ c. app_of c ≡ nrmatch) }
+{
+    let file = Arg::new(alloc, "FILE").help(FILE_HELP);
+    let plain = Command::new(alloc, "nrmatch")
+        .no_binary_name(true)
+        .about(ABOUT)
+        .after_help(EXIT_STATUSES);
+    plain.arg(file)?.arg(workers(alloc))?.arg(budget(alloc))
+}

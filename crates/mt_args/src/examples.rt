@@ -1,0 +1,30 @@
+//! What the definition of the command line gives on worked words. Each function does nothing; its contract is the
+//! example.
+
+ghost use Rattle.mt_args.specs.Examples.{AfterHyphensIsFile, AreMisuse, AskForHelp, DefaultsStand, MostIsTaken};
+
+/// No words give no file, 4 workers and a budget of 1,000,000.
+pub fn no_words()
+    ensures { DefaultsStand }
+{}
+
+/// The largest values of both options, and a file.
+pub fn largest_values()
+    ensures { MostIsTaken }
+{}
+
+/// After `--` each word is a file, whatever it looks like.
+pub fn after_two_hyphens()
+    ensures { AfterHyphensIsFile }
+{}
+
+/// Numbers outside their limits, a word that is no number, two files, an unknown option, an option without a value and
+/// one that is given twice are misuse.
+pub fn misuse()
+    ensures { AreMisuse }
+{}
+
+/// Words with `--help` or `-h`, before any fault, ask for help.
+pub fn requests_for_help()
+    ensures { AskForHelp }
+{}

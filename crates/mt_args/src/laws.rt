@@ -1,0 +1,14 @@
+//! What the definitions of the command line say, in words. Each function does nothing; its contract is the law.
+
+ghost use Rattle.mt_args.specs.Laws.{HelpIsNotTaken, RefusalIsExact};
+
+/// `clap` has a definition of which words a command takes and one of the kinds of error at the others. For this
+/// command they agree: words that are taken have no kind of error, and all others have exactly one.
+pub fn refusal_is_exact()
+    ensures { RefusalIsExact }
+{}
+
+/// Words that ask for help aren't taken.
+pub fn help_is_not_taken()
+    ensures { HelpIsNotTaken }
+{}

@@ -1,0 +1,13 @@
+//! The command line of `nrmatch`: from the words after the program's name to what is asked for.
+#![tactic(auto)]
+
+mod answer;
+mod command;
+pub mod examples;
+pub mod laws;
+mod parsing;
+#[cfg(test)]
+mod tests;
+
+pub use answer::{AskEnd, Asked};
+pub use parsing::asked;

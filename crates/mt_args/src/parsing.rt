@@ -1,0 +1,96 @@
+ghost use Rattle.std.specs.Prelude.{◌≡◌, ◌≢◌, [], ◌∷◌, IfErr, IfOk, Some, codes, false, map, option_map, string_bytes, true};
+ghost use Rattle.std.specs.Option.{option_copied};
+ghost use Rattle.clap.specs.Words.{fault_of, found_of, kind_of, matches_of, rows_of};
+ghost use Rattle.clap.specs.declared.error.kind.ErrorKind.TheVariants.{DisplayHelp, OutOfMemory};
+ghost use Rattle.mt_args.specs.CommandLine.{AsksForHelp, HasOptions, IfRun, IsMisuse, IsWithinLimits, OnHelp, OnUsage};
+ghost use Rattle.mt_args.specs.CommandLine.{file_in, file_of, is_taken, nrmatch, number_in, number_of, texts_of};
+
+use crate::command::command;
+use crate::{AskEnd, Asked};
+use clap::error::ErrorKind;
+use clap::{ArgMatches, Error};
+use mt_run::Options;
+use std::alloc::{AllocError, Global};
+
+/// What the words after the program's name ask for, by `clap`'s definition of a simple command: where the command
+/// `nrmatch [FILE] [--workers N] [--budget N]` takes the words, the file and the options that they name, or the
+/// defaults, and else `clap`'s text of help or of what is wrong.
+///
+/// `AskEnd::Usage` comes where the words aren't taken and don't ask for help, and `AskEnd::Memory` where memory was
+/// refused.
+pub fn asked(alloc: Global, words: &[String]) -> Result<Asked, AskEnd>
+    ensures taken { IfOk result (λ a. IfRun a (λ _ _. is_taken (texts_of words.now) ≡ true)) }
+    ensures file { IfOk result (λ a. IfRun a (λ file _. file ≡ file_of (texts_of words.now))) }
+    ensures workers { IfOk result (λ a. IfRun a (λ _ options.
+        Some options.workers ≡ number_of (codes "workers") (texts_of words.now))) }
+    ensures budget { IfOk result (λ a. IfRun a (λ _ options.
+        Some options.budget ≡ number_of (codes "budget") (texts_of words.now))) }
+    ensures limits { IfOk result (λ a. IfRun a (λ _ options. IsWithinLimits options)) }
+    ensures help { IfOk result (λ a. OnHelp a (AsksForHelp (texts_of words.now))) }
+    ensures help_untaken { IfOk result (λ a. OnHelp a (is_taken (texts_of words.now) ≡ false)) }
+    ensures usage { IfErr result (λ e. OnUsage e (IsMisuse (texts_of words.now))) }
+    ensures usage_untaken { IfErr result (λ e. OnUsage e (is_taken (texts_of words.now) ≡ false)) }
+{
+    match parsed(alloc, words) {
+        Ok(matches) => run_of(alloc, &matches),
+        Err(error) => end_of(alloc, &error),
+    }
+}
+
+// The matches of the command, or `clap`'s error.
+fn parsed<'a>(alloc: Global, words: &'a [String]) -> Result<ArgMatches<'a>, Error>
+    ensures rows { IfOk result (λ m. rows_of (found_of m) ≡ matches_of nrmatch (texts_of words.entry.now)) }
+    ensures options { IfOk result (λ m. HasOptions (rows_of (found_of m))) }
+    ensures taken { IfOk result (λ _. is_taken (texts_of words.entry.now) ≡ true) }
+    ensures err { IfErr result (λ e. kind_of e ≢ OutOfMemory
+        → fault_of nrmatch (texts_of words.entry.now) ≡ kind_of e ∷ []) }
+    ensures refused { IfErr result (λ e. kind_of e ≢ OutOfMemory
+        → is_taken (texts_of words.entry.now) ≡ false) }
+{
+    command(alloc)?.try_get_matches_from(words)
+}
+
+// The run that the matches ask for.
+fn run_of(alloc: Global, matches: &ArgMatches<'_>) -> Result<Asked, AskEnd>
+    requires { HasOptions (rows_of (found_of matches.now)) }
+    ensures run { IfOk result (λ a. OnHelp a ⊥) }
+    ensures file { IfOk result (λ a. IfRun a (λ file _. file ≡ file_in (rows_of (found_of matches.now)))) }
+    ensures workers { IfOk result (λ a. IfRun a (λ _ options.
+        Some options.workers ≡ number_in (codes "workers") (rows_of (found_of matches.now)))) }
+    ensures budget { IfOk result (λ a. IfRun a (λ _ options.
+        Some options.budget ≡ number_in (codes "budget") (rows_of (found_of matches.now)))) }
+    ensures limits { IfOk result (λ a. IfRun a (λ _ options. IsWithinLimits options)) }
+    ensures err { IfErr result (λ e. OnUsage e ⊥) }
+{
+    let file = owned(alloc, matches.get_str("FILE")).map_err(|_| AskEnd::Memory)?;
+    let options = Options {
+        workers: matches.get_one("workers").unwrap(),
+        budget: matches.get_one("budget").unwrap(),
+    };
+    Ok(Asked::Run { file, options })
+}
+
+// A text of its own.
+fn owned(alloc: Global, text: Option<&str>) -> Result<Option<String>, AllocError>
+    ensures { IfOk result (λ t. option_map string_bytes t ≡ option_copied text.entry) }
+{
+    match text {
+        Some(text) => Ok(Some(String::from_str(alloc, text)?)),
+        None => Ok(None),
+    }
+}
+
+// The answer to an error of `clap`, with its text.
+fn end_of(alloc: Global, error: &Error) -> Result<Asked, AskEnd>
+    ensures run { IfOk result (λ a. IfRun a (λ _ _. ⊥)) }
+    ensures help { IfOk result (λ a. OnHelp a (kind_of error.now ≡ DisplayHelp)) }
+    ensures usage { IfErr result (λ e. OnUsage e (kind_of error.now ≢ DisplayHelp)) }
+    ensures memory { IfErr result (λ e. OnUsage e (kind_of error.now ≢ OutOfMemory)) }
+{
+    let text = format!(in alloc; "{error}").map_err(|_| AskEnd::Memory)?;
+    match error.kind() {
+        ErrorKind::OutOfMemory => Err(AskEnd::Memory),
+        ErrorKind::DisplayHelp => Ok(Asked::Help(text)),
+        _ => Err(AskEnd::Usage(text)),
+    }
+}

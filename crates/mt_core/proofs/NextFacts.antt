@@ -1,0 +1,90 @@
+-- A proposal that is due can be made.
+use Rattle.std.proofs.Common.{◌≡◌, ◌==◌, ℕ, ◌-◌, ◌<◌, ◌≤◌, length, Bool, true, false, cond, Option, Some, None, IsTrue, IsFalse, slice_get, refl, ap, ◌∙◌, arith, subst}
+use Rattle.std.specs.Option.{option_map, unwrap_or}
+use Rattle.mt_model.specs.Lists.{has}
+use Rattle.mt_model.specs.Market.{Market, applicants, program_of, list_of, live}
+use Rattle.mt_model.specs.Floor.{Floor, IsRecorded, next_entry, last_tried}
+use Rattle.mt_model.proofs.FloorLists.{has-get, has-take_before}
+use Rattle.mt_model.proofs.FloorEvents.{IsNext, next_facts, live_parts, live_distinct, within_get}
+use Rattle.mt_model.proofs.FloorBest.{applicant_from_live}
+use Rattle.mt_ranks.specs.Ranked.{Ranked, IsRanked, rank_of, ranked_entry}
+use Rattle.mt_ranks.specs.declared.entries.Live.{Live}
+use Rattle.mt_ranks.proofs.Sizes.{distinct_length}
+use Rattle.mt_core.proofs.FloorTables.{CanEnter}
+
+-- an entry of a live list can be proposed to
+pub entry_can_enter : (r : Ranked) → IsRanked r → (a p : ℕ) → IsTrue (has (live r.market a) p) → CanEnter r.market a p (unwrap_or (rank_of r.market p a) 0)
+entry_can_enter r is a p on =
+    let entry = is.all_ranked a p (live_parts r.market a p on).1 in
+    record { applicant = applicant_from_live r.market a p on; program = entry.program; distinct = is.well_formed.rankings_distinct p; is_rank = entry.rank }
+
+-- a live list has no more entries than there may be programs
+pub live_few : (r : Ranked) → IsRanked r → (a : ℕ) → length (live r.market a) ≤ 20000
+live_few r is a =
+    let same : length (live r.market a) ≡ length (list_of r.market a) = ap length (is.all_live a) in
+    omega (arith, same, distinct_length (list_of r.market a) (length r.market.programs) (is.well_formed.lists_distinct a) (is.well_formed.lists_within a), is.few_programs)
+
+-- The next entry of an applicant's live list, which it can propose to and hasn't proposed to yet.
+pub record IsFirstTime (m : Market) (f : Floor) (a p r : ℕ) : Type 0 where
+  pub next : IsNext m f a p
+  pub can : CanEnter m a p r
+  pub not_received : IsFalse (f.received p a)
+  pub few : f.made a < 20000
+
+pub first_time_facts : (r : Ranked) → IsRanked r → (f : Floor) → IsRecorded r.market f → (a p : ℕ) → next_entry r.market f a ≡ Some p
+    → IsFirstTime r.market f a p (unwrap_or (rank_of r.market p a) 0)
+first_time_facts r is f recorded a p e =
+    let n = next_facts r.market f a p e in
+    record {
+      next = n;
+      can = entry_can_enter r is a p (has-get (live r.market a) (f.made a) p n.next);
+      not_received = recorded.receives a p ∙ has-take_before (live r.market a) (f.made a) p (live_distinct r.market is.well_formed a) n.next;
+      few = omega (arith, within_get (live r.market a) (f.made a) p n.next, live_few r is a);
+    }
+
+-- what an entry that is there tells of the program that it is of
+pub entry_facts : (m : Market) (a : ℕ) (o : Option ℕ) (entry : Live) → option_map (ranked_entry m a) o ≡ Some entry
+    → (o ≡ Some entry.program) × (unwrap_or (rank_of m entry.program a) 0 ≡ entry.rank)
+entry_facts m a None entry e = cc
+entry_facts m a (Some p) entry e = subst (λ (x : Live). (Some p ≡ Some x.program) × (unwrap_or (rank_of m x.program a) 0 ≡ x.rank)) (inj e) (refl, refl)
+  where
+    inj : {x y : Live} → Some x ≡ Some y → x ≡ y
+    inj h = cc
+
+-- the same of the next entry
+pub next_entry_facts : (r : Ranked) → IsRanked r → (f : Floor) → IsRecorded r.market f → (a : ℕ) (entry : Live)
+    → option_map (ranked_entry r.market a) (next_entry r.market f a) ≡ Some entry → (next_entry r.market f a ≡ Some entry.program) × IsFirstTime r.market f a entry.program entry.rank
+next_entry_facts r is f recorded a entry e =
+    let facts = entry_facts r.market a (next_entry r.market f a) entry e in
+    (facts.0, subst (λ (n : ℕ). IsFirstTime r.market f a entry.program n) facts.1 (first_time_facts r is f recorded a entry.program facts.0))
+
+-- the program that an applicant proposed to last is on its live list
+pub last_on_live : (m : Market) (f : Floor) (a p : ℕ) → last_tried m f a ≡ Some p → IsTrue (has (live m a) p)
+last_on_live m f a p e = by_test (f.made a == 0) e
+  where
+    by_test : (b : Bool) → cond b None (slice_get (live m a) (f.made a - 1)) ≡ Some p → IsTrue (has (live m a) p)
+    by_test true h = absurd (none_some h)
+      where
+        none_some : None ≡ Some p → ⊥
+        none_some k = cc
+    by_test false h = has-get (live m a) (f.made a - 1) p h
+
+-- the same of the last entry
+pub last_entry_facts : (r : Ranked) → IsRanked r → (f : Floor) (a : ℕ) (entry : Live)
+    → option_map (ranked_entry r.market a) (last_tried r.market f a) ≡ Some entry → (last_tried r.market f a ≡ Some entry.program) × CanEnter r.market a entry.program entry.rank
+last_entry_facts r is f a entry e =
+    let facts = entry_facts r.market a (last_tried r.market f a) entry e in
+    (facts.0, subst (λ (n : ℕ). CanEnter r.market a entry.program n) facts.1 (entry_can_enter r is a entry.program (last_on_live r.market f a entry.program facts.0)))
+
+-- there is no entry where there is no program
+pub no_entry : (m : Market) (a : ℕ) (o : Option ℕ) → option_map (ranked_entry m a) o ≡ None → o ≡ None
+no_entry m a None e = refl
+no_entry m a (Some p) e = absurd (some_none e)
+  where
+    some_none : {x : Live} → Some x ≡ None → ⊥
+    some_none k = cc
+
+-- a program's list has no more applicants than there may be
+pub ranking_few : (r : Ranked) → IsRanked r → (p : ℕ) → length (program_of r.market p).ranking ≤ 100000
+ranking_few r is p =
+    omega (arith, distinct_length (program_of r.market p).ranking (applicants r.market) (is.well_formed.rankings_distinct p) (is.well_formed.rankings_within p), is.few_applicants)

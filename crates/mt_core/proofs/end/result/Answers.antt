@@ -1,0 +1,37 @@
+use Rattle.std.proofs.Common.{◌≡◌, ◌++◌, ◌∷◌, [], map, sym, ap, ap₂, ◌∙◌, arith, subst}
+use Rattle.mt_model.specs.Lists.{below}
+use Rattle.mt_model.specs.Market.{applicants}
+use Rattle.mt_model.specs.Matching.{Places}
+use Rattle.mt_model.specs.Best.{IsBest}
+use Rattle.mt_model.specs.Laws.Floors.{place_on, result_of, HasProposalsOf}
+use Rattle.mt_model.proofs.FloorQuiet.{quiet_counts_lem}
+use Rattle.mt_model.proofs.FloorRuns.{result_of_is_result}
+use Rattle.mt_model.proofs.LegalBestLemmas.{legal_floor_best}
+use Rattle.mt_core.specs.Floors.{floor_of}
+use Rattle.mt_core.proofs.ListFacts.{map-below_more}
+use Rattle.mt_core.proofs.end.result.Goals as goal
+
+pub loop-applicant-preserved : goal.loop-applicant-preserved
+loop-applicant-preserved c =
+    let m = c.args.ranks.now.market in
+    c.in_ok-push.ensures.items
+    ∙ ap₂ (λ xs x. xs ++ x ∷ []) c.loop-applicant.invariant c.place.ensures
+    ∙ sym (map-below_more (place_on m (floor_of m c.args.floor.now)) c.loop-applicant.applicant)
+
+pub returns-clause-best : goal.returns-clause-best
+returns-clause-best c legal =
+    let m = c.args.ranks.now.market in
+    let f = floor_of m c.args.floor.now in
+    let all : c.loop-applicant.applicant ≡ applicants m = omega (arith, c.applicants-applicant-end.ensures.count) in
+    let is = c.new.ensures ∙ c.loop-applicant.invariant ∙ ap (λ n. map (place_on m f) (below n)) all in
+    subst (λ (s : Places). IsBest m s) (sym is)
+    (legal_floor_best m c.applicants-applicant-end.ensures.ranked.well_formed f legal c.requires.quiet (result_of m f) (result_of_is_result m f))
+
+pub returns-clause-proposals : goal.returns-clause-proposals
+returns-clause-proposals c recorded =
+    let m = c.args.ranks.now.market in
+    let f = floor_of m c.args.floor.now in
+    let all : c.loop-applicant.applicant ≡ applicants m = omega (arith, c.applicants-applicant-end.ensures.count) in
+    let is = c.new.ensures ∙ c.loop-applicant.invariant ∙ ap (λ n. map (place_on m f) (below n)) all in
+    subst (λ (s : Places). HasProposalsOf m f s) (sym is)
+    (quiet_counts_lem m c.applicants-applicant-end.ensures.ranked.well_formed f recorded c.requires.quiet (result_of m f) (result_of_is_result m f))

@@ -1,0 +1,22 @@
+use Rattle.std.proofs.Common.{IsTrue, sym, subst}
+use Rattle.mt_model.specs.Floor.{Floor, opening, after_all, is_quiet}
+use Rattle.mt_model.specs.Laws.Floors.{EndAlike}
+use Rattle.mt_model.proofs.FloorQuiet.{order_free_lem}
+use Rattle.mt_core.specs.Floors.{floor_of}
+use Rattle.mt_core.proofs.laws.order_free.Goals as goal
+
+pub returns : goal.returns
+returns c r is es fs s t end_s end_t =
+    let m = r.market in
+    let quiet_s = subst (λ (x : Floor). IsTrue (is_quiet m x)) end_s.floor end_s.quiet in
+    let quiet_t = subst (λ (x : Floor). IsTrue (is_quiet m x)) end_t.floor end_t.quiet in
+    let alike = order_free_lem m is.well_formed es fs quiet_s quiet_t in
+    let back : EndAlike m (floor_of m s) (floor_of m t) =
+    subst (λ (x : Floor). EndAlike m (floor_of m s) x) (sym end_t.floor) (subst (λ (x : Floor). EndAlike m x (after_all m opening fs)) (sym end_s.floor) alike) in
+    record {
+      same_made = back.same_made;
+      same_received = back.same_received;
+      same_match = back.same_result;
+      best = back.best;
+      counts = back.on_the_way.same_counts;
+    }

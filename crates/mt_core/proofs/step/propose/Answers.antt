@@ -1,0 +1,76 @@
+use Rattle.std.proofs.Common.{sym, ap, ◌∙◌, arith}
+use Rattle.mt_model.specs.Floor as model
+use Rattle.mt_core.specs.Floors.{floor_of}
+use Rattle.mt_core.proofs.FloorTables.{made_of, received_by_rank, entered_floor}
+use Rattle.mt_core.proofs.NextFacts.{next_entry_facts}
+use Rattle.mt_core.proofs.ReplyFacts.{reply_is, displaced_is, named_within}
+use Rattle.mt_core.proofs.step.propose.Goals as goal
+
+pub enter-taken-requires-clause-program : goal.enter-taken-requires-clause-program
+enter-taken-requires-clause-program c =
+    let r = c.args.ranks.now in
+    let facts = next_entry_facts r c.requires.ranked (floor_of r.market c.args.floor.now) c.requires.recorded c.args.applicant c.in-Some.entry (sym c.next_entry.ensures ∙ c.in-Some.is) in
+    omega (arith, facts.1.can.program, c.requires.opened.holds)
+
+pub enter-taken-requires-clause-fits : goal.enter-taken-requires-clause-fits
+enter-taken-requires-clause-fits c =
+    let r = c.args.ranks.now in
+    let facts = next_entry_facts r c.requires.ranked (floor_of r.market c.args.floor.now) c.requires.recorded c.args.applicant c.in-Some.entry (sym c.next_entry.ensures ∙ c.in-Some.is) in
+    omega (arith, facts.1.few, made_of r.market c.args.floor.now c.args.applicant)
+
+pub enter-taken-requires-clause-on_list : goal.enter-taken-requires-clause-on_list
+enter-taken-requires-clause-on_list c =
+    let r = c.args.ranks.now in
+    let facts = next_entry_facts r c.requires.ranked (floor_of r.market c.args.floor.now) c.requires.recorded c.args.applicant c.in-Some.entry (sym c.next_entry.ensures ∙ c.in-Some.is) in
+    omega (arith, facts.1.can.is_rank.within, c.requires.opened.lists c.in-Some.entry.program)
+
+pub enter-taken-requires-clause-first_time : goal.enter-taken-requires-clause-first_time
+enter-taken-requires-clause-first_time c =
+    let r = c.args.ranks.now in
+    let entry = c.in-Some.entry in
+    let facts = next_entry_facts r c.requires.ranked (floor_of r.market c.args.floor.now) c.requires.recorded c.args.applicant entry (sym c.next_entry.ensures ∙ c.in-Some.is) in
+    sym (received_by_rank r.market c.args.floor.now entry.program c.args.applicant entry.rank facts.1.can.is_rank) ∙ facts.1.not_received
+
+pub reply_at-requires-clause-program : goal.reply_at-requires-clause-program
+reply_at-requires-clause-program c =
+    let r = c.args.ranks.now in
+    let facts = next_entry_facts r c.requires.ranked (floor_of r.market c.args.floor.now) c.requires.recorded c.args.applicant c.in-Some.entry (sym c.next_entry.ensures ∙ c.in-Some.is) in
+    facts.1.can.program
+
+pub reply_at-requires-clause-rank : goal.reply_at-requires-clause-rank
+reply_at-requires-clause-rank c rank named =
+    named_within c.args.ranks.now.market c.args.floor.now c.in-Some.entry.program rank c.requires.opened ((c.enter-taken.ensures.dropped rank).0 named).0
+
+pub returns-clause-floor : goal.returns-clause-floor
+returns-clause-floor c =
+    let r = c.args.ranks.now in
+    let t = c.args.floor.now in
+    let a = c.args.applicant in
+    let entry = c.in-Some.entry in
+    let facts = next_entry_facts r c.requires.ranked (floor_of r.market t) c.requires.recorded a entry (sym c.next_entry.ensures ∙ c.in-Some.is) in
+    ap (floor_of r.market) c.enter-taken.ensures.tables
+    ∙ entered_floor r.market t a entry.program entry.rank c.requires.opened facts.1.can
+    ∙ ap (model.after_proposal r.market (floor_of r.market t) a) (sym facts.0)
+
+pub returns-clause-reply : goal.returns-clause-reply
+returns-clause-reply c =
+    let r = c.args.ranks.now in
+    let t = c.args.floor.now in
+    let a = c.args.applicant in
+    let entry = c.in-Some.entry in
+    let facts = next_entry_facts r c.requires.ranked (floor_of r.market t) c.requires.recorded a entry (sym c.next_entry.ensures ∙ c.in-Some.is) in
+    c.reply_at.ensures
+    ∙ reply_is r.market t a entry.program entry.rank c.enter-taken.result c.requires.opened facts.1.can (record { refused = c.enter-taken.ensures.refused; dropped = c.enter-taken.ensures.dropped })
+    ∙ ap (model.reply_of_proposal r.market (floor_of r.market t) a) (sym facts.0)
+
+pub returns-clause-displaced : goal.returns-clause-displaced
+returns-clause-displaced c b p on out =
+    let r = c.args.ranks.now in
+    let t = c.args.floor.now in
+    let a = c.args.applicant in
+    let entry = c.in-Some.entry in
+    let facts = next_entry_facts r c.requires.ranked (floor_of r.market t) c.requires.recorded a entry (sym c.next_entry.ensures ∙ c.in-Some.is) in
+    let now = ap (floor_of r.market) c.enter-taken.ensures.tables ∙ entered_floor r.market t a entry.program entry.rank c.requires.opened facts.1.can in
+    c.reply_at.ensures
+    ∙ displaced_is r.market t a entry.program entry.rank c.enter-taken.result c.requires.opened facts.1.can (record { refused = c.enter-taken.ensures.refused; dropped = c.enter-taken.ensures.dropped }) b p on
+    (ap (λ f. model.held r.market f p b) (sym now) ∙ out)

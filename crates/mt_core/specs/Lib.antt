@@ -1,0 +1,5 @@
+pub mod Ends
+pub mod Floors
+pub mod FloorsView
+pub mod Order
+pub mod Replies

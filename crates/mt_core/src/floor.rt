@@ -1,0 +1,128 @@
+ghost use Rattle.std.specs.Prelude.{◌≡◌, ◌↔◌, ◌+◌, ◌<◌, ◌^◌, ℕ, false, length, map, IfOk, IsTrue, IsFalse, slice_index, slice_index_or, slice_set};
+ghost use Rattle.mt_model.specs.Lists.{below, count_below};
+ghost use Rattle.mt_model.specs.Market.{Market, applicants};
+ghost use Rattle.mt_model.specs.Floor.{opening, IsStrict};
+ghost use Rattle.mt_model.specs.WellFormed.{IsWellFormed};
+ghost use Rattle.mt_hold.specs.Holding.{ranks, has_received, held, receive};
+ghost use Rattle.mt_core.specs.Floors.{hold_of, floor_of, opened_for, IsOpenedWith, entered};
+
+use mt_hold::{Hold, Taken};
+use mt_model::{AppNo, ProgNo};
+use mt_ranks::Ranks;
+use std::alloc::{AllocError, Global};
+use std::marker::Model;
+
+/// How far deferred acceptance has come (Gale and Shapley 1962; McVitie and Wilson 1971): how many programs of
+/// its live list each applicant has proposed to, whether it believes that it stands at the last of them, and what
+/// each program holds. A floor belongs to the rank tables that it was opened with.
+#[derive(Debug, Drop)]
+pub struct Floor {
+    made: Vec<u32>,
+    standing: Vec<bool>,
+    holds: Vec<Hold>,
+}
+
+impl Model for Floor {
+    ghost use Rattle.mt_core.specs.Floors.{Tables};
+
+    ghost Value = { Tables };
+
+    ghost use Rattle.mt_core.specs.FloorsView.{tables_in};
+
+    ghost view = { tables_in };
+}
+
+// For each program a holding that has received nothing.
+fn opened_holds(alloc: Global, ranks: &Ranks) -> Result<Vec<Hold>, AllocError>
+    ensures { let m = ranks.now.market in IfOk result (λ holds. holds.items ≡ map (opened_for m) (below (length m.programs))) }
+{
+    let mut holds = Vec::with_capacity(alloc, ranks.programs() as usize)?;
+    for program in 0..ranks.programs() {
+        let program = ProgNo(program);
+        let list_len = ranks.by_rank(program).len() as u32;
+        holds.push(Hold::open(alloc, ranks.quota(program), list_len)?)?;
+    }
+    Ok(holds)
+}
+
+impl Floor {
+    /// The opening floor: no proposal is made, nobody stands, and no program has received anybody. It takes all the
+    /// memory that the events will ever use, and its one error is that there isn't enough.
+    pub fn open(alloc: Global, ranks: &Ranks) -> Result<Floor, AllocError>
+        ensures opened { IfOk result (λ floor. IsOpenedWith ranks.now.market floor) }
+        ensures opening { IfOk result (λ floor. floor_of ranks.now.market floor ≡ opening) }
+        ensures strict { IfOk result (λ floor. IsStrict ranks.now.market (floor_of ranks.now.market floor)) }
+    {
+        let applicants = ranks.applicants() as usize;
+        let made = vec![in alloc; 0; applicants]?;
+        let standing = vec![in alloc; false; applicants]?;
+        let holds = opened_holds(alloc, ranks)?;
+        Ok(Floor {
+            made,
+            standing,
+            holds,
+        })
+    }
+
+    /// Whether the applicant believes that it stands where it proposed last.
+    pub(crate) fn stands(&self, applicant: AppNo) -> bool
+        requires { applicant < length self.now.standing }
+        ensures { result ≡ slice_index_or self.now.standing applicant false }
+    {
+        self.standing[applicant.index()]
+    }
+
+    /// Whether the program holds the rank.
+    pub(crate) fn holds(&self, program: ProgNo, rank: u32) -> bool
+        requires { program < length self.now.holds }
+        ensures { result ≡ held (hold_of self.now program) rank }
+    {
+        self.holds[program.index()].holds(rank)
+    }
+
+    /// The applicant proposes to the program, on whose list it has this rank.
+    pub(crate) fn enter(&mut self, applicant: AppNo, program: ProgNo, rank: u32) -> Taken
+        requires made { applicant < length self.old.made }
+        requires standing { applicant < length self.old.standing }
+        requires program { program < length self.old.holds }
+        requires fits { slice_index self.old.made applicant + 1 < 2 ^ 32 }
+        requires on_list { rank < ranks (hold_of self.old program) }
+        requires first_time { IsFalse (has_received (hold_of self.old program) rank) }
+        ensures tables { self.new ≡ entered self.old applicant program rank }
+        ensures refused { let h = receive (hold_of self.old program) rank in
+            (result ≡ Taken.Refused) ↔ IsFalse (held h rank) }
+        ensures dropped { let h = receive (hold_of self.old program) rank in
+            (other : ℕ) → (result ≡ Taken.KeptInstead other)
+            ↔ (IsTrue (held (hold_of self.old program) other) × IsFalse (held h other)) }
+    {
+        let taken = self.holds[program.index()].propose(rank);
+        self.made[applicant.index()] += 1;
+        self.standing[applicant.index()] = taken != Taken::Refused;
+        taken
+    }
+
+    /// The applicant stands no longer.
+    pub(crate) fn unseat(&mut self, applicant: AppNo)
+        requires { applicant < length self.old.standing }
+        ensures { self.new ≡ record self.old { standing = slice_set self.old.standing applicant false } }
+    {
+        self.standing[applicant.index()] = false;
+    }
+}
+
+/// How many programs the applicant has proposed to.
+pub fn made(floor: &Floor, applicant: AppNo) -> u32
+    requires { applicant < length floor.now.made }
+    ensures { (m : Market) → result ≡ (floor_of m floor.now).made applicant }
+{
+    floor.made[applicant.index()]
+}
+
+/// How many applicants the program has received a proposal from.
+pub fn received(floor: &Floor, program: ProgNo) -> u32
+    requires { program < length floor.now.holds }
+    ensures { (m : Market) → IsWellFormed m → IsOpenedWith m floor.now
+        → result ≡ count_below ((floor_of m floor.now).received program) (applicants m) }
+{
+    floor.holds[program.index()].count()
+}

@@ -1,0 +1,93 @@
+ghost use Rattle.std.specs.Prelude.{◌≡◌, ℕ, ◌+◌, ◌*◌, ◌≤◌, ◌<◌, IsTrue};
+ghost use Rattle.mt_model.specs.Market.{applicants, live_entries};
+ghost use Rattle.mt_model.specs.Floor.{IsRecorded, IsLegal, IsStrict, after_all, due_count, is_quiet};
+ghost use Rattle.mt_model.specs.Laws.Floors.{proposals_made};
+ghost use Rattle.mt_ranks.specs.Ranked.{IsRanked};
+ghost use Rattle.mt_core.specs.Floors.{floor_of, IsOpenedWith};
+ghost use Rattle.mt_core.specs.Ends.{IsReached, IsStep, AreSettled, AreSettledBut};
+
+use crate::floor::Floor;
+use crate::step::{apply, notice, propose};
+use mt_model::{AppNo, Event, Reply};
+use mt_ranks::Ranks;
+
+/// Makes the events in order, each where it is due by then, and says how many were.
+pub fn run(floor: &mut Floor, ranks: &Ranks, events: &[Event]) -> u64
+    requires opened { IsOpenedWith ranks.now.market floor.old }
+    requires recorded { IsRecorded ranks.now.market (floor_of ranks.now.market floor.old) }
+    ensures floor { let m = ranks.now.market in floor_of m floor.new ≡ after_all m (floor_of m floor.old) events.now }
+    ensures count { let m = ranks.now.market in result ≡ due_count m (floor_of m floor.old) events.now }
+    ensures at_most { result ≤ 2 * live_entries ranks.now.market }
+    ensures opened { IsOpenedWith ranks.now.market floor.new }
+    ensures recorded { IsRecorded ranks.now.market (floor_of ranks.now.market floor.new) }
+    ensures legal { let m = ranks.now.market in IsLegal m (floor_of m floor.old) → IsLegal m (floor_of m floor.new) }
+    ensures strict { let m = ranks.now.market in IsStrict m (floor_of m floor.old) → IsStrict m (floor_of m floor.new) }
+{
+    let mut due = 0;
+    for event in events {
+        if apply(floor, ranks, *event) != Reply::NotDue {
+            due += 1;
+        }
+    }
+    due
+}
+
+/// The applicant learns whether it is held no longer, and then proposes where it doesn't stand.
+fn go_on(floor: &mut Floor, ranks: &Ranks, applicant: AppNo) -> Reply
+    requires opened { IsOpenedWith ranks.now.market floor.old }
+    requires recorded { IsRecorded ranks.now.market (floor_of ranks.now.market floor.old) }
+    requires ranked { IsRanked ranks.now }
+    requires applicant { applicant < applicants ranks.now.market }
+    ensures step { let m = ranks.now.market in IsStep m (floor_of m floor.old) (floor_of m floor.new) applicant result }
+    ensures opened { IsOpenedWith ranks.now.market floor.new }
+{
+    notice(floor, ranks, applicant);
+    propose(floor, ranks, applicant)
+}
+
+/// Makes the applicant's events, those of whom it displaces, and so on, one applicant at a time, until none is due
+/// for the last of them (McVitie and Wilson 1971). Says how many proposals that were.
+fn settle(floor: &mut Floor, ranks: &Ranks, first: AppNo) -> u64
+    requires opened { IsOpenedWith ranks.now.market floor.old }
+    requires recorded { IsRecorded ranks.now.market (floor_of ranks.now.market floor.old) }
+    requires ranked { IsRanked ranks.now }
+    requires first { first < applicants ranks.now.market }
+    ensures reached { let m = ranks.now.market in IsReached m (floor_of m floor.old) (floor_of m floor.new) result }
+    ensures settled { let m = ranks.now.market in (n : ℕ) → AreSettledBut m (floor_of m floor.old) n first
+        → AreSettled m (floor_of m floor.new) n }
+    ensures opened { IsOpenedWith ranks.now.market floor.new }
+    ensures recorded { IsRecorded ranks.now.market (floor_of ranks.now.market floor.new) }
+{
+    let mut proposals = 0;
+    let mut applicant = first;
+    loop {
+        match go_on(floor, ranks, applicant) {
+            Reply::Kept => return proposals + 1,
+            Reply::KeptInstead(displaced) => applicant = displaced,
+            Reply::Refused => {}
+            Reply::Noticed | Reply::NotDue => return proposals,
+        }
+        proposals += 1;
+    }
+}
+
+/// Makes due events until none is left, and says how many of them were proposals.
+pub fn finish(floor: &mut Floor, ranks: &Ranks) -> u64
+    requires opened { IsOpenedWith ranks.now.market floor.old }
+    requires recorded { IsRecorded ranks.now.market (floor_of ranks.now.market floor.old) }
+    ensures quiet { let m = ranks.now.market in IsTrue (is_quiet m (floor_of m floor.new)) }
+    ensures reached { let m = ranks.now.market in IsReached m (floor_of m floor.old) (floor_of m floor.new) result }
+    ensures rises { let m = ranks.now.market in
+        proposals_made m (floor_of m floor.new) ≡ proposals_made m (floor_of m floor.old) + result }
+    ensures at_most { result ≤ live_entries ranks.now.market }
+    ensures opened { IsOpenedWith ranks.now.market floor.new }
+    ensures recorded { IsRecorded ranks.now.market (floor_of ranks.now.market floor.new) }
+    ensures legal { let m = ranks.now.market in IsLegal m (floor_of m floor.old) → IsLegal m (floor_of m floor.new) }
+    ensures strict { let m = ranks.now.market in IsStrict m (floor_of m floor.old) → IsStrict m (floor_of m floor.new) }
+{
+    let mut proposals = 0;
+    for applicant in 0..ranks.applicants() {
+        proposals += settle(floor, ranks, AppNo(applicant));
+    }
+    proposals
+}

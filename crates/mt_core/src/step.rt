@@ -1,0 +1,148 @@
+ghost use Rattle.std.specs.Prelude.{◌≡◌, ℕ, ◌<◌, IsTrue, IsFalse, length, slice_get};
+ghost use Rattle.std.specs.Option.{option_map};
+ghost use Rattle.mt_model.specs.Market.{applicants, program_of, live};
+ghost use Rattle.mt_model.specs.Floor.{held, last_tried, next_entry, is_held_by, IsRecorded, IsLegal, IsStrict, is_due, after, reply_of};
+ghost use Rattle.mt_ranks.specs.Ranked.{IsRanked, ranked_entry};
+ghost use Rattle.mt_core.specs.Floors.{floor_of, IsOpenedWith};
+ghost use Rattle.mt_core.specs.Replies.{reply_from};
+
+use crate::floor::{Floor, made};
+use mt_hold::Taken;
+use mt_model::{AppNo, Event, ProgNo, Reply};
+use mt_ranks::{Live, Ranks};
+
+/// The entry at a place of the applicant's live list.
+fn entry_at(ranks: &Ranks, applicant: AppNo, place: u32) -> Option<Live>
+    requires ranked { IsRanked ranks.now }
+    requires applicant { applicant < applicants ranks.now.market }
+    ensures { let m = ranks.now.market in result ≡ option_map (ranked_entry m applicant) (slice_get (live m applicant) place) }
+{
+    ranks.live(applicant).get(place as usize).copied()
+}
+
+/// The entry that the applicant proposed to last.
+pub(crate) fn last_tried(floor: &Floor, ranks: &Ranks, applicant: AppNo) -> Option<Live>
+    requires opened { IsOpenedWith ranks.now.market floor.now }
+    requires ranked { IsRanked ranks.now }
+    requires applicant { applicant < applicants ranks.now.market }
+    ensures { let m = ranks.now.market in
+        result ≡ option_map (ranked_entry m applicant) (last_tried m (floor_of m floor.now) applicant) }
+{
+    let place = made(floor, applicant).checked_sub(1)?;
+    entry_at(ranks, applicant, place)
+}
+
+/// The entry that the applicant would propose to next: none while it stands.
+fn next_entry(floor: &Floor, ranks: &Ranks, applicant: AppNo) -> Option<Live>
+    requires opened { IsOpenedWith ranks.now.market floor.now }
+    requires ranked { IsRanked ranks.now }
+    requires applicant { applicant < applicants ranks.now.market }
+    ensures { let m = ranks.now.market in
+        result ≡ option_map (ranked_entry m applicant) (next_entry m (floor_of m floor.now) applicant) }
+{
+    if floor.stands(applicant) {
+        return None;
+    }
+    entry_at(ranks, applicant, made(floor, applicant))
+}
+
+/// Whether the program that the applicant proposed to last holds it.
+pub(crate) fn is_held(floor: &Floor, ranks: &Ranks, applicant: AppNo) -> bool
+    requires opened { IsOpenedWith ranks.now.market floor.now }
+    requires ranked { IsRanked ranks.now }
+    requires applicant { applicant < applicants ranks.now.market }
+    ensures { let m = ranks.now.market in let f = floor_of m floor.now in
+        result ≡ is_held_by m f applicant (last_tried m f applicant) }
+{
+    match last_tried(floor, ranks, applicant) {
+        Some(entry) => floor.holds(entry.program, entry.rank),
+        None => false,
+    }
+}
+
+/// Whether the applicant believes that it stands where it isn't held.
+fn is_dropped(floor: &Floor, ranks: &Ranks, applicant: AppNo) -> bool
+    requires opened { IsOpenedWith ranks.now.market floor.now }
+    requires ranked { IsRanked ranks.now }
+    requires applicant { applicant < applicants ranks.now.market }
+    ensures { let m = ranks.now.market in result ≡ is_due m (floor_of m floor.now) (Event.Notice applicant) }
+{
+    floor.stands(applicant) && !is_held(floor, ranks, applicant)
+}
+
+/// The applicant learns that it is held no longer, where that is so.
+pub(crate) fn notice(floor: &mut Floor, ranks: &Ranks, applicant: AppNo) -> Reply
+    requires opened { IsOpenedWith ranks.now.market floor.old }
+    requires ranked { IsRanked ranks.now }
+    requires applicant { applicant < applicants ranks.now.market }
+    ensures floor { let m = ranks.now.market in
+        floor_of m floor.new ≡ after m (floor_of m floor.old) (Event.Notice applicant) }
+    ensures reply { let m = ranks.now.market in
+        result ≡ reply_of m (floor_of m floor.old) (Event.Notice applicant) }
+    ensures not_due { result ≡ Reply.NotDue → floor.new ≡ floor.old }
+    ensures opened { IsOpenedWith ranks.now.market floor.new }
+{
+    if !is_dropped(floor, ranks, applicant) {
+        return Reply::NotDue;
+    }
+    floor.unseat(applicant);
+    Reply::Noticed
+}
+
+/// The reply to a proposal to the program, by what became of it there.
+fn reply_at(ranks: &Ranks, program: ProgNo, taken: Taken) -> Reply
+    requires program { program < length ranks.now.market.programs }
+    requires rank { (rank : ℕ) → taken ≡ Taken.KeptInstead rank → rank < length (program_of ranks.now.market program).ranking }
+    ensures { result ≡ reply_from (program_of ranks.now.market program).ranking taken }
+{
+    match taken {
+        Taken::Kept => Reply::Kept,
+        Taken::KeptInstead(rank) => Reply::KeptInstead(ranks.by_rank(program)[rank as usize]),
+        Taken::Refused => Reply::Refused,
+    }
+}
+
+/// The applicant proposes to the next program on its live list, where there is one.
+pub(crate) fn propose(floor: &mut Floor, ranks: &Ranks, applicant: AppNo) -> Reply
+    requires opened { IsOpenedWith ranks.now.market floor.old }
+    requires recorded { IsRecorded ranks.now.market (floor_of ranks.now.market floor.old) }
+    requires ranked { IsRanked ranks.now }
+    requires applicant { applicant < applicants ranks.now.market }
+    ensures floor { let m = ranks.now.market in
+        floor_of m floor.new ≡ after m (floor_of m floor.old) (Event.Propose applicant) }
+    ensures reply { let m = ranks.now.market in
+        result ≡ reply_of m (floor_of m floor.old) (Event.Propose applicant) }
+    ensures not_due { result ≡ Reply.NotDue → floor.new ≡ floor.old }
+
+    // At most one applicant was displaced, the one that the reply names.
+    ensures displaced { let m = ranks.now.market in (b p : ℕ) → IsTrue (held m (floor_of m floor.old) p b)
+        → IsFalse (held m (floor_of m floor.new) p b) → result ≡ Reply.KeptInstead b }
+    ensures opened { IsOpenedWith ranks.now.market floor.new }
+{
+    let Some(entry) = next_entry(floor, ranks, applicant) else {
+        return Reply::NotDue;
+    };
+    let taken = floor.enter(applicant, entry.program, entry.rank);
+    reply_at(ranks, entry.program, taken)
+}
+
+/// Makes the event, where it is due, and says what came of it. An event that isn't due changes nothing. The floor
+/// was opened with these rank tables, and events alone have changed it.
+pub fn apply(floor: &mut Floor, ranks: &Ranks, event: Event) -> Reply
+    requires opened { IsOpenedWith ranks.now.market floor.old }
+    requires recorded { IsRecorded ranks.now.market (floor_of ranks.now.market floor.old) }
+    ensures floor { let m = ranks.now.market in floor_of m floor.new ≡ after m (floor_of m floor.old) event }
+    ensures reply { let m = ranks.now.market in result ≡ reply_of m (floor_of m floor.old) event }
+    ensures not_due { result ≡ Reply.NotDue → floor.new ≡ floor.old }
+    ensures opened { IsOpenedWith ranks.now.market floor.new }
+    ensures recorded { IsRecorded ranks.now.market (floor_of ranks.now.market floor.new) }
+    ensures legal { let m = ranks.now.market in IsLegal m (floor_of m floor.old) → IsLegal m (floor_of m floor.new) }
+    ensures strict { let m = ranks.now.market in IsStrict m (floor_of m floor.old) → IsStrict m (floor_of m floor.new) }
+{
+    let applicants = ranks.applicants();
+    match event {
+        Event::Propose(applicant) if applicant.0 < applicants => propose(floor, ranks, applicant),
+        Event::Notice(applicant) if applicant.0 < applicants => notice(floor, ranks, applicant),
+        _ => Reply::NotDue,
+    }
+}

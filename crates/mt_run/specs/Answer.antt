@@ -1,0 +1,74 @@
+-- What a run writes for the bytes that it reads.
+use Rattle.std.specs.Prelude.{◌≡◌, ◌≢◌, ℕ, ◌<◌, ◌≤◌, List, [], map, length, take, Option, None, Some, IsTrue, nat_lt, MatchOption, MatchResult}
+use Rattle.std.specs.Bool.{MatchBool}
+use Rattle.std.specs.Io.KnownBytes.{Appends}
+use Rattle.mt_lists.specs.Records.{records_of}
+use Rattle.mt_model.specs.Best.{IsBest, proposals}
+use Rattle.mt_model.specs.Lists.{below}
+use Rattle.mt_model.specs.Market.{Registered}
+use Rattle.mt_model.specs.Matching.{Places}
+use Rattle.mt_model.specs.Registration.{market_of}
+use Rattle.mt_model.specs.Registration.Faults.{Fault}
+use Rattle.mt_model.specs.Rounds.{stage}
+use Rattle.mt_model.specs.Stability.{stable}
+use Rattle.mt_model.specs.Text.{is_known_code, published, refused}
+
+-- the text is the line of a refusal with this code, which no record is at
+abbrev pub IsRefusedAlone : ℕ → ℕ → List ℕ → Type 0
+IsRefusedAlone refusal code text = (code ≡ refusal) × (text ≡ refused refusal 0 [])
+
+-- how many proposals each program receives on the way to the best match
+abbrev pub all_proposals : Registered → Places → List ℕ
+all_proposals r best = map (proposals r.market best) (below (length r.market.programs))
+
+-- after the couples' stage from the best match of the singles: the published text of the match that it ends
+-- in, or the refusal where the budget is spent
+abbrev pub IsAnswerOfStage : Registered → Places → Option (Places × ℕ) → ℕ → List ℕ → Type 0
+IsAnswerOfStage r best None code text = IsRefusedAlone 41 code text
+IsAnswerOfStage r best (Some s) code text = (code ≡ 0) × (text ≡ published r.market r.names s.0 (all_proposals r best))
+
+-- the answer to a market: the couples enter after the best match of the singles
+pub record IsAnswerOfMarket (r : Registered) (budget code : ℕ) (text : List ℕ) : Type 0 where
+  pub best : Places
+  pub is_best : IsBest r.market best
+  pub ends : IsAnswerOfStage r best (stage r.market best budget) code text
+
+-- the answer to a first fault: its refusal line
+pub record IsAnswerOfFault (f : Fault) (code : ℕ) (text : List ℕ) : Type 0 where
+  pub same_code : code ≡ f.code
+  pub line : text ≡ refused f.code f.row f.id
+
+-- the answer to records: of their market, or of their first fault
+abbrev pub IsAnswerOfRows : ℕ → ℕ → List ℕ → List (List (List ℕ)) → Type 0
+IsAnswerOfRows budget code text rows = MatchResult (market_of rows) (λ r. IsAnswerOfMarket r budget code text) (λ f. IsAnswerOfFault f code text)
+
+-- how many bytes an input may have
+abbrev pub most_bytes : ℕ
+most_bytes = 67108864
+
+-- The answer to bytes and a budget, with its code: 0 for a published text, else the refusal's.
+abbrev pub IsAnswer : List ℕ → ℕ → ℕ → List ℕ → Type 0
+IsAnswer bytes budget code text =
+    MatchBool (nat_lt most_bytes (length bytes)) (IsRefusedAlone 10 code text)
+    (MatchOption (records_of bytes) (IsRefusedAlone 11 code text) (IsAnswerOfRows budget code text))
+
+-- the answer to the bytes that a reader had left, or to some bytes where it doesn't tell them
+abbrev pub IsAnswerTo : Option (List ℕ) → ℕ → ℕ → List ℕ → Type 0
+IsAnswerTo (Some bytes) budget code text = IsAnswer bytes budget code text
+IsAnswerTo None budget code text = (bytes : List ℕ) × IsAnswer bytes budget code text
+
+-- one named refusal line
+pub record IsRefusal (code : ℕ) (text : List ℕ) : Type 0 where
+  pub known : IsTrue (is_known_code code)
+  pub row : ℕ
+  pub id : List ℕ
+  pub line : text ≡ refused code row id
+
+-- What a run did: it appended the first bytes of a text. The text is a refusal where the code isn't 0; and
+-- but for want of memory and a read that failed it is the answer to the bytes that were there to read.
+pub record Answers (left : Option (List ℕ)) (budget : ℕ) (old new : Option (List ℕ)) (code written : ℕ) : Type 0 where
+  pub text : List ℕ
+  pub appended : Appends old new (take written text)
+  pub within : written ≤ length text
+  pub refusal : code ≢ 0 → IsRefusal code text
+  pub answer : code ≢ 30 → code ≢ 31 → IsAnswerTo left budget code text

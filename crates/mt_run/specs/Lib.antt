@@ -1,0 +1,3 @@
+pub mod Status
+pub mod Answer
+pub mod Laws

@@ -1,0 +1,167 @@
+-- The first option with which an agent blocks, as a search along its list finds it.
+use Rattle.std.proofs.Common.{◌≡◌, ℕ, ◌<◌, Bool, true, false, ◌&&◌, ◌==◌, List, map, length, get_or, Option, Some, None, IsTrue, IsFalse, refl, ap, sym, ◌∙◌, ◌+◌, subst, below_more, is_some, unwrap_or, inl, inr}
+use Rattle.std.specs.List.{find, position}
+use Rattle.std.specs.Option.{option_eq, option_map}
+use Rattle.std.proofs.lemmas.Bool.{cases_Bool}
+use Rattle.std.proofs.lemmas.List.{get_or_read_under}
+use Rattle.mt_model.specs.Market.{Market, Pair, list_of, couple_of, applicants, agent_of, agents, leads}
+use Rattle.mt_model.specs.Matching.{Places, place_of, is_program, is_same_place, holds, better, single_placement, couple_placement}
+use Rattle.mt_model.specs.Stability.{would_be_taken, blocks}
+use Rattle.mt_model.specs.declared.numbers.Agent.{Agent}
+use Rattle.mt_model.specs.declared.numbers.Agent.TheVariants.{Single, Couple}
+use Rattle.mt_model.specs.declared.verdict.Blocker.{Blocker}
+use Rattle.mt_model.specs.Lists.{below}
+use Rattle.mt_model.proofs.VerdictLemmas.{find-map-filter}
+use Rattle.mt_verify.specs.Blocking.{blocker, blocker_led_by}
+use Rattle.mt_verify.proofs.FindFacts.{NoneYet, passes_at, stops_at, none_passes, position_mapped, any_has_position, find_first, find_none}
+use Rattle.mt_verify.proofs.OptionFacts.{and-true, holds_single}
+use Rattle.mt_verify.proofs.PlacedFacts.{is_program_read}
+
+-- an element that was read of a list, at any default
+pub element_read : {X : Type 0} (items list : List X) (k : ℕ) (x d : X) → x ≡ get_or items k x → items ≡ list → k < length items → x ≡ get_or list k d
+element_read items list k x d read are within = get_or_read_under items k (length items) x d read within refl ∙ ap (λ xs. get_or xs k d) are
+
+-- a single has a program where the place that was read is the program
+pub holds_program : (places : Places) (a p : ℕ) (place : Option ℕ) → place ≡ place_of places a → holds places (single_placement a p) ≡ option_eq ◌==◌ place (Some p)
+holds_program places a p place read = holds_single p (place_of places a) ∙ ap (is_program p) (sym read) ∙ sym (is_program_read p place)
+
+same_place_read : (x y : Option ℕ) → is_same_place x y ≡ option_eq ◌==◌ x y
+same_place_read None None = refl
+same_place_read None (Some q) = refl
+same_place_read (Some p) None = refl
+same_place_read (Some p) (Some q) = refl
+
+-- and a couple has a pair where both places are its
+pub holds_pair : (places : Places) (a b : ℕ) (pair : Pair) (s t : Option ℕ) → s ≡ place_of places a → t ≡ place_of places b
+    → holds places (couple_placement a b pair) ≡ (option_eq ◌==◌ s pair.0 && option_eq ◌==◌ t pair.1)
+holds_pair places a b pair s t s_read t_read =
+    ap (λ (x : Bool). is_same_place (place_of places a) pair.0 && x) (and-true (is_same_place (place_of places b) pair.1))
+    ∙ ap (λ (x : Option ℕ). is_same_place x pair.0 && is_same_place (place_of places b) pair.1) (sym s_read)
+    ∙ ap (λ (x : Option ℕ). is_same_place s pair.0 && is_same_place x pair.1) (sym t_read)
+    ∙ ap (λ (x : Bool). x && is_same_place t pair.1) (same_place_read s pair.0)
+    ∙ ap (λ (x : Bool). option_eq ◌==◌ s pair.0 && x) (same_place_read t pair.1)
+
+-- what is said of two members that were read
+pub taken_read : (m : Market) (places : Places) (a b s t : ℕ) (pair : Pair) → a ≡ s → b ≡ t
+    → would_be_taken m places (couple_placement a b pair) ≡ would_be_taken m places (couple_placement s t pair)
+taken_read m places a b s t pair first second =
+    ap (λ (x : ℕ). would_be_taken m places (couple_placement x b pair)) first ∙ ap (λ (x : ℕ). would_be_taken m places (couple_placement s x pair)) second
+
+-- Below, a single's list is gone through.
+module _ (m : Market) (places : Places) (a : ℕ) where
+  -- no program so far is the single's own or would take it
+  abbrev pub NoProgramYet : ℕ → Type 0
+  NoProgramYet k = NoneYet (λ p. holds places (single_placement a p)) (λ p. would_be_taken m places (single_placement a p)) (list_of m a) 0 k
+
+  pub at_own_program : (k p : ℕ) → k < length (list_of m a) → p ≡ get_or (list_of m a) k 0 → NoProgramYet k → IsTrue (holds places (single_placement a p))
+      → position (would_be_taken m places) (better m places (Single a)) ≡ None
+  at_own_program k p within read none own =
+      position_mapped (holds places) (would_be_taken m places) (single_placement a) (list_of m a)
+      ∙ stops_at (λ q. holds places (single_placement a q)) (λ q. would_be_taken m places (single_placement a q)) (list_of m a) 0 k within none
+      (subst (λ (q : ℕ). IsTrue (holds places (single_placement a q))) read own)
+
+  pub at_taken_program : (k p : ℕ) → k < length (list_of m a) → p ≡ get_or (list_of m a) k 0 → NoProgramYet k → IsFalse (holds places (single_placement a p))
+      → IsTrue (would_be_taken m places (single_placement a p)) → position (would_be_taken m places) (better m places (Single a)) ≡ Some k
+  at_taken_program k p within read none other taken =
+      position_mapped (holds places) (would_be_taken m places) (single_placement a) (list_of m a)
+      ∙ passes_at (λ q. holds places (single_placement a q)) (λ q. would_be_taken m places (single_placement a q)) (list_of m a) 0 k within none
+      (subst (λ (q : ℕ). IsFalse (holds places (single_placement a q))) read other) (subst (λ (q : ℕ). IsTrue (would_be_taken m places (single_placement a q))) read taken)
+
+  pub at_no_program : NoProgramYet (length (list_of m a)) → position (would_be_taken m places) (better m places (Single a)) ≡ None
+  at_no_program none =
+      position_mapped (holds places) (would_be_taken m places) (single_placement a) (list_of m a)
+      ∙ none_passes (λ q. holds places (single_placement a q)) (λ q. would_be_taken m places (single_placement a q)) (list_of m a) 0 none
+
+-- Below, a couple's list is gone through.
+module _ (m : Market) (places : Places) (c : ℕ) where
+  abbrev placement : Pair → List (ℕ × Option ℕ)
+  placement pair = couple_placement (couple_of m c).first (couple_of m c).second pair
+
+  -- no pair so far is the couple's own or would be taken
+  abbrev pub NoPairYet : ℕ → Type 0
+  NoPairYet k =
+      NoneYet (λ pair. holds places (couple_placement (couple_of m c).first (couple_of m c).second pair))
+      (λ pair. would_be_taken m places (couple_placement (couple_of m c).first (couple_of m c).second pair)) (couple_of m c).pairs (None, None) k
+
+  pub at_own_pair : (k : ℕ) (pair : Pair) → k < length (couple_of m c).pairs → pair ≡ get_or (couple_of m c).pairs k (None, None) → NoPairYet k
+      → IsTrue (holds places (couple_placement (couple_of m c).first (couple_of m c).second pair))
+      → position (would_be_taken m places) (better m places (Couple c)) ≡ None
+  at_own_pair k pair within read none own =
+      position_mapped (holds places) (would_be_taken m places) placement (couple_of m c).pairs
+      ∙ stops_at (λ x. holds places (placement x)) (λ x. would_be_taken m places (placement x)) (couple_of m c).pairs (None, None) k within none
+      (subst (λ (x : Pair). IsTrue (holds places (placement x))) read own)
+
+  pub at_taken_pair : (k : ℕ) (pair : Pair) → k < length (couple_of m c).pairs → pair ≡ get_or (couple_of m c).pairs k (None, None) → NoPairYet k
+      → IsFalse (holds places (couple_placement (couple_of m c).first (couple_of m c).second pair))
+      → IsTrue (would_be_taken m places (couple_placement (couple_of m c).first (couple_of m c).second pair))
+      → position (would_be_taken m places) (better m places (Couple c)) ≡ Some k
+  at_taken_pair k pair within read none other taken =
+      position_mapped (holds places) (would_be_taken m places) placement (couple_of m c).pairs
+      ∙ passes_at (λ x. holds places (placement x)) (λ x. would_be_taken m places (placement x)) (couple_of m c).pairs (None, None) k within none
+      (subst (λ (x : Pair). IsFalse (holds places (placement x))) read other) (subst (λ (x : Pair). IsTrue (would_be_taken m places (placement x))) read taken)
+
+  pub no_pair_more : (k : ℕ) (pair : Pair) → pair ≡ get_or (couple_of m c).pairs k (None, None) → NoPairYet k
+      → IsFalse (holds places (couple_placement (couple_of m c).first (couple_of m c).second pair))
+      → IsFalse (would_be_taken m places (couple_placement (couple_of m c).first (couple_of m c).second pair))
+      → NoPairYet (k + 1)
+  no_pair_more k pair read none other refused =
+      below_more (λ j. IsFalse (holds places (placement (get_or (couple_of m c).pairs j (None, None)))) × IsFalse (would_be_taken m places (placement (get_or (couple_of m c).pairs j (None, None))))) k none
+      (subst (λ (x : Pair). IsFalse (holds places (placement x))) read other, subst (λ (x : Pair). IsFalse (would_be_taken m places (placement x))) read refused)
+
+  pub at_no_pair : NoPairYet (length (couple_of m c).pairs) → position (would_be_taken m places) (better m places (Couple c)) ≡ None
+  at_no_pair none =
+      position_mapped (holds places) (would_be_taken m places) placement (couple_of m c).pairs
+      ∙ none_passes (λ x. holds places (placement x)) (λ x. would_be_taken m places (placement x)) (couple_of m c).pairs (None, None) none
+
+-- Below, an applicant's agent was read, and its list gone through.
+module _ (m : Market) (places : Places) (a : ℕ) (g : Agent) (is : agent_of m a ≡ g) where
+  -- the agent blocks with the first option that the search found
+  pub led_and_blocks : IsTrue (leads m a) → (k : ℕ) → position (would_be_taken m places) (better m places g) ≡ Some k
+      → blocker_led_by m places a ≡ Some (record { agent = g; option = k })
+  led_and_blocks leading k found =
+      let blocking : IsTrue (blocks m places g) = any_has_position (would_be_taken m places) (better m places g) ∙ ap is_some found in
+      rw (leading, is, blocking) (ap (λ (o : Option ℕ). Some (record { agent = g; option = unwrap_or o 0 })) found)
+
+  -- it doesn't where the search found none
+  pub led_not_blocking : position (would_be_taken m places) (better m places g) ≡ None → blocker_led_by m places a ≡ None
+  led_not_blocking none =
+      let not_blocking : IsFalse (blocks m places g) = any_has_position (would_be_taken m places) (better m places g) ∙ ap is_some none in
+      elim (cases_Bool (leads m a)) [
+        | inl leading ↦ rw (leading, is, not_blocking) refl
+        | inr other ↦ rw other refl
+      ]
+
+  pub not_leading : IsFalse (leads m a) → blocker_led_by m places a ≡ None
+  not_leading other = rw other refl
+
+-- who of a couple leads it
+pub leads-Couple : (m : Market) (c a : ℕ) → agent_of m a ≡ Couple c → leads m a ≡ ((couple_of m c).first == a)
+leads-Couple m c a is = rw is refl
+
+-- Below, the applicants are gone through.
+module _ (m : Market) (places : Places) where
+  -- who leads no agent that blocks
+  pub leads_none : (a : ℕ) → blocker_led_by m places a ≡ None → IsFalse (leads m a && blocks m places (agent_of m a))
+  leads_none a none = elim (cases_Bool (leads m a && blocks m places (agent_of m a))) [
+    | inl here ↦ (let e : Some (blocker m places (agent_of m a)) ≡ None = rw here at none in absurd (cc))
+    | inr other ↦ other
+  ]
+
+  leads_one : (a : ℕ) (b : Blocker) → blocker_led_by m places a ≡ Some b → IsTrue (leads m a && blocks m places (agent_of m a)) × (b ≡ blocker m places (agent_of m a))
+  leads_one a b found = elim (cases_Bool (leads m a && blocks m places (agent_of m a))) [
+    | inl here ↦ (let e : Some (blocker m places (agent_of m a)) ≡ Some b = rw here at found in (here, (cc)))
+    | inr other ↦ (let e : ◌≡◌ {A = Option Blocker} None (Some b) = rw other at found in absurd (cc))
+  ]
+
+  pub blocker_found : (a : ℕ) (b : Blocker) → a < applicants m → ((j : ℕ) → j < a → blocker_led_by m places j ≡ None) → blocker_led_by m places a ≡ Some b
+      → option_map (blocker m places) (find (blocks m places) (agents m)) ≡ Some b
+  blocker_found a b within before found =
+      let one = leads_one a b found in
+      let first = find_first (λ i. leads m i && blocks m places (agent_of m i)) (applicants m) a within (λ j less. leads_none j (before j less)) one.0 in
+      ap (option_map (blocker m places)) (find-map-filter (blocks m places) (agent_of m) (leads m) (below (applicants m)) ∙ ap (option_map (agent_of m)) first)
+      ∙ ap (λ x. Some x) (sym one.1)
+
+  pub no_blocker : ((j : ℕ) → j < applicants m → blocker_led_by m places j ≡ None) → option_map (blocker m places) (find (blocks m places) (agents m)) ≡ None
+  no_blocker none =
+      let nowhere = find_none (λ i. leads m i && blocks m places (agent_of m i)) (applicants m) (λ j less. leads_none j (none j less)) in
+      ap (option_map (blocker m places)) (find-map-filter (blocks m places) (agent_of m) (leads m) (below (applicants m)) ∙ ap (option_map (agent_of m)) nowhere)

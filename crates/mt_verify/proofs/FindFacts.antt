@@ -1,0 +1,91 @@
+-- A search that goes through numbers, or through a list up to where it stops, one after another.
+use Rattle.std.proofs.Common.{◌≡◌, ℕ, zero, suc, ◌+◌, ◌<◌, ◌≤◌, Bool, true, false, ◌||◌, List, [], ◌∷◌, map, length, get_or, Option, Some, None, is_some, unwrap_or, IsTrue, IsFalse, refl, ap, sym, ◌∙◌, inl, inr, arith, cond}
+use Rattle.std.specs.List.{find, list_any, position, position_or_len, range_with_len}
+use Rattle.std.specs.Option.{option_map}
+use Rattle.std.proofs.lemmas.Bool.{cases_Bool, cases_lt, lt-ltb, le-ltb}
+use Rattle.mt_model.specs.Lists.{Set, below, until}
+use Rattle.mt_model.proofs.ListLemmas.{none_below, until-map}
+use Rattle.mt_model.proofs.VerdictLemmas.{nothing_found}
+
+find_in_range : (test : Set) (low n k : ℕ) → k < n → ((j : ℕ) → j < k → IsFalse (test (low + j))) → IsTrue (test (low + k)) → find test (range_with_len low n) ≡ Some (low + k)
+find_in_range test low zero k within before here = absurd (omega arith)
+find_in_range test low (suc n) zero within before here = let e : low + 0 ≡ low = omega arith in let at : IsTrue (test low) = rw e at here in rw (at, e) refl
+find_in_range test low (suc n) (suc k) within before here =
+    let e : low + 0 ≡ low = omega arith in
+    let not_low : IsFalse (test low) = rw e at (before 0 (omega arith)) in
+    let up : (j : ℕ) → low + 1 + j ≡ low + suc j = λ j. omega arith in
+    rw not_low (find_in_range test (low + 1) n k (omega arith) (λ j less. ap test (up j) ∙ before (suc j) (omega arith)) (ap test (up k) ∙ here) ∙ ap Some (up k))
+
+-- the first number below n that passes
+pub find_first : (test : Set) (n k : ℕ) → k < n → ((j : ℕ) → j < k → IsFalse (test j)) → IsTrue (test k) → find test (below n) ≡ Some k
+find_first test n k within before here =
+    let same : (j : ℕ) → 0 + j ≡ j = λ j. omega arith in
+    find_in_range test 0 n k within (λ j less. ap test (same j) ∙ before j less) (ap test (same k) ∙ here) ∙ ap Some (same k)
+
+pub find_none : (test : Set) (n : ℕ) → ((j : ℕ) → j < n → IsFalse (test j)) → find test (below n) ≡ None
+find_none test n each = nothing_found test (below n) (none_below test n each)
+
+-- one element more at the front, that fails
+position_later : {Y : Type 0} (test : Y → Bool) (y : Y) (ys : List Y) (o : Option ℕ) → IsFalse (test y) → position test ys ≡ o → position test (y ∷ ys) ≡ option_map suc o
+position_later test y ys o fails is = elim (cases_lt (position_or_len test ys) (length ys)) [
+  | inl low ↦
+      let here : Some (position_or_len test ys) ≡ o = sym (rw (lt-ltb _ _ low) refl) ∙ is in
+      rw (fails, lt-ltb (1 + position_or_len test ys) (suc (length ys)) (omega arith)) (ap (λ n. Some n) (let e : 1 + position_or_len test ys ≡ suc (position_or_len test ys) = omega arith in e) ∙ ap (option_map suc) here)
+  | inr high ↦
+      let here : None ≡ o = sym (rw (le-ltb _ _ high) refl) ∙ is in
+      rw (fails, le-ltb (1 + position_or_len test ys) (suc (length ys)) (omega arith)) (ap (option_map suc) here)
+]
+
+-- Below, a search goes through a list for what passes, up to where it stops.
+-- neither comes so far
+abbrev pub NoneYet : {Y : Type 0} → (Y → Bool) → (Y → Bool) → List Y → Y → ℕ → Type 0
+NoneYet stop test ys d k = (j : ℕ) → j < k → IsFalse (stop (get_or ys j d)) × IsFalse (test (get_or ys j d))
+
+pub passes_at : {Y : Type 0} (stop test : Y → Bool) (ys : List Y) (d : Y) (k : ℕ) → k < length ys → NoneYet stop test ys d k
+    → IsFalse (stop (get_or ys k d)) → IsTrue (test (get_or ys k d)) → position test (until stop ys) ≡ Some k
+passes_at stop test [] d k within none goes_on here = absurd (omega arith)
+passes_at stop test (y ∷ ys) d zero within none goes_on here = rw (goes_on, here, lt-ltb 0 (suc (length (until stop ys))) (omega arith)) refl
+passes_at stop test (y ∷ ys) d (suc k) within none goes_on here =
+    let first = none 0 (omega arith) in
+    rw first.0 (position_later test y (until stop ys) (Some k) first.1 (passes_at stop test ys d k (omega arith) (λ j less. none (suc j) (omega arith)) goes_on here))
+
+pub stops_at : {Y : Type 0} (stop test : Y → Bool) (ys : List Y) (d : Y) (k : ℕ) → k < length ys → NoneYet stop test ys d k
+    → IsTrue (stop (get_or ys k d)) → position test (until stop ys) ≡ None
+stops_at stop test [] d k within none here = absurd (omega arith)
+stops_at stop test (y ∷ ys) d zero within none here = rw here refl
+stops_at stop test (y ∷ ys) d (suc k) within none here =
+    let first = none 0 (omega arith) in
+    rw first.0 (position_later test y (until stop ys) None first.1 (stops_at stop test ys d k (omega arith) (λ j less. none (suc j) (omega arith)) here))
+
+pub none_passes : {Y : Type 0} (stop test : Y → Bool) (ys : List Y) (d : Y) → NoneYet stop test ys d (length ys) → position test (until stop ys) ≡ None
+none_passes stop test [] d none = refl
+none_passes stop test (y ∷ ys) d none =
+    let first = none 0 (omega arith) in
+    rw first.0 (position_later test y (until stop ys) None first.1 (none_passes stop test ys d (λ j less. none (suc j) (omega arith))))
+
+-- the same search through a list of which each element stands for another
+position-map : {X Y : Type 0} (test : X → Bool) (f : Y → X) (ys : List Y) → position test (map f ys) ≡ position (λ y. test (f y)) ys
+position-map test f [] = refl
+position-map test f (y ∷ ys) = elim (cases_Bool (test (f y))) [
+  | inl here ↦ rw (here, lt-ltb 0 (suc (length (map f ys))) (omega arith), lt-ltb 0 (suc (length ys)) (omega arith)) refl
+  | inr other ↦ position_later test (f y) (map f ys) (position test (map f ys)) other refl
+      ∙ ap (option_map suc) (position-map test f ys)
+      ∙ sym (position_later (λ z. test (f z)) y ys (position (λ z. test (f z)) ys) other refl)
+]
+
+pub position_mapped : {X Y : Type 0} (stop test : X → Bool) (f : Y → X) (ys : List Y)
+    → position test (until stop (map f ys)) ≡ position (λ y. test (f y)) (until (λ y. stop (f y)) ys)
+position_mapped stop test f ys = ap (position test) (until-map stop f ys) ∙ position-map test f (until (λ y. stop (f y)) ys)
+
+-- something passes where a first place does
+pub any_has_position : {X : Type 0} (test : X → Bool) (xs : List X) → list_any test xs ≡ is_some (position test xs)
+any_has_position test [] = refl
+any_has_position test (x ∷ xs) = elim (cases_Bool (test x)) [
+  | inl here ↦ rw (here, lt-ltb 0 (suc (length xs)) (omega arith)) refl
+  | inr other ↦ ap (λ (b : Bool). b || list_any test xs) other ∙ any_has_position test xs
+      ∙ sym (ap is_some (position_later test x xs (position test xs) other refl) ∙ is_some-suc (position test xs))
+]
+  where
+    is_some-suc : (o : Option ℕ) → is_some (option_map suc o) ≡ is_some o
+    is_some-suc None = refl
+    is_some-suc (Some k) = refl

@@ -1,0 +1,75 @@
+-- What the market of an accepted file says of its lists and of a match.
+use Rattle.std.proofs.Common.{◌≡◌, ℕ, zero, suc, ◌+◌, ◌<◌, ◌≤◌, Bool, true, false, ◌&&◌, List, [], ◌∷◌, length, IsTrue, IsFalse, refl, ap, sym, ◌∙◌, arith, inl, inr, if◌then◌else◌, Option, Some, None, eq-eqb, eqb-true, subst, map, get_or}
+use Rattle.std.proofs.lemmas.Bool.{both_ways}
+use Rattle.std.proofs.lemmas.Bool.Decides.{nat_tests}
+use Rattle.std.proofs.lemmas.List.Sums.{get_or-le-sum_by}
+use Rattle.mt_model.specs.Laws.Registration.{IsRegistration}
+use Rattle.mt_model.specs.Lists.{Set, has, below, count, is_distinct, count_below}
+use Rattle.mt_model.specs.Market.{Market, Program, Partners, Registered, applicants, program_of, list_of, couple_of, live}
+use Rattle.mt_model.specs.Matching.{Places, place_of, at, filled, is_program}
+use Rattle.mt_model.proofs.BelowFacts.{length-map_below, map_below_at}
+use Rattle.mt_model.proofs.Seats.{filled_by_applicant, listed_count}
+use Rattle.mt_model.specs.Places.{ArePlaces}
+use Rattle.mt_model.specs.Stability.{is_listed}
+use Rattle.mt_model.specs.Verdict.{is_unlisted}
+use Rattle.mt_model.specs.WellFormed.{IsWellFormed}
+use Rattle.mt_model.proofs.Totals.{count_below-same}
+use Rattle.mt_model.proofs.VerdictLemmas.{allowed_parts}
+use Rattle.mt_ranks.specs.Ranked.{Ranked, ranked_of}
+use Rattle.mt_verify.specs.Placed.{placed_ranks}
+use Rattle.mt_verify.proofs.PlacedFacts.{length-ranks_from}
+
+-- Below, the market is that of an accepted file. Its lists are no longer than all of them together.
+pub few_ranked : (r : Registered) → IsRegistration r → (p : ℕ) → p < length r.market.programs → length (program_of r.market p).ranking ≤ 8000000
+few_ranked r h p within = omega (arith, h.few_entries, get_or-le-sum_by (λ (x : Program). length x.ranking) r.market.programs p (record { quota = 0; ranking = [] }) within)
+
+pub few_listed : (r : Registered) → IsRegistration r → (a : ℕ) → a < applicants r.market → length (list_of r.market a) ≤ 8000000
+few_listed r h a within = omega (arith, h.few_entries, get_or-le-sum_by (length {A = ℕ}) r.market.lists a [] within)
+
+pub few_pairs : (r : Registered) → IsRegistration r → (c : ℕ) → c < length r.market.couples → length (couple_of r.market c).pairs ≤ 8000000
+few_pairs r h c within =
+    omega (arith, h.few_entries, get_or-le-sum_by (λ (x : Partners). length x.pairs) r.market.couples c (record { first = 0; second = 0; pairs = [] }) within)
+
+-- Below, r are the rank tables of the market m.
+pub ranked_programs : (r : Ranked) (m : Market) → r ≡ ranked_of m → length r.market.programs ≡ length m.programs
+ranked_programs r m is = ap (λ (x : Ranked). length x.market.programs) is
+
+pub ranked_applicants : (r : Ranked) (m : Market) → r ≡ ranked_of m → applicants r.market ≡ applicants m
+ranked_applicants r m is = ap (λ (x : Ranked). applicants x.market) is ∙ length-map_below (live m) (applicants m)
+
+pub ranked_program : (r : Ranked) (m : Market) (p : ℕ) → r ≡ ranked_of m → program_of r.market p ≡ program_of m p
+ranked_program r m p is = ap (λ (x : Ranked). program_of x.market p) is
+
+-- where an applicant's place was read, it is there
+pub at_place : (places : Places) (a p : ℕ) (place : Option ℕ) → place ≡ place_of places a → place ≡ Some p → IsTrue (at places p a)
+at_place places a p place read is = ap (is_program p) (sym read ∙ is) ∙ eq-eqb p p refl
+
+-- who is at a program is on its list, where its place is allowed
+listed_there : (m : Market) (a p : ℕ) (place : Option ℕ) → IsTrue (is_listed m a place) → IsTrue (is_program p place) → IsTrue (has (program_of m p).ranking a)
+listed_there m a p None listed there = absurd (both_ways false refl there)
+listed_there m a p (Some q) listed there = subst (λ (r : ℕ). IsTrue (has (program_of m r).ranking a)) (eqb-true q p there) listed
+
+-- where all places are allowed, as many are placed at a program as are placed on its list
+pub filled_ranks : (m : Market) (places : Places) → IsWellFormed m → ArePlaces m places → ((a : ℕ) → a < applicants m → IsFalse (is_unlisted m places a))
+    → (p : ℕ) → length (placed_ranks m places p) ≡ filled places p
+filled_ranks m places formed are listed p =
+    length-ranks_from 0 (at places p) (program_of m p).ranking
+    ∙ listed_count (at places p) (program_of m p).ranking (applicants m) (formed.rankings_distinct p) (formed.rankings_within p)
+    ∙ count_below-same (λ a. has (program_of m p).ranking a && at places p a) (at places p) (applicants m) (λ a a_in.
+    both_or_none (has (program_of m p).ranking a) (at places p a) (listed_there m a p (place_of places a) (allowed_parts m places a (listed a a_in)).0))
+    ∙ sym (filled_by_applicant places p ∙ ap (count_below (at places p)) are.one_each)
+  where
+    both_or_none : (x y : Bool) → (IsTrue y → IsTrue x) → (x && y) ≡ y
+    both_or_none true y h = refl
+    both_or_none false true h = h refl
+    both_or_none false false h = refl
+
+-- the ranks of those placed at a program, where the lists of all programs hold them
+pub placed_at : (m : Market) (places : Places) (lists : List (List ℕ)) (p k : ℕ) → lists ≡ map (placed_ranks m places) (below (length m.programs)) → k ≡ p
+    → p < length m.programs → get_or lists k [] ≡ placed_ranks m places p
+placed_at m places lists p k are same within =
+    ap (λ xss. get_or xss k []) are ∙ ap (λ i. get_or (map (placed_ranks m places) (below (length m.programs))) i []) same
+    ∙ map_below_at (placed_ranks m places) (length m.programs) p [] within
+
+pub length_of_placed : (m : Market) (places : Places) (lists : List (List ℕ)) → lists ≡ map (placed_ranks m places) (below (length m.programs)) → length lists ≡ length m.programs
+length_of_placed m places lists are = ap length are ∙ length-map_below (placed_ranks m places) (length m.programs)

@@ -1,0 +1,10 @@
+use Rattle.std.proofs.Common.{◌≡◌, ◌==◌, None, sym, ap, ◌∙◌, arith, eq-eqb, ne_eqb}
+use Rattle.mt_model.specs.Market.{applicants}
+use Rattle.mt_model.specs.Verdict.{is_unlisted}
+use Rattle.mt_model.proofs.VerdictLemmas.{none_found_below}
+use Rattle.mt_verify.proofs.verifier.Verifier.verdict.Goals as goal
+
+pub first_over-requires : goal.first_over-requires
+first_over-requires c =
+    let self = c.args.self.now in
+    none_found_below (is_unlisted self.roster.now.market self.matched.now.places) (applicants self.roster.now.market) (sym c.first_unlisted.ensures ∙ c.in_default.is)

@@ -1,0 +1,17 @@
+-- Which agents block, by the numbers of those who lead them.
+use Rattle.std.specs.Prelude.{ℕ, ◌&&◌, Option, Some, None, if◌then◌else◌}
+use Rattle.std.specs.Option.{option_map}
+use Rattle.mt_model.specs.Market.{Market, agent_of, leads}
+use Rattle.mt_model.specs.Matching.{Places}
+use Rattle.mt_model.specs.Stability.{blocks}
+use Rattle.mt_model.specs.Verdict.{blocking_option}
+use Rattle.mt_model.specs.declared.numbers.Agent.{Agent}
+use Rattle.mt_model.specs.declared.verdict.Blocker.{Blocker}
+
+-- an agent, with the first option with which it blocks
+abbrev pub blocker : Market → Places → Agent → Blocker
+blocker m places g = record { agent = g; option = blocking_option m places g }
+
+-- the agent that an applicant leads, where it leads one and that one blocks
+abbrev pub blocker_led_by : Market → Places → ℕ → Option Blocker
+blocker_led_by m places a = if leads m a && blocks m places (agent_of m a) then Some (blocker m places (agent_of m a)) else None

@@ -1,0 +1,3 @@
+pub mod Blocking
+pub mod Moved
+pub mod Placed

@@ -1,0 +1,43 @@
+//! Whether a match of a residency market is stable, or else the first finding against it, whoever made it.
+#![tactic(auto)]
+
+ghost use Rattle.std.specs.Prelude.{◌≡◌, ◌↔◌, IfOk, IsTrue};
+ghost use Rattle.mt_model.specs.Laws.Registration.{IsRegistration};
+ghost use Rattle.mt_model.specs.Places.{ArePlaces};
+ghost use Rattle.mt_model.specs.Stability.{stable};
+ghost use Rattle.mt_model.specs.Verdict.{verdict_of};
+ghost use Rattle.mt_ranks.specs.Ranked.{ranked_of};
+
+mod listed;
+mod placed;
+mod verifier;
+
+use crate::verifier::Verifier;
+use mt_model::Match;
+pub use mt_model::{Blocker, Verdict};
+use mt_ranks::Ranks;
+use mt_roster::Roster;
+use std::alloc::{AllocError, Global};
+
+/// Whether a match is stable, or else the first finding against it: an applicant whose place isn't allowed,
+/// by number; then a program over its quota, by number; then an agent that blocks, by the number of the
+/// single or of the couple's first member, with its first better option that would be taken. The match may
+/// be of any maker. The only error is want of memory.
+///
+/// Without couples this is the stability of Gusfield and Irving 1989 for hospitals and residents; how a
+/// couple blocks is this project's own rule.
+pub fn verify(
+    alloc: Global,
+    roster: &Roster,
+    ranks: &Ranks,
+    matched: &Match,
+) -> Result<Verdict, AllocError>
+    requires places { ArePlaces roster.now.market matched.now.places }
+    requires ranks { ranks.now ≡ ranked_of roster.now.market }
+    requires registration { IsRegistration roster.now }
+    ensures verdict { IfOk result (λ v. v ≡ verdict_of roster.now.market matched.now.places) }
+    ensures stable { IfOk result (λ v. (v ≡ Verdict.Stable) ↔ IsTrue (stable roster.now.market matched.now.places)) }
+{
+    let verifier = Verifier::new(alloc, roster, ranks, matched)?;
+    Ok(verifier.verdict())
+}

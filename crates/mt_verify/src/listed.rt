@@ -1,0 +1,59 @@
+ghost use Rattle.std.specs.Prelude.{◌≡◌, ◌&&◌, ◌||◌, not, is_some};
+ghost use Rattle.std.specs.List.{list_any};
+ghost use Rattle.mt_model.specs.Matching.{is_program, is_same_place};
+
+use mt_model::ProgNo;
+
+/// Whether a single's place is on its list, or none.
+pub(crate) fn is_own_place(list: &[ProgNo], place: Option<ProgNo>) -> bool
+    ensures { result ≡ (list_any (λ p. is_program p place) list.now || not (is_some place)) }
+{
+    match place {
+        None => true,
+        Some(program) => list.contains(&program),
+    }
+}
+
+/// Whether the places of a couple's members are a pair of its list, or both none.
+pub(crate) fn is_own_pair(
+    list: &[(Option<ProgNo>, Option<ProgNo>)],
+    first: Option<ProgNo>,
+    second: Option<ProgNo>,
+) -> bool
+    ensures { result ≡ (list_any (λ pair. is_same_place first pair.0 && is_same_place second pair.1) list.now || (not (is_some first) && not (is_some second))) }
+{
+    (first.is_none() && second.is_none()) || list.contains(&(first, second))
+}
+
+#[cfg(test)]
+mod tests {
+    use super::*;
+    use std::test::Fail;
+
+    #[test]
+    fn a_single_at_home(rt: HostRuntime) -> Result<(), Fail> {
+        let list = [ProgNo(2), ProgNo(0)];
+        assert!(rt; is_own_place(&list, None));
+        assert!(rt; is_own_place(&list, Some(ProgNo(2))));
+        assert!(rt; is_own_place(&list, Some(ProgNo(0))));
+        assert!(rt; !is_own_place(&list, Some(ProgNo(1))));
+        assert!(rt; !is_own_place(&[], Some(ProgNo(0))));
+        Ok(())
+    }
+
+    fn at(program: u32) -> Option<ProgNo> {
+        Some(ProgNo(program))
+    }
+
+    #[test]
+    fn a_couple_at_a_pair(rt: HostRuntime) -> Result<(), Fail> {
+        let list = [(at(0), None), (at(1), at(0))];
+        assert!(rt; is_own_pair(&list, None, None));
+        assert!(rt; is_own_pair(&list, at(0), None));
+        assert!(rt; is_own_pair(&list, at(1), at(0)));
+        assert!(rt; !is_own_pair(&list, None, at(0)));
+        assert!(rt; !is_own_pair(&list, at(0), at(1)));
+        assert!(rt; !is_own_pair(&list, at(1), None));
+        Ok(())
+    }
+}

@@ -1,0 +1,95 @@
+ghost use Rattle.std.specs.Prelude.{◌≡◌, ◌≤◌, ◌^◌, ◌++◌, [], ◌∷◌, map, length, nat_lt, IfOk, OnOk};
+ghost use Rattle.std.specs.List.Sorted.{IsNonDecreasing};
+ghost use Rattle.mt_model.specs.Laws.Registration.{IsRegistration};
+ghost use Rattle.mt_model.specs.Lists.{below, count};
+ghost use Rattle.mt_model.specs.Matching.{at};
+ghost use Rattle.mt_verify.specs.Placed.{ranks_from, placed_ranks};
+
+use mt_model::{AppNo, FlatLists, Match, ProgNo};
+use mt_roster::Roster;
+use std::alloc::{AllocError, Global};
+
+/// Adds, as a list of its own, where those that are placed at a program stand on its list.
+fn push_placed(
+    lists: &mut FlatLists<u32>,
+    ranking: &[AppNo],
+    matched: &Match,
+    program: ProgNo,
+) -> Result<(), AllocError>
+    requires { length ranking.now ≤ 2 ^ 32 }
+    ensures { OnOk result (lists.new ≡ lists.old ++ ranks_from 0 (at matched.now.places program) ranking.now ∷ []) }
+{
+    lists.begin()?;
+    for (rank, applicant) in ranking.iter().enumerate() {
+        if matched.place(*applicant) == Some(program) {
+            lists.push(rank as u32)?;
+        }
+    }
+    Ok(())
+}
+
+/// For each program the ranks of those that are placed there, in rising order.
+pub(crate) fn placed_by_program(
+    alloc: Global,
+    roster: &Roster,
+    matched: &Match,
+) -> Result<FlatLists<u32>, AllocError>
+    requires { IsRegistration roster.now }
+    ensures { IfOk result (λ lists. lists ≡ map (placed_ranks roster.now.market matched.now.places) (below (length roster.now.market.programs))) }
+{
+    let mut lists = FlatLists::new(alloc);
+    for number in 0..roster.programs() {
+        let program = ProgNo(number);
+        push_placed(&mut lists, roster.program_list(program), matched, program)?;
+    }
+    Ok(lists)
+}
+
+/// How many of these rising ranks are below a rank.
+pub(crate) fn count_below(ranks: &[u32], rank: u32) -> usize
+    requires { IsNonDecreasing ranks.now }
+    ensures { result ≡ count (λ r. nat_lt r rank) ranks.now }
+{
+    ranks.partition_point(|placed| *placed < rank)
+}
+
+#[cfg(test)]
+mod tests {
+    use super::*;
+    use mt_model::Places;
+    use std::test::Fail;
+
+    fn at(program: u32) -> Option<ProgNo> {
+        Some(ProgNo(program))
+    }
+
+    // Applicants 0 and 1 are at program 1, applicant 3 is at program 0, and applicant 2 is unplaced.
+    #[test]
+    fn ranks_of_those_placed(rt: HostRuntime) -> Result<(), Fail> {
+        let places = vec![in rt.alloc(); at(1), at(1), None, at(0)]?;
+        let matched = Match {
+            places: Places::new(places),
+        };
+        let ranking = [AppNo(2), AppNo(0), AppNo(3), AppNo(1)];
+        let mut lists = FlatLists::new(rt.alloc());
+        push_placed(&mut lists, &ranking, &matched, ProgNo(0))?;
+        push_placed(&mut lists, &ranking, &matched, ProgNo(1))?;
+        push_placed(&mut lists, &ranking, &matched, ProgNo(2))?;
+        assert_eq!(rt; lists.len(), 3);
+        assert_eq!(rt; lists.list(0), [2].as_slice());
+        assert_eq!(rt; lists.list(1), [1, 3].as_slice());
+        assert_eq!(rt; lists.list(2).len(), 0);
+        Ok(())
+    }
+
+    #[test]
+    fn ranks_above_a_rank(rt: HostRuntime) {
+        let ranks = [1, 2, 5];
+        assert_eq!(rt; count_below(&ranks, 0), 0);
+        assert_eq!(rt; count_below(&ranks, 1), 0);
+        assert_eq!(rt; count_below(&ranks, 2), 1);
+        assert_eq!(rt; count_below(&ranks, 5), 2);
+        assert_eq!(rt; count_below(&ranks, 6), 3);
+        assert_eq!(rt; count_below(&[], 6), 0);
+    }
+}

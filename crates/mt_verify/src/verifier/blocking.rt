@@ -1,0 +1,88 @@
+ghost use Rattle.std.specs.Prelude.{◌≡◌, ◌<◌, length};
+ghost use Rattle.std.specs.List.{find, position};
+ghost use Rattle.std.specs.Option.{option_map};
+ghost use Rattle.mt_model.specs.Market.{agents, applicants};
+ghost use Rattle.mt_model.specs.Matching.{better};
+ghost use Rattle.mt_model.specs.Stability.{blocks, would_be_taken};
+ghost use Rattle.mt_model.specs.declared.numbers.Agent.TheVariants.{Couple, Single};
+ghost use Rattle.mt_verify.specs.Blocking.{blocker, blocker_led_by};
+
+use crate::verifier::Verifier;
+use mt_model::{Agent, AppNo, Blocker, CoupleNo};
+
+impl Verifier<'_> {
+    /// The place on the single's list of its first better program that would take it.
+    fn first_program(&self, applicant: AppNo) -> Option<u32>
+        requires { applicant < applicants self.now.roster.now.market }
+        ensures { result ≡ position (would_be_taken self.now.roster.now.market self.now.matched.now.places) (better self.now.roster.now.market self.now.matched.now.places (Single applicant)) }
+    {
+        let place = self.matched.place(applicant);
+        for (option, program) in self.roster.single_list(applicant).iter().enumerate() {
+            if place == Some(*program) {
+                return None;
+            }
+            if self.takes_single(applicant, *program) {
+                return Some(option as u32);
+            }
+        }
+        None
+    }
+
+    /// The place on the couple's list of its first better pair that would be taken.
+    fn first_pair(&self, couple: CoupleNo) -> Option<u32>
+        requires { couple < length self.now.roster.now.market.couples }
+        ensures { result ≡ position (would_be_taken self.now.roster.now.market self.now.matched.now.places) (better self.now.roster.now.market self.now.matched.now.places (Couple couple)) }
+    {
+        let (first, second) = self.roster.members(couple);
+        let places = (self.matched.place(first), self.matched.place(second));
+        for (option, pair) in self.roster.couple_list(couple).iter().enumerate() {
+            if places == *pair {
+                return None;
+            }
+            if self.takes_pair(first, second, *pair) {
+                return Some(option as u32);
+            }
+        }
+        None
+    }
+
+    /// The agent that the applicant leads, a single itself and a first member its couple, where it blocks,
+    /// with the first option with which it does.
+    fn blocker_led_by(&self, applicant: AppNo) -> Option<Blocker>
+        requires { applicant < applicants self.now.roster.now.market }
+        ensures { result ≡ blocker_led_by self.now.roster.now.market self.now.matched.now.places applicant }
+    {
+        match self.roster.agent_of(applicant) {
+            Agent::Single(_) => {
+                let option = self.first_program(applicant)?;
+                Some(Blocker {
+                    agent: Agent::Single(applicant),
+                    option,
+                })
+            }
+            Agent::Couple(couple) => {
+                if self.roster.members(couple).0.index() != applicant.index() {
+                    return None;
+                }
+                let option = self.first_pair(couple)?;
+                Some(Blocker {
+                    agent: Agent::Couple(couple),
+                    option,
+                })
+            }
+        }
+    }
+
+    /// The first agent that blocks, by the number of the single or of the couple's first member, with the
+    /// first option with which it does.
+    pub(super) fn first_blocker(&self) -> Option<Blocker>
+        ensures { result ≡ option_map (blocker self.now.roster.now.market self.now.matched.now.places) (find (blocks self.now.roster.now.market self.now.matched.now.places) (agents self.now.roster.now.market)) }
+    {
+        for number in 0..self.roster.applicants() {
+            if let Some(blocker) = self.blocker_led_by(AppNo(number)) {
+                return Some(blocker);
+            }
+        }
+        None
+    }
+}
