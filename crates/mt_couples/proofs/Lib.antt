@@ -1,3 +1,4 @@
+pub mod EnteringFacts
 pub mod JoinFacts
 pub mod MarketFacts
 pub mod MoveFacts
@@ -5,6 +6,7 @@ pub mod MoveSteps
 pub mod OptionFacts
 pub mod PlaceFacts
 pub mod RankFacts
+pub mod RoundFacts
 pub mod SentFacts
 pub mod WaitingFacts
 pub mod RefusedFacts

@@ -10,7 +10,8 @@ use Rattle.mt_model.proofs.RoundsSets.{has_head}
 use Rattle.mt_model.specs.Matching.{Places}
 use Rattle.mt_model.specs.WellFormed.{IsWellFormed}
 use Rattle.mt_ranks.specs.Ranked.{Ranked, ranked_of}
-use Rattle.mt_couples.specs.Assigned.{ArePlaces, IsAgentOf}
+use Rattle.mt_model.specs.Places.{ArePlaces}
+use Rattle.mt_couples.specs.Assigned.{IsAgentOf}
 use Rattle.mt_couples.proofs.PlaceFacts.{has_read}
 
 -- Below, r are the rank tables of the market m.
@@ -32,13 +33,14 @@ pub listed_within : (m : Market) (places : Places) (p i a : ℕ) → IsWellForme
 listed_within m places p i a wf are within read =
     omega (arith, are.one_each, wf.rankings_within p a (has_read (program_of m p).ranking i a within read))
 
+-- an agent of the market has a number within it
+pub number_within : (m : Market) (g : Agent) → IsAgent m g → IsAgentOf m g
+number_within m (Single b) h = h.within b (has_head b [])
+number_within m (Couple c) h = couple_number m c h
+
 -- who an applicant of a well-formed market belongs to is of the market
 pub agent_within : (m : Market) → IsWellFormed m → (a : ℕ) → a < applicants m → IsAgentOf m (agent_of m a)
-agent_within m wf a within = by_kind (agent_of m a) (agent_of_applicant m wf a within)
-  where
-    by_kind : (g : Agent) → IsAgent m g → IsAgentOf m g
-    by_kind (Single b) h = h.within b (has_head b [])
-    by_kind (Couple c) h = couple_number m c h
+agent_within m wf a within = number_within m (agent_of m a) (agent_of_applicant m wf a within)
 
 -- an applicant that stands on a list
 pub read_within : (xs : List ℕ) (i a n : ℕ) → i < length xs → a ≡ get_or xs i a → ((b : ℕ) → IsTrue (has xs b) → b < n) → a < n

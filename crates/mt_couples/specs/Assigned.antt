@@ -2,6 +2,7 @@
 use Rattle.std.specs.Prelude.{◌≡◌, ℕ, ◌<◌, ◌≤◌, ◌&&◌, not, map, length, Option, slice_set, IsTrue}
 use Rattle.mt_model.specs.Lists.{Set, has, is_distinct}
 use Rattle.mt_model.specs.Market.{Market, Program, applicants}
+use Rattle.mt_model.specs.Places.{ArePlaces}
 use Rattle.mt_model.specs.Choice.{choice}
 use Rattle.mt_model.specs.WellFormed.{IsWellFormed}
 use Rattle.mt_model.specs.Matching.{Places, Placement, at}
@@ -18,11 +19,6 @@ with_places s places = record s { places = places }
 
 abbrev pub with_place : Assigned → ℕ → Option ℕ → Assigned
 with_place s a place = with_places s (slice_set s.places a place)
-
--- one place for each applicant, and each of them a program of the market
-pub record ArePlaces (m : Market) (places : Places) : Type 0 where
-  pub one_each : length places ≡ applicants m
-  pub within : (a p : ℕ) → IsTrue (at places p a) → p < length m.programs
 
 -- What every assignment has: a well-formed market, and a place for each of its applicants.
 pub record IsAssigned (s : Assigned) : Type 0 where

@@ -1,3 +1,4 @@
 pub mod Assigned
 pub mod Moves
+pub mod Running
 pub mod View

@@ -5,7 +5,8 @@ use Rattle.mt_model.specs.Rounds.{is_same_agent}
 use Rattle.mt_model.specs.declared.numbers.Agent.{Agent}
 use Rattle.mt_roster.specs.Tables.{IsRoster}
 use Rattle.mt_ranks.specs.Ranked.{ranked_of}
-use Rattle.mt_couples.specs.Assigned.{Assigned, ArePlaces}
+use Rattle.mt_model.specs.Places.{ArePlaces}
+use Rattle.mt_couples.specs.Assigned.{Assigned}
 use Rattle.mt_couples.specs.declared.assignment.Assignment.TheInside.{Inside}
 use Rattle.mt_couples.specs.declared.work_list.WorkList.TheInside.{Inside as Queue}
 

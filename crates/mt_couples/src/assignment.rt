@@ -6,7 +6,8 @@ ghost use Rattle.mt_model.specs.Matching.{at, place_of};
 ghost use Rattle.mt_model.specs.Rounds.{displaced_at};
 ghost use Rattle.mt_ranks.specs.Ranked.{ranked_of};
 ghost use Rattle.mt_roster.specs.Tables.{IsRoster};
-ghost use Rattle.mt_couples.specs.Assigned.{ArePlaces, IsAgentOf, IsAssigned, is_refused, with_place};
+ghost use Rattle.mt_model.specs.Places.{ArePlaces};
+ghost use Rattle.mt_couples.specs.Assigned.{IsAgentOf, IsAssigned, is_refused, with_place};
 
 use mt_model::{Agent, AppNo, CoupleNo, Match, Places, ProgNo};
 use mt_ranks::Ranks;

@@ -6,3 +6,5 @@ mod moves;
 mod options;
 mod rounds;
 mod work_list;
+
+pub use rounds::{CoupleEnd, Entered, enter_all};
