@@ -6,7 +6,9 @@ pub mod MoveSteps
 pub mod OptionFacts
 pub mod PlaceFacts
 pub mod RankFacts
+pub mod RanksFacts
 pub mod RoundFacts
+pub mod RowFacts
 pub mod SentFacts
 pub mod WaitingFacts
 pub mod RefusedFacts

@@ -19,10 +19,10 @@ module _ (set : Set) (quota : ℕ) (list : List ℕ) (i a : ℕ) (distinct : IsT
   above_is : above set list a ≡ count set (take i list)
   above_is = ap (λ x. above set list x) read ∙ ap (count set) (until_at list i a distinct within)
 
-  refused_is : is_refused (program_with quota list) set a ≡ (set a && not (set a && nat_lt (count set (take i list)) quota))
+  pub refused_is : is_refused (program_with quota list) set a ≡ (set a && not (set a && nat_lt (count set (take i list)) quota))
   refused_is = rw (has_read list i a within read, above_is) refl
 
-  count_is : count set (take (i + 1) list) ≡ count set (take i list) + (if set a then 1 else 0)
+  pub count_is : count set (take (i + 1) list) ≡ count set (take i list) + (if set a then 1 else 0)
   count_is = count_more set list i a within ∙ ap (λ x. count set (take i list) + (if set x then 1 else 0)) (sym read)
 
   filter_is : (b : Bool) → is_refused (program_with quota list) set a ≡ b

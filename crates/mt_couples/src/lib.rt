@@ -5,6 +5,7 @@ mod assignment;
 mod moves;
 mod options;
 mod rounds;
+mod row;
 mod work_list;
 
 pub use rounds::{CoupleEnd, Entered, enter_all};
