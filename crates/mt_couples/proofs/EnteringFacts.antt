@@ -1,13 +1,13 @@
 -- The couples on their way into a match, one after another.
-use Rattle.std.proofs.Common.{◌≡◌, ℕ, zero, suc, ◌+◌, ◌-◌, ◌<◌, ◌≤◌, Bool, true, false, List, [], ◌∷◌, length, Option, Some, None, IsTrue, refl, ap, sym, ◌∙◌, inl, inr, arith, subst, option_map, option_and_then}
+use Rattle.std.proofs.Common.{◌≡◌, ℕ, suc, ◌+◌, ◌-◌, ◌<◌, ◌≤◌, true, List, [], ◌∷◌, length, Some, None, IsTrue, refl, ap, sym, ◌∙◌, inl, inr, arith, subst, option_map, option_and_then}
 use Rattle.std.specs.List.{range_with_len}
 use Rattle.mt_model.specs.Lists.{below}
 use Rattle.mt_model.specs.Market.{Market, agents}
 use Rattle.mt_model.specs.Matching.{Places}
 use Rattle.mt_model.specs.Stability.{fits}
 use Rattle.mt_model.specs.WellFormed.{IsWellFormed}
-use Rattle.mt_model.specs.Rounds.{Work, joined, settled, entered, stage}
-use Rattle.mt_model.specs.Laws.Rounds.{IsFittingState, is_on}
+use Rattle.mt_model.specs.Rounds.{settled, entered, stage}
+use Rattle.mt_model.specs.Laws.Rounds.{is_on}
 use Rattle.mt_model.specs.declared.numbers.Agent.{Agent}
 use Rattle.mt_model.specs.declared.numbers.Agent.TheVariants.{Couple}
 use Rattle.mt_model.proofs.RoundsLists.{In}

@@ -10,5 +10,6 @@ pub mod RanksFacts
 pub mod RoundFacts
 pub mod RowFacts
 pub mod SentFacts
+pub mod TableFacts
 pub mod WaitingFacts
 pub mod RefusedFacts

@@ -1,5 +1,5 @@
 -- What rank tables say of the market that they are of, and who is on its lists.
-use Rattle.std.proofs.Common.{◌≡◌, ℕ, ◌<◌, List, [], length, get_or, take, IsTrue, refl, ap, ◌∙◌, arith, subst, sym}
+use Rattle.std.proofs.Common.{◌≡◌, ℕ, ◌<◌, List, [], length, get_or, IsTrue, ap, ◌∙◌, arith}
 use Rattle.mt_model.proofs.BelowFacts.{length-map_below}
 use Rattle.mt_model.specs.Lists.{has}
 use Rattle.mt_model.specs.Market.{Market, applicants, program_of, live, agent_of}

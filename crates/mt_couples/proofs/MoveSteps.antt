@@ -1,14 +1,14 @@
 -- One step of what a move does to a match, and to the programs that are left.
-use Rattle.std.proofs.Common.{◌≡◌, ℕ, zero, suc, ◌+◌, ◌<◌, arith, Bool, true, false, not, ◌&&◌, ◌||◌, ◌==◌, List, [], ◌∷◌, ◌++◌, drop, length, get_or, Option, Some, None, refl, ap, sym, ◌∙◌, slice_set, append_assoc, IsTrue, subst, inl, inr}
-use Rattle.std.specs.List.{list_any, flat_map}
-use Rattle.std.proofs.lemmas.List.{drop_more}
+use Rattle.std.proofs.Common.{◌≡◌, ℕ, zero, suc, ◌+◌, ◌<◌, arith, Bool, true, false, not, ◌&&◌, ◌||◌, ◌==◌, List, [], ◌∷◌, drop, length, get_or, Option, Some, None, refl, ap, sym, ◌∙◌, subst, inl, inr}
+use Rattle.std.specs.List.{list_any}
+use Rattle.std.proofs.lemmas.List.{drop_more, set-set}
 use Rattle.mt_model.specs.Lists.{has}
-use Rattle.mt_model.specs.Market.{Market, program_of, agent_of, members}
-use Rattle.mt_model.specs.Matching.{Places, Placement, place_of, at, is_program, send, unplaced}
+use Rattle.mt_model.specs.Market.{Market, program_of}
+use Rattle.mt_model.specs.Matching.{Places, Placement, place_of, at, is_program, send}
 use Rattle.mt_model.specs.Choice.{choice}
 use Rattle.std.specs.Option.{option_eq}
 use Rattle.mt_couples.proofs.PlaceFacts.{is_program_read}
-use Rattle.mt_model.specs.Rounds.{displaced, programs_sent_to}
+use Rattle.mt_model.specs.Rounds.{programs_sent_to}
 use Rattle.mt_model.specs.contracts.numbers.ProgNoOrd.TheImpl.{cmp-value}
 use Rattle.std.specs.declared.cmp.Ordering.{Ordering}
 use Rattle.std.specs.declared.cmp.Ordering.TheVariants.{Less, Equal, Greater}
@@ -16,14 +16,28 @@ use Rattle.std.specs.Ordering.{nat_cmp, match_ordering}
 use Rattle.std.proofs.lemmas.Cmp.{ranked}
 use Rattle.std.specs.BTreeSet.{insert_key}
 use Rattle.std.proofs.lemmas.Bool.{or_left, or_right, eq-eqb, eqb-true, cases_Bool, and_from, and_left, and_right, not_from_false, not_from_true}
-use Rattle.mt_couples.specs.Assigned.{Assigned}
-use Rattle.mt_couples.specs.Moves.{all_members, is_kept_at}
+use Rattle.mt_couples.specs.Assigned.{Assigned, with_place, with_places}
+use Rattle.mt_couples.specs.Moves.{is_kept_at}
 
 -- An assignment on the way from one match to another: the market is the same, and what is left of the way
 -- leads there.
 pub record IsOnTheWay (start now : Assigned) (rest : Places → Places) (goal : Places) : Type 0 where
   pub market : now.market ≡ start.market
   pub leads : rest now.places ≡ goal
+
+-- one that is sent to its place, out of those that are still to come
+pub sent_one : (start now new : Assigned) (sent : Placement) (i : ℕ) (s : ℕ × Option ℕ) (goal : Places) → i < length sent → s ≡ get_or sent i s → new ≡ with_place now s.0 s.1
+    → IsOnTheWay start now (send (drop i sent)) goal → IsOnTheWay start new (send (drop (i + 1) sent)) goal
+sent_one start now new sent i s goal within read is so_far =
+    let split : drop i sent ≡ s ∷ drop (i + 1) sent = drop_more sent i s within ∙ ap (λ x. x ∷ drop (i + 1) sent) (sym read) in
+    record {
+      market = ap (λ (x : Assigned). x.market) is ∙ so_far.market;
+      leads = ap (λ (x : Assigned). send (drop (i + 1) sent) x.places) is ∙ ap (λ xs. send xs now.places) (sym split) ∙ so_far.leads;
+    }
+
+-- one that is unplaced first
+pub placed_twice : (now out new : Assigned) (a : ℕ) (place : Option ℕ) → out ≡ with_place now a None → new ≡ with_place out a place → new ≡ with_place now a place
+placed_twice now out new a place first then = then ∙ ap (λ x. with_place x a place) first ∙ ap (with_places now) (set-set now.places a None place)
 
 -- Programs on the way to a set: with those that are still to come they are the set.
 abbrev pub AreOnTheWay : List ℕ → (ℕ → Bool) → (ℕ → Bool) → Type 0

@@ -1,5 +1,5 @@
 -- Elements of lists of numbers, by their places.
-use Rattle.std.proofs.Common.{◌≡◌, ℕ, zero, suc, ◌+◌, ◌<◌, ◌≤◌, Bool, true, false, not, ◌||◌, ◌==◌, List, [], ◌∷◌, ◌++◌, take, length, get_or, Option, Some, None, IsTrue, refl, ap, sym, ◌∙◌, subst, inl, inr, arith, eq-eqb, eqb-true, if◌then◌else◌}
+use Rattle.std.proofs.Common.{◌≡◌, ℕ, zero, suc, ◌+◌, ◌<◌, ◌≤◌, Bool, true, false, not, ◌==◌, List, [], ◌∷◌, ◌++◌, take, drop, length, get_or, Option, Some, None, IsTrue, refl, ap, sym, ◌∙◌, subst, inl, inr, arith, eq-eqb, eqb-true, if◌then◌else◌}
 use Rattle.std.specs.Option.{option_eq}
 use Rattle.std.proofs.lemmas.Bool.{or_left, or_right, or_cases, and_parts, not-true, both_ways, false_from_ne_true, false≢true}
 use Rattle.std.proofs.lemmas.List.{take_more, length-take}
@@ -44,6 +44,11 @@ has-take (x ∷ xs) (suc i) a on = elim (or_cases (x == a) (has (take i xs) a) o
   | inl here ↦ or_left _ _ here
   | inr later ↦ or_right _ _ (has-take xs i a later)
 ]
+
+pub has-drop : (xs : List ℕ) (i a : ℕ) → IsTrue (has (drop i xs) a) → IsTrue (has xs a)
+has-drop xs zero a on = on
+has-drop [] (suc i) a on = on
+has-drop (x ∷ xs) (suc i) a on = or_right _ _ (has-drop xs i a on)
 
 -- whether a place that was read is this program
 pub is_program_read : (p : ℕ) (place : Option ℕ) → option_eq ◌==◌ place (Some p) ≡ is_program p place

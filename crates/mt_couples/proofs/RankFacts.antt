@@ -1,7 +1,7 @@
 -- Ranks, the positions on a list of numbers: who has a rank below another one, and who stands above.
-use Rattle.std.proofs.Common.{◌≡◌, ◌==◌, ℕ, zero, suc, ◌+◌, ◌<◌, ◌≤◌, Bool, true, false, not, ◌||◌, nat_lt, List, [], ◌∷◌, length, take, Option, Some, None, is_some, IsTrue, refl, ap, sym, ◌∙◌, inl, inr, arith, subst, lt-ltb, le-ltb, eqb-true, if◌then◌else◌, get_or}
+use Rattle.std.proofs.Common.{◌≡◌, ◌==◌, ℕ, zero, suc, ◌<◌, Bool, true, false, not, nat_lt, List, [], ◌∷◌, length, take, Some, None, is_some, refl, ap, sym, ◌∙◌, inl, inr, arith, lt-ltb, le-ltb, get_or}
 use Rattle.std.specs.List.{position}
-use Rattle.std.proofs.lemmas.Bool.{cases_Bool, both_ways, false≢true, or_cases, or_left, or_right, cases_lt, or_from, eq-eqb, false_from_ne_true, and_parts, and_from, not-true, not_from_false}
+use Rattle.std.proofs.lemmas.Bool.{both_ways, cases_lt, false_from_ne_true, and_parts, and_from, not-true, not_from_false}
 use Rattle.std.proofs.lemmas.List.Quantifiers.{position-Some}
 use Rattle.mt_ranks.proofs.Positions.{has-position}
 use Rattle.mt_model.specs.Lists.{has, until, is_distinct}

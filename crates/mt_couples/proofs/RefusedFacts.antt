@@ -1,9 +1,8 @@
 -- Going down a list, who is at a program is refused once quota of them stood before.
-use Rattle.std.proofs.Common.{◌≡◌, ℕ, ◌+◌, ◌<◌, ◌≤◌, Bool, true, false, not, ◌&&◌, nat_lt, List, [], ◌∷◌, ◌++◌, filter, take, length, get_or, min, IsTrue, IsFalse, refl, ap, ap₂, sym, ◌∙◌, arith, subst, append-nil, le-ltb, lt-ltb, append_assoc, if◌then◌else◌}
+use Rattle.std.proofs.Common.{◌≡◌, ℕ, ◌+◌, ◌<◌, ◌≤◌, Bool, true, false, not, ◌&&◌, nat_lt, List, [], ◌∷◌, ◌++◌, filter, take, length, get_or, min, IsTrue, IsFalse, refl, ap, sym, ◌∙◌, arith, append-nil, le-ltb, lt-ltb, append_assoc, if◌then◌else◌}
 use Rattle.std.proofs.lemmas.List.Elements.{filter_more}
-use Rattle.mt_model.specs.Lists.{Set, has, count, until, above, is_distinct}
+use Rattle.mt_model.specs.Lists.{Set, count, above, is_distinct}
 use Rattle.mt_model.specs.Market.{Program}
-use Rattle.mt_model.specs.Choice.{choice}
 use Rattle.mt_couples.specs.Assigned.{is_refused}
 use Rattle.mt_couples.proofs.PlaceFacts.{has_read, until_at, count_more}
 

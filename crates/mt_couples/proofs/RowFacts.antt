@@ -1,15 +1,14 @@
 -- Ranks in rising order.
-use Rattle.std.proofs.Common.{◌≡◌, ℕ, zero, suc, ◌+◌, ◌-◌, ◌<◌, ◌≤◌, Bool, true, false, not, ◌||◌, ◌&&◌, ◌==◌, nat_lt, List, [], ◌∷◌, ◌++◌, map, filter, length, take, drop, get_or, insert, remove, refl, ap, ap₂, sym, ◌∙◌, inl, inr, arith, subst, lt-ltb, le-ltb, if◌then◌else◌}
+use Rattle.std.proofs.Common.{◌≡◌, ℕ, zero, suc, ◌+◌, ◌<◌, ◌≤◌, Bool, true, false, not, ◌==◌, nat_lt, List, [], ◌∷◌, filter, length, insert, remove, refl, ap, sym, inl, inr, arith, lt-ltb, le-ltb}
 use Rattle.std.specs.List.{AllByRecursion}
 use Rattle.std.specs.List.Sorted.{IsStrictlySortedBy, IsPartitionPoint}
 use Rattle.std.specs.Ordering.{nat_cmp}
 use Rattle.std.specs.BTreeSet.{insert_key}
-use Rattle.std.specs.declared.cmp.Ordering.TheVariants.{Less, Equal, Greater}
-use Rattle.std.proofs.lemmas.Bool.{cases_Bool, cases_lt, cases_eq, and_parts, or_cases, or_parts, or_left, or_right, both_ways, false≢true, false_from_ne_true, not-true, not_from_false, eq-eqb, eqb-true, ne_eqb}
+use Rattle.std.specs.declared.cmp.Ordering.TheVariants.{Less}
+use Rattle.std.proofs.lemmas.Bool.{cases_Bool, cases_lt, cases_eq, or_cases, or_parts, or_left, or_right, both_ways, false≢true, not_from_false, eq-eqb, eqb-true, ne_eqb}
 use Rattle.std.proofs.lemmas.Cmp.{ranked}
 use Rattle.std.proofs.lemmas.Map.Keys.{sorted_head, sorted_tail}
-use Rattle.mt_model.specs.Lists.{Set, has, count, is_distinct}
-use Rattle.mt_couples.specs.Rows.{ranks_from}
+use Rattle.mt_model.specs.Lists.{has, count}
 
 -- a number is below all of a list
 abbrev pub IsBelowAll : ℕ → List ℕ → Type 0

@@ -1,10 +1,9 @@
 -- How many of a list are at a program once some applicants are sent elsewhere.
-use Rattle.std.proofs.Common.{◌≡◌, ◌≢◌, ℕ, zero, suc, ◌+◌, ◌<◌, ◌≤◌, Bool, true, false, not, ◌&&◌, ◌||◌, ◌==◌, List, [], ◌∷◌, map, length, Option, Some, None, IsTrue, IsFalse, refl, ap, sym, ◌∙◌, inl, inr, arith, subst, slice_set, length-set, eq-eqb, ne_eqb, eqb-true, if◌then◌else◌, ap₂, get_or, take, Contains}
-use Rattle.std.proofs.lemmas.Bool.{cases_Bool, and_parts, or_cases, or_parts, or_left, or_right, and_right, not-true, both_ways, false≢true, false_from_ne_true}
-use Rattle.std.proofs.lemmas.Bool.Decides.{nat_tests}
+use Rattle.std.proofs.Common.{◌≡◌, ◌≢◌, ℕ, zero, suc, ◌+◌, ◌<◌, Bool, true, false, not, ◌&&◌, ◌==◌, List, [], ◌∷◌, length, Option, Some, refl, ap, sym, ◌∙◌, inl, inr, arith, subst, slice_set, length-set, eq-eqb, eqb-true, if◌then◌else◌, ap₂, get_or, take, Contains}
+use Rattle.std.proofs.lemmas.Bool.{cases_Bool, and_parts, or_parts, or_left, or_right, and_right, not-true, both_ways}
 use Rattle.mt_model.specs.Lists.{Set, has, count, is_distinct}
 use Rattle.mt_model.specs.Market.{Market, applicants}
-use Rattle.mt_model.specs.Matching.{Places, Placement, place_of, is_program, at, send}
+use Rattle.mt_model.specs.Matching.{Places, Placement, is_program, at, send}
 use Rattle.mt_model.proofs.ListLemmas.{count_agree}
 use Rattle.mt_model.proofs.TakenLemmas.{at-slice_set_same, at-slice_set_other}
 use Rattle.mt_model.proofs.RoundsLists.{In, in_has, in_image}

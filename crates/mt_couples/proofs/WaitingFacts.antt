@@ -1,5 +1,5 @@
 -- The two sets of a work list, as one list.
-use Rattle.std.proofs.Common.{◌≡◌, ℕ, ◌+◌, ◌-◌, ◌<◌, ◌≤◌, Bool, true, false, ◌||◌, List, [], ◌∷◌, ◌++◌, length, drop, get_or, refl, ap, sym, ◌∙◌, arith, subst, Option, Some, None, append_assoc, if◌then◌else◌, take, inl, inr}
+use Rattle.std.proofs.Common.{◌≡◌, ℕ, ◌+◌, ◌-◌, ◌<◌, ◌≤◌, Bool, true, false, List, [], ◌∷◌, ◌++◌, length, drop, get_or, refl, ap, sym, ◌∙◌, arith, Option, Some, None, append_assoc, if◌then◌else◌, take, inl, inr}
 use mathlib.Core.Path.{fun_ext}
 use Rattle.std.specs.List.{list_any, position, slice_get, IsDistinct}
 use Rattle.std.proofs.lemmas.Bool.{cases_Bool, both_ways, false_from_ne_true, or_parts, or_left}

@@ -1,18 +1,19 @@
-ghost use Rattle.std.specs.Prelude.{◌≡◌, ◌==◌, ◌++◌, ◌<◌, ◌≤◌, ℕ, Option, Some, None, length, take, filter, position, IsTrue, OnOk};
-ghost use Rattle.std.specs.Option.{ForSome};
-ghost use Rattle.mt_model.specs.Lists.{count, has, is_distinct};
+ghost use Rattle.std.specs.Prelude.{◌≡◌, ◌==◌, ◌++◌, ◌<◌, ◌≤◌, ℕ, Option, Some, None, length, map, take, filter, position, slice_index, IfOk, IsTrue, OnOk};
+ghost use Rattle.mt_model.specs.Lists.{below, count, has};
 ghost use Rattle.mt_model.specs.Market.{agent_of, applicants, couple_of, program_of};
 ghost use Rattle.mt_model.specs.Matching.{at, place_of};
 ghost use Rattle.mt_model.specs.Rounds.{displaced_at};
 ghost use Rattle.mt_ranks.specs.Ranked.{ranked_of};
 ghost use Rattle.mt_roster.specs.Tables.{IsRoster};
 ghost use Rattle.mt_model.specs.Places.{ArePlaces};
-ghost use Rattle.mt_couples.specs.Assigned.{IsAgentOf, IsAssigned, is_refused, with_place};
+ghost use Rattle.mt_couples.specs.Rows.{placed_ranks, ranks_from};
+ghost use Rattle.mt_couples.specs.Assigned.{IsAgentOf, IsAssigned, with_place};
 
+use crate::row::Row;
 use mt_model::{Agent, AppNo, CoupleNo, Match, Places, ProgNo};
 use mt_ranks::Ranks;
 use mt_roster::Roster;
-use std::alloc::AllocError;
+use std::alloc::{AllocError, Global};
 use std::marker::Model;
 
 /// Where the applicant is placed.
@@ -22,53 +23,70 @@ fn place_in(places: &[Option<ProgNo>], applicant: AppNo) -> Option<ProgNo>
     places.get(applicant.index()).copied().flatten()
 }
 
-/// How many applicants of a list are placed at the program.
-fn count_at(places: &[Option<ProgNo>], program: ProgNo, list: &[AppNo]) -> usize
-    ensures { result ≡ count (at places.now program) list.now }
-{
-    let mut count = 0;
-    for applicant in list {
-        if place_in(places, *applicant) == Some(program) {
-            count += 1;
-        }
-    }
-    count
-}
-
-/// Adds those at the program that a quota and a list don't choose, by the list.
-fn add_refused(
+/// The ranks of those on a program's list that are placed there.
+fn placed_row(
+    alloc: Global,
     places: &[Option<ProgNo>],
     program: ProgNo,
-    quota: u32,
-    list: &[AppNo],
-    refused: &mut Vec<AppNo>,
-) -> Result<(), AllocError>
-    requires { IsTrue (is_distinct list.now) }
-    ensures { OnOk result (refused.new.items ≡ refused.old.items ++ filter (is_refused (record { quota = quota; ranking = list.now }) (at places.now program)) list.now) }
+    ranking: &[AppNo],
+) -> Result<Row, AllocError>
+    ensures { IfOk result (λ row. row ≡ ranks_from 0 (at places.now program) ranking.now) }
 {
-    let mut ahead = 0u32;
-    for applicant in list {
+    let mut row = Row::new(alloc);
+    for (rank, applicant) in ranking.iter().enumerate() {
         if place_in(places, *applicant) == Some(program) {
-            if ahead < quota {
-                ahead += 1;
-            } else {
-                refused.push(*applicant)?;
-            }
+            row.push(rank)?;
         }
+    }
+    Ok(row)
+}
+
+/// The same for each program.
+fn placed_rows(
+    alloc: Global,
+    roster: &Roster,
+    places: &[Option<ProgNo>],
+) -> Result<Vec<Row>, AllocError>
+    ensures rows { IfOk result (λ v. v.items ≡ map (placed_ranks roster.now.market places.now) (below (length roster.now.market.programs))) }
+    ensures roster { IsRoster roster.now }
+{
+    let mut rows = Vec::new(alloc);
+    for number in 0..roster.programs() {
+        let program = ProgNo(number);
+        let ranking = roster.program_list(program);
+        rows.push(placed_row(alloc, places, program, ranking)?)?;
+    }
+    Ok(rows)
+}
+
+/// Adds the applicants that have these ranks on a program's list.
+fn add_ranked(
+    ranking: &[AppNo],
+    ranks: &[usize],
+    applicants: &mut Vec<AppNo>,
+) -> Result<(), AllocError>
+    requires { (i : ℕ) → i < length ranks.now → slice_index ranks.now i < length ranking.now }
+    ensures { OnOk result (applicants.new.items ≡ applicants.old.items ++ map (λ r. slice_index ranking.now r) ranks.now) }
+{
+    for rank in ranks {
+        applicants.push(ranking[*rank])?;
     }
     Ok(())
 }
 
-/// A match beside the market that it is of.
+/// A match beside the market that it is of: where each applicant is placed, and for each program the ranks of
+/// those that are placed there.
 #[derive(Drop)]
 pub(crate) struct Assignment<'a> {
     roster: &'a Roster,
     ranks: &'a Ranks,
     places: Vec<Option<ProgNo>>,
+    rows: Vec<Row>,
 }
 
 impl<'a> Model for Assignment<'a> {
-    ghost use Rattle.mt_couples.specs.Assigned.{Assigned};
+    ghost use Rattle.mt_couples.specs.Rows.{placed_ranks, ranks_from};
+ghost use Rattle.mt_couples.specs.Assigned.{Assigned};
 
     ghost Value = { Assigned };
 
@@ -81,17 +99,23 @@ impl<'a> Model for Assignment<'a> {
 
 impl<'a> Assignment<'a> {
     /// The match beside its market.
-    pub(crate) fn new(roster: &'a Roster, ranks: &'a Ranks, matched: Match) -> Self
+    pub(crate) fn new(
+        alloc: Global,
+        roster: &'a Roster,
+        ranks: &'a Ranks,
+        matched: Match,
+    ) -> Result<Self, AllocError>
         requires ranks { ranks.now ≡ ranked_of roster.now.market }
         requires places { ArePlaces roster.now.market matched.places }
-        ensures { result ≡ record { market = roster.entry.now.market; places = matched.places } }
+        ensures { IfOk result (λ s. s ≡ record { market = roster.entry.now.market; places = matched.places }) }
     {
-        let _programs = roster.programs();
-        Assignment {
+        let rows = placed_rows(alloc, roster, matched.places.as_slice())?;
+        Ok(Assignment {
             roster,
             ranks,
             places: matched.places.into_vec(),
-        }
+            rows,
+        })
     }
 
     /// The match alone.
@@ -172,22 +196,42 @@ impl<'a> Assignment<'a> {
 
     /// How many of those at the program have a rank below this one.
     pub(crate) fn ahead(&self, program: ProgNo, rank: u32) -> usize
-        requires program { program < length self.now.market.programs }
-        requires rank { rank ≤ length (program_of self.now.market program).ranking }
+        requires { program < length self.now.market.programs }
         ensures count { result ≡ count (at self.now.places program) (take rank (program_of self.now.market program).ranking) }
         ensures assigned { IsAssigned self.now }
     {
-        let ranking = self.ranks.by_rank(program);
-        count_at(&self.places, program, &ranking[..rank as usize])
+        let row = &self.rows[program.index()];
+        row.count_below(rank as usize)
     }
 
-    /// Moves the applicant to a place.
-    pub(crate) fn set_place(&mut self, applicant: AppNo, place: Option<ProgNo>)
-        requires applicant { applicant < applicants self.old.market }
-        requires place { ForSome place (λ p. p < length self.old.market.programs) }
-        ensures { self.new ≡ with_place self.old applicant place }
+    /// Unplaces the applicant.
+    pub(crate) fn unplace(&mut self, applicant: AppNo)
+        requires { applicant < applicants self.old.market }
+        ensures moved { self.new ≡ with_place self.old applicant None }
+        ensures unplaced { place_of self.new.places applicant ≡ None }
     {
-        self.places[applicant.index()] = place;
+        if let Some(program) = place_in(&self.places, applicant) {
+            if let Some(rank) = self.ranks.rank(program, applicant) {
+                let row = &mut self.rows[program.index()];
+                row.remove(rank as usize);
+            }
+        }
+        self.places[applicant.index()] = None;
+    }
+
+    /// Places the applicant, which is unplaced, at the program.
+    pub(crate) fn put(&mut self, applicant: AppNo, program: ProgNo) -> Result<(), AllocError>
+        requires applicant { applicant < applicants self.old.market }
+        requires program { program < length self.old.market.programs }
+        requires unplaced { place_of self.old.places applicant ≡ None }
+        ensures { OnOk result (self.new ≡ with_place self.old applicant (Some program)) }
+    {
+        if let Some(rank) = self.ranks.rank(program, applicant) {
+            let row = &mut self.rows[program.index()];
+            row.insert(rank as usize)?;
+        }
+        self.places[applicant.index()] = Some(program);
+        Ok(())
     }
 
     /// Adds those at the program that it doesn't choose, by its list.
@@ -199,8 +243,8 @@ impl<'a> Assignment<'a> {
         requires { program < length self.now.market.programs }
         ensures { OnOk result (displaced.new.items ≡ displaced.old.items ++ filter (displaced_at self.now.market self.now.places program) (program_of self.now.market program).ranking) }
     {
-        let quota = self.ranks.quota(program);
-        let ranking = self.ranks.by_rank(program);
-        add_refused(&self.places, program, quota, ranking, displaced)
+        let quota = self.ranks.quota(program) as usize;
+        let row = &self.rows[program.index()];
+        add_ranked(self.ranks.by_rank(program), row.beyond(quota), displaced)
     }
 }

@@ -24,14 +24,18 @@ pub(crate) struct Moved {
 
 impl<'a> Assignment<'a> {
     /// Sends each applicant to its place.
-    pub(crate) fn send(&mut self, sent: &[(AppNo, Option<ProgNo>)])
+    pub(crate) fn send(&mut self, sent: &[(AppNo, Option<ProgNo>)]) -> Result<(), AllocError>
         requires sent { AreSent self.old.market sent.now }
         requires programs { (p : ℕ) → IsTrue (has (programs_sent_to sent.now) p) → p < length self.old.market.programs }
-        ensures { self.new ≡ with_places self.old (send sent.now self.old.places) }
+        ensures { OnOk result (self.new ≡ with_places self.old (send sent.now self.old.places)) }
     {
         for (applicant, place) in sent {
-            self.set_place(*applicant, *place);
+            self.unplace(*applicant);
+            if let Some(program) = place {
+                self.put(*applicant, *program)?;
+            }
         }
+        Ok(())
     }
 
     /// The applicants that the programs of a placement don't choose: by its programs in order, and in a
@@ -60,11 +64,11 @@ impl<'a> Assignment<'a> {
     {
         for applicant in displaced {
             match self.agent_of(*applicant) {
-                Agent::Single(single) => self.set_place(single, None),
+                Agent::Single(single) => self.unplace(single),
                 Agent::Couple(couple) => {
                     let (first, second) = self.members(couple);
-                    self.set_place(first, None);
-                    self.set_place(second, None);
+                    self.unplace(first);
+                    self.unplace(second);
                 }
             }
         }
@@ -138,7 +142,7 @@ impl<'a> Assignment<'a> {
     {
         let mut left = BTreeSet::new(alloc);
         self.add_left_by_movers(sent, &mut left)?;
-        self.send(sent);
+        self.send(sent)?;
         let displaced = self.displaced(alloc, sent)?;
         self.add_left_by_partners(&displaced, &mut left)?;
         self.take_out(&displaced);

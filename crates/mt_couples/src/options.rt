@@ -58,7 +58,6 @@ impl<'a> Assignment<'a> {
     /// How many of those at the program have a rank below this one, once everybody is sent.
     fn ahead_after(&self, program: ProgNo, rank: u32, sent: &[(AppNo, Option<ProgNo>)]) -> usize
         requires program { program < length self.now.market.programs }
-        requires rank { rank ≤ length (program_of self.now.market program).ranking }
         requires sent { AreSent self.now.market sent.now }
         ensures { result ≡ count (at (send sent.now self.now.places) program) (take rank (program_of self.now.market program).ranking) }
     {

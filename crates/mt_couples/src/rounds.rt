@@ -210,7 +210,7 @@ pub fn enter_all(
     ensures stable { IsBest roster.now.market singles.places → IfOk result (λ e. IsTrue (stable roster.now.market e.matched.places)) }
 {
     let couples = roster.couples();
-    let mut assignment = Assignment::new(roster, ranks, singles);
+    let mut assignment = Assignment::new(alloc, roster, ranks, singles)?;
     let mut waiting = WorkList::new(alloc);
     let mut left = budget;
     for number in 0..couples {

@@ -1,9 +1,6 @@
-use Rattle.std.proofs.Common.{◌≡◌, ◌<◌, ◌≤◌, ◌∙◌, ◌∷◌, ◌-◌, [], true, List, length, Result, Some, Err, IsErrAnd, sym, ap, ap₂, subst, arith}
-use Rattle.mt_model.specs.Market.{Market}
-use Rattle.mt_model.specs.Matching.{Places}
-use Rattle.mt_model.specs.Stability.{stable, fits}
+use Rattle.std.proofs.Common.{◌≡◌, ◌∙◌, ◌∷◌, ◌-◌, [], true, Result, Some, Err, IsErrAnd, sym, ap, ap₂, subst, arith}
+use Rattle.mt_model.specs.Stability.{fits}
 use Rattle.mt_model.specs.Rounds.{joined, settled}
-use Rattle.mt_model.specs.declared.numbers.Agent.{Agent}
 use Rattle.mt_model.specs.declared.numbers.Agent.TheVariants.{Couple}
 use Rattle.mt_model.proofs.RoundsStage.{stage_is_stable_lem}
 use Rattle.mt_couples.specs.Running.{IsRunning}
@@ -12,8 +9,8 @@ use Rattle.mt_couples.proofs.RoundFacts.{places_of_fitting}
 use Rattle.mt_couples.proofs.EnteringFacts.{next_waits, entering_more, entering_spent, entering_all}
 use Rattle.mt_couples.proofs.rounds.enter_all.Goals as goal
 
-pub new-assignment-requires-clause-places : goal.new-assignment-requires-clause-places
-new-assignment-requires-clause-places c = places_of_fitting c.args.roster.now.market c.args.singles.places c.couples-couples.ensures.roster.well_formed c.requires.fits
+pub new-requires-clause-places : goal.new-requires-clause-places
+new-requires-clause-places c = places_of_fitting c.args.roster.now.market c.args.singles.places c.couples-couples.ensures.roster.well_formed c.requires.fits
 
 pub settle-requires : goal.settle-requires
 settle-requires c =

@@ -1,4 +1,3 @@
-use Rattle.std.proofs.Common.{◌≡◌, ◌<◌, ap}
 use Rattle.mt_model.specs.Market.{applicants}
 use Rattle.mt_couples.proofs.MarketFacts.{read_within}
 use Rattle.mt_couples.proofs.rounds.look_at.Goals as goal

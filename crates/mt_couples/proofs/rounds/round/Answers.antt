@@ -1,4 +1,4 @@
-use Rattle.std.proofs.Common.{◌≡◌, ◌∙◌, Some, sym, ap, ap₂, subst}
+use Rattle.std.proofs.Common.{◌∙◌, Some, sym, ap, ap₂, subst}
 use Rattle.mt_model.specs.Matching.{single_placement, couple_placement}
 use Rattle.mt_model.specs.Rounds.{first_taken}
 use Rattle.mt_couples.specs.Assigned.{IsAgentOf}

@@ -1,4 +1,4 @@
-use Rattle.std.proofs.Common.{◌≡◌, ◌<◌, ◌∙◌, length, ap, ap₂, sym, arith, map, if◌then◌else◌, List}
+use Rattle.std.proofs.Common.{◌≡◌, ◌∙◌, length, ap, ap₂, sym, arith, map, if◌then◌else◌, List}
 use Rattle.std.proofs.lemmas.Result.{on_ok_weaker}
 use Rattle.std.specs.List.{flat_map}
 use Rattle.mt_model.specs.Lists.{has, below}
@@ -9,7 +9,7 @@ use Rattle.mt_model.specs.Rounds.{Work, after_move, all_joined, joined, reopened
 use Rattle.mt_model.specs.declared.numbers.Agent.{Agent}
 use Rattle.mt_model.proofs.RoundsLists.{has_in, of_kept, of_below}
 use Rattle.mt_couples.specs.Assigned.{Assigned}
-use Rattle.mt_couples.proofs.MoveFacts.{displaced_within, left_within, waits_after}
+use Rattle.mt_couples.proofs.MoveFacts.{displaced_within, waits_after}
 use Rattle.mt_couples.proofs.rounds.take_option.Goals as goal
 use Rattle.mt_couples.proofs.rounds.take_option.Goals.{then-blocks+in_ok-join, else-blocks}
 

@@ -1,4 +1,4 @@
-use Rattle.std.proofs.Common.{◌≡◌, ap, subst, sym, ◌∙◌}
+use Rattle.std.proofs.Common.{ap, subst, sym, ◌∙◌}
 use Rattle.mt_model.specs.Market.{Market, agent_of}
 use Rattle.mt_model.specs.WellFormed.{IsWellFormed}
 use Rattle.mt_couples.specs.Assigned.{Assigned, IsAgentOf}

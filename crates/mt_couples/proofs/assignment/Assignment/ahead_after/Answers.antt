@@ -1,7 +1,7 @@
-use Rattle.std.proofs.Common.{◌≡◌, ◌+◌, ◌<◌, ◌≤◌, ℕ, take, arith, true, length}
+use Rattle.std.proofs.Common.{◌≡◌, ◌+◌, take, arith}
 use Rattle.std.proofs.lemmas.List.{length-take}
-use Rattle.mt_model.specs.Lists.{has, count}
-use Rattle.mt_model.specs.Market.{program_of, applicants}
+use Rattle.mt_model.specs.Lists.{count}
+use Rattle.mt_model.specs.Market.{program_of}
 use Rattle.mt_model.specs.Matching.{at, send}
 use Rattle.mt_couples.proofs.PlaceFacts.{count-le_length}
 use Rattle.mt_couples.proofs.RankFacts.{distinct-take}

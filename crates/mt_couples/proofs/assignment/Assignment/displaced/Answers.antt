@@ -1,4 +1,3 @@
-use Rattle.std.proofs.Common.{◌<◌}
 use Rattle.mt_couples.proofs.MoveSteps.{program_sent_to}
 use Rattle.mt_couples.proofs.assignment.Assignment.displaced.Goals as goal
 

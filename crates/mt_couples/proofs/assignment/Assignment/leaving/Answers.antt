@@ -1,4 +1,4 @@
-use Rattle.std.proofs.Common.{◌≡◌, ◌∙◌, sym, ap₂, arith, take, true, false, ◌&&◌, Bool}
+use Rattle.std.proofs.Common.{◌≡◌, ◌∙◌, sym, arith, take, true, false, Bool}
 use Rattle.std.proofs.lemmas.Bool.{and_left, and_right, and_from}
 use Rattle.mt_model.specs.Lists.{has}
 use Rattle.mt_model.specs.Market.{program_of}

@@ -1,15 +1,12 @@
-use Rattle.std.proofs.Common.{rules, ◌≡◌, ◌<◌, ◌∙◌, ◌||◌, ℕ, List, [], length, ap, ap₂, sym, arith, subst, false, Bool, if◌then◌else◌, map}
-use Rattle.std.proofs.lemmas.Result.{on_ok_weaker}
+use Rattle.std.proofs.Common.{rules, ◌≡◌, ◌∙◌, ◌||◌, ℕ, List, length, ap, sym, arith, Bool}
 use Rattle.std.specs.List.{list_any}
 use Rattle.mt_model.specs.Lists.{has}
-use Rattle.mt_model.specs.Market.{Market, applicants, agent_of}
+use Rattle.mt_model.specs.Market.{applicants}
 use Rattle.mt_model.specs.Matching.{Places, Placement, send, unplaced}
-use Rattle.mt_model.specs.Stability.{blocks}
-use Rattle.mt_model.specs.Rounds.{Work, displaced, after_move, all_joined, joined, reopened_at}
-use Rattle.mt_model.specs.declared.numbers.Agent.{Agent}
+use Rattle.mt_model.specs.Rounds.{displaced, after_move}
 use Rattle.mt_couples.specs.Assigned.{Assigned, with_places}
 use Rattle.mt_couples.specs.Moves.{all_members, is_kept_at, is_left_by_movers}
-use Rattle.mt_couples.proofs.MoveFacts.{are_sent, programs_within, displaced_within, left_is, left_within, left_keys, waits_after}
+use Rattle.mt_couples.proofs.MoveFacts.{are_sent, programs_within, displaced_within, left_keys}
 use Rattle.mt_couples.proofs.assignment.Assignment.move_to.Goals as goal
 
 pub send-requires-clause-sent : goal.send-requires-clause-sent
@@ -38,17 +35,17 @@ after_is s0 s t sent xs moved read out =
     ∙ ap (λ ys. with_places s0 (unplaced (all_members s0.market ys) (send sent s0.places))) read
 
 pub displaced-requires : goal.displaced-requires
-displaced-requires c = λ p on. omega (arith, same_programs c.args.self.now c.send.new.self _ c.send.ensures, programs_within c.requires.1 p on)
+displaced-requires c = λ p on. omega (arith, same_programs c.args.self.now c.send.new.self _ c.in_ok-send.ensures, programs_within c.requires.1 p on)
 
 pub add_left_by_partners-requires : goal.add_left_by_partners-requires
 add_left_by_partners-requires c = λ a on.
-    let is = c.deref.ensures.value ∙ displaced_is c.args.self.now c.send.new.self c.args.sent.now c.in_ok-displaced.displaced.items c.send.ensures c.in_ok-displaced.ensures in
-    omega (arith, same_applicants c.args.self.now c.send.new.self _ c.send.ensures, displaced_within c.requires.1 a (ap (λ xs. has xs a) (sym is) ∙ on))
+    let is = c.deref.ensures.value ∙ displaced_is c.args.self.now c.send.new.self c.args.sent.now c.in_ok-displaced.displaced.items c.in_ok-send.ensures c.in_ok-displaced.ensures in
+    omega (arith, same_applicants c.args.self.now c.send.new.self _ c.in_ok-send.ensures, displaced_within c.requires.1 a (ap (λ xs. has xs a) (sym is) ∙ on))
 
 pub take_out-requires : goal.take_out-requires
 take_out-requires c = λ a on.
-    let is = c.deref-2.ensures.value ∙ displaced_is c.args.self.now c.send.new.self c.args.sent.now c.in_ok-displaced.displaced.items c.send.ensures c.in_ok-displaced.ensures in
-    omega (arith, same_applicants c.args.self.now c.send.new.self _ c.send.ensures, displaced_within c.requires.1 a (ap (λ xs. has xs a) (sym is) ∙ on))
+    let is = c.deref-2.ensures.value ∙ displaced_is c.args.self.now c.send.new.self c.args.sent.now c.in_ok-displaced.displaced.items c.in_ok-send.ensures c.in_ok-displaced.ensures in
+    omega (arith, same_applicants c.args.self.now c.send.new.self _ c.in_ok-send.ensures, displaced_within c.requires.1 a (ap (λ xs. has xs a) (sym is) ∙ on))
 
 -- the programs where partners were kept, by the match before the move
 partners_are : (s0 s : Assigned) (sent : Placement) (xs : List ℕ) (p : ℕ) → s ≡ with_places s0 (send sent s0.places) → xs ≡ displaced s0.market (send sent s0.places) sent
@@ -63,10 +60,10 @@ pub returns-clause-left : goal.returns-clause-left
 returns-clause-left c =
     let s0 = c.args.self.now in
     let sent = c.args.sent.now in
-    let read = displaced_is s0 c.send.new.self sent c.in_ok-displaced.displaced.items c.send.ensures c.in_ok-displaced.ensures in
+    let read = displaced_is s0 c.send.new.self sent c.in_ok-displaced.displaced.items c.in_ok-send.ensures c.in_ok-displaced.ensures in
     let keys : c.in_ok-left.left.items ≡ c.add_left_by_partners.new.left.keys = search rules in
     keys
     ∙ left_keys c.requires.1 c.add_left_by_movers.new.left.keys c.add_left_by_partners.new.left.keys c.into_iter.ensures.into_iter_gives.4
     (λ p. c.in_ok-add_left_by_movers.ensures p ∙ ap (λ ks. has ks p || is_left_by_movers s0.places sent p) c.new-left.ensures.empty)
     (λ p. c.in_ok-add_left_by_partners.ensures p
-    ∙ ap (λ (b : Bool). has c.add_left_by_movers.new.left.keys p || b) (partners_are s0 c.send.new.self sent c.deref.result.now p c.send.ensures (c.deref.ensures.value ∙ read)))
+    ∙ ap (λ (b : Bool). has c.add_left_by_movers.new.left.keys p || b) (partners_are s0 c.send.new.self sent c.deref.result.now p c.in_ok-send.ensures (c.deref.ensures.value ∙ read)))

@@ -1,4 +1,4 @@
-use Rattle.std.proofs.Common.{◌≡◌, ◌<◌, arith, ap}
+use Rattle.std.proofs.Common.{arith, ap}
 use Rattle.mt_model.specs.Market.{applicants}
 use Rattle.mt_couples.specs.Assigned.{Assigned}
 use Rattle.mt_couples.proofs.MarketFacts.{ranked_applicants}

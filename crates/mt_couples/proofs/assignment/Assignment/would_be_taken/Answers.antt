@@ -1,4 +1,4 @@
-use Rattle.std.proofs.Common.{◌≡◌, ◌∙◌, sym, ap, get_or, Some}
+use Rattle.std.proofs.Common.{◌∙◌, sym, ap, Some}
 use Rattle.std.proofs.lemmas.List.{get_or_read}
 use Rattle.mt_couples.proofs.assignment.Assignment.would_be_taken.Goals as goal
 

@@ -1,5 +1,4 @@
-use Rattle.std.proofs.Common.{◌≡◌, ◌≤◌, ◌∙◌, nat_lt, ap, ap₂, sym, arith, insert, length}
-use Rattle.mt_model.specs.Lists.{count}
+use Rattle.std.proofs.Common.{◌∙◌, nat_lt, ap, ap₂, arith, insert, length}
 use Rattle.mt_couples.proofs.RowFacts.{insert_at_place, count-le_length}
 use Rattle.mt_couples.proofs.row.Row.insert.Goals as goal
 

@@ -1,4 +1,4 @@
-use Rattle.std.proofs.Common.{◌≡◌, ◌<◌, ◌∙◌, ap, ap₂, sym, arith, remove, length}
+use Rattle.std.proofs.Common.{◌∙◌, ap, ap₂, arith, remove, length}
 use Rattle.mt_couples.proofs.RowFacts.{remove_at_place}
 use Rattle.mt_couples.proofs.row.Row.remove.Goals as goal
 

@@ -1,4 +1,4 @@
-use Rattle.std.proofs.Common.{◌≡◌, ◌∙◌, sym, ap, subst, ◌++◌, ◌∷◌, drop, Some, is_some, Bool, false, if◌then◌else◌, []}
+use Rattle.std.proofs.Common.{◌≡◌, ◌∙◌, sym, ap, ◌++◌, ◌∷◌, drop, Some, is_some, Bool, false, if◌then◌else◌, []}
 use Rattle.std.specs.List.{list_any, position}
 use Rattle.mt_model.specs.Rounds.{is_same_agent, joined}
 use Rattle.mt_model.specs.declared.numbers.Agent.{Agent}

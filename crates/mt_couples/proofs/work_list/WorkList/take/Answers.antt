@@ -1,4 +1,4 @@
-use Rattle.std.proofs.Common.{◌≡◌, ◌∙◌, sym, ap, ◌++◌, drop, Some, append-nil, ap₂}
+use Rattle.std.proofs.Common.{◌≡◌, ◌∙◌, sym, ap, ◌++◌, append-nil, ap₂}
 use Rattle.std.specs.HashSet.{keys}
 use Rattle.mt_couples.specs.View.{waiting_in}
 use Rattle.mt_couples.proofs.WaitingFacts.{first_waits, used_up}
