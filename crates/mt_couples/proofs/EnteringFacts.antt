@@ -1,5 +1,5 @@
 -- The couples on their way into a match, one after another.
-use Rattle.std.proofs.Common.{◌≡◌, ℕ, suc, ◌+◌, ◌-◌, ◌<◌, ◌≤◌, true, List, [], ◌∷◌, length, Some, None, IsTrue, refl, ap, sym, ◌∙◌, inl, inr, arith, subst, option_map, option_and_then}
+use Rattle.std.proofs.Common.{◌≡◌, ℕ, suc, ◌+◌, ◌-◌, ◌<◌, ◌≤◌, true, List, [], ◌∷◌, length, Some, None, IsTrue, ap, sym, ◌∙◌, inl, inr, arith, subst, option_map, option_and_then}
 use Rattle.std.specs.List.{range_with_len}
 use Rattle.mt_model.specs.Lists.{below}
 use Rattle.mt_model.specs.Market.{Market, agents}
@@ -26,16 +26,6 @@ pub record IsEntering (m : Market) (start : Places) (budget number : ℕ) (now :
   pub nobody_waits : waiting ≡ []
   pub leads : entered m (couples_from m number) left now.places ≡ entered m (below (length m.couples)) budget start
   pub within : left ≤ budget
-
--- nobody has entered yet
-pub entering_none : (m : Market) (start : Places) (budget : ℕ) → fits m start ≡ true → IsEntering m start budget 0 (record { market = m; places = start }) [] budget
-entering_none m start budget fit = record {
-  market = refl;
-  fitting = fit;
-  nobody_waits = refl;
-  leads = (let e : length m.couples - 0 ≡ length m.couples = omega arith in ap (λ n. entered m (range_with_len 0 n) budget start) e);
-  within = omega arith;
-}
 
 -- the next couple is put on the empty work list
 pub next_waits : (m : Market) → IsWellFormed m → (k : ℕ) (places : Places) → k < length m.couples → fits m places ≡ true → IsRunning m places (Couple k ∷ [])

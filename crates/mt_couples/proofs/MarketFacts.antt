@@ -1,5 +1,5 @@
 -- What rank tables say of the market that they are of, and who is on its lists.
-use Rattle.std.proofs.Common.{◌≡◌, ℕ, ◌<◌, List, [], length, get_or, IsTrue, ap, ◌∙◌, arith}
+use Rattle.std.proofs.Common.{◌≡◌, ℕ, ◌<◌, List, [], length, get_or, IsTrue, ap, ◌∙◌}
 use Rattle.mt_model.proofs.BelowFacts.{length-map_below}
 use Rattle.mt_model.specs.Lists.{has}
 use Rattle.mt_model.specs.Market.{Market, applicants, program_of, live, agent_of}
@@ -7,10 +7,8 @@ use Rattle.mt_model.specs.declared.numbers.Agent.{Agent}
 use Rattle.mt_model.specs.declared.numbers.Agent.TheVariants.{Single, Couple}
 use Rattle.mt_model.proofs.RoundsAgents.{IsAgent, agent_of_applicant, couple_number}
 use Rattle.mt_model.proofs.RoundsSets.{has_head}
-use Rattle.mt_model.specs.Matching.{Places}
 use Rattle.mt_model.specs.WellFormed.{IsWellFormed}
 use Rattle.mt_ranks.specs.Ranked.{Ranked, ranked_of}
-use Rattle.mt_model.specs.Places.{ArePlaces}
 use Rattle.mt_couples.specs.Assigned.{IsAgentOf}
 use Rattle.mt_couples.proofs.PlaceFacts.{has_read}
 
@@ -26,12 +24,6 @@ ranked_ranking r m p is = ap (λ (x : Ranked). (program_of x.market p).ranking) 
 
 pub ranked_quota : (r : Ranked) (m : Market) (p : ℕ) → r ≡ ranked_of m → (program_of r.market p).quota ≡ (program_of m p).quota
 ranked_quota r m p is = ap (λ (x : Ranked). (program_of x.market p).quota) is
-
--- whoever stands on a program's list has a place
-pub listed_within : (m : Market) (places : Places) (p i a : ℕ) → IsWellFormed m → ArePlaces m places
-    → i < length (program_of m p).ranking → a ≡ get_or (program_of m p).ranking i a → a < length places
-listed_within m places p i a wf are within read =
-    omega (arith, are.one_each, wf.rankings_within p a (has_read (program_of m p).ranking i a within read))
 
 -- an agent of the market has a number within it
 pub number_within : (m : Market) (g : Agent) → IsAgent m g → IsAgentOf m g

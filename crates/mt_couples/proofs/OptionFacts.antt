@@ -1,5 +1,5 @@
 -- The first option of a list that is taken, before the one that an agent has.
-use Rattle.std.proofs.Common.{◌≡◌, Bool, true, false, List, [], ◌∷◌, Option, Some, None, is_some, refl, inl, inr}
+use Rattle.std.proofs.Common.{◌≡◌, Bool, List, [], ◌∷◌, Option, Some, None, is_some, refl, inl, inr}
 use Rattle.std.specs.List.{find, list_any}
 use Rattle.std.specs.Option.{option_map}
 use Rattle.std.proofs.lemmas.Bool.{cases_Bool}
@@ -7,15 +7,6 @@ use Rattle.mt_model.specs.Lists.{until}
 
 abbrev pub first_before : {X : Type 0} → (X → Bool) → (X → Bool) → List X → Option X
 first_before has_it taken xs = find taken (until has_it xs)
-
-pub first_before-has : {X : Type 0} (has_it taken : X → Bool) (x : X) (xs : List X) → has_it x ≡ true → first_before has_it taken (x ∷ xs) ≡ None
-first_before-has has_it taken x xs own = rw own refl
-
-pub first_before-taken : {X : Type 0} (has_it taken : X → Bool) (x : X) (xs : List X) → has_it x ≡ false → taken x ≡ true → first_before has_it taken (x ∷ xs) ≡ Some x
-first_before-taken has_it taken x xs other good = rw (other, good) refl
-
-pub first_before-next : {X : Type 0} (has_it taken : X → Bool) (x : X) (xs : List X) → has_it x ≡ false → taken x ≡ false → first_before has_it taken (x ∷ xs) ≡ first_before has_it taken xs
-first_before-next has_it taken x xs other bad = rw (other, bad) refl
 
 -- whether there is one
 pub is_some-find : {X : Type 0} (test : X → Bool) (xs : List X) → list_any test xs ≡ is_some (find test xs)

@@ -2,7 +2,7 @@
 use Rattle.std.proofs.Common.{◌≡◌, ℕ, zero, suc, ◌+◌, ◌<◌, ◌≤◌, Bool, true, false, not, ◌==◌, List, [], ◌∷◌, ◌++◌, take, drop, length, get_or, Option, Some, None, IsTrue, refl, ap, sym, ◌∙◌, subst, inl, inr, arith, eq-eqb, eqb-true, if◌then◌else◌}
 use Rattle.std.specs.Option.{option_eq}
 use Rattle.std.proofs.lemmas.Bool.{or_left, or_right, or_cases, and_parts, not-true, both_ways, false_from_ne_true, false≢true}
-use Rattle.std.proofs.lemmas.List.{take_more, length-take}
+use Rattle.std.proofs.lemmas.List.{take_more}
 use Rattle.mt_model.specs.Lists.{has, count, until, is_distinct}
 use Rattle.mt_model.specs.Matching.{Places, place_of, at, is_program}
 
@@ -32,9 +32,6 @@ count-le_length {X} test (x ∷ xs) = one_or_none (test x) (count-le_length test
     one_or_none : (b : Bool) → count test xs ≤ length xs → (if b then 1 else 0) + count test xs ≤ suc (length xs)
     one_or_none true h = omega arith
     one_or_none false h = omega arith
-
-pub count-le_taken : {X : Type 0} (test : X → Bool) (xs : List X) (i : ℕ) → count test (take i xs) ≤ i
-count-le_taken test xs i = omega (arith, count-le_length test (take i xs), length-take i xs)
 
 -- what is on the front of a list is on the list
 pub has-take : (xs : List ℕ) (i a : ℕ) → IsTrue (has (take i xs) a) → IsTrue (has xs a)
@@ -69,9 +66,3 @@ until_at (x ∷ xs) (suc i) d distinct within =
 -- what is told of who is at a program, where an applicant's place was read
 pub at_read : (places : Places) (p a : ℕ) (place : Option ℕ) (b : Bool) → place ≡ place_of places a → b ≡ option_eq ◌==◌ place (Some p) → at places p a ≡ b
 at_read places p a place b read told = ap (is_program p) (sym read) ∙ sym (is_program_read p place) ∙ sym told
-
--- the count at a program after one applicant more of a list
-pub counted_more : (places : Places) (list : List ℕ) (p i a : ℕ) → i < length list → a ≡ get_or list i a
-    → count (at places p) (take (i + 1) list) ≡ count (at places p) (take i list) + (if at places p a then 1 else 0)
-counted_more places list p i a within read =
-    count_more (at places p) list i a within ∙ ap (λ x. count (at places p) (take i list) + (if at places p x then 1 else 0)) (sym read)

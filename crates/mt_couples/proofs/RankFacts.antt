@@ -41,10 +41,6 @@ front_has a (x ∷ xs) (suc i) (suc k) h =
 pub until_rank : (xs : List ℕ) (a r : ℕ) → position (λ x. x == a) xs ≡ Some r → until (λ x. x == a) xs ≡ take r xs
 until_rank xs a r found = until_first (λ x. x == a) xs r (first_at _ xs r found)
 
--- a rank is a place of the list
-pub rank_within : (xs : List ℕ) (a r : ℕ) → position (λ x. x == a) xs ≡ Some r → r < length xs
-rank_within xs a r found = (first_at (λ x. x == a) xs r found).within
-
 -- who has a rank is on the list, and on the front of it where the rank is below
 pub has_rank : (xs : List ℕ) (a r : ℕ) → position (λ x. x == a) xs ≡ Some r → has xs a ≡ true
 has_rank xs a r found = has-position xs a ∙ ap is_some found

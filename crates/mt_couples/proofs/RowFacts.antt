@@ -5,7 +5,7 @@ use Rattle.std.specs.List.Sorted.{IsStrictlySortedBy, IsPartitionPoint}
 use Rattle.std.specs.Ordering.{nat_cmp}
 use Rattle.std.specs.BTreeSet.{insert_key}
 use Rattle.std.specs.declared.cmp.Ordering.TheVariants.{Less}
-use Rattle.std.proofs.lemmas.Bool.{cases_Bool, cases_lt, cases_eq, or_cases, or_parts, or_left, or_right, both_ways, false≢true, not_from_false, eq-eqb, eqb-true, ne_eqb}
+use Rattle.std.proofs.lemmas.Bool.{cases_lt, cases_eq, or_cases, or_parts, or_left, or_right, both_ways, false≢true, not_from_false, eq-eqb, eqb-true, ne_eqb}
 use Rattle.std.proofs.lemmas.Cmp.{ranked}
 use Rattle.std.proofs.lemmas.Map.Keys.{sorted_head, sorted_tail}
 use Rattle.mt_model.specs.Lists.{has, count}
@@ -87,10 +87,3 @@ count_to_point test (x ∷ xs) (suc i) within point =
     let rest : count test xs ≡ i = count_to_point test xs i (omega arith)
     ((λ k d low high. point.0 (suc k) d (omega arith) (omega arith)), (λ k d low high. point.1 (suc k) d (omega arith) (omega arith))) in
     rw here (omega (arith, rest))
-
-pub count-le_length : (test : ℕ → Bool) (xs : List ℕ) → count test xs ≤ length xs
-count-le_length test [] = omega arith
-count-le_length test (x ∷ xs) = elim (cases_Bool (test x)) [
-  | inl t ↦ rw t (omega (arith, count-le_length test xs))
-  | inr t ↦ rw t (omega (arith, count-le_length test xs))
-]

@@ -1,5 +1,6 @@
 use Rattle.std.proofs.Common.{◌∙◌, nat_lt, ap, ap₂, arith, insert, length}
-use Rattle.mt_couples.proofs.RowFacts.{insert_at_place, count-le_length}
+use Rattle.mt_couples.proofs.PlaceFacts.{count-le_length}
+use Rattle.mt_couples.proofs.RowFacts.{insert_at_place}
 use Rattle.mt_couples.proofs.row.Row.insert.Goals as goal
 
 pub insert-requires : goal.insert-requires
