@@ -2,6 +2,7 @@ pub mod BelowFacts
 pub mod BlockingPairLemmas
 pub mod ChoiceLemmas
 pub mod ExclusionLemmas
+pub mod FaultCodes
 pub mod FlatListsFacts
 pub mod FloorBest
 pub mod FloorChoices

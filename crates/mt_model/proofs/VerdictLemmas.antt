@@ -66,7 +66,7 @@ find-map-filter test f keep (x ∷ xs) = elim (cases_Bool (keep x)) [
   | inl kept ↦ elim (cases_Bool (test (f x))) [
     | inl here ↦ rw (kept, here) refl
     | inr other ↦ rw (kept, other) (find-map-filter test f keep xs)
-    ]
+  ]
   | inr dropped ↦ rw dropped (find-map-filter test f keep xs)
 ]
 
@@ -82,7 +82,7 @@ agent_from_cases (x ∷ xs) k a = elim (cases_Bool (is_member x a)) [
   | inr other ↦ rw other (elim (agent_from_cases xs (k + 1) a) [
     | inl alone ↦ inl alone
     | inr w ↦ inr (w.0, w.1, omega (arith, w.2))
-    ])
+  ])
 ]
 
 pub agent_cases : (m : Market) (a : ℕ) → (agent_of m a ≡ Single a) ⊎ ((c : ℕ) × (agent_of m a ≡ Couple c) × (c < length m.couples))
@@ -123,7 +123,7 @@ module _ (m : Market) (h : IsWellFormed m) where
       at : (b : ℕ) → b < applicants m → IsTrue (leads m b) → IsTrue (test (agent_of m b))
       at b b_in leading =
           let here : IsTrue (not (leads m b) || test (agent_of m b)) =
-              each_below (λ i. not (leads m i) || test (agent_of m i)) (applicants m) (sym (list_all-filter test (agent_of m) (leads m) (below (applicants m))) ∙ all) b b_in in
+          each_below (λ i. not (leads m i) || test (agent_of m i)) (applicants m) (sym (list_all-filter test (agent_of m) (leads m) (below (applicants m))) ∙ all) b b_in in
           rw leading at here
 
   -- what holds of the agent of each number at which a finding on it is reported holds of all agents
@@ -144,7 +144,7 @@ module _ (m : Market) (h : IsWellFormed m) where
         | inr w ↦ elim (cases_lt (couple_of m w.0).first (couple_of m w.0).second) [
           | inl first_low ↦ lowest w.0 (couple_of m w.0).first a (h.first_member w.0 w.2) (omega arith) w.1
           | inr second_low ↦ lowest w.0 (couple_of m w.0).second a (h.second_member w.0 w.2) (omega arith) w.1
-          ]
+        ]
       ]
 
 -- a place is allowed where the agent whose number this is has an option of its own, and the program lists
@@ -152,9 +152,10 @@ module _ (m : Market) (h : IsWellFormed m) where
 pub allowed_parts : (m : Market) (places : Places) (a : ℕ) → IsFalse (is_unlisted m places a)
     → IsTrue (is_listed m a (place_of places a)) × (lowest_number m (agent_of m a) ≡ a → IsTrue (has_own_option m places (agent_of m a)))
 allowed_parts m places a h =
-    let parts = or_parts ((lowest_number m (agent_of m a) == a) && not (has_own_option m places (agent_of m a))) (not (is_listed m a (place_of places a))) h in
-    (true_from_ne_false _ (λ unlisted. both_ways _ parts.1 (not_from_false _ unlisted)),
-     (λ low. true_from_ne_false _ (λ none. both_ways _ parts.0 (and_from _ _ (eq-eqb (lowest_number m (agent_of m a)) a low) (not_from_false _ none)))))
+    let parts = or_parts ((lowest_number m (agent_of m a) == a) && not (has_own_option m places (agent_of m a))) (not (is_listed m a (place_of places a))) h in (
+      true_from_ne_false _ (λ unlisted. both_ways _ parts.1 (not_from_false _ unlisted)),
+      (λ low. true_from_ne_false _ (λ none. both_ways _ parts.0 (and_from _ _ (eq-eqb (lowest_number m (agent_of m a)) a low) (not_from_false _ none)))),
+    )
 
 pub allowed_from : (m : Market) (places : Places) (a : ℕ)
     → IsTrue (is_listed m a (place_of places a)) → IsTrue (has_own_option m places (agent_of m a)) → IsFalse (is_unlisted m places a)
@@ -303,7 +304,7 @@ only_stable m h places (Unlisted a) says is = absurd (both_ways _ says.unfit (an
 only_stable m h places (Over p) says is = absurd (both_ways _ says.unfit (and_parts (fits m places) _ is).0)
 only_stable m h places (Blocks b) says is =
     let none : IsTrue (list_all (λ g. not (blocks m places g)) (agents m)) =
-        not-false _ (sym (list_any-not (blocks m places) (agents m)) ∙ not-true _ (and_parts (fits m places) _ is).1) in
+    not-false _ (sym (list_any-not (blocks m places) (agents m)) ∙ not-true _ (and_parts (fits m places) _ is).1) in
     let not_it = of_each_agent m h (λ g. not (blocks m places g)) none says.number says.is_first.within in
     absurd (both_ways _ (not-true _ not_it) (and_parts (leads m says.number) (blocks m places (agent_of m says.number)) says.is_first.passes).1)
 

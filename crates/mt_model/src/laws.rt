@@ -16,7 +16,7 @@ pub use floors::{
     order_free, quiet_counts, quiet_is_reached, result_of_floor, strict_best,
 };
 pub use live::live_market_agrees;
-pub use registration::{accepted_is_registration, versions_agree};
+pub use registration::{accepted_is_registration, fault_codes, versions_agree};
 pub use rounds::{
     premises_of_rounds, round_fits, round_keeps, stage_fits, stage_is_stable, stage_rounds,
 };

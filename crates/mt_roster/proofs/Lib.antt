@@ -1,1 +1,12 @@
 pub mod TablesFacts
+pub mod DigitFacts
+pub mod KeyFacts
+pub mod FieldFacts
+pub mod RepeatFacts
+pub mod NumberingSteps
+pub mod NumberingTables
+pub mod CountFacts
+pub mod RegisterFacts
+pub mod PassFacts
+pub mod UnknownFacts
+pub mod ReadFacts

@@ -1,5 +1,5 @@
 -- What a roster's tables say of the market that they are seen as.
-use Rattle.std.proofs.Common.{◌≡◌, ℕ, zero, suc, ◌+◌, ◌<◌, List, [], ◌∷◌, map, length, get_or, refl, ap, ◌∙◌, arith, add-suc, sym}
+use Rattle.std.proofs.Common.{◌≡◌, ℕ, zero, suc, ◌<◌, List, [], ◌∷◌, length, get_or, refl, ap, ◌∙◌, arith, sym}
 use Rattle.mt_model.proofs.BelowFacts.{length-map_below, map_below_at}
 use Rattle.mt_model.specs.Market.{Program, Pair, Partners, applicants, program_of, couple_of, agent_of}
 use Rattle.mt_model.specs.declared.numbers.Agent.{Agent}

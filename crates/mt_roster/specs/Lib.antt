@@ -1,2 +1,11 @@
 pub mod Tables
 pub mod View
+pub mod Fields
+pub mod Records
+pub mod Refusals
+pub mod Numbered
+pub mod Registers
+pub mod Passes
+pub mod Unknown
+pub mod Faults
+pub mod Read

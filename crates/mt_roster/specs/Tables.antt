@@ -1,9 +1,7 @@
 -- How the tables of a roster are seen as a market with ids.
-use Rattle.std.specs.Prelude.{◌≡◌, ℕ, ◌≤◌, List, [], ◌∷◌, map, length}
-use Rattle.mt_model.specs.Lists.{below}
-use Rattle.mt_model.specs.Market.{Market, Program, Pair, Partners, Names, Registered, applicants, agent_of}
+use Rattle.std.specs.Prelude.{◌≡◌, ℕ, ◌≤◌, List, [], ◌∷◌, length}
+use Rattle.mt_model.specs.Market.{Program, Pair, Partners, Registered, applicants}
 use Rattle.mt_model.specs.WellFormed.{IsWellFormed}
-use Rattle.mt_model.specs.declared.numbers.Agent.{Agent}
 
 -- programs with these quotas and rankings
 abbrev pub programs_with : List ℕ → List (List ℕ) → List Program

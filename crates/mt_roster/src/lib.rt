@@ -1,6 +1,23 @@
 //! Records to market: the roster of a residency match.
 #![tactic(auto)]
 
-mod tables;
+mod fault;
+mod fields;
+mod first_pass;
+mod id_table;
+mod ids;
+mod numbering;
+mod reading;
+mod record;
+mod refusal;
+mod register;
+mod repeats;
 
+mod rules;
+mod second_pass;
+mod tables;
+mod unknown;
+
+pub use fault::{IdText, RosterError, RosterFault};
+pub use reading::roster;
 pub use tables::Roster;

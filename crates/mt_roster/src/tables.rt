@@ -10,15 +10,15 @@ use std::marker::Model;
 /// lists of pairs. Numbers are dense, by order of registration from 0.
 #[derive(Debug, Drop)]
 pub struct Roster {
-    quotas: Vec<u32>,
-    rankings: FlatLists<AppNo>,
-    lists: FlatLists<ProgNo>,
-    agents: Vec<Agent>,
-    members: Vec<(AppNo, AppNo)>,
-    pairs: FlatLists<(Option<ProgNo>, Option<ProgNo>)>,
-    program_ids: FlatLists<u8>,
-    applicant_ids: FlatLists<u8>,
-    couple_ids: FlatLists<u8>,
+    pub(crate) quotas: Vec<u32>,
+    pub(crate) rankings: FlatLists<AppNo>,
+    pub(crate) lists: FlatLists<ProgNo>,
+    pub(crate) agents: Vec<Agent>,
+    pub(crate) members: Vec<(AppNo, AppNo)>,
+    pub(crate) pairs: FlatLists<(Option<ProgNo>, Option<ProgNo>)>,
+    pub(crate) program_ids: FlatLists<u8>,
+    pub(crate) applicant_ids: FlatLists<u8>,
+    pub(crate) couple_ids: FlatLists<u8>,
 }
 
 impl Model for Roster {

@@ -1,12 +1,14 @@
 -- What holds of every file that is accepted.
-use Rattle.std.specs.Prelude.{◌≡◌, ℕ, ◌+◌, ◌*◌, ◌≤◌, Bool, true, ◌||◌, ◌&&◌, ◌==◌, nat_lt, List, [], ◌∷◌, ◌++◌, length, replicate, sum_by, Option, Some, None, is_some, Ok, codes, bytes_eq, IsTrue}
+use Rattle.std.specs.Prelude.{◌≡◌, ℕ, ◌+◌, ◌*◌, ◌≤◌, Bool, true, ◌||◌, ◌&&◌, ◌==◌, nat_lt, nat_le, List, [], ◌∷◌, ◌++◌, length, replicate, sum_by, Option, Some, None, is_some, Ok, Err, codes, bytes_eq, IsTrue}
 use Rattle.std.specs.List.{list_all}
 use Rattle.std.specs.Option.{option_eq}
 use Rattle.mt_model.specs.declared.limits.TheConstants.{LIMITS_2}
 use Rattle.mt_model.specs.Market.{Market, Program, Partners, Pair, Registered, applicants, couple_of, program_of}
 use Rattle.mt_model.specs.WellFormed.{IsWellFormed}
 use Rattle.mt_model.specs.Registration.{market_of}
+use Rattle.mt_model.specs.Registration.Faults.{Fault, no_version, not_registered}
 use Rattle.mt_model.specs.Registration.Ids.{Bytes, is_id, all_differ}
+use Rattle.mt_model.specs.Text.{is_known_code}
 
 -- a pair of programs below n: one of the two may be none
 abbrev pub is_none_or_below : ℕ → Option ℕ → Bool
@@ -55,3 +57,11 @@ abbrev pub VersionsAgree : Type 0
 VersionsAgree =
     (blanks : ℕ) (rows : List (List Bytes)) (r : Registered)
     → market_of (file_of (codes "1") blanks rows) ≡ Ok r → market_of (file_of (codes "2") blanks rows) ≡ Ok r
+
+-- the codes of the faults of a file, which are the known ones from 12 to 22
+abbrev pub is_fault_code : ℕ → Bool
+is_fault_code code = is_known_code code && nat_le no_version code && nat_le code not_registered
+
+-- each fault of a file has one of them
+abbrev pub FaultCodes : Type 0
+FaultCodes = (rows : List (List Bytes)) (fault : Fault) → market_of rows ≡ Err fault → IsTrue (is_fault_code fault.code)

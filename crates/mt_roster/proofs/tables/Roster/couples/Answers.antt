@@ -1,6 +1,5 @@
-use Rattle.std.proofs.Common.{◌≡◌, ◌<◌, arith, ap, sym, ◌∙◌, length, get_or, []}
-use Rattle.std.proofs.lemmas.List.{get_or_read_under}
-use Rattle.mt_model.specs.Market.{Registered, applicants, program_of, couple_of, agent_of}
+use Rattle.std.proofs.Common.{arith, ap, length}
+use Rattle.mt_model.specs.Market.{Registered}
 use Rattle.mt_roster.proofs.TablesFacts.{count_of_couples}
 use Rattle.mt_roster.proofs.tables.Roster.couples.Goals as goal
 

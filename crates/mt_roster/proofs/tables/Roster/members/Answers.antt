@@ -1,6 +1,6 @@
-use Rattle.std.proofs.Common.{◌≡◌, ◌<◌, arith, ap, sym, ◌∙◌, length, get_or, [], refl, ℕ}
+use Rattle.std.proofs.Common.{◌≡◌, ◌<◌, arith, ap, ◌∙◌, length, get_or, refl, ℕ}
 use Rattle.std.proofs.lemmas.List.{get_or_read_under}
-use Rattle.mt_model.specs.Market.{Registered, applicants, program_of, couple_of, agent_of}
+use Rattle.mt_model.specs.Market.{Registered, couple_of}
 use Rattle.mt_roster.proofs.TablesFacts.{count_of_couples, first_at, second_at}
 use Rattle.mt_roster.proofs.tables.Roster.members.Goals as goal
 

@@ -1,6 +1,5 @@
-use Rattle.std.proofs.Common.{◌≡◌, ◌<◌, arith, ap, sym, ◌∙◌, length, get_or, []}
-use Rattle.std.proofs.lemmas.List.{get_or_read_under}
-use Rattle.mt_model.specs.Market.{Registered, applicants, program_of, couple_of, agent_of}
+use Rattle.std.proofs.Common.{arith, ap, ◌∙◌, length, get_or, []}
+use Rattle.mt_model.specs.Market.{Registered, program_of}
 use Rattle.mt_roster.proofs.TablesFacts.{count_of_programs, ranking_at}
 use Rattle.mt_roster.proofs.tables.Roster.program_list.Goals as goal
 

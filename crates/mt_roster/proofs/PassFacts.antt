@@ -1,0 +1,168 @@
+-- What is known of a record that the first pass takes.
+use Rattle.std.proofs.Common.{◌≡◌, ℕ, ◌+◌, ◌<◌, ◌≤◌, Bool, true, false, nat_lt, List, [], ◌∷◌, ◌++◌, length, refl, ap, sym, ◌∙◌, Option, Some, None, Result, Ok, Err, arith, subst, cond, drop, get_or}
+use Rattle.std.specs.Prelude.{option_map, bytes_eq, ◌==◌}
+use Rattle.std.specs.Option.{option_map_or}
+use Rattle.std.specs.Bool.{then_some}
+use Rattle.std.proofs.lemmas.Bool.Decides.{nat_tests}
+use Rattle.std.proofs.lemmas.List.{drop_more, get_or_default, append-nil, append_assoc}
+use Rattle.std.proofs.lemmas.List.Folds.{list_any-append}
+use Rattle.mt_model.proofs.IdFacts.{neither, differ_push}
+use Rattle.mt_roster.proofs.CountFacts.{ids_of-more, applicant_ids-more}
+use Rattle.mt_model.specs.Registration.Ids.{Bytes, has_id, all_differ}
+use Rattle.mt_roster.specs.declared.refusal.Refusal.{Refusal}
+use Rattle.mt_roster.specs.declared.refusal.Refusal.TheVariants as refusals
+use Rattle.mt_roster.specs.declared.register.Register.{Register}
+use Rattle.mt_roster.specs.Registers.{records_seen, AreSound, AreBounded, IsRegister}
+use Rattle.mt_roster.specs.Passes.{Reads, ReadsAt, GivesRegister}
+use Rattle.mt_roster.specs.Refusals.{Refuses}
+use Rattle.mt_model.specs.Registration.Faults.{Charge, Fault, charge, fault_at, duplicate_id}
+use Rattle.mt_model.specs.Registration.Records.{Rules, Record, Kind, OfProgram, OfCouple, ProgramRecord, ApplicantRecord, CoupleRecord, WithdrawRecord, record_of}
+use Rattle.mt_model.specs.Registration.Rows.{own_id, ids_of, applicant_ids, entry_count}
+use Rattle.mt_model.specs.Registration.Passes.{registered_before, says_twice, are_too_many, clash, next_record, on_result, first_of, numbered_from, Numbered, first_pass}
+
+-- a record that doesn't clash with those before it
+pub record IsAccepted (rules : Rules) (before : List Record) (r : Record) : Type 0 where
+  pub new : registered_before before r ≡ None
+  pub once : says_twice before r ≡ false
+  pub few : are_too_many rules.limits (before ++ r ∷ []) ≡ false
+
+parts : (o : Option Bytes) (s t : Bool) (c d : Charge) (q r : Record)
+    → option_map_or (λ e. Err e) (first_of (option_map (charge duplicate_id) o ∷ then_some s c ∷ then_some t d ∷ [])) (Ok q) ≡ Ok r
+    → (q ≡ r) × (o ≡ None) × (s ≡ false) × (t ≡ false)
+parts (Some x) s t c d q r h = cc
+parts None true t c d q r h = cc
+parts None false true c d q r h = cc
+parts None false false c d q r h = (cc, refl, refl, refl)
+
+pub is_accepted : (rules : Rules) (before : List Record) (row : List Bytes) (n : ℕ) (r : Record)
+    → on_result (next_record rules before row) (λ q. Ok q) (λ c. Err (fault_at n c)) ≡ Ok r → IsAccepted rules before r
+is_accepted rules before row n r h = by (record_of rules row) h
+  where
+    beside : (q : Record) (o : Result Record Charge) → o ≡ option_map_or (λ e. Err e) (clash rules before q) (Ok q) → on_result o (λ p. Ok p) (λ c. Err (fault_at n c)) ≡ Ok r → IsAccepted rules before r
+    beside q (Ok p) e k =
+        let s : p ≡ r = cc in
+        let t : (q ≡ r) × (registered_before before q ≡ None) × (says_twice before q ≡ false) × (are_too_many rules.limits (before ++ q ∷ []) ≡ false) = parts _ _ _ _ _ q r (sym e ∙ ap Ok s) in
+        subst (λ (z : Record). IsAccepted rules before z) t.0 (record { new = t.1; once = t.2; few = t.3 })
+    beside q (Err c) e k = cc
+
+    by : (o : Result Record Charge) → on_result (on_result o (λ q. option_map_or (λ e. Err e) (clash rules before q) (Ok q)) (λ c. Err c)) (λ p. Ok p) (λ c. Err (fault_at n c)) ≡ Ok r → IsAccepted rules before r
+    by (Ok q) k = beside q _ refl k
+    by (Err c) k = cc
+
+not_found : (b : Bool) (x : Bytes) → cond b (Some x) None ≡ None → b ≡ false
+not_found true x h = cc
+not_found false x h = refl
+
+none_of : (o p q : Option Bytes) → first_of (o ∷ p ∷ q ∷ []) ≡ None → (o ≡ None) × (p ≡ None) × (q ≡ None)
+none_of (Some x) p q h = cc
+none_of None (Some x) q h = cc
+none_of None None (Some x) h = cc
+none_of None None None h = (refl, refl, refl)
+
+module _ (before : List Record) where
+  same_ids : (kind : Kind) (r : Record) → own_id kind r ≡ None → all_differ bytes_eq (ids_of kind before) ≡ true → all_differ bytes_eq (ids_of kind (before ++ r ∷ [])) ≡ true
+  same_ids kind r n h = rw (ids_of-more before r kind, n, append-nil) h
+
+  new_ids : (kind : Kind) (r : Record) (id : Bytes) → own_id kind r ≡ Some id → has_id (ids_of kind before) id ≡ false → all_differ bytes_eq (ids_of kind before) ≡ true → all_differ bytes_eq (ids_of kind (before ++ r ∷ [])) ≡ true
+  new_ids kind r id n f h = rw (ids_of-more before r kind, n) (differ_push (ids_of kind before) id f h)
+
+  new_programs : (r : Record) → all_differ bytes_eq (ids_of OfProgram before) ≡ true → registered_before before r ≡ None → all_differ bytes_eq (ids_of OfProgram (before ++ r ∷ [])) ≡ true
+  new_programs (ProgramRecord id quota list) h n = new_ids OfProgram (ProgramRecord id quota list) id refl (not_found _ id n) h
+  new_programs (ApplicantRecord id list) h n = same_ids OfProgram (ApplicantRecord id list) refl h
+  new_programs (CoupleRecord id a b pairs) h n = same_ids OfProgram (CoupleRecord id a b pairs) refl h
+  new_programs (WithdrawRecord kind id) h n = same_ids OfProgram (WithdrawRecord kind id) refl h
+
+  new_couples : (r : Record) → all_differ bytes_eq (ids_of OfCouple before) ≡ true → registered_before before r ≡ None → all_differ bytes_eq (ids_of OfCouple (before ++ r ∷ [])) ≡ true
+  new_couples (ProgramRecord id quota list) h n = same_ids OfCouple (ProgramRecord id quota list) refl h
+  new_couples (ApplicantRecord id list) h n = same_ids OfCouple (ApplicantRecord id list) refl h
+  new_couples (CoupleRecord id a b pairs) h n = new_ids OfCouple (CoupleRecord id a b pairs) id refl (not_found _ id (none_of _ _ _ n).0) h
+  new_couples (WithdrawRecord kind id) h n = same_ids OfCouple (WithdrawRecord kind id) refl h
+
+  new_applicants : (r : Record) → all_differ bytes_eq (applicant_ids before) ≡ true → registered_before before r ≡ None → all_differ bytes_eq (applicant_ids (before ++ r ∷ [])) ≡ true
+  new_applicants (ProgramRecord id quota list) h n = rw (applicant_ids-more, append-nil) h
+  new_applicants (ApplicantRecord id list) h n = rw applicant_ids-more (differ_push (applicant_ids before) id (not_found _ id n) h)
+  new_applicants (CoupleRecord id a b pairs) h n =
+      let o = none_of _ _ _ n in
+      let j : has_id (applicant_ids before) a ≡ false = not_found _ a o.1 in
+      let k : (bytes_eq b a ≡ false) × (has_id (applicant_ids before) b ≡ false) = neither _ _ (not_found _ b o.2) in
+      let l : has_id (applicant_ids before ++ a ∷ []) b ≡ false = rw (list_any-append, k.0, k.1) refl in
+      let d : all_differ bytes_eq ((applicant_ids before ++ a ∷ []) ++ b ∷ []) ≡ true = differ_push (applicant_ids before ++ a ∷ []) b l (differ_push (applicant_ids before) a j h) in
+      rw applicant_ids-more (rw append_assoc at d)
+  new_applicants (WithdrawRecord kind id) h n = rw (applicant_ids-more, append-nil) h
+
+not_above : (limit most n : ℕ) → limit ≤ most → nat_lt limit n ≡ false → n ≤ most
+not_above limit most n h k = grind (arith, nat_tests)
+
+-- the records with one that doesn't clash
+pub sound_more : (rules : Rules) (before : List Record) (r : Record) → AreBounded rules.limits → AreSound before → IsAccepted rules before r → AreSound (before ++ r ∷ [])
+sound_more rules before r bound s a =
+    let p = neither _ (nat_lt rules.limits.entries (entry_count (before ++ r ∷ []))) a.few in
+    let q = neither _ (nat_lt rules.limits.couples (length (ids_of OfCouple (before ++ r ∷ [])))) p.0 in
+    let t = neither (nat_lt rules.limits.applicants (length (applicant_ids (before ++ r ∷ [])))) (nat_lt rules.limits.programs (length (ids_of OfProgram (before ++ r ∷ [])))) q.0 in
+    record {
+      programs_differ = new_programs before r s.programs_differ a.new;
+      couples_differ = new_couples before r s.couples_differ a.new;
+      applicants_differ = new_applicants before r s.applicants_differ a.new;
+      few_programs = not_above _ _ _ bound.programs t.1;
+      few_couples = not_above _ _ _ bound.couples q.1;
+      few_applicants = not_above _ _ _ bound.applicants t.0;
+      few_entries = not_above _ _ _ bound.entries p.1;
+    }
+
+pub sound_nil : AreSound []
+sound_nil = record {
+  programs_differ = refl;
+  couples_differ = refl;
+  applicants_differ = refl;
+  few_programs = omega arith;
+  few_couples = omega arith;
+  few_applicants = omega arith;
+  few_entries = omega arith;
+}
+
+-- the numbered rows from a place on
+pub skip_empty : (rows : List (List Bytes)) (i n : ℕ) → i < length rows → length (get_or rows i []) ≡ 0 → numbered_from n (drop i rows) ≡ numbered_from (n + 1) (drop (i + 1) rows)
+skip_empty rows i n h e = ap (numbered_from n) (drop_more rows i [] h) ∙ by (get_or rows i []) e
+  where
+    by : (row : List Bytes) → length row ≡ 0 → numbered_from n (row ∷ drop (i + 1) rows) ≡ numbered_from (n + 1) (drop (i + 1) rows)
+    by [] k = refl
+    by (word ∷ fields) k = absurd (omega arith)
+
+pub take_row : (rows : List (List Bytes)) (i n : ℕ) → i < length rows → (length (get_or rows i []) ≡ 0 → ⊥) → numbered_from n (drop i rows) ≡ (n, get_or rows i []) ∷ numbered_from (n + 1) (drop (i + 1) rows)
+take_row rows i n h e = ap (numbered_from n) (drop_more rows i [] h) ∙ by (get_or rows i []) e
+  where
+    by : (row : List Bytes) → (length row ≡ 0 → ⊥) → numbered_from n (row ∷ drop (i + 1) rows) ≡ (n, row) ∷ numbered_from (n + 1) (drop (i + 1) rows)
+    by [] k = absurd (k refl)
+    by (word ∷ fields) k = refl
+
+pub row_is : (rows : List (List Bytes)) (i : ℕ) (d : List Bytes) → i < length rows → d ≡ get_or rows i d → (length d ≡ 0 → ⊥)
+    → numbered_from (i + 1) (drop i rows) ≡ (i + 1, d) ∷ numbered_from (i + 1 + 1) (drop (i + 1) rows)
+row_is rows i d h at n =
+    let e : get_or rows i [] ≡ d = get_or_default rows i [] d h ∙ sym at in
+    take_row rows i (i + 1) h (λ k. n (ap length (sym e) ∙ k)) ∙ ap (λ row. (i + 1, row) ∷ numbered_from (i + 1 + 1) (drop (i + 1) rows)) e
+
+-- the row at a place is read, where it has a field
+pub reads_row : {Y : Type 0} (rules : Rules) (old new : Register) (rows : List (List Bytes)) (i : ℕ) (d : List Bytes) (result : Result Y Refusal) → i < length rows → d ≡ get_or rows i d
+    → (length d ≡ 0 → ⊥) → Reads rules old new (i + 1, d) result → ReadsAt rules old new rows i result
+reads_row rules old new rows i d (Ok y) h at n r = (r.0, ap (first_pass rules (records_seen old)) (row_is rows i d h at n) ∙ r.1 (numbered_from (i + 1 + 1) (drop (i + 1) rows)))
+reads_row rules old new rows i d (Err (refusals.Fault f)) h at n r = ap (first_pass rules (records_seen old)) (row_is rows i d h at n) ∙ r (numbered_from (i + 1 + 1) (drop (i + 1) rows))
+reads_row rules old new rows i d (Err refusals.Memory) h at n r = tt
+
+-- and passed over, where it has none
+pub skips_row : {Y : Type 0} (rules : Rules) (old : Register) (rows : List (List Bytes)) (i : ℕ) (d : List Bytes) (y : Y) → i < length rows → d ≡ get_or rows i d → length d ≡ 0 → IsRegister old
+    → ReadsAt rules old old rows i (Ok y)
+skips_row rules old rows i d y h at n r = (r, ap (first_pass rules (records_seen old)) (skip_empty rows i (i + 1) h (ap length (get_or_default rows i [] d h ∙ sym at) ∙ n)))
+
+pub is_zero : (n : ℕ) → (n == 0) ≡ true → n ≡ 0
+is_zero n h = grind (arith, nat_tests)
+
+pub is_positive : (n : ℕ) → (n == 0) ≡ false → n ≡ 0 → ⊥
+is_positive n h k = grind (arith, nat_tests)
+
+-- the pass ends where a row is refused
+pub pass_ends : (e : Refusal) (here whole : Result (List (Numbered Record)) Fault) → Refuses e here → here ≡ whole → Refuses e whole
+pass_ends (refusals.Fault f) here whole r h = sym h ∙ r
+pass_ends refusals.Memory here whole r h = tt
+
+pub refused : (result : Result Register Refusal) (e : Refusal) (whole : Result (List (Numbered Record)) Fault) → result ≡ Err e → Refuses e whole → GivesRegister result whole
+refused result e whole h r = rw h r

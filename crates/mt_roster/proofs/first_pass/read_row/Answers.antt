@@ -1,0 +1,16 @@
+use Rattle.mt_roster.specs.Records.{record_seen}
+use Rattle.mt_roster.specs.Registers.{contents_seen}
+use Rattle.mt_roster.proofs.PassFacts.{IsAccepted, is_accepted, sound_more}
+use Rattle.mt_roster.proofs.first_pass.read_row.Goals as goal
+
+accepted : (c : goal.After-push-arg-1) → IsAccepted c.args.rules.now (contents_seen c.args.register.now) (record_seen c.in_ok-next.next)
+accepted c = is_accepted c.args.rules.now (contents_seen c.args.register.now) c.args.row.now c.args.number (record_seen c.in_ok-next.next) c.in_ok-next.ensures
+
+pub push-requires-clause-new : goal.push-requires-clause-new
+push-requires-clause-new c = (accepted c).new
+
+pub push-requires-clause-once : goal.push-requires-clause-once
+push-requires-clause-once c = (accepted c).once
+
+pub push-requires-clause-sound : goal.push-requires-clause-sound
+push-requires-clause-sound c = sound_more c.args.rules.now (contents_seen c.args.register.now) (record_seen c.in_ok-next.next) c.requires.limits c.requires.register.sound (accepted c)

@@ -1,0 +1,13 @@
+use Rattle.std.proofs.Common.{sym, ◌∙◌, ap}
+use Rattle.mt_model.specs.Registration.Records.{OfApplicant}
+use Rattle.mt_model.specs.Registration.Passes.{registered_before}
+use Rattle.mt_model.specs.Registration.Ids.{has_id}
+use Rattle.mt_roster.specs.Records.{record_seen}
+use Rattle.mt_roster.specs.Registers.{contents_seen}
+use Rattle.mt_roster.proofs.RegisterFacts.{new_single}
+use Rattle.mt_roster.proofs.register.Register.push_ids.Goals as goal
+
+pub push-requires-in-Applicant : goal.push-requires-in-Applicant
+push-requires-in-Applicant c =
+    ap (λ ids. has_id ids c.in-Applicant.id.now) (c.requires.register.registered OfApplicant)
+    ∙ new_single (contents_seen c.args.self.now) c.in-Applicant.id.now c.in-Applicant.list (ap (λ r. registered_before (contents_seen c.args.self.now) (record_seen r)) (sym c.in-Applicant.is) ∙ c.requires.new)

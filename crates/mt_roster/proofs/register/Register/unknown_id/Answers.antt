@@ -1,0 +1,22 @@
+use Rattle.std.proofs.Common.{sym, ap, ◌∙◌}
+use Rattle.std.specs.Prelude.{option_map}
+use Rattle.std.specs.List.{flat_map}
+use Rattle.mt_model.specs.Registration.Faults.{charge, unknown_program}
+use Rattle.mt_model.specs.Registration.Records.{OfProgram}
+use Rattle.mt_model.specs.Registration.Passes.{first_not_in, unknown_id}
+use Rattle.mt_roster.specs.Records.{record_seen}
+use Rattle.mt_roster.specs.Registers.{contents_seen}
+use Rattle.mt_roster.specs.Unknown.{named}
+use Rattle.mt_roster.proofs.register.Register.unknown_id.Goals as goal
+
+pub returns-in-Applicant : goal.returns-in-Applicant
+returns-in-Applicant c =
+    c.charge_of-in-Applicant.ensures
+    ∙ ap (option_map (charge unknown_program)) (c.first_unknown-in-Applicant.ensures ∙ ap (λ ids. first_not_in ids c.in-Applicant.list) (c.requires.registered OfProgram))
+    ∙ sym (ap (λ r. unknown_id (contents_seen c.args.self.now) (record_seen r)) c.in-Applicant.is)
+
+pub returns-in-Couple : goal.returns-in-Couple
+returns-in-Couple c =
+    c.charge_of-in-Couple.ensures
+    ∙ ap (option_map (charge unknown_program)) (c.first_unknown_of_pairs.ensures ∙ ap (λ ids. first_not_in ids (flat_map named c.in-Couple.pairs)) (c.requires.registered OfProgram))
+    ∙ sym (ap (λ r. unknown_id (contents_seen c.args.self.now) (record_seen r)) c.in-Couple.is)

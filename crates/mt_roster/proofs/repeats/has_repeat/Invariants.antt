@@ -1,0 +1,7 @@
+use Rattle.std.proofs.Common.{◌≡◌, take, true}
+use Rattle.std.specs.Prelude.{bytes_eq}
+use Rattle.mt_model.specs.Registration.Ids.{all_differ}
+use Rattle.mt_roster.proofs.repeats.has_repeat.Given as goal
+
+abbrev pub invariant-loop-i : goal.invariant-loop-i
+invariant-loop-i l = (l.seen ≡ take l.i l.list) × (all_differ bytes_eq (take l.i l.list) ≡ true)

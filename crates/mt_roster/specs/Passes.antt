@@ -1,0 +1,28 @@
+-- What a step of the first pass does to a register, and what the whole pass gives.
+use Rattle.std.specs.Prelude.{◌≡◌, ℕ, ◌+◌, List, ◌∷◌, drop, Result, Ok, Err}
+use Rattle.mt_model.specs.Registration.Ids.{Bytes}
+use Rattle.mt_model.specs.Registration.Faults as faults
+use Rattle.mt_model.specs.Registration.Records as model
+use Rattle.mt_model.specs.Registration.Passes.{Numbered, numbered_from, first_pass}
+use Rattle.mt_roster.specs.declared.refusal.Refusal.{Refusal}
+use Rattle.mt_roster.specs.declared.register.Register.{Register}
+use Rattle.mt_roster.specs.Refusals.{Refuses}
+use Rattle.mt_roster.specs.Registers.{records_seen, IsRegister}
+
+-- After a row the pass goes on from the new register, or it ends with the fault that was returned, whatever follows.
+abbrev pub Reads : {Y : Type 0} → model.Rules → Register → Register → Numbered (List Bytes) → Result Y Refusal → Type 0
+Reads rules old new row (Ok _) =
+    IsRegister new × ((rest : List (Numbered (List Bytes))) → first_pass rules (records_seen old) (row ∷ rest) ≡ first_pass rules (records_seen new) rest)
+Reads rules old new row (Err e) = (rest : List (Numbered (List Bytes))) → Refuses e (first_pass rules (records_seen old) (row ∷ rest))
+
+-- The same of the row at a place, which may have no field.
+abbrev pub ReadsAt : {Y : Type 0} → model.Rules → Register → Register → List (List Bytes) → ℕ → Result Y Refusal → Type 0
+ReadsAt rules old new rows i (Ok _) =
+    IsRegister new
+    × (first_pass rules (records_seen old) (numbered_from (i + 1) (drop i rows)) ≡ first_pass rules (records_seen new) (numbered_from (i + 1 + 1) (drop (i + 1) rows)))
+ReadsAt rules old new rows i (Err e) = Refuses e (first_pass rules (records_seen old) (numbered_from (i + 1) (drop i rows)))
+
+-- What the whole pass gives.
+abbrev pub GivesRegister : Result Register Refusal → Result (List (Numbered model.Record)) faults.Fault → Type 0
+GivesRegister (Ok register) defined = IsRegister register × (defined ≡ Ok (records_seen register))
+GivesRegister (Err e) defined = Refuses e defined

@@ -1,0 +1,27 @@
+-- How the records that rows are taken apart into are seen as those of the definition.
+use Rattle.std.specs.Prelude.{Result, Ok, Err}
+use Rattle.mt_model.specs.Registration.Faults as faults
+use Rattle.mt_model.specs.Registration.Records as model
+use Rattle.mt_roster.specs.declared.record.Kind.{Kind}
+use Rattle.mt_roster.specs.declared.record.Kind.TheVariants as kinds
+use Rattle.mt_roster.specs.declared.record.Record.{Record}
+use Rattle.mt_roster.specs.declared.record.Record.TheVariants as records
+use Rattle.mt_roster.specs.declared.record.Charge.{Charge}
+
+abbrev pub kind_seen : Kind → model.Kind
+kind_seen kinds.Program = model.OfProgram
+kind_seen kinds.Applicant = model.OfApplicant
+kind_seen kinds.Couple = model.OfCouple
+
+abbrev pub record_seen : Record → model.Record
+record_seen (records.Program id quota list) = model.ProgramRecord id.now quota list
+record_seen (records.Applicant id list) = model.ApplicantRecord id.now list
+record_seen (records.Couple id first second pairs) = model.CoupleRecord id.now first.now second.now pairs
+record_seen (records.Withdraw kind id) = model.WithdrawRecord (kind_seen kind) id.now
+
+abbrev pub charge_seen : Charge → faults.Charge
+charge_seen c = (c.code, c.id.now)
+
+abbrev pub read_seen : Result Record Charge → Result model.Record faults.Charge
+read_seen (Ok r) = Ok (record_seen r)
+read_seen (Err c) = Err (charge_seen c)

@@ -1,0 +1,19 @@
+-- How what a step of the reading gives is seen as the definition's result.
+use Rattle.std.specs.Prelude.{◌≡◌, Result, Ok, Err}
+use Rattle.mt_model.specs.Registration.Faults as faults
+use Rattle.mt_roster.specs.declared.refusal.Fault.{Fault}
+use Rattle.mt_roster.specs.declared.refusal.Refusal.{Refusal}
+use Rattle.mt_roster.specs.declared.refusal.Refusal.TheVariants as refusals
+
+abbrev pub fault_seen : Fault → faults.Fault
+fault_seen f = record { code = f.code; row = f.row; id = f.id.now }
+
+-- A refusal is the fault that the definition gives, unless memory ran out.
+abbrev pub Refuses : {Y : Type 0} → Refusal → Result Y faults.Fault → Type 0
+Refuses (refusals.Fault f) defined = defined ≡ Err (fault_seen f)
+Refuses refusals.Memory defined = Unit {0}
+
+-- What a step returned, seen by a view, is what the definition gives, unless memory ran out.
+abbrev pub Gives : {X Y : Type 0} → (X → Y) → Result X Refusal → Result Y faults.Fault → Type 0
+Gives view (Ok x) defined = defined ≡ Ok (view x)
+Gives view (Err e) defined = Refuses e defined

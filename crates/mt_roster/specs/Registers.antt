@@ -1,0 +1,70 @@
+-- What a register's tables say of its records.
+use Rattle.std.specs.Prelude.{◌≡◌, ◌≤◌, true, List, [], ◌∷◌, ◌++◌, length, map, bytes_eq, option_to_list}
+use Rattle.mt_model.specs.Registration.Ids.{Bytes, all_differ}
+use Rattle.mt_model.specs.declared.limits.Limits.{Limits}
+use Rattle.mt_model.specs.Registration.Records as model
+use Rattle.mt_model.specs.Registration.Rows.{own_id, withdrawn_id, applicants_of, ids_of, withdrawn, applicant_ids, entry_count}
+use Rattle.mt_model.specs.Registration.Passes.{Numbered, contents}
+use Rattle.mt_roster.specs.declared.register.Numbered as declared
+use Rattle.mt_roster.specs.declared.register.Kinds.{Kinds}
+use Rattle.mt_roster.specs.declared.register.Register.{Register}
+use Rattle.mt_roster.specs.Records.{record_seen}
+
+abbrev pub numbered_seen : declared.Numbered → Numbered model.Record
+numbered_seen n = (n.row, record_seen n.record)
+
+abbrev pub records_seen : Register → List (Numbered model.Record)
+records_seen r = map numbered_seen r.records.items
+
+-- the records without their numbers
+abbrev pub contents_seen : Register → List model.Record
+contents_seen r = contents (records_seen r)
+
+abbrev pub ids_in : Kinds → model.Kind → List Bytes
+ids_in k model.OfProgram = k.programs
+ids_in k model.OfApplicant = k.applicants
+ids_in k model.OfCouple = k.couples
+
+-- No id is registered twice, and no more of anything than an input may have.
+pub record AreSound (rs : List model.Record) : Type 0 where
+  pub programs_differ : all_differ bytes_eq (ids_of model.OfProgram rs) ≡ true
+  pub couples_differ : all_differ bytes_eq (ids_of model.OfCouple rs) ≡ true
+  pub applicants_differ : all_differ bytes_eq (applicant_ids rs) ≡ true
+  pub few_programs : length (ids_of model.OfProgram rs) ≤ 20000
+  pub few_couples : length (ids_of model.OfCouple rs) ≤ 10000
+  pub few_applicants : length (applicant_ids rs) ≤ 100000
+  pub few_entries : entry_count rs ≤ 8000000
+
+-- Limits that no version passes.
+pub record AreBounded (limits : Limits) : Type 0 where
+  pub programs : limits.programs ≤ 20000
+  pub couples : limits.couples ≤ 10000
+  pub applicants : limits.applicants ≤ 100000
+  pub entries : limits.entries ≤ 8000000
+
+-- The tables are those of the records.
+pub record IsRegister (r : Register) : Type 0 where
+  pub registered : (kind : model.Kind) → ids_in r.registered kind ≡ ids_of kind (contents_seen r)
+  pub applicants : r.applicants ≡ applicant_ids (contents_seen r)
+  pub withdrawn : (kind : model.Kind) → ids_in r.withdrawn kind ≡ withdrawn kind (contents_seen r)
+  pub entries : r.entries ≡ entry_count (contents_seen r)
+  pub sound : AreSound (contents_seen r)
+
+-- the ids of a kind that an id under a kind adds
+abbrev pub under : model.Kind → Bytes → model.Kind → List Bytes
+under model.OfProgram id model.OfProgram = id ∷ []
+under model.OfApplicant id model.OfApplicant = id ∷ []
+under model.OfCouple id model.OfCouple = id ∷ []
+under _ id _ = []
+
+-- Ids of each kind get one more, of a kind, at the end.
+abbrev pub AddsId : Kinds → Kinds → model.Kind → Bytes → Type 0
+AddsId old new kind id = (k : model.Kind) → ids_in new k ≡ ids_in old k ++ under kind id k
+
+-- A register's tables get what a record registers and withdraws.
+pub record AddsRecord (old new : Register) (r : model.Record) : Type 0 where
+  pub records : new.records ≡ old.records
+  pub registered : (kind : model.Kind) → ids_in new.registered kind ≡ ids_in old.registered kind ++ option_to_list (own_id kind r)
+  pub applicants : new.applicants ≡ old.applicants ++ applicants_of r
+  pub withdrawn : (kind : model.Kind) → ids_in new.withdrawn kind ≡ ids_in old.withdrawn kind ++ option_to_list (withdrawn_id kind r)
+  pub entries : new.entries ≡ old.entries

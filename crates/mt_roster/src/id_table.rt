@@ -1,0 +1,79 @@
+ghost use Rattle.std.specs.Prelude.{◌≡◌, ◌<◌, ◌^◌, ◌++◌, [], ◌∷◌, not, length, position, bytes_eq, false, OnOk, OnErr, IfOk, if◌then◌else◌};
+ghost use Rattle.mt_model.specs.Registration.Ids.{has_id};
+
+use indexmap::IndexSet;
+use std::alloc::{AllocError, Global};
+use std::marker::Model;
+
+/// Ids in the order in which they came, each of them once.
+#[derive(Drop)]
+pub(crate) struct IdTable<'a> {
+    ids: IndexSet<&'a [u8]>,
+}
+
+impl<'a> Model for IdTable<'a> {
+    ghost use Rattle.std.specs.Prelude.{List, ℕ, map};
+
+    ghost Value = { List (List ℕ) };
+
+    ghost view = { λ table. map (λ id. id.now) table.ids.keys };
+}
+
+impl<'a> IdTable<'a> {
+    /// No ids.
+    pub(crate) fn new(alloc: Global) -> Self
+        ensures { result ≡ [] }
+    {
+        IdTable {
+            ids: IndexSet::new(alloc),
+        }
+    }
+
+    /// No ids, with room for some.
+    pub(crate) fn with_capacity(alloc: Global, capacity: usize) -> Result<Self, AllocError>
+        ensures { IfOk result (λ table. table ≡ []) }
+    {
+        Ok(IdTable {
+            ids: IndexSet::with_capacity(alloc, capacity)?,
+        })
+    }
+
+    pub(crate) fn len(&self) -> usize
+        ensures len { result ≡ length self.now }
+        ensures small { result < 2 ^ 63 }
+    {
+        self.ids.len()
+    }
+
+    /// Whether an id is one of them.
+    pub(crate) fn contains(&self, id: &[u8]) -> bool
+        ensures { result ≡ has_id self.now id.now }
+    {
+        self.ids.contains(id)
+    }
+
+    /// The number of an id, from 0, if it is one of them.
+    pub(crate) fn number(&self, id: &[u8]) -> Option<usize>
+        ensures { result ≡ position (bytes_eq id.now) self.now }
+    {
+        self.ids.get_index_of(id)
+    }
+
+    /// Adds an id at the end, and says that it did so, where it is none of them.
+    pub(crate) fn add(&mut self, id: &'a [u8]) -> Result<bool, AllocError>
+        ensures added { IfOk result (λ added. added ≡ not (has_id self.old id.now)) }
+        ensures ids { IfOk result (λ _. self.new ≡ (if has_id self.old id.now then self.old else self.old ++ id.now ∷ [])) }
+        ensures err { OnErr result (self.new ≡ self.old) }
+    {
+        Ok(self.ids.insert(id)?)
+    }
+
+    /// Adds an id that is none of them at the end.
+    pub(crate) fn push(&mut self, id: &'a [u8]) -> Result<(), AllocError>
+        requires { has_id self.old id.now ≡ false }
+        ensures { OnOk result (self.new ≡ self.old ++ id.now ∷ []) }
+    {
+        self.add(id)?;
+        Ok(())
+    }
+}

@@ -1,0 +1,259 @@
+ghost use Rattle.std.specs.Prelude.{◌≡◌, ◌≤◌, [], ◌∷◌, drop, length, slice_index_or, option_map, option_to_list, Some};
+ghost use Rattle.mt_model.specs.Registration.Faults.{charge_alone};
+ghost use Rattle.mt_model.specs.Registration.Records.{kind_of, are_ids, program_record, applicant_record, couple_by_pairs, couple_record, withdraw_record, record_of};
+ghost use Rattle.mt_model.specs.Registration.Records.{OfProgram, OfCouple};
+ghost use Rattle.mt_model.specs.Registration.Rows.{id_of, own_id, applicants_of, entries_of};
+ghost use Rattle.mt_roster.specs.Fields.{by_pairs};
+ghost use Rattle.mt_roster.specs.Records.{kind_seen, record_seen, charge_seen, read_seen};
+
+use crate::fields::{Ids, Pairs, are_pairs};
+use crate::ids::{is_id, quota_of};
+use crate::rules::Rules;
+use mt_lists::Row;
+
+/// What is registered under an id of its own.
+#[derive(Clone, Copy, Debug, PartialEq, Eq)]
+pub(crate) enum Kind {
+    Program,
+    Applicant,
+    Couple,
+}
+
+/// A record taken apart. Its ids lie in the row.
+#[derive(Debug, Drop)]
+pub(crate) enum Record<'a> {
+    Program {
+        id: &'a [u8],
+        quota: u32,
+        list: Ids<'a>,
+    },
+    Applicant {
+        id: &'a [u8],
+        list: Ids<'a>,
+    },
+    Couple {
+        id: &'a [u8],
+        first: &'a [u8],
+        second: &'a [u8],
+        pairs: Pairs<'a>,
+    },
+    Withdraw {
+        kind: Kind,
+        id: &'a [u8],
+    },
+}
+
+impl<'a> Record<'a> {
+    /// The record's own id, or the one that it withdraws.
+    pub(crate) fn id(&self) -> &'a [u8]
+        ensures { result.now ≡ id_of (record_seen self.now) }
+    {
+        match self {
+            Record::Program { id, .. } => id,
+            Record::Applicant { id, .. } => id,
+            Record::Couple { id, .. } => id,
+            Record::Withdraw { id, .. } => id,
+        }
+    }
+
+    /// How many applicants it registers.
+    pub(crate) fn applicant_count(&self) -> usize
+        ensures { result ≡ length (applicants_of (record_seen self.now)) }
+    {
+        match self {
+            Record::Applicant { .. } => 1,
+            Record::Couple { .. } => 2,
+            Record::Program { .. } | Record::Withdraw { .. } => 0,
+        }
+    }
+
+    /// How many programs it registers.
+    pub(crate) fn program_count(&self) -> usize
+        ensures { result ≡ length (option_to_list (own_id OfProgram (record_seen self.now))) }
+    {
+        match self {
+            Record::Program { .. } => 1,
+            _ => 0,
+        }
+    }
+
+    /// How many couples it registers.
+    pub(crate) fn couple_count(&self) -> usize
+        ensures { result ≡ length (option_to_list (own_id OfCouple (record_seen self.now))) }
+    {
+        match self {
+            Record::Couple { .. } => 1,
+            _ => 0,
+        }
+    }
+
+    /// How many entries its list has: a pair counts as two.
+    pub(crate) fn entry_count(&self) -> u64
+        ensures { result ≡ entries_of (record_seen self.now) }
+    {
+        match self {
+            Record::Program { list, .. } => list.len() as u64,
+            Record::Applicant { list, .. } => list.len() as u64,
+            Record::Couple { pairs, .. } => pairs.entries() as u64,
+            Record::Withdraw { .. } => 0,
+        }
+    }
+}
+
+/// A fault of a record: its code and the id at fault, which is empty where there is none.
+#[derive(Clone, Copy, Debug)]
+pub(crate) struct Charge<'a> {
+    pub(crate) code: u16,
+    pub(crate) id: &'a [u8],
+}
+
+pub(crate) const UNKNOWN_KIND: u16 = 13;
+
+pub(crate) const FIELD_COUNT: u16 = 14;
+
+pub(crate) const BAD_ID: u16 = 15;
+
+pub(crate) const BAD_QUOTA: u16 = 16;
+
+/// A fault that no id is at.
+fn charge_alone<'a>(code: u16) -> Charge<'a>
+    ensures { charge_seen result ≡ charge_alone code }
+{
+    Charge { code, id: &[] }
+}
+
+/// The kind that a field names.
+fn kind_of(word: &[u8]) -> Option<Kind>
+    ensures { option_map kind_seen result ≡ kind_of word.now }
+{
+    if word == b"program".as_slice() {
+        Some(Kind::Program)
+    } else if word == b"applicant".as_slice() {
+        Some(Kind::Applicant)
+    } else if word == b"couple".as_slice() {
+        Some(Kind::Couple)
+    } else {
+        None
+    }
+}
+
+/// A program by the fields after its first.
+fn program_record<'a>(rules: &Rules, row: &'a Row) -> Result<Record<'a>, Charge<'a>>
+    ensures { read_seen result ≡ program_record rules.now (drop 1 row.now) }
+{
+    if row.len() < 3 {
+        return Err(charge_alone(FIELD_COUNT));
+    }
+    let id = row.field(1);
+    let list = Ids::new(row, 3);
+    if !is_id(rules.limits.id_bytes, id) || !list.are_ids(rules) {
+        return Err(charge_alone(BAD_ID));
+    }
+    match quota_of(row.field(2)) {
+        Some(quota) => Ok(Record::Program { id, quota, list }),
+        None => Err(Charge {
+            code: BAD_QUOTA,
+            id,
+        }),
+    }
+}
+
+/// An applicant by the fields after its first.
+fn applicant_record<'a>(rules: &Rules, row: &'a Row) -> Result<Record<'a>, Charge<'a>>
+    ensures { read_seen result ≡ applicant_record rules.now (drop 1 row.now) }
+{
+    if row.len() < 2 {
+        return Err(charge_alone(FIELD_COUNT));
+    }
+    let id = row.field(1);
+    let list = Ids::new(row, 2);
+    if is_id(rules.limits.id_bytes, id) && list.are_ids(rules) {
+        Ok(Record::Applicant { id, list })
+    } else {
+        Err(charge_alone(BAD_ID))
+    }
+}
+
+/// Whether a couple's own id and those of its members are ids.
+fn are_ids(rules: &Rules, id: &[u8], first: &[u8], second: &[u8]) -> bool
+    ensures { result ≡ are_ids rules.now (id.now ∷ first.now ∷ second.now ∷ []) }
+{
+    let most = rules.limits.id_bytes;
+    is_id(most, id) && is_id(most, first) && is_id(most, second)
+}
+
+/// A couple whose fields are enough, and two by two after its members.
+fn couple_of_pairs<'a>(rules: &Rules, row: &'a Row) -> Result<Record<'a>, Charge<'a>>
+    requires { 4 ≤ length row.now }
+    ensures { read_seen result
+        ≡ couple_by_pairs rules.now (slice_index_or row.now 1 []) (slice_index_or row.now 2 []) (slice_index_or row.now 3 [])
+        (Some (by_pairs (drop 4 row.now))) }
+{
+    let id = row.field(1);
+    let first = row.field(2);
+    let second = row.field(3);
+    if are_ids(rules, id, first, second) && are_pairs(rules, row, 4) {
+        let pairs = Pairs::new(row, 4);
+        Ok(Record::Couple {
+            id,
+            first,
+            second,
+            pairs,
+        })
+    } else {
+        Err(charge_alone(BAD_ID))
+    }
+}
+
+/// A couple by the fields after its first.
+fn couple_record<'a>(rules: &Rules, row: &'a Row) -> Result<Record<'a>, Charge<'a>>
+    ensures { read_seen result ≡ couple_record rules.now (drop 1 row.now) }
+{
+    let count = row.len();
+    if count < 4 {
+        return Err(charge_alone(FIELD_COUNT));
+    }
+    if count % 2 == 1 {
+        return Err(charge_alone(FIELD_COUNT));
+    }
+    couple_of_pairs(rules, row)
+}
+
+/// A withdrawal by the fields after its first.
+fn withdraw_record<'a>(rules: &Rules, row: &'a Row) -> Result<Record<'a>, Charge<'a>>
+    ensures { read_seen result ≡ withdraw_record rules.now (drop 1 row.now) }
+{
+    let Some(word) = row.get(1) else {
+        return Err(charge_alone(FIELD_COUNT));
+    };
+    let Some(kind) = kind_of(word) else {
+        return Err(charge_alone(UNKNOWN_KIND));
+    };
+    if row.len() != 3 {
+        return Err(charge_alone(FIELD_COUNT));
+    }
+    let id = row.field(2);
+    if is_id(rules.limits.id_bytes, id) {
+        Ok(Record::Withdraw { kind, id })
+    } else {
+        Err(charge_alone(BAD_ID))
+    }
+}
+
+/// A record taken apart by itself, or its first fault.
+pub(crate) fn record_of<'a>(rules: &Rules, row: &'a Row) -> Result<Record<'a>, Charge<'a>>
+    ensures { read_seen result ≡ record_of rules.now row.now }
+{
+    let Some(word) = row.get(0) else {
+        return Err(charge_alone(UNKNOWN_KIND));
+    };
+    if rules.withdrawals && word == b"withdraw".as_slice() {
+        return withdraw_record(rules, row);
+    }
+    match kind_of(word) {
+        Some(Kind::Program) => program_record(rules, row),
+        Some(Kind::Applicant) => applicant_record(rules, row),
+        Some(Kind::Couple) => couple_record(rules, row),
+        None => Err(charge_alone(UNKNOWN_KIND)),
+    }
+}

@@ -1,0 +1,253 @@
+ghost use Rattle.std.specs.Prelude.{◌≡◌, ◌+◌, ◌||◌, false, nat_lt, ◌++◌, [], ◌∷◌, length, option_map, None, OnOk, IfOk};
+ghost use Rattle.std.specs.Option.{option_copied};
+ghost use Rattle.mt_model.specs.Registration.Ids.{has_id};
+ghost use Rattle.mt_model.specs.Registration.Passes.{first_in, registered_before, says_twice, are_too_many, clash};
+ghost use Rattle.mt_roster.specs.Records.{kind_seen, record_seen, charge_seen};
+ghost use Rattle.mt_roster.specs.Registers.{records_seen, contents_seen, ids_in, AreSound, IsRegister, AddsId, AddsRecord};
+
+use crate::id_table::IdTable;
+use crate::record::{Charge, Kind, Record};
+use crate::repeats::{has_repeat, has_repeated_pair};
+use crate::rules::Rules;
+use mt_model::Limits;
+use std::alloc::{AllocError, Global};
+
+pub(crate) const DUPLICATE_ID: u16 = 17;
+
+pub(crate) const DUPLICATE_ENTRY: u16 = 18;
+
+pub(crate) const TOO_MANY: u16 = 19;
+
+/// A record with its number in the file.
+#[derive(Debug, Drop)]
+pub(crate) struct Numbered<'a> {
+    pub(crate) row: u64,
+    pub(crate) record: Record<'a>,
+}
+
+/// Ids of each kind.
+#[derive(Drop)]
+pub(crate) struct Kinds<'a> {
+    pub(crate) programs: IdTable<'a>,
+    pub(crate) applicants: IdTable<'a>,
+    pub(crate) couples: IdTable<'a>,
+}
+
+impl<'a> Kinds<'a> {
+    fn new(alloc: Global) -> Self
+        ensures programs { result.programs ≡ [] }
+        ensures applicants { result.applicants ≡ [] }
+        ensures couples { result.couples ≡ [] }
+    {
+        Kinds {
+            programs: IdTable::new(alloc),
+            applicants: IdTable::new(alloc),
+            couples: IdTable::new(alloc),
+        }
+    }
+
+    /// The ids of a kind.
+    pub(crate) fn of(&self, kind: Kind) -> &IdTable<'a>
+        ensures { result.now ≡ ids_in self.now (kind_seen kind) }
+    {
+        match kind {
+            Kind::Program => &self.programs,
+            Kind::Applicant => &self.applicants,
+            Kind::Couple => &self.couples,
+        }
+    }
+
+    /// Adds an id that is none of its kind.
+    fn push(&mut self, kind: Kind, id: &'a [u8]) -> Result<(), AllocError>
+        requires { has_id (ids_in self.old (kind_seen kind)) id.now ≡ false }
+        ensures { OnOk result (AddsId self.old self.new (kind_seen kind) id.now) }
+    {
+        match kind {
+            Kind::Program => self.programs.push(id),
+            Kind::Applicant => self.applicants.push(id),
+            Kind::Couple => self.couples.push(id),
+        }
+    }
+}
+
+/// The records that were read, with what they register and what they withdraw.
+#[derive(Drop)]
+pub(crate) struct Register<'a> {
+    pub(crate) records: Vec<Numbered<'a>>,
+    /// The own ids of the records.
+    pub(crate) registered: Kinds<'a>,
+    /// The applicants, members of couples included.
+    pub(crate) applicants: IdTable<'a>,
+    /// The ids of the rows that are withdrawn.
+    pub(crate) withdrawn: Kinds<'a>,
+    /// How many entries the lists have in all.
+    pub(crate) entries: u64,
+}
+
+impl<'a> Register<'a> {
+    /// No records.
+    pub(crate) fn new(alloc: Global) -> Self
+        ensures register { IsRegister result }
+        ensures records { records_seen result ≡ [] }
+    {
+        Register {
+            records: Vec::new(alloc),
+            registered: Kinds::new(alloc),
+            applicants: IdTable::new(alloc),
+            withdrawn: Kinds::new(alloc),
+            entries: 0,
+        }
+    }
+
+    /// The first id of a record, in the order own, first member, second member, that is registered already.
+    fn registered_before(&self, record: &Record<'a>) -> Option<&'a [u8]>
+        requires { IsRegister self.now }
+        ensures { option_copied result ≡ registered_before (contents_seen self.now) (record_seen record.now) }
+    {
+        match record {
+            Record::Program { id, .. } => found(&self.registered.programs, id),
+            Record::Applicant { id, .. } => found(&self.applicants, id),
+            Record::Couple {
+                id,
+                first,
+                second,
+                ..
+            } => {
+                if self.registered.couples.contains(id) {
+                    Some(id)
+                } else if self.applicants.contains(first) {
+                    Some(first)
+                } else if second == first || self.applicants.contains(second) {
+                    Some(second)
+                } else {
+                    None
+                }
+            }
+            Record::Withdraw { .. } => None,
+        }
+    }
+
+    /// Whether an id or a pair stands twice in a record's list, or what it withdraws was withdrawn before.
+    fn says_twice(&self, alloc: Global, record: &Record<'a>) -> Result<bool, AllocError>
+        requires { IsRegister self.now }
+        ensures { IfOk result (λ twice. twice ≡ says_twice (contents_seen self.now) (record_seen record.now)) }
+    {
+        match record {
+            Record::Program { list, .. } => has_repeat(alloc, list),
+            Record::Applicant { list, .. } => has_repeat(alloc, list),
+            Record::Couple { pairs, .. } => has_repeated_pair(alloc, pairs),
+            Record::Withdraw { kind, id } => Ok(self.withdrawn.of(*kind).contains(id)),
+        }
+    }
+
+    /// Whether the records with this one are more than a version takes.
+    fn are_too_many(&self, limits: &Limits, record: &Record<'a>) -> bool
+        requires { IsRegister self.now }
+        ensures { result ≡ are_too_many limits.now (contents_seen self.now ++ record_seen record.now ∷ []) }
+    {
+        let applicants = self.applicants.len() + record.applicant_count();
+        let programs = self.registered.programs.len() + record.program_count();
+        let couples = self.registered.couples.len() + record.couple_count();
+        are_over(limits, applicants, programs, couples)
+            || adds_too_many(limits, self.entries, record.entry_count())
+    }
+
+    /// The first fault of a record beside those before it.
+    pub(crate) fn clash(
+        &self,
+        alloc: Global,
+        rules: &Rules,
+        record: &Record<'a>,
+    ) -> Result<Option<Charge<'a>>, AllocError>
+        requires { IsRegister self.now }
+        ensures { IfOk result (λ charge. option_map charge_seen charge ≡ clash rules.now (contents_seen self.now) (record_seen record.now)) }
+    {
+        if let Some(id) = self.registered_before(record) {
+            return Ok(Some(Charge {
+                code: DUPLICATE_ID,
+                id,
+            }));
+        }
+        let id = record.id();
+        if self.says_twice(alloc, record)? {
+            return Ok(Some(Charge {
+                code: DUPLICATE_ENTRY,
+                id,
+            }));
+        }
+        if self.are_too_many(&rules.limits, record) {
+            return Ok(Some(Charge { code: TOO_MANY, id }));
+        }
+        Ok(None)
+    }
+}
+
+impl<'a> Register<'a> {
+    /// Adds what a record registers, or what it withdraws.
+    fn push_ids(&mut self, record: &Record<'a>) -> Result<(), AllocError>
+        requires register { IsRegister self.old }
+        requires new { registered_before (contents_seen self.old) (record_seen record.now) ≡ None }
+        requires once { says_twice (contents_seen self.old) (record_seen record.now) ≡ false }
+        ensures { OnOk result (AddsRecord self.old self.new (record_seen record.now)) }
+    {
+        match record {
+            Record::Program { id, .. } => self.registered.push(Kind::Program, id)?,
+            Record::Applicant { id, .. } => {
+                self.registered.push(Kind::Applicant, id)?;
+                self.applicants.push(id)?;
+            }
+            Record::Couple {
+                id,
+                first,
+                second,
+                ..
+            } => {
+                self.registered.push(Kind::Couple, id)?;
+                self.applicants.push(first)?;
+                self.applicants.push(second)?;
+            }
+            Record::Withdraw { kind, id } => self.withdrawn.push(*kind, id)?,
+        }
+        Ok(())
+    }
+
+    /// Adds a record that doesn't clash with those before it.
+    pub(crate) fn push(&mut self, row: u64, next: Record<'a>) -> Result<(), AllocError>
+        requires register { IsRegister self.old }
+        requires new { registered_before (contents_seen self.old) (record_seen next) ≡ None }
+        requires once { says_twice (contents_seen self.old) (record_seen next) ≡ false }
+        requires sound { AreSound (contents_seen self.old ++ record_seen next ∷ []) }
+        ensures register { OnOk result (IsRegister self.new) }
+        ensures records { OnOk result (records_seen self.new ≡ records_seen self.old ++ (row, record_seen next.entry) ∷ []) }
+    {
+        self.push_ids(&next)?;
+        self.entries += next.entry_count();
+        self.records.push(Numbered { row, record: next })?;
+        Ok(())
+    }
+}
+
+/// The id, if it is one of these.
+fn found<'a>(ids: &IdTable<'_>, id: &'a [u8]) -> Option<&'a [u8]>
+    ensures { option_copied result ≡ first_in ids.now (id.now ∷ []) }
+{
+    if ids.contains(id) { Some(id) } else { None }
+}
+
+/// Whether there are more applicants, programs or couples than the limits allow.
+fn are_over(limits: &Limits, applicants: usize, programs: usize, couples: usize) -> bool
+    ensures { result
+        ≡ (nat_lt limits.now.applicants applicants || nat_lt limits.now.programs programs || nat_lt limits.now.couples couples) }
+{
+    let many_applicants = applicants > limits.applicants as usize;
+    let many_programs = programs > limits.programs as usize;
+    let many_couples = couples > limits.couples as usize;
+    many_applicants || many_programs || many_couples
+}
+
+/// Whether so many entries and these are more than the limits allow.
+fn adds_too_many(limits: &Limits, entries: u64, more: u64) -> bool
+    ensures { result ≡ nat_lt limits.now.entries (entries + more) }
+{
+    entries.saturating_add(more) > u64::from(limits.entries)
+}

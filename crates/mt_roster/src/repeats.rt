@@ -1,0 +1,72 @@
+ghost use Rattle.std.specs.Prelude.{◌≡◌, ◌++◌, [], ◌∷◌, not, bytes_eq, OnErr, IfOk, if◌then◌else◌};
+ghost use Rattle.std.specs.List.{list_any};
+ghost use Rattle.std.specs.Option.{option_copied};
+ghost use Rattle.mt_model.specs.Registration.Ids.{all_differ};
+ghost use Rattle.mt_model.specs.Registration.Passes.{is_same_pair};
+
+use crate::fields::{Ids, Pairs};
+use crate::id_table::IdTable;
+use indexmap::IndexSet;
+use std::alloc::{AllocError, Global};
+use std::marker::Model;
+
+/// Whether an id stands twice in a list.
+pub(crate) fn has_repeat(alloc: Global, list: &Ids<'_>) -> Result<bool, AllocError>
+    ensures { IfOk result (λ repeats. repeats ≡ not (all_differ bytes_eq list.now)) }
+{
+    let mut seen = IdTable::with_capacity(alloc, list.len())?;
+    for i in 0..list.len() {
+        if !seen.add(list.id(i))? {
+            return Ok(true);
+        }
+    }
+    Ok(false)
+}
+
+/// Pairs in the order in which they came, each of them once.
+#[derive(Drop)]
+struct PairTable<'a> {
+    pairs: IndexSet<(Option<&'a [u8]>, Option<&'a [u8]>)>,
+}
+
+impl<'a> Model for PairTable<'a> {
+    ghost use Rattle.std.specs.Prelude.{List, ℕ, Option, map};
+    ghost use Rattle.std.specs.Option.{option_copied};
+
+    ghost Value = { List (Option (List ℕ) × Option (List ℕ)) };
+
+    ghost view = { λ table. map (λ p. (option_copied p.0, option_copied p.1)) table.pairs.keys };
+}
+
+impl<'a> PairTable<'a> {
+    /// No pairs, with room for some.
+    fn with_capacity(alloc: Global, capacity: usize) -> Result<Self, AllocError>
+        ensures { IfOk result (λ table. table ≡ []) }
+    {
+        Ok(PairTable {
+            pairs: IndexSet::with_capacity(alloc, capacity)?,
+        })
+    }
+
+    /// Adds a pair at the end, and says that it did so, where it is none of them.
+    fn add(&mut self, pair: (Option<&'a [u8]>, Option<&'a [u8]>)) -> Result<bool, AllocError>
+        ensures added { IfOk result (λ added. added ≡ not (list_any (is_same_pair (option_copied pair.entry.0, option_copied pair.entry.1)) self.old)) }
+        ensures pairs { IfOk result (λ _. self.new ≡ (if list_any (is_same_pair (option_copied pair.entry.0, option_copied pair.entry.1)) self.old then self.old else self.old ++ (option_copied pair.entry.0, option_copied pair.entry.1) ∷ [])) }
+        ensures err { OnErr result (self.new ≡ self.old) }
+    {
+        Ok(self.pairs.insert(pair)?)
+    }
+}
+
+/// Whether a pair stands twice in a couple's list.
+pub(crate) fn has_repeated_pair(alloc: Global, pairs: &Pairs<'_>) -> Result<bool, AllocError>
+    ensures { IfOk result (λ repeats. repeats ≡ not (all_differ is_same_pair pairs.now)) }
+{
+    let mut seen = PairTable::with_capacity(alloc, pairs.len())?;
+    for i in 0..pairs.len() {
+        if !seen.add(pairs.pair(i))? {
+            return Ok(true);
+        }
+    }
+    Ok(false)
+}

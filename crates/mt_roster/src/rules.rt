@@ -1,0 +1,51 @@
+ghost use Rattle.std.specs.Prelude.{◌≡◌};
+ghost use Rattle.mt_model.specs.Registration.Records.{rules_of};
+
+use mt_lists::Row;
+use mt_model::{LIMITS, LIMITS_2, Limits};
+use std::marker::Model;
+
+/// What a version of the format allows.
+#[derive(Clone, Copy, Debug)]
+pub(crate) struct Rules {
+    pub(crate) limits: Limits,
+    /// Whether rows may be withdrawn.
+    pub(crate) withdrawals: bool,
+    /// Whether one of the two ids of a pair may be `-`.
+    pub(crate) half_pairs: bool,
+}
+
+impl Model for Rules {
+    ghost use Rattle.mt_model.specs.Registration.Records.{Rules as Allowed};
+
+    ghost Value = { Allowed };
+
+    ghost view = { λ r. record { limits = r.limits; withdrawals = r.withdrawals; half_pairs = r.half_pairs } };
+
+    ghost inverse = { λ v. record { limits = v.limits; withdrawals = v.withdrawals; half_pairs = v.half_pairs } };
+}
+
+/// The rules of the version that a record names, which is exactly `match`, `1` or `match`, `2`.
+pub(crate) fn rules_of(row: &Row) -> Option<Rules>
+    ensures { result ≡ rules_of row.now }
+{
+    if row.len() != 2 || row.field(0) != b"match".as_slice() {
+        return None;
+    }
+    let number = row.field(1);
+    if number == b"1".as_slice() {
+        Some(Rules {
+            limits: LIMITS,
+            withdrawals: false,
+            half_pairs: false,
+        })
+    } else if number == b"2".as_slice() {
+        Some(Rules {
+            limits: LIMITS_2,
+            withdrawals: true,
+            half_pairs: true,
+        })
+    } else {
+        None
+    }
+}

@@ -1,0 +1,71 @@
+ghost use Rattle.std.specs.Prelude.{◌≡◌, option_map};
+ghost use Rattle.std.specs.Option.{option_copied};
+ghost use Rattle.mt_model.specs.Registration.Faults.{charge, fault_at};
+ghost use Rattle.mt_model.specs.Registration.Passes.{second_pass, unknown_id};
+ghost use Rattle.mt_roster.specs.Records.{charge_seen, record_seen};
+ghost use Rattle.mt_roster.specs.Refusals.{fault_seen};
+ghost use Rattle.mt_roster.specs.Registers.{records_seen, contents_seen, IsRegister};
+
+use crate::record::{Charge, Record};
+use crate::refusal::Fault;
+use crate::register::Register;
+use crate::unknown::{first_unknown, first_unknown_of_pairs};
+
+const UNKNOWN_APPLICANT: u16 = 20;
+
+const UNKNOWN_PROGRAM: u16 = 21;
+
+const NOT_REGISTERED: u16 = 22;
+
+/// A fault with this code at an id, if there is one.
+fn charge_of<'a>(code: u16, id: Option<&'a [u8]>) -> Option<Charge<'a>>
+    ensures { option_map charge_seen result ≡ option_map (charge code) (option_copied id.entry) }
+{
+    let id = id?;
+    Some(Charge { code, id })
+}
+
+impl<'a> Register<'a> {
+    /// The first id that a record names and that no record registers.
+    fn unknown_id(&self, record: &Record<'a>) -> Option<Charge<'a>>
+        requires { IsRegister self.now }
+        ensures { option_map charge_seen result ≡ unknown_id (contents_seen self.now) (record_seen record.now) }
+    {
+        match record {
+            Record::Program { list, .. } => {
+                charge_of(UNKNOWN_APPLICANT, first_unknown(&self.applicants, list))
+            }
+            Record::Applicant { list, .. } => {
+                charge_of(UNKNOWN_PROGRAM, first_unknown(&self.registered.programs, list))
+            }
+            Record::Couple { pairs, .. } => charge_of(
+                UNKNOWN_PROGRAM,
+                first_unknown_of_pairs(&self.registered.programs, pairs),
+            ),
+            Record::Withdraw { kind, id } => {
+                if self.registered.of(*kind).contains(id) {
+                    None
+                } else {
+                    Some(Charge {
+                        code: NOT_REGISTERED,
+                        id,
+                    })
+                }
+            }
+        }
+    }
+
+    /// The first fault of the second pass: the first record that names an unknown id.
+    pub(crate) fn second_pass(&self) -> Option<Fault<'a>>
+        requires { IsRegister self.now }
+        ensures { option_map fault_seen result ≡ second_pass (records_seen self.now) }
+    {
+        for i in 0..self.records.len() {
+            let numbered = &self.records[i];
+            if let Some(charge) = self.unknown_id(&numbered.record) {
+                return Some(charge.at(numbered.row));
+            }
+        }
+        None
+    }
+}

@@ -1,0 +1,54 @@
+ghost use Rattle.std.specs.Prelude.{◌≡◌, option_to_list};
+ghost use Rattle.std.specs.List.{flat_map};
+ghost use Rattle.std.specs.Option.{option_copied};
+ghost use Rattle.mt_model.specs.Registration.Passes.{first_not_in};
+ghost use Rattle.mt_roster.specs.Unknown.{named};
+
+use crate::fields::{Ids, Pairs};
+use crate::id_table::IdTable;
+
+/// The first id of a list that is none of these.
+pub(crate) fn first_unknown<'a>(all: &IdTable<'_>, list: &Ids<'a>) -> Option<&'a [u8]>
+    ensures { option_copied result ≡ first_not_in all.now list.now }
+{
+    for i in 0..list.len() {
+        let id = list.id(i);
+        if !all.contains(id) {
+            return Some(id);
+        }
+    }
+    None
+}
+
+/// The id of a place that is none of these.
+fn unknown_place<'a>(all: &IdTable<'_>, place: Option<&'a [u8]>) -> Option<&'a [u8]>
+    ensures { option_copied result ≡ first_not_in all.now (option_to_list (option_copied place.entry)) }
+{
+    let id = place?;
+    if all.contains(id) { None } else { Some(id) }
+}
+
+/// The first id of a pair that is none of these.
+fn unknown_of_pair<'a>(
+    all: &IdTable<'_>,
+    pair: (Option<&'a [u8]>, Option<&'a [u8]>),
+) -> Option<&'a [u8]>
+    ensures { option_copied result ≡ first_not_in all.now (named (option_copied pair.entry.0, option_copied pair.entry.1)) }
+{
+    match unknown_place(all, pair.0) {
+        Some(id) => Some(id),
+        None => unknown_place(all, pair.1),
+    }
+}
+
+/// The first id of a couple's pairs that is none of these.
+pub(crate) fn first_unknown_of_pairs<'a>(all: &IdTable<'_>, list: &Pairs<'a>) -> Option<&'a [u8]>
+    ensures { option_copied result ≡ first_not_in all.now (flat_map named list.now) }
+{
+    for i in 0..list.len() {
+        if let Some(id) = unknown_of_pair(all, list.pair(i)) {
+            return Some(id);
+        }
+    }
+    None
+}
