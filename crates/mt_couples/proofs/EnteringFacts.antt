@@ -1,0 +1,79 @@
+-- The couples on their way into a match, one after another.
+use Rattle.std.proofs.Common.{◌≡◌, ℕ, suc, ◌+◌, ◌-◌, ◌<◌, ◌≤◌, true, List, [], ◌∷◌, length, Some, None, IsTrue, ap, sym, ◌∙◌, inl, inr, arith, subst, option_map, option_and_then}
+use Rattle.std.specs.List.{range_with_len}
+use Rattle.mt_model.specs.Lists.{below}
+use Rattle.mt_model.specs.Market.{Market, agents}
+use Rattle.mt_model.specs.Matching.{Places}
+use Rattle.mt_model.specs.Stability.{fits}
+use Rattle.mt_model.specs.WellFormed.{IsWellFormed}
+use Rattle.mt_model.specs.Rounds.{settled, entered, stage}
+use Rattle.mt_model.specs.Laws.Rounds.{is_on}
+use Rattle.mt_model.specs.declared.numbers.Agent.{Agent}
+use Rattle.mt_model.specs.declared.numbers.Agent.TheVariants.{Couple}
+use Rattle.mt_model.proofs.RoundsLists.{In}
+use Rattle.mt_model.proofs.RoundsAgents.{on_list, of_list, agent_on_list, couple_members}
+use Rattle.mt_couples.specs.Assigned.{Assigned}
+use Rattle.mt_couples.specs.Running.{IsRunning}
+
+-- the couples from a number on
+abbrev couples_from : Market → ℕ → List ℕ
+couples_from m number = range_with_len number (length m.couples - number)
+
+-- Couples below a number have entered: what is left of the way leads where the whole does.
+pub record IsEntering (m : Market) (start : Places) (budget number : ℕ) (now : Assigned) (waiting : List Agent) (left : ℕ) : Type 0 where
+  pub market : now.market ≡ m
+  pub fitting : IsTrue (fits m now.places)
+  pub nobody_waits : waiting ≡ []
+  pub leads : entered m (couples_from m number) left now.places ≡ entered m (below (length m.couples)) budget start
+  pub within : left ≤ budget
+
+-- the next couple is put on the empty work list
+pub next_waits : (m : Market) → IsWellFormed m → (k : ℕ) (places : Places) → k < length m.couples → fits m places ≡ true → IsRunning m places (Couple k ∷ [])
+next_waits m wf k places within fit = record {
+  well_formed = wf;
+  fitting = record { fitting = fit; waiting_agents = λ g on. of_it g (of_list g (Couple k ∷ []) on) };
+}
+  where
+    of_it : (g : Agent) → In g (Couple k ∷ []) → is_on (agents m) g ≡ true
+    of_it g (inl is) = subst (λ x. is_on (agents m) x ≡ true) is (on_list (Couple k) (agents m) (agent_on_list m (Couple k) (couple_members m wf k within)))
+    of_it g (inr none) = absurd none
+
+-- the next couple, out of those from its number on
+next_couple : (m : Market) (number left : ℕ) (places : Places) → number < length m.couples
+    → entered m (couples_from m number) left places
+      ≡ option_and_then (λ r. entered m (couples_from m (number + 1)) r.1 r.0) (settled m number left places (Couple number ∷ []))
+next_couple m number left places within =
+    let e : length m.couples - number ≡ suc (length m.couples - (number + 1)) = omega arith in
+    ap (λ n. entered m (range_with_len number n) left places) e
+
+-- it has entered
+pub entering_more : (m : Market) (start : Places) (budget number : ℕ) (now next : Assigned) (waiting waiting' : List Agent) (left left' : ℕ)
+    → IsEntering m start budget number now waiting left → number < length m.couples → next.market ≡ m → fits m next.places ≡ true → waiting' ≡ []
+    → settled m number left now.places (Couple number ∷ []) ≡ Some (next.places, left') → left' ≤ left → IsEntering m start budget (number + 1) next waiting' left'
+entering_more m start budget number now next waiting waiting' left left' so_far within market fit empty settles less = record {
+  market = market;
+  fitting = fit;
+  nobody_waits = empty;
+  leads =
+      ap (option_and_then (λ r. entered m (couples_from m (number + 1)) r.1 r.0)) (sym settles)
+      ∙ sym (next_couple m number left now.places within) ∙ so_far.leads;
+  within = (let l = so_far.within in omega arith);
+}
+
+-- its rounds are more than what is left
+pub entering_spent : (m : Market) (start : Places) (budget number : ℕ) (now : Assigned) (waiting : List Agent) (left : ℕ)
+    → IsEntering m start budget number now waiting left → number < length m.couples → settled m number left now.places (Couple number ∷ []) ≡ None
+    → stage m start budget ≡ None
+entering_spent m start budget number now waiting left so_far within spent =
+    let none : entered m (below (length m.couples)) budget start ≡ None =
+    sym so_far.leads ∙ next_couple m number left now.places within ∙ ap (option_and_then (λ r. entered m (couples_from m (number + 1)) r.1 r.0)) spent in
+    ap (option_map (λ r. (r.0, budget - r.1))) none
+
+-- all couples have entered
+pub entering_all : (m : Market) (start : Places) (budget number : ℕ) (now : Assigned) (waiting : List Agent) (left : ℕ)
+    → IsEntering m start budget number now waiting left → length m.couples ≤ number → stage m start budget ≡ Some (now.places, budget - left)
+entering_all m start budget number now waiting left so_far past =
+    let none_left : length m.couples - number ≡ 0 = omega arith in
+    let all : entered m (below (length m.couples)) budget start ≡ Some (now.places, left) =
+    sym so_far.leads ∙ ap (λ n. entered m (range_with_len number n) left now.places) none_left in
+    ap (option_map (λ r. (r.0, budget - r.1))) all

@@ -1,0 +1,15 @@
+pub mod EnteringFacts
+pub mod JoinFacts
+pub mod MarketFacts
+pub mod MoveFacts
+pub mod MoveSteps
+pub mod OptionFacts
+pub mod PlaceFacts
+pub mod RankFacts
+pub mod RanksFacts
+pub mod RoundFacts
+pub mod RowFacts
+pub mod SentFacts
+pub mod TableFacts
+pub mod WaitingFacts
+pub mod RefusedFacts

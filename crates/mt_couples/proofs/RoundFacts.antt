@@ -1,0 +1,102 @@
+-- What a round is given, and what it leaves.
+use Rattle.std.proofs.Common.{◌≡◌, ℕ, zero, suc, ◌-◌, ◌≤◌, Bool, true, List, [], ◌∷◌, Option, Some, Contains, refl, ap, sym, ◌∙◌, inl, inr, arith, subst}
+use Rattle.std.specs.List.{find, list_any}
+use Rattle.std.proofs.lemmas.Bool.{cases_Bool, or_left}
+use Rattle.mt_model.specs.Market.{Market, agents}
+use Rattle.mt_model.specs.Matching.{Places, Placement, holds, options, better}
+use Rattle.mt_model.specs.Stability.{would_be_taken, fits}
+use Rattle.mt_model.specs.Places.{ArePlaces}
+use Rattle.mt_model.specs.WellFormed.{IsWellFormed}
+use Rattle.mt_model.specs.Rounds.{is_same_agent, first_taken, round_of, settled, Work}
+use Rattle.mt_model.specs.Laws.Rounds.{IsFittingState, is_on}
+use Rattle.mt_model.specs.declared.numbers.Agent.{Agent}
+use Rattle.mt_model.proofs.RoundsLists.{In, of_until}
+use Rattle.mt_model.proofs.RoundsAgents.{is_same_agent_refl, agent_from_list, of_list}
+use Rattle.mt_model.proofs.RoundsFits.{fitting_facts, listing_program}
+use Rattle.mt_model.proofs.RoundsKeep.{fitting_round}
+use Rattle.mt_couples.specs.Assigned.{Assigned, IsAgentOf}
+use Rattle.mt_couples.specs.Moves.{IsTaking}
+use Rattle.mt_couples.specs.Running.{IsRunning}
+use Rattle.mt_couples.proofs.MarketFacts.{number_within}
+
+-- the first element that passes stands on the list, and passes
+found_first : {X : Type 0} (test : X → Bool) (xs : List X) (x : X) → find test xs ≡ Some x → In x xs × (test x ≡ true)
+found_first test [] x h = absurd cc
+found_first {X} test (y ∷ ys) x h = elim (cases_Bool (test y)) [
+  | inl passes ↦
+      let both : ◌≡◌ {A = Option X} (Some y) (Some x) = rw passes at h in
+      let is : y ≡ x = cc in
+      (inl is, ap test (sym is) ∙ passes)
+  | inr fails ↦ let rest = found_first test ys x (rw fails at h) in (inr rest.0, rest.1)
+]
+
+contains_in : {X : Type 0} (xs : List X) (x : X) → In x xs → Contains xs x
+contains_in [] x i = absurd i
+contains_in (y ∷ ys) x (inl is) = (0, omega arith, is)
+contains_in (y ∷ ys) x (inr i) = let w = contains_in ys x i in (suc w.0, omega (arith, w.1), w.2)
+
+-- Below, an agent is at the front of the work list.
+module _ {m : Market} {places : Places} {waiting : List Agent} {g : Agent} (running : IsRunning m places (g ∷ waiting)) where
+  of_market : is_on (agents m) g ≡ true
+  of_market = running.fitting.waiting_agents g (or_left (is_same_agent g g) (list_any (is_same_agent g) waiting) (is_same_agent_refl g))
+
+  -- it is of the market
+  pub front_within : IsAgentOf m g
+  front_within = number_within m g (agent_from_list m running.well_formed g (of_list g (agents m) of_market))
+
+  -- its first better option that would be taken is one that it may take
+  pub front_takes : (sent : Placement) → first_taken m places g ≡ Some sent → IsTaking m places g sent
+  front_takes sent first =
+      let found = found_first (would_be_taken m places) (better m places g) sent first in
+      record {
+        well_formed = running.well_formed;
+        fitting = running.fitting.fitting;
+        agent = of_market;
+        option = contains_in (options m g) sent (of_until (holds places) sent (options m g) found.0);
+        taken = found.1;
+      }
+
+  -- after its round things are as they have to be again
+  pub runs_on : (k : ℕ) (w : Work) → w ≡ round_of m k places (g ∷ waiting) → IsRunning m w.places w.waiting
+  runs_on k w is = record {
+    well_formed = running.well_formed;
+    fitting = subst (IsFittingState m) (sym is) (fitting_round m running.well_formed k (record { places = places; waiting = g ∷ waiting }) running.fitting);
+  }
+
+-- Rounds on the way from one state to where the work list is empty: what is left of the way leads there.
+pub record IsSettling (k budget : ℕ) (start now : Assigned) (waits waiting : List Agent) (left : ℕ) : Type 0 where
+  pub market : now.market ≡ start.market
+  pub running : IsRunning now.market now.places waiting
+  pub leads : settled start.market k left now.places waiting ≡ settled start.market k budget start.places waits
+  pub within : left ≤ budget
+
+-- one round made
+module _ (m : Market) (k : ℕ) where
+  settled_more : (left : ℕ) (places : Places) (g : Agent) (rest : List Agent) (w : Work) → (left ≡ 0 → ⊥) → w ≡ round_of m k places (g ∷ rest)
+      → settled m k (left - 1) w.places w.waiting ≡ settled m k left places (g ∷ rest)
+  settled_more zero places g rest w some is = absurd (some refl)
+  settled_more (suc n) places g rest w some is =
+      let e : suc n - 1 ≡ n = omega arith in
+      ap (λ j. settled m k j w.places w.waiting) e ∙ ap (λ (x : Work). settled m k n x.places x.waiting) is
+
+pub settling_more : (k budget : ℕ) (start now next : Assigned) (waits waiting rest waiting' : List Agent) (left : ℕ) (g : Agent)
+    → IsSettling k budget start now waits waiting left → waiting ≡ g ∷ rest → (left ≡ 0 → ⊥) → next.market ≡ now.market
+    → ◌≡◌ {A = Work} (record { places = next.places; waiting = waiting' }) (round_of now.market k now.places (g ∷ rest))
+    → IsSettling k budget start next waits waiting' (left - 1)
+settling_more k budget start now next waits waiting rest waiting' left g so_far front some same work =
+    let running : IsRunning now.market now.places (g ∷ rest) = subst (IsRunning now.market now.places) front so_far.running in
+    let w : Work = record { places = next.places; waiting = waiting' } in
+    record {
+      market = same ∙ so_far.market;
+      running = subst (λ m. IsRunning m next.places waiting') (sym same) (runs_on running k w work);
+      leads =
+          settled_more start.market k left now.places g rest w some (work ∙ ap (λ m. round_of m k now.places (g ∷ rest)) so_far.market)
+          ∙ ap (settled start.market k left now.places) (sym front) ∙ so_far.leads;
+      within = (let l = so_far.within in omega arith);
+    }
+
+-- a match that fits has a place in the market for each applicant
+pub places_of_fitting : (m : Market) (places : Places) → IsWellFormed m → fits m places ≡ true → ArePlaces m places
+places_of_fitting m places wf fit =
+    let facts = fitting_facts m wf places fit in
+    record { one_each = facts.one_each; within = λ a p there. listing_program m p a (facts.listed a p there) }

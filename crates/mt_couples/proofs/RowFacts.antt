@@ -1,0 +1,89 @@
+-- Ranks in rising order.
+use Rattle.std.proofs.Common.{◌≡◌, ℕ, zero, suc, ◌+◌, ◌<◌, ◌≤◌, Bool, true, false, not, ◌==◌, nat_lt, List, [], ◌∷◌, filter, length, insert, remove, refl, ap, sym, inl, inr, arith, lt-ltb, le-ltb}
+use Rattle.std.specs.List.{AllByRecursion}
+use Rattle.std.specs.List.Sorted.{IsStrictlySortedBy, IsPartitionPoint}
+use Rattle.std.specs.Ordering.{nat_cmp}
+use Rattle.std.specs.BTreeSet.{insert_key}
+use Rattle.std.specs.declared.cmp.Ordering.TheVariants.{Less}
+use Rattle.std.proofs.lemmas.Bool.{cases_lt, cases_eq, or_cases, or_parts, or_left, or_right, both_ways, false≢true, not_from_false, eq-eqb, eqb-true, ne_eqb}
+use Rattle.std.proofs.lemmas.Cmp.{ranked}
+use Rattle.std.proofs.lemmas.Map.Keys.{sorted_head, sorted_tail}
+use Rattle.mt_model.specs.Lists.{has, count}
+
+-- a number is below all of a list
+abbrev pub IsBelowAll : ℕ → List ℕ → Type 0
+IsBelowAll k ks = (p : ℕ) → has ks p ≡ true → k < p
+
+pub below_rest : (k : ℕ) (ks : List ℕ) → IsStrictlySortedBy nat_cmp (k ∷ ks) → IsBelowAll k ks
+below_rest k ks sorted = down ks (sorted_head nat_cmp k ks sorted)
+  where
+    down : (xs : List ℕ) → AllByRecursion (λ y. nat_cmp k y ≡ Less) xs → IsBelowAll k xs
+    down [] h p on = absurd (false≢true on)
+    down (x ∷ xs) h p on = elim (or_cases (x == p) (has xs p) on) [
+      | inl here ↦ (let l : k < x = ranked k x Less (sym h.0) in let is = eqb-true x p here in omega arith)
+      | inr later ↦ down xs h.1 p later
+    ]
+
+-- where none of a list passes, none is counted
+pub count_nobody : (test : ℕ → Bool) (xs : List ℕ) → ((p : ℕ) → has xs p ≡ true → test p ≡ false) → count test xs ≡ 0
+count_nobody test [] h = refl
+count_nobody test (x ∷ xs) h =
+    let here = h x (or_left (x == x) (has xs x) (eq-eqb x x refl)) in
+    let rest = count_nobody test xs (λ p on. h p (or_right (x == p) (has xs p) on)) in
+    rw here (omega arith)
+
+none_before : (x k : ℕ) (xs : List ℕ) → k ≤ x → IsBelowAll x xs → count (λ r. nat_lt r k) xs ≡ 0
+none_before x k xs low above = count_nobody (λ r. nat_lt r k) xs (λ p on. let l = above p on in le-ltb p k (omega arith))
+
+-- a filter that everything passes
+pub filter_same : (test : ℕ → Bool) (xs : List ℕ) → ((p : ℕ) → has xs p ≡ true → test p ≡ true) → filter test xs ≡ xs
+filter_same test [] h = refl
+filter_same test (x ∷ xs) h =
+    let here = h x (or_left (x == x) (has xs x) (eq-eqb x x refl)) in
+    rw here (ap (λ ys. x ∷ ys) (filter_same test xs (λ p on. h p (or_right (x == p) (has xs p) on))))
+
+-- a number that stands on a list is counted among those below by its place
+pub insert_at_place : (ks : List ℕ) (k : ℕ) → IsStrictlySortedBy nat_cmp ks → has ks k ≡ false → insert ks (count (λ r. nat_lt r k) ks) k ≡ insert_key nat_cmp ks k
+insert_at_place [] k sorted off = refl
+insert_at_place (x ∷ xs) k sorted off =
+    let parts = or_parts (x == k) (has xs k) off in
+    let apart : (k == x) ≡ false = ne_eqb k x (λ same. both_ways (x == k) parts.0 (eq-eqb x k (sym same))) in
+    elim (cases_lt x k) [
+      | inl low ↦
+          let one_more : 1 + count (λ r. nat_lt r k) xs ≡ suc (count (λ r. nat_lt r k) xs) = omega arith in
+          rw (lt-ltb x k low, le-ltb k x (omega arith), apart, one_more) (ap (λ ys. x ∷ ys) (insert_at_place xs k (sorted_tail nat_cmp x xs sorted) parts.1))
+      | inr high ↦
+          let above : k < x = (let ne = λ (e : k ≡ x). both_ways (k == x) apart (eq-eqb k x e) in omega arith) in
+          rw (le-ltb x k high, lt-ltb k x above, none_before x k xs high (below_rest x xs sorted)) refl
+    ]
+
+pub remove_at_place : (ks : List ℕ) (k : ℕ) → IsStrictlySortedBy nat_cmp ks → has ks k ≡ true
+    → (count (λ r. nat_lt r k) ks < length ks) × (remove ks (count (λ r. nat_lt r k) ks) ≡ filter (λ r. not (r == k)) ks)
+remove_at_place [] k sorted on = absurd (false≢true on)
+remove_at_place (x ∷ xs) k sorted on = elim (cases_eq x k) [
+  | inl same ↦
+      let none = none_before x k xs (omega arith) (below_rest x xs sorted) in
+      let keeps : filter (λ r. not (r == k)) xs ≡ xs = filter_same (λ r. not (r == k)) xs (λ p here.
+      let l = below_rest x xs sorted p here in not_from_false _ (ne_eqb p k (λ e. absurd (omega arith)))) in
+      let low : nat_lt x k ≡ false = le-ltb x k (omega arith) in
+      rw (low, none, eq-eqb x k same) (omega arith, sym keeps)
+  | inr other ↦
+      let later : has xs k ≡ true = elim (or_cases (x == k) (has xs k) on) [ inl e ↦ absurd (other (eqb-true x k e)) | inr r ↦ r ] in
+      let l = below_rest x xs sorted k later in
+      let rest = remove_at_place xs k (sorted_tail nat_cmp x xs sorted) later in
+      let one_more : 1 + count (λ r. nat_lt r k) xs ≡ suc (count (λ r. nat_lt r k) xs) = omega arith in
+      rw (lt-ltb x k l, ne_eqb x k other, one_more) (omega (arith, rest.0), ap (λ ys. x ∷ ys) rest.1)
+]
+
+-- the count of those that pass is where they end, if those that pass come first
+pub count_to_point : (test : ℕ → Bool) (xs : List ℕ) (i : ℕ) → i ≤ length xs → IsPartitionPoint (λ x. test x ≡ true) (λ x. test x ≡ false) xs i → count test xs ≡ i
+count_to_point test [] i within point = omega arith
+count_to_point test (x ∷ xs) zero within point =
+    let here : test x ≡ false = point.1 0 0 (omega arith) (omega arith) in
+    let rest : count test xs ≡ 0 = count_to_point test xs 0 (omega arith) ((λ k d low high. absurd (omega arith)), (λ k d low high. point.1 (suc k) d (omega arith) (omega arith))) in
+    rw here (omega (arith, rest))
+count_to_point test (x ∷ xs) (suc i) within point =
+    let here : test x ≡ true = point.0 0 0 (omega arith) (omega arith) in
+    let rest : count test xs ≡ i = count_to_point test xs i (omega arith)
+    ((λ k d low high. point.0 (suc k) d (omega arith) (omega arith)), (λ k d low high. point.1 (suc k) d (omega arith) (omega arith))) in
+    rw here (omega (arith, rest))

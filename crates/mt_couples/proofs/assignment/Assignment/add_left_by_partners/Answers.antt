@@ -1,0 +1,7 @@
+use Rattle.mt_model.specs.Market.{applicants}
+use Rattle.mt_couples.proofs.MarketFacts.{read_within}
+use Rattle.mt_couples.proofs.assignment.Assignment.add_left_by_partners.Goals as goal
+
+pub agent_of-requires : goal.agent_of-requires
+agent_of-requires c =
+    read_within c.args.displaced.now c.loop-applicant.applicant-index c.applicant-item.result (applicants c.args.self.now.market) c.loop-applicant-test.true c.applicant-item.is c.requires

@@ -1,0 +1,28 @@
+use Rattle.std.proofs.Common.{◌≡◌, ◌∙◌, nat_lt, Some, sym, ap, ap₂, refl}
+use Rattle.mt_model.specs.Lists.{count, above}
+use Rattle.mt_model.specs.Market.{program_of}
+use Rattle.mt_model.specs.Matching.{at, send}
+use Rattle.mt_model.proofs.RoundsLists.{in_has, in_image}
+use Rattle.mt_model.proofs.RoundsPlaces.{movers}
+use Rattle.mt_couples.proofs.RankFacts.{has_rank, has_no_rank, until_rank}
+use Rattle.mt_couples.proofs.SentFacts.{in_list, sent_there}
+use Rattle.mt_couples.proofs.assignment.Assignment.is_chosen.Goals as goal
+
+pub rank-requires : goal.rank-requires
+rank-requires c =
+    c.requires.sent.within c.args.applicant (in_has c.args.applicant (movers c.args.sent.now) (in_image (λ s. s.0) (c.args.applicant, Some c.args.program) c.args.sent.now (in_list c.args.sent.now _ c.requires.there)))
+
+pub returns-in-Some : goal.returns-in-Some
+returns-in-Some c =
+    let ranking = (program_of c.args.self.now.market c.args.program).ranking in
+    let set = at (send c.args.sent.now c.args.self.now.places) c.args.program in
+    let a = c.args.applicant in
+    let found = sym c.in-Some.ensures.position in
+    let there = sent_there c.args.self.now.market c.args.self.now.places c.args.sent.now a c.args.program c.requires.sent c.in-Some.ensures.assigned.are_places.one_each (in_list c.args.sent.now _ c.requires.there) in
+    let above_is : c.ahead_after.result ≡ above set ranking a = c.ahead_after.ensures ∙ ap (count set) (sym (until_rank ranking a c.in-Some.rank found)) in
+    rw (has_rank ranking a c.in-Some.rank found, there) (ap₂ nat_lt above_is c.quota.ensures)
+
+pub returns-in-None : goal.returns-in-None
+returns-in-None c =
+    let ranking = (program_of c.args.self.now.market c.args.program).ranking in
+    rw (has_no_rank ranking c.args.applicant (sym c.in-None.ensures.position)) refl

@@ -1,0 +1,8 @@
+use Rattle.std.proofs.Common.{◌≡◌, take}
+use Rattle.mt_model.specs.Lists.{count}
+use Rattle.mt_model.specs.Market.{program_of}
+use Rattle.mt_couples.proofs.SentFacts.{leaves}
+use Rattle.mt_couples.proofs.assignment.Assignment.leaving.Given as goal
+
+abbrev pub invariant-loop-seat : goal.invariant-loop-seat
+invariant-loop-seat l = l.leaving ≡ count (leaves l.self.places l.program (take l.rank (program_of l.self.market l.program).ranking)) (take l.seat-index l.sent)

@@ -1,0 +1,34 @@
+use Rattle.std.proofs.Common.{Some, ◌≡◌, ◌∙◌, ap, sym, length, arith}
+use Rattle.mt_model.specs.Market.{Market, applicants}
+use Rattle.mt_couples.specs.Assigned.{Assigned, with_place}
+use Rattle.mt_couples.proofs.SentFacts.{sent_within}
+use Rattle.mt_couples.proofs.MoveSteps.{program_sent_to, sent_one, placed_twice}
+use Rattle.mt_couples.proofs.assignment.Assignment.send.Goals as goal
+use Rattle.mt_couples.proofs.assignment.Assignment.send.Goals.{in-Some+in_ok-put, in_default}
+
+pub unplace-requires : goal.unplace-requires
+unplace-requires c =
+    omega (arith, ap applicants c.loop-applicant.invariant.market,
+    sent_within c.args.self.now.market c.args.sent.now c.loop-applicant.applicant-index c.loop-applicant-item.result c.requires.sent c.loop-applicant-test.true c.loop-applicant-item.is)
+
+pub put-requires-clause-applicant : goal.put-requires-clause-applicant
+put-requires-clause-applicant c =
+    omega (arith, ap (λ (s : Assigned). applicants s.market) c.unplace.ensures.moved, ap applicants c.loop-applicant.invariant.market,
+    sent_within c.args.self.now.market c.args.sent.now c.loop-applicant.applicant-index c.loop-applicant-item.result c.requires.sent c.loop-applicant-test.true c.loop-applicant-item.is)
+
+pub put-requires-clause-program : goal.put-requires-clause-program
+put-requires-clause-program c =
+    omega (arith, ap (λ (s : Assigned). length s.market.programs) c.unplace.ensures.moved, ap (λ (m : Market). length m.programs) c.loop-applicant.invariant.market,
+    c.requires.programs c.in-Some.program (program_sent_to c.args.sent.now c.loop-applicant.applicant-index c.loop-applicant-item.result c.in-Some.program c.loop-applicant-test.true c.loop-applicant-item.is c.in-Some.is))
+
+pub loop-applicant-preserved : goal.loop-applicant-preserved
+loop-applicant-preserved c =
+    let now = c.loop-applicant.self in
+    let s = c.loop-applicant-item.result in
+    let is : c.match-place.self ≡ with_place now s.0 s.1 =
+    elim c.match-place.branch [
+      | in-Some+in_ok-put w ↦
+          w.self-is ∙ placed_twice now c.unplace.new.self w.put.new.self s.0 (Some w.in-Some.program) c.unplace.ensures.moved w.in_ok-put.ensures ∙ ap (with_place now s.0) (sym w.in-Some.is)
+      | in_default w ↦ w.self-is ∙ c.unplace.ensures.moved ∙ ap (with_place now s.0) (sym w.in_default.is)
+    ] in
+    sent_one c.args.self.now now c.match-place.self c.args.sent.now c.loop-applicant.applicant-index s _ c.loop-applicant-test.true c.loop-applicant-item.is is c.loop-applicant.invariant

@@ -1,0 +1,9 @@
+use Rattle.std.proofs.Common.{ap, arith}
+use Rattle.mt_model.specs.Market.{applicants}
+use Rattle.mt_couples.proofs.MarketFacts.{read_within}
+use Rattle.mt_couples.proofs.assignment.Assignment.take_out.Goals as goal
+
+pub agent_of-requires : goal.agent_of-requires
+agent_of-requires c =
+    omega (arith, ap applicants c.loop-applicant.invariant.market,
+    read_within c.args.displaced.now c.loop-applicant.applicant-index c.applicant-item.result (applicants c.args.self.now.market) c.loop-applicant-test.true c.applicant-item.is c.requires)

@@ -1,0 +1,58 @@
+use Rattle.std.proofs.Common.{◌≡◌, ◌∙◌, ◌∷◌, ◌-◌, [], true, Result, Some, Err, IsErrAnd, sym, ap, ap₂, subst, arith}
+use Rattle.mt_model.specs.Stability.{fits}
+use Rattle.mt_model.specs.Rounds.{joined, settled}
+use Rattle.mt_model.specs.declared.numbers.Agent.TheVariants.{Couple}
+use Rattle.mt_model.proofs.RoundsStage.{stage_is_stable_lem}
+use Rattle.mt_couples.specs.Running.{IsRunning}
+use Rattle.mt_couples.specs.declared.rounds.CoupleEnd.TheVariants.{BudgetSpent}
+use Rattle.mt_couples.proofs.RoundFacts.{places_of_fitting}
+use Rattle.mt_couples.proofs.EnteringFacts.{next_waits, entering_more, entering_spent, entering_all}
+use Rattle.mt_couples.proofs.rounds.enter_all.Goals as goal
+
+pub new-requires-clause-places : goal.new-requires-clause-places
+new-requires-clause-places c = places_of_fitting c.args.roster.now.market c.args.singles.places c.couples-couples.ensures.roster.well_formed c.requires.fits
+
+pub settle-requires : goal.settle-requires
+settle-requires c =
+    let so_far = c.loop-number.invariant in
+    let waits : c.join.new.self ≡ Couple c.loop-number.number ∷ [] = c.in_ok-join.ensures ∙ ap (λ w. joined w (Couple c.loop-number.number)) so_far.nobody_waits in
+    subst (IsRunning c.loop-number.assignment.market c.loop-number.assignment.places) (sym waits)
+    (subst (λ m. IsRunning m c.loop-number.assignment.places (Couple c.loop-number.number ∷ [])) (sym so_far.market)
+    (next_waits c.args.roster.now.market c.couples-couples.ensures.roster.well_formed c.loop-number.number c.loop-number.assignment.places
+    (omega (arith, c.couples-couples.ensures.count)) so_far.fitting))
+
+-- the error of a result
+err_is : {T E : Type 0} (P : E → Type 0) (r : Result T E) (y : E) → IsErrAnd r P → r ≡ Err y → P y
+err_is P r y h is = subst (λ x. IsErrAnd x P) is h
+
+pub returns-in_err-left-clause-spent : goal.returns-in_err-left-clause-spent
+returns-in_err-left-clause-spent c = λ is.
+    let so_far = c.loop-number.invariant in
+    let waits : c.join.new.self ≡ Couple c.loop-number.number ∷ [] = c.in_ok-join.ensures ∙ ap (λ w. joined w (Couple c.loop-number.number)) so_far.nobody_waits in
+    let same : BudgetSpent ≡ c.in_err-left.field-0.0 = err_is _ c.from_residual-in_err-left.result BudgetSpent c.from_residual-in_err-left.ensures.1 is in
+    entering_spent c.args.roster.now.market c.args.singles.places c.args.budget c.loop-number.number c.loop-number.assignment c.loop-number.waiting c.loop-number.left so_far
+    (omega (arith, c.couples-couples.ensures.count))
+    (ap₂ (λ x w. settled x c.loop-number.number c.loop-number.left c.loop-number.assignment.places w) (sym so_far.market) (sym waits) ∙ c.in_err-left.ensures.spent (ap Err (sym same)))
+
+pub loop-number-preserved : goal.loop-number-preserved
+loop-number-preserved c =
+    let so_far = c.loop-number.invariant in
+    let m = c.args.roster.now.market in
+    let waits : c.join.new.self ≡ Couple c.loop-number.number ∷ [] = c.in_ok-join.ensures ∙ ap (λ w. joined w (Couple c.loop-number.number)) so_far.nobody_waits in
+    let same : c.settle.new.assignment.market ≡ m = c.in_ok-left.ensures.market ∙ so_far.market in
+    entering_more m c.args.singles.places c.args.budget c.loop-number.number c.loop-number.assignment c.settle.new.assignment c.loop-number.waiting c.settle.new.waiting
+    c.loop-number.left c.in_ok-left.left so_far (omega (arith, c.couples-couples.ensures.count)) same
+    (subst (λ x. fits x c.settle.new.assignment.places ≡ true) same c.in_ok-left.ensures.running.fitting.fitting) c.in_ok-left.ensures.empty
+    (ap₂ (λ x w. settled x c.loop-number.number c.loop-number.left c.loop-number.assignment.places w) (sym so_far.market) (sym waits) ∙ c.in_ok-left.ensures.settled)
+    c.in_ok-left.ensures.within
+
+pub returns-clause-entered : goal.returns-clause-entered
+returns-clause-entered c =
+    entering_all c.args.roster.now.market c.args.singles.places c.args.budget c.loop-number.number c.loop-number.assignment c.loop-number.waiting c.loop-number.left c.loop-number.invariant
+    (omega (arith, c.couples-couples.ensures.count))
+    ∙ ap (λ places. Some (places, c.args.budget - c.loop-number.left)) (sym c.into_match.ensures)
+
+pub returns-clause-stable : goal.returns-clause-stable
+returns-clause-stable c = λ best.
+    let places = c.into_match.result.places in
+    stage_is_stable_lem c.args.roster.now.market c.couples-couples.ensures.roster.well_formed c.args.singles.places best c.args.budget (places, c.args.budget - c.loop-number.left) (returns-clause-entered c)

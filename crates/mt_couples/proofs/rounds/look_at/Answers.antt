@@ -1,0 +1,8 @@
+use Rattle.mt_model.specs.Market.{applicants}
+use Rattle.mt_couples.proofs.MarketFacts.{read_within}
+use Rattle.mt_couples.proofs.rounds.look_at.Goals as goal
+
+pub agent_of-agent-requires : goal.agent_of-agent-requires
+agent_of-agent-requires c =
+    read_within c.ranking-applicant-items.result.now c.loop-applicant.applicant-index c.applicant-item.result (applicants c.args.assignment.now.market) c.loop-applicant-test.true c.applicant-item.is
+    c.ranking-applicant-items.ensures.within

@@ -1,0 +1,24 @@
+use Rattle.std.proofs.Common.{◌∙◌, Some, sym, ap, ap₂, subst}
+use Rattle.mt_model.specs.Matching.{single_placement, couple_placement}
+use Rattle.mt_model.specs.Rounds.{first_taken}
+use Rattle.mt_couples.specs.Assigned.{IsAgentOf}
+use Rattle.mt_couples.proofs.RoundFacts.{front_within, front_takes}
+use Rattle.mt_couples.proofs.rounds.round.Goals as goal
+
+pub first_program-requires : goal.first_program-requires
+first_program-requires c = subst (IsAgentOf c.args.assignment.now.market) c.in-Single.is (front_within c.requires)
+
+pub first_pair-requires : goal.first_pair-requires
+first_pair-requires c = subst (IsAgentOf c.args.assignment.now.market) c.in-Couple.is (front_within c.requires)
+
+pub take_option-requires : goal.take_option-requires
+take_option-requires c =
+    front_takes c.requires (single_placement c.in-Single.applicant c.in-Some.program)
+    (ap (first_taken c.args.assignment.now.market c.args.assignment.now.places) c.in-Single.is ∙ sym c.in-Some.ensures)
+
+pub take_option-requires-in-Couple : goal.take_option-requires-in-Couple
+take_option-requires-in-Couple c =
+    let pair = c.in-Some-first_pair.pair in
+    front_takes c.requires (couple_placement c.members-first.result.0 c.members-first.result.1 pair)
+    (ap (first_taken c.args.assignment.now.market c.args.assignment.now.places) c.in-Couple.is ∙ sym c.in-Some-first_pair.ensures
+    ∙ ap₂ (λ a b. Some (couple_placement a b pair)) (sym c.members-first.ensures.first) (sym c.members-first.ensures.second))

@@ -1,0 +1,5 @@
+pub mod Assigned
+pub mod Moves
+pub mod Rows
+pub mod Running
+pub mod View

@@ -1,0 +1,250 @@
+ghost use Rattle.std.specs.Prelude.{◌≡◌, ◌==◌, ◌++◌, ◌<◌, ◌≤◌, ℕ, Option, Some, None, length, map, take, filter, position, slice_index, IfOk, IsTrue, OnOk};
+ghost use Rattle.mt_model.specs.Lists.{below, count, has};
+ghost use Rattle.mt_model.specs.Market.{agent_of, applicants, couple_of, program_of};
+ghost use Rattle.mt_model.specs.Matching.{at, place_of};
+ghost use Rattle.mt_model.specs.Rounds.{displaced_at};
+ghost use Rattle.mt_ranks.specs.Ranked.{ranked_of};
+ghost use Rattle.mt_roster.specs.Tables.{IsRoster};
+ghost use Rattle.mt_model.specs.Places.{ArePlaces};
+ghost use Rattle.mt_couples.specs.Rows.{placed_ranks, ranks_from};
+ghost use Rattle.mt_couples.specs.Assigned.{IsAgentOf, IsAssigned, with_place};
+
+use crate::row::Row;
+use mt_model::{Agent, AppNo, CoupleNo, Match, Places, ProgNo};
+use mt_ranks::Ranks;
+use mt_roster::Roster;
+use std::alloc::{AllocError, Global};
+use std::marker::Model;
+
+/// Where the applicant is placed.
+fn place_in(places: &[Option<ProgNo>], applicant: AppNo) -> Option<ProgNo>
+    ensures { result ≡ place_of places.now applicant }
+{
+    places.get(applicant.index()).copied().flatten()
+}
+
+/// The ranks of those on a program's list that are placed there.
+fn placed_row(
+    alloc: Global,
+    places: &[Option<ProgNo>],
+    program: ProgNo,
+    ranking: &[AppNo],
+) -> Result<Row, AllocError>
+    ensures { IfOk result (λ row. row ≡ ranks_from 0 (at places.now program) ranking.now) }
+{
+    let mut row = Row::new(alloc);
+    for (rank, applicant) in ranking.iter().enumerate() {
+        if place_in(places, *applicant) == Some(program) {
+            row.push(rank)?;
+        }
+    }
+    Ok(row)
+}
+
+/// The same for each program.
+fn placed_rows(
+    alloc: Global,
+    roster: &Roster,
+    places: &[Option<ProgNo>],
+) -> Result<Vec<Row>, AllocError>
+    ensures rows { IfOk result (λ v. v.items ≡ map (placed_ranks roster.now.market places.now) (below (length roster.now.market.programs))) }
+    ensures roster { IsRoster roster.now }
+{
+    let mut rows = Vec::new(alloc);
+    for number in 0..roster.programs() {
+        let program = ProgNo(number);
+        let ranking = roster.program_list(program);
+        rows.push(placed_row(alloc, places, program, ranking)?)?;
+    }
+    Ok(rows)
+}
+
+/// Adds the applicants that have these ranks on a program's list.
+fn add_ranked(
+    ranking: &[AppNo],
+    ranks: &[usize],
+    applicants: &mut Vec<AppNo>,
+) -> Result<(), AllocError>
+    requires { (i : ℕ) → i < length ranks.now → slice_index ranks.now i < length ranking.now }
+    ensures { OnOk result (applicants.new.items ≡ applicants.old.items ++ map (λ r. slice_index ranking.now r) ranks.now) }
+{
+    for rank in ranks {
+        applicants.push(ranking[*rank])?;
+    }
+    Ok(())
+}
+
+/// A match beside the market that it is of: where each applicant is placed, and for each program the ranks of
+/// those that are placed there.
+#[derive(Drop)]
+pub(crate) struct Assignment<'a> {
+    roster: &'a Roster,
+    ranks: &'a Ranks,
+    places: Vec<Option<ProgNo>>,
+    rows: Vec<Row>,
+}
+
+impl<'a> Model for Assignment<'a> {
+    ghost use Rattle.mt_couples.specs.Rows.{placed_ranks, ranks_from};
+ghost use Rattle.mt_couples.specs.Assigned.{Assigned};
+
+    ghost Value = { Assigned };
+
+    ghost use Rattle.mt_couples.specs.View.{assigned_of, AreTables};
+
+    ghost view = { assigned_of };
+
+    ghost invariant = { AreTables };
+}
+
+impl<'a> Assignment<'a> {
+    /// The match beside its market.
+    pub(crate) fn new(
+        alloc: Global,
+        roster: &'a Roster,
+        ranks: &'a Ranks,
+        matched: Match,
+    ) -> Result<Self, AllocError>
+        requires ranks { ranks.now ≡ ranked_of roster.now.market }
+        requires places { ArePlaces roster.now.market matched.places }
+        ensures { IfOk result (λ s. s ≡ record { market = roster.entry.now.market; places = matched.places }) }
+    {
+        let rows = placed_rows(alloc, roster, matched.places.as_slice())?;
+        Ok(Assignment {
+            roster,
+            ranks,
+            places: matched.places.into_vec(),
+            rows,
+        })
+    }
+
+    /// The match alone.
+    pub(crate) fn into_match(self) -> Match
+        ensures { result.places ≡ self.entry.places }
+    {
+        Match {
+            places: Places::new(self.places),
+        }
+    }
+
+    /// The market.
+    pub(crate) fn roster(&self) -> &'a Roster
+        ensures market { result.now.market ≡ self.now.market }
+        ensures roster { IsRoster result.now }
+        ensures assigned { IsAssigned self.now }
+    {
+        self.roster
+    }
+
+    /// The agent that the applicant belongs to.
+    pub(crate) fn agent_of(&self, applicant: AppNo) -> Agent
+        requires { applicant < applicants self.now.market }
+        ensures agent { result ≡ agent_of self.now.market applicant }
+        ensures within { IsAgentOf self.now.market result }
+    {
+        self.roster.agent_of(applicant)
+    }
+
+    /// The couple's two members.
+    pub(crate) fn members(&self, couple: CoupleNo) -> (AppNo, AppNo)
+        requires { couple < length self.now.market.couples }
+        ensures first { result.0 ≡ (couple_of self.now.market couple).first }
+        ensures second { result.1 ≡ (couple_of self.now.market couple).second }
+        ensures first_within { result.0 < applicants self.now.market }
+        ensures second_within { result.1 < applicants self.now.market }
+    {
+        self.roster.members(couple)
+    }
+
+    /// Where the applicant is placed.
+    pub(crate) fn place(&self, applicant: AppNo) -> Option<ProgNo>
+        ensures { result ≡ place_of self.now.places applicant }
+    {
+        place_in(&self.places, applicant)
+    }
+
+    /// The applicants that the program lists, the most wanted first.
+    pub(crate) fn ranking(&self, program: ProgNo) -> &'a [AppNo]
+        requires { program < length self.now.market.programs }
+        ensures list { result.now ≡ (program_of self.now.market program).ranking }
+        ensures within { (a : ℕ) → IsTrue (has result.now a) → a < applicants self.now.market }
+    {
+        self.ranks.by_rank(program)
+    }
+
+    /// How many posts the program has.
+    pub(crate) fn quota(&self, program: ProgNo) -> u32
+        requires { program < length self.now.market.programs }
+        ensures { result ≡ (program_of self.now.market program).quota }
+    {
+        self.ranks.quota(program)
+    }
+
+    /// The applicant's rank on the program's list, its position from 0. A number that no program has lists
+    /// nobody.
+    pub(crate) fn rank(&self, program: ProgNo, applicant: AppNo) -> Option<u32>
+        requires { applicant < applicants self.now.market }
+        ensures position { result ≡ position (λ x. x == applicant) (program_of self.now.market program).ranking }
+        ensures assigned { IsAssigned self.now }
+    {
+        if program.0 < self.ranks.programs() {
+            self.ranks.rank(program, applicant)
+        } else {
+            None
+        }
+    }
+
+    /// How many of those at the program have a rank below this one.
+    pub(crate) fn ahead(&self, program: ProgNo, rank: u32) -> usize
+        requires { program < length self.now.market.programs }
+        ensures count { result ≡ count (at self.now.places program) (take rank (program_of self.now.market program).ranking) }
+        ensures assigned { IsAssigned self.now }
+    {
+        let row = &self.rows[program.index()];
+        row.count_below(rank as usize)
+    }
+
+    /// Unplaces the applicant.
+    pub(crate) fn unplace(&mut self, applicant: AppNo)
+        requires { applicant < applicants self.old.market }
+        ensures moved { self.new ≡ with_place self.old applicant None }
+        ensures unplaced { place_of self.new.places applicant ≡ None }
+    {
+        if let Some(program) = place_in(&self.places, applicant) {
+            if let Some(rank) = self.ranks.rank(program, applicant) {
+                let row = &mut self.rows[program.index()];
+                row.remove(rank as usize);
+            }
+        }
+        self.places[applicant.index()] = None;
+    }
+
+    /// Places the applicant, which is unplaced, at the program.
+    pub(crate) fn put(&mut self, applicant: AppNo, program: ProgNo) -> Result<(), AllocError>
+        requires applicant { applicant < applicants self.old.market }
+        requires program { program < length self.old.market.programs }
+        requires unplaced { place_of self.old.places applicant ≡ None }
+        ensures { OnOk result (self.new ≡ with_place self.old applicant (Some program)) }
+    {
+        if let Some(rank) = self.ranks.rank(program, applicant) {
+            let row = &mut self.rows[program.index()];
+            row.insert(rank as usize)?;
+        }
+        self.places[applicant.index()] = Some(program);
+        Ok(())
+    }
+
+    /// Adds those at the program that it doesn't choose, by its list.
+    pub(crate) fn add_displaced(
+        &self,
+        program: ProgNo,
+        displaced: &mut Vec<AppNo>,
+    ) -> Result<(), AllocError>
+        requires { program < length self.now.market.programs }
+        ensures { OnOk result (displaced.new.items ≡ displaced.old.items ++ filter (displaced_at self.now.market self.now.places program) (program_of self.now.market program).ranking) }
+    {
+        let quota = self.ranks.quota(program) as usize;
+        let row = &self.rows[program.index()];
+        add_ranked(self.ranks.by_rank(program), row.beyond(quota), displaced)
+    }
+}

@@ -1,0 +1,152 @@
+ghost use Rattle.std.specs.Prelude.{◌≡◌, ◌||◌, ◌<◌, ℕ, filter, length, IsTrue, IfOk, OnOk};
+ghost use Rattle.std.specs.List.{list_any};
+ghost use Rattle.mt_model.specs.Lists.{below, has};
+ghost use Rattle.mt_model.specs.Market.{agent_of, applicants};
+ghost use Rattle.mt_model.specs.Matching.{send, unplaced};
+ghost use Rattle.mt_model.specs.declared.numbers.Agent.{Agent};
+ghost use Rattle.mt_model.specs.Rounds.{after_move, displaced, is_left, programs_sent_to};
+ghost use Rattle.mt_couples.specs.Assigned.{AreSent, with_places};
+ghost use Rattle.mt_couples.specs.Moves.{all_members, is_kept_at, is_left_by_movers, IsTaking};
+
+use crate::assignment::Assignment;
+use mt_model::{Agent, AppNo, ProgNo};
+use std::alloc::{AllocError, Global};
+use std::collections::BTreeSet;
+
+/// What a move changes besides the places of the agent that moves.
+#[derive(Drop)]
+pub(crate) struct Moved {
+    /// The applicants that are displaced: by the option's programs in order, and in a program by its list.
+    pub(crate) displaced: Vec<AppNo>,
+    /// The programs that somebody left without being displaced there, by number.
+    pub(crate) left: Vec<ProgNo>,
+}
+
+impl<'a> Assignment<'a> {
+    /// Sends each applicant to its place.
+    pub(crate) fn send(&mut self, sent: &[(AppNo, Option<ProgNo>)]) -> Result<(), AllocError>
+        requires sent { AreSent self.old.market sent.now }
+        requires programs { (p : ℕ) → IsTrue (has (programs_sent_to sent.now) p) → p < length self.old.market.programs }
+        ensures { OnOk result (self.new ≡ with_places self.old (send sent.now self.old.places)) }
+    {
+        for (applicant, place) in sent {
+            self.unplace(*applicant);
+            if let Some(program) = place {
+                self.put(*applicant, *program)?;
+            }
+        }
+        Ok(())
+    }
+
+    /// The applicants that the programs of a placement don't choose: by its programs in order, and in a
+    /// program by its list.
+    pub(crate) fn displaced(
+        &self,
+        alloc: Global,
+        sent: &[(AppNo, Option<ProgNo>)],
+    ) -> Result<Vec<AppNo>, AllocError>
+        requires { (p : ℕ) → IsTrue (has (programs_sent_to sent.now) p) → p < length self.now.market.programs }
+        ensures { IfOk result (λ v. v.items ≡ displaced self.now.market self.now.places sent.now) }
+    {
+        let mut displaced = Vec::new(alloc);
+        for (_, place) in sent {
+            if let Some(program) = place {
+                self.add_displaced(*program, &mut displaced)?;
+            }
+        }
+        Ok(displaced)
+    }
+
+    /// Unplaces all members of the agents of these applicants.
+    pub(crate) fn take_out(&mut self, displaced: &[AppNo])
+        requires { (a : ℕ) → IsTrue (has displaced.now a) → a < applicants self.old.market }
+        ensures { self.new ≡ with_places self.old (unplaced (all_members self.old.market displaced.now) self.old.places) }
+    {
+        for applicant in displaced {
+            match self.agent_of(*applicant) {
+                Agent::Single(single) => self.unplace(single),
+                Agent::Couple(couple) => {
+                    let (first, second) = self.members(couple);
+                    self.unplace(first);
+                    self.unplace(second);
+                }
+            }
+        }
+    }
+
+    /// Adds the programs that are left by applicants which are sent elsewhere.
+    pub(crate) fn add_left_by_movers(
+        &self,
+        sent: &[(AppNo, Option<ProgNo>)],
+        left: &mut BTreeSet<ProgNo>,
+    ) -> Result<(), AllocError>
+        ensures { OnOk result ((p : ℕ) → has left.new.keys p ≡ (has left.old.keys p || is_left_by_movers self.now.places sent.now p)) }
+    {
+        for seat in sent {
+            let place = self.place(seat.0);
+            if let Some(program) = place {
+                if seat.1 != place {
+                    left.insert(program)?;
+                }
+            }
+        }
+        Ok(())
+    }
+
+    /// Adds the program where the applicant is, if the program chooses it.
+    fn add_kept(&self, applicant: AppNo, left: &mut BTreeSet<ProgNo>) -> Result<(), AllocError>
+        requires { applicant < applicants self.now.market }
+        ensures { OnOk result ((p : ℕ) → has left.new.keys p ≡ (has left.old.keys p || is_kept_at self.now.market self.now.places p applicant)) }
+    {
+        if let Some(program) = self.place(applicant) {
+            if self.is_kept(program, applicant) {
+                left.insert(program)?;
+            }
+        }
+        Ok(())
+    }
+
+    /// Adds the programs that members of the agents of these applicants are at, where they are chosen.
+    pub(crate) fn add_left_by_partners(
+        &self,
+        displaced: &[AppNo],
+        left: &mut BTreeSet<ProgNo>,
+    ) -> Result<(), AllocError>
+        requires { (a : ℕ) → IsTrue (has displaced.now a) → a < applicants self.now.market }
+        ensures { OnOk result ((p : ℕ) → has left.new.keys p ≡ (has left.old.keys p || list_any (is_kept_at self.now.market self.now.places p) (all_members self.now.market displaced.now))) }
+    {
+        for applicant in displaced {
+            match self.agent_of(*applicant) {
+                Agent::Single(single) => self.add_kept(single, left)?,
+                Agent::Couple(couple) => {
+                    let (first, second) = self.members(couple);
+                    self.add_kept(first, left)?;
+                    self.add_kept(second, left)?;
+                }
+            }
+        }
+        Ok(())
+    }
+
+    /// Sends each applicant to its place, as an agent's option says that would be taken, and takes out the
+    /// agents of those that are displaced by it.
+    pub(crate) fn move_to(
+        &mut self,
+        alloc: Global,
+        sent: &[(AppNo, Option<ProgNo>)],
+    ) -> Result<Moved, AllocError>
+        requires { (g : Agent) × IsTaking self.old.market self.old.places g sent.now }
+        ensures places { OnOk result (self.new ≡ with_places self.old (after_move self.old.market (send sent.now self.old.places) sent.now)) }
+        ensures displaced { IfOk result (λ r. r.displaced.items ≡ displaced self.old.market (send sent.now self.old.places) sent.now) }
+        ensures left { IfOk result (λ r. r.left.items ≡ filter (is_left self.old.market self.old.places (send sent.now self.old.places) (after_move self.old.market (send sent.now self.old.places) sent.now)) (below (length self.old.market.programs))) }
+    {
+        let mut left = BTreeSet::new(alloc);
+        self.add_left_by_movers(sent, &mut left)?;
+        self.send(sent)?;
+        let displaced = self.displaced(alloc, sent)?;
+        self.add_left_by_partners(&displaced, &mut left)?;
+        self.take_out(&displaced);
+        let left = left.into_iter().collect(alloc)?;
+        Ok(Moved { displaced, left })
+    }
+}

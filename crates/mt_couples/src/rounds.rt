@@ -1,0 +1,225 @@
+ghost use Rattle.std.specs.Prelude.{◌≡◌, ◌<◌, ◌≤◌, ℕ, map, length, IsTrue, IfOk, IsErrOf, OnOk, Some, None, [], ◌∷◌};
+ghost use Rattle.std.specs.List.{flat_map};
+ghost use Rattle.mt_model.specs.Lists.{has};
+ghost use Rattle.mt_model.specs.Market.{agent_of, applicants};
+ghost use Rattle.mt_model.specs.Rounds.{after_taking, all_joined, has_entered, reopened_at, round_of, settled, stage};
+ghost use Rattle.mt_model.specs.Best.{IsBest};
+ghost use Rattle.mt_model.specs.Stability.{fits, stable};
+ghost use Rattle.mt_ranks.specs.Ranked.{ranked_of};
+ghost use Rattle.mt_couples.specs.Running.{IsRunning};
+ghost use Rattle.mt_couples.specs.Moves.{IsTaking};
+
+use crate::assignment::Assignment;
+use crate::work_list::WorkList;
+use mt_model::{Agent, AppNo, CoupleNo, Match, ProgNo};
+use mt_ranks::Ranks;
+use mt_roster::Roster;
+use std::alloc::{AllocError, Global};
+use thiserror::Error;
+
+/// Why the couples' stage did not end with a match.
+#[derive(Clone, Copy, Debug, PartialEq, Eq, Error)]
+pub enum CoupleEnd {
+    /// The rounds would be more than the budget.
+    #[error("the couples' rounds would exceed the budget")]
+    BudgetSpent,
+    /// Memory was refused.
+    #[error("out of memory")]
+    Memory,
+}
+
+impl From<AllocError> for CoupleEnd {
+    ghost use Rattle.std.specs.Prelude.{◌≡◌};
+    ghost use Rattle.mt_couples.specs.declared.rounds.CoupleEnd.TheVariants.{Memory};
+
+    ghost from_gives = { λ _ e. e ≡ Memory };
+
+    fn from(_: AllocError) -> Self {
+        CoupleEnd::Memory
+    }
+}
+
+/// The match once every couple has entered.
+#[derive(Debug, Drop)]
+pub struct Entered {
+    pub matched: Match,
+    /// How many rounds it took, over all couples.
+    pub rounds: u32,
+}
+
+/// Whether the agent has entered, once this couple has.
+fn has_entered(agent: &Agent, last: CoupleNo) -> bool
+    ensures { result ≡ has_entered last agent.now }
+{
+    match agent {
+        Agent::Single(_) => true,
+        Agent::Couple(couple) => couple.0 <= last.0,
+    }
+}
+
+/// Puts the agents of displaced applicants on the work list.
+fn join_displaced(
+    assignment: &Assignment<'_>,
+    displaced: &[AppNo],
+    waiting: &mut WorkList,
+) -> Result<(), AllocError>
+    requires { (a : ℕ) → IsTrue (has displaced.now a) → a < applicants assignment.now.market }
+    ensures { OnOk result (waiting.new ≡ all_joined waiting.old (map (agent_of assignment.now.market) displaced.now)) }
+{
+    for applicant in displaced {
+        waiting.join(assignment.agent_of(*applicant))?;
+    }
+    Ok(())
+}
+
+/// Puts those agents of a program's list on the work list that have entered and block now.
+fn look_at(
+    assignment: &Assignment<'_>,
+    program: ProgNo,
+    last: CoupleNo,
+    waiting: &mut WorkList,
+) -> Result<(), AllocError>
+    requires { program < length assignment.now.market.programs }
+    ensures { OnOk result (waiting.new ≡ all_joined waiting.old (reopened_at assignment.now.market last assignment.now.places program)) }
+{
+    for applicant in assignment.ranking(program) {
+        let agent = assignment.agent_of(*applicant);
+        if has_entered(&agent, last) && assignment.blocks(&agent) {
+            waiting.join(agent)?;
+        }
+    }
+    Ok(())
+}
+
+/// The same for all programs that were left.
+fn look_at_left(
+    assignment: &Assignment<'_>,
+    left: &[ProgNo],
+    last: CoupleNo,
+    waiting: &mut WorkList,
+) -> Result<(), AllocError>
+    requires { (p : ℕ) → IsTrue (has left.now p) → p < length assignment.now.market.programs }
+    ensures { OnOk result (waiting.new ≡ all_joined waiting.old (flat_map (reopened_at assignment.now.market last assignment.now.places) left.now)) }
+{
+    for program in left {
+        look_at(assignment, *program, last, waiting)?;
+    }
+    Ok(())
+}
+
+/// Moves the agent to an option that would be taken, and puts on the work list who is to be looked at then:
+/// the displaced agents, the agent itself where it blocks now, and for each program that was left the agents
+/// of its list that block now.
+fn take_option(
+    alloc: Global,
+    assignment: &mut Assignment<'_>,
+    waiting: &mut WorkList,
+    last: CoupleNo,
+    agent: Agent,
+    sent: &[(AppNo, Option<ProgNo>)],
+) -> Result<(), AllocError>
+    requires { IsTaking assignment.old.market assignment.old.places agent sent.now }
+    ensures market { OnOk result (assignment.new.market ≡ assignment.old.market) }
+    ensures work { OnOk result (record { places = assignment.new.places; waiting = waiting.new } ≡ after_taking assignment.old.market last assignment.old.places agent waiting.old (Some sent.now)) }
+{
+    let moved = assignment.move_to(alloc, sent)?;
+    join_displaced(assignment, &moved.displaced, waiting)?;
+    if assignment.blocks(&agent) {
+        waiting.join(agent)?;
+    }
+    look_at_left(assignment, &moved.left, last, waiting)
+}
+
+/// One round: the agent at the front of the work list, which was taken off it, takes its first better option
+/// that would be taken.
+fn round(
+    alloc: Global,
+    assignment: &mut Assignment<'_>,
+    waiting: &mut WorkList,
+    last: CoupleNo,
+    agent: Agent,
+) -> Result<(), AllocError>
+    requires { IsRunning assignment.old.market assignment.old.places (agent ∷ waiting.old) }
+    ensures market { OnOk result (assignment.new.market ≡ assignment.old.market) }
+    ensures work { OnOk result (record { places = assignment.new.places; waiting = waiting.new } ≡ round_of assignment.old.market last assignment.old.places (agent ∷ waiting.old)) }
+{
+    match &agent {
+        Agent::Single(applicant) => {
+            let Some(program) = assignment.first_program(*applicant) else {
+                return Ok(());
+            };
+            let sent = [(*applicant, Some(program))];
+            take_option(alloc, assignment, waiting, last, agent, &sent)
+        }
+        Agent::Couple(couple) => {
+            let Some(pair) = assignment.first_pair(*couple) else {
+                return Ok(());
+            };
+            let (first, second) = assignment.members(*couple);
+            let sent = [(first, pair.0), (second, pair.1)];
+            take_option(alloc, assignment, waiting, last, agent, &sent)
+        }
+    }
+}
+
+/// Makes rounds until the work list is empty. The result is how many rounds of the budget are left.
+fn settle(
+    alloc: Global,
+    assignment: &mut Assignment<'_>,
+    waiting: &mut WorkList,
+    last: CoupleNo,
+    budget: u32,
+) -> Result<u32, CoupleEnd>
+    requires { IsRunning assignment.old.market assignment.old.places waiting.old }
+    ensures settled { IfOk result (λ left. settled assignment.old.market last budget assignment.old.places waiting.old ≡ Some (assignment.new.places, left)) }
+    ensures spent { IsErrOf result CoupleEnd.BudgetSpent → settled assignment.old.market last budget assignment.old.places waiting.old ≡ None }
+    ensures within { IfOk result (λ left. left ≤ budget) }
+    ensures market { OnOk result (assignment.new.market ≡ assignment.old.market) }
+    ensures running { OnOk result (IsRunning assignment.new.market assignment.new.places []) }
+    ensures empty { OnOk result (waiting.new ≡ []) }
+{
+    let mut left = budget;
+    while let Some(agent) = waiting.take() {
+        if left == 0 {
+            return Err(CoupleEnd::BudgetSpent);
+        }
+        left -= 1;
+        round(alloc, assignment, waiting, last, agent)?;
+    }
+    Ok(left)
+}
+
+/// Lets the couples enter a match of the singles, in order of their numbers, in the manner of Roth and
+/// Peranson (1999); the order of the rounds is this project's own rule. A couple is put on the empty work
+/// list, and rounds are made until the list is empty: the agent at the front takes its first better option
+/// that would be taken, whom it displaces goes with its whole couple, and the agents to whom that may matter
+/// are looked at again. The errors are that more rounds than `budget` would be needed, and want of memory; in
+/// both the given match is gone.
+pub fn enter_all(
+    alloc: Global,
+    roster: &Roster,
+    ranks: &Ranks,
+    singles: Match,
+    budget: u32,
+) -> Result<Entered, CoupleEnd>
+    requires ranks { ranks.now ≡ ranked_of roster.now.market }
+    requires fits { IsTrue (fits roster.now.market singles.places) }
+    ensures entered { IfOk result (λ e. stage roster.now.market singles.places budget ≡ Some (e.matched.places, e.rounds)) }
+    ensures spent { IsErrOf result CoupleEnd.BudgetSpent → stage roster.now.market singles.places budget ≡ None }
+    ensures fits { IfOk result (λ e. IsTrue (fits roster.now.market e.matched.places)) }
+    ensures stable { IsBest roster.now.market singles.places → IfOk result (λ e. IsTrue (stable roster.now.market e.matched.places)) }
+{
+    let couples = roster.couples();
+    let mut assignment = Assignment::new(alloc, roster, ranks, singles)?;
+    let mut waiting = WorkList::new(alloc);
+    let mut left = budget;
+    for number in 0..couples {
+        let couple = CoupleNo(number);
+        waiting.join(Agent::Couple(couple))?;
+        left = settle(alloc, &mut assignment, &mut waiting, couple, left)?;
+    }
+    Ok(Entered {
+        matched: assignment.into_match(),
+        rounds: budget - left,
+    })
+}

@@ -1,0 +1,78 @@
+ghost use Rattle.std.specs.Prelude.{◌≡◌, ◌++◌, ◌∷◌, not, ◌==◌, [], nat_lt, drop, filter, IsTrue, IsFalse, OnOk, OnErr};
+ghost use Rattle.std.specs.List.Sorted.{IsStrictlySortedBy};
+ghost use Rattle.std.specs.Ordering.{nat_cmp};
+ghost use Rattle.std.specs.BTreeSet.{insert_key};
+ghost use Rattle.mt_model.specs.Lists.{count, has};
+
+use std::alloc::{AllocError, Global};
+use std::marker::Model;
+
+/// The ranks of those that are placed at a program, in rising order.
+#[derive(Drop)]
+pub(crate) struct Row {
+    ranks: Vec<usize>,
+}
+
+impl Model for Row {
+    ghost use Rattle.std.specs.Prelude.{List, ℕ};
+
+    ghost Value = { List ℕ };
+
+    ghost view = { λ r. r.ranks.items };
+}
+
+impl Row {
+    /// Nobody's ranks.
+    pub(crate) fn new(alloc: Global) -> Self
+        ensures { result ≡ [] }
+    {
+        Row {
+            ranks: Vec::new(alloc),
+        }
+    }
+
+    /// Adds a rank at the end.
+    pub(crate) fn push(&mut self, rank: usize) -> Result<(), AllocError>
+        ensures { OnOk result (self.new ≡ self.old ++ rank ∷ []) }
+    {
+        self.ranks.push(rank)?;
+        Ok(())
+    }
+
+    /// How many ranks are below this one.
+    pub(crate) fn count_below(&self, rank: usize) -> usize
+        requires { IsStrictlySortedBy nat_cmp self.now }
+        ensures { result ≡ count (λ r. nat_lt r rank) self.now }
+    {
+        self.ranks.partition_point(|other| *other < rank)
+    }
+
+    /// Puts a rank in its place.
+    pub(crate) fn insert(&mut self, rank: usize) -> Result<(), AllocError>
+        requires sorted { IsStrictlySortedBy nat_cmp self.old }
+        requires absent { IsFalse (has self.old rank) }
+        ensures ok { OnOk result (self.new ≡ insert_key nat_cmp self.old rank) }
+        ensures err { OnErr result (self.new ≡ self.old) }
+    {
+        let place = self.count_below(rank);
+        self.ranks.insert(place, rank)?;
+        Ok(())
+    }
+
+    /// Takes a rank out.
+    pub(crate) fn remove(&mut self, rank: usize)
+        requires sorted { IsStrictlySortedBy nat_cmp self.old }
+        requires present { IsTrue (has self.old rank) }
+        ensures { self.new ≡ filter (λ r. not (r == rank)) self.old }
+    {
+        let place = self.count_below(rank);
+        let _ = self.ranks.remove(place);
+    }
+
+    /// All ranks but the first ones, so many of them.
+    pub(crate) fn beyond(&self, first: usize) -> &[usize]
+        ensures { result.now ≡ drop first self.now }
+    {
+        self.ranks.get(first..).unwrap_or(&[])
+    }
+}
