@@ -41,7 +41,7 @@ next_waits m wf k places within fit = record {
 -- the next couple, out of those from its number on
 next_couple : (m : Market) (number left : ℕ) (places : Places) → number < length m.couples
     → entered m (couples_from m number) left places
-      ≡ option_and_then (λ r. entered m (couples_from m (number + 1)) r.1 r.0) (settled m number left places (Couple number ∷ []))
+    ≡ option_and_then (λ r. entered m (couples_from m (number + 1)) r.1 r.0) (settled m number left places (Couple number ∷ []))
 next_couple m number left places within =
     let e : length m.couples - number ≡ suc (length m.couples - (number + 1)) = omega arith in
     ap (λ n. entered m (range_with_len number n) left places) e

@@ -86,7 +86,7 @@ pub(crate) struct Assignment<'a> {
 
 impl<'a> Model for Assignment<'a> {
     ghost use Rattle.mt_couples.specs.Rows.{placed_ranks, ranks_from};
-ghost use Rattle.mt_couples.specs.Assigned.{Assigned};
+    ghost use Rattle.mt_couples.specs.Assigned.{Assigned};
 
     ghost Value = { Assigned };
 

@@ -66,20 +66,13 @@ impl<'a> Assignment<'a> {
     }
 
     /// Whether the program chooses an applicant that is sent there, once everybody is sent.
-    fn is_chosen(
-        &self,
-        program: ProgNo,
-        applicant: AppNo,
-        sent: &[(AppNo, Option<ProgNo>)],
-    ) -> bool
+    fn is_chosen(&self, program: ProgNo, applicant: AppNo, sent: &[(AppNo, Option<ProgNo>)]) -> bool
         requires there { Contains sent.now (applicant, Some program) }
         requires sent { AreSent self.now.market sent.now }
         ensures { result ≡ choice (program_of self.now.market program) (at (send sent.now self.now.places) program) applicant }
     {
         match self.rank(program, applicant) {
-            Some(rank) => {
-                self.ahead_after(program, rank, sent) < self.quota(program) as usize
-            }
+            Some(rank) => { self.ahead_after(program, rank, sent) < self.quota(program) as usize }
             None => false,
         }
     }

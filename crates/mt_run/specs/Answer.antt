@@ -1,11 +1,11 @@
 -- What a run writes for the bytes that it reads.
-use Rattle.std.specs.Prelude.{◌≡◌, ◌≢◌, ℕ, ◌<◌, ◌≤◌, List, [], map, length, take, Option, None, Some, IsTrue, nat_lt, MatchOption, MatchResult}
+use Rattle.std.specs.Prelude.{◌≡◌, ◌≢◌, ℕ, ◌<◌, ◌≤◌, List, [], map, length, take, Option, None, Some, IsTrue, nat_lt, MatchOption, MatchResult, Bool}
 use Rattle.std.specs.Bool.{MatchBool}
 use Rattle.std.specs.Io.KnownBytes.{Appends}
 use Rattle.mt_lists.specs.Records.{records_of}
 use Rattle.mt_model.specs.Best.{IsBest, proposals}
 use Rattle.mt_model.specs.Lists.{below}
-use Rattle.mt_model.specs.Market.{Registered}
+use Rattle.mt_model.specs.Market.{Market, Registered}
 use Rattle.mt_model.specs.Matching.{Places}
 use Rattle.mt_model.specs.Registration.{market_of}
 use Rattle.mt_model.specs.Registration.Faults.{Fault}
@@ -26,6 +26,10 @@ all_proposals r best = map (proposals r.market best) (below (length r.market.pro
 abbrev pub IsAnswerOfStage : Registered → Places → Option (Places × ℕ) → ℕ → List ℕ → Type 0
 IsAnswerOfStage r best None code text = IsRefusedAlone 41 code text
 IsAnswerOfStage r best (Some s) code text = (code ≡ 0) × (text ≡ published r.market r.names s.0 (all_proposals r best))
+
+-- the couples' stage from this match ends, within the budget, in that one
+abbrev pub IsEnteredFrom : Market → Places → ℕ → Places → Type 0
+IsEnteredFrom m singles budget places = (rounds : ℕ) × (stage m singles budget ≡ Some (places, rounds))
 
 -- the answer to a market: the couples enter after the best match of the singles
 pub record IsAnswerOfMarket (r : Registered) (budget code : ℕ) (text : List ℕ) : Type 0 where
@@ -64,11 +68,13 @@ pub record IsRefusal (code : ℕ) (text : List ℕ) : Type 0 where
   pub id : List ℕ
   pub line : text ≡ refused code row id
 
--- What a run did: it appended the first bytes of a text. The text is a refusal where the code isn't 0; and
--- but for want of memory and a read that failed it is the answer to the bytes that were there to read.
-pub record Answers (left : Option (List ℕ)) (budget : ℕ) (old new : Option (List ℕ)) (code written : ℕ) : Type 0 where
+-- What a run did: it appended the first bytes of a text, all of it where the writer didn't fail. The text is
+-- a refusal where the code isn't 0; and but for want of memory and a read that failed it is the answer to the
+-- bytes that were there to read.
+pub record Answers (left : Option (List ℕ)) (budget : ℕ) (old new : Option (List ℕ)) (code written : ℕ) (whole : Bool) : Type 0 where
   pub text : List ℕ
   pub appended : Appends old new (take written text)
   pub within : written ≤ length text
+  pub all : IsTrue whole → written ≡ length text
   pub refusal : code ≢ 0 → IsRefusal code text
   pub answer : code ≢ 30 → code ≢ 31 → IsAnswerTo left budget code text

@@ -1,3 +1,4 @@
 pub mod Status
 pub mod Answer
 pub mod Laws
+pub mod Refusals

@@ -1,9 +1,14 @@
 //! The whole run: bytes in, the text of a match or one refusal line out.
 #![tactic(auto)]
 
+mod answer;
 mod ended;
 pub mod laws;
 mod options;
+mod refusal;
+mod singles;
+mod whole;
 
 pub use ended::Ended;
 pub use options::Options;
+pub use whole::run;

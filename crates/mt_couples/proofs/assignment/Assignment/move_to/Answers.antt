@@ -50,11 +50,10 @@ take_out-requires c = λ a on.
 -- the programs where partners were kept, by the match before the move
 partners_are : (s0 s : Assigned) (sent : Placement) (xs : List ℕ) (p : ℕ) → s ≡ with_places s0 (send sent s0.places) → xs ≡ displaced s0.market (send sent s0.places) sent
     → list_any (is_kept_at s.market s.places p) (all_members s.market xs)
-      ≡ list_any (is_kept_at s0.market (send sent s0.places) p) (all_members s0.market (displaced s0.market (send sent s0.places) sent))
+    ≡ list_any (is_kept_at s0.market (send sent s0.places) p) (all_members s0.market (displaced s0.market (send sent s0.places) sent))
 partners_are s0 s sent xs p moved read =
     ap (λ (x : Assigned). list_any (is_kept_at x.market x.places p) (all_members x.market xs)) moved
     ∙ ap (λ ys. list_any (is_kept_at s0.market (send sent s0.places) p) (all_members s0.market ys)) read
-
 
 pub returns-clause-left : goal.returns-clause-left
 returns-clause-left c =

@@ -8,18 +8,29 @@ use Rattle.mt_couples.proofs.assignment.Assignment.send.Goals.{in-Some+in_ok-put
 
 pub unplace-requires : goal.unplace-requires
 unplace-requires c =
-    omega (arith, ap applicants c.loop-applicant.invariant.market,
-    sent_within c.args.self.now.market c.args.sent.now c.loop-applicant.applicant-index c.loop-applicant-item.result c.requires.sent c.loop-applicant-test.true c.loop-applicant-item.is)
+    omega (
+      arith,
+      ap applicants c.loop-applicant.invariant.market,
+      sent_within c.args.self.now.market c.args.sent.now c.loop-applicant.applicant-index c.loop-applicant-item.result c.requires.sent c.loop-applicant-test.true c.loop-applicant-item.is,
+    )
 
 pub put-requires-clause-applicant : goal.put-requires-clause-applicant
 put-requires-clause-applicant c =
-    omega (arith, ap (λ (s : Assigned). applicants s.market) c.unplace.ensures.moved, ap applicants c.loop-applicant.invariant.market,
-    sent_within c.args.self.now.market c.args.sent.now c.loop-applicant.applicant-index c.loop-applicant-item.result c.requires.sent c.loop-applicant-test.true c.loop-applicant-item.is)
+    omega (
+      arith,
+      ap (λ (s : Assigned). applicants s.market) c.unplace.ensures.moved,
+      ap applicants c.loop-applicant.invariant.market,
+      sent_within c.args.self.now.market c.args.sent.now c.loop-applicant.applicant-index c.loop-applicant-item.result c.requires.sent c.loop-applicant-test.true c.loop-applicant-item.is,
+    )
 
 pub put-requires-clause-program : goal.put-requires-clause-program
 put-requires-clause-program c =
-    omega (arith, ap (λ (s : Assigned). length s.market.programs) c.unplace.ensures.moved, ap (λ (m : Market). length m.programs) c.loop-applicant.invariant.market,
-    c.requires.programs c.in-Some.program (program_sent_to c.args.sent.now c.loop-applicant.applicant-index c.loop-applicant-item.result c.in-Some.program c.loop-applicant-test.true c.loop-applicant-item.is c.in-Some.is))
+    omega (
+      arith,
+      ap (λ (s : Assigned). length s.market.programs) c.unplace.ensures.moved,
+      ap (λ (m : Market). length m.programs) c.loop-applicant.invariant.market,
+      c.requires.programs c.in-Some.program (program_sent_to c.args.sent.now c.loop-applicant.applicant-index c.loop-applicant-item.result c.in-Some.program c.loop-applicant-test.true c.loop-applicant-item.is c.in-Some.is),
+    )
 
 pub loop-applicant-preserved : goal.loop-applicant-preserved
 loop-applicant-preserved c =

@@ -5,5 +5,8 @@ use Rattle.mt_couples.proofs.assignment.Assignment.take_out.Goals as goal
 
 pub agent_of-requires : goal.agent_of-requires
 agent_of-requires c =
-    omega (arith, ap applicants c.loop-applicant.invariant.market,
-    read_within c.args.displaced.now c.loop-applicant.applicant-index c.applicant-item.result (applicants c.args.self.now.market) c.loop-applicant-test.true c.applicant-item.is c.requires)
+    omega (
+      arith,
+      ap applicants c.loop-applicant.invariant.market,
+      read_within c.args.displaced.now c.loop-applicant.applicant-index c.applicant-item.result (applicants c.args.self.now.market) c.loop-applicant-test.true c.applicant-item.is c.requires,
+    )

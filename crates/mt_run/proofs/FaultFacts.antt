@@ -1,0 +1,27 @@
+-- The first fault of a file's records is their answer.
+use Rattle.std.proofs.Common.{◌≡◌, ℕ, Bool, true, false, ◌&&◌, List, Result, Ok, Err, refl, sym, subst, ap, ◌∙◌, nat_le}
+use Rattle.std.proofs.lemmas.Bool.{and_parts, true≢false}
+use Rattle.std.specs.Prelude.{◌≢◌, MatchResult}
+use Rattle.mt_model.specs.Market.{Registered}
+use Rattle.mt_model.specs.Registration.{market_of}
+use Rattle.mt_model.specs.Registration.Faults.{Fault}
+use Rattle.mt_model.specs.Laws.Registration.{is_fault_code}
+use Rattle.mt_model.specs.Text.{is_known_code}
+use Rattle.mt_model.proofs.FaultCodes.{fault_codes_lem}
+use Rattle.mt_run.specs.Answer.{IsAnswerOfRows, IsAnswerOfMarket, IsAnswerOfFault}
+use Rattle.mt_run.specs.Refusals.{IsRefusalBy, line_of}
+use Rattle.mt_run.specs.declared.refusal.Refusal.{Refusal}
+
+not_a_read : (code : ℕ) → is_fault_code code ≡ true → code ≢ 31
+not_a_read code h e = true≢false (sym h ∙ ap is_fault_code e)
+
+pub refusal_of_fault : (rows : List (List (List ℕ))) (budget : ℕ) (e : Refusal)
+    → market_of rows ≡ Err (record { code = e.code; row = e.row; id = e.id }) → IsRefusalBy (λ code text. IsAnswerOfRows budget code text rows) e
+refusal_of_fault rows budget e h =
+    let codes = fault_codes_lem rows (record { code = e.code; row = e.row; id = e.id }) h in
+    record {
+      known = (and_parts (is_known_code e.code) (nat_le 12 e.code) (and_parts (is_known_code e.code && nat_le 12 e.code) (nat_le e.code 22) codes).0).0;
+      reads_did = not_a_read e.code codes;
+      answer = λ m. subst (λ (r : Result Registered Fault). MatchResult r (λ x. IsAnswerOfMarket x budget e.code (line_of e)) (λ f. IsAnswerOfFault f e.code (line_of e)))
+          (sym h) (record { same_code = refl; line = refl });
+    }

@@ -1,0 +1,21 @@
+use Rattle.std.proofs.Common.{ap, ◌∙◌}
+use Rattle.mt_core.specs.Floors.{floor_of}
+use Rattle.mt_model.specs.Floor.{Floor}
+use Rattle.mt_model.specs.Laws.Floors.{HasProposalsOf}
+use Rattle.mt_model.specs.Lists.{count_below}
+use Rattle.mt_model.specs.Market.{applicants}
+use Rattle.mt_ranks.specs.Ranked.{Ranked}
+use Rattle.mt_run.proofs.SinglesFacts.{best_of_live, proposals_of_live}
+use Rattle.mt_run.proofs.singles.match_singles.Goals as goal
+
+pub returns-clause-best : goal.returns-clause-best
+returns-clause-best c =
+    best_of_live c.args.roster.now.market c.requires.registration.well_formed c.args.ranks.now.market (ap Ranked.market c.requires.ranks)
+    c.in_ok-matched.matched.places (c.in_ok-matched.ensures.best (c.finish.ensures.legal c.in_ok-floor.ensures.strict.legal))
+
+pub returns-clause-proposals : goal.returns-clause-proposals
+returns-clause-proposals c =
+    let made = c.in_ok-matched.ensures.proposals c.finish.ensures.recorded in
+    c.in_ok-proposals.ensures
+    ∙ proposals_of_live c.args.roster.now.market c.requires.registration.well_formed c.args.ranks.now.market (ap Ranked.market c.requires.ranks)
+    c.in_ok-matched.matched.places _ (HasProposalsOf.same_counts made)

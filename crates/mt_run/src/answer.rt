@@ -1,0 +1,129 @@
+ghost use Rattle.std.specs.Prelude.{◌≡◌, ◌↔◌, length, IfErr, IfOk, IsTrue, MatchResult};
+ghost use Rattle.mt_model.specs.Best.{IsBest};
+ghost use Rattle.mt_model.specs.Laws.Registration.{IsRegistration};
+ghost use Rattle.mt_model.specs.Places.{ArePlaces};
+ghost use Rattle.mt_model.specs.Rounds.{stage};
+ghost use Rattle.mt_model.specs.Stability.{stable};
+ghost use Rattle.mt_model.specs.Text.{published as published_text};
+ghost use Rattle.mt_ranks.specs.Ranked.{ranked_of};
+ghost use Rattle.mt_run.specs.Answer.{IsAnswerOfMarket, IsAnswerOfRows, IsEnteredFrom};
+ghost use Rattle.mt_run.specs.Refusals.{IsRefusalBy};
+
+use crate::refusal::{BUDGET_SPENT, NOT_STABLE, OUT_OF_MEMORY, Refusal};
+use crate::singles::match_singles;
+use mt_couples::{CoupleEnd, enter_all};
+use mt_lists::Row;
+use mt_model::{Agent, Blocker, Match};
+use mt_ranks::Ranks;
+use mt_report::published;
+use mt_roster::{Roster, RosterError, roster};
+use mt_verify::{Verdict, verify};
+use std::alloc::{AllocError, Global};
+
+/// Whether the verifier calls a match stable.
+fn is_stable(
+    alloc: Global,
+    roster: &Roster,
+    ranks: &Ranks,
+    matched: &Match,
+) -> Result<bool, AllocError>
+    requires registration { IsRegistration roster.now }
+    requires ranks { ranks.now ≡ ranked_of roster.now.market }
+    requires places { ArePlaces roster.now.market matched.now.places }
+    ensures { IfOk result (λ b. IsTrue b ↔ IsTrue (stable roster.now.market matched.now.places)) }
+{
+    match verify(alloc, roster, ranks, matched)? {
+        Verdict::Stable => Ok(true),
+        Verdict::Unlisted(_) | Verdict::Over(_) => Ok(false),
+        // Both kinds of agent are named, so that the proof sees where the type stands.
+        Verdict::Blocks(
+            Blocker {
+                agent: Agent::Single(_) | Agent::Couple(_),
+                ..
+            },
+        ) => Ok(false),
+    }
+}
+
+/// The match once the couples have entered after a match of the singles.
+fn with_couples(
+    alloc: Global,
+    roster: &Roster,
+    ranks: &Ranks,
+    singles: Match,
+    budget: u32,
+) -> Result<Match, Refusal>
+    requires registration { IsRegistration roster.now }
+    requires ranks { ranks.now ≡ ranked_of roster.now.market }
+    requires best { IsBest roster.now.market singles.places }
+    ensures entered { IfOk result (λ matched. IsEnteredFrom roster.now.market singles.places budget matched.places) }
+    ensures refused { IfErr result (IsRefusalBy (IsAnswerOfMarket roster.now budget)) }
+{
+    match enter_all(alloc, roster, ranks, singles, budget) {
+        Ok(entered) => Ok(entered.matched),
+        Err(CoupleEnd::BudgetSpent) => Err(Refusal::alone(BUDGET_SPENT)),
+        Err(CoupleEnd::Memory) => Err(Refusal::alone(OUT_OF_MEMORY)),
+    }
+}
+
+/// The text of a stable match, where the verifier calls it stable.
+fn publish(
+    alloc: Global,
+    roster: &Roster,
+    ranks: &Ranks,
+    matched: &Match,
+    proposals: &[u32],
+) -> Result<Vec<u8>, Refusal>
+    requires registration { IsRegistration roster.now }
+    requires ranks { ranks.now ≡ ranked_of roster.now.market }
+    requires stable { IsTrue (stable roster.now.market matched.now.places) }
+    requires proposals { length proposals.now ≡ length roster.now.market.programs }
+    ensures text { IfOk result (λ text. text.items ≡ published_text roster.now.market roster.now.names matched.now.places proposals.now) }
+    ensures refused { IfErr result (λ e. e.code ≡ OUT_OF_MEMORY) }
+{
+    match is_stable(alloc, roster, ranks, matched) {
+        Ok(true) => {}
+        Ok(false) => return Err(Refusal::alone(NOT_STABLE)),
+        Err(_) => return Err(Refusal::alone(OUT_OF_MEMORY)),
+    }
+    match published(alloc, roster, matched, proposals) {
+        Ok(text) => Ok(text),
+        Err(_) => Err(Refusal::alone(OUT_OF_MEMORY)),
+    }
+}
+
+/// The text of the market's match, once the singles are matched and the couples have entered.
+pub(crate) fn answer_to_market(
+    alloc: Global,
+    roster: &Roster,
+    budget: u32,
+) -> Result<Vec<u8>, Refusal>
+    requires { IsRegistration roster.now }
+    ensures text { IfOk result (λ text. IsAnswerOfMarket roster.now budget 0 text.items) }
+    ensures refused { IfErr result (IsRefusalBy (IsAnswerOfMarket roster.now budget)) }
+{
+    let Ok(ranks) = Ranks::build(alloc, roster) else {
+        return Err(Refusal::alone(OUT_OF_MEMORY));
+    };
+    let Ok(singles) = match_singles(alloc, roster, &ranks) else {
+        return Err(Refusal::alone(OUT_OF_MEMORY));
+    };
+    let matched = with_couples(alloc, roster, &ranks, singles.matched, budget)?;
+    publish(alloc, roster, &ranks, &matched, &singles.proposals)
+}
+
+/// The answer to the records of a file.
+pub(crate) fn answer_to_rows(alloc: Global, rows: &[Row], budget: u32) -> Result<Vec<u8>, Refusal>
+    ensures text { IfOk result (λ text. IsAnswerOfRows budget 0 text.items rows.now) }
+    ensures refused { IfErr result (IsRefusalBy (λ code text. IsAnswerOfRows budget code text rows.now)) }
+{
+    match roster(alloc, rows) {
+        Ok(roster) => answer_to_market(alloc, &roster, budget),
+        Err(RosterError::Fault(fault)) => Err(Refusal {
+            code: fault.code,
+            row: fault.row,
+            id: fault.id,
+        }),
+        Err(RosterError::Memory) => Err(Refusal::alone(OUT_OF_MEMORY)),
+    }
+}

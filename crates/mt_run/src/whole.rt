@@ -1,0 +1,83 @@
+ghost use Rattle.std.specs.Prelude.{◌≡◌, ◌+◌, ◌<◌, ◌≤◌, ◌^◌, ◌↔◌, ◌≢◌, length, if◌then◌else◌, IfErr, IfOk, IsTrue};
+ghost use Rattle.mt_lists.specs.Tap.{bytes_left, failures_of as read_failures_of, reads_of};
+ghost use Rattle.mt_report.specs.Drains.{contents_of, failures_of};
+ghost use Rattle.mt_run.specs.Answer.{Answers, IsAnswer, IsAnswerTo, most_bytes};
+ghost use Rattle.mt_run.specs.Refusals.{code_of, IsRefusalBy, IsRefusalTo};
+
+use crate::answer::answer_to_rows;
+use crate::ended::Ended;
+use crate::options::Options;
+use crate::refusal::{OUT_OF_MEMORY, READ_FAULT, Refusal, TOO_LARGE, TWO_MARKS};
+use mt_lists::{ListFault, ReadEnd, Tap, read_all, records};
+use mt_model::LIMITS;
+use mt_report::{Drain, put_all, refused};
+use std::alloc::Global;
+use std::io::{Read, Write};
+
+/// The answer to bytes that are no more than the limit.
+fn answer_to_bytes(alloc: Global, bytes: &[u8], budget: u32) -> Result<Vec<u8>, Refusal>
+    requires { length bytes.now ≤ most_bytes }
+    ensures text { IfOk result (λ text. IsAnswer bytes.now budget 0 text.items) }
+    ensures refused { IfErr result (IsRefusalBy (IsAnswer bytes.now budget)) }
+{
+    match records(alloc, bytes) {
+        Ok(rows) => answer_to_rows(alloc, &rows, budget),
+        Err(ListFault::TwoMarks) => Err(Refusal::alone(TWO_MARKS)),
+        Err(ListFault::Memory) => Err(Refusal::alone(OUT_OF_MEMORY)),
+    }
+}
+
+/// The answer to all that a reader gives.
+fn answer_to_input<R: Read>(
+    alloc: Global,
+    tap: &mut Tap<R>,
+    budget: u32,
+) -> Result<Vec<u8>, Refusal>
+    requires { reads_of tap.old + most_bytes < u64.MAX }
+    ensures text { IfOk result (λ text. IsAnswerTo (bytes_left R.remaining tap.old) budget 0 text.items) }
+    ensures refused { IfErr result (IsRefusalTo (bytes_left R.remaining tap.old) budget) }
+    ensures fault { (code_of result ≡ 31) ↔ (read_failures_of tap.old < read_failures_of tap.new) }
+{
+    match read_all(alloc, tap, LIMITS.bytes) {
+        Ok(bytes) => answer_to_bytes(alloc, &bytes, budget),
+        Err(ReadEnd::TooLarge) => Err(Refusal::alone(TOO_LARGE)),
+        Err(ReadEnd::Fault) => Err(Refusal::alone(READ_FAULT)),
+        Err(ReadEnd::Memory) => Err(Refusal::alone(OUT_OF_MEMORY)),
+    }
+}
+
+/// The whole run: reads all that the reader gives, and writes the text of a match stable by the lists in those
+/// bytes, or one refusal line. The text is complete before the first byte is written.
+pub fn run<R: Read, W: Write>(
+    alloc: Global,
+    tap: &mut Tap<R>,
+    drain: &mut Drain<W>,
+    options: Options,
+) -> Ended
+    requires reads { reads_of tap.old + most_bytes < u64.MAX }
+    requires failures { failures_of drain.old + 1 < 2 ^ 64 }
+    ensures answers { Answers (bytes_left R.remaining tap.old) options.budget
+        (contents_of W.contents drain.old) (contents_of W.contents drain.new) result.code result.written result.whole }
+    ensures writer { failures_of drain.new ≡ failures_of drain.old + (if result.whole then 0 else 1) }
+    ensures fault { (result.code ≡ 31) ↔ (read_failures_of tap.old < read_failures_of tap.new) }
+{
+    match answer_to_input(alloc, tap, options.budget) {
+        Ok(text) => {
+            let wrote = put_all(drain, &text);
+            Ended {
+                code: 0,
+                written: wrote.written,
+                whole: wrote.whole,
+            }
+        }
+        Err(refusal) => {
+            let line = refused(refusal.code, refusal.row, refusal.id.as_bytes());
+            let wrote = put_all(drain, line.as_bytes());
+            Ended {
+                code: refusal.code,
+                written: wrote.written,
+                whole: wrote.whole,
+            }
+        }
+    }
+}
