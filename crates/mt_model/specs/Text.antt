@@ -55,7 +55,7 @@ refusals =
     (10, codes "TooLarge") ∷ (11, codes "TwoMarks") ∷ (12, codes "NoVersion") ∷ (13, codes "UnknownKind") ∷ (14, codes "FieldCount")
     ∷ (15, codes "BadId") ∷ (16, codes "BadQuota") ∷ (17, codes "DuplicateId") ∷ (18, codes "DuplicateEntry") ∷ (19, codes "TooMany")
     ∷ (20, codes "UnknownApplicant") ∷ (21, codes "UnknownProgram") ∷ (22, codes "NotRegistered")
-    ∷ (30, codes "OutOfMemory") ∷ (31, codes "ReadFault") ∷ (40, codes "NotStable") ∷ (41, codes "BudgetSpent") ∷ []
+    ∷ (30, codes "OutOfMemory") ∷ (31, codes "ReadFault") ∷ (41, codes "BudgetSpent") ∷ []
 
 abbrev pub is_known_code : ℕ → Bool
 is_known_code code = list_any (λ r. r.0 == code) refusals

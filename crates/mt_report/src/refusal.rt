@@ -71,7 +71,6 @@ fn code_name(code: u16) -> &'static [u8]
         22 => b"NotRegistered",
         30 => b"OutOfMemory",
         31 => b"ReadFault",
-        40 => b"NotStable",
         41 => b"BudgetSpent",
         _ => unreachable!(),
     }

@@ -33,7 +33,7 @@ impl Write for Narrow {
 }
 
 fn expect_line(rt: &impl Abort, code: u16, row: u64, id: &[u8], line: &[u8]) {
-    assert!(rt; matches!(code, 10..=22 | 30 | 31 | 40 | 41));
+    assert!(rt; matches!(code, 10..=22 | 30 | 31 | 41));
     assert!(rt; id.len() <= 64);
     assert_eq!(rt; refused(code, row, id).as_bytes(), line);
 }
