@@ -1,5 +1,5 @@
 -- Bytes and a budget have one answer.
-use Rattle.std.proofs.Common.{◌≡◌, ℕ, List, Bool, true, false, Option, None, Some, Result, Ok, Err, sym, ◌∙◌, ap, subst}
+use Rattle.std.proofs.Common.{◌≡◌, ℕ, List, Bool, true, false, Option, None, Some, Result, Ok, Err, sym, ◌∙◌, subst}
 use Rattle.std.specs.Prelude.{MatchOption, MatchResult}
 use Rattle.std.specs.Bool.{MatchBool}
 use Rattle.mt_lists.specs.Records.{records_of}
@@ -9,7 +9,7 @@ use Rattle.mt_model.specs.Registration.{market_of}
 use Rattle.mt_model.specs.Registration.Faults.{Fault}
 use Rattle.mt_model.specs.Rounds.{stage}
 use Rattle.mt_model.proofs.ExclusionLemmas.{best_is_unique_lem}
-use Rattle.mt_run.specs.Answer.{IsRefusedAlone, IsAnswerOfStage, IsAnswerOfMarket, IsAnswerOfFault, IsAnswerOfRows, IsAnswer}
+use Rattle.mt_run.specs.Answer.{IsRefusedAlone, IsAnswerOfStage, IsAnswerOfMarket, IsAnswerOfFault, IsAnswerOfRows}
 use Rattle.mt_run.specs.Laws.{OneAnswer}
 
 -- two answers are one: code and text

@@ -1,5 +1,5 @@
 -- The first fault of a file's records is their answer.
-use Rattle.std.proofs.Common.{◌≡◌, ℕ, Bool, true, false, ◌&&◌, List, Result, Ok, Err, refl, sym, subst, ap, ◌∙◌, nat_le}
+use Rattle.std.proofs.Common.{◌≡◌, ℕ, true, ◌&&◌, List, Result, Err, refl, sym, subst, ap, ◌∙◌, nat_le}
 use Rattle.std.proofs.lemmas.Bool.{and_parts, true≢false}
 use Rattle.std.specs.Prelude.{◌≢◌, MatchResult}
 use Rattle.mt_model.specs.Market.{Registered}
@@ -14,6 +14,9 @@ use Rattle.mt_run.specs.declared.refusal.Refusal.{Refusal}
 
 not_a_read : (code : ℕ) → is_fault_code code ≡ true → code ≢ 31
 not_a_read code h e = true≢false (sym h ∙ ap is_fault_code e)
+
+pub refusals_are_not_zero : (code : ℕ) → is_known_code code ≡ true → code ≢ 0
+refusals_are_not_zero code h e = true≢false (sym h ∙ ap is_known_code e)
 
 pub refusal_of_fault : (rows : List (List (List ℕ))) (budget : ℕ) (e : Refusal)
     → market_of rows ≡ Err (record { code = e.code; row = e.row; id = e.id }) → IsRefusalBy (λ code text. IsAnswerOfRows budget code text rows) e

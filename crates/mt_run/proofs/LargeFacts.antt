@@ -1,6 +1,6 @@
 -- The answer to an input with more bytes than the limit.
-use Rattle.std.proofs.Common.{◌≡◌, ℕ, suc, ◌<◌, Bool, true, List, [], Option, None, Some, length, refl, sym, subst, arith}
-use Rattle.std.specs.Prelude.{IfSome, nat_lt, replicate, MatchOption}
+use Rattle.std.proofs.Common.{ℕ, suc, ◌<◌, Bool, List, [], Option, None, Some, length, refl, sym, subst, arith}
+use Rattle.std.specs.Prelude.{IfSome, replicate, MatchOption}
 use Rattle.std.specs.Bool.{MatchBool}
 use Rattle.std.proofs.lemmas.Bool.{lt-ltb}
 use Rattle.std.proofs.lemmas.List.{length-replicate}

@@ -1,5 +1,5 @@
 -- What is so of the live market that rank tables show is so of its market.
-use Rattle.std.proofs.Common.{◌≡◌, ℕ, List, [], ◌∷◌, refl, sym, subst, ap, ◌∙◌, map, length}
+use Rattle.std.proofs.Common.{◌≡◌, ℕ, List, [], ◌∷◌, refl, subst, ap, ◌∙◌, map, length}
 use Rattle.mt_model.specs.Best.{IsBest, proposals}
 use Rattle.mt_model.specs.Lists.{below}
 use Rattle.mt_model.specs.Market.{Market, live_market}

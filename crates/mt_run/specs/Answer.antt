@@ -1,5 +1,5 @@
 -- What a run writes for the bytes that it reads.
-use Rattle.std.specs.Prelude.{◌≡◌, ◌≢◌, ℕ, ◌<◌, ◌≤◌, List, [], map, length, take, Option, None, Some, IsTrue, nat_lt, MatchOption, MatchResult, Bool}
+use Rattle.std.specs.Prelude.{◌≡◌, ◌≢◌, ℕ, ◌≤◌, List, [], map, length, take, Option, None, Some, IsTrue, nat_lt, MatchOption, MatchResult, Bool}
 use Rattle.std.specs.Bool.{MatchBool}
 use Rattle.std.specs.Io.KnownBytes.{Appends}
 use Rattle.mt_lists.specs.Records.{records_of}
@@ -11,7 +11,8 @@ use Rattle.mt_model.specs.Registration.{market_of}
 use Rattle.mt_model.specs.Registration.Faults.{Fault}
 use Rattle.mt_model.specs.Rounds.{stage}
 use Rattle.mt_model.specs.Stability.{stable}
-use Rattle.mt_model.specs.Text.{is_known_code, published, refused}
+use Rattle.mt_model.specs.Text.{published, refused}
+use Rattle.mt_run.specs.Headline.{IsRefusal, IsStableTextOf}
 
 -- the text is the line of a refusal with this code, which no record is at
 abbrev pub IsRefusedAlone : ℕ → ℕ → List ℕ → Type 0
@@ -20,6 +21,11 @@ IsRefusedAlone refusal code text = (code ≡ refusal) × (text ≡ refused refus
 -- how many proposals each program receives on the way to the best match
 abbrev pub all_proposals : Registered → Places → List ℕ
 all_proposals r best = map (proposals r.market best) (below (length r.market.programs))
+
+-- the published text of a stable match
+pub record IsPublished (r : Registered) (places : Places) (received text : List ℕ) : Type 0 where
+  pub is_stable : IsTrue (stable r.market places)
+  pub is_text : text ≡ published r.market r.names places received
 
 -- after the couples' stage from the best match of the singles: the published text of the match that it ends
 -- in, or the refusal where the budget is spent
@@ -61,20 +67,14 @@ abbrev pub IsAnswerTo : Option (List ℕ) → ℕ → ℕ → List ℕ → Type 
 IsAnswerTo (Some bytes) budget code text = IsAnswer bytes budget code text
 IsAnswerTo None budget code text = (bytes : List ℕ) × IsAnswer bytes budget code text
 
--- one named refusal line
-pub record IsRefusal (code : ℕ) (text : List ℕ) : Type 0 where
-  pub known : IsTrue (is_known_code code)
-  pub row : ℕ
-  pub id : List ℕ
-  pub line : text ≡ refused code row id
-
--- What a run did: it appended the first bytes of a text, all of it where the writer didn't fail. The text is
--- a refusal where the code isn't 0; and but for want of memory and a read that failed it is the answer to the
--- bytes that were there to read.
+-- What a run did: it appended the first bytes of a text, all of it where the writer didn't fail. The text is one
+-- named refusal line where the code isn't 0, and that of a stable match where it is; and but for want of memory
+-- and a read that failed it is the answer to the bytes that were there to read.
 pub record Answers (left : Option (List ℕ)) (budget : ℕ) (old new : Option (List ℕ)) (code written : ℕ) (whole : Bool) : Type 0 where
   pub text : List ℕ
   pub appended : Appends old new (take written text)
   pub within : written ≤ length text
   pub all : IsTrue whole → written ≡ length text
   pub refusal : code ≢ 0 → IsRefusal code text
+  pub stable : code ≡ 0 → IsStableTextOf left text
   pub answer : code ≢ 30 → code ≢ 31 → IsAnswerTo left budget code text

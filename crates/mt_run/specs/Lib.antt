@@ -1,4 +1,6 @@
 pub mod Status
+pub mod Headline
 pub mod Answer
 pub mod Laws
 pub mod Refusals
+pub mod Examples

@@ -1,5 +1,5 @@
 -- What the end of a step of a run is for a market, or for a file's records, or for its bytes: a text, or a refusal.
-use Rattle.std.specs.Prelude.{◌≡◌, ◌≢◌, ℕ, List, [], Result, Ok, Err, Option, IsTrue}
+use Rattle.std.specs.Prelude.{◌≢◌, ℕ, List, Result, Ok, Err, Option, IsTrue}
 use Rattle.mt_model.specs.Text.{is_known_code, refused}
 use Rattle.mt_run.specs.Answer.{IsAnswerTo}
 use Rattle.mt_run.specs.declared.refusal.Refusal.{Refusal}

@@ -1,4 +1,4 @@
-ghost use Rattle.std.specs.Prelude.{◌≡◌, ◌↔◌, length, IfErr, IfOk, IsTrue, MatchResult};
+ghost use Rattle.std.specs.Prelude.{◌≡◌, ◌↔◌, length, not, IfErr, IfOk, IsTrue, MatchOption};
 ghost use Rattle.mt_model.specs.Best.{IsBest};
 ghost use Rattle.mt_model.specs.Laws.Registration.{IsRegistration};
 ghost use Rattle.mt_model.specs.Places.{ArePlaces};
@@ -6,10 +6,10 @@ ghost use Rattle.mt_model.specs.Rounds.{stage};
 ghost use Rattle.mt_model.specs.Stability.{stable};
 ghost use Rattle.mt_model.specs.Text.{published as published_text};
 ghost use Rattle.mt_ranks.specs.Ranked.{ranked_of};
-ghost use Rattle.mt_run.specs.Answer.{IsAnswerOfMarket, IsAnswerOfRows, IsEnteredFrom};
+ghost use Rattle.mt_run.specs.Answer.{IsAnswerOfMarket, IsAnswerOfRows, IsEnteredFrom, IsPublished};
 ghost use Rattle.mt_run.specs.Refusals.{IsRefusalBy};
 
-use crate::refusal::{BUDGET_SPENT, NOT_STABLE, OUT_OF_MEMORY, Refusal};
+use crate::refusal::{BUDGET_SPENT, OUT_OF_MEMORY, Refusal};
 use crate::singles::match_singles;
 use mt_couples::{CoupleEnd, enter_all};
 use mt_lists::Row;
@@ -66,30 +66,25 @@ fn with_couples(
     }
 }
 
-/// The text of a stable match, where the verifier calls it stable.
+/// The text of a match, where the verifier calls it stable.
 fn publish(
     alloc: Global,
     roster: &Roster,
     ranks: &Ranks,
     matched: &Match,
     proposals: &[u32],
-) -> Result<Vec<u8>, Refusal>
+) -> Result<Option<Vec<u8>>, AllocError>
     requires registration { IsRegistration roster.now }
     requires ranks { ranks.now ≡ ranked_of roster.now.market }
-    requires stable { IsTrue (stable roster.now.market matched.now.places) }
+    requires places { ArePlaces roster.now.market matched.now.places }
     requires proposals { length proposals.now ≡ length roster.now.market.programs }
-    ensures text { IfOk result (λ text. text.items ≡ published_text roster.now.market roster.now.names matched.now.places proposals.now) }
-    ensures refused { IfErr result (λ e. e.code ≡ OUT_OF_MEMORY) }
+    ensures { IfOk result (λ text. MatchOption text (IsTrue (not (stable roster.now.market matched.now.places)))
+        (λ t. IsPublished roster.now matched.now.places proposals.now t.items)) }
 {
-    match is_stable(alloc, roster, ranks, matched) {
-        Ok(true) => {}
-        Ok(false) => return Err(Refusal::alone(NOT_STABLE)),
-        Err(_) => return Err(Refusal::alone(OUT_OF_MEMORY)),
+    if !is_stable(alloc, roster, ranks, matched)? {
+        return Ok(None);
     }
-    match published(alloc, roster, matched, proposals) {
-        Ok(text) => Ok(text),
-        Err(_) => Err(Refusal::alone(OUT_OF_MEMORY)),
-    }
+    Ok(Some(published(alloc, roster, matched, proposals)?))
 }
 
 /// The text of the market's match, once the singles are matched and the couples have entered.
@@ -109,7 +104,11 @@ pub(crate) fn answer_to_market(
         return Err(Refusal::alone(OUT_OF_MEMORY));
     };
     let matched = with_couples(alloc, roster, &ranks, singles.matched, budget)?;
-    publish(alloc, roster, &ranks, &matched, &singles.proposals)
+    match publish(alloc, roster, &ranks, &matched, &singles.proposals) {
+        Ok(Some(text)) => Ok(text),
+        Ok(None) => unreachable!(),
+        Err(_) => Err(Refusal::alone(OUT_OF_MEMORY)),
+    }
 }
 
 /// The answer to the records of a file.

@@ -1,8 +1,25 @@
 //! Laws of the answer: each is the contract of a function that does nothing.
 
-ghost use Rattle.mt_run.specs.Laws.{OneAnswer};
+ghost use Rattle.mt_run.specs.Examples.{ProgramOptimalIsNoAnswer};
+ghost use Rattle.mt_run.specs.Laws.{OneAnswer, PublishedIsNoRefusal, PublishedIsStable};
 
 /// The answer depends on the bytes and the budget alone.
 pub fn one_answer()
     ensures { OneAnswer }
+{}
+
+/// A published text is that of a match stable by the lists in the bytes; and where no couple is entered, the
+/// match gives each applicant at least what every stable match gives it.
+pub fn published_is_stable()
+    ensures { PublishedIsStable }
+{}
+
+/// No published text is a refusal line.
+pub fn published_is_no_refusal()
+    ensures { PublishedIsNoRefusal }
+{}
+
+/// Where wishes cross, the match that is best for the programs is stable, and still no answer.
+pub fn program_optimal_is_no_answer()
+    ensures { ProgramOptimalIsNoAnswer }
 {}

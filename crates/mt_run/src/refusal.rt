@@ -12,9 +12,6 @@ pub(crate) const OUT_OF_MEMORY: u16 = 30;
 /// A read failed.
 pub(crate) const READ_FAULT: u16 = 31;
 
-/// The verifier refused the match.
-pub(crate) const NOT_STABLE: u16 = 40;
-
 /// The couples' rounds would exceed the budget.
 pub(crate) const BUDGET_SPENT: u16 = 41;
 

@@ -1,13 +1,20 @@
-use Rattle.std.proofs.Common.{◌∙◌, ap, length, arith}
+use Rattle.std.proofs.Common.{◌≡◌, ◌∙◌, ℕ, Option, Vec, Global, true, not, ap, sym, subst, length, arith}
+use Rattle.std.proofs.lemmas.Bool.{true≢false}
+use Rattle.std.specs.Prelude.{IsTrue, MatchOption}
 use Rattle.mt_model.specs.Best.{proposals}
+use Rattle.mt_model.specs.Stability.{stable}
 use Rattle.mt_model.proofs.BelowFacts.{length-map_below}
 use Rattle.mt_model.proofs.RoundsStage.{stage_is_stable_lem}
+use Rattle.mt_run.specs.Answer.{IsPublished}
+use Rattle.mt_run.proofs.MatchFacts.{stable_are_places}
 use Rattle.mt_run.proofs.answer.answer_to_market.Goals as goal
 
-pub publish-requires-clause-stable : goal.publish-requires-clause-stable
-publish-requires-clause-stable c =
-    stage_is_stable_lem c.args.roster.now.market c.requires.well_formed c.in-Ok-match_singles.singles.matched.places c.in-Ok-match_singles.ensures.best c.args.budget _
-    c.in_ok-matched.ensures.entered.1
+-- from the best match the couples' stage ends in a stable match
+pub publish-requires-clause-places : goal.publish-requires-clause-places
+publish-requires-clause-places c =
+    stable_are_places c.args.roster.now.market c.requires.well_formed _
+    (stage_is_stable_lem c.args.roster.now.market c.requires.well_formed c.in-Ok-match_singles.singles.matched.places c.in-Ok-match_singles.ensures.best c.args.budget _
+    c.in_ok-matched.ensures.entered.1)
 
 pub publish-requires-clause-proposals : goal.publish-requires-clause-proposals
 publish-requires-clause-proposals c =
@@ -17,3 +24,15 @@ publish-requires-clause-proposals c =
       ap length c.in-Ok-match_singles.ensures.proposals,
       length-map_below (proposals c.args.roster.now.market c.in-Ok-match_singles.singles.matched.places) (length c.args.roster.now.market.programs),
     )
+
+pub unreachable-requires : goal.unreachable-requires
+unreachable-requires c =
+    let places = c.in_ok-matched.matched.places in
+    let market = c.args.roster.now.market in
+    let is_stable : stable market places ≡ true =
+    stage_is_stable_lem market c.requires.well_formed c.in-Ok-match_singles.singles.matched.places c.in-Ok-match_singles.ensures.best c.args.budget _
+    c.in_ok-matched.ensures.entered.1 in
+    let is_not : not (stable market places) ≡ true =
+    subst (λ (text : Option (Vec ℕ Global)). MatchOption text (IsTrue (not (stable market places))) (λ t. IsPublished c.args.roster.now places c.deref.result.now t.items))
+    c.in-Ok-None.field-0-is c.in-Ok-None.ensures in
+    true≢false (sym is_not ∙ ap not is_stable)

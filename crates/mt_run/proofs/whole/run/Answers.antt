@@ -1,9 +1,22 @@
-use Rattle.std.proofs.Common.{◌≡◌, ◌≤◌, ◌∙◌, List, ℕ, ap, refl, length, take}
-use Rattle.std.specs.Prelude.{IsTrue}
-use Rattle.std.specs.Io.KnownBytes.{Appends}
+use Rattle.std.proofs.Common.{◌≡◌, ◌∙◌, ap, refl}
+use Rattle.mt_lists.specs.Tap.{bytes_left}
 use Rattle.mt_model.specs.Text.{refused}
 use Rattle.mt_run.specs.Refusals.{line_of}
+use Rattle.mt_run.proofs.FaultFacts.{refusals_are_not_zero}
+use Rattle.mt_run.proofs.HeadlineLemmas.{published_to}
 use Rattle.mt_run.proofs.whole.run.Goals as goal
+
+pub returns-in-Ok-clause-answers : goal.returns-in-Ok-clause-answers
+returns-in-Ok-clause-answers g c =
+    record {
+      text = c.in-Ok.text.items;
+      appended = rw c.deref.ensures.value at c.put_all-wrote.ensures.appended;
+      within = rw c.deref.ensures.value at c.put_all-wrote.ensures.bound;
+      all = rw c.deref.ensures.value at c.put_all-wrote.ensures.all;
+      refusal = λ n. absurd (n refl);
+      stable = λ none. published_to (bytes_left g.R.Read.remaining c.args.tap.now) c.args.options.budget c.in-Ok.text.items c.in-Ok.ensures.text;
+      answer = λ m r. c.in-Ok.ensures.text;
+    }
 
 pub returns-in-Err-clause-answers : goal.returns-in-Err-clause-answers
 returns-in-Err-clause-answers g c =
@@ -15,5 +28,6 @@ returns-in-Err-clause-answers g c =
       within = rw line at c.put_all-wrote-in-Err.ensures.bound;
       all = rw line at c.put_all-wrote-in-Err.ensures.all;
       refusal = λ n. record { known = c.in-Err.ensures.refused.known; row = c.in-Err.refusal.row; id = c.in-Err.refusal.id; line = refl };
+      stable = λ none. absurd (refusals_are_not_zero c.in-Err.refusal.code c.in-Err.ensures.refused.known none);
       answer = c.in-Err.ensures.refused.answer;
     }

@@ -1,0 +1,96 @@
+-- What is published is the text of a stable match, and without couples of the best one.
+use Rattle.std.proofs.Common.{◌≡◌, ℕ, ◌-◌, List, [], Bool, true, false, ◌==◌, Option, None, Some, Result, Ok, Err, length, refl, sym, ◌∙◌, ap, subst}
+use Rattle.std.specs.Prelude.{◌≢◌, IsTrue, slice_index_or, MatchOption, MatchResult}
+use Rattle.std.specs.Bool.{MatchBool}
+use Rattle.std.specs.Option.{option_map}
+use Rattle.std.proofs.lemmas.Bool.{true≢false}
+use Rattle.mt_lists.specs.Records.{records_of}
+use Rattle.mt_model.specs.Best.{IsBest}
+use Rattle.mt_model.specs.Laws.Registration.{IsRegistration, is_fault_code}
+use Rattle.mt_model.specs.Lists.{below}
+use Rattle.mt_model.specs.Market.{Market, Partners, Registered}
+use Rattle.mt_model.specs.Matching.{Places}
+use Rattle.mt_model.specs.Registration.{market_of}
+use Rattle.mt_model.specs.Registration.Faults.{Fault}
+use Rattle.mt_model.specs.Rounds.{entered, stage}
+use Rattle.mt_model.specs.Stability.{stable}
+use Rattle.mt_model.specs.WellFormed.{IsWellFormed}
+use Rattle.mt_model.proofs.ExclusionLemmas.{best_is_at_least_lem}
+use Rattle.mt_model.proofs.FaultCodes.{fault_codes_lem}
+use Rattle.mt_model.proofs.PassFacts.{accepted_is_registration_lem}
+use Rattle.mt_model.proofs.RoundsStage.{stage_is_stable_lem}
+use Rattle.mt_model.proofs.RuralLemmas.{fill_alike_without_couples}
+use Rattle.mt_run.specs.Answer.{IsRefusedAlone, IsAnswerOfStage, IsAnswerOfMarket, IsAnswerOfFault, IsAnswerOfRows, IsAnswerTo, all_proposals}
+use Rattle.mt_run.specs.Headline.{IsBestOfAll, IsStableText, IsStableTextOf}
+use Rattle.mt_run.specs.Laws.{PublishedIsNoRefusal, PublishedIsStable}
+
+-- the match that a stage ends in, or the empty one
+abbrev end_of : Option (Places × ℕ) → Places
+end_of None = []
+end_of (Some s) = s.0
+
+-- without couples a stage ends where it begins
+pub stage_of_singles : (m : Market) (best : Places) (budget : ℕ) → m.couples ≡ [] → stage m best budget ≡ Some (best, budget - budget)
+stage_of_singles m best budget none =
+    ap (λ (couples : List Partners). option_map (λ (r : Places × ℕ). (r.0, budget - r.1)) (entered m (below (length couples)) budget best)) none
+
+-- without couples a best match is the best of all stable ones
+best_of_all : (m : Market) → IsWellFormed m → m.couples ≡ [] → (best : Places) → IsBest m best → IsTrue (stable m best) → IsBestOfAll m best
+best_of_all m wf none best is_best is_stable =
+    record {
+      at_least = λ other o. best_is_at_least_lem m best other is_best (rw none at o);
+      fills_alike = λ other o. fill_alike_without_couples m wf none best other is_stable o;
+    }
+
+pub not_zero : (code : ℕ) → (code == 0) ≡ false → 0 ≢ code
+not_zero code h e = true≢false (ap (λ n. n == 0) e ∙ h)
+
+module _ (bytes : List ℕ) (budget : ℕ) (text : List ℕ) where
+  of_stage : (rows : List (List (List ℕ))) (r : Registered) → records_of bytes ≡ Some rows → market_of rows ≡ Ok r
+      → (best : Places) → IsBest r.market best → (s : Option (Places × ℕ)) → stage r.market best budget ≡ s
+      → IsAnswerOfStage r best s 0 text → IsStableText bytes text
+  of_stage rows r are_rows is_market best is_best None ends h = absurd (not_zero 41 refl h.0)
+  of_stage rows r are_rows is_market best is_best (Some s) ends h =
+      let well_formed = IsRegistration.well_formed (accepted_is_registration_lem rows r is_market) in
+      let is_stable = stage_is_stable_lem r.market well_formed best is_best budget s ends in
+      record {
+        registered = r;
+        of_bytes = (rows, are_rows, is_market);
+        places = s.0;
+        proposals = all_proposals r best;
+        is_text = h.1;
+        is_stable = is_stable;
+        best = λ none.
+            let same : best ≡ s.0 = ap end_of (sym (stage_of_singles r.market best budget none) ∙ ends) in
+            best_of_all r.market well_formed none s.0 (subst (IsBest r.market) same is_best) is_stable;
+      }
+
+  of_rows : (rows : List (List (List ℕ))) → records_of bytes ≡ Some rows → (m : Result Registered Fault) → market_of rows ≡ m
+      → MatchResult m (λ r. IsAnswerOfMarket r budget 0 text) (λ f. IsAnswerOfFault f 0 text) → IsStableText bytes text
+  of_rows rows are_rows (Ok r) is_market h = of_stage rows r are_rows is_market h.best h.is_best (stage r.market h.best budget) refl h.ends
+  of_rows rows are_rows (Err f) is_fault h =
+      absurd (true≢false (sym (fault_codes_lem rows f is_fault) ∙ sym (ap is_fault_code h.same_code)))
+
+  of_records : (rows : Option (List (List (List ℕ)))) → records_of bytes ≡ rows
+      → MatchOption rows (IsRefusedAlone 11 0 text) (IsAnswerOfRows budget 0 text) → IsStableText bytes text
+  of_records None are_rows h = absurd (not_zero 11 refl h.0)
+  of_records (Some rows) are_rows h = of_rows rows are_rows (market_of rows) refl h
+
+  of_bytes : (large : Bool)
+      → MatchBool large (IsRefusedAlone 10 0 text) (MatchOption (records_of bytes) (IsRefusedAlone 11 0 text) (IsAnswerOfRows budget 0 text))
+      → IsStableText bytes text
+  of_bytes true h = absurd (not_zero 10 refl h.0)
+  of_bytes false h = of_records (records_of bytes) refl h
+
+pub published_is_stable_lem : PublishedIsStable
+published_is_stable_lem bytes budget text h = of_bytes bytes budget text _ h
+
+-- the same of what a reader had left
+pub published_to : (left : Option (List ℕ)) (budget : ℕ) (text : List ℕ) → IsAnswerTo left budget 0 text → IsStableTextOf left text
+published_to (Some bytes) budget text h = published_is_stable_lem bytes budget text h
+published_to None budget text h = (h.0, published_is_stable_lem h.0 budget text h.1)
+
+-- the first byte of the word after the second comma tells them apart
+pub published_is_no_refusal_lem : PublishedIsNoRefusal
+published_is_no_refusal_lem m names places received code row id e =
+    true≢false (ap (λ (text : List ℕ). slice_index_or text 8 0 == 112) e)

@@ -1,0 +1,48 @@
+-- The headline in its own words: what a published text is, by the lists in the bytes.
+use Rattle.std.specs.Prelude.{◌≡◌, ℕ, List, [], Option, None, Some, Ok, IsTrue, IsFalse}
+use Rattle.mt_lists.specs.Records.{records_of}
+use Rattle.mt_model.specs.Best.{better_programs}
+use Rattle.mt_model.specs.Laws.Rural.{FillsAlike}
+use Rattle.mt_model.specs.Lists.{has}
+use Rattle.mt_model.specs.Market.{Market, Registered}
+use Rattle.mt_model.specs.Matching.{Places, at}
+use Rattle.mt_model.specs.Registration.{market_of}
+use Rattle.mt_model.specs.Stability.{stable}
+use Rattle.mt_model.specs.Text.{is_known_code, published, refused}
+
+-- the bytes are a file with this market
+abbrev pub IsMarketOf : List ℕ → Registered → Type 0
+IsMarketOf bytes r = (rows : List (List (List ℕ))) × (records_of bytes ≡ Some rows) × (market_of rows ≡ Ok r)
+
+-- a match gives each applicant at least what another one gives it: nobody wants its place there more
+abbrev pub GivesAtLeast : Market → Places → Places → Type 0
+GivesAtLeast m places other = (a p : ℕ) → IsTrue (at other p a) → IsFalse (has (better_programs m places a) p)
+
+-- A match gives each applicant at least what every stable match gives it; and every stable match places the
+-- same applicants and equally many at each program, the same ones where a post is free.
+pub record IsBestOfAll (m : Market) (places : Places) : Type 0 where
+  pub at_least : (other : Places) → IsTrue (stable m other) → GivesAtLeast m places other
+  pub fills_alike : (other : Places) → IsTrue (stable m other) → FillsAlike m places other
+
+-- The text of a match stable by the lists in the bytes; and where no couple is entered, that match is the
+-- best of all stable ones.
+pub record IsStableText (bytes text : List ℕ) : Type 0 where
+  pub registered : Registered
+  pub of_bytes : IsMarketOf bytes registered
+  pub places : Places
+  pub proposals : List ℕ
+  pub is_text : text ≡ published registered.market registered.names places proposals
+  pub is_stable : IsTrue (stable registered.market places)
+  pub best : registered.market.couples ≡ [] → IsBestOfAll registered.market places
+
+-- the same of the bytes that a reader had left, or of some bytes where it doesn't tell them
+abbrev pub IsStableTextOf : Option (List ℕ) → List ℕ → Type 0
+IsStableTextOf (Some bytes) text = IsStableText bytes text
+IsStableTextOf None text = (bytes : List ℕ) × IsStableText bytes text
+
+-- one named refusal line
+pub record IsRefusal (code : ℕ) (text : List ℕ) : Type 0 where
+  pub known : IsTrue (is_known_code code)
+  pub row : ℕ
+  pub id : List ℕ
+  pub line : text ≡ refused code row id
