@@ -93,7 +93,7 @@ def arguments():
     parser.add_argument("--kept", type=float, default=0.95, help="how many singles' entries are mutual, 0 to 1")
     parser.add_argument("--version", type=int, default=2, choices=(1, 2))
     parser.add_argument("--withdraw", action="store_true", help="withdraw every program")
-    parser.add_argument("--names", help="a file of ids, one a line")
+    parser.add_argument("--names", help="a file of ids, one a line, for a market without couples")
     parser.add_argument("--seed", type=int, default=1)
     return parser.parse_args()
 
