@@ -1,0 +1,101 @@
+#!/usr/bin/env bash
+# Times the layers of a match on one file, by the program in bench/stages.
+#
+#   bench/stages.sh build                          builds the program in the scratch folder
+#   bench/stages.sh FILE [LAST [BUDGET [RUNS]]]    runs it on a file: RUNS times (3), to the layer LAST (text), with
+#                                                  BUDGET rounds for the couples (1000000)
+#
+# A run prints for each layer: its name, the least processor time of the runs in milliseconds, the memory of the
+# process after it and the most so far, both in MiB, and a count of what it made. LAST `hash` stops after a pass that
+# hashes each field once. The scratch folder is $BENCH_SCRATCH, or nrmatch-bench in the folder for temporary files.
+#
+# The build proves nothing. `rt try` compiles without optimising, so its LLVM module is compiled a second time here, at
+# the level of a proved build. The checks at run time that `rt try` puts in stay, so a proved build is a little faster.
+set -eu
+top=$(cd "$(dirname "${BASH_SOURCE[0]}")/.." && pwd)
+scratch=${BENCH_SCRATCH:-${TMPDIR:-/tmp}/nrmatch-bench}
+program=$scratch/stages
+
+# A folder as that of the toolchain, whose clang keeps the module of a program and compiles nothing else.
+make_kit() {
+    local from=$1 to=$scratch/kit name
+    mkdir -p "$to/bin" "$to/toolchain/bin"
+    for name in "$from"/*; do
+        case ${name##*/} in bin | toolchain) ;; *) ln -sfn "$name" "$to/${name##*/}" ;; esac
+    done
+    for name in "$from"/bin/*; do ln -sf "$name" "$to/bin/${name##*/}"; done
+    # The commands look for the other files beside themselves, so these two are no links.
+    rm -f "$to/bin/rt" "$to/bin/rtlib.py"
+    cp "$from/bin/rt" "$from/bin/rtlib.py" "$to/bin/"
+    ln -sfn "$from/toolchain/lib" "$to/toolchain/lib"
+    for name in "$from"/toolchain/bin/*; do ln -sf "$name" "$to/toolchain/bin/${name##*/}"; done
+    rm "$to/toolchain/bin/clang"
+    cat > "$to/toolchain/bin/clang" <<END
+#!/bin/bash
+# The first module is a trial of a few bytes.
+if [ "\$(/usr/bin/stat -c %s module.bc)" -gt 100000 ]; then
+    /bin/cp module.bc "$scratch/module.bc"
+    exit 1
+fi
+exec "$from/toolchain/bin/clang" "\$@"
+END
+    chmod +x "$to/toolchain/bin/clang"
+}
+
+# The repository's crates, and the program as one more. Its files have no name of code in the repository, since the gate
+# takes none that it doesn't prove.
+copy_crates() {
+    local repo=$scratch/repo name
+    rm -rf "$repo"
+    mkdir -p "$repo/crates/mt_stages/src"
+    (cd "$top/crates" && tar cf - --exclude out .) | tar xf - -C "$repo/crates"
+    cp "$top/HANDLES" "$repo/"
+    for name in main meter layers; do
+        cp "$top/bench/stages/$name.rt.txt" "$repo/crates/mt_stages/src/$name.rt"
+    done
+    cp "$top/crates.txt" "$repo/"
+    echo 'mt_stages: anyhow mt_lists mt_roster mt_ranks mt_core mt_couples mt_verify mt_report mt_model' >> "$repo/crates.txt"
+}
+
+build() {
+    local from log=$scratch/build.log tools
+    from=$(dirname "$(dirname "$(readlink -f "$(command -v rt)")")")
+    tools=$from/toolchain
+    mkdir -p "$scratch"
+    rm -f "$scratch/module.bc"
+    make_kit "$from"
+    copy_crates
+    # It ends in a failure, since the module isn't compiled by it.
+    (cd "$scratch/repo/crates/mt_stages" && "$scratch/kit/bin/rt" try < /dev/null > "$log" 2>&1) || true
+    if [ ! -s "$scratch/module.bc" ]; then
+        cat "$log" >&2
+        exit 1
+    fi
+    "$tools/bin/clang" --target=x86_64-unknown-linux-gnu --sysroot="$tools" --no-default-config -march=x86-64-v2 \
+        -ffunction-sections -fdata-sections -fPIE -O3 -c -x ir "$scratch/module.bc" -o "$scratch/stages.o"
+    "$from/bin/rattle-link" --target x86_64-unknown-linux-gnu --toolchain "$tools" -o "$program" "$scratch/stages.o" \
+        "$from/c/libos_c.a" "$from/c/liblibc_c.a" 2>> "$log"
+    echo "built $program"
+}
+
+# Of the lines of several runs, one for each layer in their order, with the least time.
+least() {
+    awk '!($1 in time) { order[++n] = $1; time[$1] = $2 }
+        { if ($2 < time[$1]) time[$1] = $2; rest[$1] = $3 " " $4 " " $5 }
+        END { for (i = 1; i <= n; i++) print order[i], time[order[i]], rest[order[i]] }' |
+        column -t
+}
+
+measure() {
+    local file=$1 last=${2:-text} budget=${3:-1000000} runs=${4:-3} run
+    for ((run = 0; run < runs; run++)); do "$program" "$file" "$last" "$budget"; done | least
+}
+
+case ${1:-} in
+    '' | -h | --help) sed -n '2,/^set/{/^#/s/^# \{0,1\}//p}' "${BASH_SOURCE[0]}" ;;
+    build) build ;;
+    *)
+        [ -x "$program" ] || build >&2
+        measure "$@"
+        ;;
+esac
