@@ -2,9 +2,13 @@ use super::expected::{
     Narrow, Pieces, Repeated, USUAL, expect_cut, expect_end, expect_fault, expect_text,
 };
 use super::markets::{CROSSED, CROSSED_TEXT, NOBODY, NOBODY_TEXT};
-use crate::Ended;
+use crate::{Ended, run};
+use mt_lists::Tap;
+use mt_report::Drain;
 use std::alloc::Global;
 use std::io::ErrorKind;
+
+const TOO_LARGE: &[u8] = b"match,1,refused,10,TooLarge,0,-\n";
 
 const READ_FAULT: &[u8] = b"match,1,refused,31,ReadFault,0,-\n";
 
@@ -55,19 +59,28 @@ fn input_that_is_cut(rt: HostRuntime) {
 
 // 64 MiB are the most that an input may have.
 #[test]
+fn a_reader_without_end(rt: HostRuntime) {
+    let mut writer = narrow(rt.alloc(), 100, 100, false);
+    let endless = Repeated {
+        left: u64::MAX,
+        size: 1,
+    };
+    let mut tap = Tap::new(endless);
+    let mut drain = Drain::new(&mut writer);
+    let ended = run(rt.alloc(), &mut tap, &mut drain, USUAL);
+    assert_eq!(rt; ended.code, 10);
+    assert!(rt; tap.reads() <= 67_108_865);
+    assert_eq!(rt; tap.failures(), 0);
+    assert_eq!(rt; writer.taken.as_slice(), TOO_LARGE);
+}
+
+#[test]
 fn one_byte_too_many(rt: HostRuntime) {
     let input = Repeated {
         left: 67_108_865,
         size: usize::MAX,
     };
-    expect_end(
-        &rt,
-        input,
-        USUAL,
-        10,
-        2,
-        b"match,1,refused,10,TooLarge,0,-\n",
-    );
+    expect_end(&rt, input, USUAL, 10, 2, TOO_LARGE);
 }
 
 #[test]
