@@ -1,8 +1,8 @@
 use super::expected::{expect_rounds, expect_same, expect_spent};
 use super::markets::{THREE_COUPLES, THREE_COUPLES_TEXT};
 
-// The single keeps its place: with the couple taken out, it is better than the second member at a program with
-// two posts.
+// The program wants the single between the members. So of both members and the single, its two posts aren't for
+// the second member, and the pair isn't taken.
 #[test]
 fn a_pair_of_one_program_with_a_single_between(rt: HostRuntime) {
     let input = b"match,1\n\

@@ -62,7 +62,7 @@ fn input_that_is_cut(rt: HostRuntime) {
 fn a_reader_without_end(rt: HostRuntime) {
     let mut writer = narrow(rt.alloc(), 100, 100, false);
     let endless = Repeated {
-        left: u64::MAX,
+        left: usize::MAX,
         size: 1,
     };
     let mut tap = Tap::new(endless);

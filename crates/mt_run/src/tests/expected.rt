@@ -93,16 +93,15 @@ impl Read for Pieces<'_> {
 /// So many bytes `a`, at most `size` in each read, which are held nowhere.
 #[derive(Drop)]
 pub(super) struct Repeated {
-    pub(super) left: u64,
+    pub(super) left: usize,
     pub(super) size: usize,
 }
 
 impl Read for Repeated {
     fn read(&mut self, buf: &mut [u8]) -> io::Result<usize> {
-        let left = usize::try_from(self.left).unwrap_or(usize::MAX);
-        let count = self.size.min(buf.len()).min(left);
+        let count = self.size.min(buf.len()).min(self.left);
         buf[..count].fill(b'a');
-        self.left -= count as u64;
+        self.left -= count;
         Ok(count)
     }
 }

@@ -64,7 +64,8 @@ pub(super) const THREE_COUPLES_TEXT: &[u8] = b"match,1,published\n\
     program,v,1,0,0\n\
     totals,6,2,6,2\n";
 
-/// A couple that has no stable match would take the first member's place alone.
+/// With whole pairs alone this market has no stable match. The couple ends with its first member placed and its
+/// second one unplaced.
 pub(super) const HALF_PAIR: &[u8] = b"match,2\n\
     program,x,1,a,s\n\
     program,y,1,s,b\n\
