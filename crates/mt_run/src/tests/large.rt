@@ -1,5 +1,5 @@
 use super::expected::{
-    Repeated, USUAL, expect_end, expect_fault, expect_same, expect_spent, expect_text, with_budget,
+    expect_end, expect_fault, expect_same, expect_spent, expect_text, with_budget,
 };
 use std::alloc::Global;
 use std::test::Fail;
