@@ -12,3 +12,6 @@ mod whole;
 pub use ended::Ended;
 pub use options::Options;
 pub use whole::run;
+
+#[cfg(test)]
+mod tests;
