@@ -143,7 +143,7 @@ Options:
 Exit status:
   0   the match was published and wholly written
   2   the input was refused
-  3   no match was published
+  3   the couples' rounds exceed the budget
   4   memory ran out
   5   a read or a write failed
   64  the command line is wrong
