@@ -1,6 +1,7 @@
 //! Matches given by hand. What is to be said of each was worked out from the rules, beside it.
 
 ghost use Rattle.std.specs.Prelude.{◌≡◌, length, IsTrue};
+ghost use Rattle.std.specs.List.{list_all};
 ghost use Rattle.mt_model.specs.Laws.Registration.{is_none_or_below};
 ghost use Rattle.mt_model.specs.Places.{ArePlaces};
 
@@ -32,12 +33,18 @@ fn is_place(roster: &Roster, place: Option<ProgNo>) -> bool
     }
 }
 
+// Whether each place is none, or a program of the roster.
+fn all_places(roster: &Roster, places: &[Option<ProgNo>]) -> bool
+    ensures { result ≡ list_all (λ place. is_none_or_below (length roster.now.market.programs) place) places.now }
+{
+    places.iter().all(|place| is_place(roster, *place))
+}
+
 // Whether there is one place for each applicant, each of them a program of the roster.
 fn are_places(roster: &Roster, places: &[Option<ProgNo>]) -> bool
     ensures { IsTrue result → ArePlaces roster.now.market places.now }
 {
-    places.len() == roster.applicants() as usize
-        && places.iter().all(|place| is_place(roster, *place))
+    places.len() == roster.applicants() as usize && all_places(roster, places)
 }
 
 // What the verifier says of a match, by the market of a file.

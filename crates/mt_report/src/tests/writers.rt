@@ -5,8 +5,12 @@ use std::io::{self, ErrorKind, Write};
 use std::process::Abort;
 
 // A text of 99 bytes.
-const TEXT: &[u8] =
-    b"match,1,published\napplicant,a1,P1\napplicant,a2,P2\nprogram,P1,1,1,1\nprogram,P2,1,1,1\ntotals,2,0,2,0\n";
+const TEXT: &[u8] = b"match,1,published\n\
+    applicant,a1,P1\n\
+    applicant,a2,P2\n\
+    program,P1,1,1,1\n\
+    program,P2,1,1,1\n\
+    totals,2,0,2,0\n";
 
 // A writer that takes so many bytes at a time, so many in all, and then fails or takes none; its flush may fail. It
 // counts its flushes.

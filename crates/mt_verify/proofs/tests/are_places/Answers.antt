@@ -1,4 +1,4 @@
-use Rattle.std.proofs.Common.{◌≡◌, ℕ, zero, suc, ◌<◌, Bool, true, false, ◌==◌, List, [], ◌∷◌, length, Option, Some, None, IsTrue, arith}
+use Rattle.std.proofs.Common.{◌≡◌, ℕ, zero, suc, ◌<◌, Bool, true, false, ◌==◌, List, [], ◌∷◌, length, Option, Some, None, IsTrue, sym, ◌∙◌, arith}
 use Rattle.std.specs.List.{list_all}
 use Rattle.std.proofs.lemmas.Bool.{false≢true, and_parts}
 use Rattle.std.proofs.lemmas.Bool.Decides.{nat_tests}
@@ -17,5 +17,8 @@ below_anywhere n p (place ∷ places) zero all there =
 below_anywhere n p (place ∷ places) (suc a) all there =
     below_anywhere n p places a (and_parts (is_none_or_below n place) (list_all (is_none_or_below n) places) all).1 there
 
-pub returns : goal.returns
-returns c = ?
+pub returns-then-places-applicants : goal.returns-then-places-applicants
+returns-then-places-applicants c = λ all. record {
+  one_each = omega (arith, c.applicants.ensures.count);
+  within = λ a p there. below_anywhere (length c.args.roster.now.market.programs) p c.args.places.now a (sym c.all_places.ensures ∙ all) there;
+}
