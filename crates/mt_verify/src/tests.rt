@@ -75,6 +75,21 @@ fn expect(
     Ok(())
 }
 
+// This match isn't stable, by the market of a file.
+fn expect_finding(
+    rt: &impl Abort,
+    alloc: Global,
+    file: &[u8],
+    places: &[Option<ProgNo>],
+) -> Result<(), Fail> {
+    assert_ne!(rt;
+        judged(rt, alloc, file, places)?,
+        Verdict::Stable,
+        "at {places:?}"
+    );
+    Ok(())
+}
+
 fn by_single(applicant: u32, option: u32) -> Verdict {
     Verdict::Blocks(Blocker {
         agent: Agent::Single(AppNo(applicant)),
