@@ -1,5 +1,5 @@
 -- The first option with which an agent blocks, as a search along its list finds it.
-use Rattle.std.proofs.Common.{◌≡◌, ℕ, ◌<◌, Bool, true, false, ◌&&◌, ◌==◌, List, map, length, get_or, Option, Some, None, IsTrue, IsFalse, refl, ap, sym, ◌∙◌, ◌+◌, subst, below_more, is_some, unwrap_or, inl, inr}
+use Rattle.std.proofs.Common.{◌≡◌, ℕ, ◌<◌, Bool, ◌&&◌, ◌==◌, List, length, get_or, Option, Some, None, IsTrue, IsFalse, refl, ap, sym, ◌∙◌, ◌+◌, subst, below_more, is_some, unwrap_or, inl, inr}
 use Rattle.std.specs.List.{find, position}
 use Rattle.std.specs.Option.{option_eq, option_map}
 use Rattle.std.proofs.lemmas.Bool.{cases_Bool}

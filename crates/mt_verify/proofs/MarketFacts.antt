@@ -1,10 +1,9 @@
 -- What the market of an accepted file says of its lists and of a match.
-use Rattle.std.proofs.Common.{◌≡◌, ℕ, zero, suc, ◌+◌, ◌<◌, ◌≤◌, Bool, true, false, ◌&&◌, List, [], ◌∷◌, length, IsTrue, IsFalse, refl, ap, sym, ◌∙◌, arith, inl, inr, if◌then◌else◌, Option, Some, None, eq-eqb, eqb-true, subst, map, get_or}
+use Rattle.std.proofs.Common.{◌≡◌, ℕ, ◌<◌, ◌≤◌, Bool, true, false, ◌&&◌, List, [], length, IsTrue, IsFalse, refl, ap, sym, ◌∙◌, arith, Option, Some, None, eq-eqb, eqb-true, subst, map, get_or}
 use Rattle.std.proofs.lemmas.Bool.{both_ways}
-use Rattle.std.proofs.lemmas.Bool.Decides.{nat_tests}
 use Rattle.std.proofs.lemmas.List.Sums.{get_or-le-sum_by}
 use Rattle.mt_model.specs.Laws.Registration.{IsRegistration}
-use Rattle.mt_model.specs.Lists.{Set, has, below, count, is_distinct, count_below}
+use Rattle.mt_model.specs.Lists.{has, below, count_below}
 use Rattle.mt_model.specs.Market.{Market, Program, Partners, Registered, applicants, program_of, list_of, couple_of, live}
 use Rattle.mt_model.specs.Matching.{Places, place_of, at, filled, is_program}
 use Rattle.mt_model.proofs.BelowFacts.{length-map_below, map_below_at}

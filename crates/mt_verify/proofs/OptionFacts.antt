@@ -1,9 +1,9 @@
 -- Options of singles and of couples, in the terms of their lists.
-use Rattle.std.proofs.Common.{◌≡◌, ℕ, Bool, true, false, not, ◌&&◌, ◌||◌, ◌==◌, List, [], ◌∷◌, map, is_some, Option, Some, None, IsTrue, IsFalse, ◌<◌, min, length, refl, ap, sym, ◌∙◌, eq-eqb, inl, inr, arith}
+use Rattle.std.proofs.Common.{◌≡◌, ℕ, Bool, true, false, not, ◌&&◌, ◌||◌, ◌==◌, is_some, Option, Some, None, ◌<◌, min, length, refl, ap, sym, ◌∙◌, eq-eqb, inl, inr, arith}
 use Rattle.std.specs.List.{list_any}
 use mathlib.Core.Path.{fun_ext}
-use Rattle.mt_model.specs.Market.{Market, Pair, Partners, list_of, couple_of, agent_of}
-use Rattle.mt_model.specs.Matching.{Places, place_of, is_program, is_same_place, holds, options, single_placement, couple_placement}
+use Rattle.mt_model.specs.Market.{Market, Pair, list_of, couple_of, agent_of}
+use Rattle.mt_model.specs.Matching.{Places, place_of, is_program, is_same_place, holds, single_placement, couple_placement}
 use Rattle.mt_model.specs.Stability.{has_own_option}
 use Rattle.mt_model.specs.Verdict.{lowest_number}
 use Rattle.mt_model.specs.declared.numbers.Agent.TheVariants.{Single, Couple}

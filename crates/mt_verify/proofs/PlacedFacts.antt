@@ -1,14 +1,13 @@
 -- Where the members of a set stand on a list: how many there are, and how many stand above another one.
-use Rattle.std.proofs.Common.{◌≡◌, ℕ, zero, suc, ◌+◌, ◌<◌, ◌≤◌, Bool, true, false, ◌==◌, nat_lt, List, [], ◌∷◌, ◌++◌, length, get_or, take, append-nil, Option, Some, None, IsTrue, IsFalse, refl, ap, sym, ◌∙◌, inl, inr, arith, if◌then◌else◌}
+use Rattle.std.proofs.Common.{◌≡◌, ℕ, zero, suc, ◌+◌, ◌<◌, ◌≤◌, Bool, ◌==◌, nat_lt, List, [], ◌∷◌, ◌++◌, length, get_or, take, append-nil, Option, Some, None, IsTrue, IsFalse, refl, ap, sym, ◌∙◌, inl, inr, arith, if◌then◌else◌}
 use Rattle.std.specs.List.{position}
 use Rattle.std.specs.Option.{option_eq}
 use Rattle.std.specs.List.Sorted.{IsNonDecreasing, IsPartitionPoint}
-use Rattle.std.proofs.lemmas.Bool.{cases_Bool, both_ways, le-ltb, lt-ltb, eqb-true}
-use Rattle.std.proofs.lemmas.Bool.Decides.{nat_tests}
+use Rattle.std.proofs.lemmas.Bool.{cases_Bool, le-ltb, lt-ltb}
 use Rattle.std.proofs.lemmas.List.{take_more, length-take}
 use Rattle.std.proofs.lemmas.List.Quantifiers.{position-Some}
 use Rattle.mt_model.specs.FlatLists.{with_last}
-use Rattle.mt_model.specs.Lists.{Set, has, until, count, above}
+use Rattle.mt_model.specs.Lists.{Set, until, count}
 use Rattle.mt_model.specs.Matching.{is_program}
 use Rattle.mt_verify.specs.Placed.{ranks_from}
 

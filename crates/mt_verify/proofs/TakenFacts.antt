@@ -1,18 +1,18 @@
 -- A program's choice by ranks, and how many stand above a rank where somebody was moved.
-use Rattle.std.proofs.Common.{◌≡◌, ◌≢◌, ℕ, zero, suc, ◌+◌, ◌<◌, ◌≤◌, Bool, true, false, not, ◌&&◌, ◌==◌, nat_lt, List, [], ◌∷◌, length, take, get_or, Option, Some, None, is_some, IsTrue, IsFalse, refl, ap, sym, ◌∙◌, subst, inl, inr, arith, eq-eqb, ne_eqb, eqb-true, if◌then◌else◌, slice_set, get_or-set_same, get_or-set_other, length-set}
+use Rattle.std.proofs.Common.{◌≡◌, ◌≢◌, ℕ, zero, suc, ◌+◌, ◌<◌, ◌≤◌, Bool, true, false, not, ◌==◌, nat_lt, List, [], ◌∷◌, length, take, get_or, Option, Some, None, is_some, IsTrue, IsFalse, refl, ap, sym, ◌∙◌, subst, inl, inr, arith, eq-eqb, ne_eqb, if◌then◌else◌, slice_set, get_or-set_same, get_or-set_other, length-set}
 use mir.Val.{bool_byte}
 use Rattle.std.specs.List.{position}
-use Rattle.std.proofs.lemmas.Bool.{cases_Bool, cases_eq, and_parts, and_from, or_left, both_ways, lt-ltb, le-ltb, true_from_ne_false, false_from_ne_true, not-true, not_from_false}
+use Rattle.std.proofs.lemmas.Bool.{cases_Bool, cases_eq, and_parts, and_from, or_left, both_ways, lt-ltb, le-ltb, false_from_ne_true, not-true, not_from_false}
 use Rattle.std.proofs.lemmas.Bool.Decides.{nat_tests}
 use Rattle.std.proofs.lemmas.List.{set_comm}
 use Rattle.std.proofs.lemmas.List.Quantifiers.{position-Some}
-use Rattle.mt_model.specs.Lists.{Set, has, until, count, above, is_distinct, with_one}
+use Rattle.mt_model.specs.Lists.{Set, has, until, count, is_distinct, with_one}
 use Rattle.mt_model.specs.Market.{Market, Program, program_of}
 use Rattle.mt_model.specs.Matching.{Places, at, is_program, send, couple_placement, single_placement}
 use Rattle.mt_model.specs.Choice.{choice}
 use Rattle.mt_model.specs.Stability.{would_be_taken, is_chosen}
 use Rattle.mt_model.proofs.ListLemmas.{count_agree, count_has, until-itself, above-with_one}
-use Rattle.mt_model.proofs.TakenLemmas.{single_taken_lem, at-slice_set_other}
+use Rattle.mt_model.proofs.TakenLemmas.{single_taken_lem}
 use Rattle.mt_ranks.proofs.Positions.{has-position}
 use Rattle.mt_verify.specs.Moved.{at_moved}
 use Rattle.mt_verify.proofs.PlacedFacts.{until_position}

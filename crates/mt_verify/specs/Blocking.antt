@@ -1,6 +1,5 @@
 -- Which agents block, by the numbers of those who lead them.
 use Rattle.std.specs.Prelude.{ℕ, ◌&&◌, Option, Some, None, if◌then◌else◌}
-use Rattle.std.specs.Option.{option_map}
 use Rattle.mt_model.specs.Market.{Market, agent_of, leads}
 use Rattle.mt_model.specs.Matching.{Places}
 use Rattle.mt_model.specs.Stability.{blocks}

@@ -1,5 +1,5 @@
 -- Who is at a program where one applicant was moved.
-use Rattle.std.specs.Prelude.{ℕ, ◌==◌, List, Option, take, if◌then◌else◌}
+use Rattle.std.specs.Prelude.{ℕ, ◌==◌, Option, take, if◌then◌else◌}
 use Rattle.mt_model.specs.Lists.{Set, count}
 use Rattle.mt_model.specs.Market.{Market, program_of}
 use Rattle.mt_model.specs.Matching.{Places, at, is_program}

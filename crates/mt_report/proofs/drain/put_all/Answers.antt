@@ -1,4 +1,4 @@
-use Rattle.std.proofs.Common.{arith, ◌+◌, ◌-◌, ◌≤◌, length, length-take, length-drop, take, drop}
+use Rattle.std.proofs.Common.{arith, ◌+◌, ◌-◌, ◌≤◌, length, length-take, length-drop, drop}
 use Rattle.std.proofs.lemmas.Bool.Decides.{nat_tests}
 use Rattle.mt_report.proofs.AppendsFacts.{Appends-then, take-front}
 use Rattle.mt_report.proofs.drain.put_all.Goals as goal

@@ -1,4 +1,4 @@
-use Rattle.std.proofs.Common.{◌≡◌, ◌+◌, ◌<◌, ◌≤◌, ℕ, Some, None, true, refl, arith, ap, sym, ◌∙◌, take, length, get_or, set, length-take}
+use Rattle.std.proofs.Common.{◌≡◌, ◌<◌, Some, None, refl, arith, ap, sym, ◌∙◌, take, get_or, length-take}
 use Rattle.std.specs.Prelude.{IsTrue}
 use Rattle.std.proofs.lemmas.Bool.Decides.{nat_tests}
 use Rattle.std.proofs.lemmas.List.{get_or_read_under, length-set, take_all}

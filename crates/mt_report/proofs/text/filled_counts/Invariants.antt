@@ -1,4 +1,4 @@
-use Rattle.std.proofs.Common.{◌≡◌, ℕ, ◌<◌, get_or, take, vec_len, length}
+use Rattle.std.proofs.Common.{◌≡◌, ℕ, ◌<◌, get_or, take, length}
 use Rattle.mt_model.specs.Matching.{filled}
 use Rattle.mt_report.proofs.text.filled_counts.Given as goal
 

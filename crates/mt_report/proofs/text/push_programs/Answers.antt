@@ -1,4 +1,4 @@
-use Rattle.std.proofs.Common.{◌≡◌, ◌<◌, ℕ, List, append_assoc, arith, ap, sym, ◌∙◌, length, get_or}
+use Rattle.std.proofs.Common.{◌≡◌, ◌<◌, ℕ, List, append_assoc, arith, ap, ◌∙◌, length, get_or}
 use Rattle.std.specs.List.{flat_map}
 use Rattle.mt_model.specs.Lists.{below}
 use Rattle.mt_model.specs.Matching.{filled}

@@ -1,8 +1,8 @@
-use Rattle.std.proofs.Common.{◌≡◌, ◌<◌, ◌≤◌, ◌-◌, ◌^◌, ◌∙◌, arith, ap, length, get_or}
+use Rattle.std.proofs.Common.{◌≡◌, ◌∙◌, arith, ap, length, get_or}
 use Rattle.std.specs.Prelude.{slice_index}
 use Rattle.mt_model.specs.Lists.{total_below}
 use Rattle.mt_model.specs.Matching.{filled}
-use Rattle.mt_model.specs.Text.{all_filled, positions, unmatched, totals_line}
+use Rattle.mt_model.specs.Text.{all_filled}
 use Rattle.mt_model.proofs.BelowFacts.{length-map_below, map_below_at}
 use Rattle.mt_report.proofs.CountFacts.{total_below-same}
 use Rattle.mt_report.proofs.text.push_totals.Goals as goal

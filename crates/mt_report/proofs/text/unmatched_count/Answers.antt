@@ -1,4 +1,4 @@
-use Rattle.std.proofs.Common.{◌≡◌, ◌∙◌, None, true, false, not, arith, ap, sym, get_or, take, ◌+◌}
+use Rattle.std.proofs.Common.{◌≡◌, ◌∙◌, None, not, arith, ap, sym, get_or, take, ◌+◌}
 use Rattle.mt_model.specs.Text.{unmatched}
 use Rattle.std.specs.Prelude.{is_some, if◌then◌else◌}
 use Rattle.mt_report.proofs.CountFacts.{read_place, unmatched_more, unmatched-le}

@@ -1,4 +1,4 @@
-use Rattle.std.proofs.Common.{ap, sym, ◌∙◌, ◌≡◌, ◌≤◌, ℕ, List, length, arith, ◌++◌, [], ◌∷◌, map}
+use Rattle.std.proofs.Common.{ap, sym, ◌∙◌, ℕ, List, length, arith, ◌++◌, [], ◌∷◌, map}
 use Rattle.std.proofs.lemmas.List.{map-append}
 use Rattle.mt_model.proofs.BelowFacts.{below_more}
 use Rattle.mt_model.specs.Lists.{below}

@@ -1,9 +1,9 @@
-use Rattle.std.proofs.Common.{◌≡◌, IsTrue, sym, ◌∙◌, arith, eq-eqb, ne_eqb}
-use Rattle.mt_model.specs.Market.{agent_of, couple_of, leads}
+use Rattle.std.proofs.Common.{◌≡◌, sym, ◌∙◌, arith}
+use Rattle.mt_model.specs.Market.{agent_of, couple_of}
 use Rattle.mt_model.specs.declared.numbers.Agent.TheVariants.{Single, Couple}
 use Rattle.mt_model.proofs.VerdictLemmas.{leads-Single, leads-first}
 use Rattle.mt_verify.proofs.OptionFacts.{single_is_itself, couple_is_there}
-use Rattle.mt_verify.proofs.BlockingFacts.{led_and_blocks, led_not_blocking, not_leading, leads-Couple}
+use Rattle.mt_verify.proofs.BlockingFacts.{led_and_blocks, led_not_blocking}
 use Rattle.mt_verify.proofs.verifier.Verifier.blocker_led_by.Goals as goal
 
 pub returns-in_err-option-in-Single : goal.returns-in_err-option-in-Single

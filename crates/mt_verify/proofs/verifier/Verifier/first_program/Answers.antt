@@ -1,4 +1,4 @@
-use Rattle.std.proofs.Common.{◌≡◌, ◌<◌, ◌==◌, length, get_or, IsTrue, IsFalse, sym, ap, ◌∙◌, arith, eq-eqb}
+use Rattle.std.proofs.Common.{◌≡◌, ◌==◌, length, get_or, IsTrue, IsFalse, sym, ap, ◌∙◌, arith, eq-eqb}
 use Rattle.std.proofs.lemmas.List.Folds.{list_any_at}
 use Rattle.mt_model.specs.Market.{list_of}
 use Rattle.mt_model.specs.Matching.{holds, single_placement}

@@ -1,6 +1,5 @@
 use Rattle.std.proofs.Common.{◌≡◌, min, sym, ◌∙◌, arith}
-use Rattle.mt_model.specs.Market.{agent_of, couple_of}
-use Rattle.mt_model.specs.declared.numbers.Agent.TheVariants.{Single, Couple}
+use Rattle.mt_model.specs.Market.{couple_of}
 use Rattle.mt_verify.proofs.OptionFacts.{is_off-Single, is_off-Couple, couple_is_there}
 use Rattle.mt_verify.proofs.verifier.Verifier.is_off_own_list.Goals as goal
 

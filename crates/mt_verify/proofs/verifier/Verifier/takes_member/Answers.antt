@@ -1,5 +1,5 @@
 use Rattle.std.proofs.Common.{◌<◌, length, sym, ◌∙◌, arith}
-use Rattle.mt_verify.proofs.TakenFacts.{member_ranked, member_unranked}
+use Rattle.mt_verify.proofs.TakenFacts.{member_ranked}
 use Rattle.mt_verify.proofs.verifier.Verifier.takes_member.Goals as goal
 
 pub returns-in-Some-rank : goal.returns-in-Some-rank

@@ -1,4 +1,4 @@
-use Rattle.std.proofs.Common.{◌≡◌, Bool, true, false, ◌&&◌, refl, sym, ap, ◌∙◌}
+use Rattle.std.proofs.Common.{◌≡◌, Bool, true, false, ◌&&◌, sym, ap, ◌∙◌}
 use Rattle.mt_model.specs.Matching.{Places}
 use Rattle.mt_model.specs.Stability.{is_chosen}
 use Rattle.mt_verify.proofs.TakenFacts.{send_both}

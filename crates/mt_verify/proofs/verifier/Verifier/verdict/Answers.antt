@@ -1,4 +1,4 @@
-use Rattle.std.proofs.Common.{◌≡◌, ◌==◌, None, sym, ap, ◌∙◌, arith, eq-eqb, ne_eqb}
+use Rattle.std.proofs.Common.{sym, ◌∙◌}
 use Rattle.mt_model.specs.Market.{applicants}
 use Rattle.mt_model.specs.Verdict.{is_unlisted}
 use Rattle.mt_model.proofs.VerdictLemmas.{none_found_below}
