@@ -10,3 +10,5 @@ pub mod RegisterFacts
 pub mod PassFacts
 pub mod UnknownFacts
 pub mod ReadFacts
+pub mod IdBounds
+pub mod FaultFacts

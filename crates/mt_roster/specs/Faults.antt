@@ -1,17 +1,23 @@
 -- What an error of the roster tells of a file.
-use Rattle.std.specs.Prelude.{◌≡◌, Result, Err}
+use Rattle.std.specs.Prelude.{◌≡◌, ◌≤◌, length, Result, Err}
 use Rattle.mt_model.specs.Market.{Registered}
 use Rattle.mt_model.specs.Registration.Faults.{Fault}
 use Rattle.mt_roster.specs.declared.fault.RosterError.{RosterError}
 use Rattle.mt_roster.specs.declared.fault.RosterError.TheVariants as errors
 use Rattle.mt_roster.specs.declared.refusal.Refusal.{Refusal}
-use Rattle.mt_roster.specs.Refusals.{Refuses}
+use Rattle.mt_roster.specs.declared.refusal.Refusal.TheVariants as refusals
 
 -- a fault is the file's first one; want of memory tells nothing
 abbrev pub Tells : RosterError → Result Registered Fault → Type 0
 Tells (errors.Fault f) market = market ≡ Err (record { code = f.code; row = f.row; id = f.id })
 Tells errors.Memory market = Unit {0}
 
--- what a refusal says of a file, the error says of it
+-- a refusal as an error: the same fault, with the bytes of its id, or want of memory
 abbrev pub IsErrorOf : Refusal → RosterError → Type 0
-IsErrorOf refusal error = (market : Result Registered Fault) → Refuses refusal market → Tells error market
+IsErrorOf (refusals.Fault f) error = error ≡ errors.Fault (record { code = f.code; row = f.row; id = f.id.now })
+IsErrorOf refusals.Memory error = error ≡ errors.Memory
+
+-- a refusal whose id, if it has one, fits an id text
+abbrev pub HasShortId : Refusal → Type 0
+HasShortId (refusals.Fault f) = length f.id.now ≤ 64
+HasShortId refusals.Memory = Unit {0}

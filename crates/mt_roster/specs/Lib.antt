@@ -9,3 +9,4 @@ pub mod Passes
 pub mod Unknown
 pub mod Faults
 pub mod Read
+pub mod Laws

@@ -1,8 +1,9 @@
-ghost use Rattle.std.specs.Prelude.{◌≡◌, ◌≤◌, length, IfSome};
-ghost use Rattle.mt_roster.specs.Faults.{IsErrorOf};
+ghost use Rattle.std.specs.Prelude.{◌≡◌, ◌≤◌, length};
+ghost use Rattle.mt_roster.specs.Faults.{HasShortId, IsErrorOf};
 
 use crate::refusal::{Fault, Refusal};
 use std::marker::Model;
+use thiserror::Error;
 
 /// An id, or no byte where there is none. It has 64 bytes at most.
 #[derive(Debug, Drop)]
@@ -34,19 +35,17 @@ impl IdText {
         }
     }
 
-    /// A copy of an id, if it has 64 bytes at most.
-    pub(crate) fn new(id: &[u8]) -> Option<Self>
-        ensures { IfSome result (λ text. text ≡ id.now) }
+    /// A copy of an id that has 64 bytes at most.
+    pub(crate) fn new(id: &[u8]) -> Self
+        requires { length id.now ≤ 64 }
+        ensures { result ≡ id.now }
     {
-        if id.len() > 64 {
-            return None;
-        }
         let mut bytes = [0; 64];
         bytes[..id.len()].copy_from_slice(id);
-        Some(IdText {
+        IdText {
             bytes,
             len: id.len(),
-        })
+        }
     }
 
     /// The id's bytes: none where there is no id.
@@ -68,28 +67,27 @@ pub struct RosterFault {
 }
 
 /// Why a file's records give no market.
-#[derive(Debug, Drop)]
+#[derive(Debug, Drop, Error)]
 pub enum RosterError {
     /// The file has this fault first.
+    #[error("a fault in the records")]
     Fault(RosterFault),
     /// Memory was refused.
+    #[error("out of memory")]
     Memory,
 }
 
 /// The error that a refusal is, with an id of its own.
 pub(crate) fn error_of(refusal: &Refusal<'_>) -> RosterError
+    requires { HasShortId refusal.now }
     ensures { IsErrorOf refusal.now result }
 {
-    let Refusal::Fault(fault) = refusal else {
-        return RosterError::Memory;
-    };
-    match IdText::new(fault.id) {
-        Some(id) => RosterError::Fault(RosterFault {
-            code: fault.code,
-            row: fault.row,
-            id,
+    match refusal {
+        Refusal::Fault(Fault { code, row, id }) => RosterError::Fault(RosterFault {
+            code: *code,
+            row: *row,
+            id: IdText::new(id),
         }),
-        // No id of a fault is longer than 64 bytes.
-        None => RosterError::Memory,
+        Refusal::Memory => RosterError::Memory,
     }
 }

@@ -6,6 +6,7 @@ mod fields;
 mod first_pass;
 mod id_table;
 mod ids;
+pub mod laws;
 mod numbering;
 mod reading;
 mod record;
@@ -15,6 +16,8 @@ mod repeats;
 mod rules;
 mod second_pass;
 mod tables;
+#[cfg(test)]
+mod tests;
 mod unknown;
 
 pub use fault::{IdText, RosterError, RosterFault};

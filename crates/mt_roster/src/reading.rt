@@ -60,6 +60,7 @@ fn read(alloc: Global, rows: &[Row]) -> Result<Roster, Refusal<'_>>
 
 /// The roster of a file's records: of the market that they are, or their first fault. A record is a list of fields
 /// without its trailing empty ones; records are counted from 1, and one without a field is passed over.
+#[tactic(auto, using(crate::proofs::FaultFacts::has_short_id, crate::proofs::FaultFacts::tells))]
 pub fn roster(alloc: Global, rows: &[Row]) -> Result<Roster, RosterError>
     ensures market { IfOk result (λ roster. market_of rows.now ≡ Ok roster) }
     ensures fault { IfErr result (λ error. Tells error (market_of rows.now)) }

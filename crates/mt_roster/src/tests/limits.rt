@@ -1,0 +1,127 @@
+//! The limits of the two versions.
+use crate::roster;
+use crate::tests::{gives, is_refused};
+use mt_lists::records;
+use std::alloc::Global;
+use std::test::Fail;
+
+const BYTES_32: &str = "abcdefghijklmnopqrstuvwxyz012345";
+
+const BYTES_64: &str = "abcdefghijklmnopqrstuvwxyz012345abcdefghijklmnopqrstuvwxyz01234.";
+
+#[test]
+fn ids_of_each_version(rt: HostRuntime) -> Result<(), Fail> {
+    for (version, id) in [(1, BYTES_32), (2, BYTES_32), (2, BYTES_64)] {
+        let file = format!(in rt.alloc(); "match,{version}\napplicant,{id}\n")?;
+        let market = format!(in rt.alloc(); "applicant {id} single 0:\n")?;
+        assert!(rt; gives(rt.alloc(), &file, &market)?, "{file}");
+        let twice = format!(in rt.alloc(); "{file}applicant,{id}\n")?;
+        assert!(rt; is_refused(rt.alloc(), &twice, (17, 3, id))?, "{twice}");
+    }
+    for (version, id) in [(1, BYTES_32), (2, BYTES_64)] {
+        let file = format!(in rt.alloc(); "match,{version}\napplicant,{id}6\n")?;
+        assert!(rt; is_refused(rt.alloc(), &file, (15, 2, ""))?, "{file}");
+    }
+    let file = format!(in rt.alloc(); "match,1\napplicant,{BYTES_64}\n")?;
+    assert!(rt; is_refused(rt.alloc(), &file, (15, 2, ""))?);
+    Ok(())
+}
+
+// Adds a line for each number from 1 to a count: the words before the number, the number, and those after it.
+fn add_lines(
+    alloc: Global,
+    file: &mut String,
+    before: &str,
+    count: u32,
+    after: &str,
+) -> Result<(), Fail> {
+    for number in 1..=count {
+        file.push_str(&format!(in alloc; "{before}{number}{after}\n")?)?;
+    }
+    Ok(())
+}
+
+// A program more than 20,000 is told with its record and id, but not before what comes earlier in the order of codes.
+#[test]
+fn one_program_too_many(rt: HostRuntime) -> Result<(), Fail> {
+    let mut file = String::new(rt.alloc());
+    file.push_str("match,1\n")?;
+    add_lines(rt.alloc(), &mut file, "program,p", 20_000, ",0")?;
+    let rows = records(rt.alloc(), file.as_bytes())?;
+    assert_eq!(rt; roster(rt.alloc(), &rows)?.programs(), 20_000);
+    for (last, fault) in [
+        ("program,p20001,0", (19, 20_002, "p20001")),
+        ("program,q,1,a,a", (18, 20_002, "q")),
+        ("program,p9,1", (17, 20_002, "p9")),
+        ("program,q,x", (16, 20_002, "q")),
+        ("applicant,a,q", (21, 20_002, "q")),
+    ] {
+        let longer = format!(in rt.alloc(); "{file}{last}\n")?;
+        assert!(rt; is_refused(rt.alloc(), &longer, fault)?, "{last}");
+    }
+    Ok(())
+}
+
+// A withdrawn program counts.
+#[test]
+fn limits_are_judged_before_withdrawals(rt: HostRuntime) -> Result<(), Fail> {
+    let mut file = String::new(rt.alloc());
+    file.push_str("match,2\nwithdraw,program,p1\n")?;
+    add_lines(rt.alloc(), &mut file, "program,p", 20_001, ",0")?;
+    assert!(rt; is_refused(rt.alloc(), &file, (19, 20_003, "p20001"))?);
+    Ok(())
+}
+
+#[test]
+fn one_couple_too_many(rt: HostRuntime) -> Result<(), Fail> {
+    let mut file = String::new(rt.alloc());
+    file.push_str("match,1\n")?;
+    for number in 1..=10_000 {
+        file.push_str(&format!(in rt.alloc(); "couple,c{number},a{number},b{number}\n")?)?;
+    }
+    let rows = records(rt.alloc(), file.as_bytes())?;
+    let all = roster(rt.alloc(), &rows)?;
+    assert_eq!(rt; (all.couples(), all.applicants()), (10_000, 20_000));
+    file.push_str("couple,c,a,b\n")?;
+    assert!(rt; is_refused(rt.alloc(), &file, (19, 10_002, "c"))?);
+    Ok(())
+}
+
+// A couple is two applicants.
+#[test]
+fn one_applicant_too_many(rt: HostRuntime) -> Result<(), Fail> {
+    let mut file = String::new(rt.alloc());
+    file.push_str("match,1\n")?;
+    add_lines(rt.alloc(), &mut file, "applicant,a", 99_999, "")?;
+    let couple = format!(in rt.alloc(); "{file}couple,c,a,b\n")?;
+    assert!(rt; is_refused(rt.alloc(), &couple, (19, 100_001, "c"))?);
+    file.push_str("applicant,a\n")?;
+    let rows = records(rt.alloc(), file.as_bytes())?;
+    assert_eq!(rt; roster(rt.alloc(), &rows)?.applicants(), 100_000);
+    file.push_str("applicant,b\n")?;
+    assert!(rt; is_refused(rt.alloc(), &file, (19, 100_002, "b"))?);
+    Ok(())
+}
+
+// Each of 40 programs lists 100,000 applicants, none of whom is registered: 4,000,000 entries. So the first pass takes
+// them, and the second misses the first of them. With one entry more version 1 has too many, and version 2 not yet.
+#[test]
+fn one_entry_too_many(rt: HostRuntime) -> Result<(), Fail> {
+    let mut list = String::new(rt.alloc());
+    for number in 1..=100_000 {
+        list.push_str(&format!(in rt.alloc(); ",{number}")?)?;
+    }
+    let mut programs = String::new(rt.alloc());
+    for number in 1..=40 {
+        programs.push_str(&format!(in rt.alloc(); "program,p{number},0{list}\n")?)?;
+    }
+    for (version, last, fault) in [
+        (1, "applicant,a", (20, 2, "1")),
+        (1, "applicant,a,p1", (19, 42, "a")),
+        (2, "applicant,a,p1", (20, 2, "1")),
+    ] {
+        let file = format!(in rt.alloc(); "match,{version}\n{programs}{last}\n")?;
+        assert!(rt; is_refused(rt.alloc(), &file, fault)?, "{version}: {last}");
+    }
+    Ok(())
+}
