@@ -10,3 +10,6 @@ pub mod RegisterFacts
 pub mod PassFacts
 pub mod UnknownFacts
 pub mod ReadFacts
+pub mod KeptFacts
+pub mod PlainFacts
+pub mod MarkFacts

@@ -7,6 +7,7 @@ mod first_pass;
 mod id_table;
 mod ids;
 mod numbering;
+mod plain;
 mod reading;
 mod record;
 mod refusal;
