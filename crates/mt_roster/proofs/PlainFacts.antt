@@ -1,5 +1,5 @@
 -- The passes over records that are plain.
-use Rattle.std.proofs.Common.{◌≡◌, ℕ, ◌+◌, ◌*◌, ◌<◌, ◌≤◌, Bool, true, false, List, [], ◌∷◌, ◌++◌, map, filter_map, flat_map, length, Option, Some, None, Result, Ok, Err, refl, ap, sym, ◌∙◌, arith, subst, drop, get_or, Bor}
+use Rattle.std.proofs.Common.{◌≡◌, ℕ, ◌+◌, ◌<◌, ◌≤◌, Bool, true, false, List, [], ◌∷◌, ◌++◌, length, Option, Some, None, Result, Ok, Err, refl, ap, sym, ◌∙◌, arith, subst, drop, get_or, Bor}
 use Rattle.std.specs.Prelude.{filter, option_map, sum_by, is_some, IfSome}
 use Rattle.std.specs.Bool.{then_some}
 use Rattle.std.specs.Option.{option_map_or, option_copied}
@@ -9,7 +9,7 @@ use Rattle.std.proofs.lemmas.List.{map-append}
 use Rattle.std.proofs.lemmas.List.Folds.{list_all-append}
 use Rattle.mt_model.specs.Registration.{market_under}
 use Rattle.mt_model.specs.Registration.Ids.{Bytes}
-use Rattle.mt_model.specs.Registration.Faults.{Charge, Fault, charge, fault_at, duplicate_id}
+use Rattle.mt_model.specs.Registration.Faults.{Charge, charge, fault_at, duplicate_id}
 use Rattle.mt_model.specs.Registration.Records.{Rules, Record, ProgramRecord, ApplicantRecord, CoupleRecord, WithdrawRecord, Kind, OfProgram, OfApplicant, OfCouple, record_of}
 use Rattle.mt_model.specs.Registration.Rows.{ids_of, applicant_ids, withdrawn, withdrawn_id, remaining, entry_count}
 use Rattle.mt_model.specs.Registration.Passes.{Numbered, contents, numbered_from, first_of, on_result, registered_before, says_twice, are_too_many, clash, next_record, first_pass, second_pass}
@@ -18,7 +18,7 @@ use Rattle.mt_roster.specs.declared.register.Numbered as declared
 use Rattle.mt_roster.specs.declared.register.Kinds.{Kinds}
 use Rattle.mt_roster.specs.declared.register.Register.{Register}
 use Rattle.mt_roster.specs.Entries.{AreEntries}
-use Rattle.mt_roster.specs.Numbered.{all_seen, stays_without, registered_by_all, ranking_in, lists_by, pairs_in}
+use Rattle.mt_roster.specs.Numbered.{all_seen, stays_without, registered_by_all}
 use Rattle.mt_roster.specs.Registers.{records_seen, contents_seen, ids_in, withdraws_twice, IsRegister}
 use Rattle.mt_roster.specs.Plain.{is_plain, lists_once, IsPlainFront, GoesOn, AreWhole}
 use Rattle.mt_roster.proofs.KeptFacts.{kept_of, kept_sum, AllKept, all_kept, once_all, second_none}

@@ -1,5 +1,5 @@
 -- The reading of records whose lists are looked through only once all ids are registered.
-use Rattle.std.specs.Prelude.{◌≡◌, ◌≢◌, ◌==◌, ℕ, ◌+◌, ◌*◌, ◌<◌, ◌≤◌, Bool, true, false, List, [], ◌∷◌, length, sum_by, slice_index_or, slice_set, bytes_eq, Ok}
+use Rattle.std.specs.Prelude.{◌≡◌, ◌≢◌, ◌==◌, ℕ, ◌+◌, ◌*◌, ◌<◌, ◌≤◌, Bool, true, false, List, [], length, sum_by, slice_index_or, slice_set, bytes_eq, Ok}
 use Rattle.std.specs.List.{list_all}
 use Rattle.mt_model.specs.Market.{Registered}
 use Rattle.mt_model.specs.Registration.{market_under}

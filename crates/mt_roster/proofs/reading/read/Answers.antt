@@ -1,4 +1,4 @@
-use Rattle.std.proofs.Common.{sym, ap, arith, ◌∙◌, Some, Ok, Err}
+use Rattle.std.proofs.Common.{sym, ap, arith, ◌∙◌, Ok, Err}
 use Rattle.std.specs.Prelude.{option_map}
 use Rattle.std.specs.Option.{option_map_or}
 use Rattle.mt_model.specs.Registration.Numbering.{registered}
