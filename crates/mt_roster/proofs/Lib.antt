@@ -12,3 +12,6 @@ pub mod UnknownFacts
 pub mod ReadFacts
 pub mod IdBounds
 pub mod FaultFacts
+pub mod KeptFacts
+pub mod PlainFacts
+pub mod MarkFacts

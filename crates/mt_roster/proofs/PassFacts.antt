@@ -93,16 +93,16 @@ module _ (before : List Record) where
 not_above : (limit most n : ℕ) → limit ≤ most → nat_lt limit n ≡ false → n ≤ most
 not_above limit most n h k = grind (arith, nat_tests)
 
--- the records with one that doesn't clash
-pub sound_more : (rules : Rules) (before : List Record) (r : Record) → AreBounded rules.limits → AreSound before → IsAccepted rules before r → AreSound (before ++ r ∷ [])
-sound_more rules before r bound s a =
-    let p = neither _ (nat_lt rules.limits.entries (entry_count (before ++ r ∷ []))) a.few in
+-- the records with one of which no id is registered, and that are not too many
+pub sound_more : (rules : Rules) (before : List Record) (r : Record) → AreBounded rules.limits → AreSound before → registered_before before r ≡ None → are_too_many rules.limits (before ++ r ∷ []) ≡ false → AreSound (before ++ r ∷ [])
+sound_more rules before r bound s new few =
+    let p = neither _ (nat_lt rules.limits.entries (entry_count (before ++ r ∷ []))) few in
     let q = neither _ (nat_lt rules.limits.couples (length (ids_of OfCouple (before ++ r ∷ [])))) p.0 in
     let t = neither (nat_lt rules.limits.applicants (length (applicant_ids (before ++ r ∷ [])))) (nat_lt rules.limits.programs (length (ids_of OfProgram (before ++ r ∷ [])))) q.0 in
     record {
-      programs_differ = new_programs before r s.programs_differ a.new;
-      couples_differ = new_couples before r s.couples_differ a.new;
-      applicants_differ = new_applicants before r s.applicants_differ a.new;
+      programs_differ = new_programs before r s.programs_differ new;
+      couples_differ = new_couples before r s.couples_differ new;
+      applicants_differ = new_applicants before r s.applicants_differ new;
       few_programs = not_above _ _ _ bound.programs t.1;
       few_couples = not_above _ _ _ bound.couples q.1;
       few_applicants = not_above _ _ _ bound.applicants t.0;

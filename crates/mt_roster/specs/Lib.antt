@@ -4,9 +4,11 @@ pub mod Fields
 pub mod Records
 pub mod Refusals
 pub mod Numbered
+pub mod Entries
 pub mod Registers
 pub mod Passes
 pub mod Unknown
 pub mod Faults
 pub mod Read
 pub mod Laws
+pub mod Plain

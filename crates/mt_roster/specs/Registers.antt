@@ -1,6 +1,6 @@
 -- What a register's tables say of its records.
-use Rattle.std.specs.Prelude.{◌≡◌, ◌≤◌, true, List, [], ◌∷◌, ◌++◌, length, map, bytes_eq, option_to_list}
-use Rattle.mt_model.specs.Registration.Ids.{Bytes, all_differ}
+use Rattle.std.specs.Prelude.{◌≡◌, ◌≤◌, Bool, true, false, List, [], ◌∷◌, ◌++◌, length, map, bytes_eq, option_to_list}
+use Rattle.mt_model.specs.Registration.Ids.{Bytes, has_id, all_differ}
 use Rattle.mt_model.specs.declared.limits.Limits.{Limits}
 use Rattle.mt_model.specs.Registration.Records as model
 use Rattle.mt_model.specs.Registration.Rows.{own_id, withdrawn_id, applicants_of, ids_of, withdrawn, applicant_ids, entry_count}
@@ -24,6 +24,11 @@ abbrev pub ids_in : Kinds → model.Kind → List Bytes
 ids_in k model.OfProgram = k.programs
 ids_in k model.OfApplicant = k.applicants
 ids_in k model.OfCouple = k.couples
+
+-- whether a record withdraws what was withdrawn before
+abbrev pub withdraws_twice : List model.Record → model.Record → Bool
+withdraws_twice before (model.WithdrawRecord kind id) = has_id (withdrawn kind before) id
+withdraws_twice before _ = false
 
 -- No id is registered twice, and no more of anything than an input may have.
 pub record AreSound (rs : List model.Record) : Type 0 where

@@ -8,6 +8,7 @@ mod id_table;
 mod ids;
 pub mod laws;
 mod numbering;
+mod plain;
 mod reading;
 mod record;
 mod refusal;

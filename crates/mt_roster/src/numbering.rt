@@ -12,6 +12,7 @@ ghost use Rattle.mt_model.specs.Laws.Registration.{IsRegistration};
 ghost use Rattle.mt_roster.specs.Records.{kind_seen, record_seen};
 ghost use Rattle.mt_roster.specs.Registers.{contents_seen, IsRegister};
 ghost use Rattle.mt_roster.specs.Numbered.{all_seen, stays_without, number_in, place_in, pair_in, with_more, quota_in, ranking_in, lists_by, members_in, pairs_in, bare_couples, registered_by_all};
+ghost use Rattle.mt_roster.specs.Entries.{AreEntries};
 
 use crate::fields::{Ids, Pairs};
 use crate::id_table::IdTable;
@@ -359,6 +360,58 @@ fn agents(alloc: Global, count: usize, members: &[(AppNo, AppNo)]) -> Result<Vec
     Ok(agents)
 }
 
+/// The lists of records by numbers.
+#[derive(Drop)]
+pub(crate) struct Entries {
+    pub(crate) rankings: FlatLists<AppNo>,
+    pub(crate) lists: FlatLists<ProgNo>,
+    pub(crate) pairs: FlatLists<(Option<ProgNo>, Option<ProgNo>)>,
+}
+
+/// The lists of records by the numbers of these programs and applicants: what is none of them leaves its list.
+pub(crate) fn entries_of(
+    alloc: Global,
+    programs: &IdTable<'_>,
+    applicants: &IdTable<'_>,
+    records: &[Numbered<'_>],
+) -> Result<Entries, AllocError>
+    requires few_programs { length programs.now < 2 ^ 32 }
+    requires few_applicants { length applicants.now < 2 ^ 32 }
+    ensures { IfOk result (λ entries. AreEntries programs.now applicants.now (all_seen records.now) entries) }
+{
+    Ok(Entries {
+        rankings: rankings(alloc, applicants, records)?,
+        lists: lists(alloc, programs, records)?,
+        pairs: pairs(alloc, programs, records)?,
+    })
+}
+
+/// The market of records none of which is withdrawn, by the ids of its applicants and by its lists.
+pub(crate) fn with_entries(
+    alloc: Global,
+    applicants: &IdTable<'_>,
+    records: &[Numbered<'_>],
+    entries: Entries,
+) -> Result<Roster, AllocError>
+    requires market { IsRegistration (registered_by_all (all_seen records.now)) }
+    requires applicants { applicants.now ≡ applicant_ids (all_seen records.now) }
+    requires entries { AreEntries (ids_of OfProgram (all_seen records.now)) (applicant_ids (all_seen records.now)) (all_seen records.now) entries }
+    ensures { IfOk result (λ roster. roster ≡ registered_by_all (all_seen records.now)) }
+{
+    let members = members(alloc, applicants, records)?;
+    Ok(Roster {
+        quotas: quotas(alloc, records)?,
+        rankings: entries.rankings,
+        lists: entries.lists,
+        agents: agents(alloc, applicants.len(), &members)?,
+        members,
+        pairs: entries.pairs,
+        program_ids: names_of_kind(alloc, Kind::Program, records)?,
+        applicant_ids: applicant_names(alloc, records)?,
+        couple_ids: names_of_kind(alloc, Kind::Couple, records)?,
+    })
+}
+
 /// The market of records none of which is withdrawn.
 fn tables(alloc: Global, records: &[Numbered<'_>]) -> Result<Roster, AllocError>
     requires { IsRegistration (registered_by_all (all_seen records.now)) }
@@ -366,18 +419,8 @@ fn tables(alloc: Global, records: &[Numbered<'_>]) -> Result<Roster, AllocError>
 {
     let programs = program_table(alloc, records)?;
     let applicants = applicant_table(alloc, records)?;
-    let members = members(alloc, &applicants, records)?;
-    Ok(Roster {
-        quotas: quotas(alloc, records)?,
-        rankings: rankings(alloc, &applicants, records)?,
-        lists: lists(alloc, &programs, records)?,
-        agents: agents(alloc, applicants.len(), &members)?,
-        members,
-        pairs: pairs(alloc, &programs, records)?,
-        program_ids: names_of_kind(alloc, Kind::Program, records)?,
-        applicant_ids: applicant_names(alloc, records)?,
-        couple_ids: names_of_kind(alloc, Kind::Couple, records)?,
-    })
+    let entries = entries_of(alloc, &programs, &applicants, records)?;
+    with_entries(alloc, &applicants, records, entries)
 }
 
 /// The market of the records that were read, after their withdrawals, where they have no fault.

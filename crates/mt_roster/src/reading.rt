@@ -8,6 +8,7 @@ ghost use Rattle.mt_roster.specs.Read.{NamesNoVersion, same};
 use crate::fault::{RosterError, error_of};
 use crate::first_pass::first_pass;
 use crate::numbering::roster_of;
+use crate::plain::read_plain;
 use crate::refusal::{Fault, Refusal};
 use crate::rules::rules_of;
 use crate::tables::Roster;
@@ -51,6 +52,9 @@ fn read(alloc: Global, rows: &[Row]) -> Result<Roster, Refusal<'_>>
     let Some(rules) = rules_of(&rows[blanks]) else {
         return Err(no_version(blanks as u64 + 1));
     };
+    if let Some(roster) = read_plain(alloc, &rules, rows, blanks + 1)? {
+        return Ok(roster);
+    }
     let register = first_pass(alloc, &rules, rows, blanks + 1)?;
     if let Some(fault) = register.second_pass() {
         return Err(Refusal::Fault(fault));

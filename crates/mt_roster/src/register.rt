@@ -3,7 +3,7 @@ ghost use Rattle.std.specs.Option.{option_copied};
 ghost use Rattle.mt_model.specs.Registration.Ids.{has_id};
 ghost use Rattle.mt_model.specs.Registration.Passes.{first_in, registered_before, says_twice, are_too_many, clash};
 ghost use Rattle.mt_roster.specs.Records.{kind_seen, record_seen, charge_seen};
-ghost use Rattle.mt_roster.specs.Registers.{records_seen, contents_seen, ids_in, AreSound, IsRegister, AddsId, AddsRecord};
+ghost use Rattle.mt_roster.specs.Registers.{records_seen, contents_seen, ids_in, withdraws_twice, AreSound, IsRegister, AddsId, AddsRecord};
 
 use crate::id_table::IdTable;
 use crate::record::{Charge, Kind, Record};
@@ -100,7 +100,7 @@ impl<'a> Register<'a> {
     }
 
     /// The first id of a record, in the order own, first member, second member, that is registered already.
-    fn registered_before(&self, record: &Record<'a>) -> Option<&'a [u8]>
+    pub(crate) fn registered_before(&self, record: &Record<'a>) -> Option<&'a [u8]>
         requires { IsRegister self.now }
         ensures { option_copied result ≡ registered_before (contents_seen self.now) (record_seen record.now) }
     {
@@ -141,7 +141,7 @@ impl<'a> Register<'a> {
     }
 
     /// Whether the records with this one are more than a version takes.
-    fn are_too_many(&self, limits: &Limits, record: &Record<'a>) -> bool
+    pub(crate) fn are_too_many(&self, limits: &Limits, record: &Record<'a>) -> bool
         requires { IsRegister self.now }
         ensures { result ≡ are_too_many limits.now (contents_seen self.now ++ record_seen record.now ∷ []) }
     {
@@ -187,7 +187,7 @@ impl<'a> Register<'a> {
     fn push_ids(&mut self, record: &Record<'a>) -> Result<(), AllocError>
         requires register { IsRegister self.old }
         requires new { registered_before (contents_seen self.old) (record_seen record.now) ≡ None }
-        requires once { says_twice (contents_seen self.old) (record_seen record.now) ≡ false }
+        requires once { withdraws_twice (contents_seen self.old) (record_seen record.now) ≡ false }
         ensures { OnOk result (AddsRecord self.old self.new (record_seen record.now)) }
     {
         match record {
@@ -211,11 +211,11 @@ impl<'a> Register<'a> {
         Ok(())
     }
 
-    /// Adds a record that doesn't clash with those before it.
+    /// Adds a record of which no id is registered and that withdraws nothing again.
     pub(crate) fn push(&mut self, row: u64, next: Record<'a>) -> Result<(), AllocError>
         requires register { IsRegister self.old }
         requires new { registered_before (contents_seen self.old) (record_seen next) ≡ None }
-        requires once { says_twice (contents_seen self.old) (record_seen next) ≡ false }
+        requires once { withdraws_twice (contents_seen self.old) (record_seen next) ≡ false }
         requires sound { AreSound (contents_seen self.old ++ record_seen next ∷ []) }
         ensures register { OnOk result (IsRegister self.new) }
         ensures records { OnOk result (records_seen self.new ≡ records_seen self.old ++ (row, record_seen next.entry) ∷ []) }

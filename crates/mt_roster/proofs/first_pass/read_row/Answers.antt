@@ -1,5 +1,6 @@
 use Rattle.mt_roster.specs.Records.{record_seen}
 use Rattle.mt_roster.specs.Registers.{contents_seen}
+use Rattle.mt_roster.proofs.PlainFacts.{once_said}
 use Rattle.mt_roster.proofs.PassFacts.{IsAccepted, is_accepted, sound_more}
 use Rattle.mt_roster.proofs.first_pass.read_row.Goals as goal
 
@@ -10,7 +11,7 @@ pub push-requires-clause-new : goal.push-requires-clause-new
 push-requires-clause-new c = (accepted c).new
 
 pub push-requires-clause-once : goal.push-requires-clause-once
-push-requires-clause-once c = (accepted c).once
+push-requires-clause-once c = once_said (contents_seen c.args.register.now) (record_seen c.in_ok-next.next) (accepted c).once
 
 pub push-requires-clause-sound : goal.push-requires-clause-sound
-push-requires-clause-sound c = sound_more c.args.rules.now (contents_seen c.args.register.now) (record_seen c.in_ok-next.next) c.requires.limits c.requires.register.sound (accepted c)
+push-requires-clause-sound c = sound_more c.args.rules.now (contents_seen c.args.register.now) (record_seen c.in_ok-next.next) c.requires.limits c.requires.register.sound (accepted c).new (accepted c).few

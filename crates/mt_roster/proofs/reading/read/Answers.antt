@@ -1,12 +1,18 @@
-use Rattle.std.proofs.Common.{sym, ap, arith, ◌∙◌, Some, Ok, Err}
+use Rattle.std.proofs.Common.{sym, ap, arith, ◌∙◌, Ok, Err}
 use Rattle.std.specs.Prelude.{option_map}
 use Rattle.std.specs.Option.{option_map_or}
 use Rattle.mt_model.specs.Registration.Numbering.{registered}
 use Rattle.mt_model.proofs.PassFacts.{accepted_is_registration_lem}
 use Rattle.mt_roster.specs.Refusals.{fault_seen}
 use Rattle.mt_roster.specs.Registers.{records_seen, contents_seen}
-use Rattle.mt_roster.proofs.ReadFacts.{market_by}
+use Rattle.mt_roster.proofs.ReadFacts.{market_at, market_by}
 use Rattle.mt_roster.proofs.reading.read.Goals as goal
+
+pub read_plain-requires-clause-accepted : goal.read_plain-requires-clause-accepted
+read_plain-requires-clause-accepted c = λ r h.
+    accepted_is_registration_lem c.args.rows.now r
+    (market_at c.args.rows.now c.blank_rows-blanks.result c.index-rows-blanks.result c.in-Some.rules
+    (omega arith) c.index-rows-blanks.is (c.blank_rows-blanks.ensures.stops (omega arith)) c.blank_rows-blanks.ensures.skipped (sym c.rules_of.ensures ∙ c.in-Some.is) ∙ h)
 
 pub returns-in-Some-second_pass : goal.returns-in-Some-second_pass
 returns-in-Some-second_pass c =

@@ -1,0 +1,52 @@
+-- The reading of records whose lists are looked through only once all ids are registered.
+use Rattle.std.specs.Prelude.{◌≡◌, ◌≢◌, ◌==◌, ℕ, ◌+◌, ◌*◌, ◌<◌, ◌≤◌, Bool, true, false, List, [], length, sum_by, slice_index_or, slice_set, bytes_eq, Ok}
+use Rattle.std.specs.List.{list_all}
+use Rattle.mt_model.specs.Market.{Registered}
+use Rattle.mt_model.specs.Registration.{market_under}
+use Rattle.mt_model.specs.Registration.Ids.{Bytes, all_differ}
+use Rattle.mt_model.specs.Registration.Records.{Rules, Record, ProgramRecord, ApplicantRecord, CoupleRecord, WithdrawRecord}
+use Rattle.mt_model.specs.Registration.Passes.{Numbered, is_same_pair, first_pass}
+use Rattle.mt_model.specs.Registration.Rows.{entry_count}
+use Rattle.mt_model.specs.Laws.Registration.{IsRegistration}
+use Rattle.mt_roster.specs.declared.numbering.Entries.{Entries}
+use Rattle.mt_roster.specs.declared.register.Register.{Register}
+use Rattle.mt_roster.specs.Registers.{records_seen, contents_seen, IsRegister}
+
+-- whether a record withdraws nothing and, if it is a couple's, has no pair twice
+abbrev pub is_plain : Record → Bool
+is_plain (CoupleRecord id a b pairs) = all_differ is_same_pair pairs
+is_plain (WithdrawRecord kind id) = false
+is_plain _ = true
+
+-- whether no id stands twice in the list of a program or of a single
+abbrev pub lists_once : Record → Bool
+lists_once (ProgramRecord id quota list) = all_differ bytes_eq list
+lists_once (ApplicantRecord id list) = all_differ bytes_eq list
+lists_once _ = true
+
+-- Of all these rows the register has those before the rest. Where no id stands twice in a list of its records, the
+-- first pass over all rows goes on from it.
+pub record IsPlainFront (rules : Rules) (all : List (Numbered (List Bytes))) (r : Register) (rest : List (Numbered (List Bytes))) : Type 0 where
+  pub register : IsRegister r
+  pub plain : list_all is_plain (contents_seen r) ≡ true
+  pub goes_on : list_all lists_once (contents_seen r) ≡ true → first_pass rules [] all ≡ first_pass rules (records_seen r) rest
+
+-- A step over rows keeps that.
+abbrev pub GoesOn : Rules → Register → Register → List (Numbered (List Bytes)) → List (Numbered (List Bytes)) → Type 0
+GoesOn rules old new rows rest = (all : List (Numbered (List Bytes))) → IsPlainFront rules all old rows → IsPlainFront rules all new rest
+
+-- What is accepted of these rows is a registration.
+abbrev pub AcceptsRegistrations : Rules → List (Numbered (List Bytes)) → Type 0
+AcceptsRegistrations rules rows = (r : Registered) → market_under rules rows ≡ Ok r → IsRegistration r
+
+-- A number that had another stamp bears this one.
+pub record Marks (old new : List ℕ) (stamp number : ℕ) : Type 0 where
+  pub within : number < length old
+  pub other : slice_index_or old number 0 ≢ stamp
+  pub marked : new ≡ slice_set old number stamp
+
+-- Lists by numbers with all the entries of records, and no number twice in a list of a program or a single.
+pub record AreWhole (rs : List Record) (e : Entries) : Type 0 where
+  pub all : entry_count rs ≤ sum_by length e.rankings + sum_by length e.lists + 2 * sum_by length e.pairs
+  pub rankings_differ : list_all (all_differ ◌==◌) e.rankings ≡ true
+  pub lists_differ : list_all (all_differ ◌==◌) e.lists ≡ true
