@@ -1,4 +1,4 @@
-ghost use Rattle.std.specs.Prelude.{◌<◌, ◌≤◌, ℕ, length, IsTrue};
+ghost use Rattle.std.specs.Prelude.{◌≡◌, ◌<◌, ◌≤◌, ℕ, length, IsTrue};
 ghost use Rattle.mt_model.specs.Lists.{count};
 ghost use Rattle.mt_model.specs.Market.{agent_of, applicants, program_of};
 ghost use Rattle.mt_model.specs.Matching.{at, place_of};
