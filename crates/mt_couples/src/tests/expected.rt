@@ -41,11 +41,7 @@ fn place_listed(roster: &Roster, id: &[u8], placed: &[(&str, &str)]) -> Option<P
 }
 
 // The match in which these applicants are placed, and nobody else.
-fn match_of(
-    alloc: Global,
-    roster: &Roster,
-    placed: &[(&str, &str)],
-) -> Result<Match, AllocError> {
+fn match_of(alloc: Global, roster: &Roster, placed: &[(&str, &str)]) -> Result<Match, AllocError> {
     let mut places = Vec::new(alloc);
     for number in 0..roster.applicants() {
         let id = roster.applicant_id(AppNo(number));
@@ -92,7 +88,10 @@ fn expect_match(
     let expected = match_of(alloc, roster, market.entered)?;
     assert_eq!(rt; count_placed(&expected), market.entered.len());
     let entered = enter(rt, alloc, roster, market, budget)??;
-    assert_eq!(rt; entered.matched.places.as_slice(), expected.places.as_slice());
+    assert_eq!(rt;
+        entered.matched.places.as_slice(),
+        expected.places.as_slice()
+    );
     assert_eq!(rt; entered.rounds, rounds);
     Ok(())
 }
@@ -107,7 +106,10 @@ pub(crate) fn expect_spent(
     let rows = records(alloc, market.file)?;
     let roster = roster(alloc, &rows)?;
     let entered = enter(rt, alloc, &roster, market, budget)?;
-    assert!(rt; matches!(entered, Err(CoupleEnd::BudgetSpent)), "budget {budget}");
+    assert!(rt;
+        matches!(entered, Err(CoupleEnd::BudgetSpent)),
+        "budget {budget}"
+    );
     Ok(())
 }
 

@@ -1,4 +1,4 @@
-use Rattle.std.proofs.Common.{ℕ, ◌<◌, IsTrue, arith}
+use Rattle.std.proofs.Common.{IsTrue, arith}
 use Rattle.mt_model.specs.Market.{agent_of}
 use Rattle.mt_model.specs.Matching.{place_of}
 use Rattle.mt_model.specs.Stability.{has_own_option, is_listed}

@@ -1,4 +1,4 @@
-use Rattle.std.proofs.Common.{ℕ, ◌<◌, ◌≤◌, arith}
+use Rattle.std.proofs.Common.{◌≤◌, arith}
 use Rattle.mt_model.specs.Lists.{count}
 use Rattle.mt_model.specs.Market.{program_of}
 use Rattle.mt_model.specs.Matching.{at}

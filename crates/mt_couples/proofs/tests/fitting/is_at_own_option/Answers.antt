@@ -1,4 +1,4 @@
-use Rattle.std.proofs.Common.{◌≡◌, Some, sym, ap, ◌∙◌, subst, true}
+use Rattle.std.proofs.Common.{◌≡◌, sym, ap, ◌∙◌, subst, true}
 use Rattle.mt_model.specs.Lists.{has}
 use Rattle.mt_model.specs.Stability.{has_own_option}
 use Rattle.mt_couples.proofs.FittingFacts.{single_within, couple_within, own_place}

@@ -1,5 +1,4 @@
-use Rattle.std.proofs.Common.{length, ap, sym, ◌∙◌}
-use Rattle.std.proofs.lemmas.Bool.{false≢true}
+use Rattle.std.proofs.Common.{length, ap, sym, ◌∙◌, eqb-true}
 use Rattle.mt_couples.proofs.FittingFacts.{fits_by_number}
 use Rattle.mt_couples.proofs.tests.fitting.is_fitting.Goals as goal
 use Rattle.mt_couples.proofs.tests.fitting.is_fitting.Goals.{then-as_slice-applicants, else-as_slice-applicants}
@@ -11,5 +10,5 @@ returns-then-are_allowed c = λ h. elim c.if-as_slice-applicants.branch [
       fits_by_number c.args.roster.now.market c.applicants.ensures.roster.well_formed c.args.matched.now.places
       (ap length (sym c.as_slice.ensures) ∙ w.if-as_slice-applicants.true ∙ c.applicants.ensures.count)
       (w.are_allowed.ensures.own allowed) (w.are_allowed.ensures.listed allowed) (c.are_within_quotas.ensures h)
-  | else-as_slice-applicants w ↦ absurd (false≢true (sym w.value-is ∙ c.if-are_allowed.true))
+  | else-as_slice-applicants w ↦ absurd (w.if-as_slice-applicants.false (eqb-true _ _ (sym w.value-is ∙ c.if-are_allowed.true)))
 ]

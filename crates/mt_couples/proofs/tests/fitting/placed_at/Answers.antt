@@ -1,12 +1,22 @@
-use Rattle.std.proofs.Common.{◌≡◌, Bool, true, false, arith, sym, ◌∙◌}
+use Rattle.std.proofs.Common.{◌≡◌, Bool, true, false, arith, ◌∙◌, take}
+use Rattle.std.proofs.lemmas.List.{length-take}
 use Rattle.mt_model.specs.Matching.{at}
 use Rattle.mt_couples.proofs.FittingFacts.{counted}
-use Rattle.mt_couples.proofs.PlaceFacts.{at_read}
+use Rattle.mt_couples.proofs.PlaceFacts.{at_read, count-le_length}
 use Rattle.mt_couples.proofs.tests.fitting.placed_at.Goals as goal
 use Rattle.mt_couples.proofs.tests.fitting.placed_at.Goals.{then-eq, else-eq}
 
 pub overflow_add-placed : goal.overflow_add-placed
-overflow_add-placed c = ?
+overflow_add-placed c =
+    let items = c.program_list-applicant-items.result.now in
+    omega (
+      arith,
+      c.loop-applicant.invariant,
+      c.loop-applicant-test.true,
+      count-le_length (at c.args.matched.now.places c.args.program) (take c.loop-applicant.applicant-index items),
+      length-take c.loop-applicant.applicant-index items,
+      c.loop-applicant.auto.applicant-index-end,
+    )
 
 pub loop-applicant-preserved : goal.loop-applicant-preserved
 loop-applicant-preserved c =
