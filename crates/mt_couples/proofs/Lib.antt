@@ -1,4 +1,5 @@
 pub mod EnteringFacts
+pub mod FittingFacts
 pub mod JoinFacts
 pub mod MarketFacts
 pub mod MoveFacts

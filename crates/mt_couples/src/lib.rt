@@ -9,3 +9,6 @@ mod row;
 mod work_list;
 
 pub use rounds::{CoupleEnd, Entered, enter_all};
+
+#[cfg(test)]
+mod tests;

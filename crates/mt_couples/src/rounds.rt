@@ -179,7 +179,7 @@ fn settle(
     ensures empty { OnOk result (waiting.new ≡ []) }
 {
     let mut left = budget;
-    while let Some(agent) = waiting.take() {
+    while let Some(agent) = waiting.take(alloc) {
         if left == 0 {
             return Err(CoupleEnd::BudgetSpent);
         }

@@ -8,7 +8,8 @@ use std::marker::Model;
 
 /// The agents that are to be looked at, first in first out, each at most once. They are taken from the front
 /// of one ordered set by a cursor, and join at the end of a second one, which takes the first one's place
-/// once that is used up: so nothing is removed from within a set.
+/// once that is used up: so nothing is removed from within a set. A set that is used up is dropped, since
+/// clearing it would take time in its capacity, and so in the length of the longest list so far.
 #[derive(Drop)]
 pub(crate) struct WorkList {
     current: IndexSet<Agent>,
@@ -42,14 +43,14 @@ impl WorkList {
     }
 
     /// Takes the agent at the front, or none where nobody waits.
-    pub(crate) fn take(&mut self) -> Option<Agent>
+    pub(crate) fn take(&mut self, alloc: Global) -> Option<Agent>
         ensures taken { IfSome result (λ g. self.old ≡ g ∷ self.new) }
         ensures empty { IfNone result (self.old ≡ []) }
         ensures still_empty { IfNone result (self.new ≡ []) }
     {
         if self.taken == self.current.len() {
             std::mem::swap(&mut self.current, &mut self.next);
-            self.next.clear();
+            self.next = IndexSet::new(alloc);
             self.taken = 0;
         }
         let agent = self.current.get_index(self.taken).copied()?;

@@ -11,7 +11,7 @@ waiting_is c = elim c.if-self-len.branch [
   | then-self-len w ↦
       let now = c.self.inside in
       sym c.self.view_is ∙ used_up now.current.keys now.next.keys now.taken (w.if-self-len.true ∙ c.len.ensures.len) ∙ sym (append-nil now.next.keys)
-      ∙ ap₂ ◌++◌ (ap keys (sym w.swap.ensures.x_after)) (sym w.clear.ensures.empty) ∙ ap waiting_in (sym w.self-inside-is)
+      ∙ ap₂ ◌++◌ (ap keys (sym w.swap.ensures.x_after)) (sym w.new.ensures.empty) ∙ ap waiting_in (sym w.self-inside-is)
   | else-self-len w ↦ sym c.self.view_is ∙ ap waiting_in (sym w.self-inside-is)
 ]
 

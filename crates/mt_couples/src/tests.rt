@@ -1,0 +1,4 @@
+mod expected;
+mod fitting;
+mod order;
+mod worked;
