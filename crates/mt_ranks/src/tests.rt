@@ -8,14 +8,15 @@ use std::alloc::{AllocError, Global};
 use std::process::Abort;
 use std::test::Fail;
 
-// What the readers should answer. By program: its quota, its list, and the rank of each applicant. By applicant:
-// its live list, and whether it is a single.
+// What the readers should answer. By program: its quota, the numbers of the applicants that it lists, and the rank
+// of each applicant. By applicant: its live list, as the programs' numbers and the ranks there, and whether it is
+// a single.
 #[derive(Drop)]
 struct Expected<'a> {
     quotas: &'a [u32],
-    rankings: &'a [&'a [AppNo]],
+    rankings: &'a [&'a [u32]],
     ranks: &'a [&'a [Option<u32>]],
-    live: &'a [&'a [Live]],
+    live: &'a [&'a [(u32, u32)]],
     singles: &'a [bool],
 }
 
@@ -37,6 +38,14 @@ fn ranks_at(alloc: Global, tables: &Ranks, program: ProgNo) -> Result<Vec<Option
     Ok(ranks)
 }
 
+fn expect_ranking(rt: &impl Abort, ranking: &[AppNo], expected: &[u32]) {
+    assert_eq!(rt; ranking.len(), expected.len());
+    for rank in 0..ranking.len() {
+        let applicant = ranking[rank];
+        assert_eq!(rt; applicant.0, expected[rank]);
+    }
+}
+
 fn expect_programs(
     rt: &impl Abort,
     alloc: Global,
@@ -51,11 +60,19 @@ fn expect_programs(
         let number = program as usize;
         let program = ProgNo(program);
         assert_eq!(rt; tables.quota(program), expected.quotas[number]);
-        assert_eq!(rt; tables.by_rank(program), expected.rankings[number]);
+        expect_ranking(rt, tables.by_rank(program), expected.rankings[number]);
         let ranks = ranks_at(alloc, tables, program)?;
         assert_eq!(rt; ranks.as_slice(), expected.ranks[number]);
     }
     Ok(())
+}
+
+fn expect_live(rt: &impl Abort, live: &[Live], expected: &[(u32, u32)]) {
+    assert_eq!(rt; live.len(), expected.len());
+    for number in 0..live.len() {
+        let entry = live[number];
+        assert_eq!(rt; (entry.program.0, entry.rank), expected[number]);
+    }
 }
 
 fn expect_applicants(rt: &impl Abort, tables: &Ranks, expected: &Expected<'_>) {
@@ -65,7 +82,7 @@ fn expect_applicants(rt: &impl Abort, tables: &Ranks, expected: &Expected<'_>) {
     for applicant in 0..tables.applicants() {
         let number = applicant as usize;
         let applicant = AppNo(applicant);
-        assert_eq!(rt; tables.live(applicant), expected.live[number]);
+        expect_live(rt, tables.live(applicant), expected.live[number]);
         assert_eq!(rt; tables.is_single(applicant), expected.singles[number]);
     }
     for past_the_end in [tables.applicants(), u32::MAX] {
@@ -85,25 +102,14 @@ fn expect_tables(
     Ok(())
 }
 
-fn entry(program: u32, rank: u32) -> Live {
-    Live {
-        program: ProgNo(program),
-        rank,
-    }
-}
-
 // P1 and P2 are the programs 0 and 1. P1 wants a2, a3 and a1 in this order, and P2 wants a1 and then a2.
 #[test]
 fn every_entry_is_mutual(rt: HostRuntime) -> Result<(), Fail> {
     let expected = Expected {
         quotas: &[1, 1],
-        rankings: &[&[AppNo(1), AppNo(2), AppNo(0)], &[AppNo(0), AppNo(1)]],
+        rankings: &[&[1, 2, 0], &[0, 1]],
         ranks: &[&[Some(2), Some(0), Some(1)], &[Some(0), Some(1), None]],
-        live: &[
-            &[entry(0, 2), entry(1, 0)],
-            &[entry(1, 1), entry(0, 0)],
-            &[entry(0, 1)],
-        ],
+        live: &[&[(0, 2), (1, 0)], &[(1, 1), (0, 0)], &[(0, 1)]],
         singles: &[true, true, true],
     };
     expect_tables(
@@ -119,7 +125,7 @@ fn every_entry_is_mutual(rt: HostRuntime) -> Result<(), Fail> {
 fn no_entry_is_mutual(rt: HostRuntime) -> Result<(), Fail> {
     let expected = Expected {
         quotas: &[1, 1],
-        rankings: &[&[AppNo(0)], &[]],
+        rankings: &[&[0], &[]],
         ranks: &[&[Some(0), None], &[None, None]],
         live: &[&[], &[]],
         singles: &[true, true],
@@ -137,21 +143,13 @@ fn no_entry_is_mutual(rt: HostRuntime) -> Result<(), Fail> {
 fn entries_that_are_not_mutual_leave_the_live_list(rt: HostRuntime) -> Result<(), Fail> {
     let expected = Expected {
         quotas: &[3, 0, 20],
-        rankings: &[
-            &[AppNo(2), AppNo(1), AppNo(0)],
-            &[AppNo(1)],
-            &[AppNo(2), AppNo(0)],
-        ],
+        rankings: &[&[2, 1, 0], &[1], &[2, 0]],
         ranks: &[
             &[Some(2), Some(1), Some(0)],
             &[None, Some(0), None],
             &[Some(1), None, Some(0)],
         ],
-        live: &[
-            &[entry(2, 1), entry(0, 2)],
-            &[],
-            &[entry(2, 0), entry(0, 0)],
-        ],
+        live: &[&[(2, 1), (0, 2)], &[], &[(2, 0), (0, 0)]],
         singles: &[true, true, true],
     };
     expect_tables(
@@ -167,9 +165,9 @@ fn entries_that_are_not_mutual_leave_the_live_list(rt: HostRuntime) -> Result<()
 fn members_have_ranks_and_no_live_list(rt: HostRuntime) -> Result<(), Fail> {
     let expected = Expected {
         quotas: &[2],
-        rankings: &[&[AppNo(1), AppNo(0), AppNo(2)]],
+        rankings: &[&[1, 0, 2]],
         ranks: &[&[Some(1), Some(0), Some(2)]],
-        live: &[&[entry(0, 1)], &[], &[]],
+        live: &[&[(0, 1)], &[], &[]],
         singles: &[true, false, false],
     };
     expect_tables(
@@ -186,12 +184,12 @@ fn members_have_ranks_and_no_live_list(rt: HostRuntime) -> Result<(), Fail> {
 fn two_couples_and_a_single(rt: HostRuntime) -> Result<(), Fail> {
     let expected = Expected {
         quotas: &[2, 1],
-        rankings: &[&[AppNo(1), AppNo(3), AppNo(2), AppNo(0)], &[AppNo(4)]],
+        rankings: &[&[1, 3, 2, 0], &[4]],
         ranks: &[
             &[Some(3), Some(0), Some(2), Some(1), None],
             &[None, None, None, None, Some(0)],
         ],
-        live: &[&[entry(0, 3)], &[], &[], &[], &[]],
+        live: &[&[(0, 3)], &[], &[], &[], &[]],
         singles: &[true, false, false, false, false],
     };
     expect_tables(
