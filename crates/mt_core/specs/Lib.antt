@@ -1,4 +1,5 @@
 pub mod Ends
+pub mod Examples
 pub mod Floors
 pub mod FloorsView
 pub mod Order

@@ -5,6 +5,8 @@
 mod entries;
 mod rows;
 mod tables;
+#[cfg(test)]
+mod tests;
 mod transpose;
 
 pub use entries::Live;

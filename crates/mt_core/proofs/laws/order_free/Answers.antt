@@ -3,10 +3,11 @@ use Rattle.mt_model.specs.Floor.{Floor, opening, after_all, is_quiet}
 use Rattle.mt_model.specs.Laws.Floors.{EndAlike}
 use Rattle.mt_model.proofs.FloorQuiet.{order_free_lem}
 use Rattle.mt_core.specs.Floors.{floor_of}
+use Rattle.mt_core.proofs.ChainEnd.{chain_ends}
 use Rattle.mt_core.proofs.laws.order_free.Goals as goal
 
-pub returns : goal.returns
-returns c r is es fs s t end_s end_t =
+pub returns-clause-law : goal.returns-clause-law
+returns-clause-law c r is es fs s t end_s end_t =
     let m = r.market in
     let quiet_s = subst (λ (x : Floor). IsTrue (is_quiet m x)) end_s.floor end_s.quiet in
     let quiet_t = subst (λ (x : Floor). IsTrue (is_quiet m x)) end_t.floor end_t.quiet in
@@ -20,3 +21,6 @@ returns c r is es fs s t end_s end_t =
       best = back.best;
       counts = back.on_the_way.same_counts;
     }
+
+pub returns-clause-example : goal.returns-clause-example
+returns-clause-example c = chain_ends

@@ -1,0 +1,373 @@
+ghost use Rattle.std.specs.Prelude.{◌≡◌};
+ghost use Rattle.mt_model.specs.Floor.{IsRecorded};
+ghost use Rattle.mt_core.specs.Floors.{floor_of, IsOpenedWith};
+ghost use Rattle.mt_core.specs.Order.{IsEndOf, AreAlike};
+
+use crate::{Event, Floor, Reply, apply, finish, laws, made, quiet, received, result, run};
+use mt_lists::records;
+use mt_model::{AppNo, ProgNo};
+use mt_ranks::Ranks;
+use mt_roster::roster;
+use std::alloc::{AllocError, Global};
+use std::process::Abort;
+use std::test::Fail;
+
+// P1 and P2 are the programs 0 and 1. P1 wants a2, a3 and a1 in this order, and P2 wants a1 and then a2.
+const CHAIN: &[u8] =
+    b"match,1\nprogram,P1,1,a2,a3,a1\nprogram,P2,1,a1,a2\napplicant,a1,P1,P2\napplicant,a2,P2,P1\napplicant,a3,P1\n";
+
+// The single s is applicant 0, and the members a and b are 1 and 2.
+const COUPLE: &[u8] = b"match,1\nprogram,x,2,a,s,b\napplicant,s,x\ncouple,c,a,b,x,x\n";
+
+// Each applicant's first wish first, and then who was displaced.
+const BY_WISHES: [Event; 9] = [
+    Event::Propose(AppNo(0)),
+    Event::Propose(AppNo(1)),
+    Event::Propose(AppNo(2)),
+    Event::Notice(AppNo(0)),
+    Event::Propose(AppNo(0)),
+    Event::Notice(AppNo(1)),
+    Event::Propose(AppNo(1)),
+    Event::Notice(AppNo(2)),
+    Event::Propose(AppNo(2)),
+];
+
+// The last applicant first.
+const FROM_THE_LAST: [Event; 6] = [
+    Event::Propose(AppNo(2)),
+    Event::Propose(AppNo(0)),
+    Event::Propose(AppNo(0)),
+    Event::Propose(AppNo(1)),
+    Event::Propose(AppNo(1)),
+    Event::Notice(AppNo(2)),
+];
+
+// What a floor is once no event is due: how many proposals each applicant has made and each program has received,
+// and where each applicant is.
+#[derive(Drop)]
+struct End<'a> {
+    made: &'a [u32],
+    received: &'a [u32],
+    places: &'a [Option<ProgNo>],
+}
+
+// The rank tables of a file.
+fn tables_of(alloc: Global, file: &[u8]) -> Result<Ranks, Fail> {
+    let rows = records(alloc, file)?;
+    let roster = roster(alloc, &rows)?;
+    Ok(Ranks::build(alloc, &roster)?)
+}
+
+fn expect_counts(
+    rt: &impl Abort,
+    floor: &Floor,
+    ranks: &Ranks,
+    by_applicant: &[u32],
+    by_program: &[u32],
+)
+    requires { IsOpenedWith ranks.now.market floor.now }
+{
+    assert_eq!(rt; ranks.applicants() as usize, by_applicant.len());
+    for applicant in 0..ranks.applicants() {
+        assert_eq!(rt;
+            made(floor, AppNo(applicant)),
+            by_applicant[applicant as usize]
+        );
+    }
+    assert_eq!(rt; ranks.programs() as usize, by_program.len());
+    for program in 0..ranks.programs() {
+        assert_eq!(rt;
+            received(floor, ProgNo(program)),
+            by_program[program as usize]
+        );
+    }
+}
+
+fn expect_end(
+    rt: &impl Abort,
+    alloc: Global,
+    floor: &Floor,
+    ranks: &Ranks,
+    end: &End<'_>,
+) -> Result<(), AllocError>
+    requires { IsOpenedWith ranks.now.market floor.now }
+{
+    expect_counts(rt, floor, ranks, end.made, end.received);
+    assert!(rt; quiet(floor, ranks));
+    let matched = result(alloc, floor, ranks)?;
+    assert_eq!(rt; matched.places.as_slice(), end.places);
+    Ok(())
+}
+
+// The rejection chain ends with a1 at P2, which wants it most, a2 at P1, which wants it most, and a3 nowhere.
+fn expect_chain_end(
+    rt: &impl Abort,
+    alloc: Global,
+    floor: &Floor,
+    ranks: &Ranks,
+) -> Result<(), AllocError>
+    requires { IsOpenedWith ranks.now.market floor.now }
+{
+    let end = End {
+        made: &[2, 2, 1],
+        received: &[3, 2],
+        places: &[Some(ProgNo(1)), Some(ProgNo(0)), None],
+    };
+    expect_end(rt, alloc, floor, ranks, &end)
+}
+
+fn expect_replies(
+    rt: &impl Abort,
+    floor: &mut Floor,
+    ranks: &Ranks,
+    events: &[Event],
+    replies: &[Reply],
+)
+    requires opened { IsOpenedWith ranks.now.market floor.old }
+    requires recorded { IsRecorded ranks.now.market (floor_of ranks.now.market floor.old) }
+    ensures opened { IsOpenedWith ranks.now.market floor.new }
+    ensures recorded { IsRecorded ranks.now.market (floor_of ranks.now.market floor.new) }
+{
+    assert_eq!(rt; events.len(), replies.len());
+    for number in 0..events.len() {
+        let reply = apply(floor, ranks, events[number]);
+        assert_eq!(rt; reply, replies[number], "event {number}");
+    }
+}
+
+#[test]
+fn each_event_gets_its_reply(rt: HostRuntime) -> Result<(), Fail> {
+    let ranks = tables_of(rt.alloc(), CHAIN)?;
+    let mut floor = Floor::open(rt.alloc(), &ranks)?;
+    let replies = [
+        Reply::Kept,
+        Reply::Kept,
+        Reply::KeptInstead(AppNo(0)),
+        Reply::Noticed,
+        Reply::KeptInstead(AppNo(1)),
+        Reply::Noticed,
+        Reply::KeptInstead(AppNo(2)),
+        Reply::Noticed,
+        Reply::NotDue,
+    ];
+    expect_replies(&rt, &mut floor, &ranks, &BY_WISHES, &replies);
+    expect_chain_end(&rt, rt.alloc(), &floor, &ranks)?;
+
+    let mut floor = Floor::open(rt.alloc(), &ranks)?;
+    let replies = [
+        Reply::Kept,
+        Reply::Refused,
+        Reply::Kept,
+        Reply::Refused,
+        Reply::KeptInstead(AppNo(2)),
+        Reply::Noticed,
+    ];
+    expect_replies(&rt, &mut floor, &ranks, &FROM_THE_LAST, &replies);
+    expect_chain_end(&rt, rt.alloc(), &floor, &ranks)?;
+    Ok(())
+}
+
+// Two floors at the ends of lists of events, as a caller of the law sees them.
+fn ends_are_alike(ranks: &Ranks, events: &[Event], others: &[Event], floor: &Floor, other: &Floor)
+    requires first { IsEndOf ranks.now.market events.now floor.now }
+    requires second { IsEndOf ranks.now.market others.now other.now }
+    ensures { AreAlike ranks.now.market floor.now other.now }
+{
+    let _applicants = ranks.applicants();
+    laws::order_free();
+}
+
+#[test]
+fn runs_count_the_events_that_were_due(rt: HostRuntime) -> Result<(), Fail> {
+    let ranks = tables_of(rt.alloc(), CHAIN)?;
+    let mut floor = Floor::open(rt.alloc(), &ranks)?;
+    let mut other = Floor::open(rt.alloc(), &ranks)?;
+    assert!(rt; !quiet(&floor, &ranks));
+    assert_eq!(rt; run(&mut floor, &ranks, &BY_WISHES), 8);
+    assert_eq!(rt; run(&mut other, &ranks, &FROM_THE_LAST), 6);
+    assert!(rt; quiet(&floor, &ranks));
+    assert!(rt; quiet(&other, &ranks));
+    ends_are_alike(&ranks, &BY_WISHES, &FROM_THE_LAST, &floor, &other);
+    expect_chain_end(&rt, rt.alloc(), &floor, &ranks)?;
+    expect_chain_end(&rt, rt.alloc(), &other, &ranks)?;
+
+    // Nothing is due any more.
+    assert_eq!(rt; run(&mut floor, &ranks, &FROM_THE_LAST), 0);
+    assert_eq!(rt; finish(&mut other, &ranks), 0);
+    expect_chain_end(&rt, rt.alloc(), &floor, &ranks)?;
+    expect_chain_end(&rt, rt.alloc(), &other, &ranks)?;
+    Ok(())
+}
+
+// After the first five events one proposal is to come: a1 has displaced a2 at P2, so a2 proposes to P1 and displaces
+// a3 there, which wants no other program.
+#[test]
+fn finish_goes_on_from_any_floor(rt: HostRuntime) -> Result<(), Fail> {
+    let ranks = tables_of(rt.alloc(), CHAIN)?;
+    let mut floor = Floor::open(rt.alloc(), &ranks)?;
+    assert_eq!(rt; run(&mut floor, &ranks, &BY_WISHES[..5]), 5);
+    assert!(rt; !quiet(&floor, &ranks));
+    assert_eq!(rt; finish(&mut floor, &ranks), 1);
+    expect_chain_end(&rt, rt.alloc(), &floor, &ranks)?;
+    Ok(())
+}
+
+fn expect_finished(
+    rt: &impl Abort,
+    alloc: Global,
+    file: &[u8],
+    proposals: u64,
+    end: &End<'_>,
+) -> Result<(), Fail> {
+    let ranks = tables_of(alloc, file)?;
+    let mut floor = Floor::open(alloc, &ranks)?;
+    assert_eq!(rt; quiet(&floor, &ranks), proposals == 0);
+    assert_eq!(rt; finish(&mut floor, &ranks), proposals);
+    expect_end(rt, alloc, &floor, &ranks, end)?;
+    Ok(())
+}
+
+#[test]
+fn the_chain_takes_five_proposals(rt: HostRuntime) -> Result<(), Fail> {
+    let ranks = tables_of(rt.alloc(), CHAIN)?;
+    let mut floor = Floor::open(rt.alloc(), &ranks)?;
+    assert_eq!(rt; finish(&mut floor, &ranks), 5);
+    expect_chain_end(&rt, rt.alloc(), &floor, &ranks)?;
+    Ok(())
+}
+
+// Z refuses both, and a2 goes on to Y.
+#[test]
+fn a_program_without_a_post_refuses_everybody(rt: HostRuntime) -> Result<(), Fail> {
+    let end = End {
+        made: &[1, 2],
+        received: &[2, 1],
+        places: &[None, Some(ProgNo(1))],
+    };
+    expect_finished(
+        &rt,
+        rt.alloc(),
+        b"match,1\nprogram,Z,0,a1,a2\nprogram,Y,1,a2\napplicant,a1,Z\napplicant,a2,Z,Y\n",
+        3,
+        &end,
+    )
+}
+
+// P wants c, a and b in this order, so it keeps a and c, whoever comes first.
+#[test]
+fn two_posts_go_to_the_two_most_wanted(rt: HostRuntime) -> Result<(), Fail> {
+    let end = End {
+        made: &[1, 1, 1],
+        received: &[3],
+        places: &[Some(ProgNo(0)), None, Some(ProgNo(0))],
+    };
+    expect_finished(
+        &rt,
+        rt.alloc(),
+        b"match,1\nprogram,P,2,c,a,b\napplicant,a,P\napplicant,b,P\napplicant,c,P\n",
+        3,
+        &end,
+    )
+}
+
+// Members make no proposals, though the program lists them.
+#[test]
+fn members_stay_unplaced(rt: HostRuntime) -> Result<(), Fail> {
+    let end = End {
+        made: &[1, 0, 0],
+        received: &[1],
+        places: &[Some(ProgNo(0)), None, None],
+    };
+    expect_finished(&rt, rt.alloc(), COUPLE, 1, &end)
+}
+
+// a1 wants Q alone, which lists nobody, and a2 wants P alone, which lists a1: no proposal can be made.
+#[test]
+fn without_mutual_entries_the_opening_floor_is_quiet(rt: HostRuntime) -> Result<(), Fail> {
+    let end = End {
+        made: &[0, 0],
+        received: &[0, 0],
+        places: &[None, None],
+    };
+    expect_finished(
+        &rt,
+        rt.alloc(),
+        b"match,1\nprogram,P,1,a1\nprogram,Q,1\napplicant,a1,Q\napplicant,a2,P\n",
+        0,
+        &end,
+    )
+}
+
+// Makes each event, which isn't due, and expects the whole floor as it was before.
+fn expect_not_due(
+    rt: &impl Abort,
+    alloc: Global,
+    floor: &mut Floor,
+    ranks: &Ranks,
+    events: &[Event],
+) -> Result<(), Fail>
+    requires opened { IsOpenedWith ranks.now.market floor.old }
+    requires recorded { IsRecorded ranks.now.market (floor_of ranks.now.market floor.old) }
+    ensures opened { IsOpenedWith ranks.now.market floor.new }
+    ensures recorded { IsRecorded ranks.now.market (floor_of ranks.now.market floor.new) }
+{
+    let before = format!(in alloc; "{floor:?}")?;
+    for event in events {
+        assert_eq!(rt; apply(floor, ranks, *event), Reply::NotDue);
+        assert_eq!(rt; format!(in alloc; "{floor:?}")?, before);
+    }
+    Ok(())
+}
+
+// The applicants 1 and 2 are members, and 3 is the first number past the end.
+#[test]
+fn only_singles_have_events(rt: HostRuntime) -> Result<(), Fail> {
+    let ranks = tables_of(rt.alloc(), COUPLE)?;
+    let mut floor = Floor::open(rt.alloc(), &ranks)?;
+    let events = [
+        Event::Propose(AppNo(1)),
+        Event::Propose(AppNo(2)),
+        Event::Propose(AppNo(3)),
+        Event::Propose(AppNo(u32::MAX)),
+        Event::Notice(AppNo(1)),
+        Event::Notice(AppNo(3)),
+        Event::Notice(AppNo(u32::MAX)),
+    ];
+    expect_not_due(&rt, rt.alloc(), &mut floor, &ranks, &events)?;
+    assert_eq!(rt;
+        apply(&mut floor, &ranks, Event::Propose(AppNo(0))),
+        Reply::Kept
+    );
+    expect_not_due(&rt, rt.alloc(), &mut floor, &ranks, &events)?;
+    Ok(())
+}
+
+// a1 stands at P1 and is held, so that it has nothing to propose or to learn; nobody else stands. Once a3 has
+// displaced it, it learns that before it proposes.
+#[test]
+fn events_wait_until_they_are_due(rt: HostRuntime) -> Result<(), Fail> {
+    let ranks = tables_of(rt.alloc(), CHAIN)?;
+    let mut floor = Floor::open(rt.alloc(), &ranks)?;
+    assert_eq!(rt;
+        apply(&mut floor, &ranks, Event::Propose(AppNo(0))),
+        Reply::Kept
+    );
+    let events = [
+        Event::Propose(AppNo(0)),
+        Event::Notice(AppNo(0)),
+        Event::Notice(AppNo(1)),
+        Event::Notice(AppNo(2)),
+    ];
+    expect_not_due(&rt, rt.alloc(), &mut floor, &ranks, &events)?;
+    let displaced = Reply::KeptInstead(AppNo(0));
+    assert_eq!(rt;
+        apply(&mut floor, &ranks, Event::Propose(AppNo(2))),
+        displaced
+    );
+    expect_not_due(&rt, rt.alloc(), &mut floor, &ranks, &events[..1])?;
+    assert_eq!(rt;
+        apply(&mut floor, &ranks, Event::Notice(AppNo(0))),
+        Reply::Noticed
+    );
+    Ok(())
+}
