@@ -1,5 +1,6 @@
 -- The end of the rejection chain, computed.
 use Rattle.std.proofs.Common.{◌≡◌, ℕ, zero, suc, ◌≤◌, length, refl, sym, subst, arith}
+use Rattle.std.proofs.lemmas.Bool.Decides.{nat_tests}
 use Rattle.mt_model.specs.Examples.Markets.{chain}
 use Rattle.mt_model.specs.Examples.Events.{by_wishes, from_the_last}
 use Rattle.mt_model.specs.Floor.{Floor, IsLegal, opening, after_all}
@@ -26,23 +27,23 @@ after_wishes = same_floor (floor_of chain chain_end) (after_all chain opening by
     makes zero = refl
     makes (suc zero) = refl
     makes (suc (suc zero)) = refl
-    makes (suc (suc (suc a))) = refl
+    makes (suc (suc (suc a))) = grind (arith, nat_tests)
 
     stands : (a : ℕ) → (floor_of chain chain_end).standing a ≡ (after_all chain opening by_wishes).standing a
     stands zero = refl
     stands (suc zero) = refl
     stands (suc (suc zero)) = refl
-    stands (suc (suc (suc a))) = refl
+    stands (suc (suc (suc a))) = grind (arith, nat_tests)
 
     receives : (p a : ℕ) → (floor_of chain chain_end).received p a ≡ (after_all chain opening by_wishes).received p a
     receives zero zero = refl
     receives zero (suc zero) = refl
     receives zero (suc (suc zero)) = refl
-    receives zero (suc (suc (suc a))) = refl
+    receives zero (suc (suc (suc a))) = grind (arith, nat_tests)
     receives (suc zero) zero = refl
     receives (suc zero) (suc zero) = refl
-    receives (suc zero) (suc (suc a)) = refl
-    receives (suc (suc p)) a = refl
+    receives (suc zero) (suc (suc a)) = grind (arith, nat_tests)
+    receives (suc (suc p)) a = grind (arith, nat_tests)
 
 after_last : IsChainEnd (after_all chain opening from_the_last)
 unfolding floor_of
@@ -52,23 +53,23 @@ after_last = same_floor (floor_of chain chain_end) (after_all chain opening from
     makes zero = refl
     makes (suc zero) = refl
     makes (suc (suc zero)) = refl
-    makes (suc (suc (suc a))) = refl
+    makes (suc (suc (suc a))) = grind (arith, nat_tests)
 
     stands : (a : ℕ) → (floor_of chain chain_end).standing a ≡ (after_all chain opening from_the_last).standing a
     stands zero = refl
     stands (suc zero) = refl
     stands (suc (suc zero)) = refl
-    stands (suc (suc (suc a))) = refl
+    stands (suc (suc (suc a))) = grind (arith, nat_tests)
 
     receives : (p a : ℕ) → (floor_of chain chain_end).received p a ≡ (after_all chain opening from_the_last).received p a
     receives zero zero = refl
     receives zero (suc zero) = refl
     receives zero (suc (suc zero)) = refl
-    receives zero (suc (suc (suc a))) = refl
+    receives zero (suc (suc (suc a))) = grind (arith, nat_tests)
     receives (suc zero) zero = refl
     receives (suc zero) (suc zero) = refl
-    receives (suc zero) (suc (suc a)) = refl
-    receives (suc (suc p)) a = refl
+    receives (suc zero) (suc (suc a)) = grind (arith, nat_tests)
+    receives (suc (suc p)) a = grind (arith, nat_tests)
 
 is_opened : IsOpenedWith chain chain_end
 is_opened = record { made = refl; standing = refl; holds = refl; quotas = same_quota; lists = same_length }
