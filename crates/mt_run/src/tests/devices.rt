@@ -57,19 +57,19 @@ fn input_that_is_cut(rt: HostRuntime) {
     expect_fault(&rt, &CROSSED[..82], 21, no_program);
 }
 
-// 64 MiB are the most that an input may have.
+// 64 MiB are the most that an input may have: so many reads of 64 bytes, and one more.
 #[test]
 fn a_reader_without_end(rt: HostRuntime) {
     let mut writer = narrow(rt.alloc(), 100, 100, false);
     let endless = Repeated {
         left: usize::MAX,
-        size: 1,
+        size: 64,
     };
     let mut tap = Tap::new(endless);
     let mut drain = Drain::new(&mut writer);
     let ended = run(rt.alloc(), &mut tap, &mut drain, USUAL);
     assert_eq!(rt; ended.code, 10);
-    assert!(rt; tap.reads() <= 67_108_865);
+    assert!(rt; tap.reads() <= 1_048_577);
     assert_eq!(rt; tap.failures(), 0);
     assert_eq!(rt; writer.taken.as_slice(), TOO_LARGE);
 }
