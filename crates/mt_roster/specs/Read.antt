@@ -1,5 +1,5 @@
 -- What the reading of a file gives.
-use Rattle.std.specs.Prelude.{ℕ, Result, Err}
+use Rattle.std.specs.Prelude.{ℕ, Err}
 use Rattle.mt_model.specs.Market.{Registered}
 use Rattle.mt_model.specs.Registration.Faults.{fault_at, charge_alone, no_version}
 use Rattle.mt_roster.specs.declared.refusal.Refusal.{Refusal}
