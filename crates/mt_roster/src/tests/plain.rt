@@ -1,30 +1,35 @@
 //! Files whose ids are each looked up once, and files that are left to the passes over the records.
+use crate::Roster;
 use crate::plain::read_plain;
 use crate::reading::version_of;
+use crate::refusal::Refusal;
 use crate::tests::shown;
-use mt_lists::records;
+use mt_lists::{Row, records};
 use std::alloc::Global;
 use std::test::Fail;
+
+/// The market of a file's records, if it is read without the passes.
+fn read_at_once(alloc: Global, rows: &[Row]) -> Result<Option<Roster>, Refusal<'_>> {
+    let (rules, from) = version_of(rows)?;
+    Ok(read_plain(alloc, &rules, rows, from)?)
+}
 
 /// Whether a file is read without the passes, and its market is the one of this text.
 fn reads(alloc: Global, file: &str, market: &str) -> Result<bool, Fail> {
     let rows = records(alloc, file.as_bytes())?;
-    let Ok((rules, from)) = version_of(&rows) else {
-        return Ok(false);
-    };
-    match read_plain(alloc, &rules, &rows, from)? {
-        Some(roster) => Ok(shown(alloc, &roster)?.as_slice() == market.as_bytes()),
-        None => Ok(false),
+    match read_at_once(alloc, &rows) {
+        Ok(Some(roster)) => Ok(shown(alloc, &roster)?.as_slice() == market.as_bytes()),
+        Ok(None) | Err(_) => Ok(false),
     }
 }
 
 /// Whether a file is left to the passes.
 fn is_left(alloc: Global, file: &str) -> Result<bool, Fail> {
     let rows = records(alloc, file.as_bytes())?;
-    let Ok((rules, from)) = version_of(&rows) else {
-        return Ok(false);
-    };
-    Ok(read_plain(alloc, &rules, &rows, from)?.is_none())
+    match read_at_once(alloc, &rows) {
+        Ok(None) => Ok(true),
+        Ok(Some(_)) | Err(_) => Ok(false),
+    }
 }
 
 #[test]
