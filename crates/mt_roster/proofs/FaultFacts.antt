@@ -1,5 +1,5 @@
 -- A refusal of a file as an error: its id fits, and the error tells of the file what the refusal says.
-use Rattle.std.proofs.Common.{◌≡◌, List, Result, sym, subst}
+use Rattle.std.proofs.Common.{List, Result, sym, subst}
 use Rattle.mt_model.specs.Market.{Registered}
 use Rattle.mt_model.specs.Registration.{market_of}
 use Rattle.mt_model.specs.Registration.Ids.{Bytes}

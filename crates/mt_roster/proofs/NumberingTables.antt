@@ -1,12 +1,12 @@
 -- The tables that are made from records none of which is withdrawn, seen as their market.
-use Rattle.std.proofs.Common.{◌≡◌, ◌≢◌, ℕ, suc, ◌+◌, ◌-◌, ◌<◌, ◌≤◌, ◌^◌, Bool, true, false, ◌||◌, ◌==◌, List, [], ◌∷◌, ◌++◌, map, filter_map, flat_map, length, get_or, set, drop, take, refl, ap, sym, ◌∙◌, arith, subst, if◌then◌else◌}
+use Rattle.std.proofs.Common.{◌≡◌, ◌≢◌, ℕ, suc, ◌+◌, ◌-◌, ◌<◌, ◌≤◌, ◌^◌, Bool, true, false, ◌||◌, ◌==◌, List, [], ◌∷◌, ◌++◌, map, filter_map, flat_map, length, get_or, set, drop, take, Vec, Global, refl, ap, sym, ◌∙◌, arith, subst, if◌then◌else◌}
 use Rattle.std.specs.Prelude.{All}
 use Rattle.std.proofs.lemmas.Bool.Decides.{nat_tests}
 use Rattle.std.proofs.lemmas.List.{same_lists, length-set, get_or-set_same, get_or-set_other, get_or_default, drop_more, take_all, append-nil, drop_all}
 use Rattle.mt_model.specs.declared.numbers.Agent.{Agent}
 use Rattle.mt_model.specs.declared.numbers.Agent.TheVariants.{Couple}
 use Rattle.mt_model.specs.Lists.{below}
-use Rattle.mt_model.specs.Market.{Market, Partners, Pair, Names, applicants, couple_of, agent_from, agent_of}
+use Rattle.mt_model.specs.Market.{Market, Partners, Pair, Names as Ids, applicants, couple_of, agent_from, agent_of}
 use Rattle.mt_model.specs.Registration.Ids.{Bytes}
 use Rattle.mt_model.specs.Registration.Records.{Record, ProgramRecord, ApplicantRecord, CoupleRecord, WithdrawRecord, OfProgram, OfCouple}
 use Rattle.mt_model.specs.Registration.Rows.{ids_of, applicant_ids}
@@ -14,13 +14,16 @@ use Rattle.mt_model.specs.Registration.Numbering.{names_of, program_in, lists_in
 use Rattle.mt_model.specs.Laws.Registration.{IsRegistration}
 use Rattle.mt_model.proofs.BelowFacts.{length-map_below, map_below_at}
 use Rattle.mt_roster.specs.Tables.{programs_with, couples_with, IsRoster}
+use Rattle.mt_roster.specs.declared.numbering.Entries.{Entries}
+use Rattle.mt_roster.specs.declared.numbering.Names.{Names}
+use Rattle.mt_roster.specs.Entries.{AreNames, AreEntries}
 use Rattle.mt_roster.specs.View.{registered_of, AreTables}
 use Rattle.mt_roster.specs.Numbered.{quota_in, ranking_in, lists_by, members_in, pairs_in, bare_couples, registered_by_all}
 use Rattle.mt_roster.specs.declared.tables.Roster.TheInside.{Inside}
 use Rattle.mt_roster.proofs.TablesFacts.{length-couples_with, couple_at}
 
 -- the tables of programs, of lists and of couples
-module _ (N : Names) where
+module _ (N : Ids) where
   pub programs_of_tables : (rs : List Record) → programs_with (filter_map quota_in rs) (filter_map (ranking_in N.applicants) rs) ≡ filter_map (program_in N) rs
   programs_of_tables [] = refl
   programs_of_tables (ProgramRecord id quota list ∷ rs) = rw (programs_of_tables rs) refl
@@ -180,6 +183,12 @@ module _ (rs : List Record) (r : IsRegistration (registered_by_all rs)) where
   pub few_members : length all_members < 2 ^ 32
   few_members = let few : length market.couples ≤ 10_000 = r.few_couples in omega (arith, length-members)
 
+  pub few_programs : length (ids_of OfProgram rs) < 2 ^ 32
+  few_programs = let few : length market.programs ≤ 20_000 = r.few_programs in omega (arith, r.program_names.one_each)
+
+  pub few_applicants : length (applicant_ids rs) < 2 ^ 32
+  few_applicants = let few : applicants market ≤ 100_000 = r.few_applicants in omega (arith, r.applicant_names.one_each)
+
   couple_is : (c : ℕ) → couple_of market c ≡ record { first = (get_or all_members c (0, 0)).0; second = (get_or all_members c (0, 0)).1; pairs = get_or all_pairs c [] }
   couple_is c = ap (λ (cs : List Partners). get_or cs c (record { first = 0; second = 0; pairs = [] })) (sym couples_are) ∙ couple_at all_members all_pairs c (length-pairs (names_of rs) rs)
 
@@ -237,32 +246,38 @@ module _ (rs : List Record) (r : IsRegistration (registered_by_all rs)) where
       roster = subst IsRoster (sym tables_seen) is_roster;
     }
 
--- the same, as the code makes the tables: by the ids of programs and of applicants, by the members, and by the
--- number of applicants
-pub made_by : (rs : List Record) (programs applicants : List Bytes) (members : List (ℕ × ℕ)) (n : ℕ) (t : Inside)
-    → programs ≡ ids_of OfProgram rs
-    → applicants ≡ applicant_ids rs
-    → t.members.items ≡ filter_map (members_in applicants) rs
-    → t.quotas.items ≡ filter_map quota_in rs
-    → t.rankings ≡ filter_map (ranking_in applicants) rs
-    → t.lists ≡ flat_map (lists_by programs) rs
-    → n ≡ length applicants
-    → members ≡ t.members.items
-    → t.agents.items ≡ map (agent_from (bare_couples members) 0) (below n)
-    → t.pairs ≡ filter_map (pairs_in programs) rs
-    → t.program_ids ≡ ids_of OfProgram rs
-    → t.applicant_ids ≡ applicant_ids rs
-    → t.couple_ids ≡ ids_of OfCouple rs
-    → AreMade t rs
-made_by rs programs applicants members n t p a m q r l count same g s x y z = record {
+-- the tables that are made from names and entries
+abbrev pub tables_with : Names → Entries → Vec ℕ Global → Vec Agent Global → Inside
+tables_with names e quotas agents = record {
+  quotas = quotas;
+  rankings = e.rankings;
+  lists = e.lists;
+  agents = agents;
+  members = e.members;
+  pairs = e.pairs;
+  program_ids = names.programs;
+  applicant_ids = names.applicants;
+  couple_ids = names.couples;
+}
+
+-- with agents by the members and by the number of applicants
+pub made_by : (rs : List Record) (names : Names) (e : Entries) (quotas : Vec ℕ Global) (agents : Vec Agent Global) (members : List (ℕ × ℕ)) (n : ℕ)
+    → AreNames rs names
+    → AreEntries names.programs names.applicants rs e
+    → quotas.items ≡ filter_map quota_in rs
+    → n ≡ length names.applicants
+    → members ≡ e.members.items
+    → agents.items ≡ map (agent_from (bare_couples members) 0) (below n)
+    → AreMade (tables_with names e quotas agents) rs
+made_by rs names e quotas agents members n are by q count same g = record {
   quotas = q;
-  rankings = r ∙ ap (λ (ids : List Bytes). filter_map (ranking_in ids) rs) a;
-  lists = l ∙ ap (λ (ids : List Bytes). flat_map (lists_by ids) rs) p;
+  rankings = by.rankings ∙ ap (λ (ids : List Bytes). filter_map (ranking_in ids) rs) are.applicants;
+  lists = by.lists ∙ ap (λ (ids : List Bytes). flat_map (lists_by ids) rs) are.programs;
   agents = g ∙ ap (λ (ms : List (ℕ × ℕ)). map (agent_from (bare_couples ms) 0) (below n)) same
-      ∙ ap (λ k. map (agent_from (bare_couples t.members.items) 0) (below k)) (count ∙ ap length a);
-  members = m ∙ ap (λ (ids : List Bytes). filter_map (members_in ids) rs) a;
-  pairs = s ∙ ap (λ (ids : List Bytes). filter_map (pairs_in ids) rs) p;
-  program_ids = x;
-  applicant_ids = y;
-  couple_ids = z;
+      ∙ ap (λ k. map (agent_from (bare_couples e.members.items) 0) (below k)) (count ∙ ap length are.applicants);
+  members = by.members ∙ ap (λ (ids : List Bytes). filter_map (members_in ids) rs) are.applicants;
+  pairs = by.pairs ∙ ap (λ (ids : List Bytes). filter_map (pairs_in ids) rs) are.programs;
+  program_ids = are.programs;
+  applicant_ids = are.applicants;
+  couple_ids = are.couples;
 }

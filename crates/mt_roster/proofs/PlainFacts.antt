@@ -1,6 +1,6 @@
 -- The passes over records that are plain.
-use Rattle.std.proofs.Common.{◌≡◌, ℕ, ◌+◌, ◌<◌, ◌≤◌, Bool, true, false, List, [], ◌∷◌, ◌++◌, length, Option, Some, None, Result, Ok, Err, refl, ap, sym, ◌∙◌, arith, subst, drop, get_or, Bor}
-use Rattle.std.specs.Prelude.{filter, option_map, sum_by, is_some, IfSome}
+use Rattle.std.proofs.Common.{◌≡◌, ℕ, ◌+◌, ◌^◌, ◌<◌, ◌≤◌, Bool, true, false, List, [], ◌∷◌, ◌++◌, length, Option, Some, None, Result, Ok, Err, refl, ap, sym, ◌∙◌, arith, subst, drop, get_or, Bor}
+use Rattle.std.specs.Prelude.{filter, option_map, sum_by, is_some, bytes_eq, IfSome}
 use Rattle.std.specs.Bool.{then_some}
 use Rattle.std.specs.Option.{option_map_or, option_copied}
 use Rattle.std.specs.List.{list_all}
@@ -8,7 +8,7 @@ use Rattle.std.proofs.lemmas.Bool.{and_parts}
 use Rattle.std.proofs.lemmas.List.{map-append}
 use Rattle.std.proofs.lemmas.List.Folds.{list_all-append}
 use Rattle.mt_model.specs.Registration.{market_under}
-use Rattle.mt_model.specs.Registration.Ids.{Bytes}
+use Rattle.mt_model.specs.Registration.Ids.{Bytes, all_differ}
 use Rattle.mt_model.specs.Registration.Faults.{Charge, charge, fault_at, duplicate_id}
 use Rattle.mt_model.specs.Registration.Records.{Rules, Record, ProgramRecord, ApplicantRecord, CoupleRecord, WithdrawRecord, Kind, OfProgram, OfApplicant, OfCouple, record_of}
 use Rattle.mt_model.specs.Registration.Rows.{ids_of, applicant_ids, withdrawn, withdrawn_id, remaining, entry_count}
@@ -17,9 +17,10 @@ use Rattle.mt_roster.specs.declared.numbering.Entries.{Entries}
 use Rattle.mt_roster.specs.declared.register.Numbered as declared
 use Rattle.mt_roster.specs.declared.register.Kinds.{Kinds}
 use Rattle.mt_roster.specs.declared.register.Register.{Register}
-use Rattle.mt_roster.specs.Entries.{AreEntries}
+use Rattle.mt_roster.specs.declared.numbering.Names.{Names}
+use Rattle.mt_roster.specs.Entries.{AreNames, AreEntries}
 use Rattle.mt_roster.specs.Numbered.{all_seen, stays_without, registered_by_all}
-use Rattle.mt_roster.specs.Registers.{records_seen, contents_seen, ids_in, withdraws_twice, IsRegister}
+use Rattle.mt_roster.specs.Registers.{records_seen, contents_seen, ids_in, withdraws_twice, AreSound, IsRegister}
 use Rattle.mt_roster.specs.Plain.{is_plain, lists_once, IsPlainFront, GoesOn, AreWhole}
 use Rattle.mt_roster.proofs.KeptFacts.{kept_of, kept_sum, AllKept, all_kept, once_all, second_none}
 use Rattle.mt_roster.proofs.NumberingSteps.{filter-remaining, contents-all_seen}
@@ -165,27 +166,32 @@ pub none_copied : (o : Option (Bor Bytes)) (b : Bool) → b ≡ is_some o → b 
 none_copied None b e h = refl
 none_copied (Some x) b e h = cc
 
--- the same with the records as the code has them, and a register that there is
-module _ (rules : Rules) (rows : List (Numbered (List Bytes))) (o : Option Register) (r : Register) where
-  front_of : o ≡ Some r → IfSome o (λ q. IsPlainFront rules rows q []) → IsPlainFront rules rows r []
-  front_of is h = subst (λ (p : Option Register). IfSome p (λ q. IsPlainFront rules rows q [])) is h
+-- the same with the records as the code has them, a register that there is, and the names of its records
+module _ (rules : Rules) (rows : List (Numbered (List Bytes))) (o : Option Register) (r : Register) (is : o ≡ Some r) (front' : IfSome o (λ q. IsPlainFront rules rows q []))
+    (xs : List declared.Numbered) (same : xs ≡ r.records.items) (names : Names) (are : AreNames (all_seen xs) names) where
+  front : IsPlainFront rules rows r []
+  front = subst (λ (p : Option Register). IfSome p (λ q. IsPlainFront rules rows q [])) is front'
 
-  seen : (xs : List declared.Numbered) → xs ≡ r.records.items → all_seen xs ≡ contents_seen r
-  seen xs same = ap all_seen same ∙ sym (contents-all_seen r.records.items)
+  seen : all_seen xs ≡ contents_seen r
+  seen = ap all_seen same ∙ sym (contents-all_seen r.records.items)
 
-  pub whole_applicants : (ys : List declared.Numbered) → o ≡ Some r → IfSome o (λ q. IsPlainFront rules rows q []) → ys ≡ r.records.items → r.applicants ≡ applicant_ids (all_seen ys)
-  whole_applicants ys is h same = (front_of is h).register.applicants ∙ ap applicant_ids (sym (seen ys same))
+  pub names_sound : AreSound (all_seen xs)
+  names_sound = subst AreSound (sym seen) front.register.sound
 
-  pub whole_entries : (e : Entries) (xs ys : List declared.Numbered) → o ≡ Some r → IfSome o (λ q. IsPlainFront rules rows q []) → xs ≡ r.records.items → ys ≡ r.records.items
-      → AreEntries r.registered.programs r.applicants (all_seen xs) e → AreEntries (ids_of OfProgram (all_seen ys)) (applicant_ids (all_seen ys)) (all_seen ys) e
-  whole_entries e xs ys is h same same' are =
-      let there = sym (seen ys same') in
-      entries_by _ _ _ _ _ _ e ((front_of is h).register.registered OfProgram ∙ ap (ids_of OfProgram) there) ((front_of is h).register.applicants ∙ ap applicant_ids there) (seen xs same ∙ there) are
+  pub programs_named : (all_differ bytes_eq names.programs ≡ true) × (length names.programs < 2 ^ 32)
+  programs_named = (
+    ap (all_differ bytes_eq) are.programs ∙ names_sound.programs_differ,
+    omega (arith, ap length are.programs, names_sound.few_programs),
+  )
 
-  pub whole_market : (e : Entries) (xs ys : List declared.Numbered) → o ≡ Some r → IfSome o (λ q. IsPlainFront rules rows q []) → xs ≡ r.records.items → ys ≡ r.records.items
-      → AreEntries r.registered.programs r.applicants (all_seen xs) e → AreWhole (contents_seen r) e → market_under rules rows ≡ Ok (registered_by_all (all_seen ys))
-  whole_market e xs ys is h same same' are whole =
-      let front : IsPlainFront rules rows r [] = front_of is h in
-      let by : AreEntries (ids_of OfProgram (contents_seen r)) (applicant_ids (contents_seen r)) (contents_seen r) e =
-      entries_by _ _ _ _ _ _ e (front.register.registered OfProgram) front.register.applicants (seen xs same) are in
-      plain_market rules rows r e front by whole ∙ ap (λ (rs : List Record). Ok (registered_by_all rs)) (sym (seen ys same'))
+  pub applicants_named : (all_differ bytes_eq names.applicants ≡ true) × (length names.applicants < 2 ^ 32)
+  applicants_named = (
+    ap (all_differ bytes_eq) are.applicants ∙ names_sound.applicants_differ,
+    omega (arith, ap length are.applicants, names_sound.few_applicants),
+  )
+
+  pub whole_market : (e : Entries) → AreEntries names.programs names.applicants (all_seen xs) e → AreWhole (contents_seen r) e → market_under rules rows ≡ Ok (registered_by_all (all_seen xs))
+  whole_market e by whole =
+      let by' : AreEntries (ids_of OfProgram (contents_seen r)) (applicant_ids (contents_seen r)) (contents_seen r) e =
+      entries_by _ _ _ _ _ _ e (are.programs ∙ ap (ids_of OfProgram) seen) (are.applicants ∙ ap applicant_ids seen) seen by in
+      plain_market rules rows r e front by' whole ∙ ap (λ (rs : List Record). Ok (registered_by_all rs)) (sym seen)

@@ -1,16 +1,16 @@
 -- The market of a file's records, by the passes over them.
-use Rattle.std.proofs.Common.{◌≡◌, ◌≢◌, ℕ, ◌+◌, ◌<◌, List, [], ◌∷◌, length, drop, get_or, refl, ap, sym, ◌∙◌, Option, Some, None, Result, Ok, Err}
-use Rattle.std.specs.Prelude.{option_map}
+use Rattle.std.proofs.Common.{◌≡◌, ◌≢◌, ℕ, ◌+◌, ◌<◌, Bool, true, false, ◌&&◌, List, [], ◌∷◌, length, drop, get_or, refl, ap, sym, ◌∙◌, arith, subst, Option, Some, None, Ok, Err, if◌then◌else◌}
+use Rattle.std.specs.Prelude.{bytes_eq, codes}
 use Rattle.std.specs.Option.{option_map_or}
-use Rattle.mt_model.specs.Market.{Registered}
 use Rattle.mt_model.specs.Registration.{market_of, market_of_numbered, market_under}
 use Rattle.mt_model.specs.Registration.Ids.{Bytes}
 use Rattle.mt_model.specs.Registration.Faults as faults
 use Rattle.mt_model.specs.Registration.Records as model
-use Rattle.mt_model.specs.Registration.Records.{Rules, rules_of}
+use Rattle.mt_model.specs.Registration.Records.{Rules, rules_of, version_1, version_2}
 use Rattle.mt_model.specs.Registration.Numbering.{registered}
 use Rattle.mt_model.specs.Registration.Passes.{Numbered, numbered_from, first_pass, second_pass, contents}
 use Rattle.std.proofs.lemmas.List.{get_or_default}
+use Rattle.mt_roster.specs.Registers.{AreBounded}
 use Rattle.mt_roster.proofs.PassFacts.{row_is}
 
 empty : (row : List Bytes) → length row ≡ 0 → row ≡ []
@@ -30,12 +30,20 @@ pub market_after : (rules : Rules) (rest : List (Numbered (List Bytes))) (record
     → market_under rules rest ≡ option_map_or (λ fault. Err fault) (second_pass records) (Ok (registered (contents records)))
 market_after rules rest records h = rw h refl
 
--- the whole way: the version's record, the first pass, and what the second says
-pub market_by : (rows : List (List Bytes)) (i : ℕ) (row : List Bytes) (rules : Rules) (records : List (Numbered model.Record)) (found : Option faults.Fault)
-    → i < length rows → row ≡ get_or rows i row → get_or rows i [] ≢ []
-    → numbered_from 1 rows ≡ numbered_from (i + 1) (drop i rows) → rules_of row ≡ Some rules
-    → first_pass rules [] (numbered_from (i + 1 + 1) (drop (i + 1) rows)) ≡ Ok records
-    → found ≡ second_pass records
-    → market_of rows ≡ option_map_or (λ fault. Err fault) found (Ok (registered (contents records)))
-market_by rows i row rules records found h at n skipped named first second =
-    market_at rows i row rules h at n skipped named ∙ market_after rules _ records first ∙ ap (λ o. option_map_or (λ fault. Err fault) o (Ok (registered (contents records)))) (sym second)
+-- the second pass finds no fault
+pub market_by : (rules : Rules) (rest : List (Numbered (List Bytes))) (records : List (Numbered model.Record)) (found : Option faults.Fault) → first_pass rules [] rest ≡ Ok records
+    → found ≡ second_pass records → found ≡ None → market_under rules rest ≡ Ok (registered (contents records))
+market_by rules rest records found first second none =
+    market_after rules rest records first ∙ ap (λ o. option_map_or (λ fault. Err fault) o (Ok (registered (contents records)))) (sym second ∙ none)
+
+-- no version allows more than an input may have
+pub bounded : (row : List Bytes) (rules : Rules) → rules_of row ≡ Some rules → AreBounded rules.limits
+bounded [] rules h = cc
+bounded (word ∷ []) rules h = cc
+bounded (word ∷ number ∷ []) rules h = by (bytes_eq word (codes "match") && bytes_eq number (codes "1")) (bytes_eq word (codes "match") && bytes_eq number (codes "2")) h
+  where
+    by : (b c : Bool) → (if b then Some version_1 else (if c then Some version_2 else None)) ≡ Some rules → AreBounded rules.limits
+    by true c k = let e : version_1 ≡ rules = cc in subst (λ (r : Rules). AreBounded r.limits) e (record { programs = omega arith; couples = omega arith; applicants = omega arith; entries = omega arith })
+    by false true k = let e : version_2 ≡ rules = cc in subst (λ (r : Rules). AreBounded r.limits) e (record { programs = omega arith; couples = omega arith; applicants = omega arith; entries = omega arith })
+    by false false k = cc
+bounded (word ∷ number ∷ f ∷ fs) rules h = cc

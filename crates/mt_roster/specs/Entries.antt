@@ -1,12 +1,21 @@
--- The lists of records by numbers.
+-- The ids of records, and what the records say by the numbers of their programs and applicants.
 use Rattle.std.specs.Prelude.{◌≡◌, List, filter_map, flat_map}
 use Rattle.mt_model.specs.Registration.Ids.{Bytes}
-use Rattle.mt_model.specs.Registration.Records.{Record}
+use Rattle.mt_model.specs.Registration.Records.{Record, OfProgram, OfCouple}
+use Rattle.mt_model.specs.Registration.Rows.{ids_of, applicant_ids}
 use Rattle.mt_roster.specs.declared.numbering.Entries.{Entries}
-use Rattle.mt_roster.specs.Numbered.{ranking_in, lists_by, pairs_in}
+use Rattle.mt_roster.specs.declared.numbering.Names.{Names}
+use Rattle.mt_roster.specs.Numbered.{ranking_in, lists_by, members_in, pairs_in}
 
--- The lists of these records by the numbers of these programs and applicants.
+-- The ids of these records.
+pub record AreNames (rs : List Record) (n : Names) : Type 0 where
+  pub programs : n.programs ≡ ids_of OfProgram rs
+  pub applicants : n.applicants ≡ applicant_ids rs
+  pub couples : n.couples ≡ ids_of OfCouple rs
+
+-- What these records say by the numbers of these programs and applicants.
 pub record AreEntries (programs applicants : List Bytes) (rs : List Record) (e : Entries) : Type 0 where
   pub rankings : e.rankings ≡ filter_map (ranking_in applicants) rs
   pub lists : e.lists ≡ flat_map (lists_by programs) rs
+  pub members : e.members.items ≡ filter_map (members_in applicants) rs
   pub pairs : e.pairs ≡ filter_map (pairs_in programs) rs

@@ -1,7 +1,8 @@
-ghost use Rattle.std.specs.Prelude.{◌≡◌, ◌<◌, ◌^◌, ◌++◌, [], ◌∷◌, not, length, position, bytes_eq, false, OnOk, OnErr, IfOk, if◌then◌else◌};
-ghost use Rattle.mt_model.specs.Registration.Ids.{has_id};
+ghost use Rattle.std.specs.Prelude.{◌≡◌, ◌<◌, ◌^◌, ◌++◌, [], ◌∷◌, not, length, position, bytes_eq, true, false, OnOk, OnErr, IfOk, if◌then◌else◌};
+ghost use Rattle.mt_model.specs.Registration.Ids.{has_id, all_differ};
 
 use indexmap::IndexSet;
+use mt_model::FlatLists;
 use std::alloc::{AllocError, Global};
 use std::marker::Model;
 
@@ -36,6 +37,18 @@ impl<'a> IdTable<'a> {
         Ok(IdTable {
             ids: IndexSet::with_capacity(alloc, capacity)?,
         })
+    }
+
+    /// The ids that these names are, which differ.
+    pub(crate) fn of(alloc: Global, names: &'a FlatLists<u8>) -> Result<Self, AllocError>
+        requires { all_differ bytes_eq names.now ≡ true }
+        ensures { IfOk result (λ table. table ≡ names.now) }
+    {
+        let mut table = IdTable::with_capacity(alloc, names.len())?;
+        for i in 0..names.len() {
+            table.add(names.list(i))?;
+        }
+        Ok(table)
     }
 
     pub(crate) fn len(&self) -> usize

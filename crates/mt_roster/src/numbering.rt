@@ -12,7 +12,7 @@ ghost use Rattle.mt_model.specs.Laws.Registration.{IsRegistration};
 ghost use Rattle.mt_roster.specs.Records.{kind_seen, record_seen};
 ghost use Rattle.mt_roster.specs.Registers.{contents_seen, IsRegister};
 ghost use Rattle.mt_roster.specs.Numbered.{all_seen, stays_without, number_in, place_in, pair_in, with_more, quota_in, ranking_in, lists_by, members_in, pairs_in, bare_couples, registered_by_all};
-ghost use Rattle.mt_roster.specs.Entries.{AreEntries};
+ghost use Rattle.mt_roster.specs.Entries.{AreNames, AreEntries};
 
 use crate::fields::{Ids, Pairs};
 use crate::id_table::IdTable;
@@ -41,52 +41,6 @@ fn retain(records: &mut Vec<Numbered<'_>>, withdrawn: &Kinds<'_>)
     records.retain(|numbered| stays(withdrawn, &numbered.record));
 }
 
-/// The programs' ids, in order of registration.
-fn program_table<'a>(alloc: Global, records: &[Numbered<'a>]) -> Result<IdTable<'a>, AllocError>
-    requires { all_differ bytes_eq (ids_of OfProgram (all_seen records.now)) ≡ true }
-    ensures { IfOk result (λ ids. ids ≡ ids_of OfProgram (all_seen records.now)) }
-{
-    let mut ids = IdTable::new(alloc);
-    for numbered in records {
-        if let Record::Program { id, .. } = &numbered.record {
-            ids.add(*id)?;
-        }
-    }
-    Ok(ids)
-}
-
-/// The applicants' ids, in order of registration: a couple registers its first and then its second member.
-fn applicant_table<'a>(alloc: Global, records: &[Numbered<'a>]) -> Result<IdTable<'a>, AllocError>
-    requires { all_differ bytes_eq (applicant_ids (all_seen records.now)) ≡ true }
-    ensures { IfOk result (λ ids. ids ≡ applicant_ids (all_seen records.now)) }
-{
-    let mut ids = IdTable::new(alloc);
-    for numbered in records {
-        match &numbered.record {
-            Record::Applicant { id, .. } => {
-                ids.add(*id)?;
-            }
-            Record::Couple { first, second, .. } => {
-                ids.add(*first)?;
-                ids.add(*second)?;
-            }
-            Record::Program { .. } | Record::Withdraw { .. } => {}
-        }
-    }
-    Ok(ids)
-}
-
-/// Adds an id to names.
-fn add_name(names: &mut FlatLists<u8>, id: &[u8]) -> Result<(), AllocError>
-    ensures { OnOk result (names.new ≡ names.old ++ id.now ∷ []) }
-{
-    names.begin()?;
-    for byte in id {
-        names.push(*byte)?;
-    }
-    Ok(())
-}
-
 /// The id that a record registers under a kind, if it is of that kind.
 fn own_id<'a>(kind: Kind, one: &Record<'a>) -> Option<&'a [u8]>
     ensures { option_copied result ≡ own_id (kind_seen kind) (record_seen one.now) }
@@ -110,28 +64,47 @@ fn names_of_kind(
     let mut names = FlatLists::new(alloc);
     for numbered in records {
         if let Some(id) = own_id(kind, &numbered.record) {
-            add_name(&mut names, id)?;
+            names.push_list(id)?;
         }
     }
     Ok(names)
 }
 
-/// The ids of the applicants, in order.
+/// The ids of the applicants, in order of registration: a couple registers its first and then its second member.
 fn applicant_names(alloc: Global, records: &[Numbered<'_>]) -> Result<FlatLists<u8>, AllocError>
     ensures { IfOk result (λ names. names ≡ applicant_ids (all_seen records.now)) }
 {
     let mut names = FlatLists::new(alloc);
     for numbered in records {
         match &numbered.record {
-            Record::Applicant { id, .. } => add_name(&mut names, *id)?,
+            Record::Applicant { id, .. } => names.push_list(*id)?,
             Record::Couple { first, second, .. } => {
-                add_name(&mut names, *first)?;
-                add_name(&mut names, *second)?;
+                names.push_list(*first)?;
+                names.push_list(*second)?;
             }
             Record::Program { .. } | Record::Withdraw { .. } => {}
         }
     }
     Ok(names)
+}
+
+/// The ids of records, those of a kind side by side.
+#[derive(Drop)]
+pub(crate) struct Names {
+    programs: FlatLists<u8>,
+    applicants: FlatLists<u8>,
+    couples: FlatLists<u8>,
+}
+
+/// The ids of the programs, the applicants and the couples of records.
+pub(crate) fn names_of(alloc: Global, records: &[Numbered<'_>]) -> Result<Names, AllocError>
+    ensures { IfOk result (λ names. AreNames (all_seen records.now) names) }
+{
+    Ok(Names {
+        programs: names_of_kind(alloc, Kind::Program, records)?,
+        applicants: applicant_names(alloc, records)?,
+        couples: names_of_kind(alloc, Kind::Couple, records)?,
+    })
 }
 
 /// The programs' quotas.
@@ -360,55 +333,63 @@ fn agents(alloc: Global, count: usize, members: &[(AppNo, AppNo)]) -> Result<Vec
     Ok(agents)
 }
 
-/// The lists of records by numbers.
+/// What records say by numbers.
 #[derive(Drop)]
 pub(crate) struct Entries {
     pub(crate) rankings: FlatLists<AppNo>,
     pub(crate) lists: FlatLists<ProgNo>,
+    pub(crate) members: Vec<(AppNo, AppNo)>,
     pub(crate) pairs: FlatLists<(Option<ProgNo>, Option<ProgNo>)>,
 }
 
-/// The lists of records by the numbers of these programs and applicants: what is none of them leaves its list.
+/// What records say by the numbers of their programs and applicants: what is none of them leaves its list.
 pub(crate) fn entries_of(
     alloc: Global,
-    programs: &IdTable<'_>,
-    applicants: &IdTable<'_>,
+    names: &Names,
     records: &[Numbered<'_>],
 ) -> Result<Entries, AllocError>
-    requires few_programs { length programs.now < 2 ^ 32 }
-    requires few_applicants { length applicants.now < 2 ^ 32 }
-    ensures { IfOk result (λ entries. AreEntries programs.now applicants.now (all_seen records.now) entries) }
+    requires programs_differ { all_differ bytes_eq names.now.programs ≡ true }
+    requires applicants_differ { all_differ bytes_eq names.now.applicants ≡ true }
+    requires few_programs { length names.now.programs < 2 ^ 32 }
+    requires few_applicants { length names.now.applicants < 2 ^ 32 }
+    requires applicants { names.now.applicants ≡ applicant_ids (all_seen records.now) }
+    ensures { IfOk result (λ entries. AreEntries names.now.programs names.now.applicants (all_seen records.now) entries) }
 {
+    // Most of the time goes into finding ids: it is less where they lie side by side than where they lie in the rows.
+    let programs = IdTable::of(alloc, &names.programs)?;
+    let applicants = IdTable::of(alloc, &names.applicants)?;
     Ok(Entries {
-        rankings: rankings(alloc, applicants, records)?,
-        lists: lists(alloc, programs, records)?,
-        pairs: pairs(alloc, programs, records)?,
+        rankings: rankings(alloc, &applicants, records)?,
+        lists: lists(alloc, &programs, records)?,
+        members: members(alloc, &applicants, records)?,
+        pairs: pairs(alloc, &programs, records)?,
     })
 }
 
-/// The market of records none of which is withdrawn, by the ids of its applicants and by its lists.
+/// The market of records none of which is withdrawn, by their ids and by what they say.
 pub(crate) fn with_entries(
     alloc: Global,
-    applicants: &IdTable<'_>,
+    names: Names,
     records: &[Numbered<'_>],
     entries: Entries,
 ) -> Result<Roster, AllocError>
     requires market { IsRegistration (registered_by_all (all_seen records.now)) }
-    requires applicants { applicants.now ≡ applicant_ids (all_seen records.now) }
-    requires entries { AreEntries (ids_of OfProgram (all_seen records.now)) (applicant_ids (all_seen records.now)) (all_seen records.now) entries }
+    requires names { AreNames (all_seen records.now) names }
+    requires entries { AreEntries names.programs names.applicants (all_seen records.now) entries }
     ensures { IfOk result (λ roster. roster ≡ registered_by_all (all_seen records.now)) }
 {
-    let members = members(alloc, applicants, records)?;
+    let quotas = quotas(alloc, records)?;
+    let agents = agents(alloc, names.applicants.len(), &entries.members)?;
     Ok(Roster {
-        quotas: quotas(alloc, records)?,
+        quotas,
         rankings: entries.rankings,
         lists: entries.lists,
-        agents: agents(alloc, applicants.len(), &members)?,
-        members,
+        agents,
+        members: entries.members,
         pairs: entries.pairs,
-        program_ids: names_of_kind(alloc, Kind::Program, records)?,
-        applicant_ids: applicant_names(alloc, records)?,
-        couple_ids: names_of_kind(alloc, Kind::Couple, records)?,
+        program_ids: names.programs,
+        applicant_ids: names.applicants,
+        couple_ids: names.couples,
     })
 }
 
@@ -417,10 +398,9 @@ fn tables(alloc: Global, records: &[Numbered<'_>]) -> Result<Roster, AllocError>
     requires { IsRegistration (registered_by_all (all_seen records.now)) }
     ensures { IfOk result (λ roster. roster ≡ registered_by_all (all_seen records.now)) }
 {
-    let programs = program_table(alloc, records)?;
-    let applicants = applicant_table(alloc, records)?;
-    let entries = entries_of(alloc, &programs, &applicants, records)?;
-    with_entries(alloc, &applicants, records, entries)
+    let names = names_of(alloc, records)?;
+    let entries = entries_of(alloc, &names, records)?;
+    with_entries(alloc, names, records, entries)
 }
 
 /// The market of the records that were read, after their withdrawals, where they have no fault.

@@ -9,7 +9,7 @@ ghost use Rattle.mt_roster.specs.Records.{record_seen};
 ghost use Rattle.mt_roster.specs.Registers.{contents_seen, AreBounded, IsRegister};
 ghost use Rattle.mt_roster.specs.Plain.{is_plain, IsPlainFront, GoesOn, AcceptsRegistrations, AreWhole, Marks};
 
-use crate::numbering::{Entries, entries_of, with_entries};
+use crate::numbering::{Entries, entries_of, names_of, with_entries};
 use crate::record::{Record, record_of};
 use crate::register::Register;
 use crate::repeats::has_repeated_pair;
@@ -221,11 +221,12 @@ pub(crate) fn read_plain(
     let Some(register) = records(alloc, rules, rows, from)? else {
         return Ok(None);
     };
-    let programs = &register.registered.programs;
-    let entries = entries_of(alloc, programs, &register.applicants, &register.records)?;
+    let records = register.records.as_slice();
+    let names = names_of(alloc, records)?;
+    let entries = entries_of(alloc, &names, records)?;
     if !are_whole(alloc, &register, &entries)? {
         return Ok(None);
     }
-    let roster = with_entries(alloc, &register.applicants, &register.records, entries)?;
+    let roster = with_entries(alloc, names, records, entries)?;
     Ok(Some(roster))
 }

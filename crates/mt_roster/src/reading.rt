@@ -3,14 +3,14 @@ ghost use Rattle.mt_model.specs.Registration.{market_of};
 ghost use Rattle.mt_model.specs.Registration.Passes.{numbered_from};
 ghost use Rattle.mt_roster.specs.Faults.{Tells};
 ghost use Rattle.mt_roster.specs.Refusals.{Gives};
-ghost use Rattle.mt_roster.specs.Read.{NamesNoVersion, same};
+ghost use Rattle.mt_roster.specs.Read.{NamesNoVersion, GivesVersion, same};
 
 use crate::fault::{RosterError, error_of};
 use crate::first_pass::first_pass;
 use crate::numbering::roster_of;
 use crate::plain::read_plain;
 use crate::refusal::{Fault, Refusal};
-use crate::rules::rules_of;
+use crate::rules::{Rules, rules_of};
 use crate::tables::Roster;
 use mt_lists::Row;
 use std::alloc::Global;
@@ -41,9 +41,9 @@ fn no_version<'a>(row: u64) -> Refusal<'a>
     })
 }
 
-/// The market of a file's records, or its first fault.
-fn read(alloc: Global, rows: &[Row]) -> Result<Roster, Refusal<'_>>
-    ensures { Gives same result (market_of rows.now) }
+/// The rules of the version that a file names, and the place of the record after the one that names it.
+pub(crate) fn version_of(rows: &[Row]) -> Result<(Rules, usize), Refusal<'_>>
+    ensures { GivesVersion rows.now result }
 {
     let blanks = blank_rows(rows);
     if blanks == rows.len() {
@@ -52,10 +52,18 @@ fn read(alloc: Global, rows: &[Row]) -> Result<Roster, Refusal<'_>>
     let Some(rules) = rules_of(&rows[blanks]) else {
         return Err(no_version(blanks as u64 + 1));
     };
-    if let Some(roster) = read_plain(alloc, &rules, rows, blanks + 1)? {
+    Ok((rules, blanks + 1))
+}
+
+/// The market of a file's records, or its first fault.
+fn read(alloc: Global, rows: &[Row]) -> Result<Roster, Refusal<'_>>
+    ensures { Gives same result (market_of rows.now) }
+{
+    let (rules, from) = version_of(rows)?;
+    if let Some(roster) = read_plain(alloc, &rules, rows, from)? {
         return Ok(roster);
     }
-    let register = first_pass(alloc, &rules, rows, blanks + 1)?;
+    let register = first_pass(alloc, &rules, rows, from)?;
     if let Some(fault) = register.second_pass() {
         return Err(Refusal::Fault(fault));
     }

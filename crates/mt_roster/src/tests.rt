@@ -5,6 +5,7 @@ ghost use Rattle.mt_model.specs.Market.{applicants};
 mod faults;
 mod limits;
 mod markets;
+mod plain;
 mod withdrawals;
 
 use crate::{Roster, RosterError, roster};

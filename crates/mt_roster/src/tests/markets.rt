@@ -2,6 +2,7 @@
 use crate::tests::{gives, shown};
 use crate::{laws, roster};
 use mt_lists::Row;
+use std::alloc::Global;
 use std::test::Fail;
 
 #[test]
@@ -13,30 +14,42 @@ fn an_empty_market(rt: HostRuntime) -> Result<(), Fail> {
     Ok(())
 }
 
-// Two programs and two applicants, each of whom wants most what wants it least, from bytes and from rows of fields. The
-// third file is as a spreadsheet writes it: a mark, quotes, a quota with a leading zero, empty fields at the end of
-// records, an empty line, a record without a field, and no end to the last record.
+const CROSSED: &str =
+    "program P1 1: 1 0\nprogram P2 1: 0 1\napplicant a1 single 0: 0 1\napplicant a2 single 1: 1 0\n";
+
+// Two programs and two applicants, each of whom wants most what wants it least. The third file is as a spreadsheet writes
+// it: a mark, quotes, a quota with a leading zero, empty fields at the end of records, an empty line, a record without a
+// field, and no end to the last record.
 #[test]
 fn two_programs_and_two_applicants(rt: HostRuntime) -> Result<(), Fail> {
-    let market =
-        "program P1 1: 1 0\nprogram P2 1: 0 1\napplicant a1 single 0: 0 1\napplicant a2 single 1: 1 0\n";
     for file in [
         "match,1\nprogram,P1,1,a2,a1\nprogram,P2,1,a1,a2\napplicant,a1,P1,P2\napplicant,a2,P2,P1\n",
         "match,2\nprogram,P1,1,a2,a1\nprogram,P2,1,a1,a2\napplicant,a1,P1,P2\napplicant,a2,P2,P1\n",
         "\u{FEFF}match,1,,\r\n\"program\",P1,1,\"a2\",a1\r\n\r\nprogram,P2,01,a1,a2,\r\n,,,\r\napplicant,a1,P1,P2\r\napplicant,\"a2\",P2,P1",
     ] {
-        assert!(rt; gives(rt.alloc(), file, market)?, "{file}");
+        assert!(rt; gives(rt.alloc(), file, CROSSED)?, "{file}");
     }
-    let rows = [
-        Row::from_fields(rt.alloc(), &[])?,
-        Row::from_fields(rt.alloc(), &[b"match", b"1"])?,
-        Row::from_fields(rt.alloc(), &[b"program", b"P1", b"1", b"a2", b"a1"])?,
-        Row::from_fields(rt.alloc(), &[b"program", b"P2", b"1", b"a1", b"a2"])?,
-        Row::from_fields(rt.alloc(), &[b"applicant", b"a1", b"P1", b"P2"])?,
-        Row::from_fields(rt.alloc(), &[b"applicant", b"a2", b"P2", b"P1"])?,
-    ];
+    Ok(())
+}
+
+/// The version's record after one without a field, and two programs.
+fn push_programs(alloc: Global, rows: &mut Vec<Row>) -> Result<(), Fail> {
+    rows.push(Row::from_fields(alloc, &[])?)?;
+    rows.push(Row::from_fields(alloc, &[b"match", b"1"])?)?;
+    rows.push(Row::from_fields(alloc, &[b"program", b"P1", b"1", b"a2", b"a1"])?)?;
+    rows.push(Row::from_fields(alloc, &[b"program", b"P2", b"1", b"a1", b"a2"])?)?;
+    Ok(())
+}
+
+// The same market from rows of fields.
+#[test]
+fn rows_of_fields(rt: HostRuntime) -> Result<(), Fail> {
+    let mut rows = Vec::new(rt.alloc());
+    push_programs(rt.alloc(), &mut rows)?;
+    rows.push(Row::from_fields(rt.alloc(), &[b"applicant", b"a1", b"P1", b"P2"])?)?;
+    rows.push(Row::from_fields(rt.alloc(), &[b"applicant", b"a2", b"P2", b"P1"])?)?;
     let crossed = roster(rt.alloc(), &rows)?;
-    assert!(rt; shown(rt.alloc(), &crossed)?.as_slice() == market.as_bytes());
+    assert!(rt; shown(rt.alloc(), &crossed)?.as_slice() == CROSSED.as_bytes());
     Ok(())
 }
 

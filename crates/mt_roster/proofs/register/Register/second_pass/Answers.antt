@@ -1,4 +1,4 @@
-use Rattle.std.proofs.Common.{sym, ap, arith, ◌∙◌, Some, length, take, subst, None, map, ◌≡◌}
+use Rattle.std.proofs.Common.{sym, ap, arith, ◌∙◌, Some, map}
 use Rattle.std.specs.Prelude.{option_map}
 use Rattle.std.proofs.lemmas.List.{take_all}
 use Rattle.mt_model.specs.Registration.Faults.{fault_at}

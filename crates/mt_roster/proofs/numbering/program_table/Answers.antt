@@ -1,7 +1,0 @@
-use Rattle.std.proofs.Common.{arith}
-use Rattle.std.proofs.lemmas.Grind.{common_steps}
-use Rattle.mt_roster.proofs.NumberingSteps.{add_keeps}
-use Rattle.mt_roster.proofs.numbering.program_table.Goals as goal
-
-pub loop-numbered-preserved : goal.loop-numbered-preserved
-loop-numbered-preserved c = grind (arith, common_steps, add_keeps)
