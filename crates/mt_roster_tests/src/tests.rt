@@ -7,9 +7,9 @@ mod limits;
 mod markets;
 mod withdrawals;
 
-use crate::{Roster, RosterError, roster};
 use mt_lists::{ListFault, records};
 use mt_model::{Agent, AppNo, CoupleNo, ProgNo};
+use mt_roster::{Roster, RosterError, roster};
 use std::alloc::Global;
 use std::test::Fail;
 
