@@ -17,8 +17,6 @@ mod repeats;
 mod rules;
 mod second_pass;
 mod tables;
-#[cfg(test)]
-mod tests;
 mod unknown;
 
 pub use fault::{IdText, RosterError, RosterFault};

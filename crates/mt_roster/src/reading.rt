@@ -42,7 +42,7 @@ fn no_version<'a>(row: u64) -> Refusal<'a>
 }
 
 /// The rules of the version that a file names, and the place of the record after the one that names it.
-pub(crate) fn version_of(rows: &[Row]) -> Result<(Rules, usize), Refusal<'_>>
+fn version_of(rows: &[Row]) -> Result<(Rules, usize), Refusal<'_>>
     ensures { GivesVersion rows.now result }
 {
     let blanks = blank_rows(rows);

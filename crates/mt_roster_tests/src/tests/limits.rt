@@ -1,7 +1,7 @@
 //! The limits of the two versions.
-use crate::roster;
 use crate::tests::{gives, is_refused};
 use mt_lists::records;
+use mt_roster::roster;
 use std::alloc::Global;
 use std::test::Fail;
 

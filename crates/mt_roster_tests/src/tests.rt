@@ -5,12 +5,11 @@ ghost use Rattle.mt_model.specs.Market.{applicants};
 mod faults;
 mod limits;
 mod markets;
-mod plain;
 mod withdrawals;
 
-use crate::{Roster, RosterError, roster};
 use mt_lists::{ListFault, records};
 use mt_model::{Agent, AppNo, CoupleNo, ProgNo};
+use mt_roster::{Roster, RosterError, roster};
 use std::alloc::Global;
 use std::test::Fail;
 
