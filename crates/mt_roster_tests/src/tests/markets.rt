@@ -1,7 +1,7 @@
 //! Accepted files. Numbers go by order of registration from 0, for programs, applicants and couples each.
-use crate::tests::{gives, shown};
+use crate::tests::{gives, make};
 use mt_lists::Row;
-use mt_roster::{laws, roster};
+use mt_roster::laws;
 use std::alloc::Global;
 use std::test::Fail;
 
@@ -41,15 +41,20 @@ fn push_programs(alloc: Global, rows: &mut Vec<Row>) -> Result<(), Fail> {
     Ok(())
 }
 
+/// Two applicants.
+fn push_applicants(alloc: Global, rows: &mut Vec<Row>) -> Result<(), Fail> {
+    rows.push(Row::from_fields(alloc, &[b"applicant", b"a1", b"P1", b"P2"])?)?;
+    rows.push(Row::from_fields(alloc, &[b"applicant", b"a2", b"P2", b"P1"])?)?;
+    Ok(())
+}
+
 // The same market from rows of fields.
 #[test]
 fn rows_of_fields(rt: HostRuntime) -> Result<(), Fail> {
     let mut rows = Vec::new(rt.alloc());
     push_programs(rt.alloc(), &mut rows)?;
-    rows.push(Row::from_fields(rt.alloc(), &[b"applicant", b"a1", b"P1", b"P2"])?)?;
-    rows.push(Row::from_fields(rt.alloc(), &[b"applicant", b"a2", b"P2", b"P1"])?)?;
-    let crossed = roster(rt.alloc(), &rows)?;
-    assert!(rt; shown(rt.alloc(), &crossed)?.as_slice() == CROSSED.as_bytes());
+    push_applicants(rt.alloc(), &mut rows)?;
+    assert!(rt; make(rt.alloc(), &rows, CROSSED)?);
     Ok(())
 }
 
