@@ -1,12 +1,11 @@
 -- Each fault of a file has one of the codes of the table.
-use Rattle.std.proofs.Common.{◌≡◌, ℕ, Bool, true, false, ◌&&◌, List, [], ◌∷◌, ◌++◌, map, Option, Some, None, Result, Ok, Err, refl, ap, sym, ◌∙◌, nat_le}
+use Rattle.std.proofs.Common.{◌≡◌, ℕ, Bool, true, false, ◌&&◌, List, [], ◌∷◌, ◌++◌, map, Option, Some, None, Result, Ok, Err, refl, ap, sym, ◌∙◌}
 use Rattle.std.specs.Prelude.{if◌then◌else◌, option_map, ok_or, codes, bytes_eq}
 use Rattle.std.specs.Option.{option_map_or}
 use Rattle.std.specs.Bool.{then_some}
 use Rattle.std.specs.List.{list_all}
-use Rattle.std.proofs.lemmas.Bool.{and_parts}
 use Rattle.mt_model.specs.Market.{Registered}
-use Rattle.mt_model.specs.Registration.{market_of, market_of_numbered, market_under}
+use Rattle.mt_model.specs.Registration.{market_of_numbered, market_under}
 use Rattle.mt_model.specs.Registration.Ids.{Bytes, quota_of}
 use Rattle.mt_model.specs.Registration.Faults.{Charge, Fault, charge, charge_alone, fault_at, bad_id, bad_quota, duplicate_id, duplicate_entry, too_many, unknown_applicant, unknown_program, not_registered, no_version}
 use Rattle.mt_model.specs.Registration.Records.{Rules, Record, ProgramRecord, ApplicantRecord, CoupleRecord, WithdrawRecord, Kind, OfProgram, OfApplicant, OfCouple, rules_of, are_ids, is_pair, pair_of, two_by_two, record_of, record_by_kind, program_record, applicant_record, couple_record, couple_by_pairs, withdraw_by_kind, withdraw_record, kind_of}

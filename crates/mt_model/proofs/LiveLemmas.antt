@@ -1,17 +1,15 @@
 -- The singles' market with live lists alone has the stable matches of the market.
-use Rattle.std.proofs.Common.{◌≡◌, ◌↔◌, ℕ, ◌<◌, ◌≤◌, ◌&&◌, ◌==◌, Bool, true, false, List, [], ◌∷◌, filter, length, if◌then◌else◌, IsTrue, IsFalse, refl, sym, ap, ◌∙◌, inl, inr, arith, subst}
-use Rattle.std.proofs.lemmas.Bool.{both_ways, cases_Bool, cases_lt, and_left, and_parts, false_from_ne_true}
+use Rattle.std.proofs.Common.{◌≡◌, ℕ, ◌&&◌, Bool, true, false, List, [], ◌∷◌, filter, length, IsTrue, refl, sym, ap, ◌∙◌, inl, inr, arith}
+use Rattle.std.proofs.lemmas.Bool.{both_ways, cases_Bool, cases_lt, and_left, false_from_ne_true}
 use Rattle.std.proofs.lemmas.Bool.Decides.{nat_tests}
 use Rattle.std.proofs.lemmas.List.{get_or_past}
-use Rattle.mt_model.specs.Lists.{Set, has, until, through, below, total_below, count_below, with_one}
+use Rattle.mt_model.specs.Lists.{Set, has, until, through, total_below, count_below}
 use Rattle.mt_model.specs.Market.{Market, applicants, program_of, list_of, live, live_entries, singles_market, live_market}
 use Rattle.mt_model.specs.Matching.{Places, at}
-use Rattle.mt_model.specs.Choice.{choice}
 use Rattle.mt_model.specs.Stability.{stable}
 use Rattle.mt_model.specs.Best.{IsExcluded, IsBest, better_programs, proposed_to, proposals}
 use Rattle.mt_model.specs.WellFormed.{IsWellFormed}
-use Rattle.mt_model.specs.Laws.Singles.{IsStableForSingles}
-use Rattle.mt_model.specs.Laws.Live.{LiveAgrees, LiveMarketAgrees}
+use Rattle.mt_model.specs.Laws.Live.{LiveMarketAgrees}
 use Rattle.mt_model.proofs.BelowFacts.{length-map_below, map_below_at}
 use Rattle.mt_model.proofs.Totals.{total_below-same, count_below-same}
 use Rattle.mt_model.proofs.SinglesFacts.{stable_facts, stable_from_facts}

@@ -1,23 +1,22 @@
 -- What the verdict of a match says of it.
-use Rattle.std.proofs.Common.{◌≡◌, ◌≢◌, ◌↔◌, ℕ, zero, suc, ◌+◌, ◌<◌, ◌≤◌, Bool, true, false, not, ◌&&◌, ◌||◌, ◌==◌, nat_le, min, List, [], ◌∷◌, map, filter, length, Option, Some, None, unwrap_or, IsTrue, IsFalse, refl, ap, sym, ◌∙◌, subst, get_or, eqb-true, eq-eqb, inl, inr, arith, ◌⊎◌}
+use Rattle.std.proofs.Common.{◌≡◌, ℕ, zero, suc, ◌+◌, ◌<◌, ◌≤◌, Bool, true, false, not, ◌&&◌, ◌||◌, ◌==◌, nat_le, List, [], ◌∷◌, map, filter, length, Option, Some, None, unwrap_or, IsTrue, IsFalse, refl, ap, sym, ◌∙◌, subst, get_or, eq-eqb, inl, inr, arith, ◌⊎◌}
 use Rattle.std.specs.List.{list_any, list_all, range_with_len, find, position, position_or_len}
 use Rattle.std.specs.Option.{option_map}
 use Rattle.std.proofs.lemmas.Bool.{and_parts, and_from, or_parts, or_from, and_right, or_right, cases_lt, not-true, not-false, not_from_true, not_from_false, cases_Bool, both_ways, lt-ltb, false_from_ne_true, true_from_ne_false}
 use Rattle.std.proofs.lemmas.Bool.Decides.{nat_tests}
 use Rattle.std.proofs.lemmas.List.Quantifiers.{position-Some}
-use Rattle.std.proofs.lemmas.List.Folds.{list_all-map}
 use Rattle.mt_model.specs.Lists.{Set, until, below}
 use Rattle.mt_model.specs.Market.{Market, Partners, applicants, program_of, couple_of, is_member, agent_from, agent_of, leads, agents}
 use Rattle.mt_model.specs.Matching.{Places, place_of, filled, options, holds, better}
 use Rattle.mt_model.specs.Stability.{is_listed, has_own_option, fits, stable, would_be_taken, blocks}
 use Rattle.mt_model.specs.Verdict.{lowest_number, is_unlisted, is_over, blocking_option, blocks_verdict, over_verdict, unlisted_verdict, verdict_of}
 use Rattle.mt_model.specs.WellFormed.{IsWellFormed, IsMember}
-use Rattle.mt_model.specs.Laws.Verdict.{IsFirstBelow, IsFirstUnlisted, IsFirstOver, IsFirstTaken, IsFirstBlocker, VerdictSays, VerdictInWords, StableVerdict}
+use Rattle.mt_model.specs.Laws.Verdict.{IsFirstBelow, IsFirstTaken, VerdictSays, VerdictInWords, StableVerdict}
 use Rattle.mt_model.specs.declared.numbers.Agent.{Agent}
 use Rattle.mt_model.specs.declared.numbers.Agent.TheVariants.{Single, Couple}
 use Rattle.mt_model.specs.declared.verdict.Verdict.{Verdict}
 use Rattle.mt_model.specs.declared.verdict.Verdict.TheVariants.{Stable, Unlisted, Over, Blocks}
-use Rattle.mt_model.proofs.ListLemmas.{all_below, each_below, each_fails_below, none_below, list_any-not}
+use Rattle.mt_model.proofs.ListLemmas.{all_below, each_below, each_fails_below, list_any-not}
 
 -- a search that finds nothing
 pub find_nothing : {X : Type 0} (test : X → Bool) (xs : List X) → find test xs ≡ None → IsFalse (list_any test xs)

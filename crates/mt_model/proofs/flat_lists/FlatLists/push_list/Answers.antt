@@ -1,4 +1,4 @@
-use Rattle.std.proofs.Common.{◌≡◌, ◌≤◌, ap, ◌∙◌, ◌++◌, ◌∷◌, [], arith, length, length-append}
+use Rattle.std.proofs.Common.{◌≡◌, ap, ◌∙◌, ◌++◌, ◌∷◌, [], arith, length, length-append}
 use Rattle.mt_model.proofs.FlatListsFacts.{AreEnds-append, pieces-append}
 use Rattle.mt_model.proofs.flat_lists.FlatLists.push_list.Goals as goal
 
