@@ -65,19 +65,16 @@ differ_before (x ∷ xs) y ys h =
     later [] x e = or_left _ _ (is_same x y (sym e))
     later (z ∷ zs) x e = or_right _ _ (later zs x e)
 
--- so it is added at the end
-pub add_step : (ids : List Bytes) (id : Bytes) (rest : List Bytes) → all_differ bytes_eq (ids ++ id ∷ rest) ≡ true
-    → (if has_id ids id then ids else ids ++ id ∷ []) ++ rest ≡ ids ++ id ∷ rest
-add_step ids id rest h = rw (differ_before ids id rest h) (append_assoc ids (id ∷ []) rest)
-
 -- the next element of what is left, by what it is
 pub next_at : {X Y : Type 0} (F : List X → Y) (xs : List X) (i : ℕ) (x y : X) → i < length xs → x ≡ get_or xs i x → x ≡ y → F (drop i xs) ≡ F (y ∷ drop (i + 1) xs)
 next_at F xs i x y h at is = ap F (drop_more xs i x h ∙ ap (λ z. z ∷ drop (i + 1) xs) (sym at ∙ is))
 
--- an id that is added keeps the ids so far and those to come
-pub add_keeps : (ids : List Bytes) (id : Bytes) (rest all : List Bytes) → all_differ bytes_eq all ≡ true → ids ++ id ∷ rest ≡ all
-    → (if has_id ids id then ids else ids ++ id ∷ []) ++ rest ≡ all
-add_keeps ids id rest all h e = add_step ids id rest (ap (all_differ bytes_eq) e ∙ h) ∙ e
+-- an id of different ones is none of those before it, and follows them
+pub is_new : (ids : List Bytes) (id : Bytes) (rest all : List Bytes) → all_differ bytes_eq all ≡ true → ids ++ id ∷ rest ≡ all → has_id ids id ≡ false
+is_new ids id rest all h e = differ_before ids id rest (ap (all_differ bytes_eq) e ∙ h)
+
+pub follows : (ids : List Bytes) (id : Bytes) (rest all : List Bytes) → ids ++ id ∷ rest ≡ all → (ids ++ id ∷ []) ++ rest ≡ all
+follows ids id rest all e = append_assoc ids (id ∷ []) rest ∙ e
 
 -- a list by numbers, one id on
 pub numbers_of-some : (ids : List Bytes) (id : Bytes) (rest : List Bytes) (n : ℕ) → number_in ids id ≡ Some n → numbers_of ids (id ∷ rest) ≡ n ∷ numbers_of ids rest

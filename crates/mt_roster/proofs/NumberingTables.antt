@@ -6,7 +6,7 @@ use Rattle.std.proofs.lemmas.List.{same_lists, length-set, get_or-set_same, get_
 use Rattle.mt_model.specs.declared.numbers.Agent.{Agent}
 use Rattle.mt_model.specs.declared.numbers.Agent.TheVariants.{Couple}
 use Rattle.mt_model.specs.Lists.{below}
-use Rattle.mt_model.specs.Market.{Market, Partners, Pair, Names as Ids, applicants, couple_of, agent_from, agent_of}
+use Rattle.mt_model.specs.Market.{Market, Partners, Pair, Names, applicants, couple_of, agent_from, agent_of}
 use Rattle.mt_model.specs.Registration.Ids.{Bytes}
 use Rattle.mt_model.specs.Registration.Records.{Record, ProgramRecord, ApplicantRecord, CoupleRecord, WithdrawRecord, OfProgram, OfCouple}
 use Rattle.mt_model.specs.Registration.Rows.{ids_of, applicant_ids}
@@ -15,7 +15,7 @@ use Rattle.mt_model.specs.Laws.Registration.{IsRegistration}
 use Rattle.mt_model.proofs.BelowFacts.{length-map_below, map_below_at}
 use Rattle.mt_roster.specs.Tables.{programs_with, couples_with, IsRoster}
 use Rattle.mt_roster.specs.declared.numbering.Entries.{Entries}
-use Rattle.mt_roster.specs.declared.numbering.Names.{Names}
+use Rattle.mt_roster.specs.declared.numbering.NameLists.{NameLists}
 use Rattle.mt_roster.specs.Entries.{AreNames, AreEntries}
 use Rattle.mt_roster.specs.View.{registered_of, AreTables}
 use Rattle.mt_roster.specs.Numbered.{quota_in, ranking_in, lists_by, members_in, pairs_in, bare_couples, registered_by_all}
@@ -23,7 +23,7 @@ use Rattle.mt_roster.specs.declared.tables.Roster.TheInside.{Inside}
 use Rattle.mt_roster.proofs.TablesFacts.{length-couples_with, couple_at}
 
 -- the tables of programs, of lists and of couples
-module _ (N : Ids) where
+module _ (N : Names) where
   pub programs_of_tables : (rs : List Record) → programs_with (filter_map quota_in rs) (filter_map (ranking_in N.applicants) rs) ≡ filter_map (program_in N) rs
   programs_of_tables [] = refl
   programs_of_tables (ProgramRecord id quota list ∷ rs) = rw (programs_of_tables rs) refl
@@ -247,7 +247,7 @@ module _ (rs : List Record) (r : IsRegistration (registered_by_all rs)) where
     }
 
 -- the tables that are made from names and entries
-abbrev pub tables_with : Names → Entries → Vec ℕ Global → Vec Agent Global → Inside
+abbrev pub tables_with : NameLists → Entries → Vec ℕ Global → Vec Agent Global → Inside
 tables_with names e quotas agents = record {
   quotas = quotas;
   rankings = e.rankings;
@@ -261,7 +261,7 @@ tables_with names e quotas agents = record {
 }
 
 -- with agents by the members and by the number of applicants
-pub made_by : (rs : List Record) (names : Names) (e : Entries) (quotas : Vec ℕ Global) (agents : Vec Agent Global) (members : List (ℕ × ℕ)) (n : ℕ)
+pub made_by : (rs : List Record) (names : NameLists) (e : Entries) (quotas : Vec ℕ Global) (agents : Vec Agent Global) (members : List (ℕ × ℕ)) (n : ℕ)
     → AreNames rs names
     → AreEntries names.programs names.applicants rs e
     → quotas.items ≡ filter_map quota_in rs

@@ -7,6 +7,7 @@ use Rattle.std.specs.List.{list_all}
 use Rattle.std.proofs.lemmas.Bool.{and_parts}
 use Rattle.std.proofs.lemmas.List.{map-append}
 use Rattle.std.proofs.lemmas.List.Folds.{list_all-append}
+use Rattle.mt_model.specs.Market.{Registered}
 use Rattle.mt_model.specs.Registration.{market_under}
 use Rattle.mt_model.specs.Registration.Ids.{Bytes, all_differ}
 use Rattle.mt_model.specs.Registration.Faults.{Charge, charge, fault_at, duplicate_id}
@@ -17,11 +18,11 @@ use Rattle.mt_roster.specs.declared.numbering.Entries.{Entries}
 use Rattle.mt_roster.specs.declared.register.Numbered as declared
 use Rattle.mt_roster.specs.declared.register.Kinds.{Kinds}
 use Rattle.mt_roster.specs.declared.register.Register.{Register}
-use Rattle.mt_roster.specs.declared.numbering.Names.{Names}
+use Rattle.mt_roster.specs.declared.numbering.NameLists.{NameLists}
 use Rattle.mt_roster.specs.Entries.{AreNames, AreEntries}
 use Rattle.mt_roster.specs.Numbered.{all_seen, stays_without, registered_by_all}
-use Rattle.mt_roster.specs.Registers.{records_seen, contents_seen, ids_in, withdraws_twice, AreSound, IsRegister}
-use Rattle.mt_roster.specs.Plain.{is_plain, lists_once, IsPlainFront, GoesOn, AreWhole}
+use Rattle.mt_roster.specs.Registers.{records_seen, contents_seen, ids_in, withdraws_twice, IsRegister}
+use Rattle.mt_roster.specs.Plain.{is_plain, lists_once, IsPlainFront, GoesOn, AreWhole, AreWholeEntries, IsWholeMarket}
 use Rattle.mt_roster.proofs.KeptFacts.{kept_of, kept_sum, AllKept, all_kept, once_all, second_none}
 use Rattle.mt_roster.proofs.NumberingSteps.{filter-remaining, contents-all_seen}
 use Rattle.mt_roster.proofs.PassFacts.{row_is}
@@ -166,32 +167,60 @@ pub none_copied : (o : Option (Bor Bytes)) (b : Bool) → b ≡ is_some o → b 
 none_copied None b e h = refl
 none_copied (Some x) b e h = cc
 
--- the same with the records as the code has them, a register that there is, and the names of its records
-module _ (rules : Rules) (rows : List (Numbered (List Bytes))) (o : Option Register) (r : Register) (is : o ≡ Some r) (front' : IfSome o (λ q. IsPlainFront rules rows q []))
-    (xs : List declared.Numbered) (same : xs ≡ r.records.items) (names : Names) (are : AreNames (all_seen xs) names) where
-  front : IsPlainFront rules rows r []
-  front = subst (λ (p : Option Register). IfSome p (λ q. IsPlainFront rules rows q [])) is front'
+-- what holds of the value, if there is one
+some_weaker : {X : Type 0} (o : Option X) (P Q : X → Type 0) → ((x : X) → P x → Q x) → IfSome o P → IfSome o Q
+some_weaker None P Q f h = h
+some_weaker (Some x) P Q f h = f x h
 
-  seen : all_seen xs ≡ contents_seen r
-  seen = ap all_seen same ∙ sym (contents-all_seen r.records.items)
+pub some_of : {X : Type 0} (P : X → Type 0) (o : Option X) (x : X) → o ≡ Some x → IfSome o P → P x
+some_of P o x is = subst (λ p. IfSome p P) is
 
-  pub names_sound : AreSound (all_seen xs)
-  names_sound = subst AreSound (sym seen) front.register.sound
+-- the market of the rows, by what their register says by numbers
+pub market_of_whole : (rules : Rules) (rows : List (Numbered (List Bytes))) (r : Register) (e : Entries) → IsPlainFront rules rows r [] → AreWholeEntries r e
+    → market_under rules rows ≡ Ok (registered_by_all (contents_seen r))
+market_of_whole rules rows r e front are = plain_market rules rows r e front are.said are.whole
+
+pub markets_of_whole : (rules : Rules) (rows : List (Numbered (List Bytes))) (r : Register) (found : Option Registered) → IsPlainFront rules rows r []
+    → IfSome found (λ m. IsWholeMarket r m) → IfSome found (λ m. market_under rules rows ≡ Ok m)
+markets_of_whole rules rows r found front =
+    some_weaker found _ _ (λ m is. market_of_whole rules rows r is.entries.0 front is.entries.1 ∙ ap Ok (sym is.market))
+
+-- the records of a register as the code has them
+seen_of : (r : Register) (xs : List declared.Numbered) → xs ≡ r.records.items → all_seen xs ≡ contents_seen r
+seen_of r xs same = ap all_seen same ∙ sym (contents-all_seen r.records.items)
+
+-- The names of a register's records differ, and are few.
+module _ (r : Register) (is : IsRegister r) (names : NameLists) (are : AreNames (all_seen r.records.items) names) where
+  programs_are : names.programs ≡ ids_of OfProgram (contents_seen r)
+  programs_are = are.programs ∙ ap (ids_of OfProgram) (seen_of r r.records.items refl)
+
+  applicants_are : names.applicants ≡ applicant_ids (contents_seen r)
+  applicants_are = are.applicants ∙ ap applicant_ids (seen_of r r.records.items refl)
 
   pub programs_named : (all_differ bytes_eq names.programs ≡ true) × (length names.programs < 2 ^ 32)
   programs_named = (
-    ap (all_differ bytes_eq) are.programs ∙ names_sound.programs_differ,
-    omega (arith, ap length are.programs, names_sound.few_programs),
+    ap (all_differ bytes_eq) programs_are ∙ is.sound.programs_differ,
+    omega (arith, ap length programs_are, is.sound.few_programs),
   )
 
   pub applicants_named : (all_differ bytes_eq names.applicants ≡ true) × (length names.applicants < 2 ^ 32)
   applicants_named = (
-    ap (all_differ bytes_eq) are.applicants ∙ names_sound.applicants_differ,
-    omega (arith, ap length are.applicants, names_sound.few_applicants),
+    ap (all_differ bytes_eq) applicants_are ∙ is.sound.applicants_differ,
+    omega (arith, ap length applicants_are, is.sound.few_applicants),
   )
 
-  pub whole_market : (e : Entries) → AreEntries names.programs names.applicants (all_seen xs) e → AreWhole (contents_seen r) e → market_under rules rows ≡ Ok (registered_by_all (all_seen xs))
-  whole_market e by whole =
-      let by' : AreEntries (ids_of OfProgram (contents_seen r)) (applicant_ids (contents_seen r)) (contents_seen r) e =
-      entries_by _ _ _ _ _ _ e (are.programs ∙ ap (ids_of OfProgram) seen) (are.applicants ∙ ap applicant_ids seen) seen by in
-      plain_market rules rows r e front by' whole ∙ ap (λ (rs : List Record). Ok (registered_by_all rs)) (sym seen)
+  -- what is said by these names is said by the register's ids, and the other way round
+  pub entries_said : (xs : List declared.Numbered) (e : Entries) → xs ≡ r.records.items → AreEntries names.programs names.applicants (all_seen xs) e
+      → AreEntries (ids_of OfProgram (contents_seen r)) (applicant_ids (contents_seen r)) (contents_seen r) e
+  entries_said xs e same by = entries_by _ _ _ _ _ _ e programs_are applicants_are (seen_of r xs same) by
+
+  pub entries_named : (xs : List declared.Numbered) (e : Entries) → xs ≡ r.records.items → AreWholeEntries r e → AreEntries names.programs names.applicants (all_seen xs) e
+  entries_named xs e same w = entries_by _ _ _ _ _ _ e (sym programs_are) (sym applicants_are) (sym (seen_of r xs same)) w.said
+
+-- the names of records that are the register's
+pub names_seen : (r : Register) (xs : List declared.Numbered) (names : NameLists) → xs ≡ r.records.items → AreNames (all_seen xs) names → AreNames (all_seen r.records.items) names
+names_seen r xs names same are = subst (λ (ys : List declared.Numbered). AreNames (all_seen ys) names) same are
+
+-- the market of records that are the register's
+pub market_seen : (r : Register) (xs : List declared.Numbered) → xs ≡ r.records.items → registered_by_all (all_seen xs) ≡ registered_by_all (contents_seen r)
+market_seen r xs same = ap registered_by_all (seen_of r xs same)

@@ -4,11 +4,11 @@ use Rattle.mt_model.specs.Registration.Ids.{Bytes}
 use Rattle.mt_model.specs.Registration.Records.{Record, OfProgram, OfCouple}
 use Rattle.mt_model.specs.Registration.Rows.{ids_of, applicant_ids}
 use Rattle.mt_roster.specs.declared.numbering.Entries.{Entries}
-use Rattle.mt_roster.specs.declared.numbering.Names.{Names}
+use Rattle.mt_roster.specs.declared.numbering.NameLists.{NameLists}
 use Rattle.mt_roster.specs.Numbered.{ranking_in, lists_by, members_in, pairs_in}
 
 -- The ids of these records.
-pub record AreNames (rs : List Record) (n : Names) : Type 0 where
+pub record AreNames (rs : List Record) (n : NameLists) : Type 0 where
   pub programs : n.programs ≡ ids_of OfProgram rs
   pub applicants : n.applicants ≡ applicant_ids rs
   pub couples : n.couples ≡ ids_of OfCouple rs

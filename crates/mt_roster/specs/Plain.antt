@@ -4,12 +4,14 @@ use Rattle.std.specs.List.{list_all}
 use Rattle.mt_model.specs.Market.{Registered}
 use Rattle.mt_model.specs.Registration.{market_under}
 use Rattle.mt_model.specs.Registration.Ids.{Bytes, all_differ}
-use Rattle.mt_model.specs.Registration.Records.{Rules, Record, ProgramRecord, ApplicantRecord, CoupleRecord, WithdrawRecord}
+use Rattle.mt_model.specs.Registration.Records.{Rules, Record, ProgramRecord, ApplicantRecord, CoupleRecord, WithdrawRecord, OfProgram}
 use Rattle.mt_model.specs.Registration.Passes.{Numbered, is_same_pair, first_pass}
-use Rattle.mt_model.specs.Registration.Rows.{entry_count}
+use Rattle.mt_model.specs.Registration.Rows.{entry_count, ids_of, applicant_ids}
 use Rattle.mt_model.specs.Laws.Registration.{IsRegistration}
 use Rattle.mt_roster.specs.declared.numbering.Entries.{Entries}
 use Rattle.mt_roster.specs.declared.register.Register.{Register}
+use Rattle.mt_roster.specs.Entries.{AreEntries}
+use Rattle.mt_roster.specs.Numbered.{registered_by_all}
 use Rattle.mt_roster.specs.Registers.{records_seen, contents_seen, IsRegister}
 
 -- whether a record withdraws nothing and, if it is a couple's, has no pair twice
@@ -50,3 +52,13 @@ pub record AreWhole (rs : List Record) (e : Entries) : Type 0 where
   pub all : entry_count rs ≤ sum_by length e.rankings + sum_by length e.lists + 2 * sum_by length e.pairs
   pub rankings_differ : list_all (all_differ ◌==◌) e.rankings ≡ true
   pub lists_differ : list_all (all_differ ◌==◌) e.lists ≡ true
+
+-- By numbers this is what the records of a register say, and it is whole.
+pub record AreWholeEntries (r : Register) (e : Entries) : Type 0 where
+  pub said : AreEntries (ids_of OfProgram (contents_seen r)) (applicant_ids (contents_seen r)) (contents_seen r) e
+  pub whole : AreWhole (contents_seen r) e
+
+-- The market is that of a register's records, and what they say by numbers is whole.
+pub record IsWholeMarket (r : Register) (m : Registered) : Type 0 where
+  pub entries : (e : Entries) × AreWholeEntries r e
+  pub market : m ≡ registered_by_all (contents_seen r)

@@ -46,7 +46,7 @@ impl<'a> IdTable<'a> {
     {
         let mut table = IdTable::with_capacity(alloc, names.len())?;
         for i in 0..names.len() {
-            table.add(names.list(i))?;
+            table.push(names.list(i))?;
         }
         Ok(table)
     }

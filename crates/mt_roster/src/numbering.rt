@@ -90,17 +90,17 @@ fn applicant_names(alloc: Global, records: &[Numbered<'_>]) -> Result<FlatLists<
 
 /// The ids of records, those of a kind side by side.
 #[derive(Drop)]
-pub(crate) struct Names {
+pub(crate) struct NameLists {
     programs: FlatLists<u8>,
     applicants: FlatLists<u8>,
     couples: FlatLists<u8>,
 }
 
 /// The ids of the programs, the applicants and the couples of records.
-pub(crate) fn names_of(alloc: Global, records: &[Numbered<'_>]) -> Result<Names, AllocError>
+pub(crate) fn names_of(alloc: Global, records: &[Numbered<'_>]) -> Result<NameLists, AllocError>
     ensures { IfOk result (λ names. AreNames (all_seen records.now) names) }
 {
-    Ok(Names {
+    Ok(NameLists {
         programs: names_of_kind(alloc, Kind::Program, records)?,
         applicants: applicant_names(alloc, records)?,
         couples: names_of_kind(alloc, Kind::Couple, records)?,
@@ -345,7 +345,7 @@ pub(crate) struct Entries {
 /// What records say by the numbers of their programs and applicants: what is none of them leaves its list.
 pub(crate) fn entries_of(
     alloc: Global,
-    names: &Names,
+    names: &NameLists,
     records: &[Numbered<'_>],
 ) -> Result<Entries, AllocError>
     requires programs_differ { all_differ bytes_eq names.now.programs ≡ true }
@@ -369,7 +369,7 @@ pub(crate) fn entries_of(
 /// The market of records none of which is withdrawn, by their ids and by what they say.
 pub(crate) fn with_entries(
     alloc: Global,
-    names: Names,
+    names: NameLists,
     records: &[Numbered<'_>],
     entries: Entries,
 ) -> Result<Roster, AllocError>

@@ -5,11 +5,14 @@ ghost use Rattle.std.specs.List.{list_all};
 ghost use Rattle.mt_model.specs.Registration.{market_under};
 ghost use Rattle.mt_model.specs.Registration.Ids.{Bytes, all_differ};
 ghost use Rattle.mt_model.specs.Registration.Passes.{Numbered, numbered_from};
+ghost use Rattle.mt_model.specs.Laws.Registration.{IsRegistration};
 ghost use Rattle.mt_roster.specs.Records.{record_seen};
 ghost use Rattle.mt_roster.specs.Registers.{contents_seen, AreBounded, IsRegister};
-ghost use Rattle.mt_roster.specs.Plain.{is_plain, IsPlainFront, GoesOn, AcceptsRegistrations, AreWhole, Marks};
+ghost use Rattle.mt_roster.specs.Numbered.{all_seen, registered_by_all};
+ghost use Rattle.mt_roster.specs.Entries.{AreNames};
+ghost use Rattle.mt_roster.specs.Plain.{is_plain, IsPlainFront, GoesOn, AcceptsRegistrations, AreWhole, AreWholeEntries, IsWholeMarket, Marks};
 
-use crate::numbering::{Entries, entries_of, names_of, with_entries};
+use crate::numbering::{Entries, NameLists, entries_of, names_of, with_entries};
 use crate::record::{Record, record_of};
 use crate::register::Register;
 use crate::repeats::has_repeated_pair;
@@ -77,6 +80,28 @@ fn add_at<'a>(
     add_row(alloc, rules, register, i as u64 + 1, row)
 }
 
+/// Adds the records of the rows from a place on to a register, and says that it did so, where they have no fault that
+/// shows without their lists.
+fn add_all<'a>(
+    alloc: Global,
+    rules: &Rules,
+    register: &mut Register<'a>,
+    rows: &'a [Row],
+    from: usize,
+) -> Result<bool, AllocError>
+    requires limits { AreBounded rules.now.limits }
+    requires within { from ≤ length rows.now }
+    requires begins { let rs = numbered_from (from + 1) (drop from rows.now) in IsPlainFront rules.now rs register.old rs }
+    ensures { IfOk result (λ added. added ≡ true → IsPlainFront rules.now (numbered_from (from + 1) (drop from rows.now)) register.new []) }
+{
+    for i in from..rows.len() {
+        if !add_at(alloc, rules, register, rows, i)? {
+            return Ok(false);
+        }
+    }
+    Ok(true)
+}
+
 /// The records of the rows from a place on, where they have no fault that shows without their lists.
 fn records<'a>(
     alloc: Global,
@@ -89,10 +114,8 @@ fn records<'a>(
     ensures { IfOk result (λ read. IfSome read (λ register. IsPlainFront rules.now (numbered_from (from + 1) (drop from rows.now)) register [])) }
 {
     let mut register = Register::new(alloc);
-    for i in from..rows.len() {
-        if !add_at(alloc, rules, &mut register, rows, i)? {
-            return Ok(None);
-        }
+    if !add_all(alloc, rules, &mut register, rows, from)? {
+        return Ok(None);
     }
     Ok(Some(register))
 }
@@ -205,6 +228,38 @@ fn are_whole(alloc: Global, register: &Register<'_>, entries: &Entries) -> Resul
     )
 }
 
+/// What the records of a register say by numbers, where it is whole: no entry is unknown, and none stands twice in a
+/// list.
+fn whole_entries(
+    alloc: Global,
+    register: &Register<'_>,
+    names: &NameLists,
+) -> Result<Option<Entries>, AllocError>
+    requires register { IsRegister register.now }
+    requires names { AreNames (all_seen register.now.records.items) names.now }
+    ensures { IfOk result (λ found. IfSome found (λ entries. AreWholeEntries register.now entries)) }
+{
+    let entries = entries_of(alloc, names, &register.records)?;
+    if !are_whole(alloc, register, &entries)? {
+        return Ok(None);
+    }
+    Ok(Some(entries))
+}
+
+/// The market of a register's records, where what they say by numbers is whole.
+fn whole_roster(alloc: Global, register: &Register<'_>) -> Result<Option<Roster>, AllocError>
+    requires register { IsRegister register.now }
+    requires accepted { (e : Entries) → AreWholeEntries register.now e → IsRegistration (registered_by_all (contents_seen register.now)) }
+    ensures { IfOk result (λ found. IfSome found (λ roster. IsWholeMarket register.now roster)) }
+{
+    let names = names_of(alloc, &register.records)?;
+    let Some(entries) = whole_entries(alloc, register, &names)? else {
+        return Ok(None);
+    };
+    let roster = with_entries(alloc, names, &register.records, entries)?;
+    Ok(Some(roster))
+}
+
 /// The market of the records of the rows from a place on, where they have no fault and withdraw nothing. None leaves the
 /// rows to the passes.
 pub(crate) fn read_plain(
@@ -221,12 +276,5 @@ pub(crate) fn read_plain(
     let Some(register) = records(alloc, rules, rows, from)? else {
         return Ok(None);
     };
-    let records = register.records.as_slice();
-    let names = names_of(alloc, records)?;
-    let entries = entries_of(alloc, &names, records)?;
-    if !are_whole(alloc, &register, &entries)? {
-        return Ok(None);
-    }
-    let roster = with_entries(alloc, names, records, entries)?;
-    Ok(Some(roster))
+    whole_roster(alloc, &register)
 }

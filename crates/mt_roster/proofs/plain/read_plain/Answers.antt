@@ -1,37 +1,28 @@
-use Rattle.std.proofs.Common.{Ok, ap, sym, ◌∙◌}
-use Rattle.mt_roster.proofs.PlainFacts.{programs_named, applicants_named, whole_market}
+use Rattle.std.proofs.Common.{ℕ, ◌+◌, List, [], drop}
+use Rattle.std.proofs.lemmas.Result.{IfOk-weaker}
+use Rattle.mt_model.specs.Registration.Ids.{Bytes}
+use Rattle.mt_model.specs.Registration.Passes.{Numbered, numbered_from}
+use Rattle.mt_roster.specs.Plain.{IsPlainFront}
+use Rattle.mt_roster.proofs.PlainFacts.{some_of, market_of_whole, markets_of_whole}
 use Rattle.mt_roster.proofs.plain.read_plain.Goals as goal
 
-pub entries_of-requires-clause-programs_differ : goal.entries_of-requires-clause-programs_differ
-entries_of-requires-clause-programs_differ c =
-    (programs_named c.args.rules.now _ c.in_ok-register.field-0 c.in-Some.register c.in-Some.is c.in_ok-register.ensures
-    c.as_slice-records.result.now c.as_slice-records.ensures.value c.in_ok-names.names c.in_ok-names.ensures).0
+-- the rows from a place on
+abbrev rows_from : List (List Bytes) → ℕ → List (Numbered (List Bytes))
+rows_from rows from = numbered_from (from + 1) (drop from rows)
 
-pub entries_of-requires-clause-applicants_differ : goal.entries_of-requires-clause-applicants_differ
-entries_of-requires-clause-applicants_differ c =
-    (applicants_named c.args.rules.now _ c.in_ok-register.field-0 c.in-Some.register c.in-Some.is c.in_ok-register.ensures
-    c.as_slice-records.result.now c.as_slice-records.ensures.value c.in_ok-names.names c.in_ok-names.ensures).0
+pub whole_roster-requires-clause-register : goal.whole_roster-requires-clause-register
+whole_roster-requires-clause-register c =
+    let front = some_of (λ q. IsPlainFront c.args.rules.now (rows_from c.args.rows.now c.args.from) q []) c.in_ok-register.field-0 c.in-Some.register c.in-Some.is c.in_ok-register.ensures in
+    front.register
 
-pub entries_of-requires-clause-few_programs : goal.entries_of-requires-clause-few_programs
-entries_of-requires-clause-few_programs c =
-    (programs_named c.args.rules.now _ c.in_ok-register.field-0 c.in-Some.register c.in-Some.is c.in_ok-register.ensures
-    c.as_slice-records.result.now c.as_slice-records.ensures.value c.in_ok-names.names c.in_ok-names.ensures).1
-
-pub entries_of-requires-clause-few_applicants : goal.entries_of-requires-clause-few_applicants
-entries_of-requires-clause-few_applicants c =
-    (applicants_named c.args.rules.now _ c.in_ok-register.field-0 c.in-Some.register c.in-Some.is c.in_ok-register.ensures
-    c.as_slice-records.result.now c.as_slice-records.ensures.value c.in_ok-names.names c.in_ok-names.ensures).1
-
-pub with_entries-requires-clause-market : goal.with_entries-requires-clause-market
-with_entries-requires-clause-market c =
-    c.requires.accepted _
-    (whole_market c.args.rules.now _ c.in_ok-register.field-0 c.in-Some.register c.in-Some.is c.in_ok-register.ensures
-    c.as_slice-records.result.now c.as_slice-records.ensures.value c.in_ok-names.names c.in_ok-names.ensures
-    c.in_ok-entries.entries c.in_ok-entries.ensures (c.in_ok-are_whole.ensures c.if-not-branch.false))
+pub whole_roster-requires-clause-accepted : goal.whole_roster-requires-clause-accepted
+whole_roster-requires-clause-accepted c = λ e whole.
+    let front = some_of (λ q. IsPlainFront c.args.rules.now (rows_from c.args.rows.now c.args.from) q []) c.in_ok-register.field-0 c.in-Some.register c.in-Some.is c.in_ok-register.ensures in
+    c.requires.accepted _ (market_of_whole c.args.rules.now (rows_from c.args.rows.now c.args.from) c.in-Some.register e front whole)
 
 pub returns : goal.returns
 returns c =
-    whole_market c.args.rules.now _ c.in_ok-register.field-0 c.in-Some.register c.in-Some.is c.in_ok-register.ensures
-    c.as_slice-records.result.now c.as_slice-records.ensures.value c.in_ok-names.names c.in_ok-names.ensures
-    c.in_ok-entries.entries c.in_ok-entries.ensures (c.in_ok-are_whole.ensures c.if-not-branch.false)
-    ∙ ap Ok (sym c.in_ok-roster.ensures)
+    let front = some_of (λ q. IsPlainFront c.args.rules.now (rows_from c.args.rows.now c.args.from) q []) c.in_ok-register.field-0 c.in-Some.register c.in-Some.is c.in_ok-register.ensures in
+    IfOk-weaker c.whole_roster.result _ _
+    (λ found whole. markets_of_whole c.args.rules.now (rows_from c.args.rows.now c.args.from) c.in-Some.register found front whole)
+    c.whole_roster.ensures
