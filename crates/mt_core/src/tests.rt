@@ -40,6 +40,17 @@ const FROM_THE_LAST: [Event; 6] = [
     Event::Notice(AppNo(2)),
 ];
 
+// In the market of the couple the applicants 1 and 2 are members, and 3 is the first number past the end.
+const OF_NO_SINGLE: [Event; 7] = [
+    Event::Propose(AppNo(1)),
+    Event::Propose(AppNo(2)),
+    Event::Propose(AppNo(3)),
+    Event::Propose(AppNo(u32::MAX)),
+    Event::Notice(AppNo(1)),
+    Event::Notice(AppNo(3)),
+    Event::Notice(AppNo(u32::MAX)),
+];
+
 // What a floor is once no event is due: how many proposals each applicant has made and each program has received,
 // and where each applicant is.
 #[derive(Drop)]
@@ -114,6 +125,15 @@ fn expect_chain_end(
     expect_end(rt, alloc, floor, ranks, &end)
 }
 
+fn expect_reply(rt: &impl Abort, floor: &mut Floor, ranks: &Ranks, event: Event, reply: Reply)
+    requires opened { IsOpenedWith ranks.now.market floor.old }
+    requires recorded { IsRecorded ranks.now.market (floor_of ranks.now.market floor.old) }
+    ensures opened { IsOpenedWith ranks.now.market floor.new }
+    ensures recorded { IsRecorded ranks.now.market (floor_of ranks.now.market floor.new) }
+{
+    assert_eq!(rt; apply(floor, ranks, event), reply, "at {event:?}");
+}
+
 fn expect_replies(
     rt: &impl Abort,
     floor: &mut Floor,
@@ -128,15 +148,26 @@ fn expect_replies(
 {
     assert_eq!(rt; events.len(), replies.len());
     for number in 0..events.len() {
-        let reply = apply(floor, ranks, events[number]);
-        assert_eq!(rt; reply, replies[number], "event {number}");
+        expect_reply(rt, floor, ranks, events[number], replies[number]);
     }
+}
+
+// Each event from the opening floor on gets its reply, and the floor ends as it must.
+fn expect_chain(
+    rt: &impl Abort,
+    alloc: Global,
+    events: &[Event],
+    replies: &[Reply],
+) -> Result<(), Fail> {
+    let ranks = tables_of(alloc, CHAIN)?;
+    let mut floor = Floor::open(alloc, &ranks)?;
+    expect_replies(rt, &mut floor, &ranks, events, replies);
+    expect_chain_end(rt, alloc, &floor, &ranks)?;
+    Ok(())
 }
 
 #[test]
 fn each_event_gets_its_reply(rt: HostRuntime) -> Result<(), Fail> {
-    let ranks = tables_of(rt.alloc(), CHAIN)?;
-    let mut floor = Floor::open(rt.alloc(), &ranks)?;
     let replies = [
         Reply::Kept,
         Reply::Kept,
@@ -148,10 +179,11 @@ fn each_event_gets_its_reply(rt: HostRuntime) -> Result<(), Fail> {
         Reply::Noticed,
         Reply::NotDue,
     ];
-    expect_replies(&rt, &mut floor, &ranks, &BY_WISHES, &replies);
-    expect_chain_end(&rt, rt.alloc(), &floor, &ranks)?;
+    expect_chain(&rt, rt.alloc(), &BY_WISHES, &replies)
+}
 
-    let mut floor = Floor::open(rt.alloc(), &ranks)?;
+#[test]
+fn the_last_applicant_may_be_first(rt: HostRuntime) -> Result<(), Fail> {
     let replies = [
         Reply::Kept,
         Reply::Refused,
@@ -160,20 +192,38 @@ fn each_event_gets_its_reply(rt: HostRuntime) -> Result<(), Fail> {
         Reply::KeptInstead(AppNo(2)),
         Reply::Noticed,
     ];
-    expect_replies(&rt, &mut floor, &ranks, &FROM_THE_LAST, &replies);
-    expect_chain_end(&rt, rt.alloc(), &floor, &ranks)?;
-    Ok(())
+    expect_chain(&rt, rt.alloc(), &FROM_THE_LAST, &replies)
+}
+
+// Makes the events on a floor on which some are due, and expects so many of them to have been due.
+fn expect_due(rt: &impl Abort, floor: &mut Floor, ranks: &Ranks, events: &[Event], due: u64)
+    requires opened { IsOpenedWith ranks.now.market floor.old }
+    requires recorded { IsRecorded ranks.now.market (floor_of ranks.now.market floor.old) }
+    ensures opened { IsOpenedWith ranks.now.market floor.new }
+    ensures recorded { IsRecorded ranks.now.market (floor_of ranks.now.market floor.new) }
+{
+    assert!(rt; !quiet(floor, ranks));
+    assert_eq!(rt; run(floor, ranks, events), due);
+}
+
+// None of the events is due any more, and there is nothing to finish.
+fn expect_none_due(rt: &impl Abort, floor: &mut Floor, ranks: &Ranks, events: &[Event])
+    requires opened { IsOpenedWith ranks.now.market floor.old }
+    requires recorded { IsRecorded ranks.now.market (floor_of ranks.now.market floor.old) }
+    ensures opened { IsOpenedWith ranks.now.market floor.new }
+    ensures recorded { IsRecorded ranks.now.market (floor_of ranks.now.market floor.new) }
+{
+    assert_eq!(rt; run(floor, ranks, events), 0);
+    assert_eq!(rt; finish(floor, ranks), 0);
 }
 
 // So many of the events are due from the opening floor, which ends as it must; and then none is due any more.
 fn expect_run(rt: &impl Abort, alloc: Global, events: &[Event], due: u64) -> Result<(), Fail> {
     let ranks = tables_of(alloc, CHAIN)?;
     let mut floor = Floor::open(alloc, &ranks)?;
-    assert!(rt; !quiet(&floor, &ranks));
-    assert_eq!(rt; run(&mut floor, &ranks, events), due);
+    expect_due(rt, &mut floor, &ranks, events, due);
     expect_chain_end(rt, alloc, &floor, &ranks)?;
-    assert_eq!(rt; run(&mut floor, &ranks, events), 0);
-    assert_eq!(rt; finish(&mut floor, &ranks), 0);
+    expect_none_due(rt, &mut floor, &ranks, events);
     expect_chain_end(rt, alloc, &floor, &ranks)?;
     Ok(())
 }
@@ -190,7 +240,7 @@ fn runs_count_the_events_that_were_due(rt: HostRuntime) -> Result<(), Fail> {
 fn finish_goes_on_from_any_floor(rt: HostRuntime) -> Result<(), Fail> {
     let ranks = tables_of(rt.alloc(), CHAIN)?;
     let mut floor = Floor::open(rt.alloc(), &ranks)?;
-    assert_eq!(rt; run(&mut floor, &ranks, &BY_WISHES[..5]), 5);
+    expect_due(&rt, &mut floor, &ranks, &BY_WISHES[..5], 5);
     assert!(rt; !quiet(&floor, &ranks));
     assert_eq!(rt; finish(&mut floor, &ranks), 1);
     expect_chain_end(&rt, rt.alloc(), &floor, &ranks)?;
@@ -304,26 +354,14 @@ fn expect_not_due(
     Ok(())
 }
 
-// The applicants 1 and 2 are members, and 3 is the first number past the end.
 #[test]
 fn only_singles_have_events(rt: HostRuntime) -> Result<(), Fail> {
     let ranks = tables_of(rt.alloc(), COUPLE)?;
     let mut floor = Floor::open(rt.alloc(), &ranks)?;
-    let events = [
-        Event::Propose(AppNo(1)),
-        Event::Propose(AppNo(2)),
-        Event::Propose(AppNo(3)),
-        Event::Propose(AppNo(u32::MAX)),
-        Event::Notice(AppNo(1)),
-        Event::Notice(AppNo(3)),
-        Event::Notice(AppNo(u32::MAX)),
-    ];
-    expect_not_due(&rt, rt.alloc(), &mut floor, &ranks, &events)?;
-    assert_eq!(rt;
-        apply(&mut floor, &ranks, Event::Propose(AppNo(0))),
-        Reply::Kept
-    );
-    expect_not_due(&rt, rt.alloc(), &mut floor, &ranks, &events)?;
+    expect_not_due(&rt, rt.alloc(), &mut floor, &ranks, &OF_NO_SINGLE)?;
+    let of_the_single = Event::Propose(AppNo(0));
+    expect_reply(&rt, &mut floor, &ranks, of_the_single, Reply::Kept);
+    expect_not_due(&rt, rt.alloc(), &mut floor, &ranks, &OF_NO_SINGLE)?;
     Ok(())
 }
 
@@ -333,10 +371,8 @@ fn only_singles_have_events(rt: HostRuntime) -> Result<(), Fail> {
 fn events_wait_until_they_are_due(rt: HostRuntime) -> Result<(), Fail> {
     let ranks = tables_of(rt.alloc(), CHAIN)?;
     let mut floor = Floor::open(rt.alloc(), &ranks)?;
-    assert_eq!(rt;
-        apply(&mut floor, &ranks, Event::Propose(AppNo(0))),
-        Reply::Kept
-    );
+    let first = Event::Propose(AppNo(0));
+    expect_reply(&rt, &mut floor, &ranks, first, Reply::Kept);
     let events = [
         Event::Propose(AppNo(0)),
         Event::Notice(AppNo(0)),
@@ -345,14 +381,10 @@ fn events_wait_until_they_are_due(rt: HostRuntime) -> Result<(), Fail> {
     ];
     expect_not_due(&rt, rt.alloc(), &mut floor, &ranks, &events)?;
     let displaced = Reply::KeptInstead(AppNo(0));
-    assert_eq!(rt;
-        apply(&mut floor, &ranks, Event::Propose(AppNo(2))),
-        displaced
-    );
+    let third = Event::Propose(AppNo(2));
+    expect_reply(&rt, &mut floor, &ranks, third, displaced);
     expect_not_due(&rt, rt.alloc(), &mut floor, &ranks, &events[..1])?;
-    assert_eq!(rt;
-        apply(&mut floor, &ranks, Event::Notice(AppNo(0))),
-        Reply::Noticed
-    );
+    let notice = Event::Notice(AppNo(0));
+    expect_reply(&rt, &mut floor, &ranks, notice, Reply::Noticed);
     Ok(())
 }
