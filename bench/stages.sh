@@ -7,7 +7,8 @@
 #
 # A run prints for each layer: its name, the least processor time of the runs in milliseconds, the memory of the
 # process after it and the most so far, both in MiB, and a count of what it made. LAST `hash` stops after a pass that
-# hashes each field once. The scratch folder is $BENCH_SCRATCH, or nrmatch-bench in the folder for temporary files.
+# hashes each field once, and LAST `table` after one that puts each field into a table of ids. The scratch folder is
+# $BENCH_SCRATCH, or nrmatch-bench in the folder for temporary files.
 #
 # The build proves nothing. `rt try` compiles without optimising, so its LLVM module is compiled a second time here, at
 # the level of a proved build. The checks at run time that `rt try` puts in stay, so a proved build is a little faster.
@@ -54,7 +55,7 @@ copy_crates() {
         cp "$top/bench/stages/$name.rt.txt" "$repo/crates/mt_stages/src/$name.rt"
     done
     cp "$top/crates.txt" "$repo/"
-    echo 'mt_stages: anyhow mt_lists mt_roster mt_ranks mt_core mt_couples mt_verify mt_report mt_model' >> "$repo/crates.txt"
+    echo 'mt_stages: anyhow indexmap mt_lists mt_roster mt_ranks mt_core mt_couples mt_verify mt_report mt_model' >> "$repo/crates.txt"
 }
 
 build() {
