@@ -2,16 +2,19 @@
 # Times the layers of a match on one file, by the program in bench/stages.
 #
 #   bench/stages.sh build                          builds the program in the scratch folder
-#   bench/stages.sh FILE [LAST [BUDGET [RUNS]]]    runs it on a file: RUNS times (3), to the layer LAST (text), with
-#                                                  BUDGET rounds for the couples (1000000)
+#   bench/stages.sh prove                          proves and builds the part of it that ends with the roster
+#   bench/stages.sh FILE [LAST [BUDGET [RUNS]]]    runs what was built last on a file: RUNS times (3), to the layer
+#                                                  LAST (text), with BUDGET rounds for the couples (1000000)
 #
 # A run prints for each layer: its name, the least processor time of the runs in milliseconds, the memory of the
 # process after it and the most so far, both in MiB, and a count of what it made. LAST `hash` stops after a pass that
 # hashes each field once, and LAST `table` after one that puts each field into a table of ids. The scratch folder is
 # $BENCH_SCRATCH, or nrmatch-bench in the folder for temporary files.
 #
-# The build proves nothing. `rt try` compiles without optimising, so its LLVM module is compiled a second time here, at
-# the level of a proved build. The checks at run time that `rt try` puts in stay, so a proved build is a little faster.
+# `build` proves nothing. `rt try` compiles without optimising, so its LLVM module is compiled a second time here, at
+# the level of a proved build. The checks at run time that `rt try` puts in stay, which a proved build has none of:
+# `roster` takes about half as long again with them. `prove` takes a minute where the layers are proved in this
+# checkout, and a quarter of an hour from nothing.
 set -eu
 top=$(cd "$(dirname "${BASH_SOURCE[0]}")/.." && pwd)
 scratch=${BENCH_SCRATCH:-${TMPDIR:-/tmp}/nrmatch-bench}
@@ -43,19 +46,22 @@ END
     chmod +x "$to/toolchain/bin/clang"
 }
 
-# The repository's crates, and the program as one more. Its files have no name of code in the repository, since the gate
-# takes none that it doesn't prove.
+# The repository's crates without the files that are left out, and the program as one more, which begins in the file
+# MAIN and stands on LIBRARIES. Its files have no name of code in the repository, since the gate takes none that it
+# doesn't prove.
 copy_crates() {
-    local repo=$scratch/repo name
+    local repo=$scratch/repo main=$1 libraries=$2 code=$scratch/repo/crates/mt_stages/src name
+    shift 2
     rm -rf "$repo"
-    mkdir -p "$repo/crates/mt_stages/src"
-    (cd "$top/crates" && tar cf - --exclude out .) | tar xf - -C "$repo/crates"
+    mkdir -p "$code"
+    (cd "$top/crates" && tar cf - "$@" .) | tar xf - -C "$repo/crates"
     cp "$top/HANDLES" "$repo/"
-    for name in main meter layers; do
-        cp "$top/bench/stages/$name.rt.txt" "$repo/crates/mt_stages/src/$name.rt"
+    cp "$top/bench/stages/$main.rt.txt" "$code/main.rt"
+    for name in first layers meter; do
+        if grep -q "^mod $name;" "$code/main.rt"; then cp "$top/bench/stages/$name.rt.txt" "$code/$name.rt"; fi
     done
     cp "$top/crates.txt" "$repo/"
-    echo 'mt_stages: anyhow indexmap mt_lists mt_roster mt_ranks mt_core mt_couples mt_verify mt_report mt_model' >> "$repo/crates.txt"
+    echo "mt_stages: $libraries" >> "$repo/crates.txt"
 }
 
 build() {
@@ -65,7 +71,8 @@ build() {
     mkdir -p "$scratch"
     rm -f "$scratch/module.bc"
     make_kit "$from"
-    copy_crates
+    copy_crates main 'anyhow indexmap mt_lists mt_roster mt_ranks mt_core mt_couples mt_verify mt_report mt_model' \
+        --exclude out
     # It ends in a failure, since the module isn't compiled by it.
     (cd "$scratch/repo/crates/mt_stages" && "$scratch/kit/bin/rt" try < /dev/null > "$log" 2>&1) || true
     if [ ! -s "$scratch/module.bc" ]; then
@@ -77,6 +84,20 @@ build() {
     "$from/bin/rattle-link" --target x86_64-unknown-linux-gnu --toolchain "$tools" -o "$program" "$scratch/stages.o" \
         "$from/c/libos_c.a" "$from/c/liblibc_c.a" 2>> "$log"
     echo "built $program"
+}
+
+prove() {
+    local log=$scratch/build.log
+    mkdir -p "$scratch"
+    copy_crates roster 'anyhow indexmap mt_lists mt_roster mt_model'
+    # Without a file's name it only says how it is used.
+    (cd "$scratch/repo/crates/mt_stages" && rt run < /dev/null > "$log" 2>&1) || true
+    if [ ! -x "$scratch/repo/crates/mt_stages/out/mt_stages" ]; then
+        cat "$log" >&2
+        exit 1
+    fi
+    cp "$scratch/repo/crates/mt_stages/out/mt_stages" "$program"
+    echo "proved and built $program"
 }
 
 # Of the lines of several runs, one for each layer in their order, with the least time.
@@ -95,6 +116,7 @@ measure() {
 case ${1:-} in
     '' | -h | --help) sed -n '2,/^set/{/^#/s/^# \{0,1\}//p}' "${BASH_SOURCE[0]}" ;;
     build) build ;;
+    prove) prove ;;
     *)
         [ -x "$program" ] || build >&2
         measure "$@"
