@@ -4,12 +4,33 @@ ghost use Rattle.mt_model.specs.Registration.Ids.{has_id, all_differ};
 use indexmap::IndexSet;
 use mt_model::FlatLists;
 use std::alloc::{AllocError, Global};
+use std::hash::{Hash, Hasher};
 use std::marker::Model;
+
+/// An id as tables hold it. Its bytes are hashed in one piece; those of a slice are hashed one by one.
+#[derive(Clone, Copy, PartialEq, Eq)]
+struct Key<'a> {
+    id: &'a [u8],
+}
+
+impl<'a> Hash for Key<'a> {
+    ghost use Rattle.std.specs.Prelude.{[], ◌∷◌};
+    ghost use Rattle.std.specs.Cmp.Rules.{hashing};
+    ghost use Rattle.std.proofs.Common.{rules};
+
+    ghost hash_input = { λ key. key.id.now ∷ [] };
+
+    ghost respects_eq = { Prim.search (hashing, rules) };
+
+    fn hash<H: Hasher>(&self, state: &mut H) {
+        state.write(self.id);
+    }
+}
 
 /// Ids in the order in which they came, each of them once.
 #[derive(Drop)]
 pub(crate) struct IdTable<'a> {
-    ids: IndexSet<&'a [u8]>,
+    ids: IndexSet<Key<'a>>,
 }
 
 impl<'a> Model for IdTable<'a> {
@@ -17,7 +38,7 @@ impl<'a> Model for IdTable<'a> {
 
     ghost Value = { List (List ℕ) };
 
-    ghost view = { λ table. map (λ id. id.now) table.ids.keys };
+    ghost view = { λ table. map (λ key. key.id.now) table.ids.keys };
 }
 
 impl<'a> IdTable<'a> {
@@ -62,14 +83,14 @@ impl<'a> IdTable<'a> {
     pub(crate) fn contains(&self, id: &[u8]) -> bool
         ensures { result ≡ has_id self.now id.now }
     {
-        self.ids.contains(id)
+        self.ids.contains(&Key { id })
     }
 
     /// The number of an id, from 0, if it is one of them.
     pub(crate) fn number(&self, id: &[u8]) -> Option<usize>
         ensures { result ≡ position (bytes_eq id.now) self.now }
     {
-        self.ids.get_index_of(id)
+        self.ids.get_index_of(&Key { id })
     }
 
     /// Adds an id at the end, and says that it did so, where it is none of them.
@@ -78,7 +99,7 @@ impl<'a> IdTable<'a> {
         ensures ids { IfOk result (λ _. self.new ≡ (if has_id self.old id.now then self.old else self.old ++ id.now ∷ [])) }
         ensures err { OnErr result (self.new ≡ self.old) }
     {
-        Ok(self.ids.insert(id)?)
+        Ok(self.ids.insert(Key { id })?)
     }
 
     /// Adds an id that is none of them at the end.
