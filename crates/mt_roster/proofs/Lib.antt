@@ -13,5 +13,6 @@ pub mod ReadFacts
 pub mod IdBounds
 pub mod FaultFacts
 pub mod KeptFacts
+pub mod DraftFacts
 pub mod PlainFacts
 pub mod MarkFacts

@@ -19,10 +19,12 @@ use Rattle.mt_roster.specs.declared.register.Numbered as declared
 use Rattle.mt_roster.specs.declared.register.Kinds.{Kinds}
 use Rattle.mt_roster.specs.declared.register.Register.{Register}
 use Rattle.mt_roster.specs.declared.numbering.NameLists.{NameLists}
+use Rattle.mt_roster.specs.Drafts.{registers_ids, lists_ids, IsDraft}
 use Rattle.mt_roster.specs.Entries.{AreNames, AreEntries}
 use Rattle.mt_roster.specs.Numbered.{all_seen, stays_without, registered_by_all}
 use Rattle.mt_roster.specs.Registers.{records_seen, contents_seen, ids_in, withdraws_twice, IsRegister}
 use Rattle.mt_roster.specs.Plain.{is_plain, lists_once, IsPlainFront, GoesOn, AreWhole, AreWholeEntries, IsWholeMarket}
+use Rattle.mt_roster.proofs.DraftFacts.{programs_ids, applicants_ids, kept_ids}
 use Rattle.mt_roster.proofs.KeptFacts.{kept_of, kept_sum, AllKept, all_kept, once_all, second_none}
 use Rattle.mt_roster.proofs.NumberingSteps.{filter-remaining, contents-all_seen}
 use Rattle.mt_roster.proofs.PassFacts.{row_is}
@@ -77,17 +79,21 @@ contents-last ns n r = rw map-append refl
 
 -- a register with a plain record more
 pub front_more : (rules : Rules) (old new : Register) (n : ℕ) (row : List Bytes) (r : Record)
-    → IsRegister new → records_seen new ≡ records_seen old ++ (n, r) ∷ [] → is_plain r ≡ true → record_of rules row ≡ Ok r
+    → IsRegister new → records_seen new ≡ records_seen old ++ (n, r) ∷ [] → is_plain r ≡ true → IsDraft rules (record_of rules row) r
     → registered_before (contents_seen old) r ≡ None → are_too_many rules.limits (contents_seen old ++ r ∷ []) ≡ false
     → (rest : List (Numbered (List Bytes))) → GoesOn rules old new ((n, row) ∷ rest) rest
-front_more rules old new n row r is more p e none few rest whole f =
+front_more rules old new n row r is more p draft none few rest whole f =
     let same : contents_seen new ≡ contents_seen old ++ r ∷ [] = ap contents more ∙ contents-last (records_seen old) n r in
     record {
       register = is;
       plain = ap (list_all is_plain) same ∙ last_join is_plain (contents_seen old) r f.plain p;
-      goes_on = λ h.
+      registers = ap (list_all (registers_ids rules)) same ∙ last_join (registers_ids rules) (contents_seen old) r f.registers draft.registers;
+      goes_on = λ h k.
           let q : (list_all lists_once (contents_seen old) ≡ true) × (lists_once r ≡ true) = last_parts lists_once (contents_seen old) r (ap (list_all lists_once) (sym same) ∙ h) in
-          f.goes_on q.0 ∙ pass_step rules (records_seen old) n row r e none (says_once (contents_seen old) r p q.1) few rest ∙ ap (λ (ns : List (Numbered Record)). first_pass rules ns rest) (sym more);
+          let l : (list_all (lists_ids rules) (contents_seen old) ≡ true) × (lists_ids rules r ≡ true) =
+          last_parts (lists_ids rules) (contents_seen old) r (ap (list_all (lists_ids rules)) (sym same) ∙ k) in
+          f.goes_on q.0 l.0 ∙ pass_step rules (records_seen old) n row r (draft.lists l.1) none (says_once (contents_seen old) r p q.1) few rest
+          ∙ ap (λ (ns : List (Numbered Record)). first_pass rules ns rest) (sym more);
     }
 
 -- the row at a place
@@ -158,8 +164,9 @@ plain_market rules rows r e front are whole =
     let kept : AllKept programs applicants rs = all_kept programs applicants rs enough in
     let once : list_all lists_once rs ≡ true =
     once_all programs applicants rs kept (ap (list_all _) (sym are.rankings) ∙ whole.rankings_differ) (ap (list_all _) (sym are.lists) ∙ whole.lists_differ) in
+    let ids : list_all (lists_ids rules) rs ≡ true = kept_ids rules programs applicants (programs_ids rules rs front.registers) (applicants_ids rules rs front.registers) rs kept in
     let none : second_pass (records_seen r) ≡ None = second_none rs (records_seen r) front.plain kept in
-    market_after rules rows (records_seen r) (front.goes_on once)
+    market_after rules rows (records_seen r) (front.goes_on once ids)
     ∙ rw none (ap (λ (xs : List Record). Ok (registered_by_all xs)) (remaining_all rs r.withdrawn front.register.withdrawn front.plain))
 
 -- an id that isn't found

@@ -2,6 +2,7 @@ pub mod Tables
 pub mod View
 pub mod Fields
 pub mod Records
+pub mod Drafts
 pub mod Refusals
 pub mod Numbered
 pub mod Entries

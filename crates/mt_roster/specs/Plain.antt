@@ -10,6 +10,7 @@ use Rattle.mt_model.specs.Registration.Rows.{entry_count, ids_of, applicant_ids}
 use Rattle.mt_model.specs.Laws.Registration.{IsRegistration}
 use Rattle.mt_roster.specs.declared.numbering.Entries.{Entries}
 use Rattle.mt_roster.specs.declared.register.Register.{Register}
+use Rattle.mt_roster.specs.Drafts.{registers_ids, lists_ids}
 use Rattle.mt_roster.specs.Entries.{AreEntries}
 use Rattle.mt_roster.specs.Numbered.{registered_by_all}
 use Rattle.mt_roster.specs.Registers.{records_seen, contents_seen, IsRegister}
@@ -26,12 +27,14 @@ lists_once (ProgramRecord id quota list) = all_differ bytes_eq list
 lists_once (ApplicantRecord id list) = all_differ bytes_eq list
 lists_once _ = true
 
--- Of all these rows the register has those before the rest. Where no id stands twice in a list of its records, the
--- first pass over all rows goes on from it.
+-- Of all these rows the register has those before the rest. Where no id stands twice in a list of its records, and
+-- the lists have ids alone, the first pass over all rows goes on from it.
 pub record IsPlainFront (rules : Rules) (all : List (Numbered (List Bytes))) (r : Register) (rest : List (Numbered (List Bytes))) : Type 0 where
   pub register : IsRegister r
   pub plain : list_all is_plain (contents_seen r) ≡ true
-  pub goes_on : list_all lists_once (contents_seen r) ≡ true → first_pass rules [] all ≡ first_pass rules (records_seen r) rest
+  pub registers : list_all (registers_ids rules) (contents_seen r) ≡ true
+  pub goes_on : list_all lists_once (contents_seen r) ≡ true → list_all (lists_ids rules) (contents_seen r) ≡ true
+    → first_pass rules [] all ≡ first_pass rules (records_seen r) rest
 
 -- A step over rows keeps that.
 abbrev pub GoesOn : Rules → Register → Register → List (Numbered (List Bytes)) → List (Numbered (List Bytes)) → Type 0

@@ -1,6 +1,7 @@
 //! Records to market: the roster of a residency match.
 #![tactic(auto)]
 
+mod draft;
 mod fault;
 mod fields;
 mod first_pass;

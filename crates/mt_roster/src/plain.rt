@@ -12,8 +12,9 @@ ghost use Rattle.mt_roster.specs.Numbered.{all_seen, registered_by_all};
 ghost use Rattle.mt_roster.specs.Entries.{AreNames};
 ghost use Rattle.mt_roster.specs.Plain.{is_plain, IsPlainFront, GoesOn, AcceptsRegistrations, AreWhole, AreWholeEntries, IsWholeMarket, Marks};
 
+use crate::draft::draft_of;
 use crate::numbering::{Entries, NameLists, entries_of, names_of, with_entries};
-use crate::record::{Record, record_of};
+use crate::record::Record;
 use crate::register::Register;
 use crate::repeats::has_repeated_pair;
 use crate::rules::Rules;
@@ -46,7 +47,7 @@ fn add_row<'a>(
     requires register { IsRegister register.old }
     ensures { IfOk result (λ added. added ≡ true → (rest : List (Numbered (List Bytes))) → GoesOn rules.now register.old register.new ((number, row.now) ∷ rest) rest) }
 {
-    let Ok(next) = record_of(rules, row) else {
+    let Some(next) = draft_of(rules, row) else {
         return Ok(false);
     };
     if register.registered_before(&next).is_some()

@@ -123,7 +123,7 @@ fn charge_alone<'a>(code: u16) -> Charge<'a>
 }
 
 /// The kind that a field names.
-fn kind_of(word: &[u8]) -> Option<Kind>
+pub(crate) fn kind_of(word: &[u8]) -> Option<Kind>
     ensures { option_map kind_seen result ≡ kind_of word.now }
 {
     if word == b"program".as_slice() {
@@ -206,7 +206,7 @@ fn couple_of_pairs<'a>(rules: &Rules, row: &'a Row) -> Result<Record<'a>, Charge
 }
 
 /// A couple by the fields after its first.
-fn couple_record<'a>(rules: &Rules, row: &'a Row) -> Result<Record<'a>, Charge<'a>>
+pub(crate) fn couple_record<'a>(rules: &Rules, row: &'a Row) -> Result<Record<'a>, Charge<'a>>
     ensures { read_seen result ≡ couple_record rules.now (drop 1 row.now) }
 {
     let count = row.len();
