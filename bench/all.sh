@@ -58,6 +58,6 @@ files | while read -r name budget words; do
     # shellcheck disable=SC2086
     [ -s "$file" ] || make "$name" "$file" $words
     echo "== $name"
-    "$here/stages.sh" "$file" hash 1 | tail -n 1
+    "$here/stages.sh" "$file" hash 1 | tail -n 2
     "$here/stages.sh" "$file" text "$budget"
 done

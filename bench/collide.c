@@ -9,6 +9,7 @@
 #include <stdint.h>
 #include <stdio.h>
 #include <stdlib.h>
+#include <string.h>
 
 static const char DIGITS[] = "0123456789ABCDEFGHIJKLMNOPQRSTUVWXYZabcdefghijklmnopqrstuvwxyz";
 static const uint64_t SEED = 0x243f6a8885a308d3, MULTIPLIER = 0x9e3779b97f4a7c15;
@@ -19,23 +20,26 @@ static uint64_t fold(uint64_t a, uint64_t b) {
     return (uint64_t)product ^ (uint64_t)(product >> 64);
 }
 
-/* A byte is written by itself, as the three bytes that a short write reads. */
-static uint64_t with_byte(uint64_t state, unsigned char byte) {
-    return fold(state ^ byte * UINT64_C(0x10101), MULTIPLIER ^ 2);
-}
-
-static uint32_t group_of(uint64_t state, uint32_t groups) {
-    return (uint32_t)(state ^ state >> 32) & (groups - 1);
-}
-
 static long wanted, found;
 static uint32_t groups = 1;
 static char id[LENGTH + 1];
 
+static uint32_t word_at(int at) {
+    uint32_t word;
+    memcpy(&word, id + at, sizeof word);
+    return word;
+}
+
+/* An id of eight bytes is hashed as one word. */
+static uint32_t group_of_id(void) {
+    uint64_t hash = fold(SEED ^ (word_at(0) | (uint64_t)word_at(4) << 32), MULTIPLIER ^ 2 * LENGTH);
+    return (uint32_t)(hash ^ hash >> 32) & (groups - 1);
+}
+
 /* Goes through the ids that begin with those bytes, until enough are found. */
-static void search(uint64_t state, int length) {
+static void search(int length) {
     if (length == LENGTH) {
-        if (group_of(state, groups) == 0) {
+        if (group_of_id() == 0) {
             puts(id);
             found++;
         }
@@ -43,7 +47,7 @@ static void search(uint64_t state, int length) {
     }
     for (const char *digit = DIGITS; *digit && found < wanted; digit++) {
         id[length] = *digit;
-        search(with_byte(state, (unsigned char)*digit), length + 1);
+        search(length + 1);
     }
 }
 
@@ -54,6 +58,6 @@ int main(int count, char **words) {
     }
     while ((long)groups * LOAD < wanted) groups *= 2;
     id[0] = 'x';
-    search(with_byte(fold(SEED ^ LENGTH, MULTIPLIER ^ 16), 'x'), 1);
+    search(1);
     return found < wanted;
 }

@@ -7,9 +7,9 @@
 #                                                  LAST (text), with BUDGET rounds for the couples (1000000)
 #
 # A run prints for each layer: its name, the least processor time of the runs in milliseconds, the memory of the
-# process after it and the most so far, both in MiB, and a count of what it made. LAST `hash` stops after a pass that
-# hashes each field once, and LAST `table` after one that puts each field into a table of ids. The scratch folder is
-# $BENCH_SCRATCH, or nrmatch-bench in the folder for temporary files.
+# process after it and the most so far, both in MiB, and a count of what it made. LAST `hash` stops after two passes
+# that hash each field once (bench/README.md), and LAST `table` after one that puts each field into a table of ids. The
+# scratch folder is $BENCH_SCRATCH, or nrmatch-bench in the folder for temporary files.
 #
 # `build` proves nothing. `rt try` compiles without optimising, so its LLVM module is compiled a second time here, at
 # the level of a proved build. The checks at run time that `rt try` puts in stay, which a proved build has none of:

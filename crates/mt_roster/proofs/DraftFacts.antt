@@ -22,21 +22,21 @@ of_one p [] x a h = cc
 of_one p (y ∷ ys) x a h =
     let q : (p y ≡ true) × (list_all p ys ≡ true) = and_parts (p y) _ a in
     by (bytes_eq x y) (same_id x y) h q.0 (of_one p ys x q.1)
-    where
-      by : (b : Bool) → (b ≡ true → x ≡ y) → (b || has_id ys x) ≡ true → p y ≡ true → (has_id ys x ≡ true → p x ≡ true) → p x ≡ true
-      by true e h k ih = subst (λ (z : Bytes). p z ≡ true) (sym (e refl)) k
-      by false e h k ih = ih h
+  where
+    by : (b : Bool) → (b ≡ true → x ≡ y) → (b || has_id ys x) ≡ true → p y ≡ true → (has_id ys x ≡ true → p x ≡ true) → p x ≡ true
+    by true e h k ih = subst (λ (z : Bytes). p z ≡ true) (sym (e refl)) k
+    by false e h k ih = ih h
 
 -- and of the entries of a list of which none is lost
 all_of : (p : Bytes → Bool) (ids list : List Bytes) → list_all p ids ≡ true → length list ≤ length (numbers_of ids list) → list_all p list ≡ true
 all_of p ids [] a l = refl
 all_of p ids (x ∷ xs) a l = by (has_id ids x) refl l (all_of p ids xs a)
-    where
-      by : (b : Bool) → has_id ids x ≡ b
-          → suc (length xs) ≤ length (map (number_of ids) (cond b (x ∷ filter (has_id ids) xs) (filter (has_id ids) xs)))
-          → (length xs ≤ length (numbers_of ids xs) → list_all p xs ≡ true) → list_all p (x ∷ xs) ≡ true
-      by true i l ih = both _ _ (of_one p ids x a i) (ih (omega arith))
-      by false i l ih = absurd (omega (arith, numbers_short ids xs))
+  where
+    by : (b : Bool) → has_id ids x ≡ b
+        → suc (length xs) ≤ length (map (number_of ids) (cond b (x ∷ filter (has_id ids) xs) (filter (has_id ids) xs)))
+        → (length xs ≤ length (numbers_of ids xs) → list_all p xs ≡ true) → list_all p (x ∷ xs) ≡ true
+    by true i l ih = both _ _ (of_one p ids x a i) (ih (omega arith))
+    by false i l ih = absurd (omega (arith, numbers_short ids xs))
 
 module _ (rules : Rules) where
   abbrev an_id : Bytes → Bool
@@ -99,6 +99,7 @@ module _ (rules : Rules) where
     where
       other : (w : Bytes) → bytes_eq w (codes "withdraw") ≡ false → word ≡ w → bytes_eq word (codes "withdraw") ≡ false
       other w n s = subst (λ (v : Bytes). bytes_eq v (codes "withdraw") ≡ false) (sym s) n
+
       by : (p a c : Bool) → (p ≡ true → word ≡ codes "program") → (a ≡ true → word ≡ codes "applicant") → (c ≡ true → word ≡ codes "couple")
           → (if p then Some OfProgram else if a then Some OfApplicant else if c then Some OfCouple else None) ≡ Some kind → bytes_eq word (codes "withdraw") ≡ false
       by true a c is_p is_a is_c e = other (codes "program") refl (is_p refl)
@@ -114,6 +115,7 @@ module _ (rules : Rules) where
     where
       read : Bool → Option Kind → Result Record Charge
       read b o = if rules.withdrawals && b then withdraw_record rules fields else record_by_kind rules o fields
+
       by : (b : Bool) → (if b && false then withdraw_record rules fields else record_by_kind rules (Some kind) fields) ≡ record_by_kind rules (Some kind) fields
       by true = refl
       by false = refl

@@ -34,7 +34,7 @@ pub record IsPlainFront (rules : Rules) (all : List (Numbered (List Bytes))) (r 
   pub plain : list_all is_plain (contents_seen r) ≡ true
   pub registers : list_all (registers_ids rules) (contents_seen r) ≡ true
   pub goes_on : list_all lists_once (contents_seen r) ≡ true → list_all (lists_ids rules) (contents_seen r) ≡ true
-    → first_pass rules [] all ≡ first_pass rules (records_seen r) rest
+      → first_pass rules [] all ≡ first_pass rules (records_seen r) rest
 
 -- A step over rows keeps that.
 abbrev pub GoesOn : Rules → Register → Register → List (Numbered (List Bytes)) → List (Numbered (List Bytes)) → Type 0

@@ -1,6 +1,7 @@
 //! Records taken apart without a look at the ids of their lists: whichever of these is found among the registered ids
 //! is an id, since those are.
-ghost use Rattle.std.specs.Prelude.{drop, IfSome};
+ghost use Rattle.std.specs.Prelude.{◌≡◌, ◌<◌, [], true, drop, length, slice_index_or, IfSome};
+ghost use Rattle.mt_model.specs.Registration.Ids.{is_id};
 ghost use Rattle.mt_model.specs.Registration.Records.{program_record, applicant_record, couple_record, record_of};
 ghost use Rattle.mt_roster.specs.Records.{record_seen};
 ghost use Rattle.mt_roster.specs.Drafts.{IsDraft};
@@ -11,6 +12,19 @@ use crate::record::{Kind, Record, couple_record, kind_of};
 use crate::rules::Rules;
 use mt_lists::Row;
 
+/// The field after a row's first, if it is an id.
+fn own_id<'a>(rules: &Rules, row: &'a Row) -> Option<&'a [u8]>
+    requires { 1 < length row.now }
+    ensures { IfSome result (λ id. (id.now ≡ slice_index_or row.now 1 []) × (is_id rules.now.limits.id_bytes id.now ≡ true)) }
+{
+    let id = row.field(1);
+    if is_id(rules.limits.id_bytes, id) {
+        Some(id)
+    } else {
+        None
+    }
+}
+
 /// A program by the fields after its first, if nothing is at fault beside its list.
 fn program_draft<'a>(rules: &Rules, row: &'a Row) -> Option<Record<'a>>
     ensures { IfSome result (λ r. IsDraft rules.now (program_record rules.now (drop 1 row.now)) (record_seen r)) }
@@ -18,10 +32,7 @@ fn program_draft<'a>(rules: &Rules, row: &'a Row) -> Option<Record<'a>>
     if row.len() < 3 {
         return None;
     }
-    let id = row.field(1);
-    if !is_id(rules.limits.id_bytes, id) {
-        return None;
-    }
+    let id = own_id(rules, row)?;
     let quota = quota_of(row.field(2))?;
     let list = Ids::new(row, 3);
     Some(Record::Program { id, quota, list })
@@ -34,10 +45,7 @@ fn applicant_draft<'a>(rules: &Rules, row: &'a Row) -> Option<Record<'a>>
     if row.len() < 2 {
         return None;
     }
-    let id = row.field(1);
-    if !is_id(rules.limits.id_bytes, id) {
-        return None;
-    }
+    let id = own_id(rules, row)?;
     let list = Ids::new(row, 2);
     Some(Record::Applicant { id, list })
 }
