@@ -54,7 +54,7 @@ pub position-number_in : (ids : List Bytes) (id : Bytes) → position (bytes_eq 
 position-number_in ids id = rw (number_there ids id) refl
 
 -- an id that differs from all others is none of those before it
-differ_before : (xs : List Bytes) (y : Bytes) (ys : List Bytes) → all_differ bytes_eq (xs ++ y ∷ ys) ≡ true → has_id xs y ≡ false
+pub differ_before : (xs : List Bytes) (y : Bytes) (ys : List Bytes) → all_differ bytes_eq (xs ++ y ∷ ys) ≡ true → has_id xs y ≡ false
 differ_before [] y ys h = refl
 differ_before (x ∷ xs) y ys h =
     let p : (has_id (xs ++ y ∷ ys) x ≡ false) × (all_differ bytes_eq (xs ++ y ∷ ys) ≡ true) = differ_parts x (xs ++ y ∷ ys) h in

@@ -15,7 +15,7 @@ use Rattle.mt_model.specs.Laws.Registration.{IsRegistration}
 use Rattle.mt_model.proofs.BelowFacts.{length-map_below, map_below_at}
 use Rattle.mt_roster.specs.Tables.{programs_with, couples_with, IsRoster}
 use Rattle.mt_roster.specs.declared.numbering.Entries.{Entries}
-use Rattle.mt_roster.specs.declared.numbering.NameLists.{NameLists}
+use Rattle.mt_roster.specs.declared.names.NameLists.{NameLists}
 use Rattle.mt_roster.specs.Entries.{AreNames, AreEntries}
 use Rattle.mt_roster.specs.View.{registered_of, AreTables}
 use Rattle.mt_roster.specs.Numbered.{quota_in, ranking_in, lists_by, members_in, pairs_in, bare_couples, registered_by_all}

@@ -12,7 +12,7 @@ use Rattle.mt_model.specs.Registration.Ids.{Bytes, has_id, all_differ}
 use Rattle.mt_roster.specs.declared.refusal.Refusal.{Refusal}
 use Rattle.mt_roster.specs.declared.refusal.Refusal.TheVariants as refusals
 use Rattle.mt_roster.specs.declared.register.Register.{Register}
-use Rattle.mt_roster.specs.Registers.{records_seen, AreSound, AreBounded, IsRegister}
+use Rattle.mt_roster.specs.Registers.{records_seen, AreFew, AreSound, AreBounded, IsRegister}
 use Rattle.mt_roster.specs.Passes.{Reads, ReadsAt, GivesRegister}
 use Rattle.mt_roster.specs.Refusals.{Refuses}
 use Rattle.mt_model.specs.Registration.Faults.{Charge, Fault, charge, fault_at, duplicate_id}
@@ -93,32 +93,33 @@ module _ (before : List Record) where
 not_above : (limit most n : ℕ) → limit ≤ most → nat_lt limit n ≡ false → n ≤ most
 not_above limit most n h k = grind (arith, nat_tests)
 
--- the records with one of which no id is registered, and that are not too many
-pub sound_more : (rules : Rules) (before : List Record) (r : Record) → AreBounded rules.limits → AreSound before → registered_before before r ≡ None → are_too_many rules.limits (before ++ r ∷ []) ≡ false → AreSound (before ++ r ∷ [])
-sound_more rules before r bound s new few =
+-- the records with one with which they are not too many
+pub few_more : (rules : Rules) (before : List Record) (r : Record) → AreBounded rules.limits → are_too_many rules.limits (before ++ r ∷ []) ≡ false → AreFew (before ++ r ∷ [])
+few_more rules before r bound few =
     let p = neither _ (nat_lt rules.limits.entries (entry_count (before ++ r ∷ []))) few in
     let q = neither _ (nat_lt rules.limits.couples (length (ids_of OfCouple (before ++ r ∷ [])))) p.0 in
     let t = neither (nat_lt rules.limits.applicants (length (applicant_ids (before ++ r ∷ [])))) (nat_lt rules.limits.programs (length (ids_of OfProgram (before ++ r ∷ [])))) q.0 in
     record {
-      programs_differ = new_programs before r s.programs_differ new;
-      couples_differ = new_couples before r s.couples_differ new;
-      applicants_differ = new_applicants before r s.applicants_differ new;
-      few_programs = not_above _ _ _ bound.programs t.1;
-      few_couples = not_above _ _ _ bound.couples q.1;
-      few_applicants = not_above _ _ _ bound.applicants t.0;
-      few_entries = not_above _ _ _ bound.entries p.1;
+      programs = not_above _ _ _ bound.programs t.1;
+      couples = not_above _ _ _ bound.couples q.1;
+      applicants = not_above _ _ _ bound.applicants t.0;
+      entries = not_above _ _ _ bound.entries p.1;
     }
 
-pub sound_nil : AreSound []
-sound_nil = record {
-  programs_differ = refl;
-  couples_differ = refl;
-  applicants_differ = refl;
-  few_programs = omega arith;
-  few_couples = omega arith;
-  few_applicants = omega arith;
-  few_entries = omega arith;
+pub few_nil : AreFew []
+few_nil = record { programs = omega arith; couples = omega arith; applicants = omega arith; entries = omega arith }
+
+-- and of which no id is registered
+pub sound_more : (rules : Rules) (before : List Record) (r : Record) → AreBounded rules.limits → AreSound before → registered_before before r ≡ None → are_too_many rules.limits (before ++ r ∷ []) ≡ false → AreSound (before ++ r ∷ [])
+sound_more rules before r bound s new few = record {
+  programs_differ = new_programs before r s.programs_differ new;
+  couples_differ = new_couples before r s.couples_differ new;
+  applicants_differ = new_applicants before r s.applicants_differ new;
+  few = few_more rules before r bound few;
 }
+
+pub sound_nil : AreSound []
+sound_nil = record { programs_differ = refl; couples_differ = refl; applicants_differ = refl; few = few_nil }
 
 -- the numbered rows from a place on
 pub skip_empty : (rows : List (List Bytes)) (i n : ℕ) → i < length rows → length (get_or rows i []) ≡ 0 → numbered_from n (drop i rows) ≡ numbered_from (n + 1) (drop (i + 1) rows)

@@ -1,6 +1,6 @@
 -- The passes over records that are plain.
-use Rattle.std.proofs.Common.{◌≡◌, ℕ, ◌+◌, ◌^◌, ◌<◌, ◌≤◌, Bool, true, false, List, [], ◌∷◌, ◌++◌, length, Option, Some, None, Result, Ok, Err, refl, ap, sym, ◌∙◌, arith, subst, drop, get_or, Bor}
-use Rattle.std.specs.Prelude.{filter, option_map, sum_by, is_some, bytes_eq, IfSome}
+use Rattle.std.proofs.Common.{◌≡◌, ℕ, ◌+◌, ◌&&◌, ◌^◌, ◌<◌, ◌≤◌, Bool, true, false, List, [], ◌∷◌, ◌++◌, length, Option, Some, None, Result, Ok, Err, refl, ap, sym, ◌∙◌, arith, subst, drop, get_or, Bor}
+use Rattle.std.specs.Prelude.{filter, option_map, option_to_list, sum_by, is_some, bytes_eq, IfSome}
 use Rattle.std.specs.Bool.{then_some}
 use Rattle.std.specs.Option.{option_map_or, option_copied}
 use Rattle.std.specs.List.{list_all}
@@ -9,24 +9,28 @@ use Rattle.std.proofs.lemmas.List.{map-append}
 use Rattle.std.proofs.lemmas.List.Folds.{list_all-append}
 use Rattle.mt_model.specs.Market.{Registered}
 use Rattle.mt_model.specs.Registration.{market_under}
-use Rattle.mt_model.specs.Registration.Ids.{Bytes, all_differ}
+use Rattle.mt_model.specs.Registration.Ids.{Bytes, has_id, all_differ}
 use Rattle.mt_model.specs.Registration.Faults.{Charge, charge, fault_at, duplicate_id}
 use Rattle.mt_model.specs.Registration.Records.{Rules, Record, ProgramRecord, ApplicantRecord, CoupleRecord, WithdrawRecord, Kind, OfProgram, OfApplicant, OfCouple, record_of}
-use Rattle.mt_model.specs.Registration.Rows.{ids_of, applicant_ids, withdrawn, withdrawn_id, remaining, entry_count}
+use Rattle.mt_model.specs.Registration.Rows.{own_id, ids_of, applicants_of, applicant_ids, withdrawn, withdrawn_id, remaining, entry_count}
 use Rattle.mt_model.specs.Registration.Passes.{Numbered, contents, numbered_from, first_of, on_result, registered_before, says_twice, are_too_many, clash, next_record, first_pass, second_pass}
 use Rattle.mt_roster.specs.declared.numbering.Entries.{Entries}
-use Rattle.mt_roster.specs.declared.register.Numbered as declared
 use Rattle.mt_roster.specs.declared.register.Kinds.{Kinds}
-use Rattle.mt_roster.specs.declared.register.Register.{Register}
-use Rattle.mt_roster.specs.declared.numbering.NameLists.{NameLists}
-use Rattle.mt_roster.specs.Drafts.{registers_ids, lists_ids, IsDraft}
-use Rattle.mt_roster.specs.Entries.{AreNames, AreEntries}
+use Rattle.mt_roster.specs.declared.drafts.Drafts.{Drafts}
+use Rattle.mt_roster.specs.declared.register.Numbered as declared
+use Rattle.mt_roster.specs.Drafts.{registers_ids, lists_ids, IsDraft, drafts_seen, drafted, AreDrafts}
+use Rattle.mt_roster.specs.declared.names.NameLists.{NameLists}
+use Rattle.mt_roster.specs.Entries.{AreNames, AddsNames, AreEntries}
 use Rattle.mt_roster.specs.Numbered.{all_seen, stays_without, registered_by_all}
-use Rattle.mt_roster.specs.Registers.{records_seen, contents_seen, ids_in, withdraws_twice, IsRegister}
-use Rattle.mt_roster.specs.Plain.{is_plain, lists_once, IsPlainFront, GoesOn, AreWhole, AreWholeEntries, IsWholeMarket}
+use Rattle.mt_roster.specs.Registers.{ids_in, withdraws_twice}
+use Rattle.mt_roster.specs.Plain.{is_plain, lists_once, ids_differ, IsPlainFront, GoesOn, AreWholeEntries, IsWholeMarket}
+use Rattle.mt_model.proofs.IdFacts.{differ_parts, differ_join, neither}
+use Rattle.std.proofs.lemmas.List.{append_assoc}
+use Rattle.std.proofs.lemmas.List.Folds.{list_any-append}
+use Rattle.mt_roster.proofs.CountFacts.{ids_of-more, applicant_ids-more}
 use Rattle.mt_roster.proofs.DraftFacts.{programs_ids, applicants_ids, kept_ids}
 use Rattle.mt_roster.proofs.KeptFacts.{kept_of, kept_sum, AllKept, all_kept, once_all, second_none}
-use Rattle.mt_roster.proofs.NumberingSteps.{filter-remaining, contents-all_seen}
+use Rattle.mt_roster.proofs.NumberingSteps.{differ_before, filter-remaining, contents-all_seen}
 use Rattle.mt_roster.proofs.PassFacts.{row_is}
 use Rattle.mt_roster.proofs.ReadFacts.{market_after}
 
@@ -36,12 +40,6 @@ once_said before (ProgramRecord id quota list) h = refl
 once_said before (ApplicantRecord id list) h = refl
 once_said before (CoupleRecord id a b pairs) h = refl
 once_said before (WithdrawRecord kind id) h = h
-
-pub once_plain : (before : List Record) (r : Record) → is_plain r ≡ true → withdraws_twice before r ≡ false
-once_plain before (ProgramRecord id quota list) h = refl
-once_plain before (ApplicantRecord id list) h = refl
-once_plain before (CoupleRecord id a b pairs) h = refl
-once_plain before (WithdrawRecord kind id) h = cc
 
 says_once : (before : List Record) (r : Record) → is_plain r ≡ true → lists_once r ≡ true → says_twice before r ≡ false
 says_once before (ProgramRecord id quota list) p l = rw l refl
@@ -74,30 +72,87 @@ last_parts p rs r h =
 last_join : (p : Record → Bool) (rs : List Record) (r : Record) → list_all p rs ≡ true → p r ≡ true → list_all p (rs ++ r ∷ []) ≡ true
 last_join p rs r h k = rw (list_all-append, h, k) refl
 
-contents-last : (ns : List (Numbered Record)) (n : ℕ) (r : Record) → contents (ns ++ (n, r) ∷ []) ≡ contents ns ++ r ∷ []
-contents-last ns n r = rw map-append refl
+drafted-more : (old new : Drafts) (n : ℕ) (r : Record) → drafts_seen new ≡ drafts_seen old ++ (n, r) ∷ [] → drafted new ≡ drafted old ++ r ∷ []
+drafted-more old new n r more =
+    sym (contents-all_seen new.records.items)
+    ∙ ap contents more ∙ map-append (λ (x : Numbered Record). x.1) (drafts_seen old) ((n, r) ∷ [])
+    ∙ ap (λ (rs : List Record). rs ++ r ∷ []) (contents-all_seen old.records.items)
 
--- a register with a plain record more
-pub front_more : (rules : Rules) (old new : Register) (n : ℕ) (row : List Bytes) (r : Record)
-    → IsRegister new → records_seen new ≡ records_seen old ++ (n, r) ∷ [] → is_plain r ≡ true → IsDraft rules (record_of rules row) r
-    → registered_before (contents_seen old) r ≡ None → are_too_many rules.limits (contents_seen old ++ r ∷ []) ≡ false
+-- The records with one more: where no id is registered twice, none of the last is registered before.
+differ_front : (xs ys : List Bytes) → all_differ bytes_eq (xs ++ ys) ≡ true → all_differ bytes_eq xs ≡ true
+differ_front [] ys h = refl
+differ_front (x ∷ xs) ys h =
+    let p : (has_id (xs ++ ys) x ≡ false) × (all_differ bytes_eq (xs ++ ys) ≡ true) = differ_parts x (xs ++ ys) h in
+    let n : (has_id xs x ≡ false) × (has_id ys x ≡ false) = neither (has_id xs x) (has_id ys x) (sym (list_any-append (bytes_eq x) xs ys) ∙ p.0) in
+    differ_join x xs n.0 (differ_front xs ys p.1)
+
+parts_of_three : (rs : List Record) → ids_differ rs ≡ true
+    → (all_differ bytes_eq (ids_of OfProgram rs) ≡ true) × (all_differ bytes_eq (applicant_ids rs) ≡ true) × (all_differ bytes_eq (ids_of OfCouple rs) ≡ true)
+parts_of_three rs h =
+    let p = and_parts (all_differ bytes_eq (ids_of OfProgram rs) && all_differ bytes_eq (applicant_ids rs)) (all_differ bytes_eq (ids_of OfCouple rs)) h in
+    let q = and_parts (all_differ bytes_eq (ids_of OfProgram rs)) (all_differ bytes_eq (applicant_ids rs)) p.0 in
+    (q.0, q.1, p.1)
+
+module _ (before : List Record) where
+  front_differs : (r : Record) → ids_differ (before ++ r ∷ []) ≡ true → ids_differ before ≡ true
+  front_differs r h =
+      let p = parts_of_three (before ++ r ∷ []) h in
+      let programs = differ_front (ids_of OfProgram before) _ (ap (all_differ bytes_eq) (sym (ids_of-more before r OfProgram)) ∙ p.0) in
+      let applicants = differ_front (applicant_ids before) _ (ap (all_differ bytes_eq) (sym (applicant_ids-more before r)) ∙ p.1) in
+      let couples = differ_front (ids_of OfCouple before) _ (ap (all_differ bytes_eq) (sym (ids_of-more before r OfCouple)) ∙ p.2) in
+      rw (programs, applicants, couples) refl
+
+  none_before : (r : Record) → ids_differ (before ++ r ∷ []) ≡ true → registered_before before r ≡ None
+  none_before (ProgramRecord id quota list) h =
+      let r = ProgramRecord id quota list in
+      let p = parts_of_three (before ++ r ∷ []) h in
+      let n : has_id (ids_of OfProgram before) id ≡ false = differ_before (ids_of OfProgram before) id [] (ap (all_differ bytes_eq) (sym (ids_of-more before r OfProgram)) ∙ p.0) in
+      rw n refl
+  none_before (ApplicantRecord id list) h =
+      let r = ApplicantRecord id list in
+      let p = parts_of_three (before ++ r ∷ []) h in
+      let n : has_id (applicant_ids before) id ≡ false = differ_before (applicant_ids before) id [] (ap (all_differ bytes_eq) (sym (applicant_ids-more before r)) ∙ p.1) in
+      rw n refl
+  none_before (CoupleRecord id a b pairs) h =
+      let r = CoupleRecord id a b pairs in
+      let apps = applicant_ids before in
+      let p = parts_of_three (before ++ r ∷ []) h in
+      let n : has_id (ids_of OfCouple before) id ≡ false = differ_before (ids_of OfCouple before) id [] (ap (all_differ bytes_eq) (sym (ids_of-more before r OfCouple)) ∙ p.2) in
+      let d : all_differ bytes_eq (apps ++ a ∷ b ∷ []) ≡ true = ap (all_differ bytes_eq) (sym (applicant_ids-more before r)) ∙ p.1 in
+      let first : has_id apps a ≡ false = differ_before apps a (b ∷ []) d in
+      let both : has_id (apps ++ a ∷ []) b ≡ false = differ_before (apps ++ a ∷ []) b [] (ap (all_differ bytes_eq) (append_assoc apps (a ∷ []) (b ∷ [])) ∙ d) in
+      let k : (has_id apps b ≡ false) × (has_id (a ∷ []) b ≡ false) = neither (has_id apps b) (has_id (a ∷ []) b) (sym (list_any-append (bytes_eq b) apps (a ∷ [])) ∙ both) in
+      let l : (bytes_eq b a ≡ false) × (false ≡ false) = neither (bytes_eq b a) false k.1 in
+      rw (n, first, l.0, k.0) refl
+  none_before (WithdrawRecord kind id) h = refl
+
+-- drafts with a plain record more
+pub front_more : (rules : Rules) (old new : Drafts) (n : ℕ) (row : List Bytes) (r : Record)
+    → AreDrafts new → drafts_seen new ≡ drafts_seen old ++ (n, r) ∷ [] → is_plain r ≡ true → IsDraft rules (record_of rules row) r
+    → are_too_many rules.limits (drafted old ++ r ∷ []) ≡ false
     → (rest : List (Numbered (List Bytes))) → GoesOn rules old new ((n, row) ∷ rest) rest
-front_more rules old new n row r is more p draft none few rest whole f =
-    let same : contents_seen new ≡ contents_seen old ++ r ∷ [] = ap contents more ∙ contents-last (records_seen old) n r in
+front_more rules old new n row r are more p draft few rest whole f =
+    let same : drafted new ≡ drafted old ++ r ∷ [] = drafted-more old new n r more in
     record {
-      register = is;
-      plain = ap (list_all is_plain) same ∙ last_join is_plain (contents_seen old) r f.plain p;
-      registers = ap (list_all (registers_ids rules)) same ∙ last_join (registers_ids rules) (contents_seen old) r f.registers draft.registers;
-      goes_on = λ h k.
-          let q : (list_all lists_once (contents_seen old) ≡ true) × (lists_once r ≡ true) = last_parts lists_once (contents_seen old) r (ap (list_all lists_once) (sym same) ∙ h) in
-          let l : (list_all (lists_ids rules) (contents_seen old) ≡ true) × (lists_ids rules r ≡ true) =
-          last_parts (lists_ids rules) (contents_seen old) r (ap (list_all (lists_ids rules)) (sym same) ∙ k) in
-          f.goes_on q.0 l.0 ∙ pass_step rules (records_seen old) n row r (draft.lists l.1) none (says_once (contents_seen old) r p q.1) few rest
+      drafts = are;
+      plain = ap (list_all is_plain) same ∙ last_join is_plain (drafted old) r f.plain p;
+      registers = ap (list_all (registers_ids rules)) same ∙ last_join (registers_ids rules) (drafted old) r f.registers draft.registers;
+      goes_on = λ h k d.
+          let q : (list_all lists_once (drafted old) ≡ true) × (lists_once r ≡ true) = last_parts lists_once (drafted old) r (ap (list_all lists_once) (sym same) ∙ h) in
+          let l : (list_all (lists_ids rules) (drafted old) ≡ true) × (lists_ids rules r ≡ true) =
+          last_parts (lists_ids rules) (drafted old) r (ap (list_all (lists_ids rules)) (sym same) ∙ k) in
+          let e : ids_differ (drafted old ++ r ∷ []) ≡ true = ap ids_differ (sym same) ∙ d in
+          let seen : contents (drafts_seen old) ≡ drafted old = contents-all_seen old.records.items in
+          f.goes_on q.0 l.0 (front_differs (drafted old) r e)
+          ∙ pass_step rules (drafts_seen old) n row r (draft.lists l.1)
+          (ap (λ (rs : List Record). registered_before rs r) seen ∙ none_before (drafted old) r e)
+          (ap (λ (rs : List Record). says_twice rs r) seen ∙ says_once (drafted old) r p q.1)
+          (ap (λ (rs : List Record). are_too_many rules.limits (rs ++ r ∷ [])) seen ∙ few) rest
           ∙ ap (λ (ns : List (Numbered Record)). first_pass rules ns rest) (sym more);
     }
 
 -- the row at a place
-module _ (rules : Rules) (old new : Register) (rows : List (List Bytes)) (i : ℕ) (row : List Bytes) (h : i < length rows) (at : row ≡ get_or rows i row) where
+module _ (rules : Rules) (old new : Drafts) (rows : List (List Bytes)) (i : ℕ) (row : List Bytes) (h : i < length rows) (at : row ≡ get_or rows i row) where
   abbrev left : List (Numbered (List Bytes))
   left = numbered_from (i + 1 + 1) (drop (i + 1) rows)
 
@@ -139,35 +194,41 @@ module _ (w : Kinds) (programs : w.programs ≡ []) (applicants : w.applicants �
       let q : (is_plain r ≡ true) × (list_all is_plain rs ≡ true) = and_parts (is_plain r) _ h in
       rw (stays_one r q.0, stays_all rs q.1) refl
 
-remaining_all : (rs : List Record) (w : Kinds) → ((kind : Kind) → ids_in w kind ≡ withdrawn kind rs) → list_all is_plain rs ≡ true → remaining rs ≡ rs
-remaining_all rs w same h =
-    sym (filter-remaining rs w same)
-    ∙ stays_all w (same OfProgram ∙ withdrawn_none OfProgram rs h) (same OfApplicant ∙ withdrawn_none OfApplicant rs h) (same OfCouple ∙ withdrawn_none OfCouple rs h) rs h
+remaining_all : (rs : List Record) → list_all is_plain rs ≡ true → remaining rs ≡ rs
+remaining_all rs h =
+    let none : Kinds = record { programs = []; applicants = []; couples = [] } in
+    sym (filter-remaining rs none (none_of rs h)) ∙ stays_all none refl refl refl rs h
+  where
+    none_of : (rs : List Record) → list_all is_plain rs ≡ true → (kind : Kind) → ids_in (record { programs = []; applicants = []; couples = [] }) kind ≡ withdrawn kind rs
+    none_of rs h OfProgram = sym (withdrawn_none OfProgram rs h)
+    none_of rs h OfApplicant = sym (withdrawn_none OfApplicant rs h)
+    none_of rs h OfCouple = sym (withdrawn_none OfCouple rs h)
 
 -- the same lists, by the same ids and records
-pub entries_by : (programs programs' applicants applicants' : List Bytes) (rs rs' : List Record) (e : Entries) → programs ≡ programs' → applicants ≡ applicants' → rs ≡ rs'
+entries_by : (programs programs' applicants applicants' : List Bytes) (rs rs' : List Record) (e : Entries) → programs ≡ programs' → applicants ≡ applicants' → rs ≡ rs'
     → AreEntries programs applicants rs e → AreEntries programs' applicants' rs' e
 entries_by programs programs' applicants applicants' rs rs' e p a r are =
     subst (λ (xs : List Record). AreEntries programs' applicants' xs e) r
     (subst (λ (xs : List Bytes). AreEntries programs' xs rs e) a (subst (λ (xs : List Bytes). AreEntries xs applicants rs e) p are))
 
--- the market of a register's records, where their lists by numbers are whole
-pub plain_market : (rules : Rules) (rows : List (Numbered (List Bytes))) (r : Register) (e : Entries)
-    → IsPlainFront rules rows r [] → AreEntries (ids_of OfProgram (contents_seen r)) (applicant_ids (contents_seen r)) (contents_seen r) e → AreWhole (contents_seen r) e
-    → market_under rules rows ≡ Ok (registered_by_all (contents_seen r))
-plain_market rules rows r e front are whole =
-    let rs = contents_seen r in
+-- the market of the rows, where their drafts by numbers are whole
+pub market_of_whole : (rules : Rules) (rows : List (Numbered (List Bytes))) (d : Drafts) (e : Entries) → IsPlainFront rules rows d [] → AreWholeEntries d e
+    → market_under rules rows ≡ Ok (registered_by_all (drafted d))
+market_of_whole rules rows d e front are =
+    let rs = drafted d in
     let programs = ids_of OfProgram rs in
     let applicants = applicant_ids rs in
     let enough : entry_count rs ≤ sum_by (kept_of programs applicants) rs =
-    omega (arith, whole.all, ap (sum_by length) are.rankings, ap (sum_by length) are.lists, ap (sum_by length) are.pairs, kept_sum programs applicants rs) in
+    omega (arith, are.whole.all, ap (sum_by length) are.said.rankings, ap (sum_by length) are.said.lists, ap (sum_by length) are.said.pairs, kept_sum programs applicants rs) in
     let kept : AllKept programs applicants rs = all_kept programs applicants rs enough in
     let once : list_all lists_once rs ≡ true =
-    once_all programs applicants rs kept (ap (list_all _) (sym are.rankings) ∙ whole.rankings_differ) (ap (list_all _) (sym are.lists) ∙ whole.lists_differ) in
+    once_all programs applicants rs kept (ap (list_all _) (sym are.said.rankings) ∙ are.whole.rankings_differ) (ap (list_all _) (sym are.said.lists) ∙ are.whole.lists_differ) in
     let ids : list_all (lists_ids rules) rs ≡ true = kept_ids rules programs applicants (programs_ids rules rs front.registers) (applicants_ids rules rs front.registers) rs kept in
-    let none : second_pass (records_seen r) ≡ None = second_none rs (records_seen r) front.plain kept in
-    market_after rules rows (records_seen r) (front.goes_on once ids)
-    ∙ rw none (ap (λ (xs : List Record). Ok (registered_by_all xs)) (remaining_all rs r.withdrawn front.register.withdrawn front.plain))
+    let seen : contents (drafts_seen d) ≡ rs = contents-all_seen d.records.items in
+    let none : second_pass (drafts_seen d) ≡ None =
+    second_none (contents (drafts_seen d)) (drafts_seen d) (ap (list_all is_plain) seen ∙ front.plain) (subst (λ (xs : List Record). AllKept (ids_of OfProgram xs) (applicant_ids xs) xs) (sym seen) kept) in
+    market_after rules rows (drafts_seen d) (front.goes_on once ids are.differ)
+    ∙ rw none (ap (λ (xs : List Record). Ok (registered_by_all xs)) (ap remaining seen ∙ remaining_all rs front.plain))
 
 -- an id that isn't found
 pub none_copied : (o : Option (Bor Bytes)) (b : Bool) → b ≡ is_some o → b ≡ false → option_copied o ≡ None
@@ -183,51 +244,43 @@ pub some_of : {X : Type 0} (P : X → Type 0) (o : Option X) (x : X) → o ≡ S
 some_of P o x is = subst (λ p. IfSome p P) is
 
 -- the market of the rows, by what their register says by numbers
-pub market_of_whole : (rules : Rules) (rows : List (Numbered (List Bytes))) (r : Register) (e : Entries) → IsPlainFront rules rows r [] → AreWholeEntries r e
-    → market_under rules rows ≡ Ok (registered_by_all (contents_seen r))
-market_of_whole rules rows r e front are = plain_market rules rows r e front are.said are.whole
+pub markets_of_whole : (rules : Rules) (rows : List (Numbered (List Bytes))) (d : Drafts) (found : Option Registered) → IsPlainFront rules rows d []
+    → IfSome found (λ m. IsWholeMarket d m) → IfSome found (λ m. market_under rules rows ≡ Ok m)
+markets_of_whole rules rows d found front =
+    some_weaker found _ _ (λ m is. market_of_whole rules rows d is.entries.0 front is.entries.1 ∙ ap Ok (sym is.market))
 
-pub markets_of_whole : (rules : Rules) (rows : List (Numbered (List Bytes))) (r : Register) (found : Option Registered) → IsPlainFront rules rows r []
-    → IfSome found (λ m. IsWholeMarket r m) → IfSome found (λ m. market_under rules rows ≡ Ok m)
-markets_of_whole rules rows r found front =
-    some_weaker found _ _ (λ m is. market_of_whole rules rows r is.entries.0 front is.entries.1 ∙ ap Ok (sym is.market))
+-- The ids of records with one more.
+pub names_more : (old new : NameLists) (rs : List Record) (r : Record) → AreNames rs old → AddsNames old new r → AreNames (rs ++ r ∷ []) new
+names_more old new rs r are adds = record {
+  programs = adds.programs ∙ ap (λ ids. ids ++ option_to_list (own_id OfProgram r)) are.programs ∙ sym (ids_of-more rs r OfProgram);
+  applicants = adds.applicants ∙ ap (λ ids. ids ++ applicants_of r) are.applicants ∙ sym (applicant_ids-more rs r);
+  couples = adds.couples ∙ ap (λ ids. ids ++ option_to_list (own_id OfCouple r)) are.couples ∙ sym (ids_of-more rs r OfCouple);
+}
 
--- the records of a register as the code has them
-seen_of : (r : Register) (xs : List declared.Numbered) → xs ≡ r.records.items → all_seen xs ≡ contents_seen r
-seen_of r xs same = ap all_seen same ∙ sym (contents-all_seen r.records.items)
+-- The ids of drafts are few.
+module _ (d : Drafts) (are : AreDrafts d) where
+  pub programs_few : length d.names.programs < 2 ^ 32
+  programs_few = omega (arith, ap length are.names.programs, are.few.programs)
 
--- The names of a register's records differ, and are few.
-module _ (r : Register) (is : IsRegister r) (names : NameLists) (are : AreNames (all_seen r.records.items) names) where
-  programs_are : names.programs ≡ ids_of OfProgram (contents_seen r)
-  programs_are = are.programs ∙ ap (ids_of OfProgram) (seen_of r r.records.items refl)
+  pub applicants_few : length d.names.applicants < 2 ^ 32
+  applicants_few = omega (arith, ap length are.names.applicants, are.few.applicants)
 
-  applicants_are : names.applicants ≡ applicant_ids (contents_seen r)
-  applicants_are = are.applicants ∙ ap applicant_ids (seen_of r r.records.items refl)
+  -- what is said by these names is said by the ids of the records, and the other way round
+  pub entries_said : (xs : List declared.Numbered) (e : Entries) → xs ≡ d.records.items → AreEntries d.names.programs d.names.applicants (all_seen xs) e
+      → AreEntries (ids_of OfProgram (drafted d)) (applicant_ids (drafted d)) (drafted d) e
+  entries_said xs e same by = entries_by _ _ _ _ _ _ e are.names.programs are.names.applicants (ap all_seen same) by
 
-  pub programs_named : (all_differ bytes_eq names.programs ≡ true) × (length names.programs < 2 ^ 32)
-  programs_named = (
-    ap (all_differ bytes_eq) programs_are ∙ is.sound.programs_differ,
-    omega (arith, ap length programs_are, is.sound.few_programs),
-  )
+  pub entries_named : (xs : List declared.Numbered) (e : Entries) → xs ≡ d.records.items → AreWholeEntries d e → AreEntries d.names.programs d.names.applicants (all_seen xs) e
+  entries_named xs e same w = entries_by _ _ _ _ _ _ e (sym are.names.programs) (sym are.names.applicants) (ap all_seen (sym same)) w.said
 
-  pub applicants_named : (all_differ bytes_eq names.applicants ≡ true) × (length names.applicants < 2 ^ 32)
-  applicants_named = (
-    ap (all_differ bytes_eq) applicants_are ∙ is.sound.applicants_differ,
-    omega (arith, ap length applicants_are, is.sound.few_applicants),
-  )
+  -- no id is registered twice, where none stands twice among the names
+  pub names_differ : all_differ bytes_eq d.names.programs ≡ true → all_differ bytes_eq d.names.applicants ≡ true → all_differ bytes_eq d.names.couples ≡ true → ids_differ (drafted d) ≡ true
+  names_differ programs applicants couples =
+      let p : all_differ bytes_eq (ids_of OfProgram (drafted d)) ≡ true = ap (all_differ bytes_eq) (sym are.names.programs) ∙ programs in
+      let a : all_differ bytes_eq (applicant_ids (drafted d)) ≡ true = ap (all_differ bytes_eq) (sym are.names.applicants) ∙ applicants in
+      let c : all_differ bytes_eq (ids_of OfCouple (drafted d)) ≡ true = ap (all_differ bytes_eq) (sym are.names.couples) ∙ couples in
+      rw (p, a, c) refl
 
-  -- what is said by these names is said by the register's ids, and the other way round
-  pub entries_said : (xs : List declared.Numbered) (e : Entries) → xs ≡ r.records.items → AreEntries names.programs names.applicants (all_seen xs) e
-      → AreEntries (ids_of OfProgram (contents_seen r)) (applicant_ids (contents_seen r)) (contents_seen r) e
-  entries_said xs e same by = entries_by _ _ _ _ _ _ e programs_are applicants_are (seen_of r xs same) by
-
-  pub entries_named : (xs : List declared.Numbered) (e : Entries) → xs ≡ r.records.items → AreWholeEntries r e → AreEntries names.programs names.applicants (all_seen xs) e
-  entries_named xs e same w = entries_by _ _ _ _ _ _ e (sym programs_are) (sym applicants_are) (sym (seen_of r xs same)) w.said
-
--- the names of records that are the register's
-pub names_seen : (r : Register) (xs : List declared.Numbered) (names : NameLists) → xs ≡ r.records.items → AreNames (all_seen xs) names → AreNames (all_seen r.records.items) names
-names_seen r xs names same are = subst (λ (ys : List declared.Numbered). AreNames (all_seen ys) names) same are
-
--- the market of records that are the register's
-pub market_seen : (r : Register) (xs : List declared.Numbered) → xs ≡ r.records.items → registered_by_all (all_seen xs) ≡ registered_by_all (contents_seen r)
-market_seen r xs same = ap registered_by_all (seen_of r xs same)
+-- Of two tests that hold together each holds.
+pub both_hold : {b : Bool} (x y : Bool) → b ≡ (x && y) → b ≡ true → (x ≡ true) × (y ≡ true)
+both_hold x y is h = and_parts x y (sym is ∙ h)

@@ -1,19 +1,18 @@
 -- The reading of records whose lists are looked through only once all ids are registered.
-use Rattle.std.specs.Prelude.{◌≡◌, ◌≢◌, ◌==◌, ℕ, ◌+◌, ◌*◌, ◌<◌, ◌≤◌, Bool, true, false, List, [], length, sum_by, slice_index_or, slice_set, bytes_eq, Ok}
+use Rattle.std.specs.Prelude.{◌≡◌, ◌≢◌, ◌==◌, ℕ, ◌+◌, ◌*◌, ◌<◌, ◌≤◌, ◌&&◌, Bool, true, false, List, [], length, sum_by, slice_index_or, slice_set, bytes_eq, Ok}
 use Rattle.std.specs.List.{list_all}
 use Rattle.mt_model.specs.Market.{Registered}
 use Rattle.mt_model.specs.Registration.{market_under}
 use Rattle.mt_model.specs.Registration.Ids.{Bytes, all_differ}
-use Rattle.mt_model.specs.Registration.Records.{Rules, Record, ProgramRecord, ApplicantRecord, CoupleRecord, WithdrawRecord, OfProgram}
+use Rattle.mt_model.specs.Registration.Records.{Rules, Record, ProgramRecord, ApplicantRecord, CoupleRecord, WithdrawRecord, OfProgram, OfCouple}
 use Rattle.mt_model.specs.Registration.Passes.{Numbered, is_same_pair, first_pass}
 use Rattle.mt_model.specs.Registration.Rows.{entry_count, ids_of, applicant_ids}
 use Rattle.mt_model.specs.Laws.Registration.{IsRegistration}
 use Rattle.mt_roster.specs.declared.numbering.Entries.{Entries}
-use Rattle.mt_roster.specs.declared.register.Register.{Register}
-use Rattle.mt_roster.specs.Drafts.{registers_ids, lists_ids}
+use Rattle.mt_roster.specs.declared.drafts.Drafts.{Drafts}
+use Rattle.mt_roster.specs.Drafts.{registers_ids, lists_ids, drafts_seen, drafted, AreDrafts}
 use Rattle.mt_roster.specs.Entries.{AreEntries}
 use Rattle.mt_roster.specs.Numbered.{registered_by_all}
-use Rattle.mt_roster.specs.Registers.{records_seen, contents_seen, IsRegister}
 
 -- whether a record withdraws nothing and, if it is a couple's, has no pair twice
 abbrev pub is_plain : Record → Bool
@@ -27,17 +26,21 @@ lists_once (ProgramRecord id quota list) = all_differ bytes_eq list
 lists_once (ApplicantRecord id list) = all_differ bytes_eq list
 lists_once _ = true
 
--- Of all these rows the register has those before the rest. Where no id stands twice in a list of its records, and
--- the lists have ids alone, the first pass over all rows goes on from it.
-pub record IsPlainFront (rules : Rules) (all : List (Numbered (List Bytes))) (r : Register) (rest : List (Numbered (List Bytes))) : Type 0 where
-  pub register : IsRegister r
-  pub plain : list_all is_plain (contents_seen r) ≡ true
-  pub registers : list_all (registers_ids rules) (contents_seen r) ≡ true
-  pub goes_on : list_all lists_once (contents_seen r) ≡ true → list_all (lists_ids rules) (contents_seen r) ≡ true
-      → first_pass rules [] all ≡ first_pass rules (records_seen r) rest
+-- whether no id is registered twice
+abbrev pub ids_differ : List Record → Bool
+ids_differ rs = all_differ bytes_eq (ids_of OfProgram rs) && all_differ bytes_eq (applicant_ids rs) && all_differ bytes_eq (ids_of OfCouple rs)
+
+-- Of all these rows the drafts have those before the rest. Where no id is registered twice or stands twice in a list of
+-- theirs, and the lists have ids alone, the first pass over all rows goes on from them.
+pub record IsPlainFront (rules : Rules) (all : List (Numbered (List Bytes))) (d : Drafts) (rest : List (Numbered (List Bytes))) : Type 0 where
+  pub drafts : AreDrafts d
+  pub plain : list_all is_plain (drafted d) ≡ true
+  pub registers : list_all (registers_ids rules) (drafted d) ≡ true
+  pub goes_on : list_all lists_once (drafted d) ≡ true → list_all (lists_ids rules) (drafted d) ≡ true → ids_differ (drafted d) ≡ true
+      → first_pass rules [] all ≡ first_pass rules (drafts_seen d) rest
 
 -- A step over rows keeps that.
-abbrev pub GoesOn : Rules → Register → Register → List (Numbered (List Bytes)) → List (Numbered (List Bytes)) → Type 0
+abbrev pub GoesOn : Rules → Drafts → Drafts → List (Numbered (List Bytes)) → List (Numbered (List Bytes)) → Type 0
 GoesOn rules old new rows rest = (all : List (Numbered (List Bytes))) → IsPlainFront rules all old rows → IsPlainFront rules all new rest
 
 -- What is accepted of these rows is a registration.
@@ -56,12 +59,13 @@ pub record AreWhole (rs : List Record) (e : Entries) : Type 0 where
   pub rankings_differ : list_all (all_differ ◌==◌) e.rankings ≡ true
   pub lists_differ : list_all (all_differ ◌==◌) e.lists ≡ true
 
--- By numbers this is what the records of a register say, and it is whole.
-pub record AreWholeEntries (r : Register) (e : Entries) : Type 0 where
-  pub said : AreEntries (ids_of OfProgram (contents_seen r)) (applicant_ids (contents_seen r)) (contents_seen r) e
-  pub whole : AreWhole (contents_seen r) e
+-- By numbers this is what the drafts say, it is whole, and no id is registered twice.
+pub record AreWholeEntries (d : Drafts) (e : Entries) : Type 0 where
+  pub differ : ids_differ (drafted d) ≡ true
+  pub said : AreEntries (ids_of OfProgram (drafted d)) (applicant_ids (drafted d)) (drafted d) e
+  pub whole : AreWhole (drafted d) e
 
--- The market is that of a register's records, and what they say by numbers is whole.
-pub record IsWholeMarket (r : Register) (m : Registered) : Type 0 where
-  pub entries : (e : Entries) × AreWholeEntries r e
-  pub market : m ≡ registered_by_all (contents_seen r)
+-- The market is that of the drafts, and what they say by numbers is whole.
+pub record IsWholeMarket (d : Drafts) (m : Registered) : Type 0 where
+  pub entries : (e : Entries) × AreWholeEntries d e
+  pub market : m ≡ registered_by_all (drafted d)

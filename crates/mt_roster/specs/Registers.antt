@@ -30,15 +30,19 @@ abbrev pub withdraws_twice : List model.Record → model.Record → Bool
 withdraws_twice before (model.WithdrawRecord kind id) = has_id (withdrawn kind before) id
 withdraws_twice before _ = false
 
+-- No more of anything than an input may have.
+pub record AreFew (rs : List model.Record) : Type 0 where
+  pub programs : length (ids_of model.OfProgram rs) ≤ 20000
+  pub couples : length (ids_of model.OfCouple rs) ≤ 10000
+  pub applicants : length (applicant_ids rs) ≤ 100000
+  pub entries : entry_count rs ≤ 8000000
+
 -- No id is registered twice, and no more of anything than an input may have.
 pub record AreSound (rs : List model.Record) : Type 0 where
   pub programs_differ : all_differ bytes_eq (ids_of model.OfProgram rs) ≡ true
   pub couples_differ : all_differ bytes_eq (ids_of model.OfCouple rs) ≡ true
   pub applicants_differ : all_differ bytes_eq (applicant_ids rs) ≡ true
-  pub few_programs : length (ids_of model.OfProgram rs) ≤ 20000
-  pub few_couples : length (ids_of model.OfCouple rs) ≤ 10000
-  pub few_applicants : length (applicant_ids rs) ≤ 100000
-  pub few_entries : entry_count rs ≤ 8000000
+  pub few : AreFew rs
 
 -- Limits that no version passes.
 pub record AreBounded (limits : Limits) : Type 0 where

@@ -1,4 +1,4 @@
-ghost use Rattle.std.specs.Prelude.{◌≡◌, ◌<◌, ◌^◌, ◌++◌, [], ◌∷◌, not, length, position, bytes_eq, true, false, OnOk, OnErr, IfOk, if◌then◌else◌};
+ghost use Rattle.std.specs.Prelude.{◌≡◌, ◌<◌, ◌^◌, ◌++◌, [], ◌∷◌, not, length, position, bytes_eq, true, false, OnOk, OnErr, IfOk, IfSome, is_some, if◌then◌else◌};
 ghost use Rattle.mt_model.specs.Registration.Ids.{has_id, all_differ};
 
 use indexmap::IndexSet;
@@ -60,16 +60,18 @@ impl<'a> IdTable<'a> {
         })
     }
 
-    /// The ids that these names are, which differ.
-    pub(crate) fn of(alloc: Global, names: &'a FlatLists<u8>) -> Result<Self, AllocError>
-        requires { all_differ bytes_eq names.now ≡ true }
-        ensures { IfOk result (λ table. table ≡ names.now) }
+    /// The ids that these names are, if they differ.
+    pub(crate) fn of(alloc: Global, names: &'a FlatLists<u8>) -> Result<Option<Self>, AllocError>
+        ensures ids { IfOk result (λ found. IfSome found (λ table. table ≡ names.now)) }
+        ensures differ { IfOk result (λ found. is_some found ≡ all_differ bytes_eq names.now) }
     {
         let mut table = IdTable::with_capacity(alloc, names.len())?;
         for i in 0..names.len() {
-            table.push(names.list(i))?;
+            if !table.add(names.list(i))? {
+                return Ok(None);
+            }
         }
-        Ok(table)
+        Ok(Some(table))
     }
 
     pub(crate) fn len(&self) -> usize

@@ -2,12 +2,14 @@
 #![tactic(auto)]
 
 mod draft;
+mod drafts;
 mod fault;
 mod fields;
 mod first_pass;
 mod id_table;
 mod ids;
 pub mod laws;
+mod names;
 mod numbering;
 mod plain;
 mod reading;

@@ -1,6 +1,6 @@
 //! The market of records without a fault: withdrawn rows are dropped, and the others numbered in the order of their
 //! records.
-ghost use Rattle.std.specs.Prelude.{◌≡◌, ◌<◌, ◌≤◌, ◌^◌, ◌++◌, ◌+◌, [], ◌∷◌, true, map, filter, filter_map, flat_map, length, bytes_eq, All, IfOk, OnOk, slice_set};
+ghost use Rattle.std.specs.Prelude.{◌≡◌, ◌<◌, ◌≤◌, ◌^◌, ◌++◌, ◌+◌, [], ◌∷◌, true, map, filter, filter_map, flat_map, length, bytes_eq, ◌&&◌, is_some, All, IfOk, IfSome, OnOk, slice_set};
 ghost use Rattle.std.specs.Option.{option_copied};
 ghost use Rattle.mt_model.specs.Lists.{below};
 ghost use Rattle.mt_model.specs.Market.{agent_from};
@@ -16,6 +16,7 @@ ghost use Rattle.mt_roster.specs.Entries.{AreNames, AreEntries};
 
 use crate::fields::{Ids, Pairs};
 use crate::id_table::IdTable;
+use crate::names::{NameLists, names_of};
 use crate::record::{Kind, Record};
 use crate::register::{Kinds, Numbered, Register};
 use crate::tables::Roster;
@@ -39,72 +40,6 @@ fn retain(records: &mut Vec<Numbered<'_>>, withdrawn: &Kinds<'_>)
     ensures { all_seen records.new.items ≡ filter (stays_without withdrawn.now) (all_seen records.old.items) }
 {
     records.retain(|numbered| stays(withdrawn, &numbered.record));
-}
-
-/// The id that a record registers under a kind, if it is of that kind.
-fn own_id<'a>(kind: Kind, one: &Record<'a>) -> Option<&'a [u8]>
-    ensures { option_copied result ≡ own_id (kind_seen kind) (record_seen one.now) }
-{
-    match (kind, one) {
-        (Kind::Program, Record::Program { id, .. }) => Some(*id),
-        (Kind::Applicant, Record::Applicant { id, .. }) => Some(*id),
-        (Kind::Couple, Record::Couple { id, .. }) => Some(*id),
-        _ => None,
-    }
-}
-
-/// The ids of the records of a kind, in order.
-fn names_of_kind(
-    alloc: Global,
-    kind: Kind,
-    records: &[Numbered<'_>],
-) -> Result<FlatLists<u8>, AllocError>
-    ensures { IfOk result (λ names. names ≡ ids_of (kind_seen kind) (all_seen records.now)) }
-{
-    let mut names = FlatLists::new(alloc);
-    for numbered in records {
-        if let Some(id) = own_id(kind, &numbered.record) {
-            names.push_list(id)?;
-        }
-    }
-    Ok(names)
-}
-
-/// The ids of the applicants, in order of registration: a couple registers its first and then its second member.
-fn applicant_names(alloc: Global, records: &[Numbered<'_>]) -> Result<FlatLists<u8>, AllocError>
-    ensures { IfOk result (λ names. names ≡ applicant_ids (all_seen records.now)) }
-{
-    let mut names = FlatLists::new(alloc);
-    for numbered in records {
-        match &numbered.record {
-            Record::Applicant { id, .. } => names.push_list(*id)?,
-            Record::Couple { first, second, .. } => {
-                names.push_list(*first)?;
-                names.push_list(*second)?;
-            }
-            Record::Program { .. } | Record::Withdraw { .. } => {}
-        }
-    }
-    Ok(names)
-}
-
-/// The ids of records, those of a kind side by side.
-#[derive(Drop)]
-pub(crate) struct NameLists {
-    programs: FlatLists<u8>,
-    applicants: FlatLists<u8>,
-    couples: FlatLists<u8>,
-}
-
-/// The ids of the programs, the applicants and the couples of records.
-pub(crate) fn names_of(alloc: Global, records: &[Numbered<'_>]) -> Result<NameLists, AllocError>
-    ensures { IfOk result (λ names. AreNames (all_seen records.now) names) }
-{
-    Ok(NameLists {
-        programs: names_of_kind(alloc, Kind::Program, records)?,
-        applicants: applicant_names(alloc, records)?,
-        couples: names_of_kind(alloc, Kind::Couple, records)?,
-    })
 }
 
 /// The programs' quotas.
@@ -342,28 +277,48 @@ pub(crate) struct Entries {
     pub(crate) pairs: FlatLists<(Option<ProgNo>, Option<ProgNo>)>,
 }
 
-/// What records say by the numbers of their programs and applicants: what is none of them leaves its list.
+/// What records say by the numbers of these programs and applicants: what is none of them leaves its list.
+fn entries_by(
+    alloc: Global,
+    programs: &IdTable<'_>,
+    applicants: &IdTable<'_>,
+    records: &[Numbered<'_>],
+) -> Result<Entries, AllocError>
+    requires few_programs { length programs.now < 2 ^ 32 }
+    requires few_applicants { length applicants.now < 2 ^ 32 }
+    requires all { applicants.now ≡ applicant_ids (all_seen records.now) }
+    ensures { IfOk result (λ entries. AreEntries programs.now applicants.now (all_seen records.now) entries) }
+{
+    Ok(Entries {
+        rankings: rankings(alloc, applicants, records)?,
+        lists: lists(alloc, programs, records)?,
+        members: members(alloc, applicants, records)?,
+        pairs: pairs(alloc, programs, records)?,
+    })
+}
+
+/// What records say by the numbers of their programs and applicants, if none of these is registered twice: what is none
+/// of them leaves its list.
 pub(crate) fn entries_of(
     alloc: Global,
     names: &NameLists,
     records: &[Numbered<'_>],
-) -> Result<Entries, AllocError>
-    requires programs_differ { all_differ bytes_eq names.now.programs ≡ true }
-    requires applicants_differ { all_differ bytes_eq names.now.applicants ≡ true }
+) -> Result<Option<Entries>, AllocError>
     requires few_programs { length names.now.programs < 2 ^ 32 }
     requires few_applicants { length names.now.applicants < 2 ^ 32 }
     requires applicants { names.now.applicants ≡ applicant_ids (all_seen records.now) }
-    ensures { IfOk result (λ entries. AreEntries names.now.programs names.now.applicants (all_seen records.now) entries) }
+    ensures entries { IfOk result (λ found. IfSome found (λ entries. AreEntries names.now.programs names.now.applicants (all_seen records.now) entries)) }
+    ensures differ { IfOk result (λ found. is_some found ≡ (all_differ bytes_eq names.now.programs && all_differ bytes_eq names.now.applicants)) }
 {
     // Most of the time goes into finding ids: it is less where they lie side by side than where they lie in the rows.
-    let programs = IdTable::of(alloc, &names.programs)?;
-    let applicants = IdTable::of(alloc, &names.applicants)?;
-    Ok(Entries {
-        rankings: rankings(alloc, &applicants, records)?,
-        lists: lists(alloc, &programs, records)?,
-        members: members(alloc, &applicants, records)?,
-        pairs: pairs(alloc, &programs, records)?,
-    })
+    let Some(programs) = IdTable::of(alloc, &names.programs)? else {
+        return Ok(None);
+    };
+    let Some(applicants) = IdTable::of(alloc, &names.applicants)? else {
+        return Ok(None);
+    };
+    let entries = entries_by(alloc, &programs, &applicants, records)?;
+    Ok(Some(entries))
 }
 
 /// The market of records none of which is withdrawn, by their ids and by what they say.
@@ -399,7 +354,7 @@ fn tables(alloc: Global, records: &[Numbered<'_>]) -> Result<Roster, AllocError>
     ensures { IfOk result (λ roster. roster ≡ registered_by_all (all_seen records.now)) }
 {
     let names = names_of(alloc, records)?;
-    let entries = entries_of(alloc, &names, records)?;
+    let entries = entries_of(alloc, &names, records)?.unwrap();
     with_entries(alloc, names, records, entries)
 }
 

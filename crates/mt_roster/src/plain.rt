@@ -7,15 +7,16 @@ ghost use Rattle.mt_model.specs.Registration.Ids.{Bytes, all_differ};
 ghost use Rattle.mt_model.specs.Registration.Passes.{Numbered, numbered_from};
 ghost use Rattle.mt_model.specs.Laws.Registration.{IsRegistration};
 ghost use Rattle.mt_roster.specs.Records.{record_seen};
-ghost use Rattle.mt_roster.specs.Registers.{contents_seen, AreBounded, IsRegister};
-ghost use Rattle.mt_roster.specs.Numbered.{all_seen, registered_by_all};
-ghost use Rattle.mt_roster.specs.Entries.{AreNames};
+ghost use Rattle.mt_roster.specs.Registers.{AreBounded};
+ghost use Rattle.mt_roster.specs.Numbered.{registered_by_all};
+ghost use Rattle.mt_roster.specs.Drafts.{drafted, AreDrafts};
 ghost use Rattle.mt_roster.specs.Plain.{is_plain, IsPlainFront, GoesOn, AcceptsRegistrations, AreWhole, AreWholeEntries, IsWholeMarket, Marks};
 
 use crate::draft::draft_of;
-use crate::numbering::{Entries, NameLists, entries_of, names_of, with_entries};
+use crate::drafts::Drafts;
+use crate::id_table::IdTable;
+use crate::numbering::{Entries, entries_of, with_entries};
 use crate::record::Record;
-use crate::register::Register;
 use crate::repeats::has_repeated_pair;
 use crate::rules::Rules;
 use crate::tables::Roster;
@@ -34,91 +35,88 @@ fn is_plain(alloc: Global, record: &Record<'_>) -> Result<bool, AllocError>
     }
 }
 
-/// Adds the record of a row to a register, and says that it did so, where the record has no fault that shows without
-/// its list.
+/// Adds the record of a row to drafts, and says that it did so, where the record has no fault that shows without the
+/// other records and its list.
 fn add_row<'a>(
     alloc: Global,
     rules: &Rules,
-    register: &mut Register<'a>,
+    drafts: &mut Drafts<'a>,
     number: u64,
     row: &'a Row,
 ) -> Result<bool, AllocError>
     requires limits { AreBounded rules.now.limits }
-    requires register { IsRegister register.old }
-    ensures { IfOk result (λ added. added ≡ true → (rest : List (Numbered (List Bytes))) → GoesOn rules.now register.old register.new ((number, row.now) ∷ rest) rest) }
+    requires drafts { AreDrafts drafts.old }
+    ensures { IfOk result (λ added. added ≡ true → (rest : List (Numbered (List Bytes))) → GoesOn rules.now drafts.old drafts.new ((number, row.now) ∷ rest) rest) }
 {
     let Some(next) = draft_of(rules, row) else {
         return Ok(false);
     };
-    if register.registered_before(&next).is_some()
-        || register.are_too_many(&rules.limits, &next)
-        || !is_plain(alloc, &next)?
-    {
+    if drafts.are_too_many(&rules.limits, &next) || !is_plain(alloc, &next)? {
         return Ok(false);
     }
-    register.push(number, next)?;
+    drafts.push(number, next)?;
     Ok(true)
 }
 
-/// Adds the record of the row at a place to a register, if the row has a field, and says that it went on.
+/// Adds the record of the row at a place to drafts, if the row has a field, and says that it went on.
 fn add_at<'a>(
     alloc: Global,
     rules: &Rules,
-    register: &mut Register<'a>,
+    drafts: &mut Drafts<'a>,
     rows: &'a [Row],
     i: usize,
 ) -> Result<bool, AllocError>
     requires limits { AreBounded rules.now.limits }
-    requires register { IsRegister register.old }
+    requires drafts { AreDrafts drafts.old }
     requires within { i < length rows.now }
     ensures { IfOk result (λ added. added ≡ true
-        → GoesOn rules.now register.old register.new (numbered_from (i + 1) (drop i rows.now)) (numbered_from (i + 1 + 1) (drop (i + 1) rows.now))) }
+        → GoesOn rules.now drafts.old drafts.new (numbered_from (i + 1) (drop i rows.now)) (numbered_from (i + 1 + 1) (drop (i + 1) rows.now))) }
 {
     let row = &rows[i];
     if row.is_empty() {
         return Ok(true);
     }
-    add_row(alloc, rules, register, i as u64 + 1, row)
+    add_row(alloc, rules, drafts, i as u64 + 1, row)
 }
 
-/// Adds the records of the rows from a place on to a register, and says that it did so, where they have no fault that
-/// shows without their lists.
+/// Adds the records of the rows from a place on to drafts, and says that it did so, where none has a fault that shows
+/// without the other records and its list.
 fn add_all<'a>(
     alloc: Global,
     rules: &Rules,
-    register: &mut Register<'a>,
+    drafts: &mut Drafts<'a>,
     rows: &'a [Row],
     from: usize,
 ) -> Result<bool, AllocError>
     requires limits { AreBounded rules.now.limits }
     requires within { from ≤ length rows.now }
-    requires begins { let rs = numbered_from (from + 1) (drop from rows.now) in IsPlainFront rules.now rs register.old rs }
-    ensures { IfOk result (λ added. added ≡ true → IsPlainFront rules.now (numbered_from (from + 1) (drop from rows.now)) register.new []) }
+    requires begins { let rs = numbered_from (from + 1) (drop from rows.now) in IsPlainFront rules.now rs drafts.old rs }
+    ensures { IfOk result (λ added. added ≡ true → IsPlainFront rules.now (numbered_from (from + 1) (drop from rows.now)) drafts.new []) }
 {
     for i in from..rows.len() {
-        if !add_at(alloc, rules, register, rows, i)? {
+        if !add_at(alloc, rules, drafts, rows, i)? {
             return Ok(false);
         }
     }
     Ok(true)
 }
 
-/// The records of the rows from a place on, where they have no fault that shows without their lists.
-fn records<'a>(
+/// The records of the rows from a place on, where none has a fault that shows without the other records and its list.
+fn drafts_of<'a>(
     alloc: Global,
     rules: &Rules,
     rows: &'a [Row],
     from: usize,
-) -> Result<Option<Register<'a>>, AllocError>
+) -> Result<Option<Drafts<'a>>, AllocError>
     requires limits { AreBounded rules.now.limits }
     requires within { from ≤ length rows.now }
-    ensures { IfOk result (λ read. IfSome read (λ register. IsPlainFront rules.now (numbered_from (from + 1) (drop from rows.now)) register [])) }
+    ensures { IfOk result (λ read. IfSome read (λ drafts. IsPlainFront rules.now (numbered_from (from + 1) (drop from rows.now)) drafts [])) }
 {
-    let mut register = Register::new(alloc);
-    if !add_all(alloc, rules, &mut register, rows, from)? {
+    let mut drafts = Drafts::new(alloc);
+    if !add_all(alloc, rules, &mut drafts, rows, from)? {
         return Ok(None);
     }
-    Ok(Some(register))
+    Ok(Some(drafts))
 }
 
 /// How many elements lists have in all.
@@ -213,51 +211,51 @@ fn lists_differ(
     Ok(true)
 }
 
-/// Whether the lists by numbers have all the entries of a register's records, and no number twice in a list.
-fn are_whole(alloc: Global, register: &Register<'_>, entries: &Entries) -> Result<bool, AllocError>
-    requires { IsRegister register.now }
-    ensures { IfOk result (λ whole. whole ≡ true → AreWhole (contents_seen register.now) entries.now) }
+/// Whether the lists by numbers have all the entries of drafts, and no number twice in a list.
+fn are_whole(alloc: Global, drafts: &Drafts<'_>, entries: &Entries) -> Result<bool, AllocError>
+    requires { AreDrafts drafts.now }
+    ensures { IfOk result (λ whole. whole ≡ true → AreWhole (drafted drafts.now) entries.now) }
 {
-    if entry_count(entries) < register.entries {
+    if entry_count(entries) < drafts.entries {
         return Ok(false);
     }
-    let programs = register.registered.programs.len();
-    let applicants = register.applicants.len();
+    let programs = drafts.names.programs.len();
+    let applicants = drafts.names.applicants.len();
     Ok(
         rankings_differ(alloc, applicants, &entries.rankings)?
             && lists_differ(alloc, programs, &entries.lists)?,
     )
 }
 
-/// What the records of a register say by numbers, where it is whole: no entry is unknown, and none stands twice in a
-/// list.
-fn whole_entries(
-    alloc: Global,
-    register: &Register<'_>,
-    names: &NameLists,
-) -> Result<Option<Entries>, AllocError>
-    requires register { IsRegister register.now }
-    requires names { AreNames (all_seen register.now.records.items) names.now }
-    ensures { IfOk result (λ found. IfSome found (λ entries. AreWholeEntries register.now entries)) }
+/// What drafts say by numbers, where it is whole: no id is registered twice, no entry is unknown, and none stands twice
+/// in a list.
+fn whole_entries(alloc: Global, drafts: &Drafts<'_>) -> Result<Option<Entries>, AllocError>
+    requires { AreDrafts drafts.now }
+    ensures { IfOk result (λ found. IfSome found (λ entries. AreWholeEntries drafts.now entries)) }
 {
-    let entries = entries_of(alloc, names, &register.records)?;
-    if !are_whole(alloc, register, &entries)? {
+    if IdTable::of(alloc, &drafts.names.couples)?.is_none() {
+        return Ok(None);
+    }
+    let Some(entries) = entries_of(alloc, &drafts.names, &drafts.records)? else {
+        return Ok(None);
+    };
+    if !are_whole(alloc, drafts, &entries)? {
         return Ok(None);
     }
     Ok(Some(entries))
 }
 
-/// The market of a register's records, where what they say by numbers is whole.
-fn whole_roster(alloc: Global, register: &Register<'_>) -> Result<Option<Roster>, AllocError>
-    requires register { IsRegister register.now }
-    requires accepted { (e : Entries) → AreWholeEntries register.now e → IsRegistration (registered_by_all (contents_seen register.now)) }
-    ensures { IfOk result (λ found. IfSome found (λ roster. IsWholeMarket register.now roster)) }
+/// The market of drafts, where what they say by numbers is whole.
+fn whole_roster(alloc: Global, drafts: Drafts<'_>) -> Result<Option<Roster>, AllocError>
+    requires drafts { AreDrafts drafts }
+    requires accepted { (e : Entries) → AreWholeEntries drafts e → IsRegistration (registered_by_all (drafted drafts)) }
+    ensures { IfOk result (λ found. IfSome found (λ roster. IsWholeMarket drafts.entry roster)) }
 {
-    let names = names_of(alloc, &register.records)?;
-    let Some(entries) = whole_entries(alloc, register, &names)? else {
+    let Some(entries) = whole_entries(alloc, &drafts)? else {
         return Ok(None);
     };
-    let roster = with_entries(alloc, names, &register.records, entries)?;
+    let Drafts { records, names, .. } = drafts;
+    let roster = with_entries(alloc, names, &records, entries)?;
     Ok(Some(roster))
 }
 
@@ -274,8 +272,8 @@ pub(crate) fn read_plain(
     requires accepted { AcceptsRegistrations rules.now (numbered_from (from + 1) (drop from rows.now)) }
     ensures { IfOk result (λ read. IfSome read (λ roster. market_under rules.now (numbered_from (from + 1) (drop from rows.now)) ≡ Ok roster)) }
 {
-    let Some(register) = records(alloc, rules, rows, from)? else {
+    let Some(drafts) = drafts_of(alloc, rules, rows, from)? else {
         return Ok(None);
     };
-    whole_roster(alloc, &register)
+    whole_roster(alloc, drafts)
 }

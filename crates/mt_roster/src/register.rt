@@ -235,7 +235,7 @@ fn found<'a>(ids: &IdTable<'_>, id: &'a [u8]) -> Option<&'a [u8]>
 }
 
 /// Whether there are more applicants, programs or couples than the limits allow.
-fn are_over(limits: &Limits, applicants: usize, programs: usize, couples: usize) -> bool
+pub(crate) fn are_over(limits: &Limits, applicants: usize, programs: usize, couples: usize) -> bool
     ensures { result
         ≡ (nat_lt limits.now.applicants applicants || nat_lt limits.now.programs programs || nat_lt limits.now.couples couples) }
 {
@@ -246,7 +246,7 @@ fn are_over(limits: &Limits, applicants: usize, programs: usize, couples: usize)
 }
 
 /// Whether so many entries and these are more than the limits allow.
-fn adds_too_many(limits: &Limits, entries: u64, more: u64) -> bool
+pub(crate) fn adds_too_many(limits: &Limits, entries: u64, more: u64) -> bool
     ensures { result ≡ nat_lt limits.now.entries (entries + more) }
 {
     entries.saturating_add(more) > u64::from(limits.entries)

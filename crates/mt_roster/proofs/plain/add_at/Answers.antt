@@ -8,6 +8,6 @@ pub returns : goal.returns
 returns c =
     IfOk-weaker c.add_row.result _ _
     (λ added step yes.
-    adds_row c.args.rules.now c.args.register.now c.add_row.new.register c.args.rows.now c.args.i c.index-rows-i.result c.requires.within c.index-rows-i.is
+    adds_row c.args.rules.now c.args.drafts.now c.add_row.new.drafts c.args.rows.now c.args.i c.index-rows-i.result c.requires.within c.index-rows-i.is
     (is_positive _ (sym c.is_empty.ensures ∙ c.if-is_empty.false)) (step yes))
     c.add_row.ensures

@@ -1,0 +1,67 @@
+//! The ids of records, side by side.
+ghost use Rattle.std.specs.Prelude.{◌≡◌, ◌++◌, [], OnOk, IfOk, option_to_list};
+ghost use Rattle.mt_model.specs.Registration.Records.{OfProgram, OfCouple};
+ghost use Rattle.mt_model.specs.Registration.Rows.{own_id, applicants_of};
+ghost use Rattle.mt_roster.specs.Records.{record_seen};
+ghost use Rattle.mt_roster.specs.Numbered.{all_seen};
+ghost use Rattle.mt_roster.specs.Entries.{AreNames, AddsNames};
+
+use crate::record::Record;
+use crate::register::Numbered;
+use mt_model::FlatLists;
+use std::alloc::{AllocError, Global};
+
+/// The ids of records, those of a kind side by side. A couple registers its first and then its second member among the
+/// applicants.
+#[derive(Drop)]
+pub(crate) struct NameLists {
+    pub(crate) programs: FlatLists<u8>,
+    pub(crate) applicants: FlatLists<u8>,
+    pub(crate) couples: FlatLists<u8>,
+}
+
+impl NameLists {
+    /// No ids.
+    pub(crate) fn new(alloc: Global) -> Self
+        ensures { AreNames [] result }
+    {
+        NameLists {
+            programs: FlatLists::new(alloc),
+            applicants: FlatLists::new(alloc),
+            couples: FlatLists::new(alloc),
+        }
+    }
+
+    /// Adds the ids that a record registers.
+    pub(crate) fn push(&mut self, record: &Record<'_>) -> Result<(), AllocError>
+        ensures { OnOk result (AddsNames self.old self.new (record_seen record.now)) }
+    {
+        match record {
+            Record::Program { id, .. } => self.programs.push_list(*id)?,
+            Record::Applicant { id, .. } => self.applicants.push_list(*id)?,
+            Record::Couple {
+                id,
+                first,
+                second,
+                ..
+            } => {
+                self.couples.push_list(*id)?;
+                self.applicants.push_list(*first)?;
+                self.applicants.push_list(*second)?;
+            }
+            Record::Withdraw { .. } => {}
+        }
+        Ok(())
+    }
+}
+
+/// The ids of the programs, the applicants and the couples of records.
+pub(crate) fn names_of(alloc: Global, records: &[Numbered<'_>]) -> Result<NameLists, AllocError>
+    ensures { IfOk result (λ names. AreNames (all_seen records.now) names) }
+{
+    let mut names = NameLists::new(alloc);
+    for numbered in records {
+        names.push(&numbered.record)?;
+    }
+    Ok(names)
+}
