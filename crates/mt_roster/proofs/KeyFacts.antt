@@ -3,7 +3,7 @@ use Rattle.std.proofs.Common.{◌≡◌, ℕ, zero, suc, ◌+◌, ◌-◌, ◌*�
 use Rattle.std.specs.Int.Bits.{or_shifted_r}
 use Rattle.std.proofs.lemmas.Bool.{cases_lt}
 use Rattle.std.proofs.lemmas.Bool.Decides.{nat_tests}
-use Rattle.mt_roster.specs.Keys.{four_from, head_of}
+use Rattle.mt_roster.specs.Keys.{AreBytes, four_from, head_of}
 use Rattle.std.specs.Prelude.{bytes_eq}
 use Rattle.std.specs.List.{list_any, position_or_len}
 use Rattle.std.proofs.lemmas.List.{map-append, length-map}
@@ -79,14 +79,14 @@ at_four P at i p q r s h k = by (i - at) (omega arith) (omega arith)
     by (suc (suc (suc zero))) e l = subst P (sym e) s
     by (suc (suc (suc (suc d)))) e l = absurd (omega arith)
 
-module _ (xs ys : Bytes) (bx : (i : ℕ) → get_or xs i 0 < 256) (by : (i : ℕ) → get_or ys i 0 < 256) where
+module _ (xs ys : Bytes) (bx : AreBytes xs) (by : AreBytes ys) where
   same_four : (at : ℕ) → four_from xs at ≡ four_from ys at → (i : ℕ) → at ≤ i → i < at + 4 → get_or xs i 0 ≡ get_or ys i 0
   unfolding four_from
   same_four at e i h k =
       let same = four_bytes _ _ _ _ _ _ _ _ (bx at) (bx (at + 1)) (bx (at + 2)) (by at) (by (at + 1)) (by (at + 2)) e in
       at_four (λ j. get_or xs j 0 ≡ get_or ys j 0) at i same.0 same.1 same.2 same.3 h k
 
-  below_32 : (zs : Bytes) → ((i : ℕ) → get_or zs i 0 < 256) → (at : ℕ) → four_from zs at < 2 ^ 32
+  below_32 : (zs : Bytes) → AreBytes zs → (at : ℕ) → four_from zs at < 2 ^ 32
   unfolding four_from
   below_32 zs b at = omega (arith, b at, b (at + 1), b (at + 2), b (at + 3))
 

@@ -1,8 +1,12 @@
 -- What tables of ids read of an id first, and what they hash of it.
-use Rattle.std.specs.Prelude.{ℕ, ◌+◌, ◌-◌, ◌*◌, ◌/◌, ◌^◌, [], ◌∷◌, length, min, nat_le, nat_lt, slice_index, if◌then◌else◌}
+use Rattle.std.specs.Prelude.{ℕ, ◌+◌, ◌-◌, ◌*◌, ◌/◌, ◌^◌, ◌<◌, [], ◌∷◌, length, min, nat_le, nat_lt, slice_index, if◌then◌else◌}
 use Rattle.std.specs.Hash as fed
 use Rattle.std.specs.Hash.{HashWrites}
 use Rattle.mt_model.specs.Registration.Ids.{Bytes}
+
+-- whether the numbers of a list are bytes
+abbrev pub AreBytes : Bytes → Type 0
+AreBytes id = (i : ℕ) → slice_index id i < 256
 
 -- four bytes from a place on as a number, the lowest first
 unfoldable pub four_from : Bytes → ℕ → ℕ

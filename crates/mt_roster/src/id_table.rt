@@ -1,6 +1,6 @@
-ghost use Rattle.std.specs.Prelude.{◌≡◌, ◌<◌, ◌≤◌, ◌+◌, ◌^◌, ◌++◌, ℕ, [], ◌∷◌, not, length, slice_index, position, bytes_eq, true, false, OnOk, OnErr, IfOk, if◌then◌else◌};
+ghost use Rattle.std.specs.Prelude.{◌≡◌, ◌<◌, ◌≤◌, ◌+◌, ◌^◌, ◌++◌, [], ◌∷◌, not, length, position, bytes_eq, true, false, OnOk, OnErr, IfOk, if◌then◌else◌};
 ghost use Rattle.mt_model.specs.Registration.Ids.{has_id, all_differ};
-ghost use Rattle.mt_roster.specs.Keys.{four_from, head_of};
+ghost use Rattle.mt_roster.specs.Keys.{AreBytes, four_from, head_of};
 
 use indexmap::IndexSet;
 use mt_model::FlatLists;
@@ -14,7 +14,7 @@ struct Key<'a> {
     head: u64,
     id: &'a [u8],
     ghost is_head: { head ≡ head_of id.now },
-    ghost of_bytes: { (i : ℕ) → slice_index id.now i < 256 },
+    ghost of_bytes: { AreBytes id.now },
 }
 
 impl<'a> Key<'a> {
