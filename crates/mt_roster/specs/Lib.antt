@@ -13,3 +13,4 @@ pub mod Faults
 pub mod Read
 pub mod Laws
 pub mod Plain
+pub mod Keys

@@ -1,5 +1,6 @@
-ghost use Rattle.std.specs.Prelude.{◌≡◌, ◌<◌, ◌^◌, ◌++◌, [], ◌∷◌, not, length, position, bytes_eq, true, false, OnOk, OnErr, IfOk, IfSome, is_some, if◌then◌else◌};
+ghost use Rattle.std.specs.Prelude.{◌≡◌, ◌<◌, ◌≤◌, ◌+◌, ◌^◌, ◌++◌, [], ◌∷◌, not, length, position, bytes_eq, true, false, OnOk, OnErr, IfOk, IfSome, is_some, if◌then◌else◌};
 ghost use Rattle.mt_model.specs.Registration.Ids.{has_id, all_differ};
+ghost use Rattle.mt_roster.specs.Keys.{AreBytes, four_from, head_of};
 
 use indexmap::IndexSet;
 use mt_model::FlatLists;
@@ -7,24 +8,89 @@ use std::alloc::{AllocError, Global};
 use std::hash::{Hash, Hasher};
 use std::marker::Model;
 
-/// An id as tables hold it. Its bytes are hashed in one piece; those of a slice are hashed one by one.
-#[derive(Clone, Copy, PartialEq, Eq)]
+/// An id as tables hold it, with its head, by which most ids are told apart without a look at their bytes.
+#[derive(Clone, Copy)]
 struct Key<'a> {
+    head: u64,
     id: &'a [u8],
+    ghost is_head: { head ≡ head_of id.now },
+    ghost of_bytes: { AreBytes id.now },
+}
+
+impl<'a> Key<'a> {
+    /// The key of an id.
+    fn of(id: &'a [u8]) -> Key<'a>
+        ensures { result.id.now ≡ id.now }
+    {
+        Key {
+            head: head_of(id),
+            id,
+        }
+    }
+}
+
+impl<'a> PartialEq for Key<'a> {
+    ghost use Rattle.std.specs.Prelude.{bytes_eq};
+    ghost use Rattle.std.specs.Cmp.{on_per, partial_equiv_from_equiv};
+    ghost use Rattle.std.specs.Cmp.Lexicographic.{nat_list_eq_equiv};
+
+    ghost eq = { λ a b. bytes_eq a.id.now b.id.now };
+
+    ghost laws = { on_per (λ key. key.id.now) (partial_equiv_from_equiv nat_list_eq_equiv) };
+
+    fn eq(&self, other: &Self) -> bool {
+        self.head == other.head
+            && self.id.len() == other.id.len()
+            && (self.id.len() <= 8 || self.id == other.id)
+    }
+}
+
+impl<'a> Eq for Key<'a> {
+    ghost use Rattle.std.specs.Cmp.{on_equiv};
+    ghost use Rattle.std.specs.Cmp.Lexicographic.{nat_list_eq_equiv};
+
+    ghost laws = { on_equiv (λ key. key.id.now) nat_list_eq_equiv };
 }
 
 impl<'a> Hash for Key<'a> {
-    ghost use Rattle.std.specs.Prelude.{[], ◌∷◌};
     ghost use Rattle.std.specs.Cmp.Rules.{hashing};
     ghost use Rattle.std.proofs.Common.{rules};
+    ghost use Rattle.mt_roster.specs.Keys.{id_writes};
 
-    ghost hash_input = { λ key. key.id.now ∷ [] };
+    ghost hash_input = { λ key. id_writes key.id.now };
 
     ghost respects_eq = { Prim.search (hashing, rules) };
 
     fn hash<H: Hasher>(&self, state: &mut H) {
-        state.write(self.id);
+        if self.id.len() <= 8 {
+            state.write_u64(self.head);
+        } else {
+            state.write(self.id);
+        }
     }
+}
+
+/// The first eight bytes of an id as a number; of a shorter one all its bytes, by reads that may overlap.
+fn head_of(id: &[u8]) -> u64
+    ensures { result ≡ head_of id.now }
+{
+    let len = id.len();
+    if len >= 4 {
+        four(id, 0) | four(id, len.min(8) - 4) << 32
+    } else if len > 0 {
+        u64::from(id[0]) | u64::from(id[len / 2]) << 8 | u64::from(id[len - 1]) << 16
+    } else {
+        0
+    }
+}
+
+/// Four bytes of an id from a place on, as a number.
+fn four(bytes: &[u8], at: usize) -> u64
+    requires { at + 4 ≤ length bytes.now }
+    ensures value { result ≡ four_from bytes.now at }
+    ensures bound { result < 2 ^ 32 }
+{
+    u64::from(u32::from_le_bytes([bytes[at], bytes[at + 1], bytes[at + 2], bytes[at + 3]]))
 }
 
 /// Ids in the order in which they came, each of them once.
@@ -85,14 +151,14 @@ impl<'a> IdTable<'a> {
     pub(crate) fn contains(&self, id: &[u8]) -> bool
         ensures { result ≡ has_id self.now id.now }
     {
-        self.ids.contains(&Key { id })
+        self.ids.contains(&Key::of(id))
     }
 
     /// The number of an id, from 0, if it is one of them.
     pub(crate) fn number(&self, id: &[u8]) -> Option<usize>
         ensures { result ≡ position (bytes_eq id.now) self.now }
     {
-        self.ids.get_index_of(&Key { id })
+        self.ids.get_index_of(&Key::of(id))
     }
 
     /// Adds an id at the end, and says that it did so, where it is none of them.
@@ -101,7 +167,7 @@ impl<'a> IdTable<'a> {
         ensures ids { IfOk result (λ _. self.new ≡ (if has_id self.old id.now then self.old else self.old ++ id.now ∷ [])) }
         ensures err { OnErr result (self.new ≡ self.old) }
     {
-        Ok(self.ids.insert(Key { id })?)
+        Ok(self.ids.insert(Key::of(id))?)
     }
 
     /// Adds an id that is none of them at the end.

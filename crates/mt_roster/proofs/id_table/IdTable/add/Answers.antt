@@ -1,4 +1,4 @@
-use Rattle.std.proofs.Common.{sym, ap, ◌∙◌, not, map}
+use Rattle.std.proofs.Common.{sym, ap, ap₂, ◌∙◌, not, map, [], ◌∷◌, ◌++◌, if◌then◌else◌}
 use Rattle.mt_model.specs.Registration.Ids.{has_id}
 use Rattle.mt_roster.specs.declared.id_table.Key.{Key}
 use Rattle.mt_roster.proofs.KeyFacts.{has_id-map, add-map}
@@ -7,9 +7,10 @@ use Rattle.mt_roster.proofs.id_table.IdTable.add.Goals as goal
 pub returns-clause-added : goal.returns-clause-added
 returns-clause-added c =
     c.in_ok-insert.ensures.added
-    ∙ ap not (sym (has_id-map (λ (key : Key). key.id.now) c.self.inside.ids.keys c.args.id.now) ∙ ap (λ ids. has_id ids c.args.id.now) c.self.view_is)
+    ∙ ap not (sym (has_id-map (λ (key : Key). key.id.now) c.self.inside.ids.keys c.of.result.id.now) ∙ ap₂ has_id c.self.view_is c.of.ensures)
 
 pub returns-clause-ids : goal.returns-clause-ids
 returns-clause-ids c =
     ap (map (λ (key : Key). key.id.now)) c.in_ok-insert.ensures.keys
-    ∙ rw c.self.view_is at (add-map (λ (key : Key). key.id.now) c.self.inside.ids.keys (record { id = c.args.id }))
+    ∙ add-map (λ (key : Key). key.id.now) c.self.inside.ids.keys c.of.result
+    ∙ ap₂ (λ ids id. if has_id ids id then ids else ids ++ id ∷ []) c.self.view_is c.of.ensures

@@ -1,4 +1,4 @@
-use Rattle.std.proofs.Common.{sym, ap, ◌∙◌}
+use Rattle.std.proofs.Common.{sym, ap₂, ◌∙◌}
 use Rattle.mt_model.specs.Registration.Ids.{has_id}
 use Rattle.mt_roster.specs.declared.id_table.Key.{Key}
 use Rattle.mt_roster.proofs.KeyFacts.{has_id-map}
@@ -7,4 +7,4 @@ use Rattle.mt_roster.proofs.id_table.IdTable.contains.Goals as goal
 pub returns : goal.returns
 returns c =
     c.contains.ensures
-    ∙ sym (has_id-map (λ (key : Key). key.id.now) c.self.inside.ids.keys c.args.id.now) ∙ ap (λ ids. has_id ids c.args.id.now) c.self.view_is
+    ∙ sym (has_id-map (λ (key : Key). key.id.now) c.self.inside.ids.keys c.of.result.id.now) ∙ ap₂ has_id c.self.view_is c.of.ensures

@@ -1,4 +1,4 @@
-use Rattle.std.proofs.Common.{sym, ap, ◌∙◌, position}
+use Rattle.std.proofs.Common.{sym, ap₂, ◌∙◌, position}
 use Rattle.std.specs.Prelude.{bytes_eq}
 use Rattle.mt_roster.specs.declared.id_table.Key.{Key}
 use Rattle.mt_roster.proofs.KeyFacts.{position-map}
@@ -7,4 +7,5 @@ use Rattle.mt_roster.proofs.id_table.IdTable.number.Goals as goal
 pub returns : goal.returns
 returns c =
     c.get_index_of.ensures.index
-    ∙ sym (position-map (λ (key : Key). key.id.now) c.self.inside.ids.keys c.args.id.now) ∙ ap (position (bytes_eq c.args.id.now)) c.self.view_is
+    ∙ sym (position-map (λ (key : Key). key.id.now) c.self.inside.ids.keys c.of.result.id.now)
+    ∙ ap₂ (λ id. position (bytes_eq id)) c.of.ensures c.self.view_is
