@@ -310,7 +310,7 @@ pub(crate) fn entries_of(
     ensures entries { IfOk result (λ found. IfSome found (λ entries. AreEntries names.now.programs names.now.applicants (all_seen records.now) entries)) }
     ensures differ { IfOk result (λ found. is_some found ≡ (all_differ bytes_eq names.now.programs && all_differ bytes_eq names.now.applicants)) }
 {
-    // Most of the time goes into finding ids: it is less where they lie side by side than where they lie in the rows.
+    // Most of the time goes into finding ids. Those that a look-up fetches are nearer side by side than in the rows.
     let Some(programs) = IdTable::of(alloc, &names.programs)? else {
         return Ok(None);
     };

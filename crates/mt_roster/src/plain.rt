@@ -35,8 +35,8 @@ fn is_plain(alloc: Global, record: &Record<'_>) -> Result<bool, AllocError>
     }
 }
 
-/// Adds the record of a row to drafts, and says that it did so, where the record has no fault that shows without the
-/// other records and its list.
+/// Adds the record of a row to drafts, and says that it did so, where the record has no fault, but perhaps an id that is
+/// registered before or something in its list.
 fn add_row<'a>(
     alloc: Global,
     rules: &Rules,
@@ -79,8 +79,8 @@ fn add_at<'a>(
     add_row(alloc, rules, drafts, i as u64 + 1, row)
 }
 
-/// Adds the records of the rows from a place on to drafts, and says that it did so, where none has a fault that shows
-/// without the other records and its list.
+/// Adds the records of the rows from a place on to drafts, and says that it did so, where none has a fault, but perhaps an
+/// id that is registered before or something in its list.
 fn add_all<'a>(
     alloc: Global,
     rules: &Rules,
@@ -101,7 +101,8 @@ fn add_all<'a>(
     Ok(true)
 }
 
-/// The records of the rows from a place on, where none has a fault that shows without the other records and its list.
+/// The records of the rows from a place on, where none has a fault, but perhaps an id that is registered before or
+/// something in its list.
 fn drafts_of<'a>(
     alloc: Global,
     rules: &Rules,
