@@ -87,7 +87,7 @@ module _ (rules : Rules) where
       by true false i h = cc
       by false all i h = cc
 
-  pub couple_is_draft : (fields : List Bytes) (r : Record) → couple_record rules fields ≡ Ok r → IsDraft rules (couple_record rules fields) r
+  couple_is_draft : (fields : List Bytes) (r : Record) → couple_record rules fields ≡ Ok r → IsDraft rules (couple_record rules fields) r
   couple_is_draft [] r e = cc
   couple_is_draft (id ∷ []) r e = cc
   couple_is_draft (id ∷ a ∷ []) r e = cc

@@ -1,8 +1,8 @@
 -- Steps of the loops that number the ids of records and write lists by numbers.
-use Rattle.std.proofs.Common.{◌≡◌, ℕ, zero, suc, ◌+◌, ◌<◌, Bool, true, false, not, ◌||◌, List, [], ◌∷◌, ◌++◌, map, length, get_or, drop, position, Option, Some, None, refl, ap, sym, ◌∙◌, arith, subst, cond, if◌then◌else◌, nat_lt}
+use Rattle.std.proofs.Common.{◌≡◌, ℕ, zero, suc, ◌+◌, ◌<◌, Bool, true, false, not, ◌||◌, List, [], ◌∷◌, ◌++◌, map, length, get_or, position, Option, Some, None, refl, ap, sym, ◌∙◌, arith, subst, cond, if◌then◌else◌, nat_lt}
 use Rattle.std.specs.Prelude.{bytes_eq, filter, IsSome}
 use Rattle.std.proofs.lemmas.Bool.Decides.{nat_tests}
-use Rattle.std.proofs.lemmas.List.{append-nil, append_assoc, drop_more}
+use Rattle.std.proofs.lemmas.List.{append-nil, append_assoc}
 use Rattle.std.proofs.lemmas.List.Folds.{list_any-append}
 use Rattle.mt_model.specs.FlatLists.{with_last}
 use Rattle.mt_model.specs.Registration.Ids.{Bytes, has_id, number_of, numbers_of, all_differ}
@@ -64,17 +64,6 @@ differ_before (x ∷ xs) y ys h =
     later : (xs : List Bytes) (x : Bytes) → y ≡ x → has_id (xs ++ y ∷ ys) x ≡ true
     later [] x e = or_left _ _ (is_same x y (sym e))
     later (z ∷ zs) x e = or_right _ _ (later zs x e)
-
--- the next element of what is left, by what it is
-pub next_at : {X Y : Type 0} (F : List X → Y) (xs : List X) (i : ℕ) (x y : X) → i < length xs → x ≡ get_or xs i x → x ≡ y → F (drop i xs) ≡ F (y ∷ drop (i + 1) xs)
-next_at F xs i x y h at is = ap F (drop_more xs i x h ∙ ap (λ z. z ∷ drop (i + 1) xs) (sym at ∙ is))
-
--- an id of different ones is none of those before it, and follows them
-pub is_new : (ids : List Bytes) (id : Bytes) (rest all : List Bytes) → all_differ bytes_eq all ≡ true → ids ++ id ∷ rest ≡ all → has_id ids id ≡ false
-is_new ids id rest all h e = differ_before ids id rest (ap (all_differ bytes_eq) e ∙ h)
-
-pub follows : (ids : List Bytes) (id : Bytes) (rest all : List Bytes) → ids ++ id ∷ rest ≡ all → (ids ++ id ∷ []) ++ rest ≡ all
-follows ids id rest all e = append_assoc ids (id ∷ []) rest ∙ e
 
 -- a list by numbers, one id on
 pub numbers_of-some : (ids : List Bytes) (id : Bytes) (rest : List Bytes) (n : ℕ) → number_in ids id ≡ Some n → numbers_of ids (id ∷ rest) ≡ n ∷ numbers_of ids rest

@@ -1,23 +1,21 @@
 -- What is known of a record that the first pass takes.
-use Rattle.std.proofs.Common.{◌≡◌, ℕ, ◌+◌, ◌<◌, ◌≤◌, Bool, true, false, nat_lt, List, [], ◌∷◌, ◌++◌, length, refl, ap, sym, ◌∙◌, Option, Some, None, Result, Ok, Err, arith, subst, cond, drop, get_or}
-use Rattle.std.specs.Prelude.{option_map, bytes_eq, ◌==◌}
+use Rattle.std.proofs.Common.{◌≡◌, ℕ, ◌+◌, ◌<◌, ◌≤◌, Bool, true, false, nat_lt, List, [], ◌∷◌, ◌++◌, length, refl, ap, sym, ◌∙◌, Option, Some, None, Result, Ok, Err, arith, subst, drop, get_or}
+use Rattle.std.specs.Prelude.{option_map, ◌==◌}
 use Rattle.std.specs.Option.{option_map_or}
 use Rattle.std.specs.Bool.{then_some}
 use Rattle.std.proofs.lemmas.Bool.Decides.{nat_tests}
-use Rattle.std.proofs.lemmas.List.{drop_more, get_or_default, append-nil, append_assoc}
-use Rattle.std.proofs.lemmas.List.Folds.{list_any-append}
-use Rattle.mt_model.proofs.IdFacts.{neither, differ_push}
-use Rattle.mt_roster.proofs.CountFacts.{ids_of-more, applicant_ids-more}
-use Rattle.mt_model.specs.Registration.Ids.{Bytes, has_id, all_differ}
+use Rattle.std.proofs.lemmas.List.{drop_more, get_or_default}
+use Rattle.mt_model.proofs.IdFacts.{neither}
+use Rattle.mt_model.specs.Registration.Ids.{Bytes}
 use Rattle.mt_roster.specs.declared.refusal.Refusal.{Refusal}
 use Rattle.mt_roster.specs.declared.refusal.Refusal.TheVariants as refusals
 use Rattle.mt_roster.specs.declared.register.Register.{Register}
-use Rattle.mt_roster.specs.Registers.{records_seen, AreFew, AreSound, AreBounded, IsRegister}
+use Rattle.mt_roster.specs.Registers.{records_seen, AreFew, AreBounded, IsRegister}
 use Rattle.mt_roster.specs.Passes.{Reads, ReadsAt, GivesRegister}
 use Rattle.mt_roster.specs.Refusals.{Refuses}
 use Rattle.mt_model.specs.Registration.Faults.{Charge, Fault, charge, fault_at, duplicate_id}
-use Rattle.mt_model.specs.Registration.Records.{Rules, Record, Kind, OfProgram, OfCouple, ProgramRecord, ApplicantRecord, CoupleRecord, WithdrawRecord, record_of}
-use Rattle.mt_model.specs.Registration.Rows.{own_id, ids_of, applicant_ids, entry_count}
+use Rattle.mt_model.specs.Registration.Records.{Rules, Record, OfProgram, OfCouple, record_of}
+use Rattle.mt_model.specs.Registration.Rows.{ids_of, applicant_ids, entry_count}
 use Rattle.mt_model.specs.Registration.Passes.{registered_before, says_twice, are_too_many, clash, next_record, on_result, first_of, numbered_from, Numbered, first_pass}
 
 -- a record that doesn't clash with those before it
@@ -49,47 +47,6 @@ is_accepted rules before row n r h = by (record_of rules row) h
     by (Ok q) k = beside q _ refl k
     by (Err c) k = cc
 
-not_found : (b : Bool) (x : Bytes) → cond b (Some x) None ≡ None → b ≡ false
-not_found true x h = cc
-not_found false x h = refl
-
-none_of : (o p q : Option Bytes) → first_of (o ∷ p ∷ q ∷ []) ≡ None → (o ≡ None) × (p ≡ None) × (q ≡ None)
-none_of (Some x) p q h = cc
-none_of None (Some x) q h = cc
-none_of None None (Some x) h = cc
-none_of None None None h = (refl, refl, refl)
-
-module _ (before : List Record) where
-  same_ids : (kind : Kind) (r : Record) → own_id kind r ≡ None → all_differ bytes_eq (ids_of kind before) ≡ true → all_differ bytes_eq (ids_of kind (before ++ r ∷ [])) ≡ true
-  same_ids kind r n h = rw (ids_of-more before r kind, n, append-nil) h
-
-  new_ids : (kind : Kind) (r : Record) (id : Bytes) → own_id kind r ≡ Some id → has_id (ids_of kind before) id ≡ false → all_differ bytes_eq (ids_of kind before) ≡ true → all_differ bytes_eq (ids_of kind (before ++ r ∷ [])) ≡ true
-  new_ids kind r id n f h = rw (ids_of-more before r kind, n) (differ_push (ids_of kind before) id f h)
-
-  new_programs : (r : Record) → all_differ bytes_eq (ids_of OfProgram before) ≡ true → registered_before before r ≡ None → all_differ bytes_eq (ids_of OfProgram (before ++ r ∷ [])) ≡ true
-  new_programs (ProgramRecord id quota list) h n = new_ids OfProgram (ProgramRecord id quota list) id refl (not_found _ id n) h
-  new_programs (ApplicantRecord id list) h n = same_ids OfProgram (ApplicantRecord id list) refl h
-  new_programs (CoupleRecord id a b pairs) h n = same_ids OfProgram (CoupleRecord id a b pairs) refl h
-  new_programs (WithdrawRecord kind id) h n = same_ids OfProgram (WithdrawRecord kind id) refl h
-
-  new_couples : (r : Record) → all_differ bytes_eq (ids_of OfCouple before) ≡ true → registered_before before r ≡ None → all_differ bytes_eq (ids_of OfCouple (before ++ r ∷ [])) ≡ true
-  new_couples (ProgramRecord id quota list) h n = same_ids OfCouple (ProgramRecord id quota list) refl h
-  new_couples (ApplicantRecord id list) h n = same_ids OfCouple (ApplicantRecord id list) refl h
-  new_couples (CoupleRecord id a b pairs) h n = new_ids OfCouple (CoupleRecord id a b pairs) id refl (not_found _ id (none_of _ _ _ n).0) h
-  new_couples (WithdrawRecord kind id) h n = same_ids OfCouple (WithdrawRecord kind id) refl h
-
-  new_applicants : (r : Record) → all_differ bytes_eq (applicant_ids before) ≡ true → registered_before before r ≡ None → all_differ bytes_eq (applicant_ids (before ++ r ∷ [])) ≡ true
-  new_applicants (ProgramRecord id quota list) h n = rw (applicant_ids-more, append-nil) h
-  new_applicants (ApplicantRecord id list) h n = rw applicant_ids-more (differ_push (applicant_ids before) id (not_found _ id n) h)
-  new_applicants (CoupleRecord id a b pairs) h n =
-      let o = none_of _ _ _ n in
-      let j : has_id (applicant_ids before) a ≡ false = not_found _ a o.1 in
-      let k : (bytes_eq b a ≡ false) × (has_id (applicant_ids before) b ≡ false) = neither _ _ (not_found _ b o.2) in
-      let l : has_id (applicant_ids before ++ a ∷ []) b ≡ false = rw (list_any-append, k.0, k.1) refl in
-      let d : all_differ bytes_eq ((applicant_ids before ++ a ∷ []) ++ b ∷ []) ≡ true = differ_push (applicant_ids before ++ a ∷ []) b l (differ_push (applicant_ids before) a j h) in
-      rw applicant_ids-more (rw append_assoc at d)
-  new_applicants (WithdrawRecord kind id) h n = rw (applicant_ids-more, append-nil) h
-
 not_above : (limit most n : ℕ) → limit ≤ most → nat_lt limit n ≡ false → n ≤ most
 not_above limit most n h k = grind (arith, nat_tests)
 
@@ -105,21 +62,6 @@ few_more rules before r bound few =
       applicants = not_above _ _ _ bound.applicants t.0;
       entries = not_above _ _ _ bound.entries p.1;
     }
-
-pub few_nil : AreFew []
-few_nil = record { programs = omega arith; couples = omega arith; applicants = omega arith; entries = omega arith }
-
--- and of which no id is registered
-pub sound_more : (rules : Rules) (before : List Record) (r : Record) → AreBounded rules.limits → AreSound before → registered_before before r ≡ None → are_too_many rules.limits (before ++ r ∷ []) ≡ false → AreSound (before ++ r ∷ [])
-sound_more rules before r bound s new few = record {
-  programs_differ = new_programs before r s.programs_differ new;
-  couples_differ = new_couples before r s.couples_differ new;
-  applicants_differ = new_applicants before r s.applicants_differ new;
-  few = few_more rules before r bound few;
-}
-
-pub sound_nil : AreSound []
-sound_nil = record { programs_differ = refl; couples_differ = refl; applicants_differ = refl; few = few_nil }
 
 -- the numbered rows from a place on
 pub skip_empty : (rows : List (List Bytes)) (i n : ℕ) → i < length rows → length (get_or rows i []) ≡ 0 → numbered_from n (drop i rows) ≡ numbered_from (n + 1) (drop (i + 1) rows)

@@ -1,8 +1,8 @@
 -- The passes over records that are plain.
-use Rattle.std.proofs.Common.{◌≡◌, ℕ, ◌+◌, ◌&&◌, ◌^◌, ◌<◌, ◌≤◌, Bool, true, false, List, [], ◌∷◌, ◌++◌, length, Option, Some, None, Result, Ok, Err, refl, ap, sym, ◌∙◌, arith, subst, drop, get_or, Bor}
-use Rattle.std.specs.Prelude.{filter, option_map, option_to_list, sum_by, is_some, bytes_eq, IfSome}
+use Rattle.std.proofs.Common.{◌≡◌, ℕ, ◌+◌, ◌&&◌, ◌^◌, ◌<◌, ◌≤◌, Bool, true, false, List, [], ◌∷◌, ◌++◌, length, Option, Some, None, Result, Ok, Err, refl, ap, sym, ◌∙◌, arith, subst, drop, get_or}
+use Rattle.std.specs.Prelude.{filter, option_map, option_to_list, sum_by, bytes_eq, IfSome}
 use Rattle.std.specs.Bool.{then_some}
-use Rattle.std.specs.Option.{option_map_or, option_copied}
+use Rattle.std.specs.Option.{option_map_or}
 use Rattle.std.specs.List.{list_all}
 use Rattle.std.proofs.lemmas.Bool.{and_parts}
 use Rattle.std.proofs.lemmas.List.{map-append}
@@ -229,11 +229,6 @@ market_of_whole rules rows d e front are =
     second_none (contents (drafts_seen d)) (drafts_seen d) (ap (list_all is_plain) seen ∙ front.plain) (subst (λ (xs : List Record). AllKept (ids_of OfProgram xs) (applicant_ids xs) xs) (sym seen) kept) in
     market_after rules rows (drafts_seen d) (front.goes_on once ids are.differ)
     ∙ rw none (ap (λ (xs : List Record). Ok (registered_by_all xs)) (ap remaining seen ∙ remaining_all rs front.plain))
-
--- an id that isn't found
-pub none_copied : (o : Option (Bor Bytes)) (b : Bool) → b ≡ is_some o → b ≡ false → option_copied o ≡ None
-none_copied None b e h = refl
-none_copied (Some x) b e h = cc
 
 -- what holds of the value, if there is one
 some_weaker : {X : Type 0} (o : Option X) (P Q : X → Type 0) → ((x : X) → P x → Q x) → IfSome o P → IfSome o Q

@@ -12,7 +12,7 @@ use Rattle.mt_roster.specs.declared.register.Numbered as declared
 use Rattle.mt_roster.specs.Records.{record_seen}
 use Rattle.mt_roster.specs.declared.register.Kinds.{Kinds}
 use Rattle.mt_roster.specs.declared.register.Register.{Register}
-use Rattle.mt_roster.specs.Registers.{numbered_seen, ids_in, under, contents_seen, AreSound, IsRegister, AddsRecord}
+use Rattle.mt_roster.specs.Registers.{numbered_seen, ids_in, under, contents_seen, AreFew, IsRegister, AddsRecord}
 
 pub adds_program : (old new : Kinds) (id : Bytes) → new.programs ≡ old.programs ++ id ∷ [] → new.applicants ≡ old.applicants → new.couples ≡ old.couples → (k : Kind) → ids_in new k ≡ ids_in old k ++ under OfProgram id k
 adds_program old new id a b c OfProgram = a
@@ -53,13 +53,13 @@ new_single rs id list h =
 -- a register's tables and its records with one record more
 pub is_register_more : (old tables new : Register) (r : Record) → IsRegister old → AddsRecord old tables r
     → contents_seen new ≡ contents_seen old ++ r ∷ [] → new.registered ≡ tables.registered → new.applicants ≡ tables.applicants → new.withdrawn ≡ tables.withdrawn
-    → new.entries ≡ tables.entries + entries_of r → AreSound (contents_seen old ++ r ∷ []) → IsRegister new
-is_register_more old tables new r is adds contents regs apps wds ents sound = record {
+    → new.entries ≡ tables.entries + entries_of r → AreFew (contents_seen old ++ r ∷ []) → IsRegister new
+is_register_more old tables new r is adds contents regs apps wds ents few = record {
   registered = λ kind. ap (λ k. ids_in k kind) regs ∙ adds.registered kind ∙ ap (λ ids. ids ++ option_to_list (own_id kind r)) (is.registered kind) ∙ sym (ids_of-more (contents_seen old) r kind) ∙ ap (ids_of kind) (sym contents);
   applicants = apps ∙ adds.applicants ∙ ap (λ ids. ids ++ applicants_of r) is.applicants ∙ sym (applicant_ids-more (contents_seen old) r) ∙ ap applicant_ids (sym contents);
   withdrawn = λ kind. ap (λ k. ids_in k kind) wds ∙ adds.withdrawn kind ∙ ap (λ ids. ids ++ option_to_list (withdrawn_id kind r)) (is.withdrawn kind) ∙ sym (withdrawn-more (contents_seen old) r kind) ∙ ap (withdrawn kind) (sym contents);
   entries = ents ∙ ap (λ n. n + entries_of r) (adds.entries ∙ is.entries) ∙ sym (entry_count-more (contents_seen old) r) ∙ ap entry_count (sym contents);
-  sound = subst AreSound (sym contents) sound;
+  few = subst AreFew (sym contents) few;
 }
 
 pub contents_more : (old tables : Register) (items : List declared.Numbered) (n : declared.Numbered) → tables.records ≡ old.records → items ≡ tables.records.items ++ n ∷ []

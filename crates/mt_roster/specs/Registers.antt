@@ -1,6 +1,6 @@
 -- What a register's tables say of its records.
-use Rattle.std.specs.Prelude.{◌≡◌, ◌≤◌, Bool, true, false, List, [], ◌∷◌, ◌++◌, length, map, bytes_eq, option_to_list}
-use Rattle.mt_model.specs.Registration.Ids.{Bytes, has_id, all_differ}
+use Rattle.std.specs.Prelude.{◌≡◌, ◌≤◌, Bool, false, List, [], ◌∷◌, ◌++◌, length, map, option_to_list}
+use Rattle.mt_model.specs.Registration.Ids.{Bytes, has_id}
 use Rattle.mt_model.specs.declared.limits.Limits.{Limits}
 use Rattle.mt_model.specs.Registration.Records as model
 use Rattle.mt_model.specs.Registration.Rows.{own_id, withdrawn_id, applicants_of, ids_of, withdrawn, applicant_ids, entry_count}
@@ -37,13 +37,6 @@ pub record AreFew (rs : List model.Record) : Type 0 where
   pub applicants : length (applicant_ids rs) ≤ 100000
   pub entries : entry_count rs ≤ 8000000
 
--- No id is registered twice, and no more of anything than an input may have.
-pub record AreSound (rs : List model.Record) : Type 0 where
-  pub programs_differ : all_differ bytes_eq (ids_of model.OfProgram rs) ≡ true
-  pub couples_differ : all_differ bytes_eq (ids_of model.OfCouple rs) ≡ true
-  pub applicants_differ : all_differ bytes_eq (applicant_ids rs) ≡ true
-  pub few : AreFew rs
-
 -- Limits that no version passes.
 pub record AreBounded (limits : Limits) : Type 0 where
   pub programs : limits.programs ≤ 20000
@@ -57,7 +50,7 @@ pub record IsRegister (r : Register) : Type 0 where
   pub applicants : r.applicants ≡ applicant_ids (contents_seen r)
   pub withdrawn : (kind : model.Kind) → ids_in r.withdrawn kind ≡ withdrawn kind (contents_seen r)
   pub entries : r.entries ≡ entry_count (contents_seen r)
-  pub sound : AreSound (contents_seen r)
+  pub few : AreFew (contents_seen r)
 
 -- the ids of a kind that an id under a kind adds
 abbrev pub under : model.Kind → Bytes → model.Kind → List Bytes

@@ -3,7 +3,7 @@ ghost use Rattle.std.specs.Option.{option_copied};
 ghost use Rattle.mt_model.specs.Registration.Ids.{has_id};
 ghost use Rattle.mt_model.specs.Registration.Passes.{first_in, registered_before, says_twice, are_too_many, clash};
 ghost use Rattle.mt_roster.specs.Records.{kind_seen, record_seen, charge_seen};
-ghost use Rattle.mt_roster.specs.Registers.{records_seen, contents_seen, ids_in, withdraws_twice, AreSound, IsRegister, AddsId, AddsRecord};
+ghost use Rattle.mt_roster.specs.Registers.{records_seen, contents_seen, ids_in, withdraws_twice, AreFew, IsRegister, AddsId, AddsRecord};
 
 use crate::id_table::IdTable;
 use crate::record::{Charge, Kind, Record};
@@ -211,12 +211,12 @@ impl<'a> Register<'a> {
         Ok(())
     }
 
-    /// Adds a record of which no id is registered and that withdraws nothing again.
+    /// Adds a record of which no id is registered, that withdraws nothing again, and with which there are not too many.
     pub(crate) fn push(&mut self, row: u64, next: Record<'a>) -> Result<(), AllocError>
         requires register { IsRegister self.old }
         requires new { registered_before (contents_seen self.old) (record_seen next) ≡ None }
         requires once { withdraws_twice (contents_seen self.old) (record_seen next) ≡ false }
-        requires sound { AreSound (contents_seen self.old ++ record_seen next ∷ []) }
+        requires few { AreFew (contents_seen self.old ++ record_seen next ∷ []) }
         ensures register { OnOk result (IsRegister self.new) }
         ensures records { OnOk result (records_seen self.new ≡ records_seen self.old ++ (row, record_seen next.entry) ∷ []) }
     {

@@ -1,7 +1,7 @@
 use Rattle.mt_roster.specs.Records.{record_seen}
 use Rattle.mt_roster.specs.Registers.{contents_seen}
 use Rattle.mt_roster.proofs.PlainFacts.{once_said}
-use Rattle.mt_roster.proofs.PassFacts.{IsAccepted, is_accepted, sound_more}
+use Rattle.mt_roster.proofs.PassFacts.{IsAccepted, is_accepted, few_more}
 use Rattle.mt_roster.proofs.first_pass.read_row.Goals as goal
 
 accepted : (c : goal.After-push-arg-1) → IsAccepted c.args.rules.now (contents_seen c.args.register.now) (record_seen c.in_ok-next.next)
@@ -13,5 +13,5 @@ push-requires-clause-new c = (accepted c).new
 pub push-requires-clause-once : goal.push-requires-clause-once
 push-requires-clause-once c = once_said (contents_seen c.args.register.now) (record_seen c.in_ok-next.next) (accepted c).once
 
-pub push-requires-clause-sound : goal.push-requires-clause-sound
-push-requires-clause-sound c = sound_more c.args.rules.now (contents_seen c.args.register.now) (record_seen c.in_ok-next.next) c.requires.limits c.requires.register.sound (accepted c).new (accepted c).few
+pub push-requires-clause-few : goal.push-requires-clause-few
+push-requires-clause-few c = few_more c.args.rules.now (contents_seen c.args.register.now) (record_seen c.in_ok-next.next) c.requires.limits (accepted c).few
