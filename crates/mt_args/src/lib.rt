@@ -6,8 +6,6 @@ mod command;
 pub mod examples;
 pub mod laws;
 mod parsing;
-#[cfg(test)]
-mod tests;
 
 pub use answer::{AskEnd, Asked};
 pub use parsing::asked;

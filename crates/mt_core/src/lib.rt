@@ -7,8 +7,6 @@ mod floor;
 pub mod laws;
 mod settle;
 mod step;
-#[cfg(test)]
-mod tests;
 
 pub use end::{quiet, result};
 pub use floor::{Floor, made, received};

@@ -9,6 +9,3 @@ mod row;
 mod work_list;
 
 pub use rounds::{CoupleEnd, Entered, enter_all};
-
-#[cfg(test)]
-mod tests;

@@ -4,7 +4,5 @@
 
 mod holding;
 pub mod laws;
-#[cfg(test)]
-mod tests;
 
 pub use holding::{Hold, Taken};

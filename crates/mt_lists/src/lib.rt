@@ -7,8 +7,6 @@ pub mod laws;
 mod row;
 mod splitting;
 mod tap;
-#[cfg(test)]
-mod tests;
 
 pub use input::{ReadEnd, read_all};
 pub use row::{Fields, Row};

@@ -8,12 +8,8 @@ mod text;
 
 pub use events::proposals_in_two_orders;
 pub use registration::{
-    counts_above_the_limits, entries_that_stand_twice, fields_that_are_no_ids,
-    fields_that_are_no_quotas, files_of_markets, files_of_markets_with_couples,
-    files_of_no_version, first_record_at_fault, ids_registered_twice, largest_values,
-    one_member_unplaced, one_name_three_times, padded_files, pairs_of_withdrawn_programs,
-    records_of_no_kind, records_of_wrong_length, unknown_applicants, unknown_programs,
-    version_1_files_as_version_2, withdrawals_of_nothing, withdrawn_rows,
+    names_that_nobody_registers, records_that_cannot_be_read, records_that_do_not_go_together,
+    registered_files, withdrawn_rows,
 };
 pub use rounds::{
     rounds_of_half_pair, rounds_of_own_seat, rounds_of_partner, rounds_of_same_program,

@@ -9,6 +9,7 @@ pub mod laws;
 mod limits;
 mod matching;
 mod numbers;
+mod options;
 mod verdict;
 
 pub use events::{Event, Reply};
@@ -16,4 +17,5 @@ pub use flat_lists::FlatLists;
 pub use limits::{LIMITS, LIMITS_2, Limits};
 pub use matching::{Match, Places};
 pub use numbers::{Agent, AppNo, CoupleNo, ProgNo};
+pub use options::Options;
 pub use verdict::{Blocker, Verdict};

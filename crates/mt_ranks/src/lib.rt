@@ -5,8 +5,6 @@
 mod entries;
 mod rows;
 mod tables;
-#[cfg(test)]
-mod tests;
 mod transpose;
 
 pub use entries::Live;

@@ -75,30 +75,3 @@ pub(crate) fn transpose(
     }
     Ok(rows)
 }
-
-#[cfg(test)]
-mod tests {
-    use super::*;
-    use std::test::Fail;
-
-    fn entry(program: u32, rank: u32) -> Live {
-        Live {
-            program: ProgNo(program),
-            rank,
-        }
-    }
-
-    // The first of two programs lists the applicants 1, 2 and 0, the second one 0 and 1.
-    #[test]
-    fn ranks_by_applicant(rt: HostRuntime) -> Result<(), Fail> {
-        let mut rankings = FlatLists::new(rt.alloc());
-        rankings.push_list(&[AppNo(1), AppNo(2), AppNo(0)])?;
-        rankings.push_list(&[AppNo(0), AppNo(1)])?;
-        let rows = transpose(rt.alloc(), &rankings, 4)?;
-        assert_eq!(rt; rows.row(0), [entry(0, 2), entry(1, 0)].as_slice());
-        assert_eq!(rt; rows.row(1), [entry(0, 0), entry(1, 1)].as_slice());
-        assert_eq!(rt; rows.row(2), [entry(0, 1)].as_slice());
-        assert_eq!(rt; rows.row(3).len(), 0);
-        Ok(())
-    }
-}

@@ -8,6 +8,3 @@ mod text;
 pub use drain::{Drain, Wrote, put_all};
 pub use refusal::{RefusalLine, refused};
 pub use text::published;
-
-#[cfg(test)]
-mod tests;

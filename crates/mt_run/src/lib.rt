@@ -4,14 +4,10 @@
 mod answer;
 mod ended;
 pub mod laws;
-mod options;
 mod refusal;
 mod singles;
 mod whole;
 
 pub use ended::Ended;
-pub use options::Options;
+pub use mt_model::Options;
 pub use whole::run;
-
-#[cfg(test)]
-mod tests;

@@ -6,10 +6,9 @@ ghost use Rattle.mt_run.specs.Refusals.{code_of, IsRefusalBy, IsRefusalTo};
 
 use crate::answer::answer_to_rows;
 use crate::ended::Ended;
-use crate::options::Options;
 use crate::refusal::{OUT_OF_MEMORY, READ_FAULT, Refusal, TOO_LARGE, TWO_MARKS};
 use mt_lists::{ListFault, ReadEnd, Tap, read_all, records};
-use mt_model::LIMITS;
+use mt_model::{LIMITS, Options};
 use mt_report::{Drain, put_all, refused};
 use std::alloc::Global;
 use std::io::{Read, Write};

@@ -41,6 +41,3 @@ pub fn verify(
     let verifier = Verifier::new(alloc, roster, ranks, matched)?;
     Ok(verifier.verdict())
 }
-
-#[cfg(test)]
-mod tests;

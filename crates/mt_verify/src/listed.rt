@@ -24,36 +24,3 @@ pub(crate) fn is_own_pair(
 {
     (first.is_none() && second.is_none()) || list.contains(&(first, second))
 }
-
-#[cfg(test)]
-mod tests {
-    use super::*;
-    use std::test::Fail;
-
-    #[test]
-    fn a_single_at_home(rt: HostRuntime) -> Result<(), Fail> {
-        let list = [ProgNo(2), ProgNo(0)];
-        assert!(rt; is_own_place(&list, None));
-        assert!(rt; is_own_place(&list, Some(ProgNo(2))));
-        assert!(rt; is_own_place(&list, Some(ProgNo(0))));
-        assert!(rt; !is_own_place(&list, Some(ProgNo(1))));
-        assert!(rt; !is_own_place(&[], Some(ProgNo(0))));
-        Ok(())
-    }
-
-    fn at(program: u32) -> Option<ProgNo> {
-        Some(ProgNo(program))
-    }
-
-    #[test]
-    fn a_couple_at_a_pair(rt: HostRuntime) -> Result<(), Fail> {
-        let list = [(at(0), None), (at(1), at(0))];
-        assert!(rt; is_own_pair(&list, None, None));
-        assert!(rt; is_own_pair(&list, at(0), None));
-        assert!(rt; is_own_pair(&list, at(1), at(0)));
-        assert!(rt; !is_own_pair(&list, None, at(0)));
-        assert!(rt; !is_own_pair(&list, at(0), at(1)));
-        assert!(rt; !is_own_pair(&list, at(1), None));
-        Ok(())
-    }
-}

@@ -13,10 +13,6 @@ use Rattle.mt_model.specs.Examples.RegistrationText.{file}
 abbrev pub crossed_file : List String
 crossed_file = "program,P1,1,a2,a1" ∷ "program,P2,1,a1,a2" ∷ "applicant,a1,P1,P2" ∷ "applicant,a2,P2,P1" ∷ []
 
--- the same without P1
-abbrev pub crossed_without_program : Market
-crossed_without_program = record { programs = record { quota = 1; ranking = 0 ∷ 1 ∷ [] } ∷ []; lists = (0 ∷ []) ∷ (0 ∷ []) ∷ []; couples = [] }
-
 -- a third applicant, whom the first program wants in between
 abbrev pub chain_file : List String
 chain_file = "program,P1,1,a2,a3,a1" ∷ "program,P2,1,a1,a2" ∷ "applicant,a1,P1,P2" ∷ "applicant,a2,P2,P1" ∷ "applicant,a3,P1" ∷ []
@@ -65,17 +61,9 @@ three_couples_without_program = record {
       ∷ [];
 }
 
--- nobody, and nothing to be placed at
-abbrev pub nothing : Market
-nothing = record { programs = []; lists = []; couples = [] }
-
 -- one applicant that lists nothing
 abbrev pub one_applicant : Market
 one_applicant = record { programs = []; lists = [] ∷ []; couples = [] }
-
--- one program that lists nobody, with the largest quota
-abbrev pub largest_program : Market
-largest_program = record { programs = record { quota = 9999; ranking = [] } ∷ []; lists = []; couples = [] }
 
 -- a couple that would have either of its members unplaced
 abbrev pub each_member_alone : Market
@@ -89,26 +77,13 @@ each_member_alone = record {
 abbrev pub one_name_file : List String
 one_name_file = "program,n,1,n" ∷ "applicant,n,n" ∷ "couple,n,a,b,n,n" ∷ []
 
--- the same without the couple, without the applicant and without the program
-abbrev pub one_name_without_couple : Market
-one_name_without_couple = record { programs = record { quota = 1; ranking = 0 ∷ [] } ∷ []; lists = (0 ∷ []) ∷ []; couples = [] }
-
-abbrev pub one_name_without_applicant : Market
-one_name_without_applicant = record {
-  programs = record { quota = 1; ranking = [] } ∷ [];
-  lists = [] ∷ [] ∷ [];
-  couples = record { first = 0; second = 1; pairs = (Some 0, Some 0) ∷ [] } ∷ [];
-}
-
+-- the same without the program
 abbrev pub one_name_without_program : Market
 one_name_without_program = record { programs = []; lists = [] ∷ [] ∷ [] ∷ []; couples = record { first = 1; second = 2; pairs = [] } ∷ [] }
 
 -- version 2 with limits that a few records pass
 abbrev pub small : Rules
 small = record version_2 { limits = record LIMITS_2 { applicants = 3; programs = 2; entries = 4 } }
-
-abbrev pub one_couple : Rules
-one_couple = record version_2 { limits = record LIMITS_2 { couples = 1 } }
 
 -- what these records give after a first one, by rules
 abbrev pub market_within : Rules → List String → Result Registered Fault

@@ -1,4 +1,0 @@
-mod expected;
-mod fitting;
-mod order;
-mod worked;

@@ -1,0 +1,85 @@
+//! Readers and writers that give or take little at a time, fail once, or never end.
+
+use std::io::{self, ErrorKind, Read, Write};
+
+/// The bytes of a slice, `size` in each read, of which the `fails_at`th fails. The reads after it go on.
+#[derive(Drop)]
+pub(crate) struct Pieces<'a> {
+    left: &'a [u8],
+    size: usize,
+    pub(crate) calls: u32,
+    fails_at: u32,
+    failure: ErrorKind,
+}
+
+impl<'a> Pieces<'a> {
+    pub(crate) fn new(left: &'a [u8], size: usize, fails_at: u32, failure: ErrorKind) -> Self {
+        Pieces {
+            left,
+            size,
+            calls: 0,
+            fails_at,
+            failure,
+        }
+    }
+}
+
+impl Read for Pieces<'_> {
+    fn read(&mut self, buf: &mut [u8]) -> io::Result<usize> {
+        self.calls = self.calls.saturating_add(1);
+        if self.calls == self.fails_at {
+            return Err(io::Error::from(self.failure));
+        }
+        let count = self.size.min(buf.len()).min(self.left.len());
+        let (front, rest) = self.left.split_at(count);
+        buf[..count].copy_from_slice(front);
+        self.left = rest;
+        Ok(count)
+    }
+}
+
+/// Bytes `a` without end, at most `size` in each read.
+#[derive(Drop)]
+pub(crate) struct Endless {
+    pub(crate) size: usize,
+}
+
+impl Read for Endless {
+    fn read(&mut self, buf: &mut [u8]) -> io::Result<usize> {
+        let count = self.size.min(buf.len());
+        buf[..count].fill(b'a');
+        Ok(count)
+    }
+}
+
+/// A writer that takes so many bytes at a time, so many in all, and then fails or takes none; its flush may fail. It
+/// counts its flushes.
+#[derive(Drop)]
+pub(crate) struct Narrow {
+    pub(crate) at_once: usize,
+    pub(crate) room: usize,
+    pub(crate) fails: bool,
+    pub(crate) flush_fails: bool,
+    pub(crate) flushes: u32,
+    pub(crate) taken: Vec<u8>,
+}
+
+impl Write for Narrow {
+    fn write(&mut self, buf: &[u8]) -> io::Result<usize> {
+        let count = self.at_once.min(self.room).min(buf.len());
+        if count == 0 && self.fails {
+            return Err(ErrorKind::Interrupted.into());
+        }
+        self.taken.extend_from_slice(&buf[..count])?;
+        self.room -= count;
+        Ok(count)
+    }
+
+    fn flush(&mut self) -> io::Result<()> {
+        self.flushes = self.flushes.saturating_add(1);
+        if self.flush_fails {
+            return Err(ErrorKind::Other.into());
+        }
+        Ok(())
+    }
+}

@@ -1,0 +1,274 @@
+//! Events on the floor of the singles: the reply to each, and what it comes to in two orders.
+ghost use Rattle.mt_model.specs.Floor.{IsRecorded};
+ghost use Rattle.mt_core.specs.Floors.{floor_of, IsOpenedWith};
+
+use crate::markets::{BETWEEN, CHAIN, tables_of};
+use mt_core::{Event, Floor, Reply, apply, finish, made, quiet, received, result, run};
+use mt_model::{AppNo, ProgNo};
+use mt_ranks::Ranks;
+use std::alloc::{AllocError, Global};
+use std::process::Abort;
+use std::test::Fail;
+
+// Each applicant's first wish first, and then who was displaced.
+const BY_WISHES: [Event; 9] = [
+    Event::Propose(AppNo(0)),
+    Event::Propose(AppNo(1)),
+    Event::Propose(AppNo(2)),
+    Event::Notice(AppNo(0)),
+    Event::Propose(AppNo(0)),
+    Event::Notice(AppNo(1)),
+    Event::Propose(AppNo(1)),
+    Event::Notice(AppNo(2)),
+    Event::Propose(AppNo(2)),
+];
+
+// The last applicant first.
+const FROM_THE_LAST: [Event; 6] = [
+    Event::Propose(AppNo(2)),
+    Event::Propose(AppNo(0)),
+    Event::Propose(AppNo(0)),
+    Event::Propose(AppNo(1)),
+    Event::Propose(AppNo(1)),
+    Event::Notice(AppNo(2)),
+];
+
+// In the market of the couple the applicants 1 and 2 are members, and 3 is the first number past the end.
+const OF_NO_SINGLE: [Event; 7] = [
+    Event::Propose(AppNo(1)),
+    Event::Propose(AppNo(2)),
+    Event::Propose(AppNo(3)),
+    Event::Propose(AppNo(u32::MAX)),
+    Event::Notice(AppNo(1)),
+    Event::Notice(AppNo(3)),
+    Event::Notice(AppNo(u32::MAX)),
+];
+
+fn expect_counts(
+    rt: &impl Abort,
+    floor: &Floor,
+    ranks: &Ranks,
+    by_applicant: &[u32],
+    by_program: &[u32],
+)
+    requires { IsOpenedWith ranks.now.market floor.now }
+{
+    assert_eq!(rt; ranks.applicants() as usize, by_applicant.len());
+    for applicant in 0..ranks.applicants() {
+        assert_eq!(rt;
+            made(floor, AppNo(applicant)),
+            by_applicant[applicant as usize]
+        );
+    }
+    assert_eq!(rt; ranks.programs() as usize, by_program.len());
+    for program in 0..ranks.programs() {
+        assert_eq!(rt;
+            received(floor, ProgNo(program)),
+            by_program[program as usize]
+        );
+    }
+}
+
+// The rejection chain ends with a1 at P2, which wants it most, a2 at P1, which wants it most, and a3 nowhere.
+fn expect_chain_end(
+    rt: &impl Abort,
+    alloc: Global,
+    floor: &Floor,
+    ranks: &Ranks,
+) -> Result<(), AllocError>
+    requires { IsOpenedWith ranks.now.market floor.now }
+{
+    expect_counts(rt, floor, ranks, &[2, 2, 1], &[3, 2]);
+    assert!(rt; quiet(floor, ranks));
+    let matched = result(alloc, floor, ranks)?;
+    let places = [Some(ProgNo(1)), Some(ProgNo(0)), None];
+    assert_eq!(rt; matched.places.as_slice(), places.as_slice());
+    Ok(())
+}
+
+fn expect_reply(rt: &impl Abort, floor: &mut Floor, ranks: &Ranks, event: Event, reply: Reply)
+    requires opened { IsOpenedWith ranks.now.market floor.old }
+    requires recorded { IsRecorded ranks.now.market (floor_of ranks.now.market floor.old) }
+    ensures opened { IsOpenedWith ranks.now.market floor.new }
+    ensures recorded { IsRecorded ranks.now.market (floor_of ranks.now.market floor.new) }
+{
+    assert_eq!(rt; apply(floor, ranks, event), reply, "at {event:?}");
+}
+
+fn expect_replies(
+    rt: &impl Abort,
+    floor: &mut Floor,
+    ranks: &Ranks,
+    events: &[Event],
+    replies: &[Reply],
+)
+    requires opened { IsOpenedWith ranks.now.market floor.old }
+    requires recorded { IsRecorded ranks.now.market (floor_of ranks.now.market floor.old) }
+    ensures opened { IsOpenedWith ranks.now.market floor.new }
+    ensures recorded { IsRecorded ranks.now.market (floor_of ranks.now.market floor.new) }
+{
+    assert_eq!(rt; events.len(), replies.len());
+    for number in 0..events.len() {
+        expect_reply(rt, floor, ranks, events[number], replies[number]);
+    }
+}
+
+// Each event from the opening floor on gets its reply, and the floor ends as it must.
+fn expect_chain(
+    rt: &impl Abort,
+    alloc: Global,
+    events: &[Event],
+    replies: &[Reply],
+) -> Result<(), Fail> {
+    let ranks = tables_of(alloc, CHAIN)?;
+    let mut floor = Floor::open(alloc, &ranks)?;
+    expect_replies(rt, &mut floor, &ranks, events, replies);
+    expect_chain_end(rt, alloc, &floor, &ranks)?;
+    Ok(())
+}
+
+#[test]
+fn each_event_gets_its_reply(rt: HostRuntime) -> Result<(), Fail> {
+    let replies = [
+        Reply::Kept,
+        Reply::Kept,
+        Reply::KeptInstead(AppNo(0)),
+        Reply::Noticed,
+        Reply::KeptInstead(AppNo(1)),
+        Reply::Noticed,
+        Reply::KeptInstead(AppNo(2)),
+        Reply::Noticed,
+        Reply::NotDue,
+    ];
+    expect_chain(&rt, rt.alloc(), &BY_WISHES, &replies)
+}
+
+#[test]
+fn the_last_applicant_may_be_first(rt: HostRuntime) -> Result<(), Fail> {
+    let replies = [
+        Reply::Kept,
+        Reply::Refused,
+        Reply::Kept,
+        Reply::Refused,
+        Reply::KeptInstead(AppNo(2)),
+        Reply::Noticed,
+    ];
+    expect_chain(&rt, rt.alloc(), &FROM_THE_LAST, &replies)
+}
+
+// Makes the events on a floor on which some are due, and expects so many of them to have been due.
+fn expect_due(rt: &impl Abort, floor: &mut Floor, ranks: &Ranks, events: &[Event], due: u64)
+    requires opened { IsOpenedWith ranks.now.market floor.old }
+    requires recorded { IsRecorded ranks.now.market (floor_of ranks.now.market floor.old) }
+    ensures opened { IsOpenedWith ranks.now.market floor.new }
+    ensures recorded { IsRecorded ranks.now.market (floor_of ranks.now.market floor.new) }
+{
+    assert!(rt; !quiet(floor, ranks));
+    assert_eq!(rt; run(floor, ranks, events), due);
+}
+
+// None of the events is due any more, and there is nothing to finish.
+fn expect_none_due(rt: &impl Abort, floor: &mut Floor, ranks: &Ranks, events: &[Event])
+    requires opened { IsOpenedWith ranks.now.market floor.old }
+    requires recorded { IsRecorded ranks.now.market (floor_of ranks.now.market floor.old) }
+    ensures opened { IsOpenedWith ranks.now.market floor.new }
+    ensures recorded { IsRecorded ranks.now.market (floor_of ranks.now.market floor.new) }
+{
+    assert_eq!(rt; run(floor, ranks, events), 0);
+    assert_eq!(rt; finish(floor, ranks), 0);
+}
+
+// So many of the events are due from the opening floor, which ends as it must; and then none is due any more.
+fn expect_run(rt: &impl Abort, alloc: Global, events: &[Event], due: u64) -> Result<(), Fail> {
+    let ranks = tables_of(alloc, CHAIN)?;
+    let mut floor = Floor::open(alloc, &ranks)?;
+    expect_due(rt, &mut floor, &ranks, events, due);
+    expect_chain_end(rt, alloc, &floor, &ranks)?;
+    expect_none_due(rt, &mut floor, &ranks, events);
+    expect_chain_end(rt, alloc, &floor, &ranks)?;
+    Ok(())
+}
+
+#[test]
+fn runs_count_the_events_that_were_due(rt: HostRuntime) -> Result<(), Fail> {
+    expect_run(&rt, rt.alloc(), &BY_WISHES, 8)?;
+    expect_run(&rt, rt.alloc(), &FROM_THE_LAST, 6)
+}
+
+// After the first five events one proposal is to come: a1 has displaced a2 at P2, so a2 proposes to P1 and displaces
+// a3 there, which wants no other program.
+#[test]
+fn finish_goes_on_from_any_floor(rt: HostRuntime) -> Result<(), Fail> {
+    let ranks = tables_of(rt.alloc(), CHAIN)?;
+    let mut floor = Floor::open(rt.alloc(), &ranks)?;
+    expect_due(&rt, &mut floor, &ranks, &BY_WISHES[..5], 5);
+    assert!(rt; !quiet(&floor, &ranks));
+    assert_eq!(rt; finish(&mut floor, &ranks), 1);
+    expect_chain_end(&rt, rt.alloc(), &floor, &ranks)?;
+    Ok(())
+}
+
+#[test]
+fn the_chain_takes_five_proposals(rt: HostRuntime) -> Result<(), Fail> {
+    let ranks = tables_of(rt.alloc(), CHAIN)?;
+    let mut floor = Floor::open(rt.alloc(), &ranks)?;
+    assert_eq!(rt; finish(&mut floor, &ranks), 5);
+    expect_chain_end(&rt, rt.alloc(), &floor, &ranks)?;
+    Ok(())
+}
+
+// Makes each event, which isn't due, and expects the whole floor as it was before.
+fn expect_not_due(
+    rt: &impl Abort,
+    alloc: Global,
+    floor: &mut Floor,
+    ranks: &Ranks,
+    events: &[Event],
+) -> Result<(), Fail>
+    requires opened { IsOpenedWith ranks.now.market floor.old }
+    requires recorded { IsRecorded ranks.now.market (floor_of ranks.now.market floor.old) }
+    ensures opened { IsOpenedWith ranks.now.market floor.new }
+    ensures recorded { IsRecorded ranks.now.market (floor_of ranks.now.market floor.new) }
+{
+    let before = format!(in alloc; "{floor:?}")?;
+    for event in events {
+        assert_eq!(rt; apply(floor, ranks, *event), Reply::NotDue);
+        assert_eq!(rt; format!(in alloc; "{floor:?}")?, before);
+    }
+    Ok(())
+}
+
+#[test]
+fn only_singles_have_events(rt: HostRuntime) -> Result<(), Fail> {
+    let ranks = tables_of(rt.alloc(), BETWEEN)?;
+    let mut floor = Floor::open(rt.alloc(), &ranks)?;
+    expect_not_due(&rt, rt.alloc(), &mut floor, &ranks, &OF_NO_SINGLE)?;
+    let of_the_single = Event::Propose(AppNo(0));
+    expect_reply(&rt, &mut floor, &ranks, of_the_single, Reply::Kept);
+    expect_not_due(&rt, rt.alloc(), &mut floor, &ranks, &OF_NO_SINGLE)?;
+    Ok(())
+}
+
+// a1 stands at P1 and is held, so that it has nothing to propose or to learn; nobody else stands. Once a3 has
+// displaced it, it learns that before it proposes.
+#[test]
+fn events_wait_until_they_are_due(rt: HostRuntime) -> Result<(), Fail> {
+    let ranks = tables_of(rt.alloc(), CHAIN)?;
+    let mut floor = Floor::open(rt.alloc(), &ranks)?;
+    let first = Event::Propose(AppNo(0));
+    expect_reply(&rt, &mut floor, &ranks, first, Reply::Kept);
+    let events = [
+        Event::Propose(AppNo(0)),
+        Event::Notice(AppNo(0)),
+        Event::Notice(AppNo(1)),
+        Event::Notice(AppNo(2)),
+    ];
+    expect_not_due(&rt, rt.alloc(), &mut floor, &ranks, &events)?;
+    let displaced = Reply::KeptInstead(AppNo(0));
+    let third = Event::Propose(AppNo(2));
+    expect_reply(&rt, &mut floor, &ranks, third, displaced);
+    expect_not_due(&rt, rt.alloc(), &mut floor, &ranks, &events[..1])?;
+    let notice = Event::Notice(AppNo(0));
+    expect_reply(&rt, &mut floor, &ranks, notice, Reply::Noticed);
+    Ok(())
+}

@@ -1,0 +1,101 @@
+//! Bytes to records: reads that fail, limits, and the rows of a file as a spreadsheet writes it.
+
+use crate::devices::{Endless, Pieces};
+use mt_lists::{ListFault, ReadEnd, Row, SourceFault, Tap, laws, read_all, records};
+use std::io::ErrorKind;
+use std::test::Fail;
+
+// Whether a row has these fields.
+fn has_fields(row: &Row, fields: &[&[u8]]) -> bool {
+    if row.len() != fields.len() {
+        return false;
+    }
+    for i in 0..fields.len() {
+        if row.get(i) != Some(fields[i]) {
+            return false;
+        }
+    }
+    true
+}
+
+#[test]
+fn spreadsheet_rows(rt: HostRuntime) -> Result<(), Fail> {
+    let input =
+        b"\xEF\xBB\xBFmatch,1,,\r\n\"program\",P1,1,\"a2\",a1\r\n\r\nprogram,P2,01,a1,a2,\r\n,,,\r\napplicant,a1,P1,P2\r\napplicant,\"a2\",P2,P1";
+    let rows = records(rt.alloc(), input)?;
+    assert_eq!(rt; rows.len(), 6);
+    assert!(rt; has_fields(&rows[0], &[b"match", b"1"]));
+    assert!(rt; has_fields(&rows[1], &[b"program", b"P1", b"1", b"a2", b"a1"]));
+    assert!(rt; has_fields(&rows[2], &[b"program", b"P2", b"01", b"a1", b"a2"]));
+    assert!(rt; has_fields(&rows[3], &[]));
+    assert!(rt; has_fields(&rows[4], &[b"applicant", b"a1", b"P1", b"P2"]));
+    assert!(rt; has_fields(&rows[5], &[b"applicant", b"a2", b"P2", b"P1"]));
+    laws::worked_inputs();
+    Ok(())
+}
+
+#[test]
+fn quotes_and_marks(rt: HostRuntime) -> Result<(), Fail> {
+    let rows = records(rt.alloc(), b"match,1\napplicant,\"a\"\"1\"\n")?;
+    assert_eq!(rt; rows.len(), 2);
+    assert!(rt; has_fields(&rows[0], &[b"match", b"1"]));
+    assert!(rt; has_fields(&rows[1], &[b"applicant", b"a\"1"]));
+    let twice = records(rt.alloc(), b"\xEF\xBB\xBF\xEF\xBB\xBFmatch,1\n");
+    assert!(rt; matches!(twice, Err(ListFault::TwoMarks)));
+    assert!(rt; records(rt.alloc(), b"\xEF\xBB\xBF")?.is_empty());
+    assert!(rt; records(rt.alloc(), b"")?.is_empty());
+    Ok(())
+}
+
+// An interrupted read is not made again by the same call, and the next one goes on.
+#[test]
+fn interrupted_read_fails(rt: HostRuntime) -> Result<(), Fail> {
+    let mut source = Pieces::new(b"abc", 2, 1, ErrorKind::Interrupted);
+    let mut tap = Tap::new(&mut source);
+    let mut buf = [0u8; 8];
+    assert_eq!(rt; tap.read(&mut buf), Err(SourceFault));
+    assert_eq!(rt; (tap.reads(), tap.failures()), (1, 1));
+    assert_eq!(rt; tap.read(&mut buf), Ok(2));
+    assert!(rt; buf.starts_with(b"ab"));
+    assert_eq!(rt; (tap.reads(), tap.failures()), (2, 1));
+    assert_eq!(rt; source.calls, 2);
+    Ok(())
+}
+
+#[test]
+fn limits(rt: HostRuntime) -> Result<(), Fail> {
+    let mut endless = Tap::new(Endless { size: 1 });
+    let result = read_all(rt.alloc(), &mut endless, 5);
+    assert!(rt; matches!(result, Err(ReadEnd::TooLarge)));
+    assert_eq!(rt; endless.reads(), 6);
+    let text = b"0123456789".as_slice();
+    for size in [1, 3, 10, 100] {
+        let mut tap = Tap::new(Pieces::new(text, size, 0, ErrorKind::Other));
+        assert_eq!(rt; read_all(rt.alloc(), &mut tap, 10)?.as_slice(), text);
+        let mut tap = Tap::new(Pieces::new(text, size, 0, ErrorKind::Other));
+        let result = read_all(rt.alloc(), &mut tap, 9);
+        assert!(rt; matches!(result, Err(ReadEnd::TooLarge)));
+        assert_eq!(rt; tap.failures(), 0);
+    }
+    let mut empty = Tap::new(b"".as_slice());
+    assert!(rt; read_all(rt.alloc(), &mut empty, 0)?.is_empty());
+    assert_eq!(rt; empty.reads(), 1);
+    Ok(())
+}
+
+#[test]
+fn fields_of_a_row(rt: HostRuntime) -> Result<(), Fail> {
+    let row = Row::from_fields(rt.alloc(), &[b"a", b"", b"bc"])?;
+    assert_eq!(rt; row.len(), 3);
+    assert!(rt; !row.is_empty());
+    assert!(rt; row.field(2) == b"bc".as_slice());
+    assert!(rt; row.get(1) == Some(b"".as_slice()));
+    assert!(rt; row.get(3).is_none());
+    let mut joined = Vec::new(rt.alloc());
+    for field in &row {
+        joined.extend_from_slice(field)?;
+    }
+    assert!(rt; joined.as_slice() == b"abc".as_slice());
+    assert_eq!(rt; row.iter().count(), 3);
+    Ok(())
+}

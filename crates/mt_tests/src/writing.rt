@@ -1,0 +1,84 @@
+//! Texts into writers that take little at a time, fail, or take nothing.
+
+use crate::devices::Narrow;
+use crate::markets::CROSSED_TEXT as TEXT;
+use mt_report::{Drain, put_all};
+use std::process::Abort;
+
+// Writes the text, of which the writer has to take the first bytes alone, and none after it failed. Only a text
+// that was taken whole is flushed, once.
+fn expect_written(rt: &impl Abort, narrow: Narrow, first: usize, whole: bool) {
+    assert!(rt; first <= TEXT.len());
+    let mut writer = narrow;
+    let mut drain = Drain::new(&mut writer);
+    let wrote = put_all(&mut drain, TEXT);
+    assert_eq!(rt; wrote.written, first as u64);
+    assert_eq!(rt; wrote.whole, whole);
+    assert_eq!(rt; drain.failures(), u64::from(!whole));
+    assert_eq!(rt; writer.taken.as_slice(), &TEXT[..first]);
+    assert_eq!(rt; writer.flushes, u32::from(first == TEXT.len()));
+}
+
+#[test]
+fn a_writer_that_stops_in_the_text(rt: HostRuntime) {
+    assert_eq!(rt; TEXT.len(), 99);
+    for at_once in [1, 7, 100] {
+        for fails in [false, true] {
+            for room in 0..99 {
+                let narrow = Narrow {
+                    at_once,
+                    room,
+                    fails,
+                    flush_fails: false,
+                    flushes: 0,
+                    taken: Vec::new(rt.alloc()),
+                };
+                expect_written(&rt, narrow, room, false);
+            }
+        }
+    }
+}
+
+#[test]
+fn a_writer_that_takes_the_whole_text(rt: HostRuntime) {
+    for at_once in [1, 7, 98, 99, 100] {
+        for flush_fails in [false, true] {
+            let narrow = Narrow {
+                at_once,
+                room: 99,
+                fails: true,
+                flush_fails,
+                flushes: 0,
+                taken: Vec::new(rt.alloc()),
+            };
+            expect_written(&rt, narrow, 99, !flush_fails);
+        }
+    }
+}
+
+// Nothing is to be written, so the writer isn't asked and is flushed once. A second text through the same drain
+// fails, and the drain counts that.
+#[test]
+fn two_texts_through_one_drain(rt: HostRuntime) {
+    let mut writer = Narrow {
+        at_once: 100,
+        room: 10,
+        fails: false,
+        flush_fails: false,
+        flushes: 0,
+        taken: Vec::new(rt.alloc()),
+    };
+    let mut drain = Drain::new(&mut writer);
+    assert_eq!(rt; drain.failures(), 0);
+    let nothing = put_all(&mut drain, b"");
+    assert_eq!(rt; (nothing.written, nothing.whole), (0, true));
+    assert_eq!(rt; drain.failures(), 0);
+    let some = put_all(&mut drain, TEXT);
+    assert_eq!(rt; (some.written, some.whole), (10, false));
+    assert_eq!(rt; drain.failures(), 1);
+    let none = put_all(&mut drain, TEXT);
+    assert_eq!(rt; (none.written, none.whole), (0, false));
+    assert_eq!(rt; drain.failures(), 2);
+    assert_eq!(rt; writer.taken.as_slice(), b"match,1,pu".as_slice());
+    assert_eq!(rt; writer.flushes, 1);
+}
