@@ -44,28 +44,21 @@ const OF_NO_SINGLE: [Event; 7] = [
     Event::Notice(AppNo(u32::MAX)),
 ];
 
-fn expect_counts(
-    rt: &impl Abort,
-    floor: &Floor,
-    ranks: &Ranks,
-    by_applicant: &[u32],
-    by_program: &[u32],
-)
+fn expect_made(rt: &impl Abort, floor: &Floor, ranks: &Ranks, wanted: &[u32])
     requires { IsOpenedWith ranks.now.market floor.now }
 {
-    assert_eq!(rt; ranks.applicants() as usize, by_applicant.len());
+    assert_eq!(rt; ranks.applicants() as usize, wanted.len());
     for applicant in 0..ranks.applicants() {
-        assert_eq!(rt;
-            made(floor, AppNo(applicant)),
-            by_applicant[applicant as usize]
-        );
+        assert_eq!(rt; made(floor, AppNo(applicant)), wanted[applicant as usize]);
     }
-    assert_eq!(rt; ranks.programs() as usize, by_program.len());
+}
+
+fn expect_received(rt: &impl Abort, floor: &Floor, ranks: &Ranks, wanted: &[u32])
+    requires { IsOpenedWith ranks.now.market floor.now }
+{
+    assert_eq!(rt; ranks.programs() as usize, wanted.len());
     for program in 0..ranks.programs() {
-        assert_eq!(rt;
-            received(floor, ProgNo(program)),
-            by_program[program as usize]
-        );
+        assert_eq!(rt; received(floor, ProgNo(program)), wanted[program as usize]);
     }
 }
 
@@ -78,7 +71,8 @@ fn expect_chain_end(
 ) -> Result<(), AllocError>
     requires { IsOpenedWith ranks.now.market floor.now }
 {
-    expect_counts(rt, floor, ranks, &[2, 2, 1], &[3, 2]);
+    expect_made(rt, floor, ranks, &[2, 2, 1]);
+    expect_received(rt, floor, ranks, &[3, 2]);
     assert!(rt; quiet(floor, ranks));
     let matched = result(alloc, floor, ranks)?;
     let places = [Some(ProgNo(1)), Some(ProgNo(0)), None];
@@ -217,35 +211,26 @@ fn the_chain_takes_five_proposals(rt: HostRuntime) -> Result<(), Fail> {
     Ok(())
 }
 
-// Makes each event, which isn't due, and expects the whole floor as it was before.
-fn expect_not_due(
-    rt: &impl Abort,
-    alloc: Global,
-    floor: &mut Floor,
-    ranks: &Ranks,
-    events: &[Event],
-) -> Result<(), Fail>
+// None of the events is due.
+fn expect_not_due(rt: &impl Abort, floor: &mut Floor, ranks: &Ranks, events: &[Event])
     requires opened { IsOpenedWith ranks.now.market floor.old }
     requires recorded { IsRecorded ranks.now.market (floor_of ranks.now.market floor.old) }
     ensures opened { IsOpenedWith ranks.now.market floor.new }
     ensures recorded { IsRecorded ranks.now.market (floor_of ranks.now.market floor.new) }
 {
-    let before = format!(in alloc; "{floor:?}")?;
     for event in events {
-        assert_eq!(rt; apply(floor, ranks, *event), Reply::NotDue);
-        assert_eq!(rt; format!(in alloc; "{floor:?}")?, before);
+        expect_reply(rt, floor, ranks, *event, Reply::NotDue);
     }
-    Ok(())
 }
 
 #[test]
 fn only_singles_have_events(rt: HostRuntime) -> Result<(), Fail> {
     let ranks = tables_of(rt.alloc(), BETWEEN)?;
     let mut floor = Floor::open(rt.alloc(), &ranks)?;
-    expect_not_due(&rt, rt.alloc(), &mut floor, &ranks, &OF_NO_SINGLE)?;
+    expect_not_due(&rt, &mut floor, &ranks, &OF_NO_SINGLE);
     let of_the_single = Event::Propose(AppNo(0));
     expect_reply(&rt, &mut floor, &ranks, of_the_single, Reply::Kept);
-    expect_not_due(&rt, rt.alloc(), &mut floor, &ranks, &OF_NO_SINGLE)?;
+    expect_not_due(&rt, &mut floor, &ranks, &OF_NO_SINGLE);
     Ok(())
 }
 
@@ -263,11 +248,11 @@ fn events_wait_until_they_are_due(rt: HostRuntime) -> Result<(), Fail> {
         Event::Notice(AppNo(1)),
         Event::Notice(AppNo(2)),
     ];
-    expect_not_due(&rt, rt.alloc(), &mut floor, &ranks, &events)?;
+    expect_not_due(&rt, &mut floor, &ranks, &events);
     let displaced = Reply::KeptInstead(AppNo(0));
     let third = Event::Propose(AppNo(2));
     expect_reply(&rt, &mut floor, &ranks, third, displaced);
-    expect_not_due(&rt, rt.alloc(), &mut floor, &ranks, &events[..1])?;
+    expect_not_due(&rt, &mut floor, &ranks, &events[..1]);
     let notice = Event::Notice(AppNo(0));
     expect_reply(&rt, &mut floor, &ranks, notice, Reply::Noticed);
     Ok(())

@@ -2,7 +2,9 @@
 
 use crate::devices::{Endless, Pieces};
 use mt_lists::{ListFault, ReadEnd, Row, SourceFault, Tap, laws, read_all, records};
+use std::alloc::{AllocError, Global};
 use std::io::ErrorKind;
+use std::process::Abort;
 use std::test::Fail;
 
 // Whether a row has these fields.
@@ -18,18 +20,27 @@ fn has_fields(row: &Row, fields: &[&[u8]]) -> bool {
     true
 }
 
+fn expect_rows(rt: &impl Abort, rows: &[Row], expected: &[&[&[u8]]]) {
+    assert_eq!(rt; rows.len(), expected.len());
+    for number in 0..rows.len() {
+        assert!(rt; has_fields(&rows[number], expected[number]), "row {number}");
+    }
+}
+
 #[test]
 fn spreadsheet_rows(rt: HostRuntime) -> Result<(), Fail> {
     let input =
         b"\xEF\xBB\xBFmatch,1,,\r\n\"program\",P1,1,\"a2\",a1\r\n\r\nprogram,P2,01,a1,a2,\r\n,,,\r\napplicant,a1,P1,P2\r\napplicant,\"a2\",P2,P1";
     let rows = records(rt.alloc(), input)?;
-    assert_eq!(rt; rows.len(), 6);
-    assert!(rt; has_fields(&rows[0], &[b"match", b"1"]));
-    assert!(rt; has_fields(&rows[1], &[b"program", b"P1", b"1", b"a2", b"a1"]));
-    assert!(rt; has_fields(&rows[2], &[b"program", b"P2", b"01", b"a1", b"a2"]));
-    assert!(rt; has_fields(&rows[3], &[]));
-    assert!(rt; has_fields(&rows[4], &[b"applicant", b"a1", b"P1", b"P2"]));
-    assert!(rt; has_fields(&rows[5], &[b"applicant", b"a2", b"P2", b"P1"]));
+    let expected: [&[&[u8]]; 6] = [
+        &[b"match", b"1"],
+        &[b"program", b"P1", b"1", b"a2", b"a1"],
+        &[b"program", b"P2", b"01", b"a1", b"a2"],
+        &[],
+        &[b"applicant", b"a1", b"P1", b"P2"],
+        &[b"applicant", b"a2", b"P2", b"P1"],
+    ];
+    expect_rows(&rt, &rows, &expected);
     laws::worked_inputs();
     Ok(())
 }
@@ -37,9 +48,7 @@ fn spreadsheet_rows(rt: HostRuntime) -> Result<(), Fail> {
 #[test]
 fn quotes_and_marks(rt: HostRuntime) -> Result<(), Fail> {
     let rows = records(rt.alloc(), b"match,1\napplicant,\"a\"\"1\"\n")?;
-    assert_eq!(rt; rows.len(), 2);
-    assert!(rt; has_fields(&rows[0], &[b"match", b"1"]));
-    assert!(rt; has_fields(&rows[1], &[b"applicant", b"a\"1"]));
+    expect_rows(&rt, &rows, &[&[b"match", b"1"], &[b"applicant", b"a\"1"]]);
     let twice = records(rt.alloc(), b"\xEF\xBB\xBF\xEF\xBB\xBFmatch,1\n");
     assert!(rt; matches!(twice, Err(ListFault::TwoMarks)));
     assert!(rt; records(rt.alloc(), b"\xEF\xBB\xBF")?.is_empty());
@@ -47,18 +56,19 @@ fn quotes_and_marks(rt: HostRuntime) -> Result<(), Fail> {
     Ok(())
 }
 
-// An interrupted read is not made again by the same call, and the next one goes on.
+// An interrupted read is not made again by the same call, and the next call goes on.
 #[test]
 fn interrupted_read_fails(rt: HostRuntime) -> Result<(), Fail> {
     let mut source = Pieces::new(b"abc", 2, 1, ErrorKind::Interrupted);
     let mut tap = Tap::new(&mut source);
     let mut buf = [0u8; 8];
-    assert_eq!(rt; tap.read(&mut buf), Err(SourceFault));
-    assert_eq!(rt; (tap.reads(), tap.failures()), (1, 1));
-    assert_eq!(rt; tap.read(&mut buf), Ok(2));
-    assert!(rt; buf.starts_with(b"ab"));
-    assert_eq!(rt; (tap.reads(), tap.failures()), (2, 1));
+    let first = tap.read(&mut buf);
+    let second = tap.read(&mut buf);
+    let counted = (tap.reads(), tap.failures());
+    assert_eq!(rt; (first, second), (Err(SourceFault), Ok(2)));
+    assert_eq!(rt; counted, (2, 1));
     assert_eq!(rt; source.calls, 2);
+    assert!(rt; buf.starts_with(b"ab"));
     Ok(())
 }
 
@@ -83,19 +93,28 @@ fn limits(rt: HostRuntime) -> Result<(), Fail> {
     Ok(())
 }
 
-#[test]
-fn fields_of_a_row(rt: HostRuntime) -> Result<(), Fail> {
-    let row = Row::from_fields(rt.alloc(), &[b"a", b"", b"bc"])?;
+// The fields of a row one after another.
+fn joined(alloc: Global, row: &Row) -> Result<Vec<u8>, AllocError> {
+    let mut joined = Vec::new(alloc);
+    for field in row {
+        joined.extend_from_slice(field)?;
+    }
+    Ok(joined)
+}
+
+fn expect_three_fields(rt: &impl Abort, row: &Row) {
     assert_eq!(rt; row.len(), 3);
     assert!(rt; !row.is_empty());
     assert!(rt; row.field(2) == b"bc".as_slice());
     assert!(rt; row.get(1) == Some(b"".as_slice()));
     assert!(rt; row.get(3).is_none());
-    let mut joined = Vec::new(rt.alloc());
-    for field in &row {
-        joined.extend_from_slice(field)?;
-    }
-    assert!(rt; joined.as_slice() == b"abc".as_slice());
     assert_eq!(rt; row.iter().count(), 3);
+}
+
+#[test]
+fn fields_of_a_row(rt: HostRuntime) -> Result<(), Fail> {
+    let row = Row::from_fields(rt.alloc(), &[b"a", b"", b"bc"])?;
+    expect_three_fields(&rt, &row);
+    assert_eq!(rt; joined(rt.alloc(), &row)?.as_slice(), b"abc".as_slice());
     Ok(())
 }

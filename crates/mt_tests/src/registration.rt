@@ -11,6 +11,7 @@ use mt_lists::{ListFault, Row, records};
 use mt_model::{Agent, AppNo, CoupleNo, ProgNo};
 use mt_roster::{Roster, RosterError, roster};
 use std::alloc::Global;
+use std::process::Abort;
 use std::test::Fail;
 
 /// Adds a blank and a number to a text.
@@ -140,4 +141,12 @@ fn is_refused(alloc: Global, file: &str, (code, row, id): Fault<'_>) -> Result<b
         ),
         Err(RosterError::Memory) | Ok(_) => Ok(false),
     }
+}
+
+/// Each of these files is refused for its fault.
+fn expect_refused(rt: &impl Abort, alloc: Global, files: &[(&str, Fault<'_>)]) -> Result<(), Fail> {
+    for (file, fault) in files {
+        assert!(rt; is_refused(alloc, file, *fault)?, "{file}");
+    }
+    Ok(())
 }

@@ -152,84 +152,88 @@ fn expect_findings(
     Ok(())
 }
 
+const PLACES_THAT_ARE_NOT_ALLOWED: &[(&str, &str, &str)] = &[
+    (NO_PAIR, "- x -", "unlisted 1"),
+    (NO_PAIR, "- - x", "unlisted 1"),
+    (NO_PAIR, "- x y", "unlisted 1"),
+    (NO_PAIR, "- y x", "unlisted 1"),
+    (NO_PAIR, "y x x", "stable"),
+    (OTHER_HALF, "- x", "unlisted 0"),
+    (OTHER_HALF, "x -", "stable"),
+    (UNLISTED_MEMBER, "x y", "unlisted 1"),
+    (UNLISTED_MEMBER, "x x", "stable"),
+    (ONE_SIDE, "y x", "unlisted 1"),
+    (ONE_SIDE, "y y", "unlisted 1"),
+    (ONE_SIDE, "y -", "stable"),
+    (ELSEWHERE, "y x -", "unlisted 1"),
+    (ELSEWHERE, "y - -", "stable"),
+];
+
 #[test]
 fn places_that_are_not_allowed(rt: HostRuntime) -> Result<(), Fail> {
-    let matches = [
-        (NO_PAIR, "- x -", "unlisted 1"),
-        (NO_PAIR, "- - x", "unlisted 1"),
-        (NO_PAIR, "- x y", "unlisted 1"),
-        (NO_PAIR, "- y x", "unlisted 1"),
-        (NO_PAIR, "y x x", "stable"),
-        (OTHER_HALF, "- x", "unlisted 0"),
-        (OTHER_HALF, "x -", "stable"),
-        (UNLISTED_MEMBER, "x y", "unlisted 1"),
-        (UNLISTED_MEMBER, "x x", "stable"),
-        (ONE_SIDE, "y x", "unlisted 1"),
-        (ONE_SIDE, "y y", "unlisted 1"),
-        (ONE_SIDE, "y -", "stable"),
-        (ELSEWHERE, "y x -", "unlisted 1"),
-        (ELSEWHERE, "y - -", "stable"),
-    ];
-    expect_findings(&rt, rt.alloc(), &matches)
+    expect_findings(&rt, rt.alloc(), PLACES_THAT_ARE_NOT_ALLOWED)
 }
+
+const PROGRAMS_OVER_THEIR_QUOTAS: &[(&str, &str, &str)] = &[
+    (BETWEEN, "x x x", "over 0"),
+    (BETWEEN, "x - -", "stable"),
+    (OVER, "x x y", "over 0"),
+    (OVER, "- x y", "over 1"),
+    (OVER, "x - -", "stable"),
+    (ONE_POST, "x x - -", "over 0"),
+    (ONE_POST, "- - - -", "stable"),
+    (THREE_KINDS, "- x x y", "unlisted 3"),
+    (THREE_KINDS, "- x x -", "over 0"),
+    (THREE_KINDS, "- x - -", "single 0 by 0"),
+    (THREE_KINDS, "x - - y", "unlisted 0"),
+    (THREE_KINDS, "y x - -", "stable"),
+];
 
 #[test]
 fn programs_over_their_quotas(rt: HostRuntime) -> Result<(), Fail> {
-    let matches = [
-        (BETWEEN, "x x x", "over 0"),
-        (BETWEEN, "x - -", "stable"),
-        (OVER, "x x y", "over 0"),
-        (OVER, "- x y", "over 1"),
-        (OVER, "x - -", "stable"),
-        (ONE_POST, "x x - -", "over 0"),
-        (ONE_POST, "- - - -", "stable"),
-        (THREE_KINDS, "- x x y", "unlisted 3"),
-        (THREE_KINDS, "- x x -", "over 0"),
-        (THREE_KINDS, "- x - -", "single 0 by 0"),
-        (THREE_KINDS, "x - - y", "unlisted 0"),
-        (THREE_KINDS, "y x - -", "stable"),
-    ];
-    expect_findings(&rt, rt.alloc(), &matches)
+    expect_findings(&rt, rt.alloc(), PROGRAMS_OVER_THEIR_QUOTAS)
 }
+
+const AGENTS_THAT_BLOCK: &[(&str, &str, &str)] = &[
+    (SINGLES, "x -", "single 1 by 1"),
+    (SINGLES, "x z", "single 1 by 1"),
+    (SINGLES, "x y", "stable"),
+    (SINGLES, "- y", "single 0 by 0"),
+    (CHAIN, "P1 P2 -", "single 2 by 0"),
+    (CHAIN, "P2 P1 -", "stable"),
+    (PAIRS, "x - -", "couple 0 by 1"),
+    (PAIRS, "x z w", "couple 0 by 1"),
+    (PAIRS, "x z y", "stable"),
+    (ALL_FREE, "- - - -", "single 0 by 0"),
+    (ALL_FREE, "v - - -", "couple 0 by 0"),
+    (ALL_FREE, "v x y -", "single 3 by 0"),
+    (ALL_FREE, "v x y z", "stable"),
+    (BEHIND, "- - -", "single 2 by 0"),
+    (BEHIND, "- - z", "stable"),
+];
 
 #[test]
 fn agents_that_block(rt: HostRuntime) -> Result<(), Fail> {
-    let matches = [
-        (SINGLES, "x -", "single 1 by 1"),
-        (SINGLES, "x z", "single 1 by 1"),
-        (SINGLES, "x y", "stable"),
-        (SINGLES, "- y", "single 0 by 0"),
-        (CHAIN, "P1 P2 -", "single 2 by 0"),
-        (CHAIN, "P2 P1 -", "stable"),
-        (PAIRS, "x - -", "couple 0 by 1"),
-        (PAIRS, "x z w", "couple 0 by 1"),
-        (PAIRS, "x z y", "stable"),
-        (ALL_FREE, "- - - -", "single 0 by 0"),
-        (ALL_FREE, "v - - -", "couple 0 by 0"),
-        (ALL_FREE, "v x y -", "single 3 by 0"),
-        (ALL_FREE, "v x y z", "stable"),
-        (BEHIND, "- - -", "single 2 by 0"),
-        (BEHIND, "- - z", "stable"),
-    ];
-    expect_findings(&rt, rt.alloc(), &matches)
+    expect_findings(&rt, rt.alloc(), AGENTS_THAT_BLOCK)
 }
+
+const COUPLES_THAT_BLOCK_ONCE_THEY_ARE_TAKEN_OUT: &[(&str, &str, &str)] = &[
+    (BOTH, "x - -", "couple 0 by 0"),
+    (BOTH, "- x x", "stable"),
+    (EXCHANGE, "x y", "couple 0 by 0"),
+    (EXCHANGE, "y x", "stable"),
+    (OWN_ROOM, "- x y", "couple 0 by 0"),
+    (OWN_ROOM, "- w x", "single 0 by 0"),
+    (OWN_ROOM, "x - -", "couple 0 by 1"),
+    (HALF, "y - -", "couple 0 by 1"),
+    (HALF, "y x -", "stable"),
+    (NOWHERE, "x y", "couple 0 by 0"),
+    (NOWHERE, "y -", "stable"),
+];
 
 #[test]
 fn couples_that_block_once_they_are_taken_out(rt: HostRuntime) -> Result<(), Fail> {
-    let matches = [
-        (BOTH, "x - -", "couple 0 by 0"),
-        (BOTH, "- x x", "stable"),
-        (EXCHANGE, "x y", "couple 0 by 0"),
-        (EXCHANGE, "y x", "stable"),
-        (OWN_ROOM, "- x y", "couple 0 by 0"),
-        (OWN_ROOM, "- w x", "single 0 by 0"),
-        (OWN_ROOM, "x - -", "couple 0 by 1"),
-        (HALF, "y - -", "couple 0 by 1"),
-        (HALF, "y x -", "stable"),
-        (NOWHERE, "x y", "couple 0 by 0"),
-        (NOWHERE, "y -", "stable"),
-    ];
-    expect_findings(&rt, rt.alloc(), &matches)
+    expect_findings(&rt, rt.alloc(), COUPLES_THAT_BLOCK_ONCE_THEY_ARE_TAKEN_OUT)
 }
 
 // All 27 ways to place three applicants at two programs.

@@ -58,6 +58,22 @@ fn a_writer_that_takes_the_whole_text(rt: HostRuntime) {
 
 // Nothing is to be written, so the writer isn't asked and is flushed once. A second text through the same drain
 // fails, and the drain counts that.
+fn expect_two_texts(rt: &impl Abort, writer: &mut Narrow) {
+    let mut drain = Drain::new(writer);
+    let nothing = put_all(&mut drain, b"");
+    assert_eq!(rt;
+        (nothing.written, nothing.whole, drain.failures()),
+        (0, true, 0)
+    );
+    let some = put_all(&mut drain, TEXT);
+    assert_eq!(rt;
+        (some.written, some.whole, drain.failures()),
+        (10, false, 1)
+    );
+    let none = put_all(&mut drain, TEXT);
+    assert_eq!(rt; (none.written, none.whole, drain.failures()), (0, false, 2));
+}
+
 #[test]
 fn two_texts_through_one_drain(rt: HostRuntime) {
     let mut writer = Narrow {
@@ -68,17 +84,7 @@ fn two_texts_through_one_drain(rt: HostRuntime) {
         flushes: 0,
         taken: Vec::new(rt.alloc()),
     };
-    let mut drain = Drain::new(&mut writer);
-    assert_eq!(rt; drain.failures(), 0);
-    let nothing = put_all(&mut drain, b"");
-    assert_eq!(rt; (nothing.written, nothing.whole), (0, true));
-    assert_eq!(rt; drain.failures(), 0);
-    let some = put_all(&mut drain, TEXT);
-    assert_eq!(rt; (some.written, some.whole), (10, false));
-    assert_eq!(rt; drain.failures(), 1);
-    let none = put_all(&mut drain, TEXT);
-    assert_eq!(rt; (none.written, none.whole), (0, false));
-    assert_eq!(rt; drain.failures(), 2);
+    expect_two_texts(&rt, &mut writer);
     assert_eq!(rt; writer.taken.as_slice(), b"match,1,pu".as_slice());
     assert_eq!(rt; writer.flushes, 1);
 }

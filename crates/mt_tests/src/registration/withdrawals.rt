@@ -1,5 +1,5 @@
 //! Withdrawn rows: what is left has its numbers as if they had never been in the file.
-use crate::registration::{gives, is_refused};
+use crate::registration::{Fault, expect_refused, gives};
 use std::test::Fail;
 
 // Without P1 only P2 is left: it is program 0.
@@ -73,50 +73,49 @@ fn one_id_withdrawn_in_each_name_space(rt: HostRuntime) -> Result<(), Fail> {
     Ok(())
 }
 
+const FAULTS_OF_WITHDRAWALS: &[(&str, Fault<'static>)] = &[
+    // No row is withdrawn in version 1.
+    ("match,1\nprogram,P,1\nwithdraw,program,P\n", (13, 3, "")),
+    // The kind is told before the number of fields, and that before the id.
+    ("match,2\nprogram,P,1\nwithdraw,post,P\n", (13, 3, "")),
+    ("match,2\nprogram,P,1\nwithdraw,post\n", (13, 3, "")),
+    ("match,2\nwithdraw\n", (14, 2, "")),
+    ("match,2\nprogram,P,1\nwithdraw,program\n", (14, 3, "")),
+    ("match,2\nprogram,P,1\nwithdraw,program,P!,Q\n", (14, 3, "")),
+    ("match,2\nprogram,P,1\nwithdraw,program,P!\n", (15, 3, "")),
+    ("match,2\nprogram,P,1\nwithdraw,program,-\n", (15, 3, "")),
+    // A withdrawn id is still taken.
+    (
+        "match,2\napplicant,a\nwithdraw,applicant,a\napplicant,a\n",
+        (17, 4, "a"),
+    ),
+    (
+        "match,2\nprogram,P,1\nwithdraw,program,P\nwithdraw,program,P\n",
+        (18, 4, "P"),
+    ),
+    // Nothing is looked up before the first pass is over.
+    (
+        "match,2\nwithdraw,program,Q\nprogram,P,10000\n",
+        (16, 3, "P"),
+    ),
+    (
+        "match,2\nprogram,x,2,a,s,b\napplicant,s,x\ncouple,c,a,b,x,x\nwithdraw,applicant,a\n",
+        (22, 5, "a"),
+    ),
+    ("match,2\nwithdraw,program,Q\n", (22, 2, "Q")),
+    (
+        "match,2\nprogram,c,1\ncouple,c,a,b\nwithdraw,applicant,c\n",
+        (22, 4, "c"),
+    ),
+    // In the second pass the record decides before the code.
+    ("match,2\nwithdraw,couple,c\nprogram,P,1,z\n", (22, 2, "c")),
+    ("match,2\nprogram,P,1,z\nwithdraw,couple,c\n", (20, 2, "z")),
+    // Who is withdrawn may list and be listed, but must list who is registered.
+    ("match,2\nprogram,P,1,z\nwithdraw,program,P\n", (20, 2, "z")),
+];
+
 // Withdrawals have faults of their own, and what is withdrawn is still registered.
 #[test]
 fn faults_of_withdrawals(rt: HostRuntime) -> Result<(), Fail> {
-    for (file, fault) in [
-        // No row is withdrawn in version 1.
-        ("match,1\nprogram,P,1\nwithdraw,program,P\n", (13, 3, "")),
-        // The kind is told before the number of fields, and that before the id.
-        ("match,2\nprogram,P,1\nwithdraw,post,P\n", (13, 3, "")),
-        ("match,2\nprogram,P,1\nwithdraw,post\n", (13, 3, "")),
-        ("match,2\nwithdraw\n", (14, 2, "")),
-        ("match,2\nprogram,P,1\nwithdraw,program\n", (14, 3, "")),
-        ("match,2\nprogram,P,1\nwithdraw,program,P!,Q\n", (14, 3, "")),
-        ("match,2\nprogram,P,1\nwithdraw,program,P!\n", (15, 3, "")),
-        ("match,2\nprogram,P,1\nwithdraw,program,-\n", (15, 3, "")),
-        // A withdrawn id is still taken.
-        (
-            "match,2\napplicant,a\nwithdraw,applicant,a\napplicant,a\n",
-            (17, 4, "a"),
-        ),
-        (
-            "match,2\nprogram,P,1\nwithdraw,program,P\nwithdraw,program,P\n",
-            (18, 4, "P"),
-        ),
-        // Nothing is looked up before the first pass is over.
-        (
-            "match,2\nwithdraw,program,Q\nprogram,P,10000\n",
-            (16, 3, "P"),
-        ),
-        (
-            "match,2\nprogram,x,2,a,s,b\napplicant,s,x\ncouple,c,a,b,x,x\nwithdraw,applicant,a\n",
-            (22, 5, "a"),
-        ),
-        ("match,2\nwithdraw,program,Q\n", (22, 2, "Q")),
-        (
-            "match,2\nprogram,c,1\ncouple,c,a,b\nwithdraw,applicant,c\n",
-            (22, 4, "c"),
-        ),
-        // In the second pass the record decides before the code.
-        ("match,2\nwithdraw,couple,c\nprogram,P,1,z\n", (22, 2, "c")),
-        ("match,2\nprogram,P,1,z\nwithdraw,couple,c\n", (20, 2, "z")),
-        // Who is withdrawn may list and be listed, but must list who is registered.
-        ("match,2\nprogram,P,1,z\nwithdraw,program,P\n", (20, 2, "z")),
-    ] {
-        assert!(rt; is_refused(rt.alloc(), file, fault)?, "{file}");
-    }
-    Ok(())
+    expect_refused(&rt, rt.alloc(), FAULTS_OF_WITHDRAWALS)
 }

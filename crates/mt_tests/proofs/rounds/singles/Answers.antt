@@ -10,5 +10,5 @@ returns c =
     let market = c.args.roster.now.market in
     let formed = c.requires.registration.well_formed in
     let best = best_of_live market formed c.args.ranks.now.market (ap Ranked.market c.requires.ranks)
-        c.in_ok-matched.matched.places (c.in_ok-matched.ensures.best (c.finish.ensures.legal c.in_ok-floor.ensures.strict.legal)) in
+    c.in_ok-matched.matched.places (c.in_ok-matched.ensures.best (c.finish.ensures.legal c.in_ok-floor.ensures.strict.legal)) in
     singles_fit market formed c.in_ok-matched.matched.places (IsBest.is_stable best)
