@@ -87,7 +87,30 @@ fn publish(
     Ok(Some(published(alloc, roster, matched, proposals)?))
 }
 
-/// The text of the market's match, once the singles are matched and the couples have entered.
+/// The text of the market's match by its rank tables, once the singles are matched and the couples have entered.
+fn answer_by_ranks(
+    alloc: Global,
+    roster: &Roster,
+    ranks: &Ranks,
+    budget: u32,
+) -> Result<Vec<u8>, Refusal>
+    requires registration { IsRegistration roster.now }
+    requires ranks { ranks.now ≡ ranked_of roster.now.market }
+    ensures text { IfOk result (λ text. IsAnswerOfMarket roster.now budget 0 text.items) }
+    ensures refused { IfErr result (IsRefusalBy (IsAnswerOfMarket roster.now budget)) }
+{
+    let Ok(singles) = match_singles(alloc, roster, ranks) else {
+        return Err(Refusal::alone(OUT_OF_MEMORY));
+    };
+    let matched = with_couples(alloc, roster, ranks, singles.matched, budget)?;
+    match publish(alloc, roster, ranks, &matched, &singles.proposals) {
+        Ok(Some(text)) => Ok(text),
+        Ok(None) => unreachable!(),
+        Err(_) => Err(Refusal::alone(OUT_OF_MEMORY)),
+    }
+}
+
+/// The text of the market's match.
 pub(crate) fn answer_to_market(
     alloc: Global,
     roster: &Roster,
@@ -97,16 +120,8 @@ pub(crate) fn answer_to_market(
     ensures text { IfOk result (λ text. IsAnswerOfMarket roster.now budget 0 text.items) }
     ensures refused { IfErr result (IsRefusalBy (IsAnswerOfMarket roster.now budget)) }
 {
-    let Ok(ranks) = Ranks::build(alloc, roster) else {
-        return Err(Refusal::alone(OUT_OF_MEMORY));
-    };
-    let Ok(singles) = match_singles(alloc, roster, &ranks) else {
-        return Err(Refusal::alone(OUT_OF_MEMORY));
-    };
-    let matched = with_couples(alloc, roster, &ranks, singles.matched, budget)?;
-    match publish(alloc, roster, &ranks, &matched, &singles.proposals) {
-        Ok(Some(text)) => Ok(text),
-        Ok(None) => unreachable!(),
+    match Ranks::build(alloc, roster) {
+        Ok(ranks) => answer_by_ranks(alloc, roster, &ranks, budget),
         Err(_) => Err(Refusal::alone(OUT_OF_MEMORY)),
     }
 }
