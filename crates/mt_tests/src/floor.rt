@@ -111,14 +111,13 @@ fn expect_replies(
 fn expect_chain(
     rt: &impl Abort,
     alloc: Global,
+    ranks: &Ranks,
     events: &[Event],
     replies: &[Reply],
-) -> Result<(), Fail> {
-    let ranks = tables_of(alloc, CHAIN)?;
-    let mut floor = Floor::open(alloc, &ranks)?;
-    expect_replies(rt, &mut floor, &ranks, events, replies);
-    expect_chain_end(rt, alloc, &floor, &ranks)?;
-    Ok(())
+) -> Result<(), AllocError> {
+    let mut floor = Floor::open(alloc, ranks)?;
+    expect_replies(rt, &mut floor, ranks, events, replies);
+    expect_chain_end(rt, alloc, &floor, ranks)
 }
 
 #[test]
@@ -134,7 +133,8 @@ fn each_event_gets_its_reply(rt: HostRuntime) -> Result<(), Fail> {
         Reply::Noticed,
         Reply::NotDue,
     ];
-    expect_chain(&rt, rt.alloc(), &BY_WISHES, &replies)
+    let ranks = tables_of(rt.alloc(), CHAIN)?;
+    Ok(expect_chain(&rt, rt.alloc(), &ranks, &BY_WISHES, &replies)?)
 }
 
 #[test]
@@ -147,7 +147,8 @@ fn the_last_applicant_may_be_first(rt: HostRuntime) -> Result<(), Fail> {
         Reply::KeptInstead(AppNo(2)),
         Reply::Noticed,
     ];
-    expect_chain(&rt, rt.alloc(), &FROM_THE_LAST, &replies)
+    let ranks = tables_of(rt.alloc(), CHAIN)?;
+    Ok(expect_chain(&rt, rt.alloc(), &ranks, &FROM_THE_LAST, &replies)?)
 }
 
 // Makes the events on a floor on which some are due, and expects so many of them to have been due.
@@ -172,21 +173,63 @@ fn expect_none_due(rt: &impl Abort, floor: &mut Floor, ranks: &Ranks, events: &[
     assert_eq!(rt; finish(floor, ranks), 0);
 }
 
-// So many of the events are due from the opening floor, which ends as it must; and then none is due any more.
-fn expect_run(rt: &impl Abort, alloc: Global, events: &[Event], due: u64) -> Result<(), Fail> {
-    let ranks = tables_of(alloc, CHAIN)?;
-    let mut floor = Floor::open(alloc, &ranks)?;
-    expect_due(rt, &mut floor, &ranks, events, due);
-    expect_chain_end(rt, alloc, &floor, &ranks)?;
-    expect_none_due(rt, &mut floor, &ranks, events);
-    expect_chain_end(rt, alloc, &floor, &ranks)?;
-    Ok(())
+// So many of the events are due, the floor ends as it must, and then none is due any more.
+fn expect_end(
+    rt: &impl Abort,
+    alloc: Global,
+    floor: &mut Floor,
+    ranks: &Ranks,
+    events: &[Event],
+    due: u64,
+) -> Result<(), AllocError>
+    requires opened { IsOpenedWith ranks.now.market floor.old }
+    requires recorded { IsRecorded ranks.now.market (floor_of ranks.now.market floor.old) }
+{
+    expect_due(rt, floor, ranks, events, due);
+    expect_chain_end(rt, alloc, floor, ranks)?;
+    expect_none_due(rt, floor, ranks, events);
+    expect_chain_end(rt, alloc, floor, ranks)
+}
+
+fn expect_run(
+    rt: &impl Abort,
+    alloc: Global,
+    ranks: &Ranks,
+    events: &[Event],
+    due: u64,
+) -> Result<(), AllocError> {
+    let mut floor = Floor::open(alloc, ranks)?;
+    expect_end(rt, alloc, &mut floor, ranks, events, due)
 }
 
 #[test]
 fn runs_count_the_events_that_were_due(rt: HostRuntime) -> Result<(), Fail> {
-    expect_run(&rt, rt.alloc(), &BY_WISHES, 8)?;
-    expect_run(&rt, rt.alloc(), &FROM_THE_LAST, 6)
+    let ranks = tables_of(rt.alloc(), CHAIN)?;
+    expect_run(&rt, rt.alloc(), &ranks, &BY_WISHES, 8)?;
+    Ok(expect_run(&rt, rt.alloc(), &ranks, &FROM_THE_LAST, 6)?)
+}
+
+// From this floor finish makes so many proposals.
+fn expect_finished(
+    rt: &impl Abort,
+    alloc: Global,
+    floor: &mut Floor,
+    ranks: &Ranks,
+    proposals: u64,
+) -> Result<(), AllocError>
+    requires opened { IsOpenedWith ranks.now.market floor.old }
+    requires recorded { IsRecorded ranks.now.market (floor_of ranks.now.market floor.old) }
+{
+    assert!(rt; !quiet(floor, ranks));
+    assert_eq!(rt; finish(floor, ranks), proposals);
+    expect_chain_end(rt, alloc, floor, ranks)
+}
+
+#[test]
+fn the_chain_takes_five_proposals(rt: HostRuntime) -> Result<(), Fail> {
+    let ranks = tables_of(rt.alloc(), CHAIN)?;
+    let mut floor = Floor::open(rt.alloc(), &ranks)?;
+    Ok(expect_finished(&rt, rt.alloc(), &mut floor, &ranks, 5)?)
 }
 
 // After the first five events one proposal is to come: a1 has displaced a2 at P2, so a2 proposes to P1 and displaces
@@ -196,19 +239,7 @@ fn finish_goes_on_from_any_floor(rt: HostRuntime) -> Result<(), Fail> {
     let ranks = tables_of(rt.alloc(), CHAIN)?;
     let mut floor = Floor::open(rt.alloc(), &ranks)?;
     expect_due(&rt, &mut floor, &ranks, &BY_WISHES[..5], 5);
-    assert!(rt; !quiet(&floor, &ranks));
-    assert_eq!(rt; finish(&mut floor, &ranks), 1);
-    expect_chain_end(&rt, rt.alloc(), &floor, &ranks)?;
-    Ok(())
-}
-
-#[test]
-fn the_chain_takes_five_proposals(rt: HostRuntime) -> Result<(), Fail> {
-    let ranks = tables_of(rt.alloc(), CHAIN)?;
-    let mut floor = Floor::open(rt.alloc(), &ranks)?;
-    assert_eq!(rt; finish(&mut floor, &ranks), 5);
-    expect_chain_end(&rt, rt.alloc(), &floor, &ranks)?;
-    Ok(())
+    Ok(expect_finished(&rt, rt.alloc(), &mut floor, &ranks, 1)?)
 }
 
 // None of the events is due.
@@ -223,37 +254,48 @@ fn expect_not_due(rt: &impl Abort, floor: &mut Floor, ranks: &Ranks, events: &[E
     }
 }
 
+fn expect_no_single(rt: &impl Abort, floor: &mut Floor, ranks: &Ranks)
+    requires opened { IsOpenedWith ranks.now.market floor.old }
+    requires recorded { IsRecorded ranks.now.market (floor_of ranks.now.market floor.old) }
+{
+    expect_not_due(rt, floor, ranks, &OF_NO_SINGLE);
+    expect_reply(rt, floor, ranks, Event::Propose(AppNo(0)), Reply::Kept);
+    expect_not_due(rt, floor, ranks, &OF_NO_SINGLE);
+}
+
 #[test]
 fn only_singles_have_events(rt: HostRuntime) -> Result<(), Fail> {
     let ranks = tables_of(rt.alloc(), BETWEEN)?;
     let mut floor = Floor::open(rt.alloc(), &ranks)?;
-    expect_not_due(&rt, &mut floor, &ranks, &OF_NO_SINGLE);
-    let of_the_single = Event::Propose(AppNo(0));
-    expect_reply(&rt, &mut floor, &ranks, of_the_single, Reply::Kept);
-    expect_not_due(&rt, &mut floor, &ranks, &OF_NO_SINGLE);
+    expect_no_single(&rt, &mut floor, &ranks);
     Ok(())
 }
 
-// a1 stands at P1 and is held, so that it has nothing to propose or to learn; nobody else stands. Once a3 has
-// displaced it, it learns that before it proposes.
+// Where a1 stands at P1 and is held, it has nothing to propose or to learn; nobody else stands.
+const TOO_EARLY: [Event; 4] = [
+    Event::Propose(AppNo(0)),
+    Event::Notice(AppNo(0)),
+    Event::Notice(AppNo(1)),
+    Event::Notice(AppNo(2)),
+];
+
+// Once a3 has displaced a1, it learns that before it proposes.
+fn expect_waiting(rt: &impl Abort, floor: &mut Floor, ranks: &Ranks)
+    requires opened { IsOpenedWith ranks.now.market floor.old }
+    requires recorded { IsRecorded ranks.now.market (floor_of ranks.now.market floor.old) }
+{
+    expect_reply(rt, floor, ranks, Event::Propose(AppNo(0)), Reply::Kept);
+    expect_not_due(rt, floor, ranks, &TOO_EARLY);
+    let displaced = Reply::KeptInstead(AppNo(0));
+    expect_reply(rt, floor, ranks, Event::Propose(AppNo(2)), displaced);
+    expect_not_due(rt, floor, ranks, &TOO_EARLY[..1]);
+    expect_reply(rt, floor, ranks, Event::Notice(AppNo(0)), Reply::Noticed);
+}
+
 #[test]
 fn events_wait_until_they_are_due(rt: HostRuntime) -> Result<(), Fail> {
     let ranks = tables_of(rt.alloc(), CHAIN)?;
     let mut floor = Floor::open(rt.alloc(), &ranks)?;
-    let first = Event::Propose(AppNo(0));
-    expect_reply(&rt, &mut floor, &ranks, first, Reply::Kept);
-    let events = [
-        Event::Propose(AppNo(0)),
-        Event::Notice(AppNo(0)),
-        Event::Notice(AppNo(1)),
-        Event::Notice(AppNo(2)),
-    ];
-    expect_not_due(&rt, &mut floor, &ranks, &events);
-    let displaced = Reply::KeptInstead(AppNo(0));
-    let third = Event::Propose(AppNo(2));
-    expect_reply(&rt, &mut floor, &ranks, third, displaced);
-    expect_not_due(&rt, &mut floor, &ranks, &events[..1]);
-    let notice = Event::Notice(AppNo(0));
-    expect_reply(&rt, &mut floor, &ranks, notice, Reply::Noticed);
+    expect_waiting(&rt, &mut floor, &ranks);
     Ok(())
 }

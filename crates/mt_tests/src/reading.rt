@@ -72,21 +72,32 @@ fn interrupted_read_fails(rt: HostRuntime) -> Result<(), Fail> {
     Ok(())
 }
 
+// An input of ten bytes, so many in each read, under limits of ten and of nine bytes.
+fn expect_limit(rt: &impl Abort, alloc: Global, size: usize) -> Result<(), ReadEnd> {
+    let text = b"0123456789".as_slice();
+    let mut tap = Tap::new(Pieces::new(text, size, 0, ErrorKind::Other));
+    assert_eq!(rt; read_all(alloc, &mut tap, 10)?.as_slice(), text);
+    assert_eq!(rt; tap.failures(), 0);
+    let mut tap = Tap::new(Pieces::new(text, size, 0, ErrorKind::Other));
+    let result = read_all(alloc, &mut tap, 9);
+    assert!(rt; matches!(result, Err(ReadEnd::TooLarge)));
+    Ok(())
+}
+
 #[test]
-fn limits(rt: HostRuntime) -> Result<(), Fail> {
+fn an_input_of_the_limit_and_one_more(rt: HostRuntime) -> Result<(), Fail> {
+    for size in [1, 3, 10, 100] {
+        expect_limit(&rt, rt.alloc(), size)?;
+    }
+    Ok(())
+}
+
+#[test]
+fn an_input_without_end_and_one_without_a_byte(rt: HostRuntime) -> Result<(), Fail> {
     let mut endless = Tap::new(Endless { size: 1 });
     let result = read_all(rt.alloc(), &mut endless, 5);
     assert!(rt; matches!(result, Err(ReadEnd::TooLarge)));
     assert_eq!(rt; endless.reads(), 6);
-    let text = b"0123456789".as_slice();
-    for size in [1, 3, 10, 100] {
-        let mut tap = Tap::new(Pieces::new(text, size, 0, ErrorKind::Other));
-        assert_eq!(rt; read_all(rt.alloc(), &mut tap, 10)?.as_slice(), text);
-        let mut tap = Tap::new(Pieces::new(text, size, 0, ErrorKind::Other));
-        let result = read_all(rt.alloc(), &mut tap, 9);
-        assert!(rt; matches!(result, Err(ReadEnd::TooLarge)));
-        assert_eq!(rt; tap.failures(), 0);
-    }
     let mut empty = Tap::new(b"".as_slice());
     assert!(rt; read_all(rt.alloc(), &mut empty, 0)?.is_empty());
     assert_eq!(rt; empty.reads(), 1);

@@ -117,10 +117,15 @@ fn shown(alloc: Global, roster: &Roster) -> Result<Vec<u8>, Fail> {
     Ok(text)
 }
 
+/// Whether a roster is the one of this text.
+fn shows(alloc: Global, roster: &Roster, market: &str) -> Result<bool, Fail> {
+    Ok(shown(alloc, roster)?.as_slice() == market.as_bytes())
+}
+
 /// Whether records are accepted, and their market is the one of this text.
 fn make(alloc: Global, rows: &[Row], market: &str) -> Result<bool, Fail> {
     let roster = roster(alloc, rows)?;
-    Ok(shown(alloc, &roster)?.as_slice() == market.as_bytes())
+    shows(alloc, &roster, market)
 }
 
 /// Whether a file is accepted, and its market is the one of this text.

@@ -11,6 +11,7 @@ use mt_model::{Match, ProgNo};
 use mt_ranks::Ranks;
 use mt_roster::Roster;
 use std::alloc::{AllocError, Global};
+use std::process::Abort;
 use std::test::Fail;
 
 // The best match of the singles.
@@ -25,25 +26,36 @@ fn singles(alloc: Global, roster: &Roster, ranks: &Ranks) -> Result<Match, Alloc
     Ok(matched)
 }
 
-// What the couples of a file come to.
-fn entered(alloc: Global, file: &[u8], budget: u32) -> Result<Result<Entered, CoupleEnd>, Fail> {
-    let roster = roster_of(alloc, file)?;
-    let ranks = Ranks::build(alloc, &roster)?;
-    let singles = singles(alloc, &roster, &ranks)?;
-    Ok(enter_all(alloc, &roster, &ranks, singles, budget))
+// What the couples come to, after the best match of the singles.
+fn enter(alloc: Global, roster: &Roster, ranks: &Ranks, budget: u32) -> Result<Entered, CoupleEnd>
+    requires registration { IsRegistration roster.now }
+    requires ranks { ranks.now ≡ ranked_of roster.now.market }
+{
+    let singles = singles(alloc, roster, ranks)?;
+    enter_all(alloc, roster, ranks, singles, budget)
 }
 
-// The couple takes x and y, s takes y and drives it out, the couple takes x alone, and s isn't taken there: s, a and b
-// are the applicants 0, 1 and 2, x and y the programs 0 and 1.
+fn entered(alloc: Global, roster: &Roster, budget: u32) -> Result<Entered, CoupleEnd>
+    requires { IsRegistration roster.now }
+{
+    let ranks = Ranks::build(alloc, roster)?;
+    enter(alloc, roster, &ranks, budget)
+}
+
+// s, a and b are the applicants 0, 1 and 2, x and y the programs 0 and 1.
+fn expect_half_a_pair(rt: &impl Abort, ended: &Entered) {
+    let places = [Some(ProgNo(1)), Some(ProgNo(0)), None];
+    assert_eq!(rt; ended.matched.places.as_slice(), places.as_slice());
+    assert_eq!(rt; ended.rounds, 4);
+}
+
+// The couple takes x and y, s takes y and drives it out, the couple takes x alone, and s isn't taken there.
 #[test]
 fn a_couple_takes_half_a_pair_in_four_rounds(rt: HostRuntime) -> Result<(), Fail> {
-    for budget in [4, 1_000_000] {
-        let ended = entered(rt.alloc(), HALF_PAIR, budget)??;
-        let places = [Some(ProgNo(1)), Some(ProgNo(0)), None];
-        assert_eq!(rt; ended.matched.places.as_slice(), places.as_slice());
-        assert_eq!(rt; ended.rounds, 4);
-    }
-    let spent = entered(rt.alloc(), HALF_PAIR, 3)?;
+    let roster = roster_of(rt.alloc(), HALF_PAIR)?;
+    expect_half_a_pair(&rt, &entered(rt.alloc(), &roster, 1_000_000)?);
+    expect_half_a_pair(&rt, &entered(rt.alloc(), &roster, 4)?);
+    let spent = entered(rt.alloc(), &roster, 3);
     assert!(rt; matches!(spent, Err(CoupleEnd::BudgetSpent)));
     Ok(())
 }
