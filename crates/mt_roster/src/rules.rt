@@ -25,6 +25,20 @@ impl Model for Rules {
     ghost inverse = { λ v. record { limits = v.limits; withdrawals = v.withdrawals; half_pairs = v.half_pairs } };
 }
 
+/// The rules of version 1.
+const VERSION_1: Rules = Rules {
+    limits: LIMITS,
+    withdrawals: false,
+    half_pairs: false,
+};
+
+/// The rules of version 2.
+const VERSION_2: Rules = Rules {
+    limits: LIMITS_2,
+    withdrawals: true,
+    half_pairs: true,
+};
+
 /// The rules of the version that a record names, which is exactly `match`, `1` or `match`, `2`.
 pub(crate) fn rules_of(row: &Row) -> Option<Rules>
     ensures { result ≡ rules_of row.now }
@@ -34,17 +48,9 @@ pub(crate) fn rules_of(row: &Row) -> Option<Rules>
     }
     let number = row.field(1);
     if number == b"1".as_slice() {
-        Some(Rules {
-            limits: LIMITS,
-            withdrawals: false,
-            half_pairs: false,
-        })
+        Some(VERSION_1)
     } else if number == b"2".as_slice() {
-        Some(Rules {
-            limits: LIMITS_2,
-            withdrawals: true,
-            half_pairs: true,
-        })
+        Some(VERSION_2)
     } else {
         None
     }
