@@ -1,8 +1,12 @@
 //! The program `nrmatch`: the residency match of one CSV file.
 #![tactic(auto)]
 
-ghost use Rattle.std.specs.Prelude.{IsTrue};
-ghost use Rattle.mt_model.specs.Text.{is_known_code};
+ghost use Rattle.std.specs.Prelude.{◌≡◌, ◌+◌, ◌<◌, ◌^◌, [], false, true, IsTrue};
+ghost use Rattle.mt_app.specs.Program.{IsExitFor, IsRun, IsTold};
+ghost use Rattle.mt_args.specs.CommandLine.{texts_of};
+ghost use Rattle.mt_model.specs.Text.{is_known_code, refused as refused_text};
+ghost use Rattle.mt_report.specs.Drains.{contents_of, failures_of};
+ghost use Rattle.mt_run.specs.Status.{status_of};
 
 use mt_args::{AskEnd, Asked, asked};
 use mt_lists::Tap;
@@ -35,23 +39,27 @@ fn words_of(rt: &HostRuntime) -> io::Result<Vec<String>> {
 }
 
 /// Runs the match of what the reader gives, and gives the exit status.
-fn run_match<R: Read + Drop, W: Write + Drop>(
+fn run_match<R: Read + Drop, W: Write>(
     alloc: Global,
     reader: R,
-    writer: W,
+    drain: &mut Drain<W>,
     options: Options,
-) -> u8 {
-    let mut tap = Tap::new(reader);
-    let mut drain = Drain::new(writer);
-    run(alloc, &mut tap, &mut drain, options).status()
+) -> u8
+    requires { failures_of drain.old + 1 < 2 ^ 64 }
+    ensures { IsRun (R.remaining reader) options.budget (contents_of W.contents drain.old) (contents_of W.contents drain.new) result }
+{
+    run(alloc, &mut Tap::new(reader), drain, options).status()
 }
 
 /// Writes the refusal of a run that can't begin, and gives the exit status.
-fn refuse<W: Write + Drop>(writer: W, code: u16) -> u8
-    requires { IsTrue (is_known_code code) }
+fn refuse<W: Write>(drain: &mut Drain<W>, code: u16) -> u8
+    requires known { IsTrue (is_known_code code) }
+    requires failures { failures_of drain.old + 1 < 2 ^ 64 }
+    ensures { IsTold (refused_text code 0 []) (status_of code true) (status_of code false)
+        (contents_of W.contents drain.old) (contents_of W.contents drain.new) result }
 {
     let line = refused(code, 0, b"");
-    let wrote = put_all(&mut Drain::new(writer), line.as_bytes());
+    let wrote = put_all(drain, line.as_bytes());
     let ended = Ended {
         code,
         written: wrote.written,
@@ -61,31 +69,40 @@ fn refuse<W: Write + Drop>(writer: W, code: u16) -> u8
 }
 
 /// Writes the help, and gives the exit status.
-fn help<W: Write + Drop>(writer: W, text: &str) -> u8 {
-    let wrote = put_all(&mut Drain::new(writer), text.as_bytes());
+fn help<W: Write>(drain: &mut Drain<W>, text: &str) -> u8
+    requires { failures_of drain.old + 1 < 2 ^ 64 }
+    ensures { IsTold text.now 0 5 (contents_of W.contents drain.old) (contents_of W.contents drain.new) result }
+{
+    let wrote = put_all(drain, text.as_bytes());
     if wrote.whole { 0 } else { UNWRITTEN }
 }
 
 /// Writes what is wrong with the command line, and gives the exit status.
-fn misuse<W: Write + Drop>(writer: W, text: &str) -> u8 {
-    put_all(&mut Drain::new(writer), text.as_bytes());
+fn misuse<W: Write>(drain: &mut Drain<W>, text: &str) -> u8
+    requires { failures_of drain.old + 1 < 2 ^ 64 }
+    ensures { IsTold text.now 64 64 (contents_of W.contents drain.old) (contents_of W.contents drain.new) result }
+{
+    put_all(drain, text.as_bytes());
     MISUSE
 }
 
 /// Does what the words ask for, and gives the exit status.
-fn obey(rt: &HostRuntime, words: &[String]) -> u8 {
+fn obey(rt: &HostRuntime, words: &[String]) -> u8
+    ensures { IsExitFor (texts_of words.now) result }
+{
     let alloc = rt.alloc();
+    let mut out = Drain::new(rt.stdout());
     match asked(alloc, words) {
         Ok(Asked::Run { file, options }) => match file {
             Some(path) => match File::open(rt, path.as_str()) {
-                Ok(file) => run_match(alloc, file, rt.stdout(), options),
-                Err(_) => refuse(rt.stdout(), READ_FAULT),
+                Ok(file) => run_match(alloc, file, &mut out, options),
+                Err(_) => refuse(&mut out, READ_FAULT),
             },
-            None => run_match(alloc, rt.stdin(), rt.stdout(), options),
+            None => run_match(alloc, rt.stdin(), &mut out, options),
         },
-        Ok(Asked::Help(text)) => help(rt.stdout(), text.as_str()),
-        Err(AskEnd::Usage(text)) => misuse(rt.stderr(), text.as_str()),
-        Err(AskEnd::Memory) => refuse(rt.stdout(), OUT_OF_MEMORY),
+        Ok(Asked::Help(text)) => help(&mut out, text.as_str()),
+        Err(AskEnd::Usage(text)) => misuse(&mut Drain::new(rt.stderr()), text.as_str()),
+        Err(AskEnd::Memory) => refuse(&mut out, OUT_OF_MEMORY),
     }
 }
 
@@ -93,8 +110,10 @@ fn main(rt: HostRuntime) -> ExitCode {
     let status = match words_of(&rt) {
         Ok(words) => obey(&rt, words.as_slice()),
         Err(error) => match error.kind() {
-            ErrorKind::OutOfMemory => refuse(rt.stdout(), OUT_OF_MEMORY),
-            _ => misuse(rt.stderr(), NO_TEXT),
+            ErrorKind::OutOfMemory => {
+                refuse(&mut Drain::new(rt.stdout()), OUT_OF_MEMORY)
+            }
+            _ => misuse(&mut Drain::new(rt.stderr()), NO_TEXT),
         },
     };
     ExitCode::from(status)

@@ -12,7 +12,8 @@ use Rattle.mt_model.specs.Registration.Records.{Rules, Record, ProgramRecord, Ap
 use Rattle.mt_model.specs.Registration.Rows.{id_of}
 use Rattle.mt_model.specs.Registration.Passes.{Numbered, numbered_from, contents, first_of, on_result, are_too_many, says_twice, registered_before, clash, next_record, first_pass, second_pass, unknown_id}
 use Rattle.mt_model.specs.Registration.Numbering.{registered}
-use Rattle.mt_model.specs.Laws.Registration.{is_fault_code, FaultCodes}
+use Rattle.mt_model.specs.Laws.Registration.{FaultCodes}
+use Rattle.mt_model.specs.Text.{is_fault_code}
 
 -- the code of what is charged, where something is
 abbrev charged : {X : Type 0} → Result X Charge → Bool

@@ -18,6 +18,7 @@ pub mod LiveLemmas
 pub mod NumberingFacts
 pub mod PassFacts
 pub mod PlacesFacts
+pub mod RefusalLine
 pub mod RegisteredFacts
 pub mod RoundsAgents
 pub mod RoundsCounted

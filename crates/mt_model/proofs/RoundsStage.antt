@@ -9,7 +9,7 @@ use Rattle.mt_model.specs.Matching.{Places, place_of, options, holds, none_place
 use Rattle.mt_model.specs.Stability.{has_own_option, fits, blocks, stable}
 use Rattle.mt_model.specs.WellFormed.{IsMember, IsWellFormed}
 use Rattle.mt_model.specs.Rounds.{Work, has_entered, round, round_of, settled, entered, stage}
-use Rattle.mt_model.specs.Laws.Rounds.{is_on, IsRoundState, IsFittingState, StageIsStable, StageFits}
+use Rattle.mt_model.specs.Laws.Rounds.{is_on, IsRoundState, IsFittingState, FirstCoupleWaits, NextCoupleWaits, LastListIsStable, StageIsStable, StageFits}
 use Rattle.mt_model.specs.declared.numbers.Agent.{Agent}
 use Rattle.mt_model.specs.declared.numbers.Agent.TheVariants.{Single, Couple}
 use Rattle.mt_model.proofs.RoundsLists.{In, found, finds}
@@ -217,6 +217,17 @@ stage_from_stable m wf places h budget r e =
 -- from the best match of the singles a stage ends in a stable match
 pub stage_is_stable_lem : StageIsStable
 stage_is_stable_lem m wf places best = stage_from_stable m wf places best.is_stable
+
+-- so each couple waits in the state that a round keeps
+pub first_couple_waits_lem : FirstCoupleWaits
+first_couple_waits_lem m wf places best l = couple_enters m wf 0 places l (singles_settled m wf places best.is_stable)
+
+pub next_couple_waits_lem : NextCoupleWaits
+next_couple_waits_lem m wf k places s l = couple_enters m wf (k + 1) places l (couple_settles m wf k places s)
+
+-- and after the last one's rounds the match is stable
+pub last_list_is_stable_lem : LastListIsStable
+last_list_is_stable_lem m wf k places s e = all_settled m wf places (subst (λ n. IsSettled m n places) e (couple_settles m wf k places s))
 
 -- a couple comes onto the empty list, whatever blocks
 couple_waits : (m : Market) → IsWellFormed m → (k : ℕ) (places : Places) → k < length m.couples → fits m places ≡ true

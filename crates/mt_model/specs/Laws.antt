@@ -5,4 +5,5 @@ pub mod Rounds
 pub mod Rural
 pub mod Singles
 pub mod Taken
+pub mod Text
 pub mod Verdict

@@ -1,9 +1,12 @@
 -- What the program writes: the text of a match, or one refusal line. This project's own format.
-use Rattle.std.specs.Prelude.{ℕ, ◌-◌, Bool, not, ◌==◌, List, [], ◌∷◌, ◌++◌, length, Option, Some, None, is_some, slice_index_or, codes, decimal, if◌then◌else◌}
+use Rattle.std.specs.Prelude.{◌≡◌, ℕ, ◌-◌, Bool, true, not, ◌&&◌, ◌==◌, nat_le, List, [], ◌∷◌, ◌++◌, length, Option, Some, None, is_some, slice_index_or, codes, decimal, IsTrue, IsFalse, if◌then◌else◌}
 use Rattle.std.specs.List.{flat_map, join_with_byte, list_any}
 use Rattle.mt_model.specs.Lists.{below, count, total_below}
 use Rattle.mt_model.specs.Market.{Market, Names, applicants, program_of}
 use Rattle.mt_model.specs.Matching.{Places, place_of, filled}
+use Rattle.mt_model.specs.Registration.Faults.{no_version, not_registered}
+use Rattle.mt_model.specs.Registration.Ids.{Bytes, is_id}
+use Rattle.mt_model.specs.declared.limits.TheConstants.{LIMITS_2}
 
 -- a line: its fields with commas between them, and a line feed
 abbrev pub line : List (List ℕ) → List ℕ
@@ -59,6 +62,22 @@ refusals =
 
 abbrev pub is_known_code : ℕ → Bool
 is_known_code code = list_any (λ r. r.0 == code) refusals
+
+-- the codes of the faults of a file, which are the known ones from 12 to 22: only they tell a record or an id
+abbrev pub is_fault_code : ℕ → Bool
+is_fault_code code = is_known_code code && nat_le no_version code && nat_le code not_registered
+
+-- no byte, or an id, which has 64 bytes at most
+abbrev pub is_none_or_id : Bytes → Bool
+is_none_or_id [] = true
+is_none_or_id (byte ∷ bytes) = is_id LIMITS_2.id_bytes (byte ∷ bytes)
+
+-- What a refusal line may say: a known code; an id or none; and neither a record nor an id where the code is no
+-- fault of a file.
+pub record IsNamedRefusal (code row : ℕ) (id : Bytes) : Type 0 where
+  pub known : IsTrue (is_known_code code)
+  pub is_id : IsTrue (is_none_or_id id)
+  pub alone : IsFalse (is_fault_code code) → (row ≡ 0) × (id ≡ [])
 
 abbrev pub name_among : List (ℕ × List ℕ) → ℕ → List ℕ
 name_among [] code = []

@@ -7,6 +7,7 @@ mod rounds;
 mod rural_law;
 mod singles;
 mod taken;
+mod text;
 mod verdict;
 
 pub use floors::{
@@ -18,7 +19,8 @@ pub use floors::{
 pub use live::live_market_agrees;
 pub use registration::{accepted_is_registration, fault_codes, versions_agree};
 pub use rounds::{
-    premises_of_rounds, round_fits, round_keeps, stage_fits, stage_is_stable, stage_rounds,
+    first_couple_waits, last_list_is_stable, next_couple_waits, premises_of_rounds, round_fits,
+    round_keeps, stage_fits, stage_is_stable, stage_rounds,
 };
 pub use rural_law::{legal_best, rural};
 pub use singles::{
@@ -30,4 +32,5 @@ pub use taken::{
     half_pair_taken, never_twice_at_one, pair_taken, same_program_taken, single_taken,
     taken_in_examples,
 };
+pub use text::refusal_is_one_record;
 pub use verdict::{stable_verdict, verdict_in_words};

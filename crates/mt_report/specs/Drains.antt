@@ -1,10 +1,13 @@
--- What a clause reads of a drain: how often its writer failed, and the bytes that the writer holds, where
--- it tells them.
-use Rattle.std.specs.Prelude.{ℕ, List, Option}
+-- What a clause reads of a drain: how often its writer failed, whether no byte that it took waits for a flush, and the
+-- bytes that the writer holds, where it tells them.
+use Rattle.std.specs.Prelude.{ℕ, Bool, List, Option}
 use Rattle.mt_report.specs.declared.drain.Drain.{Drain}
 
 abbrev pub failures_of : {W : Type 0} → Drain W → ℕ
 failures_of d = d.failures
+
+abbrev pub is_flushed : {W : Type 0} → Drain W → Bool
+is_flushed d = d.flushed
 
 abbrev pub contents_of : {W : Type 0} → (W → Option (List ℕ)) → Drain W → Option (List ℕ)
 contents_of contents d = contents d.writer

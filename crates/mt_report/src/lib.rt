@@ -4,7 +4,9 @@
 mod drain;
 mod refusal;
 mod text;
+mod writing;
 
-pub use drain::{Drain, Wrote, put_all};
+pub use drain::Drain;
 pub use refusal::{RefusalLine, refused};
 pub use text::published;
+pub use writing::{Wrote, put_all};

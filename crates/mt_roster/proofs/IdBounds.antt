@@ -16,7 +16,8 @@ use Rattle.mt_model.specs.Registration.Records.{Rules, Record, ProgramRecord, Ap
 use Rattle.mt_model.specs.Registration.Rows.{id_of, ids_of, applicant_ids}
 use Rattle.mt_model.specs.Registration.Passes.{Numbered, numbered_from, contents, first_of, first_in, first_not_in, on_result, are_too_many, says_twice, registered_before, clash, next_record, first_pass, second_pass, unknown_id}
 use Rattle.mt_model.specs.Registration.Numbering.{registered}
-use Rattle.mt_roster.specs.Laws.{is_none_or_id, FaultIds}
+use Rattle.mt_model.specs.Text.{is_none_or_id}
+use Rattle.mt_roster.specs.Laws.{FaultIds}
 use Rattle.mt_roster.specs.Unknown.{named}
 
 both : (a b : Bool) → a ≡ true → b ≡ true → (a && b) ≡ true

@@ -1,15 +1,15 @@
 -- The first fault of a file's records is their answer.
-use Rattle.std.proofs.Common.{◌≡◌, ℕ, true, ◌&&◌, List, Result, Err, refl, sym, subst, ap, ◌∙◌, nat_le}
+use Rattle.std.proofs.Common.{◌≡◌, ℕ, true, ◌&&◌, List, Option, Some, None, Result, Ok, Err, refl, sym, subst, ap, ◌∙◌, nat_le}
 use Rattle.std.proofs.lemmas.Bool.{and_parts, true≢false}
-use Rattle.std.specs.Prelude.{◌≢◌, MatchResult}
+use Rattle.std.specs.Prelude.{◌≢◌, IfErr, IfSome, MatchResult}
 use Rattle.mt_model.specs.Market.{Registered}
 use Rattle.mt_model.specs.Registration.{market_of}
 use Rattle.mt_model.specs.Registration.Faults.{Fault}
-use Rattle.mt_model.specs.Laws.Registration.{is_fault_code}
-use Rattle.mt_model.specs.Text.{is_known_code}
+use Rattle.mt_model.specs.Text.{is_fault_code, is_known_code}
 use Rattle.mt_model.proofs.FaultCodes.{fault_codes_lem}
-use Rattle.mt_run.specs.Answer.{IsAnswerOfRows, IsAnswerOfMarket, IsAnswerOfFault}
-use Rattle.mt_run.specs.Refusals.{IsRefusalBy, line_of}
+use Rattle.mt_roster.proofs.IdBounds.{fault_ids_lem}
+use Rattle.mt_run.specs.Answer.{IsAnswer, IsAnswerOfRows, IsAnswerOfMarket, IsAnswerOfFault}
+use Rattle.mt_run.specs.Refusals.{IsRefusalBy, IsRefusalTo, line_of}
 use Rattle.mt_run.specs.declared.refusal.Refusal.{Refusal}
 
 not_a_read : (code : ℕ) → is_fault_code code ≡ true → code ≢ 31
@@ -23,8 +23,20 @@ pub refusal_of_fault : (rows : List (List (List ℕ))) (budget : ℕ) (e : Refus
 refusal_of_fault rows budget e h =
     let codes = fault_codes_lem rows (record { code = e.code; row = e.row; id = e.id }) h in
     record {
-      known = (and_parts (is_known_code e.code) (nat_le 12 e.code) (and_parts (is_known_code e.code && nat_le 12 e.code) (nat_le e.code 22) codes).0).0;
+      named = record {
+        known = (and_parts (is_known_code e.code) (nat_le 12 e.code) (and_parts (is_known_code e.code && nat_le 12 e.code) (nat_le e.code 22) codes).0).0;
+        is_id = fault_ids_lem rows (record { code = e.code; row = e.row; id = e.id }) h;
+        alone = λ no. absurd (true≢false (sym codes ∙ no));
+      };
       reads_did = not_a_read e.code codes;
       answer = λ m. subst (λ (r : Result Registered Fault). MatchResult r (λ x. IsAnswerOfMarket x budget e.code (line_of e)) (λ f. IsAnswerOfFault f e.code (line_of e)))
           (sym h) (record { same_code = refl; line = refl });
     }
+
+-- a refusal of the bytes that were read is one of what the reader had left
+pub refusal_to : {X : Type 0} (left : Option (List ℕ)) (bytes : List ℕ) (budget : ℕ) (r : Result X Refusal)
+    → IfSome left (λ xs. bytes ≡ xs) → IfErr r (IsRefusalBy (IsAnswer bytes budget)) → IfErr r (IsRefusalTo left budget)
+refusal_to left bytes budget (Ok x) same h = tt
+refusal_to (Some xs) bytes budget (Err e) same h =
+    record { named = h.named; answer = λ m r. subst (λ (b : List ℕ). IsAnswer b budget e.code (line_of e)) same (h.answer m) }
+refusal_to None bytes budget (Err e) same h = record { named = h.named; answer = λ m r. (bytes, h.answer m) }

@@ -6,7 +6,8 @@ use Rattle.std.specs.Option.{option_map}
 use Rattle.std.proofs.lemmas.Bool.{true≢false}
 use Rattle.mt_lists.specs.Records.{records_of}
 use Rattle.mt_model.specs.Best.{IsBest}
-use Rattle.mt_model.specs.Laws.Registration.{IsRegistration, is_fault_code}
+use Rattle.mt_model.specs.Laws.Registration.{IsRegistration}
+use Rattle.mt_model.specs.Laws.Text.{IsOneRecord, refusal_fields}
 use Rattle.mt_model.specs.Lists.{below}
 use Rattle.mt_model.specs.Market.{Market, Partners, Registered}
 use Rattle.mt_model.specs.Matching.{Places}
@@ -14,15 +15,17 @@ use Rattle.mt_model.specs.Registration.{market_of}
 use Rattle.mt_model.specs.Registration.Faults.{Fault}
 use Rattle.mt_model.specs.Rounds.{entered, stage}
 use Rattle.mt_model.specs.Stability.{stable}
+use Rattle.mt_model.specs.Text.{is_fault_code}
 use Rattle.mt_model.specs.WellFormed.{IsWellFormed}
 use Rattle.mt_model.proofs.ExclusionLemmas.{best_is_at_least_lem}
 use Rattle.mt_model.proofs.FaultCodes.{fault_codes_lem}
 use Rattle.mt_model.proofs.PassFacts.{accepted_is_registration_lem}
+use Rattle.mt_model.proofs.RefusalLine.{refusal_is_one_record_lem}
 use Rattle.mt_model.proofs.RoundsStage.{stage_is_stable_lem}
 use Rattle.mt_model.proofs.RuralLemmas.{fill_alike_without_couples}
 use Rattle.mt_run.specs.Answer.{IsRefusedAlone, IsAnswerOfStage, IsAnswerOfMarket, IsAnswerOfFault, IsAnswerOfRows, IsAnswerTo, all_proposals}
-use Rattle.mt_run.specs.Headline.{IsBestOfAll, IsStableText, IsStableTextOf}
-use Rattle.mt_run.specs.Laws.{PublishedIsNoRefusal, PublishedIsStable}
+use Rattle.mt_run.specs.Headline.{IsBestOfAll, IsRefusal, IsStableText, IsStableTextOf}
+use Rattle.mt_run.specs.Laws.{PublishedIsNoRefusal, PublishedIsStable, RefusalIsOneRecord}
 
 -- the match that a stage ends in, or the empty one
 abbrev end_of : Option (Places × ℕ) → Places
@@ -94,3 +97,7 @@ published_to None budget text h = (h.0, published_is_stable_lem h.0 budget text 
 pub published_is_no_refusal_lem : PublishedIsNoRefusal
 published_is_no_refusal_lem m names places received code row id e =
     true≢false (ap (λ (text : List ℕ). slice_index_or text 8 0 == 112) e)
+
+pub refusal_is_one_record : RefusalIsOneRecord
+refusal_is_one_record code text r =
+    subst (λ (t : List ℕ). IsOneRecord (refusal_fields code r.row r.id) t) (sym r.line) (refusal_is_one_record_lem code r.row r.id r.named.is_id)

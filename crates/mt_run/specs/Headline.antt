@@ -8,7 +8,7 @@ use Rattle.mt_model.specs.Market.{Market, Registered}
 use Rattle.mt_model.specs.Matching.{Places, at}
 use Rattle.mt_model.specs.Registration.{market_of}
 use Rattle.mt_model.specs.Stability.{stable}
-use Rattle.mt_model.specs.Text.{is_known_code, published, refused}
+use Rattle.mt_model.specs.Text.{IsNamedRefusal, published, refused}
 
 -- the bytes are a file with this market
 abbrev pub IsMarketOf : List ℕ → Registered → Type 0
@@ -40,9 +40,9 @@ abbrev pub IsStableTextOf : Option (List ℕ) → List ℕ → Type 0
 IsStableTextOf (Some bytes) text = IsStableText bytes text
 IsStableTextOf None text = (bytes : List ℕ) × IsStableText bytes text
 
--- one named refusal line
+-- one named refusal line: it tells no record and no id where the code is no fault of a file
 pub record IsRefusal (code : ℕ) (text : List ℕ) : Type 0 where
-  pub known : IsTrue (is_known_code code)
   pub row : ℕ
   pub id : List ℕ
+  pub named : IsNamedRefusal code row id
   pub line : text ≡ refused code row id

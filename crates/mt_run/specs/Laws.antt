@@ -1,10 +1,11 @@
 -- Laws of the answer.
 use Rattle.std.specs.Prelude.{◌≡◌, ◌≢◌, ℕ, List}
+use Rattle.mt_model.specs.Laws.Text.{IsOneRecord, refusal_fields}
 use Rattle.mt_model.specs.Market.{Market, Names}
 use Rattle.mt_model.specs.Matching.{Places}
 use Rattle.mt_model.specs.Text.{published, refused}
 use Rattle.mt_run.specs.Answer.{IsAnswer}
-use Rattle.mt_run.specs.Headline.{IsStableText}
+use Rattle.mt_run.specs.Headline.{IsRefusal, IsStableText}
 
 -- bytes and a budget have one answer, in which no number of workers occurs
 abbrev pub OneAnswer : Type 0
@@ -20,3 +21,7 @@ abbrev pub PublishedIsNoRefusal : Type 0
 PublishedIsNoRefusal =
     (m : Market) (names : Names) (places : Places) (received : List ℕ) (code row : ℕ) (id : List ℕ)
     → published m names places received ≢ refused code row id
+
+-- a refusal line is one record of seven fields and no line of an applicant, so no place stands in it
+abbrev pub RefusalIsOneRecord : Type 0
+RefusalIsOneRecord = (code : ℕ) (text : List ℕ) (r : IsRefusal code text) → IsOneRecord (refusal_fields code r.row r.id) text

@@ -1,6 +1,6 @@
 -- What the end of a step of a run is for a market, or for a file's records, or for its bytes: a text, or a refusal.
-use Rattle.std.specs.Prelude.{◌≢◌, ℕ, List, Result, Ok, Err, Option, IsTrue}
-use Rattle.mt_model.specs.Text.{is_known_code, refused}
+use Rattle.std.specs.Prelude.{◌≢◌, ℕ, List, Result, Ok, Err, Option}
+use Rattle.mt_model.specs.Text.{IsNamedRefusal, refused}
 use Rattle.mt_run.specs.Answer.{IsAnswerTo}
 use Rattle.mt_run.specs.declared.refusal.Refusal.{Refusal}
 
@@ -8,9 +8,9 @@ use Rattle.mt_run.specs.declared.refusal.Refusal.{Refusal}
 abbrev pub line_of : Refusal → List ℕ
 line_of e = refused e.code e.row e.id
 
--- A refusal of a known code, which is the answer but for want of memory.
+-- A named refusal, which is the answer but for want of memory.
 pub record IsRefusalBy (IsAnswered : ℕ → List ℕ → Type 0) (e : Refusal) : Type 0 where
-  pub known : IsTrue (is_known_code e.code)
+  pub named : IsNamedRefusal e.code e.row e.id
   pub reads_did : e.code ≢ 31
   pub answer : e.code ≢ 30 → IsAnswered e.code (line_of e)
 
@@ -19,8 +19,8 @@ abbrev pub code_of : {X : Type 0} → Result X Refusal → ℕ
 code_of (Ok x) = 0
 code_of (Err e) = e.code
 
--- A refusal of a known code, which is the answer to the bytes that were there to read, but for want of memory
+-- A named refusal, which is the answer to the bytes that were there to read, but for want of memory
 -- and a read that failed.
 pub record IsRefusalTo (left : Option (List ℕ)) (budget : ℕ) (e : Refusal) : Type 0 where
-  pub known : IsTrue (is_known_code e.code)
+  pub named : IsNamedRefusal e.code e.row e.id
   pub answer : e.code ≢ 30 → e.code ≢ 31 → IsAnswerTo left budget e.code (line_of e)

@@ -1,7 +1,7 @@
 //! Laws of the answer: each is the contract of a function that does nothing.
 
 ghost use Rattle.mt_run.specs.Examples.{ProgramOptimalIsNoAnswer};
-ghost use Rattle.mt_run.specs.Laws.{OneAnswer, PublishedIsNoRefusal, PublishedIsStable};
+ghost use Rattle.mt_run.specs.Laws.{OneAnswer, PublishedIsNoRefusal, PublishedIsStable, RefusalIsOneRecord};
 
 /// The answer depends on the bytes and the budget alone.
 pub fn one_answer()
@@ -17,6 +17,11 @@ pub fn published_is_stable()
 /// No published text is a refusal line.
 pub fn published_is_no_refusal()
     ensures { PublishedIsNoRefusal }
+{}
+
+/// A refusal line is one record of seven fields and no line of an applicant.
+pub fn refusal_is_one_record()
+    ensures { RefusalIsOneRecord }
 {}
 
 /// Where wishes cross, the match that is best for the programs is stable, and still no answer.

@@ -24,10 +24,13 @@ pub(crate) struct Refusal {
 }
 
 impl Refusal {
-    ghost use Rattle.std.specs.Prelude.{◌≡◌, []};
+    ghost use Rattle.std.specs.Prelude.{◌≡◌, [], IsTrue};
+    ghost use Rattle.mt_model.specs.Text.{is_known_code, IsNamedRefusal};
 
     /// A refusal that no record is at.
     pub(crate) fn alone(code: u16) -> Refusal
+        requires { IsTrue (is_known_code code) }
+        ensures named { IsNamedRefusal result.code result.row result.id }
         ensures code { result.code ≡ code }
         ensures row { result.row ≡ 0 }
         ensures id { result.id ≡ [] }

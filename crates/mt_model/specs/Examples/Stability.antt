@@ -2,6 +2,7 @@
 use Rattle.std.specs.Prelude.{◌≡◌, true, false, [], ◌∷◌, Some, None}
 use Rattle.mt_model.specs.Best.{IsBest, proposals}
 use Rattle.mt_model.specs.Examples.Markets
+use Rattle.mt_model.specs.Examples.Registration as Withdrawn
 use Rattle.mt_model.specs.Stability.{stable}
 use Rattle.mt_model.specs.Verdict.{verdict_of}
 use Rattle.mt_model.specs.WellFormed.{is_well_formed}
@@ -70,7 +71,7 @@ pub record NoneStable : Type 0 where
 pub record OwnSeat : Type 0 where
   pub blocks_itself : verdict_of Markets.own_seat (None ∷ Some 1 ∷ Some 2 ∷ []) ≡ Blocks (record { agent = Couple 0; option = 0 })
 
--- Every market of the examples is well formed.
+-- Every market of the examples is well formed, those of the examples of files included.
 pub record AllWellFormed : Type 0 where
   pub crossed : is_well_formed Markets.crossed ≡ true
   pub chain : is_well_formed Markets.chain ≡ true
@@ -83,5 +84,13 @@ pub record AllWellFormed : Type 0 where
   pub single_elsewhere : is_well_formed Markets.single_elsewhere ≡ true
   pub half_pair : is_well_formed Markets.half_pair ≡ true
   pub three_couples : is_well_formed Markets.three_couples ≡ true
+  pub three_couples_half : is_well_formed Markets.three_couples_half ≡ true
   pub partner_withdraws : is_well_formed Markets.partner_withdraws ≡ true
   pub own_seat : is_well_formed Markets.own_seat ≡ true
+  pub chain_without_applicant : is_well_formed Withdrawn.chain_without_applicant ≡ true
+  pub unstable_without_couple : is_well_formed Withdrawn.unstable_without_couple ≡ true
+  pub three_couples_without_program : is_well_formed Withdrawn.three_couples_without_program ≡ true
+  pub one_applicant : is_well_formed Withdrawn.one_applicant ≡ true
+  pub each_member_alone : is_well_formed Withdrawn.each_member_alone ≡ true
+  pub one_name_without_program : is_well_formed Withdrawn.one_name_without_program ≡ true
+  pub full : is_well_formed Withdrawn.full ≡ true

@@ -6,9 +6,9 @@ use Rattle.mt_model.specs.declared.limits.TheConstants.{LIMITS_2}
 use Rattle.mt_model.specs.Market.{Market, Program, Partners, Pair, Registered, applicants, couple_of, program_of}
 use Rattle.mt_model.specs.WellFormed.{IsWellFormed}
 use Rattle.mt_model.specs.Registration.{market_of}
-use Rattle.mt_model.specs.Registration.Faults.{Fault, no_version, not_registered}
+use Rattle.mt_model.specs.Registration.Faults.{Fault}
 use Rattle.mt_model.specs.Registration.Ids.{Bytes, is_id, all_differ}
-use Rattle.mt_model.specs.Text.{is_known_code}
+use Rattle.mt_model.specs.Text.{is_fault_code}
 
 -- a pair of programs below n: one of the two may be none
 abbrev pub is_none_or_below : ℕ → Option ℕ → Bool
@@ -58,10 +58,6 @@ VersionsAgree =
     (blanks : ℕ) (rows : List (List Bytes)) (r : Registered)
     → market_of (file_of (codes "1") blanks rows) ≡ Ok r → market_of (file_of (codes "2") blanks rows) ≡ Ok r
 
--- the codes of the faults of a file, which are the known ones from 12 to 22
-abbrev pub is_fault_code : ℕ → Bool
-is_fault_code code = is_known_code code && nat_le no_version code && nat_le code not_registered
-
--- each fault of a file has one of them
+-- each fault of a file has one of the known codes from 12 to 22
 abbrev pub FaultCodes : Type 0
 FaultCodes = (rows : List (List Bytes)) (fault : Fault) → market_of rows ≡ Err fault → IsTrue (is_fault_code fault.code)

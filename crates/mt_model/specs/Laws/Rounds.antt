@@ -1,5 +1,5 @@
 -- What the couples' rounds keep, and where they end.
-use Rattle.std.specs.Prelude.{◌≡◌, ℕ, ◌<◌, ◌≤◌, Bool, List, [], ◌∷◌, Some, None, IsTrue, IsFalse}
+use Rattle.std.specs.Prelude.{◌≡◌, ℕ, ◌+◌, ◌<◌, ◌≤◌, Bool, List, [], ◌∷◌, length, Some, None, IsTrue, IsFalse}
 use Rattle.std.specs.List.{list_any}
 use Rattle.mt_model.specs.Market.{Market, agents, members}
 use Rattle.mt_model.specs.Matching.{Places, none_placed}
@@ -23,6 +23,24 @@ pub record IsRoundState (m : Market) (k : ℕ) (w : Work) : Type 0 where
   pub waiting_entered : (g : Agent) → IsTrue (is_on w.waiting g) → IsTrue (is_on (agents m) g) × IsTrue (has_entered k g)
   pub outside_unplaced : (g : Agent) → IsTrue (is_on (agents m) g) → IsFalse (has_entered k g) → IsTrue (none_placed w.places (members m g))
   pub none_blocks : (g : Agent) → IsTrue (is_on (agents m) g) → IsTrue (has_entered k g) → IsFalse (is_on w.waiting g) → IsFalse (blocks m w.places g)
+
+-- the first couple waits in that state, after the best match of the singles
+abbrev pub FirstCoupleWaits : Type 0
+FirstCoupleWaits =
+    (m : Market) → IsWellFormed m → (places : Places) → IsBest m places
+    → 0 < length m.couples → IsRoundState m 0 (record { places = places; waiting = Couple 0 ∷ [] })
+
+-- so does each next couple, once the list of the one before it is empty
+abbrev pub NextCoupleWaits : Type 0
+NextCoupleWaits =
+    (m : Market) → IsWellFormed m → (k : ℕ) (places : Places) → IsRoundState m k (record { places = places; waiting = [] })
+    → k + 1 < length m.couples → IsRoundState m (k + 1) (record { places = places; waiting = Couple (k + 1) ∷ [] })
+
+-- and once the list of the last couple is empty, the match is stable
+abbrev pub LastListIsStable : Type 0
+LastListIsStable =
+    (m : Market) → IsWellFormed m → (k : ℕ) (places : Places) → IsRoundState m k (record { places = places; waiting = [] })
+    → k + 1 ≡ length m.couples → IsTrue (stable m places)
 
 -- a round keeps that state
 abbrev pub RoundKeeps : Type 0

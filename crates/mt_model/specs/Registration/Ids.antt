@@ -14,13 +14,13 @@ Bytes = List ℕ
 abbrev pub is_dash : Bytes → Bool
 is_dash field = bytes_eq field (codes "-")
 
--- whether a field is an id of at most so many bytes: one byte or more of the ASCII letters and digits
--- and of `.`, `_`, `:` and `-`, and not the single `-`
+-- whether a byte may stand in an id: the ASCII letters and digits, and `.`, `_`, `:` and `-`
+abbrev pub is_id_byte : ℕ → Bool
+is_id_byte byte = is_ascii_alphanumeric byte || has (codes "._:-") byte
+
+-- whether a field is an id of at most so many bytes: one byte or more of those, and not the single `-`
 abbrev pub is_id : ℕ → Bytes → Bool
-is_id most field = nat_lt 0 (length field) && nat_le (length field) most && list_all may_stand field && not (is_dash field)
-  where
-    may_stand : ℕ → Bool
-    may_stand byte = is_ascii_alphanumeric byte || has (codes "._:-") byte
+is_id most field = nat_lt 0 (length field) && nat_le (length field) most && list_all is_id_byte field && not (is_dash field)
 
 -- the quota that a field writes: one to four digits
 abbrev pub quota_of : Bytes → Option ℕ

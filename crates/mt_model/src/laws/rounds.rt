@@ -1,4 +1,19 @@
-ghost use Rattle.mt_model.specs.Laws.Rounds.{RoundKeeps, RoundFits, StageIsStable, StageFits, StageRounds, PremisesOfRounds};
+ghost use Rattle.mt_model.specs.Laws.Rounds.{FirstCoupleWaits, NextCoupleWaits, LastListIsStable, RoundKeeps, RoundFits, StageIsStable, StageFits, StageRounds, PremisesOfRounds};
+
+/// After the best match of the singles, the first couple waits in the state that a round keeps.
+pub fn first_couple_waits()
+    ensures { FirstCoupleWaits }
+{}
+
+/// Once the list of a couple is empty, the next couple waits in that state.
+pub fn next_couple_waits()
+    ensures { NextCoupleWaits }
+{}
+
+/// Once the list of the last couple is empty, the match is stable.
+pub fn last_list_is_stable()
+    ensures { LastListIsStable }
+{}
 
 /// A round keeps its state: the match fits, the work list has agents of the market that have entered, no
 /// couple that has not entered is placed, and no entered agent that is not on the work list blocks.

@@ -27,7 +27,7 @@ returns-in-Err-clause-answers g c =
       appended = rw line at c.put_all-wrote-in-Err.ensures.appended;
       within = rw line at c.put_all-wrote-in-Err.ensures.bound;
       all = rw line at c.put_all-wrote-in-Err.ensures.all;
-      refusal = λ n. record { known = c.in-Err.ensures.refused.known; row = c.in-Err.refusal.row; id = c.in-Err.refusal.id; line = refl };
-      stable = λ none. absurd (refusals_are_not_zero c.in-Err.refusal.code c.in-Err.ensures.refused.known none);
+      refusal = λ n. record { row = c.in-Err.refusal.row; id = c.in-Err.refusal.id; named = c.in-Err.ensures.refused.named; line = refl };
+      stable = λ none. absurd (refusals_are_not_zero c.in-Err.refusal.code c.in-Err.ensures.refused.named.known none);
       answer = c.in-Err.ensures.refused.answer;
     }

@@ -1,7 +1,7 @@
 use Rattle.std.proofs.Common.{length, ◌-◌, ◌≡◌, ◌≤◌, take}
 use Rattle.std.specs.Io.KnownBytes.{Appends}
 use Rattle.mt_report.specs.Drains.{contents_of, failures_of}
-use Rattle.mt_report.proofs.drain.put_all.Given as goal
+use Rattle.mt_report.proofs.writing.put_all.Given as goal
 
 -- the bytes that were taken so far are appended, and nothing failed yet
 abbrev pub invariant-loop-written : goal.invariant-loop-written

@@ -1,7 +1,7 @@
 use Rattle.std.proofs.Common.{arith, ◌+◌, ◌-◌, ◌≤◌, length, length-take, length-drop, drop}
 use Rattle.std.proofs.lemmas.Bool.Decides.{nat_tests}
 use Rattle.mt_report.proofs.AppendsFacts.{Appends-then, take-front}
-use Rattle.mt_report.proofs.drain.put_all.Goals as goal
+use Rattle.mt_report.proofs.writing.put_all.Goals as goal
 
 pub loop-written-preserved : goal.loop-written-preserved
 loop-written-preserved g c =
