@@ -110,9 +110,7 @@ fn main(rt: HostRuntime) -> ExitCode {
     let status = match words_of(&rt) {
         Ok(words) => obey(&rt, words.as_slice()),
         Err(error) => match error.kind() {
-            ErrorKind::OutOfMemory => {
-                refuse(&mut Drain::new(rt.stdout()), OUT_OF_MEMORY)
-            }
+            ErrorKind::OutOfMemory => refuse(&mut Drain::new(rt.stdout()), OUT_OF_MEMORY),
             _ => misuse(&mut Drain::new(rt.stderr()), NO_TEXT),
         },
     };

@@ -1,11 +1,12 @@
-ghost use Rattle.std.specs.Prelude.{◌≡◌, ◌<◌, ◌≤◌, ℕ, map, length, IsTrue, IfOk, IsErrOf, OnOk, Some, None, [], ◌∷◌};
+ghost use Rattle.std.specs.Prelude.{◌≡◌, ◌<◌, ◌≤◌, ℕ, map, length, IsTrue, IfOk, IsErrOf, OnOk, Some, None, [], ◌∷◌, if◌then◌else◌};
 ghost use Rattle.std.specs.List.{flat_map};
 ghost use Rattle.mt_model.specs.Lists.{has};
 ghost use Rattle.mt_model.specs.Market.{agent_of, applicants};
-ghost use Rattle.mt_model.specs.Rounds.{after_taking, all_joined, has_entered, reopened_at, round_of, settled, stage};
+ghost use Rattle.mt_model.specs.Rounds.{after_taking, all_joined, has_entered, joined, reopened_at, round_of, settled, stage};
 ghost use Rattle.mt_model.specs.Best.{IsBest};
-ghost use Rattle.mt_model.specs.Stability.{fits, stable};
+ghost use Rattle.mt_model.specs.Stability.{blocks, fits, stable};
 ghost use Rattle.mt_ranks.specs.Ranked.{ranked_of};
+ghost use Rattle.mt_couples.specs.Assigned.{IsAgentOf};
 ghost use Rattle.mt_couples.specs.Running.{IsRunning};
 ghost use Rattle.mt_couples.specs.Moves.{IsTaking};
 
@@ -72,6 +73,22 @@ fn join_displaced(
     Ok(())
 }
 
+/// Puts the agent that moved on the work list, where it has a better option still.
+fn look_at_mover(
+    assignment: &Assignment<'_>,
+    agent: Agent,
+    waiting: &mut WorkList,
+) -> Result<(), AllocError>
+    requires { IsAgentOf assignment.now.market agent }
+    ensures { OnOk result (waiting.new
+        ≡ (if blocks assignment.now.market assignment.now.places agent then joined waiting.old agent else waiting.old)) }
+{
+    if assignment.blocks(&agent) {
+        waiting.join(agent)?;
+    }
+    Ok(())
+}
+
 /// Puts those agents of a program's list on the work list that have entered and block now.
 fn look_at(
     assignment: &Assignment<'_>,
@@ -124,9 +141,7 @@ fn take_option(
 {
     let moved = assignment.move_to(alloc, sent)?;
     join_displaced(assignment, &moved.displaced, waiting)?;
-    if assignment.blocks(&agent) {
-        waiting.join(agent)?;
-    }
+    look_at_mover(assignment, agent, waiting)?;
     look_at_left(assignment, &moved.left, last, waiting)
 }
 

@@ -4,8 +4,7 @@ use Rattle.std.specs.Prelude.{if◌then◌else◌, codes, bytes_eq, is_some, opt
 use Rattle.std.specs.Option.{option_map_or}
 use Rattle.std.specs.Bool.{then_some}
 use Rattle.std.specs.List.{list_all}
-use Rattle.std.specs.Char.{is_ascii_digit, is_ascii_alphanumeric, digit_value}
-use Rattle.mt_model.specs.Lists.{has}
+use Rattle.std.specs.Char.{is_ascii_digit, digit_value}
 use Rattle.std.specs.Str.Parse.{digits_value}
 use Rattle.std.proofs.lemmas.Bool.{and_parts}
 use Rattle.std.proofs.lemmas.Bool.Decides.{nat_tests}
@@ -16,7 +15,7 @@ use Rattle.std.proofs.lemmas.Grind.{flat_map-append}
 use Rattle.mt_model.specs.Market.{Registered}
 use Rattle.mt_model.specs.declared.limits.TheConstants.{LIMITS_2}
 use Rattle.mt_model.specs.Registration.{market_of_numbered, market_under}
-use Rattle.mt_model.specs.Registration.Ids.{Bytes, is_id, is_dash, quota_of, has_id, all_differ}
+use Rattle.mt_model.specs.Registration.Ids.{Bytes, is_id, is_id_byte, is_dash, quota_of, has_id, all_differ}
 use Rattle.mt_model.specs.Registration.Faults.{Charge, Fault, charge, fault_at, duplicate_id}
 use Rattle.mt_model.specs.Registration.Records.{Record, ProgramRecord, ApplicantRecord, CoupleRecord, WithdrawRecord, Kind, OfProgram, OfApplicant, OfCouple, version_1, version_2, rules_of, are_ids, is_pair, pair_of, two_by_two, record_of, record_by_kind, program_record, applicant_record, couple_by_pairs, withdraw_by_kind, withdraw_record, kind_of}
 use Rattle.mt_model.specs.Registration.Rows.{ids_of, applicant_ids, own_id, applicants_of, remaining}
@@ -72,7 +71,7 @@ quota_small f n h = let p : (nat_lt 0 (length f) && nat_le (length f) 4 && list_
 
 -- an id is no dash
 no_dash : (n : ℕ) (f : Bytes) → is_id n f ≡ true → is_dash f ≡ false
-no_dash n f h = by (is_dash f) (and_parts (nat_lt 0 (length f) && nat_le (length f) n && list_all (λ b. is_ascii_alphanumeric b || has (codes "._:-") b) f) _ h).1
+no_dash n f h = by (is_dash f) (and_parts (nat_lt 0 (length f) && nat_le (length f) n && list_all is_id_byte f) _ h).1
   where
     by : (b : Bool) → not b ≡ true → b ≡ false
     by true k = cc

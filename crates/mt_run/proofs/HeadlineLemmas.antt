@@ -24,7 +24,7 @@ use Rattle.mt_model.proofs.RefusalLine.{refusal_is_one_record_lem}
 use Rattle.mt_model.proofs.RoundsStage.{stage_is_stable_lem}
 use Rattle.mt_model.proofs.RuralLemmas.{fill_alike_without_couples}
 use Rattle.mt_run.specs.Answer.{IsRefusedAlone, IsAnswerOfStage, IsAnswerOfMarket, IsAnswerOfFault, IsAnswerOfRows, IsAnswerTo, all_proposals}
-use Rattle.mt_run.specs.Headline.{IsBestOfAll, IsRefusal, IsStableText, IsStableTextOf}
+use Rattle.mt_run.specs.Headline.{IsBestOfAll, IsStableText, IsStableTextOf}
 use Rattle.mt_run.specs.Laws.{PublishedIsNoRefusal, PublishedIsStable, RefusalIsOneRecord}
 
 -- the match that a stage ends in, or the empty one

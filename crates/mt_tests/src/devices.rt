@@ -2,12 +2,14 @@
 
 use std::io::{self, ErrorKind, Read, Write};
 
-/// The bytes of a slice, `size` in each read, of which the `fails_at`th fails. The reads after it go on.
+/// The bytes of a slice, `size` in each read, of which the `fails_at`th fails. The reads after it go on. It counts all
+/// reads, and keeps the length of the longest buffer.
 #[derive(Drop)]
 pub(crate) struct Pieces<'a> {
     left: &'a [u8],
     size: usize,
     pub(crate) calls: u32,
+    pub(crate) longest: usize,
     fails_at: u32,
     failure: ErrorKind,
 }
@@ -18,6 +20,7 @@ impl<'a> Pieces<'a> {
             left,
             size,
             calls: 0,
+            longest: 0,
             fails_at,
             failure,
         }
@@ -27,6 +30,7 @@ impl<'a> Pieces<'a> {
 impl Read for Pieces<'_> {
     fn read(&mut self, buf: &mut [u8]) -> io::Result<usize> {
         self.calls = self.calls.saturating_add(1);
+        self.longest = self.longest.max(buf.len());
         if self.calls == self.fails_at {
             return Err(io::Error::from(self.failure));
         }
@@ -79,6 +83,43 @@ impl Write for Narrow {
         self.flushes = self.flushes.saturating_add(1);
         if self.flush_fails {
             return Err(ErrorKind::Other.into());
+        }
+        Ok(())
+    }
+}
+
+/// A writer that takes at most `at_once` bytes in a write. The `falters_at`th write fails, or takes none, and so does
+/// the `flush_fails_at`th flush; the writes and flushes after it go on. It counts both.
+#[derive(Drop)]
+pub(crate) struct Faltering {
+    pub(crate) at_once: usize,
+    pub(crate) falters_at: u32,
+    pub(crate) fails: bool,
+    pub(crate) flush_fails_at: u32,
+    pub(crate) writes: u32,
+    pub(crate) flushes: u32,
+    pub(crate) taken: Vec<u8>,
+}
+
+impl Write for Faltering {
+    fn write(&mut self, buf: &[u8]) -> io::Result<usize> {
+        self.writes = self.writes.saturating_add(1);
+        if self.writes == self.falters_at {
+            return if self.fails {
+                Err(ErrorKind::Interrupted.into())
+            } else {
+                Ok(0)
+            };
+        }
+        let count = self.at_once.min(buf.len());
+        self.taken.extend_from_slice(&buf[..count])?;
+        Ok(count)
+    }
+
+    fn flush(&mut self) -> io::Result<()> {
+        self.flushes = self.flushes.saturating_add(1);
+        if self.flushes == self.flush_fails_at {
+            return Err(ErrorKind::Interrupted.into());
         }
         Ok(())
     }

@@ -72,6 +72,33 @@ fn interrupted_read_fails(rt: HostRuntime) -> Result<(), Fail> {
     Ok(())
 }
 
+// Each read that fails ends the call, and isn't made again, though the reader would go on.
+#[test]
+fn a_read_that_fails_is_the_last(rt: HostRuntime) {
+    for failure in [ErrorKind::Interrupted, ErrorKind::Other] {
+        for at in 1..=5u32 {
+            let mut source = Pieces::new(b"0123456789", 3, at, failure);
+            let mut tap = Tap::new(&mut source);
+            let result = read_all(rt.alloc(), &mut tap, 10);
+            assert!(rt; matches!(result, Err(ReadEnd::Fault)));
+            assert_eq!(rt; (tap.reads(), tap.failures()), (u64::from(at), 1));
+            assert_eq!(rt; source.calls, at);
+        }
+    }
+}
+
+// A read asks for as many bytes as the buffer holds.
+#[test]
+fn a_read_fills_the_buffer(rt: HostRuntime) -> Result<(), Fail> {
+    let mut source = Pieces::new(b"0123456789", 100, 0, ErrorKind::Other);
+    let mut tap = Tap::new(&mut source);
+    let mut buf = [0u8; 8];
+    assert_eq!(rt; tap.read(&mut buf), Ok(8));
+    assert_eq!(rt; (source.calls, source.longest), (1, 8));
+    assert!(rt; buf == *b"01234567");
+    Ok(())
+}
+
 // An input of ten bytes, so many in each read, under limits of ten and of nine bytes.
 fn expect_limit(rt: &impl Abort, alloc: Global, size: usize) -> Result<(), ReadEnd> {
     let text = b"0123456789".as_slice();

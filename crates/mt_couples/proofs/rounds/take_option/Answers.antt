@@ -11,7 +11,6 @@ use Rattle.mt_model.proofs.RoundsLists.{has_in, of_kept, of_below}
 use Rattle.mt_couples.specs.Assigned.{Assigned}
 use Rattle.mt_couples.proofs.MoveFacts.{displaced_within, waits_after}
 use Rattle.mt_couples.proofs.rounds.take_option.Goals as goal
-use Rattle.mt_couples.proofs.rounds.take_option.Goals.{then-blocks+in_ok-join, else-blocks}
 
 pub join_displaced-requires : goal.join_displaced-requires
 join_displaced-requires c = λ a on.
@@ -36,13 +35,10 @@ returns-clause-work c = on_ok_weaker c.look_at_left.result (λ done.
     let new = after_move s0.market (send c.args.sent.now s0.places) c.args.sent.now in
     let first : c.join_displaced.new.waiting ≡ _ =
     c.in_ok-join_displaced.ensures ∙ ap₂ (λ (x : Assigned) ys. all_joined c.args.waiting.now (map (agent_of x.market) ys)) after (c.deref.ensures.value ∙ c.in_ok-moved.ensures.displaced) in
-    let is : blocks s0.market new c.args.agent ≡ c.blocks-2.result = sym (c.blocks-2.ensures ∙ ap (λ (x : Assigned). blocks x.market x.places c.args.agent) after) in
-    let second : c.if-blocks.waiting ≡ (if blocks s0.market new c.args.agent then joined c.join_displaced.new.waiting c.args.agent else c.join_displaced.new.waiting) =
-    elim c.if-blocks.branch [
-      | then-blocks+in_ok-join w ↦ rw (is, w.if-blocks.true) (w.waiting-is ∙ w.in_ok-join.ensures)
-      | else-blocks w ↦ rw (is, w.if-blocks.false) w.waiting-is
-    ] in
-    let third = done ∙ ap (λ (x : Assigned). all_joined c.if-blocks.waiting (flat_map (reopened_at x.market c.args.last x.places) c.deref-2.result.now)) after in
+    let second : c.look_at_mover.new.waiting ≡ (if blocks s0.market new c.args.agent then joined c.join_displaced.new.waiting c.args.agent else c.join_displaced.new.waiting) =
+    c.in_ok-look_at_mover.ensures
+    ∙ ap (λ (x : Assigned). if blocks x.market x.places c.args.agent then joined c.join_displaced.new.waiting c.args.agent else c.join_displaced.new.waiting) after in
+    let third = done ∙ ap (λ (x : Assigned). all_joined c.look_at_mover.new.waiting (flat_map (reopened_at x.market c.args.last x.places) c.deref-2.result.now)) after in
     ap₂ work (ap (λ (x : Assigned). x.places) after)
-    (waits_after c.requires c.args.last c.args.waiting.now c.join_displaced.new.waiting c.if-blocks.waiting c.look_at_left.new.waiting c.deref-2.result.now first second third
+    (waits_after c.requires c.args.last c.args.waiting.now c.join_displaced.new.waiting c.look_at_mover.new.waiting c.look_at_left.new.waiting c.deref-2.result.now first second third
     (c.deref-2.ensures.value ∙ c.in_ok-moved.ensures.left))) c.look_at_left.ensures

@@ -1,4 +1,4 @@
-use Rattle.std.proofs.Common.{refl, ap, Err}
+use Rattle.std.proofs.Common.{ap, Err}
 use Rattle.mt_lists.specs.Tap.{bytes_left}
 use Rattle.mt_run.proofs.FaultFacts.{refusal_to}
 use Rattle.mt_run.proofs.LargeFacts.{too_large_answer}
