@@ -8,17 +8,16 @@ use Rattle.std.proofs.lemmas.List.Quantifiers.{position-Some}
 use Rattle.std.specs.BTreeSet.{insert_key}
 use Rattle.std.specs.Ordering.{nat_cmp}
 use Rattle.std.specs.Prelude.{filter, not}
+use Rattle.mt_model.specs.Laws.Registration.{IsRegistration}
 use Rattle.mt_model.specs.Lists.{has, below, is_distinct}
 use Rattle.mt_model.specs.Market.{Market, applicants, program_of}
-use Rattle.mt_model.specs.Matching.{Places, place_of, is_program, at}
+use Rattle.mt_model.specs.Matching.{Places, place_of, is_program, at, ranks_from, placed_ranks}
 use Rattle.mt_model.proofs.BelowFacts.{length-map_below, map_below_at}
 use Rattle.mt_model.proofs.TakenLemmas.{at-slice_set_same, at-slice_set_other}
 use Rattle.mt_model.specs.Places.{ArePlaces}
-use Rattle.mt_roster.specs.Tables.{IsRoster}
 use Rattle.mt_ranks.specs.Ranked.{ranked_of}
 use Rattle.std.specs.List.Sorted.{IsStrictlySortedBy}
 use Rattle.std.specs.Vec.{with_item}
-use Rattle.mt_couples.specs.Rows.{ranks_from, placed_ranks}
 use Rattle.mt_couples.specs.Assigned.{Assigned}
 use Rattle.mt_couples.specs.View.{assigned_of, AreTables}
 use Rattle.mt_couples.specs.declared.assignment.Assignment.TheInside.{Inside}
@@ -161,14 +160,14 @@ pub program_known : (t : Inside) (s : Assigned) (p : ℕ) → assigned_of t ≡ 
 program_known t s p is within = omega (arith, ap (λ (x : Assigned). length x.market.programs) is)
 
 -- the tables once one place is written, after the rows were
-pub tables_after : (X Y : Inside) (i a : ℕ) (v : Option ℕ) → X ≡ Y → i ≡ a → IsRoster Y.roster.now → Y.ranks.now ≡ ranked_of Y.roster.now.market
+pub tables_after : (X Y : Inside) (i a : ℕ) (v : Option ℕ) → X ≡ Y → i ≡ a → IsRegistration Y.roster.now → Y.ranks.now ≡ ranked_of Y.roster.now.market
     → ArePlaces Y.roster.now.market Y.places.items → a < length Y.places.items → ((p : ℕ) → is_program p v ≡ true → p < length Y.roster.now.market.programs)
     → AreRows Y.roster.now.market (slice_set Y.places.items a v) Y.rows.items
     → AreTables (record { roster = X.roster; ranks = X.ranks; places = with_item X.places i v; rows = X.rows })
 tables_after X Y i a v written index roster ranks are a_in within rows =
     subst (λ (Z : Inside). AreTables (record { roster = Z.roster; ranks = Z.ranks; places = with_item Z.places i v; rows = Z.rows })) (sym written)
     (subst (λ j. AreTables (record { roster = Y.roster; ranks = Y.ranks; places = with_item Y.places j v; rows = Y.rows })) (sym index) (record {
-      is_roster = roster;
+      is_registration = roster;
       one_market = ranks;
       are_places = places_moved Y.roster.now.market Y.places.items a v are a_in within;
       rows = rows;
@@ -203,7 +202,7 @@ module _ (t : Inside) (h : AreTables t) (a : ℕ) (a_known : a < applicants t.ro
       → Some k ≡ position (λ x. x == a) (program_of t.roster.now.market p).ranking → new ≡ filter (λ r. not (r == k)) row
       → AreRows t.roster.now.market (slice_set t.places.items a None) (slice_set t.rows.items i new)
   rows_off p i k row new is place read found filtered =
-      let once = h.is_roster.well_formed.rankings_distinct p in
+      let once = h.is_registration.well_formed.rankings_distinct p in
       let row_is = row_at t h p i row is (known_at p place) read in
       subst (λ j. AreRows here_market (slice_set here_places a None) (slice_set t.rows.items j new)) (sym is)
       (rows_written here_market here_places (slice_set here_places a None) t.rows.items p new h.rows (known_at p place)
@@ -228,7 +227,7 @@ module _ (t : Inside) (h : AreTables t) (a : ℕ) (a_known : a < applicants t.ro
       → Some k ≡ position (λ x. x == a) (program_of t.roster.now.market p).ranking → new ≡ insert_key nat_cmp row k
       → AreRows t.roster.now.market (slice_set t.places.items a (Some p)) (slice_set t.rows.items i new)
   rows_on p i k row new is known place read found inserted =
-      let once = h.is_roster.well_formed.rankings_distinct p in
+      let once = h.is_registration.well_formed.rankings_distinct p in
       let row_is = row_at t h p i row is known read in
       subst (λ j. AreRows here_market (slice_set here_places a (Some p)) (slice_set t.rows.items j new)) (sym is)
       (rows_written here_market here_places (slice_set here_places a (Some p)) t.rows.items p new h.rows known

@@ -1,5 +1,4 @@
 pub mod Assigned
 pub mod Moves
-pub mod Rows
 pub mod Running
 pub mod View

@@ -1,11 +1,11 @@
 -- What an assignment's tables mean.
 use Rattle.std.specs.Prelude.{◌≡◌, ◌≤◌, List, ◌++◌, map, length, drop}
+use Rattle.mt_model.specs.Laws.Registration.{IsRegistration}
 use Rattle.mt_model.specs.Lists.{below}
-use Rattle.mt_couples.specs.Rows.{placed_ranks}
+use Rattle.mt_model.specs.Matching.{placed_ranks}
 use Rattle.std.specs.List.{IsDistinct}
 use Rattle.mt_model.specs.Rounds.{is_same_agent}
 use Rattle.mt_model.specs.declared.numbers.Agent.{Agent}
-use Rattle.mt_roster.specs.Tables.{IsRoster}
 use Rattle.mt_ranks.specs.Ranked.{ranked_of}
 use Rattle.mt_model.specs.Places.{ArePlaces}
 use Rattle.mt_couples.specs.Assigned.{Assigned}
@@ -18,7 +18,7 @@ assigned_of t = record { market = t.roster.now.market; places = t.places.items }
 -- The rank tables are those of the market, each applicant has one place, and for each program there are the
 -- ranks of those that are placed there.
 pub record AreTables (t : Inside) : Type 0 where
-  pub is_roster : IsRoster t.roster.now
+  pub is_registration : IsRegistration t.roster.now
   pub one_market : t.ranks.now ≡ ranked_of t.roster.now.market
   pub are_places : ArePlaces t.roster.now.market t.places.items
   pub rows : t.rows.items ≡ map (placed_ranks t.roster.now.market t.places.items) (below (length t.roster.now.market.programs))

@@ -1,12 +1,11 @@
 ghost use Rattle.std.specs.Prelude.{◌≡◌, ◌==◌, ◌++◌, ◌<◌, ◌≤◌, ℕ, Option, Some, None, length, map, take, filter, position, slice_index, IfOk, IsTrue, OnOk};
+ghost use Rattle.mt_model.specs.Laws.Registration.{IsRegistration};
 ghost use Rattle.mt_model.specs.Lists.{below, count, has};
 ghost use Rattle.mt_model.specs.Market.{agent_of, applicants, couple_of, program_of};
-ghost use Rattle.mt_model.specs.Matching.{at, place_of};
+ghost use Rattle.mt_model.specs.Matching.{at, place_of, placed_ranks, ranks_from};
 ghost use Rattle.mt_model.specs.Rounds.{displaced_at};
 ghost use Rattle.mt_ranks.specs.Ranked.{ranked_of};
-ghost use Rattle.mt_roster.specs.Tables.{IsRoster};
 ghost use Rattle.mt_model.specs.Places.{ArePlaces};
-ghost use Rattle.mt_couples.specs.Rows.{placed_ranks, ranks_from};
 ghost use Rattle.mt_couples.specs.Assigned.{IsAgentOf, IsAssigned, with_place};
 
 use crate::row::Row;
@@ -48,7 +47,7 @@ fn placed_rows(
     places: &[Option<ProgNo>],
 ) -> Result<Vec<Row>, AllocError>
     ensures rows { IfOk result (λ v. v.items ≡ map (placed_ranks roster.now.market places.now) (below (length roster.now.market.programs))) }
-    ensures roster { IsRoster roster.now }
+    ensures roster { IsRegistration roster.now }
 {
     let mut rows = Vec::new(alloc);
     for number in 0..roster.programs() {
@@ -85,7 +84,7 @@ pub(crate) struct Assignment<'a> {
 }
 
 impl<'a> Model for Assignment<'a> {
-    ghost use Rattle.mt_couples.specs.Rows.{placed_ranks, ranks_from};
+    ghost use Rattle.mt_model.specs.Matching.{placed_ranks, ranks_from};
     ghost use Rattle.mt_couples.specs.Assigned.{Assigned};
 
     ghost Value = { Assigned };
@@ -130,7 +129,7 @@ impl<'a> Assignment<'a> {
     /// The market.
     pub(crate) fn roster(&self) -> &'a Roster
         ensures market { result.now.market ≡ self.now.market }
-        ensures roster { IsRoster result.now }
+        ensures roster { IsRegistration result.now }
         ensures assigned { IsAssigned self.now }
     {
         self.roster

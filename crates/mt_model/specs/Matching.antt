@@ -1,8 +1,8 @@
 -- A match, who is where in it, and where an option sends an agent's members.
-use Rattle.std.specs.Prelude.{ℕ, Bool, true, false, not, ◌==◌, List, [], ◌∷◌, map, Option, Some, None, slice_index_or, slice_set, is_some}
+use Rattle.std.specs.Prelude.{ℕ, ◌+◌, Bool, true, false, not, ◌==◌, List, [], ◌∷◌, map, Option, Some, None, slice_index_or, slice_set, is_some, if◌then◌else◌}
 use Rattle.std.specs.List.{list_all}
 use Rattle.mt_model.specs.Lists.{Set, until, count}
-use Rattle.mt_model.specs.Market.{Market, Pair, list_of, couple_of}
+use Rattle.mt_model.specs.Market.{Market, Pair, list_of, couple_of, program_of}
 use Rattle.mt_model.specs.declared.numbers.Agent.{Agent}
 use Rattle.mt_model.specs.declared.numbers.Agent.TheVariants.{Single, Couple}
 
@@ -26,6 +26,15 @@ at places p a = is_program p (place_of places a)
 -- how many applicants are placed at a program
 abbrev pub filled : Places → ℕ → ℕ
 filled places p = count (is_program p) places
+
+-- where the members of a set stand on a list, in rising order, if its first place has this number
+abbrev pub ranks_from : ℕ → Set → List ℕ → List ℕ
+ranks_from rank set [] = []
+ranks_from rank set (x ∷ xs) = if set x then (rank ∷ ranks_from (rank + 1) set xs) else ranks_from (rank + 1) set xs
+
+-- the ranks, on a program's list, of those that a match places there
+abbrev pub placed_ranks : Market → Places → ℕ → List ℕ
+placed_ranks m places p = ranks_from 0 (at places p) (program_of m p).ranking
 
 -- whether two places are the same
 abbrev pub is_same_place : Option ℕ → Option ℕ → Bool

@@ -36,7 +36,7 @@ fits m places =
 abbrev pub would_be_taken : Market → Places → Placement → Bool
 would_be_taken m places sent = list_all (λ s. is_chosen m (send sent places) s.0 s.1) sent
 
--- an agent's options that are better than what it has and would be taken, the most wanted first
+-- An agent blocks a match where one of the options that it wants more than what it has would be taken.
 abbrev pub blocks : Market → Places → Agent → Bool
 blocks m places agent = list_any (would_be_taken m places) (better m places agent)
 

@@ -14,11 +14,10 @@ use Rattle.mt_model.specs.Registration.Ids.{Bytes, is_id, is_dash, quota_of, has
 use Rattle.mt_model.specs.Registration.Faults.{Charge, Fault, charge, charge_alone, fault_at, bad_id, bad_quota, duplicate_id, duplicate_entry, too_many, unknown_applicant, unknown_program, not_registered, no_version}
 use Rattle.mt_model.specs.Registration.Records.{Rules, Record, ProgramRecord, ApplicantRecord, CoupleRecord, WithdrawRecord, Kind, OfProgram, OfApplicant, OfCouple, version_1, version_2, rules_of, are_ids, is_pair, pair_of, two_by_two, record_of, record_by_kind, program_record, applicant_record, couple_record, couple_by_pairs, withdraw_by_kind, withdraw_record, kind_of}
 use Rattle.mt_model.specs.Registration.Rows.{id_of, ids_of, applicant_ids}
-use Rattle.mt_model.specs.Registration.Passes.{Numbered, numbered_from, contents, first_of, first_in, first_not_in, on_result, are_too_many, says_twice, registered_before, clash, next_record, first_pass, second_pass, unknown_id}
+use Rattle.mt_model.specs.Registration.Passes.{Numbered, numbered_from, contents, first_of, first_in, first_not_in, on_result, are_too_many, says_twice, registered_before, clash, next_record, first_pass, second_pass, unknown_id, named}
 use Rattle.mt_model.specs.Registration.Numbering.{registered}
 use Rattle.mt_model.specs.Text.{is_none_or_id}
 use Rattle.mt_roster.specs.Laws.{FaultIds}
-use Rattle.mt_roster.specs.Unknown.{named}
 
 both : (a b : Bool) → a ≡ true → b ≡ true → (a && b) ≡ true
 both a b h k = rw (h, k) refl

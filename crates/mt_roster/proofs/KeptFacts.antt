@@ -12,10 +12,9 @@ use Rattle.mt_model.specs.Registration.Faults.{charge, fault_at, unknown_applica
 use Rattle.mt_model.specs.Registration.Records.{Record, ProgramRecord, ApplicantRecord, CoupleRecord, WithdrawRecord, OfProgram, IdPair}
 use Rattle.mt_model.specs.Registration.Rows.{ids_of, applicant_ids, entries_of, entry_count}
 use Rattle.mt_model.specs.Registration.Numbering.{names_only, pair_by_number, pairs_by_number}
-use Rattle.mt_model.specs.Registration.Passes.{Numbered, contents, first_of, first_not_in, unknown_id}
+use Rattle.mt_model.specs.Registration.Passes.{Numbered, contents, first_of, first_not_in, unknown_id, named}
 use Rattle.mt_roster.specs.Numbered.{ranking_in, lists_by, pairs_in}
 use Rattle.mt_roster.specs.Plain.{is_plain, lists_once}
-use Rattle.mt_roster.specs.Unknown.{named}
 
 parts_of : (b c : Bool) → (not b && c) ≡ true → (b ≡ false) × (c ≡ true)
 parts_of true c h = cc

@@ -13,7 +13,7 @@ use Rattle.mt_model.specs.Registration.Rows.{ids_of, applicant_ids}
 use Rattle.mt_model.specs.Registration.Numbering.{names_of, program_in, lists_in, couple_in, market_by}
 use Rattle.mt_model.specs.Laws.Registration.{IsRegistration}
 use Rattle.mt_model.proofs.BelowFacts.{length-map_below, map_below_at}
-use Rattle.mt_roster.specs.Tables.{programs_with, couples_with, IsRoster}
+use Rattle.mt_roster.specs.Tables.{programs_with, couples_with}
 use Rattle.mt_roster.specs.declared.numbering.Entries.{Entries}
 use Rattle.mt_roster.specs.declared.names.NameLists.{NameLists}
 use Rattle.mt_roster.specs.Entries.{AreNames, AreEntries}
@@ -219,17 +219,6 @@ module _ (rs : List Record) (r : IsRegistration (registered_by_all rs)) where
       names = record { programs = made.program_ids i; applicants = made.applicant_ids i; couples = made.couple_ids i };
     }
 
-    is_roster : IsRoster (registered_by_all rs)
-    is_roster = record {
-      well_formed = r.well_formed;
-      program_ids = r.program_names.one_each;
-      applicant_ids = r.applicant_names.one_each;
-      couple_ids = r.couple_names.one_each;
-      few_applicants = r.few_applicants;
-      few_programs = r.few_programs;
-      few_couples = r.few_couples;
-    }
-
     long_pairs : length t.pairs ≡ length t.members.items
     long_pairs = ap length made.pairs ∙ length-pairs (names_of rs) rs ∙ sym (ap length made.members)
 
@@ -243,7 +232,7 @@ module _ (rs : List Record) (r : IsRegistration (registered_by_all rs)) where
       agents = made.agents
           ∙ map_agree _ _ (below (length (applicant_ids rs))) (λ a. agent_from-bare t.members.items t.pairs 0 a long_pairs)
           ∙ ap (λ n. map (agent_of (registered_of t).market) (below n)) long_lists;
-      roster = subst IsRoster (sym tables_seen) is_roster;
+      registration = subst IsRegistration (sym tables_seen) r;
     }
 
 -- the tables that are made from names and entries

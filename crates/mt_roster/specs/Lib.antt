@@ -8,7 +8,6 @@ pub mod Numbered
 pub mod Entries
 pub mod Registers
 pub mod Passes
-pub mod Unknown
 pub mod Faults
 pub mod Read
 pub mod Laws

@@ -1,13 +1,13 @@
 ghost use Rattle.std.specs.Prelude.{◌≡◌, ◌<◌, ◌≤◌, length, slice_index_or};
+ghost use Rattle.mt_model.specs.Laws.Registration.{IsRegistration};
 ghost use Rattle.mt_model.specs.Market.{applicants, program_of, list_of, couple_of, agent_of};
 ghost use Rattle.mt_model.specs.Text.{name_of};
-ghost use Rattle.mt_roster.specs.Tables.{IsRoster};
 
 use mt_model::{Agent, AppNo, CoupleNo, FlatLists, ProgNo};
 use std::marker::Model;
 
 /// A market with its ids: programs with quotas and rank order lists, singles with theirs, and couples with
-/// lists of pairs. Numbers are dense, by order of registration from 0.
+/// lists of pairs. Numbers are dense, by order of registration from 0. It is the market of a file that was accepted.
 #[derive(Debug, Drop)]
 pub struct Roster {
     pub(crate) quotas: Vec<u32>,
@@ -34,10 +34,17 @@ impl Model for Roster {
 }
 
 impl Roster {
+    /// Does nothing: that its market is one of a file is what its contract says.
+    pub fn is_of_a_file(&self)
+        ensures { IsRegistration self.now }
+    {
+        let _ = &self.quotas;
+    }
+
     /// How many applicants there are, members of couples included.
     pub fn applicants(&self) -> u32
         ensures count { result ≡ applicants self.now.market }
-        ensures roster { IsRoster self.now }
+        ensures registration { IsRegistration self.now }
     {
         self.agents.len() as u32
     }
@@ -45,7 +52,7 @@ impl Roster {
     /// How many programs there are.
     pub fn programs(&self) -> u32
         ensures count { result ≡ length self.now.market.programs }
-        ensures roster { IsRoster self.now }
+        ensures registration { IsRegistration self.now }
     {
         self.quotas.len() as u32
     }
@@ -53,7 +60,7 @@ impl Roster {
     /// How many couples there are.
     pub fn couples(&self) -> u32
         ensures count { result ≡ length self.now.market.couples }
-        ensures roster { IsRoster self.now }
+        ensures registration { IsRegistration self.now }
     {
         self.members.len() as u32
     }

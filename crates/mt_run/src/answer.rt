@@ -1,6 +1,5 @@
 ghost use Rattle.std.specs.Prelude.{◌≡◌, ◌↔◌, length, not, IfErr, IfOk, IsTrue, MatchOption};
 ghost use Rattle.mt_model.specs.Best.{IsBest};
-ghost use Rattle.mt_model.specs.Laws.Registration.{IsRegistration};
 ghost use Rattle.mt_model.specs.Places.{ArePlaces};
 ghost use Rattle.mt_model.specs.Rounds.{stage};
 ghost use Rattle.mt_model.specs.Stability.{stable};
@@ -27,7 +26,6 @@ fn is_stable(
     ranks: &Ranks,
     matched: &Match,
 ) -> Result<bool, AllocError>
-    requires registration { IsRegistration roster.now }
     requires ranks { ranks.now ≡ ranked_of roster.now.market }
     requires places { ArePlaces roster.now.market matched.now.places }
     ensures { IfOk result (λ b. IsTrue b ↔ IsTrue (stable roster.now.market matched.now.places)) }
@@ -53,12 +51,12 @@ fn with_couples(
     singles: Match,
     budget: u32,
 ) -> Result<Match, Refusal>
-    requires registration { IsRegistration roster.now }
     requires ranks { ranks.now ≡ ranked_of roster.now.market }
     requires best { IsBest roster.now.market singles.places }
     ensures entered { IfOk result (λ matched. IsEnteredFrom roster.now.market singles.places budget matched.places) }
     ensures refused { IfErr result (IsRefusalBy (IsAnswerOfMarket roster.now budget)) }
 {
+    roster.is_of_a_file();
     match enter_all(alloc, roster, ranks, singles, budget) {
         Ok(entered) => Ok(entered.matched),
         Err(CoupleEnd::BudgetSpent) => Err(Refusal::alone(BUDGET_SPENT)),
@@ -74,7 +72,6 @@ fn publish(
     matched: &Match,
     proposals: &[u32],
 ) -> Result<Option<Vec<u8>>, AllocError>
-    requires registration { IsRegistration roster.now }
     requires ranks { ranks.now ≡ ranked_of roster.now.market }
     requires places { ArePlaces roster.now.market matched.now.places }
     requires proposals { length proposals.now ≡ length roster.now.market.programs }
@@ -94,11 +91,11 @@ fn answer_by_ranks(
     ranks: &Ranks,
     budget: u32,
 ) -> Result<Vec<u8>, Refusal>
-    requires registration { IsRegistration roster.now }
     requires ranks { ranks.now ≡ ranked_of roster.now.market }
     ensures text { IfOk result (λ text. IsAnswerOfMarket roster.now budget 0 text.items) }
     ensures refused { IfErr result (IsRefusalBy (IsAnswerOfMarket roster.now budget)) }
 {
+    roster.is_of_a_file();
     let Ok(singles) = match_singles(alloc, roster, ranks) else {
         return Err(Refusal::alone(OUT_OF_MEMORY));
     };
@@ -116,7 +113,6 @@ pub(crate) fn answer_to_market(
     roster: &Roster,
     budget: u32,
 ) -> Result<Vec<u8>, Refusal>
-    requires { IsRegistration roster.now }
     ensures text { IfOk result (λ text. IsAnswerOfMarket roster.now budget 0 text.items) }
     ensures refused { IfErr result (IsRefusalBy (IsAnswerOfMarket roster.now budget)) }
 {

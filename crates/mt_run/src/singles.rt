@@ -1,7 +1,6 @@
 ghost use Rattle.std.specs.Prelude.{◌≡◌, map, length, IfOk};
 ghost use Rattle.mt_core.specs.Floors.{IsOpenedWith, floor_of};
 ghost use Rattle.mt_model.specs.Best.{IsBest, proposals};
-ghost use Rattle.mt_model.specs.Laws.Registration.{IsRegistration};
 ghost use Rattle.mt_model.specs.Lists.{below, count_below};
 ghost use Rattle.mt_model.specs.Market.{applicants};
 ghost use Rattle.mt_ranks.specs.Ranked.{ranked_of};
@@ -38,12 +37,12 @@ pub(crate) fn match_singles(
     roster: &Roster,
     ranks: &Ranks,
 ) -> Result<Singles, AllocError>
-    requires registration { IsRegistration roster.now }
-    requires ranks { ranks.now ≡ ranked_of roster.now.market }
+    requires { ranks.now ≡ ranked_of roster.now.market }
     ensures best { IfOk result (λ s. IsBest roster.now.market s.matched.places) }
     ensures proposals { IfOk result (λ s. s.proposals.items
         ≡ map (proposals roster.now.market s.matched.places) (below (length roster.now.market.programs))) }
 {
+    roster.is_of_a_file();
     let mut floor = Floor::open(alloc, ranks)?;
     finish(&mut floor, ranks);
     let matched = result(alloc, &floor, ranks)?;

@@ -1,7 +1,7 @@
 //! Inputs that several tests use, with the text that is published for each, and the layers up to their tables.
 ghost use Rattle.std.specs.Prelude.{◌≡◌, length, IfOk, IsTrue};
 ghost use Rattle.std.specs.List.{list_all};
-ghost use Rattle.mt_model.specs.Laws.Registration.{is_none_or_below, IsRegistration};
+ghost use Rattle.mt_model.specs.Laws.Registration.{is_none_or_below};
 ghost use Rattle.mt_model.specs.Places.{ArePlaces};
 
 use mt_lists::records;
@@ -94,12 +94,9 @@ pub(crate) const THREE_COUPLES_TEXT: &[u8] = b"match,1,published\n\
     totals,6,2,6,2\n";
 
 /// The market of a file.
-pub(crate) fn roster_of(alloc: Global, file: &[u8]) -> Result<Roster, Fail>
-    ensures { IfOk result (λ roster. IsRegistration roster) }
-{
+pub(crate) fn roster_of(alloc: Global, file: &[u8]) -> Result<Roster, Fail> {
     let rows = records(alloc, file)?;
-    let roster = roster(alloc, rows.as_slice())?;
-    Ok(roster)
+    Ok(roster(alloc, rows.as_slice())?)
 }
 
 /// The rank tables of a file.

@@ -1,6 +1,5 @@
 //! The couples enter after the best match of the singles.
 ghost use Rattle.std.specs.Prelude.{◌≡◌, IfOk, IsTrue};
-ghost use Rattle.mt_model.specs.Laws.Registration.{IsRegistration};
 ghost use Rattle.mt_model.specs.Stability.{fits};
 ghost use Rattle.mt_ranks.specs.Ranked.{ranked_of};
 
@@ -16,10 +15,10 @@ use std::test::Fail;
 
 // The best match of the singles.
 fn singles(alloc: Global, roster: &Roster, ranks: &Ranks) -> Result<Match, AllocError>
-    requires registration { IsRegistration roster.now }
-    requires ranks { ranks.now ≡ ranked_of roster.now.market }
+    requires { ranks.now ≡ ranked_of roster.now.market }
     ensures { IfOk result (λ m. IsTrue (fits roster.now.market m.places)) }
 {
+    roster.is_of_a_file();
     let mut floor = Floor::open(alloc, ranks)?;
     finish(&mut floor, ranks);
     let matched = result(alloc, &floor, ranks)?;
@@ -28,16 +27,13 @@ fn singles(alloc: Global, roster: &Roster, ranks: &Ranks) -> Result<Match, Alloc
 
 // What the couples come to, after the best match of the singles.
 fn enter(alloc: Global, roster: &Roster, ranks: &Ranks, budget: u32) -> Result<Entered, CoupleEnd>
-    requires registration { IsRegistration roster.now }
-    requires ranks { ranks.now ≡ ranked_of roster.now.market }
+    requires { ranks.now ≡ ranked_of roster.now.market }
 {
     let singles = singles(alloc, roster, ranks)?;
     enter_all(alloc, roster, ranks, singles, budget)
 }
 
-fn entered(alloc: Global, roster: &Roster, budget: u32) -> Result<Entered, CoupleEnd>
-    requires { IsRegistration roster.now }
-{
+fn entered(alloc: Global, roster: &Roster, budget: u32) -> Result<Entered, CoupleEnd> {
     let ranks = Ranks::build(alloc, roster)?;
     enter(alloc, roster, &ranks, budget)
 }

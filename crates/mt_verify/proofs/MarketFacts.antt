@@ -5,7 +5,7 @@ use Rattle.std.proofs.lemmas.List.Sums.{get_or-le-sum_by}
 use Rattle.mt_model.specs.Laws.Registration.{IsRegistration}
 use Rattle.mt_model.specs.Lists.{has, below, count_below}
 use Rattle.mt_model.specs.Market.{Market, Program, Partners, Registered, applicants, program_of, list_of, couple_of, live}
-use Rattle.mt_model.specs.Matching.{Places, place_of, at, filled, is_program}
+use Rattle.mt_model.specs.Matching.{Places, place_of, at, filled, is_program, placed_ranks}
 use Rattle.mt_model.proofs.BelowFacts.{length-map_below, map_below_at}
 use Rattle.mt_model.proofs.Seats.{filled_by_applicant, listed_count}
 use Rattle.mt_model.specs.Places.{ArePlaces}
@@ -15,7 +15,6 @@ use Rattle.mt_model.specs.WellFormed.{IsWellFormed}
 use Rattle.mt_model.proofs.Totals.{count_below-same}
 use Rattle.mt_model.proofs.VerdictLemmas.{allowed_parts}
 use Rattle.mt_ranks.specs.Ranked.{Ranked, ranked_of}
-use Rattle.mt_verify.specs.Placed.{placed_ranks}
 use Rattle.mt_verify.proofs.PlacedFacts.{length-ranks_from}
 
 -- Below, the market is that of an accepted file. Its lists are no longer than all of them together.

@@ -1,3 +1,2 @@
 pub mod Blocking
 pub mod Moved
-pub mod Placed

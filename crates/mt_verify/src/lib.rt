@@ -2,7 +2,6 @@
 #![tactic(auto)]
 
 ghost use Rattle.std.specs.Prelude.{◌≡◌, ◌↔◌, IfOk, IsTrue};
-ghost use Rattle.mt_model.specs.Laws.Registration.{IsRegistration};
 ghost use Rattle.mt_model.specs.Places.{ArePlaces};
 ghost use Rattle.mt_model.specs.Stability.{stable};
 ghost use Rattle.mt_model.specs.Verdict.{verdict_of};
@@ -34,7 +33,6 @@ pub fn verify(
 ) -> Result<Verdict, AllocError>
     requires places { ArePlaces roster.now.market matched.now.places }
     requires ranks { ranks.now ≡ ranked_of roster.now.market }
-    requires registration { IsRegistration roster.now }
     ensures verdict { IfOk result (λ v. v ≡ verdict_of roster.now.market matched.now.places) }
     ensures stable { IfOk result (λ v. (v ≡ Verdict.Stable) ↔ IsTrue (stable roster.now.market matched.now.places)) }
 {

@@ -2,8 +2,7 @@ ghost use Rattle.std.specs.Prelude.{◌≡◌, ◌≤◌, ◌^◌, ◌++◌, [],
 ghost use Rattle.std.specs.List.Sorted.{IsNonDecreasing};
 ghost use Rattle.mt_model.specs.Laws.Registration.{IsRegistration};
 ghost use Rattle.mt_model.specs.Lists.{below, count};
-ghost use Rattle.mt_model.specs.Matching.{at};
-ghost use Rattle.mt_verify.specs.Placed.{ranks_from, placed_ranks};
+ghost use Rattle.mt_model.specs.Matching.{at, ranks_from, placed_ranks};
 
 use mt_model::{AppNo, FlatLists, Match, ProgNo};
 use mt_roster::Roster;
@@ -34,8 +33,8 @@ pub(crate) fn placed_by_program(
     roster: &Roster,
     matched: &Match,
 ) -> Result<FlatLists<u32>, AllocError>
-    requires { IsRegistration roster.now }
-    ensures { IfOk result (λ lists. lists ≡ map (placed_ranks roster.now.market matched.now.places) (below (length roster.now.market.programs))) }
+    ensures registration { OnOk result (IsRegistration roster.now) }
+    ensures placed { IfOk result (λ lists. lists ≡ map (placed_ranks roster.now.market matched.now.places) (below (length roster.now.market.programs))) }
 {
     let mut lists = FlatLists::new(alloc);
     for number in 0..roster.programs() {

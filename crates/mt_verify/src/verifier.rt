@@ -3,12 +3,11 @@ ghost use Rattle.std.specs.List.{find};
 ghost use Rattle.mt_model.specs.Laws.Registration.{IsRegistration};
 ghost use Rattle.mt_model.specs.Lists.{below, has};
 ghost use Rattle.mt_model.specs.Market.{agent_of, applicants, program_of};
-ghost use Rattle.mt_model.specs.Matching.{place_of};
+ghost use Rattle.mt_model.specs.Matching.{place_of, placed_ranks};
 ghost use Rattle.mt_model.specs.Places.{ArePlaces};
 ghost use Rattle.mt_model.specs.Stability.{has_own_option, is_listed};
 ghost use Rattle.mt_model.specs.Verdict.{is_over, is_unlisted, lowest_number, verdict_of};
 ghost use Rattle.mt_ranks.specs.Ranked.{ranked_of};
-ghost use Rattle.mt_verify.specs.Placed.{placed_ranks};
 
 mod blocking;
 mod taken;
@@ -43,7 +42,6 @@ impl<'a> Verifier<'a> {
     ) -> Result<Self, AllocError>
         requires ranks { ranks.now ≡ ranked_of roster.now.market }
         requires places { ArePlaces roster.now.market matched.now.places }
-        requires registration { IsRegistration roster.now }
         ensures market { IfOk result (λ v. v.roster.now ≡ roster.entry.now) }
         ensures places { IfOk result (λ v. v.matched.now ≡ matched.entry.now) }
     {

@@ -64,14 +64,15 @@ are_too_many limits records =
     nat_lt limits.applicants (length (applicant_ids records)) || nat_lt limits.programs (length (ids_of OfProgram records))
     || nat_lt limits.couples (length (ids_of OfCouple records)) || nat_lt limits.entries (entry_count records)
 
+-- the ids that a pair names
+abbrev pub named : IdPair → List Bytes
+named p = option_to_list p.0 ++ option_to_list p.1
+
 -- the first id that a record names and that none of all the records registers
 abbrev pub unknown_id : List Record → Record → Option Charge
 unknown_id all (ProgramRecord id quota list) = option_map (charge unknown_applicant) (first_not_in (applicant_ids all) list)
 unknown_id all (ApplicantRecord id list) = option_map (charge unknown_program) (first_not_in (ids_of OfProgram all) list)
 unknown_id all (CoupleRecord id a b pairs) = option_map (charge unknown_program) (first_not_in (ids_of OfProgram all) (flat_map named pairs))
-  where
-    named : IdPair → List Bytes
-    named p = option_to_list p.0 ++ option_to_list p.1
 unknown_id all (WithdrawRecord kind id) = option_map (charge not_registered) (first_not_in (ids_of kind all) (id ∷ []))
 
 -- the first fault of a record that follows these

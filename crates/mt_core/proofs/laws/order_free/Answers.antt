@@ -12,15 +12,7 @@ returns-clause-law c r is es fs s t end_s end_t =
     let quiet_s = subst (λ (x : Floor). IsTrue (is_quiet m x)) end_s.floor end_s.quiet in
     let quiet_t = subst (λ (x : Floor). IsTrue (is_quiet m x)) end_t.floor end_t.quiet in
     let alike = order_free_lem m is.well_formed es fs quiet_s quiet_t in
-    let back : EndAlike m (floor_of m s) (floor_of m t) =
-    subst (λ (x : Floor). EndAlike m (floor_of m s) x) (sym end_t.floor) (subst (λ (x : Floor). EndAlike m x (after_all m opening fs)) (sym end_s.floor) alike) in
-    record {
-      same_made = back.same_made;
-      same_received = back.same_received;
-      same_match = back.same_result;
-      best = back.best;
-      counts = back.on_the_way.same_counts;
-    }
+    subst (λ (x : Floor). EndAlike m (floor_of m s) x) (sym end_t.floor) (subst (λ (x : Floor). EndAlike m x (after_all m opening fs)) (sym end_s.floor) alike)
 
 pub returns-clause-example : goal.returns-clause-example
 returns-clause-example c = chain_ends

@@ -10,7 +10,7 @@ use Rattle.mt_couples.proofs.EnteringFacts.{next_waits, entering_more, entering_
 use Rattle.mt_couples.proofs.rounds.enter_all.Goals as goal
 
 pub new-requires-clause-places : goal.new-requires-clause-places
-new-requires-clause-places c = places_of_fitting c.args.roster.now.market c.args.singles.places c.couples-couples.ensures.roster.well_formed c.requires.fits
+new-requires-clause-places c = places_of_fitting c.args.roster.now.market c.args.singles.places c.couples-couples.ensures.registration.well_formed c.requires.fits
 
 pub settle-requires : goal.settle-requires
 settle-requires c =
@@ -18,7 +18,7 @@ settle-requires c =
     let waits : c.join.new.self ≡ Couple c.loop-number.number ∷ [] = c.in_ok-join.ensures ∙ ap (λ w. joined w (Couple c.loop-number.number)) so_far.nobody_waits in
     subst (IsRunning c.loop-number.assignment.market c.loop-number.assignment.places) (sym waits)
     (subst (λ m. IsRunning m c.loop-number.assignment.places (Couple c.loop-number.number ∷ [])) (sym so_far.market)
-    (next_waits c.args.roster.now.market c.couples-couples.ensures.roster.well_formed c.loop-number.number c.loop-number.assignment.places
+    (next_waits c.args.roster.now.market c.couples-couples.ensures.registration.well_formed c.loop-number.number c.loop-number.assignment.places
     (omega (arith, c.couples-couples.ensures.count)) so_far.fitting))
 
 -- the error of a result
@@ -55,4 +55,4 @@ returns-clause-entered c =
 pub returns-clause-stable : goal.returns-clause-stable
 returns-clause-stable c = λ best.
     let places = c.into_match.result.places in
-    stage_is_stable_lem c.args.roster.now.market c.couples-couples.ensures.roster.well_formed c.args.singles.places best c.args.budget (places, c.args.budget - c.loop-number.left) (returns-clause-entered c)
+    stage_is_stable_lem c.args.roster.now.market c.couples-couples.ensures.registration.well_formed c.args.singles.places best c.args.budget (places, c.args.budget - c.loop-number.left) (returns-clause-entered c)

@@ -8,7 +8,7 @@ use Rattle.mt_report.proofs.CountFacts.{total_below-same}
 use Rattle.mt_report.proofs.text.push_totals.Goals as goal
 
 pub unmatched_count-unmatched-requires : goal.unmatched_count-unmatched-requires
-unmatched_count-unmatched-requires c = omega (arith, ap length c.as_slice.ensures, c.requires.places.one_each, c.applicants-applicants.ensures.roster.few_applicants)
+unmatched_count-unmatched-requires c = omega (arith, ap length c.as_slice.ensures, c.requires.places.one_each, c.applicants-applicants.ensures.registration.few_applicants)
 
 -- there is a count for each program
 counted : (c : goal.After-push_numbers) → length c.args.counts.now ≡ length c.args.roster.now.market.programs
@@ -16,7 +16,7 @@ counted c = ap length c.requires.counts ∙ length-map_below (filled c.args.matc
 
 pub filled_total-requires : goal.filled_total-requires
 filled_total-requires c =
-    omega (arith, ap length c.requires.counts, length-map_below (filled c.args.matched.now.places) (length c.args.roster.now.market.programs), c.applicants-applicants.ensures.roster.few_programs)
+    omega (arith, ap length c.requires.counts, length-map_below (filled c.args.matched.now.places) (length c.args.roster.now.market.programs), c.applicants-applicants.ensures.registration.few_programs)
 
 pub returns : goal.returns
 returns c =

@@ -1,6 +1,5 @@
 use Rattle.std.proofs.Common.{subst}
 use Rattle.mt_model.specs.Registration.{market_of}
-use Rattle.mt_model.proofs.PassFacts.{accepted_is_registration_lem}
 use Rattle.mt_roster.specs.Faults.{Tells}
 use Rattle.mt_roster.specs.declared.fault.RosterError.{RosterError}
 use Rattle.mt_run.proofs.FaultFacts.{refusal_of_fault}
@@ -10,6 +9,3 @@ pub returns-in-Err-Fault-clause-refused : goal.returns-in-Err-Fault-clause-refus
 returns-in-Err-Fault-clause-refused c =
     rw c.in-Err-Fault.field-0-is (refusal_of_fault c.args.rows.now c.args.budget (record { code = c.in-Err-Fault.fault.code; row = c.in-Err-Fault.fault.row; id = c.in-Err-Fault.fault.id })
     (subst (λ (e : RosterError). Tells e (market_of c.args.rows.now)) c.in-Err-Fault.field-0-is c.in-Err-Fault.ensures.fault))
-
-pub answer_to_market-requires : goal.answer_to_market-requires
-answer_to_market-requires c = accepted_is_registration_lem c.args.rows.now c.in-Ok.roster c.in-Ok.ensures.market

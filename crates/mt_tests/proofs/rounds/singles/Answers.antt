@@ -8,7 +8,7 @@ use Rattle.mt_tests.proofs.rounds.singles.Goals as goal
 pub returns : goal.returns
 returns c =
     let market = c.args.roster.now.market in
-    let formed = c.requires.registration.well_formed in
-    let best = best_of_live market formed c.args.ranks.now.market (ap Ranked.market c.requires.ranks)
+    let formed = c.is_of_a_file.ensures.well_formed in
+    let best = best_of_live market formed c.args.ranks.now.market (ap Ranked.market c.requires)
     c.in_ok-matched.matched.places (c.in_ok-matched.ensures.best (c.finish.ensures.legal c.in_ok-floor.ensures.strict.legal)) in
     singles_fit market formed c.in_ok-matched.matched.places (IsBest.is_stable best)

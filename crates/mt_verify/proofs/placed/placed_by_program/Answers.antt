@@ -2,13 +2,12 @@ use Rattle.std.proofs.Common.{ap, sym, ◌∙◌, ℕ, List, length, arith, ◌+
 use Rattle.std.proofs.lemmas.List.{map-append}
 use Rattle.mt_model.proofs.BelowFacts.{below_more}
 use Rattle.mt_model.specs.Lists.{below}
-use Rattle.mt_verify.specs.Placed.{placed_ranks, ranks_from}
-use Rattle.mt_model.specs.Matching.{at}
+use Rattle.mt_model.specs.Matching.{at, placed_ranks, ranks_from}
 use Rattle.mt_verify.proofs.MarketFacts.{few_ranked}
 use Rattle.mt_verify.proofs.placed.placed_by_program.Goals as goal
 
 pub push_placed-requires : goal.push_placed-requires
-push_placed-requires c = omega (arith, few_ranked c.args.roster.now c.requires c.loop-number.number (omega (arith, c.programs-number-end.ensures.count)), ap length c.program_list.ensures)
+push_placed-requires c = omega (arith, few_ranked c.args.roster.now c.programs-number-end.ensures.registration c.loop-number.number (omega (arith, c.programs-number-end.ensures.count)), ap length c.program_list.ensures)
 
 pub loop-number-preserved : goal.loop-number-preserved
 loop-number-preserved c =

@@ -34,7 +34,7 @@ returns c =
     let row_is = row_at t c.self.invariant p c.index.result c.index-row.result.now c.index.ensures (program_known t _ p c.self.view_is c.requires) c.index-row.ensures in
     let quota_is = c.quota-quota.ensures ∙ ranked_quota t.ranks.now m p c.self.invariant.one_market in
     let list_is = c.by_rank.ensures ∙ ranked_ranking t.ranks.now m p c.self.invariant.one_market in
-    let once = c.self.invariant.is_roster.well_formed.rankings_distinct p in
+    let once = c.self.invariant.is_registration.well_formed.rankings_distinct p in
     let beyond_is = c.beyond.ensures ∙ ap₂ drop quota_is row_is in
     on_ok_weaker c.add_ranked.result (λ done.
     done ∙ ap (λ xs. c.args.displaced.now.items ++ xs)

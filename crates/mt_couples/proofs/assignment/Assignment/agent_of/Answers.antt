@@ -8,6 +8,6 @@ use Rattle.mt_couples.proofs.assignment.Assignment.agent_of.Goals as goal
 pub returns-clause-within : goal.returns-clause-within
 returns-clause-within c =
     let is = ap (λ (s : Assigned). s.market) c.self.view_is in
-    let well = subst IsWellFormed is c.self.invariant.is_roster.well_formed in
+    let well = subst IsWellFormed is c.self.invariant.is_registration.well_formed in
     subst (IsAgentOf c.args.self.now.market) (ap (λ (m : Market). agent_of m c.args.applicant) (sym is) ∙ sym c.agent_of.ensures)
     (agent_within c.args.self.now.market well c.args.applicant c.requires)

@@ -47,10 +47,10 @@ invariant_of-self-2 c =
     (λ q is. subst (λ n. n < length t.roster.now.market.programs) (eqb-true p q is) p_known) in
     elim c.match-rank.branch [
       | in-Some+in_ok-insert w ↦
-          tables_after _ _ c.index-2.result a (Some p) w.self-inside-is c.index-2.ensures h.is_roster h.one_market h.are_places a_in there
+          tables_after _ _ c.index-2.result a (Some p) w.self-inside-is c.index-2.ensures h.is_registration h.one_market h.are_places a_in there
           (rows_on t h a a_known p w.index.result w.in-Some.rank w.index_mut-row.result.now w.insert.new.self w.index.ensures p_known place
           w.index_mut-row.ensures.value (ranked_at t h p a (Some w.in-Some.rank) w.in-Some.ensures.position) w.in_ok-insert.ensures.ok)
       | in_default w ↦
-          tables_after _ _ c.index-2.result a (Some p) w.self-inside-is c.index-2.ensures h.is_roster h.one_market h.are_places a_in there
+          tables_after _ _ c.index-2.result a (Some p) w.self-inside-is c.index-2.ensures h.is_registration h.one_market h.are_places a_in there
           (rows_on_unlisted t h a a_known p place (ranked_at t h p a None w.in_default.ensures.position))
     ]

@@ -56,13 +56,13 @@ invariant_of-self c =
     let none : (p : ℕ) → is_program p None ≡ true → p < length t.roster.now.market.programs = (λ p no. absurd (false≢true no)) in
     elim c.match-place_in.branch [
       | in-Some+in-Some-rank w ↦
-          tables_after _ _ c.index-2.result a None w.self-inside-is c.index-2.ensures h.is_roster h.one_market h.are_places a_in none
+          tables_after _ _ c.index-2.result a None w.self-inside-is c.index-2.ensures h.is_registration h.one_market h.are_places a_in none
           (rows_off t h a a_known w.in-Some.program w.index.result w.in-Some-rank.rank w.index_mut-row.result.now w.remove.new.self w.index.ensures (w.in-Some.ensures ∙ value)
           w.index_mut-row.ensures.value (ranked_at t h w.in-Some.program a (Some w.in-Some-rank.rank) w.in-Some-rank.ensures.position) w.remove.ensures)
       | in-Some+in_default-rank w ↦
-          tables_after _ _ c.index-2.result a None w.self-inside-is c.index-2.ensures h.is_roster h.one_market h.are_places a_in none
+          tables_after _ _ c.index-2.result a None w.self-inside-is c.index-2.ensures h.is_registration h.one_market h.are_places a_in none
           (rows_off_unlisted t h a a_known w.in-Some.program (w.in-Some.ensures ∙ value) (ranked_at t h w.in-Some.program a None w.in_default-rank.ensures.position))
       | in_default w ↦
-          tables_after _ _ c.index-2.result a None w.self-inside-is c.index-2.ensures h.is_roster h.one_market h.are_places a_in none
+          tables_after _ _ c.index-2.result a None w.self-inside-is c.index-2.ensures h.is_registration h.one_market h.are_places a_in none
           (rows_same t h a a_known (w.in_default.ensures ∙ value))
     ]

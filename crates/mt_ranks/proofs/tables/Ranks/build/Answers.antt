@@ -6,10 +6,10 @@ use Rattle.mt_ranks.proofs.tables.Ranks.build.Goals as goal
 
 pub transpose-requires-clause-within : goal.transpose-requires-clause-within
 transpose-requires-clause-within c =
-    rankings_within c.args.roster.now.market c.in_ok-rankings.rankings c.applicants.result c.applicants.ensures.roster.well_formed c.in_ok-rankings.ensures c.applicants.ensures.count
+    rankings_within c.args.roster.now.market c.in_ok-rankings.rankings c.applicants.result c.applicants.ensures.registration.well_formed c.in_ok-rankings.ensures c.applicants.ensures.count
 
 pub transpose-requires-clause-distinct : goal.transpose-requires-clause-distinct
-transpose-requires-clause-distinct c = rankings_apart c.args.roster.now.market c.in_ok-rankings.rankings c.applicants.ensures.roster.well_formed c.in_ok-rankings.ensures
+transpose-requires-clause-distinct c = rankings_apart c.args.roster.now.market c.in_ok-rankings.rankings c.applicants.ensures.registration.well_formed c.in_ok-rankings.ensures
 
 pub live_lists-requires-clause-rows : goal.live_lists-requires-clause-rows
 live_lists-requires-clause-rows c =
@@ -18,7 +18,7 @@ live_lists-requires-clause-rows c =
 pub live_lists-requires-clause-ascend : goal.live_lists-requires-clause-ascend
 live_lists-requires-clause-ascend c a =
     rows_ascend c.in_ok-rankings.rankings c.in_ok-rows.rows c.applicants.result a
-    (rankings_apart c.args.roster.now.market c.in_ok-rankings.rankings c.applicants.ensures.roster.well_formed c.in_ok-rankings.ensures) c.in_ok-rows.ensures
+    (rankings_apart c.args.roster.now.market c.in_ok-rankings.rankings c.applicants.ensures.registration.well_formed c.in_ok-rankings.ensures) c.in_ok-rows.ensures
 
 made : (c : goal.In_ok-singles) → AreMade c.args.roster.now.market (record { quotas = c.in_ok-quotas.quotas; rankings = c.in_ok-rankings.rankings; rows = c.in_ok-rows.rows; lists = c.in_ok-lists.lists; singles = c.in_ok-singles.singles })
 made c = record {
@@ -31,7 +31,7 @@ made c = record {
 
 pub invariant_of-result : goal.invariant_of-result
 invariant_of-result c =
-    made_tables c.args.roster.now.market _ (made c) c.applicants.ensures.roster.well_formed c.applicants.ensures.roster.few_applicants c.applicants.ensures.roster.few_programs
+    made_tables c.args.roster.now.market _ (made c) c.applicants.ensures.registration.well_formed c.applicants.ensures.registration.few_applicants c.applicants.ensures.registration.few_programs
 
 pub returns : goal.returns
 returns c = made_seen c.args.roster.now.market _ (made c)

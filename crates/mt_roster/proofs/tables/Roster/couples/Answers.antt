@@ -4,7 +4,7 @@ use Rattle.mt_roster.proofs.TablesFacts.{count_of_couples}
 use Rattle.mt_roster.proofs.tables.Roster.couples.Goals as goal
 
 pub overflow_cast-result : goal.overflow_cast-result
-overflow_cast-result c = omega (arith, count_of_couples c.self.inside c.self.invariant, c.self.invariant.roster.few_couples)
+overflow_cast-result c = omega (arith, count_of_couples c.self.inside c.self.invariant, c.self.invariant.registration.few_couples)
 
 pub returns-clause-count : goal.returns-clause-count
 returns-clause-count c = omega (arith, count_of_couples c.self.inside c.self.invariant, ap (λ (r : Registered). length r.market.couples) c.self.view_is)
