@@ -4,7 +4,7 @@ use Rattle.std.specs.List.{flat_map, join_with_byte, list_any}
 use Rattle.mt_model.specs.Lists.{below, count, total_below}
 use Rattle.mt_model.specs.Market.{Market, Names, applicants, program_of}
 use Rattle.mt_model.specs.Matching.{Places, place_of, filled}
-use Rattle.mt_model.specs.Registration.Faults.{no_version, not_registered}
+use Rattle.mt_model.specs.Registration.Faults.{no_version, unknown_kind, field_count, bad_id, bad_quota, duplicate_id, duplicate_entry, too_many, unknown_applicant, unknown_program, not_registered}
 use Rattle.mt_model.specs.Registration.Ids.{Bytes, is_id}
 use Rattle.mt_model.specs.declared.limits.TheConstants.{LIMITS_2}
 
@@ -52,13 +52,30 @@ published m names places received =
     ++ flat_map (program_line m names places received) (below (length m.programs))
     ++ totals_line m places
 
+-- the codes of the refusals that are no fault of a file's records
+abbrev pub too_large : ℕ
+too_large = 10
+
+abbrev pub two_marks : ℕ
+two_marks = 11
+
+abbrev pub out_of_memory : ℕ
+out_of_memory = 30
+
+abbrev pub read_fault : ℕ
+read_fault = 31
+
+abbrev pub budget_spent : ℕ
+budget_spent = 41
+
 -- the codes of the refusals, each with its name
 abbrev pub refusals : List (ℕ × List ℕ)
 refusals =
-    (10, codes "TooLarge") ∷ (11, codes "TwoMarks") ∷ (12, codes "NoVersion") ∷ (13, codes "UnknownKind") ∷ (14, codes "FieldCount")
-    ∷ (15, codes "BadId") ∷ (16, codes "BadQuota") ∷ (17, codes "DuplicateId") ∷ (18, codes "DuplicateEntry") ∷ (19, codes "TooMany")
-    ∷ (20, codes "UnknownApplicant") ∷ (21, codes "UnknownProgram") ∷ (22, codes "NotRegistered")
-    ∷ (30, codes "OutOfMemory") ∷ (31, codes "ReadFault") ∷ (41, codes "BudgetSpent") ∷ []
+    (too_large, codes "TooLarge") ∷ (two_marks, codes "TwoMarks") ∷ (no_version, codes "NoVersion") ∷ (unknown_kind, codes "UnknownKind")
+    ∷ (field_count, codes "FieldCount") ∷ (bad_id, codes "BadId") ∷ (bad_quota, codes "BadQuota") ∷ (duplicate_id, codes "DuplicateId")
+    ∷ (duplicate_entry, codes "DuplicateEntry") ∷ (too_many, codes "TooMany") ∷ (unknown_applicant, codes "UnknownApplicant")
+    ∷ (unknown_program, codes "UnknownProgram") ∷ (not_registered, codes "NotRegistered")
+    ∷ (out_of_memory, codes "OutOfMemory") ∷ (read_fault, codes "ReadFault") ∷ (budget_spent, codes "BudgetSpent") ∷ []
 
 abbrev pub is_known_code : ℕ → Bool
 is_known_code code = list_any (λ r. r.0 == code) refusals

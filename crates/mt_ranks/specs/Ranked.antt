@@ -7,6 +7,7 @@ use Rattle.mt_model.specs.Market.{Market, applicants, program_of, list_of, live,
 use Rattle.mt_model.specs.WellFormed.{IsWellFormed}
 use Rattle.mt_model.specs.declared.numbers.Agent.{Agent}
 use Rattle.mt_model.specs.declared.numbers.Agent.TheVariants.{Single, Couple}
+use Rattle.mt_model.specs.declared.limits.TheConstants.{LIMITS_2}
 use Rattle.mt_ranks.specs.declared.entries.Live.{Live}
 
 -- whether an agent is a single
@@ -59,6 +60,6 @@ pub record IsRanked (r : Ranked) : Type 0 where
   pub all_ranked : (a p : ℕ) → IsTrue (has (list_of r.market a) p) → IsEntry r.market a (ranked_entry r.market a p)
   pub flags : length r.singles ≡ applicants r.market
   pub member_lists : (a : ℕ) → slice_index_or r.singles a false ≡ false → list_of r.market a ≡ []
-  pub few_applicants : applicants r.market ≤ 100000
-  pub few_programs : length r.market.programs ≤ 20000
+  pub few_applicants : applicants r.market ≤ LIMITS_2.applicants
+  pub few_programs : length r.market.programs ≤ LIMITS_2.programs
   pub few_entries : entry_count r.market < 2 ^ 32

@@ -1,4 +1,5 @@
 ghost use Rattle.std.specs.Prelude.{◌≡◌, ℕ, ◌+◌, ◌<◌, ◌≤◌, ◌^◌, ◌==◌, ◌++◌, length, map, slice_index, IfOk, IsTrue};
+ghost use Rattle.mt_model.specs.declared.limits.TheConstants.{LIMITS_2};
 ghost use Rattle.mt_model.specs.Lists.{has, below, count};
 ghost use Rattle.mt_ranks.specs.Entries.{entries_in, entries_from, times_listed, AreWithin, AreDistinct};
 ghost use Rattle.mt_ranks.specs.Rows.{row_of, HasRoom};
@@ -62,8 +63,8 @@ pub(crate) fn transpose(
     rankings: &FlatLists<AppNo>,
     applicants: usize,
 ) -> Result<Rows, AllocError>
-    requires few_applicants { applicants ≤ 100000 }
-    requires few_programs { length rankings.now ≤ 20000 }
+    requires few_applicants { applicants ≤ LIMITS_2.applicants }
+    requires few_programs { length rankings.now ≤ LIMITS_2.programs }
     requires within { AreWithin applicants rankings.now }
     requires distinct { AreDistinct rankings.now }
     ensures { IfOk result (λ rows. rows.lists ≡ map (entries_from 0 rankings.now) (below applicants)) }

@@ -5,6 +5,7 @@ use Rattle.mt_model.specs.declared.limits.Limits.{Limits}
 use Rattle.mt_model.specs.Registration.Records as model
 use Rattle.mt_model.specs.Registration.Rows.{own_id, withdrawn_id, applicants_of, ids_of, withdrawn, applicant_ids, entry_count}
 use Rattle.mt_model.specs.Registration.Passes.{Numbered, contents}
+use Rattle.mt_model.specs.declared.limits.TheConstants.{LIMITS_2}
 use Rattle.mt_roster.specs.declared.register.Numbered as declared
 use Rattle.mt_roster.specs.declared.register.Kinds.{Kinds}
 use Rattle.mt_roster.specs.declared.register.Register.{Register}
@@ -32,17 +33,17 @@ withdraws_twice before _ = false
 
 -- No more of anything than an input may have.
 pub record AreFew (rs : List model.Record) : Type 0 where
-  pub programs : length (ids_of model.OfProgram rs) ≤ 20000
-  pub couples : length (ids_of model.OfCouple rs) ≤ 10000
-  pub applicants : length (applicant_ids rs) ≤ 100000
-  pub entries : entry_count rs ≤ 8000000
+  pub programs : length (ids_of model.OfProgram rs) ≤ LIMITS_2.programs
+  pub couples : length (ids_of model.OfCouple rs) ≤ LIMITS_2.couples
+  pub applicants : length (applicant_ids rs) ≤ LIMITS_2.applicants
+  pub entries : entry_count rs ≤ LIMITS_2.entries
 
 -- Limits that no version passes.
 pub record AreBounded (limits : Limits) : Type 0 where
-  pub programs : limits.programs ≤ 20000
-  pub couples : limits.couples ≤ 10000
-  pub applicants : limits.applicants ≤ 100000
-  pub entries : limits.entries ≤ 8000000
+  pub programs : limits.programs ≤ LIMITS_2.programs
+  pub couples : limits.couples ≤ LIMITS_2.couples
+  pub applicants : limits.applicants ≤ LIMITS_2.applicants
+  pub entries : limits.entries ≤ LIMITS_2.entries
 
 -- The tables are those of the records.
 pub record IsRegister (r : Register) : Type 0 where

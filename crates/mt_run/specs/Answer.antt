@@ -11,7 +11,8 @@ use Rattle.mt_model.specs.Registration.{market_of}
 use Rattle.mt_model.specs.Registration.Faults.{Fault}
 use Rattle.mt_model.specs.Rounds.{stage}
 use Rattle.mt_model.specs.Stability.{stable}
-use Rattle.mt_model.specs.Text.{published, refused}
+use Rattle.mt_model.specs.Text.{budget_spent, out_of_memory, published, read_fault, refused, too_large, two_marks}
+use Rattle.mt_model.specs.declared.limits.TheConstants.{LIMITS_2}
 use Rattle.mt_run.specs.Headline.{IsRefusal, IsStableTextOf}
 
 -- the text is the line of a refusal with this code, which no record is at
@@ -30,7 +31,7 @@ pub record IsPublished (r : Registered) (places : Places) (received text : List 
 -- after the couples' stage from the best match of the singles: the published text of the match that it ends
 -- in, or the refusal where the budget is spent
 abbrev pub IsAnswerOfStage : Registered → Places → Option (Places × ℕ) → ℕ → List ℕ → Type 0
-IsAnswerOfStage r best None code text = IsRefusedAlone 41 code text
+IsAnswerOfStage r best None code text = IsRefusedAlone budget_spent code text
 IsAnswerOfStage r best (Some s) code text = (code ≡ 0) × (text ≡ published r.market r.names s.0 (all_proposals r best))
 
 -- the couples' stage from this match ends, within the budget, in that one
@@ -54,13 +55,13 @@ IsAnswerOfRows budget code text rows = MatchResult (market_of rows) (λ r. IsAns
 
 -- how many bytes an input may have
 abbrev pub most_bytes : ℕ
-most_bytes = 67108864
+most_bytes = LIMITS_2.bytes
 
 -- The answer to bytes and a budget, with its code: 0 for a published text, else the refusal's.
 abbrev pub IsAnswer : List ℕ → ℕ → ℕ → List ℕ → Type 0
 IsAnswer bytes budget code text =
-    MatchBool (nat_lt most_bytes (length bytes)) (IsRefusedAlone 10 code text)
-    (MatchOption (records_of bytes) (IsRefusedAlone 11 code text) (IsAnswerOfRows budget code text))
+    MatchBool (nat_lt most_bytes (length bytes)) (IsRefusedAlone too_large code text)
+    (MatchOption (records_of bytes) (IsRefusedAlone two_marks code text) (IsAnswerOfRows budget code text))
 
 -- the answer to the bytes that a reader had left, or to some bytes where it doesn't tell them
 abbrev pub IsAnswerTo : Option (List ℕ) → ℕ → ℕ → List ℕ → Type 0
@@ -77,4 +78,4 @@ pub record Answers (left : Option (List ℕ)) (budget : ℕ) (old new : Option (
   pub all : IsTrue whole → written ≡ length text
   pub refusal : code ≢ 0 → IsRefusal code text
   pub stable : code ≡ 0 → IsStableTextOf left text
-  pub answer : code ≢ 30 → code ≢ 31 → IsAnswerTo left budget code text
+  pub answer : code ≢ out_of_memory → code ≢ read_fault → IsAnswerTo left budget code text
