@@ -2,7 +2,7 @@
 use Rattle.std.specs.Prelude.{◌≡◌, ◌⊎◌, ℕ, ◌≤◌, Bool, true, List, [], ◌∷◌, length, take, Option, IsTrue, if◌then◌else◌}
 use Rattle.std.specs.Io.KnownBytes.{Appends}
 use Rattle.mt_args.specs.CommandLine.{AsksForHelp, IsMisuse, is_taken}
-use Rattle.mt_model.specs.Lists.{has}
+use Rattle.mt_terms.specs.Lists.{has}
 use Rattle.mt_run.specs.Answer.{Answers}
 use Rattle.mt_run.specs.Status.{status_of}
 

@@ -4,7 +4,7 @@
 ghost use Rattle.std.specs.Prelude.{◌≡◌, ◌+◌, ◌<◌, ◌^◌, [], false, true, IsTrue};
 ghost use Rattle.mt_app.specs.Program.{IsExitFor, IsRun, IsTold};
 ghost use Rattle.mt_args.specs.CommandLine.{texts_of};
-ghost use Rattle.mt_model.specs.Text.{is_known_code, refused as refused_text};
+ghost use Rattle.mt_terms.specs.Text.{is_known_code, refused as refused_text};
 ghost use Rattle.mt_report.specs.Drains.{contents_of, failures_of};
 ghost use Rattle.mt_run.specs.Status.{status_of};
 

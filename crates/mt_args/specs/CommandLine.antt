@@ -17,7 +17,7 @@ use Rattle.mt_args.specs.declared.answer.Asked.{Asked}
 use Rattle.mt_args.specs.declared.answer.Asked.TheVariants.{Run, Help}
 use Rattle.mt_args.specs.declared.answer.AskEnd.{AskEnd}
 use Rattle.mt_args.specs.declared.answer.AskEnd.TheVariants.{Usage, Memory}
-use Rattle.mt_model.specs.declared.options.Options.{Options}
+use Rattle.mt_terms.specs.declared.options.Options.{Options}
 
 -- ---- the command
 

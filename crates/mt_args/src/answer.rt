@@ -1,4 +1,4 @@
-use mt_model::Options;
+use mt_terms::Options;
 use thiserror::Error;
 
 /// What the words of a command line ask for.

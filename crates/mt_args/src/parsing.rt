@@ -9,7 +9,7 @@ use crate::command::command;
 use crate::{AskEnd, Asked};
 use clap::error::ErrorKind;
 use clap::{ArgMatches, Error};
-use mt_model::Options;
+use mt_terms::Options;
 use std::alloc::{AllocError, Global};
 
 /// What the words after the program's name ask for, by `clap`'s definition of a simple command: where the command

@@ -1,14 +1,14 @@
 -- The end of the rejection chain, computed.
 use Rattle.std.proofs.Common.{◌≡◌, ℕ, zero, suc, ◌≤◌, length, refl, sym, subst, arith}
 use Rattle.std.proofs.lemmas.Bool.Decides.{nat_tests}
-use Rattle.mt_model.specs.Examples.Markets.{chain}
-use Rattle.mt_model.specs.Examples.Events.{by_wishes, from_the_last}
-use Rattle.mt_model.specs.Floor.{Floor, IsLegal, opening, after_all}
-use Rattle.mt_model.specs.Market.{program_of}
-use Rattle.mt_model.specs.WellFormed.{IsWellFormed}
-use Rattle.mt_model.proofs.FloorEvents.{events_keep_strict_lem}
-use Rattle.mt_model.proofs.FloorRuns.{opening_is_strict_lem}
-use Rattle.mt_model.proofs.WellFormedLemmas.{well_formed_from_test}
+use Rattle.mt_terms.specs.Examples.Markets.{chain}
+use Rattle.mt_terms.specs.Examples.Events.{by_wishes, from_the_last}
+use Rattle.mt_terms.specs.Floor.{Floor, IsLegal, opening, after_all}
+use Rattle.mt_terms.specs.Market.{program_of}
+use Rattle.mt_terms.specs.WellFormed.{IsWellFormed}
+use Rattle.mt_floor_laws.proofs.FloorEvents.{events_keep_strict_lem}
+use Rattle.mt_floor_laws.proofs.FloorRuns.{opening_is_strict_lem}
+use Rattle.mt_match_laws.proofs.WellFormedLemmas.{well_formed_from_test}
 use Rattle.mt_hold.specs.Holding.{ranks}
 use Rattle.mt_ranks.proofs.LiveMarket.{live_market_ranked}
 use Rattle.mt_core.specs.Floors.{floor_of, hold_of, IsOpenedWith}

@@ -3,12 +3,12 @@ use Rattle.std.proofs.Common.{◌≡◌, ◌≢◌, ◌==◌, ℕ, ◌+◌, ◌<
 use Rattle.std.specs.Option.{option_map_or, is_some}
 use Rattle.std.proofs.Math.Path.{fun_ext}
 use Rattle.std.proofs.lemmas.Bool.{cases_eq, false≢true}
-use Rattle.mt_model.specs.Lists.{has, is_distinct, with_one, without, count_below}
-use Rattle.mt_model.specs.Market.{Market, program_of, applicants}
-use Rattle.mt_model.specs.Choice.{choice}
-use Rattle.mt_model.specs.WellFormed.{IsWellFormed}
-use Rattle.mt_model.specs.Floor as model
-use Rattle.mt_model.specs.Floor.{Floor, proposed_at, receives_one}
+use Rattle.mt_terms.specs.Lists.{has, is_distinct, with_one, without, count_below}
+use Rattle.mt_terms.specs.Market.{Market, program_of, applicants}
+use Rattle.mt_terms.specs.Choice.{choice}
+use Rattle.mt_terms.specs.WellFormed.{IsWellFormed}
+use Rattle.mt_terms.specs.Floor as model
+use Rattle.mt_terms.specs.Floor.{Floor, proposed_at, receives_one}
 use Rattle.mt_hold.specs.Holding.{Holding, ranks, has_received, received_count, held, opened, receive}
 use Rattle.mt_hold.specs.Laws.{IsHoldingOf}
 use Rattle.mt_hold.proofs.Lists.{held_is_choice, receive_adds_one, count_is_size}

@@ -1,12 +1,12 @@
 -- A proposal that is due can be made.
 use Rattle.std.proofs.Common.{◌≡◌, ◌==◌, ℕ, ◌-◌, ◌<◌, ◌≤◌, length, Bool, true, false, cond, Option, Some, None, IsTrue, IsFalse, slice_get, refl, ap, ◌∙◌, arith, subst}
 use Rattle.std.specs.Option.{option_map, unwrap_or}
-use Rattle.mt_model.specs.Lists.{has}
-use Rattle.mt_model.specs.Market.{Market, applicants, program_of, list_of, live}
-use Rattle.mt_model.specs.Floor.{Floor, IsRecorded, next_entry, last_tried}
-use Rattle.mt_model.proofs.FloorLists.{has-get, has-take_before}
-use Rattle.mt_model.proofs.FloorEvents.{IsNext, next_facts, live_parts, live_distinct, within_get}
-use Rattle.mt_model.proofs.FloorBest.{applicant_from_live}
+use Rattle.mt_terms.specs.Lists.{has}
+use Rattle.mt_terms.specs.Market.{Market, applicants, program_of, list_of, live}
+use Rattle.mt_terms.specs.Floor.{Floor, IsRecorded, next_entry, last_tried}
+use Rattle.mt_floor_laws.proofs.FloorLists.{has-get, has-take_before}
+use Rattle.mt_floor_laws.proofs.FloorEvents.{IsNext, next_facts, live_parts, live_distinct, within_get}
+use Rattle.mt_floor_laws.proofs.FloorBest.{applicant_from_live}
 use Rattle.mt_ranks.specs.Ranked.{Ranked, IsRanked, rank_of, ranked_entry}
 use Rattle.mt_ranks.specs.declared.entries.Live.{Live}
 use Rattle.mt_ranks.proofs.Sizes.{distinct_length}

@@ -3,10 +3,10 @@ use Rattle.std.proofs.Common.{◌≡◌, ℕ, List, [], Bool, false, Option, Som
 use Rattle.std.specs.Option.{option_map_or}
 use Rattle.std.proofs.lemmas.Bool.{cases_lt}
 use Rattle.std.proofs.lemmas.List.{get_or-replicate, get_or_past, length-replicate}
-use Rattle.mt_model.specs.Lists.{below}
-use Rattle.mt_model.specs.Market.{Market, Program, program_of, applicants}
-use Rattle.mt_model.specs.Floor.{opening}
-use Rattle.mt_model.proofs.BelowFacts.{length-map_below, map_below_at}
+use Rattle.mt_terms.specs.Lists.{below}
+use Rattle.mt_terms.specs.Market.{Market, Program, program_of, applicants}
+use Rattle.mt_terms.specs.Floor.{opening}
+use Rattle.mt_terms.proofs.BelowFacts.{length-map_below, map_below_at}
 use Rattle.mt_hold.specs.Holding.{Holding, has_received, opened}
 use Rattle.mt_ranks.specs.Ranked.{rank_of}
 use Rattle.mt_core.specs.Floors.{Tables, hold_of, floor_of, IsOpenedWith, opened_for}

@@ -2,7 +2,7 @@
 use Rattle.std.proofs.Common.{◌≡◌, ◌≢◌, ◌==◌, ℕ, zero, suc, ◌<◌, List, [], ◌∷◌, false, not, Option, Some, None, is_some, IsTrue, length, get_or, refl, sym, ap, ◌∙◌, arith}
 use Rattle.std.specs.List.{position}
 use Rattle.std.proofs.lemmas.Bool.{true≢false, and_parts, not-true}
-use Rattle.mt_model.specs.Lists.{has, is_distinct}
+use Rattle.mt_terms.specs.Lists.{has, is_distinct}
 use Rattle.mt_hold.proofs.Lists.{has-at}
 use Rattle.mt_ranks.proofs.Positions.{has-position, IsRank-from_position}
 

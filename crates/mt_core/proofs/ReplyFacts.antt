@@ -3,13 +3,13 @@ use Rattle.std.proofs.Common.{◌≡◌, ◌≢◌, ◌↔◌, ◌==◌, ℕ, ze
 use Rattle.std.specs.List.{find}
 use Rattle.std.specs.Option.{is_some}
 use Rattle.std.proofs.lemmas.Bool.{cases_Bool, cases_eq, and_from, not_from_false, both_ways, true≢false}
-use Rattle.mt_model.specs.Lists.{has, with_one}
-use Rattle.mt_model.specs.Market.{Market, program_of}
-use Rattle.mt_model.specs.Choice.{choice}
-use Rattle.mt_model.specs.Floor as model
-use Rattle.mt_model.specs.Floor.{Floor, proposed_at, receives_one, kept_reply, dropped, reply_of_proposal}
-use Rattle.mt_model.specs.declared.events.Reply.TheVariants as reply
-use Rattle.mt_model.proofs.ChoiceLemmas.{choice_facts}
+use Rattle.mt_terms.specs.Lists.{has, with_one}
+use Rattle.mt_terms.specs.Market.{Market, program_of}
+use Rattle.mt_terms.specs.Choice.{choice}
+use Rattle.mt_terms.specs.Floor as model
+use Rattle.mt_terms.specs.Floor.{Floor, proposed_at, receives_one, kept_reply, dropped, reply_of_proposal}
+use Rattle.mt_terms.specs.declared.events.Reply.TheVariants as reply
+use Rattle.mt_match_laws.proofs.ChoiceLemmas.{choice_facts}
 use Rattle.mt_hold.specs.Holding.{ranks, has_received, held, receive}
 use Rattle.mt_hold.specs.declared.holding.Taken.{Taken}
 use Rattle.mt_hold.specs.declared.holding.Taken.TheVariants.{Kept, KeptInstead, Refused}

@@ -2,16 +2,16 @@
 use Rattle.std.proofs.Common.{◌≡◌, ◌≢◌, ◌==◌, ℕ, suc, ◌+◌, ◌-◌, ◌<◌, Bool, true, false, not, ◌&&◌, cond, List, [], ◌∷◌, length, Option, Some, None, is_some, slice_get, IsTrue, IsFalse, if◌then◌else◌, refl, sym, ap, ◌∙◌, arith, subst, inl, inr, eq-eqb, ne_eqb, ◌⊎◌}
 use Rattle.std.proofs.lemmas.Bool.{cases_Bool, cases_eq, both_ways, true≢false, false≢true, or_left, or_right}
 use Rattle.std.specs.List.{find}
-use Rattle.mt_model.specs.Lists.{has}
-use Rattle.mt_model.specs.WellFormed.{IsWellFormed}
-use Rattle.mt_model.specs.Market.{Market, applicants, program_of, live}
-use Rattle.mt_model.specs.Choice.{choice}
-use Rattle.mt_model.specs.Floor.{Floor, held, last_tried, next_entry, is_held_by, is_settled, is_due, after, after_proposal, proposed_at, receives_one, reply_of, reply_of_proposal, dropped, kept_reply, IsRecorded}
-use Rattle.mt_model.specs.declared.events.Event.{Event}
-use Rattle.mt_model.specs.declared.events.Event.TheVariants.{Propose, Notice}
-use Rattle.mt_model.specs.declared.events.Reply.{Reply}
-use Rattle.mt_model.specs.declared.events.Reply.TheVariants.{Kept, KeptInstead, Refused, Noticed, NotDue}
-use Rattle.mt_model.proofs.FloorEvents.{noticed, noticed_same, noticed_other, made_same, made_other, standing_other, next_facts, IsNext, get_some, event_keeps_recorded_lem}
+use Rattle.mt_terms.specs.Lists.{has}
+use Rattle.mt_terms.specs.WellFormed.{IsWellFormed}
+use Rattle.mt_terms.specs.Market.{Market, applicants, program_of, live}
+use Rattle.mt_terms.specs.Choice.{choice}
+use Rattle.mt_terms.specs.Floor.{Floor, held, last_tried, next_entry, is_held_by, is_settled, is_due, after, after_proposal, proposed_at, receives_one, reply_of, reply_of_proposal, dropped, kept_reply, IsRecorded}
+use Rattle.mt_terms.specs.declared.events.Event.{Event}
+use Rattle.mt_terms.specs.declared.events.Event.TheVariants.{Propose, Notice}
+use Rattle.mt_terms.specs.declared.events.Reply.{Reply}
+use Rattle.mt_terms.specs.declared.events.Reply.TheVariants.{Kept, KeptInstead, Refused, Noticed, NotDue}
+use Rattle.mt_floor_laws.proofs.FloorEvents.{noticed, noticed_same, noticed_other, made_same, made_other, standing_other, next_facts, IsNext, get_some, event_keeps_recorded_lem}
 use Rattle.mt_core.specs.Ends.{IsReached, IsStep, AreSettled, AreSettledBut}
 
 -- whether an applicant is settled, where it stands and where it doesn't

@@ -1,12 +1,12 @@
 -- What it means that events led from one floor to another, and that applicants have no event left.
 use Rattle.std.specs.Prelude.{◌≡◌, ◌≢◌, ℕ, ◌<◌, List, IsTrue, IsFalse}
-use Rattle.mt_model.specs.Market.{Market}
-use Rattle.mt_model.specs.Floor.{Floor, held, is_settled, after, after_all, reply_of}
-use Rattle.mt_model.specs.Laws.Floors.{due_proposals}
-use Rattle.mt_model.specs.declared.events.Event.{Event}
-use Rattle.mt_model.specs.declared.events.Event.TheVariants.{Propose, Notice}
-use Rattle.mt_model.specs.declared.events.Reply.{Reply}
-use Rattle.mt_model.specs.declared.events.Reply.TheVariants.{KeptInstead}
+use Rattle.mt_terms.specs.Market.{Market}
+use Rattle.mt_terms.specs.Floor.{Floor, held, is_settled, after, after_all, reply_of}
+use Rattle.mt_floor_laws.specs.Floors.{due_proposals}
+use Rattle.mt_terms.specs.declared.events.Event.{Event}
+use Rattle.mt_terms.specs.declared.events.Event.TheVariants.{Propose, Notice}
+use Rattle.mt_terms.specs.declared.events.Reply.{Reply}
+use Rattle.mt_terms.specs.declared.events.Reply.TheVariants.{KeptInstead}
 
 -- Events lead from one floor to another, and so many of them are proposals that are due.
 pub record IsReached (m : Market) (old new : Floor) (proposals : ℕ) : Type 0 where

@@ -1,10 +1,9 @@
 -- The end of the rejection chain, as rank tables and a floor's tables keep it: what the laws and the calls ask for,
 -- met by one example.
 use Rattle.std.specs.Prelude.{◌≡◌, true, false, [], ◌∷◌, Some, None}
-use Rattle.mt_model.specs.Floor.{IsLegal}
-use Rattle.mt_model.specs.Laws.Floors.{result_of}
-use Rattle.mt_model.specs.Examples.Markets.{chain}
-use Rattle.mt_model.specs.Examples.Events.{by_wishes, from_the_last}
+use Rattle.mt_terms.specs.Floor.{IsLegal, result_of}
+use Rattle.mt_terms.specs.Examples.Markets.{chain}
+use Rattle.mt_terms.specs.Examples.Events.{by_wishes, from_the_last}
 use Rattle.mt_ranks.specs.Ranked.{Ranked, IsRanked, ranked_of}
 use Rattle.mt_core.specs.Floors.{Tables, floor_of, IsOpenedWith}
 use Rattle.mt_core.specs.Order.{IsEndOf}

@@ -1,9 +1,9 @@
 -- How a floor is kept, and which floor of a market that is.
 use Rattle.std.specs.Prelude.{◌≡◌, ℕ, ◌+◌, Bool, false, List, length, slice_index_or, slice_set}
 use Rattle.std.specs.Option.{option_map_or}
-use Rattle.mt_model.specs.Lists.{Set}
-use Rattle.mt_model.specs.Market.{Market, applicants, program_of}
-use Rattle.mt_model.specs.Floor.{Floor}
+use Rattle.mt_terms.specs.Lists.{Set}
+use Rattle.mt_terms.specs.Market.{Market, applicants, program_of}
+use Rattle.mt_terms.specs.Floor.{Floor}
 use Rattle.mt_hold.specs.Holding.{Holding, ranks, has_received, held, opened, receive}
 use Rattle.mt_ranks.specs.Ranked.{rank_of}
 

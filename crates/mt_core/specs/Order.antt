@@ -1,9 +1,8 @@
 -- That the order of the events doesn't matter (McVitie and Wilson 1971).
 use Rattle.std.specs.Prelude.{◌≡◌, List, IsTrue}
-use Rattle.mt_model.specs.Market.{Market}
-use Rattle.mt_model.specs.Floor.{opening, after_all, is_quiet}
-use Rattle.mt_model.specs.Laws.Floors.{EndAlike}
-use Rattle.mt_model.specs.declared.events.Event.{Event}
+use Rattle.mt_terms.specs.Market.{Market}
+use Rattle.mt_terms.specs.Floor.{opening, after_all, is_quiet, EndAlike}
+use Rattle.mt_terms.specs.declared.events.Event.{Event}
 use Rattle.mt_ranks.specs.Ranked.{Ranked, IsRanked}
 use Rattle.mt_core.specs.Floors.{Tables, floor_of}
 

@@ -2,8 +2,8 @@
 use Rattle.std.specs.Prelude.{ℕ, List, slice_index}
 use Rattle.mt_hold.specs.declared.holding.Taken.{Taken}
 use Rattle.mt_hold.specs.declared.holding.Taken.TheVariants as taken
-use Rattle.mt_model.specs.declared.events.Reply.{Reply}
-use Rattle.mt_model.specs.declared.events.Reply.TheVariants.{Kept, KeptInstead, Refused}
+use Rattle.mt_terms.specs.declared.events.Reply.{Reply}
+use Rattle.mt_terms.specs.declared.events.Reply.TheVariants.{Kept, KeptInstead, Refused}
 
 -- the reply for an answer by ranks on this list
 abbrev pub reply_from : List ℕ → Taken → Reply

@@ -1,14 +1,14 @@
 ghost use Rattle.std.specs.Prelude.{◌≡◌, ◌<◌, IfOk, IsTrue};
-ghost use Rattle.mt_model.specs.Market.{applicants};
-ghost use Rattle.mt_model.specs.Best.{IsBest};
-ghost use Rattle.mt_model.specs.Floor.{IsRecorded, IsLegal, is_settled, is_quiet};
-ghost use Rattle.mt_model.specs.Laws.Floors.{place_on, result_of, HasProposalsOf};
+ghost use Rattle.mt_terms.specs.Market.{applicants};
+ghost use Rattle.mt_terms.specs.Best.{IsBest};
+ghost use Rattle.mt_terms.specs.Floor.{IsRecorded, IsLegal, is_settled, is_quiet};
+ghost use Rattle.mt_terms.specs.Floor.{place_on, result_of, HasProposalsOf};
 ghost use Rattle.mt_ranks.specs.Ranked.{IsRanked};
 ghost use Rattle.mt_core.specs.Floors.{floor_of, IsOpenedWith};
 
 use crate::floor::{Floor, made};
 use crate::step::{is_held, last_tried};
-use mt_model::{AppNo, Match, Places, ProgNo};
+use mt_terms::{AppNo, Match, Places, ProgNo};
 use mt_ranks::Ranks;
 use std::alloc::{AllocError, Global};
 

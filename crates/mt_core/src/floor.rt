@@ -1,13 +1,13 @@
 ghost use Rattle.std.specs.Prelude.{◌≡◌, ◌↔◌, ◌+◌, ◌<◌, ◌^◌, ℕ, false, length, map, IfOk, IsTrue, IsFalse, slice_index, slice_index_or, slice_set};
-ghost use Rattle.mt_model.specs.Lists.{below, count_below};
-ghost use Rattle.mt_model.specs.Market.{Market, applicants};
-ghost use Rattle.mt_model.specs.Floor.{opening, IsStrict};
-ghost use Rattle.mt_model.specs.WellFormed.{IsWellFormed};
+ghost use Rattle.mt_terms.specs.Lists.{below, count_below};
+ghost use Rattle.mt_terms.specs.Market.{Market, applicants};
+ghost use Rattle.mt_terms.specs.Floor.{opening, IsStrict};
+ghost use Rattle.mt_terms.specs.WellFormed.{IsWellFormed};
 ghost use Rattle.mt_hold.specs.Holding.{ranks, has_received, held, receive};
 ghost use Rattle.mt_core.specs.Floors.{hold_of, floor_of, opened_for, IsOpenedWith, entered};
 
 use mt_hold::{Hold, Taken};
-use mt_model::{AppNo, ProgNo};
+use mt_terms::{AppNo, ProgNo};
 use mt_ranks::Ranks;
 use std::alloc::{AllocError, Global};
 use std::marker::Model;

@@ -10,6 +10,6 @@ mod step;
 
 pub use end::{quiet, result};
 pub use floor::{Floor, made, received};
-pub use mt_model::{Event, Reply};
+pub use mt_terms::{Event, Reply};
 pub use settle::{finish, run};
 pub use step::apply;

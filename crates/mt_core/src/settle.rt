@@ -1,14 +1,14 @@
 ghost use Rattle.std.specs.Prelude.{◌≡◌, ℕ, ◌+◌, ◌*◌, ◌≤◌, ◌<◌, IsTrue};
-ghost use Rattle.mt_model.specs.Market.{applicants, live_entries};
-ghost use Rattle.mt_model.specs.Floor.{IsRecorded, IsLegal, IsStrict, after_all, due_count, is_quiet};
-ghost use Rattle.mt_model.specs.Laws.Floors.{proposals_made};
+ghost use Rattle.mt_terms.specs.Market.{applicants, live_entries};
+ghost use Rattle.mt_terms.specs.Floor.{IsRecorded, IsLegal, IsStrict, after_all, due_count, is_quiet};
+ghost use Rattle.mt_terms.specs.Floor.{proposals_made};
 ghost use Rattle.mt_ranks.specs.Ranked.{IsRanked};
 ghost use Rattle.mt_core.specs.Floors.{floor_of, IsOpenedWith};
 ghost use Rattle.mt_core.specs.Ends.{IsReached, IsStep, AreSettled, AreSettledBut};
 
 use crate::floor::Floor;
 use crate::step::{apply, notice, propose};
-use mt_model::{AppNo, Event, Reply};
+use mt_terms::{AppNo, Event, Reply};
 use mt_ranks::Ranks;
 
 /// Makes the events in order, each where it is due by then, and says how many were.

@@ -1,14 +1,14 @@
 ghost use Rattle.std.specs.Prelude.{◌≡◌, ℕ, ◌<◌, IsTrue, IsFalse, length, slice_get};
 ghost use Rattle.std.specs.Option.{option_map};
-ghost use Rattle.mt_model.specs.Market.{applicants, program_of, live};
-ghost use Rattle.mt_model.specs.Floor.{held, last_tried, next_entry, is_held_by, IsRecorded, IsLegal, IsStrict, is_due, after, reply_of};
+ghost use Rattle.mt_terms.specs.Market.{applicants, program_of, live};
+ghost use Rattle.mt_terms.specs.Floor.{held, last_tried, next_entry, is_held_by, IsRecorded, IsLegal, IsStrict, is_due, after, reply_of};
 ghost use Rattle.mt_ranks.specs.Ranked.{IsRanked, ranked_entry};
 ghost use Rattle.mt_core.specs.Floors.{floor_of, IsOpenedWith};
 ghost use Rattle.mt_core.specs.Replies.{reply_from};
 
 use crate::floor::{Floor, made};
 use mt_hold::Taken;
-use mt_model::{AppNo, Event, ProgNo, Reply};
+use mt_terms::{AppNo, Event, ProgNo, Reply};
 use mt_ranks::{Live, Ranks};
 
 /// The entry at a place of the applicant's live list.

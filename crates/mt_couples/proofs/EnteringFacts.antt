@@ -1,17 +1,16 @@
 -- The couples on their way into a match, one after another.
 use Rattle.std.proofs.Common.{◌≡◌, ℕ, suc, ◌+◌, ◌-◌, ◌<◌, ◌≤◌, true, List, [], ◌∷◌, length, Some, None, IsTrue, ap, sym, ◌∙◌, inl, inr, arith, subst, option_map, option_and_then}
 use Rattle.std.specs.List.{range_with_len}
-use Rattle.mt_model.specs.Lists.{below}
-use Rattle.mt_model.specs.Market.{Market, agents}
-use Rattle.mt_model.specs.Matching.{Places}
-use Rattle.mt_model.specs.Stability.{fits}
-use Rattle.mt_model.specs.WellFormed.{IsWellFormed}
-use Rattle.mt_model.specs.Rounds.{settled, entered, stage}
-use Rattle.mt_model.specs.Laws.Rounds.{is_on}
-use Rattle.mt_model.specs.declared.numbers.Agent.{Agent}
-use Rattle.mt_model.specs.declared.numbers.Agent.TheVariants.{Couple}
-use Rattle.mt_model.proofs.RoundsLists.{In}
-use Rattle.mt_model.proofs.RoundsAgents.{on_list, of_list, agent_on_list, couple_members}
+use Rattle.mt_terms.specs.Lists.{below}
+use Rattle.mt_terms.specs.Market.{Market, agents}
+use Rattle.mt_terms.specs.Matching.{Places}
+use Rattle.mt_terms.specs.Stability.{fits}
+use Rattle.mt_terms.specs.WellFormed.{IsWellFormed}
+use Rattle.mt_terms.specs.Rounds.{settled, entered, stage, is_on}
+use Rattle.mt_terms.specs.declared.numbers.Agent.{Agent}
+use Rattle.mt_terms.specs.declared.numbers.Agent.TheVariants.{Couple}
+use Rattle.mt_round_laws.proofs.RoundsLists.{In}
+use Rattle.mt_round_laws.proofs.RoundsAgents.{on_list, of_list, agent_on_list, couple_members}
 use Rattle.mt_couples.specs.Assigned.{Assigned}
 use Rattle.mt_couples.specs.Running.{IsRunning}
 

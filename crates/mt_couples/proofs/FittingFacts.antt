@@ -3,18 +3,18 @@ use Rattle.std.proofs.Common.{◌≡◌, ℕ, ◌+◌, ◌<◌, ◌≤◌, Bool,
 use Rattle.std.specs.List.{list_any}
 use Rattle.std.proofs.lemmas.Bool.{cases_lt, or_cases, or_left, or_right, false≢true}
 use Rattle.std.proofs.lemmas.List.{get_or_past}
-use Rattle.mt_model.specs.Lists.{has, count}
-use Rattle.mt_model.specs.Market.{Market, applicants, program_of, list_of, couple_of, agent_of}
-use Rattle.mt_model.specs.Matching.{Places, place_of, at, holds, single_placement, none_placed}
-use Rattle.mt_model.specs.Stability.{fits, has_own_option, is_listed}
-use Rattle.mt_model.specs.WellFormed.{IsWellFormed}
-use Rattle.mt_model.specs.declared.numbers.Agent.{Agent}
-use Rattle.mt_model.specs.declared.numbers.Agent.TheVariants.{Single, Couple}
-use Rattle.mt_model.proofs.RoundsAgents.{IsAgent}
-use Rattle.mt_model.proofs.RoundsFits.{fits_from}
-use Rattle.mt_model.proofs.RoundsPlaces.{is_program_some, placed_within}
-use Rattle.mt_model.proofs.RoundsSets.{has_head}
-use Rattle.mt_model.proofs.VerdictLemmas.{agent_cases}
+use Rattle.mt_terms.specs.Lists.{has, count}
+use Rattle.mt_terms.specs.Market.{Market, applicants, program_of, list_of, couple_of, agent_of}
+use Rattle.mt_terms.specs.Matching.{Places, place_of, at, holds, single_placement, none_placed}
+use Rattle.mt_terms.specs.Stability.{fits, has_own_option, is_listed}
+use Rattle.mt_terms.specs.WellFormed.{IsWellFormed}
+use Rattle.mt_terms.specs.declared.numbers.Agent.{Agent}
+use Rattle.mt_terms.specs.declared.numbers.Agent.TheVariants.{Single, Couple}
+use Rattle.mt_round_laws.proofs.RoundsAgents.{IsAgent}
+use Rattle.mt_round_laws.proofs.RoundsFits.{fits_from}
+use Rattle.mt_round_laws.proofs.RoundsPlaces.{is_program_some, placed_within}
+use Rattle.mt_round_laws.proofs.RoundsSets.{has_head}
+use Rattle.mt_match_laws.proofs.VerdictLemmas.{agent_cases}
 use Rattle.mt_couples.proofs.PlaceFacts.{count_more}
 
 -- who an applicant's agent is

@@ -1,13 +1,13 @@
 -- What rank tables say of the market that they are of, and who is on its lists.
 use Rattle.std.proofs.Common.{◌≡◌, ℕ, ◌<◌, List, [], length, get_or, IsTrue, ap, ◌∙◌}
-use Rattle.mt_model.proofs.BelowFacts.{length-map_below}
-use Rattle.mt_model.specs.Lists.{has}
-use Rattle.mt_model.specs.Market.{Market, applicants, program_of, live, agent_of}
-use Rattle.mt_model.specs.declared.numbers.Agent.{Agent}
-use Rattle.mt_model.specs.declared.numbers.Agent.TheVariants.{Single, Couple}
-use Rattle.mt_model.proofs.RoundsAgents.{IsAgent, agent_of_applicant, couple_number}
-use Rattle.mt_model.proofs.RoundsSets.{has_head}
-use Rattle.mt_model.specs.WellFormed.{IsWellFormed}
+use Rattle.mt_terms.proofs.BelowFacts.{length-map_below}
+use Rattle.mt_terms.specs.Lists.{has}
+use Rattle.mt_terms.specs.Market.{Market, applicants, program_of, live, agent_of}
+use Rattle.mt_terms.specs.declared.numbers.Agent.{Agent}
+use Rattle.mt_terms.specs.declared.numbers.Agent.TheVariants.{Single, Couple}
+use Rattle.mt_round_laws.proofs.RoundsAgents.{IsAgent, agent_of_applicant, couple_number}
+use Rattle.mt_round_laws.proofs.RoundsSets.{has_head}
+use Rattle.mt_terms.specs.WellFormed.{IsWellFormed}
 use Rattle.mt_ranks.specs.Ranked.{Ranked, ranked_of}
 use Rattle.mt_couples.specs.Assigned.{IsAgentOf}
 use Rattle.mt_couples.proofs.PlaceFacts.{has_read}

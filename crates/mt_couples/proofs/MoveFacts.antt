@@ -7,20 +7,20 @@ use Rattle.std.specs.declared.cmp.Ordering.TheVariants.{Less}
 use Rattle.std.proofs.lemmas.Bool.{cases_Bool, cases_eq, and_parts, and_from, and_left, and_right, or_cases, or_left, or_right, or_from, both_ways, false≢true, false_from_ne_true, true_from_ne_false, not-true, not_from_false, not_from_true, eq-eqb, eqb-true, ne_eqb}
 use Rattle.std.proofs.lemmas.Cmp.{ranked}
 use Rattle.std.proofs.lemmas.Map.Keys.{sorted_head, sorted_tail}
-use Rattle.mt_model.specs.Lists.{has, below, is_distinct}
-use Rattle.mt_model.specs.Market.{Market, applicants, program_of, agent_of, members, agents}
-use Rattle.mt_model.specs.Matching.{Places, Placement, place_of, is_program, at, send, options, single_placement, couple_placement}
-use Rattle.mt_model.specs.Choice.{choice}
-use Rattle.mt_model.specs.Rounds.{programs_sent_to, displaced, displaced_at, is_left, is_same_agent, joined, all_joined, reopened_at, to_look_at}
-use Rattle.mt_model.specs.Stability.{blocks}
-use Rattle.mt_model.specs.declared.numbers.Agent.{Agent}
-use Rattle.mt_model.specs.declared.numbers.Agent.TheVariants.{Single, Couple}
-use Rattle.mt_model.proofs.ChoiceLemmas.{choice_facts}
-use Rattle.mt_model.proofs.RoundsLists.{In, found, finds, has_in, in_has, in_image, of_image, in_joined, of_joined, in_below, of_below, each}
-use Rattle.mt_model.proofs.RoundsPlaces.{at_none}
-use Rattle.mt_model.proofs.RoundsAgents.{agent_of_applicant, agent_from_list, of_list, on_list, same_agent, member_of_agent, apart, option_movers, option_entry, option_member, option_there, option_elsewhere}
-use Rattle.mt_model.proofs.RoundsFits.{listing_program, fitting_facts}
-use Rattle.mt_model.proofs.RoundsMove.{IsMove, of_displaced, displaced_agents, match_after, is_displaced, displaced_agent, goes_out, mover_stays, stays_in, was_before}
+use Rattle.mt_terms.specs.Lists.{has, below, is_distinct}
+use Rattle.mt_terms.specs.Market.{Market, applicants, program_of, agent_of, members, agents}
+use Rattle.mt_terms.specs.Matching.{Places, Placement, place_of, is_program, at, send, options, single_placement, couple_placement}
+use Rattle.mt_terms.specs.Choice.{choice}
+use Rattle.mt_terms.specs.Rounds.{programs_sent_to, displaced, displaced_at, is_left, is_same_agent, joined, all_joined, reopened_at, to_look_at}
+use Rattle.mt_terms.specs.Stability.{blocks}
+use Rattle.mt_terms.specs.declared.numbers.Agent.{Agent}
+use Rattle.mt_terms.specs.declared.numbers.Agent.TheVariants.{Single, Couple}
+use Rattle.mt_match_laws.proofs.ChoiceLemmas.{choice_facts}
+use Rattle.mt_round_laws.proofs.RoundsLists.{In, found, finds, has_in, in_has, in_image, of_image, in_joined, of_joined, in_below, of_below, each}
+use Rattle.mt_round_laws.proofs.RoundsPlaces.{at_none}
+use Rattle.mt_round_laws.proofs.RoundsAgents.{agent_of_applicant, agent_from_list, of_list, on_list, same_agent, member_of_agent, apart, option_movers, option_entry, option_member, option_there, option_elsewhere}
+use Rattle.mt_round_laws.proofs.RoundsFits.{listing_program, fitting_facts}
+use Rattle.mt_round_laws.proofs.RoundsMove.{IsMove, of_displaced, displaced_agents, match_after, is_displaced, displaced_agent, goes_out, mover_stays, stays_in, was_before}
 use Rattle.mt_couples.specs.Assigned.{AreSent}
 use Rattle.mt_couples.specs.Moves.{is_left_by_movers, is_kept_at, all_members, IsTaking}
 use Rattle.mt_couples.proofs.SentFacts.{in_list}

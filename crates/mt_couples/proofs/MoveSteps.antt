@@ -2,14 +2,14 @@
 use Rattle.std.proofs.Common.{◌≡◌, ℕ, zero, suc, ◌+◌, ◌<◌, arith, Bool, true, false, not, ◌&&◌, ◌||◌, ◌==◌, List, [], ◌∷◌, drop, length, get_or, Option, Some, None, refl, ap, sym, ◌∙◌, subst, inl, inr}
 use Rattle.std.specs.List.{list_any}
 use Rattle.std.proofs.lemmas.List.{drop_more, set-set}
-use Rattle.mt_model.specs.Lists.{has}
-use Rattle.mt_model.specs.Market.{Market, program_of}
-use Rattle.mt_model.specs.Matching.{Places, Placement, place_of, at, is_program, send}
-use Rattle.mt_model.specs.Choice.{choice}
+use Rattle.mt_terms.specs.Lists.{has}
+use Rattle.mt_terms.specs.Market.{Market, program_of}
+use Rattle.mt_terms.specs.Matching.{Places, Placement, place_of, at, is_program, send}
+use Rattle.mt_terms.specs.Choice.{choice}
 use Rattle.std.specs.Option.{option_eq}
 use Rattle.mt_couples.proofs.PlaceFacts.{is_program_read}
-use Rattle.mt_model.specs.Rounds.{programs_sent_to}
-use Rattle.mt_model.specs.contracts.numbers.ProgNoOrd.TheImpl.{cmp-value}
+use Rattle.mt_terms.specs.Rounds.{programs_sent_to}
+use Rattle.mt_terms.specs.contracts.numbers.ProgNoOrd.TheImpl.{cmp-value}
 use Rattle.std.specs.declared.cmp.Ordering.{Ordering}
 use Rattle.std.specs.declared.cmp.Ordering.TheVariants.{Less, Equal, Greater}
 use Rattle.std.specs.Ordering.{nat_cmp, match_ordering}

@@ -3,7 +3,7 @@ use Rattle.std.proofs.Common.{◌≡◌, Bool, List, [], ◌∷◌, Option, Some
 use Rattle.std.specs.List.{find, list_any}
 use Rattle.std.specs.Option.{option_map}
 use Rattle.std.proofs.lemmas.Bool.{cases_Bool}
-use Rattle.mt_model.specs.Lists.{until}
+use Rattle.mt_terms.specs.Lists.{until}
 
 abbrev pub first_before : {X : Type 0} → (X → Bool) → (X → Bool) → List X → Option X
 first_before has_it taken xs = find taken (until has_it xs)

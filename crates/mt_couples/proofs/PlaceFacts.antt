@@ -3,8 +3,8 @@ use Rattle.std.proofs.Common.{◌≡◌, ℕ, zero, suc, ◌+◌, ◌<◌, ◌�
 use Rattle.std.specs.Option.{option_eq}
 use Rattle.std.proofs.lemmas.Bool.{or_left, or_right, or_cases, and_parts, not-true, both_ways, false_from_ne_true, false≢true}
 use Rattle.std.proofs.lemmas.List.{take_more}
-use Rattle.mt_model.specs.Lists.{has, count, until, is_distinct}
-use Rattle.mt_model.specs.Matching.{Places, place_of, at, is_program}
+use Rattle.mt_terms.specs.Lists.{has, count, until, is_distinct}
+use Rattle.mt_terms.specs.Matching.{Places, place_of, at, is_program}
 
 -- what stands at a place of a list is on it
 pub has_at : (xs : List ℕ) (i d : ℕ) → i < length xs → IsTrue (has xs (get_or xs i d))

@@ -4,7 +4,7 @@ use Rattle.std.specs.List.{position}
 use Rattle.std.proofs.lemmas.Bool.{both_ways, cases_lt, false_from_ne_true, and_parts, and_from, not-true, not_from_false}
 use Rattle.std.proofs.lemmas.List.Quantifiers.{position-Some}
 use Rattle.mt_ranks.proofs.Positions.{has-position}
-use Rattle.mt_model.specs.Lists.{has, until, is_distinct}
+use Rattle.mt_terms.specs.Lists.{has, until, is_distinct}
 use Rattle.mt_couples.proofs.PlaceFacts.{has-take}
 
 -- A place of a list is the first at which a test passes.

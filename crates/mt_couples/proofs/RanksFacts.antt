@@ -7,8 +7,8 @@ use Rattle.std.specs.BTreeSet.{insert_key}
 use Rattle.std.specs.declared.cmp.Ordering.TheVariants.{Less}
 use Rattle.std.proofs.lemmas.Bool.{cases_Bool, cases_lt, and_parts, or_cases, or_parts, or_left, or_right, both_ways, false≢true, false_from_ne_true, not-true, not_from_false, eq-eqb, eqb-true, ne_eqb}
 use Rattle.std.proofs.lemmas.List.{drop_all, get_or_default}
-use Rattle.mt_model.specs.Lists.{Set, has, count, is_distinct}
-use Rattle.mt_model.specs.Matching.{ranks_from}
+use Rattle.mt_terms.specs.Lists.{Set, has, count, is_distinct}
+use Rattle.mt_terms.specs.Matching.{ranks_from}
 use Rattle.mt_couples.specs.Assigned.{is_refused}
 use Rattle.mt_couples.proofs.PlaceFacts.{has_at}
 use Rattle.mt_couples.proofs.RowFacts.{IsBelowAll, filter_same, count_nobody}

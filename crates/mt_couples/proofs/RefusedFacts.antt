@@ -1,7 +1,7 @@
 -- Going down a list, one of a set is refused once quota of them stood before.
 use Rattle.std.proofs.Common.{◌≡◌, ℕ, ◌+◌, ◌<◌, not, ◌&&◌, nat_lt, List, take, length, get_or, IsTrue, refl, ap, sym, ◌∙◌, if◌then◌else◌}
-use Rattle.mt_model.specs.Lists.{Set, count, above, is_distinct}
-use Rattle.mt_model.specs.Market.{Program}
+use Rattle.mt_terms.specs.Lists.{Set, count, above, is_distinct}
+use Rattle.mt_terms.specs.Market.{Program}
 use Rattle.mt_couples.specs.Assigned.{is_refused}
 use Rattle.mt_couples.proofs.PlaceFacts.{has_read, until_at, count_more}
 

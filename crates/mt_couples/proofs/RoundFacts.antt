@@ -2,18 +2,17 @@
 use Rattle.std.proofs.Common.{◌≡◌, ℕ, zero, suc, ◌-◌, ◌≤◌, Bool, true, List, [], ◌∷◌, Option, Some, Contains, refl, ap, sym, ◌∙◌, inl, inr, arith, subst}
 use Rattle.std.specs.List.{find, list_any}
 use Rattle.std.proofs.lemmas.Bool.{cases_Bool, or_left}
-use Rattle.mt_model.specs.Market.{Market, agents}
-use Rattle.mt_model.specs.Matching.{Places, Placement, holds, options, better}
-use Rattle.mt_model.specs.Stability.{would_be_taken, fits}
-use Rattle.mt_model.specs.Places.{ArePlaces}
-use Rattle.mt_model.specs.WellFormed.{IsWellFormed}
-use Rattle.mt_model.specs.Rounds.{is_same_agent, first_taken, round_of, settled, Work}
-use Rattle.mt_model.specs.Laws.Rounds.{IsFittingState, is_on}
-use Rattle.mt_model.specs.declared.numbers.Agent.{Agent}
-use Rattle.mt_model.proofs.RoundsLists.{In, of_until}
-use Rattle.mt_model.proofs.RoundsAgents.{is_same_agent_refl, agent_from_list, of_list}
-use Rattle.mt_model.proofs.RoundsFits.{fitting_facts, listing_program}
-use Rattle.mt_model.proofs.RoundsKeep.{fitting_round}
+use Rattle.mt_terms.specs.Market.{Market, agents}
+use Rattle.mt_terms.specs.Matching.{Places, Placement, holds, options, better}
+use Rattle.mt_terms.specs.Stability.{would_be_taken, fits}
+use Rattle.mt_terms.specs.Places.{ArePlaces}
+use Rattle.mt_terms.specs.WellFormed.{IsWellFormed}
+use Rattle.mt_terms.specs.Rounds.{is_same_agent, first_taken, round_of, settled, Work, IsFittingState, is_on}
+use Rattle.mt_terms.specs.declared.numbers.Agent.{Agent}
+use Rattle.mt_round_laws.proofs.RoundsLists.{In, of_until}
+use Rattle.mt_round_laws.proofs.RoundsAgents.{is_same_agent_refl, agent_from_list, of_list}
+use Rattle.mt_round_laws.proofs.RoundsFits.{fitting_facts, listing_program}
+use Rattle.mt_round_laws.proofs.RoundsKeep.{fitting_round}
 use Rattle.mt_couples.specs.Assigned.{Assigned, IsAgentOf}
 use Rattle.mt_couples.specs.Moves.{IsTaking}
 use Rattle.mt_couples.specs.Running.{IsRunning}

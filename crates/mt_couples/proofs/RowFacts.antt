@@ -8,7 +8,7 @@ use Rattle.std.specs.declared.cmp.Ordering.TheVariants.{Less}
 use Rattle.std.proofs.lemmas.Bool.{cases_lt, cases_eq, or_cases, or_parts, or_left, or_right, both_ways, false≢true, not_from_false, eq-eqb, eqb-true, ne_eqb}
 use Rattle.std.proofs.lemmas.Cmp.{ranked}
 use Rattle.std.proofs.lemmas.Map.Keys.{sorted_head, sorted_tail}
-use Rattle.mt_model.specs.Lists.{has, count}
+use Rattle.mt_terms.specs.Lists.{has, count}
 
 -- a number is below all of a list
 abbrev pub IsBelowAll : ℕ → List ℕ → Type 0

@@ -1,13 +1,13 @@
 -- How many of a list are at a program once some applicants are sent elsewhere.
 use Rattle.std.proofs.Common.{◌≡◌, ◌≢◌, ℕ, zero, suc, ◌+◌, ◌<◌, Bool, true, false, not, ◌&&◌, ◌==◌, List, [], ◌∷◌, length, Option, Some, refl, ap, sym, ◌∙◌, inl, inr, arith, subst, slice_set, length-set, eq-eqb, eqb-true, if◌then◌else◌, ap₂, get_or, take, Contains}
 use Rattle.std.proofs.lemmas.Bool.{cases_Bool, and_parts, or_parts, or_left, or_right, and_right, not-true, both_ways}
-use Rattle.mt_model.specs.Lists.{Set, has, count, is_distinct}
-use Rattle.mt_model.specs.Market.{Market, applicants}
-use Rattle.mt_model.specs.Matching.{Places, Placement, is_program, at, send}
-use Rattle.mt_model.proofs.ListLemmas.{count_agree}
-use Rattle.mt_model.proofs.TakenLemmas.{at-slice_set_same, at-slice_set_other}
-use Rattle.mt_model.proofs.RoundsLists.{In, in_has, in_image}
-use Rattle.mt_model.proofs.RoundsPlaces.{movers, send_there, at_some}
+use Rattle.mt_terms.specs.Lists.{Set, has, count, is_distinct}
+use Rattle.mt_terms.specs.Market.{Market, applicants}
+use Rattle.mt_terms.specs.Matching.{Places, Placement, is_program, at, send}
+use Rattle.mt_match_laws.proofs.ListLemmas.{count_agree}
+use Rattle.mt_match_laws.proofs.TakenLemmas.{at-slice_set_same, at-slice_set_other}
+use Rattle.mt_round_laws.proofs.RoundsLists.{In, in_has, in_image}
+use Rattle.mt_round_laws.proofs.RoundsPlaces.{movers, send_there, at_some}
 use Rattle.mt_couples.specs.Assigned.{AreSent}
 use Rattle.mt_couples.proofs.PlaceFacts.{count_more}
 

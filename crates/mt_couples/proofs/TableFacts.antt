@@ -8,13 +8,13 @@ use Rattle.std.proofs.lemmas.List.Quantifiers.{position-Some}
 use Rattle.std.specs.BTreeSet.{insert_key}
 use Rattle.std.specs.Ordering.{nat_cmp}
 use Rattle.std.specs.Prelude.{filter, not}
-use Rattle.mt_model.specs.Laws.Registration.{IsRegistration}
-use Rattle.mt_model.specs.Lists.{has, below, is_distinct}
-use Rattle.mt_model.specs.Market.{Market, applicants, program_of}
-use Rattle.mt_model.specs.Matching.{Places, place_of, is_program, at, ranks_from, placed_ranks}
-use Rattle.mt_model.proofs.BelowFacts.{length-map_below, map_below_at}
-use Rattle.mt_model.proofs.TakenLemmas.{at-slice_set_same, at-slice_set_other}
-use Rattle.mt_model.specs.Places.{ArePlaces}
+use Rattle.mt_terms.specs.Registration.Accepted.{IsRegistration}
+use Rattle.mt_terms.specs.Lists.{has, below, is_distinct}
+use Rattle.mt_terms.specs.Market.{Market, applicants, program_of}
+use Rattle.mt_terms.specs.Matching.{Places, place_of, is_program, at, ranks_from, placed_ranks}
+use Rattle.mt_terms.proofs.BelowFacts.{length-map_below, map_below_at}
+use Rattle.mt_match_laws.proofs.TakenLemmas.{at-slice_set_same, at-slice_set_other}
+use Rattle.mt_terms.specs.Places.{ArePlaces}
 use Rattle.mt_ranks.specs.Ranked.{ranked_of}
 use Rattle.std.specs.List.Sorted.{IsStrictlySortedBy}
 use Rattle.std.specs.Vec.{with_item}

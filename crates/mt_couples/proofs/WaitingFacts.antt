@@ -8,11 +8,11 @@ use Rattle.std.proofs.lemmas.List.Folds.{list_any-append, list_any_at, Any-from_
 use Rattle.std.proofs.lemmas.List.Quantifiers.{position-Some}
 use Rattle.std.proofs.lemmas.Option.{slice_get_cases, get_or_from_slice_get}
 use Rattle.std.proofs.lemmas.Map.Keys.{apart_from_distinct}
-use Rattle.mt_model.specs.Rounds.{is_same_agent, joined}
-use Rattle.mt_model.specs.declared.numbers.Agent.{Agent}
-use Rattle.mt_model.specs.declared.numbers.Agent.TheVariants.{Single, Couple}
-use Rattle.mt_model.specs.contracts.numbers.AgentPartialEq.TheImpl.{eq-value}
-use Rattle.mt_model.proofs.RoundsAgents.{same_agent, is_same_agent_refl}
+use Rattle.mt_terms.specs.Rounds.{is_same_agent, joined}
+use Rattle.mt_terms.specs.declared.numbers.Agent.{Agent}
+use Rattle.mt_terms.specs.declared.numbers.Agent.TheVariants.{Single, Couple}
+use Rattle.mt_terms.specs.contracts.numbers.AgentPartialEq.TheImpl.{eq-value}
+use Rattle.mt_round_laws.proofs.RoundsAgents.{same_agent, is_same_agent_refl}
 
 -- how the sets compare agents
 compares : (g h : Agent) → eq-value.it g h ≡ is_same_agent g h

@@ -1,13 +1,13 @@
 -- A market with a match of it.
 use Rattle.std.specs.Prelude.{ℕ, ◌<◌, ◌≤◌, ◌&&◌, not, map, length, Option, slice_set, IsTrue}
-use Rattle.mt_model.specs.Lists.{Set, has, is_distinct}
-use Rattle.mt_model.specs.Market.{Market, Program, applicants}
-use Rattle.mt_model.specs.Places.{ArePlaces}
-use Rattle.mt_model.specs.Choice.{choice}
-use Rattle.mt_model.specs.WellFormed.{IsWellFormed}
-use Rattle.mt_model.specs.Matching.{Places, Placement}
-use Rattle.mt_model.specs.declared.numbers.Agent.{Agent}
-use Rattle.mt_model.specs.declared.numbers.Agent.TheVariants.{Single, Couple}
+use Rattle.mt_terms.specs.Lists.{Set, has, is_distinct}
+use Rattle.mt_terms.specs.Market.{Market, Program, applicants}
+use Rattle.mt_terms.specs.Places.{ArePlaces}
+use Rattle.mt_terms.specs.Choice.{choice}
+use Rattle.mt_terms.specs.WellFormed.{IsWellFormed}
+use Rattle.mt_terms.specs.Matching.{Places, Placement}
+use Rattle.mt_terms.specs.declared.numbers.Agent.{Agent}
+use Rattle.mt_terms.specs.declared.numbers.Agent.TheVariants.{Single, Couple}
 
 pub record Assigned : Type 0 where
   pub market : Market

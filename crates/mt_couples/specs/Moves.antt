@@ -1,13 +1,13 @@
 -- What a move of an agent changes, in parts.
 use Rattle.std.specs.Prelude.{ℕ, Bool, not, ◌&&◌, List, Contains, IsTrue}
 use Rattle.std.specs.List.{list_any, flat_map}
-use Rattle.mt_model.specs.Market.{Market, program_of, agent_of, members, agents}
-use Rattle.mt_model.specs.Matching.{Places, Placement, is_program, at, options}
-use Rattle.mt_model.specs.Choice.{choice}
-use Rattle.mt_model.specs.Stability.{fits, would_be_taken}
-use Rattle.mt_model.specs.WellFormed.{IsWellFormed}
-use Rattle.mt_model.specs.Laws.Rounds.{is_on}
-use Rattle.mt_model.specs.declared.numbers.Agent.{Agent}
+use Rattle.mt_terms.specs.Market.{Market, program_of, agent_of, members, agents}
+use Rattle.mt_terms.specs.Matching.{Places, Placement, is_program, at, options}
+use Rattle.mt_terms.specs.Choice.{choice}
+use Rattle.mt_terms.specs.Stability.{fits, would_be_taken}
+use Rattle.mt_terms.specs.WellFormed.{IsWellFormed}
+use Rattle.mt_terms.specs.Rounds.{is_on}
+use Rattle.mt_terms.specs.declared.numbers.Agent.{Agent}
 
 -- whether one of those that are sent is at a program now, and is sent elsewhere
 abbrev pub is_left_by_movers : Places → Placement → ℕ → Bool

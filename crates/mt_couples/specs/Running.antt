@@ -1,10 +1,10 @@
 -- What is asked of a market, of a match and of a work list between two rounds.
 use Rattle.std.specs.Prelude.{List}
-use Rattle.mt_model.specs.Market.{Market}
-use Rattle.mt_model.specs.Matching.{Places}
-use Rattle.mt_model.specs.WellFormed.{IsWellFormed}
-use Rattle.mt_model.specs.Laws.Rounds.{IsFittingState}
-use Rattle.mt_model.specs.declared.numbers.Agent.{Agent}
+use Rattle.mt_terms.specs.Market.{Market}
+use Rattle.mt_terms.specs.Matching.{Places}
+use Rattle.mt_terms.specs.WellFormed.{IsWellFormed}
+use Rattle.mt_terms.specs.Rounds.{IsFittingState}
+use Rattle.mt_terms.specs.declared.numbers.Agent.{Agent}
 
 -- The market is well formed, the match fits, and the agents that wait are of the market.
 pub record IsRunning (m : Market) (places : Places) (waiting : List Agent) : Type 0 where

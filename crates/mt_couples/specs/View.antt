@@ -1,13 +1,13 @@
 -- What an assignment's tables mean.
 use Rattle.std.specs.Prelude.{◌≡◌, ◌≤◌, List, ◌++◌, map, length, drop}
-use Rattle.mt_model.specs.Laws.Registration.{IsRegistration}
-use Rattle.mt_model.specs.Lists.{below}
-use Rattle.mt_model.specs.Matching.{placed_ranks}
+use Rattle.mt_terms.specs.Registration.Accepted.{IsRegistration}
+use Rattle.mt_terms.specs.Lists.{below}
+use Rattle.mt_terms.specs.Matching.{placed_ranks}
 use Rattle.std.specs.List.{IsDistinct}
-use Rattle.mt_model.specs.Rounds.{is_same_agent}
-use Rattle.mt_model.specs.declared.numbers.Agent.{Agent}
+use Rattle.mt_terms.specs.Rounds.{is_same_agent}
+use Rattle.mt_terms.specs.declared.numbers.Agent.{Agent}
 use Rattle.mt_ranks.specs.Ranked.{ranked_of}
-use Rattle.mt_model.specs.Places.{ArePlaces}
+use Rattle.mt_terms.specs.Places.{ArePlaces}
 use Rattle.mt_couples.specs.Assigned.{Assigned}
 use Rattle.mt_couples.specs.declared.assignment.Assignment.TheInside.{Inside}
 use Rattle.mt_couples.specs.declared.work_list.WorkList.TheInside.{Inside as Queue}

@@ -1,17 +1,17 @@
 ghost use Rattle.std.specs.Prelude.{◌≡◌, ◌==◌, ◌++◌, ◌<◌, ◌≤◌, ℕ, Option, Some, None, length, map, take, filter, position, slice_index, IfOk, IsTrue, OnOk};
-ghost use Rattle.mt_model.specs.Laws.Registration.{IsRegistration};
-ghost use Rattle.mt_model.specs.Lists.{below, count, has};
-ghost use Rattle.mt_model.specs.Market.{agent_of, applicants, couple_of, program_of};
-ghost use Rattle.mt_model.specs.Matching.{at, place_of, placed_ranks, ranks_from};
-ghost use Rattle.mt_model.specs.Rounds.{displaced_at};
+ghost use Rattle.mt_terms.specs.Registration.Accepted.{IsRegistration};
+ghost use Rattle.mt_terms.specs.Lists.{below, count, has};
+ghost use Rattle.mt_terms.specs.Market.{agent_of, applicants, couple_of, program_of};
+ghost use Rattle.mt_terms.specs.Matching.{at, place_of, placed_ranks, ranks_from};
+ghost use Rattle.mt_terms.specs.Rounds.{displaced_at};
 ghost use Rattle.mt_ranks.specs.Ranked.{ranked_of};
-ghost use Rattle.mt_model.specs.Places.{ArePlaces};
+ghost use Rattle.mt_terms.specs.Places.{ArePlaces};
 ghost use Rattle.mt_couples.specs.Assigned.{IsAgentOf, IsAssigned, with_place};
 
 use crate::row::Row;
-use mt_model::{Agent, AppNo, CoupleNo, Match, Places, ProgNo};
+use mt_terms::{Agent, AppNo, CoupleNo, Match, Places, ProgNo};
 use mt_ranks::Ranks;
-use mt_roster::Roster;
+use mt_market::Roster;
 use std::alloc::{AllocError, Global};
 use std::marker::Model;
 
@@ -84,7 +84,7 @@ pub(crate) struct Assignment<'a> {
 }
 
 impl<'a> Model for Assignment<'a> {
-    ghost use Rattle.mt_model.specs.Matching.{placed_ranks, ranks_from};
+    ghost use Rattle.mt_terms.specs.Matching.{placed_ranks, ranks_from};
     ghost use Rattle.mt_couples.specs.Assigned.{Assigned};
 
     ghost Value = { Assigned };

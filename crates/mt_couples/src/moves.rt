@@ -1,15 +1,15 @@
 ghost use Rattle.std.specs.Prelude.{◌≡◌, ◌||◌, ◌<◌, ℕ, filter, length, IsTrue, IfOk, OnOk};
 ghost use Rattle.std.specs.List.{list_any};
-ghost use Rattle.mt_model.specs.Lists.{below, has};
-ghost use Rattle.mt_model.specs.Market.{agent_of, applicants};
-ghost use Rattle.mt_model.specs.Matching.{send, unplaced};
-ghost use Rattle.mt_model.specs.declared.numbers.Agent.{Agent};
-ghost use Rattle.mt_model.specs.Rounds.{after_move, displaced, is_left, programs_sent_to};
+ghost use Rattle.mt_terms.specs.Lists.{below, has};
+ghost use Rattle.mt_terms.specs.Market.{agent_of, applicants};
+ghost use Rattle.mt_terms.specs.Matching.{send, unplaced};
+ghost use Rattle.mt_terms.specs.declared.numbers.Agent.{Agent};
+ghost use Rattle.mt_terms.specs.Rounds.{after_move, displaced, is_left, programs_sent_to};
 ghost use Rattle.mt_couples.specs.Assigned.{AreSent, with_places};
 ghost use Rattle.mt_couples.specs.Moves.{all_members, is_kept_at, is_left_by_movers, IsTaking};
 
 use crate::assignment::Assignment;
-use mt_model::{Agent, AppNo, ProgNo};
+use mt_terms::{Agent, AppNo, ProgNo};
 use std::alloc::{AllocError, Global};
 use std::collections::BTreeSet;
 

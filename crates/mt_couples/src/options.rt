@@ -1,16 +1,16 @@
 ghost use Rattle.std.specs.Prelude.{◌≡◌, ◌&&◌, ◌<◌, ◌≤◌, length, take, Contains, IsTrue, Some};
 ghost use Rattle.std.specs.Option.{option_map};
-ghost use Rattle.mt_model.specs.Lists.{count, has};
-ghost use Rattle.mt_model.specs.Market.{applicants, couple_of, program_of};
-ghost use Rattle.mt_model.specs.Matching.{at, couple_placement, is_program, send, single_placement};
-ghost use Rattle.mt_model.specs.Choice.{choice};
-ghost use Rattle.mt_model.specs.Stability.{blocks, would_be_taken};
-ghost use Rattle.mt_model.specs.Rounds.{first_taken};
-ghost use Rattle.mt_model.specs.declared.numbers.Agent.TheVariants.{Single, Couple};
+ghost use Rattle.mt_terms.specs.Lists.{count, has};
+ghost use Rattle.mt_terms.specs.Market.{applicants, couple_of, program_of};
+ghost use Rattle.mt_terms.specs.Matching.{at, couple_placement, is_program, send, single_placement};
+ghost use Rattle.mt_terms.specs.Choice.{choice};
+ghost use Rattle.mt_terms.specs.Stability.{blocks, would_be_taken};
+ghost use Rattle.mt_terms.specs.Rounds.{first_taken};
+ghost use Rattle.mt_terms.specs.declared.numbers.Agent.TheVariants.{Single, Couple};
 ghost use Rattle.mt_couples.specs.Assigned.{AreSent, IsAgentOf};
 
 use crate::assignment::Assignment;
-use mt_model::{Agent, AppNo, CoupleNo, ProgNo};
+use mt_terms::{Agent, AppNo, CoupleNo, ProgNo};
 
 /// A pair of a couple's list: a place for each member, where none is a member that stays unplaced.
 pub(crate) type Pair = (Option<ProgNo>, Option<ProgNo>);

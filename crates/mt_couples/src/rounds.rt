@@ -1,10 +1,10 @@
 ghost use Rattle.std.specs.Prelude.{◌≡◌, ◌<◌, ◌≤◌, ℕ, map, length, IsTrue, IfOk, IsErrOf, OnOk, Some, None, [], ◌∷◌, if◌then◌else◌};
 ghost use Rattle.std.specs.List.{flat_map};
-ghost use Rattle.mt_model.specs.Lists.{has};
-ghost use Rattle.mt_model.specs.Market.{agent_of, applicants};
-ghost use Rattle.mt_model.specs.Rounds.{after_taking, all_joined, has_entered, joined, reopened_at, round_of, settled, stage};
-ghost use Rattle.mt_model.specs.Best.{IsBest};
-ghost use Rattle.mt_model.specs.Stability.{blocks, fits, stable};
+ghost use Rattle.mt_terms.specs.Lists.{has};
+ghost use Rattle.mt_terms.specs.Market.{agent_of, applicants};
+ghost use Rattle.mt_terms.specs.Rounds.{after_taking, all_joined, has_entered, joined, reopened_at, round_of, settled, stage};
+ghost use Rattle.mt_terms.specs.Best.{IsBest};
+ghost use Rattle.mt_terms.specs.Stability.{blocks, fits, stable};
 ghost use Rattle.mt_ranks.specs.Ranked.{ranked_of};
 ghost use Rattle.mt_couples.specs.Assigned.{IsAgentOf};
 ghost use Rattle.mt_couples.specs.Running.{IsRunning};
@@ -12,9 +12,9 @@ ghost use Rattle.mt_couples.specs.Moves.{IsTaking};
 
 use crate::assignment::Assignment;
 use crate::work_list::WorkList;
-use mt_model::{Agent, AppNo, CoupleNo, Match, ProgNo};
+use mt_terms::{Agent, AppNo, CoupleNo, Match, ProgNo};
 use mt_ranks::Ranks;
-use mt_roster::Roster;
+use mt_market::Roster;
 use std::alloc::{AllocError, Global};
 use thiserror::Error;
 

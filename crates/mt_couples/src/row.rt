@@ -2,7 +2,7 @@ ghost use Rattle.std.specs.Prelude.{◌≡◌, ◌++◌, ◌∷◌, not, ◌==�
 ghost use Rattle.std.specs.List.Sorted.{IsStrictlySortedBy};
 ghost use Rattle.std.specs.Ordering.{nat_cmp};
 ghost use Rattle.std.specs.BTreeSet.{insert_key};
-ghost use Rattle.mt_model.specs.Lists.{count, has};
+ghost use Rattle.mt_terms.specs.Lists.{count, has};
 
 use std::alloc::{AllocError, Global};
 use std::marker::Model;

@@ -1,8 +1,8 @@
 ghost use Rattle.std.specs.Prelude.{◌≡◌, List, [], ◌∷◌, OnOk, IfSome, IfNone};
-ghost use Rattle.mt_model.specs.Rounds.{joined};
+ghost use Rattle.mt_terms.specs.Rounds.{joined};
 
 use indexmap::IndexSet;
-use mt_model::Agent;
+use mt_terms::Agent;
 use std::alloc::{AllocError, Global};
 use std::marker::Model;
 
@@ -19,7 +19,7 @@ pub(crate) struct WorkList {
 
 impl Model for WorkList {
     ghost use Rattle.std.specs.Prelude.{List};
-    ghost use Rattle.mt_model.specs.declared.numbers.Agent.{Agent};
+    ghost use Rattle.mt_terms.specs.declared.numbers.Agent.{Agent};
 
     ghost Value = { List Agent };
 

@@ -5,7 +5,7 @@ use Rattle.std.proofs.lemmas.Bool.{cases_eq}
 use Rattle.std.proofs.lemmas.List.{get_or-set_same, get_or-set_other, length-set, same_lists, get_or_default, length-replicate, get_or-replicate}
 use Rattle.std.proofs.lemmas.List.FromFn.{length-map-range_with_len, get_or-map-range_with_len}
 use Rattle.std.proofs.lemmas.Nat.Bits.{bit_at-zero, bit_at_set_same, bit_at_set_other}
-use Rattle.mt_model.specs.Lists.{with_one, count, count_below}
+use Rattle.mt_terms.specs.Lists.{with_one, count, count_below}
 use Rattle.mt_hold.specs.Flags.{flag, flags}
 use Rattle.mt_hold.specs.Holding.{held}
 use Rattle.mt_hold.proofs.Counting.{count_suc, with_one_same, with_one_other}

@@ -2,8 +2,8 @@
 use Rattle.std.proofs.Common.{◌≡◌, ℕ, zero, suc, ◌+◌, ◌<◌, ◌≤◌, true, false, refl, sym, ap, ◌∙◌, inl, inr, arith, eqb, ltb, ◌&&◌}
 use Rattle.std.specs.List.{range_with_len}
 use Rattle.std.proofs.lemmas.Bool.{cases_lt, cases_eq, ne_eqb, eq-eqb, and_parts, ltb-true, lt-ltb, le-ltb, and_from, and_right, or_right, false≢true}
-use Rattle.mt_model.specs.Lists.{Set, has, above, below, with_one, count_below}
-use Rattle.mt_model.specs.Choice.{choice}
+use Rattle.mt_terms.specs.Lists.{Set, has, above, below, with_one, count_below}
+use Rattle.mt_terms.specs.Choice.{choice}
 use Rattle.mt_hold.specs.Holding.{Holding, ranks, has_received, held}
 use Rattle.mt_hold.proofs.Counting.{count_suc, count_same, count_past, count-le, same_from_count, count-with_one_above, count-with_one_below, with_one_same}
 

@@ -1,7 +1,7 @@
 -- How many members of a set stand below a number.
 use Rattle.std.proofs.Common.{◌≡◌, ◌≢◌, ℕ, zero, suc, ◌+◌, ◌<◌, ◌≤◌, Bool, true, false, cond, refl, inl, inr, arith, add-one}
 use Rattle.std.proofs.lemmas.Bool.{cases_eq, cases_order, ne_eqb, eq-eqb}
-use Rattle.mt_model.specs.Lists.{Set, with_one, count_below}
+use Rattle.mt_terms.specs.Lists.{Set, with_one, count_below}
 
 pub count_suc : (s : Set) (k : ℕ) → count_below s (k + 1) ≡ cond (s k) 1 0 + count_below s k
 count_suc s k = rw add-one refl

@@ -3,7 +3,7 @@ use Rattle.std.proofs.Common.{◌≡◌, ◌↔◌, ℕ, ◌+◌, ◌-◌, ◌<�
 use Rattle.std.proofs.lemmas.Bool.{cases_lt, cases_order, false≢true}
 use Rattle.std.proofs.lemmas.List.{length-take}
 use Rattle.std.proofs.lemmas.List.Edits.{length-insert}
-use Rattle.mt_model.specs.Lists.{Set, with_one, count_below}
+use Rattle.mt_terms.specs.Lists.{Set, with_one, count_below}
 use Rattle.mt_hold.specs.Row.{IsRowOf, IsInsertedInOrder}
 use Rattle.mt_hold.specs.Entered.{IsEntered, HadRoom, LetLastGo, WasTooLate}
 use Rattle.mt_hold.specs.declared.holding.Taken.{Taken}

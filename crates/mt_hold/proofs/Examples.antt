@@ -1,6 +1,6 @@
 -- What is held, computed on a list of three with two posts, and where there is no post.
 use Rattle.std.proofs.Common.{◌≡◌, true, false, List, Bool, [], ◌∷◌, map, refl}
-use Rattle.mt_model.specs.Lists.{below}
+use Rattle.mt_terms.specs.Lists.{below}
 use Rattle.mt_hold.specs.Holding.{Holding, held, opened, receive}
 
 held_ranks : Holding → List Bool

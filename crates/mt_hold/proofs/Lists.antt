@@ -2,9 +2,9 @@
 use Rattle.std.proofs.Common.{◌≡◌, ◌≢◌, ℕ, zero, suc, ◌+◌, ◌<◌, Bool, true, false, not, cond, List, [], ◌∷◌, length, get_or, eqb, refl, sym, ap, ◌∙◌, inl, inr, arith, IsTrue}
 use Rattle.std.proofs.lemmas.Bool.{cases_eq, cases_Bool, or_left, or_right, false_from_ne_true, ne_eqb, eq-eqb, and_parts, not-true, false≢true, lt-ltb}
 use Rattle.std.proofs.lemmas.List.{get_or-set_same, get_or-set_other, get_or-replicate, length-replicate, length-set}
-use Rattle.mt_model.specs.Lists.{Set, has, above, count, with_one, without, count_below, is_distinct}
-use Rattle.mt_model.specs.Market.{Program}
-use Rattle.mt_model.specs.Choice.{choice}
+use Rattle.mt_terms.specs.Lists.{Set, has, above, count, with_one, without, count_below, is_distinct}
+use Rattle.mt_terms.specs.Market.{Program}
+use Rattle.mt_terms.specs.Choice.{choice}
 use Rattle.mt_hold.specs.Holding.{ranks, has_received}
 use Rattle.mt_hold.specs.Laws.{HeldIsChoice, OpenedIsEmpty, ReceiveAddsOne, CountIsMembers, CountIsSize}
 use Rattle.mt_hold.proofs.Counting.{count_suc, count_same, count-with_one_above, with_one_other}

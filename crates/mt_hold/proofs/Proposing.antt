@@ -3,7 +3,7 @@ use Rattle.std.proofs.Common.{◌≡◌, ℕ, ◌<◌, false, List, length, Vec,
 use Rattle.std.specs.Vec.{with_items}
 use Rattle.std.proofs.lemmas.List.{with_items_is}
 use mathlib.Core.Path.{fun_ext}
-use Rattle.mt_model.specs.Lists.{with_one}
+use Rattle.mt_terms.specs.Lists.{with_one}
 use Rattle.mt_hold.specs.Flags.{flag}
 use Rattle.mt_hold.specs.Holding.{Holding, ranks, has_received}
 use Rattle.mt_hold.specs.Inside.{holding_of}

@@ -7,7 +7,7 @@ use Rattle.std.proofs.lemmas.List.{get_or-take, length-take, get_or_default}
 use Rattle.std.proofs.lemmas.List.Sorted.{searched}
 use Rattle.std.specs.List.Sorted.{IsNonDecreasingBy, IsBinarySearchResult}
 use Rattle.std.specs.Ordering.{nat_cmp}
-use Rattle.mt_model.specs.Lists.{Set, with_one, count_below}
+use Rattle.mt_terms.specs.Lists.{Set, with_one, count_below}
 use Rattle.mt_hold.specs.Row.{IsFrontOf, IsRowOf, Rises, SplitsAt, IsInsertedInOrder}
 use Rattle.mt_hold.proofs.Counting.{count-le, count_past, same_from_count, count-with_one_above, count-with_one_below, with_one_same}
 use Rattle.mt_hold.proofs.Chosen.{chosen, still_member, chosen_from, IsChosen-from}

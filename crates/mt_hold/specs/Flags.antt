@@ -1,7 +1,7 @@
 -- One bit for each rank, in words of 64 bits.
 use Rattle.std.specs.Prelude.{ℕ, ◌/◌, ◌%◌, ◌==◌, Bool, List, map, slice_index}
 use Rattle.std.specs.Int.{bit_at}
-use Rattle.mt_model.specs.Lists.{Set, below}
+use Rattle.mt_terms.specs.Lists.{Set, below}
 
 -- the ranks whose bit is set
 abbrev pub flag : List ℕ → Set

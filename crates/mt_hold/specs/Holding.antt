@@ -1,9 +1,9 @@
 -- What a program has received and whom it holds, by the ranks of applicants on its list: the rank is the
 -- position from 0, so the applicant that it wants most has rank 0.
 use Rattle.std.specs.Prelude.{ℕ, Bool, true, false, List, length, replicate, slice_index_or, slice_set}
-use Rattle.mt_model.specs.Lists.{Set, below, count}
-use Rattle.mt_model.specs.Market.{Program}
-use Rattle.mt_model.specs.Choice.{choice}
+use Rattle.mt_terms.specs.Lists.{Set, below, count}
+use Rattle.mt_terms.specs.Market.{Program}
+use Rattle.mt_terms.specs.Choice.{choice}
 
 -- a program's holding: its quota, and for each rank on its list whether it received a proposal from there
 pub record Holding : Type 0 where

@@ -1,6 +1,6 @@
 -- How a holding is kept: its bits, and the row of what it holds.
 use Rattle.std.specs.Prelude.{◌≡◌, ◌*◌, ◌≤◌, length, min, vec_capacity}
-use Rattle.mt_model.specs.Lists.{count_below}
+use Rattle.mt_terms.specs.Lists.{count_below}
 use Rattle.mt_hold.specs.Flags.{flag, flags}
 use Rattle.mt_hold.specs.Holding.{Holding}
 use Rattle.mt_hold.specs.Row.{IsRowOf}

@@ -1,8 +1,8 @@
 -- What a holding by ranks says of a program's own list of applicants.
 use Rattle.std.specs.Prelude.{◌≡◌, ℕ, ◌<◌, length, slice_index, IsTrue, false}
-use Rattle.mt_model.specs.Lists.{Set, has, with_one, count, count_below, is_distinct}
-use Rattle.mt_model.specs.Market.{Program}
-use Rattle.mt_model.specs.Choice.{choice}
+use Rattle.mt_terms.specs.Lists.{Set, has, with_one, count, count_below, is_distinct}
+use Rattle.mt_terms.specs.Market.{Program}
+use Rattle.mt_terms.specs.Choice.{choice}
 use Rattle.mt_hold.specs.Holding.{Holding, ranks, has_received, received_count, held, opened, receive}
 
 -- A holding is a program's, with a set of applicants received: it has the program's quota and a rank for each

@@ -1,6 +1,6 @@
 -- The held ranks in a row, the most wanted first.
 use Rattle.std.specs.Prelude.{◌≡◌, ℕ, ◌<◌, ◌≤◌, List, length, min, insert, slice_index, IsTrue}
-use Rattle.mt_model.specs.Lists.{Set, count_below}
+use Rattle.mt_terms.specs.Lists.{Set, count_below}
 
 -- The row begins an ascending list of a set's members below n: at index i stands the member that has i others
 -- below it.

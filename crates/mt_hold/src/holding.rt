@@ -1,5 +1,5 @@
 ghost use Rattle.std.specs.Prelude.{◌≡◌, ◌↔◌, ◌<◌, ◌≤◌, ◌+◌, ◌/◌, ℕ, IfOk, IsTrue, IsFalse, length, vec_len, vec_capacity, min};
-ghost use Rattle.mt_model.specs.Lists.{with_one};
+ghost use Rattle.mt_terms.specs.Lists.{with_one};
 ghost use Rattle.mt_hold.specs.Flags.{flag};
 ghost use Rattle.mt_hold.specs.Row.{Rises, IsInsertedInOrder};
 ghost use Rattle.mt_hold.specs.Entered.{IsEntered};

@@ -1,9 +1,10 @@
-pub mod Floors
-pub mod Live
-pub mod Registration
-pub mod Rounds
-pub mod Rural
-pub mod Singles
-pub mod Taken
-pub mod Text
-pub mod Verdict
+-- The laws, as they are stated.
+pub use Rattle.mt_file_laws.specs.Registration
+pub use Rattle.mt_file_laws.specs.Text
+pub use Rattle.mt_floor_laws.specs.Floors
+pub use Rattle.mt_floor_laws.specs.Live
+pub use Rattle.mt_floor_laws.specs.Rural
+pub use Rattle.mt_match_laws.specs.Singles
+pub use Rattle.mt_match_laws.specs.Taken
+pub use Rattle.mt_match_laws.specs.Verdict
+pub use Rattle.mt_round_laws.specs.Rounds

@@ -1,21 +1,10 @@
-//! The residency match in the terms of the literature: the numbers of applicants, programs and couples,
-//! the limits of an input, a match, and in `specs/` the definitions that every contract cites.
-#![tactic(auto)]
+//! The residency match as a theory: the terms of `mt_terms`, and their laws.
 
-mod events;
-pub mod examples;
-mod flat_lists;
+pub use mt_terms::examples;
+pub use mt_terms::{
+    Agent, AppNo, Blocker, CoupleNo, Event, LIMITS, LIMITS_2, Limits, Match, Options, Places,
+    ProgNo, Reply, Verdict,
+};
+
+/// The laws of the terms: each is the contract of a function that does nothing.
 pub mod laws;
-mod limits;
-mod matching;
-mod numbers;
-mod options;
-mod verdict;
-
-pub use events::{Event, Reply};
-pub use flat_lists::FlatLists;
-pub use limits::{LIMITS, LIMITS_2, Limits};
-pub use matching::{Match, Places};
-pub use numbers::{Agent, AppNo, CoupleNo, ProgNo};
-pub use options::Options;
-pub use verdict::{Blocker, Verdict};

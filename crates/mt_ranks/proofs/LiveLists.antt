@@ -4,9 +4,9 @@ use Rattle.std.specs.Option.{is_some}
 use Rattle.std.specs.List.{position}
 use Rattle.std.proofs.lemmas.Bool.{cases_lt}
 use Rattle.std.proofs.lemmas.List.{get_or-map, get_or_past, length-map}
-use Rattle.mt_model.specs.Lists.{has}
-use Rattle.mt_model.specs.Market.{Market, Program, program_of, list_of, live}
-use Rattle.mt_roster.specs.Tables.{programs_with}
+use Rattle.mt_terms.specs.Lists.{has}
+use Rattle.mt_terms.specs.Market.{Market, Program, program_of, list_of, live}
+use Rattle.mt_market.specs.Tables.{programs_with}
 use Rattle.mt_ranks.specs.Entries.{entries_from, rank_among, entries_among}
 use Rattle.mt_ranks.specs.Ranked.{ranked_entry, rank_of}
 use Rattle.mt_ranks.specs.View.{programs_in}

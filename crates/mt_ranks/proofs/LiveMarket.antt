@@ -5,9 +5,9 @@ use Rattle.std.specs.List.{position}
 use Rattle.std.proofs.lemmas.Bool.{cases_Bool, eqb-true, cases_lt, and_parts, and_from, or_cases, or_left, or_right, not-true, not_from_false, true≢false}
 use Rattle.std.proofs.lemmas.List.{get_or_past}
 use Rattle.std.proofs.lemmas.List.FromFn.{get_or-map-range_with_len, length-map-range_with_len}
-use Rattle.mt_model.specs.Lists.{has, below, is_distinct}
-use Rattle.mt_model.specs.Market.{Market, Partners, applicants, program_of, list_of, couple_of, live, live_market, is_member, agent_from}
-use Rattle.mt_model.specs.WellFormed.{IsWellFormed}
+use Rattle.mt_terms.specs.Lists.{has, below, is_distinct}
+use Rattle.mt_terms.specs.Market.{Market, Partners, applicants, program_of, list_of, couple_of, live, live_market, is_member, agent_from}
+use Rattle.mt_terms.specs.WellFormed.{IsWellFormed}
 use Rattle.mt_ranks.specs.Ranked.{IsRanked, IsEntry, IsRank, is_single, is_single_agent, ranked_of, ranked_entry, entry_count}
 use Rattle.mt_ranks.proofs.Positions.{has-position, IsRank-from_position}
 use Rattle.mt_ranks.proofs.Sizes.{distinct_length, total_below-le}

@@ -5,7 +5,7 @@ use Rattle.std.specs.List.{position, position_from}
 use Rattle.std.proofs.lemmas.Bool.{cases_Bool, eqb-true, eq-eqb, ne_eqb, and_parts, or_parts, not-true}
 use Rattle.std.proofs.lemmas.Iterator.Adapters.{position_from-zero}
 use Rattle.std.proofs.lemmas.List.Quantifiers.{position-Some}
-use Rattle.mt_model.specs.Lists.{has, is_distinct}
+use Rattle.mt_terms.specs.Lists.{has, is_distinct}
 use Rattle.mt_ranks.specs.Entries.{entries_in, entries_from, rank_among, AscendFrom, AreDistinct}
 use Rattle.mt_ranks.specs.Ranked.{IsRank}
 use Rattle.mt_ranks.specs.declared.entries.Live.{Live}

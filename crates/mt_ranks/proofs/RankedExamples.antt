@@ -1,7 +1,7 @@
 -- What the definitions of rank tables say of small markets.
 use Rattle.std.proofs.Common.{◌≡◌, [], ◌∷◌, map, true, false, Some, None, refl}
-use Rattle.mt_model.specs.Examples.Markets.{chain, one_sided, single_between}
-use Rattle.mt_model.specs.Market.{list_of}
+use Rattle.mt_terms.specs.Examples.Markets.{chain, one_sided, single_between}
+use Rattle.mt_terms.specs.Market.{list_of}
 use Rattle.mt_ranks.specs.Ranked.{ranked_of, rank_of, ranked_entry}
 
 -- All entries are mutual, so the market stays as it is.

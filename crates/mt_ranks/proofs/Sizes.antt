@@ -1,7 +1,7 @@
 -- A list without repeats of numbers below n has at most n of them.
 use Rattle.std.proofs.Common.{◌≡◌, ℕ, zero, suc, ◌+◌, ◌*◌, ◌<◌, ◌≤◌, List, [], ◌∷◌, cond, eqb, IsTrue, length, get_or, map, sum, refl, inl, inr, arith}
 use Rattle.std.proofs.lemmas.Bool.{eq-eqb, ne_eqb, cases_eq, or_left, or_right}
-use Rattle.mt_model.specs.Lists.{has, below, count, total_below, is_distinct}
+use Rattle.mt_terms.specs.Lists.{has, below, count, total_below, is_distinct}
 use Rattle.std.specs.List.{All}
 use Rattle.std.proofs.lemmas.List.Sums.{sum_by-le}
 use Rattle.std.proofs.lemmas.List.FromFn.{length-map-range_with_len, get_or-map-range_with_len}

@@ -4,10 +4,10 @@ use Rattle.std.specs.List.{All, position}
 use Rattle.std.proofs.lemmas.Bool.{cases_lt}
 use Rattle.std.proofs.lemmas.List.{get_or-map, get_or_past, length-map}
 use Rattle.std.proofs.lemmas.List.FromFn.{get_or-map-range_with_len, length-map-range_with_len, fill_by_all}
-use Rattle.mt_model.specs.Lists.{below}
-use Rattle.mt_model.specs.Market.{Market, Program, applicants, program_of, list_of, live, live_market}
-use Rattle.mt_model.specs.WellFormed.{IsWellFormed}
-use Rattle.mt_roster.specs.Tables.{programs_with}
+use Rattle.mt_terms.specs.Lists.{below}
+use Rattle.mt_terms.specs.Market.{Market, Program, applicants, program_of, list_of, live, live_market}
+use Rattle.mt_terms.specs.WellFormed.{IsWellFormed}
+use Rattle.mt_market.specs.Tables.{programs_with}
 use Rattle.mt_ranks.specs.Entries.{entries_from, entries_among, rank_among, AscendFrom, AreDistinct, AreWithin}
 use Rattle.mt_ranks.specs.Ranked.{Ranked, IsRanked, IsEntry, ranked_of, ranked_entry, is_single}
 use Rattle.mt_ranks.specs.Rows.{Filling, row_of}

@@ -2,7 +2,7 @@
 use Rattle.std.specs.Prelude.{ℕ, ◌+◌, ◌≤◌, ◌<◌, ◌==◌, List, [], ◌∷◌, ◌++◌, Option, Some, None, IsTrue, slice_index_or, if◌then◌else◌}
 use Rattle.std.specs.List.{filter_map}
 use Rattle.std.specs.Option.{option_map}
-use Rattle.mt_model.specs.Lists.{has, count, is_distinct}
+use Rattle.mt_terms.specs.Lists.{has, count, is_distinct}
 use Rattle.mt_ranks.specs.declared.entries.Live.{Live}
 
 -- the places of an applicant on the rest of a program's list, which begins at this rank

@@ -2,12 +2,12 @@
 -- programs' lists are as in the ranking matrices of Gusfield and Irving 1989.
 use Rattle.std.specs.Prelude.{◌≡◌, ℕ, ◌+◌, ◌<◌, ◌≤◌, ◌^◌, Bool, true, false, ◌==◌, List, [], map, length, Option, Some, unwrap_or, IsTrue, slice_index, slice_index_or}
 use Rattle.std.specs.List.{position}
-use Rattle.mt_model.specs.Lists.{has, below, total_below}
-use Rattle.mt_model.specs.Market.{Market, applicants, program_of, list_of, live, live_market, agent_of}
-use Rattle.mt_model.specs.WellFormed.{IsWellFormed}
-use Rattle.mt_model.specs.declared.numbers.Agent.{Agent}
-use Rattle.mt_model.specs.declared.numbers.Agent.TheVariants.{Single, Couple}
-use Rattle.mt_model.specs.declared.limits.TheConstants.{LIMITS_2}
+use Rattle.mt_terms.specs.Lists.{has, below, total_below}
+use Rattle.mt_terms.specs.Market.{Market, applicants, program_of, list_of, live, live_market, agent_of}
+use Rattle.mt_terms.specs.WellFormed.{IsWellFormed}
+use Rattle.mt_terms.specs.declared.numbers.Agent.{Agent}
+use Rattle.mt_terms.specs.declared.numbers.Agent.TheVariants.{Single, Couple}
+use Rattle.mt_terms.specs.declared.limits.TheConstants.{LIMITS_2}
 use Rattle.mt_ranks.specs.declared.entries.Live.{Live}
 
 -- whether an agent is a single

@@ -1,8 +1,8 @@
 -- What rank tables mean.
 use Rattle.std.specs.Prelude.{◌≡◌, ℕ, [], List, map, length, slice_index_or}
-use Rattle.mt_model.specs.Lists.{below}
-use Rattle.mt_model.specs.Market.{list_of}
-use Rattle.mt_roster.specs.Tables.{programs_with}
+use Rattle.mt_terms.specs.Lists.{below}
+use Rattle.mt_terms.specs.Market.{list_of}
+use Rattle.mt_market.specs.Tables.{programs_with}
 use Rattle.mt_ranks.specs.Entries.{entries_from}
 use Rattle.mt_ranks.specs.Ranked.{Ranked, IsRanked, ranked_entry}
 use Rattle.mt_ranks.specs.declared.entries.Live.{Live}

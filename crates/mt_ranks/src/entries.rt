@@ -1,7 +1,8 @@
 ghost use Rattle.std.specs.Prelude.{◌≡◌, ◌++◌, ◌∷◌, [], OnOk};
 ghost use Rattle.mt_ranks.specs.Entries.{AscendFrom, rank_among, entries_among};
 
-use mt_model::{FlatLists, ProgNo};
+use mt_market::FlatLists;
+use mt_terms::ProgNo;
 use std::alloc::AllocError;
 
 /// An entry of a live list: a program that lists the applicant, and the applicant's rank there, its position

@@ -2,7 +2,7 @@ ghost use Rattle.std.specs.Prelude.{◌≡◌, ◌+◌, ◌<◌, ◌≤◌, ◌^
 ghost use Rattle.mt_ranks.specs.Rows.{parts, ArePartsOf, empty_rows, row_of, HasRoom, with_entry, starts_from};
 
 use crate::entries::Live;
-use mt_model::ProgNo;
+use mt_terms::ProgNo;
 use std::alloc::{AllocError, Global};
 use std::marker::Model;
 

@@ -1,7 +1,7 @@
 ghost use Rattle.std.specs.Prelude.{◌≡◌, ℕ, ◌<◌, ◌==◌, false, [], All, length, map, is_some, slice_index_or, IfOk, IfSome};
 ghost use Rattle.std.specs.List.{position};
-ghost use Rattle.mt_model.specs.Lists.{has, below};
-ghost use Rattle.mt_model.specs.Market.{Program, applicants, program_of, list_of};
+ghost use Rattle.mt_terms.specs.Lists.{has, below};
+ghost use Rattle.mt_terms.specs.Market.{Program, applicants, program_of, list_of};
 ghost use Rattle.mt_ranks.specs.Entries.{AscendFrom, entries_among};
 ghost use Rattle.mt_ranks.specs.Ranked.{IsRank, IsEntry, IsRanked, ranked_of, ranked_entry, is_single, is_single_agent};
 ghost use Rattle.mt_ranks.specs.Rows.{row_of};
@@ -9,8 +9,9 @@ ghost use Rattle.mt_ranks.specs.Rows.{row_of};
 use crate::entries::{Live, push_live, rank_at};
 use crate::rows::Rows;
 use crate::transpose::transpose;
-use mt_model::{Agent, AppNo, FlatLists, ProgNo};
-use mt_roster::Roster;
+use mt_market::FlatLists;
+use mt_terms::{Agent, AppNo, ProgNo};
+use mt_market::Roster;
 use std::alloc::{AllocError, Global};
 use std::marker::Model;
 

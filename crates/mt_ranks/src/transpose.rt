@@ -1,12 +1,13 @@
 ghost use Rattle.std.specs.Prelude.{◌≡◌, ℕ, ◌+◌, ◌<◌, ◌≤◌, ◌^◌, ◌==◌, ◌++◌, length, map, slice_index, IfOk, IsTrue};
-ghost use Rattle.mt_model.specs.declared.limits.TheConstants.{LIMITS_2};
-ghost use Rattle.mt_model.specs.Lists.{has, below, count};
+ghost use Rattle.mt_terms.specs.declared.limits.TheConstants.{LIMITS_2};
+ghost use Rattle.mt_terms.specs.Lists.{has, below, count};
 ghost use Rattle.mt_ranks.specs.Entries.{entries_in, entries_from, times_listed, AreWithin, AreDistinct};
 ghost use Rattle.mt_ranks.specs.Rows.{row_of, HasRoom};
 
 use crate::entries::Live;
 use crate::rows::Rows;
-use mt_model::{AppNo, FlatLists, ProgNo};
+use mt_market::FlatLists;
+use mt_terms::{AppNo, ProgNo};
 use std::alloc::{AllocError, Global};
 
 /// Counts each applicant that a program lists.

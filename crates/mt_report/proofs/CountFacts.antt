@@ -4,10 +4,10 @@ use Rattle.std.specs.Prelude.{if◌then◌else◌, IsTrue, is_some, not}
 use Rattle.std.proofs.lemmas.Bool.Decides.{nat_tests}
 use Rattle.std.proofs.lemmas.Bool.{cases_eq}
 use Rattle.std.proofs.lemmas.List.{take_more, get_or_read_under, get_or-set_same, get_or-set_other, ext_get_or}
-use Rattle.mt_model.proofs.BelowFacts.{length-map_below, map_below_at}
-use Rattle.mt_model.specs.Lists.{below, count, total_below}
-use Rattle.mt_model.specs.Matching.{filled, is_program, Places}
-use Rattle.mt_model.specs.Text.{unmatched}
+use Rattle.mt_terms.proofs.BelowFacts.{length-map_below, map_below_at}
+use Rattle.mt_terms.specs.Lists.{below, count, total_below}
+use Rattle.mt_terms.specs.Matching.{filled, is_program, Places}
+use Rattle.mt_terms.specs.Text.{unmatched}
 
 pub count-push : {X : Type 0} (test : X → Bool) (xs : List X) (x : X) → count test (xs ++ x ∷ []) ≡ count test xs + (if test x then 1 else 0)
 count-push test [] x = omega arith

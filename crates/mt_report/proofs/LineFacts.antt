@@ -1,7 +1,7 @@
 -- Lines made piece by piece.
 use Rattle.std.proofs.Common.{◌≡◌, ℕ, List, [], ◌∷◌, ◌++◌, append_assoc}
 use Rattle.std.specs.Prelude.{codes}
-use Rattle.mt_model.specs.Text.{line}
+use Rattle.mt_terms.specs.Text.{line}
 
 -- the pieces of a refusal
 pub refusal_pieces : (code name row id : List ℕ)

@@ -1,5 +1,5 @@
 ghost use Rattle.std.specs.Prelude.{◌≡◌, ◌+◌, ◌≤◌, ◌++◌, [], length, IsTrue};
-ghost use Rattle.mt_model.specs.Text.{id_text, is_known_code, name_among, refusals, refused as refused_text};
+ghost use Rattle.mt_terms.specs.Text.{id_text, is_known_code, name_among, refusals, refused as refused_text};
 
 use itoa::Buffer;
 use std::marker::Model;

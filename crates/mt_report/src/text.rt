@@ -1,14 +1,14 @@
 ghost use Rattle.std.specs.Prelude.{◌≡◌, ℕ, ◌+◌, ◌*◌, ◌<◌, ◌≤◌, ◌^◌, ◌++◌, [], ◌∷◌, map, length, codes, decimal, None, slice_index, IfOk, IsTrue, OnOk};
 ghost use Rattle.std.specs.List.{flat_map};
-ghost use Rattle.mt_model.specs.Lists.{below, total_below};
-ghost use Rattle.mt_model.specs.Market.{applicants, program_of};
-ghost use Rattle.mt_model.specs.Matching.{at, filled, place_of};
-ghost use Rattle.mt_model.specs.Text.{all_filled, applicant_line, line, place_text, positions, program_line, published as published_text, totals_line, unmatched};
-ghost use Rattle.mt_model.specs.Places.{ArePlaces};
+ghost use Rattle.mt_terms.specs.Lists.{below, total_below};
+ghost use Rattle.mt_terms.specs.Market.{applicants, program_of};
+ghost use Rattle.mt_terms.specs.Matching.{at, filled, place_of};
+ghost use Rattle.mt_terms.specs.Text.{all_filled, applicant_line, line, place_text, positions, program_line, published as published_text, totals_line, unmatched};
+ghost use Rattle.mt_terms.specs.Places.{ArePlaces};
 
 use itoa::Buffer;
-use mt_model::{AppNo, Match, ProgNo};
-use mt_roster::Roster;
+use mt_terms::{AppNo, Match, ProgNo};
+use mt_market::Roster;
 use std::alloc::{AllocError, Global};
 
 /// Adds a comma and a number.

@@ -5,10 +5,10 @@ use Rattle.std.proofs.lemmas.List.{append-nil}
 use Rattle.std.proofs.lemmas.List.Sums.{sum_by-append}
 use Rattle.std.proofs.lemmas.List.Elements.{filter_map-append}
 use Rattle.std.proofs.lemmas.Grind.{flat_map-append}
-use Rattle.mt_model.specs.declared.limits.Limits.{Limits}
-use Rattle.mt_model.specs.Registration.Records.{Record, Kind, OfProgram, OfCouple}
-use Rattle.mt_model.specs.Registration.Rows.{own_id, ids_of, withdrawn, withdrawn_id, applicants_of, applicant_ids, entries_of, entry_count}
-use Rattle.mt_model.specs.Registration.Passes.{are_too_many}
+use Rattle.mt_terms.specs.declared.limits.Limits.{Limits}
+use Rattle.mt_terms.specs.Registration.Records.{Record, Kind, OfProgram, OfCouple}
+use Rattle.mt_terms.specs.Registration.Rows.{own_id, ids_of, withdrawn, withdrawn_id, applicants_of, applicant_ids, entries_of, entry_count}
+use Rattle.mt_terms.specs.Registration.Passes.{are_too_many}
 
 filter_map-more : {X Y : Type 0} (f : X → Option Y) (xs : List X) (x : X) → Rattle.std.specs.List.filter_map f (xs ++ x ∷ []) ≡ Rattle.std.specs.List.filter_map f xs ++ option_to_list (f x)
 filter_map-more {Y = Y} f xs x = filter_map-append f xs (x ∷ []) ∙ by (f x)

@@ -4,12 +4,12 @@ use Rattle.std.specs.Prelude.{bytes_eq, codes, filter, IfSome, if◌then◌else�
 use Rattle.std.specs.List.{list_all}
 use Rattle.std.specs.Result.{result_ok}
 use Rattle.std.proofs.lemmas.Bool.{and_parts}
-use Rattle.mt_model.specs.Registration.Faults.{Charge, charge_alone, bad_id}
-use Rattle.mt_model.specs.Registration.Ids.{Bytes, has_id, is_id, number_of, numbers_of}
-use Rattle.mt_model.specs.Registration.Records.{Rules, Record, ProgramRecord, ApplicantRecord, CoupleRecord, WithdrawRecord, OfProgram, OfApplicant, OfCouple, are_ids, is_pair, pair_of, two_by_two, couple_by_pairs, couple_record, Kind, kind_of, withdraw_record, record_by_kind, record_of}
-use Rattle.mt_model.specs.Registration.Rows.{ids_of, applicant_ids}
-use Rattle.mt_model.proofs.IdFacts.{same_id, numbers_short}
-use Rattle.mt_model.proofs.NumberingFacts.{both}
+use Rattle.mt_terms.specs.Registration.Faults.{Charge, charge_alone, bad_id}
+use Rattle.mt_terms.specs.Registration.Ids.{Bytes, has_id, is_id, number_of, numbers_of}
+use Rattle.mt_terms.specs.Registration.Records.{Rules, Record, ProgramRecord, ApplicantRecord, CoupleRecord, WithdrawRecord, OfProgram, OfApplicant, OfCouple, are_ids, is_pair, pair_of, two_by_two, couple_by_pairs, couple_record, Kind, kind_of, withdraw_record, record_by_kind, record_of}
+use Rattle.mt_terms.specs.Registration.Rows.{ids_of, applicant_ids}
+use Rattle.mt_file_laws.proofs.IdFacts.{same_id, numbers_short}
+use Rattle.mt_file_laws.proofs.NumberingFacts.{both}
 use Rattle.mt_roster.specs.declared.record.Record as declared
 use Rattle.mt_roster.specs.declared.record.Charge as declared_charge
 use Rattle.mt_roster.specs.Records.{record_seen, read_seen}

@@ -1,9 +1,9 @@
 -- A refusal of a file as an error: its id fits, and the error tells of the file what the refusal says.
 use Rattle.std.proofs.Common.{List, Result, sym, subst}
-use Rattle.mt_model.specs.Market.{Registered}
-use Rattle.mt_model.specs.Registration.{market_of}
-use Rattle.mt_model.specs.Registration.Ids.{Bytes}
-use Rattle.mt_model.specs.Registration.Faults.{Fault}
+use Rattle.mt_terms.specs.Market.{Registered}
+use Rattle.mt_terms.specs.Registration.{market_of}
+use Rattle.mt_terms.specs.Registration.Ids.{Bytes}
+use Rattle.mt_terms.specs.Registration.Faults.{Fault}
 use Rattle.mt_roster.specs.declared.fault.RosterError.{RosterError}
 use Rattle.mt_roster.specs.declared.refusal.Refusal.{Refusal}
 use Rattle.mt_roster.specs.declared.refusal.Refusal.TheVariants as refusals

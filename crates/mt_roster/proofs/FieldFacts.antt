@@ -5,9 +5,9 @@ use Rattle.std.specs.List.{list_all}
 use Rattle.std.proofs.lemmas.List.{length-map, get_or-drop, get_or-map, take_all}
 use Rattle.std.proofs.lemmas.List.Folds.{list_all_at, list_all_more}
 use Rattle.std.proofs.lemmas.Option.{get_or_from_slice_get}
-use Rattle.mt_model.specs.Registration.Ids.{Bytes}
-use Rattle.mt_model.specs.Registration.Faults.{charge_alone, field_count}
-use Rattle.mt_model.specs.Registration.Records.{Rules, pair_of, two_by_two, IdPair, couple_record, couple_by_pairs}
+use Rattle.mt_terms.specs.Registration.Ids.{Bytes}
+use Rattle.mt_terms.specs.Registration.Faults.{charge_alone, field_count}
+use Rattle.mt_terms.specs.Registration.Records.{Rules, pair_of, two_by_two, IdPair, couple_record, couple_by_pairs}
 use Rattle.mt_roster.specs.Fields.{by_pairs}
 
 pub length-by_pairs : (xs : List Bytes) → length (by_pairs xs) ≡ length xs / 2

@@ -8,15 +8,15 @@ use Rattle.std.proofs.lemmas.Bool.{and_parts}
 use Rattle.std.proofs.lemmas.Bool.Decides.{nat_tests}
 use Rattle.std.proofs.lemmas.List.{map-append}
 use Rattle.std.proofs.lemmas.List.Folds.{list_all-append}
-use Rattle.mt_model.specs.Market.{Registered}
-use Rattle.mt_model.specs.Registration.{market_of_numbered, market_under}
-use Rattle.mt_model.specs.Registration.Ids.{Bytes, is_id, is_dash, quota_of, has_id}
-use Rattle.mt_model.specs.Registration.Faults.{Charge, Fault, charge, charge_alone, fault_at, bad_id, bad_quota, duplicate_id, duplicate_entry, too_many, unknown_applicant, unknown_program, not_registered, no_version}
-use Rattle.mt_model.specs.Registration.Records.{Rules, Record, ProgramRecord, ApplicantRecord, CoupleRecord, WithdrawRecord, Kind, OfProgram, OfApplicant, OfCouple, version_1, version_2, rules_of, are_ids, is_pair, pair_of, two_by_two, record_of, record_by_kind, program_record, applicant_record, couple_record, couple_by_pairs, withdraw_by_kind, withdraw_record, kind_of}
-use Rattle.mt_model.specs.Registration.Rows.{id_of, ids_of, applicant_ids}
-use Rattle.mt_model.specs.Registration.Passes.{Numbered, numbered_from, contents, first_of, first_in, first_not_in, on_result, are_too_many, says_twice, registered_before, clash, next_record, first_pass, second_pass, unknown_id, named}
-use Rattle.mt_model.specs.Registration.Numbering.{registered}
-use Rattle.mt_model.specs.Text.{is_none_or_id}
+use Rattle.mt_terms.specs.Market.{Registered}
+use Rattle.mt_terms.specs.Registration.{market_of_numbered, market_under}
+use Rattle.mt_terms.specs.Registration.Ids.{Bytes, is_id, is_dash, quota_of, has_id}
+use Rattle.mt_terms.specs.Registration.Faults.{Charge, Fault, charge, charge_alone, fault_at, bad_id, bad_quota, duplicate_id, duplicate_entry, too_many, unknown_applicant, unknown_program, not_registered, no_version}
+use Rattle.mt_terms.specs.Registration.Records.{Rules, Record, ProgramRecord, ApplicantRecord, CoupleRecord, WithdrawRecord, Kind, OfProgram, OfApplicant, OfCouple, version_1, version_2, rules_of, are_ids, is_pair, pair_of, two_by_two, record_of, record_by_kind, program_record, applicant_record, couple_record, couple_by_pairs, withdraw_by_kind, withdraw_record, kind_of}
+use Rattle.mt_terms.specs.Registration.Rows.{id_of, ids_of, applicant_ids}
+use Rattle.mt_terms.specs.Registration.Passes.{Numbered, numbered_from, contents, first_of, first_in, first_not_in, on_result, are_too_many, says_twice, registered_before, clash, next_record, first_pass, second_pass, unknown_id, named}
+use Rattle.mt_terms.specs.Registration.Numbering.{registered}
+use Rattle.mt_terms.specs.Text.{is_none_or_id}
 use Rattle.mt_roster.specs.Laws.{FaultIds}
 
 both : (a b : Bool) → a ≡ true → b ≡ true → (a && b) ≡ true

@@ -5,14 +5,14 @@ use Rattle.std.specs.List.{list_any, list_all}
 use Rattle.std.proofs.lemmas.Bool.{and_parts, eq-eqb}
 use Rattle.std.proofs.lemmas.List.Folds.{find-append}
 use Rattle.std.proofs.lemmas.List.Sums.{sum_by-cons}
-use Rattle.mt_model.proofs.IdFacts.{same_id, not_true, or_left, or_right, differ_join, numbers_short}
-use Rattle.mt_model.proofs.NumberingFacts.{both, pairs_short}
-use Rattle.mt_model.specs.Registration.Ids.{Bytes, has_id, number_of, numbers_of, all_differ}
-use Rattle.mt_model.specs.Registration.Faults.{charge, fault_at, unknown_applicant, unknown_program}
-use Rattle.mt_model.specs.Registration.Records.{Record, ProgramRecord, ApplicantRecord, CoupleRecord, WithdrawRecord, OfProgram, IdPair}
-use Rattle.mt_model.specs.Registration.Rows.{ids_of, applicant_ids, entries_of, entry_count}
-use Rattle.mt_model.specs.Registration.Numbering.{names_only, pair_by_number, pairs_by_number}
-use Rattle.mt_model.specs.Registration.Passes.{Numbered, contents, first_of, first_not_in, unknown_id, named}
+use Rattle.mt_file_laws.proofs.IdFacts.{same_id, not_true, or_left, or_right, differ_join, numbers_short}
+use Rattle.mt_file_laws.proofs.NumberingFacts.{both, pairs_short}
+use Rattle.mt_terms.specs.Registration.Ids.{Bytes, has_id, number_of, numbers_of, all_differ}
+use Rattle.mt_terms.specs.Registration.Faults.{charge, fault_at, unknown_applicant, unknown_program}
+use Rattle.mt_terms.specs.Registration.Records.{Record, ProgramRecord, ApplicantRecord, CoupleRecord, WithdrawRecord, OfProgram, IdPair}
+use Rattle.mt_terms.specs.Registration.Rows.{ids_of, applicant_ids, entries_of, entry_count}
+use Rattle.mt_terms.specs.Registration.Numbering.{names_only, pair_by_number, pairs_by_number}
+use Rattle.mt_terms.specs.Registration.Passes.{Numbered, contents, first_of, first_not_in, unknown_id, named}
 use Rattle.mt_roster.specs.Numbered.{ranking_in, lists_by, pairs_in}
 use Rattle.mt_roster.specs.Plain.{is_plain, lists_once}
 

@@ -7,7 +7,7 @@ use Rattle.mt_roster.specs.Keys.{AreBytes, four_from, head_of}
 use Rattle.std.specs.Prelude.{bytes_eq}
 use Rattle.std.specs.List.{list_any, position_or_len}
 use Rattle.std.proofs.lemmas.List.{map-append, length-map}
-use Rattle.mt_model.specs.Registration.Ids.{Bytes, has_id, number_of}
+use Rattle.mt_terms.specs.Registration.Ids.{Bytes, has_id, number_of}
 
 module _ {X : Type 0} (id_of : X → Bytes) where
   pub has_id-map : (keys : List X) (id : Bytes) → has_id (map id_of keys) id ≡ list_any (λ k. bytes_eq id (id_of k)) keys

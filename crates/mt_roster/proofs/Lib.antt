@@ -1,4 +1,3 @@
-pub mod TablesFacts
 pub mod DigitFacts
 pub mod KeyFacts
 pub mod FieldFacts

@@ -4,8 +4,8 @@ use Rattle.std.specs.List.{list_any, list_all}
 use Rattle.std.proofs.lemmas.Bool.Decides.{Decides-eqb}
 use Rattle.std.proofs.lemmas.List.{get_or-set_same, get_or-set_other, take_all}
 use Rattle.std.proofs.lemmas.List.Folds.{list_any-append, list_all_more}
-use Rattle.mt_model.proofs.IdFacts.{not_true}
-use Rattle.mt_model.specs.Registration.Ids.{all_differ}
+use Rattle.mt_file_laws.proofs.IdFacts.{not_true}
+use Rattle.mt_terms.specs.Registration.Ids.{all_differ}
 use Rattle.mt_roster.specs.Plain.{Marks}
 use Rattle.mt_roster.proofs.RepeatFacts.{Tests, seen_more}
 

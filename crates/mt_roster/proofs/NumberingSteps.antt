@@ -4,16 +4,16 @@ use Rattle.std.specs.Prelude.{bytes_eq, filter, IsSome}
 use Rattle.std.proofs.lemmas.Bool.Decides.{nat_tests}
 use Rattle.std.proofs.lemmas.List.{append-nil, append_assoc}
 use Rattle.std.proofs.lemmas.List.Folds.{list_any-append}
-use Rattle.mt_model.specs.FlatLists.{with_last}
-use Rattle.mt_model.specs.Registration.Ids.{Bytes, has_id, number_of, numbers_of, all_differ}
-use Rattle.mt_model.proofs.IdFacts.{differ_parts, not_true, or_left, or_right, same_id, is_same}
-use Rattle.mt_model.specs.Market.{Pair}
-use Rattle.mt_model.specs.Registration.Records.{Kind, OfProgram, OfApplicant, OfCouple, Record, ProgramRecord, ApplicantRecord, CoupleRecord, WithdrawRecord, IdPair}
-use Rattle.mt_model.specs.Registration.Rows.{applicants_of, applicant_ids, withdrawn, remaining}
-use Rattle.mt_model.specs.Registration.Numbering.{names_only, pair_by_number, pairs_by_number}
+use Rattle.mt_market.specs.FlatLists.{with_last}
+use Rattle.mt_terms.specs.Registration.Ids.{Bytes, has_id, number_of, numbers_of, all_differ}
+use Rattle.mt_file_laws.proofs.IdFacts.{differ_parts, not_true, or_left, or_right, same_id, is_same}
+use Rattle.mt_terms.specs.Market.{Pair}
+use Rattle.mt_terms.specs.Registration.Records.{Kind, OfProgram, OfApplicant, OfCouple, Record, ProgramRecord, ApplicantRecord, CoupleRecord, WithdrawRecord, IdPair}
+use Rattle.mt_terms.specs.Registration.Rows.{applicants_of, applicant_ids, withdrawn, remaining}
+use Rattle.mt_terms.specs.Registration.Numbering.{names_only, pair_by_number, pairs_by_number}
 use Rattle.mt_roster.specs.declared.register.Numbered.{Numbered}
 use Rattle.mt_roster.specs.declared.register.Kinds.{Kinds}
-use Rattle.mt_model.specs.Registration.Passes.{contents}
+use Rattle.mt_terms.specs.Registration.Passes.{contents}
 use Rattle.mt_roster.specs.Records.{record_seen}
 use Rattle.mt_roster.specs.Registers.{numbered_seen, ids_in}
 use Rattle.mt_roster.specs.Numbered.{all_seen, stays_without, number_in, pair_in, with_more}

@@ -3,24 +3,23 @@ use Rattle.std.proofs.Common.{◌≡◌, ◌≢◌, ℕ, suc, ◌+◌, ◌-◌, 
 use Rattle.std.specs.Prelude.{All}
 use Rattle.std.proofs.lemmas.Bool.Decides.{nat_tests}
 use Rattle.std.proofs.lemmas.List.{same_lists, length-set, get_or-set_same, get_or-set_other, get_or_default, drop_more, take_all, append-nil, drop_all}
-use Rattle.mt_model.specs.declared.numbers.Agent.{Agent}
-use Rattle.mt_model.specs.declared.numbers.Agent.TheVariants.{Couple}
-use Rattle.mt_model.specs.Lists.{below}
-use Rattle.mt_model.specs.Market.{Market, Partners, Pair, Names, applicants, couple_of, agent_from, agent_of}
-use Rattle.mt_model.specs.Registration.Ids.{Bytes}
-use Rattle.mt_model.specs.Registration.Records.{Record, ProgramRecord, ApplicantRecord, CoupleRecord, WithdrawRecord, OfProgram, OfCouple}
-use Rattle.mt_model.specs.Registration.Rows.{ids_of, applicant_ids}
-use Rattle.mt_model.specs.Registration.Numbering.{names_of, program_in, lists_in, couple_in, market_by}
-use Rattle.mt_model.specs.Laws.Registration.{IsRegistration}
-use Rattle.mt_model.proofs.BelowFacts.{length-map_below, map_below_at}
-use Rattle.mt_roster.specs.Tables.{programs_with, couples_with}
+use Rattle.mt_terms.specs.declared.numbers.Agent.{Agent}
+use Rattle.mt_terms.specs.declared.numbers.Agent.TheVariants.{Couple}
+use Rattle.mt_terms.specs.Lists.{below}
+use Rattle.mt_terms.specs.Market.{Market, Partners, Pair, Names, applicants, couple_of, agent_from, agent_of}
+use Rattle.mt_terms.specs.Registration.Ids.{Bytes}
+use Rattle.mt_terms.specs.Registration.Records.{Record, ProgramRecord, ApplicantRecord, CoupleRecord, WithdrawRecord, OfProgram, OfCouple}
+use Rattle.mt_terms.specs.Registration.Rows.{ids_of, applicant_ids}
+use Rattle.mt_terms.specs.Registration.Numbering.{names_of, program_in, lists_in, couple_in, market_by}
+use Rattle.mt_terms.specs.Registration.Accepted.{IsRegistration}
+use Rattle.mt_terms.proofs.BelowFacts.{length-map_below, map_below_at}
+use Rattle.mt_market.specs.Tables.{programs_with, couples_with, registered_of, AreTables}
 use Rattle.mt_roster.specs.declared.numbering.Entries.{Entries}
 use Rattle.mt_roster.specs.declared.names.NameLists.{NameLists}
 use Rattle.mt_roster.specs.Entries.{AreNames, AreEntries}
-use Rattle.mt_roster.specs.View.{registered_of, AreTables}
 use Rattle.mt_roster.specs.Numbered.{quota_in, ranking_in, lists_by, members_in, pairs_in, bare_couples, registered_by_all}
-use Rattle.mt_roster.specs.declared.tables.Roster.TheInside.{Inside}
-use Rattle.mt_roster.proofs.TablesFacts.{length-couples_with, couple_at}
+use Rattle.mt_market.specs.declared.tables.Tables.{Tables}
+use Rattle.mt_market.proofs.TablesFacts.{length-couples_with, couple_at}
 
 -- the tables of programs, of lists and of couples
 module _ (N : Names) where
@@ -152,7 +151,7 @@ agents_down members number n d e items before after len some h within was same i
     ∙ agents_step members (number - 1) n d e before after i within (same ∙ was ∙ ap f (sym back)) is
 
 -- The tables have these records' quotas, lists, members, pairs and ids, and agents by the members.
-pub record AreMade (t : Inside) (rs : List Record) : Type 0 where
+pub record AreMade (t : Tables) (rs : List Record) : Type 0 where
   pub quotas : t.quotas.items ≡ filter_map quota_in rs
   pub rankings : t.rankings ≡ filter_map (ranking_in (applicant_ids rs)) rs
   pub lists : t.lists ≡ flat_map (lists_by (ids_of OfProgram rs)) rs
@@ -203,7 +202,7 @@ module _ (rs : List Record) (r : IsRegistration (registered_by_all rs)) where
       let second_is : (couple_of market c).second ≡ (get_or all_members c (0, 0)).1 = ap (λ (x : Partners). x.second) (couple_is c) in
       rw same (omega arith, omega arith)
 
-  module _ (t : Inside) (made : AreMade t rs) where
+  module _ (t : Tables) (made : AreMade t rs) where
     programs_seen : programs_with t.quotas.items t.rankings ≡ market.programs
     programs_seen = rw (made.quotas, made.rankings) (programs_of_tables (names_of rs) rs)
 
@@ -236,7 +235,7 @@ module _ (rs : List Record) (r : IsRegistration (registered_by_all rs)) where
     }
 
 -- the tables that are made from names and entries
-abbrev pub tables_with : NameLists → Entries → Vec ℕ Global → Vec Agent Global → Inside
+abbrev pub tables_with : NameLists → Entries → Vec ℕ Global → Vec Agent Global → Tables
 tables_with names e quotas agents = record {
   quotas = quotas;
   rankings = e.rankings;

@@ -5,18 +5,18 @@ use Rattle.std.specs.Option.{option_map_or}
 use Rattle.std.specs.Bool.{then_some}
 use Rattle.std.proofs.lemmas.Bool.Decides.{nat_tests}
 use Rattle.std.proofs.lemmas.List.{drop_more, get_or_default}
-use Rattle.mt_model.proofs.IdFacts.{neither}
-use Rattle.mt_model.specs.Registration.Ids.{Bytes}
+use Rattle.mt_file_laws.proofs.IdFacts.{neither}
+use Rattle.mt_terms.specs.Registration.Ids.{Bytes}
 use Rattle.mt_roster.specs.declared.refusal.Refusal.{Refusal}
 use Rattle.mt_roster.specs.declared.refusal.Refusal.TheVariants as refusals
 use Rattle.mt_roster.specs.declared.register.Register.{Register}
 use Rattle.mt_roster.specs.Registers.{records_seen, AreFew, AreBounded, IsRegister}
 use Rattle.mt_roster.specs.Passes.{Reads, ReadsAt, GivesRegister}
 use Rattle.mt_roster.specs.Refusals.{Refuses}
-use Rattle.mt_model.specs.Registration.Faults.{Charge, Fault, charge, fault_at, duplicate_id}
-use Rattle.mt_model.specs.Registration.Records.{Rules, Record, OfProgram, OfCouple, record_of}
-use Rattle.mt_model.specs.Registration.Rows.{ids_of, applicant_ids, entry_count}
-use Rattle.mt_model.specs.Registration.Passes.{registered_before, says_twice, are_too_many, clash, next_record, on_result, first_of, numbered_from, Numbered, first_pass}
+use Rattle.mt_terms.specs.Registration.Faults.{Charge, Fault, charge, fault_at, duplicate_id}
+use Rattle.mt_terms.specs.Registration.Records.{Rules, Record, OfProgram, OfCouple, record_of}
+use Rattle.mt_terms.specs.Registration.Rows.{ids_of, applicant_ids, entry_count}
+use Rattle.mt_terms.specs.Registration.Passes.{registered_before, says_twice, are_too_many, clash, next_record, on_result, first_of, numbered_from, Numbered, first_pass}
 
 -- a record that doesn't clash with those before it
 pub record IsAccepted (rules : Rules) (before : List Record) (r : Record) : Type 0 where

@@ -7,13 +7,13 @@ use Rattle.std.specs.List.{list_all}
 use Rattle.std.proofs.lemmas.Bool.{and_parts}
 use Rattle.std.proofs.lemmas.List.{map-append}
 use Rattle.std.proofs.lemmas.List.Folds.{list_all-append}
-use Rattle.mt_model.specs.Market.{Registered}
-use Rattle.mt_model.specs.Registration.{market_under}
-use Rattle.mt_model.specs.Registration.Ids.{Bytes, has_id, all_differ}
-use Rattle.mt_model.specs.Registration.Faults.{Charge, charge, fault_at, duplicate_id}
-use Rattle.mt_model.specs.Registration.Records.{Rules, Record, ProgramRecord, ApplicantRecord, CoupleRecord, WithdrawRecord, Kind, OfProgram, OfApplicant, OfCouple, record_of}
-use Rattle.mt_model.specs.Registration.Rows.{own_id, ids_of, applicants_of, applicant_ids, withdrawn, withdrawn_id, remaining, entry_count}
-use Rattle.mt_model.specs.Registration.Passes.{Numbered, contents, numbered_from, first_of, on_result, registered_before, says_twice, are_too_many, clash, next_record, first_pass, second_pass}
+use Rattle.mt_terms.specs.Market.{Registered}
+use Rattle.mt_terms.specs.Registration.{market_under}
+use Rattle.mt_terms.specs.Registration.Ids.{Bytes, has_id, all_differ}
+use Rattle.mt_terms.specs.Registration.Faults.{Charge, charge, fault_at, duplicate_id}
+use Rattle.mt_terms.specs.Registration.Records.{Rules, Record, ProgramRecord, ApplicantRecord, CoupleRecord, WithdrawRecord, Kind, OfProgram, OfApplicant, OfCouple, record_of}
+use Rattle.mt_terms.specs.Registration.Rows.{own_id, ids_of, applicants_of, applicant_ids, withdrawn, withdrawn_id, remaining, entry_count}
+use Rattle.mt_terms.specs.Registration.Passes.{Numbered, contents, numbered_from, first_of, on_result, registered_before, says_twice, are_too_many, clash, next_record, first_pass, second_pass}
 use Rattle.mt_roster.specs.declared.numbering.Entries.{Entries}
 use Rattle.mt_roster.specs.declared.register.Kinds.{Kinds}
 use Rattle.mt_roster.specs.declared.drafts.Drafts.{Drafts}
@@ -24,7 +24,7 @@ use Rattle.mt_roster.specs.Entries.{AreNames, AddsNames, AreEntries}
 use Rattle.mt_roster.specs.Numbered.{all_seen, stays_without, registered_by_all}
 use Rattle.mt_roster.specs.Registers.{ids_in, withdraws_twice}
 use Rattle.mt_roster.specs.Plain.{is_plain, lists_once, ids_differ, IsPlainFront, GoesOn, AreWholeEntries, IsWholeMarket}
-use Rattle.mt_model.proofs.IdFacts.{differ_parts, differ_join, neither}
+use Rattle.mt_file_laws.proofs.IdFacts.{differ_parts, differ_join, neither}
 use Rattle.std.proofs.lemmas.List.{append_assoc}
 use Rattle.std.proofs.lemmas.List.Folds.{list_any-append}
 use Rattle.mt_roster.proofs.CountFacts.{ids_of-more, applicant_ids-more}

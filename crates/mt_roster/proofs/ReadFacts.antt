@@ -2,13 +2,13 @@
 use Rattle.std.proofs.Common.{◌≡◌, ◌≢◌, ℕ, ◌+◌, ◌<◌, Bool, true, false, ◌&&◌, List, [], ◌∷◌, length, drop, get_or, refl, ap, sym, ◌∙◌, arith, subst, Option, Some, None, Ok, Err, if◌then◌else◌}
 use Rattle.std.specs.Prelude.{bytes_eq, codes}
 use Rattle.std.specs.Option.{option_map_or}
-use Rattle.mt_model.specs.Registration.{market_of, market_of_numbered, market_under}
-use Rattle.mt_model.specs.Registration.Ids.{Bytes}
-use Rattle.mt_model.specs.Registration.Faults as faults
-use Rattle.mt_model.specs.Registration.Records as model
-use Rattle.mt_model.specs.Registration.Records.{Rules, rules_of, version_1, version_2}
-use Rattle.mt_model.specs.Registration.Numbering.{registered}
-use Rattle.mt_model.specs.Registration.Passes.{Numbered, numbered_from, first_pass, second_pass, contents}
+use Rattle.mt_terms.specs.Registration.{market_of, market_of_numbered, market_under}
+use Rattle.mt_terms.specs.Registration.Ids.{Bytes}
+use Rattle.mt_terms.specs.Registration.Faults as faults
+use Rattle.mt_terms.specs.Registration.Records as model
+use Rattle.mt_terms.specs.Registration.Records.{Rules, rules_of, version_1, version_2}
+use Rattle.mt_terms.specs.Registration.Numbering.{registered}
+use Rattle.mt_terms.specs.Registration.Passes.{Numbered, numbered_from, first_pass, second_pass, contents}
 use Rattle.std.proofs.lemmas.List.{get_or_default}
 use Rattle.mt_roster.specs.Registers.{AreBounded}
 use Rattle.mt_roster.proofs.PassFacts.{row_is}

@@ -2,12 +2,12 @@
 use Rattle.std.proofs.Common.{subst, ◌≡◌, ◌+◌, Bool, true, false, ◌||◌, ◌||◌, List, [], ◌∷◌, ◌++◌, map, refl, ap, sym, ◌∙◌, Some, None, cond}
 use Rattle.std.specs.Prelude.{option_to_list, bytes_eq}
 use Rattle.std.proofs.lemmas.List.{append-nil, map-append}
-use Rattle.mt_model.proofs.IdFacts.{not_true, or_right}
+use Rattle.mt_file_laws.proofs.IdFacts.{not_true, or_right}
 use Rattle.mt_roster.proofs.CountFacts.{ids_of-more, applicant_ids-more, withdrawn-more, entry_count-more}
-use Rattle.mt_model.specs.Registration.Ids.{Bytes, has_id}
-use Rattle.mt_model.specs.Registration.Records.{Record, Kind, OfProgram, OfApplicant, OfCouple, ProgramRecord, ApplicantRecord, CoupleRecord, WithdrawRecord}
-use Rattle.mt_model.specs.Registration.Rows.{own_id, ids_of, withdrawn, withdrawn_id, applicants_of, applicant_ids, entries_of, entry_count}
-use Rattle.mt_model.specs.Registration.Passes.{registered_before, contents}
+use Rattle.mt_terms.specs.Registration.Ids.{Bytes, has_id}
+use Rattle.mt_terms.specs.Registration.Records.{Record, Kind, OfProgram, OfApplicant, OfCouple, ProgramRecord, ApplicantRecord, CoupleRecord, WithdrawRecord}
+use Rattle.mt_terms.specs.Registration.Rows.{own_id, ids_of, withdrawn, withdrawn_id, applicants_of, applicant_ids, entries_of, entry_count}
+use Rattle.mt_terms.specs.Registration.Passes.{registered_before, contents}
 use Rattle.mt_roster.specs.declared.register.Numbered as declared
 use Rattle.mt_roster.specs.Records.{record_seen}
 use Rattle.mt_roster.specs.declared.register.Kinds.{Kinds}

@@ -6,10 +6,10 @@ use Rattle.std.specs.Option.{option_copied, option_eq}
 use Rattle.std.proofs.lemmas.Bool.{and_parts}
 use Rattle.std.proofs.lemmas.List.{take_more, drop_more, take-append-drop, map-append}
 use Rattle.std.proofs.lemmas.List.Folds.{list_any-append}
-use Rattle.mt_model.proofs.IdFacts.{same_id, is_same, neither, not_true, or_right}
-use Rattle.mt_model.specs.Registration.Ids.{all_differ}
-use Rattle.mt_model.specs.Registration.Records.{IdPair}
-use Rattle.mt_model.specs.Registration.Passes.{is_same_pair}
+use Rattle.mt_file_laws.proofs.IdFacts.{same_id, is_same, neither, not_true, or_right}
+use Rattle.mt_terms.specs.Registration.Ids.{all_differ}
+use Rattle.mt_terms.specs.Registration.Records.{IdPair}
+use Rattle.mt_terms.specs.Registration.Passes.{is_same_pair}
 
 -- a test that says whether two elements are equal
 abbrev pub Tests : {X : Type 0} → (X → X → Bool) → Type 0

@@ -5,11 +5,11 @@ use Rattle.std.specs.List.{flat_map}
 use Rattle.std.proofs.lemmas.List.{take_more, drop_more, take-append-drop, append-nil, map-append}
 use Rattle.std.proofs.lemmas.List.Folds.{find-append}
 use Rattle.std.proofs.lemmas.Grind.{flat_map-append}
-use Rattle.mt_model.specs.Registration.Ids.{Bytes, has_id}
-use Rattle.mt_model.specs.Registration.Passes.{first_of, first_not_in, second_pass, unknown_id}
-use Rattle.mt_model.specs.Registration.Records as model
-use Rattle.mt_model.specs.Registration.Faults as faults
-use Rattle.mt_model.specs.Registration.Faults.{fault_at}
+use Rattle.mt_terms.specs.Registration.Ids.{Bytes, has_id}
+use Rattle.mt_terms.specs.Registration.Passes.{first_of, first_not_in, second_pass, unknown_id}
+use Rattle.mt_terms.specs.Registration.Records as model
+use Rattle.mt_terms.specs.Registration.Faults as faults
+use Rattle.mt_terms.specs.Registration.Faults.{fault_at}
 use Rattle.mt_roster.specs.declared.register.Numbered as declared
 use Rattle.mt_roster.specs.declared.register.Register.{Register}
 use Rattle.mt_roster.specs.Records.{record_seen}

@@ -1,9 +1,9 @@
 -- Records taken apart without a look at the ids of their lists, nor at whether an id is registered twice.
 use Rattle.std.specs.Prelude.{◌≡◌, Bool, true, List, [], ◌∷◌, map, Result, Ok}
-use Rattle.mt_model.specs.Registration.Faults.{Charge}
-use Rattle.mt_model.specs.Registration.Records.{Rules, Record, ProgramRecord, ApplicantRecord, CoupleRecord, WithdrawRecord, are_ids}
-use Rattle.mt_model.specs.Registration.Rows.{entry_count}
-use Rattle.mt_model.specs.Registration.Passes.{Numbered}
+use Rattle.mt_terms.specs.Registration.Faults.{Charge}
+use Rattle.mt_terms.specs.Registration.Records.{Rules, Record, ProgramRecord, ApplicantRecord, CoupleRecord, WithdrawRecord, are_ids}
+use Rattle.mt_terms.specs.Registration.Rows.{entry_count}
+use Rattle.mt_terms.specs.Registration.Passes.{Numbered}
 use Rattle.mt_roster.specs.declared.drafts.Drafts.{Drafts}
 use Rattle.mt_roster.specs.Entries.{AreNames}
 use Rattle.mt_roster.specs.Numbered.{all_seen}

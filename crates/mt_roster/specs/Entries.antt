@@ -1,8 +1,8 @@
 -- The ids of records, and what the records say by the numbers of their programs and applicants.
 use Rattle.std.specs.Prelude.{◌≡◌, ◌++◌, List, filter_map, flat_map, option_to_list}
-use Rattle.mt_model.specs.Registration.Ids.{Bytes}
-use Rattle.mt_model.specs.Registration.Records.{Record, OfProgram, OfCouple}
-use Rattle.mt_model.specs.Registration.Rows.{own_id, ids_of, applicants_of, applicant_ids}
+use Rattle.mt_terms.specs.Registration.Ids.{Bytes}
+use Rattle.mt_terms.specs.Registration.Records.{Record, OfProgram, OfCouple}
+use Rattle.mt_terms.specs.Registration.Rows.{own_id, ids_of, applicants_of, applicant_ids}
 use Rattle.mt_roster.specs.declared.numbering.Entries.{Entries}
 use Rattle.mt_roster.specs.declared.names.NameLists.{NameLists}
 use Rattle.mt_roster.specs.Numbered.{ranking_in, lists_by, members_in, pairs_in}

@@ -1,7 +1,7 @@
 -- What an error of the roster tells of a file.
 use Rattle.std.specs.Prelude.{◌≡◌, ◌≤◌, length, Result, Err}
-use Rattle.mt_model.specs.Market.{Registered}
-use Rattle.mt_model.specs.Registration.Faults.{Fault}
+use Rattle.mt_terms.specs.Market.{Registered}
+use Rattle.mt_terms.specs.Registration.Faults.{Fault}
 use Rattle.mt_roster.specs.declared.fault.RosterError.{RosterError}
 use Rattle.mt_roster.specs.declared.fault.RosterError.TheVariants as errors
 use Rattle.mt_roster.specs.declared.refusal.Refusal.{Refusal}

@@ -1,6 +1,6 @@
 -- The fields of a record from a place on, and those of a couple's list, two by two.
 use Rattle.std.specs.Prelude.{◌≡◌, ℕ, ◌<◌, ◌≤◌, ◌^◌, List, [], ◌∷◌}
-use Rattle.mt_model.specs.Registration.Ids.{Bytes}
+use Rattle.mt_terms.specs.Registration.Ids.{Bytes}
 
 -- the fields two by two, without a last one that has no other
 abbrev pub by_pairs : List Bytes → List (Bytes × Bytes)

@@ -2,7 +2,7 @@
 use Rattle.std.specs.Prelude.{ℕ, ◌+◌, ◌-◌, ◌*◌, ◌/◌, ◌^◌, ◌<◌, [], ◌∷◌, length, min, nat_le, nat_lt, slice_index, if◌then◌else◌}
 use Rattle.std.specs.Hash as fed
 use Rattle.std.specs.Hash.{HashWrites}
-use Rattle.mt_model.specs.Registration.Ids.{Bytes}
+use Rattle.mt_terms.specs.Registration.Ids.{Bytes}
 
 -- whether the numbers of a list are bytes
 abbrev pub AreBytes : Bytes → Type 0

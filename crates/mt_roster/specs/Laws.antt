@@ -1,9 +1,9 @@
 -- What holds of every fault of a file.
 use Rattle.std.specs.Prelude.{◌≡◌, List, Err, IsTrue}
-use Rattle.mt_model.specs.Registration.{market_of}
-use Rattle.mt_model.specs.Registration.Faults.{Fault}
-use Rattle.mt_model.specs.Registration.Ids.{Bytes}
-use Rattle.mt_model.specs.Text.{is_none_or_id}
+use Rattle.mt_terms.specs.Registration.{market_of}
+use Rattle.mt_terms.specs.Registration.Faults.{Fault}
+use Rattle.mt_terms.specs.Registration.Ids.{Bytes}
+use Rattle.mt_terms.specs.Text.{is_none_or_id}
 
 -- the id of each fault of a file is empty or an id
 abbrev pub FaultIds : Type 0

@@ -1,5 +1,3 @@
-pub mod Tables
-pub mod View
 pub mod Fields
 pub mod Records
 pub mod Drafts

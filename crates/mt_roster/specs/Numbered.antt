@@ -1,10 +1,10 @@
 -- What each table of a roster has from each record, by the ids of programs and of applicants.
 use Rattle.std.specs.Prelude.{ℕ, Bool, false, not, List, [], ◌∷◌, map, fold, Option, Some, None, option_map, if◌then◌else◌}
-use Rattle.mt_model.specs.FlatLists.{with_last}
-use Rattle.mt_model.specs.Market.{Pair, Partners, Registered}
-use Rattle.mt_model.specs.Registration.Ids.{Bytes, has_id, number_of, numbers_of}
-use Rattle.mt_model.specs.Registration.Records.{Record, ProgramRecord, ApplicantRecord, CoupleRecord, WithdrawRecord, IdPair}
-use Rattle.mt_model.specs.Registration.Numbering.{is_none_or_in, names_only, pair_by_number, pairs_by_number, names_of, market_by}
+use Rattle.mt_market.specs.FlatLists.{with_last}
+use Rattle.mt_terms.specs.Market.{Pair, Partners, Registered}
+use Rattle.mt_terms.specs.Registration.Ids.{Bytes, has_id, number_of, numbers_of}
+use Rattle.mt_terms.specs.Registration.Records.{Record, ProgramRecord, ApplicantRecord, CoupleRecord, WithdrawRecord, IdPair}
+use Rattle.mt_terms.specs.Registration.Numbering.{is_none_or_in, names_only, pair_by_number, pairs_by_number, names_of, market_by}
 use Rattle.mt_roster.specs.declared.register.Numbered as declared
 use Rattle.mt_roster.specs.declared.register.Kinds.{Kinds}
 use Rattle.mt_roster.specs.Records.{record_seen}

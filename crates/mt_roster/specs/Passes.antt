@@ -1,9 +1,9 @@
 -- What a step of the first pass does to a register, and what the whole pass gives.
 use Rattle.std.specs.Prelude.{◌≡◌, ℕ, ◌+◌, List, ◌∷◌, drop, Result, Ok, Err}
-use Rattle.mt_model.specs.Registration.Ids.{Bytes}
-use Rattle.mt_model.specs.Registration.Faults as faults
-use Rattle.mt_model.specs.Registration.Records as model
-use Rattle.mt_model.specs.Registration.Passes.{Numbered, numbered_from, first_pass}
+use Rattle.mt_terms.specs.Registration.Ids.{Bytes}
+use Rattle.mt_terms.specs.Registration.Faults as faults
+use Rattle.mt_terms.specs.Registration.Records as model
+use Rattle.mt_terms.specs.Registration.Passes.{Numbered, numbered_from, first_pass}
 use Rattle.mt_roster.specs.declared.refusal.Refusal.{Refusal}
 use Rattle.mt_roster.specs.declared.register.Register.{Register}
 use Rattle.mt_roster.specs.Refusals.{Refuses}

@@ -1,13 +1,13 @@
 -- The reading of records whose lists are looked through only once all ids are registered.
 use Rattle.std.specs.Prelude.{◌≡◌, ◌≢◌, ◌==◌, ℕ, ◌+◌, ◌*◌, ◌<◌, ◌≤◌, ◌&&◌, Bool, true, false, List, [], length, sum_by, slice_index_or, slice_set, bytes_eq, Ok}
 use Rattle.std.specs.List.{list_all}
-use Rattle.mt_model.specs.Market.{Registered}
-use Rattle.mt_model.specs.Registration.{market_under}
-use Rattle.mt_model.specs.Registration.Ids.{Bytes, all_differ}
-use Rattle.mt_model.specs.Registration.Records.{Rules, Record, ProgramRecord, ApplicantRecord, CoupleRecord, WithdrawRecord, OfProgram, OfCouple}
-use Rattle.mt_model.specs.Registration.Passes.{Numbered, is_same_pair, first_pass}
-use Rattle.mt_model.specs.Registration.Rows.{entry_count, ids_of, applicant_ids}
-use Rattle.mt_model.specs.Laws.Registration.{IsRegistration}
+use Rattle.mt_terms.specs.Market.{Registered}
+use Rattle.mt_terms.specs.Registration.{market_under}
+use Rattle.mt_terms.specs.Registration.Ids.{Bytes, all_differ}
+use Rattle.mt_terms.specs.Registration.Records.{Rules, Record, ProgramRecord, ApplicantRecord, CoupleRecord, WithdrawRecord, OfProgram, OfCouple}
+use Rattle.mt_terms.specs.Registration.Passes.{Numbered, is_same_pair, first_pass}
+use Rattle.mt_terms.specs.Registration.Rows.{entry_count, ids_of, applicant_ids}
+use Rattle.mt_terms.specs.Registration.Accepted.{IsRegistration}
 use Rattle.mt_roster.specs.declared.numbering.Entries.{Entries}
 use Rattle.mt_roster.specs.declared.drafts.Drafts.{Drafts}
 use Rattle.mt_roster.specs.Drafts.{registers_ids, lists_ids, drafts_seen, drafted, AreDrafts}

@@ -1,11 +1,11 @@
 -- What the reading of a file gives.
 use Rattle.std.specs.Prelude.{◌≡◌, ℕ, ◌+◌, ◌≤◌, List, drop, length, Result, Ok, Err}
-use Rattle.mt_model.specs.Market.{Registered}
-use Rattle.mt_model.specs.Registration.{market_of, market_under}
-use Rattle.mt_model.specs.Registration.Faults.{fault_at, charge_alone, no_version}
-use Rattle.mt_model.specs.Registration.Ids.{Bytes}
-use Rattle.mt_model.specs.Registration.Passes.{numbered_from}
-use Rattle.mt_model.specs.Registration.Records.{Rules}
+use Rattle.mt_terms.specs.Market.{Registered}
+use Rattle.mt_terms.specs.Registration.{market_of, market_under}
+use Rattle.mt_terms.specs.Registration.Faults.{fault_at, charge_alone, no_version}
+use Rattle.mt_terms.specs.Registration.Ids.{Bytes}
+use Rattle.mt_terms.specs.Registration.Passes.{numbered_from}
+use Rattle.mt_terms.specs.Registration.Records.{Rules}
 use Rattle.mt_roster.specs.declared.refusal.Refusal.{Refusal}
 use Rattle.mt_roster.specs.Plain.{AcceptsRegistrations}
 use Rattle.mt_roster.specs.Refusals.{Refuses}

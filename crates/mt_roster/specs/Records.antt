@@ -1,7 +1,7 @@
 -- How the records that rows are taken apart into are seen as those of the definition.
 use Rattle.std.specs.Prelude.{Result, Ok, Err}
-use Rattle.mt_model.specs.Registration.Faults as faults
-use Rattle.mt_model.specs.Registration.Records as model
+use Rattle.mt_terms.specs.Registration.Faults as faults
+use Rattle.mt_terms.specs.Registration.Records as model
 use Rattle.mt_roster.specs.declared.record.Kind.{Kind}
 use Rattle.mt_roster.specs.declared.record.Kind.TheVariants as kinds
 use Rattle.mt_roster.specs.declared.record.Record.{Record}

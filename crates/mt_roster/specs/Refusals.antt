@@ -1,6 +1,6 @@
 -- How what a step of the reading gives is seen as the definition's result.
 use Rattle.std.specs.Prelude.{◌≡◌, Result, Ok, Err}
-use Rattle.mt_model.specs.Registration.Faults as faults
+use Rattle.mt_terms.specs.Registration.Faults as faults
 use Rattle.mt_roster.specs.declared.refusal.Fault.{Fault}
 use Rattle.mt_roster.specs.declared.refusal.Refusal.{Refusal}
 use Rattle.mt_roster.specs.declared.refusal.Refusal.TheVariants as refusals

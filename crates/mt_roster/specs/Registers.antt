@@ -1,11 +1,11 @@
 -- What a register's tables say of its records.
 use Rattle.std.specs.Prelude.{◌≡◌, ◌≤◌, Bool, false, List, [], ◌∷◌, ◌++◌, length, map, option_to_list}
-use Rattle.mt_model.specs.Registration.Ids.{Bytes, has_id}
-use Rattle.mt_model.specs.declared.limits.Limits.{Limits}
-use Rattle.mt_model.specs.Registration.Records as model
-use Rattle.mt_model.specs.Registration.Rows.{own_id, withdrawn_id, applicants_of, ids_of, withdrawn, applicant_ids, entry_count}
-use Rattle.mt_model.specs.Registration.Passes.{Numbered, contents}
-use Rattle.mt_model.specs.declared.limits.TheConstants.{LIMITS_2}
+use Rattle.mt_terms.specs.Registration.Ids.{Bytes, has_id}
+use Rattle.mt_terms.specs.declared.limits.Limits.{Limits}
+use Rattle.mt_terms.specs.Registration.Records as model
+use Rattle.mt_terms.specs.Registration.Rows.{own_id, withdrawn_id, applicants_of, ids_of, withdrawn, applicant_ids, entry_count}
+use Rattle.mt_terms.specs.Registration.Passes.{Numbered, contents}
+use Rattle.mt_terms.specs.declared.limits.TheConstants.{LIMITS_2}
 use Rattle.mt_roster.specs.declared.register.Numbered as declared
 use Rattle.mt_roster.specs.declared.register.Kinds.{Kinds}
 use Rattle.mt_roster.specs.declared.register.Register.{Register}

@@ -1,8 +1,8 @@
 //! Records taken apart without a look at the ids of their lists: whichever of these is found among the registered ids
 //! is an id, since those are.
 ghost use Rattle.std.specs.Prelude.{◌≡◌, ◌<◌, [], true, drop, length, slice_index_or, IfSome};
-ghost use Rattle.mt_model.specs.Registration.Ids.{is_id};
-ghost use Rattle.mt_model.specs.Registration.Records.{program_record, applicant_record, couple_record, record_of};
+ghost use Rattle.mt_terms.specs.Registration.Ids.{is_id};
+ghost use Rattle.mt_terms.specs.Registration.Records.{program_record, applicant_record, couple_record, record_of};
 ghost use Rattle.mt_roster.specs.Records.{record_seen};
 ghost use Rattle.mt_roster.specs.Drafts.{IsDraft};
 

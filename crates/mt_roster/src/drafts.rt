@@ -1,6 +1,6 @@
 //! Records of rows one after another, of which it is not yet known whether an id is registered twice.
 ghost use Rattle.std.specs.Prelude.{◌≡◌, ◌++◌, [], ◌∷◌, OnOk};
-ghost use Rattle.mt_model.specs.Registration.Passes.{are_too_many};
+ghost use Rattle.mt_terms.specs.Registration.Passes.{are_too_many};
 ghost use Rattle.mt_roster.specs.Records.{record_seen};
 ghost use Rattle.mt_roster.specs.Registers.{AreFew};
 ghost use Rattle.mt_roster.specs.Drafts.{drafts_seen, drafted, AreDrafts};
@@ -8,7 +8,7 @@ ghost use Rattle.mt_roster.specs.Drafts.{drafts_seen, drafted, AreDrafts};
 use crate::names::NameLists;
 use crate::record::Record;
 use crate::register::{Numbered, adds_too_many, are_over};
-use mt_model::Limits;
+use mt_terms::Limits;
 use std::alloc::{AllocError, Global};
 
 /// Records with the ids that they register.

@@ -1,8 +1,8 @@
 ghost use Rattle.std.specs.Prelude.{◌≡◌, ◌*◌, ◌<◌, ◌≤◌, drop, length, map, slice_index_or, [], None};
 ghost use Rattle.std.specs.Option.{option_copied};
 ghost use Rattle.std.specs.List.{list_all};
-ghost use Rattle.mt_model.specs.Registration.Ids.{is_id};
-ghost use Rattle.mt_model.specs.Registration.Records.{are_ids, is_pair, pair_of};
+ghost use Rattle.mt_terms.specs.Registration.Ids.{is_id};
+ghost use Rattle.mt_terms.specs.Registration.Records.{are_ids, is_pair, pair_of};
 ghost use Rattle.mt_roster.specs.Fields.{by_pairs};
 
 use crate::ids::{is_dash, is_id};
@@ -112,7 +112,7 @@ pub(crate) struct Pairs<'a> {
 
 impl<'a> Model for Pairs<'a> {
     ghost use Rattle.std.specs.Prelude.{List, ℕ, Option, drop, length, map};
-    ghost use Rattle.mt_model.specs.Registration.Records.{pair_of};
+    ghost use Rattle.mt_terms.specs.Registration.Records.{pair_of};
     ghost use Rattle.mt_roster.specs.Fields.{by_pairs, IsEnd};
 
     ghost Value = { List (Option (List ℕ) × Option (List ℕ)) };

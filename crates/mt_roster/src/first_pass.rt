@@ -1,6 +1,6 @@
 ghost use Rattle.std.specs.Prelude.{◌≡◌, ◌+◌, ◌<◌, ◌≤◌, [], drop, length, Ok, Err};
-ghost use Rattle.mt_model.specs.Registration.Faults.{fault_at};
-ghost use Rattle.mt_model.specs.Registration.Passes.{on_result, next_record, first_pass, numbered_from};
+ghost use Rattle.mt_terms.specs.Registration.Faults.{fault_at};
+ghost use Rattle.mt_terms.specs.Registration.Passes.{on_result, next_record, first_pass, numbered_from};
 ghost use Rattle.mt_roster.specs.Records.{record_seen};
 ghost use Rattle.mt_roster.specs.Refusals.{Gives};
 ghost use Rattle.mt_roster.specs.Registers.{contents_seen, AreBounded, IsRegister};

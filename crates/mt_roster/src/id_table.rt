@@ -1,9 +1,9 @@
 ghost use Rattle.std.specs.Prelude.{◌≡◌, ◌<◌, ◌≤◌, ◌+◌, ◌^◌, ◌++◌, [], ◌∷◌, not, length, position, bytes_eq, true, false, OnOk, OnErr, IfOk, IfSome, is_some, if◌then◌else◌};
-ghost use Rattle.mt_model.specs.Registration.Ids.{has_id, all_differ};
+ghost use Rattle.mt_terms.specs.Registration.Ids.{has_id, all_differ};
 ghost use Rattle.mt_roster.specs.Keys.{AreBytes, four_from, head_of};
 
 use indexmap::IndexSet;
-use mt_model::FlatLists;
+use mt_market::FlatLists;
 use std::alloc::{AllocError, Global};
 use std::hash::{Hash, Hasher};
 use std::marker::Model;

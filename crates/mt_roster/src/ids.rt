@@ -2,8 +2,8 @@ ghost use Rattle.std.specs.Prelude.{◌≡◌, ◌≤◌, ◌||◌, ◌&&◌, tr
 ghost use Rattle.std.specs.List.{list_all};
 ghost use Rattle.std.specs.Char.{is_ascii_alphanumeric, is_ascii_digit};
 ghost use Rattle.std.specs.Str.Parse.{digits_value};
-ghost use Rattle.mt_model.specs.Lists.{has};
-ghost use Rattle.mt_model.specs.Registration.Ids.{is_id, is_dash, quota_of};
+ghost use Rattle.mt_terms.specs.Lists.{has};
+ghost use Rattle.mt_terms.specs.Registration.Ids.{is_id, is_dash, quota_of};
 
 /// Whether a byte may stand in an id: an ASCII letter or digit, or one of `.`, `_`, `:` and `-`.
 fn may_stand(byte: u8) -> bool

@@ -19,9 +19,8 @@ mod register;
 mod repeats;
 mod rules;
 mod second_pass;
-mod tables;
 mod unknown;
 
 pub use fault::{IdText, RosterError, RosterFault};
 pub use reading::roster;
-pub use tables::Roster;
+pub use mt_market::Roster;

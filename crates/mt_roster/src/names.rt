@@ -1,14 +1,14 @@
 //! The ids of records, side by side.
 ghost use Rattle.std.specs.Prelude.{◌≡◌, ◌++◌, [], OnOk, IfOk, option_to_list};
-ghost use Rattle.mt_model.specs.Registration.Records.{OfProgram, OfCouple};
-ghost use Rattle.mt_model.specs.Registration.Rows.{own_id, applicants_of};
+ghost use Rattle.mt_terms.specs.Registration.Records.{OfProgram, OfCouple};
+ghost use Rattle.mt_terms.specs.Registration.Rows.{own_id, applicants_of};
 ghost use Rattle.mt_roster.specs.Records.{record_seen};
 ghost use Rattle.mt_roster.specs.Numbered.{all_seen};
 ghost use Rattle.mt_roster.specs.Entries.{AreNames, AddsNames};
 
 use crate::record::Record;
 use crate::register::Numbered;
-use mt_model::FlatLists;
+use mt_market::FlatLists;
 use std::alloc::{AllocError, Global};
 
 /// The ids of records, those of a kind side by side. A couple registers its first and then its second member among the

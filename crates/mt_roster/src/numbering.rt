@@ -2,13 +2,13 @@
 //! records.
 ghost use Rattle.std.specs.Prelude.{◌≡◌, ◌<◌, ◌≤◌, ◌^◌, ◌++◌, ◌+◌, [], ◌∷◌, true, map, filter, filter_map, flat_map, length, bytes_eq, ◌&&◌, is_some, All, IfOk, IfSome, OnOk, slice_set};
 ghost use Rattle.std.specs.Option.{option_copied};
-ghost use Rattle.mt_model.specs.Lists.{below};
-ghost use Rattle.mt_model.specs.Market.{agent_from};
-ghost use Rattle.mt_model.specs.Registration.Ids.{all_differ, numbers_of};
-ghost use Rattle.mt_model.specs.Registration.Records.{OfProgram};
-ghost use Rattle.mt_model.specs.Registration.Rows.{own_id, ids_of, applicant_ids};
-ghost use Rattle.mt_model.specs.Registration.Numbering.{pairs_by_number, registered};
-ghost use Rattle.mt_model.specs.Laws.Registration.{IsRegistration};
+ghost use Rattle.mt_terms.specs.Lists.{below};
+ghost use Rattle.mt_terms.specs.Market.{agent_from};
+ghost use Rattle.mt_terms.specs.Registration.Ids.{all_differ, numbers_of};
+ghost use Rattle.mt_terms.specs.Registration.Records.{OfProgram};
+ghost use Rattle.mt_terms.specs.Registration.Rows.{own_id, ids_of, applicant_ids};
+ghost use Rattle.mt_terms.specs.Registration.Numbering.{pairs_by_number, registered};
+ghost use Rattle.mt_terms.specs.Registration.Accepted.{IsRegistration};
 ghost use Rattle.mt_roster.specs.Records.{kind_seen, record_seen};
 ghost use Rattle.mt_roster.specs.Registers.{contents_seen, IsRegister};
 ghost use Rattle.mt_roster.specs.Numbered.{all_seen, stays_without, number_in, place_in, pair_in, with_more, quota_in, ranking_in, lists_by, members_in, pairs_in, bare_couples, registered_by_all};
@@ -19,8 +19,8 @@ use crate::id_table::IdTable;
 use crate::names::{NameLists, names_of};
 use crate::record::{Kind, Record};
 use crate::register::{Kinds, Numbered, Register};
-use crate::tables::Roster;
-use mt_model::{Agent, AppNo, CoupleNo, FlatLists, ProgNo};
+use mt_market::{FlatLists, Roster, Tables};
+use mt_terms::{Agent, AppNo, CoupleNo, ProgNo};
 use std::alloc::{AllocError, Global};
 
 /// Whether a record stays where these ids are withdrawn. A withdrawal itself doesn't.
@@ -335,7 +335,7 @@ pub(crate) fn with_entries(
 {
     let quotas = quotas(alloc, records)?;
     let agents = agents(alloc, names.applicants.len(), &entries.members)?;
-    Ok(Roster {
+    Ok(Roster::new(Tables {
         quotas,
         rankings: entries.rankings,
         lists: entries.lists,
@@ -345,7 +345,7 @@ pub(crate) fn with_entries(
         program_ids: names.programs,
         applicant_ids: names.applicants,
         couple_ids: names.couples,
-    })
+    }))
 }
 
 /// The market of records none of which is withdrawn.

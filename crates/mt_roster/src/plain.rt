@@ -2,10 +2,10 @@
 //! where it stands. Where that can't tell, the passes over the records decide.
 ghost use Rattle.std.specs.Prelude.{◌≡◌, ◌==◌, ◌+◌, ◌*◌, ◌<◌, ◌≤◌, [], ◌∷◌, List, true, drop, length, sum_by, IfOk, IfSome, Ok};
 ghost use Rattle.std.specs.List.{list_all};
-ghost use Rattle.mt_model.specs.Registration.{market_under};
-ghost use Rattle.mt_model.specs.Registration.Ids.{Bytes, all_differ};
-ghost use Rattle.mt_model.specs.Registration.Passes.{Numbered, numbered_from};
-ghost use Rattle.mt_model.specs.Laws.Registration.{IsRegistration};
+ghost use Rattle.mt_terms.specs.Registration.{market_under};
+ghost use Rattle.mt_terms.specs.Registration.Ids.{Bytes, all_differ};
+ghost use Rattle.mt_terms.specs.Registration.Passes.{Numbered, numbered_from};
+ghost use Rattle.mt_terms.specs.Registration.Accepted.{IsRegistration};
 ghost use Rattle.mt_roster.specs.Records.{record_seen};
 ghost use Rattle.mt_roster.specs.Registers.{AreBounded};
 ghost use Rattle.mt_roster.specs.Numbered.{registered_by_all};
@@ -19,9 +19,9 @@ use crate::numbering::{Entries, entries_of, with_entries};
 use crate::record::Record;
 use crate::repeats::has_repeated_pair;
 use crate::rules::Rules;
-use crate::tables::Roster;
 use mt_lists::Row;
-use mt_model::{AppNo, FlatLists, ProgNo};
+use mt_market::{FlatLists, Roster};
+use mt_terms::{AppNo, ProgNo};
 use std::alloc::{AllocError, Global};
 
 /// Whether a record withdraws nothing and, if it is a couple's, has no pair twice.

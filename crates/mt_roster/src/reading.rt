@@ -1,6 +1,6 @@
 ghost use Rattle.std.specs.Prelude.{◌≡◌, ◌≢◌, ◌+◌, ◌<◌, ◌≤◌, [], drop, length, slice_index_or, IfErr, IfOk, Ok};
-ghost use Rattle.mt_model.specs.Registration.{market_of};
-ghost use Rattle.mt_model.specs.Registration.Passes.{numbered_from};
+ghost use Rattle.mt_terms.specs.Registration.{market_of};
+ghost use Rattle.mt_terms.specs.Registration.Passes.{numbered_from};
 ghost use Rattle.mt_roster.specs.Faults.{Tells};
 ghost use Rattle.mt_roster.specs.Refusals.{Gives};
 ghost use Rattle.mt_roster.specs.Read.{NamesNoVersion, GivesVersion, same};
@@ -11,7 +11,7 @@ use crate::numbering::roster_of;
 use crate::plain::read_plain;
 use crate::refusal::{Fault, Refusal};
 use crate::rules::{Rules, rules_of};
-use crate::tables::Roster;
+use mt_market::Roster;
 use mt_lists::Row;
 use std::alloc::Global;
 

@@ -1,8 +1,8 @@
 ghost use Rattle.std.specs.Prelude.{◌≡◌, ◌≤◌, [], ◌∷◌, drop, length, slice_index_or, option_map, option_to_list, Some};
-ghost use Rattle.mt_model.specs.Registration.Faults.{charge_alone};
-ghost use Rattle.mt_model.specs.Registration.Records.{kind_of, are_ids, program_record, applicant_record, couple_by_pairs, couple_record, withdraw_record, record_of};
-ghost use Rattle.mt_model.specs.Registration.Records.{OfProgram, OfCouple};
-ghost use Rattle.mt_model.specs.Registration.Rows.{id_of, own_id, applicants_of, entries_of};
+ghost use Rattle.mt_terms.specs.Registration.Faults.{charge_alone};
+ghost use Rattle.mt_terms.specs.Registration.Records.{kind_of, are_ids, program_record, applicant_record, couple_by_pairs, couple_record, withdraw_record, record_of};
+ghost use Rattle.mt_terms.specs.Registration.Records.{OfProgram, OfCouple};
+ghost use Rattle.mt_terms.specs.Registration.Rows.{id_of, own_id, applicants_of, entries_of};
 ghost use Rattle.mt_roster.specs.Fields.{by_pairs};
 ghost use Rattle.mt_roster.specs.Records.{kind_seen, record_seen, charge_seen, read_seen};
 

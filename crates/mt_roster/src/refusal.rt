@@ -1,5 +1,5 @@
 ghost use Rattle.std.specs.Prelude.{◌≡◌};
-ghost use Rattle.mt_model.specs.Registration.Faults.{fault_at};
+ghost use Rattle.mt_terms.specs.Registration.Faults.{fault_at};
 ghost use Rattle.mt_roster.specs.Records.{charge_seen};
 ghost use Rattle.mt_roster.specs.Refusals.{fault_seen};
 ghost use Rattle.mt_roster.specs.declared.refusal.Refusal.TheVariants.{Memory};

@@ -1,7 +1,7 @@
 ghost use Rattle.std.specs.Prelude.{◌≡◌, ◌+◌, ◌||◌, false, nat_lt, ◌++◌, [], ◌∷◌, length, option_map, None, OnOk, IfOk};
 ghost use Rattle.std.specs.Option.{option_copied};
-ghost use Rattle.mt_model.specs.Registration.Ids.{has_id};
-ghost use Rattle.mt_model.specs.Registration.Passes.{first_in, registered_before, says_twice, are_too_many, clash};
+ghost use Rattle.mt_terms.specs.Registration.Ids.{has_id};
+ghost use Rattle.mt_terms.specs.Registration.Passes.{first_in, registered_before, says_twice, are_too_many, clash};
 ghost use Rattle.mt_roster.specs.Records.{kind_seen, record_seen, charge_seen};
 ghost use Rattle.mt_roster.specs.Registers.{records_seen, contents_seen, ids_in, withdraws_twice, AreFew, IsRegister, AddsId, AddsRecord};
 
@@ -9,7 +9,7 @@ use crate::id_table::IdTable;
 use crate::record::{Charge, Kind, Record};
 use crate::repeats::{has_repeat, has_repeated_pair};
 use crate::rules::Rules;
-use mt_model::Limits;
+use mt_terms::Limits;
 use std::alloc::{AllocError, Global};
 
 pub(crate) const DUPLICATE_ID: u16 = 17;

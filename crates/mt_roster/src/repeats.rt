@@ -1,8 +1,8 @@
 ghost use Rattle.std.specs.Prelude.{◌≡◌, ◌++◌, [], ◌∷◌, not, bytes_eq, OnErr, IfOk, if◌then◌else◌};
 ghost use Rattle.std.specs.List.{list_any};
 ghost use Rattle.std.specs.Option.{option_copied};
-ghost use Rattle.mt_model.specs.Registration.Ids.{all_differ};
-ghost use Rattle.mt_model.specs.Registration.Passes.{is_same_pair};
+ghost use Rattle.mt_terms.specs.Registration.Ids.{all_differ};
+ghost use Rattle.mt_terms.specs.Registration.Passes.{is_same_pair};
 
 use crate::fields::{Ids, Pairs};
 use crate::id_table::IdTable;

@@ -1,8 +1,8 @@
 ghost use Rattle.std.specs.Prelude.{◌≡◌};
-ghost use Rattle.mt_model.specs.Registration.Records.{rules_of};
+ghost use Rattle.mt_terms.specs.Registration.Records.{rules_of};
 
 use mt_lists::Row;
-use mt_model::{LIMITS, LIMITS_2, Limits};
+use mt_terms::{LIMITS, LIMITS_2, Limits};
 use std::marker::Model;
 
 /// What a version of the format allows.
@@ -16,7 +16,7 @@ pub(crate) struct Rules {
 }
 
 impl Model for Rules {
-    ghost use Rattle.mt_model.specs.Registration.Records.{Rules as Allowed};
+    ghost use Rattle.mt_terms.specs.Registration.Records.{Rules as Allowed};
 
     ghost Value = { Allowed };
 

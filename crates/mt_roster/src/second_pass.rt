@@ -1,7 +1,7 @@
 ghost use Rattle.std.specs.Prelude.{◌≡◌, option_map};
 ghost use Rattle.std.specs.Option.{option_copied};
-ghost use Rattle.mt_model.specs.Registration.Faults.{charge, fault_at};
-ghost use Rattle.mt_model.specs.Registration.Passes.{second_pass, unknown_id};
+ghost use Rattle.mt_terms.specs.Registration.Faults.{charge, fault_at};
+ghost use Rattle.mt_terms.specs.Registration.Passes.{second_pass, unknown_id};
 ghost use Rattle.mt_roster.specs.Records.{charge_seen, record_seen};
 ghost use Rattle.mt_roster.specs.Refusals.{fault_seen};
 ghost use Rattle.mt_roster.specs.Registers.{records_seen, contents_seen, IsRegister};

@@ -1,7 +1,7 @@
 ghost use Rattle.std.specs.Prelude.{◌≡◌, option_to_list};
 ghost use Rattle.std.specs.List.{flat_map};
 ghost use Rattle.std.specs.Option.{option_copied};
-ghost use Rattle.mt_model.specs.Registration.Passes.{first_not_in, named};
+ghost use Rattle.mt_terms.specs.Registration.Passes.{first_not_in, named};
 
 use crate::fields::{Ids, Pairs};
 use crate::id_table::IdTable;

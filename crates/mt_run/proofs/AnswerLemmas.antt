@@ -3,12 +3,12 @@ use Rattle.std.proofs.Common.{◌≡◌, ℕ, List, Bool, true, false, Option, N
 use Rattle.std.specs.Prelude.{MatchOption, MatchResult}
 use Rattle.std.specs.Bool.{MatchBool}
 use Rattle.mt_lists.specs.Records.{records_of}
-use Rattle.mt_model.specs.Market.{Registered}
-use Rattle.mt_model.specs.Matching.{Places}
-use Rattle.mt_model.specs.Registration.{market_of}
-use Rattle.mt_model.specs.Registration.Faults.{Fault}
-use Rattle.mt_model.specs.Rounds.{stage}
-use Rattle.mt_model.proofs.ExclusionLemmas.{best_is_unique_lem}
+use Rattle.mt_terms.specs.Market.{Registered}
+use Rattle.mt_terms.specs.Matching.{Places}
+use Rattle.mt_terms.specs.Registration.{market_of}
+use Rattle.mt_terms.specs.Registration.Faults.{Fault}
+use Rattle.mt_terms.specs.Rounds.{stage}
+use Rattle.mt_match_laws.proofs.ExclusionLemmas.{best_is_unique_lem}
 use Rattle.mt_run.specs.Answer.{IsRefusedAlone, IsAnswerOfStage, IsAnswerOfMarket, IsAnswerOfFault, IsAnswerOfRows}
 use Rattle.mt_run.specs.Laws.{OneAnswer}
 

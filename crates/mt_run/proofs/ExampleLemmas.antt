@@ -4,14 +4,14 @@ use Rattle.std.specs.Prelude.{IsTrue, slice_index_or, MatchOption, MatchResult, 
 use Rattle.std.specs.Bool.{MatchBool}
 use Rattle.std.proofs.lemmas.Bool.{true≢false}
 use Rattle.mt_lists.specs.Records.{records_of}
-use Rattle.mt_model.specs.Best.{IsBest, IsExcluded, better_programs}
-use Rattle.mt_model.specs.Examples.Markets.{crossed}
-use Rattle.mt_model.specs.Lists.{has}
-use Rattle.mt_model.specs.Market.{Registered}
-use Rattle.mt_model.specs.Matching.{Places}
-use Rattle.mt_model.specs.Registration.Faults.{Fault}
-use Rattle.mt_model.specs.Text.{published}
-use Rattle.mt_model.proofs.ExclusionLemmas.{best_is_unique_lem}
+use Rattle.mt_terms.specs.Best.{IsBest, IsExcluded, better_programs}
+use Rattle.mt_terms.specs.Examples.Markets.{crossed}
+use Rattle.mt_terms.specs.Lists.{has}
+use Rattle.mt_terms.specs.Market.{Registered}
+use Rattle.mt_terms.specs.Matching.{Places}
+use Rattle.mt_terms.specs.Registration.Faults.{Fault}
+use Rattle.mt_terms.specs.Text.{published}
+use Rattle.mt_match_laws.proofs.ExclusionLemmas.{best_is_unique_lem}
 use Rattle.mt_run.specs.Answer.{IsRefusedAlone, IsAnswerOfStage, IsAnswerOfMarket, IsAnswerOfFault, IsAnswerOfRows, all_proposals, most_bytes}
 use Rattle.mt_run.specs.Examples.{crossed_file, ProgramOptimalIsNoAnswer}
 use Rattle.mt_run.proofs.HeadlineLemmas.{not_zero, stage_of_singles}

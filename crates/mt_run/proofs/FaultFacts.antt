@@ -2,11 +2,11 @@
 use Rattle.std.proofs.Common.{◌≡◌, ℕ, true, ◌&&◌, List, Option, Some, None, Result, Ok, Err, refl, sym, subst, ap, ◌∙◌, nat_le}
 use Rattle.std.proofs.lemmas.Bool.{and_parts, true≢false}
 use Rattle.std.specs.Prelude.{◌≢◌, IfErr, IfSome, MatchResult}
-use Rattle.mt_model.specs.Market.{Registered}
-use Rattle.mt_model.specs.Registration.{market_of}
-use Rattle.mt_model.specs.Registration.Faults.{Fault}
-use Rattle.mt_model.specs.Text.{is_fault_code, is_known_code}
-use Rattle.mt_model.proofs.FaultCodes.{fault_codes_lem}
+use Rattle.mt_terms.specs.Market.{Registered}
+use Rattle.mt_terms.specs.Registration.{market_of}
+use Rattle.mt_terms.specs.Registration.Faults.{Fault}
+use Rattle.mt_terms.specs.Text.{is_fault_code, is_known_code}
+use Rattle.mt_file_laws.proofs.FaultCodes.{fault_codes_lem}
 use Rattle.mt_roster.proofs.IdBounds.{fault_ids_lem}
 use Rattle.mt_run.specs.Answer.{IsAnswer, IsAnswerOfRows, IsAnswerOfMarket, IsAnswerOfFault}
 use Rattle.mt_run.specs.Refusals.{IsRefusalBy, IsRefusalTo, line_of}

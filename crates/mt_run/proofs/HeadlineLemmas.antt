@@ -5,24 +5,23 @@ use Rattle.std.specs.Bool.{MatchBool}
 use Rattle.std.specs.Option.{option_map}
 use Rattle.std.proofs.lemmas.Bool.{true≢false}
 use Rattle.mt_lists.specs.Records.{records_of}
-use Rattle.mt_model.specs.Best.{IsBest}
-use Rattle.mt_model.specs.Laws.Registration.{IsRegistration}
-use Rattle.mt_model.specs.Laws.Text.{IsOneRecord, refusal_fields}
-use Rattle.mt_model.specs.Lists.{below}
-use Rattle.mt_model.specs.Market.{Market, Partners, Registered}
-use Rattle.mt_model.specs.Matching.{Places}
-use Rattle.mt_model.specs.Registration.{market_of}
-use Rattle.mt_model.specs.Registration.Faults.{Fault}
-use Rattle.mt_model.specs.Rounds.{entered, stage}
-use Rattle.mt_model.specs.Stability.{stable}
-use Rattle.mt_model.specs.Text.{is_fault_code}
-use Rattle.mt_model.specs.WellFormed.{IsWellFormed}
-use Rattle.mt_model.proofs.ExclusionLemmas.{best_is_at_least_lem}
-use Rattle.mt_model.proofs.FaultCodes.{fault_codes_lem}
-use Rattle.mt_model.proofs.PassFacts.{accepted_is_registration_lem}
-use Rattle.mt_model.proofs.RefusalLine.{refusal_is_one_record_lem}
-use Rattle.mt_model.proofs.RoundsStage.{stage_is_stable_lem}
-use Rattle.mt_model.proofs.RuralLemmas.{fill_alike_without_couples}
+use Rattle.mt_terms.specs.Best.{IsBest}
+use Rattle.mt_terms.specs.Registration.Accepted.{IsRegistration}
+use Rattle.mt_terms.specs.Text.{IsOneRecord, refusal_fields, is_fault_code}
+use Rattle.mt_terms.specs.Lists.{below}
+use Rattle.mt_terms.specs.Market.{Market, Partners, Registered}
+use Rattle.mt_terms.specs.Matching.{Places}
+use Rattle.mt_terms.specs.Registration.{market_of}
+use Rattle.mt_terms.specs.Registration.Faults.{Fault}
+use Rattle.mt_terms.specs.Rounds.{entered, stage}
+use Rattle.mt_terms.specs.Stability.{stable}
+use Rattle.mt_terms.specs.WellFormed.{IsWellFormed}
+use Rattle.mt_match_laws.proofs.ExclusionLemmas.{best_is_at_least_lem}
+use Rattle.mt_file_laws.proofs.FaultCodes.{fault_codes_lem}
+use Rattle.mt_file_laws.proofs.PassFacts.{accepted_is_registration_lem}
+use Rattle.mt_file_laws.proofs.RefusalLine.{refusal_is_one_record_lem}
+use Rattle.mt_round_laws.proofs.RoundsStage.{stage_is_stable_lem}
+use Rattle.mt_floor_laws.proofs.RuralLemmas.{fill_alike_without_couples}
 use Rattle.mt_run.specs.Answer.{IsRefusedAlone, IsAnswerOfStage, IsAnswerOfMarket, IsAnswerOfFault, IsAnswerOfRows, IsAnswerTo, all_proposals}
 use Rattle.mt_run.specs.Headline.{IsBestOfAll, IsStableText, IsStableTextOf}
 use Rattle.mt_run.specs.Laws.{PublishedIsNoRefusal, PublishedIsStable, RefusalIsOneRecord}

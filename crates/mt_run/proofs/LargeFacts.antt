@@ -5,7 +5,7 @@ use Rattle.std.specs.Bool.{MatchBool}
 use Rattle.std.proofs.lemmas.Bool.{lt-ltb}
 use Rattle.std.proofs.lemmas.List.{length-replicate}
 use Rattle.mt_lists.specs.Records.{records_of}
-use Rattle.mt_model.specs.Text.{refused}
+use Rattle.mt_terms.specs.Text.{refused}
 use Rattle.mt_run.specs.Answer.{IsAnswer, IsAnswerTo, IsAnswerOfRows, IsRefusedAlone, most_bytes}
 
 large_answer : (bytes : List ℕ) (budget : ℕ) → most_bytes < length bytes → IsAnswer bytes budget 10 (refused 10 0 [])

@@ -1,12 +1,12 @@
 -- What is so of the live market that rank tables show is so of its market.
 use Rattle.std.proofs.Common.{◌≡◌, ℕ, List, [], ◌∷◌, refl, subst, ap, ◌∙◌, map, length}
-use Rattle.mt_model.specs.Best.{IsBest, proposals}
-use Rattle.mt_model.specs.Lists.{below}
-use Rattle.mt_model.specs.Market.{Market, live_market}
-use Rattle.mt_model.specs.Matching.{Places}
-use Rattle.mt_model.specs.WellFormed.{IsWellFormed}
-use Rattle.mt_model.specs.Laws.Live.{LiveAgrees}
-use Rattle.mt_model.proofs.LiveLemmas.{live_market_agrees_lem}
+use Rattle.mt_terms.specs.Best.{IsBest, proposals}
+use Rattle.mt_terms.specs.Lists.{below}
+use Rattle.mt_terms.specs.Market.{Market, live_market}
+use Rattle.mt_terms.specs.Matching.{Places}
+use Rattle.mt_terms.specs.WellFormed.{IsWellFormed}
+use Rattle.mt_floor_laws.specs.Live.{LiveAgrees}
+use Rattle.mt_floor_laws.proofs.LiveLemmas.{live_market_agrees_lem}
 
 pub best_of_live : (m : Market) → IsWellFormed m → (l : Market) → l ≡ live_market m → (places : Places) → IsBest l places → IsBest m places
 best_of_live m wf l e places h =

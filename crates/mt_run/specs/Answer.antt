@@ -3,16 +3,16 @@ use Rattle.std.specs.Prelude.{◌≡◌, ◌≢◌, ℕ, ◌≤◌, List, [], ma
 use Rattle.std.specs.Bool.{MatchBool}
 use Rattle.std.specs.Io.KnownBytes.{Appends}
 use Rattle.mt_lists.specs.Records.{records_of}
-use Rattle.mt_model.specs.Best.{IsBest, proposals}
-use Rattle.mt_model.specs.Lists.{below}
-use Rattle.mt_model.specs.Market.{Market, Registered}
-use Rattle.mt_model.specs.Matching.{Places}
-use Rattle.mt_model.specs.Registration.{market_of}
-use Rattle.mt_model.specs.Registration.Faults.{Fault}
-use Rattle.mt_model.specs.Rounds.{stage}
-use Rattle.mt_model.specs.Stability.{stable}
-use Rattle.mt_model.specs.Text.{budget_spent, out_of_memory, published, read_fault, refused, too_large, two_marks}
-use Rattle.mt_model.specs.declared.limits.TheConstants.{LIMITS_2}
+use Rattle.mt_terms.specs.Best.{IsBest, proposals}
+use Rattle.mt_terms.specs.Lists.{below}
+use Rattle.mt_terms.specs.Market.{Market, Registered}
+use Rattle.mt_terms.specs.Matching.{Places}
+use Rattle.mt_terms.specs.Registration.{market_of}
+use Rattle.mt_terms.specs.Registration.Faults.{Fault}
+use Rattle.mt_terms.specs.Rounds.{stage}
+use Rattle.mt_terms.specs.Stability.{stable}
+use Rattle.mt_terms.specs.Text.{budget_spent, out_of_memory, published, read_fault, refused, too_large, two_marks}
+use Rattle.mt_terms.specs.declared.limits.TheConstants.{LIMITS_2}
 use Rattle.mt_run.specs.Headline.{IsRefusal, IsStableTextOf}
 
 -- the text is the line of a refusal with this code, which no record is at

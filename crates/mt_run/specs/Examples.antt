@@ -1,8 +1,8 @@
 -- A text that no run may write, although its match is stable.
 use Rattle.std.specs.Prelude.{ℕ, List, [], ◌∷◌, Some, codes}
-use Rattle.mt_model.specs.Examples.Markets.{crossed}
-use Rattle.mt_model.specs.Market.{Registered}
-use Rattle.mt_model.specs.Text.{published}
+use Rattle.mt_terms.specs.Examples.Markets.{crossed}
+use Rattle.mt_terms.specs.Market.{Registered}
+use Rattle.mt_terms.specs.Text.{published}
 use Rattle.mt_run.specs.Answer.{IsAnswer}
 use Rattle.mt_run.specs.Headline.{IsMarketOf}
 

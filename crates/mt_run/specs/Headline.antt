@@ -1,14 +1,13 @@
 -- The headline in its own words: what a published text is, by the lists in the bytes.
 use Rattle.std.specs.Prelude.{◌≡◌, ℕ, List, [], Option, None, Some, Ok, IsTrue, IsFalse}
 use Rattle.mt_lists.specs.Records.{records_of}
-use Rattle.mt_model.specs.Best.{better_programs}
-use Rattle.mt_model.specs.Laws.Rural.{FillsAlike}
-use Rattle.mt_model.specs.Lists.{has}
-use Rattle.mt_model.specs.Market.{Market, Registered}
-use Rattle.mt_model.specs.Matching.{Places, at}
-use Rattle.mt_model.specs.Registration.{market_of}
-use Rattle.mt_model.specs.Stability.{stable}
-use Rattle.mt_model.specs.Text.{IsNamedRefusal, published, refused}
+use Rattle.mt_terms.specs.Best.{better_programs}
+use Rattle.mt_terms.specs.Matching.{FillsAlike, Places, at}
+use Rattle.mt_terms.specs.Lists.{has}
+use Rattle.mt_terms.specs.Market.{Market, Registered}
+use Rattle.mt_terms.specs.Registration.{market_of}
+use Rattle.mt_terms.specs.Stability.{stable}
+use Rattle.mt_terms.specs.Text.{IsNamedRefusal, published, refused}
 
 -- the bytes are a file with this market
 abbrev pub IsMarketOf : List ℕ → Registered → Type 0

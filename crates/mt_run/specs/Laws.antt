@@ -1,9 +1,8 @@
 -- Laws of the answer.
 use Rattle.std.specs.Prelude.{◌≡◌, ◌≢◌, ℕ, List}
-use Rattle.mt_model.specs.Laws.Text.{IsOneRecord, refusal_fields}
-use Rattle.mt_model.specs.Market.{Market, Names}
-use Rattle.mt_model.specs.Matching.{Places}
-use Rattle.mt_model.specs.Text.{published, refused}
+use Rattle.mt_terms.specs.Text.{IsOneRecord, refusal_fields, published, refused}
+use Rattle.mt_terms.specs.Market.{Market, Names}
+use Rattle.mt_terms.specs.Matching.{Places}
 use Rattle.mt_run.specs.Answer.{IsAnswer}
 use Rattle.mt_run.specs.Headline.{IsRefusal, IsStableText}
 

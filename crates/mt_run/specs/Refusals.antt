@@ -1,6 +1,6 @@
 -- What the end of a step of a run is for a market, or for a file's records, or for its bytes: a text, or a refusal.
 use Rattle.std.specs.Prelude.{◌≢◌, ℕ, List, Result, Ok, Err, Option}
-use Rattle.mt_model.specs.Text.{IsNamedRefusal, out_of_memory, read_fault, refused}
+use Rattle.mt_terms.specs.Text.{IsNamedRefusal, out_of_memory, read_fault, refused}
 use Rattle.mt_run.specs.Answer.{IsAnswerTo}
 use Rattle.mt_run.specs.declared.refusal.Refusal.{Refusal}
 

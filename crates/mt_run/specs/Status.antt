@@ -1,7 +1,7 @@
 -- The exit status of a run. This project's own table.
 use Rattle.std.specs.Prelude.{ℕ, Bool, not, ◌||◌, ◌==◌, nat_le, if◌then◌else◌}
-use Rattle.mt_model.specs.Registration.Faults.{not_registered}
-use Rattle.mt_model.specs.Text.{is_known_code, out_of_memory, read_fault}
+use Rattle.mt_terms.specs.Registration.Faults.{not_registered}
+use Rattle.mt_terms.specs.Text.{is_known_code, out_of_memory, read_fault}
 
 -- how a run can end: with a published match, or with a refusal of a known code
 abbrev pub is_end_code : ℕ → Bool

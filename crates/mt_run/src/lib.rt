@@ -9,5 +9,5 @@ mod singles;
 mod whole;
 
 pub use ended::Ended;
-pub use mt_model::Options;
+pub use mt_terms::Options;
 pub use whole::run;

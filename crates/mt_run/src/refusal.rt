@@ -25,7 +25,7 @@ pub(crate) struct Refusal {
 
 impl Refusal {
     ghost use Rattle.std.specs.Prelude.{◌≡◌, [], IsTrue};
-    ghost use Rattle.mt_model.specs.Text.{is_known_code, IsNamedRefusal};
+    ghost use Rattle.mt_terms.specs.Text.{is_known_code, IsNamedRefusal};
 
     /// A refusal that no record is at.
     pub(crate) fn alone(code: u16) -> Refusal

@@ -1,12 +1,12 @@
 ghost use Rattle.std.specs.Prelude.{◌≡◌, map, length, IfOk};
 ghost use Rattle.mt_core.specs.Floors.{IsOpenedWith, floor_of};
-ghost use Rattle.mt_model.specs.Best.{IsBest, proposals};
-ghost use Rattle.mt_model.specs.Lists.{below, count_below};
-ghost use Rattle.mt_model.specs.Market.{applicants};
+ghost use Rattle.mt_terms.specs.Best.{IsBest, proposals};
+ghost use Rattle.mt_terms.specs.Lists.{below, count_below};
+ghost use Rattle.mt_terms.specs.Market.{applicants};
 ghost use Rattle.mt_ranks.specs.Ranked.{ranked_of};
 
 use mt_core::{Floor, finish, received, result};
-use mt_model::{Match, ProgNo};
+use mt_terms::{Match, ProgNo};
 use mt_ranks::Ranks;
 use mt_roster::Roster;
 use std::alloc::{AllocError, Global};

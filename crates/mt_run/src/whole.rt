@@ -1,6 +1,6 @@
 ghost use Rattle.std.specs.Prelude.{◌≡◌, ◌+◌, ◌<◌, ◌≤◌, ◌^◌, ◌↔◌, ◌≢◌, length, if◌then◌else◌, IfErr, IfOk, IsTrue};
 ghost use Rattle.mt_lists.specs.Tap.{bytes_left, failures_of as read_failures_of, reads_of};
-ghost use Rattle.mt_model.specs.Text.{read_fault};
+ghost use Rattle.mt_terms.specs.Text.{read_fault};
 ghost use Rattle.mt_report.specs.Drains.{contents_of, failures_of, is_flushed};
 ghost use Rattle.mt_run.specs.Answer.{Answers, IsAnswer, IsAnswerTo, most_bytes};
 ghost use Rattle.mt_run.specs.Refusals.{code_of, IsRefusalBy, IsRefusalTo};
@@ -9,7 +9,7 @@ use crate::answer::answer_to_rows;
 use crate::ended::Ended;
 use crate::refusal::{OUT_OF_MEMORY, READ_FAULT, Refusal, TOO_LARGE, TWO_MARKS};
 use mt_lists::{ListFault, ReadEnd, Tap, read_all, records};
-use mt_model::{LIMITS, Options};
+use mt_terms::{LIMITS, Options};
 use mt_report::{Drain, put_all, refused};
 use std::alloc::Global;
 use std::io::{Read, Write};

@@ -1,5 +1,5 @@
 //! Events on the floor of the singles: the reply to each, and what it comes to in two orders.
-ghost use Rattle.mt_model.specs.Floor.{IsRecorded};
+ghost use Rattle.mt_terms.specs.Floor.{IsRecorded};
 ghost use Rattle.mt_core.specs.Floors.{floor_of, IsOpenedWith};
 
 use crate::markets::{BETWEEN, CHAIN, tables_of};

@@ -1,8 +1,8 @@
 //! Inputs that several tests use, with the text that is published for each, and the layers up to their tables.
 ghost use Rattle.std.specs.Prelude.{◌≡◌, length, IfOk, IsTrue};
 ghost use Rattle.std.specs.List.{list_all};
-ghost use Rattle.mt_model.specs.Laws.Registration.{is_none_or_below};
-ghost use Rattle.mt_model.specs.Places.{ArePlaces};
+ghost use Rattle.mt_terms.specs.Registration.Accepted.{is_none_or_below};
+ghost use Rattle.mt_terms.specs.Places.{ArePlaces};
 
 use mt_lists::records;
 use mt_model::ProgNo;

@@ -1,6 +1,6 @@
 //! Files of records by example: the whole market of each that is accepted, by its readers, or its first fault.
 ghost use Rattle.std.specs.Prelude.{◌<◌, length};
-ghost use Rattle.mt_model.specs.Market.{applicants};
+ghost use Rattle.mt_terms.specs.Market.{applicants};
 
 mod faults;
 mod limits;

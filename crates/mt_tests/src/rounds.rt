@@ -1,6 +1,6 @@
 //! The couples enter after the best match of the singles.
 ghost use Rattle.std.specs.Prelude.{◌≡◌, IfOk, IsTrue};
-ghost use Rattle.mt_model.specs.Stability.{fits};
+ghost use Rattle.mt_terms.specs.Stability.{fits};
 ghost use Rattle.mt_ranks.specs.Ranked.{ranked_of};
 
 use crate::markets::{HALF_PAIR, roster_of};

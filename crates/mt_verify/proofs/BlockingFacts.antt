@@ -4,14 +4,14 @@ use Rattle.std.specs.List.{find, position}
 use Rattle.std.specs.Option.{option_eq, option_map}
 use Rattle.std.proofs.lemmas.Bool.{cases_Bool}
 use Rattle.std.proofs.lemmas.List.{get_or_read_under}
-use Rattle.mt_model.specs.Market.{Market, Pair, list_of, couple_of, applicants, agent_of, agents, leads}
-use Rattle.mt_model.specs.Matching.{Places, place_of, is_program, is_same_place, holds, better, single_placement, couple_placement}
-use Rattle.mt_model.specs.Stability.{would_be_taken, blocks}
-use Rattle.mt_model.specs.declared.numbers.Agent.{Agent}
-use Rattle.mt_model.specs.declared.numbers.Agent.TheVariants.{Single, Couple}
-use Rattle.mt_model.specs.declared.verdict.Blocker.{Blocker}
-use Rattle.mt_model.specs.Lists.{below}
-use Rattle.mt_model.proofs.VerdictLemmas.{find-map-filter}
+use Rattle.mt_terms.specs.Market.{Market, Pair, list_of, couple_of, applicants, agent_of, agents, leads}
+use Rattle.mt_terms.specs.Matching.{Places, place_of, is_program, is_same_place, holds, better, single_placement, couple_placement}
+use Rattle.mt_terms.specs.Stability.{would_be_taken, blocks}
+use Rattle.mt_terms.specs.declared.numbers.Agent.{Agent}
+use Rattle.mt_terms.specs.declared.numbers.Agent.TheVariants.{Single, Couple}
+use Rattle.mt_terms.specs.declared.verdict.Blocker.{Blocker}
+use Rattle.mt_terms.specs.Lists.{below}
+use Rattle.mt_match_laws.proofs.VerdictLemmas.{find-map-filter}
 use Rattle.mt_verify.specs.Blocking.{blocker, blocker_led_by}
 use Rattle.mt_verify.proofs.FindFacts.{NoneYet, passes_at, stops_at, none_passes, position_mapped, any_has_position, find_first, find_none}
 use Rattle.mt_verify.proofs.OptionFacts.{and-true, holds_single}

@@ -3,9 +3,9 @@ use Rattle.std.proofs.Common.{◌≡◌, ℕ, zero, suc, ◌+◌, ◌<◌, Bool,
 use Rattle.std.specs.List.{find, list_any, position, position_or_len, range_with_len}
 use Rattle.std.specs.Option.{option_map}
 use Rattle.std.proofs.lemmas.Bool.{cases_Bool, cases_lt, lt-ltb, le-ltb}
-use Rattle.mt_model.specs.Lists.{Set, below, until}
-use Rattle.mt_model.proofs.ListLemmas.{none_below, until-map}
-use Rattle.mt_model.proofs.VerdictLemmas.{nothing_found}
+use Rattle.mt_terms.specs.Lists.{Set, below, until}
+use Rattle.mt_match_laws.proofs.ListLemmas.{none_below, until-map}
+use Rattle.mt_match_laws.proofs.VerdictLemmas.{nothing_found}
 
 find_in_range : (test : Set) (low n k : ℕ) → k < n → ((j : ℕ) → j < k → IsFalse (test (low + j))) → IsTrue (test (low + k)) → find test (range_with_len low n) ≡ Some (low + k)
 find_in_range test low zero k within before here = absurd (omega arith)

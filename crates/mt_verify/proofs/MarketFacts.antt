@@ -2,18 +2,18 @@
 use Rattle.std.proofs.Common.{◌≡◌, ℕ, ◌<◌, ◌≤◌, Bool, true, false, ◌&&◌, List, [], length, IsTrue, IsFalse, refl, ap, sym, ◌∙◌, arith, Option, Some, None, eq-eqb, eqb-true, subst, map, get_or}
 use Rattle.std.proofs.lemmas.Bool.{both_ways}
 use Rattle.std.proofs.lemmas.List.Sums.{get_or-le-sum_by}
-use Rattle.mt_model.specs.Laws.Registration.{IsRegistration}
-use Rattle.mt_model.specs.Lists.{has, below, count_below}
-use Rattle.mt_model.specs.Market.{Market, Program, Partners, Registered, applicants, program_of, list_of, couple_of, live}
-use Rattle.mt_model.specs.Matching.{Places, place_of, at, filled, is_program, placed_ranks}
-use Rattle.mt_model.proofs.BelowFacts.{length-map_below, map_below_at}
-use Rattle.mt_model.proofs.Seats.{filled_by_applicant, listed_count}
-use Rattle.mt_model.specs.Places.{ArePlaces}
-use Rattle.mt_model.specs.Stability.{is_listed}
-use Rattle.mt_model.specs.Verdict.{is_unlisted}
-use Rattle.mt_model.specs.WellFormed.{IsWellFormed}
-use Rattle.mt_model.proofs.Totals.{count_below-same}
-use Rattle.mt_model.proofs.VerdictLemmas.{allowed_parts}
+use Rattle.mt_terms.specs.Registration.Accepted.{IsRegistration}
+use Rattle.mt_terms.specs.Lists.{has, below, count_below}
+use Rattle.mt_terms.specs.Market.{Market, Program, Partners, Registered, applicants, program_of, list_of, couple_of, live}
+use Rattle.mt_terms.specs.Matching.{Places, place_of, at, filled, is_program, placed_ranks}
+use Rattle.mt_terms.proofs.BelowFacts.{length-map_below, map_below_at}
+use Rattle.mt_match_laws.proofs.Seats.{filled_by_applicant, listed_count}
+use Rattle.mt_terms.specs.Places.{ArePlaces}
+use Rattle.mt_terms.specs.Stability.{is_listed}
+use Rattle.mt_terms.specs.Verdict.{is_unlisted}
+use Rattle.mt_terms.specs.WellFormed.{IsWellFormed}
+use Rattle.mt_match_laws.proofs.Totals.{count_below-same}
+use Rattle.mt_match_laws.proofs.VerdictLemmas.{allowed_parts}
 use Rattle.mt_ranks.specs.Ranked.{Ranked, ranked_of}
 use Rattle.mt_verify.proofs.PlacedFacts.{length-ranks_from}
 

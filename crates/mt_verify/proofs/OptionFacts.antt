@@ -2,13 +2,13 @@
 use Rattle.std.proofs.Common.{◌≡◌, ℕ, Bool, true, false, not, ◌&&◌, ◌||◌, ◌==◌, is_some, Option, Some, None, ◌<◌, min, length, refl, ap, sym, ◌∙◌, eq-eqb, inl, inr, arith}
 use Rattle.std.specs.List.{list_any}
 use mathlib.Core.Path.{fun_ext}
-use Rattle.mt_model.specs.Market.{Market, Pair, list_of, couple_of, agent_of}
-use Rattle.mt_model.specs.Matching.{Places, place_of, is_program, is_same_place, holds, single_placement, couple_placement}
-use Rattle.mt_model.specs.Stability.{has_own_option}
-use Rattle.mt_model.specs.Verdict.{lowest_number}
-use Rattle.mt_model.specs.declared.numbers.Agent.TheVariants.{Single, Couple}
-use Rattle.mt_model.proofs.ListLemmas.{list_any-map}
-use Rattle.mt_model.proofs.VerdictLemmas.{agent_cases}
+use Rattle.mt_terms.specs.Market.{Market, Pair, list_of, couple_of, agent_of}
+use Rattle.mt_terms.specs.Matching.{Places, place_of, is_program, is_same_place, holds, single_placement, couple_placement}
+use Rattle.mt_terms.specs.Stability.{has_own_option}
+use Rattle.mt_terms.specs.Verdict.{lowest_number}
+use Rattle.mt_terms.specs.declared.numbers.Agent.TheVariants.{Single, Couple}
+use Rattle.mt_match_laws.proofs.ListLemmas.{list_any-map}
+use Rattle.mt_match_laws.proofs.VerdictLemmas.{agent_cases}
 
 pub and-true : (b : Bool) → (b && true) ≡ b
 and-true true = refl

@@ -6,9 +6,9 @@ use Rattle.std.specs.List.Sorted.{IsNonDecreasing, IsPartitionPoint}
 use Rattle.std.proofs.lemmas.Bool.{cases_Bool, le-ltb, lt-ltb}
 use Rattle.std.proofs.lemmas.List.{take_more, length-take}
 use Rattle.std.proofs.lemmas.List.Quantifiers.{position-Some}
-use Rattle.mt_model.specs.FlatLists.{with_last}
-use Rattle.mt_model.specs.Lists.{Set, until, count}
-use Rattle.mt_model.specs.Matching.{is_program, ranks_from}
+use Rattle.mt_market.specs.FlatLists.{with_last}
+use Rattle.mt_terms.specs.Lists.{Set, until, count}
+use Rattle.mt_terms.specs.Matching.{is_program, ranks_from}
 
 -- one place more of a list
 pub ranks_from_push : (rank : ℕ) (set : Set) (xs : List ℕ) (x : ℕ)

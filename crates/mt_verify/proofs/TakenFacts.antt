@@ -6,13 +6,13 @@ use Rattle.std.proofs.lemmas.Bool.{cases_Bool, cases_eq, and_parts, and_from, or
 use Rattle.std.proofs.lemmas.Bool.Decides.{nat_tests}
 use Rattle.std.proofs.lemmas.List.{set_comm}
 use Rattle.std.proofs.lemmas.List.Quantifiers.{position-Some}
-use Rattle.mt_model.specs.Lists.{Set, has, until, count, is_distinct, with_one}
-use Rattle.mt_model.specs.Market.{Market, Program, program_of}
-use Rattle.mt_model.specs.Matching.{Places, at, is_program, send, couple_placement, single_placement}
-use Rattle.mt_model.specs.Choice.{choice}
-use Rattle.mt_model.specs.Stability.{would_be_taken, is_chosen}
-use Rattle.mt_model.proofs.ListLemmas.{count_agree, count_has, until-itself, above-with_one}
-use Rattle.mt_model.proofs.TakenLemmas.{single_taken_lem}
+use Rattle.mt_terms.specs.Lists.{Set, has, until, count, is_distinct, with_one}
+use Rattle.mt_terms.specs.Market.{Market, Program, program_of}
+use Rattle.mt_terms.specs.Matching.{Places, at, is_program, send, couple_placement, single_placement}
+use Rattle.mt_terms.specs.Choice.{choice}
+use Rattle.mt_terms.specs.Stability.{would_be_taken, is_chosen}
+use Rattle.mt_match_laws.proofs.ListLemmas.{count_agree, count_has, until-itself, above-with_one}
+use Rattle.mt_match_laws.proofs.TakenLemmas.{single_taken_lem}
 use Rattle.mt_ranks.proofs.Positions.{has-position}
 use Rattle.mt_verify.specs.Moved.{at_moved}
 use Rattle.mt_verify.proofs.PlacedFacts.{until_position}

@@ -1,11 +1,11 @@
 -- Which agents block, by the numbers of those who lead them.
 use Rattle.std.specs.Prelude.{ℕ, ◌&&◌, Option, Some, None, if◌then◌else◌}
-use Rattle.mt_model.specs.Market.{Market, agent_of, leads}
-use Rattle.mt_model.specs.Matching.{Places}
-use Rattle.mt_model.specs.Stability.{blocks}
-use Rattle.mt_model.specs.Verdict.{blocking_option}
-use Rattle.mt_model.specs.declared.numbers.Agent.{Agent}
-use Rattle.mt_model.specs.declared.verdict.Blocker.{Blocker}
+use Rattle.mt_terms.specs.Market.{Market, agent_of, leads}
+use Rattle.mt_terms.specs.Matching.{Places}
+use Rattle.mt_terms.specs.Stability.{blocks}
+use Rattle.mt_terms.specs.Verdict.{blocking_option}
+use Rattle.mt_terms.specs.declared.numbers.Agent.{Agent}
+use Rattle.mt_terms.specs.declared.verdict.Blocker.{Blocker}
 
 -- an agent, with the first option with which it blocks
 abbrev pub blocker : Market → Places → Agent → Blocker

@@ -1,8 +1,8 @@
 -- Who is at a program where one applicant was moved.
 use Rattle.std.specs.Prelude.{ℕ, ◌==◌, Option, take, if◌then◌else◌}
-use Rattle.mt_model.specs.Lists.{Set, count}
-use Rattle.mt_model.specs.Market.{Market, program_of}
-use Rattle.mt_model.specs.Matching.{Places, at, is_program}
+use Rattle.mt_terms.specs.Lists.{Set, count}
+use Rattle.mt_terms.specs.Market.{Market, program_of}
+use Rattle.mt_terms.specs.Matching.{Places, at, is_program}
 
 -- those at a program, with an applicant moved to a place
 abbrev pub at_moved : Places → ℕ → Option ℕ → ℕ → Set

@@ -2,9 +2,9 @@
 #![tactic(auto)]
 
 ghost use Rattle.std.specs.Prelude.{◌≡◌, ◌↔◌, IfOk, IsTrue};
-ghost use Rattle.mt_model.specs.Places.{ArePlaces};
-ghost use Rattle.mt_model.specs.Stability.{stable};
-ghost use Rattle.mt_model.specs.Verdict.{verdict_of};
+ghost use Rattle.mt_terms.specs.Places.{ArePlaces};
+ghost use Rattle.mt_terms.specs.Stability.{stable};
+ghost use Rattle.mt_terms.specs.Verdict.{verdict_of};
 ghost use Rattle.mt_ranks.specs.Ranked.{ranked_of};
 
 mod listed;
@@ -12,10 +12,10 @@ mod placed;
 mod verifier;
 
 use crate::verifier::Verifier;
-use mt_model::Match;
-pub use mt_model::{Blocker, Verdict};
+use mt_terms::Match;
+pub use mt_terms::{Blocker, Verdict};
 use mt_ranks::Ranks;
-use mt_roster::Roster;
+use mt_market::Roster;
 use std::alloc::{AllocError, Global};
 
 /// Whether a match is stable, or else the first finding against it: an applicant whose place isn't allowed,

@@ -1,8 +1,8 @@
 ghost use Rattle.std.specs.Prelude.{◌≡◌, ◌&&◌, ◌||◌, not, is_some};
 ghost use Rattle.std.specs.List.{list_any};
-ghost use Rattle.mt_model.specs.Matching.{is_program, is_same_place};
+ghost use Rattle.mt_terms.specs.Matching.{is_program, is_same_place};
 
-use mt_model::ProgNo;
+use mt_terms::ProgNo;
 
 /// Whether a single's place is on its list, or none.
 pub(crate) fn is_own_place(list: &[ProgNo], place: Option<ProgNo>) -> bool

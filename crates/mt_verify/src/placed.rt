@@ -1,11 +1,12 @@
 ghost use Rattle.std.specs.Prelude.{◌≡◌, ◌≤◌, ◌^◌, ◌++◌, [], ◌∷◌, map, length, nat_lt, IfOk, OnOk};
 ghost use Rattle.std.specs.List.Sorted.{IsNonDecreasing};
-ghost use Rattle.mt_model.specs.Laws.Registration.{IsRegistration};
-ghost use Rattle.mt_model.specs.Lists.{below, count};
-ghost use Rattle.mt_model.specs.Matching.{at, ranks_from, placed_ranks};
+ghost use Rattle.mt_terms.specs.Registration.Accepted.{IsRegistration};
+ghost use Rattle.mt_terms.specs.Lists.{below, count};
+ghost use Rattle.mt_terms.specs.Matching.{at, ranks_from, placed_ranks};
 
-use mt_model::{AppNo, FlatLists, Match, ProgNo};
-use mt_roster::Roster;
+use mt_market::FlatLists;
+use mt_terms::{AppNo, Match, ProgNo};
+use mt_market::Roster;
 use std::alloc::{AllocError, Global};
 
 /// Adds, as a list of its own, where those that are placed at a program stand on its list.

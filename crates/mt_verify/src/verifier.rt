@@ -1,12 +1,12 @@
 ghost use Rattle.std.specs.Prelude.{◌≡◌, ℕ, ◌<◌, ◌==◌, ◌&&◌, length, map, IfOk, IsFalse, is_some, not, position};
 ghost use Rattle.std.specs.List.{find};
-ghost use Rattle.mt_model.specs.Laws.Registration.{IsRegistration};
-ghost use Rattle.mt_model.specs.Lists.{below, has};
-ghost use Rattle.mt_model.specs.Market.{agent_of, applicants, program_of};
-ghost use Rattle.mt_model.specs.Matching.{place_of, placed_ranks};
-ghost use Rattle.mt_model.specs.Places.{ArePlaces};
-ghost use Rattle.mt_model.specs.Stability.{has_own_option, is_listed};
-ghost use Rattle.mt_model.specs.Verdict.{is_over, is_unlisted, lowest_number, verdict_of};
+ghost use Rattle.mt_terms.specs.Registration.Accepted.{IsRegistration};
+ghost use Rattle.mt_terms.specs.Lists.{below, has};
+ghost use Rattle.mt_terms.specs.Market.{agent_of, applicants, program_of};
+ghost use Rattle.mt_terms.specs.Matching.{place_of, placed_ranks};
+ghost use Rattle.mt_terms.specs.Places.{ArePlaces};
+ghost use Rattle.mt_terms.specs.Stability.{has_own_option, is_listed};
+ghost use Rattle.mt_terms.specs.Verdict.{is_over, is_unlisted, lowest_number, verdict_of};
 ghost use Rattle.mt_ranks.specs.Ranked.{ranked_of};
 
 mod blocking;
@@ -14,9 +14,10 @@ mod taken;
 
 use crate::listed::{is_own_pair, is_own_place};
 use crate::placed::placed_by_program;
-use mt_model::{Agent, AppNo, FlatLists, Match, ProgNo, Verdict};
+use mt_market::FlatLists;
+use mt_terms::{Agent, AppNo, Match, ProgNo, Verdict};
 use mt_ranks::Ranks;
-use mt_roster::Roster;
+use mt_market::Roster;
 use std::alloc::{AllocError, Global};
 
 /// A match beside the market that it is judged by, with the ranks of those placed at each program.

@@ -1,6 +1,6 @@
 use Rattle.std.proofs.Common.{◌≡◌, ◌∙◌, []}
 use Rattle.mt_app.proofs.Statuses.{either}
-use Rattle.mt_model.specs.Text.{refused}
+use Rattle.mt_terms.specs.Text.{refused}
 use Rattle.mt_run.specs.Status.{status_of}
 use Rattle.mt_app.proofs.refuse.Goals as goal
 

@@ -1,14 +1,14 @@
 ghost use Rattle.std.specs.Prelude.{◌≡◌, ◌<◌, length};
 ghost use Rattle.std.specs.List.{find, position};
 ghost use Rattle.std.specs.Option.{option_map};
-ghost use Rattle.mt_model.specs.Market.{agents, applicants};
-ghost use Rattle.mt_model.specs.Matching.{better};
-ghost use Rattle.mt_model.specs.Stability.{blocks, would_be_taken};
-ghost use Rattle.mt_model.specs.declared.numbers.Agent.TheVariants.{Couple, Single};
+ghost use Rattle.mt_terms.specs.Market.{agents, applicants};
+ghost use Rattle.mt_terms.specs.Matching.{better};
+ghost use Rattle.mt_terms.specs.Stability.{blocks, would_be_taken};
+ghost use Rattle.mt_terms.specs.declared.numbers.Agent.TheVariants.{Couple, Single};
 ghost use Rattle.mt_verify.specs.Blocking.{blocker, blocker_led_by};
 
 use crate::verifier::Verifier;
-use mt_model::{Agent, AppNo, Blocker, CoupleNo};
+use mt_terms::{Agent, AppNo, Blocker, CoupleNo};
 
 impl Verifier<'_> {
     /// The place on the single's list of its first better program that would take it.

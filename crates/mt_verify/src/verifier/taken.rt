@@ -1,14 +1,14 @@
 ghost use Rattle.std.specs.Prelude.{◌≡◌, ◌≢◌, ◌<◌, length, take, IsTrue};
-ghost use Rattle.mt_model.specs.Laws.Registration.{is_none_or_below, is_pair_below};
-ghost use Rattle.mt_model.specs.Lists.{has};
-ghost use Rattle.mt_model.specs.Market.{applicants, program_of};
-ghost use Rattle.mt_model.specs.Matching.{at, couple_placement, send, single_placement};
-ghost use Rattle.mt_model.specs.Stability.{is_chosen, would_be_taken};
+ghost use Rattle.mt_terms.specs.Registration.Accepted.{is_none_or_below, is_pair_below};
+ghost use Rattle.mt_terms.specs.Lists.{has};
+ghost use Rattle.mt_terms.specs.Market.{applicants, program_of};
+ghost use Rattle.mt_terms.specs.Matching.{at, couple_placement, send, single_placement};
+ghost use Rattle.mt_terms.specs.Stability.{is_chosen, would_be_taken};
 ghost use Rattle.mt_verify.specs.Moved.{at_moved, count_above};
 
 use crate::placed::count_below;
 use crate::verifier::Verifier;
-use mt_model::{AppNo, ProgNo};
+use mt_terms::{AppNo, ProgNo};
 
 impl Verifier<'_> {
     /// How many of those placed at the program stand above a rank on its list.

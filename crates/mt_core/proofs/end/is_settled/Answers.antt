@@ -1,6 +1,6 @@
 use Rattle.std.proofs.Common.{◌==◌, length, sym, ap, ap₂, ◌∙◌}
 use Rattle.std.proofs.lemmas.List.{length-map}
-use Rattle.mt_model.specs.Market.{list_of}
+use Rattle.mt_terms.specs.Market.{list_of}
 use Rattle.mt_ranks.specs.Ranked.{ranked_entry}
 use Rattle.mt_core.proofs.FloorTables.{standing_of}
 use Rattle.mt_core.proofs.end.is_settled.Goals as goal

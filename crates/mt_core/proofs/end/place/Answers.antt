@@ -1,5 +1,5 @@
 use Rattle.std.proofs.Common.{refl, sym, ◌∙◌}
-use Rattle.mt_model.specs.Floor.{last_tried}
+use Rattle.mt_terms.specs.Floor.{last_tried}
 use Rattle.mt_core.specs.Floors.{floor_of}
 use Rattle.mt_core.proofs.FloorTables.{standing_of}
 use Rattle.mt_core.proofs.NextFacts.{entry_facts, no_entry}

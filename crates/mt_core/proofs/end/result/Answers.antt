@@ -1,12 +1,12 @@
 use Rattle.std.proofs.Common.{◌≡◌, ◌++◌, ◌∷◌, [], map, sym, ap, ap₂, ◌∙◌, arith, subst}
-use Rattle.mt_model.specs.Lists.{below}
-use Rattle.mt_model.specs.Market.{applicants}
-use Rattle.mt_model.specs.Matching.{Places}
-use Rattle.mt_model.specs.Best.{IsBest}
-use Rattle.mt_model.specs.Laws.Floors.{place_on, result_of, HasProposalsOf}
-use Rattle.mt_model.proofs.FloorQuiet.{quiet_counts_lem}
-use Rattle.mt_model.proofs.FloorRuns.{result_of_is_result}
-use Rattle.mt_model.proofs.LegalBestLemmas.{legal_floor_best}
+use Rattle.mt_terms.specs.Lists.{below}
+use Rattle.mt_terms.specs.Market.{applicants}
+use Rattle.mt_terms.specs.Matching.{Places}
+use Rattle.mt_terms.specs.Best.{IsBest}
+use Rattle.mt_terms.specs.Floor.{place_on, result_of, HasProposalsOf}
+use Rattle.mt_floor_laws.proofs.FloorQuiet.{quiet_counts_lem}
+use Rattle.mt_floor_laws.proofs.FloorRuns.{result_of_is_result}
+use Rattle.mt_floor_laws.proofs.LegalBestLemmas.{legal_floor_best}
 use Rattle.mt_core.specs.Floors.{floor_of}
 use Rattle.mt_core.proofs.ListFacts.{map-below_more}
 use Rattle.mt_core.proofs.end.result.Goals as goal

@@ -1,6 +1,6 @@
 use Rattle.std.proofs.Common.{◌≡◌, map}
-use Rattle.mt_model.specs.Lists.{below}
-use Rattle.mt_model.specs.Laws.Floors.{place_on}
+use Rattle.mt_terms.specs.Lists.{below}
+use Rattle.mt_terms.specs.Floor.{place_on}
 use Rattle.mt_core.specs.Floors.{floor_of}
 use Rattle.mt_core.proofs.end.result.Given as goal
 

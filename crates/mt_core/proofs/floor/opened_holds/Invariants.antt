@@ -1,5 +1,5 @@
 use Rattle.std.proofs.Common.{◌≡◌, map}
-use Rattle.mt_model.specs.Lists.{below}
+use Rattle.mt_terms.specs.Lists.{below}
 use Rattle.mt_core.specs.Floors.{opened_for}
 use Rattle.mt_core.proofs.floor.opened_holds.Given as goal
 

@@ -1,7 +1,6 @@
 use Rattle.std.proofs.Common.{IsTrue, sym, subst}
-use Rattle.mt_model.specs.Floor.{Floor, opening, after_all, is_quiet}
-use Rattle.mt_model.specs.Laws.Floors.{EndAlike}
-use Rattle.mt_model.proofs.FloorQuiet.{order_free_lem}
+use Rattle.mt_terms.specs.Floor.{Floor, opening, after_all, is_quiet, EndAlike}
+use Rattle.mt_floor_laws.proofs.FloorQuiet.{order_free_lem}
 use Rattle.mt_core.specs.Floors.{floor_of}
 use Rattle.mt_core.proofs.ChainEnd.{chain_ends}
 use Rattle.mt_core.proofs.laws.order_free.Goals as goal

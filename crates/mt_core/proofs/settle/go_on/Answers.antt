@@ -1,7 +1,7 @@
 use Rattle.std.proofs.Common.{sym, ap, ◌∙◌, subst}
-use Rattle.mt_model.specs.Floor.{Floor, IsRecorded, held, after, reply_of}
-use Rattle.mt_model.specs.declared.events.Event.TheVariants.{Propose, Notice}
-use Rattle.mt_model.proofs.FloorEvents.{event_keeps_recorded_lem}
+use Rattle.mt_terms.specs.Floor.{Floor, IsRecorded, held, after, reply_of}
+use Rattle.mt_terms.specs.declared.events.Event.TheVariants.{Propose, Notice}
+use Rattle.mt_floor_laws.proofs.FloorEvents.{event_keeps_recorded_lem}
 use Rattle.mt_core.specs.Floors.{floor_of}
 use Rattle.mt_core.proofs.Settling.{held_through_notice}
 use Rattle.mt_core.proofs.settle.go_on.Goals as goal

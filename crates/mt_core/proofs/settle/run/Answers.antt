@@ -1,7 +1,7 @@
 use Rattle.std.proofs.Common.{◌≡◌, ◌≢◌, ℕ, if◌then◌else◌, take, sym, ap, ◌∙◌, arith, rules}
-use Rattle.mt_model.specs.Floor.{after, after_all, is_due}
-use Rattle.mt_model.specs.declared.events.Reply.TheVariants.{NotDue}
-use Rattle.mt_model.proofs.FloorRuns.{due_at_most_lem}
+use Rattle.mt_terms.specs.Floor.{after, after_all, is_due}
+use Rattle.mt_terms.specs.declared.events.Reply.TheVariants.{NotDue}
+use Rattle.mt_floor_laws.proofs.FloorRuns.{due_at_most_lem}
 use Rattle.mt_core.specs.Floors.{floor_of}
 use Rattle.mt_core.proofs.Reaching.{after_all-next, due_count-next}
 use Rattle.mt_core.proofs.Settling.{due_from_reply, not_due_from_reply}

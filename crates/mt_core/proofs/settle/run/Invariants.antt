@@ -1,5 +1,5 @@
 use Rattle.std.proofs.Common.{◌≡◌, ◌≤◌, take}
-use Rattle.mt_model.specs.Floor.{IsRecorded, IsLegal, IsStrict, after_all, due_count}
+use Rattle.mt_terms.specs.Floor.{IsRecorded, IsLegal, IsStrict, after_all, due_count}
 use Rattle.mt_core.specs.Floors.{floor_of, IsOpenedWith}
 use Rattle.mt_core.proofs.settle.run.Given as goal
 

@@ -1,5 +1,5 @@
 use Rattle.std.proofs.Common.{◌≡◌, ◌≢◌, ℕ, ◌+◌, sym, ◌∙◌, arith, subst}
-use Rattle.mt_model.specs.declared.events.Reply.TheVariants.{Kept, KeptInstead, Refused, NotDue}
+use Rattle.mt_terms.specs.declared.events.Reply.TheVariants.{Kept, KeptInstead, Refused, NotDue}
 use Rattle.mt_core.specs.Floors.{floor_of}
 use Rattle.mt_core.specs.Ends.{IsReached}
 use Rattle.mt_core.proofs.Reaching.{reached_more, reached_recorded, reached_made, reached_at_most, reached_few, few_live_entries}

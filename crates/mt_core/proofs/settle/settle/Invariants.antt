@@ -1,7 +1,6 @@
 use Rattle.std.proofs.Common.{ℕ, ◌<◌, ◌-◌}
-use Rattle.mt_model.specs.Market.{applicants, live_entries}
-use Rattle.mt_model.specs.Floor.{IsRecorded}
-use Rattle.mt_model.specs.Laws.Floors.{proposals_made}
+use Rattle.mt_terms.specs.Market.{applicants, live_entries}
+use Rattle.mt_terms.specs.Floor.{IsRecorded, proposals_made}
 use Rattle.mt_core.specs.Floors.{floor_of, IsOpenedWith}
 use Rattle.mt_core.specs.Ends.{IsReached, AreSettledBut}
 use Rattle.mt_core.proofs.settle.settle.Given as goal

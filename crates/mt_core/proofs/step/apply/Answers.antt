@@ -1,7 +1,7 @@
 use Rattle.std.proofs.Common.{sym, subst}
-use Rattle.mt_model.specs.Floor.{Floor, IsRecorded, IsLegal, IsStrict}
-use Rattle.mt_model.specs.declared.events.Event.TheVariants.{Propose, Notice}
-use Rattle.mt_model.proofs.FloorEvents.{event_keeps_recorded_lem, event_keeps_legal_lem, event_keeps_strict_lem}
+use Rattle.mt_terms.specs.Floor.{Floor, IsRecorded, IsLegal, IsStrict}
+use Rattle.mt_terms.specs.declared.events.Event.TheVariants.{Propose, Notice}
+use Rattle.mt_floor_laws.proofs.FloorEvents.{event_keeps_recorded_lem, event_keeps_legal_lem, event_keeps_strict_lem}
 use Rattle.mt_core.specs.Floors.{floor_of}
 use Rattle.mt_core.proofs.step.apply.Goals as goal
 

@@ -2,7 +2,7 @@ use Rattle.std.proofs.Common.{◌≡◌, sym, ap, ◌∙◌, slice_get, arith}
 use Rattle.std.specs.Option.{option_map}
 use Rattle.std.proofs.lemmas.Option.{slice_get-map, gets}
 use Rattle.std.proofs.lemmas.Grind.{common_steps}
-use Rattle.mt_model.specs.Market.{list_of}
+use Rattle.mt_terms.specs.Market.{list_of}
 use Rattle.mt_ranks.specs.Ranked.{ranked_entry}
 use Rattle.mt_core.proofs.step.entry_at.Goals as goal
 

@@ -1,5 +1,5 @@
 use Rattle.std.proofs.Common.{sym, ap, ◌∙◌, arith}
-use Rattle.mt_model.specs.Floor.{is_held_by}
+use Rattle.mt_terms.specs.Floor.{is_held_by}
 use Rattle.mt_core.specs.Floors.{floor_of}
 use Rattle.mt_core.proofs.FloorTables.{held_by_rank}
 use Rattle.mt_core.proofs.NextFacts.{last_entry_facts}

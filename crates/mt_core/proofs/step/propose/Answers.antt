@@ -1,5 +1,5 @@
 use Rattle.std.proofs.Common.{sym, ap, ◌∙◌, arith}
-use Rattle.mt_model.specs.Floor as model
+use Rattle.mt_terms.specs.Floor as model
 use Rattle.mt_core.specs.Floors.{floor_of}
 use Rattle.mt_core.proofs.FloorTables.{made_of, received_by_rank, entered_floor}
 use Rattle.mt_core.proofs.NextFacts.{next_entry_facts}

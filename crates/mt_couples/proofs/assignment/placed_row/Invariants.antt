@@ -1,5 +1,5 @@
 use Rattle.std.proofs.Common.{◌≡◌, ◌++◌, drop}
-use Rattle.mt_model.specs.Matching.{at, ranks_from}
+use Rattle.mt_terms.specs.Matching.{at, ranks_from}
 use Rattle.mt_couples.proofs.assignment.placed_row.Given as goal
 
 abbrev pub invariant-loop-rank : goal.invariant-loop-rank

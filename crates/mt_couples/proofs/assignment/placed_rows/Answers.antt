@@ -1,6 +1,6 @@
 use Rattle.std.proofs.Common.{◌∙◌, ◌++◌, ◌∷◌, [], ap, ap₂, sym}
-use Rattle.mt_model.specs.Matching.{at, placed_ranks, ranks_from}
-use Rattle.mt_model.proofs.BelowFacts.{map-below_more}
+use Rattle.mt_terms.specs.Matching.{at, placed_ranks, ranks_from}
+use Rattle.mt_terms.proofs.BelowFacts.{map-below_more}
 use Rattle.mt_couples.proofs.assignment.placed_rows.Goals as goal
 
 pub loop-number-preserved : goal.loop-number-preserved

@@ -1,6 +1,6 @@
 use Rattle.std.proofs.Common.{◌≡◌, map}
-use Rattle.mt_model.specs.Lists.{below}
-use Rattle.mt_model.specs.Matching.{placed_ranks}
+use Rattle.mt_terms.specs.Lists.{below}
+use Rattle.mt_terms.specs.Matching.{placed_ranks}
 use Rattle.mt_couples.proofs.assignment.placed_rows.Given as goal
 
 abbrev pub invariant-loop-number : goal.invariant-loop-number

@@ -1,8 +1,8 @@
 use Rattle.std.proofs.Common.{◌≡◌, ◌∙◌, ◌∷◌, ◌-◌, [], true, Result, Some, Err, IsErrAnd, sym, ap, ap₂, subst, arith}
-use Rattle.mt_model.specs.Stability.{fits}
-use Rattle.mt_model.specs.Rounds.{joined, settled}
-use Rattle.mt_model.specs.declared.numbers.Agent.TheVariants.{Couple}
-use Rattle.mt_model.proofs.RoundsStage.{stage_is_stable_lem}
+use Rattle.mt_terms.specs.Stability.{fits}
+use Rattle.mt_terms.specs.Rounds.{joined, settled}
+use Rattle.mt_terms.specs.declared.numbers.Agent.TheVariants.{Couple}
+use Rattle.mt_round_laws.proofs.RoundsStage.{stage_is_stable_lem}
 use Rattle.mt_couples.specs.Running.{IsRunning}
 use Rattle.mt_couples.specs.declared.rounds.CoupleEnd.TheVariants.{BudgetSpent}
 use Rattle.mt_couples.proofs.RoundFacts.{places_of_fitting}

@@ -1,6 +1,6 @@
 use Rattle.std.proofs.Common.{◌≡◌, drop, map}
-use Rattle.mt_model.specs.Market.{agent_of}
-use Rattle.mt_model.specs.Rounds.{all_joined}
+use Rattle.mt_terms.specs.Market.{agent_of}
+use Rattle.mt_terms.specs.Rounds.{all_joined}
 use Rattle.mt_couples.proofs.rounds.join_displaced.Given as goal
 
 abbrev pub invariant-loop-applicant : goal.invariant-loop-applicant

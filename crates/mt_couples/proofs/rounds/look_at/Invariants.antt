@@ -1,7 +1,7 @@
 use Rattle.std.proofs.Common.{◌≡◌, ◌&&◌, drop, map, filter}
-use Rattle.mt_model.specs.Market.{agent_of}
-use Rattle.mt_model.specs.Stability.{blocks}
-use Rattle.mt_model.specs.Rounds.{all_joined, has_entered, reopened_at}
+use Rattle.mt_terms.specs.Market.{agent_of}
+use Rattle.mt_terms.specs.Stability.{blocks}
+use Rattle.mt_terms.specs.Rounds.{all_joined, has_entered, reopened_at}
 use Rattle.mt_couples.proofs.rounds.look_at.Given as goal
 
 abbrev pub invariant-loop-applicant : goal.invariant-loop-applicant

@@ -1,7 +1,7 @@
 use Rattle.std.proofs.Common.{◌∙◌, ◌++◌, ◌+◌, drop, ap, sym}
 use Rattle.std.specs.List.{flat_map}
 use Rattle.std.proofs.lemmas.List.{drop_more}
-use Rattle.mt_model.specs.Rounds.{all_joined, reopened_at}
+use Rattle.mt_terms.specs.Rounds.{all_joined, reopened_at}
 use Rattle.mt_couples.proofs.JoinFacts.{all_joined-append}
 use Rattle.mt_couples.proofs.PlaceFacts.{has_read}
 use Rattle.mt_couples.proofs.rounds.look_at_left.Goals as goal

@@ -1,6 +1,6 @@
 use Rattle.std.proofs.Common.{◌≡◌, drop}
 use Rattle.std.specs.List.{flat_map}
-use Rattle.mt_model.specs.Rounds.{all_joined, reopened_at}
+use Rattle.mt_terms.specs.Rounds.{all_joined, reopened_at}
 use Rattle.mt_couples.proofs.rounds.look_at_left.Given as goal
 
 abbrev pub invariant-loop-program : goal.invariant-loop-program

@@ -1,13 +1,13 @@
 use Rattle.std.proofs.Common.{◌≡◌, ◌∙◌, length, ap, ap₂, sym, arith, map, if◌then◌else◌, List}
 use Rattle.std.proofs.lemmas.Result.{on_ok_weaker}
 use Rattle.std.specs.List.{flat_map}
-use Rattle.mt_model.specs.Lists.{has, below}
-use Rattle.mt_model.specs.Market.{applicants, agent_of}
-use Rattle.mt_model.specs.Matching.{Places, send}
-use Rattle.mt_model.specs.Stability.{blocks}
-use Rattle.mt_model.specs.Rounds.{Work, after_move, all_joined, joined, reopened_at}
-use Rattle.mt_model.specs.declared.numbers.Agent.{Agent}
-use Rattle.mt_model.proofs.RoundsLists.{has_in, of_kept, of_below}
+use Rattle.mt_terms.specs.Lists.{has, below}
+use Rattle.mt_terms.specs.Market.{applicants, agent_of}
+use Rattle.mt_terms.specs.Matching.{Places, send}
+use Rattle.mt_terms.specs.Stability.{blocks}
+use Rattle.mt_terms.specs.Rounds.{Work, after_move, all_joined, joined, reopened_at}
+use Rattle.mt_terms.specs.declared.numbers.Agent.{Agent}
+use Rattle.mt_round_laws.proofs.RoundsLists.{has_in, of_kept, of_below}
 use Rattle.mt_couples.specs.Assigned.{Assigned}
 use Rattle.mt_couples.proofs.MoveFacts.{displaced_within, waits_after}
 use Rattle.mt_couples.proofs.rounds.take_option.Goals as goal

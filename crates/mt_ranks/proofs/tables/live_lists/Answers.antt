@@ -1,6 +1,6 @@
 use Rattle.std.proofs.Common.{◌≡◌, ◌∙◌, ◌++◌, ◌∷◌, [], ap, sym, arith}
 use Rattle.std.proofs.lemmas.List.FromFn.{map-range_with_len_more}
-use Rattle.mt_model.specs.Market.{list_of}
+use Rattle.mt_terms.specs.Market.{list_of}
 use Rattle.mt_ranks.specs.Entries.{entries_among}
 use Rattle.mt_ranks.specs.Rows.{row_of}
 use Rattle.mt_ranks.proofs.tables.live_lists.Goals as goal

@@ -1,6 +1,6 @@
 use Rattle.std.proofs.Common.{◌≡◌, map}
-use Rattle.mt_model.specs.Lists.{below}
-use Rattle.mt_model.specs.Market.{list_of}
+use Rattle.mt_terms.specs.Lists.{below}
+use Rattle.mt_terms.specs.Market.{list_of}
 use Rattle.mt_ranks.specs.Entries.{entries_among}
 use Rattle.mt_ranks.specs.Rows.{row_of}
 use Rattle.mt_ranks.proofs.tables.live_lists.Given as goal

@@ -1,5 +1,5 @@
 use Rattle.std.proofs.Common.{◌≡◌, map}
-use Rattle.mt_model.specs.Lists.{below}
+use Rattle.mt_terms.specs.Lists.{below}
 use Rattle.mt_ranks.specs.Ranked.{is_single}
 use Rattle.mt_ranks.proofs.tables.singles.Given as goal
 

@@ -1,7 +1,7 @@
 use Rattle.std.proofs.Common.{◌≡◌, List, [], ap, ◌∙◌, length, map, arith}
 use Rattle.std.proofs.lemmas.List.FromFn.{length-map-range_with_len}
 use Rattle.std.proofs.lemmas.List.{length-replicate}
-use Rattle.mt_model.specs.Lists.{below}
+use Rattle.mt_terms.specs.Lists.{below}
 use Rattle.mt_ranks.specs.Entries.{times_listed}
 use Rattle.mt_ranks.specs.Rows.{Filling, empty_rows}
 use Rattle.mt_ranks.specs.declared.entries.Live.{Live}

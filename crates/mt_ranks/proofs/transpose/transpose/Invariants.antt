@@ -1,5 +1,5 @@
 use Rattle.std.proofs.Common.{◌≡◌, length, map}
-use Rattle.mt_model.specs.Lists.{below}
+use Rattle.mt_terms.specs.Lists.{below}
 use Rattle.mt_ranks.specs.Entries.{times_listed}
 use Rattle.mt_ranks.proofs.ListedFacts.{AreEntered}
 use Rattle.mt_ranks.proofs.transpose.transpose.Given as goal

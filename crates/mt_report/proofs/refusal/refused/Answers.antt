@@ -1,6 +1,6 @@
 use Rattle.std.proofs.Common.{◌≡◌, [], ◌++◌, ◌∙◌}
 use Rattle.std.specs.Prelude.{codes, decimal}
-use Rattle.mt_model.specs.Text.{name_among, refusals, id_text}
+use Rattle.mt_terms.specs.Text.{name_among, refusals, id_text}
 use Rattle.mt_report.proofs.LineFacts.{refusal_pieces}
 use Rattle.mt_report.proofs.refusal.refused.Goals as goal
 

@@ -1,5 +1,5 @@
 use Rattle.std.proofs.Common.{◌≡◌, ℕ, ◌<◌, get_or, take, length}
-use Rattle.mt_model.specs.Matching.{filled}
+use Rattle.mt_terms.specs.Matching.{filled}
 use Rattle.mt_report.proofs.text.filled_counts.Given as goal
 
 -- each program's count over the places so far

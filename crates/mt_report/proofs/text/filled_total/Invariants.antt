@@ -1,6 +1,6 @@
 use Rattle.std.proofs.Common.{◌≡◌, ◌≤◌, ◌*◌, ◌^◌}
 use Rattle.std.specs.Prelude.{slice_index}
-use Rattle.mt_model.specs.Lists.{total_below}
+use Rattle.mt_terms.specs.Lists.{total_below}
 use Rattle.mt_report.proofs.text.filled_total.Given as goal
 
 abbrev pub invariant-loop-count : goal.invariant-loop-count

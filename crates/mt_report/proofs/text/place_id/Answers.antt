@@ -1,6 +1,6 @@
 use Rattle.std.proofs.Common.{ap, sym, ◌∙◌, arith}
 use Rattle.std.proofs.lemmas.Bool.Decides.{nat_tests}
-use Rattle.mt_model.specs.Matching.{is_program}
+use Rattle.mt_terms.specs.Matching.{is_program}
 use Rattle.mt_report.proofs.text.place_id.Goals as goal
 
 pub program_id-requires : goal.program_id-requires

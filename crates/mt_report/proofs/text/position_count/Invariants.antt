@@ -1,6 +1,6 @@
 use Rattle.std.proofs.Common.{◌≡◌, ◌≤◌, ◌*◌, ◌^◌}
-use Rattle.mt_model.specs.Lists.{total_below}
-use Rattle.mt_model.specs.Market.{Program, program_of}
+use Rattle.mt_terms.specs.Lists.{total_below}
+use Rattle.mt_terms.specs.Market.{Program, program_of}
 use Rattle.mt_report.proofs.text.position_count.Given as goal
 
 abbrev pub invariant-loop-number : goal.invariant-loop-number

@@ -1,9 +1,9 @@
 use Rattle.std.proofs.Common.{◌≡◌, ℕ, List, append_assoc, arith}
 use Rattle.std.specs.List.{flat_map}
-use Rattle.mt_model.specs.Lists.{below}
-use Rattle.mt_model.specs.Market.{applicants}
-use Rattle.mt_model.specs.Text.{applicant_line}
-use Rattle.mt_model.proofs.BelowFacts.{flat_map-below_more}
+use Rattle.mt_terms.specs.Lists.{below}
+use Rattle.mt_terms.specs.Market.{applicants}
+use Rattle.mt_terms.specs.Text.{applicant_line}
+use Rattle.mt_terms.proofs.BelowFacts.{flat_map-below_more}
 use Rattle.mt_report.proofs.text.push_applicants.Goals as goal
 
 pub loop-number-preserved : goal.loop-number-preserved

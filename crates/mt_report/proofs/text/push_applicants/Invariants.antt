@@ -1,7 +1,7 @@
 use Rattle.std.proofs.Common.{◌≡◌, ◌++◌}
 use Rattle.std.specs.List.{flat_map}
-use Rattle.mt_model.specs.Lists.{below}
-use Rattle.mt_model.specs.Text.{applicant_line}
+use Rattle.mt_terms.specs.Lists.{below}
+use Rattle.mt_terms.specs.Text.{applicant_line}
 use Rattle.mt_report.proofs.text.push_applicants.Given as goal
 
 -- the lines of the applicants so far

@@ -1,9 +1,9 @@
 use Rattle.std.proofs.Common.{◌≡◌, ◌<◌, ℕ, List, append_assoc, arith, ap, ◌∙◌, length, get_or}
 use Rattle.std.specs.List.{flat_map}
-use Rattle.mt_model.specs.Lists.{below}
-use Rattle.mt_model.specs.Matching.{filled}
-use Rattle.mt_model.specs.Text.{program_line}
-use Rattle.mt_model.proofs.BelowFacts.{flat_map-below_more, length-map_below, map_below_at}
+use Rattle.mt_terms.specs.Lists.{below}
+use Rattle.mt_terms.specs.Matching.{filled}
+use Rattle.mt_terms.specs.Text.{program_line}
+use Rattle.mt_terms.proofs.BelowFacts.{flat_map-below_more, length-map_below, map_below_at}
 use Rattle.mt_report.proofs.text.push_programs.Goals as goal
 
 pub bounds-counts-at : goal.bounds-counts-at

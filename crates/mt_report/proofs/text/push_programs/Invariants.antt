@@ -1,7 +1,7 @@
 use Rattle.std.proofs.Common.{◌≡◌, ◌++◌}
 use Rattle.std.specs.List.{flat_map}
-use Rattle.mt_model.specs.Lists.{below}
-use Rattle.mt_model.specs.Text.{program_line}
+use Rattle.mt_terms.specs.Lists.{below}
+use Rattle.mt_terms.specs.Text.{program_line}
 use Rattle.mt_report.proofs.text.push_programs.Given as goal
 
 -- the lines of the programs so far

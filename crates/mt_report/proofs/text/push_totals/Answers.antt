@@ -1,9 +1,9 @@
 use Rattle.std.proofs.Common.{◌≡◌, ◌∙◌, arith, ap, length, get_or}
 use Rattle.std.specs.Prelude.{slice_index}
-use Rattle.mt_model.specs.Lists.{total_below}
-use Rattle.mt_model.specs.Matching.{filled}
-use Rattle.mt_model.specs.Text.{all_filled}
-use Rattle.mt_model.proofs.BelowFacts.{length-map_below, map_below_at}
+use Rattle.mt_terms.specs.Lists.{total_below}
+use Rattle.mt_terms.specs.Matching.{filled}
+use Rattle.mt_terms.specs.Text.{all_filled}
+use Rattle.mt_terms.proofs.BelowFacts.{length-map_below, map_below_at}
 use Rattle.mt_report.proofs.CountFacts.{total_below-same}
 use Rattle.mt_report.proofs.text.push_totals.Goals as goal
 

@@ -1,5 +1,5 @@
 use Rattle.std.proofs.Common.{◌≡◌, ◌∙◌, None, not, arith, ap, sym, get_or, take, ◌+◌}
-use Rattle.mt_model.specs.Text.{unmatched}
+use Rattle.mt_terms.specs.Text.{unmatched}
 use Rattle.std.specs.Prelude.{is_some, if◌then◌else◌}
 use Rattle.mt_report.proofs.CountFacts.{read_place, unmatched_more, unmatched-le}
 use Rattle.mt_report.proofs.text.unmatched_count.Goals as goal

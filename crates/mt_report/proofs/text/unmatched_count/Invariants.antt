@@ -1,5 +1,5 @@
 use Rattle.std.proofs.Common.{◌≡◌, take}
-use Rattle.mt_model.specs.Text.{unmatched}
+use Rattle.mt_terms.specs.Text.{unmatched}
 use Rattle.mt_report.proofs.text.unmatched_count.Given as goal
 
 abbrev pub invariant-loop-place : goal.invariant-loop-place

@@ -1,6 +1,6 @@
 use Rattle.std.proofs.Common.{sym, subst, drop}
 use Rattle.std.specs.Option.{IfSome}
-use Rattle.mt_model.specs.Registration.Records.{couple_record}
+use Rattle.mt_terms.specs.Registration.Records.{couple_record}
 use Rattle.mt_roster.specs.Records.{record_seen}
 use Rattle.mt_roster.specs.Drafts.{IsDraft}
 use Rattle.mt_roster.proofs.DraftFacts.{couple_ok}

@@ -1,7 +1,7 @@
 use Rattle.std.proofs.Common.{Some, sym, ap, ◌∙◌}
 use Rattle.std.specs.Prelude.{option_map}
 use Rattle.std.specs.Option.{option_copied}
-use Rattle.mt_model.specs.Registration.Records.{OfProgram, OfApplicant, OfCouple}
+use Rattle.mt_terms.specs.Registration.Records.{OfProgram, OfApplicant, OfCouple}
 use Rattle.mt_roster.specs.Records.{kind_seen}
 use Rattle.mt_roster.proofs.DraftFacts.{by_kind, draft_by}
 use Rattle.mt_roster.proofs.draft.draft_of.Goals as goal

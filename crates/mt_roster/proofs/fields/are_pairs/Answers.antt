@@ -1,5 +1,5 @@
 use Rattle.std.proofs.Common.{sym, arith, ◌∙◌}
-use Rattle.mt_model.specs.Registration.Records.{is_pair}
+use Rattle.mt_terms.specs.Registration.Records.{is_pair}
 use Rattle.mt_roster.proofs.FieldFacts.{pairs_at, pairs_more, pairs_all}
 use Rattle.mt_roster.proofs.fields.are_pairs.Goals as goal
 

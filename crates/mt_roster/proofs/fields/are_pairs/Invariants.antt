@@ -1,6 +1,6 @@
 use Rattle.std.proofs.Common.{◌≡◌, take, drop, true}
 use Rattle.std.specs.List.{list_all}
-use Rattle.mt_model.specs.Registration.Records.{is_pair}
+use Rattle.mt_terms.specs.Registration.Records.{is_pair}
 use Rattle.mt_roster.specs.Fields.{by_pairs}
 use Rattle.mt_roster.proofs.fields.are_pairs.Given as goal
 

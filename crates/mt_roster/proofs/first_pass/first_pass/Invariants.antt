@@ -1,5 +1,5 @@
 use Rattle.std.proofs.Common.{◌≡◌, ◌+◌, [], drop}
-use Rattle.mt_model.specs.Registration.Passes.{first_pass, numbered_from}
+use Rattle.mt_terms.specs.Registration.Passes.{first_pass, numbered_from}
 use Rattle.mt_roster.specs.Registers.{records_seen, IsRegister}
 use Rattle.mt_roster.proofs.first_pass.first_pass.Given as goal
 

@@ -1,6 +1,6 @@
 use Rattle.std.proofs.Common.{◌<◌, ◌-◌, ap, length, arith, drop}
-use Rattle.mt_model.proofs.BelowFacts.{length-map_below}
-use Rattle.mt_model.specs.Market.{agent_from}
+use Rattle.mt_terms.proofs.BelowFacts.{length-map_below}
+use Rattle.mt_terms.specs.Market.{agent_from}
 use Rattle.mt_roster.specs.Numbered.{bare_couples}
 use Rattle.mt_roster.proofs.NumberingTables.{agents_down}
 use Rattle.mt_roster.proofs.numbering.agents.Goals as goal

@@ -1,6 +1,6 @@
 use Rattle.std.proofs.Common.{◌≡◌, map, drop}
-use Rattle.mt_model.specs.Lists.{below}
-use Rattle.mt_model.specs.Market.{agent_from}
+use Rattle.mt_terms.specs.Lists.{below}
+use Rattle.mt_terms.specs.Market.{agent_from}
 use Rattle.mt_roster.specs.Numbered.{bare_couples}
 use Rattle.mt_roster.proofs.numbering.agents.Given as goal
 

@@ -1,7 +1,7 @@
 use Rattle.std.proofs.Common.{◌∙◌, ap, List}
-use Rattle.mt_model.specs.Registration.Ids.{Bytes, has_id}
-use Rattle.mt_model.specs.Registration.Rows.{applicants_of}
-use Rattle.mt_model.proofs.IdFacts.{itself, or_left, or_right}
+use Rattle.mt_terms.specs.Registration.Ids.{Bytes, has_id}
+use Rattle.mt_terms.specs.Registration.Rows.{applicants_of}
+use Rattle.mt_file_laws.proofs.IdFacts.{itself, or_left, or_right}
 use Rattle.mt_roster.specs.declared.record.Record.{Record as Checked}
 use Rattle.mt_roster.specs.Records.{record_seen}
 use Rattle.mt_roster.proofs.NumberingSteps.{listed_at, IsSome-number_in}

@@ -1,5 +1,5 @@
 use Rattle.std.proofs.Common.{◌≡◌, ◌<◌, drop, length}
-use Rattle.mt_model.specs.Registration.Numbering.{pairs_by_number}
+use Rattle.mt_terms.specs.Registration.Numbering.{pairs_by_number}
 use Rattle.mt_roster.specs.Numbered.{with_more}
 use Rattle.mt_roster.proofs.numbering.push_pairs.Given as goal
 

@@ -1,5 +1,5 @@
 use Rattle.std.proofs.Common.{◌≡◌, ◌<◌, drop, length}
-use Rattle.mt_model.specs.Registration.Ids.{numbers_of}
+use Rattle.mt_terms.specs.Registration.Ids.{numbers_of}
 use Rattle.mt_roster.specs.Numbered.{with_more}
 use Rattle.mt_roster.proofs.numbering.push_programs.Given as goal
 

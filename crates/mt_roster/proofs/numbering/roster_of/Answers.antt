@@ -1,8 +1,8 @@
 use Rattle.std.proofs.Common.{◌≡◌, ◌∙◌, ap, sym, subst, List, filter}
 use Rattle.std.proofs.lemmas.Result.{IfOk-weaker}
-use Rattle.mt_model.specs.Registration.Records.{Record}
-use Rattle.mt_model.specs.Registration.Rows.{remaining}
-use Rattle.mt_model.specs.Laws.Registration.{IsRegistration}
+use Rattle.mt_terms.specs.Registration.Records.{Record}
+use Rattle.mt_terms.specs.Registration.Rows.{remaining}
+use Rattle.mt_terms.specs.Registration.Accepted.{IsRegistration}
 use Rattle.mt_roster.specs.declared.register.Numbered.{Numbered}
 use Rattle.mt_roster.specs.declared.register.Register.{Register}
 use Rattle.mt_roster.specs.Registers.{contents_seen, IsRegister}

@@ -1,6 +1,6 @@
 use Rattle.std.proofs.Common.{◌≡◌, [], map}
-use Rattle.mt_model.specs.Lists.{below}
-use Rattle.mt_model.specs.Market.{agent_from}
+use Rattle.mt_terms.specs.Lists.{below}
+use Rattle.mt_terms.specs.Market.{agent_from}
 use Rattle.mt_roster.proofs.numbering.singles.Given as goal
 
 abbrev pub invariant-loop-number : goal.invariant-loop-number

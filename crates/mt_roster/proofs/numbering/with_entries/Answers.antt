@@ -1,8 +1,8 @@
 use Rattle.std.proofs.Common.{◌≡◌, ◌∙◌, ap, arith, length, filter_map, List}
-use Rattle.mt_model.specs.Registration.Ids.{Bytes}
-use Rattle.mt_model.specs.Registration.Rows.{applicant_ids}
+use Rattle.mt_terms.specs.Registration.Ids.{Bytes}
+use Rattle.mt_terms.specs.Registration.Rows.{applicant_ids}
 use Rattle.mt_roster.specs.Numbered.{all_seen, members_in}
-use Rattle.mt_roster.proofs.NumberingTables.{few_applicants, few_members, members_within, AreMade, made_by, tables_with, tables_are, tables_seen}
+use Rattle.mt_roster.proofs.NumberingTables.{few_applicants, few_members, members_within, made_by, tables_are, tables_seen}
 use Rattle.mt_roster.proofs.numbering.with_entries.Goals as goal
 
 -- the members are those of all the records
@@ -10,12 +10,6 @@ members_are : (c : goal.After-deref) → c.deref.result.now ≡ filter_map (memb
 members_are c =
     c.deref.ensures.value ∙ c.requires.entries.members
     ∙ ap (λ (ids : List Bytes). filter_map (members_in ids) (all_seen c.args.records.now)) c.requires.names.applicants
-
--- so are the tables
-made : (c : goal.In_ok-agents) → AreMade (tables_with c.args.names c.args.entries c.in_ok-quotas.quotas c.in_ok-agents.agents) (all_seen c.args.records.now)
-made c =
-    made_by (all_seen c.args.records.now) c.args.names c.args.entries c.in_ok-quotas.quotas c.in_ok-agents.agents c.deref.result.now c.len.result
-    c.requires.names c.requires.entries c.in_ok-quotas.ensures c.len.ensures c.deref.ensures.value c.in_ok-agents.ensures
 
 pub agents-requires-clause-few : goal.agents-requires-clause-few
 agents-requires-clause-few c = omega (arith, few_applicants (all_seen c.args.records.now) c.requires.market, c.len.ensures, ap length c.requires.names.applicants)
@@ -31,8 +25,16 @@ agents-requires-clause-within c =
     let count : c.len.result ≡ length (applicant_ids rs) = c.len.ensures ∙ ap length c.requires.names.applicants in
     rw (members_are c, count) (members_within rs c.requires.market)
 
-pub invariant_of-result : goal.invariant_of-result
-invariant_of-result c = tables_are (all_seen c.args.records.now) c.requires.market _ (made c)
+pub new-requires : goal.new-requires
+new-requires c =
+    let rs = all_seen c.args.records.now in
+    let made = made_by rs c.args.names c.args.entries c.in_ok-quotas.quotas c.in_ok-agents.agents c.deref.result.now c.len.result
+        c.requires.names c.requires.entries c.in_ok-quotas.ensures c.len.ensures c.deref.ensures.value c.in_ok-agents.ensures in
+    tables_are rs c.requires.market _ made
 
 pub returns : goal.returns
-returns c = tables_seen (all_seen c.args.records.now) c.requires.market _ (made c)
+returns c =
+    let rs = all_seen c.args.records.now in
+    let made = made_by rs c.args.names c.args.entries c.in_ok-quotas.quotas c.in_ok-agents.agents c.deref.result.now c.len.result
+        c.requires.names c.requires.entries c.in_ok-quotas.ensures c.len.ensures c.deref.ensures.value c.in_ok-agents.ensures in
+    c.new.ensures ∙ tables_seen rs c.requires.market _ made

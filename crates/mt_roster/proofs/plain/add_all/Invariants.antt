@@ -1,5 +1,5 @@
 use Rattle.std.proofs.Common.{◌+◌, drop}
-use Rattle.mt_model.specs.Registration.Passes.{numbered_from}
+use Rattle.mt_terms.specs.Registration.Passes.{numbered_from}
 use Rattle.mt_roster.specs.Plain.{IsPlainFront}
 use Rattle.mt_roster.proofs.plain.add_all.Given as goal
 

@@ -1,6 +1,6 @@
 use Rattle.std.proofs.Common.{sym, ap, ◌∙◌, ◌++◌, [], ◌∷◌}
-use Rattle.mt_model.specs.Registration.Records.{Rules, record_of}
-use Rattle.mt_model.specs.Registration.Passes.{are_too_many}
+use Rattle.mt_terms.specs.Registration.Records.{Rules, record_of}
+use Rattle.mt_terms.specs.Registration.Passes.{are_too_many}
 use Rattle.mt_roster.specs.Records.{record_seen}
 use Rattle.mt_roster.specs.Drafts.{IsDraft, drafted}
 use Rattle.mt_roster.proofs.PassFacts.{few_more}

@@ -1,6 +1,6 @@
 use Rattle.std.proofs.Common.{◌≡◌, ◌==◌, true, take}
 use Rattle.std.specs.List.{list_all}
-use Rattle.mt_model.specs.Registration.Ids.{all_differ}
+use Rattle.mt_terms.specs.Registration.Ids.{all_differ}
 use Rattle.mt_roster.proofs.plain.rankings_differ.Given as goal
 
 abbrev pub invariant-loop-i : goal.invariant-loop-i

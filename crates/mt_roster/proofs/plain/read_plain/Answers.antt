@@ -1,7 +1,7 @@
 use Rattle.std.proofs.Common.{ℕ, ◌+◌, List, [], drop}
 use Rattle.std.proofs.lemmas.Result.{IfOk-weaker}
-use Rattle.mt_model.specs.Registration.Ids.{Bytes}
-use Rattle.mt_model.specs.Registration.Passes.{Numbered, numbered_from}
+use Rattle.mt_terms.specs.Registration.Ids.{Bytes}
+use Rattle.mt_terms.specs.Registration.Passes.{Numbered, numbered_from}
 use Rattle.mt_roster.specs.Plain.{IsPlainFront}
 use Rattle.mt_roster.proofs.PlainFacts.{some_of, market_of_whole, markets_of_whole}
 use Rattle.mt_roster.proofs.plain.read_plain.Goals as goal

@@ -1,6 +1,6 @@
 use Rattle.std.proofs.Common.{◌∙◌, ap, sym, not}
 use Rattle.std.specs.Prelude.{bytes_eq, is_some}
-use Rattle.mt_model.specs.Registration.Ids.{all_differ}
+use Rattle.mt_terms.specs.Registration.Ids.{all_differ}
 use Rattle.mt_roster.specs.Entries.{AreEntries}
 use Rattle.mt_roster.specs.Numbered.{all_seen}
 use Rattle.mt_roster.proofs.PlainFacts.{programs_few, applicants_few, entries_said, names_differ, both_hold, some_of}

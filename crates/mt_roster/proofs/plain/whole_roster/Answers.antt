@@ -1,5 +1,5 @@
 use Rattle.std.proofs.Common.{sym, ap, ◌∙◌, subst}
-use Rattle.mt_model.specs.Laws.Registration.{IsRegistration}
+use Rattle.mt_terms.specs.Registration.Accepted.{IsRegistration}
 use Rattle.mt_roster.specs.Numbered.{all_seen, registered_by_all}
 use Rattle.mt_roster.specs.Plain.{AreWholeEntries}
 use Rattle.mt_roster.proofs.PlainFacts.{some_of, entries_named}

@@ -1,5 +1,5 @@
 use Rattle.std.proofs.Common.{◌≡◌, ◌+◌, ◌≤◌, ◌-◌, drop, length}
-use Rattle.mt_model.specs.Registration.Passes.{numbered_from}
+use Rattle.mt_terms.specs.Registration.Passes.{numbered_from}
 use Rattle.mt_roster.proofs.reading.blank_rows.Given as goal
 
 -- none of the rows so far has a field

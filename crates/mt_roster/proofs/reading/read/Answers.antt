@@ -1,7 +1,7 @@
 use Rattle.std.proofs.Common.{ap, sym, ◌∙◌, Ok, Err}
 use Rattle.std.specs.Prelude.{option_map}
 use Rattle.std.specs.Option.{option_map_or}
-use Rattle.mt_model.specs.Registration.Numbering.{registered}
+use Rattle.mt_terms.specs.Registration.Numbering.{registered}
 use Rattle.mt_roster.specs.Refusals.{fault_seen}
 use Rattle.mt_roster.specs.Registers.{records_seen, contents_seen}
 use Rattle.mt_roster.proofs.ReadFacts.{market_after, market_by}

@@ -1,7 +1,7 @@
 use Rattle.std.proofs.Common.{◌≡◌, ◌+◌, drop, sym, arith, ◌∙◌}
-use Rattle.mt_model.specs.Registration.{market_of, market_under}
-use Rattle.mt_model.specs.Registration.Passes.{numbered_from}
-use Rattle.mt_model.proofs.PassFacts.{accepted_is_registration_lem}
+use Rattle.mt_terms.specs.Registration.{market_of, market_under}
+use Rattle.mt_terms.specs.Registration.Passes.{numbered_from}
+use Rattle.mt_file_laws.proofs.PassFacts.{accepted_is_registration_lem}
 use Rattle.mt_roster.proofs.ReadFacts.{market_at, bounded}
 use Rattle.mt_roster.proofs.reading.version_of.Goals as goal
 

@@ -1,6 +1,6 @@
 use Rattle.std.proofs.Common.{◌≡◌, take, true}
 use Rattle.std.specs.Prelude.{bytes_eq}
-use Rattle.mt_model.specs.Registration.Ids.{all_differ}
+use Rattle.mt_terms.specs.Registration.Ids.{all_differ}
 use Rattle.mt_roster.proofs.repeats.has_repeat.Given as goal
 
 abbrev pub invariant-loop-i : goal.invariant-loop-i

@@ -1,5 +1,5 @@
 use Rattle.std.proofs.Common.{not, None, sym, ap, ◌∙◌, take, arith}
-use Rattle.mt_model.specs.Registration.Passes.{is_same_pair}
+use Rattle.mt_terms.specs.Registration.Passes.{is_same_pair}
 use Rattle.mt_roster.proofs.RepeatFacts.{pair_seen, same_pairs, seen_more, seen_twice, was_seen, was_new, table_more}
 use Rattle.mt_roster.proofs.repeats.has_repeated_pair.Goals as goal
 

@@ -1,6 +1,6 @@
 use Rattle.std.proofs.Common.{◌≡◌, take, true}
-use Rattle.mt_model.specs.Registration.Ids.{all_differ}
-use Rattle.mt_model.specs.Registration.Passes.{is_same_pair}
+use Rattle.mt_terms.specs.Registration.Ids.{all_differ}
+use Rattle.mt_terms.specs.Registration.Passes.{is_same_pair}
 use Rattle.mt_roster.proofs.repeats.has_repeated_pair.Given as goal
 
 abbrev pub invariant-loop-i : goal.invariant-loop-i

@@ -1,6 +1,6 @@
 use Rattle.std.proofs.Common.{sym, ap, arith, None, ◌∙◌}
 use Rattle.std.specs.Option.{option_copied}
-use Rattle.mt_model.specs.Registration.Passes.{named}
+use Rattle.mt_terms.specs.Registration.Passes.{named}
 use Rattle.mt_roster.proofs.RepeatFacts.{pair_seen}
 use Rattle.mt_roster.proofs.UnknownFacts.{known_more, unknown_at}
 use Rattle.mt_roster.proofs.unknown.first_unknown_of_pairs.Goals as goal

@@ -1,10 +1,10 @@
 use Rattle.std.proofs.Common.{◌≡◌, ◌∙◌, ℕ, Option, Vec, Global, true, not, ap, sym, subst, length, arith}
 use Rattle.std.proofs.lemmas.Bool.{true≢false}
 use Rattle.std.specs.Prelude.{IsTrue, MatchOption}
-use Rattle.mt_model.specs.Best.{proposals}
-use Rattle.mt_model.specs.Stability.{stable}
-use Rattle.mt_model.proofs.BelowFacts.{length-map_below}
-use Rattle.mt_model.proofs.RoundsStage.{stage_is_stable_lem}
+use Rattle.mt_terms.specs.Best.{proposals}
+use Rattle.mt_terms.specs.Stability.{stable}
+use Rattle.mt_terms.proofs.BelowFacts.{length-map_below}
+use Rattle.mt_round_laws.proofs.RoundsStage.{stage_is_stable_lem}
 use Rattle.mt_run.specs.Answer.{IsPublished}
 use Rattle.mt_run.proofs.MatchFacts.{stable_are_places}
 use Rattle.mt_run.proofs.answer.answer_by_ranks.Goals as goal

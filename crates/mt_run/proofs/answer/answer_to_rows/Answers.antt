@@ -1,5 +1,5 @@
 use Rattle.std.proofs.Common.{subst}
-use Rattle.mt_model.specs.Registration.{market_of}
+use Rattle.mt_terms.specs.Registration.{market_of}
 use Rattle.mt_roster.specs.Faults.{Tells}
 use Rattle.mt_roster.specs.declared.fault.RosterError.{RosterError}
 use Rattle.mt_run.proofs.FaultFacts.{refusal_of_fault}

@@ -1,4 +1,4 @@
-use Rattle.mt_model.proofs.RoundsStage.{singles_fit}
+use Rattle.mt_round_laws.proofs.RoundsStage.{singles_fit}
 use Rattle.mt_run.proofs.answer.with_couples.Goals as goal
 
 pub enter_all-requires-clause-fits : goal.enter_all-requires-clause-fits

@@ -1,9 +1,9 @@
 use Rattle.std.proofs.Common.{◌≡◌, ◌∙◌, ℕ, [], ◌∷◌, ◌++◌, map, ap, sym, length, arith}
 use Rattle.mt_core.specs.Floors.{floor_of}
-use Rattle.mt_model.proofs.BelowFacts.{map-below_more}
-use Rattle.mt_model.specs.Floor.{Floor}
-use Rattle.mt_model.specs.Lists.{below, count_below}
-use Rattle.mt_model.specs.Market.{applicants}
+use Rattle.mt_terms.proofs.BelowFacts.{map-below_more}
+use Rattle.mt_terms.specs.Floor.{Floor}
+use Rattle.mt_terms.specs.Lists.{below, count_below}
+use Rattle.mt_terms.specs.Market.{applicants}
 use Rattle.mt_run.proofs.singles.all_received.Goals as goal
 
 pub loop-program-preserved : goal.loop-program-preserved

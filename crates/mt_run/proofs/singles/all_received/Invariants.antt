@@ -1,8 +1,8 @@
 use Rattle.std.proofs.Common.{◌≡◌, map}
 use Rattle.mt_core.specs.Floors.{floor_of}
-use Rattle.mt_model.specs.Floor.{Floor}
-use Rattle.mt_model.specs.Lists.{below, count_below}
-use Rattle.mt_model.specs.Market.{applicants}
+use Rattle.mt_terms.specs.Floor.{Floor}
+use Rattle.mt_terms.specs.Lists.{below, count_below}
+use Rattle.mt_terms.specs.Market.{applicants}
 use Rattle.mt_run.proofs.singles.all_received.Given as goal
 
 -- the counts of the programs so far

@@ -1,5 +1,5 @@
 use Rattle.std.proofs.Common.{ap, ◌∙◌}
-use Rattle.mt_model.specs.Laws.Floors.{HasProposalsOf}
+use Rattle.mt_terms.specs.Floor.{HasProposalsOf}
 use Rattle.mt_ranks.specs.Ranked.{Ranked}
 use Rattle.mt_run.proofs.SinglesFacts.{best_of_live, proposals_of_live}
 use Rattle.mt_run.proofs.singles.match_singles.Goals as goal

@@ -1,4 +1,4 @@
-use Rattle.mt_model.specs.Floor.{IsRecorded}
+use Rattle.mt_terms.specs.Floor.{IsRecorded}
 use Rattle.mt_core.specs.Floors.{floor_of, IsOpenedWith}
 use Rattle.mt_tests.proofs.floor.expect_replies.Given as goal
 

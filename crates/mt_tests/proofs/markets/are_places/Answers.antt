@@ -2,8 +2,8 @@ use Rattle.std.proofs.Common.{◌≡◌, ℕ, zero, suc, ◌<◌, true, [], ◌�
 use Rattle.std.specs.List.{list_all}
 use Rattle.std.proofs.lemmas.Bool.{false≢true, and_parts}
 use Rattle.std.proofs.lemmas.Bool.Decides.{nat_tests}
-use Rattle.mt_model.specs.Laws.Registration.{is_none_or_below}
-use Rattle.mt_model.specs.Matching.{Places, at, is_program}
+use Rattle.mt_terms.specs.Registration.Accepted.{is_none_or_below}
+use Rattle.mt_terms.specs.Matching.{Places, at, is_program}
 use Rattle.mt_tests.proofs.markets.are_places.Goals as goal
 
 below_here : (n p : ℕ) (place : Option ℕ) → is_none_or_below n place ≡ true → IsTrue (is_program p place) → p < n

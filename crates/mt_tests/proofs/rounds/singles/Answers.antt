@@ -1,6 +1,6 @@
 use Rattle.std.proofs.Common.{ap}
-use Rattle.mt_model.proofs.RoundsStage.{singles_fit}
-use Rattle.mt_model.specs.Best.{IsBest}
+use Rattle.mt_round_laws.proofs.RoundsStage.{singles_fit}
+use Rattle.mt_terms.specs.Best.{IsBest}
 use Rattle.mt_ranks.specs.Ranked.{Ranked}
 use Rattle.mt_run.proofs.SinglesFacts.{best_of_live}
 use Rattle.mt_tests.proofs.rounds.singles.Goals as goal

@@ -1,8 +1,8 @@
 use Rattle.std.proofs.Common.{ap, sym, ◌∙◌, ℕ, List, length, arith, ◌++◌, [], ◌∷◌, map}
 use Rattle.std.proofs.lemmas.List.{map-append}
-use Rattle.mt_model.proofs.BelowFacts.{below_more}
-use Rattle.mt_model.specs.Lists.{below}
-use Rattle.mt_model.specs.Matching.{at, placed_ranks, ranks_from}
+use Rattle.mt_terms.proofs.BelowFacts.{below_more}
+use Rattle.mt_terms.specs.Lists.{below}
+use Rattle.mt_terms.specs.Matching.{at, placed_ranks, ranks_from}
 use Rattle.mt_verify.proofs.MarketFacts.{few_ranked}
 use Rattle.mt_verify.proofs.placed.placed_by_program.Goals as goal
 

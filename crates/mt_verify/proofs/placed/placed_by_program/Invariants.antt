@@ -1,6 +1,6 @@
 use Rattle.std.proofs.Common.{◌≡◌, map}
-use Rattle.mt_model.specs.Lists.{below}
-use Rattle.mt_model.specs.Matching.{placed_ranks}
+use Rattle.mt_terms.specs.Lists.{below}
+use Rattle.mt_terms.specs.Matching.{placed_ranks}
 use Rattle.mt_verify.proofs.placed.placed_by_program.Given as goal
 
 -- the lists of the programs so far

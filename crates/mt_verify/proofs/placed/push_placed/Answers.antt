@@ -1,5 +1,5 @@
 use Rattle.std.proofs.Common.{ap, sym, ◌∙◌, IsTrue, IsFalse}
-use Rattle.mt_model.specs.Matching.{at, is_program}
+use Rattle.mt_terms.specs.Matching.{at, is_program}
 use Rattle.mt_verify.proofs.PlacedFacts.{is_program_read, after_member, after_other}
 use Rattle.mt_verify.proofs.placed.push_placed.Goals as goal
 use Rattle.mt_verify.proofs.placed.push_placed.Goals.{then-eq+in_ok-push, else-eq}

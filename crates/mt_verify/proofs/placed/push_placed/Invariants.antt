@@ -1,5 +1,5 @@
 use Rattle.std.proofs.Common.{◌≡◌, ◌++◌, [], ◌∷◌, take}
-use Rattle.mt_model.specs.Matching.{at, ranks_from}
+use Rattle.mt_terms.specs.Matching.{at, ranks_from}
 use Rattle.mt_verify.proofs.placed.push_placed.Given as goal
 
 -- the ranks of those so far, after the lists that were there

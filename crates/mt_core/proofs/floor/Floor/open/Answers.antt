@@ -1,6 +1,6 @@
 use Rattle.std.proofs.Common.{false, replicate, sym, ap, ◌∙◌, subst}
-use Rattle.mt_model.specs.Floor.{Floor, IsStrict}
-use Rattle.mt_model.proofs.FloorRuns.{opening_is_strict_lem}
+use Rattle.mt_terms.specs.Floor.{Floor, IsStrict}
+use Rattle.mt_floor_laws.proofs.FloorRuns.{opening_is_strict_lem}
 use Rattle.mt_core.specs.Floors.{Tables, floor_of, IsOpenedWith}
 use Rattle.mt_core.proofs.Openings.{tables_are_opened, opened_floor, tables_from}
 use Rattle.mt_core.proofs.floor.Floor.open.Goals as goal

@@ -1,8 +1,8 @@
 use Rattle.std.proofs.Common.{◌∙◌, ◌++◌, get_or, length, drop, filter, map, arith, ap, ap₂, sym}
 use Rattle.std.proofs.lemmas.Result.{on_ok_weaker}
-use Rattle.mt_model.specs.Lists.{has}
-use Rattle.mt_model.specs.Market.{program_of}
-use Rattle.mt_model.specs.Matching.{at}
+use Rattle.mt_terms.specs.Lists.{has}
+use Rattle.mt_terms.specs.Market.{program_of}
+use Rattle.mt_terms.specs.Matching.{at}
 use Rattle.mt_couples.specs.Assigned.{Assigned, is_refused}
 use Rattle.mt_couples.proofs.MarketFacts.{ranked_ranking, ranked_quota}
 use Rattle.mt_couples.proofs.PlaceFacts.{has_at, has-drop}

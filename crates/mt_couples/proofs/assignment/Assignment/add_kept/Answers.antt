@@ -1,5 +1,5 @@
 use Rattle.std.proofs.Common.{◌∙◌, ◌||◌, Bool, ap, sym}
-use Rattle.mt_model.specs.Lists.{has}
+use Rattle.mt_terms.specs.Lists.{has}
 use Rattle.mt_couples.proofs.MoveSteps.{has-insert_key, kept_there}
 use Rattle.mt_couples.proofs.assignment.Assignment.add_kept.Goals as goal
 

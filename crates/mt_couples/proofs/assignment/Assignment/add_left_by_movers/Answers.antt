@@ -2,8 +2,8 @@ use Rattle.std.proofs.Common.{◌≡◌, ◌∙◌, ◌||◌, ◌&&◌, ◌==◌
 use Rattle.std.specs.Option.{option_eq}
 use Rattle.std.specs.BTreeSet.{BTreeSet}
 use Rattle.std.proofs.lemmas.Bool.{not-true, not-false}
-use Rattle.mt_model.specs.Lists.{has}
-use Rattle.mt_model.specs.Matching.{at, is_program}
+use Rattle.mt_terms.specs.Lists.{has}
+use Rattle.mt_terms.specs.Matching.{at, is_program}
 use Rattle.mt_couples.specs.Moves.{is_left_by_movers}
 use Rattle.mt_couples.proofs.MoveSteps.{has-insert_key, left_there, stays_there, unplaced_there, next_seat, no_more}
 use Rattle.mt_couples.proofs.assignment.Assignment.add_left_by_movers.Goals as goal

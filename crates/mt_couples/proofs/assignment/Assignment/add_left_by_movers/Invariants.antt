@@ -1,5 +1,5 @@
 use Rattle.std.proofs.Common.{◌||◌, drop}
-use Rattle.mt_model.specs.Lists.{has}
+use Rattle.mt_terms.specs.Lists.{has}
 use Rattle.mt_couples.specs.Moves.{is_left_by_movers}
 use Rattle.mt_couples.proofs.MoveSteps.{AreOnTheWay}
 use Rattle.mt_couples.proofs.assignment.Assignment.add_left_by_movers.Given as goal

@@ -1,4 +1,4 @@
-use Rattle.mt_model.specs.Market.{applicants}
+use Rattle.mt_terms.specs.Market.{applicants}
 use Rattle.mt_couples.proofs.MarketFacts.{read_within}
 use Rattle.mt_couples.proofs.assignment.Assignment.add_left_by_partners.Goals as goal
 

@@ -1,6 +1,6 @@
 use Rattle.std.proofs.Common.{◌||◌, drop}
 use Rattle.std.specs.List.{list_any}
-use Rattle.mt_model.specs.Lists.{has}
+use Rattle.mt_terms.specs.Lists.{has}
 use Rattle.mt_couples.specs.Moves.{all_members, is_kept_at}
 use Rattle.mt_couples.proofs.MoveSteps.{AreOnTheWay}
 use Rattle.mt_couples.proofs.assignment.Assignment.add_left_by_partners.Given as goal

@@ -1,6 +1,6 @@
 use Rattle.std.proofs.Common.{ap, subst, sym, ◌∙◌}
-use Rattle.mt_model.specs.Market.{Market, agent_of}
-use Rattle.mt_model.specs.WellFormed.{IsWellFormed}
+use Rattle.mt_terms.specs.Market.{Market, agent_of}
+use Rattle.mt_terms.specs.WellFormed.{IsWellFormed}
 use Rattle.mt_couples.specs.Assigned.{Assigned, IsAgentOf}
 use Rattle.mt_couples.proofs.MarketFacts.{agent_within}
 use Rattle.mt_couples.proofs.assignment.Assignment.agent_of.Goals as goal

@@ -1,7 +1,7 @@
 use Rattle.std.proofs.Common.{◌≡◌, ◌<◌, ◌∙◌, ◌+◌, length, arith, ap, sym, nat_lt, take}
-use Rattle.mt_model.specs.Lists.{count}
-use Rattle.mt_model.specs.Market.{program_of}
-use Rattle.mt_model.specs.Matching.{at, placed_ranks}
+use Rattle.mt_terms.specs.Lists.{count}
+use Rattle.mt_terms.specs.Market.{program_of}
+use Rattle.mt_terms.specs.Matching.{at, placed_ranks}
 use Rattle.mt_couples.specs.Assigned.{Assigned}
 use Rattle.mt_couples.proofs.TableFacts.{row_index, row_at, row_sorted}
 use Rattle.mt_couples.proofs.RanksFacts.{count_ranks}

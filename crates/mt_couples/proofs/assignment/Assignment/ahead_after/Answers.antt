@@ -1,8 +1,8 @@
 use Rattle.std.proofs.Common.{◌≡◌, ◌+◌, take, arith}
 use Rattle.std.proofs.lemmas.List.{length-take}
-use Rattle.mt_model.specs.Lists.{count}
-use Rattle.mt_model.specs.Market.{program_of}
-use Rattle.mt_model.specs.Matching.{at, send}
+use Rattle.mt_terms.specs.Lists.{count}
+use Rattle.mt_terms.specs.Market.{program_of}
+use Rattle.mt_terms.specs.Matching.{at, send}
 use Rattle.mt_couples.proofs.PlaceFacts.{count-le_length}
 use Rattle.mt_couples.proofs.RankFacts.{distinct-take}
 use Rattle.mt_couples.proofs.SentFacts.{comes, count_sent}

@@ -1,8 +1,8 @@
 use Rattle.std.proofs.Common.{◌∙◌, sym, ap, is_some}
-use Rattle.mt_model.specs.Market.{couple_of}
-use Rattle.mt_model.specs.Matching.{single_placement, couple_placement, better}
-use Rattle.mt_model.specs.Stability.{would_be_taken, blocks}
-use Rattle.mt_model.specs.declared.numbers.Agent.TheVariants.{Single, Couple}
+use Rattle.mt_terms.specs.Market.{couple_of}
+use Rattle.mt_terms.specs.Matching.{single_placement, couple_placement, better}
+use Rattle.mt_terms.specs.Stability.{would_be_taken, blocks}
+use Rattle.mt_terms.specs.declared.numbers.Agent.TheVariants.{Single, Couple}
 use Rattle.mt_couples.proofs.OptionFacts.{is_some-find, is_some-option_map}
 use Rattle.mt_couples.proofs.assignment.Assignment.blocks.Goals as goal
 

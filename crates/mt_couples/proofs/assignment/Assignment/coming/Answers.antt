@@ -1,8 +1,8 @@
 use Rattle.std.proofs.Common.{◌≡◌, ◌∙◌, sym, arith, take, true, false, Bool}
 use Rattle.std.proofs.lemmas.Bool.{and_left, and_right, and_from}
-use Rattle.mt_model.specs.Lists.{has}
-use Rattle.mt_model.specs.Market.{program_of}
-use Rattle.mt_model.specs.Matching.{is_program}
+use Rattle.mt_terms.specs.Lists.{has}
+use Rattle.mt_terms.specs.Market.{program_of}
+use Rattle.mt_terms.specs.Matching.{is_program}
 use Rattle.mt_couples.proofs.PlaceFacts.{is_program_read}
 use Rattle.mt_couples.proofs.SentFacts.{comes, sent_within, seat_more}
 use Rattle.mt_couples.proofs.assignment.Assignment.coming.Goals as goal

@@ -1,5 +1,5 @@
 use Rattle.std.proofs.Common.{◌≡◌, ◌++◌, drop}
-use Rattle.mt_model.specs.Rounds.{displaced}
+use Rattle.mt_terms.specs.Rounds.{displaced}
 use Rattle.mt_couples.proofs.assignment.Assignment.displaced.Given as goal
 
 abbrev pub invariant-loop-place : goal.invariant-loop-place

@@ -1,9 +1,9 @@
 use Rattle.std.proofs.Common.{◌≡◌, drop, map}
-use Rattle.mt_model.specs.Market.{couple_of}
-use Rattle.mt_model.specs.Matching.{holds, couple_placement}
-use Rattle.mt_model.specs.Stability.{would_be_taken}
-use Rattle.mt_model.specs.Rounds.{first_taken}
-use Rattle.mt_model.specs.declared.numbers.Agent.TheVariants.{Couple}
+use Rattle.mt_terms.specs.Market.{couple_of}
+use Rattle.mt_terms.specs.Matching.{holds, couple_placement}
+use Rattle.mt_terms.specs.Stability.{would_be_taken}
+use Rattle.mt_terms.specs.Rounds.{first_taken}
+use Rattle.mt_terms.specs.declared.numbers.Agent.TheVariants.{Couple}
 use Rattle.mt_couples.proofs.OptionFacts.{first_before}
 use Rattle.mt_couples.proofs.assignment.Assignment.first_pair.Given as goal
 

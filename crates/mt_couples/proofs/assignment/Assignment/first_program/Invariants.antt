@@ -1,8 +1,8 @@
 use Rattle.std.proofs.Common.{◌≡◌, drop, map}
-use Rattle.mt_model.specs.Matching.{holds, single_placement}
-use Rattle.mt_model.specs.Stability.{would_be_taken}
-use Rattle.mt_model.specs.Rounds.{first_taken}
-use Rattle.mt_model.specs.declared.numbers.Agent.TheVariants.{Single}
+use Rattle.mt_terms.specs.Matching.{holds, single_placement}
+use Rattle.mt_terms.specs.Stability.{would_be_taken}
+use Rattle.mt_terms.specs.Rounds.{first_taken}
+use Rattle.mt_terms.specs.declared.numbers.Agent.TheVariants.{Single}
 use Rattle.mt_couples.proofs.OptionFacts.{first_before}
 use Rattle.mt_couples.proofs.assignment.Assignment.first_program.Given as goal
 

@@ -1,5 +1,5 @@
 use Rattle.std.proofs.Common.{sym}
-use Rattle.mt_model.specs.Market.{program_of}
+use Rattle.mt_terms.specs.Market.{program_of}
 use Rattle.mt_couples.proofs.RankFacts.{front_of_rank, front_of_none}
 use Rattle.mt_couples.proofs.assignment.Assignment.is_ahead.Goals as goal
 

@@ -1,9 +1,9 @@
 use Rattle.std.proofs.Common.{◌≡◌, ◌∙◌, nat_lt, Some, sym, ap, ap₂, refl}
-use Rattle.mt_model.specs.Lists.{count, above}
-use Rattle.mt_model.specs.Market.{program_of}
-use Rattle.mt_model.specs.Matching.{at, send}
-use Rattle.mt_model.proofs.RoundsLists.{in_has, in_image}
-use Rattle.mt_model.proofs.RoundsPlaces.{movers}
+use Rattle.mt_terms.specs.Lists.{count, above}
+use Rattle.mt_terms.specs.Market.{program_of}
+use Rattle.mt_terms.specs.Matching.{at, send}
+use Rattle.mt_round_laws.proofs.RoundsLists.{in_has, in_image}
+use Rattle.mt_round_laws.proofs.RoundsPlaces.{movers}
 use Rattle.mt_couples.proofs.RankFacts.{has_rank, has_no_rank, until_rank}
 use Rattle.mt_couples.proofs.SentFacts.{in_list, sent_there}
 use Rattle.mt_couples.proofs.assignment.Assignment.is_chosen.Goals as goal

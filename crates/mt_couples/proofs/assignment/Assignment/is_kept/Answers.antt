@@ -1,7 +1,7 @@
 use Rattle.std.proofs.Common.{◌≡◌, ◌∙◌, nat_lt, sym, ap, ap₂, refl}
-use Rattle.mt_model.specs.Lists.{count, above}
-use Rattle.mt_model.specs.Market.{program_of}
-use Rattle.mt_model.specs.Matching.{at}
+use Rattle.mt_terms.specs.Lists.{count, above}
+use Rattle.mt_terms.specs.Market.{program_of}
+use Rattle.mt_terms.specs.Matching.{at}
 use Rattle.mt_couples.proofs.RankFacts.{has_rank, has_no_rank, until_rank}
 use Rattle.mt_couples.proofs.assignment.Assignment.is_kept.Goals as goal
 

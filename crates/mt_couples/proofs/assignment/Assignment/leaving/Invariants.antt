@@ -1,6 +1,6 @@
 use Rattle.std.proofs.Common.{◌≡◌, take}
-use Rattle.mt_model.specs.Lists.{count}
-use Rattle.mt_model.specs.Market.{program_of}
+use Rattle.mt_terms.specs.Lists.{count}
+use Rattle.mt_terms.specs.Market.{program_of}
 use Rattle.mt_couples.proofs.SentFacts.{leaves}
 use Rattle.mt_couples.proofs.assignment.Assignment.leaving.Given as goal
 

@@ -1,9 +1,9 @@
 use Rattle.std.proofs.Common.{rules, ◌≡◌, ◌∙◌, ◌||◌, ℕ, List, length, ap, sym, arith, Bool}
 use Rattle.std.specs.List.{list_any}
-use Rattle.mt_model.specs.Lists.{has}
-use Rattle.mt_model.specs.Market.{applicants}
-use Rattle.mt_model.specs.Matching.{Places, Placement, send, unplaced}
-use Rattle.mt_model.specs.Rounds.{displaced, after_move}
+use Rattle.mt_terms.specs.Lists.{has}
+use Rattle.mt_terms.specs.Market.{applicants}
+use Rattle.mt_terms.specs.Matching.{Places, Placement, send, unplaced}
+use Rattle.mt_terms.specs.Rounds.{displaced, after_move}
 use Rattle.mt_couples.specs.Assigned.{Assigned, with_places}
 use Rattle.mt_couples.specs.Moves.{all_members, is_kept_at, is_left_by_movers}
 use Rattle.mt_couples.proofs.MoveFacts.{are_sent, programs_within, displaced_within, left_keys}

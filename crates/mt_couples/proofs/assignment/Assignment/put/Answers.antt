@@ -1,6 +1,6 @@
 use Rattle.std.proofs.Common.{◌≡◌, ◌<◌, ◌∙◌, ℕ, true, Some, None, length, arith, ap, sym, subst}
 use Rattle.std.proofs.lemmas.Bool.{eqb-true}
-use Rattle.mt_model.specs.Matching.{is_program, place_of}
+use Rattle.mt_terms.specs.Matching.{is_program, place_of}
 use Rattle.mt_couples.specs.Assigned.{Assigned}
 use Rattle.mt_couples.proofs.MarketFacts.{ranked_applicants}
 use Rattle.mt_couples.proofs.TableFacts.{applicant_known, program_known, row_index, row_sorted, ranked_at, no_own_rank, stands_nowhere, rows_on, rows_on_unlisted, tables_after}

@@ -1,5 +1,5 @@
 use Rattle.std.proofs.Common.{arith, ap}
-use Rattle.mt_model.specs.Market.{applicants}
+use Rattle.mt_terms.specs.Market.{applicants}
 use Rattle.mt_couples.specs.Assigned.{Assigned}
 use Rattle.mt_couples.proofs.MarketFacts.{ranked_applicants}
 use Rattle.mt_couples.proofs.assignment.Assignment.rank.Goals as goal

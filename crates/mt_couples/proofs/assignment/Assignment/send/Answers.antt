@@ -1,5 +1,5 @@
 use Rattle.std.proofs.Common.{Some, ◌≡◌, ◌∙◌, ap, sym, length, arith}
-use Rattle.mt_model.specs.Market.{Market, applicants}
+use Rattle.mt_terms.specs.Market.{Market, applicants}
 use Rattle.mt_couples.specs.Assigned.{Assigned, with_place}
 use Rattle.mt_couples.proofs.SentFacts.{sent_within}
 use Rattle.mt_couples.proofs.MoveSteps.{program_sent_to, sent_one, placed_twice}

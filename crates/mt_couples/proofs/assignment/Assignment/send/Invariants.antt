@@ -1,5 +1,5 @@
 use Rattle.std.proofs.Common.{drop}
-use Rattle.mt_model.specs.Matching.{send}
+use Rattle.mt_terms.specs.Matching.{send}
 use Rattle.mt_couples.proofs.MoveSteps.{IsOnTheWay}
 use Rattle.mt_couples.proofs.assignment.Assignment.send.Given as goal
 

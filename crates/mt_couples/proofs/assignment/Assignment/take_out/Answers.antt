@@ -1,5 +1,5 @@
 use Rattle.std.proofs.Common.{ap, arith}
-use Rattle.mt_model.specs.Market.{applicants}
+use Rattle.mt_terms.specs.Market.{applicants}
 use Rattle.mt_couples.proofs.MarketFacts.{read_within}
 use Rattle.mt_couples.proofs.assignment.Assignment.take_out.Goals as goal
 

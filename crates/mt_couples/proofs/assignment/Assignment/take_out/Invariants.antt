@@ -1,5 +1,5 @@
 use Rattle.std.proofs.Common.{drop}
-use Rattle.mt_model.specs.Matching.{unplaced}
+use Rattle.mt_terms.specs.Matching.{unplaced}
 use Rattle.mt_couples.specs.Moves.{all_members}
 use Rattle.mt_couples.proofs.MoveSteps.{IsOnTheWay}
 use Rattle.mt_couples.proofs.assignment.Assignment.take_out.Given as goal

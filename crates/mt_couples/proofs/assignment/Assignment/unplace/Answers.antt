@@ -1,6 +1,6 @@
 use Rattle.std.proofs.Common.{◌≡◌, ◌<◌, ◌∙◌, ℕ, true, Some, None, length, arith, ap}
 use Rattle.std.proofs.lemmas.Bool.{false≢true}
-use Rattle.mt_model.specs.Matching.{is_program, place_of}
+use Rattle.mt_terms.specs.Matching.{is_program, place_of}
 use Rattle.mt_couples.proofs.MarketFacts.{ranked_applicants, ranked_programs}
 use Rattle.mt_couples.proofs.TableFacts.{applicant_known, row_index, row_sorted, ranked_at, own_rank, known_at, stands_at, rows_off, rows_off_unlisted, rows_same, tables_after}
 use Rattle.mt_couples.proofs.assignment.Assignment.unplace.Goals as goal

@@ -1,7 +1,7 @@
 use Rattle.std.proofs.Common.{◌≡◌, take, true}
 use Rattle.std.specs.List.{list_all}
-use Rattle.mt_model.specs.Matching.{send}
-use Rattle.mt_model.specs.Stability.{is_chosen}
+use Rattle.mt_terms.specs.Matching.{send}
+use Rattle.mt_terms.specs.Stability.{is_chosen}
 use Rattle.mt_couples.proofs.assignment.Assignment.would_be_taken.Given as goal
 
 abbrev pub invariant-loop-applicant : goal.invariant-loop-applicant

@@ -1,6 +1,6 @@
 use Rattle.std.proofs.Common.{◌≡◌, nat_lt, sym, rules, ◌∙◌, ap, subst}
 use Rattle.std.specs.List.Sorted.{IsNonDecreasing}
-use Rattle.mt_model.specs.Lists.{count}
+use Rattle.mt_terms.specs.Lists.{count}
 use Rattle.std.proofs.lemmas.List.Sorted.{IsPartitionPoint-from_clause, IsPartitionedBy-ltb}
 use Rattle.std.proofs.lemmas.Map.Keys.{non_decreasing_from_sorted}
 use Rattle.mt_couples.proofs.RowFacts.{count_to_point}

@@ -1,7 +1,7 @@
 use Rattle.std.proofs.Common.{◌≡◌, ◌∙◌, sym, ap, ◌++◌, ◌∷◌, drop, Some, is_some, Bool, false, if◌then◌else◌, []}
 use Rattle.std.specs.List.{list_any, position}
-use Rattle.mt_model.specs.Rounds.{is_same_agent, joined}
-use Rattle.mt_model.specs.declared.numbers.Agent.{Agent}
+use Rattle.mt_terms.specs.Rounds.{is_same_agent, joined}
+use Rattle.mt_terms.specs.declared.numbers.Agent.{Agent}
 use Rattle.mt_couples.proofs.WaitingFacts.{compares_agents, found_from, found_before, found_nowhere, joined_waiting, joined_behind}
 use Rattle.mt_couples.proofs.work_list.WorkList.join.Goals as goal
 use Rattle.mt_couples.proofs.work_list.WorkList.join.Goals.{in-Some+else-place-self, in_default}

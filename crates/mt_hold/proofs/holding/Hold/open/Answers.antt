@@ -1,7 +1,7 @@
 use Rattle.std.proofs.Common.{ℕ, ap, sym, ◌∙◌, arith, length}
 use Rattle.std.proofs.lemmas.List.{length-replicate}
 use Rattle.std.proofs.lemmas.Grind.{div_ceil_times}
-use Rattle.mt_model.specs.Lists.{count_below}
+use Rattle.mt_terms.specs.Lists.{count_below}
 use Rattle.mt_hold.specs.Holding.{Holding}
 use Rattle.mt_hold.specs.Flags.{flag, flags}
 use Rattle.mt_hold.proofs.Bits.{count-zeros, flags-zeros}

@@ -1,6 +1,6 @@
 use Rattle.std.proofs.Common.{◌≡◌, ◌↔◌, true, false, ap, sym, subst, arith, length}
 use Rattle.std.specs.Vec.{with_items}
-use Rattle.mt_model.specs.Lists.{count_below}
+use Rattle.mt_terms.specs.Lists.{count_below}
 use Rattle.mt_hold.specs.Flags.{flag}
 use Rattle.mt_hold.specs.Row.{IsRowOf}
 use Rattle.mt_hold.specs.Holding.{Holding}

@@ -1,5 +1,5 @@
 use Rattle.std.proofs.Common.{◌≡◌, ◌∙◌, [], ap, get_or, map}
-use Rattle.mt_model.specs.Market.{list_of}
+use Rattle.mt_terms.specs.Market.{list_of}
 use Rattle.mt_ranks.specs.Ranked.{ranked_entry}
 use Rattle.mt_ranks.proofs.TablesSeen.{live_list, live_entries}
 use Rattle.mt_ranks.proofs.tables.Ranks.live.Goals as goal

@@ -1,7 +1,7 @@
 use Rattle.std.proofs.Common.{◌≡◌, ◌==◌, ◌∙◌, ap, sym, arith}
 use Rattle.std.specs.List.{position}
 use Rattle.std.specs.Option.{is_some}
-use Rattle.mt_model.specs.Market.{program_of}
+use Rattle.mt_terms.specs.Market.{program_of}
 use Rattle.mt_ranks.specs.Entries.{rank_among}
 use Rattle.mt_ranks.specs.Rows.{row_of}
 use Rattle.mt_ranks.proofs.Positions.{has-position, found_ranks}

@@ -1,5 +1,5 @@
 use Rattle.std.proofs.Common.{◌≡◌, length, map, drop, ap, arith}
-use Rattle.mt_model.specs.Registration.Records.{pair_of}
+use Rattle.mt_terms.specs.Registration.Records.{pair_of}
 use Rattle.mt_roster.specs.Fields.{by_pairs}
 use Rattle.mt_roster.proofs.FieldFacts.{places_long}
 use Rattle.mt_roster.proofs.fields.Pairs.entries.Goals as goal

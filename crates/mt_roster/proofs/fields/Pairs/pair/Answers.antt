@@ -1,5 +1,5 @@
 use Rattle.std.proofs.Common.{◌≡◌, ◌<◌, ◌-◌, ◌/◌, List, ℕ, length, ap, ◌∙◌, sym, arith, map, get_or, drop, None}
-use Rattle.mt_model.specs.Registration.Records.{pair_of, IdPair}
+use Rattle.mt_terms.specs.Registration.Records.{pair_of, IdPair}
 use Rattle.mt_roster.specs.declared.fields.Pairs.TheInside.{Inside}
 use Rattle.mt_roster.specs.Fields.{by_pairs}
 use Rattle.mt_roster.proofs.FieldFacts.{places_long, place_at}

@@ -1,5 +1,5 @@
 use Rattle.std.proofs.Common.{sym, ap, ap₂, ◌∙◌, not, map, [], ◌∷◌, ◌++◌, if◌then◌else◌}
-use Rattle.mt_model.specs.Registration.Ids.{has_id}
+use Rattle.mt_terms.specs.Registration.Ids.{has_id}
 use Rattle.mt_roster.specs.declared.id_table.Key.{Key}
 use Rattle.mt_roster.proofs.KeyFacts.{has_id-map, add-map}
 use Rattle.mt_roster.proofs.id_table.IdTable.add.Goals as goal

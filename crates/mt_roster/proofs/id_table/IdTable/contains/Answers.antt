@@ -1,5 +1,5 @@
 use Rattle.std.proofs.Common.{sym, ap₂, ◌∙◌}
-use Rattle.mt_model.specs.Registration.Ids.{has_id}
+use Rattle.mt_terms.specs.Registration.Ids.{has_id}
 use Rattle.mt_roster.specs.declared.id_table.Key.{Key}
 use Rattle.mt_roster.proofs.KeyFacts.{has_id-map}
 use Rattle.mt_roster.proofs.id_table.IdTable.contains.Goals as goal

@@ -1,5 +1,5 @@
 use Rattle.std.proofs.Common.{◌+◌, ap, ◌∙◌, arith, length, refl}
-use Rattle.mt_model.specs.Registration.Records.{OfProgram, OfCouple}
+use Rattle.mt_terms.specs.Registration.Records.{OfProgram, OfCouple}
 use Rattle.mt_roster.specs.Records.{record_seen}
 use Rattle.mt_roster.specs.Registers.{contents_seen}
 use Rattle.mt_roster.proofs.CountFacts.{too_many_rows, too_many_entries}

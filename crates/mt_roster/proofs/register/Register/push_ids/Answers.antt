@@ -1,7 +1,7 @@
 use Rattle.std.proofs.Common.{sym, ◌∙◌, ap}
-use Rattle.mt_model.specs.Registration.Records.{OfApplicant}
-use Rattle.mt_model.specs.Registration.Passes.{registered_before}
-use Rattle.mt_model.specs.Registration.Ids.{has_id}
+use Rattle.mt_terms.specs.Registration.Records.{OfApplicant}
+use Rattle.mt_terms.specs.Registration.Passes.{registered_before}
+use Rattle.mt_terms.specs.Registration.Ids.{has_id}
 use Rattle.mt_roster.specs.Records.{record_seen}
 use Rattle.mt_roster.specs.Registers.{contents_seen}
 use Rattle.mt_roster.proofs.RegisterFacts.{new_single}

@@ -1,8 +1,8 @@
 use Rattle.std.proofs.Common.{sym, ap, arith, ◌∙◌, Some, map}
 use Rattle.std.specs.Prelude.{option_map}
 use Rattle.std.proofs.lemmas.List.{take_all}
-use Rattle.mt_model.specs.Registration.Faults.{fault_at}
-use Rattle.mt_model.specs.Registration.Passes.{first_of}
+use Rattle.mt_terms.specs.Registration.Faults.{fault_at}
+use Rattle.mt_terms.specs.Registration.Passes.{first_of}
 use Rattle.mt_roster.proofs.UnknownFacts.{fault_of, first_at, none_more, pass_is}
 use Rattle.mt_roster.specs.Records.{charge_seen}
 use Rattle.mt_roster.specs.Registers.{contents_seen}

@@ -1,6 +1,6 @@
 use Rattle.std.proofs.Common.{◌≡◌, take, map, None}
 use Rattle.mt_roster.proofs.UnknownFacts.{fault_of}
-use Rattle.mt_model.specs.Registration.Passes.{first_of}
+use Rattle.mt_terms.specs.Registration.Passes.{first_of}
 use Rattle.mt_roster.specs.Registers.{contents_seen}
 use Rattle.mt_roster.proofs.register.Register.second_pass.Given as goal
 

@@ -1,9 +1,9 @@
 use Rattle.std.proofs.Common.{sym, ap, ◌∙◌}
 use Rattle.std.specs.Prelude.{option_map}
 use Rattle.std.specs.List.{flat_map}
-use Rattle.mt_model.specs.Registration.Faults.{charge, unknown_program}
-use Rattle.mt_model.specs.Registration.Records.{OfProgram}
-use Rattle.mt_model.specs.Registration.Passes.{first_not_in, unknown_id, named}
+use Rattle.mt_terms.specs.Registration.Faults.{charge, unknown_program}
+use Rattle.mt_terms.specs.Registration.Records.{OfProgram}
+use Rattle.mt_terms.specs.Registration.Passes.{first_not_in, unknown_id, named}
 use Rattle.mt_roster.specs.Records.{record_seen}
 use Rattle.mt_roster.specs.Registers.{contents_seen}
 use Rattle.mt_roster.proofs.register.Register.unknown_id.Goals as goal

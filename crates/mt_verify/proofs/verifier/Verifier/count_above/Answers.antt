@@ -1,8 +1,8 @@
 use Rattle.std.proofs.Common.{nat_lt, ap, sym, subst, ◌∙◌, arith}
 use Rattle.std.specs.List.Sorted.{IsNonDecreasing}
-use Rattle.mt_model.specs.Lists.{count}
-use Rattle.mt_model.specs.Market.{program_of}
-use Rattle.mt_model.specs.Matching.{at}
+use Rattle.mt_terms.specs.Lists.{count}
+use Rattle.mt_terms.specs.Market.{program_of}
+use Rattle.mt_terms.specs.Matching.{at}
 use Rattle.mt_verify.proofs.MarketFacts.{placed_at, length_of_placed}
 use Rattle.mt_verify.proofs.PlacedFacts.{ranks_rise, ranks_above}
 use Rattle.mt_verify.proofs.verifier.Verifier.count_above.Goals as goal

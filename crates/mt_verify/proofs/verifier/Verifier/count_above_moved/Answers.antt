@@ -1,8 +1,8 @@
 use Rattle.std.proofs.Common.{◌≡◌, ℕ, List, IsTrue, take, sym, ap, ◌∙◌, arith}
 use Rattle.std.proofs.lemmas.List.{length-take}
-use Rattle.mt_model.specs.Lists.{has}
-use Rattle.mt_model.specs.Market.{program_of}
-use Rattle.mt_model.specs.Matching.{at, is_program}
+use Rattle.mt_terms.specs.Lists.{has}
+use Rattle.mt_terms.specs.Market.{program_of}
+use Rattle.mt_terms.specs.Matching.{at, is_program}
 use Rattle.mt_verify.proofs.MarketFacts.{few_ranked}
 use Rattle.mt_verify.proofs.PlacedFacts.{is_program_read}
 use Rattle.mt_verify.proofs.TakenFacts.{count_moved, count_unmoved, one_counts, distinct_front, count-le-length, one_if, one_if-from_byte, one_if_le}

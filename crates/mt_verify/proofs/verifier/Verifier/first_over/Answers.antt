@@ -1,5 +1,5 @@
 use Rattle.std.proofs.Common.{sym, ◌∙◌, arith, length}
-use Rattle.mt_model.specs.Verdict.{is_over}
+use Rattle.mt_terms.specs.Verdict.{is_over}
 use Rattle.mt_verify.proofs.FindFacts.{find_first, find_none}
 use Rattle.mt_verify.proofs.verifier.Verifier.first_over.Goals as goal
 

@@ -1,6 +1,6 @@
 use Rattle.std.proofs.Common.{length, None, IsTrue, IsFalse, sym, ap, ◌∙◌, arith}
-use Rattle.mt_model.specs.Market.{couple_of}
-use Rattle.mt_model.specs.Matching.{place_of, holds, couple_placement}
+use Rattle.mt_terms.specs.Market.{couple_of}
+use Rattle.mt_terms.specs.Matching.{place_of, holds, couple_placement}
 use Rattle.mt_verify.proofs.BlockingFacts.{element_read, holds_pair, taken_read, at_own_pair, at_taken_pair, no_pair_more, at_no_pair}
 use Rattle.mt_verify.proofs.MarketFacts.{few_pairs}
 use Rattle.mt_verify.proofs.verifier.Verifier.first_pair.Goals as goal

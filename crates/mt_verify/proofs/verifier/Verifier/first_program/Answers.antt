@@ -1,7 +1,7 @@
 use Rattle.std.proofs.Common.{◌≡◌, ◌==◌, length, get_or, IsTrue, IsFalse, sym, ap, ◌∙◌, arith, eq-eqb}
 use Rattle.std.proofs.lemmas.List.Folds.{list_any_at}
-use Rattle.mt_model.specs.Market.{list_of}
-use Rattle.mt_model.specs.Matching.{holds, single_placement}
+use Rattle.mt_terms.specs.Market.{list_of}
+use Rattle.mt_terms.specs.Matching.{holds, single_placement}
 use Rattle.mt_verify.proofs.BlockingFacts.{element_read, holds_program, at_own_program, at_taken_program, at_no_program}
 use Rattle.mt_verify.proofs.MarketFacts.{few_listed}
 use Rattle.mt_verify.proofs.verifier.Verifier.first_program.Goals as goal

@@ -1,6 +1,6 @@
 use Rattle.std.proofs.Common.{sym, ◌∙◌, arith, below_more}
-use Rattle.mt_model.specs.Market.{applicants}
-use Rattle.mt_model.specs.Verdict.{is_unlisted}
+use Rattle.mt_terms.specs.Market.{applicants}
+use Rattle.mt_terms.specs.Verdict.{is_unlisted}
 use Rattle.mt_verify.proofs.FindFacts.{find_first, find_none}
 use Rattle.mt_verify.proofs.verifier.Verifier.first_unlisted.Goals as goal
 

@@ -1,5 +1,5 @@
 use Rattle.std.proofs.Common.{ℕ, ◌<◌, IsFalse}
-use Rattle.mt_model.specs.Verdict.{is_unlisted}
+use Rattle.mt_terms.specs.Verdict.{is_unlisted}
 use Rattle.mt_verify.proofs.verifier.Verifier.first_unlisted.Given as goal
 
 abbrev pub invariant-loop-number : goal.invariant-loop-number

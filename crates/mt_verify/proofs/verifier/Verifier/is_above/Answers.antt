@@ -1,5 +1,5 @@
 use Rattle.std.proofs.Common.{sym, ◌∙◌}
-use Rattle.mt_model.specs.Market.{program_of}
+use Rattle.mt_terms.specs.Market.{program_of}
 use Rattle.mt_verify.proofs.TakenFacts.{has_front, not_on_front}
 use Rattle.mt_verify.proofs.verifier.Verifier.is_above.Goals as goal
 

@@ -1,5 +1,5 @@
 use Rattle.std.proofs.Common.{sym, ap, ◌∙◌}
-use Rattle.mt_model.specs.Stability.{is_listed}
+use Rattle.mt_terms.specs.Stability.{is_listed}
 use Rattle.mt_verify.proofs.MarketFacts.{at_place}
 use Rattle.mt_verify.proofs.verifier.Verifier.is_listed.Goals as goal
 

@@ -1,5 +1,5 @@
 use Rattle.std.proofs.Common.{◌≡◌, min, sym, ◌∙◌, arith}
-use Rattle.mt_model.specs.Market.{couple_of}
+use Rattle.mt_terms.specs.Market.{couple_of}
 use Rattle.mt_verify.proofs.OptionFacts.{is_off-Single, is_off-Couple, couple_is_there}
 use Rattle.mt_verify.proofs.verifier.Verifier.is_off_own_list.Goals as goal
 

@@ -1,7 +1,7 @@
 use Rattle.std.proofs.Common.{◌≡◌, ℕ, length, nat_lt, not, nat_le, ap, ◌∙◌, arith}
 use Rattle.std.proofs.lemmas.Bool.Decides.{nat_tests}
-use Rattle.mt_model.specs.Matching.{filled}
-use Rattle.mt_model.specs.Market.{program_of}
+use Rattle.mt_terms.specs.Matching.{filled}
+use Rattle.mt_terms.specs.Market.{program_of}
 use Rattle.mt_verify.proofs.MarketFacts.{filled_ranks, placed_at, length_of_placed}
 use Rattle.mt_verify.proofs.verifier.Verifier.is_over.Goals as goal
 

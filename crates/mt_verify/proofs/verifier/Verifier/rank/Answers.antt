@@ -1,7 +1,7 @@
 use Rattle.std.proofs.Common.{◌==◌, ap, ◌∙◌, arith}
 use Rattle.std.specs.List.{position}
-use Rattle.mt_model.specs.Lists.{has}
-use Rattle.mt_model.specs.Market.{Program}
+use Rattle.mt_terms.specs.Lists.{has}
+use Rattle.mt_terms.specs.Market.{Program}
 use Rattle.mt_verify.proofs.MarketFacts.{ranked_programs, ranked_applicants, ranked_program}
 use Rattle.mt_verify.proofs.verifier.Verifier.rank.Goals as goal
 

@@ -1,6 +1,6 @@
 use Rattle.std.proofs.Common.{◌≡◌, Bool, true, false, ◌&&◌, sym, ap, ◌∙◌}
-use Rattle.mt_model.specs.Matching.{Places}
-use Rattle.mt_model.specs.Stability.{is_chosen}
+use Rattle.mt_terms.specs.Matching.{Places}
+use Rattle.mt_terms.specs.Stability.{is_chosen}
 use Rattle.mt_verify.proofs.TakenFacts.{send_both}
 use Rattle.mt_verify.proofs.verifier.Verifier.takes_pair.Goals as goal
 

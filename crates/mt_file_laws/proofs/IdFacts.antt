@@ -1,0 +1,147 @@
+-- Lists of ids, and the numbers of ids on them.
+use Rattle.std.proofs.Common.{◌≡◌, ◌≢◌, suc, ◌+◌, ◌<◌, ◌≤◌, Bool, true, false, not, ◌&&◌, ◌||◌, List, [], ◌∷◌, ◌++◌, map, length, refl, arith, sym, cond, nat_lt}
+use Rattle.std.specs.Prelude.{filter, bytes_eq, ◌==◌}
+use Rattle.std.specs.List.{list_all}
+use Rattle.std.proofs.lemmas.Bool.Decides.{nat_tests}
+use Rattle.std.proofs.lemmas.Slice.Eq.{bytes_eq-Decides}
+use Rattle.std.proofs.lemmas.List.Folds.{list_any-append}
+use Rattle.mt_terms.specs.Lists.{has, is_distinct}
+use Rattle.mt_terms.specs.Registration.Ids.{Bytes, has_id, number_of, numbers_of, all_differ}
+
+pub same_id : (x y : Bytes) → bytes_eq x y ≡ true → x ≡ y
+same_id x y h = (bytes_eq-Decides x y).0 h
+
+pub is_same : (x y : Bytes) → x ≡ y → bytes_eq x y ≡ true
+is_same x y e = (bytes_eq-Decides x y).1 e
+
+pub itself : (x : Bytes) → bytes_eq x x ≡ true
+itself x = (bytes_eq-Decides x x).1 refl
+
+pub other_id : (x y : Bytes) → bytes_eq x y ≡ false → x ≢ y
+other_id x y h e = cc (h, (bytes_eq-Decides x y).1 e)
+
+-- a Bool by its cases
+pub not_true : (b : Bool) → (b ≡ true → ⊥) → b ≡ false
+not_true true h = absurd (h refl)
+not_true false h = refl
+
+-- the number of a listed id is below the length
+pub number_below : (ids : List Bytes) (x : Bytes) → has_id ids x ≡ true → number_of ids x < length ids
+number_below [] x h = cc
+number_below (y ∷ ys) x h = by (bytes_eq x y) (number_below ys x) h
+  where
+    by : (b : Bool) → (has_id ys x ≡ true → number_of ys x < length ys) → (b || has_id ys x) ≡ true → cond (not b) (1 + number_of ys x) 0 < suc (length ys)
+    by true ih k = omega arith
+    by false ih k = let l : number_of ys x < length ys = ih k in omega arith
+
+-- two listed ids have two numbers
+pub same_number : (ids : List Bytes) (x y : Bytes) → has_id ids x ≡ true → has_id ids y ≡ true → number_of ids x ≡ number_of ids y → x ≡ y
+same_number [] x y h k e = cc
+same_number (z ∷ zs) x y h k e = by (bytes_eq x z) (bytes_eq y z) (same_id x z) (same_id y z) (same_number zs x y) h k e
+  where
+    by : (b c : Bool) → (b ≡ true → x ≡ z) → (c ≡ true → y ≡ z) → (has_id zs x ≡ true → has_id zs y ≡ true → number_of zs x ≡ number_of zs y → x ≡ y)
+        → (b || has_id zs x) ≡ true → (c || has_id zs y) ≡ true → cond (not b) (1 + number_of zs x) 0 ≡ cond (not c) (1 + number_of zs y) 0 → x ≡ y
+    by true true f g ih h k e = cc (f refl, g refl)
+    by true false f g ih h k e = absurd (omega arith)
+    by false true f g ih h k e = absurd (omega arith)
+    by false false f g ih h k e = ih h k (omega arith)
+
+pub or_left : (a b : Bool) → a ≡ true → (a || b) ≡ true
+or_left true b h = refl
+or_left false b h = cc
+
+pub or_right : (a b : Bool) → b ≡ true → (a || b) ≡ true
+or_right true b h = refl
+or_right false b h = h
+
+-- a number on a list by numbers is one of an id of the list
+pub number_listed : (ids list : List Bytes) (x : Bytes) → has_id ids x ≡ true → has (numbers_of ids list) (number_of ids x) ≡ true → has_id list x ≡ true
+number_listed ids [] x h k = cc
+number_listed ids (y ∷ ys) x h k = by (has_id ids y) refl (number_listed ids ys x h) k
+  where
+    here : (c : Bool) → (number_of ids y == number_of ids x) ≡ c → has_id ids y ≡ true → (has (numbers_of ids ys) (number_of ids x) ≡ true → has_id ys x ≡ true) → (c || has (numbers_of ids ys) (number_of ids x)) ≡ true → has_id (y ∷ ys) x ≡ true
+    here true e i ih k = or_left _ _ ((bytes_eq-Decides x y).1 (sym (same_number ids y x i h (grind (arith, nat_tests)))))
+    here false e i ih k = or_right _ _ (ih k)
+
+    by : (b : Bool) → has_id ids y ≡ b → (has (numbers_of ids ys) (number_of ids x) ≡ true → has_id ys x ≡ true) → has (map (number_of ids) (cond b (y ∷ filter (has_id ids) ys) (filter (has_id ids) ys))) (number_of ids x) ≡ true → has_id (y ∷ ys) x ≡ true
+    by true i ih k = here (number_of ids y == number_of ids x) refl i ih k
+    by false i ih k = or_right _ _ (ih k)
+
+-- the first id of a list is not among the others, and those differ too
+pub differ_parts : (x : Bytes) (xs : List Bytes) → all_differ bytes_eq (x ∷ xs) ≡ true → (has_id xs x ≡ false) × (all_differ bytes_eq xs ≡ true)
+differ_parts x xs h = by (has_id xs x) h
+  where
+    by : (b : Bool) → (not b && all_differ bytes_eq xs) ≡ true → (b ≡ false) × (all_differ bytes_eq xs ≡ true)
+    by true k = cc
+    by false k = (refl, k)
+
+pub differ_join : (x : Bytes) (xs : List Bytes) → has_id xs x ≡ false → all_differ bytes_eq xs ≡ true → all_differ bytes_eq (x ∷ xs) ≡ true
+differ_join x xs h k = rw (h, k) refl
+
+-- a list without repeats has none by numbers
+pub numbers_distinct : (ids list : List Bytes) → all_differ bytes_eq list ≡ true → is_distinct (numbers_of ids list) ≡ true
+numbers_distinct ids [] h = refl
+numbers_distinct ids (x ∷ xs) h = let p : (has_id xs x ≡ false) × (all_differ bytes_eq xs ≡ true) = differ_parts x xs h in by (has_id ids x) refl p.0 (numbers_distinct ids xs p.1)
+  where
+    by : (b : Bool) → has_id ids x ≡ b → has_id xs x ≡ false → is_distinct (numbers_of ids xs) ≡ true → is_distinct (map (number_of ids) (cond b (x ∷ filter (has_id ids) xs) (filter (has_id ids) xs))) ≡ true
+    by true i n ih = let f : has (numbers_of ids xs) (number_of ids x) ≡ false = not_true _ (λ k. cc (n, number_listed ids xs x i k)) in rw (f, ih) refl
+    by false i n ih = ih
+
+-- the numbers on a list are below the length
+pub numbers_below : (ids list : List Bytes) → list_all (λ n. nat_lt n (length ids)) (numbers_of ids list) ≡ true
+numbers_below ids [] = refl
+numbers_below ids (x ∷ xs) = by (has_id ids x) (number_below ids x) (numbers_below ids xs)
+  where
+    by : (b : Bool) → (b ≡ true → number_of ids x < length ids) → list_all (λ n. nat_lt n (length ids)) (numbers_of ids xs) ≡ true → list_all (λ n. nat_lt n (length ids)) (map (number_of ids) (cond b (x ∷ filter (has_id ids) xs) (filter (has_id ids) xs))) ≡ true
+    by true l ih = let b : number_of ids x < length ids = l refl in let t : nat_lt (number_of ids x) (length ids) ≡ true = grind (arith, nat_tests) in rw (t, ih) refl
+    by false l ih = ih
+
+-- what is listed by numbers is no longer than the list
+pub numbers_short : (ids list : List Bytes) → length (numbers_of ids list) ≤ length list
+numbers_short ids [] = omega arith
+numbers_short ids (x ∷ xs) = by (has_id ids x) (numbers_short ids xs)
+  where
+    by : (b : Bool) → length (numbers_of ids xs) ≤ length xs → length (map (number_of ids) (cond b (x ∷ filter (has_id ids) xs) (filter (has_id ids) xs))) ≤ suc (length xs)
+    by true ih = omega arith
+    by false ih = omega arith
+
+-- xs is ys, or ys with some ids left out
+pub record Within (xs ys : List Bytes) : Type 0 where
+  pub listed : (x : Bytes) → has_id xs x ≡ true → has_id ys x ≡ true
+  pub differ : all_differ bytes_eq ys ≡ true → all_differ bytes_eq xs ≡ true
+  pub short : length xs ≤ length ys
+
+pub within_nil : Within [] []
+within_nil = record { listed = λ x h. h; differ = λ h. h; short = omega arith }
+
+pub within_cons : (z : Bytes) (xs ys : List Bytes) → Within xs ys → Within (z ∷ xs) (z ∷ ys)
+within_cons z xs ys w = record {
+  listed = λ x h. either (bytes_eq x z) (has_id xs x) (has_id ys x) (w.listed x) h;
+  differ = λ h. let p : (has_id ys z ≡ false) × (all_differ bytes_eq ys ≡ true) = differ_parts z ys h in differ_join z xs (not_true _ (λ k. cc (p.0, w.listed z k))) (w.differ p.1);
+  short = let s : length xs ≤ length ys = w.short in omega arith;
+}
+  where
+    either : (a b c : Bool) → (b ≡ true → c ≡ true) → (a || b) ≡ true → (a || c) ≡ true
+    either true b c f h = refl
+    either false b c f h = f h
+
+pub within_more : (z : Bytes) (xs ys : List Bytes) → Within xs ys → Within xs (z ∷ ys)
+within_more z xs ys w = record {
+  listed = λ x h. or_right (bytes_eq x z) _ (w.listed x h);
+  differ = λ h. w.differ (differ_parts z ys h).1;
+  short = let s : length xs ≤ length ys = w.short in omega arith;
+}
+
+pub neither : (a b : Bool) → (a || b) ≡ false → (a ≡ false) × (b ≡ false)
+neither true b h = cc
+neither false b h = (refl, h)
+
+-- an id that is new at the end
+pub differ_push : (xs : List Bytes) (x : Bytes) → has_id xs x ≡ false → all_differ bytes_eq xs ≡ true → all_differ bytes_eq (xs ++ x ∷ []) ≡ true
+differ_push [] x h k = refl
+differ_push (y ∷ ys) x h k =
+    let p : (has_id ys y ≡ false) × (all_differ bytes_eq ys ≡ true) = differ_parts y ys k in
+    let q : (bytes_eq x y ≡ false) × (has_id ys x ≡ false) = neither (bytes_eq x y) (has_id ys x) h in
+    let n : bytes_eq y x ≡ false = not_true _ (λ e. other_id x y q.0 (sym (same_id y x e))) in
+    let e : has_id (ys ++ x ∷ []) y ≡ false = rw (list_any-append, p.0, n) refl in
+    differ_join y (ys ++ x ∷ []) e (differ_push ys x q.1 p.1)

@@ -1,0 +1,7 @@
+pub mod FaultCodes
+pub mod IdFacts
+pub mod NumberingFacts
+pub mod PassFacts
+pub mod RefusalLine
+pub mod RegisteredFacts
+pub mod VersionFacts

@@ -1,0 +1,26 @@
+-- What holds of every file that is accepted.
+use Rattle.std.specs.Prelude.{◌≡◌, ℕ, List, [], ◌∷◌, ◌++◌, replicate, Ok, Err, codes, IsTrue}
+use Rattle.mt_terms.specs.Market.{Registered}
+use Rattle.mt_terms.specs.Registration.{market_of}
+use Rattle.mt_terms.specs.Registration.Faults.{Fault}
+use Rattle.mt_terms.specs.Registration.Ids.{Bytes}
+use Rattle.mt_terms.specs.Registration.Accepted.{IsRegistration}
+use Rattle.mt_terms.specs.Text.{is_fault_code}
+
+-- it is a market with its names, well formed and within the limits
+abbrev pub AcceptedIsRegistration : Type 0
+AcceptedIsRegistration = (rows : List (List Bytes)) (r : Registered) → market_of rows ≡ Ok r → IsRegistration r
+
+-- a file of this version: some records without a field, the one that names the version, and then others
+abbrev pub file_of : Bytes → ℕ → List (List Bytes) → List (List Bytes)
+file_of version blanks rows = replicate blanks [] ++ (codes "match" ∷ version ∷ []) ∷ rows
+
+-- what is accepted as version 1 is accepted as version 2, and as the same market
+abbrev pub VersionsAgree : Type 0
+VersionsAgree =
+    (blanks : ℕ) (rows : List (List Bytes)) (r : Registered)
+    → market_of (file_of (codes "1") blanks rows) ≡ Ok r → market_of (file_of (codes "2") blanks rows) ≡ Ok r
+
+-- each fault of a file has one of the known codes from 12 to 22
+abbrev pub FaultCodes : Type 0
+FaultCodes = (rows : List (List Bytes)) (fault : Fault) → market_of rows ≡ Err fault → IsTrue (is_fault_code fault.code)

@@ -1,0 +1,9 @@
+pub mod FloorBest
+pub mod FloorEvents
+pub mod FloorLists
+pub mod FloorQuiet
+pub mod FloorRuns
+pub mod FloorSums
+pub mod LegalBestLemmas
+pub mod LiveLemmas
+pub mod RuralLemmas

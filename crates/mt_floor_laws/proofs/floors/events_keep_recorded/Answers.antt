@@ -1,0 +1,5 @@
+use Rattle.mt_floor_laws.proofs.floors.events_keep_recorded.Goals as goal
+use Rattle.mt_floor_laws.proofs.FloorEvents.{events_keep_recorded_lem}
+
+pub returns : goal.returns
+returns c = events_keep_recorded_lem

@@ -1,0 +1,2 @@
+pub mod FlatListsFacts
+pub mod TablesFacts

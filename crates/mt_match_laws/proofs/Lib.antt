@@ -1,0 +1,11 @@
+pub mod BlockingPairLemmas
+pub mod ChoiceLemmas
+pub mod ExclusionLemmas
+pub mod FloorChoices
+pub mod ListLemmas
+pub mod Seats
+pub mod SinglesFacts
+pub mod TakenLemmas
+pub mod Totals
+pub mod VerdictLemmas
+pub mod WellFormedLemmas

@@ -1,0 +1,3 @@
+pub mod Singles
+pub mod Taken
+pub mod Verdict

@@ -1,0 +1,64 @@
+ghost use Rattle.mt_match_laws.specs.Singles.{ChoiceInWords, GrowingChoice, NoneComesBack, StabilityOfSingles, StabilityByPairs, Exclusion, ExclusionByQuota, BestIsUnique, BestIsAtLeast, WellFormedTest, ChosenForTwoPosts, ExcludedInChain};
+
+/// A program chooses who is on its list, is of the set, and has fewer than quota of the set above it.
+pub fn choice_in_words()
+    ensures { ChoiceInWords }
+{}
+
+/// The choice of a set with one member more is of the old choice and that member.
+pub fn growing_choice()
+    ensures { GrowingChoice }
+{}
+
+/// Nobody who fell out of a program's choice comes back as the set grows.
+pub fn none_comes_back()
+    ensures { NoneComesBack }
+{}
+
+/// A match of the singles is stable where it fits both sides' lists and the quotas, and no program that a
+/// single wants more would choose it.
+pub fn stability_of_singles()
+    ensures { StabilityOfSingles }
+{}
+
+/// A match of the singles is stable where it fits and no applicant and program block it (Gusfield and Irving
+/// 1989).
+pub fn stability_by_pairs()
+    ensures { StabilityByPairs }
+{}
+
+/// Of a set of singles that have only excluded programs above this one on their live lists, whoever isn't
+/// chosen here is in no stable match here.
+pub fn exclusion()
+    ensures { Exclusion }
+{}
+
+/// Who has quota or more of such a set above it is in no stable match here.
+pub fn exclusion_by_quota()
+    ensures { ExclusionByQuota }
+{}
+
+/// No more than one match is best, since lists are strict.
+pub fn best_is_unique()
+    ensures { BestIsUnique }
+{}
+
+/// The best match places each single at least as well as any stable match does.
+pub fn best_is_at_least()
+    ensures { BestIsAtLeast }
+{}
+
+/// The test of a well-formed market tests just that.
+pub fn well_formed_test()
+    ensures { WellFormedTest }
+{}
+
+/// A program's choice as its set grows.
+pub fn chosen_for_two_posts()
+    ensures { ChosenForTwoPosts }
+{}
+
+/// Exclusion applied twice, in the market of the rejection chain.
+pub fn excluded_in_chain()
+    ensures { ExcludedInChain }
+{}

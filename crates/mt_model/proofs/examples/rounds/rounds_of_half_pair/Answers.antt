@@ -1,5 +1,0 @@
-use Rattle.std.proofs.Common.{refl}
-use Rattle.mt_model.proofs.examples.rounds.rounds_of_half_pair.Goals as goal
-
-pub returns : goal.returns
-returns c = record { rounds = refl; enough = refl; spent = refl }

@@ -1,7 +1,0 @@
-use Rattle.std.proofs.Common.{refl}
-use Rattle.std.specs.Fmt.{digits}
-use Rattle.mt_model.proofs.examples.text.refusal_lines.Goals as goal
-
-pub returns : goal.returns
-unfolding digits
-returns c = record { with_id = refl; with_record = refl; alone = refl; last_record = refl }

@@ -1,7 +1,0 @@
-use Rattle.std.proofs.Common.{refl}
-use Rattle.std.specs.Fmt.{digits}
-use Rattle.mt_model.proofs.examples.text.two_posts_text.Goals as goal
-
-pub returns : goal.returns
-unfolding digits
-returns c = record { text = refl }

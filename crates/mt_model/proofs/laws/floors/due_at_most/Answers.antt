@@ -1,5 +1,0 @@
-use Rattle.mt_model.proofs.laws.floors.due_at_most.Goals as goal
-use Rattle.mt_model.proofs.FloorRuns.{due_at_most_lem}
-
-pub returns : goal.returns
-returns c = due_at_most_lem

@@ -1,5 +1,0 @@
-use Rattle.mt_model.proofs.laws.floors.event_keeps_recorded.Goals as goal
-use Rattle.mt_model.proofs.FloorEvents.{event_keeps_recorded_lem}
-
-pub returns : goal.returns
-returns c = event_keeps_recorded_lem

@@ -1,5 +1,0 @@
-use Rattle.mt_model.proofs.laws.floors.events_keep_strict.Goals as goal
-use Rattle.mt_model.proofs.FloorEvents.{events_keep_strict_lem}
-
-pub returns : goal.returns
-returns c = events_keep_strict_lem

@@ -1,5 +1,0 @@
-use Rattle.mt_model.proofs.RoundsStage.{stage_is_stable_lem}
-use Rattle.mt_model.proofs.laws.rounds.stage_is_stable.Goals as goal
-
-pub returns : goal.returns
-returns c = stage_is_stable_lem

@@ -1,5 +1,0 @@
-use Rattle.mt_model.proofs.ExclusionLemmas.{exclusion_by_quota_lem}
-use Rattle.mt_model.proofs.laws.singles.exclusion_by_quota.Goals as goal
-
-pub returns : goal.returns
-returns c = exclusion_by_quota_lem

@@ -1,8 +1,0 @@
-ghost use Rattle.mt_model.specs.Laws.Live.{LiveMarketAgrees, NothingIsLive};
-
-/// A market and its live market have the same stable matches of the singles, the same best one, and the same
-/// numbers of proposals on the way there.
-pub fn live_market_agrees()
-    ensures law { LiveMarketAgrees }
-    ensures example { NothingIsLive }
-{}

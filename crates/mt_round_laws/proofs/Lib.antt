@@ -1,0 +1,11 @@
+pub mod PlacesFacts
+pub mod RoundsAgents
+pub mod RoundsCounted
+pub mod RoundsFits
+pub mod RoundsKeep
+pub mod RoundsLists
+pub mod RoundsMove
+pub mod RoundsPlaces
+pub mod RoundsRoom
+pub mod RoundsSets
+pub mod RoundsStage

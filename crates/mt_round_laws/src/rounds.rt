@@ -1,0 +1,48 @@
+ghost use Rattle.mt_round_laws.specs.Rounds.{FirstCoupleWaits, NextCoupleWaits, LastListIsStable, RoundKeeps, RoundFits, StageIsStable, StageFits, StageRounds, PremisesOfRounds};
+
+/// After the best match of the singles, the first couple waits in the state that a round keeps.
+pub fn first_couple_waits()
+    ensures { FirstCoupleWaits }
+{}
+
+/// Once the list of a couple is empty, the next couple waits in that state.
+pub fn next_couple_waits()
+    ensures { NextCoupleWaits }
+{}
+
+/// Once the list of the last couple is empty, the match is stable.
+pub fn last_list_is_stable()
+    ensures { LastListIsStable }
+{}
+
+/// A round keeps its state: the match fits, the work list has agents of the market that have entered, no
+/// couple that has not entered is placed, and no entered agent that is not on the work list blocks.
+pub fn round_keeps()
+    ensures { RoundKeeps }
+{}
+
+/// From any match that fits, a round keeps a match that fits, and a work list of agents of the market.
+pub fn round_fits()
+    ensures { RoundFits }
+{}
+
+/// Whatever a stage ends in, from the best match of the singles, is stable.
+pub fn stage_is_stable()
+    ensures { StageIsStable }
+{}
+
+/// Whatever a stage ends in, from any match that fits, fits.
+pub fn stage_fits()
+    ensures { StageFits }
+{}
+
+/// A stage answers with exactly the rounds that it needs: any budget of at least as many gives the same, and
+/// any smaller one is spent.
+pub fn stage_rounds()
+    ensures { StageRounds }
+{}
+
+/// What these laws ask for is so in two of the example markets.
+pub fn premises_of_rounds()
+    ensures { PremisesOfRounds }
+{}

@@ -1,0 +1,165 @@
+-- Deferred acceptance one event at a time, in any order (McVitie and Wilson 1971): how far each applicant
+-- is on its live list, which programs have received whom, and what the next events are. That an applicant
+-- learns of its refusal by an event of its own is this project's own rule.
+use Rattle.std.specs.Prelude.{◌≡◌, ℕ, ◌+◌, ◌-◌, ◌<◌, ◌≤◌, Bool, false, not, ◌&&◌, ◌==◌, List, [], ◌∷◌, length, map, take, Option, Some, None, is_some, slice_get, IsTrue, IsFalse, if◌then◌else◌}
+use Rattle.std.specs.List.{find, list_all}
+use Rattle.mt_terms.specs.Lists.{Set, has, with_one, without, below, total_below, count_below}
+use Rattle.mt_terms.specs.Market.{Market, program_of, applicants, live}
+use Rattle.mt_terms.specs.Choice.{choice}
+use Rattle.mt_terms.specs.Matching.{Places, place_of}
+use Rattle.mt_terms.specs.Best.{IsExcluded, IsBest, proposed_to, proposals}
+use Rattle.mt_terms.specs.declared.events.Event.{Event}
+use Rattle.mt_terms.specs.declared.events.Event.TheVariants.{Propose, Notice}
+use Rattle.mt_terms.specs.declared.events.Reply.{Reply}
+use Rattle.mt_terms.specs.declared.events.Reply.TheVariants.{Kept, KeptInstead, Refused, Noticed, NotDue}
+
+-- How many proposals each applicant has made, whether it believes that it stands where it proposed last,
+-- and from whom each program has received a proposal.
+pub record Floor : Type 0 where
+  pub made : ℕ → ℕ
+  pub standing : Set
+  pub received : ℕ → Set
+
+-- whom a program holds: its choice from all that it received
+abbrev pub held : Market → Floor → ℕ → Set
+held m f p = choice (program_of m p) (f.received p)
+
+-- the programs that an applicant has proposed to
+abbrev pub tried : Market → Floor → ℕ → List ℕ
+tried m f a = take (f.made a) (live m a)
+
+-- those among them that it stands at no longer: all but the last one where it stands, and else all
+abbrev pub gone : Market → Floor → ℕ → List ℕ
+gone m f a = take (f.made a - (if f.standing a then 1 else 0)) (live m a)
+
+-- the program that it proposed to last
+abbrev pub last_tried : Market → Floor → ℕ → Option ℕ
+last_tried m f a = if f.made a == 0 then None else slice_get (live m a) (f.made a - 1)
+
+-- the program that it would propose to next: none while it stands
+abbrev pub next_entry : Market → Floor → ℕ → Option ℕ
+next_entry m f a = if f.standing a then None else slice_get (live m a) (f.made a)
+
+-- whether there is such a program, and it holds the applicant
+abbrev pub is_held_by : Market → Floor → ℕ → Option ℕ → Bool
+is_held_by m f a None = false
+is_held_by m f a (Some p) = held m f p a
+
+-- Every number is in its bounds, and the programs have received just the proposals that were made.
+pub record IsRecorded (m : Market) (f : Floor) : Type 0 where
+  pub within : (a : ℕ) → f.made a ≤ length (live m a)
+  pub proposed : (a : ℕ) → IsTrue (f.standing a) → 0 < f.made a
+  pub receives : (a p : ℕ) → f.received p a ≡ has (tried m f a) p
+
+-- A legal floor: whom an applicant has gone from, and who doesn't hold it, it can have in no stable match.
+pub record IsLegal (m : Market) (f : Floor) : Type 0 where
+  pub recorded : IsRecorded m f
+  pub passed : (a p : ℕ) → IsTrue (has (gone m f a) p) → IsExcluded m a p
+  pub refused : (a p : ℕ) → IsTrue (f.received p a) → IsFalse (held m f p a) → IsExcluded m a p
+
+-- A strict floor: besides, no applicant is held where it has gone from.
+pub record IsStrict (m : Market) (f : Floor) : Type 0 where
+  pub legal : IsLegal m f
+  pub let_go : (a p : ℕ) → IsTrue (has (gone m f a) p) → IsFalse (held m f p a)
+
+-- the opening floor: nothing made, nobody standing, nothing received
+abbrev pub opening : Floor
+opening = record { made = λ a. 0; standing = λ a. false; received = λ p a. false }
+
+-- whether an event may happen
+abbrev pub is_due : Market → Floor → Event → Bool
+is_due m f (Propose a) = is_some (next_entry m f a)
+is_due m f (Notice a) = f.standing a && not (is_held_by m f a (last_tried m f a))
+
+-- whether no event is due for an applicant: it stands and is held, or has used its whole live list
+abbrev pub is_settled : Market → Floor → ℕ → Bool
+is_settled m f a = if f.standing a then is_held_by m f a (last_tried m f a) else (f.made a == length (live m a))
+
+-- whether no event is due
+abbrev pub is_quiet : Market → Floor → Bool
+is_quiet m f = list_all (is_settled m f) (below (applicants m))
+
+-- what a program has received, after a proposal
+abbrev pub receives_one : Floor → ℕ → ℕ → Set
+receives_one f p a = with_one (f.received p) a
+
+-- the floor after an applicant's proposal to a program
+abbrev pub proposed_at : Market → Floor → ℕ → ℕ → Floor
+proposed_at m f a p = record {
+  made = λ b. if b == a then (f.made a + 1) else f.made b;
+  standing = λ b. if b == a then choice (program_of m p) (receives_one f p a) a else f.standing b;
+  received = λ q. if q == p then receives_one f p a else f.received q;
+}
+
+-- the floor after an event; one that isn't due changes nothing
+abbrev pub after_proposal : Market → Floor → ℕ → Option ℕ → Floor
+after_proposal m f a None = f
+after_proposal m f a (Some p) = proposed_at m f a p
+
+abbrev pub after : Market → Floor → Event → Floor
+after m f (Propose a) = after_proposal m f a (next_entry m f a)
+after m f (Notice a) = if is_due m f (Notice a) then (record f { standing = without f.standing a }) else f
+
+-- the applicant that a program drops for another one: held before its proposal, and not after it
+abbrev pub dropped : Market → Floor → ℕ → ℕ → Option ℕ
+dropped m f p a = find (λ b. held m f p b && not (choice (program_of m p) (receives_one f p a) b)) (program_of m p).ranking
+
+abbrev pub kept_reply : Option ℕ → Reply
+kept_reply None = Kept
+kept_reply (Some b) = KeptInstead b
+
+abbrev pub reply_of_proposal : Market → Floor → ℕ → Option ℕ → Reply
+reply_of_proposal m f a None = NotDue
+reply_of_proposal m f a (Some p) = if choice (program_of m p) (receives_one f p a) a then kept_reply (dropped m f p a) else Refused
+
+-- the reply to an event
+abbrev pub reply_of : Market → Floor → Event → Reply
+reply_of m f (Propose a) = reply_of_proposal m f a (next_entry m f a)
+reply_of m f (Notice a) = if is_due m f (Notice a) then Noticed else NotDue
+
+-- the floor after events, in order
+abbrev pub after_all : Market → Floor → List Event → Floor
+after_all m f [] = f
+after_all m f (e ∷ es) = after_all m (after m f e) es
+
+-- the replies to events, in order
+abbrev pub replies : Market → Floor → List Event → List Reply
+replies m f [] = []
+replies m f (e ∷ es) = reply_of m f e ∷ replies m (after m f e) es
+
+-- how many of the events, in order, were due
+abbrev pub due_count : Market → Floor → List Event → ℕ
+due_count m f [] = 0
+due_count m f (e ∷ es) = (if is_due m f e then 1 else 0) + due_count m (after m f e) es
+
+-- where an applicant is on a floor: at the program that it proposed to last where it stands, else nowhere
+abbrev pub place_on : Market → Floor → ℕ → Option ℕ
+place_on m f a = if f.standing a then last_tried m f a else None
+
+-- A match is the result of a floor where it has one place for each applicant, the one on the floor.
+pub record IsResult (m : Market) (f : Floor) (places : Places) : Type 0 where
+  pub one_each : length places ≡ applicants m
+  pub each_place : (a : ℕ) → a < applicants m → place_of places a ≡ place_on m f a
+
+-- the result of a floor
+abbrev pub result_of : Market → Floor → Places
+result_of m f = map (place_on m f) (below (applicants m))
+
+-- how many proposals have been made on a floor
+abbrev pub proposals_made : Market → Floor → ℕ
+proposals_made m f = total_below f.made (applicants m)
+
+-- The proposals on a floor are those on the way to a match: each applicant has proposed to the programs down
+-- to its place, and each program has received as many proposals as it does on the way to the match.
+pub record HasProposalsOf (m : Market) (f : Floor) (places : Places) : Type 0 where
+  pub same_tried : (a : ℕ) → tried m f a ≡ proposed_to m places a
+  pub same_counts : (p : ℕ) → count_below (f.received p) (applicants m) ≡ proposals m places p
+
+-- Two floors end alike where they have the same proposals made and received and the same result, and where
+-- that is the best match and the proposals are those on the way to it.
+pub record EndAlike (m : Market) (f g : Floor) : Type 0 where
+  pub same_made : (a : ℕ) → f.made a ≡ g.made a
+  pub same_received : (p a : ℕ) → f.received p a ≡ g.received p a
+  pub same_result : result_of m f ≡ result_of m g
+  pub best : IsBest m (result_of m f)
+  pub on_the_way : HasProposalsOf m f (result_of m f)

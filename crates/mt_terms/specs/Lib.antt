@@ -1,0 +1,14 @@
+pub mod Best
+pub mod Choice
+pub mod Examples
+pub mod Floor
+pub mod Lists
+pub mod Market
+pub mod Matching
+pub mod Places
+pub mod Registration
+pub mod Rounds
+pub mod Stability
+pub mod Text
+pub mod Verdict
+pub mod WellFormed

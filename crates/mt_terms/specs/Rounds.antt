@@ -1,0 +1,138 @@
+-- How couples enter, one at a time, after the singles are matched: in the manner of Roth and Peranson 1999;
+-- the exact order of the rounds is this project's own rule.
+use Rattle.std.specs.Prelude.{◌≡◌, ℕ, zero, suc, ◌-◌, ◌<◌, ◌≤◌, Bool, true, false, not, ◌&&◌, ◌==◌, nat_le, List, [], ◌∷◌, ◌++◌, map, filter, length, Option, Some, None, IsTrue, IsFalse, if◌then◌else◌}
+use Rattle.std.specs.List.{list_any, find, filter_map, flat_map}
+use Rattle.std.specs.Option.{option_map, option_and_then}
+use Rattle.mt_terms.specs.Lists.{Set, below}
+use Rattle.mt_terms.specs.Market.{Market, applicants, program_of, agent_of, agents, members}
+use Rattle.mt_terms.specs.Matching.{Places, Placement, at, send, unplaced, none_placed, better}
+use Rattle.mt_terms.specs.Choice.{choice}
+use Rattle.mt_terms.specs.Stability.{would_be_taken, fits, blocks}
+use Rattle.mt_terms.specs.declared.numbers.Agent.{Agent}
+use Rattle.mt_terms.specs.declared.numbers.Agent.TheVariants.{Single, Couple}
+
+-- whether two agents are the same
+abbrev pub is_same_agent : Agent → Agent → Bool
+is_same_agent (Single a) (Single b) = a == b
+is_same_agent (Single a) (Couple d) = false
+is_same_agent (Couple c) (Single b) = false
+is_same_agent (Couple c) (Couple d) = c == d
+
+-- The state between two rounds: the match of the agents that have entered, and the work list of the agents
+-- that are to be looked at, first in first out.
+pub record Work : Type 0 where
+  pub places : Places
+  pub waiting : List Agent
+
+-- the work list after an agent joins at its end, where it isn't on it yet
+abbrev pub joined : List Agent → Agent → List Agent
+joined waiting g = if list_any (is_same_agent g) waiting then waiting else (waiting ++ g ∷ [])
+
+abbrev pub all_joined : List Agent → List Agent → List Agent
+all_joined waiting [] = waiting
+all_joined waiting (g ∷ gs) = all_joined (joined waiting g) gs
+
+-- whether an agent has entered, once couple k has: each single, and the couples up to k
+abbrev pub has_entered : ℕ → Agent → Bool
+has_entered k (Single a) = true
+has_entered k (Couple c) = nat_le c k
+
+-- the option that an agent takes: the first better one that would be taken
+abbrev pub first_taken : Market → Places → Agent → Option Placement
+first_taken m places g = find (would_be_taken m places) (better m places g)
+
+-- the programs that a placement sends somebody to, in its order
+abbrev pub programs_sent_to : Placement → List ℕ
+programs_sent_to sent = filter_map (λ s. s.1) sent
+
+-- Below, moved is the match with an agent moved to its option and nobody taken out yet.
+
+-- the applicants displaced at a program: those there that it doesn't choose
+abbrev pub displaced_at : Market → Places → ℕ → Set
+displaced_at m moved p a = at moved p a && not (choice (program_of m p) (at moved p) a)
+
+-- all displaced applicants: by the option's programs in its order, and in a program by its list
+abbrev pub displaced : Market → Places → Placement → List ℕ
+displaced m moved sent = flat_map (λ p. filter (displaced_at m moved p) (program_of m p).ranking) (programs_sent_to sent)
+
+-- the match after a move: each displaced single is unplaced, and each couple with a displaced member as a
+-- whole
+abbrev pub after_move : Market → Places → Placement → Places
+after_move m moved sent = unplaced (flat_map (λ a. members m (agent_of m a)) (displaced m moved sent)) moved
+
+-- whether somebody left a program: was there before the round, isn't there after it, and wasn't displaced
+-- there
+abbrev pub is_left : Market → Places → Places → Places → ℕ → Bool
+is_left m old moved new p = list_any (λ a. at old p a && not (at new p a) && not (displaced_at m moved p a)) (below (applicants m))
+
+-- the agents of a program's list that have entered and now block the match, in list order
+abbrev pub reopened_at : Market → ℕ → Places → ℕ → List Agent
+reopened_at m k new p = filter (λ g. has_entered k g && blocks m new g) (map (agent_of m) (program_of m p).ranking)
+
+-- whoever is looked at after a move, in order: the agents of the displaced applicants; the agent that
+-- moved, where it now blocks; and for each program that was left, by number, the agents that now block
+abbrev pub to_look_at : Market → ℕ → Places → Agent → Placement → Places → Places → List Agent
+to_look_at m k old g sent moved new =
+    map (agent_of m) (displaced m moved sent)
+    ++ (if blocks m new g then (g ∷ []) else [])
+    ++ flat_map (reopened_at m k new) (filter (is_left m old moved new) (below (length m.programs)))
+
+-- the state after an agent took its option, or had none to take
+abbrev pub after_taking : Market → ℕ → Places → Agent → List Agent → Option Placement → Work
+after_taking m k places g waiting None = record { places = places; waiting = waiting }
+after_taking m k places g waiting (Some sent) =
+    let moved : Places = send sent places in
+    let new : Places = after_move m moved sent in
+    record { places = new; waiting = all_joined waiting (to_look_at m k places g sent moved new) }
+
+-- one round: the agent at the front of the work list is taken off it, and takes the first better option
+-- that would be taken; with no agent on the list there is nothing to do
+abbrev pub round_of : Market → ℕ → Places → List Agent → Work
+round_of m k places [] = record { places = places; waiting = [] }
+round_of m k places (g ∷ waiting) = after_taking m k places g waiting (first_taken m places g)
+
+abbrev pub round : Market → ℕ → Work → Work
+round m k w = round_of m k w.places w.waiting
+
+-- the match once the work list is empty, with the rounds that are left of the budget; none where the list
+-- isn't empty and no round is left
+abbrev pub settled : Market → ℕ → ℕ → Places → List Agent → Option (Places × ℕ)
+settled m k left places [] = Some (places, left)
+settled m k zero places (g ∷ waiting) = None
+settled m k (suc left) places (g ∷ waiting) =
+    let next : Work = round_of m k places (g ∷ waiting) in settled m k left next.places next.waiting
+
+-- the couples of these numbers enter in turn, each on an empty work list
+abbrev pub entered : Market → List ℕ → ℕ → Places → Option (Places × ℕ)
+entered m [] left places = Some (places, left)
+entered m (k ∷ ks) left places = option_and_then (λ r. entered m ks r.1 r.0) (settled m k left places (Couple k ∷ []))
+
+-- The couples' stage: the match after every couple has entered, and how many rounds that took; none where
+-- a work list that isn't empty meets a budget that is spent.
+abbrev pub stage : Market → Places → ℕ → Option (Places × ℕ)
+stage m places budget = option_map (λ r. (r.0, budget - r.1)) (entered m (below (length m.couples)) budget places)
+
+-- whether an agent is on a list of agents
+abbrev pub is_on : List Agent → Agent → Bool
+is_on list g = list_any (is_same_agent g) list
+
+-- The state between two rounds, once couple k has entered: the match fits; on the work list are agents of the
+-- market that have entered; a couple that has not entered is unplaced; and an entered agent that is not on the
+-- work list does not block.
+pub record IsRoundState (m : Market) (k : ℕ) (w : Work) : Type 0 where
+  pub fitting : IsTrue (fits m w.places)
+  pub waiting_entered : (g : Agent) → IsTrue (is_on w.waiting g) → IsTrue (is_on (agents m) g) × IsTrue (has_entered k g)
+  pub outside_unplaced : (g : Agent) → IsTrue (is_on (agents m) g) → IsFalse (has_entered k g) → IsTrue (none_placed w.places (members m g))
+  pub none_blocks : (g : Agent) → IsTrue (is_on (agents m) g) → IsTrue (has_entered k g) → IsFalse (is_on w.waiting g) → IsFalse (blocks m w.places g)
+
+-- What holds of it from any match that fits: the match fits, and on the work list are agents of the market.
+pub record IsFittingState (m : Market) (w : Work) : Type 0 where
+  pub fitting : IsTrue (fits m w.places)
+  pub waiting_agents : (g : Agent) → IsTrue (is_on w.waiting g) → IsTrue (is_on (agents m) g)
+
+-- how many rounds a stage makes is what it needs: it is within the budget, any budget of at least that much
+-- gives the same, and any smaller one is spent
+pub record NeedsRounds (m : Market) (places : Places) (budget : ℕ) (r : Places × ℕ) : Type 0 where
+  pub within : r.1 ≤ budget
+  pub enough : (b : ℕ) → r.1 ≤ b → stage m places b ≡ Some r
+  pub too_few : (b : ℕ) → b < r.1 → stage m places b ≡ None

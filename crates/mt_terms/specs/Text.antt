@@ -1,0 +1,133 @@
+-- What the program writes: the text of a match, or one refusal line. This project's own format.
+use Rattle.std.specs.Prelude.{◌≡◌, ℕ, ◌-◌, Bool, true, not, ◌&&◌, ◌==◌, nat_eq, nat_le, List, [], ◌∷◌, ◌++◌, length, Option, Some, None, is_some, slice_index_or, codes, decimal, IsTrue, IsFalse, if◌then◌else◌}
+use Rattle.std.specs.List.{flat_map, join_with_byte, list_any, slice_split, starts_with}
+use Rattle.mt_terms.specs.Lists.{below, count, total_below}
+use Rattle.mt_terms.specs.Market.{Market, Names, applicants, program_of}
+use Rattle.mt_terms.specs.Matching.{Places, place_of, filled}
+use Rattle.mt_terms.specs.Registration.Faults.{no_version, unknown_kind, field_count, bad_id, bad_quota, duplicate_id, duplicate_entry, too_many, unknown_applicant, unknown_program, not_registered}
+use Rattle.mt_terms.specs.Registration.Ids.{Bytes, is_id}
+use Rattle.mt_terms.specs.declared.limits.TheConstants.{LIMITS_2}
+
+-- a line: its fields with commas between them, and a line feed
+abbrev pub line : List (List ℕ) → List ℕ
+line fields = join_with_byte 44 fields ++ 10 ∷ []
+
+-- the id of a number
+abbrev pub name_of : List (List ℕ) → ℕ → List ℕ
+name_of ids n = slice_index_or ids n []
+
+-- a place is a program's id, or a dash
+abbrev pub place_text : Names → Option ℕ → List ℕ
+place_text names None = codes "-"
+place_text names (Some p) = name_of names.programs p
+
+abbrev pub applicant_line : Names → Places → ℕ → List ℕ
+applicant_line names places a = line (codes "applicant" ∷ name_of names.applicants a ∷ place_text names (place_of places a) ∷ [])
+
+-- a program's quota, how many are placed there, and how many proposals it received from singles
+abbrev pub program_line : Market → Names → Places → List ℕ → ℕ → List ℕ
+program_line m names places received p =
+    line (codes "program" ∷ name_of names.programs p ∷ decimal (program_of m p).quota ∷ decimal (filled places p) ∷ decimal (slice_index_or received p 0) ∷ [])
+
+-- how many applicants have no place
+abbrev pub unmatched : Places → ℕ
+unmatched places = count (λ place. not (is_some place)) places
+
+-- how many posts there are, and how many of them are filled
+abbrev pub positions : Market → ℕ
+positions m = total_below (λ p. (program_of m p).quota) (length m.programs)
+
+abbrev pub all_filled : Market → Places → ℕ
+all_filled m places = total_below (filled places) (length m.programs)
+
+abbrev pub totals_line : Market → Places → List ℕ
+totals_line m places =
+    line (codes "totals" ∷ decimal (applicants m) ∷ decimal (unmatched places) ∷ decimal (positions m) ∷ decimal (positions m - all_filled m places) ∷ [])
+
+-- the text of a match: every applicant, every program, and the totals
+abbrev pub published : Market → Names → Places → List ℕ → List ℕ
+published m names places received =
+    line (codes "match" ∷ codes "1" ∷ codes "published" ∷ [])
+    ++ flat_map (applicant_line names places) (below (applicants m))
+    ++ flat_map (program_line m names places received) (below (length m.programs))
+    ++ totals_line m places
+
+-- the codes of the refusals that are no fault of a file's records
+abbrev pub too_large : ℕ
+too_large = 10
+
+abbrev pub two_marks : ℕ
+two_marks = 11
+
+abbrev pub out_of_memory : ℕ
+out_of_memory = 30
+
+abbrev pub read_fault : ℕ
+read_fault = 31
+
+abbrev pub budget_spent : ℕ
+budget_spent = 41
+
+-- the codes of the refusals, each with its name
+abbrev pub refusals : List (ℕ × List ℕ)
+refusals =
+    (too_large, codes "TooLarge") ∷ (two_marks, codes "TwoMarks") ∷ (no_version, codes "NoVersion") ∷ (unknown_kind, codes "UnknownKind")
+    ∷ (field_count, codes "FieldCount") ∷ (bad_id, codes "BadId") ∷ (bad_quota, codes "BadQuota") ∷ (duplicate_id, codes "DuplicateId")
+    ∷ (duplicate_entry, codes "DuplicateEntry") ∷ (too_many, codes "TooMany") ∷ (unknown_applicant, codes "UnknownApplicant")
+    ∷ (unknown_program, codes "UnknownProgram") ∷ (not_registered, codes "NotRegistered")
+    ∷ (out_of_memory, codes "OutOfMemory") ∷ (read_fault, codes "ReadFault") ∷ (budget_spent, codes "BudgetSpent") ∷ []
+
+abbrev pub is_known_code : ℕ → Bool
+is_known_code code = list_any (λ r. r.0 == code) refusals
+
+-- the codes of the faults of a file, which are the known ones from 12 to 22: only they tell a record or an id
+abbrev pub is_fault_code : ℕ → Bool
+is_fault_code code = is_known_code code && nat_le no_version code && nat_le code not_registered
+
+-- no byte, or an id, which has 64 bytes at most
+abbrev pub is_none_or_id : Bytes → Bool
+is_none_or_id [] = true
+is_none_or_id (byte ∷ bytes) = is_id LIMITS_2.id_bytes (byte ∷ bytes)
+
+-- What a refusal line may say: a known code; an id or none; and neither a record nor an id where the code is no
+-- fault of a file.
+pub record IsNamedRefusal (code row : ℕ) (id : Bytes) : Type 0 where
+  pub known : IsTrue (is_known_code code)
+  pub is_id : IsTrue (is_none_or_id id)
+  pub alone : IsFalse (is_fault_code code) → (row ≡ 0) × (id ≡ [])
+
+abbrev pub name_among : List (ℕ × List ℕ) → ℕ → List ℕ
+name_among [] code = []
+name_among (r ∷ rs) code = if r.0 == code then r.1 else name_among rs code
+
+-- an id that is absent is a dash
+abbrev pub id_text : List ℕ → List ℕ
+id_text [] = codes "-"
+id_text (b ∷ bytes) = b ∷ bytes
+
+-- the fields of a refusal line: its code and name, the record's number, and the id at fault
+abbrev pub refusal_fields : ℕ → ℕ → Bytes → List (List ℕ)
+refusal_fields code row id =
+    codes "match" ∷ codes "1" ∷ codes "refused" ∷ decimal code ∷ name_among refusals code ∷ decimal row ∷ id_text id ∷ []
+
+-- the one line of a refusal
+abbrev pub refused : ℕ → ℕ → List ℕ → List ℕ
+refused code row id = line (refusal_fields code row id)
+
+-- a text cut at its line feeds, and a line cut at its commas
+abbrev pub lines_of : List ℕ → List (List ℕ)
+lines_of text = slice_split (λ byte. byte == 10) text
+
+abbrev pub fields_of : List ℕ → List (List ℕ)
+fields_of line = slice_split (λ byte. byte == 44) line
+
+-- a line that tells an applicant's place
+abbrev pub is_applicant_line : List ℕ → Bool
+is_applicant_line line = starts_with nat_eq line (codes "applicant,")
+
+-- A text is one record: one line, with a line feed at its end, of these fields; it is no line of an applicant.
+pub record IsOneRecord (fields : List (List ℕ)) (text : List ℕ) : Type 0 where
+  pub line : List ℕ
+  pub one_line : lines_of text ≡ line ∷ [] ∷ []
+  pub its_fields : fields_of line ≡ fields
+  pub no_applicant : IsFalse (list_any is_applicant_line (lines_of text))

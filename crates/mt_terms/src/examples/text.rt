@@ -1,0 +1,21 @@
+ghost use Rattle.mt_terms.specs.Examples.Text.{CrossedText, TwoPostsText, SingleBetweenText, RefusalLines};
+
+/// The text of a match of singles.
+pub fn crossed_text()
+    ensures { CrossedText }
+{}
+
+/// The text where somebody has no place.
+pub fn two_posts_text()
+    ensures { TwoPostsText }
+{}
+
+/// The text where a couple is entered.
+pub fn single_between_text()
+    ensures { SingleBetweenText }
+{}
+
+/// Refusal lines.
+pub fn refusal_lines()
+    ensures { RefusalLines }
+{}

@@ -1,0 +1,18 @@
+//! The residency match in the terms of the literature: the numbers of applicants, programs and couples,
+//! the limits of an input, a match, and in `specs/` the definitions that every contract cites.
+#![tactic(auto)]
+
+mod events;
+pub mod examples;
+mod limits;
+mod matching;
+mod numbers;
+mod options;
+mod verdict;
+
+pub use events::{Event, Reply};
+pub use limits::{LIMITS, LIMITS_2, Limits};
+pub use matching::{Match, Places};
+pub use numbers::{Agent, AppNo, CoupleNo, ProgNo};
+pub use options::Options;
+pub use verdict::{Blocker, Verdict};
