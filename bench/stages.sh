@@ -71,7 +71,7 @@ build() {
     mkdir -p "$scratch"
     rm -f "$scratch/module.bc"
     make_kit "$from"
-    copy_crates main 'anyhow indexmap mt_lists mt_roster mt_ranks mt_core mt_couples mt_verify mt_report mt_model' \
+    copy_crates main 'anyhow indexmap mt_lists mt_roster mt_ranks mt_core mt_couples mt_verify mt_report mt_terms' \
         --exclude out
     # It ends in a failure, since the module isn't compiled by it.
     (cd "$scratch/repo/crates/mt_stages" && "$scratch/kit/bin/rt" try < /dev/null > "$log" 2>&1) || true
@@ -89,7 +89,7 @@ build() {
 prove() {
     local log=$scratch/build.log
     mkdir -p "$scratch"
-    copy_crates roster 'anyhow indexmap mt_lists mt_roster mt_model'
+    copy_crates roster 'anyhow indexmap mt_lists mt_roster mt_terms'
     # Without a file's name it only says how it is used.
     (cd "$scratch/repo/crates/mt_stages" && rt run < /dev/null > "$log" 2>&1) || true
     if [ ! -x "$scratch/repo/crates/mt_stages/out/mt_stages" ]; then

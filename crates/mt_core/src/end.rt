@@ -8,8 +8,8 @@ ghost use Rattle.mt_core.specs.Floors.{floor_of, IsOpenedWith};
 
 use crate::floor::{Floor, made};
 use crate::step::{is_held, last_tried};
-use mt_terms::{AppNo, Match, Places, ProgNo};
 use mt_ranks::Ranks;
+use mt_terms::{AppNo, Match, Places, ProgNo};
 use std::alloc::{AllocError, Global};
 
 /// Whether no event is due for the applicant.

@@ -7,8 +7,8 @@ ghost use Rattle.mt_hold.specs.Holding.{ranks, has_received, held, receive};
 ghost use Rattle.mt_core.specs.Floors.{hold_of, floor_of, opened_for, IsOpenedWith, entered};
 
 use mt_hold::{Hold, Taken};
-use mt_terms::{AppNo, ProgNo};
 use mt_ranks::Ranks;
+use mt_terms::{AppNo, ProgNo};
 use std::alloc::{AllocError, Global};
 use std::marker::Model;
 

@@ -8,8 +8,8 @@ ghost use Rattle.mt_core.specs.Ends.{IsReached, IsStep, AreSettled, AreSettledBu
 
 use crate::floor::Floor;
 use crate::step::{apply, notice, propose};
-use mt_terms::{AppNo, Event, Reply};
 use mt_ranks::Ranks;
+use mt_terms::{AppNo, Event, Reply};
 
 /// Makes the events in order, each where it is due by then, and says how many were.
 pub fn run(floor: &mut Floor, ranks: &Ranks, events: &[Event]) -> u64

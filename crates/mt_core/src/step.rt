@@ -8,8 +8,8 @@ ghost use Rattle.mt_core.specs.Replies.{reply_from};
 
 use crate::floor::{Floor, made};
 use mt_hold::Taken;
-use mt_terms::{AppNo, Event, ProgNo, Reply};
 use mt_ranks::{Live, Ranks};
+use mt_terms::{AppNo, Event, ProgNo, Reply};
 
 /// The entry at a place of the applicant's live list.
 fn entry_at(ranks: &Ranks, applicant: AppNo, place: u32) -> Option<Live>

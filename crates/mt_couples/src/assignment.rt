@@ -9,9 +9,9 @@ ghost use Rattle.mt_terms.specs.Places.{ArePlaces};
 ghost use Rattle.mt_couples.specs.Assigned.{IsAgentOf, IsAssigned, with_place};
 
 use crate::row::Row;
-use mt_terms::{Agent, AppNo, CoupleNo, Match, Places, ProgNo};
-use mt_ranks::Ranks;
 use mt_market::Roster;
+use mt_ranks::Ranks;
+use mt_terms::{Agent, AppNo, CoupleNo, Match, Places, ProgNo};
 use std::alloc::{AllocError, Global};
 use std::marker::Model;
 

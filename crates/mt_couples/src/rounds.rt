@@ -12,9 +12,9 @@ ghost use Rattle.mt_couples.specs.Moves.{IsTaking};
 
 use crate::assignment::Assignment;
 use crate::work_list::WorkList;
-use mt_terms::{Agent, AppNo, CoupleNo, Match, ProgNo};
-use mt_ranks::Ranks;
 use mt_market::Roster;
+use mt_ranks::Ranks;
+use mt_terms::{Agent, AppNo, CoupleNo, Match, ProgNo};
 use std::alloc::{AllocError, Global};
 use thiserror::Error;
 

@@ -9,9 +9,8 @@ ghost use Rattle.mt_ranks.specs.Rows.{row_of};
 use crate::entries::{Live, push_live, rank_at};
 use crate::rows::Rows;
 use crate::transpose::transpose;
-use mt_market::FlatLists;
+use mt_market::{FlatLists, Roster};
 use mt_terms::{Agent, AppNo, ProgNo};
-use mt_market::Roster;
 use std::alloc::{AllocError, Global};
 use std::marker::Model;
 

@@ -7,8 +7,8 @@ ghost use Rattle.mt_terms.specs.Text.{all_filled, applicant_line, line, place_te
 ghost use Rattle.mt_terms.specs.Places.{ArePlaces};
 
 use itoa::Buffer;
-use mt_terms::{AppNo, Match, ProgNo};
 use mt_market::Roster;
+use mt_terms::{AppNo, Match, ProgNo};
 use std::alloc::{AllocError, Global};
 
 /// Adds a comma and a number.

@@ -22,5 +22,5 @@ mod second_pass;
 mod unknown;
 
 pub use fault::{IdText, RosterError, RosterFault};
-pub use reading::roster;
 pub use mt_market::Roster;
+pub use reading::roster;

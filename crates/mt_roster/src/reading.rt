@@ -11,8 +11,8 @@ use crate::numbering::roster_of;
 use crate::plain::read_plain;
 use crate::refusal::{Fault, Refusal};
 use crate::rules::{Rules, rules_of};
-use mt_market::Roster;
 use mt_lists::Row;
+use mt_market::Roster;
 use std::alloc::Global;
 
 const NO_VERSION: u16 = 12;

@@ -12,10 +12,10 @@ use crate::refusal::{BUDGET_SPENT, OUT_OF_MEMORY, Refusal};
 use crate::singles::match_singles;
 use mt_couples::{CoupleEnd, enter_all};
 use mt_lists::Row;
-use mt_terms::{Agent, Blocker, Match};
 use mt_ranks::Ranks;
 use mt_report::published;
 use mt_roster::{Roster, RosterError, roster};
+use mt_terms::{Agent, Blocker, Match};
 use mt_verify::{Verdict, verify};
 use std::alloc::{AllocError, Global};
 

@@ -6,9 +6,9 @@ ghost use Rattle.mt_terms.specs.Market.{applicants};
 ghost use Rattle.mt_ranks.specs.Ranked.{ranked_of};
 
 use mt_core::{Floor, finish, received, result};
-use mt_terms::{Match, ProgNo};
 use mt_ranks::Ranks;
 use mt_roster::Roster;
+use mt_terms::{Match, ProgNo};
 use std::alloc::{AllocError, Global};
 
 /// The match of the singles, and how many proposals each program received.

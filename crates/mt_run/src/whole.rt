@@ -9,8 +9,8 @@ use crate::answer::answer_to_rows;
 use crate::ended::Ended;
 use crate::refusal::{OUT_OF_MEMORY, READ_FAULT, Refusal, TOO_LARGE, TWO_MARKS};
 use mt_lists::{ListFault, ReadEnd, Tap, read_all, records};
-use mt_terms::{LIMITS, Options};
 use mt_report::{Drain, put_all, refused};
+use mt_terms::{LIMITS, Options};
 use std::alloc::Global;
 use std::io::{Read, Write};
 

@@ -12,10 +12,10 @@ mod placed;
 mod verifier;
 
 use crate::verifier::Verifier;
+use mt_market::Roster;
+use mt_ranks::Ranks;
 use mt_terms::Match;
 pub use mt_terms::{Blocker, Verdict};
-use mt_ranks::Ranks;
-use mt_market::Roster;
 use std::alloc::{AllocError, Global};
 
 /// Whether a match is stable, or else the first finding against it: an applicant whose place isn't allowed,

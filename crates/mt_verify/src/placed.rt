@@ -4,9 +4,8 @@ ghost use Rattle.mt_terms.specs.Registration.Accepted.{IsRegistration};
 ghost use Rattle.mt_terms.specs.Lists.{below, count};
 ghost use Rattle.mt_terms.specs.Matching.{at, ranks_from, placed_ranks};
 
-use mt_market::FlatLists;
+use mt_market::{FlatLists, Roster};
 use mt_terms::{AppNo, Match, ProgNo};
-use mt_market::Roster;
 use std::alloc::{AllocError, Global};
 
 /// Adds, as a list of its own, where those that are placed at a program stand on its list.

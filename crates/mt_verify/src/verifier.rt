@@ -14,10 +14,9 @@ mod taken;
 
 use crate::listed::{is_own_pair, is_own_place};
 use crate::placed::placed_by_program;
-use mt_market::FlatLists;
-use mt_terms::{Agent, AppNo, Match, ProgNo, Verdict};
+use mt_market::{FlatLists, Roster};
 use mt_ranks::Ranks;
-use mt_market::Roster;
+use mt_terms::{Agent, AppNo, Match, ProgNo, Verdict};
 use std::alloc::{AllocError, Global};
 
 /// A match beside the market that it is judged by, with the ranks of those placed at each program.

@@ -1,7 +1,7 @@
 -- Proposals and notices one at a time, in two orders.
 use Rattle.std.specs.Prelude.{◌≡◌, ℕ, true, false, List, [], ◌∷◌}
 use Rattle.mt_terms.specs.Examples.Markets
-use Rattle.mt_terms.specs.Floor.{Floor, opening, after_all, replies, due_count, is_quiet, reply_of}
+use Rattle.mt_terms.specs.Floor.{Floor, opening, after_all, replies, due_count, is_settled, is_quiet, reply_of}
 use Rattle.mt_terms.specs.declared.events.Event.{Event}
 use Rattle.mt_terms.specs.declared.events.Event.TheVariants.{Propose, Notice}
 use Rattle.mt_terms.specs.declared.events.Reply.TheVariants.{Kept, KeptInstead, Refused, Noticed, NotDue}
@@ -32,3 +32,6 @@ pub record TwoOrders : Type 0 where
   pub last_quiet : is_quiet Markets.chain (after_all Markets.chain opening from_the_last) ≡ true
   pub not_at_first : is_quiet Markets.chain opening ≡ false
   pub member : reply_of Markets.single_between opening (Propose 1) ≡ NotDue
+  pub standing : reply_of Markets.chain (after_all Markets.chain opening (Propose 1 ∷ [])) (Propose 1) ≡ NotDue
+  pub still_held : reply_of Markets.chain (after_all Markets.chain opening (Propose 1 ∷ [])) (Notice 1) ≡ NotDue
+  pub dropped : is_settled Markets.chain (after_all Markets.chain opening (Propose 0 ∷ Propose 1 ∷ Propose 2 ∷ [])) 0 ≡ false

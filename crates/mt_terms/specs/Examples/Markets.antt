@@ -100,6 +100,14 @@ own_seat =
     market (program 1 (1 ∷ []) ∷ program 1 (1 ∷ 0 ∷ 2 ∷ []) ∷ program 1 (2 ∷ []) ∷ []) ((1 ∷ []) ∷ [] ∷ [] ∷ [])
     (couple 1 2 (both 0 1 ∷ both 1 2 ∷ []) ∷ [])
 
+-- Three couples; the second takes out the first, and so opens a seat for the third, which hasn't entered yet.
+--     program,r,1,a2,c1    program,w,1,c2    program,x,1,b1,a1    program,z,1,b2
+--     couple,A,a1,a2,x,r    couple,B,b1,b2,x,z    couple,C,c1,c2,r,w
+abbrev pub couple_outside : Market
+couple_outside =
+    market (program 1 (1 ∷ 4 ∷ []) ∷ program 1 (5 ∷ []) ∷ program 1 (2 ∷ 0 ∷ []) ∷ program 1 (3 ∷ []) ∷ []) (no_lists 6)
+    (couple 0 1 (both 2 0 ∷ []) ∷ couple 2 3 (both 2 3 ∷ []) ∷ couple 4 5 (both 0 1 ∷ []) ∷ [])
+
 -- nobody is placed
 abbrev pub nobody : ℕ → Places
 nobody zero = []

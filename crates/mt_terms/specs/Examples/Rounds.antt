@@ -72,3 +72,8 @@ pub record HalfPairRounds : Type 0 where
       ∷ state (Some 1 ∷ Some 0 ∷ None ∷ []) [] ∷ []
   pub enough : stage Markets.half_pair (Some 0 ∷ None ∷ None ∷ []) 4 ≡ Some (Some 1 ∷ Some 0 ∷ None ∷ [], 4)
   pub spent : stage Markets.half_pair (Some 0 ∷ None ∷ None ∷ []) 3 ≡ None
+
+-- A couple that hasn't entered is not looked at, though a seat on its list is left.
+pub record OutsideRounds : Type 0 where
+  pub second : Markets.rounds_of Markets.couple_outside 1 2 (state (Some 2 ∷ Some 0 ∷ Markets.nobody 4) (Couple 1 ∷ []))
+      ≡ state (None ∷ None ∷ Some 2 ∷ Some 3 ∷ None ∷ None ∷ []) (Couple 0 ∷ []) ∷ state (None ∷ None ∷ Some 2 ∷ Some 3 ∷ None ∷ None ∷ []) [] ∷ []

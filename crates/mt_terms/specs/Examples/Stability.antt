@@ -29,6 +29,7 @@ pub record RejectionChain : Type 0 where
 pub record ClosedProgram : Type 0 where
   pub stable_one : stable Markets.closed (None ∷ Some 1 ∷ []) ≡ true
   pub taken_in : verdict_of Markets.closed (Some 0 ∷ Some 1 ∷ []) ≡ Over 0
+  pub one_too_many : stable Markets.closed (Some 0 ∷ Some 1 ∷ []) ≡ false
   pub to_closed : proposals Markets.closed (None ∷ Some 1 ∷ []) 0 ≡ 2
   pub to_open : proposals Markets.closed (None ∷ Some 1 ∷ []) 1 ≡ 1
 
@@ -94,3 +95,9 @@ pub record AllWellFormed : Type 0 where
   pub each_member_alone : is_well_formed Withdrawn.each_member_alone ≡ true
   pub one_name_without_program : is_well_formed Withdrawn.one_name_without_program ≡ true
   pub full : is_well_formed Withdrawn.full ≡ true
+  pub couple_outside : is_well_formed Markets.couple_outside ≡ true
+
+-- A list with a repeat, and a couple of one member, make no well-formed market.
+pub record IllFormed : Type 0 where
+  pub repeat : is_well_formed (Markets.market (Markets.program 1 (0 ∷ 0 ∷ []) ∷ []) ([] ∷ []) []) ≡ false
+  pub one_member : is_well_formed (Markets.market [] ([] ∷ []) (Markets.couple 0 0 [] ∷ [])) ≡ false

@@ -1,4 +1,4 @@
-ghost use Rattle.mt_terms.specs.Examples.Rounds.{UnstableRounds, ThreeCouplesRounds, SameProgramRounds, PartnerRounds, OwnSeatRounds, HalfPairRounds};
+ghost use Rattle.mt_terms.specs.Examples.Rounds.{UnstableRounds, ThreeCouplesRounds, SameProgramRounds, PartnerRounds, OwnSeatRounds, HalfPairRounds, OutsideRounds};
 
 /// No match is stable, and after four rounds all is as before.
 pub fn rounds_of_unstable()
@@ -28,4 +28,9 @@ pub fn rounds_of_own_seat()
 /// A pair may leave one member unplaced.
 pub fn rounds_of_half_pair()
     ensures { HalfPairRounds }
+{}
+
+/// A couple that is still outside is not looked at.
+pub fn rounds_of_couple_outside()
+    ensures { OutsideRounds }
 {}

@@ -1,4 +1,4 @@
-ghost use Rattle.mt_terms.specs.Examples.Stability.{CrossedWishes, RejectionChain, ClosedProgram, OneSided, TwoPosts, SingleBetween, CoupleShutOut, NoneStable, OwnSeat, AllWellFormed};
+ghost use Rattle.mt_terms.specs.Examples.Stability.{CrossedWishes, RejectionChain, ClosedProgram, OneSided, TwoPosts, SingleBetween, CoupleShutOut, NoneStable, OwnSeat, AllWellFormed, IllFormed};
 
 /// Of two stable matches one is best.
 pub fn crossed_wishes()
@@ -48,4 +48,9 @@ pub fn own_seat()
 /// The markets of the examples are well formed.
 pub fn all_well_formed()
     ensures { AllWellFormed }
+{}
+
+/// Two markets that aren't.
+pub fn ill_formed()
+    ensures { IllFormed }
 {}

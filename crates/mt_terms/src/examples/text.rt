@@ -1,4 +1,4 @@
-ghost use Rattle.mt_terms.specs.Examples.Text.{CrossedText, TwoPostsText, SingleBetweenText, RefusalLines};
+ghost use Rattle.mt_terms.specs.Examples.Text.{CrossedText, TwoPostsText, SingleBetweenText, RefusalLines, BytesOfAnId};
 
 /// The text of a match of singles.
 pub fn crossed_text()
@@ -18,4 +18,9 @@ pub fn single_between_text()
 /// Refusal lines.
 pub fn refusal_lines()
     ensures { RefusalLines }
+{}
+
+/// Which bytes an id has.
+pub fn bytes_of_an_id()
+    ensures { BytesOfAnId }
 {}

@@ -29,12 +29,12 @@ pub new-requires : goal.new-requires
 new-requires c =
     let rs = all_seen c.args.records.now in
     let made = made_by rs c.args.names c.args.entries c.in_ok-quotas.quotas c.in_ok-agents.agents c.deref.result.now c.len.result
-        c.requires.names c.requires.entries c.in_ok-quotas.ensures c.len.ensures c.deref.ensures.value c.in_ok-agents.ensures in
+    c.requires.names c.requires.entries c.in_ok-quotas.ensures c.len.ensures c.deref.ensures.value c.in_ok-agents.ensures in
     tables_are rs c.requires.market _ made
 
 pub returns : goal.returns
 returns c =
     let rs = all_seen c.args.records.now in
     let made = made_by rs c.args.names c.args.entries c.in_ok-quotas.quotas c.in_ok-agents.agents c.deref.result.now c.len.result
-        c.requires.names c.requires.entries c.in_ok-quotas.ensures c.len.ensures c.deref.ensures.value c.in_ok-agents.ensures in
+    c.requires.names c.requires.entries c.in_ok-quotas.ensures c.len.ensures c.deref.ensures.value c.in_ok-agents.ensures in
     c.new.ensures ∙ tables_seen rs c.requires.market _ made

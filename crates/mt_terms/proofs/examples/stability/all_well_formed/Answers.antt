@@ -24,4 +24,5 @@ returns c = record {
   each_member_alone = refl;
   one_name_without_program = refl;
   full = refl;
+  couple_outside = refl;
 }

@@ -4,4 +4,4 @@ use Rattle.mt_terms.proofs.examples.text.refusal_lines.Goals as goal
 
 pub returns : goal.returns
 unfolding digits
-returns c = record { with_id = refl; with_record = refl; alone = refl; last_record = refl }
+returns c = record { with_id = refl; with_record = refl; alone = refl; last_fault = refl; last_record = refl }
