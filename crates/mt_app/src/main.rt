@@ -12,6 +12,7 @@ use mt_args::{AskEnd, Asked, asked};
 use mt_lists::Tap;
 use mt_report::{Drain, put_all, refused};
 use mt_run::{Ended, Options, run};
+use mt_terms::codes::{OUT_OF_MEMORY, READ_FAULT};
 use std::alloc::Global;
 use std::env;
 use std::fs::File;
@@ -23,12 +24,6 @@ const MISUSE: u8 = 64;
 
 /// The exit status of a text that couldn't be written.
 const UNWRITTEN: u8 = 5;
-
-/// The refusal for want of memory.
-const OUT_OF_MEMORY: u16 = 30;
-
-/// The refusal of an input that can't be opened.
-const READ_FAULT: u16 = 31;
 
 /// What a word that is no text is answered with.
 const NO_TEXT: &str = "error: invalid UTF-8 was detected in one or more arguments\n";

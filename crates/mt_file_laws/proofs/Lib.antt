@@ -1,4 +1,4 @@
-pub mod FaultCodes
+pub mod FaultFacts
 pub mod IdFacts
 pub mod NumberingFacts
 pub mod PassFacts

@@ -16,10 +16,11 @@ use Rattle.mt_terms.specs.Market.{Registered}
 use Rattle.mt_terms.specs.declared.limits.TheConstants.{LIMITS_2}
 use Rattle.mt_terms.specs.Registration.{market_of_numbered, market_under}
 use Rattle.mt_terms.specs.Registration.Ids.{Bytes, is_id, is_id_byte, is_dash, quota_of, has_id, all_differ}
-use Rattle.mt_terms.specs.Registration.Faults.{Charge, Fault, charge, fault_at, duplicate_id}
+use Rattle.mt_terms.specs.Registration.Faults.{Charge, Fault, charge, fault_at}
+use Rattle.mt_terms.specs.declared.codes.TheConstants.{DUPLICATE_ID}
 use Rattle.mt_terms.specs.Registration.Records.{Record, ProgramRecord, ApplicantRecord, CoupleRecord, WithdrawRecord, Kind, OfProgram, OfApplicant, OfCouple, version_1, version_2, rules_of, are_ids, is_pair, pair_of, two_by_two, record_of, record_by_kind, program_record, applicant_record, couple_by_pairs, withdraw_by_kind, withdraw_record, kind_of}
 use Rattle.mt_terms.specs.Registration.Rows.{ids_of, applicant_ids, own_id, applicants_of, remaining}
-use Rattle.mt_terms.specs.Registration.Passes.{Numbered, numbered_from, contents, first_of, on_result, are_too_many, says_twice, registered_before, clash, next_record, first_pass, second_pass}
+use Rattle.mt_terms.specs.Registration.Passes.{Numbered, numbered_from, contents, first_of, and_then, unless, at_record, are_too_many, says_twice, registered_before, first_conflict, next_record, first_pass, second_pass}
 use Rattle.mt_terms.specs.Registration.Numbering.{registered}
 use Rattle.mt_terms.specs.Registration.Accepted.{IsRegistration}
 use Rattle.mt_file_laws.specs.Registration.{AcceptedIsRegistration}
@@ -164,7 +165,7 @@ module _ (before : List Record) where
 
 -- a record that is added keeps the records sound
 kept_parts : (o : Option Bytes) (s t : Bool) (c d : Charge) (q r : Record)
-    → option_map_or (λ e. Err e) (first_of (option_map (charge duplicate_id) o ∷ then_some s c ∷ then_some t d ∷ [])) (Ok q) ≡ Ok r
+    → unless (first_of (option_map (charge DUPLICATE_ID) o ∷ then_some s c ∷ then_some t d ∷ [])) q ≡ Ok r
     → (q ≡ r) × (o ≡ None) × (s ≡ false) × (t ≡ false)
 kept_parts (Some x) s t c d q r h = cc
 kept_parts None true t c d q r h = cc
@@ -244,7 +245,7 @@ module _ (rs : List Record) (s : AreSound rs) where
   sound_next : (fs : List Bytes) (r : Record) → next_record version_2 rs fs ≡ Ok r → AreSound (rs ++ r ∷ [])
   sound_next fs r h = by (record_of version_2 fs) refl h
     where
-      by : (o : Result Record Charge) → record_of version_2 fs ≡ o → on_result o (λ q. option_map_or (λ e. Err e) (clash version_2 rs q) (Ok q)) (λ e. Err e) ≡ Ok r → AreSound (rs ++ r ∷ [])
+      by : (o : Result Record Charge) → record_of version_2 fs ≡ o → and_then o (λ q. unless (first_conflict version_2 rs q) q) ≡ Ok r → AreSound (rs ++ r ∷ [])
       by (Err e) i k = cc
       by (Ok q) i k =
           let p : (q ≡ r) × (registered_before rs q ≡ None) × (says_twice rs q ≡ false) × (are_too_many LIMITS_2 (rs ++ q ∷ []) ≡ false) = kept_parts _ _ _ _ _ q r k in
@@ -262,7 +263,7 @@ sound_pass before (row ∷ rows) rs s h =
   where
     by : ((r : Record) → AreSound (contents (before ++ (row.0, r) ∷ [])) → first_pass version_2 (before ++ (row.0, r) ∷ []) rows ≡ Ok rs → AreSound (contents rs))
         → (o : Result Record Charge) → ((r : Record) → o ≡ Ok r → AreSound (contents before ++ r ∷ []))
-        → on_result o (λ r. first_pass version_2 (before ++ (row.0, r) ∷ []) rows) (λ c. Err (fault_at row.0 c)) ≡ Ok rs → AreSound (contents rs)
+        → and_then (at_record row.0 o) (λ r. first_pass version_2 (before ++ (row.0, r) ∷ []) rows) ≡ Ok rs → AreSound (contents rs)
     by g (Ok r) f k = g r (subst AreSound (sym (contents_push before row.0 r)) (f r refl)) k
     by g (Err e) f k = cc
 
@@ -275,12 +276,12 @@ sound_registered rs s = registered_sound (remaining rs) (sound_within _ rs s)
 sound_market : (rows : List (Numbered (List Bytes))) (r : Registered) → market_under version_2 rows ≡ Ok r → IsRegistration r
 sound_market rows r h = by (first_pass version_2 [] rows) (λ rs. sound_pass [] rows rs sound_nil) h
   where
-    second : (rs : List (Numbered Record)) (o : Option Fault) → AreSound (contents rs) → option_map_or (λ fault. Err fault) o (Ok (registered (contents rs))) ≡ Ok r → IsRegistration r
+    second : (rs : List (Numbered Record)) (o : Option Fault) → AreSound (contents rs) → unless o (registered (contents rs)) ≡ Ok r → IsRegistration r
     second rs (Some fault) s k = cc
     second rs None s k = let e : registered (contents rs) ≡ r = cc in subst IsRegistration e (sound_registered (contents rs) s)
 
     by : (o : Result (List (Numbered Record)) Fault) → ((rs : List (Numbered Record)) → o ≡ Ok rs → AreSound (contents rs))
-        → on_result o (λ records. option_map_or (λ fault. Err fault) (second_pass records) (Ok (registered (contents records)))) (λ fault. Err fault) ≡ Ok r → IsRegistration r
+        → and_then o (λ records. unless (second_pass records) (registered (contents records))) ≡ Ok r → IsRegistration r
     by (Ok rs) f k = second rs (second_pass rs) (f rs refl) k
     by (Err e) f k = cc
 

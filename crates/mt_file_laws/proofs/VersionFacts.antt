@@ -7,13 +7,12 @@ use Rattle.std.proofs.lemmas.Slice.Eq.{bytes_eq-Decides}
 use Rattle.mt_terms.specs.Market.{Registered}
 use Rattle.mt_terms.specs.Registration.{market_under}
 use Rattle.mt_terms.specs.Registration.Ids.{Bytes, is_id}
-use Rattle.mt_terms.specs.Registration.Faults.{Charge, Fault, fault_at}
+use Rattle.mt_terms.specs.Registration.Faults.{Charge, Fault}
 use Rattle.mt_terms.specs.Registration.Records.{Record, version_1, version_2, are_ids, is_pair, two_by_two, record_of, program_record, applicant_record, couple_by_pairs, couple_record, withdraw_record, record_by_kind, Rules, Kind, OfProgram, OfApplicant, OfCouple, kind_of}
-use Rattle.mt_terms.specs.Registration.Passes.{Numbered, numbered_from, contents, first_of, on_result, are_too_many, clash, next_record, first_pass, second_pass}
+use Rattle.mt_terms.specs.Registration.Passes.{Numbered, numbered_from, contents, first_of, and_then, unless, at_record, are_too_many, first_conflict, next_record, first_pass, second_pass}
 use Rattle.mt_terms.specs.Registration.Rows.{entry_count, applicant_ids, ids_of}
 use Rattle.mt_terms.specs.Registration.Numbering.{registered}
 use Rattle.std.specs.Bool.{then_some}
-use Rattle.std.specs.Option.{option_map_or}
 use Rattle.mt_file_laws.specs.Registration.{VersionsAgree}
 
 -- what a test that holds gives, one that it implies gives too
@@ -106,42 +105,42 @@ too_many_of_either rs h =
     (no_more (entry_count rs))
     h
 
+-- what comes of a result comes of another that gives the same where there is no fault
+module _ {X Y E : Type 0} where
+  keeps_next : (o p : Result X E) (next more : X → Result Y E) (y : Y) → ((x : X) → o ≡ Ok x → p ≡ Ok x) → ((x : X) → next x ≡ Ok y → more x ≡ Ok y)
+      → and_then o next ≡ Ok y → and_then p more ≡ Ok y
+  keeps_next (Ok x) p next more y f g h = rw (f x refl) (g x h)
+  keeps_next (Err e) p next more y f g h = cc
+
+keeps_at : {X : Type 0} (n : ℕ) (o p : Result X Charge) (x : X) → ((x : X) → o ≡ Ok x → p ≡ Ok x) → at_record n o ≡ Ok x → at_record n p ≡ Ok x
+keeps_at n (Ok y) p x f h = let e : y ≡ x = cc in rw (f y refl) (ap Ok e)
+keeps_at n (Err c) p x f h = cc
+
 kept : (o : Option Charge) (s t u : Bool) (c d : Charge) (q r : Record) → (t ≡ false → u ≡ false)
-    → option_map_or (λ e. Err e) (first_of (o ∷ then_some s c ∷ then_some t d ∷ [])) (Ok q) ≡ Ok r
-    → option_map_or (λ e. Err e) (first_of (o ∷ then_some s c ∷ then_some u d ∷ [])) (Ok q) ≡ Ok r
+    → unless (first_of (o ∷ then_some s c ∷ then_some t d ∷ [])) q ≡ Ok r → unless (first_of (o ∷ then_some s c ∷ then_some u d ∷ [])) q ≡ Ok r
 kept (Some e) s t u c d q r h k = cc
 kept None true t u c d q r h k = cc
 kept None false true u c d q r h k = cc
 kept None false false u c d q r h k = rw (h refl) k
 
 next_of_either : (before : List Record) (fs : List Bytes) (r : Record) → next_record version_1 before fs ≡ Ok r → next_record version_2 before fs ≡ Ok r
-next_of_either before fs r h = by_itself (record_of version_1 fs) (record_of_either fs) h
-  where
-    beside : Rules → Record → Result Record Charge
-    beside rules q = option_map_or (λ e. Err e) (clash rules before q) (Ok q)
-
-    by_itself : (o : Result Record Charge) → ((q : Record) → o ≡ Ok q → record_of version_2 fs ≡ Ok q) → on_result o (beside version_1) (λ e. Err e) ≡ Ok r → on_result (record_of version_2 fs) (beside version_2) (λ e. Err e) ≡ Ok r
-    by_itself (Ok q) f k = rw (f q refl) (kept _ _ _ _ _ _ q r (too_many_of_either (before ++ q ∷ [])) k)
-    by_itself (Err e) f k = cc
+next_of_either before fs r =
+    keeps_next (record_of version_1 fs) (record_of version_2 fs) (λ q. unless (first_conflict version_1 before q) q) (λ q. unless (first_conflict version_2 before q) q) r
+    (record_of_either fs) (λ q. kept _ _ _ _ _ _ q r (too_many_of_either (before ++ q ∷ [])))
 
 first_pass_of_either : (before : List (Numbered Record)) (rows : List (Numbered (List Bytes))) (rs : List (Numbered Record)) → first_pass version_1 before rows ≡ Ok rs → first_pass version_2 before rows ≡ Ok rs
 first_pass_of_either before [] rs h = h
 first_pass_of_either before (row ∷ rows) rs h =
-    go (λ r. first_pass_of_either (before ++ (row.0, r) ∷ []) rows rs) (next_record version_1 (contents before) row.1) (next_of_either (contents before) row.1) h
-  where
-    go : ((r : Record) → first_pass version_1 (before ++ (row.0, r) ∷ []) rows ≡ Ok rs → first_pass version_2 (before ++ (row.0, r) ∷ []) rows ≡ Ok rs) → (o : Result Record Charge) → ((r : Record) → o ≡ Ok r → next_record version_2 (contents before) row.1 ≡ Ok r) → on_result o (λ r. first_pass version_1 (before ++ (row.0, r) ∷ []) rows) (λ c. Err (fault_at row.0 c)) ≡ Ok rs → first_pass version_2 before (row ∷ rows) ≡ Ok rs
-    go g (Ok r) f k = rw (f r refl) (g r k)
-    go g (Err e) f k = cc
+    let one : Rules → Result Record Charge = λ rules. next_record rules (contents before) row.1 in
+    keeps_next (at_record row.0 (one version_1)) (at_record row.0 (one version_2))
+    (λ r. first_pass version_1 (before ++ (row.0, r) ∷ []) rows) (λ r. first_pass version_2 (before ++ (row.0, r) ∷ []) rows) rs
+    (λ r. keeps_at row.0 (one version_1) (one version_2) r (next_of_either (contents before) row.1))
+    (λ r. first_pass_of_either (before ++ (row.0, r) ∷ []) rows rs) h
 
 pub market_of_either : (rows : List (Numbered (List Bytes))) (r : Registered) → market_under version_1 rows ≡ Ok r → market_under version_2 rows ≡ Ok r
-market_of_either rows r h = go (first_pass version_1 [] rows) (first_pass_of_either [] rows) h
-  where
-    rest : List (Numbered Record) → Result Registered Fault
-    rest records = option_map_or (λ fault. Err fault) (second_pass records) (Ok (registered (contents records)))
-
-    go : (o : Result (List (Numbered Record)) Fault) → ((rs : List (Numbered Record)) → o ≡ Ok rs → first_pass version_2 [] rows ≡ Ok rs) → on_result o rest (λ e. Err e) ≡ Ok r → on_result (first_pass version_2 [] rows) rest (λ e. Err e) ≡ Ok r
-    go (Ok rs) f k = rw (f rs refl) k
-    go (Err e) f k = cc
+market_of_either rows r =
+    let rest : List (Numbered Record) → Result Registered Fault = λ records. unless (second_pass records) (registered (contents records)) in
+    keeps_next (first_pass version_1 [] rows) (first_pass version_2 [] rows) rest rest r (first_pass_of_either [] rows) (λ records h. h)
 
 -- records without a field are passed over
 after_blanks : (n blanks : ℕ) (rows : List (List Bytes)) → numbered_from n (replicate blanks [] ++ rows) ≡ numbered_from (n + blanks) rows

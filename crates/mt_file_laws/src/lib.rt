@@ -4,5 +4,5 @@
 mod registration;
 mod text;
 
-pub use registration::{accepted_is_registration, fault_codes, versions_agree};
+pub use registration::{accepted_is_registration, fault_codes, fault_ids, versions_agree};
 pub use text::refusal_is_one_record;

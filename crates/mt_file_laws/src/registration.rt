@@ -1,4 +1,4 @@
-ghost use Rattle.mt_file_laws.specs.Registration.{AcceptedIsRegistration, FaultCodes, VersionsAgree};
+ghost use Rattle.mt_file_laws.specs.Registration.{AcceptedIsRegistration, FaultCodes, FaultIds, VersionsAgree};
 
 /// The market of an accepted file is well formed and within the limits, and its ids fit it.
 pub fn accepted_is_registration()
@@ -13,4 +13,9 @@ pub fn versions_agree()
 /// Each fault of a file has one of the known codes from 12 to 22.
 pub fn fault_codes()
     ensures { FaultCodes }
+{}
+
+/// The id of each fault of a file is empty or an id, so it has 64 bytes at most.
+pub fn fault_ids()
+    ensures { FaultIds }
 {}

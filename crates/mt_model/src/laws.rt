@@ -1,7 +1,7 @@
 //! Laws of the definitions: each is the contract of a function that does nothing.
 
 pub use mt_file_laws::{
-    accepted_is_registration, fault_codes, refusal_is_one_record, versions_agree,
+    accepted_is_registration, fault_codes, fault_ids, refusal_is_one_record, versions_agree,
 };
 pub use mt_floor_laws::{
     best_exists, due_at_most, due_proposals_are_made, event_due, event_keeps_legal,

@@ -2,6 +2,7 @@ ghost use Rattle.std.specs.Prelude.{◌≡◌, ◌+◌, ◌≤◌, ◌++◌, [],
 ghost use Rattle.mt_terms.specs.Text.{id_text, is_known_code, name_among, refusals, refused as refused_text};
 
 use itoa::Buffer;
+use mt_terms::codes;
 use std::marker::Model;
 
 /// The line of a refusal, without memory of its own.
@@ -56,22 +57,22 @@ fn code_name(code: u16) -> &'static [u8]
     ensures short { length result.now ≤ 16 }
 {
     match code {
-        10 => b"TooLarge",
-        11 => b"TwoMarks",
-        12 => b"NoVersion",
-        13 => b"UnknownKind",
-        14 => b"FieldCount",
-        15 => b"BadId",
-        16 => b"BadQuota",
-        17 => b"DuplicateId",
-        18 => b"DuplicateEntry",
-        19 => b"TooMany",
-        20 => b"UnknownApplicant",
-        21 => b"UnknownProgram",
-        22 => b"NotRegistered",
-        30 => b"OutOfMemory",
-        31 => b"ReadFault",
-        41 => b"BudgetSpent",
+        codes::TOO_LARGE => b"TooLarge",
+        codes::TWO_MARKS => b"TwoMarks",
+        codes::NO_VERSION => b"NoVersion",
+        codes::UNKNOWN_KIND => b"UnknownKind",
+        codes::FIELD_COUNT => b"FieldCount",
+        codes::BAD_ID => b"BadId",
+        codes::BAD_QUOTA => b"BadQuota",
+        codes::DUPLICATE_ID => b"DuplicateId",
+        codes::DUPLICATE_ENTRY => b"DuplicateEntry",
+        codes::TOO_MANY => b"TooMany",
+        codes::UNKNOWN_APPLICANT => b"UnknownApplicant",
+        codes::UNKNOWN_PROGRAM => b"UnknownProgram",
+        codes::NOT_REGISTERED => b"NotRegistered",
+        codes::OUT_OF_MEMORY => b"OutOfMemory",
+        codes::READ_FAULT => b"ReadFault",
+        codes::BUDGET_SPENT => b"BudgetSpent",
         _ => unreachable!(),
     }
 }

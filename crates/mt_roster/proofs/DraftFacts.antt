@@ -4,7 +4,8 @@ use Rattle.std.specs.Prelude.{bytes_eq, codes, filter, IfSome, if◌then◌else�
 use Rattle.std.specs.List.{list_all}
 use Rattle.std.specs.Result.{result_ok}
 use Rattle.std.proofs.lemmas.Bool.{and_parts}
-use Rattle.mt_terms.specs.Registration.Faults.{Charge, charge_alone, bad_id}
+use Rattle.mt_terms.specs.Registration.Faults.{Charge, charge_alone}
+use Rattle.mt_terms.specs.declared.codes.TheConstants.{BAD_ID}
 use Rattle.mt_terms.specs.Registration.Ids.{Bytes, has_id, is_id, number_of, numbers_of}
 use Rattle.mt_terms.specs.Registration.Records.{Rules, Record, ProgramRecord, ApplicantRecord, CoupleRecord, WithdrawRecord, OfProgram, OfApplicant, OfCouple, are_ids, is_pair, pair_of, two_by_two, couple_by_pairs, couple_record, Kind, kind_of, withdraw_record, record_by_kind, record_of}
 use Rattle.mt_terms.specs.Registration.Rows.{ids_of, applicant_ids}
@@ -79,7 +80,7 @@ module _ (rules : Rules) where
   read_couple id a b None r e = cc
   read_couple id a b (Some pairs) r e = by (are_ids rules (id ∷ a ∷ b ∷ [])) (list_all (is_pair rules) pairs) refl e
     where
-      by : (ids all : Bool) → are_ids rules (id ∷ a ∷ b ∷ []) ≡ ids → (if ids && all then Ok (CoupleRecord id a b (map pair_of pairs)) else Err (charge_alone bad_id)) ≡ Ok r
+      by : (ids all : Bool) → are_ids rules (id ∷ a ∷ b ∷ []) ≡ ids → (if ids && all then Ok (CoupleRecord id a b (map pair_of pairs)) else Err (charge_alone BAD_ID)) ≡ Ok r
           → IsDraft rules (couple_by_pairs rules id a b (Some pairs)) r
       by true true i h =
           let s : CoupleRecord id a b (map pair_of pairs) ≡ r = cc h in

@@ -6,7 +6,8 @@ use Rattle.std.proofs.lemmas.List.{length-map, get_or-drop, get_or-map, take_all
 use Rattle.std.proofs.lemmas.List.Folds.{list_all_at, list_all_more}
 use Rattle.std.proofs.lemmas.Option.{get_or_from_slice_get}
 use Rattle.mt_terms.specs.Registration.Ids.{Bytes}
-use Rattle.mt_terms.specs.Registration.Faults.{charge_alone, field_count}
+use Rattle.mt_terms.specs.Registration.Faults.{charge_alone}
+use Rattle.mt_terms.specs.declared.codes.TheConstants.{FIELD_COUNT}
 use Rattle.mt_terms.specs.Registration.Records.{Rules, pair_of, two_by_two, IdPair, couple_record, couple_by_pairs}
 use Rattle.mt_roster.specs.Fields.{by_pairs}
 
@@ -73,7 +74,7 @@ module _ (row : List Bytes) (from : ℕ) where
       ap (list_all p) (sym (take_all n (by_pairs (drop from row)) l)) ∙ k
 
 -- a couple by its fields after the first, of which there are enough
-pub odd_couple : (rules : Rules) (row : List Bytes) → 4 ≤ length row → length row % 2 ≡ 1 → couple_record rules (drop 1 row) ≡ Err (charge_alone field_count)
+pub odd_couple : (rules : Rules) (row : List Bytes) → 4 ≤ length row → length row % 2 ≡ 1 → couple_record rules (drop 1 row) ≡ Err (charge_alone FIELD_COUNT)
 odd_couple rules [] h k = absurd (omega arith)
 odd_couple rules (w ∷ []) h k = absurd (omega arith)
 odd_couple rules (w ∷ id ∷ []) h k = absurd (omega arith)

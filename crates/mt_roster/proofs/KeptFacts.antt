@@ -8,7 +8,8 @@ use Rattle.std.proofs.lemmas.List.Sums.{sum_by-cons}
 use Rattle.mt_file_laws.proofs.IdFacts.{same_id, not_true, or_left, or_right, differ_join, numbers_short}
 use Rattle.mt_file_laws.proofs.NumberingFacts.{both, pairs_short}
 use Rattle.mt_terms.specs.Registration.Ids.{Bytes, has_id, number_of, numbers_of, all_differ}
-use Rattle.mt_terms.specs.Registration.Faults.{charge, fault_at, unknown_applicant, unknown_program}
+use Rattle.mt_terms.specs.Registration.Faults.{charge, fault_at}
+use Rattle.mt_terms.specs.declared.codes.TheConstants.{UNKNOWN_APPLICANT, UNKNOWN_PROGRAM}
 use Rattle.mt_terms.specs.Registration.Records.{Record, ProgramRecord, ApplicantRecord, CoupleRecord, WithdrawRecord, OfProgram, IdPair}
 use Rattle.mt_terms.specs.Registration.Rows.{ids_of, applicant_ids, entries_of, entry_count}
 use Rattle.mt_terms.specs.Registration.Numbering.{names_only, pair_by_number, pairs_by_number}
@@ -148,11 +149,11 @@ module _ (programs applicants : List Bytes) where
 -- Below, the programs and applicants are those of these records.
 module _ (rs : List Record) where
   unknown_none : (r : Record) → is_plain r ≡ true → entries_of r ≤ kept_of (ids_of OfProgram rs) (applicant_ids rs) r → unknown_id rs r ≡ None
-  unknown_none (ProgramRecord id quota list) p h = ap (option_map (charge unknown_applicant)) (none_unknown (applicant_ids rs) list h)
-  unknown_none (ApplicantRecord id list) p h = ap (option_map (charge unknown_program)) (none_unknown (ids_of OfProgram rs) list h)
+  unknown_none (ProgramRecord id quota list) p h = ap (option_map (charge UNKNOWN_APPLICANT)) (none_unknown (applicant_ids rs) list h)
+  unknown_none (ApplicantRecord id list) p h = ap (option_map (charge UNKNOWN_PROGRAM)) (none_unknown (ids_of OfProgram rs) list h)
   unknown_none (CoupleRecord id a b pairs) p h =
       let l : length pairs ≤ length (pairs_by_number (ids_of OfProgram rs) pairs) = omega (arith, h) in
-      ap (option_map (charge unknown_program)) (pairs_known (ids_of OfProgram rs) pairs l)
+      ap (option_map (charge UNKNOWN_PROGRAM)) (pairs_known (ids_of OfProgram rs) pairs l)
   unknown_none (WithdrawRecord kind id) p h = cc
 
   pub second_none : (ns : List (Numbered Record)) → list_all is_plain (contents ns) ≡ true → AllKept (ids_of OfProgram rs) (applicant_ids rs) (contents ns)

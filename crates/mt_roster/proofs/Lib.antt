@@ -9,7 +9,6 @@ pub mod RegisterFacts
 pub mod PassFacts
 pub mod UnknownFacts
 pub mod ReadFacts
-pub mod IdBounds
 pub mod FaultFacts
 pub mod KeptFacts
 pub mod DraftFacts

@@ -1,7 +1,6 @@
 -- What is known of a record that the first pass takes.
 use Rattle.std.proofs.Common.{◌≡◌, ℕ, ◌+◌, ◌<◌, ◌≤◌, Bool, true, false, nat_lt, List, [], ◌∷◌, ◌++◌, length, refl, ap, sym, ◌∙◌, Option, Some, None, Result, Ok, Err, arith, subst, drop, get_or}
 use Rattle.std.specs.Prelude.{option_map, ◌==◌}
-use Rattle.std.specs.Option.{option_map_or}
 use Rattle.std.specs.Bool.{then_some}
 use Rattle.std.proofs.lemmas.Bool.Decides.{nat_tests}
 use Rattle.std.proofs.lemmas.List.{drop_more, get_or_default}
@@ -13,19 +12,20 @@ use Rattle.mt_roster.specs.declared.register.Register.{Register}
 use Rattle.mt_roster.specs.Registers.{records_seen, AreFew, AreBounded, IsRegister}
 use Rattle.mt_roster.specs.Passes.{Reads, ReadsAt, GivesRegister}
 use Rattle.mt_roster.specs.Refusals.{Refuses}
-use Rattle.mt_terms.specs.Registration.Faults.{Charge, Fault, charge, fault_at, duplicate_id}
+use Rattle.mt_terms.specs.Registration.Faults.{Charge, Fault, charge, fault_at}
+use Rattle.mt_terms.specs.declared.codes.TheConstants.{DUPLICATE_ID}
 use Rattle.mt_terms.specs.Registration.Records.{Rules, Record, OfProgram, OfCouple, record_of}
 use Rattle.mt_terms.specs.Registration.Rows.{ids_of, applicant_ids, entry_count}
-use Rattle.mt_terms.specs.Registration.Passes.{registered_before, says_twice, are_too_many, clash, next_record, on_result, first_of, numbered_from, Numbered, first_pass}
+use Rattle.mt_terms.specs.Registration.Passes.{registered_before, says_twice, are_too_many, first_conflict, next_record, and_then, unless, at_record, first_of, numbered_from, Numbered, first_pass}
 
--- a record that doesn't clash with those before it
+-- a record that doesn't first_conflict with those before it
 pub record IsAccepted (rules : Rules) (before : List Record) (r : Record) : Type 0 where
   pub new : registered_before before r ≡ None
   pub once : says_twice before r ≡ false
   pub few : are_too_many rules.limits (before ++ r ∷ []) ≡ false
 
 parts : (o : Option Bytes) (s t : Bool) (c d : Charge) (q r : Record)
-    → option_map_or (λ e. Err e) (first_of (option_map (charge duplicate_id) o ∷ then_some s c ∷ then_some t d ∷ [])) (Ok q) ≡ Ok r
+    → unless (first_of (option_map (charge DUPLICATE_ID) o ∷ then_some s c ∷ then_some t d ∷ [])) q ≡ Ok r
     → (q ≡ r) × (o ≡ None) × (s ≡ false) × (t ≡ false)
 parts (Some x) s t c d q r h = cc
 parts None true t c d q r h = cc
@@ -33,17 +33,17 @@ parts None false true c d q r h = cc
 parts None false false c d q r h = (cc, refl, refl, refl)
 
 pub is_accepted : (rules : Rules) (before : List Record) (row : List Bytes) (n : ℕ) (r : Record)
-    → on_result (next_record rules before row) (λ q. Ok q) (λ c. Err (fault_at n c)) ≡ Ok r → IsAccepted rules before r
+    → at_record n (next_record rules before row) ≡ Ok r → IsAccepted rules before r
 is_accepted rules before row n r h = by (record_of rules row) h
   where
-    beside : (q : Record) (o : Result Record Charge) → o ≡ option_map_or (λ e. Err e) (clash rules before q) (Ok q) → on_result o (λ p. Ok p) (λ c. Err (fault_at n c)) ≡ Ok r → IsAccepted rules before r
+    beside : (q : Record) (o : Result Record Charge) → o ≡ unless (first_conflict rules before q) q → at_record n o ≡ Ok r → IsAccepted rules before r
     beside q (Ok p) e k =
         let s : p ≡ r = cc in
         let t : (q ≡ r) × (registered_before before q ≡ None) × (says_twice before q ≡ false) × (are_too_many rules.limits (before ++ q ∷ []) ≡ false) = parts _ _ _ _ _ q r (sym e ∙ ap Ok s) in
         subst (λ (z : Record). IsAccepted rules before z) t.0 (record { new = t.1; once = t.2; few = t.3 })
     beside q (Err c) e k = cc
 
-    by : (o : Result Record Charge) → on_result (on_result o (λ q. option_map_or (λ e. Err e) (clash rules before q) (Ok q)) (λ c. Err c)) (λ p. Ok p) (λ c. Err (fault_at n c)) ≡ Ok r → IsAccepted rules before r
+    by : (o : Result Record Charge) → at_record n (and_then o (λ q. unless (first_conflict rules before q) q)) ≡ Ok r → IsAccepted rules before r
     by (Ok q) k = beside q _ refl k
     by (Err c) k = cc
 

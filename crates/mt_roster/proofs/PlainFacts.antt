@@ -10,10 +10,11 @@ use Rattle.std.proofs.lemmas.List.Folds.{list_all-append}
 use Rattle.mt_terms.specs.Market.{Registered}
 use Rattle.mt_terms.specs.Registration.{market_under}
 use Rattle.mt_terms.specs.Registration.Ids.{Bytes, has_id, all_differ}
-use Rattle.mt_terms.specs.Registration.Faults.{Charge, charge, fault_at, duplicate_id}
+use Rattle.mt_terms.specs.Registration.Faults.{Charge, charge, fault_at}
+use Rattle.mt_terms.specs.declared.codes.TheConstants.{DUPLICATE_ID}
 use Rattle.mt_terms.specs.Registration.Records.{Rules, Record, ProgramRecord, ApplicantRecord, CoupleRecord, WithdrawRecord, Kind, OfProgram, OfApplicant, OfCouple, record_of}
 use Rattle.mt_terms.specs.Registration.Rows.{own_id, ids_of, applicants_of, applicant_ids, withdrawn, withdrawn_id, remaining, entry_count}
-use Rattle.mt_terms.specs.Registration.Passes.{Numbered, contents, numbered_from, first_of, on_result, registered_before, says_twice, are_too_many, clash, next_record, first_pass, second_pass}
+use Rattle.mt_terms.specs.Registration.Passes.{Numbered, contents, numbered_from, first_of, and_then, unless, at_record, registered_before, says_twice, are_too_many, first_conflict, next_record, first_pass, second_pass}
 use Rattle.mt_roster.specs.declared.numbering.Entries.{Entries}
 use Rattle.mt_roster.specs.declared.register.Kinds.{Kinds}
 use Rattle.mt_roster.specs.declared.drafts.Drafts.{Drafts}
@@ -47,22 +48,22 @@ says_once before (ApplicantRecord id list) p l = rw l refl
 says_once before (CoupleRecord id a b pairs) p l = rw p refl
 says_once before (WithdrawRecord kind id) p l = cc
 
--- a record that doesn't clash with those before it
-clash_none : (o : Option Bytes) (s t : Bool) (c d : Charge) → o ≡ None → s ≡ false → t ≡ false → first_of (option_map (charge duplicate_id) o ∷ then_some s c ∷ then_some t d ∷ []) ≡ None
-clash_none (Some x) s t c d n h k = cc
-clash_none None true t c d n h k = cc
-clash_none None false true c d n h k = cc
-clash_none None false false c d n h k = refl
+-- a record that doesn't first_conflict with those before it
+conflict_none : (o : Option Bytes) (s t : Bool) (c d : Charge) → o ≡ None → s ≡ false → t ≡ false → first_of (option_map (charge DUPLICATE_ID) o ∷ then_some s c ∷ then_some t d ∷ []) ≡ None
+conflict_none (Some x) s t c d n h k = cc
+conflict_none None true t c d n h k = cc
+conflict_none None false true c d n h k = cc
+conflict_none None false false c d n h k = refl
 
 module _ (rules : Rules) (before : List (Numbered Record)) (n : ℕ) (row : List Bytes) (r : Record) (e : record_of rules row ≡ Ok r)
     (new : registered_before (contents before) r ≡ None) (once : says_twice (contents before) r ≡ false) (few : are_too_many rules.limits (contents before ++ r ∷ []) ≡ false) where
   next_is : next_record rules (contents before) row ≡ Ok r
   next_is =
-      ap (λ (o : Result Record Charge). on_result o (λ q. option_map_or (λ c. Err c) (clash rules (contents before) q) (Ok q)) (λ c. Err c)) e
-      ∙ ap (λ (o : Option Charge). option_map_or (λ c. Err c) o (Ok r)) (clash_none _ _ _ _ _ new once few)
+      ap (λ (o : Result Record Charge). and_then o (λ q. unless (first_conflict rules (contents before) q) q)) e
+      ∙ ap (λ (o : Option Charge). unless o r) (conflict_none _ _ _ _ _ new once few)
 
   pass_step : (rest : List (Numbered (List Bytes))) → first_pass rules before ((n, row) ∷ rest) ≡ first_pass rules (before ++ (n, r) ∷ []) rest
-  pass_step rest = ap (λ (o : Result Record Charge). on_result o (λ q. first_pass rules (before ++ (n, q) ∷ []) rest) (λ c. Err (fault_at n c))) next_is
+  pass_step rest = ap (λ (o : Result Record Charge). and_then (at_record n o) (λ q. first_pass rules (before ++ (n, q) ∷ []) rest)) next_is
 
 last_parts : (p : Record → Bool) (rs : List Record) (r : Record) → list_all p (rs ++ r ∷ []) ≡ true → (list_all p rs ≡ true) × (p r ≡ true)
 last_parts p rs r h =

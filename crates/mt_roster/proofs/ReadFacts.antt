@@ -1,14 +1,13 @@
 -- The market of a file's records, by the passes over them.
 use Rattle.std.proofs.Common.{◌≡◌, ◌≢◌, ℕ, ◌+◌, ◌<◌, Bool, true, false, ◌&&◌, List, [], ◌∷◌, length, drop, get_or, refl, ap, sym, ◌∙◌, arith, subst, Option, Some, None, Ok, Err, if◌then◌else◌}
 use Rattle.std.specs.Prelude.{bytes_eq, codes}
-use Rattle.std.specs.Option.{option_map_or}
 use Rattle.mt_terms.specs.Registration.{market_of, market_of_numbered, market_under}
 use Rattle.mt_terms.specs.Registration.Ids.{Bytes}
 use Rattle.mt_terms.specs.Registration.Faults as faults
 use Rattle.mt_terms.specs.Registration.Records as model
 use Rattle.mt_terms.specs.Registration.Records.{Rules, rules_of, version_1, version_2}
 use Rattle.mt_terms.specs.Registration.Numbering.{registered}
-use Rattle.mt_terms.specs.Registration.Passes.{Numbered, numbered_from, first_pass, second_pass, contents}
+use Rattle.mt_terms.specs.Registration.Passes.{Numbered, numbered_from, first_pass, second_pass, contents, unless}
 use Rattle.std.proofs.lemmas.List.{get_or_default}
 use Rattle.mt_roster.specs.Registers.{AreBounded}
 use Rattle.mt_roster.proofs.PassFacts.{row_is}
@@ -27,14 +26,14 @@ market_at rows i row rules h at n skipped named =
 
 -- with the first pass done, it is that of its records
 pub market_after : (rules : Rules) (rest : List (Numbered (List Bytes))) (records : List (Numbered model.Record)) → first_pass rules [] rest ≡ Ok records
-    → market_under rules rest ≡ option_map_or (λ fault. Err fault) (second_pass records) (Ok (registered (contents records)))
+    → market_under rules rest ≡ unless (second_pass records) (registered (contents records))
 market_after rules rest records h = rw h refl
 
 -- the second pass finds no fault
 pub market_by : (rules : Rules) (rest : List (Numbered (List Bytes))) (records : List (Numbered model.Record)) (found : Option faults.Fault) → first_pass rules [] rest ≡ Ok records
     → found ≡ second_pass records → found ≡ None → market_under rules rest ≡ Ok (registered (contents records))
 market_by rules rest records found first second none =
-    market_after rules rest records first ∙ ap (λ o. option_map_or (λ fault. Err fault) o (Ok (registered (contents records)))) (sym second ∙ none)
+    market_after rules rest records first ∙ ap (λ o. unless o (registered (contents records))) (sym second ∙ none)
 
 -- no version allows more than an input may have
 pub bounded : (row : List Bytes) (rules : Rules) → rules_of row ≡ Some rules → AreBounded rules.limits

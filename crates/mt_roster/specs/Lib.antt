@@ -8,6 +8,5 @@ pub mod Registers
 pub mod Passes
 pub mod Faults
 pub mod Read
-pub mod Laws
 pub mod Plain
 pub mod Keys

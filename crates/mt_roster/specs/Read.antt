@@ -2,7 +2,8 @@
 use Rattle.std.specs.Prelude.{◌≡◌, ℕ, ◌+◌, ◌≤◌, List, drop, length, Result, Ok, Err}
 use Rattle.mt_terms.specs.Market.{Registered}
 use Rattle.mt_terms.specs.Registration.{market_of, market_under}
-use Rattle.mt_terms.specs.Registration.Faults.{fault_at, charge_alone, no_version}
+use Rattle.mt_terms.specs.Registration.Faults.{fault_at, charge_alone}
+use Rattle.mt_terms.specs.declared.codes.TheConstants.{NO_VERSION}
 use Rattle.mt_terms.specs.Registration.Ids.{Bytes}
 use Rattle.mt_terms.specs.Registration.Passes.{numbered_from}
 use Rattle.mt_terms.specs.Registration.Records.{Rules}
@@ -17,7 +18,7 @@ same x = x
 
 -- the refusal of a file that names no version, at this record
 abbrev pub NamesNoVersion : Refusal → ℕ → Type 0
-NamesNoVersion refusal row = Refuses {Y = Registered} refusal (Err (fault_at row (charge_alone no_version)))
+NamesNoVersion refusal row = Refuses {Y = Registered} refusal (Err (fault_at row (charge_alone NO_VERSION)))
 
 -- The file's market is that of the records from this place on, by the rules of a version.
 pub record IsUnder (rows : List (List Bytes)) (rules : Rules) (from : ℕ) : Type 0 where

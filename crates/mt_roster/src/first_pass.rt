@@ -1,6 +1,5 @@
-ghost use Rattle.std.specs.Prelude.{◌≡◌, ◌+◌, ◌<◌, ◌≤◌, [], drop, length, Ok, Err};
-ghost use Rattle.mt_terms.specs.Registration.Faults.{fault_at};
-ghost use Rattle.mt_terms.specs.Registration.Passes.{on_result, next_record, first_pass, numbered_from};
+ghost use Rattle.std.specs.Prelude.{◌≡◌, ◌+◌, ◌<◌, ◌≤◌, [], drop, length};
+ghost use Rattle.mt_terms.specs.Registration.Passes.{at_record, next_record, first_pass, numbered_from};
 ghost use Rattle.mt_roster.specs.Records.{record_seen};
 ghost use Rattle.mt_roster.specs.Refusals.{Gives};
 ghost use Rattle.mt_roster.specs.Registers.{contents_seen, AreBounded, IsRegister};
@@ -22,14 +21,13 @@ fn next_record<'a>(
     row: &'a Row,
 ) -> Result<Record<'a>, Refusal<'a>>
     requires { IsRegister register.now }
-    ensures { Gives record_seen result
-        (on_result (next_record rules.now (contents_seen register.now) row.now) (λ r. Ok r) (λ c. Err (fault_at number c))) }
+    ensures { Gives record_seen result (at_record number (next_record rules.now (contents_seen register.now) row.now)) }
 {
     let next = match record_of(rules, row) {
         Ok(next) => next,
         Err(charge) => return Err(Refusal::Fault(charge.at(number))),
     };
-    match register.clash(alloc, rules, &next)? {
+    match register.first_conflict(alloc, rules, &next)? {
         Some(charge) => Err(Refusal::Fault(charge.at(number))),
         None => Ok(next),
     }

@@ -8,7 +8,6 @@ mod fields;
 mod first_pass;
 mod id_table;
 mod ids;
-pub mod laws;
 mod names;
 mod numbering;
 mod plain;
@@ -21,6 +20,7 @@ mod rules;
 mod second_pass;
 mod unknown;
 
-pub use fault::{IdText, RosterError, RosterFault};
+pub use fault::RosterError;
+pub use mt_terms::{IdText, Refusal as RosterFault};
 pub use mt_market::Roster;
 pub use reading::roster;

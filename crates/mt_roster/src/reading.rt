@@ -13,9 +13,8 @@ use crate::refusal::{Fault, Refusal};
 use crate::rules::{Rules, rules_of};
 use mt_lists::Row;
 use mt_market::Roster;
+use mt_terms::codes::NO_VERSION;
 use std::alloc::Global;
-
-const NO_VERSION: u16 = 12;
 
 /// How many rows without a field stand at the start.
 fn blank_rows(rows: &[Row]) -> usize

@@ -10,6 +10,7 @@ use crate::fields::{Ids, Pairs, are_pairs};
 use crate::ids::{is_id, quota_of};
 use crate::rules::Rules;
 use mt_lists::Row;
+use mt_terms::codes::{BAD_ID, BAD_QUOTA, FIELD_COUNT, UNKNOWN_KIND};
 
 /// What is registered under an id of its own.
 #[derive(Clone, Copy, Debug, PartialEq, Eq)]
@@ -106,14 +107,6 @@ pub(crate) struct Charge<'a> {
     pub(crate) code: u16,
     pub(crate) id: &'a [u8],
 }
-
-pub(crate) const UNKNOWN_KIND: u16 = 13;
-
-pub(crate) const FIELD_COUNT: u16 = 14;
-
-pub(crate) const BAD_ID: u16 = 15;
-
-pub(crate) const BAD_QUOTA: u16 = 16;
 
 /// A fault that no id is at.
 fn charge_alone<'a>(code: u16) -> Charge<'a>

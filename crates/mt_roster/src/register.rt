@@ -1,7 +1,7 @@
 ghost use Rattle.std.specs.Prelude.{◌≡◌, ◌+◌, ◌||◌, false, nat_lt, ◌++◌, [], ◌∷◌, length, option_map, None, OnOk, IfOk};
 ghost use Rattle.std.specs.Option.{option_copied};
 ghost use Rattle.mt_terms.specs.Registration.Ids.{has_id};
-ghost use Rattle.mt_terms.specs.Registration.Passes.{first_in, registered_before, says_twice, are_too_many, clash};
+ghost use Rattle.mt_terms.specs.Registration.Passes.{first_in, registered_before, says_twice, are_too_many, first_conflict};
 ghost use Rattle.mt_roster.specs.Records.{kind_seen, record_seen, charge_seen};
 ghost use Rattle.mt_roster.specs.Registers.{records_seen, contents_seen, ids_in, withdraws_twice, AreFew, IsRegister, AddsId, AddsRecord};
 
@@ -10,13 +10,8 @@ use crate::record::{Charge, Kind, Record};
 use crate::repeats::{has_repeat, has_repeated_pair};
 use crate::rules::Rules;
 use mt_terms::Limits;
+use mt_terms::codes::{DUPLICATE_ENTRY, DUPLICATE_ID, TOO_MANY};
 use std::alloc::{AllocError, Global};
-
-pub(crate) const DUPLICATE_ID: u16 = 17;
-
-pub(crate) const DUPLICATE_ENTRY: u16 = 18;
-
-pub(crate) const TOO_MANY: u16 = 19;
 
 /// A record with its number in the file.
 #[derive(Debug, Drop)]
@@ -153,14 +148,14 @@ impl<'a> Register<'a> {
     }
 
     /// The first fault of a record beside those before it.
-    pub(crate) fn clash(
+    pub(crate) fn first_conflict(
         &self,
         alloc: Global,
         rules: &Rules,
         record: &Record<'a>,
     ) -> Result<Option<Charge<'a>>, AllocError>
         requires { IsRegister self.now }
-        ensures { IfOk result (λ charge. option_map charge_seen charge ≡ clash rules.now (contents_seen self.now) (record_seen record.now)) }
+        ensures { IfOk result (λ charge. option_map charge_seen charge ≡ first_conflict rules.now (contents_seen self.now) (record_seen record.now)) }
     {
         if let Some(id) = self.registered_before(record) {
             return Ok(Some(Charge {

@@ -10,12 +10,7 @@ use crate::record::{Charge, Record};
 use crate::refusal::Fault;
 use crate::register::Register;
 use crate::unknown::{first_unknown, first_unknown_of_pairs};
-
-const UNKNOWN_APPLICANT: u16 = 20;
-
-const UNKNOWN_PROGRAM: u16 = 21;
-
-const NOT_REGISTERED: u16 = 22;
+use mt_terms::codes::{NOT_REGISTERED, UNKNOWN_APPLICANT, UNKNOWN_PROGRAM};
 
 /// A fault with this code at an id, if there is one.
 fn charge_of<'a>(code: u16, id: Option<&'a [u8]>) -> Option<Charge<'a>>

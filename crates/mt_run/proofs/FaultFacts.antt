@@ -6,11 +6,10 @@ use Rattle.mt_terms.specs.Market.{Registered}
 use Rattle.mt_terms.specs.Registration.{market_of}
 use Rattle.mt_terms.specs.Registration.Faults.{Fault}
 use Rattle.mt_terms.specs.Text.{is_fault_code, is_known_code}
-use Rattle.mt_file_laws.proofs.FaultCodes.{fault_codes_lem}
-use Rattle.mt_roster.proofs.IdBounds.{fault_ids_lem}
+use Rattle.mt_file_laws.proofs.FaultFacts.{fault_codes_lem, fault_ids_lem}
 use Rattle.mt_run.specs.Answer.{IsAnswer, IsAnswerOfRows, IsAnswerOfMarket, IsAnswerOfFault}
 use Rattle.mt_run.specs.Refusals.{IsRefusalBy, IsRefusalTo, line_of}
-use Rattle.mt_run.specs.declared.refusal.Refusal.{Refusal}
+use Rattle.mt_terms.specs.declared.refusal.Refusal.{Refusal}
 
 not_a_read : (code : ℕ) → is_fault_code code ≡ true → code ≢ 31
 not_a_read code h e = true≢false (sym h ∙ ap is_fault_code e)

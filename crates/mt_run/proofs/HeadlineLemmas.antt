@@ -17,7 +17,7 @@ use Rattle.mt_terms.specs.Rounds.{entered, stage}
 use Rattle.mt_terms.specs.Stability.{stable}
 use Rattle.mt_terms.specs.WellFormed.{IsWellFormed}
 use Rattle.mt_match_laws.proofs.ExclusionLemmas.{best_is_at_least_lem}
-use Rattle.mt_file_laws.proofs.FaultCodes.{fault_codes_lem}
+use Rattle.mt_file_laws.proofs.FaultFacts.{fault_codes_lem}
 use Rattle.mt_file_laws.proofs.PassFacts.{accepted_is_registration_lem}
 use Rattle.mt_file_laws.proofs.RefusalLine.{refusal_is_one_record_lem}
 use Rattle.mt_round_laws.proofs.RoundsStage.{stage_is_stable_lem}

@@ -11,7 +11,8 @@ use Rattle.mt_terms.specs.Registration.{market_of}
 use Rattle.mt_terms.specs.Registration.Faults.{Fault}
 use Rattle.mt_terms.specs.Rounds.{stage}
 use Rattle.mt_terms.specs.Stability.{stable}
-use Rattle.mt_terms.specs.Text.{budget_spent, out_of_memory, published, read_fault, refused, too_large, two_marks}
+use Rattle.mt_terms.specs.Text.{published, refused}
+use Rattle.mt_terms.specs.declared.codes.TheConstants.{TOO_LARGE, TWO_MARKS, OUT_OF_MEMORY, READ_FAULT, BUDGET_SPENT}
 use Rattle.mt_terms.specs.declared.limits.TheConstants.{LIMITS_2}
 use Rattle.mt_run.specs.Headline.{IsRefusal, IsStableTextOf}
 
@@ -31,7 +32,7 @@ pub record IsPublished (r : Registered) (places : Places) (received text : List 
 -- after the couples' stage from the best match of the singles: the published text of the match that it ends
 -- in, or the refusal where the budget is spent
 abbrev pub IsAnswerOfStage : Registered → Places → Option (Places × ℕ) → ℕ → List ℕ → Type 0
-IsAnswerOfStage r best None code text = IsRefusedAlone budget_spent code text
+IsAnswerOfStage r best None code text = IsRefusedAlone BUDGET_SPENT code text
 IsAnswerOfStage r best (Some s) code text = (code ≡ 0) × (text ≡ published r.market r.names s.0 (all_proposals r best))
 
 -- the couples' stage from this match ends, within the budget, in that one
@@ -60,8 +61,8 @@ most_bytes = LIMITS_2.bytes
 -- The answer to bytes and a budget, with its code: 0 for a published text, else the refusal's.
 abbrev pub IsAnswer : List ℕ → ℕ → ℕ → List ℕ → Type 0
 IsAnswer bytes budget code text =
-    MatchBool (nat_lt most_bytes (length bytes)) (IsRefusedAlone too_large code text)
-    (MatchOption (records_of bytes) (IsRefusedAlone two_marks code text) (IsAnswerOfRows budget code text))
+    MatchBool (nat_lt most_bytes (length bytes)) (IsRefusedAlone TOO_LARGE code text)
+    (MatchOption (records_of bytes) (IsRefusedAlone TWO_MARKS code text) (IsAnswerOfRows budget code text))
 
 -- the answer to the bytes that a reader had left, or to some bytes where it doesn't tell them
 abbrev pub IsAnswerTo : Option (List ℕ) → ℕ → ℕ → List ℕ → Type 0
@@ -78,4 +79,4 @@ pub record Answers (left : Option (List ℕ)) (budget : ℕ) (old new : Option (
   pub all : IsTrue whole → written ≡ length text
   pub refusal : code ≢ 0 → IsRefusal code text
   pub stable : code ≡ 0 → IsStableTextOf left text
-  pub answer : code ≢ out_of_memory → code ≢ read_fault → IsAnswerTo left budget code text
+  pub answer : code ≢ OUT_OF_MEMORY → code ≢ READ_FAULT → IsAnswerTo left budget code text

@@ -1,8 +1,9 @@
 -- What the end of a step of a run is for a market, or for a file's records, or for its bytes: a text, or a refusal.
 use Rattle.std.specs.Prelude.{◌≢◌, ℕ, List, Result, Ok, Err, Option}
-use Rattle.mt_terms.specs.Text.{IsNamedRefusal, out_of_memory, read_fault, refused}
+use Rattle.mt_terms.specs.Text.{IsNamedRefusal, refused}
+use Rattle.mt_terms.specs.declared.codes.TheConstants.{OUT_OF_MEMORY, READ_FAULT}
 use Rattle.mt_run.specs.Answer.{IsAnswerTo}
-use Rattle.mt_run.specs.declared.refusal.Refusal.{Refusal}
+use Rattle.mt_terms.specs.declared.refusal.Refusal.{Refusal}
 
 -- the line of a refusal
 abbrev pub line_of : Refusal → List ℕ
@@ -11,8 +12,8 @@ line_of e = refused e.code e.row e.id
 -- A named refusal, which is the answer but for want of memory.
 pub record IsRefusalBy (IsAnswered : ℕ → List ℕ → Type 0) (e : Refusal) : Type 0 where
   pub named : IsNamedRefusal e.code e.row e.id
-  pub reads_did : e.code ≢ read_fault
-  pub answer : e.code ≢ out_of_memory → IsAnswered e.code (line_of e)
+  pub reads_did : e.code ≢ READ_FAULT
+  pub answer : e.code ≢ OUT_OF_MEMORY → IsAnswered e.code (line_of e)
 
 -- the code with which a step ends
 abbrev pub code_of : {X : Type 0} → Result X Refusal → ℕ
@@ -23,4 +24,4 @@ code_of (Err e) = e.code
 -- and a read that failed.
 pub record IsRefusalTo (left : Option (List ℕ)) (budget : ℕ) (e : Refusal) : Type 0 where
   pub named : IsNamedRefusal e.code e.row e.id
-  pub answer : e.code ≢ out_of_memory → e.code ≢ read_fault → IsAnswerTo left budget e.code (line_of e)
+  pub answer : e.code ≢ OUT_OF_MEMORY → e.code ≢ READ_FAULT → IsAnswerTo left budget e.code (line_of e)

@@ -1,7 +1,7 @@
 -- The exit status of a run. This project's own table.
 use Rattle.std.specs.Prelude.{ℕ, Bool, not, ◌||◌, ◌==◌, nat_le, if◌then◌else◌}
-use Rattle.mt_terms.specs.Registration.Faults.{not_registered}
-use Rattle.mt_terms.specs.Text.{is_known_code, out_of_memory, read_fault}
+use Rattle.mt_terms.specs.declared.codes.TheConstants.{NOT_REGISTERED, OUT_OF_MEMORY, READ_FAULT}
+use Rattle.mt_terms.specs.Text.{is_known_code}
 
 -- how a run can end: with a published match, or with a refusal of a known code
 abbrev pub is_end_code : ℕ → Bool
@@ -13,7 +13,7 @@ abbrev pub status_of : ℕ → Bool → ℕ
 status_of code whole =
     if not whole then 5
     else if code == 0 then 0
-    else if nat_le code not_registered then 2
-    else if code == out_of_memory then 4
-    else if code == read_fault then 5
+    else if nat_le code NOT_REGISTERED then 2
+    else if code == OUT_OF_MEMORY then 4
+    else if code == READ_FAULT then 5
     else 3

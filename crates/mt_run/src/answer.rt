@@ -8,14 +8,14 @@ ghost use Rattle.mt_ranks.specs.Ranked.{ranked_of};
 ghost use Rattle.mt_run.specs.Answer.{IsAnswerOfMarket, IsAnswerOfRows, IsEnteredFrom, IsPublished};
 ghost use Rattle.mt_run.specs.Refusals.{IsRefusalBy};
 
-use crate::refusal::{BUDGET_SPENT, OUT_OF_MEMORY, Refusal};
 use crate::singles::match_singles;
 use mt_couples::{CoupleEnd, enter_all};
 use mt_lists::Row;
 use mt_ranks::Ranks;
 use mt_report::published;
 use mt_roster::{Roster, RosterError, roster};
-use mt_terms::{Agent, Blocker, Match};
+use mt_terms::codes::{BUDGET_SPENT, OUT_OF_MEMORY};
+use mt_terms::{Agent, Blocker, Match, Refusal};
 use mt_verify::{Verdict, verify};
 use std::alloc::{AllocError, Global};
 
@@ -129,11 +129,7 @@ pub(crate) fn answer_to_rows(alloc: Global, rows: &[Row], budget: u32) -> Result
 {
     match roster(alloc, rows) {
         Ok(roster) => answer_to_market(alloc, &roster, budget),
-        Err(RosterError::Fault(fault)) => Err(Refusal {
-            code: fault.code,
-            row: fault.row,
-            id: fault.id,
-        }),
+        Err(RosterError::Fault(fault)) => Err(fault),
         Err(RosterError::Memory) => Err(Refusal::alone(OUT_OF_MEMORY)),
     }
 }

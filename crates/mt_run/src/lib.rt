@@ -4,7 +4,6 @@
 mod answer;
 mod ended;
 pub mod laws;
-mod refusal;
 mod singles;
 mod whole;
 

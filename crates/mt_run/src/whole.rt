@@ -1,16 +1,16 @@
 ghost use Rattle.std.specs.Prelude.{◌≡◌, ◌+◌, ◌<◌, ◌≤◌, ◌^◌, ◌↔◌, ◌≢◌, length, if◌then◌else◌, IfErr, IfOk, IsTrue};
 ghost use Rattle.mt_lists.specs.Tap.{bytes_left, failures_of as read_failures_of, reads_of};
-ghost use Rattle.mt_terms.specs.Text.{read_fault};
+ghost use Rattle.mt_terms.specs.declared.codes.TheConstants.{READ_FAULT};
 ghost use Rattle.mt_report.specs.Drains.{contents_of, failures_of, is_flushed};
 ghost use Rattle.mt_run.specs.Answer.{Answers, IsAnswer, IsAnswerTo, most_bytes};
 ghost use Rattle.mt_run.specs.Refusals.{code_of, IsRefusalBy, IsRefusalTo};
 
 use crate::answer::answer_to_rows;
 use crate::ended::Ended;
-use crate::refusal::{OUT_OF_MEMORY, READ_FAULT, Refusal, TOO_LARGE, TWO_MARKS};
 use mt_lists::{ListFault, ReadEnd, Tap, read_all, records};
 use mt_report::{Drain, put_all, refused};
-use mt_terms::{LIMITS, Options};
+use mt_terms::codes::{OUT_OF_MEMORY, READ_FAULT, TOO_LARGE, TWO_MARKS};
+use mt_terms::{LIMITS, Options, Refusal};
 use std::alloc::Global;
 use std::io::{Read, Write};
 
@@ -36,7 +36,7 @@ fn answer_to_input<R: Read>(
     requires { reads_of tap.old + most_bytes < u64.MAX }
     ensures text { IfOk result (λ text. IsAnswerTo (bytes_left R.remaining tap.old) budget 0 text.items) }
     ensures refused { IfErr result (IsRefusalTo (bytes_left R.remaining tap.old) budget) }
-    ensures fault { (code_of result ≡ read_fault) ↔ (read_failures_of tap.old < read_failures_of tap.new) }
+    ensures fault { (code_of result ≡ READ_FAULT) ↔ (read_failures_of tap.old < read_failures_of tap.new) }
     ensures reads { (reads_of tap.old ≤ reads_of tap.new) × (reads_of tap.new ≤ reads_of tap.old + most_bytes + 1) }
     ensures failures { (read_failures_of tap.old ≤ read_failures_of tap.new)
         × (read_failures_of tap.new ≤ read_failures_of tap.old + 1) }
@@ -63,7 +63,7 @@ pub fn run<R: Read, W: Write>(
         (contents_of W.contents drain.old) (contents_of W.contents drain.new) result.code result.written result.whole }
     ensures writer { failures_of drain.new ≡ failures_of drain.old + (if result.whole then 0 else 1) }
     ensures flushed { IsTrue result.whole → IsTrue (is_flushed drain.new) }
-    ensures fault { (result.code ≡ read_fault) ↔ (read_failures_of tap.old < read_failures_of tap.new) }
+    ensures fault { (result.code ≡ READ_FAULT) ↔ (read_failures_of tap.old < read_failures_of tap.new) }
     ensures reads { (reads_of tap.old ≤ reads_of tap.new) × (reads_of tap.new ≤ reads_of tap.old + most_bytes + 1) }
     ensures failures { (read_failures_of tap.old ≤ read_failures_of tap.new)
         × (read_failures_of tap.new ≤ read_failures_of tap.old + 1) }

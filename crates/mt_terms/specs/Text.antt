@@ -4,7 +4,7 @@ use Rattle.std.specs.List.{flat_map, join_with_byte, list_any, slice_split, star
 use Rattle.mt_terms.specs.Lists.{below, count, total_below}
 use Rattle.mt_terms.specs.Market.{Market, Names, applicants, program_of}
 use Rattle.mt_terms.specs.Matching.{Places, place_of, filled}
-use Rattle.mt_terms.specs.Registration.Faults.{no_version, unknown_kind, field_count, bad_id, bad_quota, duplicate_id, duplicate_entry, too_many, unknown_applicant, unknown_program, not_registered}
+use Rattle.mt_terms.specs.declared.codes.TheConstants.{TOO_LARGE, TWO_MARKS, NO_VERSION, UNKNOWN_KIND, FIELD_COUNT, BAD_ID, BAD_QUOTA, DUPLICATE_ID, DUPLICATE_ENTRY, TOO_MANY, UNKNOWN_APPLICANT, UNKNOWN_PROGRAM, NOT_REGISTERED, OUT_OF_MEMORY, READ_FAULT, BUDGET_SPENT}
 use Rattle.mt_terms.specs.Registration.Ids.{Bytes, is_id}
 use Rattle.mt_terms.specs.declared.limits.TheConstants.{LIMITS_2}
 
@@ -52,37 +52,21 @@ published m names places received =
     ++ flat_map (program_line m names places received) (below (length m.programs))
     ++ totals_line m places
 
--- the codes of the refusals that are no fault of a file's records
-abbrev pub too_large : ℕ
-too_large = 10
-
-abbrev pub two_marks : ℕ
-two_marks = 11
-
-abbrev pub out_of_memory : ℕ
-out_of_memory = 30
-
-abbrev pub read_fault : ℕ
-read_fault = 31
-
-abbrev pub budget_spent : ℕ
-budget_spent = 41
-
 -- the codes of the refusals, each with its name
 abbrev pub refusals : List (ℕ × List ℕ)
 refusals =
-    (too_large, codes "TooLarge") ∷ (two_marks, codes "TwoMarks") ∷ (no_version, codes "NoVersion") ∷ (unknown_kind, codes "UnknownKind")
-    ∷ (field_count, codes "FieldCount") ∷ (bad_id, codes "BadId") ∷ (bad_quota, codes "BadQuota") ∷ (duplicate_id, codes "DuplicateId")
-    ∷ (duplicate_entry, codes "DuplicateEntry") ∷ (too_many, codes "TooMany") ∷ (unknown_applicant, codes "UnknownApplicant")
-    ∷ (unknown_program, codes "UnknownProgram") ∷ (not_registered, codes "NotRegistered")
-    ∷ (out_of_memory, codes "OutOfMemory") ∷ (read_fault, codes "ReadFault") ∷ (budget_spent, codes "BudgetSpent") ∷ []
+    (TOO_LARGE, codes "TooLarge") ∷ (TWO_MARKS, codes "TwoMarks") ∷ (NO_VERSION, codes "NoVersion") ∷ (UNKNOWN_KIND, codes "UnknownKind")
+    ∷ (FIELD_COUNT, codes "FieldCount") ∷ (BAD_ID, codes "BadId") ∷ (BAD_QUOTA, codes "BadQuota") ∷ (DUPLICATE_ID, codes "DuplicateId")
+    ∷ (DUPLICATE_ENTRY, codes "DuplicateEntry") ∷ (TOO_MANY, codes "TooMany") ∷ (UNKNOWN_APPLICANT, codes "UnknownApplicant")
+    ∷ (UNKNOWN_PROGRAM, codes "UnknownProgram") ∷ (NOT_REGISTERED, codes "NotRegistered")
+    ∷ (OUT_OF_MEMORY, codes "OutOfMemory") ∷ (READ_FAULT, codes "ReadFault") ∷ (BUDGET_SPENT, codes "BudgetSpent") ∷ []
 
 abbrev pub is_known_code : ℕ → Bool
 is_known_code code = list_any (λ r. r.0 == code) refusals
 
 -- the codes of the faults of a file, which are the known ones from 12 to 22: only they tell a record or an id
 abbrev pub is_fault_code : ℕ → Bool
-is_fault_code code = is_known_code code && nat_le no_version code && nat_le code not_registered
+is_fault_code code = is_known_code code && nat_le NO_VERSION code && nat_le code NOT_REGISTERED
 
 -- no byte, or an id, which has 64 bytes at most
 abbrev pub is_none_or_id : Bytes → Bool

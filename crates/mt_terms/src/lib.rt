@@ -2,12 +2,14 @@
 //! the limits of an input, a match, and in `specs/` the definitions that every contract cites.
 #![tactic(auto)]
 
+pub mod codes;
 mod events;
 pub mod examples;
 mod limits;
 mod matching;
 mod numbers;
 mod options;
+mod refusal;
 mod verdict;
 
 pub use events::{Event, Reply};
@@ -15,4 +17,5 @@ pub use limits::{LIMITS, LIMITS_2, Limits};
 pub use matching::{Match, Places};
 pub use numbers::{Agent, AppNo, CoupleNo, ProgNo};
 pub use options::Options;
+pub use refusal::{IdText, Refusal};
 pub use verdict::{Blocker, Verdict};

@@ -2,7 +2,7 @@
 use Rattle.std.specs.Prelude.{◌≡◌, true, false, [], ◌∷◌, Some, None, codes}
 use Rattle.mt_terms.specs.Examples.Markets
 use Rattle.mt_terms.specs.Text.{published, refused, is_none_or_id}
-use Rattle.mt_terms.specs.Registration.Faults.{not_registered}
+use Rattle.mt_terms.specs.declared.codes.TheConstants.{NOT_REGISTERED}
 
 -- the text of the best match of the crossed wishes
 pub record CrossedText : Type 0 where
@@ -27,7 +27,7 @@ pub record RefusalLines : Type 0 where
   pub with_id : refused 17 3 (codes "a") ≡ codes "match,1,refused,17,DuplicateId,3,a\n"
   pub with_record : refused 14 2 [] ≡ codes "match,1,refused,14,FieldCount,2,-\n"
   pub alone : refused 41 0 [] ≡ codes "match,1,refused,41,BudgetSpent,0,-\n"
-  pub last_fault : refused not_registered 5 (codes "a") ≡ codes "match,1,refused,22,NotRegistered,5,a\n"
+  pub last_fault : refused NOT_REGISTERED 5 (codes "a") ≡ codes "match,1,refused,22,NotRegistered,5,a\n"
   pub last_record : refused 19 20002 (codes "p20001") ≡ codes "match,1,refused,19,TooMany,20002,p20001\n"
 
 -- An id has neither a comma nor a line feed in it.

@@ -4,7 +4,8 @@ use Rattle.std.specs.Bool.{then_some}
 use Rattle.std.specs.Option.{option_eq, option_map_or}
 use Rattle.mt_terms.specs.declared.limits.Limits.{Limits}
 use Rattle.mt_terms.specs.Registration.Ids.{Bytes, has_id, all_differ}
-use Rattle.mt_terms.specs.Registration.Faults.{Fault, Charge, charge, fault_at, duplicate_id, duplicate_entry, too_many, unknown_applicant, unknown_program, not_registered}
+use Rattle.mt_terms.specs.Registration.Faults.{Fault, Charge, charge, fault_at}
+use Rattle.mt_terms.specs.declared.codes.TheConstants.{DUPLICATE_ID, DUPLICATE_ENTRY, TOO_MANY, UNKNOWN_APPLICANT, UNKNOWN_PROGRAM, NOT_REGISTERED}
 use Rattle.mt_terms.specs.Registration.Records.{Rules, Record, ProgramRecord, ApplicantRecord, CoupleRecord, WithdrawRecord, OfProgram, OfCouple, IdPair, record_of}
 use Rattle.mt_terms.specs.Registration.Rows.{id_of, ids_of, withdrawn, applicant_ids, entry_count}
 
@@ -70,39 +71,44 @@ named p = option_to_list p.0 ++ option_to_list p.1
 
 -- the first id that a record names and that none of all the records registers
 abbrev pub unknown_id : List Record → Record → Option Charge
-unknown_id all (ProgramRecord id quota list) = option_map (charge unknown_applicant) (first_not_in (applicant_ids all) list)
-unknown_id all (ApplicantRecord id list) = option_map (charge unknown_program) (first_not_in (ids_of OfProgram all) list)
-unknown_id all (CoupleRecord id a b pairs) = option_map (charge unknown_program) (first_not_in (ids_of OfProgram all) (flat_map named pairs))
-unknown_id all (WithdrawRecord kind id) = option_map (charge not_registered) (first_not_in (ids_of kind all) (id ∷ []))
+unknown_id all (ProgramRecord id quota list) = option_map (charge UNKNOWN_APPLICANT) (first_not_in (applicant_ids all) list)
+unknown_id all (ApplicantRecord id list) = option_map (charge UNKNOWN_PROGRAM) (first_not_in (ids_of OfProgram all) list)
+unknown_id all (CoupleRecord id a b pairs) = option_map (charge UNKNOWN_PROGRAM) (first_not_in (ids_of OfProgram all) (flat_map named pairs))
+unknown_id all (WithdrawRecord kind id) = option_map (charge NOT_REGISTERED) (first_not_in (ids_of kind all) (id ∷ []))
 
--- the first fault of a record that follows these
-abbrev pub clash : Rules → List Record → Record → Option Charge
-clash rules before r =
+-- the first conflict of a record with those before it
+abbrev pub first_conflict : Rules → List Record → Record → Option Charge
+first_conflict rules before r =
     first_of
-    (option_map (charge duplicate_id) (registered_before before r)
-    ∷ then_some (says_twice before r) (charge duplicate_entry (id_of r))
-    ∷ then_some (are_too_many rules.limits (before ++ r ∷ [])) (charge too_many (id_of r))
+    (option_map (charge DUPLICATE_ID) (registered_before before r)
+    ∷ then_some (says_twice before r) (charge DUPLICATE_ENTRY (id_of r))
+    ∷ then_some (are_too_many rules.limits (before ++ r ∷ [])) (charge TOO_MANY (id_of r))
     ∷ [])
 
--- one of two ways on, by what a result is
-abbrev pub on_result : {X E Y : Type 0} → Result X E → (X → Y) → (E → Y) → Y
-on_result (Ok x) f g = f x
-on_result (Err e) f g = g e
+-- what comes next, where there is no fault
+abbrev pub and_then : {X Y E : Type 0} → Result X E → (X → Result Y E) → Result Y E
+and_then (Ok x) next = next x
+and_then (Err e) next = Err e
 
--- a record that follows these, or its first fault: by itself, and then beside them
+-- this, unless there is a fault
+abbrev pub unless : {X E : Type 0} → Option E → X → Result X E
+unless None x = Ok x
+unless (Some e) x = Err e
+
+-- a charge as the fault of record n
+abbrev pub at_record : {X : Type 0} → ℕ → Result X Charge → Result X Fault
+at_record n (Ok x) = Ok x
+at_record n (Err c) = Err (fault_at n c)
+
+-- the next record: read by itself, and then in no conflict with those before it
 abbrev pub next_record : Rules → List Record → List Bytes → Result Record Charge
-next_record rules before fields =
-    on_result (record_of rules fields)
-    (λ r. option_map_or (λ c. Err c) (clash rules before r) (Ok r))
-    (λ c. Err c)
+next_record rules before fields = and_then (record_of rules fields) (λ r. unless (first_conflict rules before r) r)
 
--- the first pass: the records taken apart, after those before them, or the first fault
+-- the first pass: each record after those before it, up to the first fault
 abbrev pub first_pass : Rules → List (Numbered Record) → List (Numbered (List Bytes)) → Result (List (Numbered Record)) Fault
 first_pass rules before [] = Ok before
 first_pass rules before (row ∷ rows) =
-    on_result (next_record rules (contents before) row.1)
-    (λ r. first_pass rules (before ++ (row.0, r) ∷ []) rows)
-    (λ c. Err (fault_at row.0 c))
+    and_then (at_record row.0 (next_record rules (contents before) row.1)) (λ r. first_pass rules (before ++ (row.0, r) ∷ []) rows)
 
 -- the second pass: the first record that names an unknown id
 abbrev pub second_pass : List (Numbered Record) → Option Fault

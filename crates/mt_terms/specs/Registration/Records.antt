@@ -4,7 +4,8 @@ use Rattle.std.specs.List.{list_all}
 use Rattle.mt_terms.specs.declared.limits.Limits.{Limits}
 use Rattle.mt_terms.specs.declared.limits.TheConstants.{LIMITS, LIMITS_2}
 use Rattle.mt_terms.specs.Registration.Ids.{Bytes, is_dash, is_id, quota_of}
-use Rattle.mt_terms.specs.Registration.Faults.{Charge, charge, charge_alone, unknown_kind, field_count, bad_id, bad_quota}
+use Rattle.mt_terms.specs.Registration.Faults.{Charge, charge, charge_alone}
+use Rattle.mt_terms.specs.declared.codes.TheConstants.{UNKNOWN_KIND, FIELD_COUNT, BAD_ID, BAD_QUOTA}
 
 -- what a version of the format allows: the limits, whether rows may be withdrawn, and whether one of the
 -- two ids of a pair may be `-`
@@ -77,31 +78,31 @@ pair_of p = (place p.0, place p.1)
 -- a record by the fields after its first, for each kind of record: its faults in the order of their codes
 abbrev pub program_record : Rules → List Bytes → Result Record Charge
 program_record rules (id ∷ quota ∷ list) =
-    if are_ids rules (id ∷ list) then ok_or (option_map (λ n. ProgramRecord id n list) (quota_of quota)) (charge bad_quota id)
-    else Err (charge_alone bad_id)
-program_record rules _ = Err (charge_alone field_count)
+    if are_ids rules (id ∷ list) then ok_or (option_map (λ n. ProgramRecord id n list) (quota_of quota)) (charge BAD_QUOTA id)
+    else Err (charge_alone BAD_ID)
+program_record rules _ = Err (charge_alone FIELD_COUNT)
 
 abbrev pub applicant_record : Rules → List Bytes → Result Record Charge
-applicant_record rules (id ∷ list) = if are_ids rules (id ∷ list) then Ok (ApplicantRecord id list) else Err (charge_alone bad_id)
-applicant_record rules [] = Err (charge_alone field_count)
+applicant_record rules (id ∷ list) = if are_ids rules (id ∷ list) then Ok (ApplicantRecord id list) else Err (charge_alone BAD_ID)
+applicant_record rules [] = Err (charge_alone FIELD_COUNT)
 
 abbrev pub couple_by_pairs : Rules → Bytes → Bytes → Bytes → Option (List (Bytes × Bytes)) → Result Record Charge
-couple_by_pairs rules id a b None = Err (charge_alone field_count)
+couple_by_pairs rules id a b None = Err (charge_alone FIELD_COUNT)
 couple_by_pairs rules id a b (Some pairs) =
     if are_ids rules (id ∷ a ∷ b ∷ []) && list_all (is_pair rules) pairs then Ok (CoupleRecord id a b (map pair_of pairs))
-    else Err (charge_alone bad_id)
+    else Err (charge_alone BAD_ID)
 
 abbrev pub couple_record : Rules → List Bytes → Result Record Charge
 couple_record rules (id ∷ a ∷ b ∷ fields) = couple_by_pairs rules id a b (two_by_two fields)
-couple_record rules _ = Err (charge_alone field_count)
+couple_record rules _ = Err (charge_alone FIELD_COUNT)
 
 abbrev pub withdraw_by_kind : Rules → Option Kind → List Bytes → Result Record Charge
-withdraw_by_kind rules None fields = Err (charge_alone unknown_kind)
-withdraw_by_kind rules (Some kind) (id ∷ []) = if are_ids rules (id ∷ []) then Ok (WithdrawRecord kind id) else Err (charge_alone bad_id)
-withdraw_by_kind rules (Some kind) _ = Err (charge_alone field_count)
+withdraw_by_kind rules None fields = Err (charge_alone UNKNOWN_KIND)
+withdraw_by_kind rules (Some kind) (id ∷ []) = if are_ids rules (id ∷ []) then Ok (WithdrawRecord kind id) else Err (charge_alone BAD_ID)
+withdraw_by_kind rules (Some kind) _ = Err (charge_alone FIELD_COUNT)
 
 abbrev pub withdraw_record : Rules → List Bytes → Result Record Charge
-withdraw_record rules [] = Err (charge_alone field_count)
+withdraw_record rules [] = Err (charge_alone FIELD_COUNT)
 withdraw_record rules (word ∷ fields) = withdraw_by_kind rules (kind_of word) fields
 
 -- a record by its first field: a withdrawal, or else one of a kind
@@ -109,11 +110,11 @@ abbrev pub record_by_kind : Rules → Option Kind → List Bytes → Result Reco
 record_by_kind rules (Some OfProgram) fields = program_record rules fields
 record_by_kind rules (Some OfApplicant) fields = applicant_record rules fields
 record_by_kind rules (Some OfCouple) fields = couple_record rules fields
-record_by_kind rules None fields = Err (charge_alone unknown_kind)
+record_by_kind rules None fields = Err (charge_alone UNKNOWN_KIND)
 
 -- a record by all its fields, of which there is one at least
 abbrev pub record_of : Rules → List Bytes → Result Record Charge
-record_of rules [] = Err (charge_alone unknown_kind)
+record_of rules [] = Err (charge_alone UNKNOWN_KIND)
 record_of rules (word ∷ fields) =
     if rules.withdrawals && bytes_eq word (codes "withdraw") then withdraw_record rules fields
     else record_by_kind rules (kind_of word) fields

@@ -1,7 +1,7 @@
 //! Files of records, with the market that each registers or its first fault.
 ghost use Rattle.std.specs.Prelude.{◌≡◌, List, [], ◌∷◌, ◌++◌, Ok};
 ghost use Rattle.mt_terms.specs.Registration.{market_of};
-ghost use Rattle.mt_terms.specs.Registration.Faults.{no_version, unknown_kind, field_count, bad_id, bad_quota, duplicate_id, duplicate_entry, too_many, unknown_applicant, unknown_program, not_registered};
+ghost use Rattle.mt_terms.specs.declared.codes.TheConstants.{NO_VERSION, UNKNOWN_KIND, FIELD_COUNT, BAD_ID, BAD_QUOTA, DUPLICATE_ID, DUPLICATE_ENTRY, TOO_MANY, UNKNOWN_APPLICANT, UNKNOWN_PROGRAM, NOT_REGISTERED};
 ghost use Rattle.mt_terms.specs.Examples.Markets.{crossed, half_pair, three_couples};
 ghost use Rattle.mt_terms.specs.Examples.Registration.{crossed_file, chain_file, chain_without_applicant, single_between_file, unstable_file, unstable_without_couple, three_couples_file, three_couples_without_program, one_applicant, each_member_alone, one_name_file, one_name_without_program, small, market_within, full_file, full};
 ghost use Rattle.mt_terms.specs.Examples.RegistrationText.{file, file_1, file_2, named, refused};
@@ -21,35 +21,35 @@ pub fn registered_files()
 /// What a record is by itself: the first that has a field names the version, each kind has its own number of fields,
 /// ids are of some bytes alone, and a quota is one to four digits.
 pub fn records_that_cannot_be_read()
-    ensures third_version { market_of (file ("match,3" ∷ crossed_file)) ≡ refused no_version 1 "" }
-    ensures kind_after_a_blank_record { market_of (file ("" ∷ "match,1" ∷ "" ∷ "post,P" ∷ [])) ≡ refused unknown_kind 4 "" }
-    ensures no_withdrawal_in_version_1 { market_of (file_1 (crossed_file ++ "withdraw,program,P1" ∷ [])) ≡ refused unknown_kind 6 "" }
-    ensures field_count_before_the_ids { market_of (file_1 ("couple,c,a,b,x!" ∷ [])) ≡ refused field_count 2 "" }
-    ensures dash_in_a_list { market_of (file_2 ("applicant,a,-" ∷ [])) ≡ refused bad_id 2 "" }
-    ensures pair_of_nothing { market_of (file_2 ("couple,c,a,b,-,-" ∷ [])) ≡ refused bad_id 2 "" }
-    ensures half_a_pair_in_version_1 { market_of (file_1 ("couple,c,a,b,x,-" ∷ [])) ≡ refused bad_id 2 "" }
-    ensures quota_of_five_digits { market_of (file_1 ("program,P,00001" ∷ [])) ≡ refused bad_quota 2 "P" }
+    ensures third_version { market_of (file ("match,3" ∷ crossed_file)) ≡ refused NO_VERSION 1 "" }
+    ensures kind_after_a_blank_record { market_of (file ("" ∷ "match,1" ∷ "" ∷ "post,P" ∷ [])) ≡ refused UNKNOWN_KIND 4 "" }
+    ensures no_withdrawal_in_version_1 { market_of (file_1 (crossed_file ++ "withdraw,program,P1" ∷ [])) ≡ refused UNKNOWN_KIND 6 "" }
+    ensures field_count_before_the_ids { market_of (file_1 ("couple,c,a,b,x!" ∷ [])) ≡ refused FIELD_COUNT 2 "" }
+    ensures dash_in_a_list { market_of (file_2 ("applicant,a,-" ∷ [])) ≡ refused BAD_ID 2 "" }
+    ensures pair_of_nothing { market_of (file_2 ("couple,c,a,b,-,-" ∷ [])) ≡ refused BAD_ID 2 "" }
+    ensures half_a_pair_in_version_1 { market_of (file_1 ("couple,c,a,b,x,-" ∷ [])) ≡ refused BAD_ID 2 "" }
+    ensures quota_of_five_digits { market_of (file_1 ("program,P,00001" ∷ [])) ≡ refused BAD_QUOTA 2 "P" }
 {}
 
 /// What a record is beside those before it: an id is registered once in its name space, nothing stands twice in a
 /// list, and the counts have limits. What is withdrawn counts, and so does a `-` in a pair.
 pub fn records_that_do_not_go_together()
-    ensures applicant_after_a_member { market_of (file_1 ("couple,c,a,b" ∷ "applicant,a" ∷ [])) ≡ refused duplicate_id 3 "a" }
-    ensures couple_of_one { market_of (file_1 ("couple,c,a,a" ∷ [])) ≡ refused duplicate_id 2 "a" }
-    ensures own_id_first { market_of (file_1 ("couple,c,a,b" ∷ "couple,c,b,a" ∷ [])) ≡ refused duplicate_id 3 "c" }
-    ensures pair_twice { market_of (file_1 ("couple,c,a,b,x,y,y,x,x,y" ∷ [])) ≡ refused duplicate_entry 2 "c" }
+    ensures applicant_after_a_member { market_of (file_1 ("couple,c,a,b" ∷ "applicant,a" ∷ [])) ≡ refused DUPLICATE_ID 3 "a" }
+    ensures couple_of_one { market_of (file_1 ("couple,c,a,a" ∷ [])) ≡ refused DUPLICATE_ID 2 "a" }
+    ensures own_id_first { market_of (file_1 ("couple,c,a,b" ∷ "couple,c,b,a" ∷ [])) ≡ refused DUPLICATE_ID 3 "c" }
+    ensures pair_twice { market_of (file_1 ("couple,c,a,b,x,y,y,x,x,y" ∷ [])) ≡ refused DUPLICATE_ENTRY 2 "c" }
     ensures limits_reached { market_within small full_file ≡ Ok (named full "x,y" "s,a,b" "c") }
-    ensures too_many_programs { market_within small ("program,p1,0" ∷ "program,p2,0" ∷ "program,p3,0" ∷ []) ≡ refused too_many 4 "p3" }
-    ensures withdrawn_program_counts { market_within small ("program,p1,0" ∷ "program,p2,0" ∷ "withdraw,program,p1" ∷ "program,p3,0" ∷ []) ≡ refused too_many 5 "p3" }
+    ensures too_many_programs { market_within small ("program,p1,0" ∷ "program,p2,0" ∷ "program,p3,0" ∷ []) ≡ refused TOO_MANY 4 "p3" }
+    ensures withdrawn_program_counts { market_within small ("program,p1,0" ∷ "program,p2,0" ∷ "withdraw,program,p1" ∷ "program,p3,0" ∷ []) ≡ refused TOO_MANY 5 "p3" }
 {}
 
 /// What a record names is looked up once all records stand, in the order of the records and of their fields. A
 /// withdrawal names a record of its kind, so no member is withdrawn alone.
 pub fn names_that_nobody_registers()
-    ensures applicant { market_of (file_1 ("program,P,1,a,z,y" ∷ "applicant,a" ∷ [])) ≡ refused unknown_applicant 2 "z" }
-    ensures both_programs_of_a_pair { market_of (file_1 ("couple,c,a,b,z,y" ∷ [])) ≡ refused unknown_program 2 "z" }
-    ensures first_pass_before_it { market_of (file_1 ("applicant,a,Q" ∷ "program,P,1,b!" ∷ [])) ≡ refused bad_id 3 "" }
-    ensures member_withdrawn_alone { market_of (file_2 (single_between_file ++ "withdraw,applicant,a" ∷ [])) ≡ refused not_registered 5 "a" }
+    ensures applicant { market_of (file_1 ("program,P,1,a,z,y" ∷ "applicant,a" ∷ [])) ≡ refused UNKNOWN_APPLICANT 2 "z" }
+    ensures both_programs_of_a_pair { market_of (file_1 ("couple,c,a,b,z,y" ∷ [])) ≡ refused UNKNOWN_PROGRAM 2 "z" }
+    ensures first_pass_before_it { market_of (file_1 ("applicant,a,Q" ∷ "program,P,1,b!" ∷ [])) ≡ refused BAD_ID 3 "" }
+    ensures member_withdrawn_alone { market_of (file_2 (single_between_file ++ "withdraw,applicant,a" ∷ [])) ≡ refused NOT_REGISTERED 5 "a" }
 {}
 
 /// The withdrawn rows leave the market, and their ids all lists; the others move up. A withdrawn couple takes its

@@ -1,4 +1,4 @@
-use Rattle.mt_file_laws.proofs.FaultCodes.{fault_codes_lem}
+use Rattle.mt_file_laws.proofs.FaultFacts.{fault_codes_lem}
 use Rattle.mt_file_laws.proofs.registration.fault_codes.Goals as goal
 
 pub returns : goal.returns

@@ -1,6 +1,6 @@
 use Rattle.std.proofs.Common.{ap, sym, ◌∙◌, Ok, Err}
 use Rattle.std.specs.Prelude.{option_map}
-use Rattle.std.specs.Option.{option_map_or}
+use Rattle.mt_terms.specs.Registration.Passes.{unless}
 use Rattle.mt_terms.specs.Registration.Numbering.{registered}
 use Rattle.mt_roster.specs.Refusals.{fault_seen}
 use Rattle.mt_roster.specs.Registers.{records_seen, contents_seen}
@@ -11,7 +11,7 @@ pub returns-in-Some-second_pass : goal.returns-in-Some-second_pass
 returns-in-Some-second_pass c =
     c.in_ok-rules.ensures.market
     ∙ market_after c.in_ok-rules.rules _ (records_seen c.in_ok-register.register) c.in_ok-register.ensures.1
-    ∙ ap (λ o. option_map_or (λ fault. Err fault) o (Ok (registered (contents_seen c.in_ok-register.register)))) (sym c.second_pass.ensures ∙ ap (option_map fault_seen) c.in-Some-second_pass.is)
+    ∙ ap (λ o. unless o (registered (contents_seen c.in_ok-register.register))) (sym c.second_pass.ensures ∙ ap (option_map fault_seen) c.in-Some-second_pass.is)
 
 pub roster_of-requires-clause-accepted : goal.roster_of-requires-clause-accepted
 roster_of-requires-clause-accepted c =
