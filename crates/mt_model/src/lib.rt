@@ -1,8 +1,8 @@
 //! The residency match as a theory: the terms of `mt_terms`, and their laws.
 
 pub use mt_terms::{
-    Agent, AppNo, Blocker, CoupleNo, Event, IdText, LIMITS, LIMITS_2, Limits, Match, Options, Places,
-    ProgNo, Refusal, Reply, Verdict, examples,
+    Agent, AppNo, Blocker, CoupleNo, Event, IdText, LIMITS, LIMITS_2, Limits, Match, Options,
+    Places, ProgNo, Refusal, Reply, Verdict, examples,
 };
 
 /// The laws of the terms: each is the contract of a function that does nothing.

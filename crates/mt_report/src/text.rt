@@ -2,8 +2,8 @@ ghost use Rattle.std.specs.Prelude.{◌≡◌, ℕ, ◌+◌, ◌*◌, ◌<◌, �
 ghost use Rattle.std.specs.List.{flat_map};
 ghost use Rattle.mt_terms.specs.Lists.{below, total_below};
 ghost use Rattle.mt_terms.specs.Market.{applicants, program_of};
-ghost use Rattle.mt_terms.specs.Matching.{at, filled, place_of};
-ghost use Rattle.mt_terms.specs.Text.{all_filled, applicant_line, line, place_text, positions, program_line, published as published_text, totals_line, unmatched};
+ghost use Rattle.mt_terms.specs.Matching.{at, filled, filled_counts, place_of};
+ghost use Rattle.mt_terms.specs.Text.{applicant_lines, counts_line, place_line, place_text, positions, program_lines, published as published_text, sums_line, totals_line, unmatched};
 ghost use Rattle.mt_terms.specs.Places.{ArePlaces};
 
 use itoa::Buffer;
@@ -22,7 +22,7 @@ fn push_number(text: &mut Vec<u8>, number: u64) -> Result<(), AllocError>
 
 /// Adds the line of an applicant.
 fn push_applicant(text: &mut Vec<u8>, id: &[u8], place: &[u8]) -> Result<(), AllocError>
-    ensures ok { OnOk result (text.new.items ≡ text.old.items ++ line (codes "applicant" ∷ id.now ∷ place.now ∷ [])) }
+    ensures ok { OnOk result (text.new.items ≡ text.old.items ++ place_line id.now place.now) }
 {
     text.extend_from_slice(b"applicant,")?;
     text.extend_from_slice(id)?;
@@ -40,7 +40,7 @@ fn push_program(
     filled: u32,
     received: u32,
 ) -> Result<(), AllocError>
-    ensures ok { OnOk result (text.new.items ≡ text.old.items ++ line (codes "program" ∷ id.now ∷ decimal quota ∷ decimal filled ∷ decimal received ∷ [])) }
+    ensures ok { OnOk result (text.new.items ≡ text.old.items ++ counts_line id.now quota filled received) }
 {
     text.extend_from_slice(b"program,")?;
     text.extend_from_slice(id)?;
@@ -65,7 +65,7 @@ fn place_id<'a>(roster: &'a Roster, matched: &Match, applicant: AppNo) -> &'a [u
 /// Adds the lines of all applicants.
 fn push_applicants(text: &mut Vec<u8>, roster: &Roster, matched: &Match) -> Result<(), AllocError>
     requires { ArePlaces roster.now.market matched.now.places }
-    ensures ok { OnOk result (text.new.items ≡ text.old.items ++ flat_map (applicant_line roster.now.names matched.now.places) (below (applicants roster.now.market))) }
+    ensures ok { OnOk result (text.new.items ≡ text.old.items ++ applicant_lines roster.now.market roster.now.names matched.now.places) }
 {
     for number in 0..roster.applicants() {
         let applicant = AppNo(number);
@@ -83,9 +83,9 @@ fn push_programs(
     counts: &[u32],
     received: &[u32],
 ) -> Result<(), AllocError>
-    requires counts { counts.now ≡ map (filled matched.now.places) (below (length roster.now.market.programs)) }
+    requires counts { counts.now ≡ filled_counts roster.now.market matched.now.places }
     requires received { length received.now ≡ length roster.now.market.programs }
-    ensures ok { OnOk result (text.new.items ≡ text.old.items ++ flat_map (program_line roster.now.market roster.now.names matched.now.places received.now) (below (length roster.now.market.programs))) }
+    ensures ok { OnOk result (text.new.items ≡ text.old.items ++ program_lines roster.now.market roster.now.names matched.now.places received.now) }
 {
     for number in 0..roster.programs() {
         let program = ProgNo(number);
@@ -165,7 +165,7 @@ fn push_numbers(
     positions: u64,
     unfilled: u64,
 ) -> Result<(), AllocError>
-    ensures ok { OnOk result (text.new.items ≡ text.old.items ++ line (codes "totals" ∷ decimal applicants ∷ decimal unmatched ∷ decimal positions ∷ decimal unfilled ∷ [])) }
+    ensures ok { OnOk result (text.new.items ≡ text.old.items ++ sums_line applicants unmatched positions unfilled) }
 {
     text.extend_from_slice(b"totals")?;
     push_number(text, u64::from(applicants))?;
@@ -184,7 +184,7 @@ fn push_totals(
     counts: &[u32],
 ) -> Result<(), AllocError>
     requires places { ArePlaces roster.now.market matched.now.places }
-    requires counts { counts.now ≡ map (filled matched.now.places) (below (length roster.now.market.programs)) }
+    requires counts { counts.now ≡ filled_counts roster.now.market matched.now.places }
     ensures ok { OnOk result (text.new.items ≡ text.old.items ++ totals_line roster.now.market matched.now.places) }
 {
     let applicants = roster.applicants();

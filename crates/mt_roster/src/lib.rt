@@ -21,6 +21,6 @@ mod second_pass;
 mod unknown;
 
 pub use fault::RosterError;
-pub use mt_terms::{IdText, Refusal as RosterFault};
 pub use mt_market::Roster;
+pub use mt_terms::{IdText, Refusal as RosterFault};
 pub use reading::roster;

@@ -1,5 +1,5 @@
 -- What a run writes for the bytes that it reads.
-use Rattle.std.specs.Prelude.{◌≡◌, ◌≢◌, ℕ, ◌≤◌, List, [], map, length, take, Option, None, Some, IsTrue, nat_lt, MatchOption, MatchResult, Bool}
+use Rattle.std.specs.Prelude.{◌≡◌, ◌≢◌, ℕ, ◌+◌, ◌≤◌, List, [], map, length, take, Option, None, Some, IsTrue, nat_lt, MatchOption, MatchResult, Bool}
 use Rattle.std.specs.Bool.{MatchBool}
 use Rattle.std.specs.Io.KnownBytes.{Appends}
 use Rattle.mt_lists.specs.Records.{records_of}
@@ -68,6 +68,10 @@ IsAnswer bytes budget code text =
 abbrev pub IsAnswerTo : Option (List ℕ) → ℕ → ℕ → List ℕ → Type 0
 IsAnswerTo (Some bytes) budget code text = IsAnswer bytes budget code text
 IsAnswerTo None budget code text = (bytes : List ℕ) × IsAnswer bytes budget code text
+
+-- a count goes up by no more than this
+abbrev pub RisesAtMost : ℕ → ℕ → ℕ → Type 0
+RisesAtMost most old new = (old ≤ new) × (new ≤ old + most)
 
 -- What a run did: it appended the first bytes of a text, all of it where the writer didn't fail. The text is one
 -- named refusal line where the code isn't 0, and that of a stable match where it is; and but for want of memory

@@ -2,7 +2,7 @@ ghost use Rattle.std.specs.Prelude.{◌≡◌, ◌+◌, ◌<◌, ◌≤◌, ◌^
 ghost use Rattle.mt_lists.specs.Tap.{bytes_left, failures_of as read_failures_of, reads_of};
 ghost use Rattle.mt_terms.specs.declared.codes.TheConstants.{READ_FAULT};
 ghost use Rattle.mt_report.specs.Drains.{contents_of, failures_of, is_flushed};
-ghost use Rattle.mt_run.specs.Answer.{Answers, IsAnswer, IsAnswerTo, most_bytes};
+ghost use Rattle.mt_run.specs.Answer.{Answers, IsAnswer, IsAnswerTo, RisesAtMost, most_bytes};
 ghost use Rattle.mt_run.specs.Refusals.{code_of, IsRefusalBy, IsRefusalTo};
 
 use crate::answer::answer_to_rows;
@@ -37,9 +37,8 @@ fn answer_to_input<R: Read>(
     ensures text { IfOk result (λ text. IsAnswerTo (bytes_left R.remaining tap.old) budget 0 text.items) }
     ensures refused { IfErr result (IsRefusalTo (bytes_left R.remaining tap.old) budget) }
     ensures fault { (code_of result ≡ READ_FAULT) ↔ (read_failures_of tap.old < read_failures_of tap.new) }
-    ensures reads { (reads_of tap.old ≤ reads_of tap.new) × (reads_of tap.new ≤ reads_of tap.old + most_bytes + 1) }
-    ensures failures { (read_failures_of tap.old ≤ read_failures_of tap.new)
-        × (read_failures_of tap.new ≤ read_failures_of tap.old + 1) }
+    ensures reads { RisesAtMost (most_bytes + 1) (reads_of tap.old) (reads_of tap.new) }
+    ensures failures { RisesAtMost 1 (read_failures_of tap.old) (read_failures_of tap.new) }
 {
     match read_all(alloc, tap, LIMITS.bytes) {
         Ok(bytes) => answer_to_bytes(alloc, &bytes, budget),
@@ -64,9 +63,8 @@ pub fn run<R: Read, W: Write>(
     ensures writer { failures_of drain.new ≡ failures_of drain.old + (if result.whole then 0 else 1) }
     ensures flushed { IsTrue result.whole → IsTrue (is_flushed drain.new) }
     ensures fault { (result.code ≡ READ_FAULT) ↔ (read_failures_of tap.old < read_failures_of tap.new) }
-    ensures reads { (reads_of tap.old ≤ reads_of tap.new) × (reads_of tap.new ≤ reads_of tap.old + most_bytes + 1) }
-    ensures failures { (read_failures_of tap.old ≤ read_failures_of tap.new)
-        × (read_failures_of tap.new ≤ read_failures_of tap.old + 1) }
+    ensures reads { RisesAtMost (most_bytes + 1) (reads_of tap.old) (reads_of tap.new) }
+    ensures failures { RisesAtMost 1 (read_failures_of tap.old) (read_failures_of tap.new) }
 {
     match answer_to_input(alloc, tap, options.budget) {
         Ok(text) => {

@@ -1,7 +1,7 @@
 -- A match, who is where in it, and where an option sends an agent's members.
-use Rattle.std.specs.Prelude.{◌≡◌, ℕ, ◌+◌, ◌<◌, Bool, true, false, not, ◌==◌, List, [], ◌∷◌, map, Option, Some, None, slice_index_or, slice_set, is_some, if◌then◌else◌}
+use Rattle.std.specs.Prelude.{◌≡◌, ℕ, ◌+◌, ◌<◌, Bool, true, false, not, ◌==◌, List, [], ◌∷◌, map, length, Option, Some, None, slice_index_or, slice_set, is_some, if◌then◌else◌}
 use Rattle.std.specs.List.{list_all}
-use Rattle.mt_terms.specs.Lists.{Set, until, count}
+use Rattle.mt_terms.specs.Lists.{Set, until, count, below}
 use Rattle.mt_terms.specs.Market.{Market, Pair, list_of, couple_of, program_of}
 use Rattle.mt_terms.specs.declared.numbers.Agent.{Agent}
 use Rattle.mt_terms.specs.declared.numbers.Agent.TheVariants.{Single, Couple}
@@ -26,6 +26,10 @@ at places p a = is_program p (place_of places a)
 -- how many applicants are placed at a program
 abbrev pub filled : Places → ℕ → ℕ
 filled places p = count (is_program p) places
+
+-- the same of each program
+abbrev pub filled_counts : Market → Places → List ℕ
+filled_counts m places = map (filled places) (below (length m.programs))
 
 -- where the members of a set stand on a list, in rising order, if its first place has this number
 abbrev pub ranks_from : ℕ → Set → List ℕ → List ℕ

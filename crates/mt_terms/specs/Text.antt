@@ -21,13 +21,26 @@ abbrev pub place_text : Names → Option ℕ → List ℕ
 place_text names None = codes "-"
 place_text names (Some p) = name_of names.programs p
 
-abbrev pub applicant_line : Names → Places → ℕ → List ℕ
-applicant_line names places a = line (codes "applicant" ∷ name_of names.applicants a ∷ place_text names (place_of places a) ∷ [])
+-- the line of an id and a place
+abbrev pub place_line : List ℕ → List ℕ → List ℕ
+place_line id place = line (codes "applicant" ∷ id ∷ place ∷ [])
 
--- a program's quota, how many are placed there, and how many proposals it received from singles
+abbrev pub applicant_line : Names → Places → ℕ → List ℕ
+applicant_line names places a = place_line (name_of names.applicants a) (place_text names (place_of places a))
+
+abbrev pub applicant_lines : Market → Names → Places → List ℕ
+applicant_lines m names places = flat_map (applicant_line names places) (below (applicants m))
+
+-- the line of a program's id, its quota, how many are placed there, and how many proposals it received from singles
+abbrev pub counts_line : List ℕ → ℕ → ℕ → ℕ → List ℕ
+counts_line id quota filled received = line (codes "program" ∷ id ∷ decimal quota ∷ decimal filled ∷ decimal received ∷ [])
+
 abbrev pub program_line : Market → Names → Places → List ℕ → ℕ → List ℕ
 program_line m names places received p =
-    line (codes "program" ∷ name_of names.programs p ∷ decimal (program_of m p).quota ∷ decimal (filled places p) ∷ decimal (slice_index_or received p 0) ∷ [])
+    counts_line (name_of names.programs p) (program_of m p).quota (filled places p) (slice_index_or received p 0)
+
+abbrev pub program_lines : Market → Names → Places → List ℕ → List ℕ
+program_lines m names places received = flat_map (program_line m names places received) (below (length m.programs))
 
 -- how many applicants have no place
 abbrev pub unmatched : Places → ℕ
@@ -40,17 +53,19 @@ positions m = total_below (λ p. (program_of m p).quota) (length m.programs)
 abbrev pub all_filled : Market → Places → ℕ
 all_filled m places = total_below (filled places) (length m.programs)
 
+-- the line of how many applicants, unmatched ones, posts and free posts there are
+abbrev pub sums_line : ℕ → ℕ → ℕ → ℕ → List ℕ
+sums_line all unmatched positions unfilled =
+    line (codes "totals" ∷ decimal all ∷ decimal unmatched ∷ decimal positions ∷ decimal unfilled ∷ [])
+
 abbrev pub totals_line : Market → Places → List ℕ
-totals_line m places =
-    line (codes "totals" ∷ decimal (applicants m) ∷ decimal (unmatched places) ∷ decimal (positions m) ∷ decimal (positions m - all_filled m places) ∷ [])
+totals_line m places = sums_line (applicants m) (unmatched places) (positions m) (positions m - all_filled m places)
 
 -- the text of a match: every applicant, every program, and the totals
 abbrev pub published : Market → Names → Places → List ℕ → List ℕ
 published m names places received =
     line (codes "match" ∷ codes "1" ∷ codes "published" ∷ [])
-    ++ flat_map (applicant_line names places) (below (applicants m))
-    ++ flat_map (program_line m names places received) (below (length m.programs))
-    ++ totals_line m places
+    ++ applicant_lines m names places ++ program_lines m names places received ++ totals_line m places
 
 -- the codes of the refusals, each with its name
 abbrev pub refusals : List (ℕ × List ℕ)

@@ -1,7 +1,7 @@
 //! Accepted files. Numbers go by order of registration from 0, for programs, applicants and couples each.
 use crate::registration::{gives, make};
 use mt_lists::Row;
-use mt_roster::laws;
+use mt_model::laws;
 use std::alloc::Global;
 use std::test::Fail;
 
