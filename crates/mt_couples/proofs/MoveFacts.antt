@@ -11,7 +11,7 @@ use Rattle.mt_terms.specs.Lists.{has, below, is_distinct}
 use Rattle.mt_terms.specs.Market.{Market, applicants, program_of, agent_of, members, agents}
 use Rattle.mt_terms.specs.Matching.{Places, Placement, place_of, is_program, at, send, options, single_placement, couple_placement}
 use Rattle.mt_terms.specs.Choice.{choice}
-use Rattle.mt_terms.specs.Rounds.{programs_sent_to, displaced, displaced_at, is_left, is_same_agent, joined, all_joined, reopened_at, to_look_at}
+use Rattle.mt_terms.specs.Rounds.{programs_sent_to, displaced, displaced_at, is_left, is_same_agent, joined, all_joined, left_programs, move_of, blocking_on_list, rechecked}
 use Rattle.mt_terms.specs.Stability.{blocks}
 use Rattle.mt_terms.specs.declared.numbers.Agent.{Agent}
 use Rattle.mt_terms.specs.declared.numbers.Agent.TheVariants.{Single, Couple}
@@ -52,8 +52,8 @@ of_sent_to (s ∷ sent) p h = by_place s.1 refl h (of_sent_to sent p)
 
 -- Below, an agent takes an option.
 module _ {m : Market} {old : Places} {g : Agent} {sent : Placement} (taking : IsTaking m old g sent) where
-  pub move_of : IsMove m old g sent
-  move_of = record {
+  pub is_move : IsMove m old g sent
+  is_move = record {
     well_formed = taking.well_formed;
     fitting = fitting_facts m taking.well_formed old taking.fitting;
     agent = agent_from_list m taking.well_formed g (of_list g (agents m) taking.agent);
@@ -63,7 +63,7 @@ module _ {m : Market} {old : Places} {g : Agent} {sent : Placement} (taking : Is
 
   pub are_sent : AreSent m sent
   are_sent =
-      let mv = move_of in
+      let mv = is_move in
       let named = option_movers m g sent mv.option in
       record {
         distinct = subst (λ xs. is_distinct xs ≡ true) (sym named) mv.agent.distinct;
@@ -73,14 +73,14 @@ module _ {m : Market} {old : Places} {g : Agent} {sent : Placement} (taking : Is
 
   pub programs_within : (p : ℕ) → has (programs_sent_to sent) p ≡ true → p < length m.programs
   programs_within p on =
-      let mv = move_of in
+      let mv = is_move in
       let a = of_sent_to sent p on in
       let chosen = each _ (a.0, Some p) sent mv.taken a.1 in
       listing_program m p a.0 (choice_facts (program_of m p) (at (send sent old) p) a.0 chosen).is_listed
 
   pub displaced_within : (a : ℕ) → has (displaced m (send sent old) sent) a ≡ true → a < applicants m
   displaced_within a on =
-      let mv = move_of in
+      let mv = is_move in
       let p = of_displaced m (send sent old) sent a (has_in a _ on) in
       mv.well_formed.rankings_within p.0 a p.3
 
@@ -92,21 +92,21 @@ module _ {m : Market} {old : Places} {g : Agent} {sent : Placement} (taking : Is
   new = match_after m old sent
 
   -- who was at a program, is not there now and was not displaced there left it
-  leaver : (p a : ℕ) → a < applicants m → at old p a ≡ true → at new p a ≡ false → displaced_at m moved p a ≡ false → is_left m old moved new p ≡ true
+  leaver : (p a : ℕ) → a < applicants m → at old p a ≡ true → at new p a ≡ false → displaced_at m moved p a ≡ false → is_left m (move_of m old sent) p ≡ true
   leaver p a within was gone willing =
       finds _ a (below (applicants m)) (in_below a (applicants m) within) (and_from _ _ (and_from _ _ was (not_from_false _ gone)) (not_from_false _ willing))
 
   -- a member of the agent that moves is where it is sent
   mover_there : (a : ℕ) (v : Option ℕ) → In (a, v) sent → (place_of moved a ≡ v) × (place_of new a ≡ v)
   mover_there a v on =
-      let mv = move_of in
+      let mv = is_move in
       let there = option_there mv.agent sent mv.option old mv.fitting.one_each a v on in
       (there, stays_in mv g mv.agent (mover_stays mv) a (option_member m g sent mv.option a v on) ∙ there)
 
   -- a program that a member of the agent leaves
-  by_movers : (p : ℕ) → is_left_by_movers old sent p ≡ true → is_left m old moved new p ≡ true
+  by_movers : (p : ℕ) → is_left_by_movers old sent p ≡ true → is_left m (move_of m old sent) p ≡ true
   by_movers p h =
-      let mv = move_of in
+      let mv = is_move in
       let w = found (λ s. at old p s.0 && not (is_program p s.1)) sent h in
       let a = w.0.0 in
       let parts = and_parts (at old p a) (not (is_program p w.0.1)) w.2 in
@@ -116,9 +116,9 @@ module _ {m : Market} {old : Places} {g : Agent} {sent : Placement} (taking : Is
       (and_left (at moved p a) _ (ap (is_program p) there.0 ∙ elsewhere))
 
   -- a program that a member of a displaced applicant's agent leaves, where it was chosen
-  by_partners : (p : ℕ) → list_any (is_kept_at m moved p) (all_members m (displaced m moved sent)) ≡ true → is_left m old moved new p ≡ true
+  by_partners : (p : ℕ) → list_any (is_kept_at m moved p) (all_members m (displaced m moved sent)) ≡ true → is_left m (move_of m old sent) p ≡ true
   by_partners p h =
-      let mv = move_of in
+      let mv = is_move in
       let w = found (is_kept_at m moved p) (all_members m (displaced m moved sent)) h in
       let a = w.0 in
       let parts = and_parts (at moved p a) (choice (program_of m p) (at moved p) a) w.2 in
@@ -133,9 +133,9 @@ module _ {m : Market} {old : Places} {g : Agent} {sent : Placement} (taking : Is
       (and_right (at moved p a) _ (not_from_true _ parts.1))
 
   -- whoever leaves a program is one of these
-  leavers : (p : ℕ) → is_left m old moved new p ≡ true → (is_left_by_movers old sent p || list_any (is_kept_at m moved p) (all_members m (displaced m moved sent))) ≡ true
+  leavers : (p : ℕ) → is_left m (move_of m old sent) p ≡ true → (is_left_by_movers old sent p || list_any (is_kept_at m moved p) (all_members m (displaced m moved sent))) ≡ true
   leavers p h =
-      let mv = move_of in
+      let mv = is_move in
       let w = found (λ a. at old p a && not (at new p a) && not (displaced_at m moved p a)) (below (applicants m)) h in
       let a = w.0 in
       let parts = and_parts (at old p a && not (at new p a)) (not (displaced_at m moved p a)) w.2 in
@@ -166,13 +166,13 @@ module _ {m : Market} {old : Places} {g : Agent} {sent : Placement} (taking : Is
 
   -- the programs that are left are those that members of the agent leave, and those that partners of displaced
   -- applicants leave
-  pub left_is : (p : ℕ) → (is_left_by_movers old sent p || list_any (is_kept_at m moved p) (all_members m (displaced m moved sent))) ≡ is_left m old moved new p
+  pub left_is : (p : ℕ) → (is_left_by_movers old sent p || list_any (is_kept_at m moved p) (all_members m (displaced m moved sent))) ≡ is_left m (move_of m old sent) p
   left_is p = same_tests _ _ (λ h. elim (or_cases (is_left_by_movers old sent p) _ h) [ inl x ↦ by_movers p x | inr x ↦ by_partners p x ]) (leavers p)
 
   -- whoever leaves a program was there, so it is one of the market
-  pub left_within : (p : ℕ) → is_left m old moved new p ≡ true → p < length m.programs
+  pub left_within : (p : ℕ) → is_left m (move_of m old sent) p ≡ true → p < length m.programs
   left_within p h =
-      let mv = move_of in
+      let mv = is_move in
       let w = found (λ a. at old p a && not (at new p a) && not (displaced_at m moved p a)) (below (applicants m)) h in
       let parts = and_parts (at old p w.0 && not (at new p w.0)) (not (displaced_at m moved p w.0)) w.2 in
       let places = and_parts (at old p w.0) (not (at new p w.0)) parts.0 in
@@ -231,9 +231,9 @@ module _ {m : Market} {old : Places} {g : Agent} {sent : Placement} (taking : Is
   -- an ordered set of the programs that are left has them by number
   pub left_keys : (by_movers left : List ℕ) → IsStrictlySortedBy nat_cmp left → ((p : ℕ) → has by_movers p ≡ is_left_by_movers old sent p)
       → ((p : ℕ) → has left p ≡ (has by_movers p || list_any (is_kept_at m (send sent old) p) (all_members m (displaced m (send sent old) sent))))
-      → left ≡ filter (is_left m old (send sent old) (match_after m old sent)) (below (length m.programs))
+      → left ≡ left_programs m (move_of m old sent)
   left_keys by_movers left sorted first all =
-      sorted_below (is_left m old (send sent old) (match_after m old sent)) left (length m.programs) sorted
+      sorted_below (is_left m (move_of m old sent)) left (length m.programs) sorted
       (λ p. all p ∙ ap (λ (b : Bool). b || list_any (is_kept_at m (send sent old) p) (all_members m (displaced m (send sent old) sent))) (first p) ∙ left_is taking p)
       (left_within taking)
 
@@ -241,14 +241,14 @@ module _ {m : Market} {old : Places} {g : Agent} {sent : Placement} (taking : Is
   pub waits_after : (k : ℕ) (w0 w1 w2 w3 : List Agent) (left : List ℕ)
       → w1 ≡ all_joined w0 (map (agent_of m) (displaced m (send sent old) sent))
       → w2 ≡ (if blocks m (match_after m old sent) g then joined w1 g else w1)
-      → w3 ≡ all_joined w2 (flat_map (reopened_at m k (match_after m old sent)) left)
-      → left ≡ filter (is_left m old (send sent old) (match_after m old sent)) (below (length m.programs))
-      → w3 ≡ all_joined w0 (to_look_at m k old g sent (send sent old) (match_after m old sent))
+      → w3 ≡ all_joined w2 (flat_map (blocking_on_list m k (match_after m old sent)) left)
+      → left ≡ left_programs m (move_of m old sent)
+      → w3 ≡ all_joined w0 (rechecked m k g sent (move_of m old sent))
   waits_after k w0 w1 w2 w3 left first second third left_keys =
       let out = map (agent_of m) (displaced m (send sent old) sent) in
       let itself = if blocks m (match_after m old sent) g then (g ∷ []) else [] in
-      let again = flat_map (reopened_at m k (match_after m old sent)) in
-      let programs = filter (is_left m old (send sent old) (match_after m old sent)) (below (length m.programs)) in
+      let again = flat_map (blocking_on_list m k (match_after m old sent)) in
+      let programs = left_programs m (move_of m old sent) in
       third ∙ ap (λ ps. all_joined w2 (again ps)) left_keys
       ∙ ap (λ w. all_joined w (again programs)) (second ∙ one_joins (blocks m (match_after m old sent) g) w1 ∙ ap (λ w. all_joined w itself) first ∙ sym (all_joined-append w0 out itself))
       ∙ sym (all_joined-append w0 (out ++ itself) (again programs))

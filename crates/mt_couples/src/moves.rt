@@ -1,10 +1,10 @@
 ghost use Rattle.std.specs.Prelude.{◌≡◌, ◌||◌, ◌<◌, ℕ, filter, length, IsTrue, IfOk, OnOk};
 ghost use Rattle.std.specs.List.{list_any};
-ghost use Rattle.mt_terms.specs.Lists.{below, has};
+ghost use Rattle.mt_terms.specs.Lists.{has};
 ghost use Rattle.mt_terms.specs.Market.{agent_of, applicants};
 ghost use Rattle.mt_terms.specs.Matching.{send, unplaced};
 ghost use Rattle.mt_terms.specs.declared.numbers.Agent.{Agent};
-ghost use Rattle.mt_terms.specs.Rounds.{after_move, displaced, is_left, programs_sent_to};
+ghost use Rattle.mt_terms.specs.Rounds.{displaced, left_programs, move_of, programs_sent_to};
 ghost use Rattle.mt_couples.specs.Assigned.{AreSent, with_places};
 ghost use Rattle.mt_couples.specs.Moves.{all_members, is_kept_at, is_left_by_movers, IsTaking};
 
@@ -136,9 +136,9 @@ impl<'a> Assignment<'a> {
         sent: &[(AppNo, Option<ProgNo>)],
     ) -> Result<Moved, AllocError>
         requires { (g : Agent) × IsTaking self.old.market self.old.places g sent.now }
-        ensures places { OnOk result (self.new ≡ with_places self.old (after_move self.old.market (send sent.now self.old.places) sent.now)) }
+        ensures places { OnOk result (self.new ≡ with_places self.old (move_of self.old.market self.old.places sent.now).after) }
         ensures displaced { IfOk result (λ r. r.displaced.items ≡ displaced self.old.market (send sent.now self.old.places) sent.now) }
-        ensures left { IfOk result (λ r. r.left.items ≡ filter (is_left self.old.market self.old.places (send sent.now self.old.places) (after_move self.old.market (send sent.now self.old.places) sent.now)) (below (length self.old.market.programs))) }
+        ensures left { IfOk result (λ r. r.left.items ≡ left_programs self.old.market (move_of self.old.market self.old.places sent.now)) }
     {
         let mut left = BTreeSet::new(alloc);
         self.add_left_by_movers(sent, &mut left)?;

@@ -2,7 +2,7 @@ ghost use Rattle.std.specs.Prelude.{◌≡◌, ◌<◌, ◌≤◌, ℕ, map, len
 ghost use Rattle.std.specs.List.{flat_map};
 ghost use Rattle.mt_terms.specs.Lists.{has};
 ghost use Rattle.mt_terms.specs.Market.{agent_of, applicants};
-ghost use Rattle.mt_terms.specs.Rounds.{after_taking, all_joined, has_entered, joined, reopened_at, round_of, settled, stage};
+ghost use Rattle.mt_terms.specs.Rounds.{after_taking, all_joined, has_entered, joined, blocking_on_list, round_of, settled, stage};
 ghost use Rattle.mt_terms.specs.Best.{IsBest};
 ghost use Rattle.mt_terms.specs.Stability.{blocks, fits, stable};
 ghost use Rattle.mt_ranks.specs.Ranked.{ranked_of};
@@ -97,7 +97,7 @@ fn look_at(
     waiting: &mut WorkList,
 ) -> Result<(), AllocError>
     requires { program < length assignment.now.market.programs }
-    ensures { OnOk result (waiting.new ≡ all_joined waiting.old (reopened_at assignment.now.market last assignment.now.places program)) }
+    ensures { OnOk result (waiting.new ≡ all_joined waiting.old (blocking_on_list assignment.now.market last assignment.now.places program)) }
 {
     for applicant in assignment.ranking(program) {
         let agent = assignment.agent_of(*applicant);
@@ -116,7 +116,7 @@ fn look_at_left(
     waiting: &mut WorkList,
 ) -> Result<(), AllocError>
     requires { (p : ℕ) → IsTrue (has left.now p) → p < length assignment.now.market.programs }
-    ensures { OnOk result (waiting.new ≡ all_joined waiting.old (flat_map (reopened_at assignment.now.market last assignment.now.places) left.now)) }
+    ensures { OnOk result (waiting.new ≡ all_joined waiting.old (flat_map (blocking_on_list assignment.now.market last assignment.now.places) left.now)) }
 {
     for program in left {
         look_at(assignment, *program, last, waiting)?;

@@ -1,5 +1,5 @@
 -- What holds between two rounds is kept by a round.
-use Rattle.std.proofs.Common.{◌≡◌, ℕ, Bool, true, false, not, ◌&&◌, ◌||◌, List, [], ◌∷◌, ◌++◌, map, filter, length, Option, Some, None, inl, inr, refl, ap, sym, ◌∙◌, subst, if◌then◌else◌, flat_map, find, is_some, IsTrue, ◌⊎◌}
+use Rattle.std.proofs.Common.{◌≡◌, ℕ, Bool, true, false, not, ◌&&◌, ◌||◌, List, [], ◌∷◌, ◌++◌, map, length, Option, Some, None, inl, inr, refl, ap, sym, ◌∙◌, subst, if◌then◌else◌, flat_map, find, is_some, IsTrue, ◌⊎◌}
 use Rattle.std.specs.List.{list_any}
 use Rattle.std.proofs.lemmas.List.Folds.{list_any-append}
 use Rattle.std.proofs.lemmas.Bool.{cases_Bool, and_parts, or_cases, and_from, or_left, or_right, or_from, or_parts, false≢true, true_from_ne_false, false_from_ne_true, both_ways}
@@ -8,7 +8,7 @@ use Rattle.mt_terms.specs.Market.{Market, program_of, agent_of, members, agents}
 use Rattle.mt_terms.specs.Matching.{Places, Placement, place_of, at, options, send, holds, none_placed, better}
 use Rattle.mt_terms.specs.Stability.{is_chosen, fits, would_be_taken, blocks}
 use Rattle.mt_terms.specs.WellFormed.{IsWellFormed}
-use Rattle.mt_terms.specs.Rounds.{is_same_agent, joined, all_joined, has_entered, first_taken, displaced, is_left, reopened_at, to_look_at, after_taking, round_of, is_on, IsRoundState, IsFittingState}
+use Rattle.mt_terms.specs.Rounds.{is_same_agent, joined, all_joined, has_entered, first_taken, move_of, displaced, is_left, left_programs, blocking_on_list, rechecked, after_taking, round_of, is_on, IsRoundState, IsFittingState}
 use Rattle.mt_round_laws.specs.Rounds.{RoundKeeps, RoundFits}
 use Rattle.mt_terms.specs.declared.numbers.Agent.{Agent}
 use Rattle.mt_round_laws.proofs.RoundsLists.{In, found, finds, in_has, has_in, in_left, in_right, in_either, in_image, of_image, in_kept, of_kept, in_joined, of_joined, in_below, each, all_pass, fails_at, of_until}
@@ -89,25 +89,21 @@ not_mover k g h entered out = false_from_ne_true (is_same_agent h g) (λ same.
 abbrev mover_again : Market → Places → Agent → Placement → List Agent
 mover_again m old g sent = if blocks m (match_after m old sent) g then (g ∷ []) else []
 
--- the programs that were left
-abbrev left_programs : Market → Places → Placement → List ℕ
-left_programs m old sent = filter (is_left m old (send sent old) (match_after m old sent)) (below (length m.programs))
-
 -- the agents on the lists of left programs that block
 abbrev reopened : Market → ℕ → Places → Placement → List Agent
-reopened m k old sent = flat_map (reopened_at m k (match_after m old sent)) (left_programs m old sent)
+reopened m k old sent = flat_map (blocking_on_list m k (match_after m old sent)) (left_programs m (move_of m old sent))
 
 -- all who are looked at after a move
 abbrev looked_at : Market → ℕ → Places → Agent → Placement → List Agent
-looked_at m k old g sent = to_look_at m k old g sent (send sent old) (match_after m old sent)
+looked_at m k old g sent = rechecked m k g sent (move_of m old sent)
 
 -- the agent of an applicant of a left program's list is looked at where it has entered and blocks
-in_reopened : (m : Market) (k : ℕ) (old : Places) (sent : Placement) (p a : ℕ) → is_left m old (send sent old) (match_after m old sent) p ≡ true
+in_reopened : (m : Market) (k : ℕ) (old : Places) (sent : Placement) (p a : ℕ) → is_left m (move_of m old sent) p ≡ true
     → has (program_of m p).ranking a ≡ true → has_entered k (agent_of m a) ≡ true → blocks m (match_after m old sent) (agent_of m a) ≡ true
     → In (agent_of m a) (reopened m k old sent)
 in_reopened m k old sent p a left listed entered blocking =
-    in_joined (reopened_at m k (match_after m old sent)) p (agent_of m a) (left_programs m old sent)
-    (in_kept (is_left m old (send sent old) (match_after m old sent)) p (below (length m.programs))
+    in_joined (blocking_on_list m k (match_after m old sent)) p (agent_of m a) (left_programs m (move_of m old sent))
+    (in_kept (is_left m (move_of m old sent)) p (below (length m.programs))
     (in_below p (length m.programs) (listing_program m p a listed)) left)
     (in_kept (λ g. has_entered k g && blocks m (match_after m old sent) g) (agent_of m a) (map (agent_of m) (program_of m p).ranking)
     (in_image (agent_of m) a (program_of m p).ranking (has_in a (program_of m p).ranking listed)) (and_from _ _ entered blocking))
@@ -124,7 +120,7 @@ all_looked_at P m k old g sent of_gone of_mover of_listed h i = elim (in_either 
     | inr again ↦ elim (cases_Bool (blocks m (match_after m old sent) g)) [ inl t ↦ mover (rw t at again) | inr t ↦ absurd (rw t at again) ]
   ]
   | inr j ↦
-      let p = of_joined (reopened_at m k (match_after m old sent)) h (left_programs m old sent) j in
+      let p = of_joined (blocking_on_list m k (match_after m old sent)) h (left_programs m (move_of m old sent)) j in
       let kept = of_kept (λ x. has_entered k x && blocks m (match_after m old sent) x) h (map (agent_of m) (program_of m p.0).ranking) p.2 in
       let a = of_image (agent_of m) h (program_of m p.0).ranking kept.0 in
       let entered = (and_parts (has_entered k h) (blocks m (match_after m old sent) h) kept.1).0 in
@@ -156,7 +152,7 @@ module _ {m : Market} {old : Places} {g : Agent} {sent : Placement} (mv : IsMove
           let now = each _ (b, Some p) o taken sends in
           let listed = (choice_facts (program_of m p) (at (send o (match_after m old sent)) p) b now).is_listed in
           let is : agent_of m b ≡ h = of_h.belongs b (option_member m h o i b (Some p) sends) in
-          elim (cases_Bool (is_left m old (send sent old) (match_after m old sent) p)) [
+          elim (cases_Bool (is_left m (move_of m old sent) p)) [
             | inl left ↦ unseen (subst (λ x. In x (reopened m k old sent)) is
                 (in_reopened m k old sent p b left listed (ap (has_entered k) is ∙ entered) (ap (blocks m (match_after m old sent)) is ∙ blocking)))
             | inr kept ↦ both_ways (is_chosen m (send o old) b (Some p)) refused (taken_before mv h of_h stays other o i b p sends kept now)

@@ -8,7 +8,7 @@ use Rattle.mt_terms.specs.Matching.{Places, Placement, place_of, is_program, at,
 use Rattle.mt_terms.specs.Choice.{choice}
 use Rattle.mt_terms.specs.Stability.{has_own_option, would_be_taken}
 use Rattle.mt_terms.specs.WellFormed.{IsWellFormed}
-use Rattle.mt_terms.specs.Rounds.{is_same_agent, programs_sent_to, displaced_at, displaced, after_move}
+use Rattle.mt_terms.specs.Rounds.{is_same_agent, programs_sent_to, displaced_at, displaced, move_of}
 use Rattle.mt_terms.specs.declared.numbers.Agent.{Agent}
 use Rattle.mt_round_laws.proofs.RoundsLists.{In, finds, in_has, has_in, in_image, of_image, in_kept, of_kept, in_joined, of_joined, each, all_pass}
 use Rattle.mt_round_laws.proofs.RoundsSets.{count_within, count_of_choice}
@@ -31,26 +31,26 @@ sent_to (s ∷ sent) a p (inr i) = elim (none_or_some s.1) [
     none_or_some (Some q) = inr (q, refl)
 
 -- who is displaced, and where
-pub of_displaced : (m : Market) (moved : Places) (sent : Placement) (a : ℕ) → In a (displaced m moved sent)
-    → (p : ℕ) × In p (programs_sent_to sent) × (displaced_at m moved p a ≡ true) × (has (program_of m p).ranking a ≡ true)
-of_displaced m moved sent a i =
-    let p = of_joined (λ p. filter (displaced_at m moved p) (program_of m p).ranking) a (programs_sent_to sent) i in
-    let kept = of_kept (displaced_at m moved p.0) a (program_of m p.0).ranking p.2 in
+pub of_displaced : (m : Market) (seated : Places) (sent : Placement) (a : ℕ) → In a (displaced m seated sent)
+    → (p : ℕ) × In p (programs_sent_to sent) × (displaced_at m seated p a ≡ true) × (has (program_of m p).ranking a ≡ true)
+of_displaced m seated sent a i =
+    let p = of_joined (λ p. filter (displaced_at m seated p) (program_of m p).ranking) a (programs_sent_to sent) i in
+    let kept = of_kept (displaced_at m seated p.0) a (program_of m p.0).ranking p.2 in
     (p.0, p.1, kept.1, in_has a (program_of m p.0).ranking kept.0)
 
 -- who is displaced at a program that somebody is sent to is among the displaced
-in_displaced : (m : Market) (moved : Places) (sent : Placement) (a p : ℕ) → In p (programs_sent_to sent) → displaced_at m moved p a ≡ true
-    → has (program_of m p).ranking a ≡ true → In a (displaced m moved sent)
-in_displaced m moved sent a p i displaced_here listed =
-    in_joined (λ p. filter (displaced_at m moved p) (program_of m p).ranking) p a (programs_sent_to sent) i
-    (in_kept (displaced_at m moved p) a (program_of m p).ranking (has_in a (program_of m p).ranking listed) displaced_here)
+in_displaced : (m : Market) (seated : Places) (sent : Placement) (a p : ℕ) → In p (programs_sent_to sent) → displaced_at m seated p a ≡ true
+    → has (program_of m p).ranking a ≡ true → In a (displaced m seated sent)
+in_displaced m seated sent a p i displaced_here listed =
+    in_joined (λ p. filter (displaced_at m seated p) (program_of m p).ranking) p a (programs_sent_to sent) i
+    (in_kept (displaced_at m seated p) a (program_of m p).ranking (has_in a (program_of m p).ranking listed) displaced_here)
 
 -- who is displaced at a program was sent or stayed there, and isn't chosen
-pub displaced_parts : (m : Market) (moved : Places) (p a : ℕ) → displaced_at m moved p a ≡ true
-    → (at moved p a ≡ true) × (choice (program_of m p) (at moved p) a ≡ false)
-displaced_parts m moved p a h =
-    let parts = and_parts (at moved p a) (not (choice (program_of m p) (at moved p) a)) h in
-    (parts.0, not-true (choice (program_of m p) (at moved p) a) parts.1)
+pub displaced_parts : (m : Market) (seated : Places) (p a : ℕ) → displaced_at m seated p a ≡ true
+    → (at seated p a ≡ true) × (choice (program_of m p) (at seated p) a ≡ false)
+displaced_parts m seated p a h =
+    let parts = and_parts (at seated p a) (not (choice (program_of m p) (at seated p) a)) h in
+    (parts.0, not-true (choice (program_of m p) (at seated p) a) parts.1)
 
 -- An agent moves to an option of its list that would be taken, in a match that fits.
 pub record IsMove (m : Market) (old : Places) (g : Agent) (sent : Placement) : Type 0 where
@@ -70,7 +70,7 @@ taken_out m old sent = flat_map (λ a. members m (agent_of m a)) (displaced m (s
 
 -- the match with everybody sent and those taken out
 abbrev pub match_after : Market → Places → Placement → Places
-match_after m old sent = after_move m (send sent old) sent
+match_after m old sent = (move_of m old sent).after
 
 -- whether an agent has a displaced member
 abbrev pub is_displaced : Market → Places → Placement → Agent → Bool

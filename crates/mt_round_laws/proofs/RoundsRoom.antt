@@ -6,7 +6,7 @@ use Rattle.mt_terms.specs.Market.{Market, applicants, program_of, members}
 use Rattle.mt_terms.specs.Matching.{Places, Placement, is_program, at, options, send}
 use Rattle.mt_terms.specs.Choice.{choice}
 use Rattle.mt_terms.specs.Stability.{is_chosen}
-use Rattle.mt_terms.specs.Rounds.{is_same_agent, displaced_at, is_left}
+use Rattle.mt_terms.specs.Rounds.{is_same_agent, Move, move_of, displaced_at, is_left}
 use Rattle.mt_terms.specs.declared.numbers.Agent.{Agent}
 use Rattle.mt_round_laws.proofs.RoundsLists.{In, finds, in_below}
 use Rattle.mt_round_laws.proofs.RoundsSets.{no_fewer_above, count_shift, not_chosen}
@@ -16,27 +16,27 @@ use Rattle.mt_round_laws.proofs.RoundsAgents.{IsAgent, option_entry, option_ther
 use Rattle.mt_round_laws.proofs.RoundsMove.{IsMove, match_after, is_displaced, displaced_parts, stays_in, mover_stays, untouched, was_before, fits_after}
 
 -- at a program that nobody left, who was there and isn't there now was displaced there
-gone_from : (m : Market) (old moved new : Places) (p a : ℕ) → length old ≡ applicants m → is_left m old moved new p ≡ false
-    → at old p a ≡ true → at new p a ≡ false → displaced_at m moved p a ≡ true
-gone_from m old moved new p a one_each kept was gone = true_from_ne_false (displaced_at m moved p a) (λ not_displaced.
-    let within = placed_within old p a was in
-    both_ways (is_left m old moved new p) kept (finds _ a (below (applicants m)) (in_below a (applicants m) (omega arith)) (rw (was, gone, not_displaced) refl)))
+gone_from : (m : Market) (v : Move) (p a : ℕ) → length v.before ≡ applicants m → is_left m v p ≡ false
+    → at v.before p a ≡ true → at v.after p a ≡ false → displaced_at m v.seated p a ≡ true
+gone_from m v p a one_each kept was gone = true_from_ne_false (displaced_at m v.seated p a) (λ not_displaced.
+    let within = placed_within v.before p a was in
+    both_ways (is_left m v p) kept (finds _ a (below (applicants m)) (in_below a (applicants m) (omega arith)) (rw (was, gone, not_displaced) refl)))
 
 module _ {m : Market} {old : Places} {g : Agent} {sent : Placement} (mv : IsMove m old g sent) where
   -- at a program that nobody left, who is chosen once everybody was sent stays
-  chosen_stays : (p : ℕ) → is_left m old (send sent old) (match_after m old sent) p ≡ false
+  chosen_stays : (p : ℕ) → is_left m (move_of m old sent) p ≡ false
       → (a : ℕ) → choice (program_of m p) (at (send sent old) p) a ≡ true → at (match_after m old sent) p a ≡ true
   chosen_stays p kept a chosen = true_from_ne_false (at (match_after m old sent) p a) (λ gone.
       let there = (choice_facts (program_of m p) (at (send sent old) p) a chosen).is_member in
       elim (cases_Bool (has (members m g) a)) [
         | inl member ↦ both_ways (at (match_after m old sent) p a) gone (ap (is_program p) (stays_in mv g mv.agent (mover_stays mv) a member) ∙ there)
         | inr other ↦
-            let d = gone_from m old (send sent old) (match_after m old sent) p a mv.fitting.one_each kept (was_before mv a p other there) gone in
+            let d = gone_from m (move_of m old sent) p a mv.fitting.one_each kept (was_before mv a p other there) gone in
             both_ways (choice (program_of m p) (at (send sent old) p) a) (displaced_parts m (send sent old) p a d).1 chosen
       ])
 
   -- at a program that nobody left no fewer stand above anybody than before
-  room_shrinks : (p : ℕ) → is_left m old (send sent old) (match_after m old sent) p ≡ false
+  room_shrinks : (p : ℕ) → is_left m (move_of m old sent) p ≡ false
       → (b : ℕ) → above (at old p) (program_of m p).ranking b ≤ above (at (match_after m old sent) p) (program_of m p).ranking b
   room_shrinks p kept =
       no_fewer_above (at old p) (at (send sent old) p) (at (match_after m old sent) p) (program_of m p).ranking (program_of m p).quota
@@ -45,7 +45,7 @@ module _ {m : Market} {old : Places} {g : Agent} {sent : Placement} (mv : IsMove
       gone_below : (a : ℕ) → has (program_of m p).ranking a ≡ true → at old p a ≡ true → at (match_after m old sent) p a ≡ false
           → (program_of m p).quota ≤ above (at (send sent old) p) (program_of m p).ranking a
       gone_below a listed was gone =
-          let d = displaced_parts m (send sent old) p a (gone_from m old (send sent old) (match_after m old sent) p a mv.fitting.one_each kept was gone) in
+          let d = displaced_parts m (send sent old) p a (gone_from m (move_of m old sent) p a mv.fitting.one_each kept was gone) in
           not_chosen (program_of m p) (at (send sent old) p) a listed d.0 d.1
 
       stays : (a : ℕ) → has (program_of m p).ranking a ≡ true → at (send sent old) p a ≡ true
@@ -73,7 +73,7 @@ module _ {m : Market} {old : Places} {g : Agent} {sent : Placement} (mv : IsMove
   -- only where it would have been taken before.
   pub taken_before : (h : Agent) → IsAgent m h → is_displaced m old sent h ≡ false → is_same_agent h g ≡ false
       → (o : Placement) → In o (options m h) → (b p : ℕ) → In (b, Some p) o
-      → is_left m old (send sent old) (match_after m old sent) p ≡ false
+      → is_left m (move_of m old sent) p ≡ false
       → is_chosen m (send o (match_after m old sent)) b (Some p) ≡ true → is_chosen m (send o old) b (Some p) ≡ true
   taken_before h of_h stays other o i b p sends kept chosen =
       let now = choice_facts (program_of m p) (at (send o (match_after m old sent)) p) b chosen in

@@ -1,14 +1,12 @@
 -- What the couples' rounds keep, and where they end.
-use Rattle.std.specs.Prelude.{◌≡◌, ℕ, ◌+◌, ◌<◌, ◌≤◌, Bool, List, [], ◌∷◌, length, Some, None, IsTrue, IsFalse}
-use Rattle.std.specs.List.{list_any}
-use Rattle.mt_terms.specs.Market.{Market, agents, members}
-use Rattle.mt_terms.specs.Matching.{Places, none_placed}
-use Rattle.mt_terms.specs.Stability.{fits, blocks, stable}
+use Rattle.std.specs.Prelude.{◌≡◌, ℕ, ◌+◌, ◌<◌, [], ◌∷◌, length, Some, None, IsTrue}
+use Rattle.mt_terms.specs.Market.{Market}
+use Rattle.mt_terms.specs.Matching.{Places}
+use Rattle.mt_terms.specs.Stability.{fits, stable}
 use Rattle.mt_terms.specs.Best.{IsBest}
 use Rattle.mt_terms.specs.Rounds.{Work, round, stage, IsRoundState, IsFittingState, NeedsRounds}
 use Rattle.mt_terms.specs.WellFormed.{IsWellFormed}
 use Rattle.mt_terms.specs.Examples.Markets.{three_couples, partner_withdraws, nobody}
-use Rattle.mt_terms.specs.declared.numbers.Agent.{Agent}
 use Rattle.mt_terms.specs.declared.numbers.Agent.TheVariants.{Single, Couple}
 
 -- the first couple waits in that state, after the best match of the singles

@@ -41,49 +41,59 @@ has_entered k (Couple c) = nat_le c k
 abbrev pub first_taken : Market → Places → Agent → Option Placement
 first_taken m places g = find (would_be_taken m places) (better m places g)
 
+-- A move: the match before it, the match with the agent seated and nobody taken out yet, and the match after it.
+pub record Move : Type 0 where
+  pub before : Places
+  pub seated : Places
+  pub after : Places
+
 -- the programs that a placement sends somebody to, in its order
 abbrev pub programs_sent_to : Placement → List ℕ
 programs_sent_to sent = filter_map (λ s. s.1) sent
 
--- Below, moved is the match with an agent moved to its option and nobody taken out yet.
-
--- the applicants displaced at a program: those there that it doesn't choose
+-- the applicants displaced at a program: those seated there that it doesn't choose
 abbrev pub displaced_at : Market → Places → ℕ → Set
-displaced_at m moved p a = at moved p a && not (choice (program_of m p) (at moved p) a)
+displaced_at m seated p a = at seated p a && not (choice (program_of m p) (at seated p) a)
 
 -- all displaced applicants: by the option's programs in its order, and in a program by its list
 abbrev pub displaced : Market → Places → Placement → List ℕ
-displaced m moved sent = flat_map (λ p. filter (displaced_at m moved p) (program_of m p).ranking) (programs_sent_to sent)
+displaced m seated sent = flat_map (λ p. filter (displaced_at m seated p) (program_of m p).ranking) (programs_sent_to sent)
 
--- the match after a move: each displaced single is unplaced, and each couple with a displaced member as a
--- whole
-abbrev pub after_move : Market → Places → Placement → Places
-after_move m moved sent = unplaced (flat_map (λ a. members m (agent_of m a)) (displaced m moved sent)) moved
+-- the match without them: each displaced single is unplaced, and each couple with a displaced member as a whole
+abbrev pub without_displaced : Market → Places → Placement → Places
+without_displaced m seated sent = unplaced (flat_map (λ a. members m (agent_of m a)) (displaced m seated sent)) seated
 
--- whether somebody left a program: was there before the round, isn't there after it, and wasn't displaced
--- there
-abbrev pub is_left : Market → Places → Places → Places → ℕ → Bool
-is_left m old moved new p = list_any (λ a. at old p a && not (at new p a) && not (displaced_at m moved p a)) (below (applicants m))
+-- the move of an agent to an option that would be taken
+abbrev pub move_of : Market → Places → Placement → Move
+move_of m places sent =
+    let seated : Places = send sent places in
+    record { before = places; seated = seated; after = without_displaced m seated sent }
 
--- the agents of a program's list that have entered and now block the match, in list order
-abbrev pub reopened_at : Market → ℕ → Places → ℕ → List Agent
-reopened_at m k new p = filter (λ g. has_entered k g && blocks m new g) (map (agent_of m) (program_of m p).ranking)
+-- whether a move leaves a program: somebody was there before it, isn't there after it, and wasn't displaced there
+abbrev pub is_left : Market → Move → ℕ → Bool
+is_left m v p = list_any (λ a. at v.before p a && not (at v.after p a) && not (displaced_at m v.seated p a)) (below (applicants m))
 
--- whoever is looked at after a move, in order: the agents of the displaced applicants; the agent that
--- moved, where it now blocks; and for each program that was left, by number, the agents that now block
-abbrev pub to_look_at : Market → ℕ → Places → Agent → Placement → Places → Places → List Agent
-to_look_at m k old g sent moved new =
-    map (agent_of m) (displaced m moved sent)
-    ++ (if blocks m new g then (g ∷ []) else [])
-    ++ flat_map (reopened_at m k new) (filter (is_left m old moved new) (below (length m.programs)))
+-- the programs that a move leaves, by number
+abbrev pub left_programs : Market → Move → List ℕ
+left_programs m v = filter (is_left m v) (below (length m.programs))
+
+-- the agents of a program's list that have entered and block a match, in list order
+abbrev pub blocking_on_list : Market → ℕ → Places → ℕ → List Agent
+blocking_on_list m k places p = filter (λ g. has_entered k g && blocks m places g) (map (agent_of m) (program_of m p).ranking)
+
+-- Looked at again after a move, in order: the agents of the displaced; the mover, where it still blocks; and for
+-- each program that is left, by number, the entered agents of its list that block.
+abbrev pub rechecked : Market → ℕ → Agent → Placement → Move → List Agent
+rechecked m k mover sent v =
+    map (agent_of m) (displaced m v.seated sent)
+    ++ (if blocks m v.after mover then (mover ∷ []) else [])
+    ++ flat_map (blocking_on_list m k v.after) (left_programs m v)
 
 -- the state after an agent took its option, or had none to take
 abbrev pub after_taking : Market → ℕ → Places → Agent → List Agent → Option Placement → Work
 after_taking m k places g waiting None = record { places = places; waiting = waiting }
 after_taking m k places g waiting (Some sent) =
-    let moved : Places = send sent places in
-    let new : Places = after_move m moved sent in
-    record { places = new; waiting = all_joined waiting (to_look_at m k places g sent moved new) }
+    let v : Move = move_of m places sent in record { places = v.after; waiting = all_joined waiting (rechecked m k g sent v) }
 
 -- one round: the agent at the front of the work list is taken off it, and takes the first better option
 -- that would be taken; with no agent on the list there is nothing to do

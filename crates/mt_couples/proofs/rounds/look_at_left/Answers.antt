@@ -1,7 +1,7 @@
 use Rattle.std.proofs.Common.{◌∙◌, ◌++◌, ◌+◌, drop, ap, sym}
 use Rattle.std.specs.List.{flat_map}
 use Rattle.std.proofs.lemmas.List.{drop_more}
-use Rattle.mt_terms.specs.Rounds.{all_joined, reopened_at}
+use Rattle.mt_terms.specs.Rounds.{all_joined, blocking_on_list}
 use Rattle.mt_couples.proofs.JoinFacts.{all_joined-append}
 use Rattle.mt_couples.proofs.PlaceFacts.{has_read}
 use Rattle.mt_couples.proofs.rounds.look_at_left.Goals as goal
@@ -13,7 +13,7 @@ pub loop-program-preserved : goal.loop-program-preserved
 loop-program-preserved c =
     let p = c.program-item.result in
     let i = c.loop-program.program-index in
-    let again = reopened_at c.args.assignment.now.market c.args.last c.args.assignment.now.places in
+    let again = blocking_on_list c.args.assignment.now.market c.args.last c.args.assignment.now.places in
     let rest = flat_map again (drop (i + 1) c.args.left.now) in
     ap (λ w. all_joined w rest) c.in_ok-look_at.ensures
     ∙ sym (all_joined-append c.loop-program.waiting (again p) rest)
