@@ -11,7 +11,7 @@ use Rattle.mt_terms.specs.Lists.{has, below, is_distinct}
 use Rattle.mt_terms.specs.Market.{Market, applicants, program_of, agent_of, members, agents}
 use Rattle.mt_terms.specs.Matching.{Places, Placement, place_of, is_program, at, send, options, single_placement, couple_placement}
 use Rattle.mt_terms.specs.Choice.{choice}
-use Rattle.mt_terms.specs.Rounds.{programs_sent_to, displaced, displaced_at, is_left, is_same_agent, joined, all_joined, left_programs, move_of, blocking_on_list, rechecked}
+use Rattle.mt_terms.specs.Rounds.{programs_sent_to, displaced, displaced_at, is_left, is_same_agent, all_joined, left_programs, move_of, blocking_on_list, rechecked}
 use Rattle.mt_terms.specs.Stability.{blocks}
 use Rattle.mt_terms.specs.declared.numbers.Agent.{Agent}
 use Rattle.mt_terms.specs.declared.numbers.Agent.TheVariants.{Single, Couple}
@@ -22,7 +22,7 @@ use Rattle.mt_round_laws.proofs.RoundsAgents.{agent_of_applicant, agent_from_lis
 use Rattle.mt_round_laws.proofs.RoundsFits.{listing_program, fitting_facts}
 use Rattle.mt_round_laws.proofs.RoundsMove.{IsMove, of_displaced, displaced_agents, match_after, is_displaced, displaced_agent, goes_out, mover_stays, stays_in, was_before}
 use Rattle.mt_couples.specs.Assigned.{AreSent}
-use Rattle.mt_couples.specs.Moves.{is_left_by_movers, is_kept_at, all_members, IsTaking}
+use Rattle.mt_couples.specs.Moves.{is_left_by_movers, is_kept_at, all_members, IsTaking, Joins}
 use Rattle.mt_couples.proofs.SentFacts.{in_list}
 use Rattle.mt_couples.proofs.JoinFacts.{all_joined-append}
 
@@ -239,20 +239,16 @@ module _ {m : Market} {old : Places} {g : Agent} {sent : Placement} (taking : Is
 
   -- who waits, after each of three groups has joined
   pub waits_after : (k : ℕ) (w0 w1 w2 w3 : List Agent) (left : List ℕ)
-      → w1 ≡ all_joined w0 (map (agent_of m) (displaced m (send sent old) sent))
-      → w2 ≡ (if blocks m (match_after m old sent) g then joined w1 g else w1)
-      → w3 ≡ all_joined w2 (flat_map (blocking_on_list m k (match_after m old sent)) left)
+      → Joins w0 w1 (map (agent_of m) (displaced m (send sent old) sent))
+      → Joins w1 w2 (if blocks m (match_after m old sent) g then (g ∷ []) else [])
+      → Joins w2 w3 (flat_map (blocking_on_list m k (match_after m old sent)) left)
       → left ≡ left_programs m (move_of m old sent)
-      → w3 ≡ all_joined w0 (rechecked m k g sent (move_of m old sent))
+      → Joins w0 w3 (rechecked m k g sent (move_of m old sent))
   waits_after k w0 w1 w2 w3 left first second third left_keys =
       let out = map (agent_of m) (displaced m (send sent old) sent) in
       let itself = if blocks m (match_after m old sent) g then (g ∷ []) else [] in
       let again = flat_map (blocking_on_list m k (match_after m old sent)) in
       let programs = left_programs m (move_of m old sent) in
       third ∙ ap (λ ps. all_joined w2 (again ps)) left_keys
-      ∙ ap (λ w. all_joined w (again programs)) (second ∙ one_joins (blocks m (match_after m old sent) g) w1 ∙ ap (λ w. all_joined w itself) first ∙ sym (all_joined-append w0 out itself))
+      ∙ ap (λ w. all_joined w (again programs)) (second ∙ ap (λ w. all_joined w itself) first ∙ sym (all_joined-append w0 out itself))
       ∙ sym (all_joined-append w0 (out ++ itself) (again programs))
-    where
-      one_joins : (b : Bool) (w : List Agent) → (if b then joined w g else w) ≡ all_joined w (if b then (g ∷ []) else [])
-      one_joins true w = refl
-      one_joins false w = refl

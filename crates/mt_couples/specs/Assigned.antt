@@ -1,11 +1,12 @@
 -- A market with a match of it.
-use Rattle.std.specs.Prelude.{ℕ, ◌<◌, ◌≤◌, ◌&&◌, not, map, length, Option, slice_set, IsTrue}
-use Rattle.mt_terms.specs.Lists.{Set, has, is_distinct}
-use Rattle.mt_terms.specs.Market.{Market, Program, applicants}
+use Rattle.std.specs.Prelude.{ℕ, ◌<◌, ◌≤◌, Bool, ◌&&◌, not, List, map, filter, take, length, Option, slice_index, slice_set, IsTrue}
+use Rattle.mt_terms.specs.Lists.{Set, has, is_distinct, count, below}
+use Rattle.mt_terms.specs.Market.{Market, Program, applicants, program_of, couple_of}
 use Rattle.mt_terms.specs.Places.{ArePlaces}
 use Rattle.mt_terms.specs.Choice.{choice}
 use Rattle.mt_terms.specs.WellFormed.{IsWellFormed}
-use Rattle.mt_terms.specs.Matching.{Places, Placement}
+use Rattle.mt_terms.specs.Matching.{Places, Placement, at, placed_ranks, couple_placement}
+use Rattle.mt_terms.specs.Rounds.{displaced_at, first_taken}
 use Rattle.mt_terms.specs.declared.numbers.Agent.{Agent}
 use Rattle.mt_terms.specs.declared.numbers.Agent.TheVariants.{Single, Couple}
 
@@ -19,6 +20,41 @@ with_places s places = record s { places = places }
 
 abbrev pub with_place : Assigned → ℕ → Option ℕ → Assigned
 with_place s a place = with_places s (slice_set s.places a place)
+
+abbrev pub assignment : Market → Places → Assigned
+assignment m places = record { market = m; places = places }
+
+-- for each program the ranks of those on its list that are placed there
+abbrev pub rows_of : Market → Places → List (List ℕ)
+rows_of m places = map (placed_ranks m places) (below (length m.programs))
+
+-- those that have these ranks on a list
+abbrev pub with_ranks : List ℕ → List ℕ → List ℕ
+with_ranks list ranks = map (λ r. slice_index list r) ranks
+
+-- those on a program's list that have a rank below this one
+abbrev pub front_of : Assigned → ℕ → ℕ → List ℕ
+front_of s p rank = take rank (program_of s.market p).ranking
+
+-- how many of those at a program have a rank below this one
+abbrev pub ahead : Assigned → ℕ → ℕ → ℕ
+ahead s p rank = count (at s.places p) (front_of s p rank)
+
+-- whether a program chooses an applicant from those that are there
+abbrev pub chooses : Assigned → ℕ → ℕ → Bool
+chooses s p a = choice (program_of s.market p) (at s.places p) a
+
+-- the applicants that a program doesn't choose of those there, by its list
+abbrev pub displaced_from : Assigned → ℕ → List ℕ
+displaced_from s p = filter (displaced_at s.market s.places p) (program_of s.market p).ranking
+
+-- the option that an agent takes
+abbrev pub taken_by : Assigned → Agent → Option Placement
+taken_by s g = first_taken s.market s.places g
+
+-- where a pair sends the members of a couple
+abbrev pub pair_of : Assigned → ℕ → Option ℕ × Option ℕ → Placement
+pair_of s c pair = couple_placement (couple_of s.market c).first (couple_of s.market c).second pair
 
 -- What every assignment has: a well-formed market, and a place for each of its applicants.
 pub record IsAssigned (s : Assigned) : Type 0 where
@@ -34,6 +70,13 @@ pub record AreSent (m : Market) (sent : Placement) : Type 0 where
   pub distinct : IsTrue (is_distinct (map (λ s. s.0) sent))
   pub within : (a : ℕ) → IsTrue (has (map (λ s. s.0) sent) a) → a < applicants m
   pub few : length sent ≤ 2
+
+-- numbers of applicants of the market, and of its programs
+abbrev pub AreApplicantsOf : Market → List ℕ → Type 0
+AreApplicantsOf m xs = (a : ℕ) → IsTrue (has xs a) → a < applicants m
+
+abbrev pub AreProgramsOf : Market → List ℕ → Type 0
+AreProgramsOf m ps = (p : ℕ) → IsTrue (has ps p) → p < length m.programs
 
 -- an applicant or a couple of the market
 abbrev pub IsAgentOf : Market → Agent → Type 0

@@ -1,14 +1,12 @@
 -- What an assignment's tables mean.
-use Rattle.std.specs.Prelude.{◌≡◌, ◌≤◌, List, ◌++◌, map, length, drop}
+use Rattle.std.specs.Prelude.{◌≡◌, ◌≤◌, List, ◌++◌, length, drop}
 use Rattle.mt_terms.specs.Registration.Accepted.{IsRegistration}
-use Rattle.mt_terms.specs.Lists.{below}
-use Rattle.mt_terms.specs.Matching.{placed_ranks}
 use Rattle.std.specs.List.{IsDistinct}
 use Rattle.mt_terms.specs.Rounds.{is_same_agent}
 use Rattle.mt_terms.specs.declared.numbers.Agent.{Agent}
 use Rattle.mt_ranks.specs.Ranked.{ranked_of}
 use Rattle.mt_terms.specs.Places.{ArePlaces}
-use Rattle.mt_couples.specs.Assigned.{Assigned}
+use Rattle.mt_couples.specs.Assigned.{Assigned, rows_of}
 use Rattle.mt_couples.specs.declared.assignment.Assignment.TheInside.{Inside}
 use Rattle.mt_couples.specs.declared.work_list.WorkList.TheInside.{Inside as Queue}
 
@@ -21,7 +19,7 @@ pub record AreTables (t : Inside) : Type 0 where
   pub is_registration : IsRegistration t.roster.now
   pub one_market : t.ranks.now ≡ ranked_of t.roster.now.market
   pub are_places : ArePlaces t.roster.now.market t.places.items
-  pub rows : t.rows.items ≡ map (placed_ranks t.roster.now.market t.places.items) (below (length t.roster.now.market.programs))
+  pub rows : t.rows.items ≡ rows_of t.roster.now.market t.places.items
 
 -- Who waits: what is left of one set behind the cursor, and then the other.
 abbrev pub waiting_in : Queue → List Agent

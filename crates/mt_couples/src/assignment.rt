@@ -1,12 +1,11 @@
-ghost use Rattle.std.specs.Prelude.{◌≡◌, ◌==◌, ◌++◌, ◌<◌, ◌≤◌, ℕ, Option, Some, None, length, map, take, filter, position, slice_index, IfOk, IsTrue, OnOk};
+ghost use Rattle.std.specs.Prelude.{◌≡◌, ◌++◌, ◌<◌, ℕ, Some, None, length, slice_index, IfOk, OnOk};
 ghost use Rattle.mt_terms.specs.Registration.Accepted.{IsRegistration};
-ghost use Rattle.mt_terms.specs.Lists.{below, count, has};
+ghost use Rattle.mt_terms.specs.Lists.{has};
 ghost use Rattle.mt_terms.specs.Market.{agent_of, applicants, couple_of, program_of};
-ghost use Rattle.mt_terms.specs.Matching.{at, place_of, placed_ranks, ranks_from};
-ghost use Rattle.mt_terms.specs.Rounds.{displaced_at};
-ghost use Rattle.mt_ranks.specs.Ranked.{ranked_of};
+ghost use Rattle.mt_terms.specs.Matching.{at, place_of, ranks_from};
+ghost use Rattle.mt_ranks.specs.Ranked.{rank_of, ranked_of};
 ghost use Rattle.mt_terms.specs.Places.{ArePlaces};
-ghost use Rattle.mt_couples.specs.Assigned.{IsAgentOf, IsAssigned, with_place};
+ghost use Rattle.mt_couples.specs.Assigned.{ahead, assignment, displaced_from, rows_of, with_place, with_ranks, AreApplicantsOf, IsAgentOf, IsAssigned};
 
 use crate::row::Row;
 use mt_market::Roster;
@@ -46,7 +45,7 @@ fn placed_rows(
     roster: &Roster,
     places: &[Option<ProgNo>],
 ) -> Result<Vec<Row>, AllocError>
-    ensures rows { IfOk result (λ v. v.items ≡ map (placed_ranks roster.now.market places.now) (below (length roster.now.market.programs))) }
+    ensures rows { IfOk result (λ v. v.items ≡ rows_of roster.now.market places.now) }
     ensures roster { IsRegistration roster.now }
 {
     let mut rows = Vec::new(alloc);
@@ -59,16 +58,12 @@ fn placed_rows(
 }
 
 /// Adds the applicants that have these ranks on a program's list.
-fn add_ranked(
-    ranking: &[AppNo],
-    ranks: &[usize],
-    applicants: &mut Vec<AppNo>,
-) -> Result<(), AllocError>
+fn add_ranked(ranking: &[AppNo], ranks: &[usize], out: &mut Vec<AppNo>) -> Result<(), AllocError>
     requires { (i : ℕ) → i < length ranks.now → slice_index ranks.now i < length ranking.now }
-    ensures { OnOk result (applicants.new.items ≡ applicants.old.items ++ map (λ r. slice_index ranking.now r) ranks.now) }
+    ensures { OnOk result (out.new.items ≡ out.old.items ++ with_ranks ranking.now ranks.now) }
 {
     for rank in ranks {
-        applicants.push(ranking[*rank])?;
+        out.push(ranking[*rank])?;
     }
     Ok(())
 }
@@ -106,7 +101,7 @@ impl<'a> Assignment<'a> {
     ) -> Result<Self, AllocError>
         requires ranks { ranks.now ≡ ranked_of roster.now.market }
         requires places { ArePlaces roster.now.market matched.places }
-        ensures { IfOk result (λ s. s ≡ record { market = roster.entry.now.market; places = matched.places }) }
+        ensures { IfOk result (λ s. s ≡ assignment roster.entry.now.market matched.places) }
     {
         let rows = placed_rows(alloc, roster, matched.places.as_slice())?;
         Ok(Assignment {
@@ -166,7 +161,7 @@ impl<'a> Assignment<'a> {
     pub(crate) fn ranking(&self, program: ProgNo) -> &'a [AppNo]
         requires { program < length self.now.market.programs }
         ensures list { result.now ≡ (program_of self.now.market program).ranking }
-        ensures within { (a : ℕ) → IsTrue (has result.now a) → a < applicants self.now.market }
+        ensures within { AreApplicantsOf self.now.market result.now }
     {
         self.ranks.by_rank(program)
     }
@@ -183,7 +178,7 @@ impl<'a> Assignment<'a> {
     /// nobody.
     pub(crate) fn rank(&self, program: ProgNo, applicant: AppNo) -> Option<u32>
         requires { applicant < applicants self.now.market }
-        ensures position { result ≡ position (λ x. x == applicant) (program_of self.now.market program).ranking }
+        ensures position { result ≡ rank_of self.now.market program applicant }
         ensures assigned { IsAssigned self.now }
     {
         if program.0 < self.ranks.programs() {
@@ -196,7 +191,7 @@ impl<'a> Assignment<'a> {
     /// How many of those at the program have a rank below this one.
     pub(crate) fn ahead(&self, program: ProgNo, rank: u32) -> usize
         requires { program < length self.now.market.programs }
-        ensures count { result ≡ count (at self.now.places program) (take rank (program_of self.now.market program).ranking) }
+        ensures count { result ≡ ahead self.now program rank }
         ensures assigned { IsAssigned self.now }
     {
         let row = &self.rows[program.index()];
@@ -237,13 +232,13 @@ impl<'a> Assignment<'a> {
     pub(crate) fn add_displaced(
         &self,
         program: ProgNo,
-        displaced: &mut Vec<AppNo>,
+        out: &mut Vec<AppNo>,
     ) -> Result<(), AllocError>
         requires { program < length self.now.market.programs }
-        ensures { OnOk result (displaced.new.items ≡ displaced.old.items ++ filter (displaced_at self.now.market self.now.places program) (program_of self.now.market program).ranking) }
+        ensures { OnOk result (out.new.items ≡ out.old.items ++ displaced_from self.now program) }
     {
         let quota = self.ranks.quota(program) as usize;
         let row = &self.rows[program.index()];
-        add_ranked(self.ranks.by_rank(program), row.beyond(quota), displaced)
+        add_ranked(self.ranks.by_rank(program), row.beyond(quota), out)
     }
 }

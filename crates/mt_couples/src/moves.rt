@@ -1,12 +1,9 @@
-ghost use Rattle.std.specs.Prelude.{◌≡◌, ◌||◌, ◌<◌, ℕ, filter, length, IsTrue, IfOk, OnOk};
-ghost use Rattle.std.specs.List.{list_any};
-ghost use Rattle.mt_terms.specs.Lists.{has};
-ghost use Rattle.mt_terms.specs.Market.{agent_of, applicants};
-ghost use Rattle.mt_terms.specs.Matching.{send, unplaced};
+ghost use Rattle.std.specs.Prelude.{◌≡◌, ◌<◌, IfOk, OnOk};
+ghost use Rattle.mt_terms.specs.Market.{applicants};
 ghost use Rattle.mt_terms.specs.declared.numbers.Agent.{Agent};
-ghost use Rattle.mt_terms.specs.Rounds.{displaced, left_programs, move_of, programs_sent_to};
-ghost use Rattle.mt_couples.specs.Assigned.{AreSent, with_places};
-ghost use Rattle.mt_couples.specs.Moves.{all_members, is_kept_at, is_left_by_movers, IsTaking};
+ghost use Rattle.mt_terms.specs.Rounds.{displaced, programs_sent_to};
+ghost use Rattle.mt_couples.specs.Assigned.{AreApplicantsOf, AreProgramsOf, AreSent};
+ghost use Rattle.mt_couples.specs.Moves.{any_kept, displaced_by, is_kept, left_by, moved, movers_leave, seated, without_agents, Adds, IsTaking};
 
 use crate::assignment::Assignment;
 use mt_terms::{Agent, AppNo, ProgNo};
@@ -26,8 +23,8 @@ impl<'a> Assignment<'a> {
     /// Sends each applicant to its place.
     pub(crate) fn send(&mut self, sent: &[(AppNo, Option<ProgNo>)]) -> Result<(), AllocError>
         requires sent { AreSent self.old.market sent.now }
-        requires programs { (p : ℕ) → IsTrue (has (programs_sent_to sent.now) p) → p < length self.old.market.programs }
-        ensures { OnOk result (self.new ≡ with_places self.old (send sent.now self.old.places)) }
+        requires programs { AreProgramsOf self.old.market (programs_sent_to sent.now) }
+        ensures { OnOk result (self.new ≡ seated self.old sent.now) }
     {
         for (applicant, place) in sent {
             self.unplace(*applicant);
@@ -45,7 +42,7 @@ impl<'a> Assignment<'a> {
         alloc: Global,
         sent: &[(AppNo, Option<ProgNo>)],
     ) -> Result<Vec<AppNo>, AllocError>
-        requires { (p : ℕ) → IsTrue (has (programs_sent_to sent.now) p) → p < length self.now.market.programs }
+        requires { AreProgramsOf self.now.market (programs_sent_to sent.now) }
         ensures { IfOk result (λ v. v.items ≡ displaced self.now.market self.now.places sent.now) }
     {
         let mut displaced = Vec::new(alloc);
@@ -59,8 +56,8 @@ impl<'a> Assignment<'a> {
 
     /// Unplaces all members of the agents of these applicants.
     pub(crate) fn take_out(&mut self, displaced: &[AppNo])
-        requires { (a : ℕ) → IsTrue (has displaced.now a) → a < applicants self.old.market }
-        ensures { self.new ≡ with_places self.old (unplaced (all_members self.old.market displaced.now) self.old.places) }
+        requires { AreApplicantsOf self.old.market displaced.now }
+        ensures { self.new ≡ without_agents self.old displaced.now }
     {
         for applicant in displaced {
             match self.agent_of(*applicant) {
@@ -80,7 +77,7 @@ impl<'a> Assignment<'a> {
         sent: &[(AppNo, Option<ProgNo>)],
         left: &mut BTreeSet<ProgNo>,
     ) -> Result<(), AllocError>
-        ensures { OnOk result ((p : ℕ) → has left.new.keys p ≡ (has left.old.keys p || is_left_by_movers self.now.places sent.now p)) }
+        ensures { OnOk result (Adds left.old.keys left.new.keys (movers_leave self.now sent.now)) }
     {
         for seat in sent {
             let place = self.place(seat.0);
@@ -96,7 +93,7 @@ impl<'a> Assignment<'a> {
     /// Adds the program where the applicant is, if the program chooses it.
     fn add_kept(&self, applicant: AppNo, left: &mut BTreeSet<ProgNo>) -> Result<(), AllocError>
         requires { applicant < applicants self.now.market }
-        ensures { OnOk result ((p : ℕ) → has left.new.keys p ≡ (has left.old.keys p || is_kept_at self.now.market self.now.places p applicant)) }
+        ensures { OnOk result (Adds left.old.keys left.new.keys (is_kept self.now applicant)) }
     {
         if let Some(program) = self.place(applicant) {
             if self.is_kept(program, applicant) {
@@ -112,8 +109,8 @@ impl<'a> Assignment<'a> {
         displaced: &[AppNo],
         left: &mut BTreeSet<ProgNo>,
     ) -> Result<(), AllocError>
-        requires { (a : ℕ) → IsTrue (has displaced.now a) → a < applicants self.now.market }
-        ensures { OnOk result ((p : ℕ) → has left.new.keys p ≡ (has left.old.keys p || list_any (is_kept_at self.now.market self.now.places p) (all_members self.now.market displaced.now))) }
+        requires { AreApplicantsOf self.now.market displaced.now }
+        ensures { OnOk result (Adds left.old.keys left.new.keys (any_kept self.now displaced.now)) }
     {
         for applicant in displaced {
             match self.agent_of(*applicant) {
@@ -136,9 +133,9 @@ impl<'a> Assignment<'a> {
         sent: &[(AppNo, Option<ProgNo>)],
     ) -> Result<Moved, AllocError>
         requires { (g : Agent) × IsTaking self.old.market self.old.places g sent.now }
-        ensures places { OnOk result (self.new ≡ with_places self.old (move_of self.old.market self.old.places sent.now).after) }
-        ensures displaced { IfOk result (λ r. r.displaced.items ≡ displaced self.old.market (send sent.now self.old.places) sent.now) }
-        ensures left { IfOk result (λ r. r.left.items ≡ left_programs self.old.market (move_of self.old.market self.old.places sent.now)) }
+        ensures places { OnOk result (self.new ≡ moved self.old sent.now) }
+        ensures displaced { IfOk result (λ r. r.displaced.items ≡ displaced_by self.old sent.now) }
+        ensures left { IfOk result (λ r. r.left.items ≡ left_by self.old sent.now) }
     {
         let mut left = BTreeSet::new(alloc);
         self.add_left_by_movers(sent, &mut left)?;

@@ -1,13 +1,12 @@
-ghost use Rattle.std.specs.Prelude.{◌≡◌, ◌&&◌, ◌<◌, ◌≤◌, length, take, Contains, IsTrue, Some};
+ghost use Rattle.std.specs.Prelude.{◌≡◌, ◌<◌, length, Contains, IsTrue, Some};
 ghost use Rattle.std.specs.Option.{option_map};
-ghost use Rattle.mt_terms.specs.Lists.{count, has};
-ghost use Rattle.mt_terms.specs.Market.{applicants, couple_of, program_of};
-ghost use Rattle.mt_terms.specs.Matching.{at, couple_placement, is_program, send, single_placement};
-ghost use Rattle.mt_terms.specs.Choice.{choice};
+ghost use Rattle.mt_terms.specs.Lists.{has};
+ghost use Rattle.mt_terms.specs.Market.{applicants};
+ghost use Rattle.mt_terms.specs.Matching.{at, single_placement};
 ghost use Rattle.mt_terms.specs.Stability.{blocks, would_be_taken};
-ghost use Rattle.mt_terms.specs.Rounds.{first_taken};
 ghost use Rattle.mt_terms.specs.declared.numbers.Agent.TheVariants.{Single, Couple};
-ghost use Rattle.mt_couples.specs.Assigned.{AreSent, IsAgentOf};
+ghost use Rattle.mt_couples.specs.Assigned.{ahead, chooses, front_of, pair_of, taken_by, AreSent, IsAgentOf};
+ghost use Rattle.mt_couples.specs.Moves.{coming, leaving, seated};
 
 use crate::assignment::Assignment;
 use mt_terms::{Agent, AppNo, CoupleNo, ProgNo};
@@ -19,7 +18,7 @@ impl<'a> Assignment<'a> {
     /// Whether the applicant has a rank below this one at the program.
     fn is_ahead(&self, program: ProgNo, applicant: AppNo, rank: u32) -> bool
         requires { applicant < applicants self.now.market }
-        ensures { result ≡ has (take rank (program_of self.now.market program).ranking) applicant }
+        ensures { result ≡ has (front_of self.now program rank) applicant }
     {
         match self.rank(program, applicant) {
             Some(other) => other < rank,
@@ -30,7 +29,7 @@ impl<'a> Assignment<'a> {
     /// How many of those that are sent somewhere are now at the program, with a rank below this one.
     fn leaving(&self, program: ProgNo, rank: u32, sent: &[(AppNo, Option<ProgNo>)]) -> usize
         requires { AreSent self.now.market sent.now }
-        ensures { result ≡ count (λ s. at self.now.places program s.0 && has (take rank (program_of self.now.market program).ranking) s.0) sent.now }
+        ensures { result ≡ leaving self.now program rank sent.now }
     {
         let mut leaving = 0;
         for seat in sent {
@@ -44,7 +43,7 @@ impl<'a> Assignment<'a> {
     /// How many are sent to the program that have a rank below this one there.
     fn coming(&self, program: ProgNo, rank: u32, sent: &[(AppNo, Option<ProgNo>)]) -> usize
         requires { AreSent self.now.market sent.now }
-        ensures { result ≡ count (λ s. is_program program s.1 && has (take rank (program_of self.now.market program).ranking) s.0) sent.now }
+        ensures { result ≡ coming self.now program rank sent.now }
     {
         let mut coming = 0;
         for seat in sent {
@@ -59,7 +58,7 @@ impl<'a> Assignment<'a> {
     fn ahead_after(&self, program: ProgNo, rank: u32, sent: &[(AppNo, Option<ProgNo>)]) -> usize
         requires program { program < length self.now.market.programs }
         requires sent { AreSent self.now.market sent.now }
-        ensures { result ≡ count (at (send sent.now self.now.places) program) (take rank (program_of self.now.market program).ranking) }
+        ensures { result ≡ ahead (seated self.now sent.now) program rank }
     {
         self.ahead(program, rank) + self.coming(program, rank, sent)
             - self.leaving(program, rank, sent)
@@ -69,7 +68,7 @@ impl<'a> Assignment<'a> {
     fn is_chosen(&self, program: ProgNo, applicant: AppNo, sent: &[(AppNo, Option<ProgNo>)]) -> bool
         requires there { Contains sent.now (applicant, Some program) }
         requires sent { AreSent self.now.market sent.now }
-        ensures { result ≡ choice (program_of self.now.market program) (at (send sent.now self.now.places) program) applicant }
+        ensures { result ≡ chooses (seated self.now sent.now) program applicant }
     {
         match self.rank(program, applicant) {
             Some(rank) => { self.ahead_after(program, rank, sent) < self.quota(program) as usize }
@@ -81,7 +80,7 @@ impl<'a> Assignment<'a> {
     pub(crate) fn is_kept(&self, program: ProgNo, applicant: AppNo) -> bool
         requires applicant { applicant < applicants self.now.market }
         requires there { IsTrue (at self.now.places program applicant) }
-        ensures { result ≡ choice (program_of self.now.market program) (at self.now.places program) applicant }
+        ensures { result ≡ chooses self.now program applicant }
     {
         match self.rank(program, applicant) {
             Some(rank) => self.ahead(program, rank) < self.quota(program) as usize,
@@ -105,16 +104,16 @@ impl<'a> Assignment<'a> {
     }
 
     /// The program that the single takes: the first on its list before its place that would take it.
-    pub(crate) fn first_program(&self, applicant: AppNo) -> Option<ProgNo>
-        requires { applicant < applicants self.now.market }
-        ensures { option_map (single_placement applicant) result ≡ first_taken self.now.market self.now.places (Single applicant) }
+    pub(crate) fn first_program(&self, single: AppNo) -> Option<ProgNo>
+        requires { single < applicants self.now.market }
+        ensures { option_map (single_placement single) result ≡ taken_by self.now (Single single) }
     {
-        let place = self.place(applicant);
-        for program in self.roster().single_list(applicant) {
+        let place = self.place(single);
+        for program in self.roster().single_list(single) {
             if place == Some(*program) {
                 return None;
             }
-            if self.would_be_taken(&[(applicant, Some(*program))]) {
+            if self.would_be_taken(&[(single, Some(*program))]) {
                 return Some(*program);
             }
         }
@@ -124,7 +123,7 @@ impl<'a> Assignment<'a> {
     /// The pair that the couple takes: the first on its list before its own that would be taken.
     pub(crate) fn first_pair(&self, couple: CoupleNo) -> Option<Pair>
         requires { couple < length self.now.market.couples }
-        ensures { option_map (couple_placement (couple_of self.now.market couple).first (couple_of self.now.market couple).second) result ≡ first_taken self.now.market self.now.places (Couple couple) }
+        ensures { option_map (pair_of self.now couple) result ≡ taken_by self.now (Couple couple) }
     {
         let (first, second) = self.members(couple);
         let own = (self.place(first), self.place(second));

@@ -1,14 +1,11 @@
-ghost use Rattle.std.specs.Prelude.{◌≡◌, ◌<◌, ◌≤◌, ℕ, map, length, IsTrue, IfOk, IsErrOf, OnOk, Some, None, [], ◌∷◌, if◌then◌else◌};
-ghost use Rattle.std.specs.List.{flat_map};
-ghost use Rattle.mt_terms.specs.Lists.{has};
-ghost use Rattle.mt_terms.specs.Market.{agent_of, applicants};
-ghost use Rattle.mt_terms.specs.Rounds.{after_taking, all_joined, has_entered, joined, blocking_on_list, round_of, settled, stage};
+ghost use Rattle.std.specs.Prelude.{◌≡◌, ◌<◌, ◌≤◌, length, IsTrue, IfOk, IsErrOf, OnOk, Some, None, [], ◌∷◌};
+ghost use Rattle.mt_terms.specs.Rounds.{after_taking, has_entered, round_of, settled, stage};
 ghost use Rattle.mt_terms.specs.Best.{IsBest};
-ghost use Rattle.mt_terms.specs.Stability.{blocks, fits, stable};
+ghost use Rattle.mt_terms.specs.Stability.{fits, stable};
 ghost use Rattle.mt_ranks.specs.Ranked.{ranked_of};
-ghost use Rattle.mt_couples.specs.Assigned.{IsAgentOf};
+ghost use Rattle.mt_couples.specs.Assigned.{AreApplicantsOf, AreProgramsOf, IsAgentOf};
 ghost use Rattle.mt_couples.specs.Running.{IsRunning};
-ghost use Rattle.mt_couples.specs.Moves.{IsTaking};
+ghost use Rattle.mt_couples.specs.Moves.{agents_of, blockers, if_blocking, reopened, IsTaking, Joins};
 
 use crate::assignment::Assignment;
 use crate::work_list::WorkList;
@@ -64,8 +61,8 @@ fn join_displaced(
     displaced: &[AppNo],
     waiting: &mut WorkList,
 ) -> Result<(), AllocError>
-    requires { (a : ℕ) → IsTrue (has displaced.now a) → a < applicants assignment.now.market }
-    ensures { OnOk result (waiting.new ≡ all_joined waiting.old (map (agent_of assignment.now.market) displaced.now)) }
+    requires { AreApplicantsOf assignment.now.market displaced.now }
+    ensures { OnOk result (Joins waiting.old waiting.new (agents_of assignment.now displaced.now)) }
 {
     for applicant in displaced {
         waiting.join(assignment.agent_of(*applicant))?;
@@ -80,8 +77,7 @@ fn look_at_mover(
     waiting: &mut WorkList,
 ) -> Result<(), AllocError>
     requires { IsAgentOf assignment.now.market agent }
-    ensures { OnOk result (waiting.new
-        ≡ (if blocks assignment.now.market assignment.now.places agent then joined waiting.old agent else waiting.old)) }
+    ensures { OnOk result (Joins waiting.old waiting.new (if_blocking assignment.now agent)) }
 {
     if assignment.blocks(&agent) {
         waiting.join(agent)?;
@@ -97,7 +93,7 @@ fn look_at(
     waiting: &mut WorkList,
 ) -> Result<(), AllocError>
     requires { program < length assignment.now.market.programs }
-    ensures { OnOk result (waiting.new ≡ all_joined waiting.old (blocking_on_list assignment.now.market last assignment.now.places program)) }
+    ensures { OnOk result (Joins waiting.old waiting.new (blockers assignment.now last program)) }
 {
     for applicant in assignment.ranking(program) {
         let agent = assignment.agent_of(*applicant);
@@ -115,8 +111,8 @@ fn look_at_left(
     last: CoupleNo,
     waiting: &mut WorkList,
 ) -> Result<(), AllocError>
-    requires { (p : ℕ) → IsTrue (has left.now p) → p < length assignment.now.market.programs }
-    ensures { OnOk result (waiting.new ≡ all_joined waiting.old (flat_map (blocking_on_list assignment.now.market last assignment.now.places) left.now)) }
+    requires { AreProgramsOf assignment.now.market left.now }
+    ensures { OnOk result (Joins waiting.old waiting.new (reopened assignment.now last left.now)) }
 {
     for program in left {
         look_at(assignment, *program, last, waiting)?;

@@ -14,5 +14,5 @@ loop-rank-preserved c =
     let i = c.loop-rank.rank-index in
     let rank = get_or c.args.ranks.now i 0 in
     let within : rank < length c.args.ranking.now = c.requires i c.loop-rank-test.true in
-    mapped_more (λ r. get_or c.args.ranking.now r 0) c.args.applicants.now.items c.loop-rank.applicants.items c.push.new.self.items c.args.ranks.now i c.index-ranking-rank.result c.loop-rank-test.true
+    mapped_more (λ r. get_or c.args.ranking.now r 0) c.args.out.now.items c.loop-rank.out.items c.push.new.self.items c.args.ranks.now i c.index-ranking-rank.result c.loop-rank-test.true
     c.loop-rank.invariant (get_or_read c.args.ranking.now rank c.index-ranking-rank.result within c.index-ranking-rank.is 0) c.in_ok-push.ensures.items

@@ -37,6 +37,6 @@ returns c =
     let once = c.self.invariant.is_registration.well_formed.rankings_distinct p in
     let beyond_is = c.beyond.ensures ∙ ap₂ drop quota_is row_is in
     on_ok_weaker c.add_ranked.result (λ done.
-    done ∙ ap (λ xs. c.args.displaced.now.items ++ xs)
+    done ∙ ap (λ xs. c.args.out.now.items ++ xs)
     (ap₂ (λ xs rs. map (λ r. get_or xs r 0) rs) list_is beyond_is ∙ sym (refused_ranks (at t.places.items p) (program_of m p).quota (program_of m p).ranking once))
-    ∙ ap (λ (s : Assigned). c.args.displaced.now.items ++ filter (is_refused (program_of s.market p) (at s.places p)) (program_of s.market p).ranking) c.self.view_is) c.add_ranked.ensures
+    ∙ ap (λ (s : Assigned). c.args.out.now.items ++ filter (is_refused (program_of s.market p) (at s.places p)) (program_of s.market p).ranking) c.self.view_is) c.add_ranked.ensures

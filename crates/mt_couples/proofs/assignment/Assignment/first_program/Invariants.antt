@@ -8,5 +8,5 @@ use Rattle.mt_couples.proofs.assignment.Assignment.first_program.Given as goal
 
 abbrev pub invariant-loop-program : goal.invariant-loop-program
 invariant-loop-program l =
-    first_before (holds l.self.places) (would_be_taken l.self.market l.self.places) (map (single_placement l.applicant) (drop l.program-index l.program-items))
-    ≡ first_taken l.self.market l.self.places (Single l.applicant)
+    first_before (holds l.self.places) (would_be_taken l.self.market l.self.places) (map (single_placement l.single) (drop l.program-index l.program-items))
+    ≡ first_taken l.self.market l.self.places (Single l.single)
