@@ -1,12 +1,11 @@
 -- What a move of an agent to an option that would be taken does, by the applicants that it touches alone.
 use Rattle.std.proofs.Common.{◌≡◌, ℕ, zero, suc, ◌+◌, ◌<◌, ◌≤◌, Bool, true, false, not, ◌&&◌, ◌||◌, ◌==◌, List, [], ◌∷◌, map, filter, length, Option, Some, None, refl, ap, sym, ◌∙◌, inl, inr, arith, subst, flat_map, ap₂, ◌++◌, if◌then◌else◌}
-use Rattle.std.specs.List.{list_any, range_with_len, AllByRecursion}
+use Rattle.std.specs.List.{list_any, range_with_len}
 use Rattle.std.specs.List.Sorted.{IsStrictlySortedBy}
 use Rattle.std.specs.Ordering.{nat_cmp}
-use Rattle.std.specs.declared.cmp.Ordering.TheVariants.{Less}
+use Rattle.std.specs.Cmp.{both_ways as same_tests}
 use Rattle.std.proofs.lemmas.Bool.{cases_Bool, cases_eq, and_parts, and_from, and_left, and_right, or_cases, or_left, or_right, or_from, both_ways, false≢true, false_from_ne_true, true_from_ne_false, not-true, not_from_false, not_from_true, eq-eqb, eqb-true, ne_eqb}
-use Rattle.std.proofs.lemmas.Cmp.{ranked}
-use Rattle.std.proofs.lemmas.Map.Keys.{sorted_head, sorted_tail}
+use Rattle.std.proofs.lemmas.Map.Keys.{sorted_tail}
 use Rattle.mt_terms.specs.Lists.{has, below, is_distinct}
 use Rattle.mt_terms.specs.Market.{Market, applicants, program_of, agent_of, members, agents}
 use Rattle.mt_terms.specs.Matching.{Places, Placement, place_of, is_program, at, send, options, single_placement, couple_placement}
@@ -25,12 +24,7 @@ use Rattle.mt_couples.specs.Assigned.{AreSent}
 use Rattle.mt_couples.specs.Moves.{is_left_by_movers, is_kept_at, all_members, IsTaking, Joins}
 use Rattle.mt_couples.proofs.SentFacts.{in_list}
 use Rattle.mt_couples.proofs.JoinFacts.{all_joined-append}
-
--- two tests that imply each other
-same_tests : (s t : Bool) → (s ≡ true → t ≡ true) → (t ≡ true → s ≡ true) → s ≡ t
-same_tests true t f g = sym (f refl)
-same_tests false true f g = g refl
-same_tests false false f g = refl
+use Rattle.mt_couples.proofs.RowFacts.{below_rest}
 
 -- an option names two applicants at most
 option_few : (m : Market) (g : Agent) (sent : Placement) → In sent (options m g) → length sent ≤ 2
@@ -179,13 +173,6 @@ module _ {m : Market} {old : Places} {g : Agent} {sent : Placement} (taking : Is
       listing_program m p w.0 (mv.fitting.listed w.0 p places.0)
 
 -- Numbers in order, each once, that are those of a range which pass a test.
-above_head : (k : ℕ) (ks : List ℕ) → AllByRecursion (λ y. nat_cmp k y ≡ Less) ks → (p : ℕ) → has ks p ≡ true → k < p
-above_head k [] h p on = absurd (false≢true on)
-above_head k (x ∷ xs) h p on = elim (or_cases (x == p) (has xs p) on) [
-  | inl here ↦ (let l : k < x = ranked k x Less (sym h.0) in let is = eqb-true x p here in omega arith)
-  | inr later ↦ above_head k xs h.1 p later
-]
-
 none_on : (ks : List ℕ) → ((p : ℕ) → has ks p ≡ true → ⊥) → ks ≡ []
 none_on [] h = refl
 none_on (k ∷ ks) h = absurd (h k (or_left (k == k) (has ks k) (eq-eqb k k refl)))
@@ -196,7 +183,7 @@ sorted_range test ks a zero sorted within is = none_on ks (λ p on. let w = with
 sorted_range test [] a (suc n) sorted within is =
     rw (sym (is a (omega arith) (omega arith))) (sorted_range test [] (a + 1) n sorted (λ p on. absurd (false≢true on)) (λ p low high. is p (omega arith) (omega arith)))
 sorted_range test (k ∷ ks) a (suc n) sorted within is =
-    let above = above_head k ks (sorted_head nat_cmp k ks sorted) in
+    let above = below_rest k ks sorted in
     let first = within k (or_left (k == k) (has ks k) (eq-eqb k k refl)) in
     elim (cases_eq k a) [
       | inl same ↦

@@ -17,6 +17,7 @@ use Rattle.std.proofs.lemmas.Cmp.{ranked}
 use Rattle.std.specs.BTreeSet.{insert_key}
 use Rattle.std.proofs.lemmas.Bool.{or_left, or_right, eq-eqb, eqb-true, cases_Bool, and_from, and_left, and_right, not_from_false, not_from_true}
 use Rattle.mt_couples.specs.Assigned.{Assigned, with_place, with_places}
+use Rattle.mt_round_laws.proofs.RoundsKeep.{or_assoc}
 use Rattle.mt_couples.specs.Moves.{is_kept_at}
 
 -- An assignment on the way from one match to another: the market is the same, and what is left of the way
@@ -62,10 +63,6 @@ or-false false = refl
 or_comm : (a b : Bool) → (a || b) ≡ (b || a)
 or_comm true b = sym (or_right b true refl)
 or_comm false b = sym (or-false b)
-
-pub or_assoc : (a b c : Bool) → ((a || b) || c) ≡ (a || (b || c))
-or_assoc true b c = refl
-or_assoc false b c = refl
 
 or_twice : (a b : Bool) → (a || b) ≡ ((a || b) || a)
 or_twice true b = refl

@@ -1,7 +1,7 @@
 -- What a round is given, and what it leaves.
-use Rattle.std.proofs.Common.{◌≡◌, ℕ, zero, suc, ◌-◌, ◌≤◌, Bool, true, List, [], ◌∷◌, Option, Some, Contains, refl, ap, sym, ◌∙◌, inl, inr, arith, subst}
-use Rattle.std.specs.List.{find, list_any}
-use Rattle.std.proofs.lemmas.Bool.{cases_Bool, or_left}
+use Rattle.std.proofs.Common.{◌≡◌, ℕ, zero, suc, ◌-◌, ◌≤◌, true, List, [], ◌∷◌, Some, Contains, refl, ap, sym, ◌∙◌, inl, inr, arith, subst}
+use Rattle.std.specs.List.{list_any}
+use Rattle.std.proofs.lemmas.Bool.{or_left}
 use Rattle.mt_terms.specs.Market.{Market, agents}
 use Rattle.mt_terms.specs.Matching.{Places, Placement, holds, options, better}
 use Rattle.mt_terms.specs.Stability.{would_be_taken, fits}
@@ -12,22 +12,11 @@ use Rattle.mt_terms.specs.declared.numbers.Agent.{Agent}
 use Rattle.mt_round_laws.proofs.RoundsLists.{In, of_until}
 use Rattle.mt_round_laws.proofs.RoundsAgents.{is_same_agent_refl, agent_from_list, of_list}
 use Rattle.mt_round_laws.proofs.RoundsFits.{fitting_facts, listing_program}
-use Rattle.mt_round_laws.proofs.RoundsKeep.{fitting_round}
+use Rattle.mt_round_laws.proofs.RoundsKeep.{fitting_round, found_first}
 use Rattle.mt_couples.specs.Assigned.{Assigned, IsAgentOf}
 use Rattle.mt_couples.specs.Moves.{IsTaking}
 use Rattle.mt_couples.specs.Running.{IsRunning}
 use Rattle.mt_couples.proofs.MarketFacts.{number_within}
-
--- the first element that passes stands on the list, and passes
-found_first : {X : Type 0} (test : X → Bool) (xs : List X) (x : X) → find test xs ≡ Some x → In x xs × (test x ≡ true)
-found_first test [] x h = absurd cc
-found_first {X} test (y ∷ ys) x h = elim (cases_Bool (test y)) [
-  | inl passes ↦
-      let both : ◌≡◌ {A = Option X} (Some y) (Some x) = rw passes at h in
-      let is : y ≡ x = cc in
-      (inl is, ap test (sym is) ∙ passes)
-  | inr fails ↦ let rest = found_first test ys x (rw fails at h) in (inr rest.0, rest.1)
-]
 
 contains_in : {X : Type 0} (xs : List X) (x : X) → In x xs → Contains xs x
 contains_in [] x i = absurd i
@@ -46,7 +35,7 @@ module _ {m : Market} {places : Places} {waiting : List Agent} {g : Agent} (runn
   -- its first better option that would be taken is one that it may take
   pub front_takes : (sent : Placement) → first_taken m places g ≡ Some sent → IsTaking m places g sent
   front_takes sent first =
-      let found = found_first (would_be_taken m places) (better m places g) sent first in
+      let found = found_first (would_be_taken m places) sent (better m places g) first in
       record {
         well_formed = running.well_formed;
         fitting = running.fitting.fitting;

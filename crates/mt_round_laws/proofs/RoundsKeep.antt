@@ -25,7 +25,7 @@ or_nothing true = refl
 or_nothing false = refl
 
 -- tests one after the other
-or_assoc : (a b c : Bool) → ((a || b) || c) ≡ (a || (b || c))
+pub or_assoc : (a b c : Bool) → ((a || b) || c) ≡ (a || (b || c))
 or_assoc true b c = refl
 or_assoc false b c = refl
 
@@ -46,7 +46,7 @@ on_all_joined ws (g ∷ gs) h =
     on_all_joined (joined ws g) gs h ∙ ap (λ b. b || is_on gs h) (on_joined ws g h) ∙ or_assoc (is_on ws h) (is_same_agent h g) (is_on gs h)
 
 -- what is found first stands on the list and passes
-found_first : {X : Type 0} (p : X → Bool) (x : X) (xs : List X) → find p xs ≡ Some x → In x xs × (p x ≡ true)
+pub found_first : {X : Type 0} (p : X → Bool) (x : X) (xs : List X) → find p xs ≡ Some x → In x xs × (p x ≡ true)
 found_first p x [] e = absurd cc
 found_first {X} p x (y ∷ xs) e = elim (cases_Bool (p y)) [ inl t ↦ here t | inr t ↦ later (found_first p x xs (rw t at e)) ]
   where
