@@ -9,7 +9,7 @@ use Rattle.mt_terms.specs.Matching.{Places, at, place_of, is_program}
 use Rattle.mt_terms.specs.Choice.{choice}
 use Rattle.mt_terms.specs.Best.{IsExcluded, better_programs}
 use Rattle.mt_terms.specs.WellFormed.{IsWellFormed}
-use Rattle.mt_terms.specs.Floor.{Floor, held, tried, gone, last_tried, is_held_by, is_settled, is_quiet, IsRecorded, IsStrict, IsResult}
+use Rattle.mt_terms.specs.Floor.{Floor, held, tried, passed, last_tried, is_held_by, is_settled, is_quiet, IsRecorded, IsStrict, IsResult}
 use Rattle.mt_floor_laws.specs.Floors.{StrictBest}
 use Rattle.mt_match_laws.proofs.ListLemmas.{each_below, count-le, has-until}
 use Rattle.mt_match_laws.proofs.ChoiceLemmas.{choice_facts}
@@ -18,7 +18,7 @@ use Rattle.mt_match_laws.proofs.Seats.{chosen_count, filled_by_applicant}
 use Rattle.mt_match_laws.proofs.SinglesFacts.{stable_facts, stable_from_facts, at_past}
 use Rattle.mt_floor_laws.proofs.FloorLists.{has-get, has-take-suc, has-until-get, has-until-filter}
 use Rattle.mt_match_laws.proofs.FloorChoices.{above-choice}
-use Rattle.mt_floor_laws.proofs.FloorEvents.{live_parts, tried_from_gone, tried_from_received, gone_where_free, gone_where_standing, HasLast, last_facts}
+use Rattle.mt_floor_laws.proofs.FloorEvents.{live_parts, tried_from_passed, tried_from_received, passed_where_free, passed_where_standing, HasLast, last_facts}
 
 -- only applicants have live entries
 pub applicant_from_live : (m : Market) (a p : ℕ) → IsTrue (has (live m a) p) → a < applicants m
@@ -96,13 +96,13 @@ placed_from_held m f s a p on = go (cases_Bool (f.standing a))
     has_tried : IsTrue (has (tried m f a) p)
     has_tried = tried_from_received m f s.legal.recorded a p (choice_facts (program_of m p) (f.received p) a on).is_member
 
-    not_gone : IsFalse (has (gone m f a) p)
-    not_gone = false_from_ne_true _ (λ left. both_ways _ (s.let_go a p left) on)
+    not_passed : IsFalse (has (passed m f a) p)
+    not_passed = false_from_ne_true _ (λ left. both_ways _ (s.let_go a p left) on)
 
     go : (IsTrue (f.standing a)) ⊎ (IsFalse (f.standing a)) → (k : ℕ) × IsPlaced m f a k p
     go (inl stands) =
         let l = last_facts m f s.legal.recorded a stands in
-        let front : IsFalse (has (take l.0 (live m a)) p) = ap (λ ps. has ps p) (sym (gone_where_standing m f a l.0 l.1 stands l.2)) ∙ not_gone in
+        let front : IsFalse (has (take l.0 (live m a)) p) = ap (λ ps. has ps p) (sym (passed_where_standing m f a l.0 l.1 stands l.2)) ∙ not_passed in
         let both : IsTrue (has (take l.0 (live m a)) p || (l.1 == p)) =
         sym (has-take-suc (live m a) l.0 l.1 p l.2.last) ∙ ap (λ n. has (take n (live m a)) p) (sym l.2.made_more) ∙ has_tried in
         let same : l.1 ≡ p = eqb-true _ _ (second _ _ front both) in
@@ -110,23 +110,23 @@ placed_from_held m f s a p on = go (cases_Bool (f.standing a))
       where
         second : (x y : Bool) → IsFalse x → IsTrue (x || y) → IsTrue y
         second x y h e = grind arith
-    go (inr free) = absurd (both_ways _ not_gone (ap (λ ps. has ps p) (gone_where_free m f a free) ∙ has_tried))
+    go (inr free) = absurd (both_ways _ not_passed (ap (λ ps. has ps p) (passed_where_free m f a free) ∙ has_tried))
 
--- a live program that an applicant wants more than its place is one that it has gone from
-gone_from_better : (m : Market) (f : Floor) → IsRecorded m f → IsTrue (is_quiet m f) → (places : Places) → IsResult m f places
-    → (a p : ℕ) → IsTrue (has (program_of m p).ranking a) → IsTrue (has (better_programs m places a) p) → IsTrue (has (gone m f a) p)
-gone_from_better m f r quiet places result a p listed better = go (cases_Bool (f.standing a))
+-- a live program that an applicant wants more than its place is one that it has passed
+passed_from_better : (m : Market) (f : Floor) → IsRecorded m f → IsTrue (is_quiet m f) → (places : Places) → IsResult m f places
+    → (a p : ℕ) → IsTrue (has (program_of m p).ranking a) → IsTrue (has (better_programs m places a) p) → IsTrue (has (passed m f a) p)
+passed_from_better m f r quiet places result a p listed better = go (cases_Bool (f.standing a))
   where
     on_live : IsTrue (has (until (λ q. at places q a) (live m a)) p)
     on_live = has-until-filter (λ q. at places q a) (λ q. has (program_of m q).ranking a) (list_of m a) p better listed
 
-    go : (IsTrue (f.standing a)) ⊎ (IsFalse (f.standing a)) → IsTrue (has (gone m f a) p)
+    go : (IsTrue (f.standing a)) ⊎ (IsFalse (f.standing a)) → IsTrue (has (passed m f a) p)
     go (inl stands) =
         let l = last_facts m f r a stands in
         let there = placed_from m f places result a l.0 l.1 (record { stands = stands; last = l.2 }) in
-        ap (λ ps. has ps p) (gone_where_standing m f a l.0 l.1 stands l.2) ∙ has-until-get (λ q. at places q a) (live m a) l.0 l.1 p l.2.last there on_live
+        ap (λ ps. has ps p) (passed_where_standing m f a l.0 l.1 stands l.2) ∙ has-until-get (λ q. at places q a) (live m a) l.0 l.1 p l.2.last there on_live
     go (inr free) =
-        ap (λ ps. has ps p) (gone_where_free m f a free ∙ tried_where_quiet m f r quiet a free) ∙ has-until (λ q. at places q a) (live m a) p on_live
+        ap (λ ps. has ps p) (passed_where_free m f a free ∙ tried_where_quiet m f r quiet a free) ∙ has-until (λ q. at places q a) (live m a) p on_live
 
 -- a program that doesn't list an applicant can't have it
 excluded_if_unlisted : (m : Market) (a p : ℕ) → IsFalse (has (program_of m p).ranking a) → IsExcluded m a p
@@ -140,8 +140,8 @@ unchosen_if_better m wf f s quiet places result a p better = go (cases_Bool (has
   where
     full : IsTrue (has (program_of m p).ranking a) → (program_of m p).quota ≤ above (with_one (at places p) a) (program_of m p).ranking a
     full listed =
-        let left = gone_from_better m f s.legal.recorded quiet places result a p listed better in
-        let on : IsTrue (f.received p a) = s.legal.recorded.receives a p ∙ tried_from_gone m f a p left in
+        let left = passed_from_better m f s.legal.recorded quiet places result a p listed better in
+        let on : IsTrue (f.received p a) = s.legal.recorded.receives a p ∙ tried_from_passed m f a p left in
         let at_least = above-choice (program_of m p) (f.received p) a (wf.rankings_distinct p) listed on (s.let_go a p left) in
         let more = count-le (held m f p) (with_one (at places p) a) (until (λ b. b == a) (program_of m p).ranking)
         (λ b held_b. let placed = placed_from_held m f s b p held_b in or_right _ _ (placed_from m f places result b placed.0 p placed.1)) in
@@ -172,5 +172,5 @@ strict_best_lem m wf f s quiet places result = record {
     placed_live a p there = let placed = placed_facts m f s.legal.recorded places result a p there in has-get (live m a) placed.0 p placed.1.last.last
 
     by_listing : (a p : ℕ) → IsTrue (has (better_programs m places a) p) → (IsTrue (has (program_of m p).ranking a)) ⊎ (IsFalse (has (program_of m p).ranking a)) → IsExcluded m a p
-    by_listing a p better (inl listed) = s.legal.passed a p (gone_from_better m f s.legal.recorded quiet places result a p listed better)
+    by_listing a p better (inl listed) = s.legal.passed_excluded a p (passed_from_better m f s.legal.recorded quiet places result a p listed better)
     by_listing a p better (inr unlisted) = excluded_if_unlisted m a p unlisted

@@ -7,7 +7,7 @@ use Rattle.mt_terms.specs.Market.{Market, program_of, list_of, live}
 use Rattle.mt_terms.specs.Choice.{choice}
 use Rattle.mt_terms.specs.Best.{IsExcluded}
 use Rattle.mt_terms.specs.WellFormed.{IsWellFormed}
-use Rattle.mt_terms.specs.Floor.{Floor, held, tried, gone, last_tried, next_entry, is_held_by, IsRecorded, IsLegal, IsStrict, is_due, after, after_all, after_proposal, proposed_at, receives_one}
+use Rattle.mt_terms.specs.Floor.{Floor, held, tried, passed, last_tried, next_entry, is_held_by, IsRecorded, IsLegal, IsStrict, is_due, after, after_all, after_proposal, proposed_at, receives_one}
 use Rattle.mt_floor_laws.specs.Floors.{LegalFromPassed, EventKeepsRecorded, EventKeepsLegal, EventKeepsStrict, EventsKeepRecorded, EventsKeepLegal, EventsKeepStrict}
 use Rattle.mt_terms.specs.declared.events.Event.{Event}
 use Rattle.mt_terms.specs.declared.events.Event.TheVariants.{Propose, Notice}
@@ -23,45 +23,45 @@ live_parts m a p h = and_parts _ _ (sym (has-filter (λ q. has (program_of m q).
 pub live_distinct : (m : Market) → IsWellFormed m → (a : ℕ) → IsTrue (is_distinct (live m a))
 live_distinct m wf a = distinct-filter (λ q. has (program_of m q).ranking a) (list_of m a) (wf.lists_distinct a)
 
--- who has gone from a program counts it among its proposals
-gone_count : (b : Bool) (n : ℕ) → n - (if b then 1 else 0) ≤ n
-gone_count b n = omega arith
+-- who has passed programs counts them among its proposals
+passed_count : (b : Bool) (n : ℕ) → n - (if b then 1 else 0) ≤ n
+passed_count b n = omega arith
 
--- all proposals but the last are gone from
+-- all proposals but the last are of programs passed
 front_count : (b : Bool) (n : ℕ) → n - 1 ≤ n - (if b then 1 else 0)
 front_count true n = omega arith
 front_count false n = omega arith
 
--- whoever has gone from a program has tried it
-pub tried_from_gone : (m : Market) (f : Floor) (a p : ℕ) → IsTrue (has (gone m f a) p) → IsTrue (has (tried m f a) p)
-tried_from_gone m f a p h = has-take-le (live m a) _ (f.made a) p (gone_count (f.standing a) (f.made a)) h
+-- whoever has passed a program has tried it
+pub tried_from_passed : (m : Market) (f : Floor) (a p : ℕ) → IsTrue (has (passed m f a) p) → IsTrue (has (tried m f a) p)
+tried_from_passed m f a p h = has-take-le (live m a) _ (f.made a) p (passed_count (f.standing a) (f.made a)) h
 
--- the programs tried but for the last one are gone from
-pub gone_from_front : (m : Market) (f : Floor) (a p : ℕ) → IsTrue (has (take (f.made a - 1) (live m a)) p) → IsTrue (has (gone m f a) p)
-gone_from_front m f a p h = has-take-le (live m a) (f.made a - 1) _ p (front_count (f.standing a) (f.made a)) h
+-- the programs tried but for the last one are passed
+pub passed_from_front : (m : Market) (f : Floor) (a p : ℕ) → IsTrue (has (take (f.made a - 1) (live m a)) p) → IsTrue (has (passed m f a) p)
+passed_from_front m f a p h = has-take-le (live m a) (f.made a - 1) _ p (front_count (f.standing a) (f.made a)) h
 
 -- on a recorded floor, who is received at a program has tried it
 pub tried_from_received : (m : Market) (f : Floor) → IsRecorded m f → (a p : ℕ) → IsTrue (f.received p a) → IsTrue (has (tried m f a) p)
 tried_from_received m f r a p on = sym (r.receives a p) ∙ on
 
 -- All programs tried but the last are excluded.
-pub record HasPassed (m : Market) (f : Floor) : Type 0 where
+pub record IsFrontExcluded (m : Market) (f : Floor) : Type 0 where
   pub front : (a p : ℕ) → IsTrue (has (take (f.made a - 1) (live m a)) p) → IsExcluded m a p
 
 -- where all programs tried but the last are excluded, so is where an applicant was received and isn't held
-pub refused_is_excluded : (m : Market) → IsWellFormed m → (f : Floor) → IsRecorded m f → HasPassed m f
+pub refused_is_excluded : (m : Market) → IsWellFormed m → (f : Floor) → IsRecorded m f → IsFrontExcluded m f
     → (a p : ℕ) → IsTrue (f.received p a) → IsFalse (held m f p a) → IsExcluded m a p
-refused_is_excluded m wf f r passed a p on out =
+refused_is_excluded m wf f r excluded a p on out =
     exclusion_lem m wf p (f.received p)
     (λ b on_b. (live_parts m b p (has-from_take (live m b) (f.made b) p (tried_from_received m f r b p on_b))).1)
-    (λ b q on_b before. passed.front b q (has-until-take (live m b) (f.made b) p q (tried_from_received m f r b p on_b) before))
+    (λ b q on_b before. excluded.front b q (has-until-take (live m b) (f.made b) p q (tried_from_received m f r b p on_b) before))
     a on out
 
 -- the third clause of a legal floor follows from the first two
 pub legal_from_passed_lem : LegalFromPassed
-legal_from_passed_lem m wf f r passed =
-    let has_passed : HasPassed m f = record { front = λ a p h. passed a p (gone_from_front m f a p h) } in
-    record { recorded = r; passed = passed; refused = refused_is_excluded m wf f r has_passed }
+legal_from_passed_lem m wf f r excluded =
+    let front_excluded : IsFrontExcluded m f = record { front = λ a p h. excluded a p (passed_from_front m f a p h) } in
+    record { recorded = r; passed_excluded = excluded; refused_excluded = refused_is_excluded m wf f r front_excluded }
 
 -- A proposal that is due: the applicant doesn't stand, and the program is the next on its live list.
 pub record IsNext (m : Market) (f : Floor) (a p : ℕ) : Type 0 where
@@ -145,41 +145,41 @@ proposal_keeps_recorded m f a p n r = record {
       (λ b other q. received_other m f a p q b other ∙ r.receives b q ∙ ap (λ ps. has ps q) (sym (tried_other m f a p b other)));
 }
 
--- who doesn't stand has gone from all that it has tried
-pub gone_where_free : (m : Market) (f : Floor) (a : ℕ) → IsFalse (f.standing a) → gone m f a ≡ tried m f a
-gone_where_free m f a free = let e : f.made a - (if f.standing a then 1 else 0) ≡ f.made a = rw free (omega arith) in ap (λ k. take k (live m a)) e
+-- who doesn't stand has passed all that it has tried
+pub passed_where_free : (m : Market) (f : Floor) (a : ℕ) → IsFalse (f.standing a) → passed m f a ≡ tried m f a
+passed_where_free m f a free = let e : f.made a - (if f.standing a then 1 else 0) ≡ f.made a = rw free (omega arith) in ap (λ k. take k (live m a)) e
 
 -- after a proposal, all programs tried but the last are excluded
 proposal_keeps_front : (m : Market) (f : Floor) (a p : ℕ) → IsNext m f a p
-    → ((b q : ℕ) → IsTrue (has (gone m f b) q) → IsExcluded m b q) → HasPassed m (proposed_at m f a p)
-proposal_keeps_front m f a p n passed = record {
+    → ((b q : ℕ) → IsTrue (has (passed m f b) q) → IsExcluded m b q) → IsFrontExcluded m (proposed_at m f a p)
+proposal_keeps_front m f a p n excluded = record {
   front = one_and_others (λ b. (q : ℕ) → IsTrue (has (take ((proposed_at m f a p).made b - 1) (live m b)) q) → IsExcluded m b q) a
       (λ q on.
       let e : (proposed_at m f a p).made a - 1 ≡ f.made a = omega (arith, made_same m f a p) in
-      passed a q (rw (gone_where_free m f a n.free) (subst (λ (k : ℕ). IsTrue (has (take k (live m a)) q)) e on)))
+      excluded a q (rw (passed_where_free m f a n.free) (subst (λ (k : ℕ). IsTrue (has (take k (live m a)) q)) e on)))
       (λ b other q on.
-      passed b q (gone_from_front m f b q (subst (λ (k : ℕ). IsTrue (has (take (k - 1) (live m b)) q)) (made_other m f a p b other) on)));
+      excluded b q (passed_from_front m f b q (subst (λ (k : ℕ). IsTrue (has (take (k - 1) (live m b)) q)) (made_other m f a p b other) on)));
 }
 
--- what an applicant has gone from, by whether it stands and how much it has tried
-gone_from : (m : Market) (f : Floor) (a : ℕ) (b : Bool) (k : ℕ) → f.standing a ≡ b → f.made a ≡ k → gone m f a ≡ take (k - (if b then 1 else 0)) (live m a)
-gone_from m f a b k stands makes = ap₂ (λ (s : Bool) (n : ℕ). take (n - (if s then 1 else 0)) (live m a)) stands makes
+-- what an applicant has passed, by whether it stands and how much it has tried
+passed_from : (m : Market) (f : Floor) (a : ℕ) (b : Bool) (k : ℕ) → f.standing a ≡ b → f.made a ≡ k → passed m f a ≡ take (k - (if b then 1 else 0)) (live m a)
+passed_from m f a b k stands makes = ap₂ (λ (s : Bool) (n : ℕ). take (n - (if s then 1 else 0)) (live m a)) stands makes
 
--- an applicant that is kept at a proposal has gone from what it tried before
-gone_if_kept : (m : Market) (f : Floor) (a p : ℕ) → IsTrue ((proposed_at m f a p).standing a) → gone m (proposed_at m f a p) a ≡ tried m f a
-gone_if_kept m f a p kept =
+-- an applicant that is kept at a proposal has passed what it tried before
+passed_if_kept : (m : Market) (f : Floor) (a p : ℕ) → IsTrue ((proposed_at m f a p).standing a) → passed m (proposed_at m f a p) a ≡ tried m f a
+passed_if_kept m f a p kept =
     let e : suc (f.made a) - 1 ≡ f.made a = omega arith in
-    gone_from m (proposed_at m f a p) a true (suc (f.made a)) kept (made_same m f a p) ∙ ap (λ k. take k (live m a)) e
+    passed_from m (proposed_at m f a p) a true (suc (f.made a)) kept (made_same m f a p) ∙ ap (λ k. take k (live m a)) e
 
--- after a proposal, another applicant has gone from what it had
-gone_other : (m : Market) (f : Floor) (a p b : ℕ) → b ≢ a → gone m (proposed_at m f a p) b ≡ gone m f b
-gone_other m f a p b other = gone_from m (proposed_at m f a p) b (f.standing b) (f.made b) (standing_other m f a p b other) (made_other m f a p b other)
+-- after a proposal, another applicant has passed what it had
+passed_other : (m : Market) (f : Floor) (a p b : ℕ) → b ≢ a → passed m (proposed_at m f a p) b ≡ passed m f b
+passed_other m f a p b other = passed_from m (proposed_at m f a p) b (f.standing b) (f.made b) (standing_other m f a p b other) (made_other m f a p b other)
 
--- an applicant that isn't kept at a proposal has gone from the program too
-gone_if_refused : (m : Market) (f : Floor) (a p q : ℕ) → IsNext m f a p → IsFalse ((proposed_at m f a p).standing a)
-    → IsTrue (has (gone m (proposed_at m f a p) a) q) → (IsTrue (has (tried m f a) q)) ⊎ (p ≡ q)
-gone_if_refused m f a p q n free on =
-    let now : IsTrue (has (tried m f a) q || (p == q)) = sym (tried_same m f a p q n) ∙ ap (λ ps. has ps q) (sym (gone_where_free m (proposed_at m f a p) a free)) ∙ on in
+-- an applicant that isn't kept at a proposal has passed the program too
+passed_if_refused : (m : Market) (f : Floor) (a p q : ℕ) → IsNext m f a p → IsFalse ((proposed_at m f a p).standing a)
+    → IsTrue (has (passed m (proposed_at m f a p) a) q) → (IsTrue (has (tried m f a) q)) ⊎ (p ≡ q)
+passed_if_refused m f a p q n free on =
+    let now : IsTrue (has (tried m f a) q || (p == q)) = sym (tried_same m f a p q n) ∙ ap (λ ps. has ps q) (sym (passed_where_free m (proposed_at m f a p) a free)) ∙ on in
     grind (arith, nat_tests)
 
 -- who has just proposed to a program is received there, and held there if it stands
@@ -190,35 +190,35 @@ is_received m f a p = received_same m f a p p ∙ or_right _ _ (eq-eqb p p refl)
 held_same : (m : Market) (f : Floor) (a p : ℕ) → held m (proposed_at m f a p) p a ≡ (proposed_at m f a p).standing a
 held_same m f a p = ap (λ (set : Set). choice (program_of m p) set a) (received_there m f a p) ∙ sym (standing_same m f a p)
 
--- a proposal keeps what was gone from excluded
-proposal_keeps_passed : (m : Market) → IsWellFormed m → (f : Floor) (a p : ℕ) → IsNext m f a p → IsRecorded m f
-    → ((b q : ℕ) → IsTrue (has (gone m f b) q) → IsExcluded m b q)
-    → (b q : ℕ) → IsTrue (has (gone m (proposed_at m f a p) b) q) → IsExcluded m b q
-proposal_keeps_passed m wf f a p n r passed =
-    one_and_others (λ b. (q : ℕ) → IsTrue (has (gone m (proposed_at m f a p) b) q) → IsExcluded m b q) a
+-- a proposal keeps what was passed excluded
+proposal_keeps_excluded : (m : Market) → IsWellFormed m → (f : Floor) (a p : ℕ) → IsNext m f a p → IsRecorded m f
+    → ((b q : ℕ) → IsTrue (has (passed m f b) q) → IsExcluded m b q)
+    → (b q : ℕ) → IsTrue (has (passed m (proposed_at m f a p) b) q) → IsExcluded m b q
+proposal_keeps_excluded m wf f a p n r excluded =
+    one_and_others (λ b. (q : ℕ) → IsTrue (has (passed m (proposed_at m f a p) b) q) → IsExcluded m b q) a
     (λ q on. kept_or_not q on (cases_Bool ((proposed_at m f a p).standing a)))
-    (λ b other q on. passed b q (subst (λ ps. IsTrue (has ps q)) (gone_other m f a p b other) on))
+    (λ b other q on. excluded b q (subst (λ ps. IsTrue (has ps q)) (passed_other m f a p b other) on))
   where
     before : (q : ℕ) → IsTrue (has (tried m f a) q) → IsExcluded m a q
-    before q on = passed a q (rw (gone_where_free m f a n.free) on)
+    before q on = excluded a q (rw (passed_where_free m f a n.free) on)
 
     refused : IsFalse ((proposed_at m f a p).standing a) → IsExcluded m a p
     refused free =
-        refused_is_excluded m wf (proposed_at m f a p) (proposal_keeps_recorded m f a p n r) (proposal_keeps_front m f a p n passed)
+        refused_is_excluded m wf (proposed_at m f a p) (proposal_keeps_recorded m f a p n r) (proposal_keeps_front m f a p n excluded)
         a p (is_received m f a p) (held_same m f a p ∙ free)
 
     before_or_now : (q : ℕ) → IsFalse ((proposed_at m f a p).standing a) → (IsTrue (has (tried m f a) q)) ⊎ (p ≡ q) → IsExcluded m a q
     before_or_now q free (inl on) = before q on
     before_or_now q free (inr same) = subst (λ (x : ℕ). IsExcluded m a x) same (refused free)
 
-    kept_or_not : (q : ℕ) → IsTrue (has (gone m (proposed_at m f a p) a) q) → (IsTrue ((proposed_at m f a p).standing a)) ⊎ (IsFalse ((proposed_at m f a p).standing a)) → IsExcluded m a q
-    kept_or_not q on (inl kept) = before q (ap (λ ps. has ps q) (sym (gone_if_kept m f a p kept)) ∙ on)
-    kept_or_not q on (inr free) = before_or_now q free (gone_if_refused m f a p q n free on)
+    kept_or_not : (q : ℕ) → IsTrue (has (passed m (proposed_at m f a p) a) q) → (IsTrue ((proposed_at m f a p).standing a)) ⊎ (IsFalse ((proposed_at m f a p).standing a)) → IsExcluded m a q
+    kept_or_not q on (inl kept) = before q (ap (λ ps. has ps q) (sym (passed_if_kept m f a p kept)) ∙ on)
+    kept_or_not q on (inr free) = before_or_now q free (passed_if_refused m f a p q n free on)
 
 -- a proposal keeps a floor legal
 proposal_keeps_legal : (m : Market) → IsWellFormed m → (f : Floor) (a p : ℕ) → IsNext m f a p → IsLegal m f → IsLegal m (proposed_at m f a p)
 proposal_keeps_legal m wf f a p n l =
-    legal_from_passed_lem m wf (proposed_at m f a p) (proposal_keeps_recorded m f a p n l.recorded) (proposal_keeps_passed m wf f a p n l.recorded l.passed)
+    legal_from_passed_lem m wf (proposed_at m f a p) (proposal_keeps_recorded m f a p n l.recorded) (proposal_keeps_excluded m wf f a p n l.recorded l.passed_excluded)
 
 -- a proposal keeps who isn't held at a program so, but for who proposes to it
 proposal_keeps_out : (m : Market) (f : Floor) (a p b q : ℕ) → (b ≢ a) ⊎ (q ≢ p) → IsFalse (held m f q b) → IsFalse (held m (proposed_at m f a p) q b)
@@ -238,23 +238,23 @@ proposal_keeps_out m f a p b q (inl other) out = there_or_not (cases_eq q p)
 proposal_keeps_strict : (m : Market) → IsWellFormed m → (f : Floor) (a p : ℕ) → IsNext m f a p → IsStrict m f → IsStrict m (proposed_at m f a p)
 proposal_keeps_strict m wf f a p n s = record {
   legal = proposal_keeps_legal m wf f a p n s.legal;
-  let_go = one_and_others (λ b. (q : ℕ) → IsTrue (has (gone m (proposed_at m f a p) b) q) → IsFalse (held m (proposed_at m f a p) q b)) a
+  let_go = one_and_others (λ b. (q : ℕ) → IsTrue (has (passed m (proposed_at m f a p) b) q) → IsFalse (held m (proposed_at m f a p) q b)) a
       (λ q on. kept_or_not q on (cases_Bool ((proposed_at m f a p).standing a)))
-      (λ b other q on. proposal_keeps_out m f a p b q (inl other) (s.let_go b q (subst (λ ps. IsTrue (has ps q)) (gone_other m f a p b other) on)));
+      (λ b other q on. proposal_keeps_out m f a p b q (inl other) (s.let_go b q (subst (λ ps. IsTrue (has ps q)) (passed_other m f a p b other) on)));
 }
   where
     before : (q : ℕ) → IsTrue (has (tried m f a) q) → IsFalse (held m (proposed_at m f a p) q a)
     before q on =
         proposal_keeps_out m f a p a q (inr (λ same. both_ways _ (has-take_before (live m a) (f.made a) p (live_distinct m wf a) n.next) (subst (λ (x : ℕ). IsTrue (has (tried m f a) x)) same on)))
-        (s.let_go a q (rw (gone_where_free m f a n.free) on))
+        (s.let_go a q (rw (passed_where_free m f a n.free) on))
 
     before_or_now : (q : ℕ) → IsFalse ((proposed_at m f a p).standing a) → (IsTrue (has (tried m f a) q)) ⊎ (p ≡ q) → IsFalse (held m (proposed_at m f a p) q a)
     before_or_now q free (inl on) = before q on
     before_or_now q free (inr same) = subst (λ (x : ℕ). IsFalse (held m (proposed_at m f a p) x a)) same (held_same m f a p ∙ free)
 
-    kept_or_not : (q : ℕ) → IsTrue (has (gone m (proposed_at m f a p) a) q) → (IsTrue ((proposed_at m f a p).standing a)) ⊎ (IsFalse ((proposed_at m f a p).standing a)) → IsFalse (held m (proposed_at m f a p) q a)
-    kept_or_not q on (inl kept) = before q (ap (λ ps. has ps q) (sym (gone_if_kept m f a p kept)) ∙ on)
-    kept_or_not q on (inr free) = before_or_now q free (gone_if_refused m f a p q n free on)
+    kept_or_not : (q : ℕ) → IsTrue (has (passed m (proposed_at m f a p) a) q) → (IsTrue ((proposed_at m f a p).standing a)) ⊎ (IsFalse ((proposed_at m f a p).standing a)) → IsFalse (held m (proposed_at m f a p) q a)
+    kept_or_not q on (inl kept) = before q (ap (λ ps. has ps q) (sym (passed_if_kept m f a p kept)) ∙ on)
+    kept_or_not q on (inr free) = before_or_now q free (passed_if_refused m f a p q n free on)
 
 -- A notice that is due: the applicant stands, and the program to which it proposed last doesn't hold it.
 pub record IsDropped (m : Market) (f : Floor) (a k p : ℕ) : Type 0 where
@@ -284,9 +284,9 @@ last_facts m f r a stands =
     let e : last_tried m f a ≡ slice_get (live m a) (f.made a - 1) = rw (ne_eqb (f.made a) 0 (omega arith)) refl in
     (f.made a - 1, found.0, record { made_more = omega arith; last = found.1; last_is = e ∙ found.1 })
 
--- who stands has gone from all that it has tried but the last
-pub gone_where_standing : (m : Market) (f : Floor) (a k p : ℕ) → IsTrue (f.standing a) → HasLast m f a k p → gone m f a ≡ take k (live m a)
-gone_where_standing m f a k p stands l = gone_from m f a true (suc k) stands l.made_more ∙ ap (λ n. take n (live m a)) (omega arith)
+-- who stands has passed all that it has tried but the last
+pub passed_where_standing : (m : Market) (f : Floor) (a k p : ℕ) → IsTrue (f.standing a) → HasLast m f a k p → passed m f a ≡ take k (live m a)
+passed_where_standing m f a k p stands l = passed_from m f a true (suc k) stands l.made_more ∙ ap (λ n. take n (live m a)) (omega arith)
 
 -- a notice that is due is one
 dropped_facts : (m : Market) (f : Floor) → IsRecorded m f → (a : ℕ) → IsTrue (is_due m f (Notice a)) → (k p : ℕ) × IsDropped m f a k p
@@ -315,30 +315,30 @@ notice_keeps_recorded m f a r = record {
   receives = r.receives;
 }
 
--- after a notice the applicant has gone from the program too
-gone_if_dropped : (m : Market) (f : Floor) (a k p q : ℕ) → IsDropped m f a k p → IsTrue (has (gone m (noticed f a) a) q) → (IsTrue (has (gone m f a) q)) ⊎ (p ≡ q)
-gone_if_dropped m f a k p q d on =
-    let before : gone m f a ≡ take k (live m a) = gone_from m f a true (suc k) d.stands d.made_more ∙ ap (λ n. take n (live m a)) (omega arith) in
-    let now : gone m (noticed f a) a ≡ take (suc k) (live m a) = gone_where_free m (noticed f a) a (noticed_same f a) ∙ ap (λ n. take n (live m a)) d.made_more in
+-- after a notice the applicant has passed the program too
+passed_if_dropped : (m : Market) (f : Floor) (a k p q : ℕ) → IsDropped m f a k p → IsTrue (has (passed m (noticed f a) a) q) → (IsTrue (has (passed m f a) q)) ⊎ (p ≡ q)
+passed_if_dropped m f a k p q d on =
+    let before : passed m f a ≡ take k (live m a) = passed_from m f a true (suc k) d.stands d.made_more ∙ ap (λ n. take n (live m a)) (omega arith) in
+    let now : passed m (noticed f a) a ≡ take (suc k) (live m a) = passed_where_free m (noticed f a) a (noticed_same f a) ∙ ap (λ n. take n (live m a)) d.made_more in
     let both : IsTrue (has (take k (live m a)) q || (p == q)) = sym (has-take-suc (live m a) k p q d.last) ∙ ap (λ ps. has ps q) (sym now) ∙ on in
     before_or_last (ap (λ ps. has ps q) before) both
   where
     before_or_last : {x y : Bool} → x ≡ y → IsTrue (y || (p == q)) → (IsTrue x) ⊎ (p ≡ q)
     before_or_last e both = grind (arith, nat_tests)
 
--- after a notice, another applicant has gone from what it had
-gone_after_notice : (m : Market) (f : Floor) (a b : ℕ) → b ≢ a → gone m (noticed f a) b ≡ gone m f b
-gone_after_notice m f a b other = gone_from m (noticed f a) b (f.standing b) (f.made b) (noticed_other f a b other) refl
+-- after a notice, another applicant has passed what it had
+passed_after_notice : (m : Market) (f : Floor) (a b : ℕ) → b ≢ a → passed m (noticed f a) b ≡ passed m f b
+passed_after_notice m f a b other = passed_from m (noticed f a) b (f.standing b) (f.made b) (noticed_other f a b other) refl
 
--- what is so of each program that an applicant has gone from, and of the one that dropped it, is so after the notice
+-- what is so of each program that an applicant has passed, and of the one that dropped it, is so after the notice
 after_notice : (m : Market) (f : Floor) (a k p : ℕ) → IsDropped m f a k p → (P : ℕ → ℕ → Type 0)
-    → ((b q : ℕ) → IsTrue (has (gone m f b) q) → P b q) → P a p → (b q : ℕ) → IsTrue (has (gone m (noticed f a) b) q) → P b q
+    → ((b q : ℕ) → IsTrue (has (passed m f b) q) → P b q) → P a p → (b q : ℕ) → IsTrue (has (passed m (noticed f a) b) q) → P b q
 after_notice m f a k p d P before now =
-    one_and_others (λ b. (q : ℕ) → IsTrue (has (gone m (noticed f a) b) q) → P b q) a
-    (λ q on. before_or_now q (gone_if_dropped m f a k p q d on))
-    (λ b other q on. before b q (subst (λ ps. IsTrue (has ps q)) (gone_after_notice m f a b other) on))
+    one_and_others (λ b. (q : ℕ) → IsTrue (has (passed m (noticed f a) b) q) → P b q) a
+    (λ q on. before_or_now q (passed_if_dropped m f a k p q d on))
+    (λ b other q on. before b q (subst (λ ps. IsTrue (has ps q)) (passed_after_notice m f a b other) on))
   where
-    before_or_now : (q : ℕ) → (IsTrue (has (gone m f a) q)) ⊎ (p ≡ q) → P a q
+    before_or_now : (q : ℕ) → (IsTrue (has (passed m f a) q)) ⊎ (p ≡ q) → P a q
     before_or_now q (inl on) = before a q on
     before_or_now q (inr same) = subst (λ (x : ℕ). P a x) same now
 
@@ -351,7 +351,7 @@ received_at_last m f r a k p d =
 notice_keeps_legal : (m : Market) → IsWellFormed m → (f : Floor) (a k p : ℕ) → IsDropped m f a k p → IsLegal m f → IsLegal m (noticed f a)
 notice_keeps_legal m wf f a k p d l =
     legal_from_passed_lem m wf (noticed f a) (notice_keeps_recorded m f a l.recorded)
-    (after_notice m f a k p d (λ b q. IsExcluded m b q) l.passed (l.refused a p (received_at_last m f l.recorded a k p d) d.out))
+    (after_notice m f a k p d (λ b q. IsExcluded m b q) l.passed_excluded (l.refused_excluded a p (received_at_last m f l.recorded a k p d) d.out))
 
 -- a notice keeps a floor strict
 notice_keeps_strict : (m : Market) → IsWellFormed m → (f : Floor) (a k p : ℕ) → IsDropped m f a k p → IsStrict m f → IsStrict m (noticed f a)

@@ -169,8 +169,8 @@ pub opening_is_strict_lem : OpeningIsStrict
 opening_is_strict_lem m = record {
   legal = record {
     recorded = record { within = λ a. omega arith; proposed = λ a stands. absurd (both_ways false refl stands); receives = λ a p. refl };
-    passed = λ a p left. absurd (both_ways false refl left);
-    refused = λ a p on. absurd (both_ways false refl on);
+    passed_excluded = λ a p left. absurd (both_ways false refl left);
+    refused_excluded = λ a p on. absurd (both_ways false refl on);
   };
   let_go = λ a p left. absurd (both_ways false refl left);
 }

@@ -1,4 +1,4 @@
--- A legal floor on which no event is due is strict: no program holds anybody that has gone on.
+-- A legal floor on which no event is due is strict: no program holds anybody that has passed it.
 use Rattle.std.proofs.Common.{◌≡◌, ℕ, ◌-◌, ◌<◌, ◌≤◌, Bool, true, false, ◌==◌, if◌then◌else◌, IsTrue, IsFalse, List, length, take, Option, Some, None, is_some, refl, sym, ◌∙◌, ap, arith, inl, inr}
 use Rattle.std.specs.Prelude.{slice_get}
 use Rattle.std.proofs.lemmas.Bool.{cases_lt, both_ways, and_from, false_from_ne_true, true_from_ne_false, false≢true}
@@ -9,11 +9,11 @@ use Rattle.mt_terms.specs.Market.{Market, applicants, program_of, list_of, live,
 use Rattle.mt_terms.specs.Matching.{Places, place_of, is_program, at, filled}
 use Rattle.mt_terms.specs.Stability.{stable}
 use Rattle.mt_terms.specs.Best.{IsBest, better_programs}
-use Rattle.mt_terms.specs.Floor.{Floor, held, tried, gone, last_tried, is_held_by, IsLegal, IsStrict, is_settled, is_quiet, IsResult}
+use Rattle.mt_terms.specs.Floor.{Floor, held, tried, passed, last_tried, is_held_by, IsLegal, IsStrict, is_settled, is_quiet, IsResult}
 use Rattle.mt_terms.specs.WellFormed.{IsWellFormed}
 use Rattle.mt_floor_laws.specs.Rural.{LegalBest}
 use Rattle.mt_match_laws.proofs.ChoiceLemmas.{IsChosenFrom, choice_facts}
-use Rattle.mt_floor_laws.proofs.FloorEvents.{live_parts, live_distinct, gone_from_front, tried_from_received}
+use Rattle.mt_floor_laws.proofs.FloorEvents.{live_parts, live_distinct, passed_from_front, tried_from_received}
 use Rattle.mt_floor_laws.proofs.FloorLists.{has-until-take, has-filter, has-from_take, has-take_before}
 use Rattle.mt_match_laws.proofs.ListLemmas.{each_below, until-filter, passes_before}
 use Rattle.mt_match_laws.proofs.SinglesFacts.{IsStableForSingles, stable_facts}
@@ -45,9 +45,9 @@ if-none : (s : Bool) (o : Option ℕ) (p : ℕ) → (if s then None else o) ≡ 
 if-none true o p h = cc
 if-none false o p h = h
 
--- whoever doesn't stand and has made all has gone from all
-all_gone : (s : Bool) (k l : ℕ) → IsFalse s → IsTrue (k == l) → l ≤ k - (if s then 1 else 0)
-all_gone s k l fails h = grind (arith, nat_tests)
+-- whoever doesn't stand and has made all has passed all
+all_passed : (s : Bool) (k l : ℕ) → IsFalse s → IsTrue (k == l) → l ≤ k - (if s then 1 else 0)
+all_passed s k l fails h = grind (arith, nat_tests)
 
 -- Below, f is a legal floor of a well-formed market.
 module _ (m : Market) (w : IsWellFormed m) (f : Floor) (legal : IsLegal m f) where
@@ -57,9 +57,9 @@ module _ (m : Market) (w : IsWellFormed m) (f : Floor) (legal : IsLegal m f) whe
       let on_tried : IsTrue (has (tried m f a) p) = tried_from_received m f legal.recorded a p (choice_facts (program_of m p) (f.received p) a h).is_member in
       (live_parts m a p (has-from_take (live m a) (f.made a) p on_tried)).1
 
-  -- no single has gone from its place in a stable match
-  not_gone : (b : Places) → IsTrue (stable (singles_market m) b) → (a q : ℕ) → IsTrue (at b q a) → IsFalse (has (gone m f a) q)
-  not_gone b b_stable a q h = false_from_ne_true (has (gone m f a) q) (λ went. both_ways (at b q a) (legal.passed a q went b b_stable) h)
+  -- no single has passed its place in a stable match
+  not_passed : (b : Places) → IsTrue (stable (singles_market m) b) → (a q : ℕ) → IsTrue (at b q a) → IsFalse (has (passed m f a) q)
+  not_passed b b_stable a q h = false_from_ne_true (has (passed m f a) q) (λ past. both_ways (at b q a) (legal.passed_excluded a q past b b_stable) h)
 
   -- whomever a program holds that has a free post in the best match, the best match has there
   held_in_best : (b : Places) → IsBest m b → (p : ℕ) → filled b p < (program_of m p).quota → (a : ℕ) → IsTrue (held m f p a) → IsTrue (at b p a)
@@ -74,15 +74,15 @@ module _ (m : Market) (w : IsWellFormed m) (f : Floor) (legal : IsLegal m f) whe
       unwanted : IsFalse (has (better_programs m b a) p)
       unwanted = false_from_ne_true _ (λ wanted. both_ways _ (of_b.none_block a p wanted) (taken_where_free m w b of_b p a free chosen.is_listed))
 
-      went_from : (q : ℕ) → IsTrue (at b q a) → IsTrue (has (until (λ x. x == p) (list_of m a)) q) → IsTrue (has (gone m f a) q)
-      went_from q at_q above_p =
+      past_it : (q : ℕ) → IsTrue (at b q a) → IsTrue (has (until (λ x. x == p) (list_of m a)) q) → IsTrue (has (passed m f a) q)
+      past_it q at_q above_p =
           let on_live = until-filter (λ r. has (program_of m r).ranking a) (list_of m a) p q above_p (of_b.listed a q at_q) in
-          gone_from_front m f a q (has-until-take (live m a) (f.made a) p q (tried_from_received m f legal.recorded a p chosen.is_member) on_live)
+          passed_from_front m f a q (has-until-take (live m a) (f.made a) p q (tried_from_received m f legal.recorded a p chosen.is_member) on_live)
 
       not_elsewhere : IsFalse (at b p a) → ⊥
       not_elsewhere elsewhere =
           let (q, at_q, above_p) = passes_before (λ q. at b q a) (list_of m a) p (held_listed p a h) unwanted elsewhere in
-          both_ways _ (not_gone b best.is_stable a q at_q) (went_from q at_q above_p)
+          both_ways _ (not_passed b best.is_stable a q at_q) (past_it q at_q above_p)
 
   -- no program holds more than it has in the best match
   fewest_held : (b : Places) → IsBest m b → (p : ℕ) → count_below (held m f p) (applicants m) ≤ filled b p
@@ -112,11 +112,11 @@ module _ (m : Market) (w : IsWellFormed m) (f : Floor) (legal : IsLegal m f) whe
     standing_held : (a : ℕ) → a < applicants m → IsTrue (f.standing a) → IsTrue (is_held_by m f a (last_tried m f a))
     standing_held a within stands = if-first (f.standing a) (is_held_by m f a (last_tried m f a)) (f.made a == length (live m a)) stands (settled a within)
 
-    -- whoever doesn't stand has gone from its whole live list
-    gone_all : (a : ℕ) → a < applicants m → IsFalse (f.standing a) → gone m f a ≡ live m a
-    gone_all a within walks =
+    -- whoever doesn't stand has passed its whole live list
+    passed_all : (a : ℕ) → a < applicants m → IsFalse (f.standing a) → passed m f a ≡ live m a
+    passed_all a within walks =
         let used = if-second (f.standing a) (is_held_by m f a (last_tried m f a)) (f.made a == length (live m a)) walks (settled a within) in
-        take_all (f.made a - (if f.standing a then 1 else 0)) (live m a) (all_gone (f.standing a) (f.made a) (length (live m a)) walks used)
+        take_all (f.made a - (if f.standing a then 1 else 0)) (live m a) (all_passed (f.standing a) (f.made a) (length (live m a)) walks used)
 
     -- whoever is at a program in the result is held there
     result_held : (p a : ℕ) → IsTrue (at places p a) → IsTrue (held m f p a)
@@ -138,8 +138,8 @@ module _ (m : Market) (w : IsWellFormed m) (f : Floor) (legal : IsLegal m f) whe
         has_stayed : IsFalse (f.standing a) → ⊥
         has_stayed walks =
             let (q, at_q) = somewhere b a h in
-            both_ways (has (gone m f a) q) (not_gone b best.is_stable a q at_q)
-            (ap (λ (xs : List ℕ). has xs q) (gone_all a within walks) ∙ on_live m b (stable_facts m b best.is_stable) a q at_q)
+            both_ways (has (passed m f a) q) (not_passed b best.is_stable a q at_q)
+            (ap (λ (xs : List ℕ). has xs q) (passed_all a within walks) ∙ on_live m b (stable_facts m b best.is_stable) a q at_q)
 
         stands : IsTrue (f.standing a)
         stands = true_from_ne_false (f.standing a) has_stayed
@@ -164,19 +164,19 @@ module _ (m : Market) (w : IsWellFormed m) (f : Floor) (legal : IsLegal m f) whe
         (w.rankings_within p a (choice_facts (program_of m p) (f.received p) a h).is_listed)
         ∙ h
 
-    -- whoever stands has not gone from where it proposed last
-    not_gone_last : (a p : ℕ) → IsTrue (f.standing a) → last_tried m f a ≡ Some p → IsFalse (has (gone m f a) p)
-    not_gone_last a p stands last =
+    -- whoever stands has not passed where it proposed last
+    not_passed_last : (a p : ℕ) → IsTrue (f.standing a) → last_tried m f a ≡ Some p → IsFalse (has (passed m f a) p)
+    not_passed_last a p stands last =
         ap (λ (s : Bool). has (take (f.made a - (if s then 1 else 0)) (live m a)) p) stands
         ∙ has-take_before (live m a) (f.made a - 1) p (live_distinct m w a) (if-none (f.made a == 0) (slice_get (live m a) (f.made a - 1)) p last)
 
-    -- no program that a single has gone from holds it, so the floor is strict
+    -- no program that a single has passed holds it, so the floor is strict
     floor_strict : IsStrict m f
     floor_strict = record {
       legal = legal;
-      let_go = λ a p went. false_from_ne_true (held m f p a) (λ holds.
+      let_go = λ a p past. false_from_ne_true (held m f p a) (λ holds.
           let stands = result_stands p a (held_result p a holds) in
-          both_ways (has (gone m f a) p) (not_gone_last a p stands.1 stands.2) went);
+          both_ways (has (passed m f a) p) (not_passed_last a p stands.1 stands.2) past);
     }
 
 -- a legal floor on which no event is due is strict, and so its result is best

@@ -10,7 +10,7 @@ pub fn opening_is_strict()
     ensures { OpeningIsStrict }
 {}
 
-/// A recorded floor is legal where each applicant can have none of the programs that it has gone from.
+/// A recorded floor is legal where each program that an applicant has passed is excluded for it.
 pub fn legal_from_passed()
     ensures { LegalFromPassed }
 {}

@@ -1,6 +1,7 @@
--- Deferred acceptance one event at a time, in any order (McVitie and Wilson 1971): how far each applicant
--- is on its live list, which programs have received whom, and what the next events are. That an applicant
--- learns of its refusal by an event of its own is this project's own rule.
+-- Deferred acceptance one event at a time, in any order (McVitie and Wilson 1971). Each applicant proposes to the
+-- programs of its live list, those of its list that list it too, one after another, and each program holds its
+-- choice of all that have proposed to it. A program that comes to hold an applicant no longer doesn't tell it: the
+-- applicant learns of that by an event of its own, a notice, which is this project's own rule.
 use Rattle.std.specs.Prelude.{◌≡◌, ℕ, ◌+◌, ◌-◌, ◌<◌, ◌≤◌, Bool, false, not, ◌&&◌, ◌==◌, List, [], ◌∷◌, length, map, take, Option, Some, None, is_some, slice_get, IsTrue, IsFalse, if◌then◌else◌}
 use Rattle.std.specs.List.{find, list_all}
 use Rattle.mt_terms.specs.Lists.{Set, has, with_one, without, below, total_below, count_below}
@@ -13,60 +14,63 @@ use Rattle.mt_terms.specs.declared.events.Event.TheVariants.{Propose, Notice}
 use Rattle.mt_terms.specs.declared.events.Reply.{Reply}
 use Rattle.mt_terms.specs.declared.events.Reply.TheVariants.{Kept, KeptInstead, Refused, Noticed, NotDue}
 
--- How many proposals each applicant has made, whether it believes that it stands where it proposed last,
--- and from whom each program has received a proposal.
+-- The floor is the state between two events: how many proposals each applicant has made, whether it stands, that
+-- is, believes that the program to which it proposed last holds it, and from whom each program has received one.
 pub record Floor : Type 0 where
   pub made : ℕ → ℕ
   pub standing : Set
   pub received : ℕ → Set
 
--- whom a program holds: its choice from all that it received
+-- whom a program holds: its choice of all that have proposed to it
 abbrev pub held : Market → Floor → ℕ → Set
 held m f p = choice (program_of m p) (f.received p)
 
--- the programs that an applicant has proposed to
+-- the programs that an applicant has proposed to: as many from the front of its live list as it made proposals
 abbrev pub tried : Market → Floor → ℕ → List ℕ
 tried m f a = take (f.made a) (live m a)
 
--- those among them that it stands at no longer: all but the last one where it stands, and else all
-abbrev pub gone : Market → Floor → ℕ → List ℕ
-gone m f a = take (f.made a - (if f.standing a then 1 else 0)) (live m a)
+-- the programs that an applicant has passed: all that it proposed to, but for the last one while it stands there
+abbrev pub passed : Market → Floor → ℕ → List ℕ
+passed m f a = take (f.made a - (if f.standing a then 1 else 0)) (live m a)
 
--- the program that it proposed to last
+-- the program that an applicant proposed to last: none before its first proposal
 abbrev pub last_tried : Market → Floor → ℕ → Option ℕ
 last_tried m f a = if f.made a == 0 then None else slice_get (live m a) (f.made a - 1)
 
--- the program that it would propose to next: none while it stands
+-- the program that an applicant would propose to next: none while it stands, and none after its whole live list
 abbrev pub next_entry : Market → Floor → ℕ → Option ℕ
 next_entry m f a = if f.standing a then None else slice_get (live m a) (f.made a)
 
--- whether there is such a program, and it holds the applicant
+-- whether an applicant is held by the program given: never where none is
 abbrev pub is_held_by : Market → Floor → ℕ → Option ℕ → Bool
 is_held_by m f a None = false
 is_held_by m f a (Some p) = held m f p a
 
--- Every number is in its bounds, and the programs have received just the proposals that were made.
+-- A floor is recorded where its parts agree: nobody has made more proposals than it has live entries, whoever stands
+-- has made one, and the programs have received just the proposals that were made.
 pub record IsRecorded (m : Market) (f : Floor) : Type 0 where
   pub within : (a : ℕ) → f.made a ≤ length (live m a)
   pub proposed : (a : ℕ) → IsTrue (f.standing a) → 0 < f.made a
   pub receives : (a p : ℕ) → f.received p a ≡ has (tried m f a) p
 
--- A legal floor: whom an applicant has gone from, and who doesn't hold it, it can have in no stable match.
+-- A floor is legal where each program that an applicant has passed, and each that has its proposal and doesn't hold
+-- it, is excluded for it: no stable match of the singles has the applicant there.
 pub record IsLegal (m : Market) (f : Floor) : Type 0 where
   pub recorded : IsRecorded m f
-  pub passed : (a p : ℕ) → IsTrue (has (gone m f a) p) → IsExcluded m a p
-  pub refused : (a p : ℕ) → IsTrue (f.received p a) → IsFalse (held m f p a) → IsExcluded m a p
+  pub passed_excluded : (a p : ℕ) → IsTrue (has (passed m f a) p) → IsExcluded m a p
+  pub refused_excluded : (a p : ℕ) → IsTrue (f.received p a) → IsFalse (held m f p a) → IsExcluded m a p
 
--- A strict floor: besides, no applicant is held where it has gone from.
+-- A legal floor is strict where no program that an applicant has passed holds it.
 pub record IsStrict (m : Market) (f : Floor) : Type 0 where
   pub legal : IsLegal m f
-  pub let_go : (a p : ℕ) → IsTrue (has (gone m f a) p) → IsFalse (held m f p a)
+  pub let_go : (a p : ℕ) → IsTrue (has (passed m f a) p) → IsFalse (held m f p a)
 
--- the opening floor: nothing made, nobody standing, nothing received
+-- the opening floor: nobody has proposed, and nobody stands
 abbrev pub opening : Floor
 opening = record { made = λ a. 0; standing = λ a. false; received = λ p a. false }
 
--- whether an event may happen
+-- whether an event is due: a proposal where the applicant has a program to propose to next, and a notice where it
+-- stands and isn't held
 abbrev pub is_due : Market → Floor → Event → Bool
 is_due m f (Propose a) = is_some (next_entry m f a)
 is_due m f (Notice a) = f.standing a && not (is_held_by m f a (last_tried m f a))
@@ -79,11 +83,11 @@ is_settled m f a = if f.standing a then is_held_by m f a (last_tried m f a) else
 abbrev pub is_quiet : Market → Floor → Bool
 is_quiet m f = list_all (is_settled m f) (below (applicants m))
 
--- what a program has received, after a proposal
+-- from whom a program has received a proposal, after one more of this applicant
 abbrev pub receives_one : Floor → ℕ → ℕ → Set
 receives_one f p a = with_one (f.received p) a
 
--- the floor after an applicant's proposal to a program
+-- the floor after an applicant's proposal to a program: it stands there where it is chosen
 abbrev pub proposed_at : Market → Floor → ℕ → ℕ → Floor
 proposed_at m f a p = record {
   made = λ b. if b == a then (f.made a + 1) else f.made b;
@@ -91,23 +95,26 @@ proposed_at m f a p = record {
   received = λ q. if q == p then receives_one f p a else f.received q;
 }
 
--- the floor after an event; one that isn't due changes nothing
+-- the floor after a proposal to the program given, where one is
 abbrev pub after_proposal : Market → Floor → ℕ → Option ℕ → Floor
 after_proposal m f a None = f
 after_proposal m f a (Some p) = proposed_at m f a p
 
+-- the floor after an event: one that isn't due changes nothing, and after a notice the applicant stands no longer
 abbrev pub after : Market → Floor → Event → Floor
 after m f (Propose a) = after_proposal m f a (next_entry m f a)
 after m f (Notice a) = if is_due m f (Notice a) then (record f { standing = without f.standing a }) else f
 
--- the applicant that a program drops for another one: held before its proposal, and not after it
+-- the applicant that a program holds no longer after another one's proposal, the first such on its list
 abbrev pub dropped : Market → Floor → ℕ → ℕ → Option ℕ
 dropped m f p a = find (λ b. held m f p b && not (choice (program_of m p) (receives_one f p a) b)) (program_of m p).ranking
 
+-- the reply to an applicant that a program holds now, with the one that it holds no longer, if any
 abbrev pub kept_reply : Option ℕ → Reply
 kept_reply None = Kept
 kept_reply (Some b) = KeptInstead b
 
+-- the reply to a proposal to the program given: where none is, the proposal wasn't due
 abbrev pub reply_of_proposal : Market → Floor → ℕ → Option ℕ → Reply
 reply_of_proposal m f a None = NotDue
 reply_of_proposal m f a (Some p) = if choice (program_of m p) (receives_one f p a) a then kept_reply (dropped m f p a) else Refused
@@ -132,11 +139,11 @@ abbrev pub due_count : Market → Floor → List Event → ℕ
 due_count m f [] = 0
 due_count m f (e ∷ es) = (if is_due m f e then 1 else 0) + due_count m (after m f e) es
 
--- where an applicant is on a floor: at the program that it proposed to last where it stands, else nowhere
+-- where a floor has an applicant: at the program that it proposed to last while it stands, and else nowhere
 abbrev pub place_on : Market → Floor → ℕ → Option ℕ
 place_on m f a = if f.standing a then last_tried m f a else None
 
--- A match is the result of a floor where it has one place for each applicant, the one on the floor.
+-- A match is the result of a floor where it has each applicant where the floor has it.
 pub record IsResult (m : Market) (f : Floor) (places : Places) : Type 0 where
   pub one_each : length places ≡ applicants m
   pub each_place : (a : ℕ) → a < applicants m → place_of places a ≡ place_on m f a
@@ -145,12 +152,12 @@ pub record IsResult (m : Market) (f : Floor) (places : Places) : Type 0 where
 abbrev pub result_of : Market → Floor → Places
 result_of m f = map (place_on m f) (below (applicants m))
 
--- how many proposals have been made on a floor
+-- how many proposals have been made
 abbrev pub proposals_made : Market → Floor → ℕ
 proposals_made m f = total_below f.made (applicants m)
 
--- The proposals on a floor are those on the way to a match: each applicant has proposed to the programs down
--- to its place, and each program has received as many proposals as it does on the way to the match.
+-- The proposals made are those on the way to a match: each applicant has proposed to the programs of its live list
+-- down to its place, or to all of them where it has none, and each program has received as many as that makes.
 pub record HasProposalsOf (m : Market) (f : Floor) (places : Places) : Type 0 where
   pub same_tried : (a : ℕ) → tried m f a ≡ proposed_to m places a
   pub same_counts : (p : ℕ) → count_below (f.received p) (applicants m) ≡ proposals m places p
