@@ -8,10 +8,14 @@ use Rattle.mt_terms.specs.Lists.{Set, has, total_below}
 use Rattle.mt_terms.specs.Market.{Market, live, applicants, live_entries}
 use Rattle.mt_terms.specs.Matching.{Places}
 use Rattle.mt_terms.specs.Floor.{Floor, last_tried, next_entry, is_held_by, is_settled, is_quiet, is_due, after, after_all, after_proposal, proposed_at, IsRecorded, opening, due_count, proposals_made, place_on, result_of, IsResult}
-use Rattle.mt_floor_laws.specs.Floors.{OpeningIsStrict, DueAtMost, QuietIsReached, is_proposal, due_proposals, DueProposalsAreMade, MadeAtMost, ResultOfFloor, BestExists}
+use Rattle.mt_floor_laws.specs.Floors.{OpeningIsStrict, DueAtMost, QuietIsReached, is_proposal, due_proposals, DueProposalsAreMade, MadeAtMost, ResultOfFloor, BestExists, ChainHasStrictEnd}
+use Rattle.mt_terms.specs.WellFormed.{IsWellFormed}
+use Rattle.mt_terms.specs.Examples.Markets.{chain}
+use Rattle.mt_terms.specs.Examples.Events.{by_wishes}
 use Rattle.mt_terms.specs.declared.events.Event.{Event}
 use Rattle.mt_terms.specs.declared.events.Event.TheVariants.{Propose, Notice}
 use Rattle.mt_match_laws.proofs.Totals.{total_below-mono}
+use Rattle.mt_match_laws.proofs.WellFormedLemmas.{well_formed_from_test}
 use Rattle.mt_floor_laws.proofs.FloorSums.{total_below-one_more, total_below-twice}
 use Rattle.mt_floor_laws.proofs.FloorLists.{has-get}
 use Rattle.mt_floor_laws.proofs.FloorEvents.{IsNext, next_facts, IsDropped, noticed, after_due, after_not_due, made_same, made_other, standing_other, noticed_same, noticed_other, within_get, get_some, event_keeps_recorded_lem, events_keep_strict_lem}
@@ -196,3 +200,14 @@ best_exists_lem m wf =
     let end = quiet_is_reached_lem m opening strict.legal.recorded in
     let f : Floor = after_all m opening end.0 in
     (result_of m f, strict_best_lem m wf f (events_keep_strict_lem m wf opening end.0 strict) end.1 (result_of m f) (result_of_is_result m f))
+
+-- the rejection chain ends on a strict floor
+pub chain_has_strict_end : ChainHasStrictEnd
+chain_has_strict_end =
+    let well_formed : IsWellFormed chain = well_formed_from_test chain refl in
+    record {
+      well_formed = well_formed;
+      strict = events_keep_strict_lem chain well_formed opening by_wishes (opening_is_strict_lem chain);
+      quiet = refl;
+      result = result_of_is_result chain (after_all chain opening by_wishes);
+    }

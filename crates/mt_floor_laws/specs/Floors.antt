@@ -88,7 +88,7 @@ StrictBest =
     (m : Market) → IsWellFormed m → (f : Floor) → IsStrict m f → IsTrue (is_quiet m f)
     → (places : Places) → IsResult m f places → IsBest m places
 
--- The premises of that law, together.
+-- The premises of that law, together. A strict floor is legal, so they are premises of the law of legal floors too.
 pub record HasStrictEnd (m : Market) (f : Floor) (places : Places) : Type 0 where
   pub well_formed : IsWellFormed m
   pub strict : IsStrict m f

@@ -1,4 +1,5 @@
-ghost use Rattle.mt_floor_laws.specs.Rural.{SinglesFillAlike, FillAlikeWithoutCouples, LegalBest, ChainMeetsPremises};
+ghost use Rattle.mt_floor_laws.specs.Rural.{SinglesFillAlike, FillAlikeWithoutCouples, LegalBest};
+ghost use Rattle.mt_floor_laws.specs.Floors.{ChainHasStrictEnd};
 
 /// Any two stable matches of the singles place the same applicants and equally many at each program, and a
 /// program with a free post has the same applicants in both (the rural hospitals theorem).
@@ -10,5 +11,5 @@ pub fn rural()
 /// A legal floor on which no event is due has the best match as its result.
 pub fn legal_best()
     ensures law { LegalBest }
-    ensures example { ChainMeetsPremises }
+    ensures example { ChainHasStrictEnd }
 {}
