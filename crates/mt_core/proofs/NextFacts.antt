@@ -5,7 +5,8 @@ use Rattle.mt_terms.specs.Lists.{has}
 use Rattle.mt_terms.specs.Market.{Market, applicants, program_of, list_of, live}
 use Rattle.mt_terms.specs.Floor.{Floor, IsRecorded, next_entry, last_tried}
 use Rattle.mt_floor_laws.proofs.FloorLists.{has-get, has-take_before}
-use Rattle.mt_floor_laws.proofs.FloorEvents.{IsNext, next_facts, live_parts, live_distinct, within_get}
+use Rattle.mt_floor_laws.proofs.FloorEvents.{IsNext, next_facts, within_get}
+use Rattle.mt_terms.proofs.LiveFacts.{live_parts, live_distinct}
 use Rattle.mt_floor_laws.proofs.FloorBest.{applicant_from_live}
 use Rattle.mt_ranks.specs.Ranked.{Ranked, IsRanked, rank_of, ranked_entry}
 use Rattle.mt_ranks.specs.declared.entries.Live.{Live}

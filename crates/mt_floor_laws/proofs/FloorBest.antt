@@ -13,12 +13,13 @@ use Rattle.mt_terms.specs.Floor.{Floor, held, tried, passed, last_tried, is_held
 use Rattle.mt_floor_laws.specs.Floors.{StrictBest}
 use Rattle.mt_match_laws.proofs.ListLemmas.{each_below, count-le, has-until}
 use Rattle.mt_match_laws.proofs.ChoiceLemmas.{choice_facts}
-use Rattle.mt_match_laws.proofs.Totals.{count_below-mono}
+use Rattle.mt_terms.proofs.Totals.{count_below-mono}
 use Rattle.mt_match_laws.proofs.Seats.{chosen_count, filled_by_applicant}
 use Rattle.mt_match_laws.proofs.SinglesFacts.{stable_facts, stable_from_facts, at_past}
+use Rattle.mt_terms.proofs.LiveFacts.{live_parts}
 use Rattle.mt_floor_laws.proofs.FloorLists.{has-get, has-take-suc, has-until-get, has-until-filter}
 use Rattle.mt_match_laws.proofs.FloorChoices.{above-choice}
-use Rattle.mt_floor_laws.proofs.FloorEvents.{live_parts, tried_from_passed, tried_from_received, passed_where_free, passed_where_standing, HasLast, last_facts}
+use Rattle.mt_floor_laws.proofs.FloorEvents.{tried_from_passed, tried_from_received, passed_where_free, passed_where_standing, HasLast, last_facts}
 
 -- only applicants have live entries
 pub applicant_from_live : (m : Market) (a p : ℕ) → IsTrue (has (live m a) p) → a < applicants m

@@ -2,8 +2,8 @@
 use Rattle.std.proofs.Common.{◌≡◌, ℕ, zero, suc, ◌-◌, ◌<◌, ◌≤◌, Bool, true, false, not, ◌||◌, ◌==◌, List, [], ◌∷◌, length, take, Option, Some, None, is_some, slice_get, IsTrue, IsFalse, refl, ap, ap₂, sym, ◌∙◌, arith, subst, eq-eqb, ne_eqb, ◌≢◌, ◌⊎◌, inl, inr, if◌then◌else◌, add-one}
 use Rattle.std.proofs.lemmas.Bool.{both_ways, or_right, and_parts, cases_Bool, cases_eq, not-true}
 use Rattle.std.proofs.lemmas.Bool.Decides.{nat_tests}
-use Rattle.mt_terms.specs.Lists.{Set, has, is_distinct, without}
-use Rattle.mt_terms.specs.Market.{Market, program_of, list_of, live}
+use Rattle.mt_terms.specs.Lists.{Set, has, without}
+use Rattle.mt_terms.specs.Market.{Market, program_of, live}
 use Rattle.mt_terms.specs.Choice.{choice}
 use Rattle.mt_terms.specs.Best.{IsExcluded}
 use Rattle.mt_terms.specs.WellFormed.{IsWellFormed}
@@ -11,17 +11,11 @@ use Rattle.mt_terms.specs.Floor.{Floor, held, tried, passed, last_tried, next_en
 use Rattle.mt_floor_laws.specs.Floors.{LegalFromPassed, EventKeepsRecorded, EventKeepsLegal, EventKeepsStrict, EventsKeepRecorded, EventsKeepLegal, EventsKeepStrict}
 use Rattle.mt_terms.specs.declared.events.Event.{Event}
 use Rattle.mt_terms.specs.declared.events.Event.TheVariants.{Propose, Notice}
-use Rattle.mt_floor_laws.proofs.FloorLists.{has-filter, distinct-filter, has-until-take, has-from_take, has-take-le, has-take-suc, has-take_before}
+use Rattle.mt_terms.proofs.ListFacts.{has-from_take}
+use Rattle.mt_terms.proofs.LiveFacts.{live_parts, live_distinct}
+use Rattle.mt_floor_laws.proofs.FloorLists.{has-until-take, has-take-le, has-take-suc, has-take_before}
 use Rattle.mt_match_laws.proofs.FloorChoices.{choice_with_one}
 use Rattle.mt_match_laws.proofs.ExclusionLemmas.{exclusion_lem}
-
--- on a live list are the programs of the list that list the applicant
-pub live_parts : (m : Market) (a p : ℕ) → IsTrue (has (live m a) p) → IsTrue (has (program_of m p).ranking a) × IsTrue (has (list_of m a) p)
-live_parts m a p h = and_parts _ _ (sym (has-filter (λ q. has (program_of m q).ranking a) (list_of m a) p) ∙ h)
-
--- a live list has no repeats
-pub live_distinct : (m : Market) → IsWellFormed m → (a : ℕ) → IsTrue (is_distinct (live m a))
-live_distinct m wf a = distinct-filter (λ q. has (program_of m q).ranking a) (list_of m a) (wf.lists_distinct a)
 
 -- who has passed programs counts them among its proposals
 passed_count : (b : Bool) (n : ℕ) → n - (if b then 1 else 0) ≤ n

@@ -1,18 +1,8 @@
 -- Fronts of a list of numbers: what they have, and where they end.
-use Rattle.std.proofs.Common.{◌≡◌, ℕ, zero, suc, ◌-◌, ◌≤◌, false, ◌&&◌, ◌||◌, ◌==◌, List, [], ◌∷◌, take, filter, Some, slice_get, IsTrue, IsFalse, refl, arith, eq-eqb}
+use Rattle.std.proofs.Common.{◌≡◌, ℕ, zero, suc, ◌-◌, ◌≤◌, false, ◌||◌, ◌==◌, List, [], ◌∷◌, take, filter, Some, slice_get, IsTrue, IsFalse, refl, arith, eq-eqb}
 use Rattle.std.proofs.lemmas.Bool.{both_ways, or_left, or_right}
 use Rattle.std.proofs.lemmas.Bool.Decides.{nat_tests}
 use Rattle.mt_terms.specs.Lists.{Set, has, until, through, is_distinct}
-
--- a filtered list has the elements that pass
-pub has-filter : (test : Set) (xs : List ℕ) (a : ℕ) → has (filter test xs) a ≡ (test a && has xs a)
-has-filter test [] a = grind (arith, nat_tests)
-has-filter test (x ∷ xs) a = grind (arith, nat_tests, has-filter test xs a)
-
--- a filtered list has no repeats where the list has none
-pub distinct-filter : (test : Set) (xs : List ℕ) → IsTrue (is_distinct xs) → IsTrue (is_distinct (filter test xs))
-distinct-filter test [] h = refl
-distinct-filter test (x ∷ xs) h = grind (arith, nat_tests, has-filter test xs x, distinct-filter test xs)
 
 -- what stands before an element of a front stands in that front but for its last element
 has-before_last : (xs : List ℕ) (k p q : ℕ) → IsTrue (has (take (suc k) xs) p) → IsTrue (has (until (λ x. x == p) xs) q) → IsTrue (has (take k xs) q)
@@ -24,13 +14,6 @@ has-before_last (x ∷ xs) (suc k) p q on before = grind (arith, nat_tests, has-
 pub has-until-take : (xs : List ℕ) (n p q : ℕ) → IsTrue (has (take n xs) p) → IsTrue (has (until (λ x. x == p) xs) q) → IsTrue (has (take (n - 1) xs) q)
 has-until-take xs zero p q on before = absurd (both_ways false refl on)
 has-until-take xs (suc k) p q on before = let e : suc k - 1 ≡ k = omega arith in rw e (has-before_last xs k p q on before)
-
--- a front has only what the list has
-pub has-from_take : (xs : List ℕ) (k q : ℕ) → IsTrue (has (take k xs) q) → IsTrue (has xs q)
-has-from_take [] zero q on = on
-has-from_take [] (suc k) q on = on
-has-from_take (x ∷ xs) zero q on = absurd (both_ways false refl on)
-has-from_take (x ∷ xs) (suc k) q on = grind (arith, nat_tests, has-from_take xs k q)
 
 -- a longer front has what a shorter one has
 pub has-take-le : (xs : List ℕ) (j k q : ℕ) → j ≤ k → IsTrue (has (take j xs) q) → IsTrue (has (take k xs) q)

@@ -10,10 +10,11 @@ use Rattle.mt_terms.specs.WellFormed.{IsWellFormed}
 use Rattle.mt_terms.specs.Floor.{Floor, tried, is_quiet, IsRecorded, IsStrict, opening, after_all, IsResult, result_of, HasProposalsOf, EndAlike}
 use Rattle.mt_floor_laws.specs.Floors.{QuietCounts, OrderFree}
 use Rattle.mt_terms.specs.declared.events.Event.{Event}
-use Rattle.mt_match_laws.proofs.Totals.{count_below-same}
+use Rattle.mt_terms.proofs.Totals.{count_below-same}
 use Rattle.mt_match_laws.proofs.ExclusionLemmas.{best_is_unique_lem}
+use Rattle.mt_terms.proofs.LiveFacts.{live_distinct}
 use Rattle.mt_floor_laws.proofs.FloorLists.{has-take_before, through-get, through_none}
-use Rattle.mt_floor_laws.proofs.FloorEvents.{live_distinct, last_facts, events_keep_strict_lem}
+use Rattle.mt_floor_laws.proofs.FloorEvents.{last_facts, events_keep_strict_lem}
 use Rattle.mt_floor_laws.proofs.FloorBest.{placed_facts, placed_from, tried_where_quiet, strict_best_lem}
 use Rattle.mt_floor_laws.proofs.FloorRuns.{opening_is_strict_lem, result_of_is_result}
 

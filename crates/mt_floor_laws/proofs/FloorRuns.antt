@@ -14,7 +14,7 @@ use Rattle.mt_terms.specs.Examples.Markets.{chain}
 use Rattle.mt_terms.specs.Examples.Events.{by_wishes}
 use Rattle.mt_terms.specs.declared.events.Event.{Event}
 use Rattle.mt_terms.specs.declared.events.Event.TheVariants.{Propose, Notice}
-use Rattle.mt_match_laws.proofs.Totals.{total_below-mono}
+use Rattle.mt_terms.proofs.Totals.{total_below-mono}
 use Rattle.mt_match_laws.proofs.WellFormedLemmas.{well_formed_from_test}
 use Rattle.mt_floor_laws.proofs.FloorSums.{total_below-one_more, total_below-twice}
 use Rattle.mt_floor_laws.proofs.FloorLists.{has-get}

@@ -2,7 +2,7 @@
 use Rattle.std.proofs.Common.{◌≡◌, ℕ, zero, suc, ◌+◌, ◌*◌, ◌<◌, refl, sym, arith, ◌≢◌, ◌⊎◌, inl, inr, subst}
 use Rattle.std.proofs.lemmas.Bool.{cases_eq}
 use Rattle.mt_terms.specs.Lists.{total_below}
-use Rattle.mt_match_laws.proofs.Totals.{total_below-same}
+use Rattle.mt_terms.proofs.Totals.{total_below-same}
 
 -- the step of the next lemma
 one_more_step : (f g : ℕ → ℕ) (n a d : ℕ) → g a ≡ d + f a → ((b : ℕ) → b ≢ a → g b ≡ f b)

@@ -13,11 +13,13 @@ use Rattle.mt_terms.specs.Floor.{Floor, held, tried, passed, last_tried, is_held
 use Rattle.mt_terms.specs.WellFormed.{IsWellFormed}
 use Rattle.mt_floor_laws.specs.Rural.{LegalBest}
 use Rattle.mt_match_laws.proofs.ChoiceLemmas.{IsChosenFrom, choice_facts}
-use Rattle.mt_floor_laws.proofs.FloorEvents.{live_parts, live_distinct, passed_from_front, tried_from_received}
-use Rattle.mt_floor_laws.proofs.FloorLists.{has-until-take, has-filter, has-from_take, has-take_before}
+use Rattle.mt_floor_laws.proofs.FloorEvents.{passed_from_front, tried_from_received}
+use Rattle.mt_floor_laws.proofs.FloorLists.{has-until-take, has-take_before}
+use Rattle.mt_terms.proofs.ListFacts.{has-filter, has-from_take}
+use Rattle.mt_terms.proofs.LiveFacts.{live_parts, live_distinct}
 use Rattle.mt_match_laws.proofs.ListLemmas.{each_below, until-filter, passes_before}
 use Rattle.mt_match_laws.proofs.SinglesFacts.{IsStableForSingles, stable_facts}
-use Rattle.mt_match_laws.proofs.Totals.{total_below-mono, total_below-tight, count_below-mono, count_below-tight}
+use Rattle.mt_terms.proofs.Totals.{total_below-mono, total_below-tight, count_below-mono, count_below-tight}
 use Rattle.mt_match_laws.proofs.Seats.{placed_by_program, chosen_count}
 use Rattle.mt_floor_laws.proofs.FloorBest.{strict_best_lem}
 use Rattle.mt_floor_laws.proofs.FloorRuns.{best_exists_lem}

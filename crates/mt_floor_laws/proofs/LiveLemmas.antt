@@ -1,60 +1,23 @@
 -- The singles' market with live lists alone has the stable matches of the market.
 use Rattle.std.proofs.Common.{◌≡◌, ℕ, ◌&&◌, Bool, true, false, List, [], ◌∷◌, filter, length, IsTrue, refl, sym, ap, ◌∙◌, inl, inr, arith}
-use Rattle.std.proofs.lemmas.Bool.{both_ways, cases_Bool, cases_lt, and_left, false_from_ne_true}
+use Rattle.std.proofs.lemmas.Bool.{both_ways, cases_Bool, and_left, false_from_ne_true}
 use Rattle.std.proofs.lemmas.Bool.Decides.{nat_tests}
-use Rattle.std.proofs.lemmas.List.{get_or_past}
 use Rattle.mt_terms.specs.Lists.{Set, has, until, through, total_below, count_below}
 use Rattle.mt_terms.specs.Market.{Market, applicants, program_of, list_of, live, live_entries, singles_market, live_market}
 use Rattle.mt_terms.specs.Matching.{Places, at}
 use Rattle.mt_terms.specs.Stability.{stable}
 use Rattle.mt_terms.specs.Best.{IsExcluded, IsBest, better_programs, proposed_to, proposals}
-use Rattle.mt_terms.specs.WellFormed.{IsWellFormed}
 use Rattle.mt_floor_laws.specs.Live.{LiveMarketAgrees}
-use Rattle.mt_terms.proofs.BelowFacts.{length-map_below, map_below_at}
-use Rattle.mt_match_laws.proofs.Totals.{total_below-same, count_below-same}
+use Rattle.mt_terms.proofs.Totals.{total_below-same, count_below-same}
 use Rattle.mt_match_laws.proofs.SinglesFacts.{stable_facts, stable_from_facts}
-use Rattle.mt_floor_laws.proofs.FloorLists.{has-filter, has-until-filter}
-use Rattle.mt_floor_laws.proofs.FloorEvents.{live_parts, live_distinct}
-
--- the lists of the live market are the live lists
-same_count : (m : Market) → applicants (live_market m) ≡ applicants m
-same_count m = length-map_below (live m) (applicants m)
-
-list_is_live : (m : Market) (a : ℕ) → list_of (live_market m) a ≡ live m a
-list_is_live m a = elim (cases_lt a (applicants m)) [
-  | inl low ↦ map_below_at (live m) (applicants m) a [] low
-  | inr high ↦
-      get_or_past (live_market m).lists a [] (omega (arith, same_count m))
-      ∙ sym (ap (filter (λ p. has (program_of m p).ranking a)) (get_or_past m.lists a [] high))
-]
-
--- a list filtered twice is filtered
-filter-filter : (test : Set) (xs : List ℕ) → filter test (filter test xs) ≡ filter test xs
-filter-filter test [] = refl
-filter-filter test (x ∷ xs) = elim (cases_Bool (test x)) [
-  | inl passes ↦ rw (passes, passes) (ap (λ rest. x ∷ rest) (filter-filter test xs))
-  | inr fails ↦ rw fails (filter-filter test xs)
-]
-
-same_live : (m : Market) (a : ℕ) → live (live_market m) a ≡ live m a
-same_live m a = ap (filter (λ p. has (program_of m p).ranking a)) (list_is_live m a) ∙ filter-filter (λ p. has (program_of m p).ranking a) (list_of m a)
+use Rattle.mt_terms.proofs.ListFacts.{has-filter}
+use Rattle.mt_terms.proofs.LiveFacts.{live_parts, applicants-live_market, list_of-live_market, live-live_market, live_well_formed}
+use Rattle.mt_floor_laws.proofs.FloorLists.{has-until-filter}
 
 same_entries : (m : Market) → live_entries (live_market m) ≡ live_entries m
 same_entries m =
-    ap (total_below (λ a. length (live (live_market m) a))) (same_count m)
-    ∙ total_below-same (λ a. length (live (live_market m) a)) (λ a. length (live m a)) (applicants m) (λ a low. ap length (same_live m a))
-
--- the live market is well formed
-live_well_formed : (m : Market) → IsWellFormed m → IsWellFormed (live_market m)
-live_well_formed m wf = record {
-  lists_distinct = λ a. rw (list_is_live m a) (live_distinct m wf a);
-  lists_within = λ a p on. wf.lists_within a p (live_parts m a p (ap (λ ps. has ps p) (sym (list_is_live m a)) ∙ on)).1;
-  rankings_distinct = wf.rankings_distinct;
-  rankings_within = λ p a on. rw (same_count m) (wf.rankings_within p a on);
-  first_member = λ c low. absurd (omega arith);
-  second_member = λ c low. absurd (omega arith);
-  two_members = λ c low. absurd (omega arith);
-}
+    ap (total_below (λ a. length (live (live_market m) a))) (applicants-live_market m)
+    ∙ total_below-same (λ a. length (live (live_market m) a)) (λ a. length (live m a)) (applicants m) (λ a low. ap length (live-live_market m a))
 
 -- the front of a filtered list has just what passes of the list's front, where the front ends at what passes
 until-filter_back : (test kept : Set) (xs : List ℕ) (q : ℕ) → ((x : ℕ) → IsTrue (test x) → IsTrue (kept x)) → IsTrue (has (until test (filter kept xs)) q) → IsTrue (has (until test xs) q)
@@ -66,13 +29,13 @@ better_if_live : (m : Market) (places : Places) (a p : ℕ) → ((q : ℕ) → I
     → IsTrue (has (better_programs (live_market m) places a) p) → IsTrue (has (better_programs m places a) p)
 better_if_live m places a p listed on =
     until-filter_back (λ q. at places q a) (λ q. has (program_of m q).ranking a) (list_of m a) p listed
-    (ap (λ xs. has (until (λ q. at places q a) xs) p) (sym (list_is_live m a)) ∙ on)
+    (ap (λ xs. has (until (λ q. at places q a) xs) p) (sym (list_of-live_market m a)) ∙ on)
 
 -- and what it wants more in the market it wants more in the live market, where the program lists it
 live_if_better : (m : Market) (places : Places) (a p : ℕ) → IsTrue (has (program_of m p).ranking a)
     → IsTrue (has (better_programs m places a) p) → IsTrue (has (better_programs (live_market m) places a) p)
 live_if_better m places a p listed on =
-    ap (λ xs. has (until (λ q. at places q a) xs) p) (list_is_live m a)
+    ap (λ xs. has (until (λ q. at places q a) xs) p) (list_of-live_market m a)
     ∙ has-until-filter (λ q. at places q a) (λ q. has (program_of m q).ranking a) (list_of m a) p on listed
 
 -- a match that is stable in one is stable in the other
@@ -80,9 +43,9 @@ stable_in_live : (m : Market) (places : Places) → IsTrue (stable (singles_mark
 stable_in_live m places is =
     let s = stable_facts m places is in
     stable_from_facts (live_market m) places (record {
-      one_each = s.one_each ∙ sym (same_count m);
+      one_each = s.one_each ∙ sym (applicants-live_market m);
       on_list = λ a p there.
-          ap (λ xs. has xs p) (list_is_live m a) ∙ has-filter (λ q. has (program_of m q).ranking a) (list_of m a) p
+          ap (λ xs. has xs p) (list_of-live_market m a) ∙ has-filter (λ q. has (program_of m q).ranking a) (list_of m a) p
           ∙ ap (λ b. b && has (list_of m a) p) (s.listed a p there) ∙ s.on_list a p there;
       listed = s.listed;
       within = s.within;
@@ -93,8 +56,8 @@ stable_from_live : (m : Market) (places : Places) → IsTrue (stable (singles_ma
 stable_from_live m places is =
     let s = stable_facts (live_market m) places is in
     stable_from_facts m places (record {
-      one_each = s.one_each ∙ same_count m;
-      on_list = λ a p there. (live_parts m a p (ap (λ xs. has xs p) (sym (list_is_live m a)) ∙ s.on_list a p there)).1;
+      one_each = s.one_each ∙ applicants-live_market m;
+      on_list = λ a p there. (live_parts m a p (ap (λ xs. has xs p) (sym (list_of-live_market m a)) ∙ s.on_list a p there)).1;
       listed = s.listed;
       within = s.within;
       none_block = λ a p better. elim (cases_Bool (has (program_of m p).ranking a)) [
@@ -133,19 +96,19 @@ best_here m places best = record {
 
 -- on the way to a match a single proposes to the same programs
 same_proposed : (m : Market) (places : Places) (a : ℕ) → proposed_to (live_market m) places a ≡ proposed_to m places a
-same_proposed m places a = ap (through (λ p. at places p a)) (same_live m a)
+same_proposed m places a = ap (through (λ p. at places p a)) (live-live_market m a)
 
 same_numbers : (m : Market) (places : Places) (p : ℕ) → proposals (live_market m) places p ≡ proposals m places p
 same_numbers m places p =
-    ap (count_below (λ a. has (proposed_to (live_market m) places a) p)) (same_count m)
+    ap (count_below (λ a. has (proposed_to (live_market m) places a) p)) (applicants-live_market m)
     ∙ count_below-same (λ a. has (proposed_to (live_market m) places a) p) (λ a. has (proposed_to m places a) p) (applicants m) (λ a low. ap (λ ps. has ps p) (same_proposed m places a))
 
 -- the live market of a well-formed market agrees with it
 pub live_market_agrees_lem : LiveMarketAgrees
 live_market_agrees_lem m wf = record {
   well_formed = live_well_formed m wf;
-  same_applicants = same_count m;
-  same_live = same_live m;
+  same_applicants = applicants-live_market m;
+  same_live = live-live_market m;
   same_entries = same_entries m;
   same_stable = λ places. same_tests _ _ (stable_from_live m places) (stable_in_live m places);
   same_excluded = λ a p. (excluded_there m a p, excluded_here m a p);

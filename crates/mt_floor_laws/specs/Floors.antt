@@ -1,12 +1,12 @@
 -- The laws of floors: what an event keeps, how many events are due, and that a strict floor on which no
 -- event is due is the best match, however it was reached (McVitie and Wilson 1971).
-use Rattle.std.specs.Prelude.{◌≡◌, ◌≢◌, ◌↔◌, ℕ, ◌+◌, ◌*◌, ◌<◌, ◌≤◌, Bool, true, false, ◌&&◌, List, [], ◌∷◌, map, length, Option, Some, None, IsTrue, IsFalse, if◌then◌else◌}
-use Rattle.mt_terms.specs.Lists.{has, below, total_below, count_below}
-use Rattle.mt_terms.specs.Market.{Market, applicants, live_entries}
-use Rattle.mt_terms.specs.Matching.{Places, place_of}
-use Rattle.mt_terms.specs.Best.{IsExcluded, IsBest, proposed_to, proposals}
+use Rattle.std.specs.Prelude.{◌≡◌, ◌≢◌, ◌↔◌, ℕ, ◌+◌, ◌*◌, ◌≤◌, Bool, true, false, ◌&&◌, List, [], ◌∷◌, Some, None, IsTrue, IsFalse, if◌then◌else◌}
+use Rattle.mt_terms.specs.Lists.{has, count_below}
+use Rattle.mt_terms.specs.Market.{Market, live_entries}
+use Rattle.mt_terms.specs.Matching.{Places}
+use Rattle.mt_terms.specs.Best.{IsExcluded, IsBest}
 use Rattle.mt_terms.specs.WellFormed.{IsWellFormed}
-use Rattle.mt_terms.specs.Floor.{Floor, place_on, IsResult, result_of, proposals_made, HasProposalsOf, EndAlike, passed, IsRecorded, IsLegal, IsStrict, opening, is_due, is_quiet, after, after_all, reply_of, due_count}
+use Rattle.mt_terms.specs.Floor.{Floor, IsResult, result_of, proposals_made, HasProposalsOf, EndAlike, passed, IsRecorded, IsLegal, IsStrict, opening, is_due, is_quiet, after, after_all, reply_of, due_count}
 use Rattle.mt_terms.specs.Examples.Markets.{chain}
 use Rattle.mt_terms.specs.Examples.Events.{by_wishes, from_the_last}
 use Rattle.mt_terms.specs.declared.events.Event.{Event}

@@ -8,7 +8,8 @@ use Rattle.std.proofs.lemmas.Nat.Bits.{bit_at-zero, bit_at_set_same, bit_at_set_
 use Rattle.mt_terms.specs.Lists.{with_one, count, count_below}
 use Rattle.mt_hold.specs.Flags.{flag, flags}
 use Rattle.mt_hold.specs.Holding.{held}
-use Rattle.mt_hold.proofs.Counting.{count_suc, with_one_same, with_one_other}
+use Rattle.mt_hold.proofs.Counting.{count_suc, with_one_same}
+use Rattle.mt_terms.proofs.ListFacts.{with_one-other}
 use Rattle.mt_hold.proofs.Chosen.{chosen, held-chosen}
 
 -- one bit more
@@ -19,7 +20,7 @@ pub flag-marked : (words : List ℕ) (rank : ℕ) → rank / 64 < length words �
 flag-marked words rank h other =
     elim (cases_eq other rank) [
       | inl e ↦ rw (e, with_one_same (flag words) rank, get_or-set_same words (rank / 64) _ 0 h, bit_at_set_same w64 (get_or words (rank / 64) 0) (rank % 64) (omega arith)) refl
-      | inr ne ↦ rw (with_one_other (flag words) rank other ne) (unmarked other ne (cases_eq (other / 64) (rank / 64)))
+      | inr ne ↦ rw (with_one-other (flag words) rank other ne) (unmarked other ne (cases_eq (other / 64) (rank / 64)))
     ]
   where
     unmarked : (other : ℕ) → other ≢ rank → (other / 64 ≡ rank / 64) ⊎ (other / 64 ≢ rank / 64) → flag (marked words rank) other ≡ flag words other
@@ -70,7 +71,7 @@ flags-with_one words new n rank low same =
   where
     at : (k : ℕ) → k < n → (k ≡ rank) ⊎ (k ≢ rank) → with_one (flag words) rank k ≡ get_or (set (flags words n) rank true) k false
     at k h (inl e) = rw (e, with_one_same (flag words) rank) (sym (get_or-set_same (flags words n) rank true false (omega (arith, length-flags words n))))
-    at k h (inr ne) = rw (with_one_other (flag words) rank k ne, get_or-set_other (flags words n) rank k true false ne) (sym (get_or-flags words n k h))
+    at k h (inr ne) = rw (with_one-other (flag words) rank k ne, get_or-set_other (flags words n) rank k true false ne) (sym (get_or-flags words n k h))
 
 -- no bit is set in words of zeros
 pub flag-zeros : (m k : ℕ) → flag (replicate m 0) k ≡ false

@@ -5,7 +5,8 @@ use Rattle.std.proofs.lemmas.Bool.{cases_lt, cases_eq, ne_eqb, eq-eqb, and_parts
 use Rattle.mt_terms.specs.Lists.{Set, has, above, below, with_one, count_below}
 use Rattle.mt_terms.specs.Choice.{choice}
 use Rattle.mt_hold.specs.Holding.{Holding, ranks, has_received, held}
-use Rattle.mt_hold.proofs.Counting.{count_suc, count_same, count_past, count-le, same_from_count, count-with_one_above, count-with_one_below, with_one_same}
+use Rattle.mt_terms.proofs.Totals.{count_below-same}
+use Rattle.mt_hold.proofs.Counting.{count_suc, count_past, count-le, same_from_count, count-with_one_above, count-with_one_below, with_one_same}
 
 -- whether a rank below n is among the first `quota` members of a set
 abbrev pub chosen : ℕ → ℕ → Set → Set
@@ -44,7 +45,7 @@ choice-below quota n set rank =
 chosen_same : (quota n : ℕ) (s t : Set) (rank : ℕ) → ((k : ℕ) → k < n → s k ≡ t k) → chosen quota n s rank ≡ chosen quota n t rank
 chosen_same quota n s t rank same =
     elim (cases_lt rank n) [
-      | inl low ↦ rw (same rank low, count_same s t rank (λ k h. same k (omega arith))) refl
+      | inl low ↦ rw (same rank low, count_below-same s t rank (λ k h. same k (omega arith))) refl
       | inr high ↦ rw (le-ltb rank n high) refl
     ]
 

@@ -1,7 +1,9 @@
 -- How many members of a set stand below a number.
-use Rattle.std.proofs.Common.{◌≡◌, ◌≢◌, ℕ, zero, suc, ◌+◌, ◌<◌, ◌≤◌, Bool, true, false, cond, refl, inl, inr, arith, add-one}
-use Rattle.std.proofs.lemmas.Bool.{cases_eq, cases_order, ne_eqb, eq-eqb}
+use Rattle.std.proofs.Common.{◌≡◌, ℕ, zero, suc, ◌+◌, ◌<◌, ◌≤◌, Bool, true, false, cond, refl, inl, inr, arith, add-one}
+use Rattle.std.proofs.lemmas.Bool.{cases_eq, cases_order, eq-eqb}
 use Rattle.mt_terms.specs.Lists.{Set, with_one, count_below}
+use Rattle.mt_terms.proofs.Totals.{count_below-same}
+use Rattle.mt_terms.proofs.ListFacts.{with_one-other}
 
 pub count_suc : (s : Set) (k : ℕ) → count_below s (k + 1) ≡ cond (s k) 1 0 + count_below s k
 count_suc s k = rw add-one refl
@@ -44,27 +46,19 @@ same_from_count s a b ha hb e =
       | inr (inr l) ↦ absurd (omega (arith, count_past s b a hb l))
     ]
 
--- the counts of two sets that are equal below a number
-pub count_same : (s t : Set) (n : ℕ) → ((k : ℕ) → k < n → s k ≡ t k) → count_below s n ≡ count_below t n
-count_same s t zero h = refl
-count_same s t (suc n) h = rw (h n (omega arith), count_same s t n (λ k l. h k (omega arith))) refl
-
-pub with_one_other : (s : Set) (r k : ℕ) → k ≢ r → with_one s r k ≡ s k
-with_one_other s r k ne = rw (ne_eqb k r ne) refl
-
 pub with_one_same : (s : Set) (r : ℕ) → with_one s r r ≡ true
 with_one_same s r = rw (eq-eqb r r refl) refl
 
 -- one member more counts above it, and not at it or below
 pub count-with_one_below : (s : Set) (r k : ℕ) → k ≤ r → count_below (with_one s r) k ≡ count_below s k
-count-with_one_below s r k h = count_same (with_one s r) s k (λ j l. with_one_other s r j (omega arith))
+count-with_one_below s r k h = count_below-same (with_one s r) s k (λ j l. with_one-other s r j (omega arith))
 
 pub count-with_one_above : (s : Set) (r k : ℕ) → s r ≡ false → r < k → count_below (with_one s r) k ≡ count_below s k + 1
 count-with_one_above s r zero out h = absurd (omega arith)
 count-with_one_above s r (suc k) out h =
     elim (cases_eq k r) [
       | inl e ↦ rw (e, with_one_same s r, out) (omega (arith, count-with_one_below s r r (omega arith)))
-      | inr ne ↦ rw (with_one_other s r k ne) (omega (arith, count-with_one_above s r k out (omega arith)))
+      | inr ne ↦ rw (with_one-other s r k ne) (omega (arith, count-with_one_above s r k out (omega arith)))
     ]
 
 -- a number that isn't a member leaves fewer members than numbers

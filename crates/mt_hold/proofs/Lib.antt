@@ -2,7 +2,6 @@ pub mod Bits
 pub mod Chosen
 pub mod Counting
 pub mod Entering
-pub mod Examples
 pub mod Lists
 pub mod Proposing
 pub mod Rows

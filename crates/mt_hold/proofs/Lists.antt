@@ -7,34 +7,10 @@ use Rattle.mt_terms.specs.Market.{Program}
 use Rattle.mt_terms.specs.Choice.{choice}
 use Rattle.mt_hold.specs.Holding.{ranks, has_received}
 use Rattle.mt_hold.specs.Laws.{HeldIsChoice, OpenedIsEmpty, ReceiveAddsOne, CountIsMembers, CountIsSize}
-use Rattle.mt_hold.proofs.Counting.{count_suc, count_same, count-with_one_above, with_one_other}
+use Rattle.mt_hold.proofs.Counting.{count_suc, count-with_one_above}
+use Rattle.mt_terms.proofs.Totals.{count_below-same, count_below-none}
+use Rattle.mt_terms.proofs.ListFacts.{has_item, head_differs, tail_distinct, same_position, with_one-other}
 use Rattle.mt_hold.proofs.Chosen.{chosen, held-chosen}
-
-pub has-at : (xs : List ℕ) (k : ℕ) → k < length xs → has xs (get_or xs k 0) ≡ true
-has-at [] k h = absurd (omega arith)
-has-at (x ∷ xs) zero h = rw (eq-eqb x x refl) refl
-has-at (x ∷ xs) (suc k) h =
-    elim (cases_eq x (get_or xs k 0)) [
-      | inl e ↦ rw (eq-eqb x (get_or xs k 0) e) refl
-      | inr ne ↦ rw (ne_eqb x (get_or xs k 0) ne) (has-at xs k (omega arith))
-    ]
-
--- the head of a list without repeats stands nowhere else
-head_differs : (x : ℕ) (xs : List ℕ) (k : ℕ) → IsTrue (is_distinct (x ∷ xs)) → k < length xs → x ≢ get_or xs k 0
-head_differs x xs k d h e =
-    let out : has xs x ≡ false = not-true (has xs x) (and_parts (not (has xs x)) (is_distinct xs) d).0 in
-    false≢true (sym out ∙ ap (has xs) e ∙ has-at xs k h)
-
-tail_distinct : (x : ℕ) (xs : List ℕ) → IsTrue (is_distinct (x ∷ xs)) → IsTrue (is_distinct xs)
-tail_distinct x xs d = (and_parts (not (has xs x)) (is_distinct xs) d).1
-
--- two positions with one number are one
-pub same_position : (xs : List ℕ) (j k : ℕ) → IsTrue (is_distinct xs) → j < length xs → k < length xs → get_or xs j 0 ≡ get_or xs k 0 → j ≡ k
-same_position [] j k d hj hk e = absurd (omega arith)
-same_position (x ∷ xs) zero zero d hj hk e = refl
-same_position (x ∷ xs) zero (suc k) d hj hk e = absurd (head_differs x xs k d (omega arith) e)
-same_position (x ∷ xs) (suc j) zero d hj hk e = absurd (head_differs x xs j d (omega arith) (sym e))
-same_position (x ∷ xs) (suc j) (suc k) d hj hk e = ap suc (same_position xs j k (tail_distinct x xs d) (omega arith) (omega arith) e)
 
 -- as many members of a set stand above position k as flags are set before it; the flags begin at j
 above-at : (s flags : Set) (xs : List ℕ) (j k : ℕ) → IsTrue (is_distinct xs) → ((i : ℕ) → i < length xs → flags (j + i) ≡ s (get_or xs i 0))
@@ -61,7 +37,7 @@ above-at s flags (x ∷ xs) j (suc k) d same h =
 choice-at : (p : Program) (s flags : Set) → IsTrue (is_distinct p.ranking) → ((k : ℕ) → k < length p.ranking → flags k ≡ s (get_or p.ranking k 0))
     → (k : ℕ) → k < length p.ranking → choice p s (get_or p.ranking k 0) ≡ chosen p.quota (length p.ranking) flags k
 choice-at p s flags d same k h =
-    rw (has-at p.ranking k h, ← same k h, e, lt-ltb k (length p.ranking) h) refl
+    rw (has_item p.ranking k h, ← same k h, e, lt-ltb k (length p.ranking) h) refl
   where
     shifted : (i : ℕ) → i < length p.ranking → flags (0 + i) ≡ s (get_or p.ranking i 0)
     shifted i l = ap flags (omega arith) ∙ same i l
@@ -123,7 +99,7 @@ put_back : (s : Set) (x : ℕ) → s x ≡ true → (a : ℕ) → s a ≡ with_o
 put_back s x member a =
     elim (cases_eq a x) [
       | inl e ↦ ap s e ∙ member ∙ sym (or_left (eqb a x) (without s x a) (eq-eqb a x e))
-      | inr ne ↦ sym (with_one_other (without s x) x a ne ∙ without_other s x a ne)
+      | inr ne ↦ sym (with_one-other (without s x) x a ne ∙ without_other s x a ne)
     ]
 
 -- two sets that agree on a list have as many members on it
@@ -155,7 +131,7 @@ count-with_head s x n xs d member low others =
       arith,
       count_same_on s (without s x) xs same,
       others,
-      count_same s (with_one (without s x) x) n (λ a _. put_back s x member a),
+      count_below-same s (with_one (without s x) x) n (λ a _. put_back s x member a),
       count-with_one_above (without s x) x n (out_of_without s x) low,
     ))
   where
@@ -165,12 +141,8 @@ count-with_head s x n xs d member low others =
     same : (a : ℕ) → has xs a ≡ true → s a ≡ without s x a
     same a h = sym (without_other s x a (apart a h))
 
-no_members : (s : Set) → ((a : ℕ) → s a ≡ true → false ≡ true) → (n : ℕ) → count_below s n ≡ 0
-no_members s none zero = refl
-no_members s none (suc n) = rw (false_from_ne_true (s n) (λ h. false≢true (none n h))) (omega (arith, no_members s none n))
-
 count-listed : (s : Set) (xs : List ℕ) (n : ℕ) → IsTrue (is_distinct xs) → ((a : ℕ) → s a ≡ true → has xs a ≡ true) → ((a : ℕ) → s a ≡ true → a < n) → count s xs ≡ count_below s n
-count-listed s [] n d listed low = sym (no_members s listed n)
+count-listed s [] n d listed low = sym (count_below-none s n (λ a. false_from_ne_true (s a) (λ h. false≢true (listed a h))))
 count-listed s (x ∷ xs) n d listed low =
     elim (cases_Bool (s x)) [
       | inl member ↦

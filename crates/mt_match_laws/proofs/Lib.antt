@@ -6,6 +6,5 @@ pub mod ListLemmas
 pub mod Seats
 pub mod SinglesFacts
 pub mod TakenLemmas
-pub mod Totals
 pub mod VerdictLemmas
 pub mod WellFormedLemmas

@@ -5,6 +5,7 @@ use Rattle.std.proofs.lemmas.Bool.{and_parts, and_from, or_parts, or_from, or_le
 use Rattle.std.proofs.lemmas.Bool.Decides.{nat_tests}
 use mathlib.Core.Path.{fun_ext}
 use Rattle.mt_terms.specs.Lists.{Set, has, until, count, above, below, with_one}
+use Rattle.mt_terms.proofs.ListFacts.{with_one-other}
 
 -- all numbers of a range pass where each of them does
 all_in_range : (test : Set) (a n : ℕ) → ((k : ℕ) → a ≤ k → k < a + n → IsTrue (test k)) → IsTrue (list_all test (range_with_len a n))
@@ -194,10 +195,6 @@ passes_before test (x ∷ xs) p on none fails = elim (cases_Bool (test x)) [
       let r = passes_before test xs p (grind (arith, nat_tests, parts.0, on)) parts.1 fails in
       (r.0, r.1, until_later xs x p r.0 parts.0 r.2)
 ]
-
--- whoever else is in a set with one more is in the set
-pub with_one-other : (set : Set) (a b : ℕ) → b ≢ a → with_one set a b ≡ set b
-with_one-other set a b other = ap (λ (r : Bool). r || set b) (ne_eqb b a other)
 
 -- somebody besides a set has as many of it above
 pub above-with_one : (set : Set) (xs : List ℕ) (b : ℕ) → above (with_one set b) xs b ≡ above set xs b

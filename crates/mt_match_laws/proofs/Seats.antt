@@ -8,7 +8,7 @@ use Rattle.mt_terms.specs.Matching.{Places, place_of, is_program, at, filled}
 use Rattle.mt_terms.specs.Choice.{choice}
 use Rattle.mt_match_laws.proofs.ChoiceLemmas.{choice_facts}
 use Rattle.mt_match_laws.proofs.FloorChoices.{count-choice}
-use Rattle.mt_match_laws.proofs.Totals.{one_in, total_below-same, total_below-swap, total_below-zero, total_below-front, count_below-mono, count_below-same, count_below-or, count_below-one, count_below-none}
+use Rattle.mt_terms.proofs.Totals.{one_in, total_below-same, total_below-swap, total_below-zero, total_below-front, count_below-mono, count_below-same, count_below-or, count_below-one, count_below-none}
 
 -- the elements of a list that pass a test, counted by their places
 pub count_by_place : {X : Type 0} (test : X → Bool) (xs : List X) (d : X) → count test xs ≡ count_below (λ a. test (get_or xs a d)) (length xs)

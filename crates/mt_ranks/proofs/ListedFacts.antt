@@ -1,10 +1,11 @@
 -- How often programs list an applicant, and at what ranks.
-use Rattle.std.proofs.Common.{◌≡◌, ℕ, zero, suc, ◌+◌, ◌<◌, ◌≤◌, List, [], ◌∷◌, ◌++◌, true, false, eqb, IsTrue, not, length, get_or, set, map, drop, refl, sym, inl, inr, zero-add, ap, ◌∙◌, arith, length-append}
-use Rattle.std.proofs.lemmas.Bool.{cases_Bool, eqb-true, eq-eqb, ne_eqb, cases_eq, or_right, or_parts, and_parts, not-true}
+use Rattle.std.proofs.Common.{◌≡◌, ℕ, suc, ◌+◌, ◌<◌, ◌≤◌, List, [], ◌∷◌, ◌++◌, true, false, eqb, IsTrue, not, length, get_or, set, map, drop, refl, sym, inl, inr, zero-add, ap, ◌∙◌, arith, length-append}
+use Rattle.std.proofs.lemmas.Bool.{cases_Bool, eqb-true, eq-eqb, ne_eqb, cases_eq, or_parts, and_parts, not-true}
 use Rattle.std.proofs.lemmas.Bool.Decides.{nat_tests}
 use Rattle.std.proofs.lemmas.List.{drop_more, get_or-set_same, get_or-set_other, append_assoc, drop_all, get_or_read, length-set, at_drop_more, at_drop_all, append-nil, get_or-replicate, length-replicate}
 use Rattle.std.proofs.lemmas.List.FromFn.{fill_by_all, get_or-map-range_with_len}
 use Rattle.mt_terms.specs.Lists.{has, below, count, is_distinct}
+use Rattle.mt_terms.proofs.ListFacts.{has_item}
 use Rattle.mt_ranks.specs.Entries.{entries_in, entries_from, times_listed, AreDistinct}
 use Rattle.mt_ranks.specs.Rows.{Filling, empty_rows, row_of, HasRoom, with_entry}
 use Rattle.mt_ranks.specs.declared.entries.Live.{Live}
@@ -16,12 +17,6 @@ length-entries_in p rank (x ∷ xs) a = grind (arith, nat_tests, length-entries_
 pub length-entries_from : (p : ℕ) (rs : List (List ℕ)) (a : ℕ) → length (entries_from p rs a) ≡ times_listed rs a
 length-entries_from p [] a = refl
 length-entries_from p (r ∷ rs) a = omega (arith, length-append (entries_in p 0 r a) (entries_from (p + 1) rs a), length-entries_in p 0 r a, length-entries_from (p + 1) rs a)
-
--- an element of a list is on it
-pub has_item : (xs : List ℕ) (i : ℕ) → i < length xs → IsTrue (has xs (get_or xs i 0))
-has_item [] i h = absurd (omega arith)
-has_item (x ∷ xs) zero h = rw eq-eqb refl
-has_item (x ∷ xs) (suc i) h = or_right (eqb x (get_or xs i 0)) (has xs (get_or xs i 0)) (has_item xs i (omega arith))
 
 -- what the rest of a list has of a number, with its first element and without
 pub count_here : (xs : List ℕ) (i a : ℕ) → i < length xs → get_or xs i 0 ≡ a → count (λ x. eqb x a) (drop i xs) ≡ 1 + count (λ x. eqb x a) (drop (i + 1) xs)

@@ -1,41 +1,22 @@
 -- A list without repeats of numbers below n has at most n of them.
-use Rattle.std.proofs.Common.{◌≡◌, ℕ, zero, suc, ◌+◌, ◌*◌, ◌<◌, ◌≤◌, List, [], ◌∷◌, cond, eqb, IsTrue, length, get_or, map, sum, refl, inl, inr, arith}
-use Rattle.std.proofs.lemmas.Bool.{eq-eqb, ne_eqb, cases_eq, or_left, or_right}
+use Rattle.std.proofs.Common.{◌≡◌, ℕ, zero, suc, ◌*◌, ◌<◌, ◌≤◌, List, [], ◌∷◌, cond, eqb, IsTrue, length, get_or, map, sum, refl, ◌∙◌, arith}
+use Rattle.std.proofs.lemmas.Bool.{eq-eqb, or_left, or_right, lt-ltb}
 use Rattle.mt_terms.specs.Lists.{has, below, count, total_below, is_distinct}
 use Rattle.std.specs.List.{All}
 use Rattle.std.proofs.lemmas.List.Sums.{sum_by-le}
 use Rattle.std.proofs.lemmas.List.FromFn.{length-map-range_with_len, get_or-map-range_with_len}
+use Rattle.mt_terms.proofs.Totals.{total_below-add, total_below-zero, count_below-one}
 use Rattle.mt_ranks.specs.Entries.{times_listed, AreDistinct}
 use Rattle.mt_ranks.proofs.ListedFacts.{listed_once, times_listed_few}
-
-pub total_below-add : (f g : ℕ → ℕ) (n : ℕ) → total_below (λ a. f a + g a) n ≡ total_below f n + total_below g n
-total_below-add f g zero = refl
-total_below-add f g (suc n) = omega (arith, total_below-add f g n)
 
 pub total_below-le : (f : ℕ → ℕ) (n b : ℕ) → ((a : ℕ) → a < n → f a ≤ b) → total_below f n ≤ n * b
 total_below-le f zero b h = omega arith
 total_below-le f (suc n) b h = omega (arith, h n (omega arith), total_below-le f n b (λ a i. h a (omega arith)))
 
-total_none : (n : ℕ) → total_below (λ a. 0) n ≡ 0
-total_none zero = refl
-total_none (suc n) = omega (arith, total_none n)
-
-total_past : (x n : ℕ) → n ≤ x → total_below (λ a. cond (eqb x a) 1 0) n ≡ 0
-total_past x zero h = refl
-total_past x (suc n) h = rw (ne_eqb x n (omega arith)) (omega (arith, total_past x n (omega arith)))
-
-total_one : (x n : ℕ) → x < n → total_below (λ a. cond (eqb x a) 1 0) n ≡ 1
-total_one x zero h = absurd (omega arith)
-total_one x (suc n) h =
-    elim (cases_eq x n) as (λ o. total_below (λ a. cond (eqb x a) 1 0) (suc n) ≡ 1) [
-      | inl e ↦ rw (eq-eqb x n e) (omega (arith, total_past x n (omega arith)))
-      | inr ne ↦ rw (ne_eqb x n ne) (omega (arith, total_one x n (omega arith)))
-    ]
-
 total_counts : (xs : List ℕ) (n : ℕ) → ((a : ℕ) → IsTrue (has xs a) → a < n) → total_below (λ a. count (λ x. eqb x a) xs) n ≡ length xs
-total_counts [] n h = total_none n
+total_counts [] n h = total_below-zero n
 total_counts (x ∷ xs) n h =
-    let first : total_below (λ a. cond (eqb x a) 1 0) n ≡ 1 = total_one x n (h x (or_left (eqb x x) (has xs x) (eq-eqb x x refl))) in
+    let first : total_below (λ a. cond (eqb x a) 1 0) n ≡ 1 = count_below-one x n ∙ rw (lt-ltb x n (h x (or_left (eqb x x) (has xs x) (eq-eqb x x refl)))) refl in
     let rest : total_below (λ a. count (λ y. eqb y a) xs) n ≡ length xs = total_counts xs n (λ a i. h a (or_right (eqb x a) (has xs a) i)) in
     omega (arith, total_below-add (λ a. cond (eqb x a) 1 0) (λ a. count (λ y. eqb y a) xs) n)
 

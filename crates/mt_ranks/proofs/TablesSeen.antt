@@ -1,5 +1,5 @@
 -- What the tables say of the market that they are seen as.
-use Rattle.std.proofs.Common.{◌≡◌, ◌==◌, ℕ, zero, suc, ◌<◌, ◌≤◌, List, [], ◌∷◌, map, length, get_or, refl, sym, ap, subst, ◌∙◌, inl, inr, arith}
+use Rattle.std.proofs.Common.{◌≡◌, ◌==◌, ℕ, ◌<◌, ◌≤◌, List, [], map, length, get_or, sym, ap, subst, ◌∙◌, inl, inr, arith}
 use Rattle.std.specs.List.{All, position}
 use Rattle.std.proofs.lemmas.Bool.{cases_lt}
 use Rattle.std.proofs.lemmas.List.{get_or-map, get_or_past, length-map}
@@ -13,23 +13,12 @@ use Rattle.mt_ranks.specs.Ranked.{Ranked, IsRanked, IsEntry, ranked_of, ranked_e
 use Rattle.mt_ranks.specs.Rows.{Filling, row_of}
 use Rattle.mt_ranks.specs.View.{programs_in, ranked_in, AreTables}
 use Rattle.mt_ranks.specs.declared.tables.Ranks.TheInside.{Inside}
-use Rattle.mt_ranks.proofs.ListedFacts.{has_item}
+use Rattle.mt_terms.proofs.ListFacts.{has_item}
+use Rattle.mt_terms.proofs.LiveFacts.{list_of-live_market}
+use Rattle.mt_market.proofs.TablesFacts.{length-programs_with, program_at}
 use Rattle.mt_ranks.proofs.LiveLists.{programs_with-fields, ranking_at, own_entries, entries_among-list, programs_in-ranked}
-use Rattle.mt_ranks.proofs.LiveMarket.{list_of-live_market, live_market_ranked}
+use Rattle.mt_ranks.proofs.LiveMarket.{live_market_ranked}
 use Rattle.mt_ranks.proofs.Positions.{entries_ascend, rank_among-entries}
-
-length-programs_with : (qs : List ℕ) (rs : List (List ℕ)) → length rs ≡ length qs → length (programs_with qs rs) ≡ length qs
-length-programs_with [] rs h = refl
-length-programs_with (q ∷ qs) [] h = absurd (omega arith)
-length-programs_with (q ∷ qs) (r ∷ rs) h = ap suc (length-programs_with qs rs (omega arith))
-
-program_at : (qs : List ℕ) (rs : List (List ℕ)) (i : ℕ) → length rs ≡ length qs
-    → get_or (programs_with qs rs) i (record { quota = 0; ranking = [] }) ≡ record { quota = get_or qs i 0; ranking = get_or rs i [] }
-program_at [] [] i h = refl
-program_at [] (r ∷ rs) i h = absurd (omega arith)
-program_at (q ∷ qs) [] i h = absurd (omega arith)
-program_at (q ∷ qs) (r ∷ rs) zero h = refl
-program_at (q ∷ qs) (r ∷ rs) (suc i) h = program_at qs rs i (omega arith)
 
 -- Below, t are rank tables, seen as r.
 pub count_of_programs : (t : Inside) (r : Ranked) → AreTables t → ranked_in t ≡ r → length t.quotas.items ≡ length r.market.programs

@@ -1,1 +1,4 @@
 pub mod BelowFacts
+pub mod ListFacts
+pub mod LiveFacts
+pub mod Totals

@@ -1,13 +1,11 @@
 -- Where the members of a set stand on a list: how many there are, and how many stand above another one.
-use Rattle.std.proofs.Common.{◌≡◌, ℕ, zero, suc, ◌+◌, ◌<◌, ◌≤◌, Bool, ◌==◌, nat_lt, List, [], ◌∷◌, ◌++◌, length, get_or, take, append-nil, Option, Some, None, IsTrue, IsFalse, refl, ap, sym, ◌∙◌, inl, inr, arith, if◌then◌else◌}
-use Rattle.std.specs.List.{position}
+use Rattle.std.proofs.Common.{◌≡◌, ℕ, zero, suc, ◌+◌, ◌<◌, ◌≤◌, Bool, ◌==◌, List, [], ◌∷◌, ◌++◌, length, get_or, take, append-nil, Option, Some, None, IsTrue, IsFalse, refl, ap, sym, ◌∙◌, inl, inr, arith, if◌then◌else◌}
 use Rattle.std.specs.Option.{option_eq}
-use Rattle.std.specs.List.Sorted.{IsNonDecreasing, IsPartitionPoint}
-use Rattle.std.proofs.lemmas.Bool.{cases_Bool, le-ltb, lt-ltb}
+use Rattle.std.specs.List.Sorted.{IsNonDecreasing}
+use Rattle.std.proofs.lemmas.Bool.{cases_Bool}
 use Rattle.std.proofs.lemmas.List.{take_more, length-take}
-use Rattle.std.proofs.lemmas.List.Quantifiers.{position-Some}
 use Rattle.mt_market.specs.FlatLists.{with_last}
-use Rattle.mt_terms.specs.Lists.{Set, until, count}
+use Rattle.mt_terms.specs.Lists.{Set, count}
 use Rattle.mt_terms.specs.Matching.{is_program, ranks_from}
 
 -- one place more of a list
@@ -92,48 +90,3 @@ length-ranks_from rank set (x ∷ xs) = elim (cases_Bool (set x)) [
   | inl here ↦ rw here (omega (arith, length-ranks_from (rank + 1) set xs))
   | inr other ↦ rw other (omega (arith, length-ranks_from (rank + 1) set xs))
 ]
-
--- none of them above a rank that all are at or below
-none_above : (rank limit : ℕ) (set : Set) (xs : List ℕ) → limit ≤ rank → count (λ r. nat_lt r limit) (ranks_from rank set xs) ≡ 0
-none_above rank limit set [] h = refl
-none_above rank limit set (x ∷ xs) h = elim (cases_Bool (set x)) [
-  | inl here ↦ rw (here, le-ltb rank limit h) (omega (arith, none_above (rank + 1) limit set xs (omega arith)))
-  | inr other ↦ rw other (none_above (rank + 1) limit set xs (omega arith))
-]
-
--- those above a rank are the members on the front of the list
-pub ranks_above : (rank limit : ℕ) (set : Set) (xs : List ℕ) (k : ℕ) → limit ≡ rank + k → count (λ r. nat_lt r limit) (ranks_from rank set xs) ≡ count set (take k xs)
-ranks_above rank limit set [] zero h = refl
-ranks_above rank limit set [] (suc k) h = refl
-ranks_above rank limit set (x ∷ xs) zero h = none_above rank limit set (x ∷ xs) (omega arith)
-ranks_above rank limit set (x ∷ xs) (suc k) h =
-    let rest = ranks_above (rank + 1) limit set xs k (omega arith) in
-    elim (cases_Bool (set x)) [
-      | inl here ↦ rw (here, lt-ltb rank limit (omega arith)) (omega arith)
-      | inr other ↦ rw other (omega (arith, rest))
-    ]
-
--- the count of those that pass is where they end, if those that pass come first
-pub count_to_point : (test : ℕ → Bool) (xs : List ℕ) (i : ℕ) → i ≤ length xs → IsPartitionPoint (λ x. IsTrue (test x)) (λ x. IsFalse (test x)) xs i → count test xs ≡ i
-count_to_point test [] i within point = omega arith
-count_to_point test (x ∷ xs) zero within point =
-    let here : IsFalse (test x) = point.1 0 0 (omega arith) (omega arith) in
-    let rest : count test xs ≡ 0 = count_to_point test xs 0 (omega arith) ((λ k d low high. absurd (omega arith)), (λ k d low high. point.1 (suc k) d (omega arith) (omega arith))) in
-    rw here (omega (arith, rest))
-count_to_point test (x ∷ xs) (suc i) within point =
-    let here : IsTrue (test x) = point.0 0 0 (omega arith) (omega arith) in
-    let rest : count test xs ≡ i = count_to_point test xs i (omega arith)
-    ((λ k d low high. point.0 (suc k) d (omega arith) (omega arith)), (λ k d low high. point.1 (suc k) d (omega arith) (omega arith))) in
-    rw here (omega arith)
-
--- the front of a list up to a number ends at the number's place
-until_is_take : (xs : List ℕ) (a k : ℕ) → k < length xs → IsTrue (get_or xs k 0 == a) → ((j : ℕ) → j < k → IsFalse (get_or xs j 0 == a)) → until (λ x. x == a) xs ≡ take k xs
-until_is_take [] a k within here before = absurd (omega arith)
-until_is_take (x ∷ xs) a zero within here before = rw here refl
-until_is_take (x ∷ xs) a (suc k) within here before =
-    rw (before 0 (omega arith)) (ap (λ ys. x ∷ ys) (until_is_take xs a k (omega arith) here (λ j less. before (suc j) (omega arith))))
-
-pub until_position : (xs : List ℕ) (a k : ℕ) → position (λ x. x == a) xs ≡ Some k → until (λ x. x == a) xs ≡ take k xs
-until_position xs a k at =
-    let found = position-Some (λ x. x == a) xs k 0 at in
-    until_is_take xs a k found.0 found.1 found.2

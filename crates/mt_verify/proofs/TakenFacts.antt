@@ -1,11 +1,9 @@
 -- A program's choice by ranks, and how many stand above a rank where somebody was moved.
-use Rattle.std.proofs.Common.{◌≡◌, ◌≢◌, ℕ, zero, suc, ◌+◌, ◌<◌, ◌≤◌, Bool, true, false, not, ◌==◌, nat_lt, List, [], ◌∷◌, length, take, get_or, Option, Some, None, is_some, IsTrue, IsFalse, refl, ap, sym, ◌∙◌, subst, inl, inr, arith, eq-eqb, ne_eqb, if◌then◌else◌, slice_set, get_or-set_same, get_or-set_other, length-set}
+use Rattle.std.proofs.Common.{◌≡◌, ◌≢◌, ℕ, ◌+◌, ◌<◌, ◌≤◌, Bool, true, false, not, ◌==◌, nat_lt, List, [], ◌∷◌, length, take, Option, Some, None, is_some, IsTrue, IsFalse, refl, ap, sym, ◌∙◌, subst, inl, inr, arith, eq-eqb, ne_eqb, if◌then◌else◌, slice_set, get_or-set_same, get_or-set_other, length-set}
 use mir.Val.{bool_byte}
 use Rattle.std.specs.List.{position}
-use Rattle.std.proofs.lemmas.Bool.{cases_Bool, cases_eq, and_parts, and_from, or_left, both_ways, lt-ltb, le-ltb, false_from_ne_true, not-true, not_from_false}
-use Rattle.std.proofs.lemmas.Bool.Decides.{nat_tests}
+use Rattle.std.proofs.lemmas.Bool.{cases_Bool, cases_eq, and_parts, or_left, both_ways, false_from_ne_true, not-true}
 use Rattle.std.proofs.lemmas.List.{set_comm}
-use Rattle.std.proofs.lemmas.List.Quantifiers.{position-Some}
 use Rattle.mt_terms.specs.Lists.{Set, has, until, count, is_distinct, with_one}
 use Rattle.mt_terms.specs.Market.{Market, Program, program_of}
 use Rattle.mt_terms.specs.Matching.{Places, at, is_program, send, couple_placement, single_placement}
@@ -15,7 +13,7 @@ use Rattle.mt_match_laws.proofs.ListLemmas.{count_agree, count_has, until-itself
 use Rattle.mt_match_laws.proofs.TakenLemmas.{single_taken_lem}
 use Rattle.mt_ranks.proofs.Positions.{has-position}
 use Rattle.mt_verify.specs.Moved.{at_moved}
-use Rattle.mt_verify.proofs.PlacedFacts.{until_position}
+use Rattle.mt_terms.proofs.ListFacts.{until_position, has-from_take}
 
 -- who is of the set, and has this rank, is chosen where fewer than quota of the set stand above that rank
 pub choice_ranked : (q : Program) (set : Set) (a k : ℕ) → position (λ x. x == a) q.ranking ≡ Some k → IsTrue (set a)
@@ -29,48 +27,9 @@ choice_unranked q set a none =
     let off : IsFalse (has q.ranking a) = has-position q.ranking a ∙ ap is_some none in
     rw off refl
 
--- whether the front of a list has a number, by the number's first place
-has_front_at : (xs : List ℕ) (b k r : ℕ) → k < length xs → IsTrue (get_or xs k 0 == b) → ((j : ℕ) → j < k → IsFalse (get_or xs j 0 == b))
-    → has (take r xs) b ≡ nat_lt k r
-has_front_at [] b k r within here before = absurd (omega arith)
-has_front_at (x ∷ xs) b k zero within here before = sym (le-ltb k 0 (omega arith))
-has_front_at (x ∷ xs) b zero (suc r) within here before = rw (here, lt-ltb 0 (suc r) (omega arith)) refl
-has_front_at (x ∷ xs) b (suc k) (suc r) within here before =
-    let rest = has_front_at xs b k r (omega arith) here (λ j less. before (suc j) (omega arith)) in
-    let same : nat_lt k r ≡ nat_lt (suc k) (suc r) = grind (arith, nat_tests) in
-    rw (before 0 (omega arith)) (rest ∙ same)
-
-pub has_front : (xs : List ℕ) (b k r : ℕ) → position (λ x. x == b) xs ≡ Some k → has (take r xs) b ≡ nat_lt k r
-has_front xs b k r at =
-    let found = position-Some (λ x. x == b) xs k 0 at in
-    has_front_at xs b k r found.0 found.1 found.2
-
-has_of_front : (xs : List ℕ) (b r : ℕ) → IsTrue (has (take r xs) b) → IsTrue (has xs b)
-has_of_front [] b zero on = on
-has_of_front [] b (suc r) on = on
-has_of_front (x ∷ xs) b zero on = absurd (both_ways false refl on)
-has_of_front (x ∷ xs) b (suc r) on = grind (arith, nat_tests, has_of_front xs b r)
-
 pub not_on_front : (xs : List ℕ) (b r : ℕ) → position (λ x. x == b) xs ≡ None → IsFalse (has (take r xs) b)
 not_on_front xs b r none =
-    false_from_ne_true _ (λ on. both_ways _ (has-position xs b ∙ ap is_some none) (has_of_front xs b r on))
-
--- the front of a list without repeats has none
-pub distinct_front : (xs : List ℕ) (r : ℕ) → IsTrue (is_distinct xs) → IsTrue (is_distinct (take r xs))
-distinct_front [] zero distinct = refl
-distinct_front [] (suc r) distinct = refl
-distinct_front (x ∷ xs) zero distinct = refl
-distinct_front (x ∷ xs) (suc r) distinct =
-    let parts = and_parts (not (has xs x)) (is_distinct xs) distinct in
-    and_from _ _ (not_from_false _ (false_from_ne_true _ (λ on. both_ways _ (not-true _ parts.0) (has_of_front xs x r on)))) (distinct_front xs r parts.1)
-
-pub count-le-length : (set : Set) (xs : List ℕ) → count set xs ≤ length xs
-count-le-length set [] = omega arith
-count-le-length set (x ∷ xs) = one_or_none (set x) (count set xs) (length xs) (count-le-length set xs)
-  where
-    one_or_none : (b : Bool) (k n : ℕ) → k ≤ n → (if b then 1 else 0) + k ≤ suc n
-    one_or_none true k n h = omega arith
-    one_or_none false k n h = omega arith
+    false_from_ne_true _ (λ on. both_ways _ (has-position xs b ∙ ap is_some none) (has-from_take xs r b on))
 
 -- one or none, by a test
 abbrev pub one_if : Bool → ℕ

@@ -8,7 +8,7 @@ use Rattle.mt_floor_laws.proofs.FloorQuiet.{quiet_counts_lem}
 use Rattle.mt_floor_laws.proofs.FloorRuns.{result_of_is_result}
 use Rattle.mt_floor_laws.proofs.LegalBestLemmas.{legal_floor_best}
 use Rattle.mt_core.specs.Floors.{floor_of}
-use Rattle.mt_core.proofs.ListFacts.{map-below_more}
+use Rattle.mt_terms.proofs.BelowFacts.{map-below_more}
 use Rattle.mt_core.proofs.end.result.Goals as goal
 
 pub loop-applicant-preserved : goal.loop-applicant-preserved

@@ -1,7 +1,7 @@
 use Rattle.std.proofs.Common.{◌++◌, ◌∷◌, [], length, sym, ap, ap₂, ◌∙◌, arith}
 use Rattle.mt_hold.specs.Holding.{opened}
 use Rattle.mt_core.specs.Floors.{opened_for}
-use Rattle.mt_core.proofs.ListFacts.{map-below_more}
+use Rattle.mt_terms.proofs.BelowFacts.{map-below_more}
 use Rattle.mt_core.proofs.NextFacts.{ranking_few}
 use Rattle.mt_core.proofs.floor.opened_holds.Goals as goal
 

@@ -1,6 +1,6 @@
 use Rattle.std.proofs.Common.{nat_lt, sym, rules}
 use Rattle.std.proofs.lemmas.List.Sorted.{IsPartitionPoint-from_clause, IsPartitionedBy-ltb}
-use Rattle.mt_verify.proofs.PlacedFacts.{count_to_point}
+use Rattle.mt_terms.proofs.ListFacts.{count_to_point}
 use Rattle.mt_verify.proofs.placed.count_below.Goals as goal
 
 pub returns : goal.returns

@@ -4,7 +4,8 @@ use Rattle.mt_terms.specs.Lists.{count}
 use Rattle.mt_terms.specs.Market.{program_of}
 use Rattle.mt_terms.specs.Matching.{at}
 use Rattle.mt_verify.proofs.MarketFacts.{placed_at, length_of_placed}
-use Rattle.mt_verify.proofs.PlacedFacts.{ranks_rise, ranks_above}
+use Rattle.mt_verify.proofs.PlacedFacts.{ranks_rise}
+use Rattle.mt_terms.proofs.ListFacts.{ranks_above}
 use Rattle.mt_verify.proofs.verifier.Verifier.count_above.Goals as goal
 
 pub list-requires : goal.list-requires

@@ -4,8 +4,9 @@ use Rattle.mt_terms.specs.Lists.{has}
 use Rattle.mt_terms.specs.Market.{program_of}
 use Rattle.mt_terms.specs.Matching.{at, is_program}
 use Rattle.mt_verify.proofs.MarketFacts.{few_ranked}
+use Rattle.mt_terms.proofs.ListFacts.{distinct-take, count-le-length}
 use Rattle.mt_verify.proofs.PlacedFacts.{is_program_read}
-use Rattle.mt_verify.proofs.TakenFacts.{count_moved, count_unmoved, one_counts, distinct_front, count-le-length, one_if, one_if-from_byte, one_if_le}
+use Rattle.mt_verify.proofs.TakenFacts.{count_moved, count_unmoved, one_counts, one_if, one_if-from_byte, one_if_le}
 use Rattle.mt_verify.proofs.verifier.Verifier.count_above_moved.Goals as goal
 
 pub returns-then-not-is_above : goal.returns-then-not-is_above
@@ -52,5 +53,5 @@ returns c =
       arith,
       c.count_above-there.ensures,
       one_counts (at self.matched.now.places c.args.program) front c.args.applicant on,
-      count_moved self.matched.now.places c.args.applicant c.args.program c.args.place front (distinct_front ranking c.args.rank (self.is_registration.well_formed.rankings_distinct c.args.program)) on,
+      count_moved self.matched.now.places c.args.applicant c.args.program c.args.place front (distinct-take ranking c.args.rank (self.is_registration.well_formed.rankings_distinct c.args.program)) on,
     )
