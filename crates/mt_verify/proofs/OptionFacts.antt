@@ -5,8 +5,8 @@ use mathlib.Core.Path.{fun_ext}
 use Rattle.mt_terms.specs.Market.{Market, Pair, list_of, couple_of, agent_of}
 use Rattle.mt_terms.specs.Matching.{Places, place_of, is_program, is_same_place, holds, single_placement, couple_placement}
 use Rattle.mt_terms.specs.Stability.{has_own_option}
-use Rattle.mt_terms.specs.Verdict.{lowest_number}
 use Rattle.mt_terms.specs.declared.numbers.Agent.TheVariants.{Single, Couple}
+use Rattle.mt_verify.specs.Listed.{is_off_own_list}
 use Rattle.mt_match_laws.proofs.ListLemmas.{list_any-map}
 use Rattle.mt_match_laws.proofs.VerdictLemmas.{agent_cases}
 
@@ -60,17 +60,13 @@ couple_is_there m a c is = elim (agent_cases m a) [
   | inr w ↦ (let e : Couple w.0 ≡ Couple c = sym w.1 ∙ is in let same : w.0 ≡ c = cc in omega (arith, w.2))
 ]
 
--- whether an agent that is reported at this number lacks an option of its own
-abbrev pub is_off : Market → Places → ℕ → Bool
-is_off m places a = (lowest_number m (agent_of m a) == a) && not (has_own_option m places (agent_of m a))
-
 pub is_off-Single : (m : Market) (places : Places) (a b : ℕ) → agent_of m a ≡ Single b
-    → is_off m places a ≡ not (list_any (λ p. is_program p (place_of places a)) (list_of m a) || not (is_some (place_of places a)))
+    → is_off_own_list m places a ≡ not (list_any (λ p. is_program p (place_of places a)) (list_of m a) || not (is_some (place_of places a)))
 is_off-Single m places a b is = rw (single_is_itself m a b is, eq-eqb a a refl) (ap not (own_option-Single m places a))
 
 pub is_off-Couple : (m : Market) (places : Places) (a c : ℕ) → agent_of m a ≡ Couple c → a ≡ min (couple_of m c).first (couple_of m c).second
     → let first = (couple_of m c).first in let second = (couple_of m c).second in
-    is_off m places a
+    is_off_own_list m places a
     ≡ not (list_any (λ pair. is_same_place (place_of places first) pair.0 && is_same_place (place_of places second) pair.1) (couple_of m c).pairs
     || (not (is_some (place_of places first)) && not (is_some (place_of places second))))
 is_off-Couple m places a c is low = rw (is, eq-eqb (min (couple_of m c).first (couple_of m c).second) a (sym low)) (ap not (own_option-Couple m places c))

@@ -1,5 +1,5 @@
 -- Which agents block, by the numbers of those who lead them.
-use Rattle.std.specs.Prelude.{ℕ, ◌&&◌, Option, Some, None, if◌then◌else◌}
+use Rattle.std.specs.Prelude.{ℕ, Bool, ◌&&◌, Option, Some, None, if◌then◌else◌}
 use Rattle.mt_terms.specs.Market.{Market, agent_of, leads}
 use Rattle.mt_terms.specs.Matching.{Places}
 use Rattle.mt_terms.specs.Stability.{blocks}
@@ -13,4 +13,10 @@ blocker m places g = record { agent = g; option = blocking_option m places g }
 
 -- the agent that an applicant leads, where it leads one and that one blocks
 abbrev pub blocker_led_by : Market → Places → ℕ → Option Blocker
-blocker_led_by m places a = if leads m a && blocks m places (agent_of m a) then Some (blocker m places (agent_of m a)) else None
+blocker_led_by m places a = if is_led_and_blocks then Some (blocker m places g) else None
+  where
+    g : Agent
+    g = agent_of m a
+
+    is_led_and_blocks : Bool
+    is_led_and_blocks = leads m a && blocks m places g

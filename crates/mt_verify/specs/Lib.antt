@@ -1,2 +1,6 @@
 pub mod Blocking
+pub mod Judged
+pub mod Listed
 pub mod Moved
+pub mod Verdicts
+pub mod View

@@ -1,11 +1,11 @@
 //! Whether a match of a residency market is stable, or else the first finding against it, whoever made it.
 #![tactic(auto)]
 
-ghost use Rattle.std.specs.Prelude.{◌≡◌, ◌↔◌, IfOk, IsTrue};
+ghost use Rattle.std.specs.Prelude.{◌≡◌, IfOk};
 ghost use Rattle.mt_terms.specs.Places.{ArePlaces};
-ghost use Rattle.mt_terms.specs.Stability.{stable};
 ghost use Rattle.mt_terms.specs.Verdict.{verdict_of};
 ghost use Rattle.mt_ranks.specs.Ranked.{ranked_of};
+ghost use Rattle.mt_verify.specs.Verdicts.{TellsStable};
 
 mod listed;
 mod placed;
@@ -34,7 +34,7 @@ pub fn verify(
     requires places { ArePlaces roster.now.market matched.now.places }
     requires ranks { ranks.now ≡ ranked_of roster.now.market }
     ensures verdict { IfOk result (λ v. v ≡ verdict_of roster.now.market matched.now.places) }
-    ensures stable { IfOk result (λ v. (v ≡ Verdict.Stable) ↔ IsTrue (stable roster.now.market matched.now.places)) }
+    ensures stable { IfOk result (TellsStable roster.now.market matched.now.places) }
 {
     let verifier = Verifier::new(alloc, roster, ranks, matched)?;
     Ok(verifier.verdict())

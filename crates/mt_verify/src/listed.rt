@@ -1,12 +1,11 @@
-ghost use Rattle.std.specs.Prelude.{◌≡◌, ◌&&◌, ◌||◌, not, is_some};
-ghost use Rattle.std.specs.List.{list_any};
-ghost use Rattle.mt_terms.specs.Matching.{is_program, is_same_place};
+ghost use Rattle.std.specs.Prelude.{◌≡◌};
+ghost use Rattle.mt_verify.specs.Listed.{is_own_pair, is_own_place};
 
 use mt_terms::ProgNo;
 
 /// Whether a single's place is on its list, or none.
 pub(crate) fn is_own_place(list: &[ProgNo], place: Option<ProgNo>) -> bool
-    ensures { result ≡ (list_any (λ p. is_program p place) list.now || not (is_some place)) }
+    ensures { result ≡ is_own_place list.now place }
 {
     match place {
         None => true,
@@ -20,7 +19,7 @@ pub(crate) fn is_own_pair(
     first: Option<ProgNo>,
     second: Option<ProgNo>,
 ) -> bool
-    ensures { result ≡ (list_any (λ pair. is_same_place first pair.0 && is_same_place second pair.1) list.now || (not (is_some first) && not (is_some second))) }
+    ensures { result ≡ is_own_pair list.now first second }
 {
     (first.is_none() && second.is_none()) || list.contains(&(first, second))
 }

@@ -1,8 +1,9 @@
-ghost use Rattle.std.specs.Prelude.{◌≡◌, ◌≤◌, ◌^◌, ◌++◌, [], ◌∷◌, map, length, nat_lt, IfOk, OnOk};
+ghost use Rattle.std.specs.Prelude.{◌≡◌, ◌≤◌, ◌^◌, ◌++◌, [], ◌∷◌, length, nat_lt, IfOk, OnOk};
 ghost use Rattle.std.specs.List.Sorted.{IsNonDecreasing};
 ghost use Rattle.mt_terms.specs.Registration.Accepted.{IsRegistration};
-ghost use Rattle.mt_terms.specs.Lists.{below, count};
-ghost use Rattle.mt_terms.specs.Matching.{at, ranks_from, placed_ranks};
+ghost use Rattle.mt_terms.specs.Lists.{count};
+ghost use Rattle.mt_terms.specs.Matching.{at, ranks_from};
+ghost use Rattle.mt_verify.specs.Listed.{ranks_by_program};
 
 use mt_market::{FlatLists, Roster};
 use mt_terms::{AppNo, Match, ProgNo};
@@ -16,7 +17,8 @@ fn push_placed(
     program: ProgNo,
 ) -> Result<(), AllocError>
     requires { length ranking.now ≤ 2 ^ 32 }
-    ensures { OnOk result (lists.new ≡ lists.old ++ ranks_from 0 (at matched.now.places program) ranking.now ∷ []) }
+    ensures { let there = at matched.now.places program in
+        OnOk result (lists.new ≡ lists.old ++ ranks_from 0 there ranking.now ∷ []) }
 {
     lists.begin()?;
     for (rank, applicant) in ranking.iter().enumerate() {
@@ -34,7 +36,7 @@ pub(crate) fn placed_by_program(
     matched: &Match,
 ) -> Result<FlatLists<u32>, AllocError>
     ensures registration { OnOk result (IsRegistration roster.now) }
-    ensures placed { IfOk result (λ lists. lists ≡ map (placed_ranks roster.now.market matched.now.places) (below (length roster.now.market.programs))) }
+    ensures placed { IfOk result (λ v. v ≡ ranks_by_program roster.now.market matched.now.places) }
 {
     let mut lists = FlatLists::new(alloc);
     for number in 0..roster.programs() {

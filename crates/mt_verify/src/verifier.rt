@@ -1,13 +1,11 @@
-ghost use Rattle.std.specs.Prelude.{◌≡◌, ℕ, ◌<◌, ◌==◌, ◌&&◌, length, map, IfOk, IsFalse, is_some, not, position};
-ghost use Rattle.std.specs.List.{find};
+ghost use Rattle.std.specs.Prelude.{◌≡◌, ◌<◌, length, IfOk, is_some, position};
 ghost use Rattle.mt_terms.specs.Registration.Accepted.{IsRegistration};
-ghost use Rattle.mt_terms.specs.Lists.{below, has};
-ghost use Rattle.mt_terms.specs.Market.{agent_of, applicants, program_of};
-ghost use Rattle.mt_terms.specs.Matching.{place_of, placed_ranks};
+ghost use Rattle.mt_terms.specs.Market.{applicants};
 ghost use Rattle.mt_terms.specs.Places.{ArePlaces};
-ghost use Rattle.mt_terms.specs.Stability.{has_own_option, is_listed};
-ghost use Rattle.mt_terms.specs.Verdict.{is_over, is_unlisted, lowest_number, verdict_of};
-ghost use Rattle.mt_ranks.specs.Ranked.{ranked_of};
+ghost use Rattle.mt_terms.specs.Verdict.{is_over, is_unlisted, verdict_of};
+ghost use Rattle.mt_ranks.specs.Ranked.{rank_of, ranked_of};
+ghost use Rattle.mt_verify.specs.Judged.{AreAllowed, first_over, first_unlisted, is_listed_at, is_place_listed};
+ghost use Rattle.mt_verify.specs.Listed.{is_off_own_list, ranks_by_program};
 
 mod blocking;
 mod taken;
@@ -29,10 +27,12 @@ pub(crate) struct Verifier<'a> {
     ghost is_registration: { IsRegistration roster.now },
     ghost one_market: { ranks.now ≡ ranked_of roster.now.market },
     ghost are_places: { ArePlaces roster.now.market matched.now.places },
-    ghost placed_there: { placed ≡ map (placed_ranks roster.now.market matched.now.places) (below (length roster.now.market.programs)) },
+    ghost placed_there: { placed ≡ ranks_by_program roster.now.market matched.now.places },
 }
 
 impl<'a> Verifier<'a> {
+    ghost use Rattle.mt_verify.specs.View.{judged};
+
     /// The match beside its market. The only error is want of memory.
     pub(crate) fn new(
         alloc: Global,
@@ -56,18 +56,18 @@ impl<'a> Verifier<'a> {
 
     /// The applicant's rank on the program's list, its position from 0, where the list has it.
     fn rank(&self, program: ProgNo, applicant: AppNo) -> Option<u32>
-        requires program { program < length self.now.roster.now.market.programs }
-        requires applicant { applicant < applicants self.now.roster.now.market }
-        ensures position { result ≡ position (λ x. x == applicant) (program_of self.now.roster.now.market program).ranking }
-        ensures listed { is_some result ≡ has (program_of self.now.roster.now.market program).ranking applicant }
+        requires program { program < length (judged self.now).market.programs }
+        requires applicant { applicant < applicants (judged self.now).market }
+        ensures position { result ≡ rank_of (judged self.now).market program applicant }
+        ensures listed { is_some result ≡ is_listed_at (judged self.now) program applicant }
     {
         self.ranks.rank(program, applicant)
     }
 
     /// Whether the applicant is unplaced, or its program lists it.
     fn is_listed(&self, applicant: AppNo) -> bool
-        requires { applicant < applicants self.now.roster.now.market }
-        ensures { result ≡ is_listed self.now.roster.now.market applicant (place_of self.now.matched.now.places applicant) }
+        requires { applicant < applicants (judged self.now).market }
+        ensures { result ≡ is_place_listed (judged self.now) applicant }
     {
         match self.matched.place(applicant) {
             None => true,
@@ -78,8 +78,8 @@ impl<'a> Verifier<'a> {
     /// Whether the applicant has the lowest number of its agent, and the agent neither has an option of its
     /// list nor is unplaced.
     fn is_off_own_list(&self, applicant: AppNo) -> bool
-        requires { applicant < applicants self.now.roster.now.market }
-        ensures { result ≡ (let g = agent_of self.now.roster.now.market applicant in (lowest_number self.now.roster.now.market g == applicant) && not (has_own_option self.now.roster.now.market self.now.matched.now.places g)) }
+        requires { applicant < applicants (judged self.now).market }
+        ensures { let j = judged self.now in result ≡ is_off_own_list j.market j.places applicant }
     {
         match self.roster.agent_of(applicant) {
             Agent::Single(_) => {
@@ -103,15 +103,15 @@ impl<'a> Verifier<'a> {
     /// Whether the applicant's place isn't allowed, by its agent's list, which is reported at the agent's
     /// lowest number, or by its program's list.
     fn is_unlisted(&self, applicant: AppNo) -> bool
-        requires { applicant < applicants self.now.roster.now.market }
-        ensures { result ≡ is_unlisted self.now.roster.now.market self.now.matched.now.places applicant }
+        requires { applicant < applicants (judged self.now).market }
+        ensures { let j = judged self.now in result ≡ is_unlisted j.market j.places applicant }
     {
         self.is_off_own_list(applicant) || !self.is_listed(applicant)
     }
 
     /// The first applicant whose place isn't allowed.
     fn first_unlisted(&self) -> Option<AppNo>
-        ensures { result ≡ find (is_unlisted self.now.roster.now.market self.now.matched.now.places) (below (applicants self.now.roster.now.market)) }
+        ensures { result ≡ first_unlisted (judged self.now) }
     {
         for number in 0..self.roster.applicants() {
             if self.is_unlisted(AppNo(number)) {
@@ -123,17 +123,17 @@ impl<'a> Verifier<'a> {
 
     /// Whether more applicants are placed at the program than its quota. Each of them is on its list.
     fn is_over(&self, program: ProgNo) -> bool
-        requires within { program < length self.now.roster.now.market.programs }
-        requires listed { (a : ℕ) → a < applicants self.now.roster.now.market → IsFalse (is_unlisted self.now.roster.now.market self.now.matched.now.places a) }
-        ensures { result ≡ is_over self.now.roster.now.market self.now.matched.now.places program }
+        requires within { program < length (judged self.now).market.programs }
+        requires listed { AreAllowed (judged self.now) }
+        ensures { let j = judged self.now in result ≡ is_over j.market j.places program }
     {
         self.placed.list(program.index()).len() > self.roster.quota(program) as usize
     }
 
     /// The first program with more applicants than its quota.
     fn first_over(&self) -> Option<ProgNo>
-        requires { (a : ℕ) → a < applicants self.now.roster.now.market → IsFalse (is_unlisted self.now.roster.now.market self.now.matched.now.places a) }
-        ensures { result ≡ find (is_over self.now.roster.now.market self.now.matched.now.places) (below (length self.now.roster.now.market.programs)) }
+        requires { AreAllowed (judged self.now) }
+        ensures { result ≡ first_over (judged self.now) }
     {
         for number in 0..self.roster.programs() {
             if self.is_over(ProgNo(number)) {
@@ -145,7 +145,7 @@ impl<'a> Verifier<'a> {
 
     /// The first finding against the match, or that it is stable.
     pub(crate) fn verdict(&self) -> Verdict
-        ensures { result ≡ verdict_of self.now.roster.now.market self.now.matched.now.places }
+        ensures { let j = judged self.now in result ≡ verdict_of j.market j.places }
     {
         if let Some(applicant) = self.first_unlisted() {
             return Verdict::Unlisted(applicant);

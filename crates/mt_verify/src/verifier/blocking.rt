@@ -1,11 +1,9 @@
 ghost use Rattle.std.specs.Prelude.{◌≡◌, ◌<◌, length};
-ghost use Rattle.std.specs.List.{find, position};
-ghost use Rattle.std.specs.Option.{option_map};
-ghost use Rattle.mt_terms.specs.Market.{agents, applicants};
-ghost use Rattle.mt_terms.specs.Matching.{better};
-ghost use Rattle.mt_terms.specs.Stability.{blocks, would_be_taken};
+ghost use Rattle.mt_terms.specs.Market.{applicants};
 ghost use Rattle.mt_terms.specs.declared.numbers.Agent.TheVariants.{Couple, Single};
-ghost use Rattle.mt_verify.specs.Blocking.{blocker, blocker_led_by};
+ghost use Rattle.mt_verify.specs.Blocking.{blocker_led_by};
+ghost use Rattle.mt_verify.specs.Judged.{first_blocker, first_taken};
+ghost use Rattle.mt_verify.specs.View.{judged};
 
 use crate::verifier::Verifier;
 use mt_terms::{Agent, AppNo, Blocker, CoupleNo};
@@ -13,8 +11,8 @@ use mt_terms::{Agent, AppNo, Blocker, CoupleNo};
 impl Verifier<'_> {
     /// The place on the single's list of its first better program that would take it.
     fn first_program(&self, applicant: AppNo) -> Option<u32>
-        requires { applicant < applicants self.now.roster.now.market }
-        ensures { result ≡ position (would_be_taken self.now.roster.now.market self.now.matched.now.places) (better self.now.roster.now.market self.now.matched.now.places (Single applicant)) }
+        requires { applicant < applicants (judged self.now).market }
+        ensures { result ≡ first_taken (judged self.now) (Single applicant) }
     {
         let place = self.matched.place(applicant);
         for (option, program) in self.roster.single_list(applicant).iter().enumerate() {
@@ -30,8 +28,8 @@ impl Verifier<'_> {
 
     /// The place on the couple's list of its first better pair that would be taken.
     fn first_pair(&self, couple: CoupleNo) -> Option<u32>
-        requires { couple < length self.now.roster.now.market.couples }
-        ensures { result ≡ position (would_be_taken self.now.roster.now.market self.now.matched.now.places) (better self.now.roster.now.market self.now.matched.now.places (Couple couple)) }
+        requires { couple < length (judged self.now).market.couples }
+        ensures { result ≡ first_taken (judged self.now) (Couple couple) }
     {
         let (first, second) = self.roster.members(couple);
         let places = (self.matched.place(first), self.matched.place(second));
@@ -49,8 +47,8 @@ impl Verifier<'_> {
     /// The agent that the applicant leads, a single itself and a first member its couple, where it blocks,
     /// with the first option with which it does.
     fn blocker_led_by(&self, applicant: AppNo) -> Option<Blocker>
-        requires { applicant < applicants self.now.roster.now.market }
-        ensures { result ≡ blocker_led_by self.now.roster.now.market self.now.matched.now.places applicant }
+        requires { applicant < applicants (judged self.now).market }
+        ensures { let j = judged self.now in result ≡ blocker_led_by j.market j.places applicant }
     {
         match self.roster.agent_of(applicant) {
             Agent::Single(_) => {
@@ -76,7 +74,7 @@ impl Verifier<'_> {
     /// The first agent that blocks, by the number of the single or of the couple's first member, with the
     /// first option with which it does.
     pub(super) fn first_blocker(&self) -> Option<Blocker>
-        ensures { result ≡ option_map (blocker self.now.roster.now.market self.now.matched.now.places) (find (blocks self.now.roster.now.market self.now.matched.now.places) (agents self.now.roster.now.market)) }
+        ensures { result ≡ first_blocker (judged self.now) }
     {
         for number in 0..self.roster.applicants() {
             if let Some(blocker) = self.blocker_led_by(AppNo(number)) {

@@ -1,10 +1,9 @@
-ghost use Rattle.std.specs.Prelude.{◌≡◌, ◌≢◌, ◌<◌, length, take, IsTrue};
-ghost use Rattle.mt_terms.specs.Registration.Accepted.{is_none_or_below, is_pair_below};
+ghost use Rattle.std.specs.Prelude.{◌≡◌, ◌≢◌, ◌<◌, length, IsTrue};
+ghost use Rattle.mt_terms.specs.Registration.Accepted.{is_pair_below};
 ghost use Rattle.mt_terms.specs.Lists.{has};
-ghost use Rattle.mt_terms.specs.Market.{applicants, program_of};
-ghost use Rattle.mt_terms.specs.Matching.{at, couple_placement, send, single_placement};
-ghost use Rattle.mt_terms.specs.Stability.{is_chosen, would_be_taken};
-ghost use Rattle.mt_verify.specs.Moved.{at_moved, count_above};
+ghost use Rattle.mt_terms.specs.Market.{applicants};
+ghost use Rattle.mt_verify.specs.Judged.{count_above, count_above_moved, front, is_known, takes_member, takes_pair, takes_single};
+ghost use Rattle.mt_verify.specs.View.{judged};
 
 use crate::placed::count_below;
 use crate::verifier::Verifier;
@@ -13,17 +12,17 @@ use mt_terms::{AppNo, ProgNo};
 impl Verifier<'_> {
     /// How many of those placed at the program stand above a rank on its list.
     fn count_above(&self, program: ProgNo, rank: u32) -> usize
-        requires { program < length self.now.roster.now.market.programs }
-        ensures { result ≡ count_above self.now.roster.now.market (at self.now.matched.now.places program) program rank }
+        requires { program < length (judged self.now).market.programs }
+        ensures { result ≡ count_above (judged self.now) program rank }
     {
         count_below(self.placed.list(program.index()), rank)
     }
 
     /// Whether the applicant stands above a rank on the program's list.
     fn is_above(&self, program: ProgNo, applicant: AppNo, rank: u32) -> bool
-        requires program { program < length self.now.roster.now.market.programs }
-        requires applicant { applicant < applicants self.now.roster.now.market }
-        ensures { result ≡ has (take rank (program_of self.now.roster.now.market program).ranking) applicant }
+        requires program { program < length (judged self.now).market.programs }
+        requires applicant { applicant < applicants (judged self.now).market }
+        ensures { result ≡ has (front (judged self.now) program rank) applicant }
     {
         match self.rank(program, applicant) {
             Some(own) => own < rank,
@@ -39,9 +38,9 @@ impl Verifier<'_> {
         applicant: AppNo,
         place: Option<ProgNo>,
     ) -> usize
-        requires program { program < length self.now.roster.now.market.programs }
-        requires applicant { applicant < applicants self.now.roster.now.market }
-        ensures { result ≡ count_above self.now.roster.now.market (at_moved self.now.matched.now.places applicant place program) program rank }
+        requires program { program < length (judged self.now).market.programs }
+        requires applicant { applicant < applicants (judged self.now).market }
+        ensures { result ≡ count_above_moved (judged self.now) program rank applicant place }
     {
         let there = self.count_above(program, rank);
         if !self.is_above(program, applicant, rank) {
@@ -54,9 +53,9 @@ impl Verifier<'_> {
 
     /// Whether the program would choose the single, from those there and the single.
     pub(super) fn takes_single(&self, applicant: AppNo, program: ProgNo) -> bool
-        requires applicant { applicant < applicants self.now.roster.now.market }
-        requires program { program < length self.now.roster.now.market.programs }
-        ensures { result ≡ would_be_taken self.now.roster.now.market self.now.matched.now.places (single_placement applicant program) }
+        requires applicant { applicant < applicants (judged self.now).market }
+        requires program { program < length (judged self.now).market.programs }
+        ensures { result ≡ takes_single (judged self.now) applicant program }
     {
         match self.rank(program, applicant) {
             Some(rank) => self.count_above(program, rank) < self.roster.quota(program) as usize,
@@ -73,11 +72,11 @@ impl Verifier<'_> {
         partner: AppNo,
         partner_place: Option<ProgNo>,
     ) -> bool
-        requires member { member < applicants self.now.roster.now.market }
-        requires partner { partner < applicants self.now.roster.now.market }
+        requires member { member < applicants (judged self.now).market }
+        requires partner { partner < applicants (judged self.now).market }
         requires apart { member ≢ partner }
-        requires place { IsTrue (is_none_or_below (length self.now.roster.now.market.programs) place) }
-        ensures { result ≡ is_chosen self.now.roster.now.market (send (couple_placement member partner (place, partner_place)) self.now.matched.now.places) member place }
+        requires place { IsTrue (is_known (judged self.now) place) }
+        ensures { result ≡ takes_member (judged self.now) member place partner partner_place }
     {
         let Some(program) = place else {
             return true;
@@ -98,11 +97,11 @@ impl Verifier<'_> {
         second: AppNo,
         pair: (Option<ProgNo>, Option<ProgNo>),
     ) -> bool
-        requires first { first < applicants self.now.roster.now.market }
-        requires second { second < applicants self.now.roster.now.market }
+        requires first { first < applicants (judged self.now).market }
+        requires second { second < applicants (judged self.now).market }
         requires apart { first ≢ second }
-        requires pair { IsTrue (is_pair_below (length self.now.roster.now.market.programs) pair) }
-        ensures { result ≡ would_be_taken self.now.roster.now.market self.now.matched.now.places (couple_placement first second pair) }
+        requires pair { IsTrue (is_pair_below (length (judged self.now).market.programs) pair) }
+        ensures { result ≡ takes_pair (judged self.now) first second pair }
     {
         self.takes_member(first, pair.0, second, pair.1)
             && self.takes_member(second, pair.1, first, pair.0)
