@@ -11,7 +11,8 @@ use Rattle.mt_terms.specs.WellFormed.{IsWellFormed}
 use Rattle.mt_terms.specs.Rounds.{is_same_agent, programs_sent_to, displaced_at, displaced, move_of}
 use Rattle.mt_terms.specs.declared.numbers.Agent.{Agent}
 use Rattle.mt_round_laws.proofs.RoundsLists.{In, finds, in_has, has_in, in_image, of_image, in_kept, of_kept, in_joined, of_joined, each, all_pass}
-use Rattle.mt_round_laws.proofs.RoundsSets.{count_within, count_of_choice}
+use Rattle.mt_round_laws.proofs.RoundsSets.{count_within}
+use Rattle.mt_match_laws.proofs.FloorChoices.{count-choice}
 use Rattle.mt_match_laws.proofs.ChoiceLemmas.{choice_facts}
 use Rattle.mt_round_laws.proofs.RoundsPlaces.{is_program_some, at_none, length-send, length-unplaced, unplaced_there, unplaced_elsewhere, is_same_place_refl}
 use Rattle.mt_round_laws.proofs.RoundsAgents.{IsAgent, same_agent, on_list, of_list, agent_of_applicant, member_of_agent, option_entry, option_member, option_there, option_elsewhere, apart}
@@ -192,7 +193,7 @@ module _ {m : Market} {old : Places} {g : Agent} {sent : Placement} (mv : IsMove
         let chosen = λ (a : ℕ) (listed : has (program_of m p).ranking a ≡ true) (here : at (match_after m old sent) p a ≡ true).
         chosen_after m old sent a p (has_in p (programs_sent_to sent) i) listed here in
         let fewer = count_within (at (match_after m old sent) p) (choice (program_of m p) (at (send sent old) p)) (program_of m p).ranking chosen in
-        let few = count_of_choice (program_of m p) (at (send sent old) p) (mv.well_formed.rankings_distinct p) in
+        let few = count-choice (program_of m p) (at (send sent old) p) (mv.well_formed.rankings_distinct p) in
         omega arith
     | inr unsent ↦
         let fewer = count_within (at (match_after m old sent) p) (at old p) (program_of m p).ranking

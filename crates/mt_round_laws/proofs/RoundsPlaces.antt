@@ -1,12 +1,12 @@
 -- Who is where after an agent's members were sent and displaced applicants taken out.
-use Rattle.std.proofs.Common.{◌≡◌, ℕ, zero, suc, ◌+◌, ◌<◌, true, false, not, ◌==◌, List, [], ◌∷◌, map, length, Option, Some, None, inl, inr, refl, ap, sym, ◌∙◌, arith, is_some, slice_set, if◌then◌else◌, eq-eqb, eqb-true}
+use Rattle.std.proofs.Common.{◌≡◌, ℕ, ◌<◌, true, false, not, ◌&&◌, ◌==◌, List, [], ◌∷◌, map, length, Option, Some, None, inl, inr, refl, ap, sym, ◌∙◌, is_some, slice_set, eq-eqb, eqb-true}
 use Rattle.std.proofs.lemmas.List.{length-set, get_or-set_same, get_or-set_other, get_or_past}
-use Rattle.std.proofs.lemmas.Bool.{cases_Bool, cases_lt, and_parts, or_cases, or_parts, false≢true, false_from_ne_true, not-true}
+use Rattle.std.proofs.lemmas.Bool.{cases_Bool, cases_lt, and_parts, and_from, and_right, or_cases, or_parts, false≢true, not-true}
 use Rattle.mt_terms.specs.Lists.{has, count, is_distinct}
 use Rattle.mt_terms.specs.Matching.{Places, Placement, place_of, is_program, at, filled, is_same_place, send, holds, unplaced, none_placed}
 use Rattle.mt_round_laws.proofs.RoundsLists.{In, in_has, in_image, same_all}
-use Rattle.mt_round_laws.proofs.RoundsSets.{has_head, has_rest, other_than}
-use Rattle.mt_match_laws.proofs.ListLemmas.{count_agree}
+use Rattle.mt_match_laws.proofs.Seats.{filled_by_applicant, listed_count}
+use Rattle.mt_match_laws.proofs.Totals.{count_below-same}
 
 -- a place at a program is that program
 pub is_program_some : (p : ℕ) (v : Option ℕ) → is_program p v ≡ true → v ≡ Some p
@@ -113,38 +113,12 @@ pub is_same_place_refl : (v : Option ℕ) → is_same_place v v ≡ true
 is_same_place_refl None = refl
 is_same_place_refl (Some p) = eq-eqb p p refl
 
--- nobody is at a program where nobody is placed
-none_filled : (places : Places) (p : ℕ) → ((a : ℕ) → at places p a ≡ false) → filled places p ≡ 0
-none_filled [] p h = refl
-none_filled (v ∷ places) p h = let rest = none_filled places p (λ a. h (suc a)) in rw (h 0) (omega arith)
-
--- taking one out of a program leaves one fewer there
-filled_less : (places : Places) (p x : ℕ) → x < length places → filled places p ≡ (if at places p x then 1 else 0) + filled (slice_set places x None) p
-filled_less [] p x l = absurd (omega arith)
-filled_less (v ∷ places) p zero l = omega arith
-filled_less (v ∷ places) p (suc x) l = let rest = filled_less places p x (omega arith) in omega arith
-
--- who is at a program still, once the head is taken out, is on the rest of the list
-in_rest : (places : Places) (x : ℕ) (xs : List ℕ) (p a : ℕ) → at (slice_set places x None) p a ≡ true
-    → (at places p a ≡ true → has (x ∷ xs) a ≡ true) → has xs a ≡ true
-in_rest places x xs p a h on_list = elim (cases_Bool (x == a)) [
-  | inl same ↦ absurd (false≢true (sym (at_none (slice_set places x None) p a (none_at places x a same)) ∙ h))
-  | inr other ↦ elim (or_cases (x == a) (has xs a) (on_list (ap (is_program p) (sym (placed_elsewhere places x a None other)) ∙ h))) [
-    | inl same ↦ absurd (false≢true (sym other ∙ same))
-    | inr i ↦ i
-  ]
-]
-
 -- where everybody at a program is on a list, as many are there as of that list
 pub filled_is_count : (xs : List ℕ) (places : Places) (p : ℕ) → is_distinct xs ≡ true → ((a : ℕ) → has xs a ≡ true → a < length places)
     → ((a : ℕ) → at places p a ≡ true → has xs a ≡ true) → filled places p ≡ count (at places p) xs
-filled_is_count [] places p d within on_list = none_filled places p (λ a. false_from_ne_true (at places p a) (λ h. false≢true (on_list a h)))
-filled_is_count (x ∷ xs) places p d within on_list =
-    let apart = and_parts (not (has xs x)) (is_distinct xs) d in
-    let without_x = slice_set places x None in
-    let still = λ (a : ℕ) (h : at without_x p a ≡ true). in_rest places x xs p a h (on_list a) in
-    let rest = filled_is_count xs without_x p apart.1 (λ a i. rw (length-set places x None) (within a (has_rest x xs a i))) still in
-    let same = count_agree (at without_x p) (at places p) xs (λ a i.
-    ap (is_program p) (placed_elsewhere places x a None (other_than x a xs (not-true (has xs x) apart.0) i))) in
-    let less = filled_less places p x (within x (has_head x xs)) in
-    omega arith
+filled_is_count xs places p d within on_list =
+    filled_by_applicant places p ∙ count_below-same (at places p) (λ a. has xs a && at places p a) (length places) (λ a l. same a)
+    ∙ sym (listed_count (at places p) xs (length places) d within)
+  where
+    same : (a : ℕ) → at places p a ≡ (has xs a && at places p a)
+    same a = elim (cases_Bool (at places p a)) [ inl here ↦ here ∙ sym (and_from _ _ (on_list a here) here) | inr gone ↦ gone ∙ sym (and_right _ _ gone) ]

@@ -1,5 +1,5 @@
 -- Why an agent that was refused stays refused: at a program that nobody left there is no more room than before.
-use Rattle.std.proofs.Common.{◌≡◌, ℕ, ◌≤◌, true, false, ◌==◌, length, Some, ◌⊎◌, inl, inr, refl, ap, sym, ◌∙◌, arith, ◌<◌}
+use Rattle.std.proofs.Common.{◌≡◌, ℕ, ◌≤◌, true, false, ◌==◌, length, Some, ◌⊎◌, inl, inr, refl, ap, sym, ◌∙◌, arith}
 use Rattle.std.proofs.lemmas.Bool.{cases_Bool, true_from_ne_false, both_ways}
 use Rattle.mt_terms.specs.Lists.{has, below, above, until}
 use Rattle.mt_terms.specs.Market.{Market, applicants, program_of, members}
@@ -9,8 +9,8 @@ use Rattle.mt_terms.specs.Stability.{is_chosen}
 use Rattle.mt_terms.specs.Rounds.{is_same_agent, Move, move_of, displaced_at, is_left}
 use Rattle.mt_terms.specs.declared.numbers.Agent.{Agent}
 use Rattle.mt_round_laws.proofs.RoundsLists.{In, finds, in_below}
-use Rattle.mt_round_laws.proofs.RoundsSets.{no_fewer_above, count_shift, not_chosen}
-use Rattle.mt_match_laws.proofs.ChoiceLemmas.{choice_facts, choice_from_facts, IsChosenFrom}
+use Rattle.mt_round_laws.proofs.RoundsSets.{no_fewer_above, count_shift}
+use Rattle.mt_match_laws.proofs.ChoiceLemmas.{choice_facts, choice_from_facts}
 use Rattle.mt_round_laws.proofs.RoundsPlaces.{at_some, placed_within}
 use Rattle.mt_round_laws.proofs.RoundsAgents.{IsAgent, option_entry, option_there, option_elsewhere}
 use Rattle.mt_round_laws.proofs.RoundsMove.{IsMove, match_after, is_displaced, displaced_parts, stays_in, mover_stays, untouched, was_before, fits_after}
@@ -39,20 +39,10 @@ module _ {m : Market} {old : Places} {g : Agent} {sent : Placement} (mv : IsMove
   room_shrinks : (p : ℕ) → is_left m (move_of m old sent) p ≡ false
       → (b : ℕ) → above (at old p) (program_of m p).ranking b ≤ above (at (match_after m old sent) p) (program_of m p).ranking b
   room_shrinks p kept =
-      no_fewer_above (at old p) (at (send sent old) p) (at (match_after m old sent) p) (program_of m p).ranking (program_of m p).quota
-      (mv.fitting.within p) gone_below stays
-    where
-      gone_below : (a : ℕ) → has (program_of m p).ranking a ≡ true → at old p a ≡ true → at (match_after m old sent) p a ≡ false
-          → (program_of m p).quota ≤ above (at (send sent old) p) (program_of m p).ranking a
-      gone_below a listed was gone =
-          let d = displaced_parts m (send sent old) p a (gone_from m (move_of m old sent) p a mv.fitting.one_each kept was gone) in
-          not_chosen (program_of m p) (at (send sent old) p) a listed d.0 d.1
-
-      stays : (a : ℕ) → has (program_of m p).ranking a ≡ true → at (send sent old) p a ≡ true
-          → above (at (send sent old) p) (program_of m p).ranking a < (program_of m p).quota → at (match_after m old sent) p a ≡ true
-      stays a listed there high =
-          let facts : IsChosenFrom (program_of m p) (at (send sent old) p) a = record { is_listed = listed; is_member = there; has_few_above = high } in
-          chosen_stays p kept a (choice_from_facts (program_of m p) (at (send sent old) p) a facts)
+      no_fewer_above (program_of m p) (at old p) (at (send sent old) p) (at (match_after m old sent) p) (mv.well_formed.rankings_distinct p)
+      (mv.fitting.within p)
+      (λ a was gone. displaced_parts m (send sent old) p a (gone_from m (move_of m old sent) p a mv.fitting.one_each kept was gone))
+      (chosen_stays p kept)
 
   -- sending an agent that neither moved nor was displaced changes who is at a program as it did before
   same_shift : (h : Agent) → IsAgent m h → is_displaced m old sent h ≡ false → is_same_agent h g ≡ false
