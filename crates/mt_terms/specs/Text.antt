@@ -8,9 +8,15 @@ use Rattle.mt_terms.specs.declared.codes.TheConstants.{TOO_LARGE, TWO_MARKS, NO_
 use Rattle.mt_terms.specs.Registration.Ids.{Bytes, is_id}
 use Rattle.mt_terms.specs.declared.limits.TheConstants.{LIMITS_2}
 
+abbrev pub comma : ℕ
+comma = 44
+
+abbrev pub line_feed : ℕ
+line_feed = 10
+
 -- a line: its fields with commas between them, and a line feed
 abbrev pub line : List (List ℕ) → List ℕ
-line fields = join_with_byte 44 fields ++ 10 ∷ []
+line fields = join_with_byte comma fields ++ line_feed ∷ []
 
 -- the id of a number
 abbrev pub name_of : List (List ℕ) → ℕ → List ℕ
@@ -115,10 +121,10 @@ refused code row id = line (refusal_fields code row id)
 
 -- a text cut at its line feeds, and a line cut at its commas
 abbrev pub lines_of : List ℕ → List (List ℕ)
-lines_of text = slice_split (λ byte. byte == 10) text
+lines_of text = slice_split (λ byte. byte == line_feed) text
 
 abbrev pub fields_of : List ℕ → List (List ℕ)
-fields_of line = slice_split (λ byte. byte == 44) line
+fields_of line = slice_split (λ byte. byte == comma) line
 
 -- a line that tells an applicant's place
 abbrev pub is_applicant_line : List ℕ → Bool
