@@ -12,7 +12,7 @@ use Rattle.mt_roster.specs.declared.register.Register.{Register}
 use Rattle.mt_roster.specs.Registers.{records_seen, AreFew, AreBounded, IsRegister}
 use Rattle.mt_roster.specs.Passes.{Reads, ReadsAt, GivesRegister}
 use Rattle.mt_roster.specs.Refusals.{Refuses}
-use Rattle.mt_terms.specs.Registration.Faults.{Charge, Fault, charge, fault_at}
+use Rattle.mt_terms.specs.Registration.Faults.{Charge, Fault, charge}
 use Rattle.mt_terms.specs.declared.codes.TheConstants.{DUPLICATE_ID}
 use Rattle.mt_terms.specs.Registration.Records.{Rules, Record, OfProgram, OfCouple, record_of}
 use Rattle.mt_terms.specs.Registration.Rows.{ids_of, applicant_ids, entry_count}

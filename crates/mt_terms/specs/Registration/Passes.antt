@@ -1,7 +1,7 @@
 -- The two passes over the records of a file, each of which ends at its first fault. (This project's own format.)
 use Rattle.std.specs.Prelude.{ℕ, ◌+◌, Bool, not, ◌||◌, ◌&&◌, nat_lt, List, [], ◌∷◌, ◌++◌, map, length, find, flat_map, Option, Some, None, option_map, option_to_list, Result, Ok, Err, bytes_eq}
 use Rattle.std.specs.Bool.{then_some}
-use Rattle.std.specs.Option.{option_eq, option_map_or}
+use Rattle.std.specs.Option.{option_eq}
 use Rattle.mt_terms.specs.declared.limits.Limits.{Limits}
 use Rattle.mt_terms.specs.Registration.Ids.{Bytes, has_id, all_differ}
 use Rattle.mt_terms.specs.Registration.Faults.{Fault, Charge, charge, fault_at}

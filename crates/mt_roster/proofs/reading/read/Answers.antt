@@ -1,4 +1,4 @@
-use Rattle.std.proofs.Common.{ap, sym, ◌∙◌, Ok, Err}
+use Rattle.std.proofs.Common.{ap, sym, ◌∙◌, Ok}
 use Rattle.std.specs.Prelude.{option_map}
 use Rattle.mt_terms.specs.Registration.Passes.{unless}
 use Rattle.mt_terms.specs.Registration.Numbering.{registered}
