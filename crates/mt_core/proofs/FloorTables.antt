@@ -14,7 +14,7 @@ use Rattle.mt_hold.specs.Laws.{IsHoldingOf}
 use Rattle.mt_hold.proofs.Lists.{held_is_choice, receive_adds_one, count_is_size}
 use Rattle.mt_ranks.specs.Ranked.{IsRank, rank_of}
 use Rattle.mt_ranks.proofs.Positions.{has-position, IsRank-from_position}
-use Rattle.mt_core.specs.Floors.{Tables, hold_of, received_by, floor_of, IsOpenedWith, entered}
+use Rattle.mt_core.specs.Floors.{Tables, hold_of, received_by, floor_of, IsOpenedWith, entered, unseated}
 use Rattle.mt_core.proofs.RankFacts.{position_at}
 
 -- floors that agree at each number are the same
@@ -159,10 +159,10 @@ entered_floor m t a p r o can =
 
 -- the tables after a notice show the floor after it
 pub unseated_floor : (m : Market) (t : Tables) (a : ℕ) → IsOpenedWith m t → a < applicants m
-    → floor_of m (record t { standing = set t.standing a false }) ≡ record (floor_of m t) { standing = without (floor_of m t).standing a }
+    → floor_of m (unseated t a) ≡ record (floor_of m t) { standing = without (floor_of m t).standing a }
 unfolding floor_of
 unseated_floor m t a o low =
-    same_floor (floor_of m (record t { standing = set t.standing a false })) (record (floor_of m t) { standing = without (floor_of m t).standing a })
+    same_floor (floor_of m (unseated t a)) (record (floor_of m t) { standing = without (floor_of m t).standing a })
     (λ b. refl)
     (λ b. set_cases t.standing a false false (omega (arith, o.standing)) b ∙ by_test (b == a) (get_or t.standing b false))
     (λ q b. refl)
@@ -171,5 +171,5 @@ unseated_floor m t a o low =
     by_test true y = refl
     by_test false y = refl
 
-pub unseated_opened : (m : Market) (t : Tables) (a : ℕ) → IsOpenedWith m t → IsOpenedWith m (record t { standing = set t.standing a false })
+pub unseated_opened : (m : Market) (t : Tables) (a : ℕ) → IsOpenedWith m t → IsOpenedWith m (unseated t a)
 unseated_opened m t a o = record { made = o.made; standing = length-set t.standing a false ∙ o.standing; holds = o.holds; quotas = o.quotas; lists = o.lists }

@@ -9,12 +9,12 @@ use Rattle.mt_terms.specs.Floor.{opening}
 use Rattle.mt_terms.proofs.BelowFacts.{length-map_below, map_below_at}
 use Rattle.mt_hold.specs.Holding.{Holding, has_received, opened}
 use Rattle.mt_ranks.specs.Ranked.{rank_of}
-use Rattle.mt_core.specs.Floors.{Tables, hold_of, floor_of, IsOpenedWith, opened_for}
+use Rattle.mt_core.specs.Floors.{Tables, hold_of, floor_of, IsOpenedWith, opened_for, all_opened}
 use Rattle.mt_core.proofs.FloorTables.{same_floor}
 
 -- the tables of a market before any event
 abbrev pub opened_tables : Market → Tables
-opened_tables m = record { made = replicate (applicants m) 0; standing = replicate (applicants m) false; holds = map (opened_for m) (below (length m.programs)) }
+opened_tables m = record { made = replicate (applicants m) 0; standing = replicate (applicants m) false; holds = all_opened m }
 
 -- a list of one value has it everywhere, and as the default past its end
 same_everywhere : {X : Type 0} (n k : ℕ) (x : X) → get_or (replicate n x) k x ≡ x
@@ -56,7 +56,7 @@ opened_floor m =
     by_rank p (Some k) = same_everywhere (length (program_of m p).ranking) k false
 
 pub tables_from : (m : Market) {made : List ℕ} {standing : List Bool} {holds : List Holding} → made ≡ replicate (applicants m) 0 → standing ≡ replicate (applicants m) false
-    → holds ≡ map (opened_for m) (below (length m.programs)) → ◌≡◌ {A = Tables} (record { made = made; standing = standing; holds = holds }) (opened_tables m)
+    → holds ≡ all_opened m → ◌≡◌ {A = Tables} (record { made = made; standing = standing; holds = holds }) (opened_tables m)
 tables_from m {made} {standing} {holds} same_made same_standing same_holds =
     ap {B = Tables} (λ x. record { made = x; standing = standing; holds = holds }) same_made
     ∙ ap {B = Tables} (λ x. record { made = replicate (applicants m) 0; standing = x; holds = holds }) same_standing

@@ -14,12 +14,17 @@ pub record IsReached (m : Market) (old new : Floor) (proposals : ℕ) : Type 0 w
   pub floor : new ≡ after_all m old events
   pub count : proposals ≡ due_proposals m old events
 
+-- at most one applicant was displaced, the one that the reply names
+abbrev pub NamesDisplaced : Market → Floor → Floor → Reply → Type 0
+NamesDisplaced m old new answer =
+    (b p : ℕ) → IsTrue (held m old p b) → IsFalse (held m new p b) → answer ≡ KeptInstead b
+
 -- An applicant's notice and then its proposal, each where it is due, with the reply to the proposal: at most one
 -- applicant was displaced, the one that the reply names.
 pub record IsStep (m : Market) (old new : Floor) (a : ℕ) (answer : Reply) : Type 0 where
   pub floor : new ≡ after m (after m old (Notice a)) (Propose a)
   pub reply : answer ≡ reply_of m (after m old (Notice a)) (Propose a)
-  pub displaced : (b p : ℕ) → IsTrue (held m old p b) → IsFalse (held m new p b) → answer ≡ KeptInstead b
+  pub displaced : NamesDisplaced m old new answer
 
 -- no event is due for any applicant below n
 abbrev pub AreSettled : Market → Floor → ℕ → Type 0

@@ -1,7 +1,7 @@
 -- How a floor is kept, and which floor of a market that is.
-use Rattle.std.specs.Prelude.{◌≡◌, ℕ, ◌+◌, Bool, false, List, length, slice_index_or, slice_set}
+use Rattle.std.specs.Prelude.{◌≡◌, ℕ, ◌+◌, Bool, false, List, length, map, slice_index_or, slice_set}
 use Rattle.std.specs.Option.{option_map_or}
-use Rattle.mt_terms.specs.Lists.{Set}
+use Rattle.mt_terms.specs.Lists.{Set, below}
 use Rattle.mt_terms.specs.Market.{Market, applicants, program_of}
 use Rattle.mt_terms.specs.Floor.{Floor}
 use Rattle.mt_hold.specs.Holding.{Holding, ranks, has_received, held, opened, receive}
@@ -41,6 +41,14 @@ pub record IsOpenedWith (m : Market) (t : Tables) : Type 0 where
 -- the holding of a program of a market before it has received anybody
 abbrev pub opened_for : Market → ℕ → Holding
 opened_for m p = opened (program_of m p).quota (length (program_of m p).ranking)
+
+-- the holdings of all programs of a market before they have received anybody
+abbrev pub all_opened : Market → List Holding
+all_opened m = map (opened_for m) (below (length m.programs))
+
+-- the tables with an applicant that stands no longer
+abbrev pub unseated : Tables → ℕ → Tables
+unseated t a = record t { standing = slice_set t.standing a false }
 
 -- the tables after an applicant's proposal to a program on whose list it has this rank
 abbrev pub entered : Tables → ℕ → ℕ → ℕ → Tables

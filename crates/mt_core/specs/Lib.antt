@@ -1,4 +1,6 @@
+pub mod Calls
 pub mod Ends
+pub mod Entries
 pub mod Examples
 pub mod Floors
 pub mod FloorsView

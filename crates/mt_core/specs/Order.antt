@@ -16,4 +16,5 @@ pub record IsEndOf (m : Market) (events : List Event) (t : Tables) : Type 0 wher
 abbrev pub OrderFree : Type 0
 OrderFree =
     (r : Ranked) → IsRanked r → (es fs : List Event) (s t : Tables)
-    → IsEndOf r.market es s → IsEndOf r.market fs t → EndAlike r.market (floor_of r.market s) (floor_of r.market t)
+    → IsEndOf r.market es s → IsEndOf r.market fs t
+    → EndAlike r.market (floor_of r.market s) (floor_of r.market t)

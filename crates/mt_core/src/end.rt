@@ -2,8 +2,9 @@ ghost use Rattle.std.specs.Prelude.{◌≡◌, ◌<◌, IfOk, IsTrue};
 ghost use Rattle.mt_terms.specs.Market.{applicants};
 ghost use Rattle.mt_terms.specs.Best.{IsBest};
 ghost use Rattle.mt_terms.specs.Floor.{IsRecorded, IsLegal, is_settled, is_quiet};
-ghost use Rattle.mt_terms.specs.Floor.{place_on, result_of, HasProposalsOf};
+ghost use Rattle.mt_terms.specs.Floor.{place_on, HasProposalsOf};
 ghost use Rattle.mt_ranks.specs.Ranked.{IsRanked};
+ghost use Rattle.mt_core.specs.Calls.{result_on};
 ghost use Rattle.mt_core.specs.Floors.{floor_of, IsOpenedWith};
 
 use crate::floor::{Floor, made};
@@ -53,8 +54,9 @@ fn place(floor: &Floor, ranks: &Ranks, applicant: AppNo) -> Option<ProgNo>
 pub fn result(alloc: Global, floor: &Floor, ranks: &Ranks) -> Result<Match, AllocError>
     requires opened { IsOpenedWith ranks.now.market floor.now }
     requires quiet { IsTrue (is_quiet ranks.now.market (floor_of ranks.now.market floor.now)) }
-    ensures places { let m = ranks.now.market in IfOk result (λ found. found.places ≡ result_of m (floor_of m floor.now)) }
-    ensures best { let m = ranks.now.market in IsLegal m (floor_of m floor.now) → IfOk result (λ found. IsBest m found.places) }
+    ensures places { IfOk result (λ found. found.places ≡ result_on ranks.now.market floor.now) }
+    ensures best { let m = ranks.now.market in IsLegal m (floor_of m floor.now)
+        → IfOk result (λ found. IsBest m found.places) }
     ensures proposals { let m = ranks.now.market in IsRecorded m (floor_of m floor.now)
         → IfOk result (λ found. HasProposalsOf m (floor_of m floor.now) found.places) }
 {

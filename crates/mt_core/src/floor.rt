@@ -1,10 +1,10 @@
-ghost use Rattle.std.specs.Prelude.{◌≡◌, ◌↔◌, ◌+◌, ◌<◌, ◌^◌, ℕ, false, length, map, IfOk, IsTrue, IsFalse, slice_index, slice_index_or, slice_set};
-ghost use Rattle.mt_terms.specs.Lists.{below, count_below};
+ghost use Rattle.std.specs.Prelude.{◌≡◌, ◌↔◌, ◌+◌, ◌<◌, ◌^◌, ℕ, false, length, IfOk, IsTrue, IsFalse, slice_index, slice_index_or};
+ghost use Rattle.mt_terms.specs.Lists.{count_below};
 ghost use Rattle.mt_terms.specs.Market.{Market, applicants};
 ghost use Rattle.mt_terms.specs.Floor.{opening, IsStrict};
 ghost use Rattle.mt_terms.specs.WellFormed.{IsWellFormed};
 ghost use Rattle.mt_hold.specs.Holding.{ranks, has_received, held, receive};
-ghost use Rattle.mt_core.specs.Floors.{hold_of, floor_of, opened_for, IsOpenedWith, entered};
+ghost use Rattle.mt_core.specs.Floors.{hold_of, all_opened, entered, floor_of, IsOpenedWith, unseated};
 
 use mt_hold::{Hold, Taken};
 use mt_ranks::Ranks;
@@ -34,7 +34,7 @@ impl Model for Floor {
 
 // For each program a holding that has received nothing.
 fn opened_holds(alloc: Global, ranks: &Ranks) -> Result<Vec<Hold>, AllocError>
-    ensures { let m = ranks.now.market in IfOk result (λ holds. holds.items ≡ map (opened_for m) (below (length m.programs))) }
+    ensures { IfOk result (λ holds. holds.items ≡ all_opened ranks.now.market) }
 {
     let mut holds = Vec::with_capacity(alloc, ranks.programs() as usize)?;
     for program in 0..ranks.programs() {
@@ -51,7 +51,7 @@ impl Floor {
     pub fn open(alloc: Global, ranks: &Ranks) -> Result<Floor, AllocError>
         ensures opened { IfOk result (λ floor. IsOpenedWith ranks.now.market floor) }
         ensures opening { IfOk result (λ floor. floor_of ranks.now.market floor ≡ opening) }
-        ensures strict { IfOk result (λ floor. IsStrict ranks.now.market (floor_of ranks.now.market floor)) }
+        ensures strict { let m = ranks.now.market in IfOk result (λ f. IsStrict m (floor_of m f)) }
     {
         let applicants = ranks.applicants() as usize;
         let made = vec![in alloc; 0; applicants]?;
@@ -104,7 +104,7 @@ impl Floor {
     /// The applicant stands no longer.
     pub(crate) fn unseat(&mut self, applicant: AppNo)
         requires { applicant < length self.old.standing }
-        ensures { self.new ≡ record self.old { standing = slice_set self.old.standing applicant false } }
+        ensures { self.new ≡ unseated self.old applicant }
     {
         self.standing[applicant.index()] = false;
     }

@@ -1,10 +1,10 @@
 ghost use Rattle.std.specs.Prelude.{◌≡◌, ℕ, ◌+◌, ◌*◌, ◌≤◌, ◌<◌, IsTrue};
 ghost use Rattle.mt_terms.specs.Market.{applicants, live_entries};
-ghost use Rattle.mt_terms.specs.Floor.{IsRecorded, IsLegal, IsStrict, after_all, due_count, is_quiet};
+ghost use Rattle.mt_terms.specs.Floor.{IsRecorded, is_quiet};
 ghost use Rattle.mt_terms.specs.Floor.{proposals_made};
 ghost use Rattle.mt_ranks.specs.Ranked.{IsRanked};
 ghost use Rattle.mt_core.specs.Floors.{floor_of, IsOpenedWith};
-ghost use Rattle.mt_core.specs.Ends.{IsReached, IsStep, AreSettled, AreSettledBut};
+ghost use Rattle.mt_core.specs.Calls.{due_count_on, IsAfterAll, IsLedOn, IsOneStepOn, Settles, StaysLegal, StaysStrict};
 
 use crate::floor::Floor;
 use crate::step::{apply, notice, propose};
@@ -15,13 +15,13 @@ use mt_terms::{AppNo, Event, Reply};
 pub fn run(floor: &mut Floor, ranks: &Ranks, events: &[Event]) -> u64
     requires opened { IsOpenedWith ranks.now.market floor.old }
     requires recorded { IsRecorded ranks.now.market (floor_of ranks.now.market floor.old) }
-    ensures floor { let m = ranks.now.market in floor_of m floor.new ≡ after_all m (floor_of m floor.old) events.now }
-    ensures count { let m = ranks.now.market in result ≡ due_count m (floor_of m floor.old) events.now }
+    ensures floor { IsAfterAll ranks.now.market floor.old floor.new events.now }
+    ensures count { result ≡ due_count_on ranks.now.market floor.old events.now }
     ensures at_most { result ≤ 2 * live_entries ranks.now.market }
     ensures opened { IsOpenedWith ranks.now.market floor.new }
     ensures recorded { IsRecorded ranks.now.market (floor_of ranks.now.market floor.new) }
-    ensures legal { let m = ranks.now.market in IsLegal m (floor_of m floor.old) → IsLegal m (floor_of m floor.new) }
-    ensures strict { let m = ranks.now.market in IsStrict m (floor_of m floor.old) → IsStrict m (floor_of m floor.new) }
+    ensures legal { StaysLegal ranks.now.market floor.old floor.new }
+    ensures strict { StaysStrict ranks.now.market floor.old floor.new }
 {
     let mut due = 0;
     for event in events {
@@ -38,7 +38,7 @@ fn go_on(floor: &mut Floor, ranks: &Ranks, applicant: AppNo) -> Reply
     requires recorded { IsRecorded ranks.now.market (floor_of ranks.now.market floor.old) }
     requires ranked { IsRanked ranks.now }
     requires applicant { applicant < applicants ranks.now.market }
-    ensures step { let m = ranks.now.market in IsStep m (floor_of m floor.old) (floor_of m floor.new) applicant result }
+    ensures step { IsOneStepOn ranks.now.market floor.old floor.new applicant result }
     ensures opened { IsOpenedWith ranks.now.market floor.new }
 {
     notice(floor, ranks, applicant);
@@ -52,9 +52,8 @@ fn settle(floor: &mut Floor, ranks: &Ranks, first: AppNo) -> u64
     requires recorded { IsRecorded ranks.now.market (floor_of ranks.now.market floor.old) }
     requires ranked { IsRanked ranks.now }
     requires first { first < applicants ranks.now.market }
-    ensures reached { let m = ranks.now.market in IsReached m (floor_of m floor.old) (floor_of m floor.new) result }
-    ensures settled { let m = ranks.now.market in (n : ℕ) → AreSettledBut m (floor_of m floor.old) n first
-        → AreSettled m (floor_of m floor.new) n }
+    ensures reached { IsLedOn ranks.now.market floor.old floor.new result }
+    ensures settled { Settles ranks.now.market floor.old floor.new first }
     ensures opened { IsOpenedWith ranks.now.market floor.new }
     ensures recorded { IsRecorded ranks.now.market (floor_of ranks.now.market floor.new) }
 {
@@ -76,14 +75,14 @@ pub fn finish(floor: &mut Floor, ranks: &Ranks) -> u64
     requires opened { IsOpenedWith ranks.now.market floor.old }
     requires recorded { IsRecorded ranks.now.market (floor_of ranks.now.market floor.old) }
     ensures quiet { let m = ranks.now.market in IsTrue (is_quiet m (floor_of m floor.new)) }
-    ensures reached { let m = ranks.now.market in IsReached m (floor_of m floor.old) (floor_of m floor.new) result }
+    ensures reached { IsLedOn ranks.now.market floor.old floor.new result }
     ensures rises { let m = ranks.now.market in
         proposals_made m (floor_of m floor.new) ≡ proposals_made m (floor_of m floor.old) + result }
     ensures at_most { result ≤ live_entries ranks.now.market }
     ensures opened { IsOpenedWith ranks.now.market floor.new }
     ensures recorded { IsRecorded ranks.now.market (floor_of ranks.now.market floor.new) }
-    ensures legal { let m = ranks.now.market in IsLegal m (floor_of m floor.old) → IsLegal m (floor_of m floor.new) }
-    ensures strict { let m = ranks.now.market in IsStrict m (floor_of m floor.old) → IsStrict m (floor_of m floor.new) }
+    ensures legal { StaysLegal ranks.now.market floor.old floor.new }
+    ensures strict { StaysStrict ranks.now.market floor.old floor.new }
 {
     let mut proposals = 0;
     for applicant in 0..ranks.applicants() {

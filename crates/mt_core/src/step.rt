@@ -1,10 +1,12 @@
-ghost use Rattle.std.specs.Prelude.{◌≡◌, ℕ, ◌<◌, IsTrue, IsFalse, length, slice_get};
-ghost use Rattle.std.specs.Option.{option_map};
-ghost use Rattle.mt_terms.specs.Market.{applicants, program_of, live};
-ghost use Rattle.mt_terms.specs.Floor.{held, last_tried, next_entry, is_held_by, IsRecorded, IsLegal, IsStrict, is_due, after, reply_of};
-ghost use Rattle.mt_ranks.specs.Ranked.{IsRanked, ranked_entry};
+ghost use Rattle.std.specs.Prelude.{◌≡◌, ◌<◌, length};
+ghost use Rattle.mt_terms.specs.Market.{applicants, program_of};
+ghost use Rattle.mt_terms.specs.Floor.{last_tried, next_entry, is_held_by, IsRecorded, reply_of};
+ghost use Rattle.mt_ranks.specs.Ranked.{IsRanked};
+ghost use Rattle.mt_core.specs.Calls.{is_due_on, IsAfter, StaysLegal, StaysStrict};
+ghost use Rattle.mt_core.specs.Ends.{NamesDisplaced};
+ghost use Rattle.mt_core.specs.Entries.{entry_of, live_entry};
 ghost use Rattle.mt_core.specs.Floors.{floor_of, IsOpenedWith};
-ghost use Rattle.mt_core.specs.Replies.{reply_from};
+ghost use Rattle.mt_core.specs.Replies.{reply_from, IsAnswerOn};
 
 use crate::floor::{Floor, made};
 use mt_hold::Taken;
@@ -15,7 +17,7 @@ use mt_terms::{AppNo, Event, ProgNo, Reply};
 fn entry_at(ranks: &Ranks, applicant: AppNo, place: u32) -> Option<Live>
     requires ranked { IsRanked ranks.now }
     requires applicant { applicant < applicants ranks.now.market }
-    ensures { let m = ranks.now.market in result ≡ option_map (ranked_entry m applicant) (slice_get (live m applicant) place) }
+    ensures { result ≡ live_entry ranks.now.market applicant place }
 {
     ranks.live(applicant).get(place as usize).copied()
 }
@@ -26,7 +28,7 @@ pub(crate) fn last_tried(floor: &Floor, ranks: &Ranks, applicant: AppNo) -> Opti
     requires ranked { IsRanked ranks.now }
     requires applicant { applicant < applicants ranks.now.market }
     ensures { let m = ranks.now.market in
-        result ≡ option_map (ranked_entry m applicant) (last_tried m (floor_of m floor.now) applicant) }
+        result ≡ entry_of m applicant (last_tried m (floor_of m floor.now) applicant) }
 {
     let place = made(floor, applicant).checked_sub(1)?;
     entry_at(ranks, applicant, place)
@@ -38,7 +40,7 @@ fn next_entry(floor: &Floor, ranks: &Ranks, applicant: AppNo) -> Option<Live>
     requires ranked { IsRanked ranks.now }
     requires applicant { applicant < applicants ranks.now.market }
     ensures { let m = ranks.now.market in
-        result ≡ option_map (ranked_entry m applicant) (next_entry m (floor_of m floor.now) applicant) }
+        result ≡ entry_of m applicant (next_entry m (floor_of m floor.now) applicant) }
 {
     if floor.stands(applicant) {
         return None;
@@ -65,7 +67,7 @@ fn is_dropped(floor: &Floor, ranks: &Ranks, applicant: AppNo) -> bool
     requires opened { IsOpenedWith ranks.now.market floor.now }
     requires ranked { IsRanked ranks.now }
     requires applicant { applicant < applicants ranks.now.market }
-    ensures { let m = ranks.now.market in result ≡ is_due m (floor_of m floor.now) (Event.Notice applicant) }
+    ensures { result ≡ is_due_on ranks.now.market floor.now (Event.Notice applicant) }
 {
     floor.stands(applicant) && !is_held(floor, ranks, applicant)
 }
@@ -75,8 +77,7 @@ pub(crate) fn notice(floor: &mut Floor, ranks: &Ranks, applicant: AppNo) -> Repl
     requires opened { IsOpenedWith ranks.now.market floor.old }
     requires ranked { IsRanked ranks.now }
     requires applicant { applicant < applicants ranks.now.market }
-    ensures floor { let m = ranks.now.market in
-        floor_of m floor.new ≡ after m (floor_of m floor.old) (Event.Notice applicant) }
+    ensures floor { IsAfter ranks.now.market floor.old floor.new (Event.Notice applicant) }
     ensures reply { let m = ranks.now.market in
         result ≡ reply_of m (floor_of m floor.old) (Event.Notice applicant) }
     ensures not_due { result ≡ Reply.NotDue → floor.new ≡ floor.old }
@@ -92,7 +93,7 @@ pub(crate) fn notice(floor: &mut Floor, ranks: &Ranks, applicant: AppNo) -> Repl
 /// The reply to a proposal to the program, by what became of it there.
 fn reply_at(ranks: &Ranks, program: ProgNo, taken: Taken) -> Reply
     requires program { program < length ranks.now.market.programs }
-    requires rank { (rank : ℕ) → taken ≡ Taken.KeptInstead rank → rank < length (program_of ranks.now.market program).ranking }
+    requires rank { IsAnswerOn (program_of ranks.now.market program).ranking taken }
     ensures { result ≡ reply_from (program_of ranks.now.market program).ranking taken }
 {
     match taken {
@@ -108,15 +109,14 @@ pub(crate) fn propose(floor: &mut Floor, ranks: &Ranks, applicant: AppNo) -> Rep
     requires recorded { IsRecorded ranks.now.market (floor_of ranks.now.market floor.old) }
     requires ranked { IsRanked ranks.now }
     requires applicant { applicant < applicants ranks.now.market }
-    ensures floor { let m = ranks.now.market in
-        floor_of m floor.new ≡ after m (floor_of m floor.old) (Event.Propose applicant) }
+    ensures floor { IsAfter ranks.now.market floor.old floor.new (Event.Propose applicant) }
     ensures reply { let m = ranks.now.market in
         result ≡ reply_of m (floor_of m floor.old) (Event.Propose applicant) }
     ensures not_due { result ≡ Reply.NotDue → floor.new ≡ floor.old }
 
     // At most one applicant was displaced, the one that the reply names.
-    ensures displaced { let m = ranks.now.market in (b p : ℕ) → IsTrue (held m (floor_of m floor.old) p b)
-        → IsFalse (held m (floor_of m floor.new) p b) → result ≡ Reply.KeptInstead b }
+    ensures displaced { let m = ranks.now.market in
+        NamesDisplaced m (floor_of m floor.old) (floor_of m floor.new) result }
     ensures opened { IsOpenedWith ranks.now.market floor.new }
 {
     let Some(entry) = next_entry(floor, ranks, applicant) else {
@@ -131,13 +131,13 @@ pub(crate) fn propose(floor: &mut Floor, ranks: &Ranks, applicant: AppNo) -> Rep
 pub fn apply(floor: &mut Floor, ranks: &Ranks, event: Event) -> Reply
     requires opened { IsOpenedWith ranks.now.market floor.old }
     requires recorded { IsRecorded ranks.now.market (floor_of ranks.now.market floor.old) }
-    ensures floor { let m = ranks.now.market in floor_of m floor.new ≡ after m (floor_of m floor.old) event }
+    ensures floor { IsAfter ranks.now.market floor.old floor.new event }
     ensures reply { let m = ranks.now.market in result ≡ reply_of m (floor_of m floor.old) event }
     ensures not_due { result ≡ Reply.NotDue → floor.new ≡ floor.old }
     ensures opened { IsOpenedWith ranks.now.market floor.new }
     ensures recorded { IsRecorded ranks.now.market (floor_of ranks.now.market floor.new) }
-    ensures legal { let m = ranks.now.market in IsLegal m (floor_of m floor.old) → IsLegal m (floor_of m floor.new) }
-    ensures strict { let m = ranks.now.market in IsStrict m (floor_of m floor.old) → IsStrict m (floor_of m floor.new) }
+    ensures legal { StaysLegal ranks.now.market floor.old floor.new }
+    ensures strict { StaysStrict ranks.now.market floor.old floor.new }
 {
     let applicants = ranks.applicants();
     match event {

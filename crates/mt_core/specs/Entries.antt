@@ -1,0 +1,14 @@
+-- Programs of live lists, with the applicant's rank there.
+use Rattle.std.specs.Prelude.{ℕ, Option, slice_get}
+use Rattle.std.specs.Option.{option_map}
+use Rattle.mt_terms.specs.Market.{Market, live}
+use Rattle.mt_ranks.specs.Ranked.{ranked_entry}
+use Rattle.mt_ranks.specs.declared.entries.Live.{Live}
+
+-- a program, if there is one, with the applicant's rank there
+abbrev pub entry_of : Market → ℕ → Option ℕ → Option Live
+entry_of m a program = option_map (ranked_entry m a) program
+
+-- the entry at a place of an applicant's live list
+abbrev pub live_entry : Market → ℕ → ℕ → Option Live
+live_entry m a place = entry_of m a (slice_get (live m a) place)
