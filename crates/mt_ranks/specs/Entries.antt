@@ -1,5 +1,5 @@
 -- The programs that list an applicant, with the applicant's rank on each list.
-use Rattle.std.specs.Prelude.{ℕ, ◌+◌, ◌≤◌, ◌<◌, ◌==◌, List, [], ◌∷◌, ◌++◌, Option, Some, None, IsTrue, slice_index_or, if◌then◌else◌}
+use Rattle.std.specs.Prelude.{◌≡◌, ℕ, ◌+◌, ◌≤◌, ◌<◌, ◌^◌, ◌==◌, List, [], ◌∷◌, ◌++◌, length, Option, Some, None, IsTrue, slice_index, slice_index_or, if◌then◌else◌}
 use Rattle.std.specs.List.{filter_map}
 use Rattle.std.specs.Option.{option_map}
 use Rattle.mt_terms.specs.Lists.{has, count, is_distinct}
@@ -8,17 +8,32 @@ use Rattle.mt_ranks.specs.declared.entries.Live.{Live}
 -- the places of an applicant on the rest of a program's list, which begins at this rank
 abbrev pub entries_in : ℕ → ℕ → List ℕ → ℕ → List Live
 entries_in p rank [] a = []
-entries_in p rank (x ∷ xs) a = if x == a then (record { program = p; rank = rank } ∷ entries_in p (rank + 1) xs a) else entries_in p (rank + 1) xs a
+entries_in p rank (x ∷ xs) a =
+    let rest = entries_in p (rank + 1) xs a in
+    if x == a then (record { program = p; rank = rank } ∷ rest) else rest
 
 -- the places of an applicant on these programs' lists, in the programs' order from a number on
 abbrev pub entries_from : ℕ → List (List ℕ) → ℕ → List Live
 entries_from p [] a = []
 entries_from p (ranking ∷ rankings) a = entries_in p 0 ranking a ++ entries_from (p + 1) rankings a
 
--- how often these lists have an applicant
+-- how often a list has an applicant, and how often lists have it together
+abbrev pub times_in : List ℕ → ℕ → ℕ
+times_in ranking a = count (λ x. x == a) ranking
+
 abbrev pub times_listed : List (List ℕ) → ℕ → ℕ
 times_listed [] a = 0
-times_listed (ranking ∷ rankings) a = count (λ x. x == a) ranking + times_listed rankings a
+times_listed (ranking ∷ rankings) a = times_in ranking a + times_listed rankings a
+
+-- there is room to add to each applicant's count how often a list has it
+abbrev pub CanBeCounted : List ℕ → List ℕ → Type 0
+CanBeCounted counts ranking =
+    (a : ℕ) → a < length counts → slice_index counts a + times_in ranking a < 2 ^ 64
+
+-- that is added
+abbrev pub IsCounted : List ℕ → List ℕ → List ℕ → Type 0
+IsCounted old new ranking =
+    (a : ℕ) → a < length old → slice_index new a ≡ slice_index old a + times_in ranking a
 
 -- the rank at a program, among entries
 abbrev pub rank_among : List Live → ℕ → Option ℕ

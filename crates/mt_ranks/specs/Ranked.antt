@@ -24,17 +24,29 @@ pub record Ranked : Type 0 where
   pub market : Market
   pub singles : List Bool
 
+-- for each applicant of a market whether it is a single
+abbrev pub single_flags : Market → List Bool
+single_flags m = map (is_single m) (below (applicants m))
+
 -- the rank tables of a market: the singles' market with live lists alone, and who is a single in the market
 abbrev pub ranked_of : Market → Ranked
-ranked_of m = record { market = live_market m; singles = map (is_single m) (below (applicants m)) }
+ranked_of m = record { market = live_market m; singles = single_flags m }
+
+-- a program's list
+abbrev pub ranking_of : Market → ℕ → List ℕ
+ranking_of m p = (program_of m p).ranking
 
 -- an applicant's rank on a program's list: its position from 0, where the list has it
 abbrev pub rank_of : Market → ℕ → ℕ → Option ℕ
-rank_of m p a = position (λ x. x == a) (program_of m p).ranking
+rank_of m p a = position (λ x. x == a) (ranking_of m p)
 
 -- a program that has the applicant on its list, with the applicant's rank there
 abbrev pub ranked_entry : Market → ℕ → ℕ → Live
 ranked_entry m a p = record { program = p; rank = unwrap_or (rank_of m p a) 0 }
+
+-- the programs of an applicant's list, each with the applicant's rank there
+abbrev pub ranked_list : Market → ℕ → List Live
+ranked_list m a = map (ranked_entry m a) (list_of m a)
 
 -- a number is the applicant's rank on a list: the first place where it stands
 pub record IsRank (ranking : List ℕ) (a rank : ℕ) : Type 0 where
@@ -45,11 +57,22 @@ pub record IsRank (ranking : List ℕ) (a rank : ℕ) : Type 0 where
 -- an entry of an applicant's live list names a program that lists the applicant, and its rank there
 pub record IsEntry (m : Market) (a : ℕ) (entry : Live) : Type 0 where
   pub program : entry.program < length m.programs
-  pub rank : IsRank (program_of m entry.program).ranking a entry.rank
+  pub rank : IsRank (ranking_of m entry.program) a entry.rank
 
--- how many entries the lists of all applicants and of all programs have together
+-- how many entries the lists of all applicants have, and those of all programs
+abbrev pub list_entries : Market → ℕ
+list_entries m = total_below (λ a. length (list_of m a)) (applicants m)
+
+abbrev pub ranking_entries : Market → ℕ
+ranking_entries m = total_below (λ p. length (ranking_of m p)) (length m.programs)
+
+-- and how many both have together
 abbrev pub entry_count : Market → ℕ
-entry_count m = total_below (λ a. length (list_of m a)) (applicants m) + total_below (λ p. length (program_of m p).ranking) (length m.programs)
+entry_count m = list_entries m + ranking_entries m
+
+-- each program on an applicant's list lists the applicant
+abbrev pub AreMutual : Market → ℕ → Type 0
+AreMutual m a = (p : ℕ) → IsTrue (has (list_of m a) p) → IsEntry m a (ranked_entry m a p)
 
 -- What all rank tables have: a well-formed market without couples, whose lists are live, a flag for each
 -- applicant, no list for who isn't a single, and no more of anything than an input may have.
@@ -57,7 +80,7 @@ pub record IsRanked (r : Ranked) : Type 0 where
   pub well_formed : IsWellFormed r.market
   pub no_couples : r.market.couples ≡ []
   pub all_live : (a : ℕ) → live r.market a ≡ list_of r.market a
-  pub all_ranked : (a p : ℕ) → IsTrue (has (list_of r.market a) p) → IsEntry r.market a (ranked_entry r.market a p)
+  pub all_ranked : (a : ℕ) → AreMutual r.market a
   pub flags : length r.singles ≡ applicants r.market
   pub member_lists : (a : ℕ) → slice_index_or r.singles a false ≡ false → list_of r.market a ≡ []
   pub few_applicants : applicants r.market ≤ LIMITS_2.applicants

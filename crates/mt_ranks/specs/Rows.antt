@@ -1,5 +1,8 @@
 -- Lists that grow side by side, each within the room that it was given.
-use Rattle.std.specs.Prelude.{ℕ, ◌+◌, ◌-◌, ◌≤◌, List, [], ◌∷◌, ◌++◌, length, replicate, slice_range, slice_index, slice_index_or, slice_set}
+use Rattle.std.specs.Prelude.{◌≡◌, ℕ, ◌+◌, ◌-◌, ◌<◌, ◌≤◌, List, [], ◌∷◌, ◌++◌, length, map, replicate, slice_range, slice_index, slice_index_or, slice_set}
+use Rattle.mt_terms.specs.Lists.{below}
+use Rattle.mt_terms.specs.Market.{Market, applicants, list_of}
+use Rattle.mt_ranks.specs.Entries.{entries_among, entries_in, times_in}
 use Rattle.mt_ranks.specs.declared.entries.Live.{Live}
 
 -- the lists, and how long each may become
@@ -18,6 +21,19 @@ row_of f k = slice_index_or f.lists k []
 -- whether a row has room for so many more
 abbrev pub HasRoom : Filling → ℕ → ℕ → Type 0
 HasRoom f k n = length (row_of f k) + n ≤ slice_index f.sizes k
+
+-- each applicant's row has room for its entries on a program's list
+abbrev pub HasRoomFor : Filling → List ℕ → Type 0
+HasRoomFor f ranking = (a : ℕ) → a < length f.lists → HasRoom f a (times_in ranking a)
+
+-- they are added, for this program
+abbrev pub IsEnteredFor : Filling → Filling → ℕ → List ℕ → Type 0
+IsEnteredFor old new p ranking =
+    (a : ℕ) → a < length old.lists → row_of new a ≡ row_of old a ++ entries_in p 0 ranking a
+
+-- for each applicant the entries of its row that its list names
+abbrev pub listed_rows : Market → Filling → List (List Live)
+listed_rows m f = map (λ a. entries_among (row_of f a) (list_of m a)) (below (applicants m))
 
 -- with one element more at the end of a row
 abbrev pub with_entry : Filling → ℕ → Live → Filling
@@ -45,7 +61,8 @@ abbrev pub ArePartsOf : ℕ → List ℕ → List ℕ → Type 0
 ArePartsOf size [] [] = Unit {0}
 ArePartsOf size [] (e ∷ ends) = ⊥
 ArePartsOf size (s ∷ starts) [] = ⊥
-ArePartsOf size (s ∷ starts) (e ∷ ends) = (s ≤ e) × (e ≤ next_start starts size) × ArePartsOf size starts ends
+ArePartsOf size (s ∷ starts) (e ∷ ends) =
+    (s ≤ e) × (e ≤ next_start starts size) × ArePartsOf size starts ends
 
 -- where parts of these sizes begin, the first at a place
 abbrev pub starts_from : ℕ → List ℕ → List ℕ

@@ -1,10 +1,9 @@
-ghost use Rattle.std.specs.Prelude.{◌≡◌, ℕ, ◌<◌, ◌==◌, false, [], All, length, map, is_some, slice_index_or, IfOk, IfSome};
-ghost use Rattle.std.specs.List.{position};
-ghost use Rattle.mt_terms.specs.Lists.{has, below};
-ghost use Rattle.mt_terms.specs.Market.{Program, applicants, program_of, list_of};
-ghost use Rattle.mt_ranks.specs.Entries.{AscendFrom, entries_among};
-ghost use Rattle.mt_ranks.specs.Ranked.{IsRank, IsEntry, IsRanked, ranked_of, ranked_entry, is_single, is_single_agent};
-ghost use Rattle.mt_ranks.specs.Rows.{row_of};
+ghost use Rattle.std.specs.Prelude.{◌≡◌, ℕ, ◌<◌, false, [], All, length, map, is_some, slice_index_or, IfOk, IfSome};
+ghost use Rattle.mt_terms.specs.Lists.{has};
+ghost use Rattle.mt_terms.specs.Market.{Program, applicants, program_of};
+ghost use Rattle.mt_ranks.specs.Entries.{AscendFrom};
+ghost use Rattle.mt_ranks.specs.Ranked.{IsRank, IsEntry, IsRanked, is_single_agent, rank_of, ranked_list, ranked_of, ranking_of, single_flags};
+ghost use Rattle.mt_ranks.specs.Rows.{listed_rows, row_of};
 
 use crate::entries::{Live, push_live, rank_at};
 use crate::rows::Rows;
@@ -71,7 +70,7 @@ fn is_single(agent: Agent) -> bool
 
 /// Which applicants are singles.
 fn singles(alloc: Global, roster: &Roster) -> Result<Vec<bool>, AllocError>
-    ensures { IfOk result (λ v. v.items ≡ map (is_single roster.now.market) (below (applicants roster.now.market))) }
+    ensures { IfOk result (λ v. v.items ≡ single_flags roster.now.market) }
 {
     let mut singles = Vec::with_capacity(alloc, roster.applicants() as usize)?;
     for applicant in 0..roster.applicants() {
@@ -84,7 +83,7 @@ fn singles(alloc: Global, roster: &Roster) -> Result<Vec<bool>, AllocError>
 fn live_lists(alloc: Global, roster: &Roster, rows: &Rows) -> Result<FlatLists<Live>, AllocError>
     requires rows { length rows.now.lists ≡ applicants roster.now.market }
     requires ascend { (a : ℕ) → AscendFrom 0 (row_of rows.now a) }
-    ensures { IfOk result (λ lists. lists ≡ map (λ a. entries_among (row_of rows.now a) (list_of roster.now.market a)) (below (applicants roster.now.market))) }
+    ensures { IfOk result (λ lists. lists ≡ listed_rows roster.now.market rows.now) }
 {
     let mut lists = FlatLists::new(alloc);
     for applicant in 0..roster.applicants() {
@@ -155,7 +154,7 @@ impl Ranks {
     /// rank on each. It is empty for a couple's member.
     pub fn live(&self, applicant: AppNo) -> &[Live]
         requires { applicant < applicants self.now.market }
-        ensures list { result.now ≡ map (ranked_entry self.now.market applicant) (list_of self.now.market applicant) }
+        ensures list { result.now ≡ ranked_list self.now.market applicant }
         ensures entries { All (IsEntry self.now.market applicant) result.now }
         ensures member { slice_index_or self.now.singles applicant false ≡ false → result.now ≡ [] }
     {
@@ -174,9 +173,9 @@ impl Ranks {
     pub fn rank(&self, program: ProgNo, applicant: AppNo) -> Option<u32>
         requires program { program < length self.now.market.programs }
         requires applicant { applicant < applicants self.now.market }
-        ensures position { result ≡ position (λ x. x == applicant) (program_of self.now.market program).ranking }
-        ensures listed { is_some result ≡ has (program_of self.now.market program).ranking applicant }
-        ensures found { IfSome result (IsRank (program_of self.now.market program).ranking applicant) }
+        ensures position { result ≡ rank_of self.now.market program applicant }
+        ensures listed { is_some result ≡ has (ranking_of self.now.market program) applicant }
+        ensures found { IfSome result (IsRank (ranking_of self.now.market program) applicant) }
     {
         rank_at(self.rows.row(applicant.index()), program)
     }

@@ -1,8 +1,8 @@
-ghost use Rattle.std.specs.Prelude.{◌≡◌, ℕ, ◌+◌, ◌<◌, ◌≤◌, ◌^◌, ◌==◌, ◌++◌, length, map, slice_index, IfOk, IsTrue};
+ghost use Rattle.std.specs.Prelude.{◌≡◌, ℕ, ◌<◌, ◌≤◌, ◌^◌, length, map, IfOk, IsTrue};
 ghost use Rattle.mt_terms.specs.declared.limits.TheConstants.{LIMITS_2};
-ghost use Rattle.mt_terms.specs.Lists.{has, below, count};
-ghost use Rattle.mt_ranks.specs.Entries.{entries_in, entries_from, times_listed, AreWithin, AreDistinct};
-ghost use Rattle.mt_ranks.specs.Rows.{row_of, HasRoom};
+ghost use Rattle.mt_terms.specs.Lists.{has, below};
+ghost use Rattle.mt_ranks.specs.Entries.{entries_from, times_listed, AreWithin, AreDistinct, CanBeCounted, IsCounted};
+ghost use Rattle.mt_ranks.specs.Rows.{HasRoomFor, IsEnteredFor};
 
 use crate::entries::Live;
 use crate::rows::Rows;
@@ -13,8 +13,8 @@ use std::alloc::{AllocError, Global};
 /// Counts each applicant that a program lists.
 fn count_listed(counts: &mut [usize], ranking: &[AppNo])
     requires within { (a : ℕ) → IsTrue (has ranking.now a) → a < length counts.old }
-    requires fits { (a : ℕ) → a < length counts.old → slice_index counts.old a + count (λ x. x == a) ranking.now < 2 ^ 64 }
-    ensures { (a : ℕ) → a < length counts.old → slice_index counts.new a ≡ slice_index counts.old a + count (λ x. x == a) ranking.now }
+    requires fits { CanBeCounted counts.old ranking.now }
+    ensures { IsCounted counts.old counts.new ranking.now }
 {
     for applicant in ranking {
         counts[applicant.index()] += 1;
@@ -29,7 +29,7 @@ fn listed(
 ) -> Result<Vec<usize>, AllocError>
     requires within { AreWithin applicants rankings.now }
     requires distinct { AreDistinct rankings.now }
-    ensures { IfOk result (λ counts. counts.items ≡ map (times_listed rankings.now) (below applicants)) }
+    ensures { IfOk result (λ v. v.items ≡ map (times_listed rankings.now) (below applicants)) }
 {
     let mut counts = Vec::from_elem(alloc, 0usize, applicants)?;
     for program in 0..rankings.len() {
@@ -41,11 +41,11 @@ fn listed(
 /// Adds to the rows of the applicants that a program lists their ranks there.
 fn add_ranking(rows: &mut Rows, program: ProgNo, ranking: &[AppNo])
     requires within { (a : ℕ) → IsTrue (has ranking.now a) → a < length rows.old.lists }
-    requires room { (a : ℕ) → a < length rows.old.lists → HasRoom rows.old a (count (λ x. x == a) ranking.now) }
+    requires room { HasRoomFor rows.old ranking.now }
     requires short { length ranking.now < 2 ^ 32 }
     ensures sizes { rows.new.sizes ≡ rows.old.sizes }
     ensures len { length rows.new.lists ≡ length rows.old.lists }
-    ensures rows { (a : ℕ) → a < length rows.old.lists → row_of rows.new a ≡ row_of rows.old a ++ entries_in program 0 ranking.now a }
+    ensures rows { IsEnteredFor rows.old rows.new program ranking.now }
 {
     for (rank, applicant) in ranking.iter().enumerate() {
         rows.push(
@@ -68,7 +68,7 @@ pub(crate) fn transpose(
     requires few_programs { length rankings.now ≤ LIMITS_2.programs }
     requires within { AreWithin applicants rankings.now }
     requires distinct { AreDistinct rankings.now }
-    ensures { IfOk result (λ rows. rows.lists ≡ map (entries_from 0 rankings.now) (below applicants)) }
+    ensures { IfOk result (λ v. v.lists ≡ map (entries_from 0 rankings.now) (below applicants)) }
 {
     let sizes = listed(alloc, rankings, applicants)?;
     let mut rows = Rows::with_sizes(alloc, &sizes)?;
