@@ -1,6 +1,6 @@
 -- Lists without repeats, and what flags by position tell of a set.
 use Rattle.std.proofs.Common.{◌≡◌, ◌≢◌, ℕ, zero, suc, ◌+◌, ◌<◌, Bool, true, false, not, cond, List, [], ◌∷◌, length, get_or, eqb, refl, sym, ap, ◌∙◌, inl, inr, arith, IsTrue}
-use Rattle.std.proofs.lemmas.Bool.{cases_eq, cases_Bool, or_left, or_right, false_from_ne_true, ne_eqb, eq-eqb, and_parts, not-true, false≢true, lt-ltb}
+use Rattle.std.proofs.lemmas.Bool.{cases_eq, cases_Bool, or_left, false_from_ne_true, ne_eqb, eq-eqb, and_parts, not-true, false≢true, lt-ltb}
 use Rattle.std.proofs.lemmas.List.{get_or-set_same, get_or-set_other, get_or-replicate, length-replicate, length-set}
 use Rattle.mt_terms.specs.Lists.{Set, has, above, count, with_one, without, count_below, is_distinct}
 use Rattle.mt_terms.specs.Market.{Program}
@@ -9,7 +9,7 @@ use Rattle.mt_hold.specs.Holding.{ranks, has_received}
 use Rattle.mt_hold.specs.Laws.{HeldIsChoice, OpenedIsEmpty, ReceiveAddsOne, CountIsMembers, CountIsSize}
 use Rattle.mt_hold.proofs.Counting.{count_suc, count-with_one_above}
 use Rattle.mt_terms.proofs.Totals.{count_below-same, count_below-none}
-use Rattle.mt_terms.proofs.ListFacts.{has_item, head_differs, tail_distinct, same_position, with_one-other}
+use Rattle.mt_terms.proofs.ListFacts.{count_agree, has_item, head_differs, tail_distinct, same_position, with_one-other}
 use Rattle.mt_hold.proofs.Chosen.{chosen, held-chosen}
 
 -- as many members of a set stand above position k as flags are set before it; the flags begin at j
@@ -102,12 +102,6 @@ put_back s x member a =
       | inr ne ↦ sym (with_one-other (without s x) x a ne ∙ without_other s x a ne)
     ]
 
--- two sets that agree on a list have as many members on it
-count_same_on : (s t : Set) (xs : List ℕ) → ((a : ℕ) → has xs a ≡ true → s a ≡ t a) → count s xs ≡ count t xs
-count_same_on s t [] same = refl
-count_same_on s t (x ∷ xs) same =
-    rw (same x (or_left (eqb x x) (has xs x) (eq-eqb x x refl)), count_same_on s t xs (λ a h. same a (or_right (eqb x a) (has xs a) h))) refl
-
 -- the rest of a list has a member of the list that isn't its head
 in_tail : (x : ℕ) (xs : List ℕ) (a : ℕ) → a ≢ x → has (x ∷ xs) a ≡ true → has xs a ≡ true
 in_tail x xs a ne h = sym (rw (ne_eqb x a (λ e. ne (sym e))) refl) ∙ h
@@ -129,7 +123,7 @@ count-with_head s x n xs d member low others =
     rw member
     (omega (
       arith,
-      count_same_on s (without s x) xs same,
+      count_agree s (without s x) xs same,
       others,
       count_below-same s (with_one (without s x) x) n (λ a _. put_back s x member a),
       count-with_one_above (without s x) x n (out_of_without s x) low,

@@ -47,7 +47,6 @@ last_range : {X : Type 0} (xs : List X) (x : X) (a : ℕ) → a ≤ length xs �
 last_range xs x a h = grind (arith, common_steps)
 
 -- Below, j is the number of the last list.
--- Below, j is the number of the last list.
 pub AreEnds-last : (from : ℕ) (ends : List ℕ) (n j : ℕ) → AreEnds from ends n → suc j ≡ length ends → AreEnds from (set ends j (n + 1)) (n + 1)
 AreEnds-last from [] n j h i = absurd (omega arith)
 AreEnds-last from (e ∷ []) n zero h i = (omega arith, refl)

@@ -6,6 +6,7 @@ use Rattle.std.proofs.lemmas.Bool.Decides.{nat_tests}
 use mathlib.Core.Path.{fun_ext}
 use Rattle.mt_terms.specs.Lists.{Set, has, until, count, above, below, with_one}
 use Rattle.mt_terms.proofs.ListFacts.{with_one-other}
+pub use Rattle.mt_terms.proofs.ListFacts.{count_agree}
 
 -- all numbers of a range pass where each of them does
 all_in_range : (test : Set) (a n : ℕ) → ((k : ℕ) → a ≤ k → k < a + n → IsTrue (test k)) → IsTrue (list_all test (range_with_len a n))
@@ -101,14 +102,6 @@ count_none test (x ∷ xs) d h =
 pub count-le : (s t : Set) (xs : List ℕ) → ((b : ℕ) → IsTrue (s b) → IsTrue (t b)) → count s xs ≤ count t xs
 count-le s t [] h = omega arith
 count-le s t (x ∷ xs) h = grind (arith, nat_tests, count-le s t xs h, h x)
-
--- sets that agree on a list count the same there
-pub count_agree : (s t : Set) (xs : List ℕ) → ((b : ℕ) → IsTrue (has xs b) → s b ≡ t b) → count s xs ≡ count t xs
-count_agree s t [] h = refl
-count_agree s t (x ∷ xs) h =
-    let here : s x ≡ t x = h x (or_left _ _ (eq-eqb x x refl)) in
-    let rest = count_agree s t xs (λ b on. h b (or_right _ _ on)) in
-    rw (here, rest)
 
 -- a member of a list is counted there
 pub count_has : (set : Set) (xs : List ℕ) (b : ℕ) → IsTrue (has xs b) → IsTrue (set b) → 0 < count set xs

@@ -3,7 +3,7 @@
 use Rattle.std.proofs.Common.{◌≡◌, ◌≢◌, ℕ, zero, suc, ◌+◌, ◌<◌, ◌≤◌, Bool, true, false, not, ◌||◌, ◌&&◌, ◌==◌, nat_lt, List, [], ◌∷◌, length, take, filter, get_or, Some, IsTrue, IsFalse, refl, ap, sym, ◌∙◌, inl, inr, arith, eq-eqb, ne_eqb, if◌then◌else◌}
 use Rattle.std.specs.List.{position}
 use Rattle.std.specs.List.Sorted.{IsPartitionPoint}
-use Rattle.std.proofs.lemmas.Bool.{cases_Bool, or_right, and_parts, and_from, both_ways, lt-ltb, le-ltb, false_from_ne_true, false≢true, not-true, not_from_false}
+use Rattle.std.proofs.lemmas.Bool.{cases_Bool, or_left, or_right, and_parts, and_from, both_ways, lt-ltb, le-ltb, false_from_ne_true, false≢true, not-true, not_from_false}
 use Rattle.std.proofs.lemmas.Bool.Decides.{nat_tests}
 use Rattle.std.proofs.lemmas.List.Quantifiers.{position-Some}
 use Rattle.mt_terms.specs.Lists.{Set, has, until, count, is_distinct, with_one}
@@ -98,6 +98,14 @@ pub has-take-position : (xs : List ℕ) (b k r : ℕ) → position (λ x. x == b
 has-take-position xs b k r at =
     let found = position-Some (λ x. x == b) xs k 0 at in
     has-take_at xs b k r found.0 found.1 found.2
+
+-- sets that agree on a list count the same there
+pub count_agree : (s t : Set) (xs : List ℕ) → ((b : ℕ) → IsTrue (has xs b) → s b ≡ t b) → count s xs ≡ count t xs
+count_agree s t [] h = refl
+count_agree s t (x ∷ xs) h =
+    let here : s x ≡ t x = h x (or_left _ _ (eq-eqb x x refl)) in
+    let rest = count_agree s t xs (λ b on. h b (or_right _ _ on)) in
+    rw (here, rest)
 
 -- no more pass a test than there are
 pub count-le-length : {X : Type 0} (test : X → Bool) (xs : List X) → count test xs ≤ length xs

@@ -1,7 +1,8 @@
--- Deferred acceptance one event at a time, in any order (McVitie and Wilson 1971). Each applicant proposes to the
--- programs of its live list, those of its list that list it too, one after another, and each program holds its
--- choice of all that have proposed to it. A program that comes to hold an applicant no longer doesn't tell it: the
--- applicant learns of that by an event of its own, a notice, which is this project's own rule.
+-- Deferred acceptance one event at a time, in any order (McVitie and Wilson 1971). Each applicant
+-- proposes to the programs of its live list, those of its list that list it too, one after another, and
+-- each program holds its choice of all that have proposed to it. A program that comes to hold an
+-- applicant no longer doesn't tell it: the applicant learns of that by an event of its own, a notice,
+-- which is this project's own rule.
 use Rattle.std.specs.Prelude.{◌≡◌, ℕ, ◌+◌, ◌-◌, ◌<◌, ◌≤◌, Bool, false, not, ◌&&◌, ◌==◌, List, [], ◌∷◌, length, map, take, Option, Some, None, is_some, slice_get, IsTrue, IsFalse, if◌then◌else◌}
 use Rattle.std.specs.List.{find, list_all}
 use Rattle.mt_terms.specs.Lists.{Set, has, with_one, without, below, total_below, count_below}
@@ -14,8 +15,9 @@ use Rattle.mt_terms.specs.declared.events.Event.TheVariants.{Propose, Notice}
 use Rattle.mt_terms.specs.declared.events.Reply.{Reply}
 use Rattle.mt_terms.specs.declared.events.Reply.TheVariants.{Kept, KeptInstead, Refused, Noticed, NotDue}
 
--- The floor is the state between two events: how many proposals each applicant has made, whether it stands, that
--- is, believes that the program to which it proposed last holds it, and from whom each program has received one.
+-- The floor is the state between two events: how many proposals each applicant has made, whether it
+-- stands, that is, believes that the program to which it proposed last holds it, and from whom each
+-- program has received one.
 pub record Floor : Type 0 where
   pub made : ℕ → ℕ
   pub standing : Set
@@ -25,11 +27,13 @@ pub record Floor : Type 0 where
 abbrev pub held : Market → Floor → ℕ → Set
 held m f p = choice (program_of m p) (f.received p)
 
--- the programs that an applicant has proposed to: as many from the front of its live list as it made proposals
+-- the programs that an applicant has proposed to: as many from the front of its live list as it made
+-- proposals
 abbrev pub tried : Market → Floor → ℕ → List ℕ
 tried m f a = take (f.made a) (live m a)
 
--- the programs that an applicant has passed: all that it proposed to, but for the last one while it stands there
+-- the programs that an applicant has passed: all that it proposed to, but for the last one while it
+-- stands there
 abbrev pub passed : Market → Floor → ℕ → List ℕ
 passed m f a = take (f.made a - (if f.standing a then 1 else 0)) (live m a)
 
@@ -37,7 +41,8 @@ passed m f a = take (f.made a - (if f.standing a then 1 else 0)) (live m a)
 abbrev pub last_tried : Market → Floor → ℕ → Option ℕ
 last_tried m f a = if f.made a == 0 then None else slice_get (live m a) (f.made a - 1)
 
--- the program that an applicant would propose to next: none while it stands, and none after its whole live list
+-- the program that an applicant would propose to next: none while it stands, and none after its whole
+-- live list
 abbrev pub next_entry : Market → Floor → ℕ → Option ℕ
 next_entry m f a = if f.standing a then None else slice_get (live m a) (f.made a)
 
@@ -46,15 +51,15 @@ abbrev pub is_held_by : Market → Floor → ℕ → Option ℕ → Bool
 is_held_by m f a None = false
 is_held_by m f a (Some p) = held m f p a
 
--- A floor is recorded where its parts agree: nobody has made more proposals than it has live entries, whoever stands
--- has made one, and the programs have received just the proposals that were made.
+-- A floor is recorded where its parts agree: nobody has made more proposals than it has live entries,
+-- whoever stands has made one, and the programs have received just the proposals that were made.
 pub record IsRecorded (m : Market) (f : Floor) : Type 0 where
   pub within : (a : ℕ) → f.made a ≤ length (live m a)
   pub proposed : (a : ℕ) → IsTrue (f.standing a) → 0 < f.made a
   pub receives : (a p : ℕ) → f.received p a ≡ has (tried m f a) p
 
--- A floor is legal where each program that an applicant has passed, and each that has its proposal and doesn't hold
--- it, is excluded for it: no stable match of the singles has the applicant there.
+-- A floor is legal where each program that an applicant has passed, and each that has its proposal and
+-- doesn't hold it, is excluded for it: no stable match of the singles has the applicant there.
 pub record IsLegal (m : Market) (f : Floor) : Type 0 where
   pub recorded : IsRecorded m f
   pub passed_excluded : (a p : ℕ) → IsTrue (has (passed m f a) p) → IsExcluded m a p
@@ -69,8 +74,8 @@ pub record IsStrict (m : Market) (f : Floor) : Type 0 where
 abbrev pub opening : Floor
 opening = record { made = λ a. 0; standing = λ a. false; received = λ p a. false }
 
--- whether an event is due: a proposal where the applicant has a program to propose to next, and a notice where it
--- stands and isn't held
+-- whether an event is due: a proposal where the applicant has a program to propose to next, and a notice
+-- where it stands and isn't held
 abbrev pub is_due : Market → Floor → Event → Bool
 is_due m f (Propose a) = is_some (next_entry m f a)
 is_due m f (Notice a) = f.standing a && not (is_held_by m f a (last_tried m f a))
@@ -100,7 +105,8 @@ abbrev pub after_proposal : Market → Floor → ℕ → Option ℕ → Floor
 after_proposal m f a None = f
 after_proposal m f a (Some p) = proposed_at m f a p
 
--- the floor after an event: one that isn't due changes nothing, and after a notice the applicant stands no longer
+-- the floor after an event: one that isn't due changes nothing, and after a notice the applicant stands
+-- no longer
 abbrev pub after : Market → Floor → Event → Floor
 after m f (Propose a) = after_proposal m f a (next_entry m f a)
 after m f (Notice a) = if is_due m f (Notice a) then (record f { standing = without f.standing a }) else f
@@ -156,8 +162,9 @@ result_of m f = map (place_on m f) (below (applicants m))
 abbrev pub proposals_made : Market → Floor → ℕ
 proposals_made m f = total_below f.made (applicants m)
 
--- The proposals made are those on the way to a match: each applicant has proposed to the programs of its live list
--- down to its place, or to all of them where it has none, and each program has received as many as that makes.
+-- The proposals made are those on the way to a match: each applicant has proposed to the programs of its
+-- live list down to its place, or to all of them where it has none, and each program has received as many
+-- as that makes.
 pub record HasProposalsOf (m : Market) (f : Floor) (places : Places) : Type 0 where
   pub same_tried : (a : ℕ) → tried m f a ≡ proposed_to m places a
   pub same_counts : (p : ℕ) → count_below (f.received p) (applicants m) ≡ proposals m places p
