@@ -1,8 +1,8 @@
 -- Deferred acceptance one event at a time, in any order (McVitie and Wilson 1971). Each applicant
 -- proposes to the programs of its live list, those of its list that list it too, one after another, and
--- each program holds its choice of all that have proposed to it. A program that comes to hold an
--- applicant no longer doesn't tell it: the applicant learns of that by an event of its own, a notice,
--- which is this project's own rule.
+-- each program holds its choice of all that have proposed to it. A program that lets an applicant go
+-- doesn't tell it: the applicant learns of that by an event of its own, a notice, which is this
+-- project's own rule.
 use Rattle.std.specs.Prelude.{◌≡◌, ℕ, ◌+◌, ◌-◌, ◌<◌, ◌≤◌, Bool, false, not, ◌&&◌, ◌==◌, List, [], ◌∷◌, length, map, take, Option, Some, None, is_some, slice_get, IsTrue, IsFalse, if◌then◌else◌}
 use Rattle.std.specs.List.{find, list_all}
 use Rattle.mt_terms.specs.Lists.{Set, has, with_one, without, below, total_below, count_below}
@@ -17,7 +17,7 @@ use Rattle.mt_terms.specs.declared.events.Reply.TheVariants.{Kept, KeptInstead, 
 
 -- The floor is the state between two events: how many proposals each applicant has made, whether it
 -- stands, that is, believes that the program to which it proposed last holds it, and from whom each
--- program has received one.
+-- program has received a proposal.
 pub record Floor : Type 0 where
   pub made : ℕ → ℕ
   pub standing : Set
