@@ -1,5 +1,4 @@
 pub mod EnteringFacts
-pub mod FittingFacts
 pub mod JoinFacts
 pub mod MarketFacts
 pub mod MoveFacts

@@ -1,7 +1,7 @@
 -- How many of a set stand above an applicant: the reason that a program that nobody left refuses whom it
 -- refused before.
-use Rattle.std.proofs.Common.{◌≡◌, ℕ, ◌+◌, ◌<◌, ◌≤◌, true, false, ◌==◌, List, [], ◌∷◌, ◌⊎◌, inl, inr, refl, ap, sym, ◌∙◌, arith, eq-eqb, eqb-true}
-use Rattle.std.proofs.lemmas.Bool.{cases_lt, or_left, or_right, false≢true, false_from_ne_true, both_ways}
+use Rattle.std.proofs.Common.{◌≡◌, ℕ, ◌+◌, ◌<◌, ◌≤◌, true, false, ◌==◌, List, [], ◌∷◌, ◌⊎◌, inl, inr, refl, arith, eq-eqb}
+use Rattle.std.proofs.lemmas.Bool.{cases_lt, or_left, or_right, both_ways}
 use Rattle.mt_terms.specs.Lists.{Set, has, until, count, above, is_distinct}
 use Rattle.mt_terms.specs.Market.{Program}
 use Rattle.mt_terms.specs.Choice.{choice}
@@ -51,7 +51,3 @@ count_shift s t old new [] h = refl
 count_shift s t old new (x ∷ xs) h =
     let rest = count_shift s t old new xs h in
     elim (h x) [ inl e ↦ rw (e.0, e.1) (omega arith) | inr e ↦ rw (e.0, e.1) (omega arith) ]
-
--- what stands on a list is other than what doesn't
-pub other_than : (x a : ℕ) (xs : List ℕ) → has xs x ≡ false → has xs a ≡ true → (x == a) ≡ false
-other_than x a xs h i = false_from_ne_true (x == a) (λ same. false≢true (sym h ∙ ap (has xs) (eqb-true x a same) ∙ i))

@@ -2,8 +2,8 @@ use Rattle.std.proofs.Common.{rules, ◌≡◌, ◌∙◌, ◌||◌, ℕ, List, 
 use Rattle.std.specs.List.{list_any}
 use Rattle.mt_terms.specs.Lists.{has}
 use Rattle.mt_terms.specs.Market.{applicants}
-use Rattle.mt_terms.specs.Matching.{Places, Placement, send, unplaced}
-use Rattle.mt_terms.specs.Rounds.{displaced, move_of}
+use Rattle.mt_terms.specs.Matching.{Places, Placement, send}
+use Rattle.mt_terms.specs.Rounds.{displaced}
 use Rattle.mt_couples.specs.Assigned.{Assigned, with_places}
 use Rattle.mt_couples.specs.Moves.{all_members, is_kept_at, is_left_by_movers}
 use Rattle.mt_couples.proofs.MoveFacts.{are_sent, programs_within, displaced_within, left_keys}
@@ -26,13 +26,6 @@ same_applicants s0 s places is = ap (λ (x : Assigned). applicants x.market) is
 displaced_is : (s0 s : Assigned) (sent : Placement) (xs : List ℕ) → s ≡ with_places s0 (send sent s0.places) → xs ≡ displaced s.market s.places sent
     → xs ≡ displaced s0.market (send sent s0.places) sent
 displaced_is s0 s sent xs moved read = read ∙ ap (λ (x : Assigned). displaced x.market x.places sent) moved
-
--- the assignment after the move
-after_is : (s0 s t : Assigned) (sent : Placement) (xs : List ℕ) → s ≡ with_places s0 (send sent s0.places) → xs ≡ displaced s0.market (send sent s0.places) sent
-    → t ≡ with_places s (unplaced (all_members s.market xs) s.places) → t ≡ with_places s0 ((move_of s0.market s0.places sent).after)
-after_is s0 s t sent xs moved read out =
-    out ∙ ap (λ (x : Assigned). with_places x (unplaced (all_members x.market xs) x.places)) moved
-    ∙ ap (λ ys. with_places s0 (unplaced (all_members s0.market ys) (send sent s0.places))) read
 
 pub displaced-requires : goal.displaced-requires
 displaced-requires c = λ p on. omega (arith, same_programs c.args.self.now c.send.new.self _ c.in_ok-send.ensures, programs_within c.requires.1 p on)
