@@ -17,7 +17,7 @@ use Rattle.std.proofs.lemmas.Cmp.{ranked}
 use Rattle.std.specs.BTreeSet.{insert_key}
 use Rattle.std.proofs.lemmas.Bool.{or_left, or_right, eq-eqb, eqb-true, cases_Bool, and_from, and_left, and_right, not_from_false, not_from_true}
 use Rattle.mt_couples.specs.Assigned.{Assigned, with_place, with_places}
-use Rattle.mt_round_laws.proofs.RoundsKeep.{or_assoc}
+use Rattle.std.proofs.Math.Bool.{or_assoc, or_comm, or-false}
 use Rattle.mt_couples.specs.Moves.{is_kept_at}
 
 -- An assignment on the way from one match to another: the market is the same, and what is left of the way
@@ -55,15 +55,7 @@ program_sent_to (t ∷ sent) (suc i) s p within read is = later t.1 (program_sen
     later None h = h
     later (Some q) h = or_right (q == p) _ h
 
--- laws of tests
-or-false : (a : Bool) → (a || false) ≡ a
-or-false true = refl
-or-false false = refl
-
-or_comm : (a b : Bool) → (a || b) ≡ (b || a)
-or_comm true b = sym (or_right b true refl)
-or_comm false b = sym (or-false b)
-
+-- a test that is named again
 or_twice : (a b : Bool) → (a || b) ≡ ((a || b) || a)
 or_twice true b = refl
 or_twice false b = sym (or-false b)

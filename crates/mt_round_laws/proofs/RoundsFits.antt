@@ -10,7 +10,8 @@ use Rattle.mt_terms.specs.Stability.{is_listed, has_own_option, fits}
 use Rattle.mt_terms.specs.WellFormed.{IsWellFormed}
 use Rattle.mt_terms.specs.declared.numbers.Agent.{Agent}
 use Rattle.mt_round_laws.proofs.RoundsLists.{in_below, each, all_pass, same_any, same_until, In}
-use Rattle.mt_round_laws.proofs.RoundsPlaces.{is_program_some, at_some, placed_within, filled_is_count, holds_same, none_placed_same}
+use Rattle.mt_match_laws.proofs.ExclusionLemmas.{lt_of_there}
+use Rattle.mt_round_laws.proofs.RoundsPlaces.{is_program_some, at_some, filled_is_count, holds_same, none_placed_same}
 use Rattle.mt_round_laws.proofs.RoundsAgents.{IsAgent, agent_on_list, agent_from_list, option_movers}
 
 -- What it means that a match fits: each agent has an option of its list or nothing, each placed applicant is
@@ -65,7 +66,7 @@ fitting_facts m wf places h = record { one_each = one_each; own = own; listed = 
 
     listed : (a p : ℕ) → at places p a ≡ true → has (program_of m p).ranking a ≡ true
     listed a p here =
-        let l = placed_within places p a here in
+        let l = lt_of_there places a p here in
         let one = one_each in
         let placed = each (λ b. is_listed m b (place_of places b)) a (below (applicants m)) parts.2 (in_below a (applicants m) (omega arith)) in
         rw (is_program_some p (place_of places a) here) at placed

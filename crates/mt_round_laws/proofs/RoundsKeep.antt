@@ -3,6 +3,7 @@ use Rattle.std.proofs.Common.{◌≡◌, ℕ, Bool, true, false, not, ◌&&◌, 
 use Rattle.std.specs.List.{list_any}
 use Rattle.std.proofs.lemmas.List.Folds.{list_any-append}
 use Rattle.std.proofs.lemmas.Bool.{cases_Bool, and_parts, or_cases, and_from, or_left, or_right, or_from, or_parts, false≢true, true_from_ne_false, false_from_ne_true, both_ways}
+use Rattle.std.proofs.Math.Bool.{or_assoc, or-false}
 use Rattle.mt_terms.specs.Lists.{has, below}
 use Rattle.mt_terms.specs.Market.{Market, program_of, agent_of, members, agents}
 use Rattle.mt_terms.specs.Matching.{Places, Placement, place_of, at, options, send, holds, none_placed, better}
@@ -19,29 +20,19 @@ use Rattle.mt_match_laws.proofs.ChoiceLemmas.{choice_facts}
 use Rattle.mt_round_laws.proofs.RoundsMove.{IsMove, match_after, is_displaced, displaced_agents, displaced_agent, displaced_parts, of_displaced, goes_out, untouched, fits_after}
 use Rattle.mt_round_laws.proofs.RoundsRoom.{taken_before}
 
--- a test or nothing
-or_nothing : (b : Bool) → b ≡ (b || false)
-or_nothing true = refl
-or_nothing false = refl
-
--- tests one after the other
-pub or_assoc : (a b c : Bool) → ((a || b) || c) ≡ (a || (b || c))
-or_assoc true b c = refl
-or_assoc false b c = refl
-
 -- who is on the work list once others joined
 on_joined : (ws : List Agent) (g h : Agent) → is_on (joined ws g) h ≡ (is_on ws h || is_same_agent h g)
 on_joined ws g h = elim (cases_Bool (is_on ws g)) [
   | inl there ↦ rw there (elim (cases_Bool (is_same_agent h g)) [
     | inl same ↦ rw (same, subst (λ x. is_on ws x ≡ true) (sym (same_agent h g same)) there) refl
-    | inr other ↦ rw other (or_nothing (is_on ws h))
+    | inr other ↦ rw other (sym (or-false (is_on ws h)))
   ])
-  | inr absent ↦ rw absent (list_any-append (is_same_agent h) ws (g ∷ []) ∙ ap (λ b. is_on ws h || b) (sym (or_nothing (is_same_agent h g))))
+  | inr absent ↦ rw absent (list_any-append (is_same_agent h) ws (g ∷ []) ∙ ap (λ b. is_on ws h || b) (or-false (is_same_agent h g)))
 ]
 
 -- who is on the work list once all of these joined
 on_all_joined : (ws gs : List Agent) (h : Agent) → is_on (all_joined ws gs) h ≡ (is_on ws h || is_on gs h)
-on_all_joined ws [] h = or_nothing (is_on ws h)
+on_all_joined ws [] h = sym (or-false (is_on ws h))
 on_all_joined ws (g ∷ gs) h =
     on_all_joined (joined ws g) gs h ∙ ap (λ b. b || is_on gs h) (on_joined ws g h) ∙ or_assoc (is_on ws h) (is_same_agent h g) (is_on gs h)
 

@@ -21,11 +21,6 @@ at_some places p a e = rw e (eq-eqb p p refl)
 pub at_none : (places : Places) (p a : ℕ) → place_of places a ≡ None → at places p a ≡ false
 at_none places p a e = rw e refl
 
--- who is placed is an applicant
-pub placed_within : (places : Places) (p a : ℕ) → at places p a ≡ true → a < length places
-placed_within places p a h =
-    elim (cases_lt a (length places)) [ inl l ↦ l | inr past ↦ absurd (false≢true (sym (at_none places p a (get_or_past places a None past)) ∙ h)) ]
-
 -- one applicant moved is there
 placed_there : (places : Places) (a : ℕ) (v : Option ℕ) → a < length places → place_of (slice_set places a v) a ≡ v
 placed_there places a v l = get_or-set_same places a v None l

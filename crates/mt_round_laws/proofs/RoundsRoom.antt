@@ -11,7 +11,8 @@ use Rattle.mt_terms.specs.declared.numbers.Agent.{Agent}
 use Rattle.mt_round_laws.proofs.RoundsLists.{In, finds, in_below}
 use Rattle.mt_round_laws.proofs.RoundsSets.{no_fewer_above, count_shift}
 use Rattle.mt_match_laws.proofs.ChoiceLemmas.{choice_facts, choice_from_facts}
-use Rattle.mt_round_laws.proofs.RoundsPlaces.{at_some, placed_within}
+use Rattle.mt_round_laws.proofs.RoundsPlaces.{at_some}
+use Rattle.mt_match_laws.proofs.ExclusionLemmas.{lt_of_there}
 use Rattle.mt_round_laws.proofs.RoundsAgents.{IsAgent, option_entry, option_there, option_elsewhere}
 use Rattle.mt_round_laws.proofs.RoundsMove.{IsMove, match_after, is_displaced, displaced_parts, stays_in, mover_stays, untouched, was_before, fits_after}
 
@@ -19,7 +20,7 @@ use Rattle.mt_round_laws.proofs.RoundsMove.{IsMove, match_after, is_displaced, d
 gone_from : (m : Market) (v : Move) (p a : ℕ) → length v.before ≡ applicants m → is_left m v p ≡ false
     → at v.before p a ≡ true → at v.after p a ≡ false → displaced_at m v.seated p a ≡ true
 gone_from m v p a one_each kept was gone = true_from_ne_false (displaced_at m v.seated p a) (λ not_displaced.
-    let within = placed_within v.before p a was in
+    let within = lt_of_there v.before a p was in
     both_ways (is_left m v p) kept (finds _ a (below (applicants m)) (in_below a (applicants m) (omega arith)) (rw (was, gone, not_displaced) refl)))
 
 module _ {m : Market} {old : Places} {g : Agent} {sent : Placement} (mv : IsMove m old g sent) where
