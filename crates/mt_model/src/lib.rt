@@ -1,4 +1,5 @@
 //! The residency match as a theory: the terms of `mt_terms`, and their laws.
+#![tactic(auto)]
 
 pub use mt_terms::{
     Agent, AppNo, Blocker, CoupleNo, Event, IdText, LIMITS, LIMITS_2, Limits, Match, Options,
