@@ -3,7 +3,7 @@
 
 pub use mt_terms::{
     Agent, AppNo, Blocker, CoupleNo, Event, IdText, LIMITS, LIMITS_2, Limits, Match, Options,
-    Places, ProgNo, Refusal, Reply, Verdict, examples,
+    Places, ProgNo, Refusal, Reply, Verdict, codes, examples,
 };
 
 /// The laws of the terms: each is the contract of a function that does nothing.
