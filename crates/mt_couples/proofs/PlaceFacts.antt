@@ -1,7 +1,7 @@
 -- Elements of lists of numbers, by their places.
-use Rattle.std.proofs.Common.{◌≡◌, ℕ, zero, suc, ◌+◌, ◌<◌, ◌≤◌, Bool, true, false, not, ◌==◌, List, [], ◌∷◌, ◌++◌, take, drop, length, get_or, Option, Some, None, IsTrue, refl, ap, sym, ◌∙◌, subst, inl, inr, arith, eq-eqb, eqb-true, if◌then◌else◌}
+use Rattle.std.proofs.Common.{◌≡◌, ℕ, zero, suc, ◌+◌, ◌<◌, ◌≤◌, Bool, true, false, not, ◌==◌, List, [], ◌∷◌, ◌++◌, take, drop, length, get_or, Option, Some, None, IsTrue, refl, ap, sym, ◌∙◌, subst, arith, eq-eqb, eqb-true, if◌then◌else◌}
 use Rattle.std.specs.Option.{option_eq}
-use Rattle.std.proofs.lemmas.Bool.{or_left, or_right, or_cases, and_parts, not-true, both_ways, false_from_ne_true, false≢true}
+use Rattle.std.proofs.lemmas.Bool.{or_left, or_right, and_parts, not-true, both_ways, false_from_ne_true}
 use Rattle.std.proofs.lemmas.List.{take_more}
 use Rattle.mt_terms.specs.Lists.{has, count, until, is_distinct}
 use Rattle.mt_terms.specs.Matching.{Places, place_of, at, is_program}
@@ -32,15 +32,6 @@ count-le_length {X} test (x ∷ xs) = one_or_none (test x) (count-le_length test
     one_or_none : (b : Bool) → count test xs ≤ length xs → (if b then 1 else 0) + count test xs ≤ suc (length xs)
     one_or_none true h = omega arith
     one_or_none false h = omega arith
-
--- what is on the front of a list is on the list
-pub has-take : (xs : List ℕ) (i a : ℕ) → IsTrue (has (take i xs) a) → IsTrue (has xs a)
-has-take xs zero a on = absurd (false≢true on)
-has-take [] (suc i) a on = on
-has-take (x ∷ xs) (suc i) a on = elim (or_cases (x == a) (has (take i xs) a) on) [
-  | inl here ↦ or_left _ _ here
-  | inr later ↦ or_right _ _ (has-take xs i a later)
-]
 
 pub has-drop : (xs : List ℕ) (i a : ℕ) → IsTrue (has (drop i xs) a) → IsTrue (has xs a)
 has-drop xs zero a on = on

@@ -11,7 +11,7 @@ use Rattle.mt_terms.specs.Lists.{Set, has, count, is_distinct}
 use Rattle.mt_terms.specs.Matching.{ranks_from}
 use Rattle.mt_couples.specs.Assigned.{is_refused}
 use Rattle.mt_couples.proofs.PlaceFacts.{has_at}
-use Rattle.mt_couples.proofs.RowFacts.{IsBelowAll, filter_same, count_nobody}
+use Rattle.mt_couples.proofs.RowFacts.{IsBelowAll, filter_same}
 use Rattle.mt_couples.proofs.RefusedFacts.{program_with, refused_is, count_is}
 
 -- what a rank of a set is
@@ -151,21 +151,6 @@ has_no_own_rank set i xs k out = false_from_ne_true _ (λ on.
     let h = ranks_are i set xs (i + k) on in
     let e : i + k - i ≡ k = omega arith in
     both_ways (set (get_or xs k 0)) out (ap (λ j. set (get_or xs j 0)) (sym e) ∙ h.of_set))
-
--- how many of them are below one
-pub count_ranks : (set : Set) (i : ℕ) (xs : List ℕ) (k : ℕ) → count (λ r. nat_lt r (i + k)) (ranks_from i set xs) ≡ count set (take k xs)
-count_ranks set i [] zero = refl
-count_ranks set i [] (suc k) = refl
-count_ranks set i (x ∷ xs) zero = count_nobody (λ r. nat_lt r (i + 0)) (ranks_from i set (x ∷ xs)) (λ p on.
-    let low = (ranks_are i set (x ∷ xs) p on).low in le-ltb p (i + 0) (omega arith))
-count_ranks set i (x ∷ xs) (suc k) =
-    let e : i + 1 + k ≡ i + suc k = omega arith in
-    let rest : count (λ r. nat_lt r (i + suc k)) (ranks_from (i + 1) set xs) ≡ count set (take k xs) =
-    ap (λ n. count (λ r. nat_lt r n) (ranks_from (i + 1) set xs)) (sym e) ∙ count_ranks set (i + 1) xs k in
-    elim (cases_Bool (set x)) [
-      | inl here ↦ rw (here, lt-ltb i (i + suc k) (omega arith)) (ap (λ n. 1 + n) rest)
-      | inr other ↦ rw other (rest ∙ (let e : count set (take k xs) ≡ 0 + count set (take k xs) = omega arith in e))
-    ]
 
 -- one applicant more of a list, who is refused if quota of the set came before
 refused_step : (f : ℕ → ℕ) (ranks refused : List ℕ) (y i quota c c' : ℕ) (in_set is_out : Bool) → f i ≡ y → refused ≡ map f (drop (quota - c') ranks)

@@ -1,7 +1,7 @@
 -- Ranks in rising order.
-use Rattle.std.proofs.Common.{◌≡◌, ℕ, zero, suc, ◌+◌, ◌<◌, ◌≤◌, Bool, true, false, not, ◌==◌, nat_lt, List, [], ◌∷◌, filter, length, insert, remove, refl, ap, sym, inl, inr, arith, lt-ltb, le-ltb}
+use Rattle.std.proofs.Common.{◌≡◌, ℕ, suc, ◌+◌, ◌<◌, ◌≤◌, Bool, true, false, not, ◌==◌, nat_lt, List, [], ◌∷◌, filter, length, insert, remove, refl, ap, sym, inl, inr, arith, lt-ltb, le-ltb}
 use Rattle.std.specs.List.{AllByRecursion}
-use Rattle.std.specs.List.Sorted.{IsStrictlySortedBy, IsPartitionPoint}
+use Rattle.std.specs.List.Sorted.{IsStrictlySortedBy}
 use Rattle.std.specs.Ordering.{nat_cmp}
 use Rattle.std.specs.BTreeSet.{insert_key}
 use Rattle.std.specs.declared.cmp.Ordering.TheVariants.{Less}
@@ -74,16 +74,3 @@ remove_at_place (x ∷ xs) k sorted on = elim (cases_eq x k) [
       let one_more : 1 + count (λ r. nat_lt r k) xs ≡ suc (count (λ r. nat_lt r k) xs) = omega arith in
       rw (lt-ltb x k l, ne_eqb x k other, one_more) (omega (arith, rest.0), ap (λ ys. x ∷ ys) rest.1)
 ]
-
--- the count of those that pass is where they end, if those that pass come first
-pub count_to_point : (test : ℕ → Bool) (xs : List ℕ) (i : ℕ) → i ≤ length xs → IsPartitionPoint (λ x. test x ≡ true) (λ x. test x ≡ false) xs i → count test xs ≡ i
-count_to_point test [] i within point = omega arith
-count_to_point test (x ∷ xs) zero within point =
-    let here : test x ≡ false = point.1 0 0 (omega arith) (omega arith) in
-    let rest : count test xs ≡ 0 = count_to_point test xs 0 (omega arith) ((λ k d low high. absurd (omega arith)), (λ k d low high. point.1 (suc k) d (omega arith) (omega arith))) in
-    rw here (omega (arith, rest))
-count_to_point test (x ∷ xs) (suc i) within point =
-    let here : test x ≡ true = point.0 0 0 (omega arith) (omega arith) in
-    let rest : count test xs ≡ i = count_to_point test xs i (omega arith)
-    ((λ k d low high. point.0 (suc k) d (omega arith) (omega arith)), (λ k d low high. point.1 (suc k) d (omega arith) (omega arith))) in
-    rw here (omega (arith, rest))

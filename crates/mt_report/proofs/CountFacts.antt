@@ -1,10 +1,11 @@
 -- How many places of a front of a match are a program.
-use Rattle.std.proofs.Common.{◌≡◌, ℕ, zero, suc, ◌+◌, ◌<◌, ◌≤◌, Bool, false, List, [], ◌∷◌, ◌++◌, Option, Some, None, map, length, get_or, set, take, refl, ap, sym, ◌∙◌, inl, inr, arith, add-one, length-take}
+use Rattle.std.proofs.Common.{◌≡◌, ℕ, ◌+◌, ◌<◌, ◌≤◌, Bool, false, List, [], ◌∷◌, ◌++◌, Option, Some, None, map, length, get_or, set, take, refl, ap, sym, ◌∙◌, inl, inr, arith, add-one, length-take}
 use Rattle.std.specs.Prelude.{if◌then◌else◌, IsTrue, is_some, not}
 use Rattle.std.proofs.lemmas.Bool.Decides.{nat_tests}
 use Rattle.std.proofs.lemmas.Bool.{cases_eq}
 use Rattle.std.proofs.lemmas.List.{take_more, get_or_read_under, get_or-set_same, get_or-set_other, ext_get_or}
 use Rattle.mt_terms.proofs.BelowFacts.{length-map_below, map_below_at}
+use Rattle.mt_terms.proofs.ListFacts.{count-le-length}
 use Rattle.mt_terms.specs.Lists.{below, count, total_below}
 use Rattle.mt_terms.specs.Matching.{filled, is_program, Places}
 use Rattle.mt_terms.specs.Text.{unmatched}
@@ -12,13 +13,6 @@ use Rattle.mt_terms.specs.Text.{unmatched}
 pub count-push : {X : Type 0} (test : X → Bool) (xs : List X) (x : X) → count test (xs ++ x ∷ []) ≡ count test xs + (if test x then 1 else 0)
 count-push test [] x = omega arith
 count-push test (y ∷ ys) x = omega (arith, count-push test ys x)
-
-one_or_none : (b : Bool) (m n : ℕ) → m ≤ n → (if b then 1 else 0) + m ≤ suc n
-one_or_none b m n h = grind (arith, nat_tests, h)
-
-pub count-le-length : {X : Type 0} (test : X → Bool) (xs : List X) → count test xs ≤ length xs
-count-le-length test [] = omega arith
-count-le-length test (x ∷ xs) = one_or_none (test x) (count test xs) (length xs) (count-le-length test xs)
 
 -- one place more
 pub filled_more : (places : Places) (i p : ℕ) → i < length places
@@ -68,11 +62,6 @@ pub counts_of_all : (places : Places) (n : ℕ) (counts : List ℕ) → length c
 counts_of_all places n counts l counted =
     ext_get_or 0 counts (map (filled places) (below n)) (l ∙ sym (length-map_below (filled places) n))
     (λ p h. let b : p < n = omega arith in counted p b ∙ sym (map_below_at (filled places) n p 0 b))
-
--- equal summands make equal sums
-pub total_below-same : (f g : ℕ → ℕ) (n : ℕ) → ((p : ℕ) → p < n → f p ≡ g p) → total_below f n ≡ total_below g n
-total_below-same f g zero h = refl
-total_below-same f g (suc n) h = omega (arith, h n (omega arith), total_below-same f g n (λ p b. h p (omega arith)))
 
 pub total_below-more : (f : ℕ → ℕ) (n : ℕ) → total_below f (n + 1) ≡ f n + total_below f n
 total_below-more f n = rw add-one refl

@@ -4,7 +4,7 @@ use Rattle.mt_terms.specs.Lists.{total_below}
 use Rattle.mt_terms.specs.Matching.{filled}
 use Rattle.mt_terms.specs.Text.{all_filled}
 use Rattle.mt_terms.proofs.BelowFacts.{length-map_below, map_below_at}
-use Rattle.mt_report.proofs.CountFacts.{total_below-same}
+use Rattle.mt_terms.proofs.Totals.{total_below-same}
 use Rattle.mt_report.proofs.text.push_totals.Goals as goal
 
 pub unmatched_count-unmatched-requires : goal.unmatched_count-unmatched-requires

@@ -1,10 +1,10 @@
-use Rattle.std.proofs.Common.{◌≡◌, ◌<◌, ◌∙◌, ◌+◌, length, arith, ap, sym, nat_lt, take}
+use Rattle.std.proofs.Common.{◌<◌, ◌∙◌, length, arith, ap, nat_lt, take}
 use Rattle.mt_terms.specs.Lists.{count}
 use Rattle.mt_terms.specs.Market.{program_of}
-use Rattle.mt_terms.specs.Matching.{at, placed_ranks}
+use Rattle.mt_terms.specs.Matching.{at}
 use Rattle.mt_couples.specs.Assigned.{Assigned}
 use Rattle.mt_couples.proofs.TableFacts.{row_index, row_at, row_sorted}
-use Rattle.mt_couples.proofs.RanksFacts.{count_ranks}
+use Rattle.mt_terms.proofs.ListFacts.{ranks_above}
 use Rattle.mt_couples.proofs.assignment.Assignment.ahead.Goals as goal
 
 pub index-row-requires : goal.index-row-requires
@@ -22,9 +22,7 @@ returns-clause-count c =
     let within : c.args.program < length c.self.inside.roster.now.market.programs = omega (arith, ap (λ (s : Assigned). length s.market.programs) c.self.view_is) in
     let p = c.args.program in
     let k = c.args.rank in
-    let e : 0 + k ≡ k = omega arith in
     c.count_below.ensures
     ∙ ap (count (λ r. nat_lt r k)) (row_at c.self.inside c.self.invariant p c.index.result c.index-row.result.now c.index.ensures within c.index-row.ensures)
-    ∙ ap (λ n. count (λ r. nat_lt r n) (placed_ranks c.self.inside.roster.now.market c.self.inside.places.items p)) (sym e)
-    ∙ count_ranks (at c.self.inside.places.items p) 0 (program_of c.self.inside.roster.now.market p).ranking k
+    ∙ ranks_above 0 k (at c.self.inside.places.items p) (program_of c.self.inside.roster.now.market p).ranking k (omega arith)
     ∙ ap (λ (s : Assigned). count (at s.places p) (take k (program_of s.market p).ranking)) c.self.view_is

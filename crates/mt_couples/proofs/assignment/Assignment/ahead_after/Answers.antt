@@ -4,7 +4,7 @@ use Rattle.mt_terms.specs.Lists.{count}
 use Rattle.mt_terms.specs.Market.{program_of}
 use Rattle.mt_terms.specs.Matching.{at, send}
 use Rattle.mt_couples.proofs.PlaceFacts.{count-le_length}
-use Rattle.mt_couples.proofs.RankFacts.{distinct-take}
+use Rattle.mt_terms.proofs.ListFacts.{distinct-take}
 use Rattle.mt_couples.proofs.SentFacts.{comes, count_sent}
 use Rattle.mt_couples.proofs.assignment.Assignment.ahead_after.Goals as goal
 

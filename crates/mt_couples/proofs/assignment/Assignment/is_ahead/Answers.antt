@@ -1,11 +1,12 @@
 use Rattle.std.proofs.Common.{sym}
 use Rattle.mt_terms.specs.Market.{program_of}
-use Rattle.mt_couples.proofs.RankFacts.{front_of_rank, front_of_none}
+use Rattle.mt_couples.proofs.RankFacts.{front_of_none}
+use Rattle.mt_terms.proofs.ListFacts.{has-take-position}
 use Rattle.mt_couples.proofs.assignment.Assignment.is_ahead.Goals as goal
 
 pub returns-in-Some : goal.returns-in-Some
 returns-in-Some c =
-    sym (front_of_rank (program_of c.args.self.now.market c.args.program).ranking c.args.applicant c.in-Some.other c.args.rank (sym c.in-Some.ensures.position))
+    sym (has-take-position (program_of c.args.self.now.market c.args.program).ranking c.args.applicant c.in-Some.other c.args.rank (sym c.in-Some.ensures.position))
 
 pub returns-in-None : goal.returns-in-None
 returns-in-None c =

@@ -4,7 +4,8 @@ use Rattle.mt_terms.specs.Market.{program_of}
 use Rattle.mt_terms.specs.Matching.{at, send}
 use Rattle.mt_round_laws.proofs.RoundsLists.{in_has, in_image}
 use Rattle.mt_round_laws.proofs.RoundsPlaces.{movers}
-use Rattle.mt_couples.proofs.RankFacts.{has_rank, has_no_rank, until_rank}
+use Rattle.mt_couples.proofs.RankFacts.{has_rank, has_no_rank}
+use Rattle.mt_terms.proofs.ListFacts.{until_position}
 use Rattle.mt_couples.proofs.SentFacts.{in_list, sent_there}
 use Rattle.mt_couples.proofs.assignment.Assignment.is_chosen.Goals as goal
 
@@ -19,7 +20,7 @@ returns-in-Some c =
     let a = c.args.applicant in
     let found = sym c.in-Some.ensures.position in
     let there = sent_there c.args.self.now.market c.args.self.now.places c.args.sent.now a c.args.program c.requires.sent c.in-Some.ensures.assigned.are_places.one_each (in_list c.args.sent.now _ c.requires.there) in
-    let above_is : c.ahead_after.result ≡ above set ranking a = c.ahead_after.ensures ∙ ap (count set) (sym (until_rank ranking a c.in-Some.rank found)) in
+    let above_is : c.ahead_after.result ≡ above set ranking a = c.ahead_after.ensures ∙ ap (count set) (sym (until_position ranking a c.in-Some.rank found)) in
     rw (has_rank ranking a c.in-Some.rank found, there) (ap₂ nat_lt above_is c.quota.ensures)
 
 pub returns-in-None : goal.returns-in-None

@@ -2,7 +2,8 @@ use Rattle.std.proofs.Common.{◌≡◌, ◌∙◌, nat_lt, sym, ap, ap₂, refl
 use Rattle.mt_terms.specs.Lists.{count, above}
 use Rattle.mt_terms.specs.Market.{program_of}
 use Rattle.mt_terms.specs.Matching.{at}
-use Rattle.mt_couples.proofs.RankFacts.{has_rank, has_no_rank, until_rank}
+use Rattle.mt_couples.proofs.RankFacts.{has_rank, has_no_rank}
+use Rattle.mt_terms.proofs.ListFacts.{until_position}
 use Rattle.mt_couples.proofs.assignment.Assignment.is_kept.Goals as goal
 
 pub returns-in-Some : goal.returns-in-Some
@@ -11,7 +12,7 @@ returns-in-Some c =
     let set = at c.args.self.now.places c.args.program in
     let a = c.args.applicant in
     let found = sym c.in-Some.ensures.position in
-    let above_is : c.ahead.result ≡ above set ranking a = c.ahead.ensures.count ∙ ap (count set) (sym (until_rank ranking a c.in-Some.rank found)) in
+    let above_is : c.ahead.result ≡ above set ranking a = c.ahead.ensures.count ∙ ap (count set) (sym (until_position ranking a c.in-Some.rank found)) in
     rw (has_rank ranking a c.in-Some.rank found, c.requires.there) (ap₂ nat_lt above_is c.quota.ensures)
 
 pub returns-in-None : goal.returns-in-None
