@@ -7,7 +7,7 @@ use Rattle.std.proofs.lemmas.List.FromFn.{get_or-map-range_with_len, length-map-
 use Rattle.mt_terms.specs.Lists.{has, below}
 use Rattle.mt_terms.specs.Market.{Market, Partners, applicants, program_of, list_of, couple_of, live, live_market, is_member, agent_from}
 use Rattle.mt_terms.specs.WellFormed.{IsWellFormed}
-use Rattle.mt_ranks.specs.Ranked.{IsRanked, IsEntry, IsRank, is_single, is_single_agent, ranked_of, ranked_entry, entry_count}
+use Rattle.mt_ranks.specs.Ranked.{IsRanked, IsEntry, IsRank, is_single, is_single_agent, ranked_of, ranked_entry, all_entries}
 use Rattle.mt_ranks.proofs.Positions.{has-position, IsRank-from_position}
 use Rattle.mt_terms.proofs.LiveFacts.{live_past, live_parts, applicants-live_market, list_of-live_market, live-live_market, live_well_formed}
 use Rattle.mt_ranks.proofs.Sizes.{distinct_length, total_below-le}
@@ -52,7 +52,7 @@ no_live_of_member m a w h =
       | inr past ↦ live_past m a past
     ]
 
-few : (m : Market) → IsWellFormed m → applicants m ≤ 100000 → length m.programs ≤ 20000 → entry_count m < 2 ^ 32
+few : (m : Market) → IsWellFormed m → applicants m ≤ 100000 → length m.programs ≤ 20000 → all_entries m < 2 ^ 32
 few m w some_applicants some_programs =
     omega (
       arith,

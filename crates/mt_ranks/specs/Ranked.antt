@@ -60,15 +60,15 @@ pub record IsEntry (m : Market) (a : ℕ) (entry : Live) : Type 0 where
   pub rank : IsRank (ranking_of m entry.program) a entry.rank
 
 -- how many entries the lists of all applicants have, and those of all programs
-abbrev pub list_entries : Market → ℕ
-list_entries m = total_below (λ a. length (list_of m a)) (applicants m)
+abbrev pub entries_of_applicants : Market → ℕ
+entries_of_applicants m = total_below (λ a. length (list_of m a)) (applicants m)
 
-abbrev pub ranking_entries : Market → ℕ
-ranking_entries m = total_below (λ p. length (ranking_of m p)) (length m.programs)
+abbrev pub entries_of_programs : Market → ℕ
+entries_of_programs m = total_below (λ p. length (ranking_of m p)) (length m.programs)
 
 -- and how many both have together
-abbrev pub entry_count : Market → ℕ
-entry_count m = list_entries m + ranking_entries m
+abbrev pub all_entries : Market → ℕ
+all_entries m = entries_of_applicants m + entries_of_programs m
 
 -- each program on an applicant's list lists the applicant
 abbrev pub AreMutual : Market → ℕ → Type 0
@@ -85,4 +85,4 @@ pub record IsRanked (r : Ranked) : Type 0 where
   pub member_lists : (a : ℕ) → slice_index_or r.singles a false ≡ false → list_of r.market a ≡ []
   pub few_applicants : applicants r.market ≤ LIMITS_2.applicants
   pub few_programs : length r.market.programs ≤ LIMITS_2.programs
-  pub few_entries : entry_count r.market < 2 ^ 32
+  pub few_entries : all_entries r.market < 2 ^ 32
