@@ -5,7 +5,9 @@ ghost use Rattle.csv.specs.Records.{fields_of};
 ghost use Rattle.csv.specs.declared.reader.Trim.TheVariants as trim;
 ghost use Rattle.mt_lists.specs.Records.{mark, records_of, rows_of};
 
-use crate::row::Row;
+use crate::lines::Lines;
+use crate::read_row::ReadRow;
+use crate::rows::{Rows, RowsSource};
 use csv::{ByteRecord, ErrorKind, Reader, ReaderBuilder};
 use std::alloc::Global;
 use thiserror::Error;
@@ -27,15 +29,19 @@ const MARK: [u8; 3] = [0xEF, 0xBB, 0xBF];
 /// The records of an input in order, as rows of fields. One byte order mark at its start is dropped, and a second
 /// one after it is refused. The rest is read as CSV: commas, double quotes, a doubled quote in quotes for one
 /// quote, records of any length, no header row; empty lines are skipped. Each row loses the empty fields at its
-/// end, and a row with no field left stays.
-pub fn records(alloc: Global, bytes: &[u8]) -> Result<Vec<Row>, ListFault>
-    ensures rows { IfOk result (λ rows. records_of bytes.now ≡ Some rows.items) }
+/// end, and a row with no field left stays. Memory is taken only for a text with a quote.
+pub fn records<'t>(alloc: Global, bytes: &'t [u8]) -> Result<Rows<'t>, ListFault>
+    ensures rows { IfOk result (λ rows. records_of bytes.now ≡ Some rows) }
     ensures two_marks { IsErrOf result ListFault.TwoMarks ↔ (records_of bytes.now ≡ None) }
 {
-    match after_mark(bytes) {
-        Some(text) => read_rows(alloc, text),
-        None => Err(ListFault::TwoMarks),
-    }
+    let Some(text) = after_mark(bytes) else {
+        return Err(ListFault::TwoMarks);
+    };
+    let source = match Lines::new(text) {
+        Some(lines) => RowsSource::Lines(lines),
+        None => RowsSource::Read(read_rows(alloc, text)?),
+    };
+    Ok(Rows::new(source))
 }
 
 // The input after the mark at its start, if it has one, or none where a second mark follows.
@@ -53,7 +59,7 @@ fn after_mark(bytes: &[u8]) -> Option<&[u8]>
 }
 
 // The rows of a text that has no mark at its start.
-fn read_rows(alloc: Global, text: &[u8]) -> Result<Vec<Row>, ListFault>
+fn read_rows(alloc: Global, text: &[u8]) -> Result<Vec<ReadRow>, ListFault>
     requires { starts_with nat_eq text.now mark ≡ false }
     ensures rows { IfOk result (λ rows. rows.items ≡ rows_of text.now) }
     ensures memory { OnErr result (IsErrOf result ListFault.Memory) }
@@ -65,7 +71,7 @@ fn read_rows(alloc: Global, text: &[u8]) -> Result<Vec<Row>, ListFault>
     let mut raw = ByteRecord::new(alloc);
     let mut rows = Vec::new(alloc);
     while read_record(&mut reader, &mut raw)? {
-        let row = Row::trimmed(&mut raw).map_err(|_| ListFault::Memory)?;
+        let row = ReadRow::trimmed(&mut raw).map_err(|_| ListFault::Memory)?;
         rows.push(row).map_err(|_| ListFault::Memory)?;
     }
     Ok(rows)

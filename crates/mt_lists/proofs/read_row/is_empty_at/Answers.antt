@@ -2,7 +2,7 @@ use Rattle.std.proofs.Common.{◌≡◌, ◌∙◌, [], get_or, sym}
 use Rattle.csv.specs.Records.{fields_of}
 use Rattle.csv.proofs.RecordFacts.{field-get}
 use Rattle.mt_lists.proofs.RowFacts.{field_there, field_at-slice_get}
-use Rattle.mt_lists.proofs.row.is_empty_at.Goals as goal
+use Rattle.mt_lists.proofs.read_row.is_empty_at.Goals as goal
 
 pub unwrap-requires : goal.unwrap-requires
 unwrap-requires c =

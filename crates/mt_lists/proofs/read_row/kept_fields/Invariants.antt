@@ -1,7 +1,7 @@
 use Rattle.std.proofs.Common.{◌≡◌, ◌≤◌, ◌<◌, ℕ, [], get_or, length, true}
 use Rattle.csv.specs.Records.{fields_of}
 use Rattle.mt_lists.specs.Records.{is_empty_field}
-use Rattle.mt_lists.proofs.row.kept_fields.Given as goal
+use Rattle.mt_lists.proofs.read_row.kept_fields.Given as goal
 
 -- each field from there on is empty
 abbrev pub invariant-loop-kept : goal.invariant-loop-kept

@@ -1,6 +1,6 @@
 use Rattle.std.proofs.Common.{◌<◌, length, arith}
 use Rattle.mt_lists.proofs.RowFacts.{drop-field}
-use Rattle.mt_lists.proofs.row.FieldsIterator.next.Goals as goal
+use Rattle.mt_lists.proofs.read_row.ReadFieldsIterator.next.Goals as goal
 
 pub returns-clause-steps : goal.returns-clause-steps
 returns-clause-steps c =

@@ -1,7 +1,7 @@
 use Rattle.std.proofs.Common.{arith}
 use Rattle.csv.specs.Records.{fields_of}
 use Rattle.mt_lists.proofs.RowFacts.{kept_are}
-use Rattle.mt_lists.proofs.row.kept_fields.Goals as goal
+use Rattle.mt_lists.proofs.read_row.kept_fields.Goals as goal
 
 pub returns-else-is_empty_at : goal.returns-else-is_empty_at
 returns-else-is_empty_at c =

@@ -1,0 +1,133 @@
+-- The fields of a line, one after the other, and the commas at its end.
+use Rattle.std.proofs.Common.{◌≡◌, ℕ, ◌+◌, ◌-◌, ◌<◌, List, [], ◌∷◌, ◌++◌, length, take, drop, get_or, true, false, ◌==◌, refl, sym, ap, ◌∙◌, inl, inr, append_assoc, arith, length-append}
+use Rattle.std.specs.List.{list_any, suffix_len}
+use Rattle.std.proofs.Math.Seq.{take-length}
+use Rattle.std.proofs.lemmas.Bool.{cases_Bool, eqb-true, or_parts}
+use Rattle.std.proofs.lemmas.Bool.Decides.{nat_tests}
+use Rattle.std.proofs.lemmas.List.{append-nil, drop_more, reverse-append, take-append-drop, take-append-le}
+use Rattle.mt_lists.specs.Lines.{fields_of_line, fields_of_trimmed, is_comma, split_from}
+use Rattle.mt_lists.specs.Records.{is_empty_field, without_trailing_empty}
+use Rattle.mt_lists.proofs.LineFacts.{none_at_all, none_before}
+
+-- the bytes up to a comma are a field
+split-run : (field x rest : List ℕ) → list_any is_comma x ≡ false → split_from field (x ++ (44 ∷ rest)) ≡ (field ++ x) ∷ split_from [] rest
+unfolding split_from
+split-run field [] rest none = rw (append-nil field) refl
+split-run field (b ∷ more) rest none =
+    let other : (b == 44) ≡ false = (or_parts _ _ none).0 in
+    rw other (split-run (field ++ (b ∷ [])) more rest (or_parts _ _ none).1 ∙ ap (λ (f : List ℕ). f ∷ split_from [] rest) (append_assoc field (b ∷ []) more))
+
+split-last : (field x : List ℕ) → list_any is_comma x ≡ false → split_from field x ≡ (field ++ x) ∷ []
+unfolding split_from
+split-last field [] none = rw (append-nil field) refl
+split-last field (b ∷ more) none =
+    let other : (b == 44) ≡ false = (or_parts _ _ none).0 in
+    rw other (split-last (field ++ (b ∷ [])) more (or_parts _ _ none).1 ∙ ap (λ (f : List ℕ). f ∷ []) (append_assoc field (b ∷ []) more))
+
+-- the first field of a line, up to its first comma
+pub first-field : (text : List ℕ) (at : ℕ) → at < length text → ((k : ℕ) → k < at → is_comma (get_or text k 0) ≡ true → ⊥) → is_comma (get_or text at 0) ≡ true
+    → fields_of_line text ≡ take at text ∷ fields_of_line (drop (at + 1) text)
+first-field text at within before comma =
+    let here : get_or text at 0 ≡ 44 = eqb-true (get_or text at 0) 44 comma in
+    let whole : take at text ++ (44 ∷ drop (at + 1) text) ≡ text =
+    ap (λ (x : List ℕ). take at text ++ x) (sym (drop_more text at 0 within ∙ ap (λ (c : ℕ). c ∷ drop (at + 1) text) here)) ∙ take-append-drop at text in
+    ap (λ (x : List ℕ). fields_of_line x) (sym whole) ∙ split-run [] (take at text) (drop (at + 1) text) (none_before is_comma text at before)
+
+pub only-field : (text : List ℕ) → ((k : ℕ) → k < length text → is_comma (get_or text k 0) ≡ true → ⊥) → fields_of_line text ≡ text ∷ []
+only-field text before = split-last [] text (none_at_all is_comma text before)
+
+-- a comma at the end of a line puts an empty field at the end
+split-comma : (field line : List ℕ) → split_from field (line ++ (44 ∷ [])) ≡ split_from field line ++ ([] ∷ [])
+unfolding split_from
+split-comma field [] = refl
+split-comma field (b ∷ rest) =
+    elim (cases_Bool (b == 44)) [
+      | inl is ↦ rw is (ap (λ (fs : List (List ℕ)). field ∷ fs) (split-comma [] rest))
+      | inr other ↦ rw other (split-comma (field ++ (b ∷ [])) rest)
+    ]
+
+-- another byte at the end of a line ends its last field
+record LastField (fields : List (List ℕ)) (c : ℕ) : Type 0 where
+  front : List (List ℕ)
+  bytes : List ℕ
+  is : fields ≡ front ++ ((bytes ++ (c ∷ [])) ∷ [])
+
+split-other : (field line : List ℕ) (c : ℕ) → (c == 44) ≡ false → LastField (split_from field (line ++ (c ∷ []))) c
+unfolding split_from
+split-other field [] c other = record { front = []; bytes = field; is = rw other refl }
+split-other field (b ∷ rest) c other =
+    elim (cases_Bool (b == 44)) [
+      | inl is ↦
+          let more = split-other [] rest c other in
+          record { front = field ∷ more.front; bytes = more.bytes; is = rw is (ap (λ (fs : List (List ℕ)). field ∷ fs) more.is) }
+      | inr not ↦
+          let more = split-other (field ++ (b ∷ [])) rest c other in
+          record { front = more.front; bytes = more.bytes; is = rw not more.is }
+    ]
+
+suffix-yes : (fs : List (List ℕ)) (f : List ℕ) → is_empty_field f ≡ true → suffix_len is_empty_field (fs ++ (f ∷ [])) ≡ 1 + suffix_len is_empty_field fs
+suffix-yes fs f empty = rw (reverse-append fs (f ∷ []), empty) refl
+
+suffix-no : (fs : List (List ℕ)) (f : List ℕ) → is_empty_field f ≡ false → suffix_len is_empty_field (fs ++ (f ∷ [])) ≡ 0
+suffix-no fs f some = rw (reverse-append fs (f ∷ []), some) refl
+
+without-empty : (fs : List (List ℕ)) → without_trailing_empty (fs ++ ([] ∷ [])) ≡ without_trailing_empty fs
+without-empty fs =
+    let long : length (fs ++ ([] ∷ [])) ≡ length fs + 1 = length-append fs ([] ∷ []) in
+    let kept : length (fs ++ ([] ∷ [])) - suffix_len is_empty_field (fs ++ ([] ∷ [])) ≡ length fs - suffix_len is_empty_field fs = omega (arith, long, suffix-yes fs [] refl) in
+    ap (λ (n : ℕ). take n (fs ++ ([] ∷ []))) kept ∙ take-append-le (length fs - suffix_len is_empty_field fs) fs ([] ∷ []) (omega arith)
+
+without-some : (fs : List (List ℕ)) (f : List ℕ) → is_empty_field f ≡ false → without_trailing_empty (fs ++ (f ∷ [])) ≡ fs ++ (f ∷ [])
+without-some fs f some =
+    let all : length (fs ++ (f ∷ [])) - suffix_len is_empty_field (fs ++ (f ∷ [])) ≡ length (fs ++ (f ∷ [])) = omega (arith, suffix-no fs f some) in
+    ap (λ (n : ℕ). take n (fs ++ (f ∷ []))) all ∙ take-length (fs ++ (f ∷ []))
+
+-- a line without its last comma has the same fields but for the empty ones at the end
+pub trimmed-comma : (line front : List ℕ) → line ≡ front ++ (44 ∷ []) → without_trailing_empty (fields_of_line line) ≡ without_trailing_empty (fields_of_line front)
+trimmed-comma line front e = rw (e, split-comma [] front) (without-empty (fields_of_line front))
+
+not-empty : (x : List ℕ) (c : ℕ) → is_empty_field (x ++ (c ∷ [])) ≡ false
+not-empty [] c = refl
+not-empty (b ∷ rest) c = grind (arith, nat_tests)
+
+-- a line whose last byte is no comma has no empty field at its end
+pub trimmed-other : (line front : List ℕ) (c : ℕ) → line ≡ front ++ (c ∷ []) → (c == 44) ≡ false → fields_of_trimmed line ≡ without_trailing_empty (fields_of_line line)
+trimmed-other line front c e other =
+    let last = split-other [] front c other in
+    let some : without_trailing_empty (fields_of_line (front ++ (c ∷ []))) ≡ fields_of_line (front ++ (c ∷ [])) =
+    ap (λ (fs : List (List ℕ)). without_trailing_empty fs) last.is ∙ without-some last.front (last.bytes ++ (c ∷ [])) (not-empty last.bytes c) ∙ sym last.is in
+    rw (e, some) (whole front c)
+  where
+    whole : (front : List ℕ) (c : ℕ) → fields_of_trimmed (front ++ (c ∷ [])) ≡ fields_of_line (front ++ (c ∷ []))
+    whole [] c = refl
+    whole (b ∷ rest) c = refl
+
+-- a line of commas has no field but empty ones
+pub trimmed-none : (kept : List ℕ) → length kept ≡ 0 → fields_of_trimmed kept ≡ without_trailing_empty (fields_of_line kept)
+unfolding split_from
+trimmed-none [] e = refl
+trimmed-none (b ∷ rest) e = absurd (omega (arith, e))
+
+-- one field fewer
+pub field-fewer : (s : List (List ℕ)) (x : List ℕ) (t : List (List ℕ)) → s ≡ x ∷ t → length t < length s
+field-fewer s x t e = rw e (omega arith)
+
+-- a line has a field
+split-some : (field line : List ℕ) → (length (split_from field line) == 0) ≡ false
+unfolding split_from
+split-some field [] = refl
+split-some field (b ∷ rest) =
+    elim (cases_Bool (b == 44)) [
+      | inl is ↦ rw is (some field (split_from [] rest))
+      | inr other ↦ rw other (split-some (field ++ (b ∷ [])) rest)
+    ]
+  where
+    some : (f : List ℕ) (fs : List (List ℕ)) → (length (f ∷ fs) == 0) ≡ false
+    some f fs = grind (arith, nat_tests)
+
+-- a line that has lost the commas at its end has no field exactly where it has no byte
+pub trimmed-empty : (line : List ℕ) → (length line == 0) ≡ (length (fields_of_trimmed line) == 0)
+trimmed-empty [] = refl
+trimmed-empty (b ∷ rest) =
+    let byte : (length (b ∷ rest) == 0) ≡ false = grind (arith, nat_tests) in
+    byte ∙ sym (split-some [] (b ∷ rest))

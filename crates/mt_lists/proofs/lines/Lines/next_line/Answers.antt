@@ -1,0 +1,14 @@
+use Rattle.std.proofs.Common.{arith}
+use Rattle.mt_lists.proofs.LineFacts.{first_line, last_line}
+use Rattle.mt_lists.proofs.lines.Lines.next_line.Goals as goal
+
+pub returns-in-Some : goal.returns-in-Some
+returns-in-Some c =
+    let found = c.in-Some.ensures in
+    rw (c.split_at.ensures.front, c.split_at-in-Some.ensures.back)
+    (first_line c.args.self.text.now c.in-Some.at found.0.high c.args.self.unquoted (λ k lt. found.0.before k (omega arith) lt) found.1)
+
+pub returns-in-None : goal.returns-in-None
+returns-in-None c =
+    rw (c.split_at-in-None.ensures.front, c.split_at-in-None.ensures.back)
+    (last_line c.args.self.text.now c.requires c.args.self.unquoted (λ k lt. c.in-None.ensures k (omega arith) lt))

@@ -1,0 +1,118 @@
+ghost use Rattle.std.specs.Prelude.{◌≡◌, ◌<◌, [], ◌∷◌, false, true, length, MatchOption};
+ghost use Rattle.std.specs.Iterator.{YieldsFirstRef, item_count};
+ghost use Rattle.std.specs.List.{list_any};
+ghost use Rattle.mt_lists.specs.Lines.{NextLine, fields_of_line, fields_of_trimmed, is_quote};
+ghost use Rattle.mt_lists.specs.Records.{rows_of, without_trailing_empty};
+
+use memchr::{memchr, memchr2};
+
+/// A text with no double quote, and no mark at its start: its rows are its lines.
+#[derive(Clone, Copy, Debug)]
+pub(crate) struct Lines<'t> {
+    text: &'t [u8],
+    pub ghost unquoted: { list_any is_quote text.now ≡ false },
+}
+
+impl<'t> Lines<'t> {
+    // The lines of a text, if it has no double quote.
+    pub(crate) fn new(text: &'t [u8]) -> Option<Lines<'t>>
+        ensures { MatchOption result (list_any is_quote text.now ≡ true) (λ lines. lines.text.now ≡ text.now) }
+    {
+        match memchr(b'"', text) {
+            Some(_) => None,
+            None => Some(Lines { text }),
+        }
+    }
+
+    // The next line that has a byte, without the commas at its end, and the lines after it.
+    pub(crate) fn next_row(self) -> Option<(&'t [u8], Lines<'t>)>
+        ensures { MatchOption result (rows_of self.entry.text.now ≡ [])
+            (λ next. rows_of self.entry.text.now ≡ fields_of_trimmed next.0.now ∷ rows_of next.1.text.now) }
+    {
+        let mut left = self;
+        while !left.text.is_empty() {
+            let (line, after) = left.next_line();
+            if !line.is_empty() {
+                return Some((trimmed(line), after));
+            }
+            left = after;
+        }
+        None
+    }
+
+    // The first line of a text that has a byte, and the lines after it.
+    fn next_line(self) -> (&'t [u8], Lines<'t>)
+        requires { 0 < length self.text.now }
+        ensures { NextLine self.entry.text.now result.0.now result.1.text.now }
+    {
+        match memchr2(b'\n', b'\r', self.text) {
+            Some(at) => {
+                let (line, _) = self.text.split_at(at);
+                let (_, text) = self.text.split_at(at + 1);
+                (line, Lines { text })
+            }
+            None => {
+                let (line, text) = self.text.split_at(self.text.len());
+                (line, Lines { text })
+            }
+        }
+    }
+}
+
+// A line without the commas at its end.
+fn trimmed(line: &[u8]) -> &[u8]
+    ensures { fields_of_trimmed result.now ≡ without_trailing_empty (fields_of_line line.now) }
+{
+    let mut kept = line;
+    while let Some((last, front)) = kept.split_last() {
+        if *last != b',' {
+            return kept;
+        }
+        kept = front;
+    }
+    kept
+}
+
+/// The fields of a line in turn.
+#[derive(Clone, Copy, Debug)]
+pub(crate) struct LineFields<'t> {
+    rest: Option<&'t [u8]>,
+}
+
+impl<'t> LineFields<'t> {
+    ghost use Rattle.mt_lists.specs.Rows.{line_fields_left};
+
+    // The fields of a line that has lost the commas at its end.
+    pub(crate) fn new(line: &'t [u8]) -> LineFields<'t>
+        ensures { line_fields_left result ≡ fields_of_trimmed line.now }
+    {
+        let rest = if line.is_empty() { None } else { Some(line) };
+        LineFields { rest }
+    }
+}
+
+impl<'t> Iterator for LineFields<'t> {
+    ghost use Rattle.mt_lists.specs.Rows.{line_fields_left};
+
+    type Item = &'t [u8];
+
+    ghost next_gives = { YieldsFirstRef line_fields_left };
+
+    ghost remaining = { item_count line_fields_left };
+
+    fn next(&mut self) -> Option<&'t [u8]> {
+        let rest = self.rest?;
+        match memchr(b',', rest) {
+            Some(at) => {
+                let (field, _) = rest.split_at(at);
+                let (_, after) = rest.split_at(at + 1);
+                self.rest = Some(after);
+                Some(field)
+            }
+            None => {
+                self.rest = None;
+                Some(rest)
+            }
+        }
+    }
+}

@@ -1,0 +1,91 @@
+ghost use Rattle.std.specs.Prelude.{◌≡◌};
+ghost use Rattle.std.specs.Iterator.{YieldsFirst, item_count};
+
+use crate::lines::Lines;
+use crate::read_row::ReadRow;
+use crate::row::{Row, RowSource};
+use std::marker::Model;
+
+/// The rows of an input: the lines of a text that has no quote, which are cut as they are lent, or else the rows that
+/// `csv` has read.
+#[derive(Debug, Drop)]
+pub struct Rows<'t> {
+    source: RowsSource<'t>,
+}
+
+// Where the rows lie.
+#[derive(Debug, Drop)]
+pub(crate) enum RowsSource<'t> {
+    Lines(Lines<'t>),
+    Read(Vec<ReadRow>),
+}
+
+impl<'t> Model for Rows<'t> {
+    ghost use Rattle.std.specs.Prelude.{List, ℕ};
+    ghost use Rattle.mt_lists.specs.Sources.{all_rows};
+
+    ghost Value = { List (List (List ℕ)) };
+
+    ghost view = { λ rows. all_rows rows.source };
+}
+
+impl<'t> Rows<'t> {
+    ghost use Rattle.mt_lists.specs.Rows.{rows_left};
+    ghost use Rattle.mt_lists.specs.Sources.{all_rows};
+
+    // The rows that lie there.
+    pub(crate) fn new(source: RowsSource<'t>) -> Rows<'t>
+        ensures { result ≡ all_rows source.entry }
+    {
+        Rows { source }
+    }
+
+    /// The rows in turn.
+    pub fn iter(&self) -> RowsIter<'_>
+        ensures { rows_left result ≡ self.now }
+    {
+        let rest = match &self.source {
+            RowsSource::Lines(lines) => RowsRest::Lines(*lines),
+            RowsSource::Read(rows) => RowsRest::Read(rows.as_slice()),
+        };
+        RowsIter { rest }
+    }
+}
+
+/// The rows of an input in turn.
+#[derive(Clone, Copy, Debug)]
+pub struct RowsIter<'r> {
+    rest: RowsRest<'r>,
+}
+
+// The rows that have yet to come.
+#[derive(Clone, Copy, Debug)]
+pub(crate) enum RowsRest<'r> {
+    Lines(Lines<'r>),
+    Read(&'r [ReadRow]),
+}
+
+impl<'r> Iterator for RowsIter<'r> {
+    ghost use Rattle.mt_lists.specs.Rows.{rows_left};
+
+    type Item = Row<'r>;
+
+    ghost next_gives = { YieldsFirst rows_left };
+
+    ghost remaining = { item_count rows_left };
+
+    fn next(&mut self) -> Option<Row<'r>> {
+        match self.rest {
+            RowsRest::Lines(lines) => {
+                let (line, after) = lines.next_row()?;
+                self.rest = RowsRest::Lines(after);
+                Some(Row::new(RowSource::Line(line)))
+            }
+            RowsRest::Read(rows) => {
+                let (row, after) = rows.split_first()?;
+                self.rest = RowsRest::Read(after);
+                Some(Row::new(RowSource::Read(row)))
+            }
+        }
+    }
+}
