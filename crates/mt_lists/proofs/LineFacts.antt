@@ -1,16 +1,16 @@
 -- The records of a text with no quote, line by line.
-use Rattle.std.proofs.Common.{◌≡◌, ℕ, zero, suc, ◌+◌, ◌<◌, List, [], ◌∷◌, ◌++◌, length, map, take, drop, get_or, Bool, true, false, ◌==◌, refl, sym, ap, ◌∙◌, inl, inr, append_assoc, arith, length-drop}
+use Rattle.std.proofs.Common.{◌≡◌, ℕ, zero, suc, ◌+◌, ◌<◌, ◌≤◌, List, [], ◌∷◌, ◌++◌, length, map, take, drop, get_or, Bool, true, false, ◌==◌, refl, sym, ap, ◌∙◌, inl, inr, append_assoc, arith, length-drop}
 use Rattle.std.specs.List.{list_any}
 use Rattle.std.proofs.Math.Seq.{take-length}
 use Rattle.std.proofs.lemmas.Bool.{cases_Bool, false_from_ne_true, or_parts}
 use Rattle.std.proofs.lemmas.Bool.Decides.{nat_tests}
-use Rattle.std.proofs.lemmas.List.{append-nil, drop_more, take-append-drop}
+use Rattle.std.proofs.lemmas.List.{append-nil, drop_more, length-map, take-append-drop}
 use Rattle.std.proofs.lemmas.List.Folds.{list_any-append}
 use Rattle.csv.specs.declared.parser.State.TheVariants as st
 use Rattle.csv.specs.Reading.{default_config, records}
 use Rattle.mt_lists.specs.Lines.{NextLine, ends_line, fields_of_line, is_quote, record_of_line, split_from}
 use Rattle.mt_lists.specs.Records.{rows_of, without_trailing_empty}
-use Rattle.mt_lists.proofs.StepFacts.{read_from, records-read_from}
+use Rattle.mt_lists.proofs.StepFacts.{read_from, records-read_from, records-within}
 
 -- after a carriage return csv reads on as from the start
 after_return : (tail : List ℕ) → read_from st.AfterCr [] [] tail ≡ read_from st.StartRecord [] [] tail
@@ -201,3 +201,8 @@ pub rows-nothing : (text : List ℕ) → length text ≡ 0 → rows_of text ≡ 
 unfolding rows_of
 rows-nothing [] none = ap (map without_trailing_empty) records-nothing
 rows-nothing (c ∷ rest) none = absurd (omega (arith, none))
+
+-- a text has no more rows than bytes
+pub rows-within : (text : List ℕ) → length (rows_of text) ≤ length text
+unfolding rows_of
+rows-within text = rw (length-map without_trailing_empty (records default_config text)) (records-within text)

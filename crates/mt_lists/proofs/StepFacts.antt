@@ -1,5 +1,5 @@
 -- The records of a text, byte by byte.
-use Rattle.std.proofs.Common.{◌≡◌, ℕ, List, [], ◌∷◌, ◌++◌, Option, Some, None, if◌then◌else◌, false, refl, sym, ap, ◌∙◌, inl, inr}
+use Rattle.std.proofs.Common.{◌≡◌, ℕ, ◌+◌, ◌≤◌, List, [], ◌∷◌, ◌++◌, length, Option, Some, None, if◌then◌else◌, false, refl, sym, ap, ◌∙◌, inl, inr, arith}
 use Rattle.std.proofs.lemmas.Bool.{cases_Bool}
 use Rattle.csv.specs.declared.parser.State.{State}
 use Rattle.csv.specs.declared.parser.State.TheVariants as st
@@ -43,3 +43,26 @@ read_from-next s fields field (c ∷ rest) =
 -- csv's records of a text, byte by byte
 pub records-read_from : (xs : List ℕ) → records default_config xs ≡ read_from st.StartRecord [] [] xs
 records-read_from xs = records_left-next st.StartRecord xs refl ∙ sym (read_from-next st.StartRecord [] [] xs)
+
+-- there is a byte for each record that has yet to begin
+read_from-within : (s : State) (fields : List (List ℕ)) (field xs : List ℕ)
+    → (length (read_from s fields field xs) ≤ length xs + 1) × (ends_at_end s ≡ false → length (read_from s fields field xs) ≤ length xs)
+unfolding read_from
+read_from-within s fields field [] =
+    elim (cases_Bool (ends_at_end s)) [
+      | inl ends ↦ (rw ends (omega arith), λ idle. cc)
+      | inr goes ↦ (rw goes (omega arith), λ idle. rw goes (omega arith))
+    ]
+read_from-within s fields field (c ∷ rest) =
+    elim (cases_Bool (is_end (step default_config s c).1)) [
+      | inl ends ↦
+          let more = (read_from-within (step default_config s c).0 [] [] rest).1 (step-rests default_config s c ends) in
+          (rw ends (omega (arith, more)), λ idle. rw ends (omega (arith, more)))
+      | inr goes ↦
+          let more = (read_from-within (step default_config s c).0 (fields_after (step default_config s c).1 fields field) (field_after (step default_config s c).1 c field) rest).0 in
+          (rw goes (omega (arith, more)), λ idle. rw goes (omega (arith, more)))
+    ]
+
+-- a text has no more records than bytes
+pub records-within : (xs : List ℕ) → length (records default_config xs) ≤ length xs
+records-within xs = rw (records-read_from xs) ((read_from-within st.StartRecord [] [] xs).1 refl)

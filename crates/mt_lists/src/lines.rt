@@ -1,4 +1,4 @@
-ghost use Rattle.std.specs.Prelude.{◌≡◌, ◌<◌, [], ◌∷◌, false, true, length, MatchOption};
+ghost use Rattle.std.specs.Prelude.{◌≡◌, ◌<◌, ◌^◌, [], ◌∷◌, false, true, length, MatchOption};
 ghost use Rattle.std.specs.Iterator.{YieldsFirstRef, item_count};
 ghost use Rattle.std.specs.List.{list_any};
 ghost use Rattle.mt_lists.specs.Lines.{NextLine, fields_of_line, fields_of_trimmed, is_quote};
@@ -6,7 +6,7 @@ ghost use Rattle.mt_lists.specs.Records.{rows_of, without_trailing_empty};
 
 use memchr::{memchr, memchr2};
 
-/// A text with no double quote, and no mark at its start: its rows are its lines.
+/// A text with no double quote, whose rows are its lines.
 #[derive(Clone, Copy, Debug)]
 pub(crate) struct Lines<'t> {
     text: &'t [u8],
@@ -22,6 +22,13 @@ impl<'t> Lines<'t> {
             Some(_) => None,
             None => Some(Lines { text }),
         }
+    }
+
+    // A text has no more rows than bytes.
+    pub(crate) fn count_fits(self)
+        ensures { length (rows_of self.entry.text.now) < 2 ^ 64 }
+    {
+        let _size = self.text.len();
     }
 
     // The next line that has a byte, without the commas at its end, and the lines after it.
@@ -40,7 +47,7 @@ impl<'t> Lines<'t> {
         None
     }
 
-    // The first line of a text that has a byte, and the lines after it.
+    // The first line of a text, which has a byte, and the lines after it.
     fn next_line(self) -> (&'t [u8], Lines<'t>)
         requires { 0 < length self.text.now }
         ensures { NextLine self.entry.text.now result.0.now result.1.text.now }

@@ -6,7 +6,7 @@ use crate::read_row::{ReadFields, ReadRow};
 use std::marker::Model;
 
 /// A row: its fields in order, without the empty ones at its end. It is as small as a reference and a length.
-#[derive(Debug)]
+#[derive(Debug, Drop)]
 pub struct Row<'r> {
     source: RowSource<'r>,
 }

@@ -1,4 +1,4 @@
-ghost use Rattle.std.specs.Prelude.{◌≡◌};
+ghost use Rattle.std.specs.Prelude.{◌≡◌, ◌<◌, ◌^◌, length};
 ghost use Rattle.std.specs.Iterator.{YieldsFirst, item_count};
 
 use crate::lines::Lines;
@@ -38,6 +38,18 @@ impl<'t> Rows<'t> {
         ensures { result ≡ all_rows source.entry }
     {
         Rows { source }
+    }
+
+    /// There are fewer rows than `usize` counts, which a count of them may need to know. It does nothing.
+    pub fn count_fits(&self)
+        ensures { length self.now < 2 ^ 64 }
+    {
+        match &self.source {
+            RowsSource::Lines(lines) => lines.count_fits(),
+            RowsSource::Read(rows) => {
+                let _count = rows.len();
+            }
+        }
     }
 
     /// The rows in turn.
