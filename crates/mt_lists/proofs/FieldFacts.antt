@@ -1,10 +1,10 @@
 -- The fields of a line, one after the other, and the commas at its end.
-use Rattle.std.proofs.Common.{◌≡◌, ℕ, ◌+◌, ◌-◌, ◌<◌, List, [], ◌∷◌, ◌++◌, length, take, drop, get_or, true, false, ◌==◌, refl, sym, ap, ◌∙◌, inl, inr, append_assoc, arith, length-append}
+use Rattle.std.proofs.Common.{◌≡◌, ◌≢◌, ℕ, ◌+◌, ◌-◌, ◌<◌, ◌≤◌, List, [], ◌∷◌, ◌++◌, length, take, drop, get_or, true, false, ◌==◌, refl, sym, ap, ◌∙◌, inl, inr, append_assoc, arith, length-append}
 use Rattle.std.specs.List.{list_any, suffix_len}
 use Rattle.std.proofs.Math.Seq.{take-length}
 use Rattle.std.proofs.lemmas.Bool.{cases_Bool, eqb-true, or_parts}
 use Rattle.std.proofs.lemmas.Bool.Decides.{nat_tests}
-use Rattle.std.proofs.lemmas.List.{append-nil, drop_more, reverse-append, take-append-drop, take-append-le}
+use Rattle.std.proofs.lemmas.List.{append-nil, drop_all, drop_more, reverse-append, take-append-drop, take-append-le}
 use Rattle.mt_lists.specs.Lines.{fields_of_line, fields_of_trimmed, is_comma, split_from}
 use Rattle.mt_lists.specs.Records.{is_empty_field, without_trailing_empty}
 use Rattle.mt_lists.proofs.LineFacts.{none_at_all, none_before}
@@ -131,3 +131,36 @@ trimmed-empty [] = refl
 trimmed-empty (b ∷ rest) =
     let byte : (length (b ∷ rest) == 0) ≡ false = grind (arith, nat_tests) in
     byte ∙ sym (split-some [] (b ∷ rest))
+
+-- a line has as many fields, whatever stands before its first byte
+fields-same : (f g line : List ℕ) → length (split_from f line) ≡ length (split_from g line)
+unfolding split_from
+fields-same f g [] = refl
+fields-same f g (c ∷ rest) =
+    elim (cases_Bool (c == 44)) [
+      | inl is ↦ rw is refl
+      | inr other ↦ rw other (fields-same (f ++ (c ∷ [])) (g ++ (c ∷ [])) rest)
+    ]
+
+-- a line from a byte on, and from the next: a comma is one field more
+fields-comma : (rest : List ℕ) → length (fields_of_line (44 ∷ rest)) ≡ 1 + length (fields_of_line rest)
+unfolding split_from
+fields-comma rest = omega arith
+
+fields-other : (c : ℕ) (rest : List ℕ) → (c == 44) ≡ false → length (fields_of_line (c ∷ rest)) ≡ length (fields_of_line rest)
+unfolding split_from
+fields-other c rest other = rw other (fields-same (c ∷ []) [] rest)
+
+module _ (line : List ℕ) (i : ℕ) (h : i < length line) where
+  pub comma-counts : get_or line i 0 ≡ 44 → length (fields_of_line (drop i line)) ≡ 1 + length (fields_of_line (drop (i + 1) line))
+  comma-counts is =
+      ap (λ (x : List ℕ). length (fields_of_line x)) (drop_more line i 0 h ∙ ap (λ (c : ℕ). c ∷ drop (i + 1) line) is) ∙ fields-comma (drop (i + 1) line)
+
+  pub other-counts : get_or line i 0 ≢ 44 → length (fields_of_line (drop i line)) ≡ length (fields_of_line (drop (i + 1) line))
+  other-counts other =
+      ap (λ (x : List ℕ). length (fields_of_line x)) (drop_more line i 0 h) ∙ fields-other (get_or line i 0) (drop (i + 1) line) (grind (arith, nat_tests, other))
+
+-- a line with no byte left is one field more
+pub fields-end : (line : List ℕ) (i : ℕ) → length line ≤ i → length (fields_of_line (drop i line)) ≡ 1
+unfolding split_from
+fields-end line i h = rw (drop_all i line h) refl

@@ -205,4 +205,4 @@ rows-nothing (c ∷ rest) none = absurd (omega (arith, none))
 -- a text has no more rows than bytes
 pub rows-within : (text : List ℕ) → length (rows_of text) ≤ length text
 unfolding rows_of
-rows-within text = rw (length-map without_trailing_empty (records default_config text)) (records-within text)
+rows-within text = rw (length-map (records default_config text) without_trailing_empty) (records-within text)

@@ -1,4 +1,4 @@
-ghost use Rattle.std.specs.Prelude.{◌≡◌, ◌<◌, ◌^◌, [], ◌∷◌, false, true, length, MatchOption};
+ghost use Rattle.std.specs.Prelude.{◌≡◌, ◌+◌, ◌<◌, ◌≤◌, ◌^◌, [], ◌∷◌, false, true, length, MatchOption};
 ghost use Rattle.std.specs.Iterator.{YieldsFirstRef, item_count};
 ghost use Rattle.std.specs.List.{list_any};
 ghost use Rattle.mt_lists.specs.Lines.{NextLine, fields_of_line, fields_of_trimmed, is_quote};
@@ -24,9 +24,9 @@ impl<'t> Lines<'t> {
         }
     }
 
-    // A text has no more rows than bytes.
-    pub(crate) fn count_fits(self)
-        ensures { length (rows_of self.entry.text.now) < 2 ^ 64 }
+    // Does nothing: that a text has no more rows than bytes is what its contract says.
+    pub(crate) fn has_few_rows(self)
+        ensures { length (rows_of self.entry.text.now) ≤ 2 ^ 63 }
     {
         let _size = self.text.len();
     }
@@ -80,6 +80,20 @@ fn trimmed(line: &[u8]) -> &[u8]
     kept
 }
 
+// How many commas a line has: one less than it has fields.
+fn commas(line: &[u8]) -> usize
+    ensures fields { result + 1 ≡ length (fields_of_line line.now) }
+    ensures few { result < 2 ^ 63 }
+{
+    let mut commas = 0;
+    for byte in line {
+        if *byte == b',' {
+            commas += 1;
+        }
+    }
+    commas
+}
+
 /// The fields of a line in turn.
 #[derive(Clone, Copy, Debug)]
 pub(crate) struct LineFields<'t> {
@@ -95,6 +109,16 @@ impl<'t> LineFields<'t> {
     {
         let rest = if line.is_empty() { None } else { Some(line) };
         LineFields { rest }
+    }
+
+    // How many fields are left.
+    pub(crate) fn len(&self) -> usize
+        ensures { result ≡ length (line_fields_left self.now) }
+    {
+        match self.rest {
+            Some(line) => commas(line) + 1,
+            None => 0,
+        }
     }
 }
 

@@ -93,6 +93,13 @@ impl<'r> ReadFields<'r> {
     {
         ReadFields { row, at: 0 }
     }
+
+    // How many fields are left.
+    pub(crate) fn len(&self) -> usize
+        ensures { result ≡ length (read_fields_left self.now) }
+    {
+        self.row.len().saturating_sub(self.at)
+    }
 }
 
 impl<'r> Iterator for ReadFields<'r> {

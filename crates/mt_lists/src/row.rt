@@ -73,6 +73,20 @@ pub(crate) enum FieldsSource<'r> {
     Read(ReadFields<'r>),
 }
 
+impl<'r> Fields<'r> {
+    ghost use Rattle.mt_lists.specs.Rows.{fields_left};
+
+    /// How many fields are left. Those of a line are counted by its commas.
+    pub fn len(&self) -> usize
+        ensures { result ≡ length (fields_left self.now) }
+    {
+        match &self.source {
+            FieldsSource::Line(fields) => fields.len(),
+            FieldsSource::Read(fields) => fields.len(),
+        }
+    }
+}
+
 impl<'r> Iterator for Fields<'r> {
     ghost use Rattle.mt_lists.specs.Rows.{fields_left};
 

@@ -1,4 +1,4 @@
-ghost use Rattle.std.specs.Prelude.{◌≡◌, ◌<◌, ◌^◌, length};
+ghost use Rattle.std.specs.Prelude.{◌≡◌, ◌≤◌, ◌^◌, length};
 ghost use Rattle.std.specs.Iterator.{YieldsFirst, item_count};
 
 use crate::lines::Lines;
@@ -40,24 +40,16 @@ impl<'t> Rows<'t> {
         Rows { source }
     }
 
-    /// There are fewer rows than `usize` counts, which a count of them may need to know. It does nothing.
-    pub fn count_fits(&self)
-        ensures { length self.now < 2 ^ 64 }
-    {
-        match &self.source {
-            RowsSource::Lines(lines) => lines.count_fits(),
-            RowsSource::Read(rows) => {
-                let _count = rows.len();
-            }
-        }
-    }
-
     /// The rows in turn.
     pub fn iter(&self) -> RowsIter<'_>
-        ensures { rows_left result ≡ self.now }
+        ensures rows { rows_left result ≡ self.now }
+        ensures few { length self.now ≤ 2 ^ 63 }
     {
         let rest = match &self.source {
-            RowsSource::Lines(lines) => RowsRest::Lines(*lines),
+            RowsSource::Lines(lines) => {
+                lines.has_few_rows();
+                RowsRest::Lines(*lines)
+            }
             RowsSource::Read(rows) => RowsRest::Read(rows.as_slice()),
         };
         RowsIter { rest }
