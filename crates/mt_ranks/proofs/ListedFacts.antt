@@ -6,9 +6,13 @@ use Rattle.std.proofs.lemmas.List.{drop_more, get_or-set_same, get_or-set_other,
 use Rattle.std.proofs.lemmas.List.FromFn.{fill_by_all, get_or-map-range_with_len}
 use Rattle.mt_terms.specs.Lists.{has, below, count, is_distinct}
 use Rattle.mt_terms.proofs.ListFacts.{has_item}
-use Rattle.mt_ranks.specs.Entries.{entries_in, entries_from, times_listed, AreDistinct}
-use Rattle.mt_ranks.specs.Rows.{Filling, empty_rows, row_of, HasRoom, with_entry}
+use Rattle.mt_ranks.specs.Entries.{entries_in, entries_from, times_listed, IsCounted}
+use Rattle.mt_ranks.specs.Rows.{Filling, empty_rows, row_of, HasRoom, IsEnteredFor, with_entry}
 use Rattle.mt_ranks.specs.declared.entries.Live.{Live}
+
+-- lists that name nobody twice
+abbrev pub AreDistinct : List (List ℕ) → Type 0
+AreDistinct lists = (p : ℕ) → IsTrue (is_distinct (get_or lists p []))
 
 pub length-entries_in : (p rank : ℕ) (xs : List ℕ) (a : ℕ) → length (entries_in p rank xs a) ≡ count (λ x. eqb x a) xs
 length-entries_in p rank [] a = refl
@@ -87,6 +91,13 @@ pub listed_fits : (counts : List ℕ) (rs : List (List ℕ)) (p a : ℕ) → Are
     → get_or counts a 0 + count (λ x. eqb x a) (get_or rs p []) ≤ length rs
 listed_fits counts rs p a inv d h i = omega (arith, inv a i, times_listed-drop rs p a h, times_listed_few rs a d)
 
+pub listed_more : (counts new : List ℕ) (rs : List (List ℕ)) (p : ℕ) (ranking : List ℕ) → AreListed counts rs p → p < length rs → ranking ≡ get_or rs p []
+    → length new ≡ length counts → IsCounted counts new ranking → AreListed new rs (p + 1)
+listed_more counts new rs p ranking inv h at len counted a i =
+    let within : a < length counts = omega arith in
+    let here : count (λ x. eqb x a) ranking ≡ count (λ x. eqb x a) (get_or rs p []) = ap (count (λ x. eqb x a)) at in
+    omega (arith, inv a within, counted a within, here, times_listed-drop rs p a h)
+
 pub listed_all : (counts : List ℕ) (rs : List (List ℕ)) (p n : ℕ) → AreListed counts rs p → length rs ≤ p → length counts ≡ n → counts ≡ map (times_listed rs) (below n)
 listed_all counts rs p n inv h e =
     fill_by_all (times_listed rs) counts n 0 e (λ a i. omega (arith, inv a (omega arith), at_drop_all (λ ls. times_listed ls a) rs p h))
@@ -144,6 +155,14 @@ AreEntered rows rs p = (a : ℕ) → a < length rows.lists → row_of rows a ++ 
 
 entries_front : (rs : List (List ℕ)) (p a : ℕ) → p < length rs → entries_from p (drop p rs) a ≡ entries_in p 0 (get_or rs p []) a ++ entries_from (p + 1) (drop (p + 1) rs) a
 entries_front rs p a h = at_drop_more (λ ls. entries_from p ls a) rs p [] h
+
+pub entered_more : (rows new : Filling) (rs : List (List ℕ)) (p : ℕ) (ranking : List ℕ) → AreEntered rows rs p → p < length rs → ranking ≡ get_or rs p []
+    → length new.lists ≡ length rows.lists → IsEnteredFor rows new p ranking → AreEntered new rs (p + 1)
+entered_more rows new rs p ranking inv h at len entered a w =
+    let within : a < length rows.lists = omega arith in
+    let here : row_of new a ≡ row_of rows a ++ entries_in p 0 (get_or rs p []) a = entered a within ∙ ap (λ xs. row_of rows a ++ entries_in p 0 xs a) at in
+    rw here
+    (append_assoc (row_of rows a) (entries_in p 0 (get_or rs p []) a) (entries_from (p + 1) (drop (p + 1) rs) a) ∙ ap (λ es. row_of rows a ++ es) (sym (entries_front rs p a h)) ∙ inv a within)
 
 pub entered_room : (rows : Filling) (rs : List (List ℕ)) (p a n : ℕ) → AreEntered rows rs p → rows.sizes ≡ map (times_listed rs) (below n) → p < length rs → length rows.lists ≡ n
     → a < length rows.lists → HasRoom rows a (count (λ x. eqb x a) (get_or rs p []))

@@ -6,32 +6,27 @@ use Rattle.std.proofs.lemmas.Bool.{cases_lt}
 use Rattle.std.proofs.lemmas.List.{get_or-map, get_or_past, length-map}
 use Rattle.mt_terms.specs.Lists.{has}
 use Rattle.mt_terms.specs.Market.{Market, Program, program_of, list_of, live}
-use Rattle.mt_market.specs.Tables.{programs_with}
-use Rattle.mt_ranks.specs.Entries.{entries_from, rank_among, entries_among}
+use Rattle.mt_terms.specs.WellFormed.{IsWellFormed}
+use Rattle.mt_ranks.specs.Entries.{own_entries, rankings_of, rank_among, entries_among}
 use Rattle.mt_ranks.specs.Ranked.{ranked_entry, rank_of}
 use Rattle.mt_ranks.specs.View.{programs_in}
-use Rattle.mt_ranks.specs.declared.entries.Live.{Live}
+use Rattle.mt_ranks.proofs.ListedFacts.{AreDistinct}
 use Rattle.mt_ranks.proofs.Positions.{has-position, rank_among-entries}
 
-pub programs_with-fields : (ps : List Program) → programs_with (map Program.quota ps) (map Program.ranking ps) ≡ ps
-programs_with-fields [] = refl
-programs_with-fields (p ∷ ps) = ap (λ rest. p ∷ rest) (programs_with-fields ps)
-
-pub ranking_at : (m : Market) (p : ℕ) → get_or (map Program.ranking m.programs) p [] ≡ (program_of m p).ranking
+pub ranking_at : (m : Market) (p : ℕ) → get_or (rankings_of m) p [] ≡ (program_of m p).ranking
 ranking_at m p =
-    elim (cases_lt p (length m.programs)) as (λ o. get_or (map Program.ranking m.programs) p [] ≡ (program_of m p).ranking) [
+    elim (cases_lt p (length m.programs)) as (λ o. get_or (rankings_of m) p [] ≡ (program_of m p).ranking) [
       | inl within ↦ get_or-map Program.ranking m.programs p (record { quota = 0; ranking = [] }) [] within
       | inr past ↦
           let none : program_of m p ≡ record { quota = 0; ranking = [] } = get_or_past m.programs p (record { quota = 0; ranking = [] }) past in
-          get_or_past (map Program.ranking m.programs) p [] (omega (arith, length-map m.programs Program.ranking)) ∙ ap (λ (q : Program). q.ranking) (sym none)
+          get_or_past (rankings_of m) p [] (omega (arith, length-map m.programs Program.ranking)) ∙ ap (λ (q : Program). q.ranking) (sym none)
     ]
 
--- an applicant's entries, by the market's own lists
-abbrev pub own_entries : Market → ℕ → List Live
-own_entries m a = entries_from 0 (map Program.ranking m.programs) a
+pub rankings_distinct : (m : Market) → IsWellFormed m → AreDistinct (rankings_of m)
+rankings_distinct m w p = rw (ranking_at m p) (w.rankings_distinct p)
 
-rank_among-own : (m : Market) (a p : ℕ) → rank_among (own_entries m a) p ≡ rank_of m p a
-rank_among-own m a p = rank_among-entries (map Program.ranking m.programs) a p ∙ ap (position (λ x. x == a)) (ranking_at m p)
+pub rank_among-own : (m : Market) (a p : ℕ) → rank_among (own_entries m a) p ≡ rank_of m p a
+rank_among-own m a p = rank_among-entries (rankings_of m) a p ∙ ap (position (λ x. x == a)) (ranking_at m p)
 
 -- one program more, where the rest is known
 found_more : (m : Market) (a p : ℕ) (ps : List ℕ) (o : Option ℕ) → rank_of m p a ≡ o

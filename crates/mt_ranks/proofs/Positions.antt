@@ -6,9 +6,10 @@ use Rattle.std.proofs.lemmas.Bool.{cases_Bool, eqb-true, eq-eqb, ne_eqb, and_par
 use Rattle.std.proofs.lemmas.Iterator.Adapters.{position_from-zero}
 use Rattle.std.proofs.lemmas.List.Quantifiers.{position-Some}
 use Rattle.mt_terms.specs.Lists.{has, is_distinct}
-use Rattle.mt_ranks.specs.Entries.{entries_in, entries_from, rank_among, AscendFrom, AreDistinct}
+use Rattle.mt_ranks.specs.Entries.{entries_in, entries_from, rank_among, AscendFrom}
 use Rattle.mt_ranks.specs.Ranked.{IsRank}
 use Rattle.mt_ranks.specs.declared.entries.Live.{Live}
+use Rattle.mt_ranks.proofs.ListedFacts.{AreDistinct}
 
 -- the first of two answers
 abbrev or_else : Option ℕ → Option ℕ → Option ℕ

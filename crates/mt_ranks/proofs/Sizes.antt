@@ -6,8 +6,8 @@ use Rattle.std.specs.List.{All}
 use Rattle.std.proofs.lemmas.List.Sums.{sum_by-le}
 use Rattle.std.proofs.lemmas.List.FromFn.{length-map-range_with_len, get_or-map-range_with_len}
 use Rattle.mt_terms.proofs.Totals.{total_below-add, total_below-zero, count_below-one}
-use Rattle.mt_ranks.specs.Entries.{times_listed, AreDistinct}
-use Rattle.mt_ranks.proofs.ListedFacts.{listed_once, times_listed_few}
+use Rattle.mt_ranks.specs.Entries.{times_listed}
+use Rattle.mt_ranks.proofs.ListedFacts.{AreDistinct, listed_once, times_listed_few}
 
 pub total_below-le : (f : ℕ → ℕ) (n b : ℕ) → ((a : ℕ) → a < n → f a ≤ b) → total_below f n ≤ n * b
 total_below-le f zero b h = omega arith

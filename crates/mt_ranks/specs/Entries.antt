@@ -1,8 +1,9 @@
 -- The programs that list an applicant, with the applicant's rank on each list.
-use Rattle.std.specs.Prelude.{◌≡◌, ℕ, ◌+◌, ◌≤◌, ◌<◌, ◌^◌, ◌==◌, List, [], ◌∷◌, ◌++◌, length, Option, Some, None, IsTrue, slice_index, slice_index_or, if◌then◌else◌}
+use Rattle.std.specs.Prelude.{◌≡◌, ℕ, ◌+◌, ◌≤◌, ◌<◌, ◌^◌, ◌==◌, List, [], ◌∷◌, ◌++◌, length, map, Option, Some, None, slice_index, if◌then◌else◌}
 use Rattle.std.specs.List.{filter_map}
 use Rattle.std.specs.Option.{option_map}
-use Rattle.mt_terms.specs.Lists.{has, count, is_distinct}
+use Rattle.mt_terms.specs.Lists.{count}
+use Rattle.mt_terms.specs.Market.{Market, Program}
 use Rattle.mt_ranks.specs.declared.entries.Live.{Live}
 
 -- the places of an applicant on the rest of a program's list, which begins at this rank
@@ -16,6 +17,13 @@ entries_in p rank (x ∷ xs) a =
 abbrev pub entries_from : ℕ → List (List ℕ) → ℕ → List Live
 entries_from p [] a = []
 entries_from p (ranking ∷ rankings) a = entries_in p 0 ranking a ++ entries_from (p + 1) rankings a
+
+-- the lists of a market's programs, and the places of an applicant on them
+abbrev pub rankings_of : Market → List (List ℕ)
+rankings_of m = map Program.ranking m.programs
+
+abbrev pub own_entries : Market → ℕ → List Live
+own_entries m a = entries_from 0 (rankings_of m) a
 
 -- how often a list has an applicant, and how often lists have it together
 abbrev pub times_in : List ℕ → ℕ → ℕ
@@ -52,11 +60,3 @@ entries_among entries list = filter_map (entry_among entries) list
 abbrev pub AscendFrom : ℕ → List Live → Type 0
 AscendFrom p [] = Unit {0}
 AscendFrom p (x ∷ xs) = (p ≤ x.program) × AscendFrom (x.program + 1) xs
-
--- lists that name numbers below n alone
-abbrev pub AreWithin : ℕ → List (List ℕ) → Type 0
-AreWithin n lists = (p a : ℕ) → IsTrue (has (slice_index_or lists p []) a) → a < n
-
--- lists that name nobody twice
-abbrev pub AreDistinct : List (List ℕ) → Type 0
-AreDistinct lists = (p : ℕ) → IsTrue (is_distinct (slice_index_or lists p []))

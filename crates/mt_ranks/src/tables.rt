@@ -1,6 +1,6 @@
-ghost use Rattle.std.specs.Prelude.{◌≡◌, ℕ, ◌<◌, false, [], All, length, map, is_some, slice_index_or, IfOk, IfSome};
+ghost use Rattle.std.specs.Prelude.{◌≡◌, ℕ, ◌<◌, false, [], All, length, is_some, slice_index_or, IfOk, IfSome};
 ghost use Rattle.mt_terms.specs.Lists.{has};
-ghost use Rattle.mt_terms.specs.Market.{Program, applicants, program_of};
+ghost use Rattle.mt_terms.specs.Market.{applicants, program_of};
 ghost use Rattle.mt_ranks.specs.Entries.{AscendFrom};
 ghost use Rattle.mt_ranks.specs.Ranked.{IsRank, IsEntry, IsRanked, is_single_agent, rank_of, ranked_list, ranked_of, ranking_of, single_flags};
 ghost use Rattle.mt_ranks.specs.Rows.{listed_rows, row_of};
@@ -13,18 +13,17 @@ use mt_terms::{Agent, AppNo, ProgNo};
 use std::alloc::{AllocError, Global};
 use std::marker::Model;
 
-/// The rank tables of a market: live lists with ranks, the programs' lists, and every rank on them. They show
-/// the singles' market with live lists alone, and who is a single.
+/// The rank tables of a market, beside its roster, which keeps the programs' lists: live lists with ranks, and
+/// every rank on the programs' lists. They show the singles' market with live lists alone, and who is a single.
 #[derive(Debug, Drop)]
-pub struct Ranks {
-    quotas: Vec<u32>,
-    rankings: FlatLists<AppNo>,
+pub struct Ranks<'m> {
+    roster: &'m Roster,
     rows: Rows,
     lists: FlatLists<Live>,
     singles: Vec<bool>,
 }
 
-impl Model for Ranks {
+impl<'m> Model for Ranks<'m> {
     ghost use Rattle.mt_ranks.specs.Ranked.{Ranked};
 
     ghost Value = { Ranked };
@@ -34,28 +33,6 @@ impl Model for Ranks {
     ghost view = { ranked_in };
 
     ghost invariant = { AreTables };
-}
-
-/// The programs' quotas.
-fn quotas(alloc: Global, roster: &Roster) -> Result<Vec<u32>, AllocError>
-    ensures { IfOk result (λ v. v.items ≡ map Program.quota roster.now.market.programs) }
-{
-    let mut quotas = Vec::with_capacity(alloc, roster.programs() as usize)?;
-    for program in 0..roster.programs() {
-        quotas.push(roster.quota(ProgNo(program)))?;
-    }
-    Ok(quotas)
-}
-
-/// The programs' lists.
-fn rankings(alloc: Global, roster: &Roster) -> Result<FlatLists<AppNo>, AllocError>
-    ensures { IfOk result (λ lists. lists ≡ map Program.ranking roster.now.market.programs) }
-{
-    let mut rankings = FlatLists::new(alloc);
-    for program in 0..roster.programs() {
-        rankings.push_list(roster.program_list(ProgNo(program)))?;
-    }
-    Ok(rankings)
 }
 
 /// Whether the agent is a single.
@@ -96,19 +73,17 @@ fn live_lists(alloc: Global, roster: &Roster, rows: &Rows) -> Result<FlatLists<L
     Ok(lists)
 }
 
-impl Ranks {
+impl<'m> Ranks<'m> {
     /// The rank tables of a roster. The only error is want of memory.
-    pub fn build(alloc: Global, roster: &Roster) -> Result<Ranks, AllocError>
+    pub fn build(alloc: Global, roster: &'m Roster) -> Result<Ranks<'m>, AllocError>
         ensures { IfOk result (λ ranks. ranks ≡ ranked_of roster.now.market) }
     {
-        let quotas = quotas(alloc, roster)?;
-        let rankings = rankings(alloc, roster)?;
-        let rows = transpose(alloc, &rankings, roster.applicants() as usize)?;
+        roster.is_of_a_file();
+        let rows = transpose(alloc, roster)?;
         let lists = live_lists(alloc, roster, &rows)?;
         let singles = singles(alloc, roster)?;
         Ok(Ranks {
-            quotas,
-            rankings,
+            roster,
             rows,
             lists,
             singles,
@@ -128,7 +103,7 @@ impl Ranks {
         ensures count { result ≡ length self.now.market.programs }
         ensures ranked { IsRanked self.now }
     {
-        self.quotas.len() as u32
+        self.roster.programs()
     }
 
     /// How many posts the program has.
@@ -136,7 +111,7 @@ impl Ranks {
         requires { program < length self.now.market.programs }
         ensures { result ≡ (program_of self.now.market program).quota }
     {
-        self.quotas[program.index()]
+        self.roster.quota(program)
     }
 
     /// Whether the applicant is a single, and no member of a couple. A number that no applicant has is not
@@ -166,7 +141,7 @@ impl Ranks {
         requires { program < length self.now.market.programs }
         ensures { result.now ≡ (program_of self.now.market program).ranking }
     {
-        self.rankings.list(program.index())
+        self.roster.program_list(program)
     }
 
     /// The applicant's rank on the program's list, its position from 0, where the list has it.

@@ -1,12 +1,12 @@
-ghost use Rattle.std.specs.Prelude.{◌≡◌, ℕ, ◌<◌, ◌≤◌, ◌^◌, length, map, IfOk, IsTrue};
-ghost use Rattle.mt_terms.specs.declared.limits.TheConstants.{LIMITS_2};
+ghost use Rattle.std.specs.Prelude.{◌≡◌, ℕ, ◌<◌, ◌^◌, length, map, sum, IfOk, IsTrue};
 ghost use Rattle.mt_terms.specs.Lists.{has, below};
-ghost use Rattle.mt_ranks.specs.Entries.{entries_from, times_listed, AreWithin, AreDistinct, CanBeCounted, IsCounted};
+ghost use Rattle.mt_terms.specs.Market.{applicants};
+ghost use Rattle.mt_ranks.specs.Entries.{own_entries, rankings_of, times_listed, CanBeCounted, IsCounted};
 ghost use Rattle.mt_ranks.specs.Rows.{HasRoomFor, IsEnteredFor};
 
 use crate::entries::Live;
 use crate::rows::Rows;
-use mt_market::FlatLists;
+use mt_market::Roster;
 use mt_terms::{AppNo, ProgNo};
 use std::alloc::{AllocError, Global};
 
@@ -22,18 +22,13 @@ fn count_listed(counts: &mut [usize], ranking: &[AppNo])
 }
 
 /// How many programs list each applicant.
-fn listed(
-    alloc: Global,
-    rankings: &FlatLists<AppNo>,
-    applicants: usize,
-) -> Result<Vec<usize>, AllocError>
-    requires within { AreWithin applicants rankings.now }
-    requires distinct { AreDistinct rankings.now }
-    ensures { IfOk result (λ v. v.items ≡ map (times_listed rankings.now) (below applicants)) }
+fn listed(alloc: Global, roster: &Roster) -> Result<Vec<usize>, AllocError>
+    ensures few { IfOk result (λ v. sum v.items < 2 ^ 64) }
+    ensures times { let m = roster.now.market in IfOk result (λ v. v.items ≡ map (times_listed (rankings_of m)) (below (applicants m))) }
 {
-    let mut counts = Vec::from_elem(alloc, 0usize, applicants)?;
-    for program in 0..rankings.len() {
-        count_listed(&mut counts, rankings.list(program));
+    let mut counts = Vec::from_elem(alloc, 0usize, roster.applicants() as usize)?;
+    for program in 0..roster.programs() {
+        count_listed(&mut counts, roster.program_list(ProgNo(program)));
     }
     Ok(counts)
 }
@@ -59,21 +54,14 @@ fn add_ranking(rows: &mut Rows, program: ProgNo, ranking: &[AppNo])
 }
 
 /// For each applicant the programs that list it, in their order, with its rank on each.
-pub(crate) fn transpose(
-    alloc: Global,
-    rankings: &FlatLists<AppNo>,
-    applicants: usize,
-) -> Result<Rows, AllocError>
-    requires few_applicants { applicants ≤ LIMITS_2.applicants }
-    requires few_programs { length rankings.now ≤ LIMITS_2.programs }
-    requires within { AreWithin applicants rankings.now }
-    requires distinct { AreDistinct rankings.now }
-    ensures { IfOk result (λ v. v.lists ≡ map (entries_from 0 rankings.now) (below applicants)) }
+pub(crate) fn transpose(alloc: Global, roster: &Roster) -> Result<Rows, AllocError>
+    ensures { let m = roster.now.market in IfOk result (λ v. v.lists ≡ map (own_entries m) (below (applicants m))) }
 {
-    let sizes = listed(alloc, rankings, applicants)?;
+    let sizes = listed(alloc, roster)?;
     let mut rows = Rows::with_sizes(alloc, &sizes)?;
-    for program in 0..rankings.len() {
-        add_ranking(&mut rows, ProgNo(program as u32), rankings.list(program));
+    for program in 0..roster.programs() {
+        let program = ProgNo(program);
+        add_ranking(&mut rows, program, roster.program_list(program));
     }
     Ok(rows)
 }
