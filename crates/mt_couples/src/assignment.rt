@@ -73,7 +73,7 @@ fn add_ranked(ranking: &[AppNo], ranks: &[usize], out: &mut Vec<AppNo>) -> Resul
 #[derive(Drop)]
 pub(crate) struct Assignment<'a> {
     roster: &'a Roster,
-    ranks: &'a Ranks,
+    ranks: &'a Ranks<'a>,
     places: Vec<Option<ProgNo>>,
     rows: Vec<Row>,
 }
@@ -96,7 +96,7 @@ impl<'a> Assignment<'a> {
     pub(crate) fn new(
         alloc: Global,
         roster: &'a Roster,
-        ranks: &'a Ranks,
+        ranks: &'a Ranks<'a>,
         matched: Match,
     ) -> Result<Self, AllocError>
         requires ranks { ranks.now ≡ ranked_of roster.now.market }

@@ -21,7 +21,7 @@ use std::alloc::{AllocError, Global};
 #[derive(Drop)]
 pub(crate) struct Verifier<'a> {
     roster: &'a Roster,
-    ranks: &'a Ranks,
+    ranks: &'a Ranks<'a>,
     matched: &'a Match,
     placed: FlatLists<u32>,
     ghost is_registration: { IsRegistration roster.now },
@@ -37,7 +37,7 @@ impl<'a> Verifier<'a> {
     pub(crate) fn new(
         alloc: Global,
         roster: &'a Roster,
-        ranks: &'a Ranks,
+        ranks: &'a Ranks<'a>,
         matched: &'a Match,
     ) -> Result<Self, AllocError>
         requires ranks { ranks.now ≡ ranked_of roster.now.market }
