@@ -2,7 +2,7 @@
 ghost use Rattle.mt_terms.specs.Floor.{IsRecorded};
 ghost use Rattle.mt_core.specs.Floors.{floor_of, IsOpenedWith};
 
-use crate::markets::{BETWEEN, CHAIN, tables_of};
+use crate::markets::{BETWEEN, CHAIN, roster_of};
 use mt_core::{Event, Floor, Reply, apply, finish, made, quiet, received, result, run};
 use mt_model::{AppNo, ProgNo};
 use mt_ranks::Ranks;
@@ -133,7 +133,8 @@ fn each_event_gets_its_reply(rt: HostRuntime) -> Result<(), Fail> {
         Reply::Noticed,
         Reply::NotDue,
     ];
-    let ranks = tables_of(rt.alloc(), CHAIN)?;
+    let roster = roster_of(rt.alloc(), CHAIN)?;
+    let ranks = Ranks::build(rt.alloc(), &roster)?;
     Ok(expect_chain(&rt, rt.alloc(), &ranks, &BY_WISHES, &replies)?)
 }
 
@@ -147,7 +148,8 @@ fn the_last_applicant_may_be_first(rt: HostRuntime) -> Result<(), Fail> {
         Reply::KeptInstead(AppNo(2)),
         Reply::Noticed,
     ];
-    let ranks = tables_of(rt.alloc(), CHAIN)?;
+    let roster = roster_of(rt.alloc(), CHAIN)?;
+    let ranks = Ranks::build(rt.alloc(), &roster)?;
     Ok(expect_chain(&rt, rt.alloc(), &ranks, &FROM_THE_LAST, &replies)?)
 }
 
@@ -204,7 +206,8 @@ fn expect_run(
 
 #[test]
 fn runs_count_the_events_that_were_due(rt: HostRuntime) -> Result<(), Fail> {
-    let ranks = tables_of(rt.alloc(), CHAIN)?;
+    let roster = roster_of(rt.alloc(), CHAIN)?;
+    let ranks = Ranks::build(rt.alloc(), &roster)?;
     expect_run(&rt, rt.alloc(), &ranks, &BY_WISHES, 8)?;
     Ok(expect_run(&rt, rt.alloc(), &ranks, &FROM_THE_LAST, 6)?)
 }
@@ -227,7 +230,8 @@ fn expect_finished(
 
 #[test]
 fn the_chain_takes_five_proposals(rt: HostRuntime) -> Result<(), Fail> {
-    let ranks = tables_of(rt.alloc(), CHAIN)?;
+    let roster = roster_of(rt.alloc(), CHAIN)?;
+    let ranks = Ranks::build(rt.alloc(), &roster)?;
     let mut floor = Floor::open(rt.alloc(), &ranks)?;
     Ok(expect_finished(&rt, rt.alloc(), &mut floor, &ranks, 5)?)
 }
@@ -236,7 +240,8 @@ fn the_chain_takes_five_proposals(rt: HostRuntime) -> Result<(), Fail> {
 // a3 there, which wants no other program.
 #[test]
 fn finish_goes_on_from_any_floor(rt: HostRuntime) -> Result<(), Fail> {
-    let ranks = tables_of(rt.alloc(), CHAIN)?;
+    let roster = roster_of(rt.alloc(), CHAIN)?;
+    let ranks = Ranks::build(rt.alloc(), &roster)?;
     let mut floor = Floor::open(rt.alloc(), &ranks)?;
     expect_due(&rt, &mut floor, &ranks, &BY_WISHES[..5], 5);
     Ok(expect_finished(&rt, rt.alloc(), &mut floor, &ranks, 1)?)
@@ -265,7 +270,8 @@ fn expect_no_single(rt: &impl Abort, floor: &mut Floor, ranks: &Ranks)
 
 #[test]
 fn only_singles_have_events(rt: HostRuntime) -> Result<(), Fail> {
-    let ranks = tables_of(rt.alloc(), BETWEEN)?;
+    let roster = roster_of(rt.alloc(), BETWEEN)?;
+    let ranks = Ranks::build(rt.alloc(), &roster)?;
     let mut floor = Floor::open(rt.alloc(), &ranks)?;
     expect_no_single(&rt, &mut floor, &ranks);
     Ok(())
@@ -294,7 +300,8 @@ fn expect_waiting(rt: &impl Abort, floor: &mut Floor, ranks: &Ranks)
 
 #[test]
 fn events_wait_until_they_are_due(rt: HostRuntime) -> Result<(), Fail> {
-    let ranks = tables_of(rt.alloc(), CHAIN)?;
+    let roster = roster_of(rt.alloc(), CHAIN)?;
+    let ranks = Ranks::build(rt.alloc(), &roster)?;
     let mut floor = Floor::open(rt.alloc(), &ranks)?;
     expect_waiting(&rt, &mut floor, &ranks);
     Ok(())

@@ -1,4 +1,4 @@
-//! Inputs that several tests use, with the text that is published for each, and the layers up to their tables.
+//! Inputs that several tests use, with the text that is published for each, and the layers up to their rosters.
 ghost use Rattle.std.specs.Prelude.{◌≡◌, length, IfOk, IsTrue};
 ghost use Rattle.std.specs.List.{list_all};
 ghost use Rattle.mt_terms.specs.Registration.Accepted.{is_none_or_below};
@@ -6,7 +6,6 @@ ghost use Rattle.mt_terms.specs.Places.{ArePlaces};
 
 use mt_lists::records;
 use mt_model::ProgNo;
-use mt_ranks::Ranks;
 use mt_roster::{Roster, roster};
 use std::alloc::Global;
 use std::test::Fail;
@@ -97,12 +96,6 @@ pub(crate) const THREE_COUPLES_TEXT: &[u8] = b"match,1,published\n\
 pub(crate) fn roster_of(alloc: Global, file: &[u8]) -> Result<Roster, Fail> {
     let rows = records(alloc, file)?;
     Ok(roster(alloc, rows.as_slice())?)
-}
-
-/// The rank tables of a file.
-pub(crate) fn tables_of(alloc: Global, file: &[u8]) -> Result<Ranks, Fail> {
-    let roster = roster_of(alloc, file)?;
-    Ok(Ranks::build(alloc, &roster)?)
 }
 
 // Whether a place is none, or a program of the roster.

@@ -1,7 +1,7 @@
 //! The rank tables of two markets, by all readers.
 ghost use Rattle.std.specs.Prelude.{◌<◌, length};
 
-use crate::markets::{BETWEEN, tables_of};
+use crate::markets::{BETWEEN, roster_of};
 use mt_model::{AppNo, ProgNo};
 use mt_ranks::{Live, Ranks};
 use std::alloc::{AllocError, Global};
@@ -89,7 +89,8 @@ fn expect_tables(
     file: &[u8],
     expected: &Expected<'_>,
 ) -> Result<(), Fail> {
-    let tables = tables_of(alloc, file)?;
+    let roster = roster_of(alloc, file)?;
+    let tables = Ranks::build(alloc, &roster)?;
     expect_programs(rt, alloc, &tables, expected)?;
     expect_applicants(rt, &tables, expected);
     Ok(())
