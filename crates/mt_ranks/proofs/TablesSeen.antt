@@ -1,5 +1,5 @@
 -- What the tables say of the market that they are seen as.
-use Rattle.std.proofs.Common.{◌≡◌, ℕ, ◌<◌, ◌≤◌, [], map, length, get_or, sym, ap, subst, ◌∙◌, inl, inr, arith}
+use Rattle.std.proofs.Common.{◌≡◌, ℕ, false, ◌<◌, ◌≤◌, [], map, length, get_or, sym, ap, subst, ◌∙◌, inl, inr, arith}
 use Rattle.std.specs.List.{All}
 use Rattle.std.proofs.lemmas.Bool.{cases_lt}
 use Rattle.std.proofs.lemmas.List.{get_or-map, get_or_past, length-map}
@@ -8,7 +8,7 @@ use Rattle.mt_terms.specs.Lists.{below}
 use Rattle.mt_terms.specs.Market.{Market, applicants, list_of, live, live_market}
 use Rattle.mt_terms.specs.WellFormed.{IsWellFormed}
 use Rattle.mt_ranks.specs.Entries.{own_entries, rankings_of, entries_among, rank_among, AscendFrom}
-use Rattle.mt_ranks.specs.Ranked.{Ranked, IsRanked, IsEntry, ranked_of, ranked_entry, rank_of, is_single}
+use Rattle.mt_ranks.specs.Ranked.{Ranked, IsRanked, IsEntry, ranked_of, ranked_entry, rank_of, is_single, single_flags}
 use Rattle.mt_ranks.specs.Rows.{Filling, row_of}
 use Rattle.mt_ranks.specs.View.{programs_in, market_in, ranked_in, AreTables}
 use Rattle.mt_ranks.specs.declared.tables.Ranks.TheInside.{Inside}
@@ -44,6 +44,15 @@ pub rank_in_row : (t : Inside) (r : Ranked) (a p : ℕ) → AreTables t → rank
     → rank_among (row_of t.rows a) p ≡ rank_of r.market p a
 rank_in_row t r a p h v w = ap (λ es. rank_among es p) (row_at t r a h v w) ∙ rank_among-own r.market a p
 
+pub single_within : (t : Inside) (r : Ranked) (a : ℕ) → ranked_in t ≡ r → a < applicants t.roster.now.market → is_single t.roster.now.market a ≡ get_or r.singles a false
+single_within t r a v w =
+    sym (get_or-map-range_with_len (is_single t.roster.now.market) 0 (applicants t.roster.now.market) a a false w (omega arith)) ∙ ap (λ (s : Ranked). get_or s.singles a false) v
+
+pub single_past : (t : Inside) (r : Ranked) (a : ℕ) → ranked_in t ≡ r → applicants t.roster.now.market ≤ a → false ≡ get_or r.singles a false
+single_past t r a v past =
+    sym (get_or_past (single_flags t.roster.now.market) a false (omega (arith, length-map-range_with_len (is_single t.roster.now.market) 0 (applicants t.roster.now.market))))
+    ∙ ap (λ (s : Ranked). get_or s.singles a false) v
+
 pub live_list : (t : Inside) (r : Ranked) (a : ℕ) → AreTables t → ranked_in t ≡ r → get_or t.lists a [] ≡ map (ranked_entry r.market a) (list_of r.market a)
 live_list t r a h v = h.live_ranks a ∙ ap (λ (s : Ranked). map (ranked_entry s.market a) (list_of s.market a)) v
 
@@ -64,10 +73,9 @@ rows_ascend m rows a w h =
 
 -- Below, the tables are made of a market's.
 pub record AreMade (m : Market) (t : Inside) : Type 0 where
-  pub programs : t.roster.now.market.programs ≡ m.programs
+  pub roster : t.roster.now.market ≡ m
   pub rows : t.rows.lists ≡ map (own_entries m) (below (applicants m))
   pub lists : t.lists ≡ map (λ a. entries_among (row_of t.rows a) (list_of m a)) (below (applicants m))
-  pub singles : t.singles.items ≡ map (is_single m) (below (applicants m))
 
 made_count : (m : Market) (t : Inside) → AreMade m t → length t.lists ≡ applicants m
 made_count m t h = ap length h.lists ∙ length-map-range_with_len (λ a. entries_among (row_of t.rows a) (list_of m a)) 0 (applicants m)
@@ -82,11 +90,11 @@ made_list m t a h w =
 
 pub made_seen : (m : Market) (t : Inside) → AreMade m t → ranked_in t ≡ ranked_of m
 made_seen m t h =
-    let programs : t.roster.now.market.programs ≡ m.programs = h.programs in
+    let programs : t.roster.now.market.programs ≡ m.programs = ap Market.programs h.roster in
     let lists : map programs_in t.lists ≡ map (live m) (below (applicants m)) =
     fill_by_all (live m) (map programs_in t.lists) (applicants m) [] (length-map t.lists programs_in ∙ made_count m t h)
     (λ a w. get_or-map programs_in t.lists a [] [] (omega (arith, made_count m t h)) ∙ ap programs_in (made_list m t a h w) ∙ programs_in-ranked m a (live m a)) in
-    let singles : t.singles.items ≡ map (is_single m) (below (applicants m)) = h.singles in
+    let singles : single_flags t.roster.now.market ≡ single_flags m = ap single_flags h.roster in
     cc
 
 made_ranks : (m : Market) (t : Inside) (a : ℕ) → AreMade m t → get_or t.lists a [] ≡ map (ranked_entry (live_market m) a) (list_of (live_market m) a)

@@ -3,7 +3,7 @@ use Rattle.std.specs.Prelude.{◌≡◌, ℕ, [], List, map, length, slice_index
 use Rattle.mt_terms.specs.Lists.{below}
 use Rattle.mt_terms.specs.Market.{Market}
 use Rattle.mt_ranks.specs.Entries.{own_entries}
-use Rattle.mt_ranks.specs.Ranked.{Ranked, IsRanked, ranked_list}
+use Rattle.mt_ranks.specs.Ranked.{Ranked, IsRanked, ranked_list, single_flags}
 use Rattle.mt_ranks.specs.declared.entries.Live.{Live}
 use Rattle.mt_ranks.specs.declared.tables.Ranks.TheInside.{Inside}
 
@@ -20,7 +20,7 @@ market_in t = record {
 }
 
 abbrev pub ranked_in : Inside → Ranked
-ranked_in t = record { market = market_in t; singles = t.singles.items }
+ranked_in t = record { market = market_in t; singles = single_flags t.roster.now.market }
 
 -- The tables fit: a row for each applicant has its places on the programs' lists, and live lists have ranks.
 pub record AreTables (t : Inside) : Type 0 where

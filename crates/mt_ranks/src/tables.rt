@@ -2,7 +2,7 @@ ghost use Rattle.std.specs.Prelude.{◌≡◌, ℕ, ◌<◌, false, [], All, len
 ghost use Rattle.mt_terms.specs.Lists.{has};
 ghost use Rattle.mt_terms.specs.Market.{applicants, program_of};
 ghost use Rattle.mt_ranks.specs.Entries.{AscendFrom};
-ghost use Rattle.mt_ranks.specs.Ranked.{IsRank, IsEntry, IsRanked, is_single_agent, rank_of, ranked_list, ranked_of, ranking_of, single_flags};
+ghost use Rattle.mt_ranks.specs.Ranked.{IsRank, IsEntry, IsRanked, is_single_agent, rank_of, ranked_list, ranked_of, ranking_of};
 ghost use Rattle.mt_ranks.specs.Rows.{listed_rows, row_of};
 
 use crate::entries::{Live, push_live, rank_at};
@@ -20,7 +20,6 @@ pub struct Ranks<'m> {
     roster: &'m Roster,
     rows: Rows,
     lists: FlatLists<Live>,
-    singles: Vec<bool>,
 }
 
 impl<'m> Model for Ranks<'m> {
@@ -43,17 +42,6 @@ fn is_single(agent: Agent) -> bool
         Agent::Single(_) => true,
         Agent::Couple(_) => false,
     }
-}
-
-/// Which applicants are singles.
-fn singles(alloc: Global, roster: &Roster) -> Result<Vec<bool>, AllocError>
-    ensures { IfOk result (λ v. v.items ≡ single_flags roster.now.market) }
-{
-    let mut singles = Vec::with_capacity(alloc, roster.applicants() as usize)?;
-    for applicant in 0..roster.applicants() {
-        singles.push(is_single(roster.agent_of(AppNo(applicant))))?;
-    }
-    Ok(singles)
 }
 
 /// The live lists of singles, and an empty one for each member.
@@ -81,12 +69,10 @@ impl<'m> Ranks<'m> {
         roster.is_of_a_file();
         let rows = transpose(alloc, roster)?;
         let lists = live_lists(alloc, roster, &rows)?;
-        let singles = singles(alloc, roster)?;
         Ok(Ranks {
             roster,
             rows,
             lists,
-            singles,
         })
     }
 
@@ -119,10 +105,7 @@ impl<'m> Ranks<'m> {
     pub fn is_single(&self, applicant: AppNo) -> bool
         ensures { result ≡ slice_index_or self.now.singles applicant false }
     {
-        self.singles
-            .get(applicant.index())
-            .copied()
-            .unwrap_or(false)
+        applicant.0 < self.roster.applicants() && is_single(self.roster.agent_of(applicant))
     }
 
     /// The applicant's live list: the programs on its list that list it too, the most wanted first, with its

@@ -12,12 +12,11 @@ live_lists-requires-clause-rows c =
 pub live_lists-requires-clause-ascend : goal.live_lists-requires-clause-ascend
 live_lists-requires-clause-ascend c a = rows_ascend c.args.roster.now.market c.in_ok-rows.rows a c.is_of_a_file.ensures.well_formed c.in_ok-rows.ensures
 
-made : (c : goal.In_ok-singles) → AreMade c.args.roster.now.market (record { roster = c.args.roster; rows = c.in_ok-rows.rows; lists = c.in_ok-lists.lists; singles = c.in_ok-singles.singles })
+made : (c : goal.In_ok-lists) → AreMade c.args.roster.now.market (record { roster = c.args.roster; rows = c.in_ok-rows.rows; lists = c.in_ok-lists.lists })
 made c = record {
-  programs = refl;
+  roster = refl;
   rows = c.in_ok-rows.ensures;
   lists = c.in_ok-lists.ensures;
-  singles = c.in_ok-singles.ensures;
 }
 
 pub invariant_of-result : goal.invariant_of-result
