@@ -164,7 +164,7 @@ module _ (before : List Record) where
       by false e = good_kind (kind_of word) (f ∷ fs) r e k
 
 -- a record that is added keeps the records sound
-kept_parts : (o : Option Bytes) (s t : Bool) (c d : Charge) (q r : Record)
+pub kept_parts : (o : Option Bytes) (s t : Bool) (c d : Charge) (q r : Record)
     → unless (first_of (option_map (charge DUPLICATE_ID) o ∷ then_some s c ∷ then_some t d ∷ [])) q ≡ Ok r
     → (q ≡ r) × (o ≡ None) × (s ≡ false) × (t ≡ false)
 kept_parts (Some x) s t c d q r h = cc
@@ -252,7 +252,7 @@ module _ (rs : List Record) (s : AreSound rs) where
           let t : AreSound (rs ++ q ∷ []) = sound_push q p.1 (good_record rs fs q i p.2) p.3 in
           subst (λ (z : Record). AreSound (rs ++ z ∷ [])) p.0 t
 
-contents_push : (before : List (Numbered Record)) (n : ℕ) (r : Record) → contents (before ++ (n, r) ∷ []) ≡ contents before ++ r ∷ []
+pub contents_push : (before : List (Numbered Record)) (n : ℕ) (r : Record) → contents (before ++ (n, r) ∷ []) ≡ contents before ++ r ∷ []
 contents_push before n r = rw map-append refl
 
 -- so what the first pass gives is sound

@@ -1,2 +1,4 @@
+pub mod Faultless
 pub mod Registration
+pub mod Staying
 pub mod Text

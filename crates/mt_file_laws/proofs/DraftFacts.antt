@@ -1,0 +1,144 @@
+-- A record as it is read, and the same whatever its list has in it.
+use Rattle.std.proofs.Common.{◌≡◌, ℕ, Bool, true, false, ◌&&◌, List, [], ◌∷◌, map, Option, Some, None, Result, Ok, Err, refl, subst, sym}
+use Rattle.std.specs.Prelude.{if◌then◌else◌, codes, bytes_eq, option_map, ok_or}
+use Rattle.std.specs.List.{list_all}
+use Rattle.std.specs.Result.{result_ok}
+use Rattle.std.proofs.lemmas.Bool.{and_parts}
+use Rattle.mt_terms.specs.Registration.Ids.{Bytes, is_id, quota_of}
+use Rattle.mt_terms.specs.Registration.Faults.{Charge, charge, charge_alone}
+use Rattle.mt_terms.specs.declared.codes.TheConstants.{BAD_ID, BAD_QUOTA}
+use Rattle.mt_terms.specs.Registration.Records.{Rules, Record, ProgramRecord, ApplicantRecord, CoupleRecord, WithdrawRecord, Kind, OfProgram, OfApplicant, OfCouple, kind_of, are_ids, is_pair, pair_of, two_by_two, record_of, record_by_kind, program_record, applicant_record, couple_by_pairs, couple_record, withdraw_by_kind, withdraw_record}
+use Rattle.mt_terms.specs.Registration.Rows.{ids_of, applicant_ids}
+use Rattle.mt_file_laws.specs.Faultless.{program_draft, applicant_draft, draft_by_kind, draft}
+use Rattle.mt_file_laws.proofs.NumberingFacts.{both}
+
+-- whether what a record registers are ids
+abbrev pub registers_ids : Rules → Record → Bool
+registers_ids rules (ProgramRecord id quota list) = are_ids rules (id ∷ [])
+registers_ids rules (ApplicantRecord id list) = are_ids rules (id ∷ [])
+registers_ids rules (CoupleRecord id a b pairs) = are_ids rules (id ∷ a ∷ b ∷ [])
+registers_ids rules (WithdrawRecord kind id) = true
+
+-- whether the list of a program or of a single has ids alone
+abbrev pub lists_ids : Rules → Record → Bool
+lists_ids rules (ProgramRecord id quota list) = are_ids rules list
+lists_ids rules (ApplicantRecord id list) = are_ids rules list
+lists_ids rules _ = true
+
+-- a record that is read is the draft, and a draft registers ids and is read if its list has ids alone
+pub record IsDraft (rules : Rules) (read : Result Record Charge) (drafted : Option Record) : Type 0 where
+  pub drafts : (r : Record) → read ≡ Ok r → drafted ≡ Some r
+  pub registers : (r : Record) → drafted ≡ Some r → registers_ids rules r ≡ true
+  pub reads : (r : Record) → drafted ≡ Some r → lists_ids rules r ≡ true → read ≡ Ok r
+
+module _ (rules : Rules) where
+  no_draft : (e : Charge) → IsDraft rules (Err e) None
+  no_draft e = record { drafts = λ r h. cc; registers = λ r h. cc; reads = λ r h l. cc }
+
+  -- a draft whose list has ids alone, or has another field
+  listed : (q : Record) → registers_ids rules q ≡ true → lists_ids rules q ≡ true → IsDraft rules (Ok q) (Some q)
+  listed q i l = record {
+    drafts = λ r h. let s : q ≡ r = cc in cc;
+    registers = λ r h. let s : q ≡ r = cc in subst (λ (z : Record). registers_ids rules z ≡ true) s i;
+    reads = λ r h k. let s : q ≡ r = cc in cc;
+  }
+
+  unlisted : (q : Record) (e : Charge) → registers_ids rules q ≡ true → lists_ids rules q ≡ false → IsDraft rules (Err e) (Some q)
+  unlisted q e i l = record {
+    drafts = λ r h. cc;
+    registers = λ r h. let s : q ≡ r = cc in subst (λ (z : Record). registers_ids rules z ≡ true) s i;
+    reads = λ r h k. let s : q ≡ r = cc in let t : lists_ids rules q ≡ true = subst (λ (z : Record). lists_ids rules z ≡ true) (sym s) k in absurd (cc (l, t));
+  }
+
+  program_drafts : (fields : List Bytes) → IsDraft rules (program_record rules fields) (program_draft rules fields)
+  program_drafts [] = no_draft _
+  program_drafts (id ∷ []) = no_draft _
+  program_drafts (id ∷ quota ∷ list) = by (is_id rules.limits.id_bytes id) (are_ids rules list) (quota_of quota) refl refl
+    where
+      by : (b c : Bool) (o : Option ℕ) → is_id rules.limits.id_bytes id ≡ b → are_ids rules list ≡ c
+          → IsDraft rules (if b && c then ok_or (option_map (λ n. ProgramRecord id n list) o) (charge BAD_QUOTA id) else Err (charge_alone BAD_ID)) (if b then option_map (λ n. ProgramRecord id n list) o else None)
+      by true true (Some n) i l = listed (ProgramRecord id n list) (both _ _ i refl) l
+      by true true None i l = no_draft _
+      by true false (Some n) i l = unlisted (ProgramRecord id n list) _ (both _ _ i refl) l
+      by true false None i l = no_draft _
+      by false c o i l = no_draft _
+
+  applicant_drafts : (fields : List Bytes) → IsDraft rules (applicant_record rules fields) (applicant_draft rules fields)
+  applicant_drafts [] = no_draft _
+  applicant_drafts (id ∷ list) = by (is_id rules.limits.id_bytes id) (are_ids rules list) refl refl
+    where
+      by : (b c : Bool) → is_id rules.limits.id_bytes id ≡ b → are_ids rules list ≡ c
+          → IsDraft rules (if b && c then Ok (ApplicantRecord id list) else Err (charge_alone BAD_ID)) (if b then Some (ApplicantRecord id list) else None)
+      by true true i l = listed (ApplicantRecord id list) (both _ _ i refl) l
+      by true false i l = unlisted (ApplicantRecord id list) _ (both _ _ i refl) l
+      by false c i l = no_draft _
+
+  couple_drafts : (fields : List Bytes) → IsDraft rules (couple_record rules fields) (result_ok (couple_record rules fields))
+  couple_drafts [] = no_draft _
+  couple_drafts (id ∷ []) = no_draft _
+  couple_drafts (id ∷ a ∷ []) = no_draft _
+  couple_drafts (id ∷ a ∷ b ∷ fields) = by (two_by_two fields)
+    where
+      tested : (pairs : List (Bytes × Bytes)) (ids all : Bool) → are_ids rules (id ∷ a ∷ b ∷ []) ≡ ids
+          → IsDraft rules (if ids && all then Ok (CoupleRecord id a b (map pair_of pairs)) else Err (charge_alone BAD_ID)) (result_ok (if ids && all then Ok (CoupleRecord id a b (map pair_of pairs)) else Err (charge_alone BAD_ID)))
+      tested pairs true true i = listed (CoupleRecord id a b (map pair_of pairs)) i refl
+      tested pairs true false i = no_draft _
+      tested pairs false all i = no_draft _
+
+      by : (o : Option (List (Bytes × Bytes))) → IsDraft rules (couple_by_pairs rules id a b o) (result_ok (couple_by_pairs rules id a b o))
+      by None = no_draft _
+      by (Some pairs) = tested pairs (are_ids rules (id ∷ a ∷ b ∷ [])) (list_all (is_pair rules) pairs) refl
+
+  withdraw_drafts : (fields : List Bytes) → IsDraft rules (withdraw_record rules fields) (result_ok (withdraw_record rules fields))
+  withdraw_drafts [] = no_draft _
+  withdraw_drafts (word ∷ fields) = by (kind_of word) fields
+    where
+      tested : (kind : Kind) (id : Bytes) (b : Bool)
+          → IsDraft rules (if b then Ok (WithdrawRecord kind id) else Err (charge_alone BAD_ID)) (result_ok (if b then Ok (WithdrawRecord kind id) else Err (charge_alone BAD_ID)))
+      tested kind id true = listed (WithdrawRecord kind id) refl refl
+      tested kind id false = no_draft _
+
+      by : (o : Option Kind) (fs : List Bytes) → IsDraft rules (withdraw_by_kind rules o fs) (result_ok (withdraw_by_kind rules o fs))
+      by None fs = no_draft _
+      by (Some kind) [] = no_draft _
+      by (Some kind) (id ∷ []) = tested kind id (are_ids rules (id ∷ []))
+      by (Some kind) (id ∷ f ∷ fs) = no_draft _
+
+  kind_drafts : (o : Option Kind) (fields : List Bytes) → IsDraft rules (record_by_kind rules o fields) (draft_by_kind rules o fields)
+  kind_drafts None fields = no_draft _
+  kind_drafts (Some OfProgram) fields = program_drafts fields
+  kind_drafts (Some OfApplicant) fields = applicant_drafts fields
+  kind_drafts (Some OfCouple) fields = couple_drafts fields
+
+  pub is_draft : (fields : List Bytes) → IsDraft rules (record_of rules fields) (draft rules fields)
+  is_draft [] = no_draft _
+  is_draft (word ∷ fields) = by (rules.withdrawals && bytes_eq word (codes "withdraw"))
+    where
+      by : (b : Bool)
+          → IsDraft rules (if b then withdraw_record rules fields else record_by_kind rules (kind_of word) fields)
+          (if b then result_ok (withdraw_record rules fields) else draft_by_kind rules (kind_of word) fields)
+      by true = withdraw_drafts fields
+      by false = kind_drafts (kind_of word) fields
+
+  -- the ids that records register
+  pub programs_ids : (rs : List Record) → list_all (registers_ids rules) rs ≡ true → are_ids rules (ids_of OfProgram rs) ≡ true
+  programs_ids [] h = refl
+  programs_ids (ProgramRecord id quota list ∷ rs) h =
+      let q : (are_ids rules (id ∷ []) ≡ true) × (list_all (registers_ids rules) rs ≡ true) = and_parts (are_ids rules (id ∷ [])) _ h in
+      both _ _ (and_parts (is_id rules.limits.id_bytes id) _ q.0).0 (programs_ids rs q.1)
+  programs_ids (ApplicantRecord id list ∷ rs) h = programs_ids rs (and_parts (are_ids rules (id ∷ [])) _ h).1
+  programs_ids (CoupleRecord id a b pairs ∷ rs) h = programs_ids rs (and_parts (are_ids rules (id ∷ a ∷ b ∷ [])) _ h).1
+  programs_ids (WithdrawRecord kind id ∷ rs) h = programs_ids rs h
+
+  pub applicants_ids : (rs : List Record) → list_all (registers_ids rules) rs ≡ true → are_ids rules (applicant_ids rs) ≡ true
+  applicants_ids [] h = refl
+  applicants_ids (ProgramRecord id quota list ∷ rs) h = applicants_ids rs (and_parts (are_ids rules (id ∷ [])) _ h).1
+  applicants_ids (ApplicantRecord id list ∷ rs) h =
+      let q : (are_ids rules (id ∷ []) ≡ true) × (list_all (registers_ids rules) rs ≡ true) = and_parts (are_ids rules (id ∷ [])) _ h in
+      both _ _ (and_parts (is_id rules.limits.id_bytes id) _ q.0).0 (applicants_ids rs q.1)
+  applicants_ids (CoupleRecord id a b pairs ∷ rs) h =
+      let q : (are_ids rules (id ∷ a ∷ b ∷ []) ≡ true) × (list_all (registers_ids rules) rs ≡ true) = and_parts (are_ids rules (id ∷ a ∷ b ∷ [])) _ h in
+      let m : are_ids rules (a ∷ b ∷ []) ≡ true = (and_parts (is_id rules.limits.id_bytes id) _ q.0).1 in
+      let n : (is_id rules.limits.id_bytes a ≡ true) × (are_ids rules (b ∷ []) ≡ true) = and_parts (is_id rules.limits.id_bytes a) _ m in
+      both _ _ n.0 (both _ _ (and_parts (is_id rules.limits.id_bytes b) _ n.1).0 (applicants_ids rs q.1))
+  applicants_ids (WithdrawRecord kind id ∷ rs) h = applicants_ids rs h
