@@ -1,13 +1,11 @@
 -- The tables that are made from records none of which is withdrawn, seen as their market.
-use Rattle.std.proofs.Common.{◌≡◌, ◌≢◌, ℕ, suc, ◌+◌, ◌-◌, ◌<◌, ◌≤◌, ◌^◌, Bool, true, false, ◌||◌, ◌==◌, List, [], ◌∷◌, ◌++◌, map, filter_map, flat_map, length, get_or, set, drop, take, Vec, Global, refl, ap, sym, ◌∙◌, arith, subst, if◌then◌else◌}
+use Rattle.std.proofs.Common.{◌≡◌, ℕ, suc, ◌+◌, ◌-◌, ◌<◌, ◌≤◌, ◌^◌, Bool, true, false, ◌||◌, ◌==◌, List, [], ◌∷◌, ◌++◌, map, filter_map, flat_map, length, get_or, set, drop, take, Vec, Global, refl, ap, sym, ◌∙◌, arith, subst, if◌then◌else◌}
 use Rattle.std.specs.Prelude.{All}
-use Rattle.std.proofs.lemmas.Bool.Decides.{nat_tests}
-use Rattle.std.proofs.lemmas.List.{same_lists, length-set, get_or-set_same, get_or-set_other, get_or_default, drop_more, take_all, append-nil, drop_all}
+use Rattle.std.proofs.lemmas.List.{same_lists, length-set, get_or_default, drop_more}
 use Rattle.mt_terms.specs.declared.numbers.Agent.{Agent}
 use Rattle.mt_terms.specs.declared.numbers.Agent.TheVariants.{Couple}
 use Rattle.mt_terms.specs.Lists.{below}
 use Rattle.mt_terms.specs.Market.{Market, Partners, Pair, Names, applicants, couple_of, agent_from, agent_of}
-use Rattle.mt_terms.specs.Registration.Ids.{Bytes}
 use Rattle.mt_terms.specs.Registration.Records.{Record, ProgramRecord, ApplicantRecord, CoupleRecord, WithdrawRecord, OfProgram, OfCouple}
 use Rattle.mt_terms.specs.Registration.Rows.{ids_of, applicant_ids}
 use Rattle.mt_terms.specs.Registration.Numbering.{names_of, program_in, lists_in, couple_in, market_by}
@@ -16,8 +14,10 @@ use Rattle.mt_terms.proofs.BelowFacts.{length-map_below, map_below_at}
 use Rattle.mt_market.specs.Tables.{programs_with, couples_with, registered_of, AreTables}
 use Rattle.mt_roster.specs.declared.numbering.Entries.{Entries}
 use Rattle.mt_roster.specs.declared.names.NameLists.{NameLists}
-use Rattle.mt_roster.specs.Entries.{AreNames, AreEntries}
+use Rattle.mt_roster.specs.Entries.{AreNames}
+use Rattle.mt_roster.specs.Markets.{AreEntries}
 use Rattle.mt_roster.specs.Numbered.{quota_in, ranking_in, lists_by, members_in, pairs_in, bare_couples, registered_by_all}
+use Rattle.mt_roster.proofs.NumberingSteps.{get_or-set, take_whole}
 use Rattle.mt_market.specs.declared.tables.Tables.{Tables}
 use Rattle.mt_market.proofs.TablesFacts.{length-couples_with, couple_at}
 
@@ -68,17 +68,6 @@ map_agree : {X Y : Type 0} (f g : X → Y) (xs : List X) → ((x : X) → f x �
 map_agree f g [] h = refl
 map_agree f g (x ∷ xs) h = rw (h x, map_agree f g xs h) refl
 
--- what a list has at each place after a write
-get_or-set : {X : Type 0} (xs : List X) (i k : ℕ) (x d : X) → i < length xs → get_or (set xs i x) k d ≡ (if i == k then x else get_or xs k d)
-get_or-set xs i k x d h = by (i == k) refl
-  where
-    by : (b : Bool) → (i == k) ≡ b → get_or (set xs i x) k d ≡ (if b then x else get_or xs k d)
-    by true e = let s : i ≡ k = grind (arith, nat_tests) in rw (← s) (get_or-set_same xs i x d h)
-    by false e = let n : k ≢ i = λ s. by_false s e in get_or-set_other xs i k x d n
-      where
-        by_false : k ≡ i → (i == k) ≡ false → ⊥
-        by_false s f = grind (arith, nat_tests)
-
 one_of_two : {X : Type 0} (a b : Bool) (x y : X) → (if b then x else (if a then x else y)) ≡ (if a || b then x else y)
 one_of_two true true x y = refl
 one_of_two true false x y = refl
@@ -127,12 +116,6 @@ agents_step members i n d e before after h within was is =
     is ∙ ap (λ (x : ℕ × ℕ). set (set before m.0 (Couple i)) x.1 (Couple i)) same
     ∙ ap (λ (xs : List Agent). set (set xs m.0 (Couple i)) m.1 (Couple i)) was
     ∙ joins ∙ ap (λ (ms : List (ℕ × ℕ)). map (agent_from (bare_couples ms) i) (below n)) (sym next)
-
--- a part that is written back to the whole is the whole
-pub take_whole : {X : Type 0} (xs ys : List X) (n : ℕ) → length xs ≡ length ys → n ≡ length ys → take n (xs ++ drop (length xs) ys) ≡ xs
-take_whole xs ys n h e =
-    let none : drop (length xs) ys ≡ [] = drop_all (length xs) ys (omega arith) in
-    rw (none, append-nil) (take_all n xs (omega arith))
 
 -- the same at a step of the loop, which goes down and writes through a slice of all agents
 pub agents_down : (members : List (ℕ × ℕ)) (number n : ℕ) (d e : ℕ × ℕ) (items before after : List Agent) (len : ℕ) → 0 < number → number ≤ length members
@@ -234,14 +217,14 @@ module _ (rs : List Record) (r : IsRegistration (registered_by_all rs)) where
       registration = subst IsRegistration (sym tables_seen) r;
     }
 
--- the tables that are made from names and entries
-abbrev pub tables_with : NameLists → Entries → Vec ℕ Global → Vec Agent Global → Tables
-tables_with names e quotas agents = record {
+-- the tables that are made from names, entries and members
+abbrev pub tables_with : NameLists → Entries → Vec ℕ Global → Vec Agent Global → Vec (ℕ × ℕ) Global → Tables
+tables_with names e quotas agents members = record {
   quotas = quotas;
   rankings = e.rankings;
   lists = e.lists;
   agents = agents;
-  members = e.members;
+  members = members;
   pairs = e.pairs;
   program_ids = names.programs;
   applicant_ids = names.applicants;
@@ -249,22 +232,21 @@ tables_with names e quotas agents = record {
 }
 
 -- with agents by the members and by the number of applicants
-pub made_by : (rs : List Record) (names : NameLists) (e : Entries) (quotas : Vec ℕ Global) (agents : Vec Agent Global) (members : List (ℕ × ℕ)) (n : ℕ)
+pub made_by : (rs : List Record) (names : NameLists) (e : Entries) (quotas : Vec ℕ Global) (agents : Vec Agent Global) (members : Vec (ℕ × ℕ) Global) (n : ℕ)
     → AreNames rs names
-    → AreEntries names.programs names.applicants rs e
+    → AreEntries rs e
+    → members.items ≡ filter_map (members_in (applicant_ids rs)) rs
     → quotas.items ≡ filter_map quota_in rs
     → n ≡ length names.applicants
-    → members ≡ e.members.items
-    → agents.items ≡ map (agent_from (bare_couples members) 0) (below n)
-    → AreMade (tables_with names e quotas agents) rs
-made_by rs names e quotas agents members n are by q count same g = record {
+    → agents.items ≡ map (agent_from (bare_couples members.items) 0) (below n)
+    → AreMade (tables_with names e quotas agents members) rs
+made_by rs names e quotas agents members n are by of q count g = record {
   quotas = q;
-  rankings = by.rankings ∙ ap (λ (ids : List Bytes). filter_map (ranking_in ids) rs) are.applicants;
-  lists = by.lists ∙ ap (λ (ids : List Bytes). flat_map (lists_by ids) rs) are.programs;
-  agents = g ∙ ap (λ (ms : List (ℕ × ℕ)). map (agent_from (bare_couples ms) 0) (below n)) same
-      ∙ ap (λ k. map (agent_from (bare_couples e.members.items) 0) (below k)) (count ∙ ap length are.applicants);
-  members = by.members ∙ ap (λ (ids : List Bytes). filter_map (members_in ids) rs) are.applicants;
-  pairs = by.pairs ∙ ap (λ (ids : List Bytes). filter_map (pairs_in ids) rs) are.programs;
+  rankings = by.rankings;
+  lists = by.lists;
+  agents = g ∙ ap (λ k. map (agent_from (bare_couples members.items) 0) (below k)) (count ∙ ap length are.applicants);
+  members = of;
+  pairs = by.pairs;
   program_ids = are.programs;
   applicant_ids = are.applicants;
   couple_ids = are.couples;

@@ -1,22 +1,21 @@
 -- What is known of a record that the first pass takes.
-use Rattle.std.proofs.Common.{◌≡◌, ℕ, ◌+◌, ◌<◌, ◌≤◌, Bool, true, false, nat_lt, List, [], ◌∷◌, ◌++◌, length, refl, ap, sym, ◌∙◌, Option, Some, None, Result, Ok, Err, arith, subst, drop, get_or}
+use Rattle.std.proofs.Common.{◌≡◌, ℕ, ◌+◌, ◌≤◌, Bool, true, false, nat_lt, List, [], ◌∷◌, ◌++◌, length, refl, ap, sym, ◌∙◌, Option, Some, None, Result, Ok, Err, arith, subst}
 use Rattle.std.specs.Prelude.{option_map, ◌==◌}
 use Rattle.std.specs.Bool.{then_some}
 use Rattle.std.proofs.lemmas.Bool.Decides.{nat_tests}
-use Rattle.std.proofs.lemmas.List.{drop_more, get_or_default}
 use Rattle.mt_file_laws.proofs.IdFacts.{neither}
 use Rattle.mt_terms.specs.Registration.Ids.{Bytes}
 use Rattle.mt_roster.specs.declared.refusal.Refusal.{Refusal}
 use Rattle.mt_roster.specs.declared.refusal.Refusal.TheVariants as refusals
 use Rattle.mt_roster.specs.declared.register.Register.{Register}
-use Rattle.mt_roster.specs.Registers.{records_seen, AreFew, AreBounded, IsRegister}
-use Rattle.mt_roster.specs.Passes.{Reads, ReadsAt, GivesRegister}
+use Rattle.mt_roster.specs.Registers.{withdraws_twice, AreFew, AreBounded, IsRegister}
+use Rattle.mt_roster.specs.Passes.{Reads, ReadsRow, GivesRegister}
 use Rattle.mt_roster.specs.Refusals.{Refuses}
 use Rattle.mt_terms.specs.Registration.Faults.{Charge, Fault, charge}
 use Rattle.mt_terms.specs.declared.codes.TheConstants.{DUPLICATE_ID}
-use Rattle.mt_terms.specs.Registration.Records.{Rules, Record, OfProgram, OfCouple, record_of}
+use Rattle.mt_terms.specs.Registration.Records.{Rules, Record, ProgramRecord, ApplicantRecord, CoupleRecord, WithdrawRecord, OfProgram, OfCouple, record_of}
 use Rattle.mt_terms.specs.Registration.Rows.{ids_of, applicant_ids, entry_count}
-use Rattle.mt_terms.specs.Registration.Passes.{registered_before, says_twice, are_too_many, first_conflict, next_record, and_then, unless, at_record, first_of, numbered_from, Numbered, first_pass}
+use Rattle.mt_terms.specs.Registration.Passes.{registered_before, says_twice, are_too_many, first_conflict, next_record, and_then, unless, at_record, first_of, numbered_from, Numbered}
 
 -- a record that doesn't first_conflict with those before it
 pub record IsAccepted (rules : Rules) (before : List Record) (r : Record) : Type 0 where
@@ -50,6 +49,13 @@ is_accepted rules before row n r h = by (record_of rules row) h
 not_above : (limit most n : ℕ) → limit ≤ most → nat_lt limit n ≡ false → n ≤ most
 not_above limit most n h k = grind (arith, nat_tests)
 
+-- what says nothing twice withdraws nothing twice
+pub once_said : (before : List Record) (r : Record) → says_twice before r ≡ false → withdraws_twice before r ≡ false
+once_said before (ProgramRecord id quota list) h = refl
+once_said before (ApplicantRecord id list) h = refl
+once_said before (CoupleRecord id a b pairs) h = refl
+once_said before (WithdrawRecord kind id) h = h
+
 -- the records with one with which they are not too many
 pub few_more : (rules : Rules) (before : List Record) (r : Record) → AreBounded rules.limits → are_too_many rules.limits (before ++ r ∷ []) ≡ false → AreFew (before ++ r ∷ [])
 few_more rules before r bound few =
@@ -63,38 +69,18 @@ few_more rules before r bound few =
       entries = not_above _ _ _ bound.entries p.1;
     }
 
--- the numbered rows from a place on
-pub skip_empty : (rows : List (List Bytes)) (i n : ℕ) → i < length rows → length (get_or rows i []) ≡ 0 → numbered_from n (drop i rows) ≡ numbered_from (n + 1) (drop (i + 1) rows)
-skip_empty rows i n h e = ap (numbered_from n) (drop_more rows i [] h) ∙ by (get_or rows i []) e
-  where
-    by : (row : List Bytes) → length row ≡ 0 → numbered_from n (row ∷ drop (i + 1) rows) ≡ numbered_from (n + 1) (drop (i + 1) rows)
-    by [] k = refl
-    by (word ∷ fields) k = absurd (omega arith)
-
-pub take_row : (rows : List (List Bytes)) (i n : ℕ) → i < length rows → (length (get_or rows i []) ≡ 0 → ⊥) → numbered_from n (drop i rows) ≡ (n, get_or rows i []) ∷ numbered_from (n + 1) (drop (i + 1) rows)
-take_row rows i n h e = ap (numbered_from n) (drop_more rows i [] h) ∙ by (get_or rows i []) e
-  where
-    by : (row : List Bytes) → (length row ≡ 0 → ⊥) → numbered_from n (row ∷ drop (i + 1) rows) ≡ (n, row) ∷ numbered_from (n + 1) (drop (i + 1) rows)
-    by [] k = absurd (k refl)
-    by (word ∷ fields) k = refl
-
-pub row_is : (rows : List (List Bytes)) (i : ℕ) (d : List Bytes) → i < length rows → d ≡ get_or rows i d → (length d ≡ 0 → ⊥)
-    → numbered_from (i + 1) (drop i rows) ≡ (i + 1, d) ∷ numbered_from (i + 1 + 1) (drop (i + 1) rows)
-row_is rows i d h at n =
-    let e : get_or rows i [] ≡ d = get_or_default rows i [] d h ∙ sym at in
-    take_row rows i (i + 1) h (λ k. n (ap length (sym e) ∙ k)) ∙ ap (λ row. (i + 1, row) ∷ numbered_from (i + 1 + 1) (drop (i + 1) rows)) e
-
--- the row at a place is read, where it has a field
-pub reads_row : {Y : Type 0} (rules : Rules) (old new : Register) (rows : List (List Bytes)) (i : ℕ) (d : List Bytes) (result : Result Y Refusal) → i < length rows → d ≡ get_or rows i d
-    → (length d ≡ 0 → ⊥) → Reads rules old new (i + 1, d) result → ReadsAt rules old new rows i result
-reads_row rules old new rows i d (Ok y) h at n r = (r.0, ap (first_pass rules (records_seen old)) (row_is rows i d h at n) ∙ r.1 (numbered_from (i + 1 + 1) (drop (i + 1) rows)))
-reads_row rules old new rows i d (Err (refusals.Fault f)) h at n r = ap (first_pass rules (records_seen old)) (row_is rows i d h at n) ∙ r (numbered_from (i + 1 + 1) (drop (i + 1) rows))
-reads_row rules old new rows i d (Err refusals.Memory) h at n r = tt
+-- a row is read, where it has a field
+pub reads_row : {Y : Type 0} (rules : Rules) (old new : Register) (n : ℕ) (row : List Bytes) (result : Result Y Refusal)
+    → (length row ≡ 0 → ⊥) → Reads rules old new (n, row) result → ReadsRow rules old new n row result
+reads_row rules old new n [] result some r = absurd (some refl)
+reads_row rules old new n (word ∷ fields) (Ok y) some r = (r.0, λ rest. r.1 (numbered_from (n + 1) rest))
+reads_row rules old new n (word ∷ fields) (Err (refusals.Fault f)) some r = λ rest. r (numbered_from (n + 1) rest)
+reads_row rules old new n (word ∷ fields) (Err refusals.Memory) some r = λ rest. tt
 
 -- and passed over, where it has none
-pub skips_row : {Y : Type 0} (rules : Rules) (old : Register) (rows : List (List Bytes)) (i : ℕ) (d : List Bytes) (y : Y) → i < length rows → d ≡ get_or rows i d → length d ≡ 0 → IsRegister old
-    → ReadsAt rules old old rows i (Ok y)
-skips_row rules old rows i d y h at n r = (r, ap (first_pass rules (records_seen old)) (skip_empty rows i (i + 1) h (ap length (get_or_default rows i [] d h ∙ sym at) ∙ n)))
+pub skips_row : {Y : Type 0} (rules : Rules) (old : Register) (n : ℕ) (row : List Bytes) (y : Y) → length row ≡ 0 → IsRegister old → ReadsRow rules old old n row (Ok y)
+skips_row rules old n [] y none r = (r, λ rest. refl)
+skips_row rules old n (word ∷ fields) y none r = absurd (omega (arith, none))
 
 pub is_zero : (n : ℕ) → (n == 0) ≡ true → n ≡ 0
 is_zero n h = grind (arith, nat_tests)

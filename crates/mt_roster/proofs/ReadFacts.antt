@@ -1,28 +1,55 @@
 -- The market of a file's records, by the passes over them.
-use Rattle.std.proofs.Common.{◌≡◌, ◌≢◌, ℕ, ◌+◌, ◌<◌, Bool, true, false, ◌&&◌, List, [], ◌∷◌, length, drop, get_or, refl, ap, sym, ◌∙◌, arith, subst, Option, Some, None, Ok, if◌then◌else◌}
+use Rattle.std.proofs.Common.{◌≡◌, ℕ, ◌+◌, Bool, true, false, ◌&&◌, List, [], ◌∷◌, length, refl, ap, sym, ◌∙◌, arith, subst, Option, Some, None, Ok, Err, if◌then◌else◌}
 use Rattle.std.specs.Prelude.{bytes_eq, codes}
-use Rattle.mt_terms.specs.Registration.{market_of, market_of_numbered, market_under}
+use Rattle.mt_terms.specs.Registration.{market_of_numbered, market_under}
 use Rattle.mt_terms.specs.Registration.Ids.{Bytes}
 use Rattle.mt_terms.specs.Registration.Faults as faults
 use Rattle.mt_terms.specs.Registration.Records as model
 use Rattle.mt_terms.specs.Registration.Records.{Rules, rules_of, version_1, version_2}
 use Rattle.mt_terms.specs.Registration.Numbering.{registered}
 use Rattle.mt_terms.specs.Registration.Passes.{Numbered, numbered_from, first_pass, second_pass, contents, unless}
-use Rattle.std.proofs.lemmas.List.{get_or_default}
+use Rattle.mt_terms.specs.Market.{Registered}
+use Rattle.mt_terms.specs.declared.codes.TheConstants.{NO_VERSION}
+use Rattle.mt_file_laws.specs.Faultless.{faultless_market}
+use Rattle.mt_file_laws.proofs.FaultlessFacts.{accepts, accepted}
 use Rattle.mt_roster.specs.Registers.{AreBounded}
-use Rattle.mt_roster.proofs.PassFacts.{row_is}
+use Rattle.mt_roster.specs.Drafts.{with_fields}
 
-empty : (row : List Bytes) → length row ≡ 0 → row ≡ []
-empty [] h = refl
-empty (x ∷ xs) h = cc
+-- rows by their numbers, of which the first has no field, and of which it has one
+pub skip_empty : (n : ℕ) (row : List Bytes) (rows : List (List Bytes)) → length row ≡ 0 → numbered_from n (row ∷ rows) ≡ numbered_from (n + 1) rows
+skip_empty n [] rows none = refl
+skip_empty n (word ∷ fields) rows none = absurd (omega (arith, none))
 
--- with the version's record found, the market is that of the records after it
-pub market_at : (rows : List (List Bytes)) (i : ℕ) (row : List Bytes) (rules : Rules) → i < length rows → row ≡ get_or rows i row → get_or rows i [] ≢ []
-    → numbered_from 1 rows ≡ numbered_from (i + 1) (drop i rows) → rules_of row ≡ Some rules
-    → market_of rows ≡ market_under rules (numbered_from (i + 1 + 1) (drop (i + 1) rows))
-market_at rows i row rules h at n skipped named =
-    let stands : get_or rows i [] ≡ row = get_or_default rows i [] row h ∙ sym at in
-    ap market_of_numbered (skipped ∙ row_is rows i row h at (λ k. n (stands ∙ empty row k))) ∙ rw named refl
+pub take_row : (n : ℕ) (row : List Bytes) (rows : List (List Bytes)) → (length row ≡ 0 → ⊥) → numbered_from n (row ∷ rows) ≡ (n, row) ∷ numbered_from (n + 1) rows
+take_row n [] rows some = absurd (some refl)
+take_row n (word ∷ fields) rows some = refl
+
+-- the rows that have a field, without their numbers
+pub contents-with_fields : (n : ℕ) (rows : List (List Bytes)) → contents (numbered_from n rows) ≡ with_fields rows
+contents-with_fields n [] = refl
+contents-with_fields n ([] ∷ rows) = contents-with_fields (n + 1) rows
+contents-with_fields n ((word ∷ fields) ∷ rows) = ap (λ (rs : List (List Bytes)). (word ∷ fields) ∷ rs) (contents-with_fields (n + 1) rows)
+
+-- with the version's record found, the market is that of the rows after it
+pub market_at : (n : ℕ) (row : List Bytes) (rows : List (List Bytes)) (rules : Rules) → (length row ≡ 0 → ⊥) → rules_of row ≡ Some rules
+    → market_of_numbered (numbered_from n (row ∷ rows)) ≡ market_under rules (numbered_from (n + 1) rows)
+market_at n row rows rules some named = ap market_of_numbered (take_row n row rows some) ∙ rw named refl
+
+-- without it there is none
+pub no_market_at : (n : ℕ) (row : List Bytes) (rows : List (List Bytes)) → (length row ≡ 0 → ⊥) → rules_of row ≡ None
+    → market_of_numbered (numbered_from n (row ∷ rows)) ≡ Err (faults.fault_at n (faults.charge_alone NO_VERSION))
+no_market_at n row rows some named = ap market_of_numbered (take_row n row rows some) ∙ rw named refl
+
+-- by the rules of a version the market is that of rows without a fault, where they have none, and else there is a fault
+module _ (rules : Rules) (n : ℕ) (rows : List (List Bytes)) where
+  same_rows : faultless_market rules (contents (numbered_from n rows)) ≡ faultless_market rules (with_fields rows)
+  same_rows = ap (faultless_market rules) (contents-with_fields n rows)
+
+  pub market_is : (m : Registered) → faultless_market rules (with_fields rows) ≡ Some m → market_under rules (numbered_from n rows) ≡ Ok m
+  market_is m h = accepts rules (numbered_from n rows) m (same_rows ∙ h)
+
+  pub no_market : (m : Registered) → faultless_market rules (with_fields rows) ≡ None → market_under rules (numbered_from n rows) ≡ Ok m → ⊥
+  no_market m h k = cc (sym h ∙ sym same_rows ∙ accepted rules (numbered_from n rows) m k)
 
 -- with the first pass done, it is that of its records
 pub market_after : (rules : Rules) (rest : List (Numbered (List Bytes))) (records : List (Numbered model.Record)) → first_pass rules [] rest ≡ Ok records

@@ -1,15 +1,16 @@
 -- Whether an element stands twice in a list, by the elements before each.
-use Rattle.std.proofs.Common.{◌≡◌, ℕ, ◌+◌, ◌<◌, Bool, true, false, not, ◌&&◌, ◌||◌, List, [], ◌∷◌, ◌++◌, map, length, take, drop, get_or, Some, None, Option, Bor, refl, ap, sym, ◌∙◌, subst, inl, inr, ◌⊎◌, if◌then◌else◌}
+use Rattle.std.proofs.Common.{◌≡◌, ℕ, ◌+◌, ◌<◌, Bool, true, false, not, ◌&&◌, ◌||◌, List, [], ◌∷◌, ◌++◌, map, length, drop, get_or, Some, None, Option, Bor, refl, ap, sym, ◌∙◌, subst, inl, inr, ◌⊎◌, if◌then◌else◌}
 use Rattle.std.specs.Prelude.{bytes_eq}
 use Rattle.std.specs.List.{list_any}
 use Rattle.std.specs.Option.{option_copied, option_eq}
 use Rattle.std.proofs.lemmas.Bool.{and_parts}
-use Rattle.std.proofs.lemmas.List.{take_more, drop_more, take-append-drop, map-append}
+use Rattle.std.proofs.lemmas.List.{append_assoc, drop_more, map-append}
 use Rattle.std.proofs.lemmas.List.Folds.{list_any-append}
 use Rattle.mt_file_laws.proofs.IdFacts.{same_id, is_same, neither, not_true, or_right}
-use Rattle.mt_terms.specs.Registration.Ids.{all_differ}
+use Rattle.mt_terms.specs.Registration.Ids.{Bytes, all_differ}
 use Rattle.mt_terms.specs.Registration.Records.{IdPair}
 use Rattle.mt_terms.specs.Registration.Passes.{is_same_pair}
+use Rattle.mt_roster.specs.Fields.{pair_seen}
 
 -- a test that says whether two elements are equal
 abbrev pub Tests : {X : Type 0} → (X → X → Bool) → Type 0
@@ -34,6 +35,10 @@ same_pairs p q = (
       let b : option_eq bytes_eq p.1 q.1 ≡ true = (same_places p.1 q.1).1 (ap (λ (r : IdPair). r.1) h) in
       rw (a, b) refl,
 )
+
+-- no element of those seen stands twice, and with those left they are the whole list
+abbrev pub SeesEach : {X : Type 0} → (X → X → Bool) → List X → List X → List X → Type 0
+SeesEach same seen left whole = (all_differ same seen ≡ true) × (seen ++ left ≡ whole)
 
 module _ {X : Type 0} (same : X → X → Bool) (tests : Tests same) where
   symmetric : (x y : X) → same x y ≡ false → same y x ≡ false
@@ -79,17 +84,26 @@ module _ {X : Type 0} (same : X → X → Bool) (tests : Tests same) where
           either_false _ _ (inl g)
       by false e k ih = either_false _ _ (inr (ih k))
 
-  module _ (xs : List X) (i : ℕ) (d x : X) (h : i < length xs) (at : x ≡ get_or xs i d) where
-    pub seen_more : list_any (same x) (take i xs) ≡ false → all_differ same (take i xs) ≡ true
-        → (take i xs ++ x ∷ [] ≡ take (i + 1) xs) × (all_differ same (take (i + 1) xs) ≡ true)
-    seen_more new before =
-        let e : take i xs ++ x ∷ [] ≡ take (i + 1) xs = ap (λ y. take i xs ++ y ∷ []) at ∙ sym (take_more xs i d h) in
-        (e, subst (λ (ys : List X). all_differ same ys ≡ true) e (differ_push (take i xs) x new before))
+  -- the next element is one of those that were seen, or it is new and seen from now on
+  module _ (seen left whole : List X) (x : X) (sees : SeesEach same seen (x ∷ left) whole) (added : Bool) (said : added ≡ not (list_any (same x) seen)) where
+    pub stands_twice : added ≡ false → all_differ same whole ≡ false
+    stands_twice h = by (list_any (same x) seen) refl (sym h ∙ said)
+      where
+        by : (b : Bool) → list_any (same x) seen ≡ b → false ≡ not b → all_differ same whole ≡ false
+        by true e k = ap (all_differ same) (sym sees.1) ∙ repeat_push seen left x e
+        by false e k = cc
 
-    pub seen_twice : list_any (same x) (take i xs) ≡ true → all_differ same xs ≡ false
-    seen_twice old =
-        let e : take i xs ++ x ∷ drop (i + 1) xs ≡ xs = ap (λ y. take i xs ++ y ∷ drop (i + 1) xs) at ∙ ap (λ ys. take i xs ++ ys) (sym (drop_more xs i d h)) ∙ take-append-drop i xs in
-        subst (λ (ys : List X). all_differ same ys ≡ false) e (repeat_push (take i xs) (drop (i + 1) xs) x old)
+    pub sees_next : (new : List X) → new ≡ (if list_any (same x) seen then seen else seen ++ x ∷ []) → added ≡ true → SeesEach same new left whole
+    sees_next new is h = by (list_any (same x) seen) refl (sym h ∙ said) is
+      where
+        by : (b : Bool) → list_any (same x) seen ≡ b → true ≡ not b → new ≡ (if b then seen else seen ++ x ∷ []) → SeesEach same new left whole
+        by true e k is = cc
+        by false e k is =
+            subst (λ (xs : List X). SeesEach same xs left whole) (sym is) (differ_push seen x e sees.0, append_assoc seen (x ∷ []) left ∙ sees.1)
+
+-- the same by the places of elements
+pub sees_at : {X : Type 0} (same : X → X → Bool) (seen xs : List X) (i : ℕ) (d x : X) → i < length xs → x ≡ get_or xs i d → SeesEach same seen (drop i xs) xs → SeesEach same seen (x ∷ drop (i + 1) xs) xs
+sees_at {X} same seen xs i d x h at = subst (λ (left : List X). SeesEach same seen left xs) (drop_more xs i d h ∙ ap (λ y. y ∷ drop (i + 1) xs) (sym at))
 
 -- keys, each of which stands for an element
 module _ {K X : Type 0} (seen : K → X) (same : X → X → Bool) (alike : K → K → Bool) (agree : (j k : K) → alike j k ≡ same (seen j) (seen k)) where
@@ -108,13 +122,10 @@ module _ {K X : Type 0} (seen : K → X) (same : X → X → Bool) (alike : K �
 
 -- places and pairs of borrowed ids
 abbrev pub Place : Type 0
-Place = Option (Bor (List ℕ))
-
-abbrev pub pair_seen : Place × Place → IdPair
-pair_seen p = (option_copied p.0, option_copied p.1)
+Place = Option (Bor Bytes)
 
 abbrev pub place_alike : Place → Place → Bool
-place_alike o u = option_eq (λ (x y : Bor (List ℕ)). bytes_eq x.now y.now) o u
+place_alike o u = option_eq (λ (x y : Bor Bytes). bytes_eq x.now y.now) o u
 
 pub place_agree : (o u : Place) → place_alike o u ≡ option_eq bytes_eq (option_copied o) (option_copied u)
 place_agree None None = refl
@@ -127,22 +138,3 @@ pair_alike p q = place_alike p.0 q.0 && place_alike p.1 q.1
 
 pub pair_agree : (p q : Place × Place) → pair_alike p q ≡ is_same_pair (pair_seen p) (pair_seen q)
 pair_agree p q = rw (place_agree p.0 q.0, place_agree p.1 q.1) refl
-
--- what a table's answer says of an element, where the table holds the front of a list
-module _ {X : Type 0} (same : X → X → Bool) (table front : List X) (is : table ≡ front) (x : X) (added : Bool) (said : added ≡ not (list_any (same x) table)) where
-  pub was_seen : added ≡ false → list_any (same x) front ≡ true
-  was_seen h = by (list_any (same x) front) (sym h ∙ said ∙ ap (λ xs. not (list_any (same x) xs)) is)
-    where
-      by : (b : Bool) → false ≡ not b → b ≡ true
-      by true k = refl
-      by false k = cc
-
-  pub was_new : added ≡ true → list_any (same x) front ≡ false
-  was_new h = by (list_any (same x) front) (sym h ∙ said ∙ ap (λ xs. not (list_any (same x) xs)) is)
-    where
-      by : (b : Bool) → true ≡ not b → b ≡ false
-      by true k = cc
-      by false k = refl
-
-  pub table_more : added ≡ true → (if list_any (same x) table then table else table ++ x ∷ []) ≡ front ++ x ∷ []
-  table_more h = rw (is, was_new h) refl

@@ -1,6 +1,11 @@
--- The fields of a record from a place on, and those of a couple's list, two by two.
-use Rattle.std.specs.Prelude.{◌≡◌, ℕ, ◌<◌, ◌≤◌, ◌^◌, List, [], ◌∷◌}
+-- The fields of a couple's list, two by two.
+use Rattle.std.specs.Prelude.{List, [], ◌∷◌, map, Option}
+use Rattle.std.specs.Borrow.{Bor}
+use Rattle.std.specs.Option.{option_copied}
+use Rattle.mt_lists.specs.Rows.{fields_left}
 use Rattle.mt_terms.specs.Registration.Ids.{Bytes}
+use Rattle.mt_terms.specs.Registration.Records.{IdPair, pair_of}
+use Rattle.mt_roster.specs.declared.fields.Pairs.{Pairs}
 
 -- the fields two by two, without a last one that has no other
 abbrev pub by_pairs : List Bytes → List (Bytes × Bytes)
@@ -8,8 +13,10 @@ by_pairs [] = []
 by_pairs (x ∷ []) = []
 by_pairs (x ∷ y ∷ fields) = (x, y) ∷ by_pairs fields
 
--- The end of a row of some length, and a place before it or at it.
-pub record IsEnd (n from end : ℕ) : Type 0 where
-  pub after : from ≤ end
-  pub size : end ≡ n
-  pub fits : end < 2 ^ 64
+-- the pairs that have yet to come
+abbrev pub pairs_left : Pairs → List IdPair
+pairs_left pairs = map pair_of (by_pairs (fields_left pairs.fields))
+
+-- a pair of places as the definition's
+abbrev pub pair_seen : Option (Bor Bytes) × Option (Bor Bytes) → IdPair
+pair_seen pair = (option_copied pair.0, option_copied pair.1)

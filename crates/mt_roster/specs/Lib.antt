@@ -4,9 +4,12 @@ pub mod Drafts
 pub mod Refusals
 pub mod Numbered
 pub mod Entries
+pub mod Registered
 pub mod Registers
+pub mod Withdrawals
+pub mod Reading
+pub mod Markets
 pub mod Passes
 pub mod Faults
 pub mod Read
-pub mod Plain
 pub mod Keys

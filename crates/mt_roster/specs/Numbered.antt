@@ -1,28 +1,39 @@
 -- What each table of a roster has from each record, by the ids of programs and of applicants.
-use Rattle.std.specs.Prelude.{ℕ, Bool, false, not, List, [], ◌∷◌, map, fold, Option, Some, None, option_map, if◌then◌else◌}
+use Rattle.std.specs.Prelude.{ℕ, List, [], ◌∷◌, map, fold, Option, Some, None, option_map, filter_map, flat_map, if◌then◌else◌}
 use Rattle.mt_market.specs.FlatLists.{with_last}
 use Rattle.mt_terms.specs.Market.{Pair, Partners, Registered}
-use Rattle.mt_terms.specs.Registration.Ids.{Bytes, has_id, number_of, numbers_of}
-use Rattle.mt_terms.specs.Registration.Records.{Record, ProgramRecord, ApplicantRecord, CoupleRecord, WithdrawRecord, IdPair}
+use Rattle.mt_terms.specs.Registration.Ids.{Bytes, number_of, numbers_of}
+use Rattle.mt_terms.specs.Registration.Records.{Record, ProgramRecord, ApplicantRecord, CoupleRecord, IdPair}
 use Rattle.mt_terms.specs.Registration.Numbering.{is_none_or_in, names_only, pair_by_number, pairs_by_number, names_of, market_by}
-use Rattle.mt_roster.specs.declared.register.Numbered as declared
-use Rattle.mt_roster.specs.declared.register.Kinds.{Kinds}
+use Rattle.mt_roster.specs.declared.record.Record.{Record as Checked}
 use Rattle.mt_roster.specs.Records.{record_seen}
 
--- records without their numbers in the file, as those of the definition
-abbrev pub all_seen : List declared.Numbered → List Record
-all_seen records = map (λ (n : declared.Numbered). record_seen n.record) records
+-- records as those of the definition
+abbrev pub all_seen : List Checked → List Record
+all_seen records = map record_seen records
 
--- whether a record stays where these ids are withdrawn
-abbrev pub stays_without : Kinds → Record → Bool
-stays_without withdrawn (ProgramRecord id quota list) = not (has_id withdrawn.programs id)
-stays_without withdrawn (ApplicantRecord id list) = not (has_id withdrawn.applicants id)
-stays_without withdrawn (CoupleRecord id a b pairs) = not (has_id withdrawn.couples id)
-stays_without withdrawn (WithdrawRecord kind id) = false
+-- the lists of programs, of applicants and of couples, as the records have them: a couple's two members have empty ones
+abbrev pub program_lists : List Record → List (List Bytes)
+program_lists records = filter_map list_of records
+  where
+    list_of : Record → Option (List Bytes)
+    list_of (ProgramRecord id quota list) = Some list
+    list_of _ = None
 
--- the number of an id among these, if it is one of them
-abbrev pub number_in : List Bytes → Bytes → Option ℕ
-number_in ids id = if has_id ids id then Some (number_of ids id) else None
+abbrev pub applicant_lists : List Record → List (List Bytes)
+applicant_lists records = flat_map lists_of records
+  where
+    lists_of : Record → List (List Bytes)
+    lists_of (ApplicantRecord id list) = list ∷ []
+    lists_of (CoupleRecord id a b pairs) = [] ∷ [] ∷ []
+    lists_of _ = []
+
+abbrev pub couple_lists : List Record → List (List IdPair)
+couple_lists records = filter_map list_of records
+  where
+    list_of : Record → Option (List IdPair)
+    list_of (CoupleRecord id a b pairs) = Some pairs
+    list_of _ = None
 
 -- where a pair sends a member, by number, if it names none but these programs
 abbrev pub place_in : List Bytes → Option Bytes → Option (Option ℕ)

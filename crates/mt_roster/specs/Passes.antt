@@ -1,5 +1,5 @@
 -- What a step of the first pass does to a register, and what the whole pass gives.
-use Rattle.std.specs.Prelude.{◌≡◌, ℕ, ◌+◌, List, ◌∷◌, drop, Result, Ok, Err}
+use Rattle.std.specs.Prelude.{◌≡◌, ℕ, ◌+◌, List, ◌∷◌, Result, Ok, Err}
 use Rattle.mt_terms.specs.Registration.Ids.{Bytes}
 use Rattle.mt_terms.specs.Registration.Faults as faults
 use Rattle.mt_terms.specs.Registration.Records as model
@@ -15,12 +15,12 @@ Reads rules old new row (Ok _) =
     IsRegister new × ((rest : List (Numbered (List Bytes))) → first_pass rules (records_seen old) (row ∷ rest) ≡ first_pass rules (records_seen new) rest)
 Reads rules old new row (Err e) = (rest : List (Numbered (List Bytes))) → Refuses e (first_pass rules (records_seen old) (row ∷ rest))
 
--- The same of the row at a place, which may have no field.
-abbrev pub ReadsAt : {Y : Type 0} → model.Rules → Register → Register → List (List Bytes) → ℕ → Result Y Refusal → Type 0
-ReadsAt rules old new rows i (Ok _) =
+-- The same of a row with this number, which may have no field.
+abbrev pub ReadsRow : {Y : Type 0} → model.Rules → Register → Register → ℕ → List Bytes → Result Y Refusal → Type 0
+ReadsRow rules old new n row (Ok _) =
     IsRegister new
-    × (first_pass rules (records_seen old) (numbered_from (i + 1) (drop i rows)) ≡ first_pass rules (records_seen new) (numbered_from (i + 1 + 1) (drop (i + 1) rows)))
-ReadsAt rules old new rows i (Err e) = Refuses e (first_pass rules (records_seen old) (numbered_from (i + 1) (drop i rows)))
+    × ((rest : List (List Bytes)) → first_pass rules (records_seen old) (numbered_from n (row ∷ rest)) ≡ first_pass rules (records_seen new) (numbered_from (n + 1) rest))
+ReadsRow rules old new n row (Err e) = (rest : List (List Bytes)) → Refuses e (first_pass rules (records_seen old) (numbered_from n (row ∷ rest)))
 
 -- What the whole pass gives.
 abbrev pub GivesRegister : Result Register Refusal → Result (List (Numbered model.Record)) faults.Fault → Type 0

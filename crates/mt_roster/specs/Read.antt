@@ -1,14 +1,16 @@
 -- What the reading of a file gives.
-use Rattle.std.specs.Prelude.{◌≡◌, ℕ, ◌+◌, ◌≤◌, List, drop, length, Result, Ok, Err}
+use Rattle.std.specs.Prelude.{◌≡◌, ℕ, ◌+◌, ◌<◌, ◌^◌, List, length, Result, Ok, Err}
 use Rattle.mt_terms.specs.Market.{Registered}
 use Rattle.mt_terms.specs.Registration.{market_of, market_under}
 use Rattle.mt_terms.specs.Registration.Faults.{fault_at, charge_alone}
 use Rattle.mt_terms.specs.declared.codes.TheConstants.{NO_VERSION}
 use Rattle.mt_terms.specs.Registration.Ids.{Bytes}
 use Rattle.mt_terms.specs.Registration.Passes.{numbered_from}
-use Rattle.mt_terms.specs.Registration.Records.{Rules}
 use Rattle.mt_roster.specs.declared.refusal.Refusal.{Refusal}
-use Rattle.mt_roster.specs.Plain.{AcceptsRegistrations}
+use Rattle.mt_lists.specs.Rows.{rows_left}
+use Rattle.mt_roster.specs.declared.reading.Body.{Body}
+use Rattle.mt_roster.specs.Drafts.{with_fields}
+use Rattle.mt_roster.specs.Markets.{AcceptsRegistrations}
 use Rattle.mt_roster.specs.Refusals.{Refuses}
 use Rattle.mt_roster.specs.Registers.{AreBounded}
 
@@ -20,14 +22,18 @@ same x = x
 abbrev pub NamesNoVersion : Refusal → ℕ → Type 0
 NamesNoVersion refusal row = Refuses {Y = Registered} refusal (Err (fault_at row (charge_alone NO_VERSION)))
 
--- The file's market is that of the records from this place on, by the rules of a version.
-pub record IsUnder (rows : List (List Bytes)) (rules : Rules) (from : ℕ) : Type 0 where
-  pub within : from ≤ length rows
-  pub limits : AreBounded rules.limits
-  pub market : market_of rows ≡ market_under rules (numbered_from (from + 1) (drop from rows))
-  pub accepted : AcceptsRegistrations rules (numbered_from (from + 1) (drop from rows))
+-- Numbers do for all rows.
+abbrev pub IsShort : Body → Type 0
+IsShort b = b.first + length (rows_left b.rows) < 2 ^ 64
+
+-- The file's market is that of these rows, by the rules of a version.
+pub record IsBody (rows : List (List Bytes)) (b : Body) : Type 0 where
+  pub limits : AreBounded b.rules.limits
+  pub short : IsShort b
+  pub market : market_of rows ≡ market_under b.rules (numbered_from b.first (rows_left b.rows))
+  pub accepted : AcceptsRegistrations b.rules (with_fields (rows_left b.rows))
 
 -- What the search for the version gives.
-abbrev pub GivesVersion : List (List Bytes) → Result (Rules × ℕ) Refusal → Type 0
-GivesVersion rows (Ok v) = IsUnder rows v.0 v.1
+abbrev pub GivesVersion : List (List Bytes) → Result Body Refusal → Type 0
+GivesVersion rows (Ok b) = IsBody rows b
 GivesVersion rows (Err e) = Refuses e (market_of rows)

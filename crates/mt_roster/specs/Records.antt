@@ -1,7 +1,9 @@
 -- How the records that rows are taken apart into are seen as those of the definition.
 use Rattle.std.specs.Prelude.{Result, Ok, Err}
+use Rattle.mt_lists.specs.Rows.{fields_left}
 use Rattle.mt_terms.specs.Registration.Faults as faults
 use Rattle.mt_terms.specs.Registration.Records as model
+use Rattle.mt_roster.specs.Fields.{pairs_left}
 use Rattle.mt_roster.specs.declared.record.Kind.{Kind}
 use Rattle.mt_roster.specs.declared.record.Kind.TheVariants as kinds
 use Rattle.mt_roster.specs.declared.record.Record.{Record}
@@ -14,9 +16,9 @@ kind_seen kinds.Applicant = model.OfApplicant
 kind_seen kinds.Couple = model.OfCouple
 
 abbrev pub record_seen : Record → model.Record
-record_seen (records.Program id quota list) = model.ProgramRecord id.now quota list
-record_seen (records.Applicant id list) = model.ApplicantRecord id.now list
-record_seen (records.Couple id first second pairs) = model.CoupleRecord id.now first.now second.now pairs
+record_seen (records.Program id quota list) = model.ProgramRecord id.now quota (fields_left list)
+record_seen (records.Applicant id list) = model.ApplicantRecord id.now (fields_left list)
+record_seen (records.Couple id first second pairs) = model.CoupleRecord id.now first.now second.now (pairs_left pairs)
 record_seen (records.Withdraw kind id) = model.WithdrawRecord (kind_seen kind) id.now
 
 abbrev pub charge_seen : Charge → faults.Charge

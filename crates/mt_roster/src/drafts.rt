@@ -1,60 +1,80 @@
-//! Records of rows one after another, of which it is not yet known whether an id is registered twice.
-ghost use Rattle.std.specs.Prelude.{◌≡◌, ◌++◌, [], ◌∷◌, OnOk};
-ghost use Rattle.mt_terms.specs.Registration.Passes.{are_too_many};
+//! The records of rows without a fault of their own. Whether one has a fault beside the others, or in the list of a
+//! program or a single, is not yet known.
+ghost use Rattle.std.specs.Prelude.{◌≡◌, ◌++◌, [], ◌∷◌, IfOk, MatchOption, OnOk};
+ghost use Rattle.mt_lists.specs.Rows.{rows_left};
 ghost use Rattle.mt_roster.specs.Records.{record_seen};
-ghost use Rattle.mt_roster.specs.Registers.{AreFew};
-ghost use Rattle.mt_roster.specs.Drafts.{drafts_seen, drafted, AreDrafts};
+ghost use Rattle.mt_roster.specs.Drafts.{drafted, has_too_many_names, AreDrafts, AreDraftsOf, HaveFault};
 
+use crate::draft::draft_of;
 use crate::names::NameLists;
 use crate::record::Record;
-use crate::register::{Numbered, adds_too_many, are_over};
+use crate::register::are_over;
+use crate::rules::Rules;
+use mt_lists::RowsIter;
 use mt_terms::Limits;
 use std::alloc::{AllocError, Global};
 
 /// Records with the ids that they register.
 #[derive(Drop)]
 pub(crate) struct Drafts<'a> {
-    pub(crate) records: Vec<Numbered<'a>>,
+    pub(crate) records: Vec<Record<'a>>,
     pub(crate) names: NameLists,
-    /// How many entries the lists have in all.
-    pub(crate) entries: u64,
 }
 
 impl<'a> Drafts<'a> {
     /// No records.
-    pub(crate) fn new(alloc: Global) -> Self
+    fn new(alloc: Global) -> Self
         ensures drafts { AreDrafts result }
-        ensures records { drafts_seen result ≡ [] }
+        ensures records { drafted result ≡ [] }
     {
         Drafts {
             records: Vec::new(alloc),
             names: NameLists::new(alloc),
-            entries: 0,
         }
     }
 
-    /// Whether the records with this one are more than a version takes.
-    pub(crate) fn are_too_many(&self, limits: &Limits, record: &Record<'a>) -> bool
+    /// Whether they register more than a version takes.
+    fn are_too_many(&self, limits: &Limits) -> bool
         requires { AreDrafts self.now }
-        ensures { result ≡ are_too_many limits.now (drafted self.now ++ record_seen record.now ∷ []) }
+        ensures { result ≡ has_too_many_names limits.now (drafted self.now) }
     {
-        let applicants = self.names.applicants.len() + record.applicant_count();
-        let programs = self.names.programs.len() + record.program_count();
-        let couples = self.names.couples.len() + record.couple_count();
+        let applicants = self.names.applicants.len();
+        let programs = self.names.programs.len();
+        let couples = self.names.couples.len();
         are_over(limits, applicants, programs, couples)
-            || adds_too_many(limits, self.entries, record.entry_count())
     }
 
-    /// Adds a record with which there are not too many.
-    pub(crate) fn push(&mut self, row: u64, next: Record<'a>) -> Result<(), AllocError>
-        requires drafts { AreDrafts self.old }
-        requires few { AreFew (drafted self.old ++ record_seen next ∷ []) }
+    /// Adds a record.
+    fn push(&mut self, next: Record<'a>) -> Result<(), AllocError>
+        requires { AreDrafts self.old }
         ensures drafts { OnOk result (AreDrafts self.new) }
-        ensures records { OnOk result (drafts_seen self.new ≡ drafts_seen self.old ++ (row, record_seen next.entry) ∷ []) }
+        ensures records { OnOk result (drafted self.new ≡ drafted self.old ++ record_seen next.entry ∷ []) }
     {
         self.names.push(&next)?;
-        self.entries += next.entry_count();
-        self.records.push(Numbered { row, record: next })?;
+        self.records.push(next)?;
         Ok(())
     }
+}
+
+/// The records of rows, where none has a fault of its own, and they register no more than the version takes.
+pub(crate) fn drafts_of<'a>(
+    alloc: Global,
+    rules: &Rules,
+    rows: RowsIter<'a>,
+) -> Result<Option<Drafts<'a>>, AllocError>
+    ensures { IfOk result (λ read. MatchOption read (HaveFault rules.now (rows_left rows.entry)) (AreDraftsOf rules.now (rows_left rows.entry))) }
+{
+    let mut drafts = Drafts::new(alloc);
+    for row in rows {
+        if !row.is_empty() {
+            let Some(next) = draft_of(rules, row.fields()) else {
+                return Ok(None);
+            };
+            drafts.push(next)?;
+            if drafts.are_too_many(&rules.limits) {
+                return Ok(None);
+            }
+        }
+    }
+    Ok(Some(drafts))
 }

@@ -1,13 +1,10 @@
 //! The ids of records, side by side.
-ghost use Rattle.std.specs.Prelude.{◌≡◌, ◌++◌, [], OnOk, IfOk, option_to_list};
-ghost use Rattle.mt_terms.specs.Registration.Records.{OfProgram, OfCouple};
-ghost use Rattle.mt_terms.specs.Registration.Rows.{own_id, applicants_of};
+ghost use Rattle.std.specs.Prelude.{[], OnOk, IfOk};
 ghost use Rattle.mt_roster.specs.Records.{record_seen};
 ghost use Rattle.mt_roster.specs.Numbered.{all_seen};
 ghost use Rattle.mt_roster.specs.Entries.{AreNames, AddsNames};
 
 use crate::record::Record;
-use crate::register::Numbered;
 use mt_market::FlatLists;
 use std::alloc::{AllocError, Global};
 
@@ -18,6 +15,8 @@ pub(crate) struct NameLists {
     pub(crate) programs: FlatLists<u8>,
     pub(crate) applicants: FlatLists<u8>,
     pub(crate) couples: FlatLists<u8>,
+    /// For each applicant whether it is a single.
+    pub(crate) singles: Vec<bool>,
 }
 
 impl NameLists {
@@ -29,6 +28,7 @@ impl NameLists {
             programs: FlatLists::new(alloc),
             applicants: FlatLists::new(alloc),
             couples: FlatLists::new(alloc),
+            singles: Vec::new(alloc),
         }
     }
 
@@ -38,7 +38,10 @@ impl NameLists {
     {
         match record {
             Record::Program { id, .. } => self.programs.push_list(*id)?,
-            Record::Applicant { id, .. } => self.applicants.push_list(*id)?,
+            Record::Applicant { id, .. } => {
+                self.applicants.push_list(*id)?;
+                self.singles.push(true)?;
+            }
             Record::Couple {
                 id,
                 first,
@@ -48,6 +51,8 @@ impl NameLists {
                 self.couples.push_list(*id)?;
                 self.applicants.push_list(*first)?;
                 self.applicants.push_list(*second)?;
+                self.singles.push(false)?;
+                self.singles.push(false)?;
             }
             Record::Withdraw { .. } => {}
         }
@@ -56,12 +61,12 @@ impl NameLists {
 }
 
 /// The ids of the programs, the applicants and the couples of records.
-pub(crate) fn names_of(alloc: Global, records: &[Numbered<'_>]) -> Result<NameLists, AllocError>
+pub(crate) fn names_of(alloc: Global, records: &[Record<'_>]) -> Result<NameLists, AllocError>
     ensures { IfOk result (λ names. AreNames (all_seen records.now) names) }
 {
     let mut names = NameLists::new(alloc);
-    for numbered in records {
-        names.push(&numbered.record)?;
+    for one in records {
+        names.push(one)?;
     }
     Ok(names)
 }

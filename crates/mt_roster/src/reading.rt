@@ -1,33 +1,24 @@
-ghost use Rattle.std.specs.Prelude.{◌≡◌, ◌≢◌, ◌+◌, ◌<◌, ◌≤◌, [], drop, length, slice_index_or, IfErr, IfOk, Ok};
-ghost use Rattle.mt_terms.specs.Registration.{market_of};
+ghost use Rattle.std.specs.Prelude.{◌≡◌, None, IfErr, IfOk, Ok};
+ghost use Rattle.mt_lists.specs.Rows.{rows_left};
+ghost use Rattle.mt_file_laws.specs.Faultless.{faultless_market};
+ghost use Rattle.mt_terms.specs.Registration.{market_of, market_under};
 ghost use Rattle.mt_terms.specs.Registration.Passes.{numbered_from};
+ghost use Rattle.mt_roster.specs.Drafts.{with_fields};
+ghost use Rattle.mt_roster.specs.Markets.{AcceptsRegistrations};
 ghost use Rattle.mt_roster.specs.Faults.{Tells};
-ghost use Rattle.mt_roster.specs.Refusals.{Gives};
-ghost use Rattle.mt_roster.specs.Read.{NamesNoVersion, GivesVersion, same};
+ghost use Rattle.mt_roster.specs.Refusals.{Gives, Refuses};
+ghost use Rattle.mt_roster.specs.Registers.{AreBounded};
+ghost use Rattle.mt_roster.specs.Read.{NamesNoVersion, GivesVersion, IsShort, same};
 
 use crate::fault::{RosterError, error_of};
 use crate::first_pass::first_pass;
-use crate::numbering::roster_of;
-use crate::plain::read_plain;
+use crate::market::faultless_market;
 use crate::refusal::{Fault, Refusal};
 use crate::rules::{Rules, rules_of};
-use mt_lists::Row;
+use mt_lists::{Rows, RowsIter};
 use mt_market::Roster;
 use mt_terms::codes::NO_VERSION;
 use std::alloc::Global;
-
-/// How many rows without a field stand at the start.
-fn blank_rows(rows: &[Row]) -> usize
-    ensures within { result ≤ length rows.now }
-    ensures skipped { numbered_from 1 rows.now ≡ numbered_from (result + 1) (drop result rows.now) }
-    ensures stops { result < length rows.now → slice_index_or rows.now result [] ≢ [] }
-{
-    let mut blanks = 0;
-    while blanks < rows.len() && rows[blanks].is_empty() {
-        blanks += 1;
-    }
-    blanks
-}
 
 /// A refusal because no version is named, at this record.
 fn no_version<'a>(row: u64) -> Refusal<'a>
@@ -40,39 +31,80 @@ fn no_version<'a>(row: u64) -> Refusal<'a>
     })
 }
 
-/// The rules of the version that a file names, and the place of the record after the one that names it.
-fn version_of(rows: &[Row]) -> Result<(Rules, usize), Refusal<'_>>
+/// What follows the record that names a version: the rules of that version, and the rows, of which the first has this
+/// number.
+#[derive(Clone, Copy)]
+struct Body<'a> {
+    rules: Rules,
+    rows: RowsIter<'a>,
+    first: u64,
+}
+
+/// What follows the record that names a version, which is the first with a field.
+fn body_of<'a>(rows: &'a Rows<'_>) -> Result<Body<'a>, Refusal<'a>>
     ensures { GivesVersion rows.now result }
 {
-    let blanks = blank_rows(rows);
-    if blanks == rows.len() {
-        return Err(no_version(0));
+    let mut rest = rows.iter();
+    let mut number = 0;
+    while let Some(row) = rest.next() {
+        number += 1;
+        if !row.is_empty() {
+            return match rules_of(row.fields()) {
+                Some(rules) => Ok(Body {
+                    rules,
+                    rows: rest,
+                    first: number + 1,
+                }),
+                None => Err(no_version(number)),
+            };
+        }
     }
-    let Some(rules) = rules_of(&rows[blanks]) else {
-        return Err(no_version(blanks as u64 + 1));
-    };
-    Ok((rules, blanks + 1))
+    Err(no_version(0))
+}
+
+/// The first fault of rows that have one.
+fn first_fault<'a>(alloc: Global, body: &Body<'a>) -> Refusal<'a>
+    requires limits { AreBounded body.now.rules.limits }
+    requires short { IsShort body.now }
+    requires fault { faultless_market body.now.rules (with_fields (rows_left body.now.rows)) ≡ None }
+    ensures { Refuses result (market_under body.now.rules (numbered_from body.now.first (rows_left body.now.rows))) }
+{
+    match first_pass(alloc, &body.rules, body.rows, body.first) {
+        Ok(register) => match register.second_pass() {
+            Some(fault) => Refusal::Fault(fault),
+            None => unreachable!(),
+        },
+        Err(refusal) => refusal,
+    }
+}
+
+/// The market of what follows the record that names a version, or its first fault.
+fn read_body<'a>(alloc: Global, body: &Body<'a>) -> Result<Roster, Refusal<'a>>
+    requires limits { AreBounded body.now.rules.limits }
+    requires short { IsShort body.now }
+    requires accepted { AcceptsRegistrations body.now.rules (with_fields (rows_left body.now.rows)) }
+    ensures { Gives same result (market_under body.now.rules (numbered_from body.now.first (rows_left body.now.rows))) }
+{
+    match faultless_market(alloc, &body.rules, body.rows)? {
+        Some(roster) => Ok(roster),
+        None => Err(first_fault(alloc, body)),
+    }
 }
 
 /// The market of a file's records, or its first fault.
-fn read(alloc: Global, rows: &[Row]) -> Result<Roster, Refusal<'_>>
+fn read<'a>(alloc: Global, rows: &'a Rows<'_>) -> Result<Roster, Refusal<'a>>
     ensures { Gives same result (market_of rows.now) }
 {
-    let (rules, from) = version_of(rows)?;
-    if let Some(roster) = read_plain(alloc, &rules, rows, from)? {
-        return Ok(roster);
+    match body_of(rows) {
+        Ok(body) => read_body(alloc, &body),
+        Err(refusal) => Err(refusal),
     }
-    let register = first_pass(alloc, &rules, rows, from)?;
-    if let Some(fault) = register.second_pass() {
-        return Err(Refusal::Fault(fault));
-    }
-    Ok(roster_of(alloc, register)?)
 }
 
 /// The roster of a file's records: of the market that they are, or their first fault. A record is a list of fields
 /// without its trailing empty ones; records are counted from 1, and one without a field is passed over.
 #[tactic(auto, using(crate::proofs::FaultFacts::has_short_id, crate::proofs::FaultFacts::tells))]
-pub fn roster(alloc: Global, rows: &[Row]) -> Result<Roster, RosterError>
+pub fn roster(alloc: Global, rows: &Rows<'_>) -> Result<Roster, RosterError>
     ensures market { IfOk result (λ roster. market_of rows.now ≡ Ok roster) }
     ensures fault { IfErr result (λ error. Tells error (market_of rows.now)) }
 {

@@ -1,15 +1,15 @@
-ghost use Rattle.std.specs.Prelude.{◌≡◌, ◌≤◌, [], ◌∷◌, drop, length, slice_index_or, option_map, option_to_list, Some};
+ghost use Rattle.std.specs.Prelude.{◌≡◌, ◌&&◌, [], ◌∷◌, codes, bytes_eq, length, option_map, option_to_list};
+ghost use Rattle.mt_lists.specs.Rows.{fields_left};
 ghost use Rattle.mt_terms.specs.Registration.Faults.{charge_alone};
-ghost use Rattle.mt_terms.specs.Registration.Records.{kind_of, are_ids, program_record, applicant_record, couple_by_pairs, couple_record, withdraw_record, record_of};
+ghost use Rattle.mt_terms.specs.Registration.Records.{kind_of, are_ids, two_by_two, program_record, applicant_record, couple_by_pairs, couple_record, withdraw_record, record_of};
 ghost use Rattle.mt_terms.specs.Registration.Records.{OfProgram, OfCouple};
 ghost use Rattle.mt_terms.specs.Registration.Rows.{id_of, own_id, applicants_of, entries_of};
-ghost use Rattle.mt_roster.specs.Fields.{by_pairs};
 ghost use Rattle.mt_roster.specs.Records.{kind_seen, record_seen, charge_seen, read_seen};
 
-use crate::fields::{Ids, Pairs, are_pairs};
+use crate::fields::{Pairs, are_ids, are_pairs};
 use crate::ids::{is_id, quota_of};
 use crate::rules::Rules;
-use mt_lists::Row;
+use mt_lists::Fields;
 use mt_terms::codes::{BAD_ID, BAD_QUOTA, FIELD_COUNT, UNKNOWN_KIND};
 
 /// What is registered under an id of its own.
@@ -21,16 +21,16 @@ pub(crate) enum Kind {
 }
 
 /// A record taken apart. Its ids lie in the row.
-#[derive(Debug, Drop)]
+#[derive(Clone, Copy, Debug)]
 pub(crate) enum Record<'a> {
     Program {
         id: &'a [u8],
         quota: u32,
-        list: Ids<'a>,
+        list: Fields<'a>,
     },
     Applicant {
         id: &'a [u8],
-        list: Ids<'a>,
+        list: Fields<'a>,
     },
     Couple {
         id: &'a [u8],
@@ -131,18 +131,20 @@ pub(crate) fn kind_of(word: &[u8]) -> Option<Kind>
 }
 
 /// A program by the fields after its first.
-fn program_record<'a>(rules: &Rules, row: &'a Row) -> Result<Record<'a>, Charge<'a>>
-    ensures { read_seen result ≡ program_record rules.now (drop 1 row.now) }
+fn program_record<'a>(rules: &Rules, fields: Fields<'a>) -> Result<Record<'a>, Charge<'a>>
+    ensures { read_seen result ≡ program_record rules.now (fields_left fields.entry) }
 {
-    if row.len() < 3 {
+    let mut list = fields;
+    let Some(id) = list.next() else {
         return Err(charge_alone(FIELD_COUNT));
-    }
-    let id = row.field(1);
-    let list = Ids::new(row, 3);
-    if !is_id(rules.limits.id_bytes, id) || !list.are_ids(rules) {
+    };
+    let Some(quota) = list.next() else {
+        return Err(charge_alone(FIELD_COUNT));
+    };
+    if !is_id(rules.limits.id_bytes, id) || !are_ids(rules, list) {
         return Err(charge_alone(BAD_ID));
     }
-    match quota_of(row.field(2)) {
+    match quota_of(quota) {
         Some(quota) => Ok(Record::Program { id, quota, list }),
         None => Err(Charge {
             code: BAD_QUOTA,
@@ -152,15 +154,14 @@ fn program_record<'a>(rules: &Rules, row: &'a Row) -> Result<Record<'a>, Charge<
 }
 
 /// An applicant by the fields after its first.
-fn applicant_record<'a>(rules: &Rules, row: &'a Row) -> Result<Record<'a>, Charge<'a>>
-    ensures { read_seen result ≡ applicant_record rules.now (drop 1 row.now) }
+fn applicant_record<'a>(rules: &Rules, fields: Fields<'a>) -> Result<Record<'a>, Charge<'a>>
+    ensures { read_seen result ≡ applicant_record rules.now (fields_left fields.entry) }
 {
-    if row.len() < 2 {
+    let mut list = fields;
+    let Some(id) = list.next() else {
         return Err(charge_alone(FIELD_COUNT));
-    }
-    let id = row.field(1);
-    let list = Ids::new(row, 2);
-    if is_id(rules.limits.id_bytes, id) && list.are_ids(rules) {
+    };
+    if is_id(rules.limits.id_bytes, id) && are_ids(rules, list) {
         Ok(Record::Applicant { id, list })
     } else {
         Err(charge_alone(BAD_ID))
@@ -168,30 +169,32 @@ fn applicant_record<'a>(rules: &Rules, row: &'a Row) -> Result<Record<'a>, Charg
 }
 
 /// Whether a couple's own id and those of its members are ids.
-fn are_ids(rules: &Rules, id: &[u8], first: &[u8], second: &[u8]) -> bool
+fn names_are_ids(rules: &Rules, id: &[u8], first: &[u8], second: &[u8]) -> bool
     ensures { result ≡ are_ids rules.now (id.now ∷ first.now ∷ second.now ∷ []) }
 {
     let most = rules.limits.id_bytes;
     is_id(most, id) && is_id(most, first) && is_id(most, second)
 }
 
-/// A couple whose fields are enough, and two by two after its members.
-fn couple_of_pairs<'a>(rules: &Rules, row: &'a Row) -> Result<Record<'a>, Charge<'a>>
-    requires { 4 ≤ length row.now }
-    ensures { read_seen result
-        ≡ couple_by_pairs rules.now (slice_index_or row.now 1 []) (slice_index_or row.now 2 []) (slice_index_or row.now 3 [])
-        (Some (by_pairs (drop 4 row.now))) }
+/// A couple by its names and the fields of its list.
+fn couple_by_pairs<'a>(
+    rules: &Rules,
+    id: &'a [u8],
+    first: &'a [u8],
+    second: &'a [u8],
+    list: Fields<'a>,
+) -> Result<Record<'a>, Charge<'a>>
+    ensures { read_seen result ≡ couple_by_pairs rules.now id.now first.now second.now (two_by_two (fields_left list.entry)) }
 {
-    let id = row.field(1);
-    let first = row.field(2);
-    let second = row.field(3);
-    if are_ids(rules, id, first, second) && are_pairs(rules, row, 4) {
-        let pairs = Pairs::new(row, 4);
+    if list.len() % 2 == 1 {
+        return Err(charge_alone(FIELD_COUNT));
+    }
+    if names_are_ids(rules, id, first, second) && are_pairs(rules, list) {
         Ok(Record::Couple {
             id,
             first,
             second,
-            pairs,
+            pairs: Pairs::new(list),
         })
     } else {
         Err(charge_alone(BAD_ID))
@@ -199,33 +202,42 @@ fn couple_of_pairs<'a>(rules: &Rules, row: &'a Row) -> Result<Record<'a>, Charge
 }
 
 /// A couple by the fields after its first.
-pub(crate) fn couple_record<'a>(rules: &Rules, row: &'a Row) -> Result<Record<'a>, Charge<'a>>
-    ensures { read_seen result ≡ couple_record rules.now (drop 1 row.now) }
+pub(crate) fn couple_record<'a>(rules: &Rules, fields: Fields<'a>) -> Result<Record<'a>, Charge<'a>>
+    ensures { read_seen result ≡ couple_record rules.now (fields_left fields.entry) }
 {
-    let count = row.len();
-    if count < 4 {
+    let mut list = fields;
+    let Some(id) = list.next() else {
         return Err(charge_alone(FIELD_COUNT));
-    }
-    if count % 2 == 1 {
+    };
+    let Some(first) = list.next() else {
         return Err(charge_alone(FIELD_COUNT));
-    }
-    couple_of_pairs(rules, row)
+    };
+    let Some(second) = list.next() else {
+        return Err(charge_alone(FIELD_COUNT));
+    };
+    couple_by_pairs(rules, id, first, second, list)
 }
 
 /// A withdrawal by the fields after its first.
-fn withdraw_record<'a>(rules: &Rules, row: &'a Row) -> Result<Record<'a>, Charge<'a>>
-    ensures { read_seen result ≡ withdraw_record rules.now (drop 1 row.now) }
+pub(crate) fn withdraw_record<'a>(
+    rules: &Rules,
+    fields: Fields<'a>,
+) -> Result<Record<'a>, Charge<'a>>
+    ensures { read_seen result ≡ withdraw_record rules.now (fields_left fields.entry) }
 {
-    let Some(word) = row.get(1) else {
+    let mut rest = fields;
+    let Some(word) = rest.next() else {
         return Err(charge_alone(FIELD_COUNT));
     };
     let Some(kind) = kind_of(word) else {
         return Err(charge_alone(UNKNOWN_KIND));
     };
-    if row.len() != 3 {
+    let Some(id) = rest.next() else {
+        return Err(charge_alone(FIELD_COUNT));
+    };
+    if rest.next().is_some() {
         return Err(charge_alone(FIELD_COUNT));
     }
-    let id = row.field(2);
     if is_id(rules.limits.id_bytes, id) {
         Ok(Record::Withdraw { kind, id })
     } else {
@@ -233,20 +245,28 @@ fn withdraw_record<'a>(rules: &Rules, row: &'a Row) -> Result<Record<'a>, Charge
     }
 }
 
-/// A record taken apart by itself, or its first fault.
-pub(crate) fn record_of<'a>(rules: &Rules, row: &'a Row) -> Result<Record<'a>, Charge<'a>>
-    ensures { read_seen result ≡ record_of rules.now row.now }
+/// Whether a field is the word of a withdrawal, where the version knows withdrawals.
+pub(crate) fn withdraws(rules: &Rules, word: &[u8]) -> bool
+    ensures { result ≡ (rules.now.withdrawals && bytes_eq word.now (codes "withdraw")) }
 {
-    let Some(word) = row.get(0) else {
+    rules.withdrawals && word == b"withdraw".as_slice()
+}
+
+/// A record taken apart by itself, or its first fault.
+pub(crate) fn record_of<'a>(rules: &Rules, fields: Fields<'a>) -> Result<Record<'a>, Charge<'a>>
+    ensures { read_seen result ≡ record_of rules.now (fields_left fields.entry) }
+{
+    let mut rest = fields;
+    let Some(word) = rest.next() else {
         return Err(charge_alone(UNKNOWN_KIND));
     };
-    if rules.withdrawals && word == b"withdraw".as_slice() {
-        return withdraw_record(rules, row);
+    if withdraws(rules, word) {
+        return withdraw_record(rules, rest);
     }
     match kind_of(word) {
-        Some(Kind::Program) => program_record(rules, row),
-        Some(Kind::Applicant) => applicant_record(rules, row),
-        Some(Kind::Couple) => couple_record(rules, row),
+        Some(Kind::Program) => program_record(rules, rest),
+        Some(Kind::Applicant) => applicant_record(rules, rest),
+        Some(Kind::Couple) => couple_record(rules, rest),
         None => Err(charge_alone(UNKNOWN_KIND)),
     }
 }

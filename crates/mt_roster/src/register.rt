@@ -1,4 +1,4 @@
-ghost use Rattle.std.specs.Prelude.{◌≡◌, ◌+◌, ◌||◌, false, nat_lt, ◌++◌, [], ◌∷◌, length, option_map, None, OnOk, IfOk};
+ghost use Rattle.std.specs.Prelude.{◌≡◌, ◌+◌, ◌||◌, true, false, not, nat_lt, ◌++◌, [], ◌∷◌, option_map, None, OnOk, IfOk};
 ghost use Rattle.std.specs.Option.{option_copied};
 ghost use Rattle.mt_terms.specs.Registration.Ids.{has_id};
 ghost use Rattle.mt_terms.specs.Registration.Passes.{first_in, registered_before, says_twice, are_too_many, first_conflict};
@@ -29,7 +29,7 @@ pub(crate) struct Kinds<'a> {
 }
 
 impl<'a> Kinds<'a> {
-    fn new(alloc: Global) -> Self
+    pub(crate) fn new(alloc: Global) -> Self
         ensures programs { result.programs ≡ [] }
         ensures applicants { result.applicants ≡ [] }
         ensures couples { result.couples ≡ [] }
@@ -49,6 +49,18 @@ impl<'a> Kinds<'a> {
             Kind::Program => &self.programs,
             Kind::Applicant => &self.applicants,
             Kind::Couple => &self.couples,
+        }
+    }
+
+    /// Adds an id, and says that it did so, where it is none of its kind.
+    pub(crate) fn add(&mut self, kind: Kind, id: &'a [u8]) -> Result<bool, AllocError>
+        ensures added { IfOk result (λ added. added ≡ not (has_id (ids_in self.old (kind_seen kind)) id.now)) }
+        ensures ids { IfOk result (λ added. added ≡ true → AddsId self.old self.new (kind_seen kind) id.now) }
+    {
+        match kind {
+            Kind::Program => self.programs.add(id),
+            Kind::Applicant => self.applicants.add(id),
+            Kind::Couple => self.couples.add(id),
         }
     }
 
@@ -128,9 +140,9 @@ impl<'a> Register<'a> {
         ensures { IfOk result (λ twice. twice ≡ says_twice (contents_seen self.now) (record_seen record.now)) }
     {
         match record {
-            Record::Program { list, .. } => has_repeat(alloc, list),
-            Record::Applicant { list, .. } => has_repeat(alloc, list),
-            Record::Couple { pairs, .. } => has_repeated_pair(alloc, pairs),
+            Record::Program { list, .. } => has_repeat(alloc, *list),
+            Record::Applicant { list, .. } => has_repeat(alloc, *list),
+            Record::Couple { pairs, .. } => has_repeated_pair(alloc, *pairs),
             Record::Withdraw { kind, id } => Ok(self.withdrawn.of(*kind).contains(id)),
         }
     }

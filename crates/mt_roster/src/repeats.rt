@@ -1,22 +1,25 @@
 ghost use Rattle.std.specs.Prelude.{◌≡◌, ◌++◌, [], ◌∷◌, not, bytes_eq, OnErr, IfOk, if◌then◌else◌};
 ghost use Rattle.std.specs.List.{list_any};
 ghost use Rattle.std.specs.Option.{option_copied};
+ghost use Rattle.mt_lists.specs.Rows.{fields_left};
 ghost use Rattle.mt_terms.specs.Registration.Ids.{all_differ};
 ghost use Rattle.mt_terms.specs.Registration.Passes.{is_same_pair};
+ghost use Rattle.mt_roster.specs.Fields.{pairs_left};
 
-use crate::fields::{Ids, Pairs};
+use crate::fields::Pairs;
 use crate::id_table::IdTable;
 use indexmap::IndexSet;
+use mt_lists::Fields;
 use std::alloc::{AllocError, Global};
 use std::marker::Model;
 
 /// Whether an id stands twice in a list.
-pub(crate) fn has_repeat(alloc: Global, list: &Ids<'_>) -> Result<bool, AllocError>
-    ensures { IfOk result (λ repeats. repeats ≡ not (all_differ bytes_eq list.now)) }
+pub(crate) fn has_repeat(alloc: Global, list: Fields<'_>) -> Result<bool, AllocError>
+    ensures { IfOk result (λ repeats. repeats ≡ not (all_differ bytes_eq (fields_left list.entry))) }
 {
     let mut seen = IdTable::with_capacity(alloc, list.len())?;
-    for i in 0..list.len() {
-        if !seen.add(list.id(i))? {
+    for id in list {
+        if !seen.add(id)? {
             return Ok(true);
         }
     }
@@ -59,12 +62,12 @@ impl<'a> PairTable<'a> {
 }
 
 /// Whether a pair stands twice in a couple's list.
-pub(crate) fn has_repeated_pair(alloc: Global, pairs: &Pairs<'_>) -> Result<bool, AllocError>
-    ensures { IfOk result (λ repeats. repeats ≡ not (all_differ is_same_pair pairs.now)) }
+pub(crate) fn has_repeated_pair(alloc: Global, pairs: Pairs<'_>) -> Result<bool, AllocError>
+    ensures { IfOk result (λ repeats. repeats ≡ not (all_differ is_same_pair (pairs_left pairs.entry))) }
 {
     let mut seen = PairTable::with_capacity(alloc, pairs.len())?;
-    for i in 0..pairs.len() {
-        if !seen.add(pairs.pair(i))? {
+    for pair in pairs {
+        if !seen.add(pair)? {
             return Ok(true);
         }
     }

@@ -1,7 +1,8 @@
 ghost use Rattle.std.specs.Prelude.{◌≡◌};
+ghost use Rattle.mt_lists.specs.Rows.{fields_left};
 ghost use Rattle.mt_terms.specs.Registration.Records.{rules_of};
 
-use mt_lists::Row;
+use mt_lists::Fields;
 use mt_terms::{LIMITS, LIMITS_2, Limits};
 use std::marker::Model;
 
@@ -40,13 +41,17 @@ const VERSION_2: Rules = Rules {
 };
 
 /// The rules of the version that a record names, which is exactly `match`, `1` or `match`, `2`.
-pub(crate) fn rules_of(row: &Row) -> Option<Rules>
-    ensures { result ≡ rules_of row.now }
+pub(crate) fn rules_of(all: Fields<'_>) -> Option<Rules>
+    ensures { result ≡ rules_of (fields_left all.entry) }
 {
-    if row.len() != 2 || row.field(0) != b"match".as_slice() {
+    let mut fields = all;
+    if fields.next()? != b"match".as_slice() {
         return None;
     }
-    let number = row.field(1);
+    let number = fields.next()?;
+    if fields.next().is_some() {
+        return None;
+    }
     if number == b"1".as_slice() {
         Some(VERSION_1)
     } else if number == b"2".as_slice() {

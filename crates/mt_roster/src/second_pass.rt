@@ -1,6 +1,6 @@
 ghost use Rattle.std.specs.Prelude.{◌≡◌, option_map};
 ghost use Rattle.std.specs.Option.{option_copied};
-ghost use Rattle.mt_terms.specs.Registration.Faults.{charge, fault_at};
+ghost use Rattle.mt_terms.specs.Registration.Faults.{charge};
 ghost use Rattle.mt_terms.specs.Registration.Passes.{second_pass, unknown_id};
 ghost use Rattle.mt_roster.specs.Records.{charge_seen, record_seen};
 ghost use Rattle.mt_roster.specs.Refusals.{fault_seen};
@@ -28,17 +28,17 @@ impl<'a> Register<'a> {
     {
         match record {
             Record::Program { list, .. } => {
-                charge_of(UNKNOWN_APPLICANT, first_unknown(&self.applicants, list))
+                charge_of(UNKNOWN_APPLICANT, first_unknown(&self.applicants, *list))
             }
             Record::Applicant { list, .. } => {
                 charge_of(
                     UNKNOWN_PROGRAM,
-                    first_unknown(&self.registered.programs, list),
+                    first_unknown(&self.registered.programs, *list),
                 )
             }
             Record::Couple { pairs, .. } => charge_of(
                 UNKNOWN_PROGRAM,
-                first_unknown_of_pairs(&self.registered.programs, pairs),
+                first_unknown_of_pairs(&self.registered.programs, *pairs),
             ),
             Record::Withdraw { kind, id } => {
                 if self.registered.of(*kind).contains(id) {

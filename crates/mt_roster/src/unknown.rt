@@ -1,17 +1,19 @@
 ghost use Rattle.std.specs.Prelude.{◌≡◌, option_to_list};
 ghost use Rattle.std.specs.List.{flat_map};
 ghost use Rattle.std.specs.Option.{option_copied};
+ghost use Rattle.mt_lists.specs.Rows.{fields_left};
 ghost use Rattle.mt_terms.specs.Registration.Passes.{first_not_in, named};
+ghost use Rattle.mt_roster.specs.Fields.{pairs_left};
 
-use crate::fields::{Ids, Pairs};
+use crate::fields::Pairs;
 use crate::id_table::IdTable;
+use mt_lists::Fields;
 
 /// The first id of a list that is none of these.
-pub(crate) fn first_unknown<'a>(all: &IdTable<'_>, list: &Ids<'a>) -> Option<&'a [u8]>
-    ensures { option_copied result ≡ first_not_in all.now list.now }
+pub(crate) fn first_unknown<'a>(all: &IdTable<'_>, list: Fields<'a>) -> Option<&'a [u8]>
+    ensures { option_copied result ≡ first_not_in all.now (fields_left list.entry) }
 {
-    for i in 0..list.len() {
-        let id = list.id(i);
+    for id in list {
         if !all.contains(id) {
             return Some(id);
         }
@@ -41,11 +43,11 @@ fn unknown_of_pair<'a>(
 }
 
 /// The first id of a couple's pairs that is none of these.
-pub(crate) fn first_unknown_of_pairs<'a>(all: &IdTable<'_>, list: &Pairs<'a>) -> Option<&'a [u8]>
-    ensures { option_copied result ≡ first_not_in all.now (flat_map named list.now) }
+pub(crate) fn first_unknown_of_pairs<'a>(all: &IdTable<'_>, list: Pairs<'a>) -> Option<&'a [u8]>
+    ensures { option_copied result ≡ first_not_in all.now (flat_map named (pairs_left list.entry)) }
 {
-    for i in 0..list.len() {
-        if let Some(id) = unknown_of_pair(all, list.pair(i)) {
+    for pair in list {
+        if let Some(id) = unknown_of_pair(all, pair) {
             return Some(id);
         }
     }

@@ -1,8 +1,13 @@
-use Rattle.std.proofs.Common.{◌≡◌, take, drop, true}
+use Rattle.std.proofs.Common.{◌≡◌, length}
 use Rattle.std.specs.List.{list_all}
+use Rattle.mt_lists.specs.Rows.{fields_left}
 use Rattle.mt_terms.specs.Registration.Records.{is_pair}
 use Rattle.mt_roster.specs.Fields.{by_pairs}
 use Rattle.mt_roster.proofs.fields.are_pairs.Given as goal
 
-abbrev pub invariant-loop-i : goal.invariant-loop-i
-invariant-loop-i l = list_all (is_pair l.rules) (take l.i (by_pairs (drop l.from l.row))) ≡ true
+-- the rest decides
+abbrev pub invariant-loop-first : goal.invariant-loop-first
+invariant-loop-first l = list_all (is_pair l.rules) (by_pairs (fields_left l.rest)) ≡ list_all (is_pair l.rules) (by_pairs (fields_left l.fn.fields))
+
+abbrev pub decreases-loop-first : goal.decreases-loop-first
+decreases-loop-first l = length (by_pairs (fields_left l.rest))

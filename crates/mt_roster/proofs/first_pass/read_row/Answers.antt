@@ -1,17 +1,14 @@
-use Rattle.mt_roster.specs.Records.{record_seen}
-use Rattle.mt_roster.specs.Registers.{contents_seen}
-use Rattle.mt_roster.proofs.PlainFacts.{once_said}
-use Rattle.mt_roster.proofs.PassFacts.{IsAccepted, is_accepted, few_more}
+use Rattle.std.proofs.Common.{List, sym, ◌∙◌, subst}
+use Rattle.mt_terms.specs.Registration.Ids.{Bytes}
+use Rattle.mt_roster.specs.Passes.{Reads}
+use Rattle.mt_roster.proofs.PassFacts.{reads_row, skips_row, is_zero, is_positive}
 use Rattle.mt_roster.proofs.first_pass.read_row.Goals as goal
 
-accepted : (c : goal.After-push-arg-1) → IsAccepted c.args.rules.now (contents_seen c.args.register.now) (record_seen c.in_ok-next.next)
-accepted c = is_accepted c.args.rules.now (contents_seen c.args.register.now) c.args.row.now c.args.number (record_seen c.in_ok-next.next) c.in_ok-next.ensures
+pub returns-then-is_empty : goal.returns-then-is_empty
+returns-then-is_empty c =
+    skips_row {Y = Unit {0}} c.args.rules.now c.args.register.now c.args.number c.args.row tt (is_zero _ (sym c.is_empty.ensures ∙ c.if-is_empty.true)) c.requires.register
 
-pub push-requires-clause-new : goal.push-requires-clause-new
-push-requires-clause-new c = (accepted c).new
-
-pub push-requires-clause-once : goal.push-requires-clause-once
-push-requires-clause-once c = once_said (contents_seen c.args.register.now) (record_seen c.in_ok-next.next) (accepted c).once
-
-pub push-requires-clause-few : goal.push-requires-clause-few
-push-requires-clause-few c = few_more c.args.rules.now (contents_seen c.args.register.now) (record_seen c.in_ok-next.next) c.requires.limits (accepted c).few
+pub returns : goal.returns
+returns c =
+    reads_row c.args.rules.now c.args.register.now c.read_fields.new.register c.args.number c.args.row c.read_fields.result (is_positive _ (sym c.is_empty.ensures ∙ c.if-is_empty.false))
+    (subst (λ (fields : List Bytes). Reads c.args.rules.now c.args.register.now c.read_fields.new.register (c.args.number, fields) c.read_fields.result) c.fields.ensures c.read_fields.ensures)

@@ -3,13 +3,13 @@ use Rattle.std.proofs.lemmas.List.{take_more, map-append}
 use Rattle.mt_roster.specs.Entries.{AreNames}
 use Rattle.mt_roster.specs.Numbered.{all_seen}
 use Rattle.mt_roster.specs.Records.{record_seen}
-use Rattle.mt_roster.proofs.PlainFacts.{names_more}
+use Rattle.mt_roster.proofs.NameFacts.{names_more}
 use Rattle.mt_roster.proofs.names.names_of.Goals as goal
 
-pub loop-numbered-preserved : goal.loop-numbered-preserved
-loop-numbered-preserved c =
-    let front = take c.loop-numbered.numbered-index c.args.records.now in
-    let one = c.numbered-item.result in
-    let same = ap all_seen (take_more c.args.records.now c.loop-numbered.numbered-index one c.loop-numbered-test.true ∙ ap (λ n. front ++ n ∷ []) (sym c.numbered-item.is)) ∙ map-append _ front (one ∷ []) in
+pub loop-one-preserved : goal.loop-one-preserved
+loop-one-preserved c =
+    let front = take c.loop-one.one-index c.args.records.now in
+    let one = c.one-item.result in
+    let same = ap all_seen (take_more c.args.records.now c.loop-one.one-index one c.loop-one-test.true ∙ ap (λ n. front ++ n ∷ []) (sym c.one-item.is)) ∙ map-append _ front (one ∷ []) in
     subst (λ rs. AreNames rs c.push.new.self) (sym same)
-    (names_more c.loop-numbered.names c.push.new.self (all_seen front) (record_seen one.record) c.loop-numbered.invariant c.in_ok-push.ensures)
+    (names_more c.loop-one.names c.push.new.self (all_seen front) (record_seen one) c.loop-one.invariant c.in_ok-push.ensures)

@@ -1,8 +1,8 @@
-use Rattle.std.proofs.Common.{◌≡◌, ◌++◌, drop}
-use Rattle.std.specs.Prelude.{flat_map}
-use Rattle.mt_roster.specs.Numbered.{all_seen, lists_by}
+use Rattle.std.proofs.Common.{drop}
+use Rattle.mt_roster.specs.Numbered.{all_seen, applicant_lists}
+use Rattle.mt_roster.proofs.ReadingSteps.{AreReadTo}
 use Rattle.mt_roster.proofs.numbering.lists.Given as goal
 
-abbrev pub invariant-loop-numbered : goal.invariant-loop-numbered
-invariant-loop-numbered l =
-    l.lists ++ flat_map (lists_by l.programs) (all_seen (drop l.numbered-index l.records)) ≡ flat_map (lists_by l.programs) (all_seen l.records)
+abbrev pub invariant-loop-one : goal.invariant-loop-one
+invariant-loop-one l =
+    AreReadTo l.programs l.numbers (applicant_lists (all_seen l.records)) l.fn.room l.stamps.items l.room l.lists (applicant_lists (all_seen (drop l.one-index l.records)))

@@ -1,8 +1,8 @@
-use Rattle.std.proofs.Common.{◌≡◌, ◌++◌, drop}
-use Rattle.std.specs.Prelude.{filter_map}
-use Rattle.mt_roster.specs.Numbered.{all_seen, pairs_in}
+use Rattle.std.proofs.Common.{drop}
+use Rattle.mt_roster.specs.Numbered.{all_seen, couple_lists}
+use Rattle.mt_roster.proofs.PairSteps.{ArePairsReadTo}
 use Rattle.mt_roster.proofs.numbering.pairs.Given as goal
 
-abbrev pub invariant-loop-numbered : goal.invariant-loop-numbered
-invariant-loop-numbered l =
-    l.lists ++ filter_map (pairs_in l.programs) (all_seen (drop l.numbered-index l.records)) ≡ filter_map (pairs_in l.programs) (all_seen l.records)
+abbrev pub invariant-loop-one : goal.invariant-loop-one
+invariant-loop-one l =
+    ArePairsReadTo l.programs l.numbers (couple_lists (all_seen l.records)) l.fn.room l.room l.lists (couple_lists (all_seen (drop l.one-index l.records)))

@@ -1,10 +1,15 @@
-use Rattle.std.proofs.Common.{◌≡◌, ◌<◌, drop, length}
-use Rattle.mt_terms.specs.Registration.Numbering.{pairs_by_number}
+use Rattle.std.proofs.Common.{◌≡◌, ◌+◌, ◌*◌, length}
+use Rattle.std.specs.List.{list_all}
+use Rattle.mt_terms.specs.Registration.Numbering.{names_only}
+use Rattle.mt_roster.specs.Fields.{pairs_left}
 use Rattle.mt_roster.specs.Numbered.{with_more}
+use Rattle.mt_roster.specs.Reading.{pairs_by}
 use Rattle.mt_roster.proofs.numbering.push_pairs.Given as goal
 
-abbrev pub invariant-loop-i : goal.invariant-loop-i
-invariant-loop-i l = record {
-  begun : 0 < length l.lists;
-  rest : with_more l.lists (pairs_by_number l.programs (drop l.i l.list)) ≡ with_more l.fn.lists (pairs_by_number l.programs l.list);
+abbrev pub invariant-loop-first : goal.invariant-loop-first
+invariant-loop-first l = record {
+  count : length l.lists ≡ length l.fn.lists;
+  room : l.room + 2 * length (pairs_left l.fn.list) ≡ l.fn.room + 2 * length (pairs_left l.first-iterator);
+  stand : list_all (names_only l.programs) (pairs_left l.first-iterator) ≡ list_all (names_only l.programs) (pairs_left l.fn.list);
+  rest : with_more l.lists (pairs_by l.programs l.numbers (pairs_left l.first-iterator)) ≡ with_more l.fn.lists (pairs_by l.programs l.numbers (pairs_left l.fn.list));
 }

@@ -1,8 +1,8 @@
-use Rattle.std.proofs.Common.{◌≡◌, ◌++◌, drop}
-use Rattle.std.specs.Prelude.{filter_map}
-use Rattle.mt_roster.specs.Numbered.{all_seen, ranking_in}
+use Rattle.std.proofs.Common.{drop}
+use Rattle.mt_roster.specs.Numbered.{all_seen, program_lists}
+use Rattle.mt_roster.proofs.ReadingSteps.{AreReadTo}
 use Rattle.mt_roster.proofs.numbering.rankings.Given as goal
 
-abbrev pub invariant-loop-numbered : goal.invariant-loop-numbered
-invariant-loop-numbered l =
-    l.lists ++ filter_map (ranking_in l.applicants) (all_seen (drop l.numbered-index l.records)) ≡ filter_map (ranking_in l.applicants) (all_seen l.records)
+abbrev pub invariant-loop-one : goal.invariant-loop-one
+invariant-loop-one l =
+    AreReadTo l.applicants l.numbers (program_lists (all_seen l.records)) l.fn.room l.stamps.items l.room l.lists (program_lists (all_seen (drop l.one-index l.records)))

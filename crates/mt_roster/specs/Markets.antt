@@ -1,0 +1,59 @@
+-- What is known of records by the steps to their market.
+use Rattle.std.specs.Prelude.{◌≡◌, ◌&&◌, Bool, true, false, nat_le, List, Vec, filter, filter_map, flat_map, Option, Some, None}
+use Rattle.std.specs.Global.{Global}
+use Rattle.mt_file_laws.specs.Faultless.{is_faultless, faultless_market, ids_differ}
+use Rattle.mt_file_laws.specs.Staying.{new_numbers, program_flags, applicant_flags}
+use Rattle.mt_terms.specs.declared.limits.Limits.{Limits}
+use Rattle.mt_terms.specs.Market.{Registered as Market}
+use Rattle.mt_terms.specs.Registration.Ids.{Bytes}
+use Rattle.mt_terms.specs.Registration.Records.{Rules, Record, OfProgram, OfCouple}
+use Rattle.mt_terms.specs.Registration.Rows.{ids_of, applicant_ids, entry_count}
+use Rattle.mt_terms.specs.Registration.Numbering.{registered}
+use Rattle.mt_terms.specs.Registration.Accepted.{IsRegistration}
+use Rattle.mt_roster.specs.declared.numbering.Entries.{Entries}
+use Rattle.mt_roster.specs.declared.numbering.Numbers.{Numbers}
+use Rattle.mt_roster.specs.declared.record.Record.{Record as Checked}
+use Rattle.mt_roster.specs.declared.register.Kinds.{Kinds}
+use Rattle.mt_roster.specs.declared.registered.Registered.{Registered}
+use Rattle.mt_roster.specs.Entries.{single_flags}
+use Rattle.mt_roster.specs.Numbered.{all_seen, ranking_in, lists_by, pairs_in}
+use Rattle.mt_roster.specs.Reading.{AreRead, lists_stand}
+use Rattle.mt_roster.specs.Withdrawals.{stays_after}
+
+-- The new numbers are those among the records that stay.
+pub record AreNewNumbers (w : Kinds) (rs : List Record) (n : Numbers) : Type 0 where
+  pub programs : n.programs.items ≡ new_numbers 0 (program_flags (stays_after w) rs)
+  pub applicants : n.applicants.items ≡ new_numbers 0 (applicant_flags (stays_after w) rs)
+
+-- The ids are those of these records, and none is registered twice.
+pub record AreIdsOfRecords (rs : List Record) (r : Registered) : Type 0 where
+  pub programs : r.programs ≡ ids_of OfProgram rs
+  pub applicants : r.applicants ≡ applicant_ids rs
+  pub couples : r.couples ≡ ids_of OfCouple rs
+  pub singles : r.singles.now ≡ single_flags rs
+  pub differ : ids_differ rs ≡ true
+
+-- What these records say by the numbers of their own programs and applicants.
+pub record AreEntries (rs : List Record) (e : Entries) : Type 0 where
+  pub rankings : e.rankings ≡ filter_map (ranking_in (applicant_ids rs)) rs
+  pub lists : e.lists ≡ flat_map (lists_by (ids_of OfProgram rs)) rs
+  pub pairs : e.pairs ≡ filter_map (pairs_in (ids_of OfProgram rs)) rs
+
+-- whether the lists of all records stand, and have no more entries than this
+abbrev pub fit : Limits → Registered → List Record → Bool
+fit limits r rs = lists_stand r.programs r.applicants rs && nat_le (entry_count rs) limits.entries
+
+-- The records that stay, and what their lists say by new numbers, where the lists of all fit.
+abbrev pub GivesEntries : Limits → Registered → Kinds → Numbers → List Record → Option (Vec Checked Global × Entries) → Type 0
+GivesEntries limits r w n rs None = fit limits r rs ≡ false
+GivesEntries limits r w n rs (Some found) =
+    (fit limits r rs ≡ true) × (all_seen found.0.items ≡ filter (stays_after w) rs) × AreRead r n (filter (stays_after w) rs) found.1
+
+-- The market of these records, if they have no fault among them.
+abbrev pub IsMarketOf : Limits → List Record → Option Market → Type 0
+IsMarketOf limits rs None = is_faultless limits rs ≡ false
+IsMarketOf limits rs (Some m) = (is_faultless limits rs ≡ true) × (m ≡ registered rs)
+
+-- What is accepted of these rows is a registration.
+abbrev pub AcceptsRegistrations : Rules → List (List Bytes) → Type 0
+AcceptsRegistrations rules rows = (m : Market) → faultless_market rules rows ≡ Some m → IsRegistration m

@@ -1,0 +1,157 @@
+//! The market of rows without a fault: all records are taken apart, all ids numbered, each entry looked up once, and by
+//! then it is known whether any record has a fault. Which one, and what it is, the passes over the records tell.
+ghost use Rattle.std.specs.Prelude.{◌≡◌, ◌<◌, ◌^◌, true, false, length, filter_map, IfOk};
+ghost use Rattle.mt_lists.specs.Rows.{rows_left};
+ghost use Rattle.mt_file_laws.specs.Faultless.{faultless_market, is_faultless};
+ghost use Rattle.mt_terms.specs.Registration.Accepted.{IsRegistration};
+ghost use Rattle.mt_terms.specs.Registration.Numbering.{registered};
+ghost use Rattle.mt_terms.specs.Registration.Records.{OfProgram};
+ghost use Rattle.mt_terms.specs.Registration.Rows.{ids_of, applicant_ids};
+ghost use Rattle.mt_roster.specs.Drafts.{drafted, has_too_many_names, with_fields, AreDrafts};
+ghost use Rattle.mt_roster.specs.Markets.{AcceptsRegistrations, AreEntries, AreIdsOfRecords, AreNewNumbers, GivesEntries, IsMarketOf};
+ghost use Rattle.mt_roster.specs.Numbered.{all_seen, members_in, registered_by_all};
+ghost use Rattle.mt_roster.specs.Registers.{AreBounded};
+
+use crate::drafts::{Drafts, drafts_of};
+use crate::names::names_of;
+use crate::numbering::{Entries, Numbers, agents, entries_of, members, quotas};
+use crate::record::Record;
+use crate::register::Kinds;
+use crate::registered::Registered;
+use crate::rules::Rules;
+use crate::withdrawals::{applicant_numbers, leaving, program_numbers, staying, withdrawn_by};
+use mt_lists::RowsIter;
+use mt_market::{Roster, Tables};
+use mt_terms::{AppNo, Limits};
+use std::alloc::{AllocError, Global};
+
+/// The new numbers of programs and applicants where these ids are withdrawn.
+fn numbers_of(
+    alloc: Global,
+    withdrawn: &Kinds<'_>,
+    records: &[Record<'_>],
+) -> Result<Numbers, AllocError>
+    requires programs { length (ids_of OfProgram (all_seen records.now)) < 2 ^ 31 }
+    requires applicants { length (applicant_ids (all_seen records.now)) < 2 ^ 31 }
+    ensures { IfOk result (AreNewNumbers withdrawn.now (all_seen records.now)) }
+{
+    Ok(Numbers {
+        programs: program_numbers(alloc, withdrawn, records)?,
+        applicants: applicant_numbers(alloc, withdrawn, records)?,
+    })
+}
+
+/// The market of records none of which is withdrawn, by what their lists say and by their couples' members.
+fn with_entries(
+    alloc: Global,
+    records: &[Record<'_>],
+    entries: Entries,
+    members: Vec<(AppNo, AppNo)>,
+) -> Result<Roster, AllocError>
+    requires market { IsRegistration (registered_by_all (all_seen records.now)) }
+    requires entries { AreEntries (all_seen records.now) entries }
+    requires members { members.items ≡ filter_map (members_in (applicant_ids (all_seen records.now))) (all_seen records.now) }
+    ensures { IfOk result (λ roster. roster ≡ registered_by_all (all_seen records.now)) }
+{
+    let names = names_of(alloc, records)?;
+    let quotas = quotas(alloc, records)?;
+    let agents = agents(alloc, names.applicants.len(), &members)?;
+    Ok(Roster::new(Tables {
+        quotas,
+        rankings: entries.rankings,
+        lists: entries.lists,
+        agents,
+        members,
+        pairs: entries.pairs,
+        program_ids: names.programs,
+        applicant_ids: names.applicants,
+        couple_ids: names.couples,
+    }))
+}
+
+/// The records that stay where these ids are withdrawn, and what their lists say by new numbers, where the lists of all
+/// records stand and have no more entries than a version takes.
+fn read_entries<'a>(
+    alloc: Global,
+    limits: &Limits,
+    registered: &Registered<'_>,
+    withdrawn: &Kinds<'_>,
+    numbers: &Numbers,
+    records: Vec<Record<'a>>,
+) -> Result<Option<(Vec<Record<'a>>, Entries)>, AllocError>
+    requires programs { length numbers.now.programs.items ≡ length registered.now.programs }
+    requires applicants { length numbers.now.applicants.items ≡ length registered.now.applicants }
+    ensures { IfOk result (GivesEntries limits.now registered.now withdrawn.now numbers.now (all_seen records.entry.items)) }
+{
+    let mut room = limits.entries;
+    let leaving = leaving(alloc, withdrawn, &records)?;
+    if entries_of(alloc, registered, numbers, &mut room, &leaving)?.is_none() {
+        return Ok(None);
+    }
+    let staying = staying(withdrawn, records);
+    let Some(entries) = entries_of(alloc, registered, numbers, &mut room, &staying)? else {
+        return Ok(None);
+    };
+    Ok(Some((staying, entries)))
+}
+
+/// The market of records by their ids, none of which is registered twice, if they have no fault among them.
+fn market_by(
+    alloc: Global,
+    limits: &Limits,
+    ids: &Registered<'_>,
+    records: Vec<Record<'_>>,
+) -> Result<Option<Roster>, AllocError>
+    requires limits { AreBounded limits.now }
+    requires ids { AreIdsOfRecords (all_seen records.items) ids.now }
+    requires few { has_too_many_names limits.now (all_seen records.items) ≡ false }
+    requires accepted { is_faultless limits.now (all_seen records.items) ≡ true → IsRegistration (registered (all_seen records.items)) }
+    ensures { IfOk result (IsMarketOf limits.now (all_seen records.entry.items)) }
+{
+    let Some(withdrawn) = withdrawn_by(alloc, ids, &records)? else {
+        return Ok(None);
+    };
+    let numbers = numbers_of(alloc, &withdrawn, &records)?;
+    let Some((records, entries)) = read_entries(alloc, limits, ids, &withdrawn, &numbers, records)?
+    else {
+        return Ok(None);
+    };
+    let members = members(alloc, &ids.applicants, &numbers.applicants, &records)?;
+    let roster = with_entries(alloc, &records, entries, members)?;
+    Ok(Some(roster))
+}
+
+/// The market of drafts, if they have no fault among them.
+fn market_of_drafts(
+    alloc: Global,
+    limits: &Limits,
+    drafts: Drafts<'_>,
+) -> Result<Option<Roster>, AllocError>
+    requires limits { AreBounded limits.now }
+    requires drafts { AreDrafts drafts }
+    requires few { has_too_many_names limits.now (drafted drafts) ≡ false }
+    requires accepted { is_faultless limits.now (drafted drafts) ≡ true → IsRegistration (registered (drafted drafts)) }
+    ensures { IfOk result (IsMarketOf limits.now (drafted drafts.entry)) }
+{
+    let Drafts { records, names } = drafts;
+    match Registered::of(alloc, &names)? {
+        Some(ids) => market_by(alloc, limits, &ids, records),
+        None => Ok(None),
+    }
+}
+
+/// The market of rows, if they have no fault.
+pub(crate) fn faultless_market(
+    alloc: Global,
+    rules: &Rules,
+    rows: RowsIter<'_>,
+) -> Result<Option<Roster>, AllocError>
+    requires limits { AreBounded rules.now.limits }
+    requires accepted { AcceptsRegistrations rules.now (with_fields (rows_left rows)) }
+    ensures { IfOk result (λ found. found ≡ faultless_market rules.now (with_fields (rows_left rows.entry))) }
+{
+    match drafts_of(alloc, rules, rows)? {
+        Some(drafts) => market_of_drafts(alloc, &rules.limits, drafts),
+        None => Ok(None),
+    }
+}
