@@ -1,5 +1,5 @@
 -- What a run writes for the bytes that it reads.
-use Rattle.std.specs.Prelude.{◌≡◌, ◌≢◌, ℕ, ◌+◌, ◌≤◌, List, [], map, length, take, Option, None, Some, IsTrue, nat_lt, MatchOption, MatchResult, Bool}
+use Rattle.std.specs.Prelude.{◌≡◌, ◌≢◌, ℕ, ◌+◌, ◌≤◌, List, [], map, length, take, Option, None, Some, IsTrue, nat_lt, MatchOption, MatchResult, Ok, Bool}
 use Rattle.std.specs.Bool.{MatchBool}
 use Rattle.std.specs.Io.KnownBytes.{Appends}
 use Rattle.mt_lists.specs.Records.{records_of}
@@ -57,6 +57,10 @@ IsAnswerOfRows budget code text rows = MatchResult (market_of rows) (λ r. IsAns
 -- how many bytes an input may have
 abbrev pub most_bytes : ℕ
 most_bytes = LIMITS_2.bytes
+
+-- the roster of bytes: the market of their records
+abbrev pub IsRosterOf : List ℕ → Registered → Type 0
+IsRosterOf bytes r = (rows : List (List (List ℕ))) × (records_of bytes ≡ Some rows) × (market_of rows ≡ Ok r)
 
 -- The answer to bytes and a budget, with its code: 0 for a published text, else the refusal's.
 abbrev pub IsAnswer : List ℕ → ℕ → ℕ → List ℕ → Type 0

@@ -1,6 +1,7 @@
-ghost use Rattle.std.specs.Prelude.{◌≡◌, ◌↔◌, length, not, IfErr, IfOk, IsTrue, MatchOption};
+ghost use Rattle.std.specs.Prelude.{◌≡◌, ◌↔◌, ℕ, length, not, IfErr, IfOk, IsTrue, MatchOption, Ok};
 ghost use Rattle.mt_terms.specs.Best.{IsBest};
 ghost use Rattle.mt_terms.specs.Places.{ArePlaces};
+ghost use Rattle.mt_terms.specs.Registration.{market_of};
 ghost use Rattle.mt_terms.specs.Rounds.{stage};
 ghost use Rattle.mt_terms.specs.Stability.{stable};
 ghost use Rattle.mt_terms.specs.Text.{published as published_text};
@@ -10,7 +11,7 @@ ghost use Rattle.mt_run.specs.Refusals.{IsRefusalBy};
 
 use crate::singles::match_singles;
 use mt_couples::{CoupleEnd, enter_all};
-use mt_lists::Row;
+use mt_lists::Rows;
 use mt_ranks::Ranks;
 use mt_report::published;
 use mt_roster::{Roster, RosterError, roster};
@@ -122,13 +123,13 @@ pub(crate) fn answer_to_market(
     }
 }
 
-/// The answer to the records of a file.
-pub(crate) fn answer_to_rows(alloc: Global, rows: &[Row], budget: u32) -> Result<Vec<u8>, Refusal>
-    ensures text { IfOk result (λ text. IsAnswerOfRows budget 0 text.items rows.now) }
-    ensures refused { IfErr result (IsRefusalBy (λ code text. IsAnswerOfRows budget code text rows.now)) }
+/// The roster of the records of a file, or the refusal that is the answer.
+pub(crate) fn roster_of(alloc: Global, rows: &Rows<'_>) -> Result<Roster, Refusal>
+    ensures market { IfOk result (λ roster. market_of rows.now ≡ Ok roster) }
+    ensures refused { (budget : ℕ) → IfErr result (IsRefusalBy (λ code text. IsAnswerOfRows budget code text rows.now)) }
 {
     match roster(alloc, rows) {
-        Ok(roster) => answer_to_market(alloc, &roster, budget),
+        Ok(roster) => Ok(roster),
         Err(RosterError::Fault(fault)) => Err(fault),
         Err(RosterError::Memory) => Err(Refusal::alone(OUT_OF_MEMORY)),
     }

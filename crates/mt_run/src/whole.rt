@@ -1,30 +1,42 @@
-ghost use Rattle.std.specs.Prelude.{◌≡◌, ◌+◌, ◌<◌, ◌≤◌, ◌^◌, ◌↔◌, ◌≢◌, length, if◌then◌else◌, IfErr, IfOk, IsTrue};
+ghost use Rattle.std.specs.Prelude.{◌≡◌, ℕ, ◌+◌, ◌<◌, ◌≤◌, ◌^◌, ◌↔◌, ◌≢◌, length, if◌then◌else◌, IfErr, IfOk, IsTrue};
 ghost use Rattle.mt_lists.specs.Tap.{bytes_left, failures_of as read_failures_of, reads_of};
 ghost use Rattle.mt_terms.specs.declared.codes.TheConstants.{READ_FAULT};
 ghost use Rattle.mt_report.specs.Drains.{contents_of, failures_of, is_flushed};
-ghost use Rattle.mt_run.specs.Answer.{Answers, IsAnswer, IsAnswerTo, RisesAtMost, most_bytes};
+ghost use Rattle.mt_run.specs.Answer.{Answers, IsAnswer, IsAnswerTo, IsRosterOf, RisesAtMost, most_bytes};
 ghost use Rattle.mt_run.specs.Refusals.{code_of, IsRefusalBy, IsRefusalTo};
 
-use crate::answer::answer_to_rows;
+use crate::answer::{answer_to_market, roster_of};
 use crate::ended::Ended;
 use mt_lists::{ListFault, ReadEnd, Tap, read_all, records};
 use mt_report::{Drain, put_all, refused};
+use mt_roster::Roster;
 use mt_terms::codes::{OUT_OF_MEMORY, READ_FAULT, TOO_LARGE, TWO_MARKS};
 use mt_terms::{LIMITS, Options, Refusal};
 use std::alloc::Global;
 use std::io::{Read, Write};
 
-/// The answer to bytes that are no more than the limit.
-fn answer_to_bytes(alloc: Global, bytes: &[u8], budget: u32) -> Result<Vec<u8>, Refusal>
+/// The roster of bytes that are no more than the limit, or the refusal that is the answer.
+fn roster_of_bytes(alloc: Global, bytes: &[u8]) -> Result<Roster, Refusal>
     requires { length bytes.now ≤ most_bytes }
-    ensures text { IfOk result (λ text. IsAnswer bytes.now budget 0 text.items) }
-    ensures refused { IfErr result (IsRefusalBy (IsAnswer bytes.now budget)) }
+    ensures market { IfOk result (IsRosterOf bytes.now) }
+    ensures refused { (budget : ℕ) → IfErr result (IsRefusalBy (IsAnswer bytes.now budget)) }
 {
     match records(alloc, bytes) {
-        Ok(rows) => answer_to_rows(alloc, &rows, budget),
+        Ok(rows) => roster_of(alloc, &rows),
         Err(ListFault::TwoMarks) => Err(Refusal::alone(TWO_MARKS)),
         Err(ListFault::Memory) => Err(Refusal::alone(OUT_OF_MEMORY)),
     }
+}
+
+/// The answer to bytes that are no more than the limit. They are let go once the roster stands.
+fn answer_to_bytes(alloc: Global, bytes: Vec<u8>, budget: u32) -> Result<Vec<u8>, Refusal>
+    requires { length bytes.items ≤ most_bytes }
+    ensures text { IfOk result (λ text. IsAnswer bytes.entry.items budget 0 text.items) }
+    ensures refused { IfErr result (IsRefusalBy (IsAnswer bytes.entry.items budget)) }
+{
+    let roster = roster_of_bytes(alloc, &bytes)?;
+    drop(bytes);
+    answer_to_market(alloc, &roster, budget)
 }
 
 /// The answer to all that a reader gives.
@@ -41,7 +53,7 @@ fn answer_to_input<R: Read>(
     ensures failures { RisesAtMost 1 (read_failures_of tap.old) (read_failures_of tap.new) }
 {
     match read_all(alloc, tap, LIMITS.bytes) {
-        Ok(bytes) => answer_to_bytes(alloc, &bytes, budget),
+        Ok(bytes) => answer_to_bytes(alloc, bytes, budget),
         Err(ReadEnd::TooLarge) => Err(Refusal::alone(TOO_LARGE)),
         Err(ReadEnd::Fault) => Err(Refusal::alone(READ_FAULT)),
         Err(ReadEnd::Memory) => Err(Refusal::alone(OUT_OF_MEMORY)),

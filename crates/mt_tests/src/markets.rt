@@ -95,7 +95,7 @@ pub(crate) const THREE_COUPLES_TEXT: &[u8] = b"match,1,published\n\
 /// The market of a file.
 pub(crate) fn roster_of(alloc: Global, file: &[u8]) -> Result<Roster, Fail> {
     let rows = records(alloc, file)?;
-    Ok(roster(alloc, rows.as_slice())?)
+    Ok(roster(alloc, &rows)?)
 }
 
 // Whether a place is none, or a program of the roster.

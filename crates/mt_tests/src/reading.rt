@@ -1,30 +1,31 @@
 //! Bytes to records: reads that fail, limits, and the rows of a file as a spreadsheet writes it.
 
 use crate::devices::{Endless, Pieces};
-use mt_lists::{ListFault, ReadEnd, Row, SourceFault, Tap, laws, read_all, records};
+use mt_lists::{ListFault, ReadEnd, Row, Rows, SourceFault, Tap, laws, read_all, records};
 use std::alloc::{AllocError, Global};
 use std::io::ErrorKind;
 use std::process::Abort;
 use std::test::Fail;
 
 // Whether a row has these fields.
-fn has_fields(row: &Row, fields: &[&[u8]]) -> bool {
-    if row.len() != fields.len() {
-        return false;
-    }
-    for i in 0..fields.len() {
-        if row.get(i) != Some(fields[i]) {
+fn has_fields(row: &Row<'_>, fields: &[&[u8]]) -> bool {
+    let mut left = row.fields();
+    for field in fields {
+        if left.next() != Some(*field) {
             return false;
         }
     }
-    true
+    left.next().is_none()
 }
 
-fn expect_rows(rt: &impl Abort, rows: &[Row], expected: &[&[&[u8]]]) {
-    assert_eq!(rt; rows.len(), expected.len());
-    for number in 0..rows.len() {
-        assert!(rt; has_fields(&rows[number], expected[number]), "row {number}");
+fn expect_rows(rt: &impl Abort, rows: &Rows<'_>, expected: &[&[&[u8]]]) {
+    let mut number = 0;
+    for row in rows.iter() {
+        assert!(rt; number < expected.len());
+        assert!(rt; has_fields(&row, expected[number]), "row {number}");
+        number += 1;
     }
+    assert_eq!(rt; number, expected.len());
 }
 
 #[test]
@@ -51,8 +52,8 @@ fn quotes_and_marks(rt: HostRuntime) -> Result<(), Fail> {
     expect_rows(&rt, &rows, &[&[b"match", b"1"], &[b"applicant", b"a\"1"]]);
     let twice = records(rt.alloc(), b"\xEF\xBB\xBF\xEF\xBB\xBFmatch,1\n");
     assert!(rt; matches!(twice, Err(ListFault::TwoMarks)));
-    assert!(rt; records(rt.alloc(), b"\xEF\xBB\xBF")?.is_empty());
-    assert!(rt; records(rt.alloc(), b"")?.is_empty());
+    assert!(rt; records(rt.alloc(), b"\xEF\xBB\xBF")?.iter().next().is_none());
+    assert!(rt; records(rt.alloc(), b"")?.iter().next().is_none());
     Ok(())
 }
 
@@ -132,27 +133,45 @@ fn an_input_without_end_and_one_without_a_byte(rt: HostRuntime) -> Result<(), Fa
 }
 
 // The fields of a row one after another.
-fn joined(alloc: Global, row: &Row) -> Result<Vec<u8>, AllocError> {
+fn joined(alloc: Global, row: &Row<'_>) -> Result<Vec<u8>, AllocError> {
     let mut joined = Vec::new(alloc);
-    for field in row {
+    for field in row.fields() {
         joined.extend_from_slice(field)?;
     }
     Ok(joined)
 }
 
-fn expect_three_fields(rt: &impl Abort, row: &Row) {
-    assert_eq!(rt; row.len(), 3);
+// A row of three fields, of which the second is empty.
+fn expect_three_fields(rt: &impl Abort, alloc: Global, row: &Row<'_>) -> Result<(), Fail> {
     assert!(rt; !row.is_empty());
-    assert!(rt; row.field(2) == b"bc".as_slice());
-    assert!(rt; row.get(1) == Some(b"".as_slice()));
-    assert!(rt; row.get(3).is_none());
-    assert_eq!(rt; row.iter().count(), 3);
+    assert_eq!(rt; row.fields().len(), 3);
+    assert_eq!(rt; joined(alloc, row)?.as_slice(), b"abc".as_slice());
+    let mut left = row.fields();
+    assert!(rt; left.next() == Some(b"a".as_slice()));
+    assert!(rt; left.next() == Some(b"".as_slice()));
+    assert_eq!(rt; left.len(), 1);
+    Ok(())
 }
 
+// In a file with no quote a row is a line, and else one that was read.
 #[test]
 fn fields_of_a_row(rt: HostRuntime) -> Result<(), Fail> {
-    let row = Row::from_fields(rt.alloc(), &[b"a", b"", b"bc"])?;
-    expect_three_fields(&rt, &row);
-    assert_eq!(rt; joined(rt.alloc(), &row)?.as_slice(), b"abc".as_slice());
+    for text in [b"a,,bc,,\n".as_slice(), b"\"a\",,bc,,\n".as_slice()] {
+        let rows = records(rt.alloc(), text)?;
+        let mut left = rows.iter();
+        let Some(row) = left.next() else {
+            panic!(&rt; "no row");
+        };
+        expect_three_fields(&rt, rt.alloc(), &row)?;
+        assert!(rt; left.next().is_none());
+    }
+    Ok(())
+}
+
+// Lines end in a line feed, a carriage return or both; a line with no byte is no row, and one of commas is an empty row.
+#[test]
+fn ends_of_lines(rt: HostRuntime) -> Result<(), Fail> {
+    let rows = records(rt.alloc(), b"\r\na,b\rc\n\n,,,\r\n;\r\rd")?;
+    expect_rows(&rt, &rows, &[&[b"a", b"b"], &[b"c"], &[], &[b";"], &[b"d"]]);
     Ok(())
 }

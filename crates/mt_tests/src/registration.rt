@@ -7,7 +7,7 @@ mod limits;
 mod markets;
 mod withdrawals;
 
-use mt_lists::{ListFault, Row, records};
+use mt_lists::{ListFault, records};
 use mt_model::{Agent, AppNo, CoupleNo, ProgNo};
 use mt_roster::{Roster, RosterError, roster};
 use std::alloc::Global;
@@ -122,16 +122,11 @@ fn shows(alloc: Global, roster: &Roster, market: &str) -> Result<bool, Fail> {
     Ok(shown(alloc, roster)?.as_slice() == market.as_bytes())
 }
 
-/// Whether records are accepted, and their market is the one of this text.
-fn make(alloc: Global, rows: &[Row], market: &str) -> Result<bool, Fail> {
-    let roster = roster(alloc, rows)?;
-    shows(alloc, &roster, market)
-}
-
 /// Whether a file is accepted, and its market is the one of this text.
 fn gives(alloc: Global, file: &str, market: &str) -> Result<bool, Fail> {
     let rows = records(alloc, file.as_bytes())?;
-    make(alloc, &rows, market)
+    let roster = roster(alloc, &rows)?;
+    shows(alloc, &roster, market)
 }
 
 /// A fault's code, the number of its record, and its id.

@@ -1,8 +1,6 @@
 //! Accepted files. Numbers go by order of registration from 0, for programs, applicants and couples each.
-use crate::registration::{gives, make};
-use mt_lists::Row;
+use crate::registration::gives;
 use mt_model::laws;
-use std::alloc::Global;
 use std::test::Fail;
 
 #[test]
@@ -29,32 +27,6 @@ fn two_programs_and_two_applicants(rt: HostRuntime) -> Result<(), Fail> {
     ] {
         assert!(rt; gives(rt.alloc(), file, CROSSED)?, "{file}");
     }
-    Ok(())
-}
-
-/// The version's record after one without a field, and two programs.
-fn push_programs(alloc: Global, rows: &mut Vec<Row>) -> Result<(), Fail> {
-    rows.push(Row::from_fields(alloc, &[])?)?;
-    rows.push(Row::from_fields(alloc, &[b"match", b"1"])?)?;
-    rows.push(Row::from_fields(alloc, &[b"program", b"P1", b"1", b"a2", b"a1"])?)?;
-    rows.push(Row::from_fields(alloc, &[b"program", b"P2", b"1", b"a1", b"a2"])?)?;
-    Ok(())
-}
-
-/// Two applicants.
-fn push_applicants(alloc: Global, rows: &mut Vec<Row>) -> Result<(), Fail> {
-    rows.push(Row::from_fields(alloc, &[b"applicant", b"a1", b"P1", b"P2"])?)?;
-    rows.push(Row::from_fields(alloc, &[b"applicant", b"a2", b"P2", b"P1"])?)?;
-    Ok(())
-}
-
-// The same market from rows of fields.
-#[test]
-fn rows_of_fields(rt: HostRuntime) -> Result<(), Fail> {
-    let mut rows = Vec::new(rt.alloc());
-    push_programs(rt.alloc(), &mut rows)?;
-    push_applicants(rt.alloc(), &mut rows)?;
-    assert!(rt; make(rt.alloc(), &rows, CROSSED)?);
     Ok(())
 }
 
