@@ -31,8 +31,8 @@ fn roster_of_bytes(alloc: Global, bytes: &[u8]) -> Result<Roster, Refusal>
 /// The answer to bytes that are no more than the limit. They are let go once the roster stands.
 fn answer_to_bytes(alloc: Global, bytes: Vec<u8>, budget: u32) -> Result<Vec<u8>, Refusal>
     requires { length bytes.items ≤ most_bytes }
-    ensures text { IfOk result (λ text. IsAnswer bytes.entry.items budget 0 text.items) }
-    ensures refused { IfErr result (IsRefusalBy (IsAnswer bytes.entry.items budget)) }
+    ensures text { IfOk result (λ text. IsAnswer bytes.items budget 0 text.items) }
+    ensures refused { IfErr result (IsRefusalBy (IsAnswer bytes.items budget)) }
 {
     let roster = roster_of_bytes(alloc, &bytes)?;
     drop(bytes);

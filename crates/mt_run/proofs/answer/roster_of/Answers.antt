@@ -7,5 +7,4 @@ use Rattle.mt_run.proofs.answer.roster_of.Goals as goal
 
 pub returns-in-Err-Fault-clause-refused : goal.returns-in-Err-Fault-clause-refused
 returns-in-Err-Fault-clause-refused c = λ budget.
-    rw c.in-Err-Fault.field-0-is (refusal_of_fault c.args.rows.now budget (record { code = c.in-Err-Fault.fault.code; row = c.in-Err-Fault.fault.row; id = c.in-Err-Fault.fault.id })
-    (subst (λ (e : RosterError). Tells e (market_of c.args.rows.now)) c.in-Err-Fault.field-0-is c.in-Err-Fault.ensures.fault))
+    refusal_of_fault c.args.rows.now budget c.in-Err-Fault.fault (subst (λ (e : RosterError). Tells e (market_of c.args.rows.now)) c.in-Err-Fault.field-0-is c.in-Err-Fault.ensures.fault)

@@ -6,8 +6,7 @@ use Rattle.mt_run.proofs.whole.answer_to_input.Goals as goal
 
 pub returns-in-Ok-clause-refused : goal.returns-in-Ok-clause-refused
 returns-in-Ok-clause-refused g c =
-    refusal_to (bytes_left g.R.Read.remaining c.args.tap.now) c.in-Ok.bytes.items c.args.budget c.answer_to_bytes.result c.in-Ok.ensures.whole
-    (rw c.deref.ensures.value at c.answer_to_bytes.ensures.refused)
+    refusal_to (bytes_left g.R.Read.remaining c.args.tap.now) c.in-Ok.bytes.items c.args.budget c.answer_to_bytes.result c.in-Ok.ensures.whole c.answer_to_bytes.ensures.refused
 
 pub returns-in-Err-TooLarge-clause-refused : goal.returns-in-Err-TooLarge-clause-refused
 returns-in-Err-TooLarge-clause-refused g c =
