@@ -52,7 +52,12 @@ fn quotes_and_marks(rt: HostRuntime) -> Result<(), Fail> {
     expect_rows(&rt, &rows, &[&[b"match", b"1"], &[b"applicant", b"a\"1"]]);
     let twice = records(rt.alloc(), b"\xEF\xBB\xBF\xEF\xBB\xBFmatch,1\n");
     assert!(rt; matches!(twice, Err(ListFault::TwoMarks)));
-    assert!(rt; records(rt.alloc(), b"\xEF\xBB\xBF")?.iter().next().is_none());
+    assert!(rt;
+        records(rt.alloc(), b"\xEF\xBB\xBF")?
+            .iter()
+            .next()
+            .is_none()
+    );
     assert!(rt; records(rt.alloc(), b"")?.iter().next().is_none());
     Ok(())
 }
