@@ -1,7 +1,6 @@
 -- Records that don't conflict with one another.
 use Rattle.std.proofs.Common.{◌≡◌, ℕ, ◌+◌, Bool, true, false, not, ◌&&◌, ◌||◌, nat_lt, List, [], ◌∷◌, ◌++◌, length, length-append, Option, Some, None, refl, ap, sym, ◌∙◌, arith, cond}
-use Rattle.std.specs.Prelude.{bytes_eq, is_none, option_to_list, filter_map}
-use Rattle.std.specs.List.{cons_option}
+use Rattle.std.specs.Prelude.{bytes_eq, is_none, option_to_list}
 use Rattle.std.proofs.lemmas.Bool.{and_parts}
 use Rattle.std.proofs.lemmas.Bool.Decides.{nat_tests}
 use Rattle.std.proofs.lemmas.List.{append-nil, append_assoc}
@@ -11,10 +10,11 @@ use Rattle.std.proofs.lemmas.List.Sums.{sum_by-append}
 use Rattle.std.proofs.lemmas.Grind.{flat_map-append}
 use Rattle.mt_terms.specs.declared.limits.Limits.{Limits}
 use Rattle.mt_terms.specs.Registration.Ids.{Bytes, has_id, all_differ}
-use Rattle.mt_terms.specs.Registration.Records.{Record, ProgramRecord, ApplicantRecord, CoupleRecord, WithdrawRecord, Kind, OfProgram, OfApplicant, OfCouple}
+use Rattle.mt_terms.specs.Registration.Records.{Record, ProgramRecord, ApplicantRecord, CoupleRecord, WithdrawRecord, OfProgram, OfApplicant, OfCouple}
 use Rattle.mt_terms.specs.Registration.Rows.{own_id, ids_of, withdrawn_id, withdrawn, applicants_of, applicant_ids, entries_of, entry_count}
 use Rattle.mt_terms.specs.Registration.Passes.{is_same_pair, registered_before, says_twice, are_too_many, first_of, first_in}
 use Rattle.mt_file_laws.specs.Faultless.{ids_differ}
+use Rattle.mt_file_laws.proofs.GrowthFacts.{applicant_ids-more, ids_of-more, withdrawn-more}
 use Rattle.mt_file_laws.proofs.IdFacts.{differ_parts, differ_join, neither, same_id, is_same}
 use Rattle.mt_file_laws.proofs.NumberingFacts.{both}
 
@@ -107,26 +107,10 @@ module _ (xs ys zs : List Bytes) where
       by a b c false false false = grind arith
 
 -- a record more
-filter_map-more : {X Y : Type 0} (f : X → Option Y) (xs : List X) (x : X) → filter_map f (xs ++ x ∷ []) ≡ filter_map f xs ++ option_to_list (f x)
-filter_map-more {Y = Y} f xs x = filter_map-append f xs (x ∷ []) ∙ by (f x)
-  where
-    by : (o : Option Y) → filter_map f xs ++ cons_option o [] ≡ filter_map f xs ++ option_to_list o
-    by None = refl
-    by (Some y) = refl
-
 module _ (before : List Record) where
-  applicant_ids-more : (r : Record) → applicant_ids (before ++ r ∷ []) ≡ applicant_ids before ++ applicants_of r
-  applicant_ids-more r = flat_map-append applicants_of before (r ∷ []) ∙ ap (λ ids. applicant_ids before ++ ids) (append-nil (applicants_of r))
-
-  ids_of-more : (kind : Kind) (r : Record) → ids_of kind (before ++ r ∷ []) ≡ ids_of kind before ++ option_to_list (own_id kind r)
-  ids_of-more kind = filter_map-more (own_id kind) before
-
-  withdrawn-more : (kind : Kind) (r : Record) → withdrawn kind (before ++ r ∷ []) ≡ withdrawn kind before ++ option_to_list (withdrawn_id kind r)
-  withdrawn-more kind = filter_map-more (withdrawn_id kind) before
-
   -- it registers none of the ids before it
   pub ids_differ-more : (r : Record) → ids_differ (before ++ r ∷ []) ≡ (ids_differ before && is_none (registered_before before r))
-  ids_differ-more r = rw (ids_of-more OfProgram r, ids_of-more OfCouple r, applicant_ids-more r) (by r)
+  ids_differ-more r = rw (ids_of-more before r OfProgram, ids_of-more before r OfCouple, applicant_ids-more before r) (by r)
     where
       programs : List Bytes
       programs = ids_of OfProgram before
@@ -155,7 +139,7 @@ module _ (before : List Record) where
 
   -- it withdraws none of what those before it do
   pub withdrawn_once-more : (r : Record) → (withdrawn_once (before ++ r ∷ []) && lists_once r) ≡ (withdrawn_once before && not (says_twice before r))
-  withdrawn_once-more r = rw (withdrawn-more OfProgram r, withdrawn-more OfApplicant r, withdrawn-more OfCouple r) (by r)
+  withdrawn_once-more r = rw (withdrawn-more before r OfProgram, withdrawn-more before r OfApplicant, withdrawn-more before r OfCouple) (by r)
     where
       programs : List Bytes
       programs = withdrawn OfProgram before

@@ -2,6 +2,7 @@ pub mod ApartFacts
 pub mod DraftFacts
 pub mod FaultFacts
 pub mod FaultlessFacts
+pub mod GrowthFacts
 pub mod IdFacts
 pub mod KnownFacts
 pub mod NumberingFacts

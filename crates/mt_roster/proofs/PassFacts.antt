@@ -1,9 +1,9 @@
 -- What is known of a record that the first pass takes.
-use Rattle.std.proofs.Common.{◌≡◌, ℕ, ◌+◌, ◌≤◌, Bool, true, false, nat_lt, List, [], ◌∷◌, ◌++◌, length, refl, ap, sym, ◌∙◌, Option, Some, None, Result, Ok, Err, arith, subst}
-use Rattle.std.specs.Prelude.{option_map, ◌==◌}
-use Rattle.std.specs.Bool.{then_some}
+use Rattle.std.proofs.Common.{◌≡◌, ℕ, ◌+◌, ◌≤◌, true, false, nat_lt, List, [], ◌∷◌, ◌++◌, length, refl, ap, sym, ◌∙◌, None, Result, Ok, Err, arith, subst}
+use Rattle.std.specs.Prelude.{◌==◌}
 use Rattle.std.proofs.lemmas.Bool.Decides.{nat_tests}
 use Rattle.mt_file_laws.proofs.IdFacts.{neither}
+use Rattle.mt_file_laws.proofs.PassFacts.{kept_parts}
 use Rattle.mt_terms.specs.Registration.Ids.{Bytes}
 use Rattle.mt_roster.specs.declared.refusal.Refusal.{Refusal}
 use Rattle.mt_roster.specs.declared.refusal.Refusal.TheVariants as refusals
@@ -11,25 +11,16 @@ use Rattle.mt_roster.specs.declared.register.Register.{Register}
 use Rattle.mt_roster.specs.Registers.{withdraws_twice, AreFew, AreBounded, IsRegister}
 use Rattle.mt_roster.specs.Passes.{Reads, ReadsRow, GivesRegister}
 use Rattle.mt_roster.specs.Refusals.{Refuses}
-use Rattle.mt_terms.specs.Registration.Faults.{Charge, Fault, charge}
-use Rattle.mt_terms.specs.declared.codes.TheConstants.{DUPLICATE_ID}
+use Rattle.mt_terms.specs.Registration.Faults.{Charge, Fault}
 use Rattle.mt_terms.specs.Registration.Records.{Rules, Record, ProgramRecord, ApplicantRecord, CoupleRecord, WithdrawRecord, OfProgram, OfCouple, record_of}
 use Rattle.mt_terms.specs.Registration.Rows.{ids_of, applicant_ids, entry_count}
-use Rattle.mt_terms.specs.Registration.Passes.{registered_before, says_twice, are_too_many, first_conflict, next_record, and_then, unless, at_record, first_of, numbered_from, Numbered}
+use Rattle.mt_terms.specs.Registration.Passes.{registered_before, says_twice, are_too_many, first_conflict, next_record, and_then, unless, at_record, numbered_from, Numbered}
 
 -- a record that doesn't first_conflict with those before it
 pub record IsAccepted (rules : Rules) (before : List Record) (r : Record) : Type 0 where
   pub new : registered_before before r ≡ None
   pub once : says_twice before r ≡ false
   pub few : are_too_many rules.limits (before ++ r ∷ []) ≡ false
-
-parts : (o : Option Bytes) (s t : Bool) (c d : Charge) (q r : Record)
-    → unless (first_of (option_map (charge DUPLICATE_ID) o ∷ then_some s c ∷ then_some t d ∷ [])) q ≡ Ok r
-    → (q ≡ r) × (o ≡ None) × (s ≡ false) × (t ≡ false)
-parts (Some x) s t c d q r h = cc
-parts None true t c d q r h = cc
-parts None false true c d q r h = cc
-parts None false false c d q r h = (cc, refl, refl, refl)
 
 pub is_accepted : (rules : Rules) (before : List Record) (row : List Bytes) (n : ℕ) (r : Record)
     → at_record n (next_record rules before row) ≡ Ok r → IsAccepted rules before r
@@ -38,7 +29,7 @@ is_accepted rules before row n r h = by (record_of rules row) h
     beside : (q : Record) (o : Result Record Charge) → o ≡ unless (first_conflict rules before q) q → at_record n o ≡ Ok r → IsAccepted rules before r
     beside q (Ok p) e k =
         let s : p ≡ r = cc in
-        let t : (q ≡ r) × (registered_before before q ≡ None) × (says_twice before q ≡ false) × (are_too_many rules.limits (before ++ q ∷ []) ≡ false) = parts _ _ _ _ _ q r (sym e ∙ ap Ok s) in
+        let t : (q ≡ r) × (registered_before before q ≡ None) × (says_twice before q ≡ false) × (are_too_many rules.limits (before ++ q ∷ []) ≡ false) = kept_parts _ _ _ _ _ q r (sym e ∙ ap Ok s) in
         subst (λ (z : Record). IsAccepted rules before z) t.0 (record { new = t.1; once = t.2; few = t.3 })
     beside q (Err c) e k = cc
 

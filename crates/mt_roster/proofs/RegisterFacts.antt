@@ -3,7 +3,7 @@ use Rattle.std.proofs.Common.{subst, ◌≡◌, ◌+◌, Bool, true, false, ◌|
 use Rattle.std.specs.Prelude.{option_to_list, bytes_eq}
 use Rattle.std.proofs.lemmas.List.{append-nil, map-append}
 use Rattle.mt_file_laws.proofs.IdFacts.{not_true, or_right}
-use Rattle.mt_roster.proofs.CountFacts.{ids_of-more, applicant_ids-more, withdrawn-more, entry_count-more}
+use Rattle.mt_file_laws.proofs.GrowthFacts.{ids_of-more, applicant_ids-more, withdrawn-more, entry_count-more}
 use Rattle.mt_terms.specs.Registration.Ids.{Bytes, has_id}
 use Rattle.mt_terms.specs.Registration.Records.{Record, Kind, OfProgram, OfApplicant, OfCouple, ProgramRecord, ApplicantRecord, CoupleRecord, WithdrawRecord}
 use Rattle.mt_terms.specs.Registration.Rows.{own_id, ids_of, withdrawn, withdrawn_id, applicants_of, applicant_ids, entries_of, entry_count}

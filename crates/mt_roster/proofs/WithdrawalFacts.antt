@@ -22,7 +22,7 @@ use Rattle.mt_roster.specs.Numbered.{all_seen}
 use Rattle.mt_roster.specs.Records.{record_seen}
 use Rattle.mt_roster.specs.Registers.{ids_in, under, AddsId}
 use Rattle.mt_roster.specs.Withdrawals.{Stand}
-use Rattle.mt_roster.proofs.CountFacts.{withdrawn-more}
+use Rattle.mt_file_laws.proofs.GrowthFacts.{withdrawn-more}
 
 -- an id that differs from all others is none of those before it
 differ_before : (xs : List Bytes) (y : Bytes) (ys : List Bytes) → all_differ bytes_eq (xs ++ y ∷ ys) ≡ true → has_id xs y ≡ false
