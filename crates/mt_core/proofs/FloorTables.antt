@@ -1,10 +1,11 @@
 -- What tables say of a floor, and how a proposal changes both.
 use Rattle.std.proofs.Common.{◌≡◌, ◌≢◌, ◌==◌, ℕ, ◌+◌, ◌<◌, List, Bool, true, false, not, ◌||◌, ◌&&◌, Option, Some, None, IsTrue, length, get_or, set, refl, sym, ap, ◌∙◌, inl, inr, arith, eq-eqb, ne_eqb, get_or-set_same, get_or-set_other, length-set, cond}
+use Rattle.std.specs.List.{position}
 use Rattle.std.specs.Option.{option_map_or, is_some}
 use Rattle.std.proofs.Math.Path.{fun_ext}
 use Rattle.std.proofs.lemmas.Bool.{cases_eq, false≢true}
 use Rattle.mt_terms.specs.Lists.{has, is_distinct, with_one, without, count_below}
-use Rattle.mt_terms.specs.Market.{Market, program_of, applicants}
+use Rattle.mt_terms.specs.Market.{Market, Program, program_of, applicants}
 use Rattle.mt_terms.specs.Choice.{choice}
 use Rattle.mt_terms.specs.WellFormed.{IsWellFormed}
 use Rattle.mt_terms.specs.Floor as model
@@ -14,7 +15,7 @@ use Rattle.mt_hold.specs.Laws.{IsHoldingOf}
 use Rattle.mt_hold.proofs.Lists.{held_is_choice, receive_adds_one, count_is_size}
 use Rattle.mt_ranks.specs.Ranked.{IsRank, rank_of}
 use Rattle.mt_ranks.proofs.Positions.{has-position, IsRank-from_position}
-use Rattle.mt_core.specs.Floors.{Tables, hold_of, received_by, floor_of, IsOpenedWith, entered, unseated}
+use Rattle.mt_core.specs.Floors.{Tables, hold_of, received_from, received_by, floor_of, IsOpenedWith, entered, with_standing}
 use Rattle.mt_core.proofs.RankFacts.{position_at}
 
 -- floors that agree at each number are the same
@@ -33,24 +34,31 @@ pub standing_of : (m : Market) (t : Tables) (a : ℕ) → (floor_of m t).standin
 unfolding floor_of
 standing_of m t a = refl
 
+-- a holding with the program's quota and a rank for each on its list is that of whom it has received
+pub holding_of_received : (p : Program) (h : Holding) → IsTrue (is_distinct p.ranking) → h.quota ≡ p.quota → ranks h ≡ length p.ranking → IsHoldingOf p (received_from p h) h
+holding_of_received p h d quota listed = record {
+  quota = quota;
+  listed = listed;
+  received = λ k low. sym (ap (λ r. option_map_or (has_received h) r false) (position_at p.ranking k d low));
+}
+
 -- a program's holding is its holding on the floor
 pub is_holding_of : (m : Market) (t : Tables) (p : ℕ) → IsTrue (is_distinct (program_of m p).ranking) → IsOpenedWith m t
     → IsHoldingOf (program_of m p) ((floor_of m t).received p) (hold_of t p)
 unfolding floor_of
-is_holding_of m t p d o = record {
-  quota = o.quotas p;
-  listed = o.lists p;
-  received = λ k h. sym (ap (λ r. option_map_or (has_received (hold_of t p)) r false) (position_at (program_of m p).ranking k d h));
-}
+is_holding_of m t p d o = holding_of_received (program_of m p) (hold_of t p) d (o.quotas p) (o.lists p)
 
 -- whom a program has received is on its list
+pub received_is_listed : (p : Program) (h : Holding) (a : ℕ) → IsTrue (received_from p h a) → IsTrue (has p.ranking a)
+received_is_listed p h a on = by_cases (position (λ x. x == a) p.ranking) refl on
+  where
+    by_cases : (o : Option ℕ) → position (λ x. x == a) p.ranking ≡ o → IsTrue (option_map_or (has_received h) o false) → IsTrue (has p.ranking a)
+    by_cases None e f = absurd (false≢true f)
+    by_cases (Some k) e f = has-position p.ranking a ∙ ap is_some e
+
 received_listed : (m : Market) (t : Tables) (p a : ℕ) → IsTrue ((floor_of m t).received p a) → IsTrue (has (program_of m p).ranking a)
 unfolding floor_of
-received_listed m t p a on = by_cases (rank_of m p a) refl on
-  where
-    by_cases : (o : Option ℕ) → rank_of m p a ≡ o → IsTrue (option_map_or (has_received (hold_of t p)) o false) → IsTrue (has (program_of m p).ranking a)
-    by_cases None e h = absurd (false≢true h)
-    by_cases (Some k) e h = has-position (program_of m p).ranking a ∙ ap is_some e
+received_listed m t p a on = received_is_listed (program_of m p) (hold_of t p) a on
 
 -- a program's holding counts whom it has received
 pub count_is : (m : Market) → IsWellFormed m → (t : Tables) → IsOpenedWith m t → (p : ℕ) → received_count (hold_of t p) ≡ count_below ((floor_of m t).received p) (applicants m)
@@ -66,9 +74,12 @@ held_by_rank m t p a r d o is =
     ∙ ap (choice (program_of m p) ((floor_of m t).received p)) is.stands
 
 -- a rank is received exactly where the applicant that has it is
+pub received_at_rank : (p : Program) (h : Holding) (a r : ℕ) → IsRank p.ranking a r → received_from p h a ≡ has_received h r
+received_at_rank p h a r is = ap (λ o. option_map_or (has_received h) o false) is.found
+
 pub received_by_rank : (m : Market) (t : Tables) (p a r : ℕ) → IsRank (program_of m p).ranking a r → (floor_of m t).received p a ≡ has_received (hold_of t p) r
 unfolding floor_of
-received_by_rank m t p a r is = ap (λ o. option_map_or (has_received (hold_of t p)) o false) is.found
+received_by_rank m t p a r is = received_at_rank (program_of m p) (hold_of t p) a r is
 
 -- the holding of a program after a proposal there, and of another one
 hold_there : (t : Tables) (a p r : ℕ) → p < length t.holds → hold_of (entered t a p r) p ≡ receive (hold_of t p) r
@@ -104,28 +115,28 @@ set_cases xs i y d within k =
       | inr other ↦ rw (ne_eqb k i other) (get_or-set_other xs i k y d other)
     ]
 
--- whom a program has received after a proposal
-received_there : (m : Market) (t : Tables) (a p r : ℕ) → r < ranks (hold_of t p) → IsTrue (is_distinct (program_of m p).ranking) → IsRank (program_of m p).ranking a r
-    → (b : ℕ) → option_map_or (has_received (receive (hold_of t p) r)) (rank_of m p b) false ≡ ((b == a) || received_by m t p b)
-received_there m t a p r within d is b = by_rank (rank_of m p b) refl
+-- a proposal from a rank adds the applicant that has it to those received, and no other
+pub received_more : (p : Program) (h : Holding) (a r : ℕ) → r < ranks h → IsRank p.ranking a r
+    → (b : ℕ) → received_from p (receive h r) b ≡ ((b == a) || received_from p h b)
+received_more p h a r within is b = by_rank (position (λ x. x == b) p.ranking) refl
   where
-    by_rank : (o : Option ℕ) → rank_of m p b ≡ o → option_map_or (has_received (receive (hold_of t p) r)) o false ≡ ((b == a) || option_map_or (has_received (hold_of t p)) o false)
-    by_rank None e = rw (ne_eqb b a (λ same. none_some (sym e ∙ ap (rank_of m p) same ∙ is.found))) refl
+    by_rank : (o : Option ℕ) → position (λ x. x == b) p.ranking ≡ o → option_map_or (has_received (receive h r)) o false ≡ ((b == a) || option_map_or (has_received h) o false)
+    by_rank None e = rw (ne_eqb b a (λ same. none_some (sym e ∙ ap (λ x. position (λ y. y == x) p.ranking) same ∙ is.found))) refl
       where
         none_some : None ≡ Some r → ⊥
-        none_some h = cc
+        none_some f = cc
     by_rank (Some k) e =
-        let stands = (IsRank-from_position (program_of m p).ranking b k e).stands in
+        let stands = (IsRank-from_position p.ranking b k e).stands in
         elim (cases_eq k r) [
           | inl same ↦
-              let is_a : b ≡ a = sym stands ∙ ap (λ n. get_or (program_of m p).ranking n 0) same ∙ is.stands in
-              rw (same, get_or-set_same (hold_of t p).received r true false within, eq-eqb b a is_a) refl
+              let is_a : b ≡ a = sym stands ∙ ap (λ n. get_or p.ranking n 0) same ∙ is.stands in
+              rw (same, get_or-set_same h.received r true false within, eq-eqb b a is_a) refl
           | inr other ↦
-              rw (get_or-set_other (hold_of t p).received r k true false other, ne_eqb b a (λ is_a. other (some_inj (sym e ∙ ap (rank_of m p) is_a ∙ is.found)))) refl
+              rw (get_or-set_other h.received r k true false other, ne_eqb b a (λ is_a. other (some_inj (sym e ∙ ap (λ x. position (λ y. y == x) p.ranking) is_a ∙ is.found)))) refl
         ]
       where
         some_inj : {x y : ℕ} → Some x ≡ Some y → x ≡ y
-        some_inj h = cc
+        some_inj f = cc
 
 -- A proposal that can be made: the applicant and the program are in the market, and the applicant has this rank
 -- on the program's list.
@@ -154,15 +165,15 @@ entered_floor m t a p r o can =
     (λ q b.
     hold_cases t a p r (omega (arith, o.holds, can.program))
     (λ q h. option_map_or (has_received h) (rank_of m q b) false ≡ cond (q == p) (receives_one (floor_of m t) p a) (received_by m t q) b)
-    (rw (eq-eqb p p refl) (received_there m t a p r (omega (arith, o.lists p, can.is_rank.within)) can.distinct can.is_rank b))
+    (rw (eq-eqb p p refl) (received_more (program_of m p) (hold_of t p) a r (omega (arith, o.lists p, can.is_rank.within)) can.is_rank b))
     (λ q other. rw (ne_eqb q p other) refl) q)
 
 -- the tables after a notice show the floor after it
 pub unseated_floor : (m : Market) (t : Tables) (a : ℕ) → IsOpenedWith m t → a < applicants m
-    → floor_of m (unseated t a) ≡ record (floor_of m t) { standing = without (floor_of m t).standing a }
+    → floor_of m (with_standing t a false) ≡ record (floor_of m t) { standing = without (floor_of m t).standing a }
 unfolding floor_of
 unseated_floor m t a o low =
-    same_floor (floor_of m (unseated t a)) (record (floor_of m t) { standing = without (floor_of m t).standing a })
+    same_floor (floor_of m (with_standing t a false)) (record (floor_of m t) { standing = without (floor_of m t).standing a })
     (λ b. refl)
     (λ b. set_cases t.standing a false false (omega (arith, o.standing)) b ∙ by_test (b == a) (get_or t.standing b false))
     (λ q b. refl)
@@ -171,5 +182,5 @@ unseated_floor m t a o low =
     by_test true y = refl
     by_test false y = refl
 
-pub unseated_opened : (m : Market) (t : Tables) (a : ℕ) → IsOpenedWith m t → IsOpenedWith m (unseated t a)
+pub unseated_opened : (m : Market) (t : Tables) (a : ℕ) → IsOpenedWith m t → IsOpenedWith m (with_standing t a false)
 unseated_opened m t a o = record { made = o.made; standing = length-set t.standing a false ∙ o.standing; holds = o.holds; quotas = o.quotas; lists = o.lists }

@@ -1,14 +1,14 @@
 -- A proposal that is due can be made.
-use Rattle.std.proofs.Common.{◌≡◌, ◌==◌, ℕ, ◌-◌, ◌<◌, ◌≤◌, length, Bool, true, false, cond, Option, Some, None, IsTrue, IsFalse, slice_get, refl, ap, ◌∙◌, arith, subst}
+use Rattle.std.proofs.Common.{◌≡◌, ◌==◌, ℕ, zero, suc, List, [], ◌∷◌, map, get_or, sym, ◌-◌, ◌<◌, ◌≤◌, length, Bool, true, false, cond, Option, Some, None, IsTrue, IsFalse, slice_get, refl, ap, ◌∙◌, arith, subst}
 use Rattle.std.specs.Option.{option_map, unwrap_or}
 use Rattle.mt_terms.specs.Lists.{has}
 use Rattle.mt_terms.specs.Market.{Market, applicants, program_of, list_of, live}
 use Rattle.mt_terms.specs.Floor.{Floor, IsRecorded, next_entry, last_tried}
 use Rattle.mt_floor_laws.proofs.FloorLists.{has-get, has-take_before}
-use Rattle.mt_floor_laws.proofs.FloorEvents.{IsNext, next_facts, within_get}
+use Rattle.mt_floor_laws.proofs.FloorEvents.{IsNext, next_facts, within_get, get_some}
 use Rattle.mt_terms.proofs.LiveFacts.{live_parts, live_distinct}
 use Rattle.mt_floor_laws.proofs.FloorBest.{applicant_from_live}
-use Rattle.mt_ranks.specs.Ranked.{Ranked, IsRanked, rank_of, ranked_entry}
+use Rattle.mt_ranks.specs.Ranked.{Ranked, IsRanked, rank_of, ranked_entry, ranked_list}
 use Rattle.mt_ranks.specs.declared.entries.Live.{Live}
 use Rattle.mt_ranks.proofs.Sizes.{distinct_length}
 use Rattle.mt_core.proofs.FloorTables.{CanEnter}
@@ -51,6 +51,26 @@ entry_facts m a (Some p) entry e = subst (λ (x : Live). (Some p ≡ Some x.prog
   where
     inj : {x y : Live} → Some x ≡ Some y → x ≡ y
     inj h = cc
+
+-- an element of a list's image, where the list has one
+get_or-map_some : {X : Type 0} (f : ℕ → X) (xs : List ℕ) (k p : ℕ) (d : X) → slice_get xs k ≡ Some p → get_or (map f xs) k d ≡ f p
+get_or-map_some f [] k p d e = cc
+get_or-map_some f (x ∷ xs) zero p d e = ap f (inj e)
+  where
+    inj : {x y : ℕ} → Some x ≡ Some y → x ≡ y
+    inj h = cc
+get_or-map_some f (x ∷ xs) (suc k) p d e = get_or-map_some f xs k p d e
+
+-- the entry at a place of a live list can be proposed to
+pub entry_there : (r : Ranked) → IsRanked r → (a k : ℕ) (entry d : Live) → k < length (live r.market a) → entry ≡ get_or (ranked_list r.market a) k d
+    → (slice_get (live r.market a) k ≡ Some entry.program) × CanEnter r.market a entry.program entry.rank
+entry_there r is a k entry d low e =
+    let m = r.market in
+    let found = get_some (live m a) k low in
+    let listed : slice_get (list_of m a) k ≡ Some found.0 = ap (λ xs. slice_get xs k) (sym (is.all_live a)) ∙ found.1 in
+    let same : entry ≡ ranked_entry m a found.0 = e ∙ get_or-map_some (ranked_entry m a) (list_of m a) k found.0 d listed in
+    subst (λ (x : Live). (slice_get (live m a) k ≡ Some x.program) × CanEnter m a x.program x.rank) (sym same)
+    (found.1, entry_can_enter r is a found.0 (has-get (live m a) k found.0 found.1))
 
 -- the same of the next entry
 pub next_entry_facts : (r : Ranked) → IsRanked r → (f : Floor) → IsRecorded r.market f → (a : ℕ) (entry : Live)

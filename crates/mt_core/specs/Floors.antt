@@ -1,11 +1,11 @@
 -- How a floor is kept, and which floor of a market that is.
-use Rattle.std.specs.Prelude.{◌≡◌, ℕ, ◌+◌, Bool, false, List, length, map, slice_index_or, slice_set}
+use Rattle.std.specs.Prelude.{◌≡◌, ℕ, ◌+◌, ◌==◌, Bool, false, List, length, map, slice_index_or, slice_set}
+use Rattle.std.specs.List.{position}
 use Rattle.std.specs.Option.{option_map_or}
 use Rattle.mt_terms.specs.Lists.{Set, below}
-use Rattle.mt_terms.specs.Market.{Market, applicants, program_of}
+use Rattle.mt_terms.specs.Market.{Market, Program, applicants, program_of}
 use Rattle.mt_terms.specs.Floor.{Floor}
 use Rattle.mt_hold.specs.Holding.{Holding, ranks, has_received, held, opened, receive}
-use Rattle.mt_ranks.specs.Ranked.{rank_of}
 
 -- for each applicant how many proposals it has made and whether it stands, and for each program its holding
 pub record Tables : Type 0 where
@@ -17,9 +17,13 @@ pub record Tables : Type 0 where
 abbrev pub hold_of : Tables → ℕ → Holding
 hold_of t p = slice_index_or t.holds p (opened 0 0)
 
--- whom a program has received: who is on its list, at a rank that its holding has received
+-- whom a program with this holding has received: who is on its list, at a rank that the holding has received
+abbrev pub received_from : Program → Holding → Set
+received_from p h a = option_map_or (has_received h) (position (λ x. x == a) p.ranking) false
+
+-- whom a program has received
 abbrev pub received_by : Market → Tables → ℕ → Set
-received_by m t p a = option_map_or (has_received (hold_of t p)) (rank_of m p a) false
+received_by m t p = received_from (program_of m p) (hold_of t p)
 
 -- the floor of a market that tables show
 unfoldable pub floor_of : Market → Tables → Floor
@@ -46,9 +50,9 @@ opened_for m p = opened (program_of m p).quota (length (program_of m p).ranking)
 abbrev pub all_opened : Market → List Holding
 all_opened m = map (opened_for m) (below (length m.programs))
 
--- the tables with an applicant that stands no longer
-abbrev pub unseated : Tables → ℕ → Tables
-unseated t a = record t { standing = slice_set t.standing a false }
+-- the tables with an applicant that stands, or doesn't
+abbrev pub with_standing : Tables → ℕ → Bool → Tables
+with_standing t a standing = record t { standing = slice_set t.standing a standing }
 
 -- the tables after an applicant's proposal to a program on whose list it has this rank
 abbrev pub entered : Tables → ℕ → ℕ → ℕ → Tables

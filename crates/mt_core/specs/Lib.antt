@@ -1,4 +1,5 @@
 pub mod Calls
+pub mod Desks
 pub mod Ends
 pub mod Entries
 pub mod Examples

@@ -1,10 +1,11 @@
 ghost use Rattle.std.specs.Prelude.{◌≡◌, ◌↔◌, ◌+◌, ◌<◌, ◌^◌, ℕ, false, length, IfOk, IsTrue, IsFalse, slice_index, slice_index_or};
 ghost use Rattle.mt_terms.specs.Lists.{count_below};
 ghost use Rattle.mt_terms.specs.Market.{Market, applicants};
-ghost use Rattle.mt_terms.specs.Floor.{opening, IsStrict};
+ghost use Rattle.mt_terms.specs.Floor.{opening, IsRecorded, IsStrict};
 ghost use Rattle.mt_terms.specs.WellFormed.{IsWellFormed};
 ghost use Rattle.mt_hold.specs.Holding.{ranks, has_received, held, receive};
-ghost use Rattle.mt_core.specs.Floors.{hold_of, all_opened, entered, floor_of, IsOpenedWith, unseated};
+ghost use Rattle.mt_core.specs.Desks.{with_desk, MayHave};
+ghost use Rattle.mt_core.specs.Floors.{hold_of, all_opened, entered, floor_of, IsOpenedWith, with_standing};
 
 use mt_hold::{Hold, Taken};
 use mt_ranks::Ranks;
@@ -101,12 +102,34 @@ impl Floor {
         taken
     }
 
-    /// The applicant stands no longer.
-    pub(crate) fn unseat(&mut self, applicant: AppNo)
-        requires { applicant < length self.old.standing }
-        ensures { self.new ≡ unseated self.old applicant }
+    /// Writes the desk of an applicant that has proposed to nobody: so many proposals made, each of them received, and
+    /// whether it stands at the last of them. The rest stays as it is. It takes no memory. The floor needn't be legal
+    /// after it.
+    pub fn put_desk(&mut self, ranks: &Ranks, applicant: AppNo, made: u32, standing: bool)
+        requires opened { IsOpenedWith ranks.now.market self.old }
+        requires recorded { IsRecorded ranks.now.market (floor_of ranks.now.market self.old) }
+        requires applicant { applicant < applicants ranks.now.market }
+        requires none_made { (floor_of ranks.now.market self.old).made applicant ≡ 0 }
+        requires desk { MayHave ranks.now.market applicant made standing }
+        ensures floor { let m = ranks.now.market in
+            floor_of m self.new ≡ with_desk m (floor_of m self.old) applicant made standing }
+        ensures opened { IsOpenedWith ranks.now.market self.new }
+        ensures recorded { IsRecorded ranks.now.market (floor_of ranks.now.market self.new) }
     {
-        self.standing[applicant.index()] = false;
+        ranks.applicants();
+        for place in 0..made {
+            let entry = ranks.live(applicant)[place as usize];
+            self.enter(applicant, entry.program, entry.rank);
+        }
+        self.set_standing(applicant, standing);
+    }
+
+    /// Sets whether the applicant stands.
+    pub(crate) fn set_standing(&mut self, applicant: AppNo, standing: bool)
+        requires { applicant < length self.old.standing }
+        ensures { self.new ≡ with_standing self.old applicant standing }
+    {
+        self.standing[applicant.index()] = standing;
     }
 }
 

@@ -86,7 +86,7 @@ pub(crate) fn notice(floor: &mut Floor, ranks: &Ranks, applicant: AppNo) -> Repl
     if !is_dropped(floor, ranks, applicant) {
         return Reply::NotDue;
     }
-    floor.unseat(applicant);
+    floor.set_standing(applicant, false);
     Reply::Noticed
 }
 

@@ -7,4 +7,4 @@ pub returns-clause-floor : goal.returns-clause-floor
 returns-clause-floor c =
     let m = c.args.ranks.now.market in
     let due = sym c.is_dropped.ensures ∙ c.if-not-is_dropped.false in
-    rw due (ap (floor_of m) c.unseat.ensures ∙ unseated_floor m c.args.floor.now c.args.applicant c.requires.opened c.requires.applicant)
+    rw due (ap (floor_of m) c.set_standing.ensures ∙ unseated_floor m c.args.floor.now c.args.applicant c.requires.opened c.requires.applicant)

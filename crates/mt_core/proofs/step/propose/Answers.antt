@@ -1,9 +1,10 @@
 use Rattle.std.proofs.Common.{sym, ap, ◌∙◌, arith}
+use Rattle.mt_terms.specs.Market.{program_of}
 use Rattle.mt_terms.specs.Floor as model
-use Rattle.mt_core.specs.Floors.{floor_of}
+use Rattle.mt_core.specs.Floors.{floor_of, hold_of}
 use Rattle.mt_core.proofs.FloorTables.{made_of, received_by_rank, entered_floor}
 use Rattle.mt_core.proofs.NextFacts.{next_entry_facts}
-use Rattle.mt_core.proofs.ReplyFacts.{reply_is, displaced_is, named_within}
+use Rattle.mt_core.proofs.ReplyFacts.{reply_is, displaced_is, held_within, may_receive}
 use Rattle.mt_core.proofs.step.propose.Goals as goal
 
 pub enter-taken-requires-clause-program : goal.enter-taken-requires-clause-program
@@ -39,7 +40,7 @@ reply_at-requires-clause-program c =
 
 pub reply_at-requires-clause-rank : goal.reply_at-requires-clause-rank
 reply_at-requires-clause-rank c rank named =
-    named_within c.args.ranks.now.market c.args.floor.now c.in-Some.entry.program rank c.requires.opened ((c.enter-taken.ensures.dropped rank).0 named).0
+    held_within (program_of c.args.ranks.now.market c.in-Some.entry.program) (hold_of c.args.floor.now c.in-Some.entry.program) rank (c.requires.opened.lists c.in-Some.entry.program) ((c.enter-taken.ensures.dropped rank).0 named).0
 
 pub returns-clause-floor : goal.returns-clause-floor
 returns-clause-floor c =
@@ -60,7 +61,7 @@ returns-clause-reply c =
     let entry = c.in-Some.entry in
     let facts = next_entry_facts r c.requires.ranked (floor_of r.market t) c.requires.recorded a entry (sym c.next_entry.ensures ∙ c.in-Some.is) in
     c.reply_at.ensures
-    ∙ reply_is r.market t a entry.program entry.rank c.enter-taken.result c.requires.opened facts.1.can (record { refused = c.enter-taken.ensures.refused; dropped = c.enter-taken.ensures.dropped })
+    ∙ reply_is (program_of r.market entry.program) ((floor_of r.market t).received entry.program) (hold_of t entry.program) a entry.rank c.enter-taken.result (may_receive r.market t a entry.program entry.rank c.requires.opened facts.1.can) (record { refused = c.enter-taken.ensures.refused; dropped = c.enter-taken.ensures.dropped })
     ∙ ap (model.reply_of_proposal r.market (floor_of r.market t) a) (sym facts.0)
 
 pub returns-clause-displaced : goal.returns-clause-displaced
