@@ -1,0 +1,13 @@
+use Rattle.std.proofs.Common.{◌≡◌, ◌+◌, length, sym, ap, ◌∙◌, rules}
+use Rattle.mt_terms.specs.Market.{live}
+use Rattle.mt_hall.specs.declared.audit.Row.{Row}
+use Rattle.mt_hall.proofs.Auditing.{if_none, row_credits}
+use Rattle.mt_hall.proofs.audit.note.Goals as goal
+
+pub returns-then-eq-clause-credits : goal.returns-then-eq-clause-credits
+returns-then-eq-clause-credits g c =
+    let m = g.K.HallName.ranked.market in
+    let row : Row = record { made = c.desk.inside.made; standing = c.desk.inside.standing } in
+    let who : c.desk.inside.applicant ≡ c.args.place = search rules in
+    let left = c.desk.invariant.left ∙ ap (λ a. length (live m a)) who in
+    if_none c.args.astray.now _ (row_credits c.args.rows.now.items c.args.place row c.desk.inside.credits (length (live m c.args.place)) (search rules) left)

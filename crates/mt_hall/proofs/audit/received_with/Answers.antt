@@ -1,0 +1,10 @@
+use Rattle.std.proofs.Common.{◌≡◌, ◌<◌, arith, rules, slice_index_or, sym, ap, ◌∙◌, subst}
+use Rattle.mt_hall.specs.Parts.{PassView}
+use Rattle.mt_hall.proofs.Auditing.{too_many}
+use Rattle.mt_hall.proofs.audit.received_with.Goals as goal
+
+pub returns-in-None : goal.returns-in-None
+returns-in-None g c =
+    let less : c.loop-pass.left < slice_index_or c.pass-item.result.by_program c.args.program 0 = omega (arith, c.proposed.ensures, c.in-None.ensures) in
+    too_many (λ (s : PassView). slice_index_or s.by_program c.args.program 0) c.args.passes.now c.loop-pass.pass-index c.loop-pass.left c.args.number c.pass-item.result c.loop-pass-test.true c.loop-pass.invariant
+    (subst (λ (s : PassView). c.loop-pass.left < slice_index_or s.by_program c.args.program 0) c.pass-item.is less)

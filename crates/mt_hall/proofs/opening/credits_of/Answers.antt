@@ -1,0 +1,21 @@
+use Rattle.std.proofs.Common.{rules, ◌≡◌, ◌++◌, ◌∷◌, [], length, sum, sym, ap, ap₂, ◌∙◌}
+use Rattle.mt_terms.specs.Market.{applicants, live}
+use Rattle.mt_terms.proofs.BelowFacts.{map-below_more}
+use Rattle.mt_hall.proofs.Openings.{live_counts, sum_map_below, few_live}
+use Rattle.mt_hall.proofs.opening.credits_of.Goals as goal
+
+pub loop-applicant-preserved : goal.loop-applicant-preserved
+loop-applicant-preserved c =
+    let m = c.args.ranks.now.market in
+    c.in_ok-push.ensures.items
+    ∙ ap₂ (λ xs x. xs ++ x ∷ []) c.loop-applicant.invariant c.live_len.ensures
+    ∙ sym (map-below_more (λ a. length (live m a)) c.loop-applicant.applicant)
+
+pub returns-clause-all : goal.returns-clause-all
+returns-clause-all c =
+    let m = c.args.ranks.now.market in
+    let whole : c.loop-applicant.credits.items ≡ live_counts m (applicants m) = search rules in
+    ap sum whole ∙ sum_map_below (λ a. length (live m a)) (applicants m)
+
+pub returns-clause-few : goal.returns-clause-few
+returns-clause-few c = few_live c.args.ranks.now c.applicants.ensures.ranked

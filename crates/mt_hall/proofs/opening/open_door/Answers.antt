@@ -1,0 +1,7 @@
+use Rattle.std.proofs.Common.{length, ap, arith}
+use Rattle.mt_core.proofs.NextFacts.{ranking_few}
+use Rattle.mt_hall.proofs.opening.open_door.Goals as goal
+
+pub overflow_cast-list_len : goal.overflow_cast-list_len
+overflow_cast-list_len g c =
+    omega (arith, ap length c.by_rank.ensures, ranking_few c.args.ranks.now c.programs.ensures.ranked c.args.program)

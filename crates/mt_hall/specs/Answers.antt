@@ -1,0 +1,35 @@
+-- What an answer of `advance` shows, and what it does to the pass.
+use Rattle.std.specs.Prelude.{◌≡◌, ℕ, Bool, Option, IfSome, false, IsTrue, slice_index_or}
+use Rattle.mt_terms.specs.Lists.{has}
+use Rattle.mt_terms.specs.Market.{Market, live}
+use Rattle.mt_terms.specs.Best.{IsExcluded}
+use Rattle.mt_ranks.specs.Ranked.{Ranked}
+use Rattle.mt_hall.specs.Parts.{PassView, AllAboveExcluded, one_more}
+use Rattle.mt_hall.specs.declared.answer.Answer.{Answer}
+use Rattle.mt_hall.specs.declared.answer.Answer.TheVariants.{Moved, Told, At, Out, Stranger}
+
+-- whether an applicant is a single
+abbrev pub is_single : Ranked → ℕ → Bool
+is_single r a = slice_index_or r.singles a false
+
+-- A proposal went to a live entry; where it was refused that is excluded, and so it is for whom it displaced.
+pub record IsMove (m : Market) (a to : ℕ) (kept : Bool) (displaced : Option ℕ) : Type 0 where
+  pub is_live : IsTrue (has (live m a) to)
+  pub refused : kept ≡ false → IsExcluded m a to
+  pub fallen : IfSome displaced (λ b. IsExcluded m b to)
+
+-- what an answer shows of the market
+abbrev pub Tells : Market → ℕ → Answer → Type 0
+Tells m a (Moved to kept displaced) = IsMove m a to kept displaced
+Tells m a (Told by) = IsTrue (has (live m a) by) × IsExcluded m a by
+Tells m a (At place) = IsTrue (has (live m a) place) × AllAboveExcluded m a place
+Tells m a Out = (p : ℕ) → IsTrue (has (live m a) p) → IsExcluded m a p
+Tells m a Stranger = Unit {0}
+
+-- the pass after an answer: one proposal more where one was made, and else as before
+abbrev pub pass_after : PassView → ℕ → Answer → PassView
+pass_after s a (Moved to kept displaced) = one_more s to a
+pass_after s a (Told by) = s
+pass_after s a (At place) = s
+pass_after s a Out = s
+pass_after s a Stranger = s

@@ -1,0 +1,45 @@
+-- What an audit finds.
+use Rattle.std.specs.Prelude.{◌≡◌, ℕ, ◌<◌, ◌+◌, Bool, false, not, ◌&&◌, ◌||◌, ◌==◌, List, length, slice_index_or, if◌then◌else◌}
+use Rattle.std.specs.List.{list_all, sum_by}
+use Rattle.mt_terms.specs.Lists.{below, count_below, total_below}
+use Rattle.mt_terms.specs.Market.{Market, applicants, live}
+use Rattle.mt_terms.specs.Floor.{Floor}
+use Rattle.mt_ranks.specs.Ranked.{Ranked}
+use Rattle.mt_hall.specs.Parts.{PassView, IsRow}
+use Rattle.mt_hall.specs.Answers.{is_single}
+use Rattle.mt_hall.specs.declared.audit.Row.{Row}
+
+-- how many proposals were made with all the passes, and how many of them for an applicant and to a program
+abbrev pub all_proposals : List PassView → ℕ
+all_proposals passes = sum_by (λ (s : PassView). s.proposals) passes
+
+abbrev pub all_for : List PassView → ℕ → ℕ
+all_for passes a = sum_by (λ (s : PassView). slice_index_or s.by_applicant a 0) passes
+
+abbrev pub all_to : List PassView → ℕ → ℕ
+all_to passes p = sum_by (λ (s : PassView). slice_index_or s.by_program p 0) passes
+
+-- whether for each single, and for each program, the passes' counts add up to what the floor has
+abbrev pub singles_agree : Ranked → Floor → List PassView → Bool
+singles_agree r f passes = list_all (λ a. not (is_single r a) || (all_for passes a == f.made a)) (below (applicants r.market))
+
+abbrev pub programs_agree : Ranked → Floor → List PassView → Bool
+programs_agree r f passes = list_all (λ p. all_to passes p == count_below (f.received p) (applicants r.market)) (below (length r.market.programs))
+
+abbrev pub all_agree : Ranked → Floor → List PassView → Bool
+all_agree r f passes = singles_agree r f passes && programs_agree r f passes
+
+-- what a row says of an applicant
+abbrev pub made_in : List Row → ℕ → ℕ
+made_in rows a = (slice_index_or rows a (record { made = 0; standing = false })).made
+
+abbrev pub standing_in : List Row → ℕ → Bool
+standing_in rows a = (slice_index_or rows a (record { made = 0; standing = false })).standing
+
+-- each applicant below a number has a row that can be that of a legal floor
+abbrev pub AreRows : Market → List Row → ℕ → Type 0
+AreRows m rows n = (a : ℕ) → a < n → IsRow m a (made_in rows a) (standing_in rows a)
+
+-- how many live entries the applicants below a number have
+abbrev pub entries_to : Market → ℕ → ℕ
+entries_to m n = total_below (λ a. length (live m a)) n

@@ -1,0 +1,5 @@
+pub mod Answers
+pub mod Audits
+pub mod Openings
+pub mod Parts
+pub mod Steps

@@ -1,0 +1,76 @@
+ghost use Rattle.std.specs.Prelude.{◌≡◌, ◌+◌, ◌<◌, length, slice_index};
+ghost use Rattle.mt_terms.specs.Market.{applicants};
+ghost use Rattle.mt_hall.specs.Parts.{one_more};
+
+use crate::name::HallName;
+use crate::till::Till;
+use mt_tally::{DeskShare, PassShare, enter};
+use mt_terms::{AppNo, ProgNo};
+use std::marker::Model;
+use std::sync::{Mutex, Wait};
+
+/// What a worker carries: a credit for each proposal that it has made, and how many of them were to each program and
+/// for each applicant.
+pub struct Pass<K: HallName> {
+    pub(crate) credits: PassShare<K>,
+    pub(crate) by_program: Vec<u32>,
+    pub(crate) by_applicant: Vec<u32>,
+}
+
+impl<K: HallName> Model for Pass<K> {
+    ghost use Rattle.mt_hall.specs.Parts.{PassView, IsPass};
+
+    ghost Value = { PassView };
+
+    ghost view = { λ p. record { proposals = p.credits; by_program = p.by_program.items; by_applicant = p.by_applicant.items } };
+
+    ghost invariant = { λ p. IsPass K.ranked.market (record { proposals = p.credits; by_program = p.by_program.items; by_applicant = p.by_applicant.items }) };
+}
+
+impl<K: HallName> Pass<K> {
+    /// How many proposals were made with it.
+    pub fn proposals(&self) -> u64
+        ensures { result ≡ self.now.proposals }
+    {
+        self.credits.credits()
+    }
+
+    /// How many of them were to the program.
+    pub fn proposed(&self, program: ProgNo) -> u32
+        requires { program < length K.ranked.market.programs }
+        ensures { result ≡ slice_index self.now.by_program program }
+    {
+        self.by_program[program.index()]
+    }
+
+    /// How many of them were the applicant's.
+    pub fn proposed_for(&self, applicant: AppNo) -> u32
+        requires { applicant < applicants K.ranked.market }
+        ensures { result ≡ slice_index self.now.by_applicant applicant }
+    {
+        self.by_applicant[applicant.index()]
+    }
+
+    /// Takes one credit of a desk, and counts the proposal.
+    pub(crate) fn count<R: Wait>(
+        &mut self,
+        rt: &R,
+        till: &Mutex<Till<K>>,
+        desk: &mut DeskShare<K>,
+        program: ProgNo,
+        applicant: AppNo,
+    )
+        requires any { 0 < desk.old }
+        requires program { program < length K.ranked.market.programs }
+        requires applicant { applicant < applicants K.ranked.market }
+        ensures desk { desk.new + 1 ≡ desk.old }
+        ensures pass { self.new ≡ one_more self.old program applicant }
+    {
+        {
+            let mut till = till.lock(rt);
+            enter(&mut till.roll, desk, &mut self.credits);
+        }
+        self.by_program[program.index()] += 1;
+        self.by_applicant[applicant.index()] += 1;
+    }
+}

@@ -1,0 +1,13 @@
+-- What a roll tells.
+use Rattle.std.specs.Prelude.{ℕ}
+
+-- how many credits were dealt, how many shares were taken in, and with how many credits of desks and of passes
+pub record Tally : Type 0 where
+  pub total : ℕ
+  pub shares : ℕ
+  pub desk_credits : ℕ
+  pub pass_credits : ℕ
+
+-- so many credits were dealt, and nothing was taken in
+abbrev pub all_dealt : ℕ → Tally
+all_dealt n = record { total = n; shares = 0; desk_credits = 0; pass_credits = 0 }
