@@ -63,7 +63,7 @@ fn expect_received(rt: &impl Abort, floor: &Floor, ranks: &Ranks, wanted: &[u32]
 }
 
 // The rejection chain ends with a1 at P2, which wants it most, a2 at P1, which wants it most, and a3 nowhere.
-fn expect_chain_end(
+pub(crate) fn expect_chain_end(
     rt: &impl Abort,
     alloc: Global,
     floor: &Floor,
@@ -213,7 +213,7 @@ fn runs_count_the_events_that_were_due(rt: HostRuntime) -> Result<(), Fail> {
 }
 
 // From this floor finish makes so many proposals.
-fn expect_finished(
+pub(crate) fn expect_finished(
     rt: &impl Abort,
     alloc: Global,
     floor: &mut Floor,

@@ -9,6 +9,8 @@ mod devices;
 #[cfg(test)]
 mod floor;
 #[cfg(test)]
+mod hall;
+#[cfg(test)]
 mod holding;
 #[cfg(test)]
 mod markets;
