@@ -128,6 +128,23 @@ fn expect_table<K: HallName, R: Abort + Wait>(
     expect_pass(rt, ranks, b, 3, &[2, 1], &[2, 1, 0]);
 }
 
+// Each lock of a door has that program's, which has received so many proposals.
+fn expect_doors<K: HallName, R: Abort + Wait>(
+    rt: &R,
+    hall: &Hall<'_, K>,
+    ranks: &Ranks,
+    received: &[u32],
+)
+    requires { ranks.now ≡ K.ranked }
+{
+    assert_eq!(rt; ranks.programs() as usize, received.len());
+    for program in 0..ranks.programs() {
+        let door = hall.door(ProgNo(program)).lock(rt);
+        assert_eq!(rt; door.program(), ProgNo(program));
+        assert_eq!(rt; door.received(), received[program as usize]);
+    }
+}
+
 fn table_in<K: HallName, R: Abort + Wait>(
     rt: &R,
     alloc: Global,
@@ -140,6 +157,7 @@ fn table_in<K: HallName, R: Abort + Wait>(
 {
     let (hall, mut passes) = Hall::<K>::open(alloc, ranks, 2, blank)?;
     expect_table(rt, &hall, ranks, &mut passes);
+    expect_doors(rt, &hall, ranks, &[3, 2]);
     let audit = hall.close(passes);
     expect_order(rt, &audit);
     expect_chain_end(rt, alloc, &audit.floor, ranks)
@@ -151,6 +169,61 @@ fn each_call_gets_its_answer(rt: HostRuntime) -> Result<(), Fail> {
     let ranks = Ranks::build(rt.alloc(), &roster)?;
     let blank = blank_for(&ranks, 2);
     Ok(table_in::<Brand, _>(&rt, rt.alloc(), &ranks, blank)?)
+}
+
+fn instead_of(to: u32, other: u32) -> Answer {
+    Answer::Moved {
+        to: ProgNo(to),
+        kept: true,
+        displaced: Some(AppNo(other)),
+    }
+}
+
+// Each applicant's first wish first: whoever is displaced then has to be told, and nobody else is in that call.
+fn expect_by_wishes<K: HallName, R: Abort + Wait>(rt: &R, hall: &Hall<'_, K>, pass: &mut Pass<K>) {
+    let kept = |to: u32| -> Answer {
+        Answer::Moved {
+            to: ProgNo(to),
+            kept: true,
+            displaced: None,
+        }
+    };
+    expect_answer(rt, hall, pass, 0, kept(0));
+    expect_answer(rt, hall, pass, 1, kept(1));
+    expect_answer(rt, hall, pass, 2, instead_of(0, 0));
+    expect_answer(rt, hall, pass, 1, Answer::At { place: ProgNo(1) });
+    expect_answer(rt, hall, pass, 0, Answer::Told { by: ProgNo(0) });
+    expect_answer(rt, hall, pass, 0, instead_of(1, 1));
+    expect_answer(rt, hall, pass, 1, Answer::Told { by: ProgNo(1) });
+    expect_answer(rt, hall, pass, 1, instead_of(0, 2));
+    expect_answer(rt, hall, pass, 2, Answer::Told { by: ProgNo(0) });
+    expect_rest(rt, hall, pass);
+}
+
+fn wishes_in<K: HallName, R: Abort + Wait>(
+    rt: &R,
+    alloc: Global,
+    ranks: &Ranks,
+    blank: Blank,
+) -> Result<(), AllocError>
+    requires ranks { ranks.now ≡ K.ranked }
+    requires name { blank.name ≡ K.name }
+    requires parts { (blank.parts ≡ K.parts) × (K.parts ≡ applicants K.ranked.market + 1) }
+{
+    let (hall, mut passes) = Hall::<K>::open(alloc, ranks, 1, blank)?;
+    expect_by_wishes(rt, &hall, &mut passes[0]);
+    expect_pass(rt, ranks, &passes[0], 5, &[3, 2], &[2, 2, 1]);
+    let audit = hall.close(passes);
+    expect_order(rt, &audit);
+    expect_chain_end(rt, alloc, &audit.floor, ranks)
+}
+
+#[test]
+fn whoever_is_displaced_is_told(rt: HostRuntime) -> Result<(), Fail> {
+    let roster = roster_of(rt.alloc(), CHAIN)?;
+    let ranks = Ranks::build(rt.alloc(), &roster)?;
+    let blank = blank_for(&ranks, 1);
+    Ok(wishes_in::<Brand, _>(&rt, rt.alloc(), &ranks, blank)?)
 }
 
 // Advances each applicant once, and says whether anything came of it.
