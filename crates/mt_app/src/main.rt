@@ -1,7 +1,7 @@
 //! The program `nrmatch`: the residency match of one CSV file.
 #![tactic(auto)]
 
-ghost use Rattle.std.specs.Prelude.{◌≡◌, ◌+◌, ◌<◌, ◌^◌, [], false, true, IsTrue};
+ghost use Rattle.std.specs.Prelude.{◌≡◌, ◌+◌, ◌<◌, ◌≤◌, ◌^◌, [], false, true, IsTrue};
 ghost use Rattle.mt_app.specs.Program.{IsExitFor, IsRun, IsTold};
 ghost use Rattle.mt_args.specs.CommandLine.{texts_of};
 ghost use Rattle.mt_terms.specs.Text.{is_known_code, refused as refused_text};
@@ -18,6 +18,8 @@ use std::env;
 use std::fs::File;
 use std::io::{self, ErrorKind, Read, Write};
 use std::process::ExitCode;
+use std::sync::Wait;
+use std::thread::Threads;
 
 /// The exit status of a command line that is wrong.
 const MISUSE: u8 = 64;
@@ -34,16 +36,18 @@ fn words_of(rt: &HostRuntime) -> io::Result<Vec<String>> {
 }
 
 /// Runs the match of what the reader gives, and gives the exit status.
-fn run_match<R: Read + Drop, W: Write>(
+fn run_match<T: Threads + Wait + Sync, R: Read + Drop, W: Write>(
+    rt: &T,
     alloc: Global,
     reader: R,
     drain: &mut Drain<W>,
     options: Options,
 ) -> u8
-    requires { failures_of drain.old + 1 < 2 ^ 64 }
+    requires failures { failures_of drain.old + 1 < 2 ^ 64 }
+    requires workers { (1 ≤ options.workers) × (options.workers ≤ 64) }
     ensures { IsRun (R.remaining reader) options.budget (contents_of W.contents drain.old) (contents_of W.contents drain.new) result }
 {
-    run(alloc, &mut Tap::new(reader), drain, options).status()
+    run(rt, alloc, &mut Tap::new(reader), drain, options).status()
 }
 
 /// Writes the refusal of a run that can't begin, and gives the exit status.
@@ -81,8 +85,9 @@ fn misuse<W: Write>(drain: &mut Drain<W>, text: &str) -> u8
     MISUSE
 }
 
-/// Does what the words ask for, and gives the exit status.
-fn obey(rt: &HostRuntime, words: &[String]) -> u8
+/// Does what the words ask for, and gives the exit status. `crew` is `rt` too: only `main` may take it for a handle that
+/// starts threads and waits for them.
+fn obey<T: Threads + Wait + Sync>(rt: &HostRuntime, crew: &T, words: &[String]) -> u8
     ensures { IsExitFor (texts_of words.now) result }
 {
     let alloc = rt.alloc();
@@ -90,10 +95,10 @@ fn obey(rt: &HostRuntime, words: &[String]) -> u8
     match asked(alloc, words) {
         Ok(Asked::Run { file, options }) => match file {
             Some(path) => match File::open(rt, path.as_str()) {
-                Ok(file) => run_match(alloc, file, &mut out, options),
+                Ok(file) => run_match(crew, alloc, file, &mut out, options),
                 Err(_) => refuse(&mut out, READ_FAULT),
             },
-            None => run_match(alloc, rt.stdin(), &mut out, options),
+            None => run_match(crew, alloc, rt.stdin(), &mut out, options),
         },
         Ok(Asked::Help(text)) => help(&mut out, text.as_str()),
         Err(AskEnd::Usage(text)) => misuse(&mut Drain::new(rt.stderr()), text.as_str()),
@@ -103,7 +108,7 @@ fn obey(rt: &HostRuntime, words: &[String]) -> u8
 
 fn main(rt: HostRuntime) -> ExitCode {
     let status = match words_of(&rt) {
-        Ok(words) => obey(&rt, words.as_slice()),
+        Ok(words) => obey(&rt, &rt, words.as_slice()),
         Err(error) => match error.kind() {
             ErrorKind::OutOfMemory => refuse(&mut Drain::new(rt.stdout()), OUT_OF_MEMORY),
             _ => misuse(&mut Drain::new(rt.stderr()), NO_TEXT),

@@ -1,5 +1,5 @@
 -- What an audit sums up.
-use Rattle.std.proofs.Common.{◌≡◌, ◌==◌, ℕ, suc, ◌+◌, ◌<◌, ◌≤◌, Bool, true, false, List, Option, Some, None, IfNone, length, take, set, get_or, refl, sym, ap, ◌∙◌, arith, ne_eqb, get_or-set_same, get_or-set_other, add-one}
+use Rattle.std.proofs.Common.{◌≡◌, ◌==◌, ℕ, ◌+◌, ◌<◌, true, false, List, Option, Some, None, IfNone, length, take, set, get_or, sym, ap, arith, ne_eqb, get_or-set_same, get_or-set_other, add-one}
 use Rattle.std.specs.List.{sum_by}
 use Rattle.std.specs.Option.{is_some}
 use Rattle.std.proofs.lemmas.List.Sums.{sum_by_more_le}

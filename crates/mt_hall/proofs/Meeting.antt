@@ -1,16 +1,16 @@
 -- What a door keeps and answers when an applicant comes to it.
-use Rattle.std.proofs.Common.{◌≡◌, ◌==◌, ◌||◌, ◌&&◌, not, ℕ, ◌<◌, Bool, true, false, List, [], ◌∷◌, Option, Some, None, IsTrue, IsFalse, if◌then◌else◌, length, refl, sym, ap, ◌∙◌, subst, inl, inr, eq-eqb, length-set}
+use Rattle.std.proofs.Common.{◌≡◌, ◌==◌, ◌||◌, ◌&&◌, not, ℕ, ◌<◌, Bool, true, false, List, [], ◌∷◌, Option, Some, None, IsTrue, IsFalse, if◌then◌else◌, refl, sym, ap, ◌∙◌, subst, inl, inr, eq-eqb, length-set}
 use Rattle.std.specs.List.{find}
 use Rattle.std.proofs.Math.Path.{fun_ext}
 use Rattle.std.proofs.lemmas.Bool.{cases_Bool, eqb-true, or_right, and_parts}
-use Rattle.mt_terms.specs.Lists.{Set, has, with_one}
+use Rattle.mt_terms.specs.Lists.{Set, with_one}
 use Rattle.mt_terms.specs.Market.{Market, Program, program_of}
 use Rattle.mt_terms.specs.WellFormed.{IsWellFormed}
 use Rattle.mt_terms.specs.Choice.{choice}
 use Rattle.mt_terms.specs.Best.{IsExcluded}
 use Rattle.mt_terms.specs.Floor.{kept_reply}
 use Rattle.mt_terms.specs.declared.events.Reply.{Reply}
-use Rattle.mt_terms.specs.declared.events.Reply.TheVariants.{Kept, KeptInstead, Refused}
+use Rattle.mt_terms.specs.declared.events.Reply.TheVariants.{Kept, Refused}
 use Rattle.mt_terms.proofs.LiveFacts.{live_parts}
 use Rattle.mt_match_laws.proofs.ChoiceLemmas.{choice_facts}
 use Rattle.mt_match_laws.proofs.ExclusionLemmas.{exclusion_lem}
@@ -67,9 +67,9 @@ door_receives m v a r comes = record {
   quota = comes.door.quota;
   listed = length-set v.holding.received r true ∙ comes.door.listed;
   comers = λ b on. elim (cases_Bool (b == a)) [
-      | inl same ↦ subst (λ (x : ℕ). IsComer m x v.program) (sym (eqb-true b a same)) comes.comer
-      | inr other ↦ comes.door.comers b (sym (ap (λ t. t || received_at m v b) other) ∙ sym (comer_received m v a r comes b) ∙ on)
-    ];
+    | inl same ↦ subst (λ (x : ℕ). IsComer m x v.program) (sym (eqb-true b a same)) comes.comer
+    | inr other ↦ comes.door.comers b (sym (ap (λ t. t || received_at m v b) other) ∙ sym (comer_received m v a r comes b) ∙ on)
+  ];
 }
 
 -- who was received and isn't held is excluded, by the exclusion law
@@ -80,9 +80,9 @@ fallen m wf v door = exclusion_lem m wf v.program (received_at m v) (λ b on. (l
 find_passes : (test : Set) (xs : List ℕ) (b : ℕ) → find test xs ≡ Some b → IsTrue (test b)
 find_passes test [] b e = cc
 find_passes test (x ∷ xs) b e = elim (cases_Bool (test x)) [
-      | inl on ↦ subst (λ (y : ℕ). IsTrue (test y)) (inj (sym (ap (λ t. if t then (Some x) else find test xs) on) ∙ e)) on
-      | inr off ↦ find_passes test xs b (sym (ap (λ t. if t then (Some x) else find test xs) off) ∙ e)
-    ]
+  | inl on ↦ subst (λ (y : ℕ). IsTrue (test y)) (inj (sym (ap (λ t. if t then (Some x) else find test xs) on) ∙ e)) on
+  | inr off ↦ find_passes test xs b (sym (ap (λ t. if t then (Some x) else find test xs) off) ∙ e)
+]
   where
     inj : {y z : ℕ} → Some y ≡ Some z → y ≡ z
     inj h = cc

@@ -1,5 +1,5 @@
 -- What an audit finds.
-use Rattle.std.specs.Prelude.{◌≡◌, ℕ, ◌<◌, ◌+◌, Bool, false, not, ◌&&◌, ◌||◌, ◌==◌, List, length, slice_index_or, if◌then◌else◌}
+use Rattle.std.specs.Prelude.{ℕ, ◌<◌, Bool, false, not, ◌&&◌, ◌||◌, ◌==◌, List, length, slice_index_or}
 use Rattle.std.specs.List.{list_all, sum_by}
 use Rattle.mt_terms.specs.Lists.{below, count_below, total_below}
 use Rattle.mt_terms.specs.Market.{Market, applicants, live}

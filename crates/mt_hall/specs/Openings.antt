@@ -1,5 +1,5 @@
 -- What a hall is opened with.
-use Rattle.std.specs.Prelude.{ℕ, length, replicate}
+use Rattle.std.specs.Prelude.{length, replicate}
 use Rattle.mt_terms.specs.Market.{Market, applicants}
 use Rattle.mt_hall.specs.Parts.{PassView}
 

@@ -1,5 +1,5 @@
 -- What a step does to the desk, the door and the pass that it is lent, and what its reply shows.
-use Rattle.std.specs.Prelude.{◌≡◌, ℕ, ◌+◌, ◌-◌, ◌<◌, Bool, true, false, Some, slice_get, length, take, IsTrue, if◌then◌else◌}
+use Rattle.std.specs.Prelude.{◌≡◌, ℕ, ◌+◌, ◌-◌, ◌<◌, Bool, true, false, Some, slice_get, length, take, if◌then◌else◌}
 use Rattle.mt_terms.specs.Lists.{has, with_one}
 use Rattle.mt_terms.specs.Market.{Market, applicants, program_of, live}
 use Rattle.mt_terms.specs.Choice.{choice}

@@ -10,9 +10,13 @@ pub enum Answer {
         displaced: Option<AppNo>,
     },
     /// The applicant learnt that this program, where it stood, holds it no longer.
-    Told { by: ProgNo },
+    Told {
+        by: ProgNo,
+    },
     /// The applicant stands here, and is held. Nothing changed.
-    At { place: ProgNo },
+    At {
+        place: ProgNo,
+    },
     /// The applicant stands nowhere and has no live entry left. Nothing changed.
     Out,
     /// The number isn't a single's. Nothing changed, and no lock was taken.

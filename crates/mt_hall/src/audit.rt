@@ -165,7 +165,12 @@ fn received_with<K: HallName>(passes: &[Pass<K>], program: ProgNo, number: u32) 
 }
 
 // Whether the applicant is no single, or the passes' proposals for it are as many as it has made.
-fn single_agrees<K: HallName>(floor: &Floor, ranks: &Ranks, passes: &[Pass<K>], applicant: AppNo) -> bool
+fn single_agrees<K: HallName>(
+    floor: &Floor,
+    ranks: &Ranks,
+    passes: &[Pass<K>],
+    applicant: AppNo,
+) -> bool
     requires ranks { ranks.now ≡ K.ranked }
     requires opened { IsOpenedWith ranks.now.market floor.now }
     requires applicant { applicant < applicants ranks.now.market }
@@ -176,7 +181,12 @@ fn single_agrees<K: HallName>(floor: &Floor, ranks: &Ranks, passes: &[Pass<K>], 
 }
 
 // Whether the passes' proposals to the program are as many as it has received.
-fn program_agrees<K: HallName>(floor: &Floor, ranks: &Ranks, passes: &[Pass<K>], program: ProgNo) -> bool
+fn program_agrees<K: HallName>(
+    floor: &Floor,
+    ranks: &Ranks,
+    passes: &[Pass<K>],
+    program: ProgNo,
+) -> bool
     requires ranks { ranks.now ≡ K.ranked }
     requires ranked { IsRanked ranks.now }
     requires opened { IsOpenedWith ranks.now.market floor.now }

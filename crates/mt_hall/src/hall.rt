@@ -62,7 +62,10 @@ impl<'a, K: HallName> Hall<'a, K> {
         let applicants = ranks.applicants();
         let credits = credits_of(alloc, ranks)?;
         let floor = Floor::open(alloc, ranks)?;
-        let rows = vec![in alloc; Row { made: 0, standing: false }; applicants as usize]?;
+        let rows = vec![in alloc; Row {
+            made: 0,
+            standing: false
+        }; applicants as usize]?;
         let doors = open_doors::<K>(alloc, ranks)?;
         let counts = open_counts(alloc, ranks.programs(), applicants, workers)?;
         let mut desks: Vec<Mutex<Desk<K>>> = Vec::with_capacity(alloc, applicants as usize)?;

@@ -31,7 +31,11 @@ pub(crate) fn credits_of(alloc: Global, ranks: &Ranks) -> Result<Vec<u32>, Alloc
 }
 
 /// A program's door, which has received nobody.
-fn open_door<K: HallName>(alloc: Global, ranks: &Ranks, program: ProgNo) -> Result<Door<K>, AllocError>
+fn open_door<K: HallName>(
+    alloc: Global,
+    ranks: &Ranks,
+    program: ProgNo,
+) -> Result<Door<K>, AllocError>
     requires ranks { ranks.now ≡ K.ranked }
     requires program { program < length K.ranked.market.programs }
 {
@@ -45,7 +49,10 @@ fn open_door<K: HallName>(alloc: Global, ranks: &Ranks, program: ProgNo) -> Resu
 }
 
 /// A door for each program, in the order of their numbers.
-pub(crate) fn open_doors<K: HallName>(alloc: Global, ranks: &Ranks) -> Result<Vec<Mutex<Door<K>>>, AllocError>
+pub(crate) fn open_doors<K: HallName>(
+    alloc: Global,
+    ranks: &Ranks,
+) -> Result<Vec<Mutex<Door<K>>>, AllocError>
     requires { ranks.now ≡ K.ranked }
     ensures { IfOk result (λ doors. vec_len doors ≡ length K.ranked.market.programs) }
 {
@@ -123,10 +130,12 @@ pub(crate) fn seat_passes<K: HallName>(
     let mut counts = counts.into_iter();
     'passes: while let Some(credits) = shares.next() {
         match counts.next() {
-            Some(Counts {
-                by_program,
-                by_applicant,
-            }) => passes.push_reserved(Pass {
+            Some(
+                Counts {
+                    by_program,
+                    by_applicant,
+                },
+            ) => passes.push_reserved(Pass {
                 credits,
                 by_program,
                 by_applicant,

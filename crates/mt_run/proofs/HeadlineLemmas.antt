@@ -1,5 +1,6 @@
 -- What is published is the text of a stable match, and without couples of the best one.
-use Rattle.std.proofs.Common.{◌≡◌, ℕ, ◌-◌, List, [], Bool, true, false, ◌==◌, Option, None, Some, Result, Ok, Err, length, refl, sym, ◌∙◌, ap, subst}
+use Rattle.std.proofs.Common.{◌≡◌, ℕ, ◌-◌, List, [], Bool, true, false, ◌==◌, Option, None, Some, Result, Ok, Err, length, refl, sym, ◌∙◌, ap, subst, arith, nat_lt}
+use Rattle.std.proofs.lemmas.Bool.Decides.{nat_tests}
 use Rattle.std.specs.Prelude.{◌≢◌, IsTrue, slice_index_or, MatchOption, MatchResult}
 use Rattle.std.specs.Bool.{MatchBool}
 use Rattle.std.specs.Option.{option_map}
@@ -22,7 +23,8 @@ use Rattle.mt_file_laws.proofs.PassFacts.{accepted_is_registration_lem}
 use Rattle.mt_file_laws.proofs.RefusalLine.{refusal_is_one_record_lem}
 use Rattle.mt_round_laws.proofs.RoundsStage.{stage_is_stable_lem}
 use Rattle.mt_floor_laws.proofs.RuralLemmas.{fill_alike_without_couples}
-use Rattle.mt_run.specs.Answer.{IsRefusedAlone, IsAnswerOfStage, IsAnswerOfMarket, IsAnswerOfFault, IsAnswerOfRows, IsAnswerTo, all_proposals}
+use Rattle.mt_run.specs.Answer.{IsAnswer, most_bytes, IsRefusedAlone, IsAnswerOfStage, IsAnswerOfMarket, IsAnswerOfFault, IsAnswerOfRows, IsAnswerTo, all_proposals}
+use Rattle.mt_run.specs.Refusals.{HasNoCouple, PublishesSingles}
 use Rattle.mt_run.specs.Headline.{IsBestOfAll, IsStableText, IsStableTextOf}
 use Rattle.mt_run.specs.Laws.{PublishedIsNoRefusal, PublishedIsStable, RefusalIsOneRecord}
 
@@ -86,6 +88,21 @@ module _ (bytes : List ℕ) (budget : ℕ) (text : List ℕ) where
 
 pub published_is_stable_lem : PublishedIsStable
 published_is_stable_lem bytes budget text h = of_bytes bytes budget text _ h
+
+-- the answer to a file that no couple enters is published
+published_alone : (bytes : List ℕ) (budget code : ℕ) (text : List ℕ) → HasNoCouple bytes → IsAnswer bytes budget code text → code ≡ 0
+published_alone bytes budget code text h a =
+    let few : nat_lt most_bytes (length bytes) ≡ false = grind (arith, nat_tests, h.few) in
+    let read : records_of bytes ≡ Some h.of_bytes.0 = h.of_bytes.1 in
+    let taken : market_of h.of_bytes.0 ≡ Ok h.registered = h.of_bytes.2 in
+    let here : IsAnswerOfMarket h.registered budget code text = rw (few, read, taken) at a in
+    (rw (stage_of_singles h.registered.market here.best budget h.none) at here.ends).0
+
+-- so a run of such a file refuses for want of memory, or a failed read, alone
+pub publishes_singles : (left : Option (List ℕ)) (budget code : ℕ) (text : List ℕ)
+    → (code ≢ 30 → code ≢ 31 → IsAnswerTo left budget code text) → PublishesSingles left code
+publishes_singles left budget code text answer bytes same h m r =
+    published_alone bytes budget code text h (subst (λ (x : Option (List ℕ)). IsAnswerTo x budget code text) same (answer m r))
 
 -- the same of what a reader had left
 pub published_to : (left : Option (List ℕ)) (budget : ℕ) (text : List ℕ) → IsAnswerTo left budget 0 text → IsStableTextOf left text

@@ -1,8 +1,9 @@
 -- What the end of a step of a run is for a market, or for a file's records, or for its bytes: a text, or a refusal.
-use Rattle.std.specs.Prelude.{◌≢◌, ℕ, List, Result, Ok, Err, Option}
+use Rattle.std.specs.Prelude.{◌≡◌, ◌≢◌, ◌≤◌, ℕ, List, [], length, Result, Ok, Err, Option, Some}
 use Rattle.mt_terms.specs.Text.{IsNamedRefusal, refused}
 use Rattle.mt_terms.specs.declared.codes.TheConstants.{OUT_OF_MEMORY, READ_FAULT}
-use Rattle.mt_run.specs.Answer.{IsAnswerTo}
+use Rattle.mt_terms.specs.Market.{Registered}
+use Rattle.mt_run.specs.Answer.{IsAnswerTo, IsRosterOf, most_bytes}
 use Rattle.mt_terms.specs.declared.refusal.Refusal.{Refusal}
 
 -- the line of a refusal
@@ -25,3 +26,15 @@ code_of (Err e) = e.code
 pub record IsRefusalTo (left : Option (List ℕ)) (budget : ℕ) (e : Refusal) : Type 0 where
   pub named : IsNamedRefusal e.code e.row e.id
   pub answer : e.code ≢ OUT_OF_MEMORY → e.code ≢ READ_FAULT → IsAnswerTo left budget e.code (line_of e)
+
+-- the bytes are a file, and no couple enters its market
+pub record HasNoCouple (bytes : List ℕ) : Type 0 where
+  pub few : length bytes ≤ most_bytes
+  pub registered : Registered
+  pub of_bytes : IsRosterOf bytes registered
+  pub none : registered.market.couples ≡ []
+
+-- Where a reader had such bytes left, a run that ends with this code refused for want of memory or a failed read, or
+-- not at all.
+abbrev pub PublishesSingles : Option (List ℕ) → ℕ → Type 0
+PublishesSingles left code = (bytes : List ℕ) → left ≡ Some bytes → HasNoCouple bytes → code ≢ OUT_OF_MEMORY → code ≢ READ_FAULT → code ≡ 0

@@ -1,4 +1,4 @@
-ghost use Rattle.std.specs.Prelude.{◌≡◌, ◌↔◌, ℕ, length, not, IfErr, IfOk, IsTrue, MatchOption, Ok};
+ghost use Rattle.std.specs.Prelude.{◌≡◌, ◌↔◌, ◌≤◌, ℕ, length, not, IfErr, IfOk, IsTrue, MatchOption, Ok};
 ghost use Rattle.mt_terms.specs.Best.{IsBest};
 ghost use Rattle.mt_terms.specs.Places.{ArePlaces};
 ghost use Rattle.mt_terms.specs.Registration.{market_of};
@@ -16,9 +16,11 @@ use mt_ranks::Ranks;
 use mt_report::published;
 use mt_roster::{Roster, RosterError, roster};
 use mt_terms::codes::{BUDGET_SPENT, OUT_OF_MEMORY};
-use mt_terms::{Agent, Blocker, Match, Refusal};
+use mt_terms::{Agent, Blocker, Match, Options, Refusal};
 use mt_verify::{Verdict, verify};
 use std::alloc::{AllocError, Global};
+use std::sync::Wait;
+use std::thread::Threads;
 
 /// Whether the verifier calls a match stable.
 fn is_stable(
@@ -86,21 +88,23 @@ fn publish(
 }
 
 /// The text of the market's match by its rank tables, once the singles are matched and the couples have entered.
-fn answer_by_ranks(
+fn answer_by_ranks<T: Threads + Wait + Sync>(
+    rt: &T,
     alloc: Global,
     roster: &Roster,
     ranks: &Ranks,
-    budget: u32,
+    options: Options,
 ) -> Result<Vec<u8>, Refusal>
     requires ranks { ranks.now ≡ ranked_of roster.now.market }
-    ensures text { IfOk result (λ text. IsAnswerOfMarket roster.now budget 0 text.items) }
-    ensures refused { IfErr result (IsRefusalBy (IsAnswerOfMarket roster.now budget)) }
+    requires workers { (1 ≤ options.workers) × (options.workers ≤ 64) }
+    ensures text { IfOk result (λ text. IsAnswerOfMarket roster.now options.budget 0 text.items) }
+    ensures refused { IfErr result (IsRefusalBy (IsAnswerOfMarket roster.now options.budget)) }
 {
     roster.is_of_a_file();
-    let Ok(singles) = match_singles(alloc, roster, ranks) else {
+    let Ok(singles) = match_singles(rt, alloc, roster, ranks, options.workers) else {
         return Err(Refusal::alone(OUT_OF_MEMORY));
     };
-    let matched = with_couples(alloc, roster, ranks, singles.matched, budget)?;
+    let matched = with_couples(alloc, roster, ranks, singles.matched, options.budget)?;
     match publish(alloc, roster, ranks, &matched, &singles.proposals) {
         Ok(Some(text)) => Ok(text),
         Ok(None) => unreachable!(),
@@ -109,16 +113,18 @@ fn answer_by_ranks(
 }
 
 /// The text of the market's match.
-pub(crate) fn answer_to_market(
+pub(crate) fn answer_to_market<T: Threads + Wait + Sync>(
+    rt: &T,
     alloc: Global,
     roster: &Roster,
-    budget: u32,
+    options: Options,
 ) -> Result<Vec<u8>, Refusal>
-    ensures text { IfOk result (λ text. IsAnswerOfMarket roster.now budget 0 text.items) }
-    ensures refused { IfErr result (IsRefusalBy (IsAnswerOfMarket roster.now budget)) }
+    requires { (1 ≤ options.workers) × (options.workers ≤ 64) }
+    ensures text { IfOk result (λ text. IsAnswerOfMarket roster.now options.budget 0 text.items) }
+    ensures refused { IfErr result (IsRefusalBy (IsAnswerOfMarket roster.now options.budget)) }
 {
     match Ranks::build(alloc, roster) {
-        Ok(ranks) => answer_by_ranks(alloc, roster, &ranks, budget),
+        Ok(ranks) => answer_by_ranks(rt, alloc, roster, &ranks, options),
         Err(_) => Err(Refusal::alone(OUT_OF_MEMORY)),
     }
 }

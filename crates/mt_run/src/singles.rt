@@ -1,51 +1,30 @@
-ghost use Rattle.std.specs.Prelude.{◌≡◌, map, length, IfOk};
-ghost use Rattle.mt_core.specs.Floors.{IsOpenedWith, floor_of};
+ghost use Rattle.std.specs.Prelude.{◌≡◌, ◌≤◌, map, length, IfOk};
 ghost use Rattle.mt_terms.specs.Best.{IsBest, proposals};
-ghost use Rattle.mt_terms.specs.Lists.{below, count_below};
-ghost use Rattle.mt_terms.specs.Market.{applicants};
+ghost use Rattle.mt_terms.specs.Lists.{below};
 ghost use Rattle.mt_ranks.specs.Ranked.{ranked_of};
 
-use mt_core::{Floor, finish, received, result};
+use mt_crew::{Open, Singles, work};
 use mt_ranks::Ranks;
 use mt_roster::Roster;
-use mt_terms::{Match, ProgNo};
 use std::alloc::{AllocError, Global};
-
-/// The match of the singles, and how many proposals each program received.
-#[derive(Drop)]
-pub(crate) struct Singles {
-    pub(crate) matched: Match,
-    pub(crate) proposals: Vec<u32>,
-}
-
-/// How many proposals each program has received.
-fn all_received(alloc: Global, floor: &Floor, ranks: &Ranks) -> Result<Vec<u32>, AllocError>
-    requires { IsOpenedWith ranks.now.market floor.now }
-    ensures { let m = ranks.now.market in IfOk result (λ v. v.items
-        ≡ map (λ p. count_below ((floor_of m floor.now).received p) (applicants m)) (below (length m.programs))) }
-{
-    let mut counts = Vec::with_capacity(alloc, ranks.programs() as usize)?;
-    for program in 0..ranks.programs() {
-        counts.push(received(floor, ProgNo(program)))?;
-    }
-    Ok(counts)
-}
+use std::sync::Wait;
+use std::thread::Threads;
 
 /// The best match of the singles, couples' members unplaced, and the proposals on the way to it.
-pub(crate) fn match_singles(
+pub(crate) fn match_singles<T: Threads + Wait + Sync>(
+    rt: &T,
     alloc: Global,
     roster: &Roster,
     ranks: &Ranks,
+    workers: u32,
 ) -> Result<Singles, AllocError>
-    requires { ranks.now ≡ ranked_of roster.now.market }
+    requires ranks { ranks.now ≡ ranked_of roster.now.market }
+    requires workers { (1 ≤ workers) × (workers ≤ 64) }
     ensures best { IfOk result (λ s. IsBest roster.now.market s.matched.places) }
     ensures proposals { IfOk result (λ s. s.proposals.items
         ≡ map (proposals roster.now.market s.matched.places) (below (length roster.now.market.programs))) }
 {
     roster.is_of_a_file();
-    let mut floor = Floor::open(alloc, ranks)?;
-    finish(&mut floor, ranks);
-    let matched = result(alloc, &floor, ranks)?;
-    let proposals = all_received(alloc, &floor, ranks)?;
-    Ok(Singles { matched, proposals })
+    let singles = work(rt, alloc, ranks, workers, &Open)?;
+    Ok(singles)
 }

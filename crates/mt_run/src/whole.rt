@@ -3,7 +3,7 @@ ghost use Rattle.mt_lists.specs.Tap.{bytes_left, failures_of as read_failures_of
 ghost use Rattle.mt_terms.specs.declared.codes.TheConstants.{READ_FAULT};
 ghost use Rattle.mt_report.specs.Drains.{contents_of, failures_of, is_flushed};
 ghost use Rattle.mt_run.specs.Answer.{Answers, IsAnswer, IsAnswerTo, IsRosterOf, RisesAtMost, most_bytes};
-ghost use Rattle.mt_run.specs.Refusals.{code_of, IsRefusalBy, IsRefusalTo};
+ghost use Rattle.mt_run.specs.Refusals.{code_of, IsRefusalBy, IsRefusalTo, PublishesSingles};
 
 use crate::answer::{answer_to_market, roster_of};
 use crate::ended::Ended;
@@ -14,6 +14,8 @@ use mt_terms::codes::{OUT_OF_MEMORY, READ_FAULT, TOO_LARGE, TWO_MARKS};
 use mt_terms::{LIMITS, Options, Refusal};
 use std::alloc::Global;
 use std::io::{Read, Write};
+use std::sync::Wait;
+use std::thread::Threads;
 
 /// The roster of bytes that are no more than the limit, or the refusal that is the answer.
 fn roster_of_bytes(alloc: Global, bytes: &[u8]) -> Result<Roster, Refusal>
@@ -29,31 +31,39 @@ fn roster_of_bytes(alloc: Global, bytes: &[u8]) -> Result<Roster, Refusal>
 }
 
 /// The answer to bytes that are no more than the limit. They are let go once the roster stands.
-fn answer_to_bytes(alloc: Global, bytes: Vec<u8>, budget: u32) -> Result<Vec<u8>, Refusal>
-    requires { length bytes.items ≤ most_bytes }
-    ensures text { IfOk result (λ text. IsAnswer bytes.items budget 0 text.items) }
-    ensures refused { IfErr result (IsRefusalBy (IsAnswer bytes.items budget)) }
+fn answer_to_bytes<T: Threads + Wait + Sync>(
+    rt: &T,
+    alloc: Global,
+    bytes: Vec<u8>,
+    options: Options,
+) -> Result<Vec<u8>, Refusal>
+    requires bytes { length bytes.items ≤ most_bytes }
+    requires workers { (1 ≤ options.workers) × (options.workers ≤ 64) }
+    ensures text { IfOk result (λ text. IsAnswer bytes.items options.budget 0 text.items) }
+    ensures refused { IfErr result (IsRefusalBy (IsAnswer bytes.items options.budget)) }
 {
     let roster = roster_of_bytes(alloc, &bytes)?;
     drop(bytes);
-    answer_to_market(alloc, &roster, budget)
+    answer_to_market(rt, alloc, &roster, options)
 }
 
 /// The answer to all that a reader gives.
-fn answer_to_input<R: Read>(
+fn answer_to_input<T: Threads + Wait + Sync, R: Read>(
+    rt: &T,
     alloc: Global,
     tap: &mut Tap<R>,
-    budget: u32,
+    options: Options,
 ) -> Result<Vec<u8>, Refusal>
-    requires { reads_of tap.old + most_bytes < u64.MAX }
-    ensures text { IfOk result (λ text. IsAnswerTo (bytes_left R.remaining tap.old) budget 0 text.items) }
-    ensures refused { IfErr result (IsRefusalTo (bytes_left R.remaining tap.old) budget) }
+    requires reads { reads_of tap.old + most_bytes < u64.MAX }
+    requires workers { (1 ≤ options.workers) × (options.workers ≤ 64) }
+    ensures text { IfOk result (λ text. IsAnswerTo (bytes_left R.remaining tap.old) options.budget 0 text.items) }
+    ensures refused { IfErr result (IsRefusalTo (bytes_left R.remaining tap.old) options.budget) }
     ensures fault { (code_of result ≡ READ_FAULT) ↔ (read_failures_of tap.old < read_failures_of tap.new) }
     ensures reads { RisesAtMost (most_bytes + 1) (reads_of tap.old) (reads_of tap.new) }
     ensures failures { RisesAtMost 1 (read_failures_of tap.old) (read_failures_of tap.new) }
 {
     match read_all(alloc, tap, LIMITS.bytes) {
-        Ok(bytes) => answer_to_bytes(alloc, bytes, budget),
+        Ok(bytes) => answer_to_bytes(rt, alloc, bytes, options),
         Err(ReadEnd::TooLarge) => Err(Refusal::alone(TOO_LARGE)),
         Err(ReadEnd::Fault) => Err(Refusal::alone(READ_FAULT)),
         Err(ReadEnd::Memory) => Err(Refusal::alone(OUT_OF_MEMORY)),
@@ -62,7 +72,8 @@ fn answer_to_input<R: Read>(
 
 /// The whole run: reads all that the reader gives, and writes the text of a match stable by the lists in those
 /// bytes, or one refusal line. The text is complete before the first byte is written.
-pub fn run<R: Read, W: Write>(
+pub fn run<T: Threads + Wait + Sync, R: Read, W: Write>(
+    rt: &T,
     alloc: Global,
     tap: &mut Tap<R>,
     drain: &mut Drain<W>,
@@ -70,15 +81,17 @@ pub fn run<R: Read, W: Write>(
 ) -> Ended
     requires reads { reads_of tap.old + most_bytes < u64.MAX }
     requires failures { failures_of drain.old + 1 < 2 ^ 64 }
+    requires workers { (1 ≤ options.workers) × (options.workers ≤ 64) }
     ensures answers { Answers (bytes_left R.remaining tap.old) options.budget
         (contents_of W.contents drain.old) (contents_of W.contents drain.new) result.code result.written result.whole }
+    ensures singles { PublishesSingles (bytes_left R.remaining tap.old) result.code }
     ensures writer { failures_of drain.new ≡ failures_of drain.old + (if result.whole then 0 else 1) }
     ensures flushed { IsTrue result.whole → IsTrue (is_flushed drain.new) }
     ensures fault { (result.code ≡ READ_FAULT) ↔ (read_failures_of tap.old < read_failures_of tap.new) }
     ensures reads { RisesAtMost (most_bytes + 1) (reads_of tap.old) (reads_of tap.new) }
     ensures failures { RisesAtMost 1 (read_failures_of tap.old) (read_failures_of tap.new) }
 {
-    match answer_to_input(alloc, tap, options.budget) {
+    match answer_to_input(rt, alloc, tap, options) {
         Ok(text) => {
             let wrote = put_all(drain, &text);
             Ended {

@@ -5,6 +5,8 @@
 #[cfg(test)]
 mod command_line;
 #[cfg(test)]
+mod crew;
+#[cfg(test)]
 mod devices;
 #[cfg(test)]
 mod floor;

@@ -1,4 +1,5 @@
 //! Whole runs: one for each exit, the same text for all workers and pieces, and devices that fail.
+ghost use Rattle.std.specs.Prelude.{◌≤◌};
 
 use crate::devices::{Endless, Narrow, Pieces};
 use crate::markets::{
@@ -11,7 +12,9 @@ use mt_run::{Ended, Options, run};
 use std::alloc::{AllocGlobal, Global};
 use std::io::{ErrorKind, Read};
 use std::process::Abort;
+use std::sync::Wait;
 use std::test::Fail;
+use std::thread::Threads;
 
 /// The options where nothing is said.
 const USUAL: Options = Options {
@@ -41,17 +44,19 @@ fn status_of(rt: &impl Abort, ended: &Ended) -> u8 {
 
 // Expects a run to end with this code and this exit status, and to write this text whole.
 fn expect_end<R: Read + Drop>(
-    rt: &(impl Abort + AllocGlobal),
+    rt: &(impl Abort + AllocGlobal + Threads + Wait + Sync),
     reader: R,
     options: Options,
     code: u16,
     status: u8,
     text: &[u8],
-) {
+)
+    requires { (1 ≤ options.workers) × (options.workers ≤ 64) }
+{
     let mut writer = narrow(rt.alloc(), usize::MAX, usize::MAX, false);
     let mut tap = Tap::new(reader);
     let mut drain = Drain::new(&mut writer);
-    let ended = run(rt.alloc(), &mut tap, &mut drain, options);
+    let ended = run(rt, rt.alloc(), &mut tap, &mut drain, options);
     assert_eq!(rt; drain.failures(), 0);
     assert_eq!(rt; writer.taken.as_slice(), text, "{options:?}");
     assert_eq!(rt; writer.flushes, 1);
@@ -66,7 +71,7 @@ fn expect_end<R: Read + Drop>(
 
 // Expects a run into this writer to write only these bytes of a text, and to end with this code.
 fn expect_cut(
-    rt: &(impl Abort + AllocGlobal),
+    rt: &(impl Abort + AllocGlobal + Threads + Wait + Sync),
     input: &[u8],
     narrow: Narrow,
     code: u16,
@@ -75,7 +80,7 @@ fn expect_cut(
     let mut writer = narrow;
     let mut tap = Tap::new(input);
     let mut drain = Drain::new(&mut writer);
-    let ended = run(rt.alloc(), &mut tap, &mut drain, USUAL);
+    let ended = run(rt, rt.alloc(), &mut tap, &mut drain, USUAL);
     assert_eq!(rt; drain.failures(), 1);
     assert_eq!(rt; writer.taken.as_slice(), taken);
     let wanted = Ended {
@@ -128,17 +133,29 @@ fn each_exit(rt: HostRuntime) {
     );
 }
 
-// Expects this text with few and with many workers, read whole and in pieces of one byte.
-fn expect_same(rt: &(impl Abort + AllocGlobal), input: &[u8], text: &[u8]) {
-    for workers in [1, 2, 8, 64] {
-        let options = Options {
-            workers,
-            budget: 1_000_000,
-        };
-        expect_end(rt, input, options, 0, 0, text);
-        let pieces = Pieces::new(input, 1, 0, ErrorKind::Other);
-        expect_end(rt, pieces, options, 0, 0, text);
-    }
+// Expects this text with so many workers, read whole and in pieces of one byte.
+fn expect_with(
+    rt: &(impl Abort + AllocGlobal + Threads + Wait + Sync),
+    input: &[u8],
+    text: &[u8],
+    workers: u32,
+)
+    requires { (1 ≤ workers) × (workers ≤ 64) }
+{
+    let options = Options {
+        workers,
+        budget: 1_000_000,
+    };
+    expect_end(rt, input, options, 0, 0, text);
+    let pieces = Pieces::new(input, 1, 0, ErrorKind::Other);
+    expect_end(rt, pieces, options, 0, 0, text);
+}
+
+fn expect_same(rt: &(impl Abort + AllocGlobal + Threads + Wait + Sync), input: &[u8], text: &[u8]) {
+    expect_with(rt, input, text, 1);
+    expect_with(rt, input, text, 2);
+    expect_with(rt, input, text, 8);
+    expect_with(rt, input, text, 64);
 }
 
 #[test]
@@ -204,7 +221,7 @@ fn a_reader_without_end(rt: HostRuntime) {
     let mut tap = Tap::new(Endless { size: 64 });
     let mut writer = narrow(rt.alloc(), 100, 100, false);
     let mut drain = Drain::new(&mut writer);
-    let ended = run(rt.alloc(), &mut tap, &mut drain, USUAL);
+    let ended = run(&rt, rt.alloc(), &mut tap, &mut drain, USUAL);
     assert_eq!(rt; ended.code, 10);
     assert!(rt; tap.reads() <= 1_048_577);
     assert_eq!(rt; tap.failures(), 0);

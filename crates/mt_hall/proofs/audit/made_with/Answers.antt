@@ -1,4 +1,4 @@
-use Rattle.std.proofs.Common.{◌≡◌, ◌<◌, arith, rules, slice_index_or, sym, ap, ◌∙◌, subst}
+use Rattle.std.proofs.Common.{◌<◌, arith, slice_index_or, subst}
 use Rattle.mt_hall.specs.Parts.{PassView}
 use Rattle.mt_hall.proofs.Auditing.{too_many}
 use Rattle.mt_hall.proofs.audit.made_with.Goals as goal

@@ -1,4 +1,4 @@
-use Rattle.std.proofs.Common.{◌≡◌, ◌+◌, length, sym, ap, ◌∙◌, rules}
+use Rattle.std.proofs.Common.{◌≡◌, length, ap, ◌∙◌, rules}
 use Rattle.mt_terms.specs.Market.{live}
 use Rattle.mt_hall.specs.declared.audit.Row.{Row}
 use Rattle.mt_hall.proofs.Auditing.{if_none, row_credits}

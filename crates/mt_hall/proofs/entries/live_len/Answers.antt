@@ -1,4 +1,4 @@
-use Rattle.std.proofs.Common.{length, ap, ◌∙◌, sym, arith, Fits}
+use Rattle.std.proofs.Common.{length, ap, ◌∙◌, sym, arith}
 use Rattle.std.proofs.lemmas.List.{length-map}
 use Rattle.mt_terms.specs.Market.{list_of}
 use Rattle.mt_ranks.specs.Ranked.{ranked_entry}

@@ -1,4 +1,4 @@
-use Rattle.std.proofs.Common.{◌≡◌, false, rules, sym, ap, subst}
+use Rattle.std.proofs.Common.{◌≡◌, false, rules, sym, subst}
 use Rattle.mt_terms.specs.Best.{IsExcluded}
 use Rattle.mt_terms.specs.declared.events.Reply.TheVariants.{Refused}
 use Rattle.mt_hall.specs.Parts.{DeskView, IsComer, IsDesk}

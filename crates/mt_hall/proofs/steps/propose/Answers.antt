@@ -1,4 +1,4 @@
-use Rattle.std.proofs.Common.{◌≡◌, ◌+◌, ◌<◌, false, length, rules, sym, ap, ◌∙◌, subst, arith, Fits}
+use Rattle.std.proofs.Common.{◌≡◌, ◌+◌, false, rules, sym, ap, ◌∙◌, subst, arith}
 use Rattle.mt_terms.specs.Best.{IsExcluded}
 use Rattle.mt_terms.specs.declared.events.Reply.TheVariants.{Refused}
 use Rattle.mt_floor_laws.proofs.FloorEvents.{within_get}
@@ -28,8 +28,8 @@ invariant_of-desk g c =
     let keeps : IsDesk m c.args.desk.now = subst (λ d. IsDesk m d) c.desk.view_is c.desk.invariant in
     let one : c.count.new.desk + 1 ≡ c.args.desk.now.credits = c.count.ensures.desk ∙ ap (λ (d : DeskView). d.credits) c.desk.view_is in
     let out : c.ne-desk-inside.result ≡ false → IsExcluded m c.args.desk.now.applicant p = λ e.
-      let refused : c.meet-reply.result ≡ Refused = search rules in
-      let shown : IsExcluded m c.desk.inside.applicant p = subst (ShowsExcluded m c.desk.inside.applicant p) refused c.meet-reply.ensures.excluded in
-      subst (λ (d : DeskView). IsExcluded m d.applicant p) c.desk.view_is shown in
+    let refused : c.meet-reply.result ≡ Refused = search rules in
+    let shown : IsExcluded m c.desk.inside.applicant p = subst (ShowsExcluded m c.desk.inside.applicant p) refused c.meet-reply.ensures.excluded in
+    subst (λ (d : DeskView). IsExcluded m d.applicant p) c.desk.view_is shown in
     subst (λ (d : DeskView). IsDesk m (record { applicant = d.applicant; made = d.made + 1; standing = c.ne-desk-inside.result; credits = c.count.new.desk })) (sym c.desk.view_is)
     (desk_proposes m c.args.desk.now p c.count.new.desk c.ne-desk-inside.result keeps c.requires.free c.requires.due.entry one out)

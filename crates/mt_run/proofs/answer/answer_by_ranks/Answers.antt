@@ -11,13 +11,13 @@ use Rattle.mt_run.proofs.answer.answer_by_ranks.Goals as goal
 
 -- from the best match the couples' stage ends in a stable match
 pub publish-requires-clause-places : goal.publish-requires-clause-places
-publish-requires-clause-places c =
+publish-requires-clause-places g c =
     stable_are_places c.args.roster.now.market c.is_of_a_file.ensures.well_formed _
-    (stage_is_stable_lem c.args.roster.now.market c.is_of_a_file.ensures.well_formed c.in-Ok.singles.matched.places c.in-Ok.ensures.best c.args.budget _
+    (stage_is_stable_lem c.args.roster.now.market c.is_of_a_file.ensures.well_formed c.in-Ok.singles.matched.places c.in-Ok.ensures.best c.args.options.budget _
     c.in_ok-matched.ensures.entered.1)
 
 pub publish-requires-clause-proposals : goal.publish-requires-clause-proposals
-publish-requires-clause-proposals c =
+publish-requires-clause-proposals g c =
     omega (
       arith,
       c.deref.ensures.len,
@@ -26,11 +26,11 @@ publish-requires-clause-proposals c =
     )
 
 pub unreachable-requires : goal.unreachable-requires
-unreachable-requires c =
+unreachable-requires g c =
     let places = c.in_ok-matched.matched.places in
     let market = c.args.roster.now.market in
     let is_stable : stable market places ≡ true =
-    stage_is_stable_lem market c.is_of_a_file.ensures.well_formed c.in-Ok.singles.matched.places c.in-Ok.ensures.best c.args.budget _
+    stage_is_stable_lem market c.is_of_a_file.ensures.well_formed c.in-Ok.singles.matched.places c.in-Ok.ensures.best c.args.options.budget _
     c.in_ok-matched.ensures.entered.1 in
     let is_not : not (stable market places) ≡ true =
     subst (λ (text : Option (Vec ℕ Global)). MatchOption text (IsTrue (not (stable market places))) (λ t. IsPublished c.args.roster.now places c.deref.result.now t.items))

@@ -3,7 +3,7 @@ use Rattle.mt_lists.specs.Tap.{bytes_left}
 use Rattle.mt_terms.specs.Text.{refused}
 use Rattle.mt_run.specs.Refusals.{line_of}
 use Rattle.mt_run.proofs.FaultFacts.{refusals_are_not_zero}
-use Rattle.mt_run.proofs.HeadlineLemmas.{published_to}
+use Rattle.mt_run.proofs.HeadlineLemmas.{published_to, publishes_singles}
 use Rattle.mt_run.proofs.whole.run.Goals as goal
 
 pub returns-in-Ok-clause-answers : goal.returns-in-Ok-clause-answers
@@ -31,3 +31,8 @@ returns-in-Err-clause-answers g c =
       stable = λ none. absurd (refusals_are_not_zero c.in-Err.refusal.code c.in-Err.ensures.refused.named.known none);
       answer = c.in-Err.ensures.refused.answer;
     }
+
+pub returns-in-Err-clause-singles : goal.returns-in-Err-clause-singles
+returns-in-Err-clause-singles g c =
+    publishes_singles (bytes_left g.R.Read.remaining c.args.tap.now) c.args.options.budget c.in-Err.refusal.code (line_of c.in-Err.refusal)
+    c.in-Err.ensures.refused.answer

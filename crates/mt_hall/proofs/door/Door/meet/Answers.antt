@@ -2,7 +2,7 @@ use Rattle.std.proofs.Common.{◌≡◌, ◌==◌, ◌||◌, ◌<◌, length, �
 use Rattle.std.proofs.lemmas.List.{get_or_read}
 use Rattle.mt_terms.specs.Market.{program_of}
 use Rattle.mt_terms.specs.declared.events.Reply.TheVariants as reply
-use Rattle.mt_hold.specs.Holding.{Holding, held, receive}
+use Rattle.mt_hold.specs.Holding.{Holding, held}
 use Rattle.mt_hold.specs.declared.holding.Taken.TheVariants as taken
 use Rattle.mt_ranks.specs.Ranked.{Ranked}
 use Rattle.mt_core.specs.Replies.{reply_from, reply_to}
@@ -68,7 +68,7 @@ invariant_of-self g c =
     let comes = comes_as c.args.ranks.now g.K.HallName.ranked c.requires.ranks c.applicants.ensures.ranked v c.args.self.now c.self.view_is c.self.invariant a c.args.rank c.requires.rank c.requires.comer in
     let w : DoorView = record { program = c.self.inside.program; holding = c.propose.new.self } in
     let got : (b : ℕ) → received_at m w b ≡ ((b == a) || received_at m v b) = λ b.
-      ap (λ (h : Holding). received_at m (record { program = c.self.inside.program; holding = h }) b) c.propose.ensures.received ∙ comer_received m v a c.args.rank comes b in
+    ap (λ (h : Holding). received_at m (record { program = c.self.inside.program; holding = h }) b) c.propose.ensures.received ∙ comer_received m v a c.args.rank comes b in
     let door : IsDoor m w = subst (λ (h : Holding). IsDoor m (record { program = c.self.inside.program; holding = h })) (sym c.propose.ensures.received) (door_receives m v a c.args.rank comes) in
     door
 
@@ -80,7 +80,7 @@ returns-clause-received g c =
     let comes = comes_as c.args.ranks.now g.K.HallName.ranked c.requires.ranks c.applicants.ensures.ranked v c.args.self.now c.self.view_is c.self.invariant a c.args.rank c.requires.rank c.requires.comer in
     let w : DoorView = record { program = c.self.inside.program; holding = c.propose.new.self } in
     let got : (b : ℕ) → received_at m w b ≡ ((b == a) || received_at m v b) = λ b.
-      ap (λ (h : Holding). received_at m (record { program = c.self.inside.program; holding = h }) b) c.propose.ensures.received ∙ comer_received m v a c.args.rank comes b in
+    ap (λ (h : Holding). received_at m (record { program = c.self.inside.program; holding = h }) b) c.propose.ensures.received ∙ comer_received m v a c.args.rank comes b in
     λ b. got b ∙ ap (λ (x : DoorView). (b == a) || received_at m x b) c.self.view_is
 
 pub returns-clause-reply : goal.returns-clause-reply
@@ -117,7 +117,7 @@ returns-clause-held g c =
     let comes = comes_as c.args.ranks.now g.K.HallName.ranked c.requires.ranks c.applicants.ensures.ranked v c.args.self.now c.self.view_is c.self.invariant a c.args.rank c.requires.rank c.requires.comer in
     let w : DoorView = record { program = c.self.inside.program; holding = c.propose.new.self } in
     let got : (b : ℕ) → received_at m w b ≡ ((b == a) || received_at m v b) = λ b.
-      ap (λ (h : Holding). received_at m (record { program = c.self.inside.program; holding = h }) b) c.propose.ensures.received ∙ comer_received m v a c.args.rank comes b in
+    ap (λ (h : Holding). received_at m (record { program = c.self.inside.program; holding = h }) b) c.propose.ensures.received ∙ comer_received m v a c.args.rank comes b in
     let p = program_of m v.program in
     let h = c.self.inside.hold in
     let told : IsAnswer h c.args.rank c.propose.result = record {
@@ -146,7 +146,7 @@ returns-clause-excluded g c =
     let comes = comes_as c.args.ranks.now g.K.HallName.ranked c.requires.ranks c.applicants.ensures.ranked v c.args.self.now c.self.view_is c.self.invariant a c.args.rank c.requires.rank c.requires.comer in
     let w : DoorView = record { program = c.self.inside.program; holding = c.propose.new.self } in
     let got : (b : ℕ) → received_at m w b ≡ ((b == a) || received_at m v b) = λ b.
-      ap (λ (h : Holding). received_at m (record { program = c.self.inside.program; holding = h }) b) c.propose.ensures.received ∙ comer_received m v a c.args.rank comes b in
+    ap (λ (h : Holding). received_at m (record { program = c.self.inside.program; holding = h }) b) c.propose.ensures.received ∙ comer_received m v a c.args.rank comes b in
     let door : IsDoor m w = subst (λ (h : Holding). IsDoor m (record { program = c.self.inside.program; holding = h })) (sym c.propose.ensures.received) (door_receives m v a c.args.rank comes) in
     let p = program_of m v.program in
     let h = c.self.inside.hold in

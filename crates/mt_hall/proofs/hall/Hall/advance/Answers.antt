@@ -1,4 +1,4 @@
-use Rattle.std.proofs.Common.{rules, ◌≡◌, ◌<◌, false, true, IsTrue, sym, ap, ◌∙◌, subst}
+use Rattle.std.proofs.Common.{rules, ◌≡◌, ◌<◌, true, IsTrue, sym, ap, ◌∙◌, subst}
 use Rattle.std.proofs.lemmas.Bool.{true≢false}
 use Rattle.mt_terms.specs.Lists.{has}
 use Rattle.mt_terms.specs.Market.{applicants, live}
@@ -57,15 +57,17 @@ returns-in-Noticed-clause-tells g c =
     let m = g.K.HallName.ranked.market in
     let p = c.entry_at-program.result.program in
     let there : c.deref_mut-2.result.now.program ≡ p = search rules in
-    let who : c.deref_mut.result.now.applicant ≡ c.args.applicant = search rules in
-    ( subst (λ (r : Ranked). IsTrue (has (live r.market c.args.applicant) p)) c.args.self.now.its_ranks (has-get _ c.if-standing.place p c.entry_at-program.ensures.program),
-      subst (λ a. IsExcluded m a p) who (subst (IsExcluded m _) there c.in-Noticed.ensures.excluded) )
+    let who : c.deref_mut.result.now.applicant ≡ c.args.applicant = search rules in (
+      subst (λ (r : Ranked). IsTrue (has (live r.market c.args.applicant) p)) c.args.self.now.its_ranks (has-get _ c.if-standing.place p c.entry_at-program.ensures.program),
+      subst (λ a. IsExcluded m a p) who (subst (IsExcluded m _) there c.in-Noticed.ensures.excluded),
+    )
 
 pub returns-clause-tells : goal.returns-clause-tells
 returns-clause-tells g c =
     let m = g.K.HallName.ranked.market in
     let p = c.entry_at-program.result.program in
     let there : c.deref_mut-2.result.now.program ≡ p = search rules in
-    let who : c.deref_mut.result.now.applicant ≡ c.args.applicant = search rules in
-    ( subst (λ (r : Ranked). IsTrue (has (live r.market c.args.applicant) p)) c.args.self.now.its_ranks (has-get _ c.if-standing.place p c.entry_at-program.ensures.program),
-      subst (λ a. AllAboveExcluded m a p) who (subst (AllAboveExcluded m _) there c.in-NotDue.ensures.excluded) )
+    let who : c.deref_mut.result.now.applicant ≡ c.args.applicant = search rules in (
+      subst (λ (r : Ranked). IsTrue (has (live r.market c.args.applicant) p)) c.args.self.now.its_ranks (has-get _ c.if-standing.place p c.entry_at-program.ensures.program),
+      subst (λ a. AllAboveExcluded m a p) who (subst (AllAboveExcluded m _) there c.in-NotDue.ensures.excluded),
+    )

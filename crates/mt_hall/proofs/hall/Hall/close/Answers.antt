@@ -1,12 +1,12 @@
-use Rattle.std.proofs.Common.{◌≡◌, ◌+◌, ◌<◌, ℕ, sym, ap, ◌∙◌, subst, arith, rules}
+use Rattle.std.proofs.Common.{◌≡◌, ◌<◌, ℕ, ap, ◌∙◌, subst, arith}
 use Rattle.mt_terms.specs.Lists.{total_below}
-use Rattle.mt_terms.specs.Market.{applicants, live_entries}
+use Rattle.mt_terms.specs.Market.{applicants}
 use Rattle.mt_terms.specs.Floor.{proposals_made}
 use Rattle.mt_terms.proofs.Totals.{total_below-same}
 use Rattle.mt_tally.specs.Tally.{Tally}
 use Rattle.mt_ranks.specs.Ranked.{Ranked}
 use Rattle.mt_core.specs.Floors.{floor_of}
-use Rattle.mt_hall.specs.Audits.{all_proposals, made_in}
+use Rattle.mt_hall.specs.Audits.{made_in}
 use Rattle.mt_hall.proofs.Auditing.{if_none_then, if_some}
 use Rattle.mt_hall.proofs.hall.Hall.close.Goals as goal
 use Rattle.mt_hall.proofs.hall.Hall.close.Goals.{then-is_none, else-is_none}
@@ -18,8 +18,8 @@ returns-clause-total g c =
     elim c.if-is_none.branch [
       | then-is_none w ↦
           let made : (a : ℕ) → a < applicants m → (floor_of m c.if-is_none.floor).made a ≡ made_in rows a =
-            subst (λ (r : Ranked). (a : ℕ) → a < applicants r.market → (floor_of r.market c.if-is_none.floor).made a ≡ made_in rows a) c.args.self.its_ranks
-            (λ a low. ap (λ t. (floor_of c.args.self.ranks.now.market t).made a) w.floor-is ∙ w.write_rows.ensures.made a low ∙ ap (λ xs. made_in xs a) w.deref.ensures.value) in
+          subst (λ (r : Ranked). (a : ℕ) → a < applicants r.market → (floor_of r.market c.if-is_none.floor).made a ≡ made_in rows a) c.args.self.its_ranks
+          (λ a low. ap (λ t. (floor_of c.args.self.ranks.now.market t).made a) w.floor-is ∙ w.write_rows.ensures.made a low ∙ ap (λ xs. made_in xs a) w.deref.ensures.value) in
           let same : proposals_made m (floor_of m c.if-is_none.floor) ≡ total_below (made_in rows) (applicants m) = total_below-same _ (made_in rows) (applicants m) made in
           let dealt = ap Tally.total c.into_inner-roll.result.whole in
           let none = ap Tally.pass_credits c.into_inner-roll.result.whole in

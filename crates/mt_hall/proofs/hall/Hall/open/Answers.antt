@@ -1,4 +1,4 @@
-use Rattle.std.proofs.Common.{◌≡◌, ◌+◌, length, ap, ◌∙◌, arith}
+use Rattle.std.proofs.Common.{◌≡◌, length, ap, ◌∙◌, arith}
 use Rattle.mt_terms.specs.Market.{applicants, live}
 use Rattle.mt_terms.proofs.BelowFacts.{length-map_below}
 use Rattle.mt_ranks.specs.Ranked.{Ranked}
@@ -8,5 +8,5 @@ pub deal-requires-clause-parts : goal.deal-requires-clause-parts
 deal-requires-clause-parts g c =
     let m = c.args.ranks.now.market in
     let number : length c.deref.result.now ≡ applicants g.K.HallName.ranked.market =
-      ap length (c.deref.ensures.value ∙ c.in_ok-credits.ensures.each) ∙ length-map_below (λ a. length (live m a)) (applicants m) ∙ ap (λ (r : Ranked). applicants r.market) c.requires.ranks in
+    ap length (c.deref.ensures.value ∙ c.in_ok-credits.ensures.each) ∙ length-map_below (λ a. length (live m a)) (applicants m) ∙ ap (λ (r : Ranked). applicants r.market) c.requires.ranks in
     (c.requires.parts.0, omega (arith, c.requires.parts.1, number))

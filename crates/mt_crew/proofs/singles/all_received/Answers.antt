@@ -4,7 +4,7 @@ use Rattle.mt_terms.proofs.BelowFacts.{map-below_more}
 use Rattle.mt_terms.specs.Floor.{Floor}
 use Rattle.mt_terms.specs.Lists.{below, count_below}
 use Rattle.mt_terms.specs.Market.{applicants}
-use Rattle.mt_run.proofs.singles.all_received.Goals as goal
+use Rattle.mt_crew.proofs.singles.all_received.Goals as goal
 
 pub loop-program-preserved : goal.loop-program-preserved
 loop-program-preserved c =

@@ -3,7 +3,7 @@ use Rattle.mt_core.specs.Floors.{floor_of}
 use Rattle.mt_terms.specs.Floor.{Floor}
 use Rattle.mt_terms.specs.Lists.{below, count_below}
 use Rattle.mt_terms.specs.Market.{applicants}
-use Rattle.mt_run.proofs.singles.all_received.Given as goal
+use Rattle.mt_crew.proofs.singles.all_received.Given as goal
 
 -- the counts of the programs so far
 abbrev pub invariant-loop-program : goal.invariant-loop-program

@@ -1,0 +1,139 @@
+ghost use Rattle.std.specs.Prelude.{◌≡◌, ◌+◌, ◌≤◌, map, length, IfOk};
+ghost use Rattle.mt_terms.specs.Best.{IsBest, proposals};
+ghost use Rattle.mt_terms.specs.Lists.{below};
+ghost use Rattle.mt_terms.specs.Market.{applicants};
+
+use crate::gate::Gate;
+use crate::seats::{Seat, dealt_seats, next_ticket, thieves};
+use crate::singles::{Singles, singles_of};
+use crossbeam_deque::Stealer;
+use mt_hall::{Answer, Hall, HallName, Pass};
+use mt_ranks::Ranks;
+use mt_terms::AppNo;
+use std::alloc::{AllocError, Global};
+use std::marker::Brand;
+use std::sync::Wait;
+use std::sync::ledger::Blank;
+use std::thread;
+use std::thread::Threads;
+
+/// Acts for the applicant until it is placed or out. Whom it displaces gets a ticket; where there is no memory for
+/// that, it goes on with that applicant.
+fn act<K: HallName, R: Wait>(
+    rt: &R,
+    hall: &Hall<'_, K>,
+    pass: &mut Pass<K>,
+    seat: &mut Seat,
+    ticket: AppNo,
+) {
+    let mut applicant = ticket;
+    for _ in rt.forever() {
+        match hall.advance(rt, applicant, pass) {
+            Answer::At { place: _ } | Answer::Out | Answer::Stranger => return,
+            Answer::Told { by: _ } => {}
+            Answer::Moved {
+                to: _,
+                kept: false,
+                displaced: _,
+            } => {}
+            Answer::Moved {
+                to: _,
+                kept: true,
+                displaced: None,
+            } => return,
+            Answer::Moved {
+                to: _,
+                kept: true,
+                displaced: Some(other),
+            } => {
+                match seat.tickets.push(other) {
+                    Ok(()) => return,
+                    Err(refused) => applicant = refused,
+                }
+            }
+        }
+    }
+}
+
+/// Acts on one ticket after another, until no deque gives one.
+fn serve<K: HallName, R: Wait, G: Gate>(
+    rt: &R,
+    hall: &Hall<'_, K>,
+    gate: &G,
+    thieves: &[Stealer<AppNo>],
+    seat: &mut Seat,
+    pass: &mut Pass<K>,
+) {
+    for _ in rt.forever() {
+        let Some(applicant) = next_ticket(seat, thieves) else {
+            return;
+        };
+        gate.before(seat.number, applicant);
+        act(rt, hall, pass, seat, applicant);
+        gate.after(seat.number, pass);
+    }
+}
+
+/// Worker 0 serves on this thread, and each other one on a thread of its own. The tickets of one that doesn't start
+/// are stolen.
+fn serve_all<K: HallName + Send + Sync, R: Threads + Wait + Sync, G: Gate + Sync>(
+    rt: &R,
+    hall: &Hall<'_, K>,
+    gate: &G,
+    thieves: &[Stealer<AppNo>],
+    seats: &mut [Seat],
+    passes: &mut [Pass<K>],
+) {
+    thread::scope(thread::scope_env(), rt, |scope| {
+        let mut all = seats.iter_mut().zip(passes.iter_mut());
+        let first = all.next();
+        for (seat, pass) in all {
+            let _ = scope.spawn(move || serve(rt, hall, gate, thieves, seat, pass));
+        }
+        if let Some((seat, pass)) = first {
+            serve(rt, hall, gate, thieves, seat, pass);
+        }
+    });
+}
+
+fn work_in<K: HallName + Send + Sync, R: Threads + Wait + Sync, G: Gate + Sync>(
+    rt: &R,
+    alloc: Global,
+    ranks: &Ranks,
+    workers: u32,
+    gate: &G,
+    blank: Blank,
+) -> Result<Singles, AllocError>
+    requires ranks { ranks.now ≡ K.ranked }
+    requires name { blank.name ≡ K.name }
+    requires parts { (blank.parts ≡ K.parts) × (K.parts ≡ applicants K.ranked.market + workers) }
+    requires workers { (1 ≤ workers) × (workers ≤ 64) }
+    ensures best { IfOk result (λ s. IsBest ranks.now.market s.matched.places) }
+    ensures proposals { IfOk result (λ s. s.proposals.items
+        ≡ map (proposals ranks.now.market s.matched.places) (below (length ranks.now.market.programs))) }
+{
+    let mut seats = dealt_seats(alloc, ranks, workers)?;
+    let thieves = thieves(alloc, &seats)?;
+    let (hall, mut passes) = Hall::<K>::open(alloc, ranks, workers, blank)?;
+    serve_all(rt, &hall, gate, &thieves, &mut seats, &mut passes);
+    let mut audit = hall.close(passes);
+    singles_of(alloc, &mut audit.floor, ranks)
+}
+
+/// The best match of the singles, made by so many workers, and the proposals on the way to it. Worker 0 works on the
+/// calling thread, so one worker starts no thread. Its one error is that there isn't enough memory.
+pub fn work<R: Threads + Wait + Sync, G: Gate + Sync>(
+    rt: &R,
+    alloc: Global,
+    ranks: &Ranks,
+    workers: u32,
+    gate: &G,
+) -> Result<Singles, AllocError>
+    requires { (1 ≤ workers) × (workers ≤ 64) }
+    ensures best { IfOk result (λ s. IsBest ranks.now.market s.matched.places) }
+    ensures proposals { IfOk result (λ s. s.proposals.items
+        ≡ map (proposals ranks.now.market s.matched.places) (below (length ranks.now.market.programs))) }
+{
+    let parts = ranks.applicants() as u64 + workers as u64;
+    work_in::<Brand, R, G>(rt, alloc, ranks, workers, gate, Blank::new(parts))
+}

@@ -1,0 +1,21 @@
+use mt_hall::{HallName, Pass};
+use mt_terms::AppNo;
+
+/// What a worker passes with each ticket. Whatever a gate does, and however long it takes, the match is the same.
+pub trait Gate {
+    /// Called each time a worker has taken a ticket, before it acts on it.
+    fn before(&self, worker: u32, applicant: AppNo);
+
+    /// Called when the worker has done with a ticket, with the pass that it carries.
+    fn after<K: HallName>(&self, worker: u32, pass: &Pass<K>);
+}
+
+/// The gate that does nothing.
+#[derive(Clone, Copy, Debug)]
+pub struct Open;
+
+impl Gate for Open {
+    fn before(&self, _worker: u32, _applicant: AppNo) {}
+
+    fn after<K: HallName>(&self, _worker: u32, _pass: &Pass<K>) {}
+}

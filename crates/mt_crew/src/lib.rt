@@ -1,0 +1,12 @@
+//! Workers that match the singles: each takes tickets from its own deque or steals them, and acts on the floor behind
+//! locks. Which worker acts on whom, and when, changes nothing: the match is the best one.
+#![tactic(auto)]
+
+mod crew;
+mod gate;
+mod seats;
+mod singles;
+
+pub use crew::work;
+pub use gate::{Gate, Open};
+pub use singles::Singles;

@@ -1,0 +1,49 @@
+ghost use Rattle.std.specs.Prelude.{◌≡◌, map, length, IfOk};
+ghost use Rattle.mt_core.specs.Floors.{IsOpenedWith, floor_of};
+ghost use Rattle.mt_terms.specs.Best.{IsBest, proposals};
+ghost use Rattle.mt_terms.specs.Floor.{IsLegal};
+ghost use Rattle.mt_terms.specs.Lists.{below, count_below};
+ghost use Rattle.mt_terms.specs.Market.{applicants};
+
+use mt_core::{Floor, finish, received, result};
+use mt_ranks::Ranks;
+use mt_terms::{Match, ProgNo};
+use std::alloc::{AllocError, Global};
+
+/// The match of the singles, couples' members unplaced, and how many proposals each program received.
+#[derive(Drop)]
+pub struct Singles {
+    pub matched: Match,
+    pub proposals: Vec<u32>,
+}
+
+/// How many proposals each program has received.
+fn all_received(alloc: Global, floor: &Floor, ranks: &Ranks) -> Result<Vec<u32>, AllocError>
+    requires { IsOpenedWith ranks.now.market floor.now }
+    ensures { let m = ranks.now.market in IfOk result (λ v. v.items
+        ≡ map (λ p. count_below ((floor_of m floor.now).received p) (applicants m)) (below (length m.programs))) }
+{
+    let mut counts = Vec::with_capacity(alloc, ranks.programs() as usize)?;
+    for program in 0..ranks.programs() {
+        counts.push(received(floor, ProgNo(program)))?;
+    }
+    Ok(counts)
+}
+
+/// What a legal floor comes to: the best match, and the proposals on the way to it.
+pub(crate) fn singles_of(
+    alloc: Global,
+    floor: &mut Floor,
+    ranks: &Ranks,
+) -> Result<Singles, AllocError>
+    requires opened { IsOpenedWith ranks.now.market floor.old }
+    requires legal { IsLegal ranks.now.market (floor_of ranks.now.market floor.old) }
+    ensures best { IfOk result (λ s. IsBest ranks.now.market s.matched.places) }
+    ensures proposals { IfOk result (λ s. s.proposals.items
+        ≡ map (proposals ranks.now.market s.matched.places) (below (length ranks.now.market.programs))) }
+{
+    finish(floor, ranks);
+    let matched = result(alloc, floor, ranks)?;
+    let proposals = all_received(alloc, floor, ranks)?;
+    Ok(Singles { matched, proposals })
+}
