@@ -1,4 +1,4 @@
-ghost use Rattle.std.specs.Prelude.{◌≡◌, ◌≤◌, IfOk, vec_len};
+ghost use Rattle.std.specs.Prelude.{◌≡◌, ◌≤◌, IfOk, length, vec_len};
 
 use crossbeam_deque::{Steal, Stealer, Worker};
 use mt_ranks::Ranks;
@@ -50,7 +50,9 @@ pub(crate) fn dealt_seats(
 }
 
 /// A thief for each seat.
-pub(crate) fn thieves(alloc: Global, seats: &[Seat]) -> Result<Vec<Stealer<AppNo>>, AllocError> {
+pub(crate) fn thieves(alloc: Global, seats: &[Seat]) -> Result<Vec<Stealer<AppNo>>, AllocError>
+    ensures { IfOk result (λ thieves. vec_len thieves ≡ length seats.now) }
+{
     let mut thieves = Vec::with_capacity(alloc, seats.len())?;
     for seat in seats {
         thieves.push(seat.tickets.stealer()?)?;
@@ -81,7 +83,9 @@ fn steal_any(thieves: &[Stealer<AppNo>]) -> Option<AppNo> {
 
 /// A ticket of the worker's own, or else one that it steals: it asks the others in the order of their numbers, from
 /// the one after its own on.
-pub(crate) fn next_ticket(seat: &mut Seat, thieves: &[Stealer<AppNo>]) -> Option<AppNo> {
+pub(crate) fn next_ticket(seat: &mut Seat, thieves: &[Stealer<AppNo>]) -> Option<AppNo>
+    ensures { seat.new.number ≡ seat.old.number }
+{
     let own = seat.tickets.pop();
     if own.is_some() {
         return own;
