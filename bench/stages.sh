@@ -9,8 +9,8 @@
 # A run prints for each layer: its name, the least processor time of the runs in milliseconds, the memory of the
 # process after it and the most so far, both in MiB, and a count of what it made. LAST `hash` stops after two passes
 # that hash each field once (bench/README.md), and LAST `table` after one that puts each field into a table of ids. LAST
-# `hall` goes on from `finish` with a hall for one worker. The scratch folder is $BENCH_SCRATCH, or nrmatch-bench in the
-# folder for temporary files.
+# `hall` goes on from `finish` with a hall for one worker, and LAST `crew` with one, two, four and eight workers, by the
+# clock of the wall. The scratch folder is $BENCH_SCRATCH, or nrmatch-bench in the folder for temporary files.
 #
 # `build` proves nothing. `rt try` compiles without optimising, so its LLVM module is compiled a second time here, at
 # the level of a proved build. The checks at run time that `rt try` puts in stay, which a proved build has none of:
@@ -58,7 +58,7 @@ copy_crates() {
     (cd "$top/crates" && tar cf - "$@" .) | tar xf - -C "$repo/crates"
     cp "$top/HANDLES" "$repo/"
     cp "$top/bench/stages/$main.rt.txt" "$code/main.rt"
-    for name in first hall layers meter; do
+    for name in crew first hall layers meter; do
         if grep -q "^mod $name;" "$code/main.rt"; then cp "$top/bench/stages/$name.rt.txt" "$code/$name.rt"; fi
     done
     cp "$top/crates.txt" "$repo/"
@@ -72,7 +72,7 @@ build() {
     mkdir -p "$scratch"
     rm -f "$scratch/module.bc"
     make_kit "$from"
-    libraries='anyhow indexmap mt_lists mt_roster mt_ranks mt_core mt_tally mt_hall'
+    libraries='anyhow indexmap mt_lists mt_roster mt_ranks mt_core mt_tally mt_hall mt_crew'
     copy_crates main "$libraries mt_couples mt_verify mt_report mt_terms" --exclude out
     # It ends in a failure, since the module isn't compiled by it.
     (cd "$scratch/repo/crates/mt_stages" && "$scratch/kit/bin/rt" try < /dev/null > "$log" 2>&1) || true

@@ -86,14 +86,15 @@ fn steal_any(thieves: &[Stealer<AppNo>]) -> Option<AppNo> {
 pub(crate) fn next_ticket(seat: &mut Seat, thieves: &[Stealer<AppNo>]) -> Option<AppNo>
     ensures { seat.new.number ≡ seat.old.number }
 {
-    let own = seat.tickets.pop();
-    if own.is_some() {
-        return own;
+    let ticket = seat.tickets.pop();
+    if ticket.is_some() {
+        return ticket;
     }
-    let after = (seat.number as usize + 1).min(thieves.len());
+    let own = (seat.number as usize).min(thieves.len());
+    let after = (own + 1).min(thieves.len());
     let later = steal_any(&thieves[after..]);
     if later.is_some() {
         return later;
     }
-    steal_any(&thieves[..after])
+    steal_any(&thieves[..own])
 }
