@@ -1,4 +1,4 @@
-use Rattle.std.proofs.Common.{ℕ, ap, refl, ◌∙◌}
+use Rattle.std.proofs.Common.{ap, refl, ◌∙◌}
 use Rattle.mt_terms.specs.Best.{proposals}
 use Rattle.mt_ranks.specs.Ranked.{Ranked}
 use Rattle.mt_run.proofs.SinglesFacts.{best_of_live, proposals_of_live}
