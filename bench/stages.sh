@@ -2,7 +2,8 @@
 # Times the layers of a match on one file, by the program in bench/stages.
 #
 #   bench/stages.sh build                          builds the program in the scratch folder
-#   bench/stages.sh prove                          proves and builds the part of it that ends with the roster
+#   bench/stages.sh prove PART                     proves and builds a part of it: roster, which ends there, or workers,
+#                                                  which goes on to `finish` and the layers of `crew`
 #   bench/stages.sh FILE [LAST [BUDGET [RUNS]]]    runs what was built last on a file: RUNS times (3), to the layer
 #                                                  LAST (text), with BUDGET rounds for the couples (1000000)
 #
@@ -14,7 +15,7 @@
 #
 # `build` proves nothing. `rt try` compiles without optimising, so its LLVM module is compiled a second time here, at
 # the level of a proved build. The checks at run time that `rt try` puts in stay, which a proved build has none of:
-# `roster` takes about half as long again with them. `prove` takes a minute where the layers are proved in this
+# `roster` takes about half as long again with them. `prove` takes some minutes where the layers are proved in this
 # checkout, and a quarter of an hour from nothing.
 set -eu
 top=$(cd "$(dirname "${BASH_SOURCE[0]}")/.." && pwd)
@@ -90,7 +91,13 @@ build() {
 prove() {
     local log=$scratch/build.log
     mkdir -p "$scratch"
-    copy_crates roster 'anyhow indexmap mt_lists mt_roster mt_terms'
+    case ${1:-} in
+        roster) copy_crates roster 'anyhow indexmap mt_lists mt_roster mt_terms' ;;
+        workers)
+            copy_crates workers 'anyhow indexmap mt_lists mt_roster mt_market mt_ranks mt_core mt_crew mt_terms'
+            ;;
+        *) echo "prove: roster or workers" >&2; exit 1 ;;
+    esac
     # Without a file's name it only says how it is used.
     (cd "$scratch/repo/crates/mt_stages" && rt run < /dev/null > "$log" 2>&1) || true
     if [ ! -x "$scratch/repo/crates/mt_stages/out/mt_stages" ]; then
@@ -120,7 +127,7 @@ measure() {
 case ${1:-} in
     '' | -h | --help) sed -n '2,/^set/{/^#/s/^# \{0,1\}//p}' "${BASH_SOURCE[0]}" ;;
     build) build ;;
-    prove) prove ;;
+    prove) prove "${2:-}" ;;
     *)
         [ -x "$program" ] || build >&2
         measure "$@"
