@@ -1,7 +1,7 @@
 -- What the program does with a reader and a writer, and how it ends.
 use Rattle.std.specs.Prelude.{◌≡◌, ◌⊎◌, ℕ, ◌≤◌, Bool, true, List, [], ◌∷◌, length, take, Option, IsTrue, if◌then◌else◌}
 use Rattle.std.specs.Io.KnownBytes.{Appends}
-use Rattle.mt_args.specs.CommandLine.{AsksForHelp, IsMisuse, is_taken}
+use Rattle.mt_args.specs.CommandLine.{AsksForHelp, AsksForVersion, IsMisuse, is_taken}
 use Rattle.mt_terms.specs.Lists.{has}
 use Rattle.mt_run.specs.Answer.{Answers}
 use Rattle.mt_run.specs.Status.{status_of}
@@ -30,9 +30,9 @@ pub record IsTold (text : List ℕ) (done undone : ℕ) (old new : Option (List 
   pub is_status : status ≡ (if whole then done else undone)
 
 -- what an exit status says of the words of the command line: 64 that they break the usage; 2 and 3 that the command
--- takes them; 0 that it does, or that they ask for help; 4 and 5 nothing
+-- takes them; 0 that it does, or that they ask for help or the version; 4 and 5 nothing
 pub record IsExitFor (words : List (List ℕ)) (status : ℕ) : Type 0 where
   pub known : IsTrue (has (0 ∷ 2 ∷ 3 ∷ 4 ∷ 5 ∷ 64 ∷ []) status)
   pub misuse : status ≡ 64 → IsMisuse words
   pub taken : IsTrue (has (2 ∷ 3 ∷ []) status) → is_taken words ≡ true
-  pub done : status ≡ 0 → (is_taken words ≡ true) ⊎ AsksForHelp words
+  pub done : status ≡ 0 → (is_taken words ≡ true) ⊎ AsksForHelp words ⊎ AsksForVersion words

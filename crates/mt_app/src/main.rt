@@ -67,8 +67,8 @@ fn refuse<W: Write>(drain: &mut Drain<W>, code: u16) -> u8
     ended.status()
 }
 
-/// Writes the help, and gives the exit status.
-fn help<W: Write>(drain: &mut Drain<W>, text: &str) -> u8
+/// Writes the help or the version, and gives the exit status.
+fn tell<W: Write>(drain: &mut Drain<W>, text: &str) -> u8
     requires { failures_of drain.old + 1 < 2 ^ 64 }
     ensures { IsTold text.now 0 5 (contents_of W.contents drain.old) (contents_of W.contents drain.new) result }
 {
@@ -100,7 +100,7 @@ fn obey<T: Threads + Wait + Sync>(rt: &HostRuntime, crew: &T, words: &[String]) 
             },
             None => run_match(crew, alloc, rt.stdin(), &mut out, options),
         },
-        Ok(Asked::Help(text)) => help(&mut out, text.as_str()),
+        Ok(Asked::Help(text) | Asked::Version(text)) => tell(&mut out, text.as_str()),
         Err(AskEnd::Usage(text)) => misuse(&mut Drain::new(rt.stderr()), text.as_str()),
         Err(AskEnd::Memory) => refuse(&mut out, OUT_OF_MEMORY),
     }

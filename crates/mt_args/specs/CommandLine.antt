@@ -12,9 +12,9 @@ use Rattle.clap.specs.Simple.{on_top}
 use Rattle.clap.specs.declared.builder.action.ArgAction.TheVariants.{Set}
 use Rattle.clap.specs.declared.builder.value_parser.ValueParser.TheVariants.{Signed}
 use Rattle.clap.specs.declared.error.kind.ErrorKind.{ErrorKind}
-use Rattle.clap.specs.declared.error.kind.ErrorKind.TheVariants.{DisplayHelp}
+use Rattle.clap.specs.declared.error.kind.ErrorKind.TheVariants.{DisplayHelp, DisplayVersion}
 use Rattle.mt_args.specs.declared.answer.Asked.{Asked}
-use Rattle.mt_args.specs.declared.answer.Asked.TheVariants.{Run, Help}
+use Rattle.mt_args.specs.declared.answer.Asked.TheVariants.{Run, Help, Version}
 use Rattle.mt_args.specs.declared.answer.AskEnd.{AskEnd}
 use Rattle.mt_args.specs.declared.answer.AskEnd.TheVariants.{Usage, Memory}
 use Rattle.mt_terms.specs.declared.options.Options.{Options}
@@ -45,10 +45,10 @@ budget_rule = record (new_rule (codes "budget")) {
   defaults = codes "1000000" ∷ [];
 }
 
--- the command, whose words begin after the program's name; `--help` and `-h` are added by `clap`
+-- the command, whose words begin after the program's name; `--help`, `-h`, `--version` and `-V` are added by `clap`
 abbrev pub nrmatch : App
 nrmatch = with_rule (with_rule (with_rule
-    (on_top (λ s. record s { no_binary_name = true }) (new_app (codes "nrmatch")))
+    (on_top (λ s. record s { no_binary_name = true; has_version = true }) (new_app (codes "nrmatch")))
     file_rule) workers_rule) budget_rule
 
 -- ---- what the words ask for
@@ -81,23 +81,34 @@ is_taken words = takes nrmatch words
 abbrev pub AsksForHelp : List Text → Type 0
 AsksForHelp words = fault_of nrmatch words ≡ DisplayHelp ∷ []
 
+-- the words are refused because they ask for the version
+abbrev pub AsksForVersion : List Text → Type 0
+AsksForVersion words = fault_of nrmatch words ≡ DisplayVersion ∷ []
+
 -- the words are refused for any other reason
 abbrev pub IsMisuse : List Text → Type 0
-IsMisuse words = (kind : ErrorKind) × (kind ≢ DisplayHelp) × (fault_of nrmatch words ≡ kind ∷ [])
+IsMisuse words = (kind : ErrorKind) × (kind ≢ DisplayHelp) × (kind ≢ DisplayVersion) × (fault_of nrmatch words ≡ kind ∷ [])
 
 -- ---- answers
 
 abbrev pub texts_of : List (String Global) → List Text
 texts_of = map string_bytes
 
--- a fact of the run that an answer asks for, of an answer that is help, and of a refusal that is usage
+-- a fact of the run that an answer asks for, of an answer that is help or the version, and of a refusal that is usage
 abbrev pub IfRun : Asked → (Option Text → Options → Type 0) → Type 0
 IfRun (Run file options) P = P (option_map string_bytes file) options
 IfRun (Help text) P = ⊤
+IfRun (Version text) P = ⊤
 
 abbrev pub OnHelp : Asked → Type 0 → Type 0
 OnHelp (Help text) P = P
+OnHelp (Version text) P = ⊤
 OnHelp (Run file options) P = ⊤
+
+abbrev pub OnVersion : Asked → Type 0 → Type 0
+OnVersion (Version text) P = P
+OnVersion (Help text) P = ⊤
+OnVersion (Run file options) P = ⊤
 
 abbrev pub OnUsage : AskEnd → Type 0 → Type 0
 OnUsage (Usage text) P = P

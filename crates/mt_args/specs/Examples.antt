@@ -2,7 +2,7 @@
 use Rattle.std.specs.Prelude.{◌≡◌, ℕ, true, false, List, [], ◌∷◌, Option, Some, None, codes}
 use Rattle.clap.specs.Words.{Text, fault_of}
 use Rattle.clap.specs.declared.error.kind.ErrorKind.{ErrorKind}
-use Rattle.clap.specs.declared.error.kind.ErrorKind.TheVariants.{ArgumentConflict, DisplayHelp, InvalidValue}
+use Rattle.clap.specs.declared.error.kind.ErrorKind.TheVariants.{ArgumentConflict, DisplayHelp, DisplayVersion, InvalidValue}
 use Rattle.clap.specs.declared.error.kind.ErrorKind.TheVariants.{UnknownArgument, ValueValidation}
 use Rattle.mt_args.specs.CommandLine.{file_of, is_taken, nrmatch, number_of}
 
@@ -43,3 +43,9 @@ AskForHelp = IsRefusedBy DisplayHelp (codes "--help" ∷ [])
     × IsRefusedBy DisplayHelp (codes "-h" ∷ [])
     × IsRefusedBy DisplayHelp (codes "f" ∷ codes "--help" ∷ codes "--none" ∷ [])
     × IsRefusedBy UnknownArgument (codes "--none" ∷ codes "--help" ∷ [])
+
+abbrev pub AskForVersion : Type 0
+AskForVersion = IsRefusedBy DisplayVersion (codes "--version" ∷ [])
+    × IsRefusedBy DisplayVersion (codes "-V" ∷ [])
+    × IsRefusedBy DisplayHelp (codes "--help" ∷ codes "--version" ∷ [])
+    × IsRefusedBy UnknownArgument (codes "--none" ∷ codes "--version" ∷ [])

@@ -13,6 +13,8 @@ pub enum Asked {
     },
     /// The help text, which goes to the standard output.
     Help(String),
+    /// The text of the version, which goes to the standard output.
+    Version(String),
 }
 
 /// Why the words of a command line are no command.

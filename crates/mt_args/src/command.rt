@@ -2,6 +2,7 @@ ghost use Rattle.std.specs.Prelude.{◌≡◌, IfOk, false};
 ghost use Rattle.clap.specs.Words.{app_of, rule_of};
 ghost use Rattle.mt_args.specs.CommandLine.{budget_rule, nrmatch, workers_rule};
 
+use crate::version::VERSION;
 use clap::{Arg, ArgAction, Command, value_parser};
 use std::alloc::{AllocError, Global};
 
@@ -65,6 +66,7 @@ pub(crate) fn command<'a>(alloc: Global) -> Result<Command<'a>, AllocError>
     let file = Arg::new(alloc, "FILE").help(FILE_HELP);
     let plain = Command::new(alloc, "nrmatch")
         .no_binary_name(true)
+        .version(VERSION)
         .about(ABOUT)
         .after_help(EXIT_STATUSES);
     plain.arg(file)?.arg(workers(alloc))?.arg(budget(alloc))

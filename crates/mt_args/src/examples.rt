@@ -1,7 +1,7 @@
 //! What the definition of the command line gives on worked words. Each function does nothing; its contract is the
 //! example.
 
-ghost use Rattle.mt_args.specs.Examples.{AfterHyphensIsFile, AreMisuse, AskForHelp, DefaultsStand, MostIsTaken};
+ghost use Rattle.mt_args.specs.Examples.{AfterHyphensIsFile, AreMisuse, AskForHelp, AskForVersion, DefaultsStand, MostIsTaken};
 
 /// No words give no file, 4 workers and a budget of 1,000,000.
 pub fn no_words()
@@ -27,4 +27,9 @@ pub fn misuse()
 /// Words with `--help` or `-h`, before any fault, ask for help.
 pub fn requests_for_help()
     ensures { AskForHelp }
+{}
+
+/// With `--version` or `-V`, before any fault and any request for help, they ask for the version.
+pub fn requests_for_the_version()
+    ensures { AskForVersion }
 {}

@@ -6,6 +6,7 @@ mod command;
 pub mod examples;
 pub mod laws;
 mod parsing;
+mod version;
 
 pub use answer::{AskEnd, Asked};
 pub use parsing::asked;

@@ -1,8 +1,8 @@
 ghost use Rattle.std.specs.Prelude.{◌≡◌, ◌≢◌, [], ◌∷◌, IfErr, IfOk, Some, codes, false, map, option_map, string_bytes, true};
 ghost use Rattle.std.specs.Option.{option_copied};
 ghost use Rattle.clap.specs.Words.{fault_of, found_of, kind_of, matches_of, rows_of};
-ghost use Rattle.clap.specs.declared.error.kind.ErrorKind.TheVariants.{DisplayHelp, OutOfMemory};
-ghost use Rattle.mt_args.specs.CommandLine.{AsksForHelp, HasOptions, IfRun, IsMisuse, IsWithinLimits, OnHelp, OnUsage};
+ghost use Rattle.clap.specs.declared.error.kind.ErrorKind.TheVariants.{DisplayHelp, DisplayVersion, OutOfMemory};
+ghost use Rattle.mt_args.specs.CommandLine.{AsksForHelp, AsksForVersion, HasOptions, IfRun, IsMisuse, IsWithinLimits, OnHelp, OnUsage, OnVersion};
 ghost use Rattle.mt_args.specs.CommandLine.{file_in, file_of, is_taken, nrmatch, number_in, number_of, texts_of};
 
 use crate::command::command;
@@ -14,10 +14,10 @@ use std::alloc::{AllocError, Global};
 
 /// What the words after the program's name ask for, by `clap`'s definition of a simple command: where the command
 /// `nrmatch [FILE] [--workers N] [--budget N]` takes the words, the file and the options that they name, or the
-/// defaults, and else `clap`'s text of help or of what is wrong.
+/// defaults, and else `clap`'s text of help, of the version or of what is wrong.
 ///
-/// `AskEnd::Usage` comes where the words aren't taken and don't ask for help, and `AskEnd::Memory` where memory was
-/// refused.
+/// `AskEnd::Usage` comes where the words aren't taken and ask for neither help nor the version, and `AskEnd::Memory`
+/// where memory was refused.
 pub fn asked(alloc: Global, words: &[String]) -> Result<Asked, AskEnd>
     ensures taken { IfOk result (λ a. IfRun a (λ _ _. is_taken (texts_of words.now) ≡ true)) }
     ensures file { IfOk result (λ a. IfRun a (λ file _. file ≡ file_of (texts_of words.now))) }
@@ -28,6 +28,8 @@ pub fn asked(alloc: Global, words: &[String]) -> Result<Asked, AskEnd>
     ensures limits { IfOk result (λ a. IfRun a (λ _ options. IsWithinLimits options)) }
     ensures help { IfOk result (λ a. OnHelp a (AsksForHelp (texts_of words.now))) }
     ensures help_untaken { IfOk result (λ a. OnHelp a (is_taken (texts_of words.now) ≡ false)) }
+    ensures version { IfOk result (λ a. OnVersion a (AsksForVersion (texts_of words.now))) }
+    ensures version_untaken { IfOk result (λ a. OnVersion a (is_taken (texts_of words.now) ≡ false)) }
     ensures usage { IfErr result (λ e. OnUsage e (IsMisuse (texts_of words.now))) }
     ensures usage_untaken { IfErr result (λ e. OnUsage e (is_taken (texts_of words.now) ≡ false)) }
 {
@@ -54,6 +56,7 @@ fn parsed<'a>(alloc: Global, words: &'a [String]) -> Result<ArgMatches<'a>, Erro
 fn run_of(alloc: Global, matches: &ArgMatches<'_>) -> Result<Asked, AskEnd>
     requires { HasOptions (rows_of (found_of matches.now)) }
     ensures run { IfOk result (λ a. OnHelp a ⊥) }
+    ensures no_version { IfOk result (λ a. OnVersion a ⊥) }
     ensures file { IfOk result (λ a. IfRun a (λ file _. file ≡ file_in (rows_of (found_of matches.now)))) }
     ensures workers { IfOk result (λ a. IfRun a (λ _ options.
         Some options.workers ≡ number_in (codes "workers") (rows_of (found_of matches.now)))) }
@@ -84,13 +87,16 @@ fn owned(alloc: Global, text: Option<&str>) -> Result<Option<String>, AllocError
 fn end_of(alloc: Global, error: &Error) -> Result<Asked, AskEnd>
     ensures run { IfOk result (λ a. IfRun a (λ _ _. ⊥)) }
     ensures help { IfOk result (λ a. OnHelp a (kind_of error.now ≡ DisplayHelp)) }
+    ensures version { IfOk result (λ a. OnVersion a (kind_of error.now ≡ DisplayVersion)) }
     ensures usage { IfErr result (λ e. OnUsage e (kind_of error.now ≢ DisplayHelp)) }
+    ensures usage_no_version { IfErr result (λ e. OnUsage e (kind_of error.now ≢ DisplayVersion)) }
     ensures memory { IfErr result (λ e. OnUsage e (kind_of error.now ≢ OutOfMemory)) }
 {
     let text = format!(in alloc; "{error}").map_err(|_| AskEnd::Memory)?;
     match error.kind() {
         ErrorKind::OutOfMemory => Err(AskEnd::Memory),
         ErrorKind::DisplayHelp => Ok(Asked::Help(text)),
+        ErrorKind::DisplayVersion => Ok(Asked::Version(text)),
         _ => Err(AskEnd::Usage(text)),
     }
 }

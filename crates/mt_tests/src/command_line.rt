@@ -63,6 +63,15 @@ fn is_help(alloc: Global, words: &[&str]) -> Result<bool, AllocError> {
     Ok(matches!(answer, Ok(Asked::Help(_))))
 }
 
+// The version's own words are compared in the program's tests.
+fn is_version(alloc: Global, words: &[&str]) -> Result<bool, AllocError> {
+    let answer = ask(alloc, words)?;
+    match &answer {
+        Ok(Asked::Version(text)) => Ok(text.as_str().starts_with("nrmatch ")),
+        _ => Ok(false),
+    }
+}
+
 #[test]
 fn words_give_the_file_and_the_options(rt: HostRuntime) -> Result<(), Fail> {
     let usual = Options {
@@ -106,6 +115,7 @@ const NOT_TAKEN: &[&[&str]] = &[
     &["--", "f", "--help"],
     // The first fault or request decides.
     &["--none", "--help"],
+    &["--none", "--version"],
 ];
 
 #[test]
@@ -121,6 +131,14 @@ fn words_that_ask_for_help(rt: HostRuntime) -> Result<(), Fail> {
     assert!(rt; is_help(rt.alloc(), &["--help"])?);
     assert!(rt; is_help(rt.alloc(), &["-h"])?);
     assert!(rt; is_help(rt.alloc(), &["--help", "--none"])?);
+    Ok(())
+}
+
+#[test]
+fn words_that_ask_for_the_version(rt: HostRuntime) -> Result<(), Fail> {
+    assert!(rt; is_version(rt.alloc(), &["--version"])?);
+    assert!(rt; is_version(rt.alloc(), &["-V", "--none"])?);
+    assert!(rt; !is_version(rt.alloc(), &["--help", "--version"])?);
     Ok(())
 }
 

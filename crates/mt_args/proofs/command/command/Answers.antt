@@ -8,8 +8,9 @@ pub returns : goal.returns
 returns c =
     let unnamed = ap app_of_fields c.no_binary_name.ensures
     ∙ ap (on_top (λ s. record s { no_binary_name = true })) c.new-2.ensures.app in
-    let plain : app_of c.after_help-plain.result ≡ on_top (λ s. record s { no_binary_name = true }) (new_app (codes "nrmatch")) =
-    ap app_of_fields c.after_help-plain.ensures ∙ ap app_of_fields c.about.ensures ∙ unnamed in
+    let versioned = ap app_of_fields c.version.ensures ∙ ap (on_top (λ s. record s { has_version = true })) unnamed in
+    let plain : app_of c.after_help-plain.result ≡ on_top (λ s. record s { no_binary_name = true; has_version = true }) (new_app (codes "nrmatch")) =
+    ap app_of_fields c.after_help-plain.ensures ∙ ap app_of_fields c.about.ensures ∙ versioned in
     IfOk-weaker c.arg-3.result _ _
     (λ r added. added.shape c.budget.ensures.local
     ∙ ap₂ with_rule (c.in_ok-arg-2.ensures.shape c.workers.ensures.local
