@@ -6,7 +6,7 @@ _nrmatch() {
         --budget) mapfile -t COMPREPLY < <(compgen -W '1000000 10000000 100000000' -- "$word") ;;
         *)
             case $word in
-                -*) mapfile -t COMPREPLY < <(compgen -W '--workers --budget --help' -- "$word") ;;
+                -*) mapfile -t COMPREPLY < <(compgen -W '--workers --budget --help --version' -- "$word") ;;
                 *) mapfile -t COMPREPLY < <(compgen -f -- "$word") ;;
             esac
             ;;
