@@ -6,32 +6,38 @@ use Rattle.mt_terms.specs.Market.{Market, agents}
 use Rattle.mt_terms.specs.Matching.{Places}
 use Rattle.mt_terms.specs.Stability.{fits}
 use Rattle.mt_terms.specs.WellFormed.{IsWellFormed}
-use Rattle.mt_terms.specs.Rounds.{settled, entered, stage, is_on}
+use Rattle.mt_terms.specs.Rounds.{settled, entered, stage, is_on, IsFittingState}
 use Rattle.mt_terms.specs.declared.numbers.Agent.{Agent}
 use Rattle.mt_terms.specs.declared.numbers.Agent.TheVariants.{Couple}
 use Rattle.mt_round_laws.proofs.RoundsLists.{In}
 use Rattle.mt_round_laws.proofs.RoundsAgents.{on_list, of_list, agent_on_list, couple_members}
 use Rattle.mt_couples.specs.Assigned.{Assigned}
 use Rattle.mt_couples.specs.Running.{IsRunning}
+use Rattle.mt_couples.specs.Waiting.{Waiting, IsListOf}
 
 -- the couples from a number on
 abbrev couples_from : Market → ℕ → List ℕ
 couples_from m number = range_with_len number (length m.couples - number)
 
 -- Couples below a number have entered: what is left of the way leads where the whole does.
-pub record IsEntering (m : Market) (start : Places) (budget number : ℕ) (now : Assigned) (waiting : List Agent) (left : ℕ) : Type 0 where
+pub record IsEntering (m : Market) (start : Places) (budget number : ℕ) (now : Assigned) (waiting : Waiting) (left : ℕ) : Type 0 where
   pub market : now.market ≡ m
   pub fitting : IsTrue (fits m now.places)
-  pub nobody_waits : waiting ≡ []
+  pub list : IsListOf m waiting
+  pub nobody_waits : waiting.agents ≡ []
   pub leads : entered m (couples_from m number) left now.places ≡ entered m (below (length m.couples)) budget start
   pub within : left ≤ budget
 
 -- the next couple is put on the empty work list
-pub next_waits : (m : Market) → IsWellFormed m → (k : ℕ) (places : Places) → k < length m.couples → fits m places ≡ true → IsRunning m places (Couple k ∷ [])
-next_waits m wf k places within fit = record {
-  well_formed = wf;
-  fitting = record { fitting = fit; waiting_agents = λ g on. of_it g (of_list g (Couple k ∷ []) on) };
-}
+pub next_waits : (m : Market) → IsWellFormed m → (k : ℕ) (now : Assigned) (waiting : Waiting) → now.market ≡ m → k < length m.couples → fits m now.places ≡ true
+    → IsListOf m waiting → waiting.agents ≡ Couple k ∷ [] → IsRunning now waiting
+next_waits m wf k now waiting same within fit list waits =
+    subst (λ x. IsRunning (record { market = x; places = now.places }) waiting) (sym same) (record {
+      well_formed = wf;
+      fitting = subst (λ gs. IsFittingState m (record { places = now.places; waiting = gs })) (sym waits)
+          (record { fitting = fit; waiting_agents = λ g on. of_it g (of_list g (Couple k ∷ []) on) });
+      waiting = list;
+    })
   where
     of_it : (g : Agent) → In g (Couple k ∷ []) → is_on (agents m) g ≡ true
     of_it g (inl is) = subst (λ x. is_on (agents m) x ≡ true) is (on_list (Couple k) (agents m) (agent_on_list m (Couple k) (couple_members m wf k within)))
@@ -46,12 +52,13 @@ next_couple m number left places within =
     ap (λ n. entered m (range_with_len number n) left places) e
 
 -- it has entered
-pub entering_more : (m : Market) (start : Places) (budget number : ℕ) (now next : Assigned) (waiting waiting' : List Agent) (left left' : ℕ)
-    → IsEntering m start budget number now waiting left → number < length m.couples → next.market ≡ m → fits m next.places ≡ true → waiting' ≡ []
+pub entering_more : (m : Market) (start : Places) (budget number : ℕ) (now next : Assigned) (waiting waiting' : Waiting) (left left' : ℕ)
+    → IsEntering m start budget number now waiting left → number < length m.couples → next.market ≡ m → fits m next.places ≡ true → IsListOf m waiting' → waiting'.agents ≡ []
     → settled m number left now.places (Couple number ∷ []) ≡ Some (next.places, left') → left' ≤ left → IsEntering m start budget (number + 1) next waiting' left'
-entering_more m start budget number now next waiting waiting' left left' so_far within market fit empty settles less = record {
+entering_more m start budget number now next waiting waiting' left left' so_far within market fit list empty settles less = record {
   market = market;
   fitting = fit;
+  list = list;
   nobody_waits = empty;
   leads =
       ap (option_and_then (λ r. entered m (couples_from m (number + 1)) r.1 r.0)) (sym settles)
@@ -60,7 +67,7 @@ entering_more m start budget number now next waiting waiting' left left' so_far 
 }
 
 -- its rounds are more than what is left
-pub entering_spent : (m : Market) (start : Places) (budget number : ℕ) (now : Assigned) (waiting : List Agent) (left : ℕ)
+pub entering_spent : (m : Market) (start : Places) (budget number : ℕ) (now : Assigned) (waiting : Waiting) (left : ℕ)
     → IsEntering m start budget number now waiting left → number < length m.couples → settled m number left now.places (Couple number ∷ []) ≡ None
     → stage m start budget ≡ None
 entering_spent m start budget number now waiting left so_far within spent =
@@ -69,7 +76,7 @@ entering_spent m start budget number now waiting left so_far within spent =
     ap (option_map (λ r. (r.0, budget - r.1))) none
 
 -- all couples have entered
-pub entering_all : (m : Market) (start : Places) (budget number : ℕ) (now : Assigned) (waiting : List Agent) (left : ℕ)
+pub entering_all : (m : Market) (start : Places) (budget number : ℕ) (now : Assigned) (waiting : Waiting) (left : ℕ)
     → IsEntering m start budget number now waiting left → length m.couples ≤ number → stage m start budget ≡ Some (now.places, budget - left)
 entering_all m start budget number now waiting left so_far past =
     let none_left : length m.couples - number ≡ 0 = omega arith in

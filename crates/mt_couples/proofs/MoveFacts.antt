@@ -21,7 +21,8 @@ use Rattle.mt_round_laws.proofs.RoundsAgents.{agent_of_applicant, agent_from_lis
 use Rattle.mt_round_laws.proofs.RoundsFits.{listing_program, fitting_facts}
 use Rattle.mt_round_laws.proofs.RoundsMove.{IsMove, of_displaced, displaced_agents, match_after, is_displaced, displaced_agent, goes_out, mover_stays, stays_in, was_before}
 use Rattle.mt_couples.specs.Assigned.{AreSent}
-use Rattle.mt_couples.specs.Moves.{is_left_by_movers, is_kept_at, all_members, IsTaking, Joins}
+use Rattle.mt_couples.specs.Moves.{is_left_by_movers, is_kept_at, all_members, IsTaking}
+use Rattle.mt_couples.specs.Waiting.{Waiting, with_agents, Joins}
 use Rattle.mt_couples.proofs.SentFacts.{in_list}
 use Rattle.mt_couples.proofs.JoinFacts.{all_joined-append}
 use Rattle.mt_couples.proofs.RowFacts.{below_rest}
@@ -225,7 +226,7 @@ module _ {m : Market} {old : Places} {g : Agent} {sent : Placement} (taking : Is
       (left_within taking)
 
   -- who waits, after each of three groups has joined
-  pub waits_after : (k : ℕ) (w0 w1 w2 w3 : List Agent) (left : List ℕ)
+  pub waits_after : (k : ℕ) (w0 w1 w2 w3 : Waiting) (left : List ℕ)
       → Joins w0 w1 (map (agent_of m) (displaced m (send sent old) sent))
       → Joins w1 w2 (if blocks m (match_after m old sent) g then (g ∷ []) else [])
       → Joins w2 w3 (flat_map (blocking_on_list m k (match_after m old sent)) left)
@@ -236,6 +237,9 @@ module _ {m : Market} {old : Places} {g : Agent} {sent : Placement} (taking : Is
       let itself = if blocks m (match_after m old sent) g then (g ∷ []) else [] in
       let again = flat_map (blocking_on_list m k (match_after m old sent)) in
       let programs = left_programs m (move_of m old sent) in
-      third ∙ ap (λ ps. all_joined w2 (again ps)) left_keys
-      ∙ ap (λ w. all_joined w (again programs)) (second ∙ ap (λ w. all_joined w itself) first ∙ sym (all_joined-append w0 out itself))
-      ∙ sym (all_joined-append w0 (out ++ itself) (again programs))
+      let w = w0.agents in
+      third ∙ ap (λ ps. with_agents w2 (all_joined w2.agents (again ps))) left_keys
+      ∙ ap (λ (x : Waiting). with_agents x (all_joined x.agents (again programs)))
+      (second ∙ ap (λ (x : Waiting). with_agents x (all_joined x.agents itself)) first)
+      ∙ ap (λ gs. with_agents w0 (all_joined gs (again programs))) (sym (all_joined-append w out itself))
+      ∙ ap (with_agents w0) (sym (all_joined-append w (out ++ itself) (again programs)))

@@ -15,7 +15,8 @@ use Rattle.mt_round_laws.proofs.RoundsFits.{fitting_facts, listing_program}
 use Rattle.mt_round_laws.proofs.RoundsKeep.{fitting_round, found_first}
 use Rattle.mt_couples.specs.Assigned.{Assigned, IsAgentOf}
 use Rattle.mt_couples.specs.Moves.{IsTaking}
-use Rattle.mt_couples.specs.Running.{IsRunning}
+use Rattle.mt_couples.specs.Running.{waiting_first, work_of, IsRunning}
+use Rattle.mt_couples.specs.Waiting.{Waiting, KeepsRoom}
 use Rattle.mt_couples.proofs.MarketFacts.{number_within}
 
 contains_in : {X : Type 0} (xs : List X) (x : X) → In x xs → Contains xs x
@@ -24,38 +25,44 @@ contains_in (y ∷ ys) x (inl is) = (0, omega arith, is)
 contains_in (y ∷ ys) x (inr i) = let w = contains_in ys x i in (suc w.0, omega (arith, w.1), w.2)
 
 -- Below, an agent is at the front of the work list.
-module _ {m : Market} {places : Places} {waiting : List Agent} {g : Agent} (running : IsRunning m places (g ∷ waiting)) where
-  of_market : is_on (agents m) g ≡ true
-  of_market = running.fitting.waiting_agents g (or_left (is_same_agent g g) (list_any (is_same_agent g) waiting) (is_same_agent_refl g))
+module _ {s : Assigned} {w : Waiting} {g : Agent} (running : IsRunning s (waiting_first g w)) where
+  of_market : is_on (agents s.market) g ≡ true
+  of_market = running.fitting.waiting_agents g (or_left (is_same_agent g g) (list_any (is_same_agent g) w.agents) (is_same_agent_refl g))
 
   -- it is of the market
-  pub front_within : IsAgentOf m g
-  front_within = number_within m g (agent_from_list m running.well_formed g (of_list g (agents m) of_market))
+  pub front_within : IsAgentOf s.market g
+  front_within = number_within s.market g (agent_from_list s.market running.well_formed g (of_list g (agents s.market) of_market))
 
   -- its first better option that would be taken is one that it may take
-  pub front_takes : (sent : Placement) → first_taken m places g ≡ Some sent → IsTaking m places g sent
+  pub front_takes : (sent : Placement) → first_taken s.market s.places g ≡ Some sent → IsTaking s.market s.places g sent
   front_takes sent first =
-      let found = found_first (would_be_taken m places) sent (better m places g) first in
+      let found = found_first (would_be_taken s.market s.places) sent (better s.market s.places g) first in
       record {
         well_formed = running.well_formed;
         fitting = running.fitting.fitting;
         agent = of_market;
-        option = contains_in (options m g) sent (of_until (holds places) sent (options m g) found.0);
+        option = contains_in (options s.market g) sent (of_until (holds s.places) sent (options s.market g) found.0);
         taken = found.1;
       }
 
   -- after its round things are as they have to be again
-  pub runs_on : (k : ℕ) (w : Work) → w ≡ round_of m k places (g ∷ waiting) → IsRunning m w.places w.waiting
-  runs_on k w is = record {
-    well_formed = running.well_formed;
-    fitting = subst (IsFittingState m) (sym is) (fitting_round m running.well_formed k (record { places = places; waiting = g ∷ waiting }) running.fitting);
-  }
+  pub runs_on : (k : ℕ) (s' : Assigned) (w' : Waiting) → s'.market ≡ s.market → KeepsRoom w w' → work_of s' w' ≡ round_of s.market k s.places (g ∷ w.agents)
+      → IsRunning s' w'
+  runs_on k s' w' same room is =
+      subst (λ m. IsRunning (record { market = m; places = s'.places }) w') (sym same) (record {
+        well_formed = running.well_formed;
+        fitting = subst (IsFittingState s.market) (sym is) (fitting_round s.market running.well_formed k (work_of s (waiting_first g w)) running.fitting);
+        waiting = record {
+          applicants_are = ap (λ (x : Waiting). x.applicants) room ∙ running.waiting.applicants_are;
+          couples_are = ap (λ (x : Waiting). x.couples) room ∙ running.waiting.couples_are;
+        };
+      })
 
 -- Rounds on the way from one state to where the work list is empty: what is left of the way leads there.
-pub record IsSettling (k budget : ℕ) (start now : Assigned) (waits waiting : List Agent) (left : ℕ) : Type 0 where
+pub record IsSettling (k budget : ℕ) (start now : Assigned) (waits waiting : Waiting) (left : ℕ) : Type 0 where
   pub market : now.market ≡ start.market
-  pub running : IsRunning now.market now.places waiting
-  pub leads : settled start.market k left now.places waiting ≡ settled start.market k budget start.places waits
+  pub running : IsRunning now waiting
+  pub leads : settled start.market k left now.places waiting.agents ≡ settled start.market k budget start.places waits.agents
   pub within : left ≤ budget
 
 -- one round made
@@ -67,19 +74,18 @@ module _ (m : Market) (k : ℕ) where
       let e : suc n - 1 ≡ n = omega arith in
       ap (λ j. settled m k j w.places w.waiting) e ∙ ap (λ (x : Work). settled m k n x.places x.waiting) is
 
-pub settling_more : (k budget : ℕ) (start now next : Assigned) (waits waiting rest waiting' : List Agent) (left : ℕ) (g : Agent)
-    → IsSettling k budget start now waits waiting left → waiting ≡ g ∷ rest → (left ≡ 0 → ⊥) → next.market ≡ now.market
-    → ◌≡◌ {A = Work} (record { places = next.places; waiting = waiting' }) (round_of now.market k now.places (g ∷ rest))
+pub settling_more : (k budget : ℕ) (start now next : Assigned) (waits waiting rest waiting' : Waiting) (left : ℕ) (g : Agent)
+    → IsSettling k budget start now waits waiting left → waiting ≡ waiting_first g rest → (left ≡ 0 → ⊥) → next.market ≡ now.market
+    → KeepsRoom rest waiting' → work_of next waiting' ≡ round_of now.market k now.places (g ∷ rest.agents)
     → IsSettling k budget start next waits waiting' (left - 1)
-settling_more k budget start now next waits waiting rest waiting' left g so_far front some same work =
-    let running : IsRunning now.market now.places (g ∷ rest) = subst (IsRunning now.market now.places) front so_far.running in
-    let w : Work = record { places = next.places; waiting = waiting' } in
+settling_more k budget start now next waits waiting rest waiting' left g so_far front some same room work =
+    let running : IsRunning now (waiting_first g rest) = subst (IsRunning now) front so_far.running in
     record {
       market = same ∙ so_far.market;
-      running = subst (λ m. IsRunning m next.places waiting') (sym same) (runs_on running k w work);
+      running = runs_on running k next waiting' same room work;
       leads =
-          settled_more start.market k left now.places g rest w some (work ∙ ap (λ m. round_of m k now.places (g ∷ rest)) so_far.market)
-          ∙ ap (settled start.market k left now.places) (sym front) ∙ so_far.leads;
+          settled_more start.market k left now.places g rest.agents (work_of next waiting') some (work ∙ ap (λ m. round_of m k now.places (g ∷ rest.agents)) so_far.market)
+          ∙ ap (λ (w : Waiting). settled start.market k left now.places w.agents) (sym front) ∙ so_far.leads;
       within = (let l = so_far.within in omega arith);
     }
 

@@ -1,79 +1,165 @@
--- The two sets of a work list, as one list.
-use Rattle.std.proofs.Common.{◌≡◌, ℕ, ◌+◌, ◌-◌, ◌<◌, ◌≤◌, Bool, true, false, List, [], ◌∷◌, ◌++◌, length, drop, get_or, refl, ap, sym, ◌∙◌, arith, Option, Some, None, append_assoc, if◌then◌else◌, take, inl, inr}
-use mathlib.Core.Path.{fun_ext}
-use Rattle.std.specs.List.{list_any, position, slice_get, IsDistinct}
-use Rattle.std.proofs.lemmas.Bool.{cases_Bool, both_ways, false_from_ne_true, or_parts, or_left}
-use Rattle.std.proofs.lemmas.List.{drop_more, drop_all, get_or-drop, length-drop, take-append-drop}
-use Rattle.std.proofs.lemmas.List.Folds.{list_any-append, list_any_at, Any-from_list_any}
-use Rattle.std.proofs.lemmas.List.Quantifiers.{position-Some}
-use Rattle.std.proofs.lemmas.Option.{slice_get_cases, get_or_from_slice_get}
-use Rattle.std.proofs.lemmas.Map.Keys.{apart_from_distinct}
-use Rattle.mt_terms.specs.Rounds.{is_same_agent, joined}
+-- Who waits, where it is told, and that there is room for all.
+use Rattle.std.proofs.Common.{◌≡◌, ℕ, ◌+◌, ◌<◌, ◌≤◌, Bool, true, false, ◌==◌, ◌||◌, List, [], ◌∷◌, ◌++◌, map, length, slice_set, slice_index_or, refl, ap, sym, ◌∙◌, inl, inr, arith, subst, IsTrue, replicate}
+use Rattle.std.specs.List.{list_any, AllByRecursion, IsDistinct}
+use Rattle.std.proofs.lemmas.Bool.{or_from, or_left, or_right, or_cases, or_parts, both_ways, cases_Bool, false≢true, false_from_ne_true, ne_eqb, eqb-true}
+use Rattle.std.proofs.lemmas.List.{get_or-set_same, get_or-set_other, length-set, length-map, length-append, length-replicate, get_or-replicate, get_or_default}
+use Rattle.std.proofs.lemmas.List.Folds.{list_any-append}
+use Rattle.std.proofs.lemmas.Map.Keys.{IsDistinct-tail}
+use Rattle.std.proofs.lemmas.Map.Steps.{length-le_from_distinct_below}
+use Rattle.mt_terms.specs.Rounds.{is_same_agent, is_on}
 use Rattle.mt_terms.specs.declared.numbers.Agent.{Agent}
 use Rattle.mt_terms.specs.declared.numbers.Agent.TheVariants.{Single, Couple}
-use Rattle.mt_terms.specs.contracts.numbers.AgentPartialEq.TheImpl.{eq-value}
 use Rattle.mt_round_laws.proofs.RoundsAgents.{same_agent, is_same_agent_refl}
+use Rattle.mt_couples.specs.Waiting.{place_for, IsWithin, IsTold}
 
--- how the sets compare agents
-compares : (g h : Agent) → eq-value.it g h ≡ is_same_agent g h
-compares (Single a) (Single b) = refl
-compares (Single a) (Couple d) = refl
-compares (Couple c) (Single b) = refl
-compares (Couple c) (Couple d) = refl
+-- agents of different numbers or kinds have different places
+pub one_place : (n c : ℕ) (g h : Agent) → IsWithin n c g → IsWithin n c h → place_for n g ≡ place_for n h → g ≡ h
+one_place n c (Single a) (Single b) g_in h_in same = ap Single same
+one_place n c (Single a) (Couple d) g_in h_in same = absurd (omega arith)
+one_place n c (Couple b) (Single a) g_in h_in same = absurd (omega arith)
+one_place n c (Couple b) (Couple d) g_in h_in same = let e : b ≡ d = omega arith in ap Couple e
 
-pub compares_agents : ◌≡◌ {A = Agent → Agent → Bool} eq-value.it is_same_agent
-compares_agents = fun_ext λ g. fun_ext λ h. compares g h
+pub place_within : (n c : ℕ) (g : Agent) → IsWithin n c g → place_for n g < n + c
+place_within n c (Single a) within = omega arith
+place_within n c (Couple b) within = omega arith
 
--- who is found at a place is among those from an earlier place on
-pub found_from : (test : Agent → Bool) (keys : List Agent) (i taken : ℕ) → position test keys ≡ Some i → taken ≤ i → list_any test (drop taken keys) ≡ true
-found_from test keys i taken found behind =
-    let at = position-Some test keys i (Single 0) found in
-    let back : taken + (i - taken) ≡ i = omega arith in
-    list_any_at test (drop taken keys) (i - taken) (Single 0) (omega (arith, length-drop taken keys, at.0))
-    (ap test (get_or-drop taken keys (i - taken) (Single 0) ∙ ap (λ k. get_or keys k (Single 0)) back) ∙ at.1)
+-- whoever stands on a list is of a kind
+abbrev pub AreWithin : ℕ → ℕ → List Agent → Type 0
+AreWithin n c gs = (g : Agent) → IsTrue (is_on gs g) → IsWithin n c g
 
--- where nobody stands twice, who is found at a place is not among those after it
-pub found_before : (g : Agent) (keys : List Agent) (i taken : ℕ) → IsDistinct is_same_agent keys → position (is_same_agent g) keys ≡ Some i → i < taken
-    → list_any (is_same_agent g) (drop taken keys) ≡ false
-found_before g keys i taken once found before = false_from_ne_true _ (λ later.
-    let w = Any-from_list_any (is_same_agent g) (drop taken keys) later in
-    let d = w.1 in
-    let at = position-Some (is_same_agent g) keys i d found in
-    let first : g ≡ get_or keys i d = same_agent g (get_or keys i d) at.1 in
-    let second : g ≡ get_or keys (taken + w.0) d = same_agent g d w.4 ∙ sym w.3 ∙ get_or-drop taken keys w.0 d in
-    let apart = apart_from_distinct is_same_agent keys i (taken + w.0) d once (omega arith) (omega (arith, length-drop taken keys, w.2)) in
-    both_ways (is_same_agent g g) (ap (λ x. is_same_agent x g) first ∙ ap (is_same_agent (get_or keys i d)) second ∙ apart) (is_same_agent_refl g))
+same_back : (g h : Agent) → is_same_agent g h ≡ false → is_same_agent h g ≡ false
+same_back g h other = false_from_ne_true _ (λ same. both_ways (is_same_agent g h) other (ap (is_same_agent g) (same_agent h g same) ∙ is_same_agent_refl g))
 
--- who is not found is nowhere
-pub found_nowhere : (test : Agent → Bool) (keys : List Agent) (taken : ℕ) → list_any test keys ≡ false → list_any test (drop taken keys) ≡ false
-found_nowhere test keys taken none =
-    (or_parts (list_any test (take taken keys)) (list_any test (drop taken keys))
-    (sym (list_any-append test (take taken keys) (drop taken keys)) ∙ ap (list_any test) (take-append-drop taken keys) ∙ none)).1
+first_off : (g : Agent) (gs : List Agent) → AllByRecursion (λ y. is_same_agent g y ≡ false) gs → is_on gs g ≡ false
+first_off g [] h = refl
+first_off g (x ∷ xs) h = or_from _ _ h.0 (first_off g xs h.1)
 
--- somebody who waits already
-pub joined_waiting : (g : Agent) (front back : List Agent) → list_any (is_same_agent g) front ≡ true → joined (front ++ back) g ≡ front ++ back
-joined_waiting g front back on =
-    rw (list_any-append (is_same_agent g) front back, or_left _ (list_any (is_same_agent g) back) on) refl
+-- the one in front waits no longer
+pub front_off : (g : Agent) (gs : List Agent) → IsDistinct is_same_agent (g ∷ gs) → is_on gs g ≡ false
+unfolding IsDistinct
+front_off g gs once = first_off g gs once.0
 
--- somebody who is not in front
-pub joined_behind : (g : Agent) (front back : List Agent) → list_any (is_same_agent g) front ≡ false
-    → joined (front ++ back) g ≡ front ++ (if list_any (is_same_agent g) back then back else back ++ g ∷ [])
-joined_behind g front back off =
-    rw (list_any-append (is_same_agent g) front back, off) (elim (cases_Bool (list_any (is_same_agent g) back)) [
-      | inl on ↦ rw on refl
-      | inr other ↦ rw other (append_assoc front back (g ∷ []))
-    ])
+-- one more at the end
+apart_more : (x g : Agent) (xs : List Agent) → AllByRecursion (λ y. is_same_agent x y ≡ false) xs → is_same_agent x g ≡ false
+    → AllByRecursion (λ y. is_same_agent x y ≡ false) (xs ++ g ∷ [])
+apart_more x g [] h other = (other, tt)
+apart_more x g (y ∷ ys) h other = (h.0, apart_more x g ys h.1 other)
 
--- the front of those that wait
-pub first_waits : (keys back : List Agent) (taken : ℕ) (g : Agent) → slice_get keys taken ≡ Some g → drop taken keys ++ back ≡ g ∷ (drop (taken + 1) keys ++ back)
-first_waits keys back taken g first =
-    elim (slice_get_cases keys taken).1 [
-      | inl w ↦
-          ap (λ xs. xs ++ back) (drop_more keys taken g w.1)
-          ∙ ap (λ x. x ∷ (drop (taken + 1) keys ++ back)) (get_or_from_slice_get keys taken g g first)
-      | inr w ↦ (let none = w.1 in absurd (let both : ◌≡◌ {A = Option Agent} (Some g) None = sym first ∙ none in cc))
-    ]
+pub once_more : (g : Agent) (gs : List Agent) → IsDistinct is_same_agent gs → is_on gs g ≡ false → IsDistinct is_same_agent (gs ++ g ∷ [])
+unfolding IsDistinct
+once_more g [] once off = (tt, tt)
+once_more g (x ∷ xs) once off =
+    let parts = or_parts (is_same_agent g x) (is_on xs g) off in
+    (apart_more x g xs once.0 (same_back g x parts.0), once_more g xs once.1 parts.1)
 
--- where the first set is used up, the second one's agents are those that wait
-pub used_up : (keys back : List Agent) (taken : ℕ) → taken ≡ length keys → drop taken keys ++ back ≡ back
-used_up keys back taken all = ap (λ xs. xs ++ back) (drop_all taken keys (omega arith))
+-- places of distinct agents are distinct
+places_apart : (n c : ℕ) (x : Agent) (xs : List Agent) → IsWithin n c x → AreWithin n c xs → AllByRecursion (λ y. is_same_agent x y ≡ false) xs
+    → AllByRecursion (λ k. (place_for n x == k) ≡ false) (map (place_for n) xs)
+places_apart n c x [] x_in all h = tt
+places_apart n c x (y ∷ ys) x_in all h =
+    let y_in = all y (or_left (is_same_agent y y) (is_on ys y) (is_same_agent_refl y)) in
+    let other : (place_for n x ≡ place_for n y → ⊥) = (λ same.
+    both_ways (is_same_agent x y) h.0 (ap (is_same_agent x) (sym (one_place n c x y x_in y_in same)) ∙ is_same_agent_refl x)) in
+    (ne_eqb (place_for n x) (place_for n y) other, places_apart n c x ys x_in (λ g on. all g (or_right (is_same_agent g y) (is_on ys g) on)) h.1)
+
+places_once : (n c : ℕ) (gs : List Agent) → AreWithin n c gs → IsDistinct is_same_agent gs → IsDistinct ◌==◌ (map (place_for n) gs)
+unfolding IsDistinct
+places_once n c [] all once = tt
+places_once n c (x ∷ xs) all once =
+    let rest : AreWithin n c xs = (λ g on. all g (or_right (is_same_agent g x) (is_on xs g) on)) in
+    (places_apart n c x xs (all x (or_left (is_same_agent x x) (is_on xs x) (is_same_agent_refl x))) rest once.0, places_once n c xs rest once.1)
+
+of_places : (n c : ℕ) (gs : List Agent) → AreWithin n c gs → (q : ℕ) → list_any (λ k. q == k) (map (place_for n) gs) ≡ true → q < n + c
+of_places n c [] all q on = absurd (false≢true on)
+of_places n c (x ∷ xs) all q on = elim (or_cases (q == place_for n x) (list_any (λ k. q == k) (map (place_for n) xs)) on) [
+  | inl here ↦
+      let e = eqb-true q (place_for n x) here in
+      let l = place_within n c x (all x (or_left (is_same_agent x x) (is_on xs x) (is_same_agent_refl x))) in
+      omega arith
+  | inr later ↦ of_places n c xs (λ g on. all g (or_right (is_same_agent g x) (is_on xs g) on)) q later
+]
+
+-- no more wait than there are agents
+few_wait : (n c : ℕ) (gs : List Agent) → AreWithin n c gs → IsDistinct is_same_agent gs → length gs ≤ n + c
+few_wait n c gs all once =
+    omega (arith, length-le_from_distinct_below (map (place_for n) gs) (n + c) (places_once n c gs all once) (of_places n c gs all), length-map gs (place_for n))
+
+all_with : (n c : ℕ) (g : Agent) (gs : List Agent) → IsWithin n c g → AreWithin n c gs → AreWithin n c (gs ++ g ∷ [])
+all_with n c g gs g_in all h on = elim (or_cases (is_on gs h) (is_on (g ∷ []) h) (sym (list_any-append (is_same_agent h) gs (g ∷ [])) ∙ on)) [
+  | inl before ↦ all h before
+  | inr last ↦ elim (or_cases (is_same_agent h g) false last) [
+    | inl same ↦ subst (IsWithin n c) (sym (same_agent h g same)) g_in
+    | inr none ↦ absurd (false≢true none)
+  ]
+]
+
+-- so there is room for one that doesn't wait yet
+pub room_left : (n c : ℕ) (g : Agent) (gs : List Agent) → IsWithin n c g → AreWithin n c gs → IsDistinct is_same_agent gs → is_on gs g ≡ false → length gs < n + c
+room_left n c g gs g_in all once off =
+    omega (arith, few_wait n c (gs ++ g ∷ []) (all_with n c g gs g_in all) (once_more g gs once off), length-append gs (g ∷ []))
+
+-- what is told stays right as one joins
+pub told_joined : (n c : ℕ) (g : Agent) (gs : List Agent) (waits : List Bool) → IsTold n c gs waits → IsWithin n c g → is_on gs g ≡ false
+    → IsTold n c (gs ++ g ∷ []) (slice_set waits (place_for n g) true)
+told_joined n c g gs waits h g_in off = record {
+  once = once_more g gs h.once off;
+  known = all_with n c g gs g_in h.known;
+  told = λ x x_in. elim (cases_Bool (is_same_agent x g)) [
+    | inl same ↦
+        let is = same_agent x g same in
+        ap (λ y. slice_index_or (slice_set waits (place_for n g) true) (place_for n y) false) is
+        ∙ get_or-set_same waits (place_for n g) true false (let l = place_within n c g g_in in omega (arith, h.places))
+        ∙ sym (list_any-append (is_same_agent x) gs (g ∷ []) ∙ or_right (is_on gs x) _ (or_left (is_same_agent x g) false same))
+    | inr other ↦
+        get_or-set_other waits (place_for n g) (place_for n x) true false (λ e.
+        both_ways (is_same_agent x g) other (ap (is_same_agent x) (sym (one_place n c x g x_in g_in e)) ∙ is_same_agent_refl x))
+        ∙ h.told x x_in ∙ sym (list_any-append (is_same_agent x) gs (g ∷ []) ∙ rw other (or_none (is_on gs x)))
+  ];
+  places = length-set waits (place_for n g) true ∙ h.places;
+}
+  where
+    or_none : (b : Bool) → (b || (false || false)) ≡ b
+    or_none true = refl
+    or_none false = refl
+
+-- and as the one in front is taken
+pub told_taken : (n c : ℕ) (g : Agent) (gs : List Agent) (waits : List Bool) → IsTold n c (g ∷ gs) waits
+    → IsTold n c gs (slice_set waits (place_for n g) false)
+told_taken n c g gs waits h =
+    let g_in = h.known g (or_left (is_same_agent g g) (is_on gs g) (is_same_agent_refl g)) in
+    record {
+      once = IsDistinct-tail is_same_agent g gs h.once;
+      known = λ x on. h.known x (or_right (is_same_agent x g) (is_on gs x) on);
+      told = λ x x_in. elim (cases_Bool (is_same_agent x g)) [
+        | inl same ↦
+            let is = same_agent x g same in
+            ap (λ y. slice_index_or (slice_set waits (place_for n g) false) (place_for n y) false) is
+            ∙ get_or-set_same waits (place_for n g) false false (let l = place_within n c g g_in in omega (arith, h.places))
+            ∙ sym (ap (is_on gs) is ∙ front_off g gs h.once)
+        | inr other ↦
+            get_or-set_other waits (place_for n g) (place_for n x) false false (λ e.
+            both_ways (is_same_agent x g) other (ap (is_same_agent x) (sym (one_place n c x g x_in g_in e)) ∙ is_same_agent_refl x))
+            ∙ h.told x x_in ∙ ap (λ (b : Bool). b || is_on gs x) other
+      ];
+      places = length-set waits (place_for n g) false ∙ h.places;
+    }
+
+-- nobody waits at the start
+nobody_once : IsDistinct is_same_agent []
+unfolding IsDistinct
+nobody_once = tt
+
+pub told_nobody : (n c : ℕ) → IsTold n c [] (replicate (n + c) false)
+told_nobody n c = record {
+  once = nobody_once;
+  known = λ g on. absurd (false≢true on);
+  told = λ g g_in. get_or-replicate (n + c) (place_for n g) false false (place_within n c g g_in);
+  places = length-replicate (n + c) false;
+}
+
+-- what is read at an agent's place
+pub read_told : (n c : ℕ) (gs : List Agent) (waits : List Bool) (g : Agent) (i : ℕ) (b : Bool) → IsTold n c gs waits → IsWithin n c g → i ≡ place_for n g
+    → b ≡ slice_index_or waits i b → b ≡ is_on gs g
+read_told n c gs waits g i b h g_in at read =
+    let l = place_within n c g g_in in
+    read ∙ get_or_default waits i b false (omega (arith, h.places)) ∙ ap (λ j. slice_index_or waits j false) at ∙ h.told g g_in

@@ -7,7 +7,7 @@ use Rattle.mt_terms.specs.Matching.{Places, Placement, is_program, at, send, unp
 use Rattle.mt_terms.specs.Choice.{choice}
 use Rattle.mt_terms.specs.Stability.{fits, blocks, would_be_taken}
 use Rattle.mt_terms.specs.WellFormed.{IsWellFormed}
-use Rattle.mt_terms.specs.Rounds.{is_on, move_of, displaced, left_programs, all_joined, blocking_on_list}
+use Rattle.mt_terms.specs.Rounds.{is_on, move_of, displaced, left_programs, blocking_on_list}
 use Rattle.mt_terms.specs.declared.numbers.Agent.{Agent}
 use Rattle.mt_couples.specs.Assigned.{Assigned, with_places, front_of}
 
@@ -64,10 +64,6 @@ displaced_by s sent = displaced s.market (send sent s.places) sent
 
 abbrev pub left_by : Assigned → Placement → List ℕ
 left_by s sent = left_programs s.market (move_of s.market s.places sent)
-
--- these agents join a work list, one after another
-abbrev pub Joins : List Agent → List Agent → List Agent → Type 0
-Joins old new gs = new ≡ all_joined old gs
 
 -- the agents of these applicants
 abbrev pub agents_of : Assigned → List ℕ → List Agent

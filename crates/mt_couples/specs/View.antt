@@ -1,13 +1,12 @@
 -- What an assignment's tables mean.
-use Rattle.std.specs.Prelude.{◌≡◌, ◌≤◌, List, ◌++◌, length, drop}
+use Rattle.std.specs.Prelude.{◌≡◌, ◌≤◌, ◌+◌}
 use Rattle.mt_terms.specs.Registration.Accepted.{IsRegistration}
-use Rattle.std.specs.List.{IsDistinct}
-use Rattle.mt_terms.specs.Rounds.{is_same_agent}
-use Rattle.mt_terms.specs.declared.numbers.Agent.{Agent}
+use Rattle.std.specs.VecDeque.{deque_capacity}
 use Rattle.mt_ranks.specs.Ranked.{ranked_of}
 use Rattle.mt_terms.specs.Places.{ArePlaces}
 use Rattle.mt_couples.specs.Assigned.{Assigned, rows_of}
 use Rattle.mt_couples.specs.declared.assignment.Assignment.TheInside.{Inside}
+use Rattle.mt_couples.specs.Waiting.{Waiting, IsTold}
 use Rattle.mt_couples.specs.declared.work_list.WorkList.TheInside.{Inside as Queue}
 
 abbrev pub assigned_of : Inside → Assigned
@@ -21,12 +20,10 @@ pub record AreTables (t : Inside) : Type 0 where
   pub are_places : ArePlaces t.roster.now.market t.places.items
   pub rows : t.rows.items ≡ rows_of t.roster.now.market t.places.items
 
--- Who waits: what is left of one set behind the cursor, and then the other.
-abbrev pub waiting_in : Queue → List Agent
-waiting_in w = drop w.taken w.current.keys ++ w.next.keys
+abbrev pub waiting_in : Queue → Waiting
+waiting_in w = record { applicants = w.applicants; couples = w.couples; agents = w.queue.items }
 
--- The cursor is within the first set, and nobody stands twice in either.
+-- It is told who waits, and there is room for all agents.
 pub record IsWorkList (w : Queue) : Type 0 where
-  pub within : w.taken ≤ length w.current.keys
-  pub current_once : IsDistinct is_same_agent w.current.keys
-  pub next_once : IsDistinct is_same_agent w.next.keys
+  pub told : IsTold w.applicants w.couples w.queue.items w.waits.items
+  pub room : w.applicants + w.couples ≤ deque_capacity w.queue

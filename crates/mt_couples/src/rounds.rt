@@ -4,8 +4,9 @@ ghost use Rattle.mt_terms.specs.Best.{IsBest};
 ghost use Rattle.mt_terms.specs.Stability.{fits, stable};
 ghost use Rattle.mt_ranks.specs.Ranked.{ranked_of};
 ghost use Rattle.mt_couples.specs.Assigned.{AreApplicantsOf, AreProgramsOf, IsAgentOf};
-ghost use Rattle.mt_couples.specs.Running.{IsRunning};
-ghost use Rattle.mt_couples.specs.Moves.{agents_of, blockers, if_blocking, reopened, IsTaking, Joins};
+ghost use Rattle.mt_couples.specs.Running.{waiting_first, work_of, IsRunning};
+ghost use Rattle.mt_couples.specs.Waiting.{IsListOf, Joins, KeepsRoom};
+ghost use Rattle.mt_couples.specs.Moves.{agents_of, blockers, if_blocking, reopened, IsTaking};
 
 use crate::assignment::Assignment;
 use crate::work_list::WorkList;
@@ -56,52 +57,39 @@ fn has_entered(agent: &Agent, last: CoupleNo) -> bool
 }
 
 /// Puts the agents of displaced applicants on the work list.
-fn join_displaced(
-    assignment: &Assignment<'_>,
-    displaced: &[AppNo],
-    waiting: &mut WorkList,
-) -> Result<(), AllocError>
-    requires { AreApplicantsOf assignment.now.market displaced.now }
-    ensures { OnOk result (Joins waiting.old waiting.new (agents_of assignment.now displaced.now)) }
+fn join_displaced(assignment: &Assignment<'_>, displaced: &[AppNo], waiting: &mut WorkList)
+    requires displaced { AreApplicantsOf assignment.now.market displaced.now }
+    requires waiting { IsListOf assignment.now.market waiting.old }
+    ensures { Joins waiting.old waiting.new (agents_of assignment.now displaced.now) }
 {
     for applicant in displaced {
-        waiting.join(assignment.agent_of(*applicant))?;
+        waiting.join(assignment.agent_of(*applicant));
     }
-    Ok(())
 }
 
 /// Puts the agent that moved on the work list, where it has a better option still.
-fn look_at_mover(
-    assignment: &Assignment<'_>,
-    agent: Agent,
-    waiting: &mut WorkList,
-) -> Result<(), AllocError>
-    requires { IsAgentOf assignment.now.market agent }
-    ensures { OnOk result (Joins waiting.old waiting.new (if_blocking assignment.now agent)) }
+fn look_at_mover(assignment: &Assignment<'_>, agent: Agent, waiting: &mut WorkList)
+    requires agent { IsAgentOf assignment.now.market agent }
+    requires waiting { IsListOf assignment.now.market waiting.old }
+    ensures { Joins waiting.old waiting.new (if_blocking assignment.now agent) }
 {
     if assignment.blocks(&agent) {
-        waiting.join(agent)?;
+        waiting.join(agent);
     }
-    Ok(())
 }
 
 /// Puts those agents of a program's list on the work list that have entered and block now.
-fn look_at(
-    assignment: &Assignment<'_>,
-    program: ProgNo,
-    last: CoupleNo,
-    waiting: &mut WorkList,
-) -> Result<(), AllocError>
-    requires { program < length assignment.now.market.programs }
-    ensures { OnOk result (Joins waiting.old waiting.new (blockers assignment.now last program)) }
+fn look_at(assignment: &Assignment<'_>, program: ProgNo, last: CoupleNo, waiting: &mut WorkList)
+    requires program { program < length assignment.now.market.programs }
+    requires waiting { IsListOf assignment.now.market waiting.old }
+    ensures { Joins waiting.old waiting.new (blockers assignment.now last program) }
 {
     for applicant in assignment.ranking(program) {
         let agent = assignment.agent_of(*applicant);
         if has_entered(&agent, last) && assignment.blocks(&agent) {
-            waiting.join(agent)?;
+            waiting.join(agent);
         }
     }
-    Ok(())
 }
 
 /// The same for all programs that were left.
@@ -110,14 +98,14 @@ fn look_at_left(
     left: &[ProgNo],
     last: CoupleNo,
     waiting: &mut WorkList,
-) -> Result<(), AllocError>
-    requires { AreProgramsOf assignment.now.market left.now }
-    ensures { OnOk result (Joins waiting.old waiting.new (reopened assignment.now last left.now)) }
+)
+    requires programs { AreProgramsOf assignment.now.market left.now }
+    requires waiting { IsListOf assignment.now.market waiting.old }
+    ensures { Joins waiting.old waiting.new (reopened assignment.now last left.now) }
 {
     for program in left {
-        look_at(assignment, *program, last, waiting)?;
+        look_at(assignment, *program, last, waiting);
     }
-    Ok(())
 }
 
 /// Moves the agent to an option that would be taken, and puts on the work list who is to be looked at then:
@@ -131,14 +119,17 @@ fn take_option(
     agent: Agent,
     sent: &[(AppNo, Option<ProgNo>)],
 ) -> Result<(), AllocError>
-    requires { IsTaking assignment.old.market assignment.old.places agent sent.now }
+    requires taking { IsTaking assignment.old.market assignment.old.places agent sent.now }
+    requires waiting { IsListOf assignment.old.market waiting.old }
     ensures market { OnOk result (assignment.new.market ≡ assignment.old.market) }
-    ensures work { OnOk result (record { places = assignment.new.places; waiting = waiting.new } ≡ after_taking assignment.old.market last assignment.old.places agent waiting.old (Some sent.now)) }
+    ensures room { OnOk result (KeepsRoom waiting.old waiting.new) }
+    ensures work { OnOk result (work_of assignment.new waiting.new ≡ after_taking assignment.old.market last assignment.old.places agent waiting.old.agents (Some sent.now)) }
 {
     let moved = assignment.move_to(alloc, sent)?;
-    join_displaced(assignment, &moved.displaced, waiting)?;
-    look_at_mover(assignment, agent, waiting)?;
-    look_at_left(assignment, &moved.left, last, waiting)
+    join_displaced(assignment, &moved.displaced, waiting);
+    look_at_mover(assignment, agent, waiting);
+    look_at_left(assignment, &moved.left, last, waiting);
+    Ok(())
 }
 
 /// One round: the agent at the front of the work list, which was taken off it, takes its first better option
@@ -150,9 +141,10 @@ fn round(
     last: CoupleNo,
     agent: Agent,
 ) -> Result<(), AllocError>
-    requires { IsRunning assignment.old.market assignment.old.places (agent ∷ waiting.old) }
+    requires { IsRunning assignment.old (waiting_first agent waiting.old) }
     ensures market { OnOk result (assignment.new.market ≡ assignment.old.market) }
-    ensures work { OnOk result (record { places = assignment.new.places; waiting = waiting.new } ≡ round_of assignment.old.market last assignment.old.places (agent ∷ waiting.old)) }
+    ensures room { OnOk result (KeepsRoom waiting.old waiting.new) }
+    ensures work { OnOk result (work_of assignment.new waiting.new ≡ round_of assignment.old.market last assignment.old.places (agent ∷ waiting.old.agents)) }
 {
     match &agent {
         Agent::Single(applicant) => {
@@ -181,16 +173,16 @@ fn settle(
     last: CoupleNo,
     budget: u32,
 ) -> Result<u32, CoupleEnd>
-    requires { IsRunning assignment.old.market assignment.old.places waiting.old }
-    ensures settled { IfOk result (λ left. settled assignment.old.market last budget assignment.old.places waiting.old ≡ Some (assignment.new.places, left)) }
-    ensures spent { IsErrOf result CoupleEnd.BudgetSpent → settled assignment.old.market last budget assignment.old.places waiting.old ≡ None }
+    requires { IsRunning assignment.old waiting.old }
+    ensures settled { IfOk result (λ left. settled assignment.old.market last budget assignment.old.places waiting.old.agents ≡ Some (assignment.new.places, left)) }
+    ensures spent { IsErrOf result CoupleEnd.BudgetSpent → settled assignment.old.market last budget assignment.old.places waiting.old.agents ≡ None }
     ensures within { IfOk result (λ left. left ≤ budget) }
     ensures market { OnOk result (assignment.new.market ≡ assignment.old.market) }
-    ensures running { OnOk result (IsRunning assignment.new.market assignment.new.places []) }
-    ensures empty { OnOk result (waiting.new ≡ []) }
+    ensures running { OnOk result (IsRunning assignment.new waiting.new) }
+    ensures empty { OnOk result (waiting.new.agents ≡ []) }
 {
     let mut left = budget;
-    while let Some(agent) = waiting.take(alloc) {
+    while let Some(agent) = waiting.take() {
         if left == 0 {
             return Err(CoupleEnd::BudgetSpent);
         }
@@ -222,11 +214,11 @@ pub fn enter_all(
 {
     let couples = roster.couples();
     let mut assignment = Assignment::new(alloc, roster, ranks, singles)?;
-    let mut waiting = WorkList::new(alloc);
+    let mut waiting = WorkList::new(alloc, roster.applicants(), couples)?;
     let mut left = budget;
     for number in 0..couples {
         let couple = CoupleNo(number);
-        waiting.join(Agent::Couple(couple))?;
+        waiting.join(Agent::Couple(couple));
         left = settle(alloc, &mut assignment, &mut waiting, couple, left)?;
     }
     Ok(Entered {

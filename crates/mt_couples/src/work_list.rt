@@ -1,27 +1,29 @@
-ghost use Rattle.std.specs.Prelude.{◌≡◌, List, [], ◌∷◌, OnOk, IfSome, IfNone};
-ghost use Rattle.mt_terms.specs.Rounds.{joined};
+ghost use Rattle.std.specs.Prelude.{◌≡◌, [], IfOk, IfSome, IfNone};
+ghost use Rattle.mt_terms.specs.Rounds.{is_on, joined};
+ghost use Rattle.mt_couples.specs.Running.{waiting_first};
+ghost use Rattle.mt_couples.specs.Waiting.{nobody, place_for, with_agents, IsKnown};
 
-use indexmap::IndexSet;
 use mt_terms::Agent;
 use std::alloc::{AllocError, Global};
+use std::collections::VecDeque;
 use std::marker::Model;
 
-/// The agents that are to be looked at, first in first out, each at most once. They are taken from the front
-/// of one ordered set by a cursor, and join at the end of a second one, which takes the first one's place
-/// once that is used up: so nothing is removed from within a set. A set that is used up is dropped, since
-/// clearing it would take time in its capacity, and so in the length of the longest list so far.
+/// The agents that are to be looked at, first in first out, each at most once. Room for every agent of a
+/// market is taken at the start, so joining takes no memory.
 #[derive(Drop)]
 pub(crate) struct WorkList {
-    current: IndexSet<Agent>,
-    taken: usize,
-    next: IndexSet<Agent>,
+    applicants: u32,
+    couples: u32,
+    queue: VecDeque<Agent>,
+    /// Whether an agent waits: the applicants by number, and then the couples by number.
+    waits: Vec<bool>,
 }
 
 impl Model for WorkList {
-    ghost use Rattle.std.specs.Prelude.{List};
-    ghost use Rattle.mt_terms.specs.declared.numbers.Agent.{Agent};
+    ghost use Rattle.mt_couples.specs.Running.{waiting_first};
+    ghost use Rattle.mt_couples.specs.Waiting.{Waiting};
 
-    ghost Value = { List Agent };
+    ghost Value = { Waiting };
 
     ghost use Rattle.mt_couples.specs.View.{waiting_in, IsWorkList};
 
@@ -30,44 +32,59 @@ impl Model for WorkList {
     ghost invariant = { IsWorkList };
 }
 
+/// Where it is told whether the agent waits.
+fn place_for(applicants: u32, agent: &Agent) -> usize
+    ensures { result ≡ place_for applicants agent.now }
+{
+    match agent {
+        Agent::Single(applicant) => applicant.0 as usize,
+        Agent::Couple(couple) => applicants as usize + couple.0 as usize,
+    }
+}
+
 impl WorkList {
-    /// An empty work list.
-    pub(crate) fn new(alloc: Global) -> Self
-        ensures { result ≡ [] }
+    /// An empty work list for so many applicants and couples.
+    pub(crate) fn new(alloc: Global, applicants: u32, couples: u32) -> Result<Self, AllocError>
+        ensures { IfOk result (λ w. w ≡ nobody applicants couples) }
     {
-        WorkList {
-            current: IndexSet::new(alloc),
-            taken: 0,
-            next: IndexSet::new(alloc),
-        }
+        let agents = applicants as usize + couples as usize;
+        Ok(WorkList {
+            applicants,
+            couples,
+            queue: VecDeque::with_capacity(alloc, agents)?,
+            waits: Vec::from_elem(alloc, false, agents)?,
+        })
+    }
+
+    /// Whether the agent waits.
+    pub(crate) fn waits(&self, agent: &Agent) -> bool
+        requires { IsKnown self.now agent.now }
+        ensures { result ≡ is_on self.now.agents agent.now }
+    {
+        self.waits[place_for(self.applicants, agent)]
     }
 
     /// Takes the agent at the front, or none where nobody waits.
-    pub(crate) fn take(&mut self, alloc: Global) -> Option<Agent>
-        ensures taken { IfSome result (λ g. self.old ≡ g ∷ self.new) }
-        ensures empty { IfNone result (self.old ≡ []) }
-        ensures still_empty { IfNone result (self.new ≡ []) }
+    pub(crate) fn take(&mut self) -> Option<Agent>
+        ensures taken { IfSome result (λ g. self.old ≡ waiting_first g self.new) }
+        ensures empty { IfNone result (self.old.agents ≡ []) }
+        ensures still_empty { IfNone result (self.new ≡ self.old) }
     {
-        if self.taken == self.current.len() {
-            std::mem::swap(&mut self.current, &mut self.next);
-            self.next = IndexSet::new(alloc);
-            self.taken = 0;
-        }
-        let agent = self.current.get_index(self.taken).copied()?;
-        self.taken += 1;
+        let agent = self.queue.pop_front()?;
+        let place = place_for(self.applicants, &agent);
+        self.waits[place] = false;
         Some(agent)
     }
 
     /// Puts the agent at the end, unless it waits already.
-    pub(crate) fn join(&mut self, agent: Agent) -> Result<(), AllocError>
-        ensures { OnOk result (self.new ≡ joined self.old agent) }
+    pub(crate) fn join(&mut self, agent: Agent)
+        requires { IsKnown self.old agent }
+        ensures { self.new ≡ with_agents self.old (joined self.old.agents agent) }
     {
-        if let Some(place) = self.current.get_index_of(&agent) {
-            if place >= self.taken {
-                return Ok(());
-            }
+        let place = place_for(self.applicants, &agent);
+        if !self.waits[place] {
+            self.waits[place] = true;
+            self.queue.push_back_reserved(agent);
         }
-        self.next.insert(agent)?;
-        Ok(())
     }
 }

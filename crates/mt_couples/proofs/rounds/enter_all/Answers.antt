@@ -1,9 +1,10 @@
 use Rattle.std.proofs.Common.{◌≡◌, ◌∙◌, ◌∷◌, ◌-◌, [], true, Result, Some, Err, IsErrAnd, sym, ap, ap₂, subst, arith}
 use Rattle.mt_terms.specs.Stability.{fits}
-use Rattle.mt_terms.specs.Rounds.{joined, settled}
+use Rattle.mt_terms.specs.Rounds.{settled}
 use Rattle.mt_terms.specs.declared.numbers.Agent.TheVariants.{Couple}
 use Rattle.mt_round_laws.proofs.RoundsStage.{stage_is_stable_lem}
-use Rattle.mt_couples.specs.Running.{IsRunning}
+use Rattle.mt_couples.specs.Waiting.{IsListOf}
+use Rattle.mt_couples.proofs.JoinFacts.{joined_list, known_joins}
 use Rattle.mt_couples.specs.declared.rounds.CoupleEnd.TheVariants.{BudgetSpent}
 use Rattle.mt_couples.proofs.RoundFacts.{places_of_fitting}
 use Rattle.mt_couples.proofs.EnteringFacts.{next_waits, entering_more, entering_spent, entering_all}
@@ -15,11 +16,10 @@ new-requires-clause-places c = places_of_fitting c.args.roster.now.market c.args
 pub settle-requires : goal.settle-requires
 settle-requires c =
     let so_far = c.loop-number.invariant in
-    let waits : c.join.new.self ≡ Couple c.loop-number.number ∷ [] = c.in_ok-join.ensures ∙ ap (λ w. joined w (Couple c.loop-number.number)) so_far.nobody_waits in
-    subst (IsRunning c.loop-number.assignment.market c.loop-number.assignment.places) (sym waits)
-    (subst (λ m. IsRunning m c.loop-number.assignment.places (Couple c.loop-number.number ∷ [])) (sym so_far.market)
-    (next_waits c.args.roster.now.market c.couples-couples.ensures.registration.well_formed c.loop-number.number c.loop-number.assignment.places
-    (omega (arith, c.couples-couples.ensures.count)) so_far.fitting))
+    let m = c.args.roster.now.market in
+    let joins = known_joins c.loop-number.waiting c.join.new.self c.loop-number.number so_far.nobody_waits c.join.ensures in
+    next_waits m c.couples-couples.ensures.registration.well_formed c.loop-number.number c.loop-number.assignment c.join.new.self so_far.market
+    (omega (arith, c.couples-couples.ensures.count)) so_far.fitting (joined_list m c.loop-number.waiting c.join.new.self (Couple c.loop-number.number ∷ []) so_far.list joins.0) joins.1
 
 -- the error of a result
 err_is : {T E : Type 0} (P : E → Type 0) (r : Result T E) (y : E) → IsErrAnd r P → r ≡ Err y → P y
@@ -28,7 +28,8 @@ err_is P r y h is = subst (λ x. IsErrAnd x P) is h
 pub returns-in_err-left-clause-spent : goal.returns-in_err-left-clause-spent
 returns-in_err-left-clause-spent c = λ is.
     let so_far = c.loop-number.invariant in
-    let waits : c.join.new.self ≡ Couple c.loop-number.number ∷ [] = c.in_ok-join.ensures ∙ ap (λ w. joined w (Couple c.loop-number.number)) so_far.nobody_waits in
+    let joins = known_joins c.loop-number.waiting c.join.new.self c.loop-number.number so_far.nobody_waits c.join.ensures in
+    let waits = joins.1 in
     let same : BudgetSpent ≡ c.in_err-left.field-0.0 = err_is _ c.from_residual-in_err-left.result BudgetSpent c.from_residual-in_err-left.ensures.1 is in
     entering_spent c.args.roster.now.market c.args.singles.places c.args.budget c.loop-number.number c.loop-number.assignment c.loop-number.waiting c.loop-number.left so_far
     (omega (arith, c.couples-couples.ensures.count))
@@ -38,11 +39,13 @@ pub loop-number-preserved : goal.loop-number-preserved
 loop-number-preserved c =
     let so_far = c.loop-number.invariant in
     let m = c.args.roster.now.market in
-    let waits : c.join.new.self ≡ Couple c.loop-number.number ∷ [] = c.in_ok-join.ensures ∙ ap (λ w. joined w (Couple c.loop-number.number)) so_far.nobody_waits in
+    let joins = known_joins c.loop-number.waiting c.join.new.self c.loop-number.number so_far.nobody_waits c.join.ensures in
+    let waits = joins.1 in
     let same : c.settle.new.assignment.market ≡ m = c.in_ok-left.ensures.market ∙ so_far.market in
     entering_more m c.args.singles.places c.args.budget c.loop-number.number c.loop-number.assignment c.settle.new.assignment c.loop-number.waiting c.settle.new.waiting
     c.loop-number.left c.in_ok-left.left so_far (omega (arith, c.couples-couples.ensures.count)) same
-    (subst (λ x. fits x c.settle.new.assignment.places ≡ true) same c.in_ok-left.ensures.running.fitting.fitting) c.in_ok-left.ensures.empty
+    (subst (λ x. fits x c.settle.new.assignment.places ≡ true) same c.in_ok-left.ensures.running.fitting.fitting)
+    (subst (λ x. IsListOf x c.settle.new.waiting) same c.in_ok-left.ensures.running.waiting) c.in_ok-left.ensures.empty
     (ap₂ (λ x w. settled x c.loop-number.number c.loop-number.left c.loop-number.assignment.places w) (sym so_far.market) (sym waits) ∙ c.in_ok-left.ensures.settled)
     c.in_ok-left.ensures.within
 

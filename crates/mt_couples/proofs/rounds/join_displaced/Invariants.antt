@@ -1,9 +1,8 @@
-use Rattle.std.proofs.Common.{◌≡◌, drop, map}
-use Rattle.mt_terms.specs.Market.{agent_of}
-use Rattle.mt_terms.specs.Rounds.{all_joined}
+use Rattle.std.proofs.Common.{drop}
+use Rattle.mt_couples.specs.Moves.{agents_of}
+use Rattle.mt_couples.proofs.JoinFacts.{AreJoining}
 use Rattle.mt_couples.proofs.rounds.join_displaced.Given as goal
 
 abbrev pub invariant-loop-applicant : goal.invariant-loop-applicant
 invariant-loop-applicant l =
-    all_joined l.waiting (map (agent_of l.assignment.market) (drop l.applicant-index l.displaced))
-    ≡ all_joined l.initial.waiting (map (agent_of l.assignment.market) l.displaced)
+    AreJoining l.initial.waiting l.waiting (agents_of l.assignment (drop l.applicant-index l.displaced)) (agents_of l.assignment l.displaced)

@@ -1,9 +1,8 @@
-use Rattle.std.proofs.Common.{◌≡◌, drop}
-use Rattle.std.specs.List.{flat_map}
-use Rattle.mt_terms.specs.Rounds.{all_joined, blocking_on_list}
+use Rattle.std.proofs.Common.{drop}
+use Rattle.mt_couples.specs.Moves.{reopened}
+use Rattle.mt_couples.proofs.JoinFacts.{AreJoining}
 use Rattle.mt_couples.proofs.rounds.look_at_left.Given as goal
 
 abbrev pub invariant-loop-program : goal.invariant-loop-program
 invariant-loop-program l =
-    all_joined l.waiting (flat_map (blocking_on_list l.assignment.market l.last l.assignment.places) (drop l.program-index l.left))
-    ≡ all_joined l.initial.waiting (flat_map (blocking_on_list l.assignment.market l.last l.assignment.places) l.left)
+    AreJoining l.initial.waiting l.waiting (reopened l.assignment l.last (drop l.program-index l.left)) (reopened l.assignment l.last l.left)

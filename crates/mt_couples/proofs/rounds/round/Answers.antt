@@ -11,13 +11,13 @@ first_program-requires c = subst (IsAgentOf c.args.assignment.now.market) c.in-S
 pub first_pair-requires : goal.first_pair-requires
 first_pair-requires c = subst (IsAgentOf c.args.assignment.now.market) c.in-Couple.is (front_within c.requires)
 
-pub take_option-requires : goal.take_option-requires
-take_option-requires c =
+pub take_option-requires-clause-taking : goal.take_option-requires-clause-taking
+take_option-requires-clause-taking c =
     front_takes c.requires (single_placement c.in-Single.applicant c.in-Some.program)
     (ap (first_taken c.args.assignment.now.market c.args.assignment.now.places) c.in-Single.is ∙ sym c.in-Some.ensures)
 
-pub take_option-requires-in-Couple : goal.take_option-requires-in-Couple
-take_option-requires-in-Couple c =
+pub take_option-requires-in-Couple-clause-taking : goal.take_option-requires-in-Couple-clause-taking
+take_option-requires-in-Couple-clause-taking c =
     let pair = c.in-Some-first_pair.pair in
     front_takes c.requires (couple_placement c.members-first.result.0 c.members-first.result.1 pair)
     (ap (first_taken c.args.assignment.now.market c.args.assignment.now.places) c.in-Couple.is ∙ sym c.in-Some-first_pair.ensures

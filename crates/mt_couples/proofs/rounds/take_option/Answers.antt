@@ -1,41 +1,62 @@
-use Rattle.std.proofs.Common.{◌∙◌, length, ap, ap₂, sym, arith, List}
-use Rattle.std.proofs.lemmas.Result.{on_ok_weaker}
+use Rattle.std.proofs.Common.{◌∙◌, length, ap, ap₂, sym, arith, List, subst}
 use Rattle.mt_terms.specs.Lists.{has, below}
 use Rattle.mt_terms.specs.Market.{applicants}
-use Rattle.mt_terms.specs.Matching.{Places}
-use Rattle.mt_terms.specs.Rounds.{Work, all_joined}
+use Rattle.mt_terms.specs.Rounds.{all_joined}
 use Rattle.mt_terms.specs.declared.numbers.Agent.{Agent}
 use Rattle.mt_round_laws.proofs.RoundsLists.{has_in, of_kept, of_below}
 use Rattle.mt_couples.specs.Assigned.{Assigned}
-use Rattle.mt_couples.specs.Moves.{agents_of, displaced_by, if_blocking, moved, reopened, Joins}
+use Rattle.mt_couples.specs.Moves.{agents_of, displaced_by, if_blocking, moved, reopened}
+use Rattle.mt_couples.specs.Waiting.{Waiting, with_agents, IsListOf, Joins}
+use Rattle.mt_couples.specs.Running.{work_of}
+use Rattle.mt_couples.proofs.JoinFacts.{joined_list}
 use Rattle.mt_couples.proofs.MoveFacts.{displaced_within, waits_after}
 use Rattle.mt_couples.proofs.rounds.take_option.Goals as goal
 
-pub join_displaced-requires : goal.join_displaced-requires
-join_displaced-requires c = λ a on.
+pub join_displaced-requires-clause-displaced : goal.join_displaced-requires-clause-displaced
+join_displaced-requires-clause-displaced c = λ a on.
     let is = c.deref.ensures.value ∙ c.in_ok-moved.ensures.displaced in
-    omega (arith, ap (λ (x : Assigned). applicants x.market) c.in_ok-moved.ensures.places, displaced_within c.requires a (ap (λ xs. has xs a) (sym is) ∙ on))
+    omega (arith, ap (λ (x : Assigned). applicants x.market) c.in_ok-moved.ensures.places, displaced_within c.requires.taking a (ap (λ xs. has xs a) (sym is) ∙ on))
 
-pub look_at_left-requires : goal.look_at_left-requires
-look_at_left-requires c = λ p on.
+pub join_displaced-requires-clause-waiting : goal.join_displaced-requires-clause-waiting
+join_displaced-requires-clause-waiting c =
+    subst (λ (s : Assigned). IsListOf s.market c.args.waiting.now) (sym c.in_ok-moved.ensures.places) c.requires.waiting
+
+pub look_at_mover-requires-clause-waiting : goal.look_at_mover-requires-clause-waiting
+look_at_mover-requires-clause-waiting c =
+    let s = c.move_to.new.self in
+    joined_list s.market c.args.waiting.now c.join_displaced.new.waiting (agents_of s c.deref.result.now)
+    (subst (λ (x : Assigned). IsListOf x.market c.args.waiting.now) (sym c.in_ok-moved.ensures.places) c.requires.waiting) c.join_displaced.ensures
+
+pub look_at_left-requires-clause-programs : goal.look_at_left-requires-clause-programs
+look_at_left-requires-clause-programs c = λ p on.
     let programs = c.args.assignment.now.market.programs in
     let is = c.deref-2.ensures.value ∙ c.in_ok-moved.ensures.left in
     let kept = of_kept _ p (below (length programs)) (has_in p _ (ap (λ xs. has xs p) (sym is) ∙ on)) in
     omega (arith, ap (λ (x : Assigned). length x.market.programs) c.in_ok-moved.ensures.places, of_below p (length programs) kept.0)
 
--- a state between two rounds
-abbrev work : Places → List Agent → Work
-work places waiting = record { places = places; waiting = waiting }
+pub look_at_left-requires-clause-waiting : goal.look_at_left-requires-clause-waiting
+look_at_left-requires-clause-waiting c =
+    let s = c.move_to.new.self in
+    joined_list s.market c.join_displaced.new.waiting c.look_at_mover.new.waiting (if_blocking s c.args.agent)
+    (joined_list s.market c.args.waiting.now c.join_displaced.new.waiting (agents_of s c.deref.result.now)
+    (subst (λ (x : Assigned). IsListOf x.market c.args.waiting.now) (sym c.in_ok-moved.ensures.places) c.requires.waiting) c.join_displaced.ensures)
+    c.look_at_mover.ensures
 
-pub returns-clause-work : goal.returns-clause-work
-returns-clause-work c = on_ok_weaker c.look_at_left.result (λ done.
+pub returns : goal.returns
+returns c =
     let s0 = c.args.assignment.now in
     let after = c.in_ok-moved.ensures.places in
+    let joins = λ (old : Waiting) (gs : List Agent). with_agents old (all_joined old.agents gs) in
     let first : Joins c.args.waiting.now c.join_displaced.new.waiting (agents_of s0 (displaced_by s0 c.args.sent.now)) =
-    c.in_ok-join_displaced.ensures ∙ ap₂ (λ (x : Assigned) ys. all_joined c.args.waiting.now (agents_of x ys)) after (c.deref.ensures.value ∙ c.in_ok-moved.ensures.displaced) in
+    c.join_displaced.ensures ∙ ap₂ (λ (x : Assigned) ys. joins c.args.waiting.now (agents_of x ys)) after (c.deref.ensures.value ∙ c.in_ok-moved.ensures.displaced) in
     let second : Joins c.join_displaced.new.waiting c.look_at_mover.new.waiting (if_blocking (moved s0 c.args.sent.now) c.args.agent) =
-    c.in_ok-look_at_mover.ensures ∙ ap (λ (x : Assigned). all_joined c.join_displaced.new.waiting (if_blocking x c.args.agent)) after in
-    let third = done ∙ ap (λ (x : Assigned). all_joined c.look_at_mover.new.waiting (reopened x c.args.last c.deref-2.result.now)) after in
-    ap₂ work (ap (λ (x : Assigned). x.places) after)
-    (waits_after c.requires c.args.last c.args.waiting.now c.join_displaced.new.waiting c.look_at_mover.new.waiting c.look_at_left.new.waiting c.deref-2.result.now first second third
-    (c.deref-2.ensures.value ∙ c.in_ok-moved.ensures.left))) c.look_at_left.ensures
+    c.look_at_mover.ensures ∙ ap (λ (x : Assigned). joins c.join_displaced.new.waiting (if_blocking x c.args.agent)) after in
+    let third : Joins c.look_at_mover.new.waiting c.look_at_left.new.waiting (reopened (moved s0 c.args.sent.now) c.args.last c.deref-2.result.now) =
+    c.look_at_left.ensures ∙ ap (λ (x : Assigned). joins c.look_at_mover.new.waiting (reopened x c.args.last c.deref-2.result.now)) after in
+    let all = waits_after c.requires.taking c.args.last c.args.waiting.now c.join_displaced.new.waiting c.look_at_mover.new.waiting c.look_at_left.new.waiting c.deref-2.result.now first second third
+    (c.deref-2.ensures.value ∙ c.in_ok-moved.ensures.left) in
+    record {
+      market = ap (λ (x : Assigned). x.market) after;
+      room = all ∙ ap (λ (w : Waiting). with_agents c.args.waiting.now w.agents) (sym all);
+      work = ap₂ (λ (x : Assigned) (w : Waiting). work_of x w) after all;
+    }
