@@ -21,7 +21,7 @@ use Rattle.mt_round_laws.proofs.RoundsMove.{IsMove, match_after, is_displaced, d
 use Rattle.mt_round_laws.proofs.RoundsRoom.{taken_before}
 
 -- who is on the work list once others joined
-on_joined : (ws : List Agent) (g h : Agent) → is_on (joined ws g) h ≡ (is_on ws h || is_same_agent h g)
+pub on_joined : (ws : List Agent) (g h : Agent) → is_on (joined ws g) h ≡ (is_on ws h || is_same_agent h g)
 on_joined ws g h = elim (cases_Bool (is_on ws g)) [
   | inl there ↦ rw there (elim (cases_Bool (is_same_agent h g)) [
     | inl same ↦ rw (same, subst (λ x. is_on ws x ≡ true) (sym (same_agent h g same)) there) refl
@@ -31,7 +31,7 @@ on_joined ws g h = elim (cases_Bool (is_on ws g)) [
 ]
 
 -- who is on the work list once all of these joined
-on_all_joined : (ws gs : List Agent) (h : Agent) → is_on (all_joined ws gs) h ≡ (is_on ws h || is_on gs h)
+pub on_all_joined : (ws gs : List Agent) (h : Agent) → is_on (all_joined ws gs) h ≡ (is_on ws h || is_on gs h)
 on_all_joined ws [] h = sym (or-false (is_on ws h))
 on_all_joined ws (g ∷ gs) h =
     on_all_joined (joined ws g) gs h ∙ ap (λ b. b || is_on gs h) (on_joined ws g h) ∙ or_assoc (is_on ws h) (is_same_agent h g) (is_on gs h)
@@ -51,7 +51,7 @@ found_first {X} p x (y ∷ xs) e = elim (cases_Bool (p y)) [ inl t ↦ here t | 
     later w = (inr w.0, w.1)
 
 -- where nothing is found nothing passes
-found_none : {X : Type 0} (p : X → Bool) (xs : List X) → find p xs ≡ None → list_any p xs ≡ false
+pub found_none : {X : Type 0} (p : X → Bool) (xs : List X) → find p xs ≡ None → list_any p xs ≡ false
 found_none p [] e = refl
 found_none {X} p (y ∷ xs) e = elim (cases_Bool (p y)) [
   | inl t ↦ absurd (let found_it : ◌≡◌ {A = Option X} (Some y) None = rw t at e in cc)
@@ -122,41 +122,93 @@ all_looked_at P m k old g sent of_gone of_mover of_listed h i = elim (in_either 
     mover (inl e) = subst P e of_mover
     mover (inr none) = absurd none
 
+-- An agent has a better option that would be taken, and a member is sent to a program that was opened.
+pub record IsOpened (m : Market) (places : Places) (opened : ℕ → Bool) (h : Agent) : Type 0 where
+  pub option : Placement
+  pub is_better : In option (better m places h)
+  pub taken : would_be_taken m places option ≡ true
+  pub member : ℕ
+  pub program : ℕ
+  pub sends : In (member, Some program) option
+  pub at_opened : opened program ≡ true
+
 module _ {m : Market} {old : Places} {g : Agent} {sent : Placement} (mv : IsMove m old g sent) where
   -- who is looked at is an agent of the market
   looked_at_agent : (k : ℕ) (h : Agent) → In h (looked_at m k old g sent) → IsAgent m h
   looked_at_agent k = all_looked_at (IsAgent m) m k old g sent (displaced_agent mv) mv.agent
       (λ p a listed entered. agent_of_applicant m mv.well_formed a (mv.well_formed.rankings_within p a listed))
 
+  -- An agent that did not block, and neither moved nor was displaced, blocks only by a better option that names
+  -- a program which was left.
+  pub opened_by_left : (h : Agent) → IsAgent m h → is_displaced m old sent h ≡ false → is_same_agent h g ≡ false
+      → blocks m old h ≡ false → blocks m (match_after m old sent) h ≡ true → IsOpened m (match_after m old sent) (is_left m (move_of m old sent)) h
+  opened_by_left h of_h stays other quiet blocking = by_option (found (would_be_taken m (match_after m old sent)) (better m (match_after m old sent) h) blocking)
+    where
+      -- a member whom its program chooses only now
+      by_member : (o : Placement) → In o (better m (match_after m old sent) h) → would_be_taken m (match_after m old sent) o ≡ true → In o (options m h)
+          → (b : ℕ) (v : Option ℕ) → In (b, v) o → is_chosen m (send o old) b v ≡ false → IsOpened m (match_after m old sent) (is_left m (move_of m old sent)) h
+      by_member o is_better taken i b None sends refused = absurd (false≢true (sym refused))
+      by_member o is_better taken i b (Some p) sends refused = record {
+        option = o;
+        is_better = is_better;
+        taken = taken;
+        member = b;
+        program = p;
+        sends = sends;
+        at_opened = true_from_ne_false _ (λ kept.
+            both_ways (is_chosen m (send o old) b (Some p)) refused (taken_before mv h of_h stays other o i b p sends kept (each _ (b, Some p) o taken sends)));
+      }
+
+      by_option : ((o : Placement) × In o (better m (match_after m old sent) h) × (would_be_taken m (match_after m old sent) o ≡ true))
+          → IsOpened m (match_after m old sent) (is_left m (move_of m old sent)) h
+      by_option o =
+          let was_better : In o.0 (better m old h) = subst (λ xs. In o.0 xs) (same_better m (match_after m old sent) old h (untouched mv h of_h stays other)) o.1 in
+          let not_before : would_be_taken m old o.0 ≡ false = false_from_ne_true (would_be_taken m old o.0) (λ t.
+          both_ways (blocks m old h) quiet (finds (would_be_taken m old) o.0 (better m old h) was_better t)) in
+          let s = fails_at _ o.0 not_before in
+          by_member o.0 o.1 o.2 (of_until (holds old) o.0 (options m h) was_better) s.0.0 s.0.1 s.1 s.2
+
   -- An agent that did not block, neither moved nor was displaced, and isn't looked at again, does not block.
   stays_quiet : (k : ℕ) (h : Agent) → IsAgent m h → is_displaced m old sent h ≡ false → is_same_agent h g ≡ false → has_entered k h ≡ true
       → (In h (reopened m k old sent) → ⊥) → blocks m old h ≡ false → blocks m (match_after m old sent) h ≡ false
   stays_quiet k h of_h stays other entered unseen quiet =
       false_from_ne_true (blocks m (match_after m old sent) h) (λ blocking.
-      by_option blocking (found (would_be_taken m (match_after m old sent)) (better m (match_after m old sent) h) blocking))
-    where
-      -- no better option has a member whom its program chooses only now
-      no_change : blocks m (match_after m old sent) h ≡ true → (o : Placement) → In o (options m h) → would_be_taken m (match_after m old sent) o ≡ true
-          → (b : ℕ) (v : Option ℕ) → In (b, v) o → is_chosen m (send o old) b v ≡ false → ⊥
-      no_change blocking o i taken b None sends refused = false≢true (sym refused)
-      no_change blocking o i taken b (Some p) sends refused =
-          let now = each _ (b, Some p) o taken sends in
-          let listed = (choice_facts (program_of m p) (at (send o (match_after m old sent)) p) b now).is_listed in
-          let is : agent_of m b ≡ h = of_h.belongs b (option_member m h o i b (Some p) sends) in
-          elim (cases_Bool (is_left m (move_of m old sent) p)) [
-            | inl left ↦ unseen (subst (λ x. In x (reopened m k old sent)) is
-                (in_reopened m k old sent p b left listed (ap (has_entered k) is ∙ entered) (ap (blocks m (match_after m old sent)) is ∙ blocking)))
-            | inr kept ↦ both_ways (is_chosen m (send o old) b (Some p)) refused (taken_before mv h of_h stays other o i b p sends kept now)
-          ]
+      let by = opened_by_left h of_h stays other quiet blocking in
+      let o = by.option in
+      let b = by.member in
+      let i = of_until (holds (match_after m old sent)) o (options m h) by.is_better in
+      let listed = (choice_facts (program_of m by.program) (at (send o (match_after m old sent)) by.program) b (each _ (b, Some by.program) o by.taken by.sends)).is_listed in
+      let is : agent_of m b ≡ h = of_h.belongs b (option_member m h o i b (Some by.program) by.sends) in
+      unseen (subst (λ x. In x (reopened m k old sent)) is
+      (in_reopened m k old sent by.program b by.at_opened listed (ap (has_entered k) is ∙ entered) (ap (blocks m (match_after m old sent)) is ∙ blocking))))
 
-      by_option : blocks m (match_after m old sent) h ≡ true
-          → ((o : Placement) × In o (better m (match_after m old sent) h) × (would_be_taken m (match_after m old sent) o ≡ true)) → ⊥
-      by_option blocking o =
-          let was_better : In o.0 (better m old h) = subst (λ xs. In o.0 xs) (same_better m (match_after m old sent) old h (untouched mv h of_h stays other)) o.1 in
-          let not_before : would_be_taken m old o.0 ≡ false = false_from_ne_true (would_be_taken m old o.0) (λ t.
-          both_ways (blocks m old h) quiet (finds (would_be_taken m old) o.0 (better m old h) was_better t)) in
-          let s = fails_at _ o.0 not_before in
-          no_change blocking o.0 (of_until (holds old) o.0 (options m h) was_better) o.2 s.0.0 s.0.1 s.1 s.2
+  -- Where no entered agent blocked that was not on the list, none does that is on it neither before nor now.
+  pub quiet_after : (k : ℕ) (ws : List Agent)
+      → ((h : Agent) → is_on (agents m) h ≡ true → has_entered k h ≡ true → is_on (g ∷ ws) h ≡ false → blocks m old h ≡ false)
+      → (h : Agent) → IsAgent m h → has_entered k h ≡ true → is_on ws h ≡ false → (In h (looked_at m k old g sent) → ⊥)
+      → blocks m (match_after m old sent) h ≡ false
+  quiet_after k ws none_blocks h of_h entered off unseen =
+      elim (cases_Bool (is_same_agent h g)) [
+        | inl same ↦ false_from_ne_true (blocks m (match_after m old sent) h) (λ blocking. of_front (inr (mover_seen same blocking)))
+        | inr other ↦
+            let stays : is_displaced m old sent h ≡ false =
+            false_from_ne_true (is_displaced m old sent h) (λ out. of_front (inl (of_list h (displaced_agents m old sent) out))) in
+            let before = none_blocks h (on_list h (agents m) (agent_on_list m h of_h)) entered (or_from (is_same_agent h g) (is_on ws h) other off) in
+            stays_quiet k h of_h stays other entered
+            (λ i. unseen (in_right h (displaced_agents m old sent ++ mover_again m old g sent) (reopened m k old sent) i)) before
+      ]
+    where
+      of_front : In h (displaced_agents m old sent) ⊎ In h (mover_again m old g sent) → ⊥
+      of_front i = unseen (in_left h (displaced_agents m old sent ++ mover_again m old g sent) (reopened m k old sent) (elim i [
+        | inl out ↦ in_left h (displaced_agents m old sent) (mover_again m old g sent) out
+        | inr again ↦ in_right h (displaced_agents m old sent) (mover_again m old g sent) again
+      ]))
+
+      mover_seen : is_same_agent h g ≡ true → blocks m (match_after m old sent) h ≡ true → In h (mover_again m old g sent)
+      mover_seen same blocking =
+          let is = same_agent h g same in
+          let again : blocks m (match_after m old sent) g ≡ true = subst (λ x. blocks m (match_after m old sent) x ≡ true) is blocking in
+          rw again (inl (sym is))
 
 -- The state after a move.
 module _ (m : Market) (k : ℕ) (old : Places) (g : Agent) (sent : Placement) (ws : List Agent) (mv : IsMove m old g sent)
@@ -186,32 +238,6 @@ module _ (m : Market) (k : ℕ) (old : Places) (g : Agent) (sent : Placement) (w
         | inr stays ↦ untouched mv h of_h stays (not_mover k g h g_entered out) a member ∙ is_unplaced old (members m h) a before member
       ])
 
-  -- an agent that is on the list neither before nor now does not block
-  quiet_after : (h : Agent) → IsAgent m h → has_entered k h ≡ true → is_on ws h ≡ false → (In h (looked_at m k old g sent) → ⊥)
-      → blocks m (match_after m old sent) h ≡ false
-  quiet_after h of_h entered off unseen =
-      elim (cases_Bool (is_same_agent h g)) [
-        | inl same ↦ false_from_ne_true (blocks m (match_after m old sent) h) (λ blocking. of_front (inr (mover_seen same blocking)))
-        | inr other ↦
-            let stays : is_displaced m old sent h ≡ false =
-            false_from_ne_true (is_displaced m old sent h) (λ out. of_front (inl (of_list h (displaced_agents m old sent) out))) in
-            let before = state.none_blocks h (on_list h (agents m) (agent_on_list m h of_h)) entered (or_from (is_same_agent h g) (is_on ws h) other off) in
-            stays_quiet mv k h of_h stays other entered
-            (λ i. unseen (in_right h (displaced_agents m old sent ++ mover_again m old g sent) (reopened m k old sent) i)) before
-      ]
-    where
-      of_front : In h (displaced_agents m old sent) ⊎ In h (mover_again m old g sent) → ⊥
-      of_front i = unseen (in_left h (displaced_agents m old sent ++ mover_again m old g sent) (reopened m k old sent) (elim i [
-        | inl out ↦ in_left h (displaced_agents m old sent) (mover_again m old g sent) out
-        | inr again ↦ in_right h (displaced_agents m old sent) (mover_again m old g sent) again
-      ]))
-
-      mover_seen : is_same_agent h g ≡ true → blocks m (match_after m old sent) h ≡ true → In h (mover_again m old g sent)
-      mover_seen same blocking =
-          let is = same_agent h g same in
-          let again : blocks m (match_after m old sent) g ≡ true = subst (λ x. blocks m (match_after m old sent) x ≡ true) is blocking in
-          rw again (inl (sym is))
-
   keep_move : IsRoundState m k (after_taking m k old g ws (Some sent))
   keep_move = record {
     fitting = fits_from m mv.well_formed (match_after m old sent) (fits_after mv);
@@ -224,7 +250,7 @@ module _ (m : Market) (k : ℕ) (old : Places) (g : Agent) (sent : Placement) (w
     outside_unplaced = λ h on out. outside_after h (agent_from_list m mv.well_formed h (of_list h (agents m) on)) out;
     none_blocks = λ h on entered off.
         let parts = or_parts (is_on ws h) (is_on (looked_at m k old g sent) h) (sym (on_all_joined ws (looked_at m k old g sent) h) ∙ off) in
-        quiet_after h (agent_from_list m mv.well_formed h (of_list h (agents m) on)) entered parts.0
+        quiet_after mv k ws state.none_blocks h (agent_from_list m mv.well_formed h (of_list h (agents m) on)) entered parts.0
         (λ i. both_ways (is_on (looked_at m k old g sent) h) parts.1 (on_list h (looked_at m k old g sent) i));
   }
 
