@@ -1,42 +1,64 @@
 -- The couples on their way into a match, one after another.
-use Rattle.std.proofs.Common.{◌≡◌, ℕ, suc, ◌+◌, ◌-◌, ◌<◌, ◌≤◌, true, List, [], ◌∷◌, length, Some, None, IsTrue, ap, sym, ◌∙◌, inl, inr, arith, subst, option_map, option_and_then}
+use Rattle.std.proofs.Common.{◌≡◌, ℕ, suc, ◌+◌, ◌-◌, ◌<◌, ◌≤◌, Bool, true, false, List, [], ◌∷◌, length, Some, None, IsTrue, ap, sym, ◌∙◌, inl, inr, arith, subst, option_map, option_and_then}
 use Rattle.std.specs.List.{range_with_len}
 use Rattle.mt_terms.specs.Lists.{below}
-use Rattle.mt_terms.specs.Market.{Market, agents}
+use Rattle.mt_terms.specs.Market.{Market, applicants, agents}
 use Rattle.mt_terms.specs.Matching.{Places}
-use Rattle.mt_terms.specs.Stability.{fits}
+use Rattle.mt_terms.specs.Stability.{blocks, fits}
 use Rattle.mt_terms.specs.WellFormed.{IsWellFormed}
 use Rattle.mt_terms.specs.Rounds.{settled, entered, stage, is_on, IsFittingState}
 use Rattle.mt_terms.specs.declared.numbers.Agent.{Agent}
 use Rattle.mt_terms.specs.declared.numbers.Agent.TheVariants.{Couple}
 use Rattle.mt_round_laws.proofs.RoundsLists.{In}
 use Rattle.mt_round_laws.proofs.RoundsAgents.{on_list, of_list, agent_on_list, couple_members}
-use Rattle.mt_couples.specs.Assigned.{Assigned}
-use Rattle.mt_couples.specs.Running.{IsRunning}
-use Rattle.mt_couples.specs.Waiting.{Waiting, IsListOf}
+use Rattle.mt_couples.specs.Assigned.{assignment, Assigned}
+use Rattle.mt_couples.specs.Running.{IsQuiet, IsRunning}
+use Rattle.mt_couples.specs.Waiting.{nobody, Waiting, IsListOf}
+use Rattle.mt_couples.proofs.QuietFacts.{before_it, entered_before, entered_by}
 
 -- the couples from a number on
 abbrev couples_from : Market → ℕ → List ℕ
 couples_from m number = range_with_len number (length m.couples - number)
 
+-- who has entered before a couple doesn't block
+abbrev pub IsQuietBefore : Market → ℕ → Places → Type 0
+IsQuietBefore m number places = (h : Agent) → is_on (agents m) h ≡ true → entered_before number h ≡ true → blocks m places h ≡ false
+
 -- Couples below a number have entered: what is left of the way leads where the whole does.
-pub record IsEntering (m : Market) (start : Places) (budget number : ℕ) (now : Assigned) (waiting : Waiting) (left : ℕ) : Type 0 where
+pub record IsEntering (m : Market) (quiet : Bool) (start : Places) (budget number : ℕ) (now : Assigned) (waiting : Waiting) (left : ℕ) : Type 0 where
   pub market : now.market ≡ m
   pub fitting : IsTrue (fits m now.places)
   pub list : IsListOf m waiting
   pub nobody_waits : waiting.agents ≡ []
+  pub is_quiet : IsTrue quiet → IsQuietBefore m number now.places
   pub leads : entered m (couples_from m number) left now.places ≡ entered m (below (length m.couples)) budget start
   pub within : left ≤ budget
 
+-- at the start no couple has entered
+pub entering_first : (m : Market) (quiet : Bool) (places : Places) (budget : ℕ) (now : Assigned) (waiting : Waiting) → now ≡ assignment m places → fits m places ≡ true
+    → waiting ≡ nobody (applicants m) (length m.couples) → (IsTrue quiet → IsQuietBefore m 0 places) → IsEntering m quiet places budget 0 now waiting budget
+entering_first m quiet places budget now waiting is fit none is_quiet =
+    let e : length m.couples - 0 ≡ length m.couples = omega arith in
+    record {
+      market = ap (λ (s : Assigned). s.market) is;
+      fitting = subst (λ (s : Assigned). fits m s.places ≡ true) (sym is) fit;
+      list = record { applicants_are = ap (λ (w : Waiting). w.applicants) none; couples_are = ap (λ (w : Waiting). w.couples) none };
+      nobody_waits = ap (λ (w : Waiting). w.agents) none;
+      is_quiet = λ so. subst (λ (s : Assigned). IsQuietBefore m 0 s.places) (sym is) (is_quiet so);
+      leads = ap (λ (s : Assigned). entered m (couples_from m 0) budget s.places) is ∙ ap (λ n. entered m (range_with_len 0 n) budget places) e;
+      within = omega arith;
+    }
+
 -- the next couple is put on the empty work list
-pub next_waits : (m : Market) → IsWellFormed m → (k : ℕ) (now : Assigned) (waiting : Waiting) → now.market ≡ m → k < length m.couples → fits m now.places ≡ true
-    → IsListOf m waiting → waiting.agents ≡ Couple k ∷ [] → IsRunning now waiting
-next_waits m wf k now waiting same within fit list waits =
-    subst (λ x. IsRunning (record { market = x; places = now.places }) waiting) (sym same) (record {
+pub next_waits : (m : Market) → IsWellFormed m → (quiet : Bool) (k : ℕ) (now : Assigned) (waiting : Waiting) → now.market ≡ m → k < length m.couples
+    → fits m now.places ≡ true → (IsTrue quiet → IsQuietBefore m k now.places) → IsListOf m waiting → waiting.agents ≡ Couple k ∷ [] → IsRunning k quiet now waiting
+next_waits m wf quiet k now waiting same within fit is_quiet list waits =
+    subst (λ x. IsRunning k quiet (record { market = x; places = now.places }) waiting) (sym same) (record {
       well_formed = wf;
       fitting = subst (λ gs. IsFittingState m (record { places = now.places; waiting = gs })) (sym waits)
           (record { fitting = fit; waiting_agents = λ g on. of_it g (of_list g (Couple k ∷ []) on) });
       waiting = list;
+      is_quiet = λ so h on entered off. is_quiet so h on (before_it k h entered (sym (ap (λ gs. is_on gs h) waits) ∙ off));
     })
   where
     of_it : (g : Agent) → In g (Couple k ∷ []) → is_on (agents m) g ≡ true
@@ -52,14 +74,15 @@ next_couple m number left places within =
     ap (λ n. entered m (range_with_len number n) left places) e
 
 -- it has entered
-pub entering_more : (m : Market) (start : Places) (budget number : ℕ) (now next : Assigned) (waiting waiting' : Waiting) (left left' : ℕ)
-    → IsEntering m start budget number now waiting left → number < length m.couples → next.market ≡ m → fits m next.places ≡ true → IsListOf m waiting' → waiting'.agents ≡ []
-    → settled m number left now.places (Couple number ∷ []) ≡ Some (next.places, left') → left' ≤ left → IsEntering m start budget (number + 1) next waiting' left'
-entering_more m start budget number now next waiting waiting' left left' so_far within market fit list empty settles less = record {
+pub entering_more : (m : Market) (quiet : Bool) (start : Places) (budget number : ℕ) (now next : Assigned) (waiting waiting' : Waiting) (left left' : ℕ)
+    → IsEntering m quiet start budget number now waiting left → number < length m.couples → next.market ≡ m → fits m next.places ≡ true → IsListOf m waiting' → waiting'.agents ≡ [] → (IsTrue quiet → IsQuiet number (record { market = m; places = next.places }) waiting'.agents)
+    → settled m number left now.places (Couple number ∷ []) ≡ Some (next.places, left') → left' ≤ left → IsEntering m quiet start budget (number + 1) next waiting' left'
+entering_more m quiet start budget number now next waiting waiting' left left' so_far within market fit list empty is_quiet settles less = record {
   market = market;
   fitting = fit;
   list = list;
   nobody_waits = empty;
+  is_quiet = λ so h on before. is_quiet so h on (entered_by number h before) (ap (λ gs. is_on gs h) empty);
   leads =
       ap (option_and_then (λ r. entered m (couples_from m (number + 1)) r.1 r.0)) (sym settles)
       ∙ sym (next_couple m number left now.places within) ∙ so_far.leads;
@@ -67,18 +90,18 @@ entering_more m start budget number now next waiting waiting' left left' so_far 
 }
 
 -- its rounds are more than what is left
-pub entering_spent : (m : Market) (start : Places) (budget number : ℕ) (now : Assigned) (waiting : Waiting) (left : ℕ)
-    → IsEntering m start budget number now waiting left → number < length m.couples → settled m number left now.places (Couple number ∷ []) ≡ None
+pub entering_spent : (m : Market) (quiet : Bool) (start : Places) (budget number : ℕ) (now : Assigned) (waiting : Waiting) (left : ℕ)
+    → IsEntering m quiet start budget number now waiting left → number < length m.couples → settled m number left now.places (Couple number ∷ []) ≡ None
     → stage m start budget ≡ None
-entering_spent m start budget number now waiting left so_far within spent =
+entering_spent m quiet start budget number now waiting left so_far within spent =
     let none : entered m (below (length m.couples)) budget start ≡ None =
     sym so_far.leads ∙ next_couple m number left now.places within ∙ ap (option_and_then (λ r. entered m (couples_from m (number + 1)) r.1 r.0)) spent in
     ap (option_map (λ r. (r.0, budget - r.1))) none
 
 -- all couples have entered
-pub entering_all : (m : Market) (start : Places) (budget number : ℕ) (now : Assigned) (waiting : Waiting) (left : ℕ)
-    → IsEntering m start budget number now waiting left → length m.couples ≤ number → stage m start budget ≡ Some (now.places, budget - left)
-entering_all m start budget number now waiting left so_far past =
+pub entering_all : (m : Market) (quiet : Bool) (start : Places) (budget number : ℕ) (now : Assigned) (waiting : Waiting) (left : ℕ)
+    → IsEntering m quiet start budget number now waiting left → length m.couples ≤ number → stage m start budget ≡ Some (now.places, budget - left)
+entering_all m quiet start budget number now waiting left so_far past =
     let none_left : length m.couples - number ≡ 0 = omega arith in
     let all : entered m (below (length m.couples)) budget start ≡ Some (now.places, left) =
     sym so_far.leads ∙ ap (λ n. entered m (range_with_len number n) left now.places) none_left in

@@ -28,6 +28,9 @@ joined_list m old new gs list is = record {
   couples_are = ap (λ (w : Waiting). w.couples) is ∙ list.couples_are;
 }
 
+pub rest_list : (m : Market) (w : Waiting) (gs : List Agent) → IsListOf m (with_agents w gs) → IsListOf m w
+rest_list m w gs list = record { applicants_are = list.applicants_are; couples_are = list.couples_are }
+
 -- an agent of the market is known to a list for it
 pub known_to : (m : Market) (w : Waiting) (g : Agent) → IsListOf m w → IsAgentOf m g → IsKnown w g
 known_to m w (Single a) list within = omega (arith, list.applicants_are)

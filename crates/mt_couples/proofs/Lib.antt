@@ -5,6 +5,7 @@ pub mod MoveFacts
 pub mod MoveSteps
 pub mod OptionFacts
 pub mod PlaceFacts
+pub mod QuietFacts
 pub mod RankFacts
 pub mod RanksFacts
 pub mod RoundFacts

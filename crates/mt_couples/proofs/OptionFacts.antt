@@ -8,6 +8,9 @@ use Rattle.mt_terms.specs.Lists.{until}
 abbrev pub first_before : {X : Type 0} → (X → Bool) → (X → Bool) → List X → Option X
 first_before has_it taken xs = find taken (until has_it xs)
 
+abbrev pub any_before : {X : Type 0} → (X → Bool) → (X → Bool) → List X → Bool
+any_before has_it passes xs = list_any passes (until has_it xs)
+
 -- whether there is one
 pub is_some-find : {X : Type 0} (test : X → Bool) (xs : List X) → list_any test xs ≡ is_some (find test xs)
 is_some-find test [] = refl

@@ -1,5 +1,5 @@
 -- What a round is given, and what it leaves.
-use Rattle.std.proofs.Common.{◌≡◌, ℕ, zero, suc, ◌-◌, ◌≤◌, true, List, [], ◌∷◌, Some, Contains, refl, ap, sym, ◌∙◌, inl, inr, arith, subst}
+use Rattle.std.proofs.Common.{◌≡◌, ℕ, zero, suc, ◌-◌, ◌≤◌, Bool, true, List, [], ◌∷◌, Some, Contains, refl, ap, sym, ◌∙◌, inl, inr, arith, subst}
 use Rattle.std.specs.List.{list_any}
 use Rattle.std.proofs.lemmas.Bool.{or_left}
 use Rattle.mt_terms.specs.Market.{Market, agents}
@@ -16,8 +16,9 @@ use Rattle.mt_round_laws.proofs.RoundsKeep.{fitting_round, found_first}
 use Rattle.mt_couples.specs.Assigned.{Assigned, IsAgentOf}
 use Rattle.mt_couples.specs.Moves.{IsTaking}
 use Rattle.mt_couples.specs.Running.{waiting_first, work_of, IsRunning}
-use Rattle.mt_couples.specs.Waiting.{Waiting, KeepsRoom}
+use Rattle.mt_couples.specs.Waiting.{Waiting, IsListOf, KeepsRoom}
 use Rattle.mt_couples.proofs.MarketFacts.{number_within}
+use Rattle.mt_couples.proofs.QuietFacts.{quiet_round}
 
 contains_in : {X : Type 0} (xs : List X) (x : X) → In x xs → Contains xs x
 contains_in [] x i = absurd i
@@ -25,7 +26,7 @@ contains_in (y ∷ ys) x (inl is) = (0, omega arith, is)
 contains_in (y ∷ ys) x (inr i) = let w = contains_in ys x i in (suc w.0, omega (arith, w.1), w.2)
 
 -- Below, an agent is at the front of the work list.
-module _ {s : Assigned} {w : Waiting} {g : Agent} (running : IsRunning s (waiting_first g w)) where
+module _ {k : ℕ} {quiet : Bool} {s : Assigned} {w : Waiting} {g : Agent} (running : IsRunning k quiet s (waiting_first g w)) where
   of_market : is_on (agents s.market) g ≡ true
   of_market = running.fitting.waiting_agents g (or_left (is_same_agent g g) (list_any (is_same_agent g) w.agents) (is_same_agent_refl g))
 
@@ -46,22 +47,24 @@ module _ {s : Assigned} {w : Waiting} {g : Agent} (running : IsRunning s (waitin
       }
 
   -- after its round things are as they have to be again
-  pub runs_on : (k : ℕ) (s' : Assigned) (w' : Waiting) → s'.market ≡ s.market → KeepsRoom w w' → work_of s' w' ≡ round_of s.market k s.places (g ∷ w.agents)
-      → IsRunning s' w'
-  runs_on k s' w' same room is =
-      subst (λ m. IsRunning (record { market = m; places = s'.places }) w') (sym same) (record {
-        well_formed = running.well_formed;
-        fitting = subst (IsFittingState s.market) (sym is) (fitting_round s.market running.well_formed k (work_of s (waiting_first g w)) running.fitting);
-        waiting = record {
+  pub runs_on : (s' : Assigned) (w' : Waiting) → s'.market ≡ s.market → KeepsRoom w w' → work_of s' w' ≡ round_of s.market k s.places (g ∷ w.agents)
+      → IsRunning k quiet s' w'
+  runs_on s' w' same room is =
+      let fitting = subst (IsFittingState s.market) (sym is) (fitting_round s.market running.well_formed k (work_of s (waiting_first g w)) running.fitting) in
+      record {
+        well_formed = subst IsWellFormed (sym same) running.well_formed;
+        fitting = subst (λ m. IsFittingState m (work_of s' w')) (sym same) fitting;
+        waiting = subst (λ m. IsListOf m w') (sym same) (record {
           applicants_are = ap (λ (x : Waiting). x.applicants) room ∙ running.waiting.applicants_are;
           couples_are = ap (λ (x : Waiting). x.couples) room ∙ running.waiting.couples_are;
-        };
-      })
+        });
+        is_quiet = λ so. quiet_round s.market running.well_formed k s.places g w.agents running.fitting.fitting of_market (running.is_quiet so) s' w' same is;
+      }
 
 -- Rounds on the way from one state to where the work list is empty: what is left of the way leads there.
-pub record IsSettling (k budget : ℕ) (start now : Assigned) (waits waiting : Waiting) (left : ℕ) : Type 0 where
+pub record IsSettling (k : ℕ) (quiet : Bool) (budget : ℕ) (start now : Assigned) (waits waiting : Waiting) (left : ℕ) : Type 0 where
   pub market : now.market ≡ start.market
-  pub running : IsRunning now waiting
+  pub running : IsRunning k quiet now waiting
   pub leads : settled start.market k left now.places waiting.agents ≡ settled start.market k budget start.places waits.agents
   pub within : left ≤ budget
 
@@ -74,15 +77,15 @@ module _ (m : Market) (k : ℕ) where
       let e : suc n - 1 ≡ n = omega arith in
       ap (λ j. settled m k j w.places w.waiting) e ∙ ap (λ (x : Work). settled m k n x.places x.waiting) is
 
-pub settling_more : (k budget : ℕ) (start now next : Assigned) (waits waiting rest waiting' : Waiting) (left : ℕ) (g : Agent)
-    → IsSettling k budget start now waits waiting left → waiting ≡ waiting_first g rest → (left ≡ 0 → ⊥) → next.market ≡ now.market
+pub settling_more : (k : ℕ) (quiet : Bool) (budget : ℕ) (start now next : Assigned) (waits waiting rest waiting' : Waiting) (left : ℕ) (g : Agent)
+    → IsSettling k quiet budget start now waits waiting left → waiting ≡ waiting_first g rest → (left ≡ 0 → ⊥) → next.market ≡ now.market
     → KeepsRoom rest waiting' → work_of next waiting' ≡ round_of now.market k now.places (g ∷ rest.agents)
-    → IsSettling k budget start next waits waiting' (left - 1)
-settling_more k budget start now next waits waiting rest waiting' left g so_far front some same room work =
-    let running : IsRunning now (waiting_first g rest) = subst (IsRunning now) front so_far.running in
+    → IsSettling k quiet budget start next waits waiting' (left - 1)
+settling_more k quiet budget start now next waits waiting rest waiting' left g so_far front some same room work =
+    let running : IsRunning k quiet now (waiting_first g rest) = subst (IsRunning k quiet now) front so_far.running in
     record {
       market = same ∙ so_far.market;
-      running = runs_on running k next waiting' same room work;
+      running = runs_on running next waiting' same room work;
       leads =
           settled_more start.market k left now.places g rest.agents (work_of next waiting') some (work ∙ ap (λ m. round_of m k now.places (g ∷ rest.agents)) so_far.market)
           ∙ ap (λ (w : Waiting). settled start.market k left now.places w.agents) (sym front) ∙ so_far.leads;

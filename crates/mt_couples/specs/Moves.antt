@@ -1,9 +1,9 @@
 -- What a move of an agent changes, in parts.
-use Rattle.std.specs.Prelude.{◌≡◌, ℕ, Bool, not, ◌&&◌, ◌||◌, List, [], ◌∷◌, map, Contains, IsTrue, if◌then◌else◌}
+use Rattle.std.specs.Prelude.{◌≡◌, ℕ, Bool, false, not, ◌&&◌, ◌||◌, List, [], ◌∷◌, Option, Some, None, map, Contains, IsTrue, if◌then◌else◌}
 use Rattle.std.specs.List.{list_any, flat_map}
 use Rattle.mt_terms.specs.Lists.{has, count}
 use Rattle.mt_terms.specs.Market.{Market, program_of, agent_of, members, agents}
-use Rattle.mt_terms.specs.Matching.{Places, Placement, is_program, at, send, unplaced, options}
+use Rattle.mt_terms.specs.Matching.{Places, Placement, is_program, at, send, unplaced, options, better}
 use Rattle.mt_terms.specs.Choice.{choice}
 use Rattle.mt_terms.specs.Stability.{fits, blocks, would_be_taken}
 use Rattle.mt_terms.specs.WellFormed.{IsWellFormed}
@@ -79,6 +79,19 @@ blockers s k p = blocking_on_list s.market k s.places p
 
 abbrev pub reopened : Assigned → ℕ → List ℕ → List Agent
 reopened s k ps = flat_map (blockers s k) ps
+
+-- whether a place is one of these programs
+abbrev pub some_has : List ℕ → Option ℕ → Bool
+some_has ps None = false
+some_has ps (Some p) = has ps p
+
+-- whether a placement sends somebody to one of these programs
+abbrev pub names_one_of : List ℕ → Placement → Bool
+names_one_of ps sent = list_any (λ s. some_has ps s.1) sent
+
+-- whether an agent has a better option at one of these programs that would be taken
+abbrev pub opens : Assigned → List ℕ → Agent → Bool
+opens s ps g = list_any (λ o. names_one_of ps o && would_be_taken s.market s.places o) (better s.market s.places g)
 
 -- In a match that fits, an agent of the market has an option on its list that would be taken.
 pub record IsTaking (m : Market) (places : Places) (g : Agent) (sent : Placement) : Type 0 where

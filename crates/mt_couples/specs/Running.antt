@@ -1,9 +1,15 @@
 -- What is asked of a match and of a work list between two rounds.
-use Rattle.std.specs.Prelude.{◌∷◌}
+use Rattle.std.specs.Prelude.{ℕ, Bool, true, not, ◌&&◌, List, ◌∷◌, IsTrue, IsFalse}
+use Rattle.std.specs.List.{list_all}
+use Rattle.mt_terms.specs.Lists.{below}
+use Rattle.mt_terms.specs.Market.{agent_of, agents, applicants}
+use Rattle.mt_terms.specs.Stability.{blocks}
 use Rattle.mt_terms.specs.WellFormed.{IsWellFormed}
-use Rattle.mt_terms.specs.Rounds.{Work, IsFittingState}
+use Rattle.mt_terms.specs.Rounds.{Work, has_entered, is_on, IsFittingState}
 use Rattle.mt_terms.specs.declared.numbers.Agent.{Agent}
+use Rattle.mt_terms.specs.declared.numbers.Agent.TheVariants.{Single, Couple}
 use Rattle.mt_couples.specs.Assigned.{Assigned}
+use Rattle.mt_couples.specs.Moves.{opens}
 use Rattle.mt_couples.specs.Waiting.{Waiting, with_agents, IsListOf}
 
 -- the state of a match and a work list
@@ -14,8 +20,34 @@ work_of s w = record { places = s.places; waiting = w.agents }
 abbrev pub waiting_first : Agent → Waiting → Waiting
 waiting_first g w = with_agents w (g ∷ w.agents)
 
--- The market is well formed, the match fits, and the agents that wait are of the market.
-pub record IsRunning (s : Assigned) (w : Waiting) : Type 0 where
+-- Once couple k has entered, no agent blocks that has entered and doesn't wait.
+abbrev pub IsQuiet : ℕ → Assigned → List Agent → Type 0
+IsQuiet k s waiting =
+    (g : Agent) → IsTrue (is_on (agents s.market) g) → IsTrue (has_entered k g) → IsFalse (is_on waiting g) → IsFalse (blocks s.market s.places g)
+
+-- Such an agent blocks by an option at one of these programs alone.
+abbrev pub IsQuietBut : ℕ → Assigned → List ℕ → List Agent → Type 0
+IsQuietBut k s ps waiting =
+    (g : Agent) → IsTrue (is_on (agents s.market) g) → IsTrue (has_entered k g) → IsFalse (is_on waiting g)
+    → IsTrue (blocks s.market s.places g) → IsTrue (opens s ps g)
+
+-- whether an agent has entered, doesn't wait, and has a better option at one of these programs that would be taken
+abbrev pub is_reopened : ℕ → Assigned → List ℕ → List Agent → Agent → Bool
+is_reopened k s ps waiting g = has_entered k g && not (is_on waiting g) && opens s ps g
+
+-- whether an agent is a couple, or doesn't block
+abbrev pub is_quiet_single : Assigned → Agent → Bool
+is_quiet_single s (Single a) = not (blocks s.market s.places (Single a))
+is_quiet_single s (Couple c) = true
+
+-- whether no single blocks
+abbrev pub singles_quiet : Assigned → Bool
+singles_quiet s = list_all (λ a. is_quiet_single s (agent_of s.market a)) (below (applicants s.market))
+
+-- The market is well formed, the match fits, the agents that wait are of the market, and where it is said that
+-- it is quiet, it is.
+pub record IsRunning (k : ℕ) (quiet : Bool) (s : Assigned) (w : Waiting) : Type 0 where
   pub well_formed : IsWellFormed s.market
   pub fitting : IsFittingState s.market (work_of s w)
   pub waiting : IsListOf s.market w
+  pub is_quiet : IsTrue quiet → IsQuiet k s w.agents

@@ -6,13 +6,23 @@ ghost use Rattle.mt_terms.specs.Matching.{at, single_placement};
 ghost use Rattle.mt_terms.specs.Stability.{blocks, would_be_taken};
 ghost use Rattle.mt_terms.specs.declared.numbers.Agent.TheVariants.{Single, Couple};
 ghost use Rattle.mt_couples.specs.Assigned.{ahead, chooses, front_of, pair_of, taken_by, AreSent, IsAgentOf};
-ghost use Rattle.mt_couples.specs.Moves.{coming, leaving, seated};
+ghost use Rattle.mt_couples.specs.Moves.{coming, leaving, opens, seated, some_has};
 
 use crate::assignment::Assignment;
 use mt_terms::{Agent, AppNo, CoupleNo, ProgNo};
 
 /// A pair of a couple's list: a place for each member, where none is a member that stays unplaced.
 pub(crate) type Pair = (Option<ProgNo>, Option<ProgNo>);
+
+/// Whether the place is one of these programs.
+fn is_one_of(place: Option<ProgNo>, programs: &[ProgNo]) -> bool
+    ensures { result ≡ some_has programs.now place }
+{
+    match place {
+        Some(program) => programs.contains(&program),
+        None => false,
+    }
+}
 
 impl<'a> Assignment<'a> {
     /// Whether the applicant has a rank below this one at the program.
@@ -146,6 +156,54 @@ impl<'a> Assignment<'a> {
         match agent {
             Agent::Single(applicant) => self.first_program(*applicant).is_some(),
             Agent::Couple(couple) => self.first_pair(*couple).is_some(),
+        }
+    }
+
+    /// Whether the single has a better program, out of these, that would take it.
+    fn single_opens(&self, single: AppNo, programs: &[ProgNo]) -> bool
+        requires { single < applicants self.now.market }
+        ensures { result ≡ opens self.now programs.now (Single single) }
+    {
+        let place = self.place(single);
+        for program in self.roster().single_list(single) {
+            if place == Some(*program) {
+                return false;
+            }
+            if programs.contains(program) && self.would_be_taken(&[(single, Some(*program))]) {
+                return true;
+            }
+        }
+        false
+    }
+
+    /// Whether the couple has a better pair at one of these programs that would be taken.
+    fn couple_opens(&self, couple: CoupleNo, programs: &[ProgNo]) -> bool
+        requires { couple < length self.now.market.couples }
+        ensures { result ≡ opens self.now programs.now (Couple couple) }
+    {
+        let (first, second) = self.members(couple);
+        let own = (self.place(first), self.place(second));
+        for pair in self.roster().couple_list(couple) {
+            if own == *pair {
+                return false;
+            }
+            if (is_one_of(pair.0, programs) || is_one_of(pair.1, programs))
+                && self.would_be_taken(&[(first, pair.0), (second, pair.1)])
+            {
+                return true;
+            }
+        }
+        false
+    }
+
+    /// Whether the agent has a better option at one of these programs that would be taken.
+    pub(crate) fn opens(&self, agent: &Agent, programs: &[ProgNo]) -> bool
+        requires { IsAgentOf self.now.market agent.now }
+        ensures { result ≡ opens self.now programs.now agent.now }
+    {
+        match agent {
+            Agent::Single(applicant) => self.single_opens(*applicant, programs),
+            Agent::Couple(couple) => self.couple_opens(*couple, programs),
         }
     }
 }

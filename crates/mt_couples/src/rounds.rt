@@ -1,10 +1,11 @@
 ghost use Rattle.std.specs.Prelude.{◌≡◌, ◌<◌, ◌≤◌, length, IsTrue, IfOk, IsErrOf, OnOk, Some, None, [], ◌∷◌};
 ghost use Rattle.mt_terms.specs.Rounds.{after_taking, has_entered, round_of, settled, stage};
 ghost use Rattle.mt_terms.specs.Best.{IsBest};
+ghost use Rattle.mt_terms.specs.WellFormed.{IsWellFormed};
 ghost use Rattle.mt_terms.specs.Stability.{fits, stable};
 ghost use Rattle.mt_ranks.specs.Ranked.{ranked_of};
 ghost use Rattle.mt_couples.specs.Assigned.{AreApplicantsOf, AreProgramsOf, IsAgentOf};
-ghost use Rattle.mt_couples.specs.Running.{waiting_first, work_of, IsRunning};
+ghost use Rattle.mt_couples.specs.Running.{is_quiet_single, is_reopened, singles_quiet, waiting_first, work_of, IsQuietBut, IsRunning};
 ghost use Rattle.mt_couples.specs.Waiting.{IsListOf, Joins, KeepsRoom};
 ghost use Rattle.mt_couples.specs.Moves.{agents_of, blockers, if_blocking, reopened, IsTaking};
 
@@ -92,8 +93,8 @@ fn look_at(assignment: &Assignment<'_>, program: ProgNo, last: CoupleNo, waiting
     }
 }
 
-/// The same for all programs that were left.
-fn look_at_left(
+/// The same for several programs.
+fn look_at_each(
     assignment: &Assignment<'_>,
     left: &[ProgNo],
     last: CoupleNo,
@@ -108,6 +109,108 @@ fn look_at_left(
     }
 }
 
+/// Whether the agent has entered, doesn't wait, and has a better option at one of these programs that would be
+/// taken.
+fn is_reopened(
+    assignment: &Assignment<'_>,
+    agent: &Agent,
+    left: &[ProgNo],
+    last: CoupleNo,
+    waiting: &WorkList,
+) -> bool
+    requires agent { IsAgentOf assignment.now.market agent.now }
+    requires waiting { IsListOf assignment.now.market waiting.now }
+    ensures { result ≡ is_reopened last assignment.now left.now waiting.now.agents agent.now }
+{
+    has_entered(agent, last) && !waiting.waits(agent) && assignment.opens(agent, left)
+}
+
+/// The same as `look_at`, where whoever has entered and doesn't wait blocks by an option at a program that was
+/// left alone.
+fn look_at_opened(
+    assignment: &Assignment<'_>,
+    program: ProgNo,
+    left: &[ProgNo],
+    last: CoupleNo,
+    waiting: &mut WorkList,
+)
+    requires market { IsWellFormed assignment.now.market }
+    requires program { program < length assignment.now.market.programs }
+    requires waiting { IsListOf assignment.now.market waiting.old }
+    requires quiet { IsQuietBut last assignment.now left.now waiting.old.agents }
+    ensures { Joins waiting.old waiting.new (blockers assignment.now last program) }
+{
+    for applicant in assignment.ranking(program) {
+        let agent = assignment.agent_of(*applicant);
+        if is_reopened(assignment, &agent, left, last, waiting) {
+            waiting.join(agent);
+        }
+    }
+}
+
+/// The same for all programs that were left.
+fn look_at_each_opened(
+    assignment: &Assignment<'_>,
+    left: &[ProgNo],
+    last: CoupleNo,
+    waiting: &mut WorkList,
+)
+    requires market { IsWellFormed assignment.now.market }
+    requires programs { AreProgramsOf assignment.now.market left.now }
+    requires waiting { IsListOf assignment.now.market waiting.old }
+    requires quiet { IsQuietBut last assignment.now left.now waiting.old.agents }
+    ensures { Joins waiting.old waiting.new (reopened assignment.now last left.now) }
+{
+    for program in left {
+        look_at_opened(assignment, *program, left, last, waiting);
+    }
+}
+
+/// Whether the agent is a couple, or doesn't block.
+fn is_quiet_single(assignment: &Assignment<'_>, agent: &Agent) -> bool
+    requires { IsAgentOf assignment.now.market agent.now }
+    ensures { result ≡ is_quiet_single assignment.now agent.now }
+{
+    match agent {
+        Agent::Single(_) => !assignment.blocks(agent),
+        Agent::Couple(_) => true,
+    }
+}
+
+/// Whether no single blocks.
+fn are_singles_quiet(assignment: &Assignment<'_>) -> bool
+    ensures { result ≡ singles_quiet assignment.now }
+{
+    for number in 0..assignment.roster().applicants() {
+        if !is_quiet_single(assignment, &assignment.agent_of(AppNo(number))) {
+            return false;
+        }
+    }
+    true
+}
+
+/// Puts those agents of the lists of the programs that were left on the work list that have entered and block
+/// now. Where it is quiet, only options at these programs can have been opened.
+fn look_at_left(
+    assignment: &Assignment<'_>,
+    left: &[ProgNo],
+    last: CoupleNo,
+    quiet: bool,
+    waiting: &mut WorkList,
+)
+    requires market { IsWellFormed assignment.now.market }
+    requires programs { AreProgramsOf assignment.now.market left.now }
+    requires waiting { IsListOf assignment.now.market waiting.old }
+    requires quiet { IsTrue quiet → IsQuietBut last assignment.now left.now waiting.old.agents }
+    ensures { Joins waiting.old waiting.new (reopened assignment.now last left.now) }
+{
+    if quiet {
+        look_at_each_opened(assignment, left, last, waiting);
+    } else {
+        look_at_each(assignment, left, last, waiting);
+    }
+}
+
 /// Moves the agent to an option that would be taken, and puts on the work list who is to be looked at then:
 /// the displaced agents, the agent itself where it blocks now, and for each program that was left the agents
 /// of its list that block now.
@@ -116,11 +219,12 @@ fn take_option(
     assignment: &mut Assignment<'_>,
     waiting: &mut WorkList,
     last: CoupleNo,
+    quiet: bool,
     agent: Agent,
     sent: &[(AppNo, Option<ProgNo>)],
 ) -> Result<(), AllocError>
     requires taking { IsTaking assignment.old.market assignment.old.places agent sent.now }
-    requires waiting { IsListOf assignment.old.market waiting.old }
+    requires running { IsRunning last quiet assignment.old (waiting_first agent waiting.old) }
     ensures market { OnOk result (assignment.new.market ≡ assignment.old.market) }
     ensures room { OnOk result (KeepsRoom waiting.old waiting.new) }
     ensures work { OnOk result (work_of assignment.new waiting.new ≡ after_taking assignment.old.market last assignment.old.places agent waiting.old.agents (Some sent.now)) }
@@ -128,7 +232,7 @@ fn take_option(
     let moved = assignment.move_to(alloc, sent)?;
     join_displaced(assignment, &moved.displaced, waiting);
     look_at_mover(assignment, agent, waiting);
-    look_at_left(assignment, &moved.left, last, waiting);
+    look_at_left(assignment, &moved.left, last, quiet, waiting);
     Ok(())
 }
 
@@ -139,9 +243,10 @@ fn round(
     assignment: &mut Assignment<'_>,
     waiting: &mut WorkList,
     last: CoupleNo,
+    quiet: bool,
     agent: Agent,
 ) -> Result<(), AllocError>
-    requires { IsRunning assignment.old (waiting_first agent waiting.old) }
+    requires { IsRunning last quiet assignment.old (waiting_first agent waiting.old) }
     ensures market { OnOk result (assignment.new.market ≡ assignment.old.market) }
     ensures room { OnOk result (KeepsRoom waiting.old waiting.new) }
     ensures work { OnOk result (work_of assignment.new waiting.new ≡ round_of assignment.old.market last assignment.old.places (agent ∷ waiting.old.agents)) }
@@ -152,7 +257,7 @@ fn round(
                 return Ok(());
             };
             let sent = [(*applicant, Some(program))];
-            take_option(alloc, assignment, waiting, last, agent, &sent)
+            take_option(alloc, assignment, waiting, last, quiet, agent, &sent)
         }
         Agent::Couple(couple) => {
             let Some(pair) = assignment.first_pair(*couple) else {
@@ -160,7 +265,7 @@ fn round(
             };
             let (first, second) = assignment.members(*couple);
             let sent = [(first, pair.0), (second, pair.1)];
-            take_option(alloc, assignment, waiting, last, agent, &sent)
+            take_option(alloc, assignment, waiting, last, quiet, agent, &sent)
         }
     }
 }
@@ -171,14 +276,15 @@ fn settle(
     assignment: &mut Assignment<'_>,
     waiting: &mut WorkList,
     last: CoupleNo,
+    quiet: bool,
     budget: u32,
 ) -> Result<u32, CoupleEnd>
-    requires { IsRunning assignment.old waiting.old }
+    requires { IsRunning last quiet assignment.old waiting.old }
     ensures settled { IfOk result (λ left. settled assignment.old.market last budget assignment.old.places waiting.old.agents ≡ Some (assignment.new.places, left)) }
     ensures spent { IsErrOf result CoupleEnd.BudgetSpent → settled assignment.old.market last budget assignment.old.places waiting.old.agents ≡ None }
     ensures within { IfOk result (λ left. left ≤ budget) }
     ensures market { OnOk result (assignment.new.market ≡ assignment.old.market) }
-    ensures running { OnOk result (IsRunning assignment.new waiting.new) }
+    ensures running { OnOk result (IsRunning last quiet assignment.new waiting.new) }
     ensures empty { OnOk result (waiting.new.agents ≡ []) }
 {
     let mut left = budget;
@@ -187,7 +293,7 @@ fn settle(
             return Err(CoupleEnd::BudgetSpent);
         }
         left -= 1;
-        round(alloc, assignment, waiting, last, agent)?;
+        round(alloc, assignment, waiting, last, quiet, agent)?;
     }
     Ok(left)
 }
@@ -215,11 +321,12 @@ pub fn enter_all(
     let couples = roster.couples();
     let mut assignment = Assignment::new(alloc, roster, ranks, singles)?;
     let mut waiting = WorkList::new(alloc, roster.applicants(), couples)?;
+    let quiet = are_singles_quiet(&assignment);
     let mut left = budget;
     for number in 0..couples {
         let couple = CoupleNo(number);
         waiting.join(Agent::Couple(couple));
-        left = settle(alloc, &mut assignment, &mut waiting, couple, left)?;
+        left = settle(alloc, &mut assignment, &mut waiting, couple, quiet, left)?;
     }
     Ok(Entered {
         matched: assignment.into_match(),

@@ -268,7 +268,7 @@ keep_looked m k places g ws quiet state = record {
 }
 
 -- the agent at the front of the list moves to the option that it takes
-move_from : (m : Market) → IsWellFormed m → (places : Places) (g : Agent) → fits m places ≡ true → is_on (agents m) g ≡ true
+pub move_from : (m : Market) → IsWellFormed m → (places : Places) (g : Agent) → fits m places ≡ true → is_on (agents m) g ≡ true
     → (sent : Placement) → first_taken m places g ≡ Some sent → IsMove m places g sent
 move_from m wf places g fit on sent e =
     let w = found_first (would_be_taken m places) sent (better m places g) e in

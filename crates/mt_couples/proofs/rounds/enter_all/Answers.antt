@@ -3,11 +3,13 @@ use Rattle.mt_terms.specs.Stability.{fits}
 use Rattle.mt_terms.specs.Rounds.{settled}
 use Rattle.mt_terms.specs.declared.numbers.Agent.TheVariants.{Couple}
 use Rattle.mt_round_laws.proofs.RoundsStage.{stage_is_stable_lem}
-use Rattle.mt_couples.specs.Waiting.{IsListOf}
+use Rattle.mt_couples.specs.Waiting.{nobody, IsListOf}
+use Rattle.mt_couples.specs.Running.{singles_quiet, IsQuiet}
+use Rattle.mt_couples.proofs.QuietFacts.{quiet_at_first}
 use Rattle.mt_couples.proofs.JoinFacts.{joined_list, known_joins}
 use Rattle.mt_couples.specs.declared.rounds.CoupleEnd.TheVariants.{BudgetSpent}
 use Rattle.mt_couples.proofs.RoundFacts.{places_of_fitting}
-use Rattle.mt_couples.proofs.EnteringFacts.{next_waits, entering_more, entering_spent, entering_all}
+use Rattle.mt_couples.proofs.EnteringFacts.{entering_first, next_waits, entering_more, entering_spent, entering_all}
 use Rattle.mt_couples.proofs.rounds.enter_all.Goals as goal
 
 pub new-requires-clause-places : goal.new-requires-clause-places
@@ -18,8 +20,8 @@ settle-requires c =
     let so_far = c.loop-number.invariant in
     let m = c.args.roster.now.market in
     let joins = known_joins c.loop-number.waiting c.join.new.self c.loop-number.number so_far.nobody_waits c.join.ensures in
-    next_waits m c.couples-couples.ensures.registration.well_formed c.loop-number.number c.loop-number.assignment c.join.new.self so_far.market
-    (omega (arith, c.couples-couples.ensures.count)) so_far.fitting (joined_list m c.loop-number.waiting c.join.new.self (Couple c.loop-number.number ∷ []) so_far.list joins.0) joins.1
+    next_waits m c.couples-couples.ensures.registration.well_formed c.are_singles_quiet-quiet.result c.loop-number.number c.loop-number.assignment c.join.new.self so_far.market
+    (omega (arith, c.couples-couples.ensures.count)) so_far.fitting so_far.is_quiet (joined_list m c.loop-number.waiting c.join.new.self (Couple c.loop-number.number ∷ []) so_far.list joins.0) joins.1
 
 -- the error of a result
 err_is : {T E : Type 0} (P : E → Type 0) (r : Result T E) (y : E) → IsErrAnd r P → r ≡ Err y → P y
@@ -31,7 +33,7 @@ returns-in_err-left-clause-spent c = λ is.
     let joins = known_joins c.loop-number.waiting c.join.new.self c.loop-number.number so_far.nobody_waits c.join.ensures in
     let waits = joins.1 in
     let same : BudgetSpent ≡ c.in_err-left.field-0.0 = err_is _ c.from_residual-in_err-left.result BudgetSpent c.from_residual-in_err-left.ensures.1 is in
-    entering_spent c.args.roster.now.market c.args.singles.places c.args.budget c.loop-number.number c.loop-number.assignment c.loop-number.waiting c.loop-number.left so_far
+    entering_spent c.args.roster.now.market c.are_singles_quiet-quiet.result c.args.singles.places c.args.budget c.loop-number.number c.loop-number.assignment c.loop-number.waiting c.loop-number.left so_far
     (omega (arith, c.couples-couples.ensures.count))
     (ap₂ (λ x w. settled x c.loop-number.number c.loop-number.left c.loop-number.assignment.places w) (sym so_far.market) (sym waits) ∙ c.in_err-left.ensures.spent (ap Err (sym same)))
 
@@ -42,16 +44,17 @@ loop-number-preserved c =
     let joins = known_joins c.loop-number.waiting c.join.new.self c.loop-number.number so_far.nobody_waits c.join.ensures in
     let waits = joins.1 in
     let same : c.settle.new.assignment.market ≡ m = c.in_ok-left.ensures.market ∙ so_far.market in
-    entering_more m c.args.singles.places c.args.budget c.loop-number.number c.loop-number.assignment c.settle.new.assignment c.loop-number.waiting c.settle.new.waiting
+    entering_more m c.are_singles_quiet-quiet.result c.args.singles.places c.args.budget c.loop-number.number c.loop-number.assignment c.settle.new.assignment c.loop-number.waiting c.settle.new.waiting
     c.loop-number.left c.in_ok-left.left so_far (omega (arith, c.couples-couples.ensures.count)) same
     (subst (λ x. fits x c.settle.new.assignment.places ≡ true) same c.in_ok-left.ensures.running.fitting.fitting)
     (subst (λ x. IsListOf x c.settle.new.waiting) same c.in_ok-left.ensures.running.waiting) c.in_ok-left.ensures.empty
+    (λ so. subst (λ x. IsQuiet c.loop-number.number (record { market = x; places = c.settle.new.assignment.places }) c.settle.new.waiting.agents) same (c.in_ok-left.ensures.running.is_quiet so))
     (ap₂ (λ x w. settled x c.loop-number.number c.loop-number.left c.loop-number.assignment.places w) (sym so_far.market) (sym waits) ∙ c.in_ok-left.ensures.settled)
     c.in_ok-left.ensures.within
 
 pub returns-clause-entered : goal.returns-clause-entered
 returns-clause-entered c =
-    entering_all c.args.roster.now.market c.args.singles.places c.args.budget c.loop-number.number c.loop-number.assignment c.loop-number.waiting c.loop-number.left c.loop-number.invariant
+    entering_all c.args.roster.now.market c.are_singles_quiet-quiet.result c.args.singles.places c.args.budget c.loop-number.number c.loop-number.assignment c.loop-number.waiting c.loop-number.left c.loop-number.invariant
     (omega (arith, c.couples-couples.ensures.count))
     ∙ ap (λ places. Some (places, c.args.budget - c.loop-number.left)) (sym c.into_match.ensures)
 
@@ -59,3 +62,12 @@ pub returns-clause-stable : goal.returns-clause-stable
 returns-clause-stable c = λ best.
     let places = c.into_match.result.places in
     stage_is_stable_lem c.args.roster.now.market c.couples-couples.ensures.registration.well_formed c.args.singles.places best c.args.budget (places, c.args.budget - c.loop-number.left) (returns-clause-entered c)
+
+pub loop-number-init : goal.loop-number-init
+loop-number-init c =
+    let m = c.args.roster.now.market in
+    let places = c.args.singles.places in
+    let is = c.in_ok-assignment.ensures in
+    entering_first m c.are_singles_quiet-quiet.result places c.args.budget c.in_ok-assignment.assignment c.in_ok-waiting.waiting is c.requires.fits
+    (c.in_ok-waiting.ensures ∙ ap₂ nobody c.applicants.ensures.count c.couples-couples.ensures.count)
+    (λ so. quiet_at_first m c.couples-couples.ensures.registration.well_formed places (sym (c.are_singles_quiet-quiet.ensures ∙ ap singles_quiet is) ∙ so))

@@ -1,4 +1,4 @@
-use Rattle.std.proofs.Common.{◌∙◌, length, ap, ap₂, sym, arith, List, subst}
+use Rattle.std.proofs.Common.{◌≡◌, ◌∙◌, ◌∷◌, length, ap, ap₂, sym, arith, List, subst}
 use Rattle.mt_terms.specs.Lists.{has, below}
 use Rattle.mt_terms.specs.Market.{applicants}
 use Rattle.mt_terms.specs.Rounds.{all_joined}
@@ -7,8 +7,10 @@ use Rattle.mt_round_laws.proofs.RoundsLists.{has_in, of_kept, of_below}
 use Rattle.mt_couples.specs.Assigned.{Assigned}
 use Rattle.mt_couples.specs.Moves.{agents_of, displaced_by, if_blocking, moved, reopened}
 use Rattle.mt_couples.specs.Waiting.{Waiting, with_agents, IsListOf, Joins}
-use Rattle.mt_couples.specs.Running.{work_of}
-use Rattle.mt_couples.proofs.JoinFacts.{joined_list}
+use Rattle.mt_couples.specs.Running.{work_of, IsQuietBut}
+use Rattle.mt_couples.proofs.JoinFacts.{joined_list, rest_list}
+use Rattle.mt_couples.proofs.QuietFacts.{quiet_but_left}
+use Rattle.mt_terms.specs.WellFormed.{IsWellFormed}
 use Rattle.mt_couples.proofs.MoveFacts.{displaced_within, waits_after}
 use Rattle.mt_couples.proofs.rounds.take_option.Goals as goal
 
@@ -19,13 +21,13 @@ join_displaced-requires-clause-displaced c = λ a on.
 
 pub join_displaced-requires-clause-waiting : goal.join_displaced-requires-clause-waiting
 join_displaced-requires-clause-waiting c =
-    subst (λ (s : Assigned). IsListOf s.market c.args.waiting.now) (sym c.in_ok-moved.ensures.places) c.requires.waiting
+    subst (λ (s : Assigned). IsListOf s.market c.args.waiting.now) (sym c.in_ok-moved.ensures.places) (rest_list _ _ (c.args.agent ∷ c.args.waiting.now.agents) c.requires.running.waiting)
 
 pub look_at_mover-requires-clause-waiting : goal.look_at_mover-requires-clause-waiting
 look_at_mover-requires-clause-waiting c =
     let s = c.move_to.new.self in
     joined_list s.market c.args.waiting.now c.join_displaced.new.waiting (agents_of s c.deref.result.now)
-    (subst (λ (x : Assigned). IsListOf x.market c.args.waiting.now) (sym c.in_ok-moved.ensures.places) c.requires.waiting) c.join_displaced.ensures
+    (subst (λ (x : Assigned). IsListOf x.market c.args.waiting.now) (sym c.in_ok-moved.ensures.places) (rest_list _ _ (c.args.agent ∷ c.args.waiting.now.agents) c.requires.running.waiting)) c.join_displaced.ensures
 
 pub look_at_left-requires-clause-programs : goal.look_at_left-requires-clause-programs
 look_at_left-requires-clause-programs c = λ p on.
@@ -39,8 +41,29 @@ look_at_left-requires-clause-waiting c =
     let s = c.move_to.new.self in
     joined_list s.market c.join_displaced.new.waiting c.look_at_mover.new.waiting (if_blocking s c.args.agent)
     (joined_list s.market c.args.waiting.now c.join_displaced.new.waiting (agents_of s c.deref.result.now)
-    (subst (λ (x : Assigned). IsListOf x.market c.args.waiting.now) (sym c.in_ok-moved.ensures.places) c.requires.waiting) c.join_displaced.ensures)
+    (subst (λ (x : Assigned). IsListOf x.market c.args.waiting.now) (sym c.in_ok-moved.ensures.places) (rest_list _ _ (c.args.agent ∷ c.args.waiting.now.agents) c.requires.running.waiting)) c.join_displaced.ensures)
     c.look_at_mover.ensures
+
+pub look_at_left-requires-clause-market : goal.look_at_left-requires-clause-market
+look_at_left-requires-clause-market c =
+    subst (λ (x : Assigned). IsWellFormed x.market) (sym c.in_ok-moved.ensures.places) c.requires.taking.well_formed
+
+pub look_at_left-requires-clause-quiet : goal.look_at_left-requires-clause-quiet
+look_at_left-requires-clause-quiet c = λ so.
+    let s0 = c.args.assignment.now in
+    let s1 = moved s0 c.args.sent.now in
+    let after = c.in_ok-moved.ensures.places in
+    let left = c.deref-2.result.now in
+    let joins = λ (old : Waiting) (gs : List Agent). with_agents old (all_joined old.agents gs) in
+    let first : Joins c.args.waiting.now c.join_displaced.new.waiting (agents_of s0 (displaced_by s0 c.args.sent.now)) =
+    c.join_displaced.ensures ∙ ap₂ (λ (x : Assigned) ys. joins c.args.waiting.now (agents_of x ys)) after (c.deref.ensures.value ∙ c.in_ok-moved.ensures.displaced) in
+    let second : Joins c.join_displaced.new.waiting c.look_at_mover.new.waiting (if_blocking s1 c.args.agent) =
+    c.look_at_mover.ensures ∙ ap (λ (x : Assigned). joins c.join_displaced.new.waiting (if_blocking x c.args.agent)) after in
+    let waits : c.look_at_mover.new.waiting.agents ≡ all_joined (all_joined c.args.waiting.now.agents (agents_of s0 (displaced_by s0 c.args.sent.now))) (if_blocking s1 c.args.agent) =
+    ap (λ (w : Waiting). w.agents) second ∙ ap (λ (w : Waiting). all_joined w.agents (if_blocking s1 c.args.agent)) first in
+    subst (λ (x : Assigned). IsQuietBut c.args.last x left c.look_at_mover.new.waiting.agents) (sym after)
+    (subst (λ gs. IsQuietBut c.args.last s1 left gs) (sym waits)
+    (quiet_but_left c.requires.taking c.args.last c.args.waiting.now.agents left (c.requires.running.is_quiet so) (c.deref-2.ensures.value ∙ c.in_ok-moved.ensures.left)))
 
 pub returns : goal.returns
 returns c =

@@ -1,7 +1,7 @@
 use Rattle.std.proofs.Common.{drop}
 use Rattle.mt_couples.specs.Moves.{reopened}
 use Rattle.mt_couples.proofs.JoinFacts.{AreJoining}
-use Rattle.mt_couples.proofs.rounds.look_at_left.Given as goal
+use Rattle.mt_couples.proofs.rounds.look_at_each.Given as goal
 
 abbrev pub invariant-loop-program : goal.invariant-loop-program
 invariant-loop-program l =
