@@ -98,6 +98,12 @@ entering_spent m quiet start budget number now waiting left so_far within spent 
     sym so_far.leads ∙ next_couple m number left now.places within ∙ ap (option_and_then (λ r. entered m (couples_from m (number + 1)) r.1 r.0)) spent in
     ap (option_map (λ r. (r.0, budget - r.1))) none
 
+-- there is none to enter
+pub none_enters : (m : Market) (places : Places) (budget : ℕ) → length m.couples ≡ 0 → stage m places budget ≡ Some (places, 0)
+none_enters m places budget none =
+    let all : budget - budget ≡ 0 = omega arith in
+    ap (λ n. option_map (λ r. (r.0, budget - r.1)) (entered m (below n) budget places)) none ∙ ap (λ d. Some (places, d)) all
+
 -- all couples have entered
 pub entering_all : (m : Market) (quiet : Bool) (start : Places) (budget number : ℕ) (now : Assigned) (waiting : Waiting) (left : ℕ)
     → IsEntering m quiet start budget number now waiting left → length m.couples ≤ number → stage m start budget ≡ Some (now.places, budget - left)

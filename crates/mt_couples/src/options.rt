@@ -14,12 +14,24 @@ use mt_terms::{Agent, AppNo, CoupleNo, ProgNo};
 /// A pair of a couple's list: a place for each member, where none is a member that stays unplaced.
 pub(crate) type Pair = (Option<ProgNo>, Option<ProgNo>);
 
+/// Whether the program is one of these, which are few.
+fn has_program(programs: &[ProgNo], program: ProgNo) -> bool
+    ensures { result ≡ has programs.now program }
+{
+    for other in programs {
+        if *other == program {
+            return true;
+        }
+    }
+    false
+}
+
 /// Whether the place is one of these programs.
 fn is_one_of(place: Option<ProgNo>, programs: &[ProgNo]) -> bool
     ensures { result ≡ some_has programs.now place }
 {
     match place {
-        Some(program) => programs.contains(&program),
+        Some(program) => has_program(programs, program),
         None => false,
     }
 }
@@ -169,7 +181,7 @@ impl<'a> Assignment<'a> {
             if place == Some(*program) {
                 return false;
             }
-            if programs.contains(program) && self.would_be_taken(&[(single, Some(*program))]) {
+            if has_program(programs, *program) && self.would_be_taken(&[(single, Some(*program))]) {
                 return true;
             }
         }

@@ -319,6 +319,12 @@ pub fn enter_all(
     ensures stable { IsBest roster.now.market singles.places → IfOk result (λ e. IsTrue (stable roster.now.market e.matched.places)) }
 {
     let couples = roster.couples();
+    if couples == 0 {
+        return Ok(Entered {
+            matched: singles,
+            rounds: 0,
+        });
+    }
     let mut assignment = Assignment::new(alloc, roster, ranks, singles)?;
     let mut waiting = WorkList::new(alloc, roster.applicants(), couples)?;
     let quiet = are_singles_quiet(&assignment);

@@ -9,7 +9,7 @@ use Rattle.mt_couples.proofs.QuietFacts.{quiet_at_first}
 use Rattle.mt_couples.proofs.JoinFacts.{joined_list, known_joins}
 use Rattle.mt_couples.specs.declared.rounds.CoupleEnd.TheVariants.{BudgetSpent}
 use Rattle.mt_couples.proofs.RoundFacts.{places_of_fitting}
-use Rattle.mt_couples.proofs.EnteringFacts.{entering_first, next_waits, entering_more, entering_spent, entering_all}
+use Rattle.mt_couples.proofs.EnteringFacts.{entering_first, next_waits, entering_more, entering_spent, entering_all, none_enters}
 use Rattle.mt_couples.proofs.rounds.enter_all.Goals as goal
 
 pub new-requires-clause-places : goal.new-requires-clause-places
@@ -71,3 +71,9 @@ loop-number-init c =
     entering_first m c.are_singles_quiet-quiet.result places c.args.budget c.in_ok-assignment.assignment c.in_ok-waiting.waiting is c.requires.fits
     (c.in_ok-waiting.ensures ∙ ap₂ nobody c.applicants.ensures.count c.couples-couples.ensures.count)
     (λ so. quiet_at_first m c.couples-couples.ensures.registration.well_formed places (sym (c.are_singles_quiet-quiet.ensures ∙ ap singles_quiet is) ∙ so))
+
+pub returns-then-couples-eq0-clause-stable : goal.returns-then-couples-eq0-clause-stable
+returns-then-couples-eq0-clause-stable c = λ best.
+    let places = c.args.singles.places in
+    stage_is_stable_lem c.args.roster.now.market c.couples-couples.ensures.registration.well_formed places best c.args.budget (places, 0)
+    (none_enters c.args.roster.now.market places c.args.budget (sym c.couples-couples.ensures.count ∙ c.if-couples-eq0.true))
