@@ -9,11 +9,10 @@ use Rattle.mt_terms.specs.Matching.{Places, place_of, is_program, is_same_place,
 use Rattle.mt_terms.specs.Stability.{would_be_taken, blocks}
 use Rattle.mt_terms.specs.declared.numbers.Agent.{Agent}
 use Rattle.mt_terms.specs.declared.numbers.Agent.TheVariants.{Single, Couple}
-use Rattle.mt_terms.specs.declared.verdict.Blocker.{Blocker}
 use Rattle.mt_terms.specs.Lists.{below}
 use Rattle.mt_match_laws.proofs.VerdictLemmas.{find-map-filter}
-use Rattle.mt_verify.specs.Blocking.{blocker, blocker_led_by}
-use Rattle.mt_verify.proofs.FindFacts.{NoneYet, passes_at, stops_at, none_passes, position_mapped, any_has_position, find_first, find_none}
+use Rattle.mt_verify.specs.Blocking.{blocker, blocker_led_by, leads_blocker}
+use Rattle.mt_verify.proofs.FindFacts.{NoneYet, passes_at, stops_at, none_passes, position_mapped, any_has_position, found_below}
 use Rattle.mt_verify.proofs.OptionFacts.{and-true, holds_single}
 use Rattle.mt_verify.proofs.PlacedFacts.{is_program_read}
 
@@ -138,30 +137,23 @@ module _ (m : Market) (places : Places) (a : ℕ) (g : Agent) (is : agent_of m a
 pub leads-Couple : (m : Market) (c a : ℕ) → agent_of m a ≡ Couple c → leads m a ≡ ((couple_of m c).first == a)
 leads-Couple m c a is = rw is refl
 
--- Below, the applicants are gone through.
+-- Below, the applicants are searched for one that leads an agent that blocks.
 module _ (m : Market) (places : Places) where
-  -- who leads no agent that blocks
-  pub leads_none : (a : ℕ) → blocker_led_by m places a ≡ None → IsFalse (leads m a && blocks m places (agent_of m a))
-  leads_none a none = elim (cases_Bool (leads m a && blocks m places (agent_of m a))) [
-    | inl here ↦ (let e : Some (blocker m places (agent_of m a)) ≡ None = rw here at none in absurd (cc))
-    | inr other ↦ other
+  by_leader : find (blocks m places) (agents m) ≡ option_map (agent_of m) (find (leads_blocker m places) (below (applicants m)))
+  by_leader = find-map-filter (blocks m places) (agent_of m) (leads m) (below (applicants m))
+
+  pub first_by_leader : (a : ℕ) → find (leads_blocker m places) (below (applicants m)) ≡ Some a
+      → option_map (blocker m places) (find (blocks m places) (agents m)) ≡ blocker_led_by m places a
+  first_by_leader a found =
+      let leading : IsTrue (leads_blocker m places a) = (found_below (leads_blocker m places) (applicants m) a found).1 in
+      ap (option_map (blocker m places)) (by_leader ∙ ap (option_map (agent_of m)) found) ∙ sym (rw leading refl)
+
+  pub no_leader : find (leads_blocker m places) (below (applicants m)) ≡ None → option_map (blocker m places) (find (blocks m places) (agents m)) ≡ None
+  no_leader none = ap (option_map (blocker m places)) (by_leader ∙ ap (option_map (agent_of m)) none)
+
+  -- the agent that an applicant leads blocks where there is one to tell
+  pub leads_blocker-is_some : (a : ℕ) → is_some (blocker_led_by m places a) ≡ leads_blocker m places a
+  leads_blocker-is_some a = elim (cases_Bool (leads_blocker m places a)) [
+    | inl here ↦ rw here refl
+    | inr other ↦ rw other refl
   ]
-
-  leads_one : (a : ℕ) (b : Blocker) → blocker_led_by m places a ≡ Some b → IsTrue (leads m a && blocks m places (agent_of m a)) × (b ≡ blocker m places (agent_of m a))
-  leads_one a b found = elim (cases_Bool (leads m a && blocks m places (agent_of m a))) [
-    | inl here ↦ (let e : Some (blocker m places (agent_of m a)) ≡ Some b = rw here at found in (here, (cc)))
-    | inr other ↦ (let e : ◌≡◌ {A = Option Blocker} None (Some b) = rw other at found in absurd (cc))
-  ]
-
-  pub blocker_found : (a : ℕ) (b : Blocker) → a < applicants m → ((j : ℕ) → j < a → blocker_led_by m places j ≡ None) → blocker_led_by m places a ≡ Some b
-      → option_map (blocker m places) (find (blocks m places) (agents m)) ≡ Some b
-  blocker_found a b within before found =
-      let one = leads_one a b found in
-      let first = find_first (λ i. leads m i && blocks m places (agent_of m i)) (applicants m) a within (λ j less. leads_none j (before j less)) one.0 in
-      ap (option_map (blocker m places)) (find-map-filter (blocks m places) (agent_of m) (leads m) (below (applicants m)) ∙ ap (option_map (agent_of m)) first)
-      ∙ ap (λ x. Some x) (sym one.1)
-
-  pub no_blocker : ((j : ℕ) → j < applicants m → blocker_led_by m places j ≡ None) → option_map (blocker m places) (find (blocks m places) (agents m)) ≡ None
-  no_blocker none =
-      let nowhere = find_none (λ i. leads m i && blocks m places (agent_of m i)) (applicants m) (λ j less. leads_none j (none j less)) in
-      ap (option_map (blocker m places)) (find-map-filter (blocks m places) (agent_of m) (leads m) (below (applicants m)) ∙ ap (option_map (agent_of m)) nowhere)

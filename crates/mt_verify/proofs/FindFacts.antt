@@ -1,8 +1,12 @@
 -- A search that goes through numbers, or through a list up to where it stops, one after another.
-use Rattle.std.proofs.Common.{◌≡◌, ℕ, zero, suc, ◌+◌, ◌<◌, Bool, ◌||◌, List, [], ◌∷◌, map, length, get_or, Option, Some, None, is_some, IsTrue, IsFalse, refl, ap, sym, ◌∙◌, inl, inr, arith}
-use Rattle.std.specs.List.{find, list_any, position, position_or_len, range_with_len}
+use Rattle.std.proofs.Common.{◌≡◌, ℕ, zero, suc, ◌+◌, ◌<◌, Bool, ◌||◌, List, [], ◌∷◌, map, length, get_or, Option, Some, None, is_some, IsTrue, IsFalse, refl, ap, sym, subst, ◌∙◌, ◌-◌, inl, inr, arith}
+use Rattle.std.specs.Borrow.{Bor}
+use Rattle.std.specs.List.{AllZip, find, list_any, position, position_or_len, range_with_len, slice_get}
 use Rattle.std.specs.Option.{option_map}
 use Rattle.std.proofs.lemmas.Bool.{cases_Bool, cases_lt, lt-ltb, le-ltb}
+use Rattle.rayon.proofs.ToStd.{answers-by_ref, filter_by_mask-find, nat_range-All}
+use Rattle.rayon.specs.Lists.{filter_by_mask}
+use Rattle.rayon.specs.Numbers.{nat_range}
 use Rattle.mt_terms.specs.Lists.{Set, below, until}
 use Rattle.mt_match_laws.proofs.ListLemmas.{none_below, until-map}
 use Rattle.mt_match_laws.proofs.VerdictLemmas.{nothing_found}
@@ -24,6 +28,36 @@ find_first test n k within before here =
 
 pub find_none : (test : Set) (n : ℕ) → ((j : ℕ) → j < n → IsFalse (test j)) → find test (below n) ≡ None
 find_none test n each = nothing_found test (below n) (none_below test n each)
+
+found_in_range : (test : Set) (low n k : ℕ) → find test (range_with_len low n) ≡ Some k → (k < low + n) × IsTrue (test k)
+found_in_range test low zero k found = absurd (cc)
+found_in_range test low (suc n) k found = elim (cases_Bool (test low)) [
+  | inl here ↦
+      let is : Some low ≡ Some k = rw here at found in
+      let same : low ≡ k = cc in
+      (omega arith, ap test (sym same) ∙ here)
+  | inr other ↦
+      let later = found_in_range test (low + 1) n k (rw other at found) in
+      (omega (arith, later.0), later.1)
+]
+
+-- what a search among the numbers below n finds is one of them, and passes
+pub found_below : (test : Set) (n k : ℕ) → find test (below n) ≡ Some k → (k < n) × IsTrue (test k)
+found_below test n k found = let is = found_in_range test 0 n k found in (omega (arith, is.0), is.1)
+
+-- Below, threads search among the numbers below n. Each number that they ask at is one of them.
+pub asked_below : (P : ℕ → Type 0) (start end n : ℕ) → start ≡ 0 → end ≡ n → ((a : ℕ) → a < n → P a)
+    → (k d : ℕ) → k < length (nat_range start end) → (p : Bor ℕ) → p.now ≡ get_or (nat_range start end) k d → P p.now
+asked_below P start end n from to each k d within p read =
+    subst P (sym read) (nat_range-All P start end (λ i low high. each i (omega arith)) k d within)
+
+-- and they find the first that passes
+pub found_by_threads : (test : Set) (start end n : ℕ) (xs : List ℕ) (answers : List Bool) (r : Option ℕ) → start ≡ 0 → end ≡ n → xs ≡ nat_range start end
+    → AllZip (λ x b. (p : Bor ℕ) × (p.now ≡ x) × (b ≡ test p.now)) xs answers → r ≡ slice_get (filter_by_mask xs answers) 0 → r ≡ find test (below n)
+found_by_threads test start end n xs answers r from to are each is =
+    let whole : end - start ≡ n = omega arith in
+    is ∙ filter_by_mask-find test xs answers (answers-by_ref test xs answers each)
+    ∙ ap (find test) (are ∙ ap (λ a. range_with_len a (end - start)) from ∙ ap (range_with_len 0) whole)
 
 -- one element more at the front, that fails
 position_later : {Y : Type 0} (test : Y → Bool) (y : Y) (ys : List Y) (o : Option ℕ) → IsFalse (test y) → position test ys ≡ o → position test (y ∷ ys) ≡ option_map suc o

@@ -1,7 +1,10 @@
 -- What the market of an accepted file says of its lists and of a match.
 use Rattle.std.proofs.Common.{◌≡◌, ℕ, ◌<◌, ◌≤◌, Bool, true, false, ◌&&◌, List, [], length, IsTrue, IsFalse, refl, ap, sym, ◌∙◌, arith, Option, Some, None, eq-eqb, eqb-true, subst, map, get_or}
 use Rattle.std.proofs.lemmas.Bool.{both_ways}
+use Rattle.std.proofs.lemmas.List.{get_or-map, length-map}
 use Rattle.std.proofs.lemmas.List.Sums.{get_or-le-sum_by}
+use Rattle.std.specs.Global.{Global}
+use Rattle.std.specs.Prelude.{Vec}
 use Rattle.mt_terms.specs.Registration.Accepted.{IsRegistration}
 use Rattle.mt_terms.specs.Lists.{has, below, count_below}
 use Rattle.mt_terms.specs.Market.{Market, Program, Partners, Registered, applicants, program_of, list_of, couple_of, live}
@@ -62,12 +65,14 @@ filled_ranks m places formed are listed p =
     both_or_none false true h = h refl
     both_or_none false false h = refl
 
--- the ranks of those placed at a program, where the lists of all programs hold them
-pub placed_at : (m : Market) (places : Places) (lists : List (List ℕ)) (p k : ℕ) → lists ≡ map (placed_ranks m places) (below (length m.programs)) → k ≡ p
-    → p < length m.programs → get_or lists k [] ≡ placed_ranks m places p
-placed_at m places lists p k are same within =
-    ap (λ xss. get_or xss k []) are ∙ ap (λ i. get_or (map (placed_ranks m places) (below (length m.programs))) i []) same
-    ∙ map_below_at (placed_ranks m places) (length m.programs) p [] within
+-- Below, a vector for each program holds the ranks of those that are placed there.
+module _ (m : Market) (places : Places) (vectors : List (Vec ℕ Global)) (hold : map Vec.items vectors ≡ map (placed_ranks m places) (below (length m.programs))) where
+  pub length_of_placed : length vectors ≡ length m.programs
+  length_of_placed = sym (length-map vectors Vec.items) ∙ ap length hold ∙ length-map_below (placed_ranks m places) (length m.programs)
 
-pub length_of_placed : (m : Market) (places : Places) (lists : List (List ℕ)) → lists ≡ map (placed_ranks m places) (below (length m.programs)) → length lists ≡ length m.programs
-length_of_placed m places lists are = ap length are ∙ length-map_below (placed_ranks m places) (length m.programs)
+  pub placed_at : (p k : ℕ) (v : Vec ℕ Global) → v ≡ get_or vectors k v → k ≡ p → p < length m.programs → v.items ≡ placed_ranks m places p
+  placed_at p k v read same within =
+      let inside : k < length vectors = omega (arith, length_of_placed) in
+      ap Vec.items read ∙ sym (get_or-map Vec.items vectors k v [] inside) ∙ ap (λ xss. get_or xss k []) hold
+      ∙ ap (λ i. get_or (map (placed_ranks m places) (below (length m.programs))) i []) same
+      ∙ map_below_at (placed_ranks m places) (length m.programs) p [] within

@@ -1,11 +1,15 @@
 -- Where the members of a set stand on a list: how many there are, and how many stand above another one.
-use Rattle.std.proofs.Common.{◌≡◌, ℕ, zero, suc, ◌+◌, ◌<◌, ◌≤◌, Bool, ◌==◌, List, [], ◌∷◌, ◌++◌, length, get_or, take, append-nil, Option, Some, None, IsTrue, IsFalse, refl, ap, sym, ◌∙◌, inl, inr, arith, if◌then◌else◌}
+use Rattle.std.proofs.Common.{◌≡◌, ℕ, zero, suc, ◌+◌, ◌<◌, ◌≤◌, Bool, ◌==◌, List, [], ◌∷◌, ◌++◌, length, get_or, take, append-nil, Option, Some, None, IsTrue, IsFalse, refl, ap, sym, subst, ◌-◌, ◌∙◌, inl, inr, arith, if◌then◌else◌}
+use Rattle.std.specs.Global.{Global}
+use Rattle.std.specs.List.{AllZip, Contains, range_with_len}
 use Rattle.std.specs.Option.{option_eq}
+use Rattle.std.specs.Prelude.{Result, Ok, Err, IfOk, MatchResult, Vec, map}
+use Rattle.std.specs.declared.alloc.AllocError.{AllocError}
+use Rattle.rayon.specs.Numbers.{nat_range}
 use Rattle.std.specs.List.Sorted.{IsNonDecreasing}
 use Rattle.std.proofs.lemmas.Bool.{cases_Bool}
 use Rattle.std.proofs.lemmas.List.{take_more, length-take}
-use Rattle.mt_market.specs.FlatLists.{with_last}
-use Rattle.mt_terms.specs.Lists.{Set, count}
+use Rattle.mt_terms.specs.Lists.{Set, below, count}
 use Rattle.mt_terms.specs.Matching.{is_program, ranks_from}
 
 -- one place more of a list
@@ -20,40 +24,44 @@ ranks_from_push rank set (y ∷ ys) x =
       | inr other ↦ rw other rest
     ]
 
--- one element more in the last of some lists
-pub with_last_push : {X : Type 0} (xss : List (List X)) (xs : List X) (x : X) → with_last (xss ++ xs ∷ []) x ≡ xss ++ (xs ++ x ∷ []) ∷ []
-with_last_push [] xs x = refl
-with_last_push (ys ∷ []) xs x = refl
-with_last_push (ys ∷ zs ∷ rest) xs x = ap (λ yss. ys ∷ yss) (with_last_push (zs ∷ rest) xs x)
-
 -- whether a place that was read is this program
 pub is_program_read : (p : ℕ) (place : Option ℕ) → option_eq ◌==◌ place (Some p) ≡ is_program p place
 is_program_read p None = refl
 is_program_read p (Some q) = refl
 
 -- the ranks after one place more of a list, whose number was read there
-module _ (lists before : List (List ℕ)) (set : Set) (xs : List ℕ) (i a : ℕ) (within : i < length xs) (read : a ≡ get_or xs i a) (so_far : lists ≡ before ++ ranks_from 0 set (take i xs) ∷ []) where
-  one_more : ranks_from 0 set (take (i + 1) xs) ≡ ranks_from 0 set (take i xs) ++ (if set a then (i ∷ []) else [])
+module _ (ranks : List ℕ) (set : Set) (xs : List ℕ) (i a : ℕ) (within : i < length xs) (read : a ≡ get_or xs i a) (so_far : ranks ≡ ranks_from 0 set (take i xs)) where
+  one_more : ranks_from 0 set (take (i + 1) xs) ≡ ranks ++ (if set a then (i ∷ []) else [])
   one_more =
       let front : length (take i xs) ≡ i = omega (arith, length-take i xs) in
       ap (ranks_from 0 set) (take_more xs i a within ∙ ap (λ x. take i xs ++ x ∷ []) (sym read))
       ∙ ranks_from_push 0 set (take i xs) a
       ∙ ap (λ r. ranks_from 0 set (take i xs) ++ (if set a then (r ∷ []) else [])) (let e : 0 + length (take i xs) ≡ i = omega arith in e)
+      ∙ ap (λ rs. rs ++ (if set a then (i ∷ []) else [])) (sym so_far)
 
-  pub after_member : IsTrue (set a) → with_last lists i ≡ before ++ ranks_from 0 set (take (i + 1) xs) ∷ []
-  after_member here =
-      ap (λ xss. with_last xss i) so_far ∙ with_last_push before (ranks_from 0 set (take i xs)) i
-      ∙ ap (λ ys. before ++ ys ∷ []) (sym (one_more ∙ ap (λ (b : Bool). ranks_from 0 set (take i xs) ++ (if b then (i ∷ []) else [])) here))
+  pub after_member : IsTrue (set a) → ranks ++ i ∷ [] ≡ ranks_from 0 set (take (i + 1) xs)
+  after_member here = sym (one_more ∙ ap (λ (b : Bool). ranks ++ (if b then (i ∷ []) else [])) here)
 
-  pub after_other : IsFalse (set a) → lists ≡ before ++ ranks_from 0 set (take (i + 1) xs) ∷ []
-  after_other other =
-      so_far ∙ ap (λ ys. before ++ ys ∷ [])
-      (sym (one_more ∙ ap (λ (b : Bool). ranks_from 0 set (take i xs) ++ (if b then (i ∷ []) else [])) other ∙ append-nil (ranks_from 0 set (take i xs))))
+  pub after_other : IsFalse (set a) → ranks ≡ ranks_from 0 set (take (i + 1) xs)
+  after_other other = sym (one_more ∙ ap (λ (b : Bool). ranks ++ (if b then (i ∷ []) else [])) other ∙ append-nil ranks)
 
--- some lists and one more at their end are not none
-pub length_one_more : {X : Type 0} (xs : List X) (x : X) → 0 < length (xs ++ x ∷ [])
-length_one_more [] x = omega arith
-length_one_more (y ∷ ys) x = omega arith
+-- Below, threads make a list of each number below n.
+all_made : (f : ℕ → List ℕ) (ns : List ℕ) (vs : List (Vec ℕ Global)) → AllZip (λ k (r : Result (Vec ℕ Global) AllocError). IfOk r (λ v. v.items ≡ f k)) ns (map Ok vs) → map Vec.items vs ≡ map f ns
+all_made f [] [] made = refl
+all_made f [] (v ∷ vs) made = absurd made
+all_made f (n ∷ ns) [] made = absurd made
+all_made f (n ∷ ns) (v ∷ vs) made = let rest = all_made f ns vs made.1 in λ i. made.0 i ∷ rest i
+
+pub made_by_threads : (f : ℕ → List ℕ) (start end n : ℕ) (ns : List ℕ) (made : List (Result (Vec ℕ Global) AllocError)) (r : Result (Vec (Vec ℕ Global) Global) AllocError)
+    → start ≡ 0 → end ≡ n → ns ≡ nat_range start end → AllZip (λ k (r : Result (Vec ℕ Global) AllocError). IfOk r (λ v. v.items ≡ f k)) ns made
+    → MatchResult r (λ v. (vs : List (Vec ℕ Global)) × (made ≡ map Ok vs) × (v.items ≡ vs)) (λ e. Contains made (Err e))
+    → IfOk r (λ v. map Vec.items v.items ≡ map f (below n))
+made_by_threads f start end n ns made (Err e) from to are each is = tt
+made_by_threads f start end n ns made (Ok v) from to are each is =
+    let whole : end - start ≡ n = omega arith in
+    let each_made = subst (λ l. AllZip (λ k (r : Result (Vec ℕ Global) AllocError). IfOk r (λ v. v.items ≡ f k)) ns l) is.1 each in
+    ap (map Vec.items) is.2 ∙ all_made f ns is.0 each_made
+    ∙ ap (map f) (are ∙ ap (λ a. range_with_len a (end - start)) from ∙ ap (range_with_len 0) whole)
 
 -- Below, the list stands from a rank on.
 -- nobody stands above the first place

@@ -11,12 +11,11 @@ use Rattle.mt_terms.specs.declared.verdict.Blocker.{Blocker}
 abbrev pub blocker : Market → Places → Agent → Blocker
 blocker m places g = record { agent = g; option = blocking_option m places g }
 
+-- whether an applicant leads an agent that blocks
+abbrev pub leads_blocker : Market → Places → ℕ → Bool
+leads_blocker m places a = leads m a && blocks m places (agent_of m a)
+
 -- the agent that an applicant leads, where it leads one and that one blocks
 abbrev pub blocker_led_by : Market → Places → ℕ → Option Blocker
-blocker_led_by m places a = if is_led_and_blocks then Some (blocker m places g) else None
-  where
-    g : Agent
-    g = agent_of m a
-
-    is_led_and_blocks : Bool
-    is_led_and_blocks = leads m a && blocks m places g
+blocker_led_by m places a =
+    if leads_blocker m places a then Some (blocker m places (agent_of m a)) else None

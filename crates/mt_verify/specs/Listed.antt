@@ -1,5 +1,6 @@
 -- Places by the lists of singles and couples, and of programs.
-use Rattle.std.specs.Prelude.{ℕ, Bool, not, ◌&&◌, ◌||◌, ◌==◌, List, length, map, Option, is_some}
+use Rattle.std.specs.Prelude.{ℕ, Bool, not, ◌&&◌, ◌||◌, ◌==◌, List, length, map, Option, is_some, Vec}
+use Rattle.std.specs.Global.{Global}
 use Rattle.std.specs.List.{list_any}
 use Rattle.mt_terms.specs.Lists.{below}
 use Rattle.mt_terms.specs.Market.{Market, Pair, agent_of}
@@ -34,3 +35,7 @@ is_off_own_list m places a = (lowest_number m g == a) && not (has_own_option m p
 -- for each program the ranks of those that are placed there
 abbrev pub ranks_by_program : Market → Places → List (List ℕ)
 ranks_by_program m places = map (placed_ranks m places) (below (length m.programs))
+
+-- the lists that vectors hold
+abbrev pub lists_of : List (Vec ℕ Global) → List (List ℕ)
+lists_of vectors = map Vec.items vectors

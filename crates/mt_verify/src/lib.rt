@@ -17,6 +17,7 @@ use mt_ranks::Ranks;
 use mt_terms::Match;
 pub use mt_terms::{Blocker, Verdict};
 use std::alloc::{AllocError, Global};
+use std::thread::Threads;
 
 /// Whether a match is stable, or else the first finding against it: an applicant whose place isn't allowed,
 /// by number; then a program over its quota, by number; then an agent that blocks, by the number of the
@@ -25,7 +26,8 @@ use std::alloc::{AllocError, Global};
 ///
 /// Without couples this is the stability of Gusfield and Irving 1989 for hospitals and residents; how a
 /// couple blocks is this project's own rule.
-pub fn verify(
+pub fn verify<R: Threads + Sync>(
+    rt: &R,
     alloc: Global,
     roster: &Roster,
     ranks: &Ranks,
@@ -36,6 +38,6 @@ pub fn verify(
     ensures verdict { IfOk result (λ v. v ≡ verdict_of roster.now.market matched.now.places) }
     ensures stable { IfOk result (TellsStable roster.now.market matched.now.places) }
 {
-    let verifier = Verifier::new(alloc, roster, ranks, matched)?;
-    Ok(verifier.verdict())
+    let verifier = Verifier::new(rt, alloc, roster, ranks, matched)?;
+    Ok(verifier.verdict(rt))
 }

@@ -1,49 +1,60 @@
-ghost use Rattle.std.specs.Prelude.{◌≡◌, ◌≤◌, ◌^◌, ◌++◌, [], ◌∷◌, length, nat_lt, IfOk, OnOk};
+ghost use Rattle.std.specs.Prelude.{◌≡◌, ◌<◌, length, nat_lt, IfOk, OnOk};
 ghost use Rattle.std.specs.List.Sorted.{IsNonDecreasing};
 ghost use Rattle.mt_terms.specs.Registration.Accepted.{IsRegistration};
 ghost use Rattle.mt_terms.specs.Lists.{count};
-ghost use Rattle.mt_terms.specs.Matching.{at, ranks_from};
-ghost use Rattle.mt_verify.specs.Listed.{ranks_by_program};
+ghost use Rattle.mt_terms.specs.Matching.{placed_ranks};
+ghost use Rattle.mt_verify.specs.Listed.{lists_of, ranks_by_program};
 
-use mt_market::{FlatLists, Roster};
-use mt_terms::{AppNo, Match, ProgNo};
+use mt_market::Roster;
+use mt_terms::{Match, ProgNo};
+use rayon::prelude::*;
 use std::alloc::{AllocError, Global};
+use std::thread::Threads;
 
-/// Adds, as a list of its own, where those that are placed at a program stand on its list.
-fn push_placed(
-    lists: &mut FlatLists<u32>,
-    ranking: &[AppNo],
-    matched: &Match,
-    program: ProgNo,
-) -> Result<(), AllocError>
-    requires { length ranking.now ≤ 2 ^ 32 }
-    ensures { let there = at matched.now.places program in
-        OnOk result (lists.new ≡ lists.old ++ ranks_from 0 there ranking.now ∷ []) }
-{
-    lists.begin()?;
-    for (rank, applicant) in ranking.iter().enumerate() {
-        if matched.place(*applicant) == Some(program) {
-            lists.push(rank as u32)?;
-        }
-    }
-    Ok(())
-}
+/// From twice as many programs on, their lists are gone through side by side: a thread costs as much as to
+/// go through some hundreds of them.
+const LEAST_PROGRAMS: usize = 256;
 
-/// For each program the ranks of those that are placed there, in rising order.
-pub(crate) fn placed_by_program(
+/// Where those that are placed at the program stand on its list, in rising order.
+fn placed_at(
     alloc: Global,
     roster: &Roster,
     matched: &Match,
-) -> Result<FlatLists<u32>, AllocError>
-    ensures registration { OnOk result (IsRegistration roster.now) }
-    ensures placed { IfOk result (λ v. v ≡ ranks_by_program roster.now.market matched.now.places) }
+    program: ProgNo,
+) -> Result<Vec<u32>, AllocError>
+    requires { program < length roster.now.market.programs }
+    ensures { IfOk result (λ v. v.items ≡ placed_ranks roster.now.market matched.now.places program) }
 {
-    let mut lists = FlatLists::new(alloc);
-    for number in 0..roster.programs() {
-        let program = ProgNo(number);
-        push_placed(&mut lists, roster.program_list(program), matched, program)?;
+    roster.is_of_a_file();
+    let mut ranks = Vec::new(alloc);
+    for (rank, applicant) in roster.program_list(program).iter().enumerate() {
+        if matched.place(*applicant) == Some(program) {
+            ranks.push(rank as u32)?;
+        }
     }
-    Ok(lists)
+    Ok(ranks)
+}
+
+/// For each program the ranks of those that are placed there, in rising order.
+pub(crate) fn placed_by_program<R: Threads + Sync>(
+    rt: &R,
+    alloc: Global,
+    roster: &Roster,
+    matched: &Match,
+) -> Result<Vec<Vec<u32>>, AllocError>
+    ensures registration { OnOk result (IsRegistration roster.now) }
+    ensures placed { IfOk result (λ v. lists_of v.items ≡ ranks_by_program roster.now.market matched.now.places) }
+{
+    (0..roster.programs())
+        .into_par_iter()
+        .with_min_len(LEAST_PROGRAMS)
+        .map(
+            |number: u32| -> Result<Vec<u32>, AllocError>
+                requires { number < length roster.now.market.programs }
+                ensures { IfOk result (λ v. v.items ≡ placed_ranks roster.entry.now.market matched.entry.now.places number) }
+            { placed_at(alloc, roster, matched, ProgNo(number)) },
+        )
+        .collect::<Result<Vec<Vec<u32>>, AllocError>>(rt, alloc)?
 }
 
 /// How many of these rising ranks are below a rank.

@@ -1,21 +1,28 @@
 ghost use Rattle.std.specs.Prelude.{◌≡◌, ◌<◌, length, IfOk, is_some, position};
 ghost use Rattle.mt_terms.specs.Registration.Accepted.{IsRegistration};
 ghost use Rattle.mt_terms.specs.Market.{applicants};
+ghost use Rattle.mt_terms.specs.Matching.{placed_ranks};
 ghost use Rattle.mt_terms.specs.Places.{ArePlaces};
 ghost use Rattle.mt_terms.specs.Verdict.{is_over, is_unlisted, verdict_of};
 ghost use Rattle.mt_ranks.specs.Ranked.{rank_of, ranked_of};
 ghost use Rattle.mt_verify.specs.Judged.{AreAllowed, first_over, first_unlisted, is_listed_at, is_place_listed};
-ghost use Rattle.mt_verify.specs.Listed.{is_off_own_list, ranks_by_program};
+ghost use Rattle.mt_verify.specs.Listed.{is_off_own_list, lists_of, ranks_by_program};
 
 mod blocking;
 mod taken;
 
 use crate::listed::{is_own_pair, is_own_place};
 use crate::placed::placed_by_program;
-use mt_market::{FlatLists, Roster};
+use mt_market::Roster;
 use mt_ranks::Ranks;
 use mt_terms::{Agent, AppNo, Match, ProgNo, Verdict};
+use rayon::prelude::*;
 use std::alloc::{AllocError, Global};
+use std::thread::Threads;
+
+/// From twice as many applicants on, the market's are judged side by side: a thread costs as much as
+/// to judge some hundreds of them.
+pub(crate) const LEAST_APPLICANTS: usize = 1024;
 
 /// A match beside the market that it is judged by, with the ranks of those placed at each program.
 #[derive(Drop)]
@@ -23,18 +30,19 @@ pub(crate) struct Verifier<'a> {
     roster: &'a Roster,
     ranks: &'a Ranks<'a>,
     matched: &'a Match,
-    placed: FlatLists<u32>,
+    placed: Vec<Vec<u32>>,
     ghost is_registration: { IsRegistration roster.now },
     ghost one_market: { ranks.now ≡ ranked_of roster.now.market },
     ghost are_places: { ArePlaces roster.now.market matched.now.places },
-    ghost placed_there: { placed ≡ ranks_by_program roster.now.market matched.now.places },
+    ghost placed_there: { lists_of placed.items ≡ ranks_by_program roster.now.market matched.now.places },
 }
 
 impl<'a> Verifier<'a> {
     ghost use Rattle.mt_verify.specs.View.{judged};
 
     /// The match beside its market. The only error is want of memory.
-    pub(crate) fn new(
+    pub(crate) fn new<R: Threads + Sync>(
+        rt: &R,
         alloc: Global,
         roster: &'a Roster,
         ranks: &'a Ranks<'a>,
@@ -45,7 +53,7 @@ impl<'a> Verifier<'a> {
         ensures market { IfOk result (λ v. v.roster.now ≡ roster.entry.now) }
         ensures places { IfOk result (λ v. v.matched.now ≡ matched.entry.now) }
     {
-        let placed = placed_by_program(alloc, roster, matched)?;
+        let placed = placed_by_program(rt, alloc, roster, matched)?;
         Ok(Verifier {
             roster,
             ranks,
@@ -110,15 +118,28 @@ impl<'a> Verifier<'a> {
     }
 
     /// The first applicant whose place isn't allowed.
-    fn first_unlisted(&self) -> Option<AppNo>
+    fn first_unlisted<R: Threads + Sync>(&self, rt: &R) -> Option<AppNo>
         ensures { result ≡ first_unlisted (judged self.now) }
     {
-        for number in 0..self.roster.applicants() {
-            if self.is_unlisted(AppNo(number)) {
-                return Some(AppNo(number));
-            }
-        }
-        None
+        let unlisted = (0..self.roster.applicants())
+            .into_par_iter()
+            .with_min_len(LEAST_APPLICANTS)
+            .find_first(
+                rt,
+                |number: &u32| -> bool
+                    requires { number.now < applicants (judged self.now).market }
+                    ensures { let j = judged self.entry.now in result ≡ is_unlisted j.market j.places number.now }
+                { self.is_unlisted(AppNo(*number)) },
+            )?;
+        Some(AppNo(unlisted))
+    }
+
+    /// The ranks of those that are placed at the program, in rising order.
+    fn placed_at(&self, program: ProgNo) -> &[u32]
+        requires { program < length (judged self.now).market.programs }
+        ensures { let j = judged self.now in result.now ≡ placed_ranks j.market j.places program }
+    {
+        &self.placed[program.index()]
     }
 
     /// Whether more applicants are placed at the program than its quota. Each of them is on its list.
@@ -127,7 +148,7 @@ impl<'a> Verifier<'a> {
         requires listed { AreAllowed (judged self.now) }
         ensures { let j = judged self.now in result ≡ is_over j.market j.places program }
     {
-        self.placed.list(program.index()).len() > self.roster.quota(program) as usize
+        self.placed_at(program).len() > self.roster.quota(program) as usize
     }
 
     /// The first program with more applicants than its quota.
@@ -144,16 +165,16 @@ impl<'a> Verifier<'a> {
     }
 
     /// The first finding against the match, or that it is stable.
-    pub(crate) fn verdict(&self) -> Verdict
+    pub(crate) fn verdict<R: Threads + Sync>(&self, rt: &R) -> Verdict
         ensures { let j = judged self.now in result ≡ verdict_of j.market j.places }
     {
-        if let Some(applicant) = self.first_unlisted() {
+        if let Some(applicant) = self.first_unlisted(rt) {
             return Verdict::Unlisted(applicant);
         }
         if let Some(program) = self.first_over() {
             return Verdict::Over(program);
         }
-        match self.first_blocker() {
+        match self.first_blocker(rt) {
             Some(blocker) => Verdict::Blocks(blocker),
             None => Verdict::Stable,
         }

@@ -7,7 +7,7 @@ use Rattle.mt_match_laws.proofs.VerdictLemmas.{stable_verdict_lem}
 use Rattle.mt_verify.proofs.verify.Goals as goal
 
 pub returns-clause-stable : goal.returns-clause-stable
-returns-clause-stable c =
+returns-clause-stable g c =
     let market = c.args.roster.now.market in
     let places = c.args.matched.now.places in
     let verifier = c.in_ok-verifier.verifier in

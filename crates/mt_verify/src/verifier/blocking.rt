@@ -1,12 +1,14 @@
 ghost use Rattle.std.specs.Prelude.{◌≡◌, ◌<◌, length};
 ghost use Rattle.mt_terms.specs.Market.{applicants};
 ghost use Rattle.mt_terms.specs.declared.numbers.Agent.TheVariants.{Couple, Single};
-ghost use Rattle.mt_verify.specs.Blocking.{blocker_led_by};
+ghost use Rattle.mt_verify.specs.Blocking.{blocker_led_by, leads_blocker};
 ghost use Rattle.mt_verify.specs.Judged.{first_blocker, first_taken};
 ghost use Rattle.mt_verify.specs.View.{judged};
 
-use crate::verifier::Verifier;
+use crate::verifier::{LEAST_APPLICANTS, Verifier};
 use mt_terms::{Agent, AppNo, Blocker, CoupleNo};
+use rayon::prelude::*;
+use std::thread::Threads;
 
 impl Verifier<'_> {
     /// The place on the single's list of its first better program that would take it.
@@ -71,16 +73,29 @@ impl Verifier<'_> {
         }
     }
 
+    /// Whether the applicant leads an agent that blocks.
+    fn leads_blocker(&self, applicant: AppNo) -> bool
+        requires { applicant < applicants (judged self.now).market }
+        ensures { let j = judged self.now in result ≡ leads_blocker j.market j.places applicant }
+    {
+        self.blocker_led_by(applicant).is_some()
+    }
+
     /// The first agent that blocks, by the number of the single or of the couple's first member, with the
     /// first option with which it does.
-    pub(super) fn first_blocker(&self) -> Option<Blocker>
+    pub(super) fn first_blocker<R: Threads + Sync>(&self, rt: &R) -> Option<Blocker>
         ensures { result ≡ first_blocker (judged self.now) }
     {
-        for number in 0..self.roster.applicants() {
-            if let Some(blocker) = self.blocker_led_by(AppNo(number)) {
-                return Some(blocker);
-            }
-        }
-        None
+        let leader = (0..self.roster.applicants())
+            .into_par_iter()
+            .with_min_len(LEAST_APPLICANTS)
+            .find_first(
+                rt,
+                |number: &u32| -> bool
+                    requires { number.now < applicants (judged self.now).market }
+                    ensures { let j = judged self.entry.now in result ≡ leads_blocker j.market j.places number.now }
+                { self.leads_blocker(AppNo(*number)) },
+            )?;
+        self.blocker_led_by(AppNo(leader))
     }
 }

@@ -15,7 +15,7 @@ impl Verifier<'_> {
         requires { program < length (judged self.now).market.programs }
         ensures { result ≡ count_above (judged self.now) program rank }
     {
-        count_below(self.placed.list(program.index()), rank)
+        count_below(self.placed_at(program), rank)
     }
 
     /// Whether the applicant stands above a rank on the program's list.

@@ -1,18 +1,21 @@
-use Rattle.std.proofs.Common.{ap, sym, ◌∙◌, ℕ, List, length, arith, ◌++◌, [], ◌∷◌, map}
-use Rattle.std.proofs.lemmas.List.{map-append}
-use Rattle.mt_terms.proofs.BelowFacts.{below_more}
-use Rattle.mt_terms.specs.Lists.{below}
-use Rattle.mt_terms.specs.Matching.{at, placed_ranks, ranks_from}
-use Rattle.mt_verify.proofs.MarketFacts.{few_ranked}
+use Rattle.std.proofs.Common.{◌<◌, length, ap, ◌∙◌}
+use Rattle.rayon.proofs.ToStd.{nat_range-All}
+use Rattle.rayon.specs.Lists.{range_start, range_end}
+use Rattle.mt_terms.specs.Matching.{placed_ranks}
+use Rattle.mt_verify.proofs.PlacedFacts.{made_by_threads}
 use Rattle.mt_verify.proofs.placed.placed_by_program.Goals as goal
 
-pub push_placed-requires : goal.push_placed-requires
-push_placed-requires c = omega (arith, few_ranked c.args.roster.now c.programs-number-end.ensures.registration c.loop-number.number (omega (arith, c.programs-number-end.ensures.count)), ap length c.program_list.ensures)
+pub collect-requires-clause-ready : goal.collect-requires-clause-ready
+collect-requires-clause-ready g c κs within =
+    let many = length c.args.roster.now.market.programs in
+    let inside = nat_range-All (λ p. p < many) 0 many (λ p low high. high) in
+    rw (c.map.ensures.base, c.map.ensures.f, c.with_min_len.ensures.base, c.into_par_iter.ensures.0, c.into_par_iter.ensures.1, c.programs.ensures.count)
+    (λ k d lt. (inside k d lt, λ y made. tt))
 
-pub loop-number-preserved : goal.loop-number-preserved
-loop-number-preserved c =
-    let ranks : ℕ → List ℕ = placed_ranks c.args.roster.now.market c.args.matched.now.places in
-    c.in_ok-push_placed.ensures
-    ∙ ap (λ xss. xss ++ ranks_from 0 (at c.args.matched.now.places c.loop-number.number) c.program_list.result.now ∷ []) c.loop-number.invariant
-    ∙ ap (λ xs. map ranks (below c.loop-number.number) ++ ranks_from 0 (at c.args.matched.now.places c.loop-number.number) xs ∷ []) c.program_list.ensures
-    ∙ sym (ap (map ranks) (below_more c.loop-number.number) ∙ map-append ranks (below c.loop-number.number) (c.loop-number.number ∷ []))
+pub returns-clause-placed : goal.returns-clause-placed
+returns-clause-placed g c =
+    let made = rw (c.map.ensures.base, c.map.ensures.f) at c.in_ok-collect.ensures in
+    let range = c.with_min_len.result.base in
+    made_by_threads (placed_ranks c.args.roster.now.market c.args.matched.now.places) range.start range.end (length c.args.roster.now.market.programs) made.1.0 made.0 c.in_ok-collect.field-0
+    (ap range_start c.with_min_len.ensures.base ∙ c.into_par_iter.ensures.0)
+    (ap range_end c.with_min_len.ensures.base ∙ c.into_par_iter.ensures.1 ∙ c.programs.ensures.count) made.1.1 made.1.2 made.2

@@ -3,24 +3,17 @@ use Rattle.std.specs.List.Sorted.{IsNonDecreasing}
 use Rattle.mt_terms.specs.Lists.{count}
 use Rattle.mt_terms.specs.Market.{program_of}
 use Rattle.mt_terms.specs.Matching.{at}
-use Rattle.mt_verify.proofs.MarketFacts.{placed_at, length_of_placed}
 use Rattle.mt_verify.proofs.PlacedFacts.{ranks_rise}
 use Rattle.mt_terms.proofs.ListFacts.{ranks_above}
 use Rattle.mt_verify.proofs.verifier.Verifier.count_above.Goals as goal
 
-pub list-requires : goal.list-requires
-list-requires c =
-    let self = c.args.self.now in omega (arith, length_of_placed self.roster.now.market self.matched.now.places self.placed self.placed_there)
-
 pub count_below-requires : goal.count_below-requires
 count_below-requires c =
     let self = c.args.self.now in
-    let there = c.list.ensures ∙ placed_at self.roster.now.market self.matched.now.places self.placed c.args.program c.index.result self.placed_there c.index.ensures c.requires in
-    subst IsNonDecreasing (sym there) (ranks_rise 0 (at self.matched.now.places c.args.program) (program_of self.roster.now.market c.args.program).ranking)
+    subst IsNonDecreasing (sym c.placed_at.ensures) (ranks_rise 0 (at self.matched.now.places c.args.program) (program_of self.roster.now.market c.args.program).ranking)
 
 pub returns : goal.returns
 returns c =
     let self = c.args.self.now in
-    let there = c.list.ensures ∙ placed_at self.roster.now.market self.matched.now.places self.placed c.args.program c.index.result self.placed_there c.index.ensures c.requires in
-    c.count_below.ensures ∙ ap (count (λ r. nat_lt r c.args.rank)) there
+    c.count_below.ensures ∙ ap (count (λ r. nat_lt r c.args.rank)) c.placed_at.ensures
     ∙ ranks_above 0 c.args.rank (at self.matched.now.places c.args.program) (program_of self.roster.now.market c.args.program).ranking c.args.rank (omega arith)

@@ -1,20 +1,33 @@
-use Rattle.std.proofs.Common.{sym, ◌∙◌, arith, below_more}
+use Rattle.std.proofs.Common.{◌<◌, sym, ap, ◌∙◌}
+use Rattle.rayon.specs.Lists.{range_start, range_end}
 use Rattle.mt_terms.specs.Market.{applicants}
 use Rattle.mt_terms.specs.Verdict.{is_unlisted}
-use Rattle.mt_verify.proofs.FindFacts.{find_first, find_none}
+use Rattle.mt_verify.proofs.FindFacts.{asked_below, found_by_threads}
 use Rattle.mt_verify.proofs.verifier.Verifier.first_unlisted.Goals as goal
 
-pub loop-number-preserved : goal.loop-number-preserved
-loop-number-preserved c = below_more _ _ c.loop-number.invariant (sym c.is_unlisted.ensures ∙ c.if-is_unlisted.false)
+pub find_first-requires-clause-items : goal.find_first-requires-clause-items
+find_first-requires-clause-items g c κs within =
+    let range = c.with_min_len.result.base in
+    let many = applicants c.args.self.now.roster.now.market in
+    asked_below (λ a. a < many) range.start range.end many (ap range_start c.with_min_len.ensures.base ∙ c.into_par_iter.ensures.0)
+    (ap range_end c.with_min_len.ensures.base ∙ c.into_par_iter.ensures.1 ∙ c.applicants.ensures.count) (λ a a_in. a_in)
 
-pub returns-then-is_unlisted : goal.returns-then-is_unlisted
-returns-then-is_unlisted c =
+pub returns-in_err-unlisted : goal.returns-in_err-unlisted
+returns-in_err-unlisted g c =
     let self = c.args.self.now in
-    sym (find_first (is_unlisted self.roster.now.market self.matched.now.places) (applicants self.roster.now.market) c.loop-number.number
-    (omega (arith, c.applicants-number-end.ensures.count)) c.loop-number.invariant (sym c.is_unlisted.ensures ∙ c.if-is_unlisted.true))
+    let found = c.find_first.ensures in
+    let range = c.with_min_len.result.base in
+    c.from_residual.ensures ∙ sym c.in_err-unlisted.was
+    ∙ found_by_threads (is_unlisted self.roster.now.market self.matched.now.places) range.start range.end (applicants self.roster.now.market) found.0 found.1 c.find_first.result
+    (ap range_start c.with_min_len.ensures.base ∙ c.into_par_iter.ensures.0)
+    (ap range_end c.with_min_len.ensures.base ∙ c.into_par_iter.ensures.1 ∙ c.applicants.ensures.count) found.2 found.3 found.4
 
 pub returns : goal.returns
-returns c =
+returns g c =
     let self = c.args.self.now in
-    sym (find_none (is_unlisted self.roster.now.market self.matched.now.places) (applicants self.roster.now.market)
-    (λ a a_in. c.loop-number.invariant a (omega (arith, c.applicants-number-end.ensures.count))))
+    let found = c.find_first.ensures in
+    let range = c.with_min_len.result.base in
+    sym c.in_ok-unlisted.was
+    ∙ found_by_threads (is_unlisted self.roster.now.market self.matched.now.places) range.start range.end (applicants self.roster.now.market) found.0 found.1 c.find_first.result
+    (ap range_start c.with_min_len.ensures.base ∙ c.into_par_iter.ensures.0)
+    (ap range_end c.with_min_len.ensures.base ∙ c.into_par_iter.ensures.1 ∙ c.applicants.ensures.count) found.2 found.3 found.4

@@ -5,6 +5,6 @@ use Rattle.mt_match_laws.proofs.VerdictLemmas.{none_found_below}
 use Rattle.mt_verify.proofs.verifier.Verifier.verdict.Goals as goal
 
 pub first_over-requires : goal.first_over-requires
-first_over-requires c =
+first_over-requires g c =
     let self = c.args.self.now in
     none_found_below (is_unlisted self.roster.now.market self.matched.now.places) (applicants self.roster.now.market) (sym c.first_unlisted.ensures ∙ c.in_default.is)

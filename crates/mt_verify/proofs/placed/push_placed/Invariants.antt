@@ -1,7 +1,0 @@
-use Rattle.std.proofs.Common.{◌≡◌, ◌++◌, [], ◌∷◌, take}
-use Rattle.mt_terms.specs.Matching.{at, ranks_from}
-use Rattle.mt_verify.proofs.placed.push_placed.Given as goal
-
--- the ranks of those so far, after the lists that were there
-abbrev pub invariant-loop-rank : goal.invariant-loop-rank
-invariant-loop-rank l = l.lists ≡ l.fn.lists ++ ranks_from 0 (at l.matched.places l.program) (take l.rank l.ranking) ∷ []
