@@ -1,5 +1,5 @@
 -- How often programs list an applicant, and at what ranks.
-use Rattle.std.proofs.Common.{◌≡◌, ℕ, suc, ◌+◌, ◌<◌, ◌≤◌, List, [], ◌∷◌, ◌++◌, true, false, eqb, IsTrue, not, length, get_or, set, map, drop, refl, sym, inl, inr, zero-add, ap, ◌∙◌, arith, length-append}
+use Rattle.std.proofs.Common.{◌≡◌, ◌≢◌, ℕ, suc, ◌+◌, ◌<◌, ◌≤◌, List, [], ◌∷◌, ◌++◌, true, false, eqb, IsTrue, not, length, get_or, set, map, drop, refl, sym, inl, inr, zero-add, ap, ◌∙◌, arith, length-append}
 use Rattle.std.proofs.lemmas.Bool.{cases_Bool, eqb-true, eq-eqb, ne_eqb, cases_eq, or_parts, and_parts, not-true}
 use Rattle.std.proofs.lemmas.Bool.Decides.{nat_tests}
 use Rattle.std.proofs.lemmas.List.{drop_more, get_or-set_same, get_or-set_other, append_assoc, drop_all, get_or_read, length-set, at_drop_more, at_drop_all, append-nil, get_or-replicate, length-replicate}
@@ -102,9 +102,9 @@ pub listed_all : (counts : List ℕ) (rs : List (List ℕ)) (p n : ℕ) → AreL
 listed_all counts rs p n inv h e =
     fill_by_all (times_listed rs) counts n 0 e (λ a i. omega (arith, inv a (omega arith), at_drop_all (λ ls. times_listed ls a) rs p h))
 
--- Below, the entry at i of a program's list goes into the row of its applicant.
-abbrev pub AreAdded : Filling → Filling → ℕ → List ℕ → ℕ → Type 0
-AreAdded rows start p xs i = (a : ℕ) → a < length rows.lists → row_of rows a ++ entries_in p i (drop i xs) a ≡ row_of start a ++ entries_in p 0 xs a
+-- Below, rows are of applicants from a number on. The entry at i of a program's list goes into the row of its applicant.
+abbrev pub AreAdded : ℕ → Filling → Filling → ℕ → List ℕ → ℕ → Type 0
+AreAdded from rows start p xs i = (k : ℕ) → k < length rows.lists → row_of rows k ++ entries_in p i (drop i xs) (from + k) ≡ row_of start k ++ entries_in p 0 xs (from + k)
 
 entries_here : (p : ℕ) (xs : List ℕ) (i a : ℕ) → i < length xs → get_or xs i 0 ≡ a
     → entries_in p i (drop i xs) a ≡ record { program = p; rank = i } ∷ entries_in p (i + 1) (drop (i + 1) xs) a
@@ -118,75 +118,89 @@ entries_elsewhere p xs i a h e =
     let front : drop i xs ≡ get_or xs i 0 ∷ drop (i + 1) xs = drop_more xs i 0 h in
     rw front (rw (ne_eqb (get_or xs i 0) a e) refl)
 
-pub added_room : (rows start : Filling) (p : ℕ) (xs : List ℕ) (i x : ℕ) → AreAdded rows start p xs i → rows.sizes ≡ start.sizes → i < length xs → x ≡ get_or xs i x
-    → x < length rows.lists → HasRoom start x (count (λ y. eqb y x) xs) → HasRoom rows x 1
-added_room rows start p xs i x inv s h at w room =
-    let front : entries_in p i (drop i xs) x ≡ record { program = p; rank = i } ∷ entries_in p (i + 1) (drop (i + 1) xs) x = entries_here p xs i x h (sym (get_or_read xs i x h at 0)) in
-    let all : length (row_of rows x ++ entries_in p i (drop i xs) x) ≡ length (row_of start x ++ entries_in p 0 xs x) = ap length (inv x w) in
-    let same : get_or rows.sizes x 0 ≡ get_or start.sizes x 0 = ap (λ (l : List ℕ). get_or l x 0) s in
-    omega (arith, room, all, same, ap length front, length-append (row_of rows x) (entries_in p i (drop i xs) x), length-append (row_of start x) (entries_in p 0 xs x), length-entries_in p 0 xs x)
+-- Below, the applicant x at i is the one at j of the rows.
+pub added_room : (from : ℕ) (rows start : Filling) (p : ℕ) (xs : List ℕ) (i x j : ℕ) → AreAdded from rows start p xs i → rows.sizes ≡ start.sizes → i < length xs → x ≡ get_or xs i x
+    → from + j ≡ x → j < length rows.lists → HasRoom start j (count (λ y. eqb y (from + j)) xs) → HasRoom rows j 1
+added_room from rows start p xs i x j inv s h at is w room =
+    let read : get_or xs i 0 ≡ from + j = sym (get_or_read xs i x h at 0) ∙ sym is in
+    let front : entries_in p i (drop i xs) (from + j) ≡ record { program = p; rank = i } ∷ entries_in p (i + 1) (drop (i + 1) xs) (from + j) = entries_here p xs i (from + j) h read in
+    let all : length (row_of rows j ++ entries_in p i (drop i xs) (from + j)) ≡ length (row_of start j ++ entries_in p 0 xs (from + j)) = ap length (inv j w) in
+    let same : get_or rows.sizes j 0 ≡ get_or start.sizes j 0 = ap (λ (l : List ℕ). get_or l j 0) s in
+    omega (arith, room, all, same, ap length front, length-append (row_of rows j) (entries_in p i (drop i xs) (from + j)), length-append (row_of start j) (entries_in p 0 xs (from + j)), length-entries_in p 0 xs (from + j))
 
-pub added_more : (rows start : Filling) (p : ℕ) (xs : List ℕ) (i x : ℕ) → AreAdded rows start p xs i → i < length xs → x ≡ get_or xs i x → x < length rows.lists
-    → AreAdded (with_entry rows x (record { program = p; rank = i })) start p xs (i + 1)
-added_more rows start p xs i x inv h at w a v =
-    let is : x ≡ get_or xs i 0 = get_or_read xs i x h at 0 in
-    let within : a < length rows.lists = omega (arith, length-set rows.lists x (row_of rows x ++ record { program = p; rank = i } ∷ [])) in
-    elim (cases_eq a x) as (λ o. row_of (with_entry rows x (record { program = p; rank = i })) a ++ entries_in p (i + 1) (drop (i + 1) xs) a ≡ row_of start a ++ entries_in p 0 xs a) [
+pub added_more : (from : ℕ) (rows start : Filling) (p : ℕ) (xs : List ℕ) (i x j : ℕ) → AreAdded from rows start p xs i → i < length xs → x ≡ get_or xs i x → from + j ≡ x → j < length rows.lists
+    → AreAdded from (with_entry rows j (record { program = p; rank = i })) start p xs (i + 1)
+added_more from rows start p xs i x j inv h at is w k v =
+    let read : x ≡ get_or xs i 0 = get_or_read xs i x h at 0 in
+    let within : k < length rows.lists = omega (arith, length-set rows.lists j (row_of rows j ++ record { program = p; rank = i } ∷ [])) in
+    elim (cases_eq k j) as (λ o. row_of (with_entry rows j (record { program = p; rank = i })) k ++ entries_in p (i + 1) (drop (i + 1) xs) (from + k) ≡ row_of start k ++ entries_in p 0 xs (from + k)) [
       | inl e ↦
-          let here : entries_in p i (drop i xs) a ≡ record { program = p; rank = i } ∷ entries_in p (i + 1) (drop (i + 1) xs) a = entries_here p xs i a h (sym is ∙ sym e) in
-          let row : row_of (with_entry rows x (record { program = p; rank = i })) a ≡ row_of rows a ++ record { program = p; rank = i } ∷ [] =
-          rw e (get_or-set_same rows.lists x (row_of rows x ++ record { program = p; rank = i } ∷ []) [] w) in
-          rw row (append_assoc (row_of rows a) (record { program = p; rank = i } ∷ []) (entries_in p (i + 1) (drop (i + 1) xs) a) ∙ ap (λ es. row_of rows a ++ es) (sym here) ∙ inv a within)
+          let here : entries_in p i (drop i xs) (from + k) ≡ record { program = p; rank = i } ∷ entries_in p (i + 1) (drop (i + 1) xs) (from + k) =
+          entries_here p xs i (from + k) h (omega (arith, read)) in
+          let row : row_of (with_entry rows j (record { program = p; rank = i })) k ≡ row_of rows k ++ record { program = p; rank = i } ∷ [] =
+          rw e (get_or-set_same rows.lists j (row_of rows j ++ record { program = p; rank = i } ∷ []) [] w) in
+          rw row (append_assoc (row_of rows k) (record { program = p; rank = i } ∷ []) (entries_in p (i + 1) (drop (i + 1) xs) (from + k)) ∙ ap (λ es. row_of rows k ++ es) (sym here) ∙ inv k within)
       | inr ne ↦
-          let elsewhere : entries_in p i (drop i xs) a ≡ entries_in p (i + 1) (drop (i + 1) xs) a = entries_elsewhere p xs i a h (λ e. ne (sym e ∙ sym is)) in
-          let row : row_of (with_entry rows x (record { program = p; rank = i })) a ≡ row_of rows a = get_or-set_other rows.lists x a (row_of rows x ++ record { program = p; rank = i } ∷ []) [] ne in
-          rw row (ap (λ es. row_of rows a ++ es) (sym elsewhere) ∙ inv a within)
+          let elsewhere : entries_in p i (drop i xs) (from + k) ≡ entries_in p (i + 1) (drop (i + 1) xs) (from + k) =
+          entries_elsewhere p xs i (from + k) h (λ e. ne (omega (arith, read, e))) in
+          let row : row_of (with_entry rows j (record { program = p; rank = i })) k ≡ row_of rows k = get_or-set_other rows.lists j k (row_of rows j ++ record { program = p; rank = i } ∷ []) [] ne in
+          rw row (ap (λ es. row_of rows k ++ es) (sym elsewhere) ∙ inv k within)
     ]
 
-pub added_all : (rows start : Filling) (p : ℕ) (xs : List ℕ) (i a : ℕ) → AreAdded rows start p xs i → length xs ≤ i → a < length rows.lists
-    → row_of rows a ≡ row_of start a ++ entries_in p 0 xs a
-added_all rows start p xs i a inv h w =
+-- the applicant at i has no row here
+pub added_none : (from : ℕ) (rows start : Filling) (p : ℕ) (xs : List ℕ) (i x n : ℕ) → AreAdded from rows start p xs i → i < length xs → x ≡ get_or xs i x → length rows.lists ≡ n
+    → ((k : ℕ) → k < n → from + k ≢ x) → AreAdded from rows start p xs (i + 1)
+added_none from rows start p xs i x n inv h at long past k w =
+    let read : x ≡ get_or xs i 0 = get_or_read xs i x h at 0 in
+    ap (λ es. row_of rows k ++ es) (sym (entries_elsewhere p xs i (from + k) h (λ e. past k (omega arith) (sym e ∙ sym read)))) ∙ inv k w
+
+pub added_all : (from : ℕ) (rows start : Filling) (p : ℕ) (xs : List ℕ) (i k : ℕ) → AreAdded from rows start p xs i → length xs ≤ i → k < length rows.lists
+    → row_of rows k ≡ row_of start k ++ entries_in p 0 xs (from + k)
+added_all from rows start p xs i k inv h w =
     let none : drop i xs ≡ [] = drop_all i xs h in
-    sym (append-nil (row_of rows a)) ∙ (rw none at (inv a w))
+    sym (append-nil (row_of rows k)) ∙ (rw none at (inv k w))
 
 -- Below, the entries of the first p programs' lists are in the rows.
-abbrev pub AreEntered : Filling → List (List ℕ) → ℕ → Type 0
-AreEntered rows rs p = (a : ℕ) → a < length rows.lists → row_of rows a ++ entries_from p (drop p rs) a ≡ entries_from 0 rs a
+abbrev pub AreEntered : ℕ → Filling → List (List ℕ) → ℕ → Type 0
+AreEntered from rows rs p = (k : ℕ) → k < length rows.lists → row_of rows k ++ entries_from p (drop p rs) (from + k) ≡ entries_from 0 rs (from + k)
 
 entries_front : (rs : List (List ℕ)) (p a : ℕ) → p < length rs → entries_from p (drop p rs) a ≡ entries_in p 0 (get_or rs p []) a ++ entries_from (p + 1) (drop (p + 1) rs) a
 entries_front rs p a h = at_drop_more (λ ls. entries_from p ls a) rs p [] h
 
-pub entered_more : (rows new : Filling) (rs : List (List ℕ)) (p : ℕ) (ranking : List ℕ) → AreEntered rows rs p → p < length rs → ranking ≡ get_or rs p []
-    → length new.lists ≡ length rows.lists → IsEnteredFor rows new p ranking → AreEntered new rs (p + 1)
-entered_more rows new rs p ranking inv h at len entered a w =
-    let within : a < length rows.lists = omega arith in
-    let here : row_of new a ≡ row_of rows a ++ entries_in p 0 (get_or rs p []) a = entered a within ∙ ap (λ xs. row_of rows a ++ entries_in p 0 xs a) at in
+pub entered_more : (from : ℕ) (rows new : Filling) (rs : List (List ℕ)) (p : ℕ) (ranking : List ℕ) → AreEntered from rows rs p → p < length rs → ranking ≡ get_or rs p []
+    → length new.lists ≡ length rows.lists → IsEnteredFor from rows new p ranking → AreEntered from new rs (p + 1)
+entered_more from rows new rs p ranking inv h at len entered k w =
+    let within : k < length rows.lists = omega arith in
+    let here : row_of new k ≡ row_of rows k ++ entries_in p 0 (get_or rs p []) (from + k) = entered k within ∙ ap (λ xs. row_of rows k ++ entries_in p 0 xs (from + k)) at in
     rw here
-    (append_assoc (row_of rows a) (entries_in p 0 (get_or rs p []) a) (entries_from (p + 1) (drop (p + 1) rs) a) ∙ ap (λ es. row_of rows a ++ es) (sym (entries_front rs p a h)) ∙ inv a within)
+    (append_assoc (row_of rows k) (entries_in p 0 (get_or rs p []) (from + k)) (entries_from (p + 1) (drop (p + 1) rs) (from + k))
+    ∙ ap (λ es. row_of rows k ++ es) (sym (entries_front rs p (from + k) h)) ∙ inv k within)
 
-pub entered_room : (rows : Filling) (rs : List (List ℕ)) (p a n : ℕ) → AreEntered rows rs p → rows.sizes ≡ map (times_listed rs) (below n) → p < length rs → length rows.lists ≡ n
-    → a < length rows.lists → HasRoom rows a (count (λ x. eqb x a) (get_or rs p []))
-entered_room rows rs p a n inv s h l w =
-    let size : get_or rows.sizes a 0 ≡ times_listed rs a = rw s (get_or-map-range_with_len (times_listed rs) 0 n a a 0 (omega arith) (omega arith)) in
-    let all : length (row_of rows a ++ entries_from p (drop p rs) a) ≡ length (entries_from 0 rs a) = ap length (inv a w) in
+pub entered_room : (from : ℕ) (rows : Filling) (rs : List (List ℕ)) (p k n : ℕ) → AreEntered from rows rs p → rows.sizes ≡ map (λ j. times_listed rs (from + j)) (below n) → p < length rs → length rows.lists ≡ n
+    → k < length rows.lists → HasRoom rows k (count (λ x. eqb x (from + k)) (get_or rs p []))
+entered_room from rows rs p k n inv s h l w =
+    let a = from + k in
+    let size : get_or rows.sizes k 0 ≡ times_listed rs a = rw s (get_or-map-range_with_len (λ j. times_listed rs (from + j)) 0 n k k 0 (omega arith) (omega arith)) in
+    let all : length (row_of rows k ++ entries_from p (drop p rs) a) ≡ length (entries_from 0 rs a) = ap length (inv k w) in
     omega (
       arith,
       size,
       all,
       ap length (entries_front rs p a h),
-      length-append (row_of rows a) (entries_from p (drop p rs) a),
+      length-append (row_of rows k) (entries_from p (drop p rs) a),
       length-append (entries_in p 0 (get_or rs p []) a) (entries_from (p + 1) (drop (p + 1) rs) a),
       length-entries_in p 0 (get_or rs p []) a,
       length-entries_from 0 rs a,
     )
 
-pub entered_all : (rows : Filling) (rs : List (List ℕ)) (p n : ℕ) → AreEntered rows rs p → length rs ≤ p → length rows.lists ≡ n → rows.lists ≡ map (entries_from 0 rs) (below n)
-entered_all rows rs p n inv h l =
+pub entered_all : (from : ℕ) (rows : Filling) (rs : List (List ℕ)) (p n : ℕ) → AreEntered from rows rs p → length rs ≤ p → length rows.lists ≡ n
+    → rows.lists ≡ map (λ k. entries_from 0 rs (from + k)) (below n)
+entered_all from rows rs p n inv h l =
     let none : drop p rs ≡ [] = drop_all p rs h in
-    fill_by_all (entries_from 0 rs) rows.lists n [] l (λ a i. sym (append-nil (row_of rows a)) ∙ (rw none at (inv a (omega arith))))
+    fill_by_all (λ k. entries_from 0 rs (from + k)) rows.lists n [] l (λ k i. sym (append-nil (row_of rows k)) ∙ (rw none at (inv k (omega arith))))
 
 -- with fresh rows nothing is entered
-pub entered_none : (rows : Filling) (rs : List (List ℕ)) (sizes : List ℕ) → rows ≡ empty_rows sizes → AreEntered rows rs 0
-entered_none rows rs sizes h a w =
-    let row : row_of rows a ≡ [] = rw h (get_or-replicate (length sizes) a [] [] (omega (arith, ap (λ (f : Filling). length f.lists) h, length-replicate {A = List Live} (length sizes) []))) in
+pub entered_none : (from : ℕ) (rows : Filling) (rs : List (List ℕ)) (sizes : List ℕ) → rows ≡ empty_rows sizes → AreEntered from rows rs 0
+entered_none from rows rs sizes h k w =
+    let row : row_of rows k ≡ [] = rw h (get_or-replicate (length sizes) k [] [] (omega (arith, ap (λ (f : Filling). length f.lists) h, length-replicate {A = List Live} (length sizes) []))) in
     rw row refl

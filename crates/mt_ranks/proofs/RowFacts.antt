@@ -49,7 +49,7 @@ end_after size (s ∷ ss) [] k h i = absurd h
 end_after size (s ∷ ss) (e ∷ es) zero h i = h.0
 end_after size (s ∷ ss) (e ∷ es) (suc k) h i = omega (arith, h.0, h.1, end_after size ss es k h.2 (omega arith))
 
-length-range : {X : Type 0} (xs : List X) (a b : ℕ) → b ≤ length xs → length (slice_range xs a b) ≡ b - a
+pub length-range : {X : Type 0} (xs : List X) (a b : ℕ) → b ≤ length xs → length (slice_range xs a b) ≡ b - a
 length-range xs a b h = grind (arith, common_steps)
 
 pub length_part : {X : Type 0} (ss es : List ℕ) (xs : List X) (k : ℕ) → ArePartsOf (length xs) ss es → k < length ss

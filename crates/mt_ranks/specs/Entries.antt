@@ -2,8 +2,8 @@
 use Rattle.std.specs.Prelude.{◌≡◌, ℕ, ◌+◌, ◌≤◌, ◌<◌, ◌^◌, ◌==◌, List, [], ◌∷◌, ◌++◌, length, map, Option, Some, None, slice_index, if◌then◌else◌}
 use Rattle.std.specs.List.{filter_map}
 use Rattle.std.specs.Option.{option_map}
-use Rattle.mt_terms.specs.Lists.{count}
-use Rattle.mt_terms.specs.Market.{Market, Program}
+use Rattle.mt_terms.specs.Lists.{below, count}
+use Rattle.mt_terms.specs.Market.{Market, Program, applicants}
 use Rattle.mt_ranks.specs.declared.entries.Live.{Live}
 
 -- the places of an applicant on the rest of a program's list, which begins at this rank
@@ -42,6 +42,14 @@ CanBeCounted counts ranking =
 abbrev pub IsCounted : List ℕ → List ℕ → List ℕ → Type 0
 IsCounted old new ranking =
     (a : ℕ) → a < length old → slice_index new a ≡ slice_index old a + times_in ranking a
+
+-- how often programs list each applicant, and each of so many from a number on
+abbrev pub all_times : Market → List ℕ
+all_times m = map (times_listed (rankings_of m)) (below (applicants m))
+
+abbrev pub ListedTimes : Market → ℕ → ℕ → List ℕ → Type 0
+ListedTimes m from size times =
+    times ≡ map (λ k. times_listed (rankings_of m) (from + k)) (below size)
 
 -- the rank at a program, among entries
 abbrev pub rank_among : List Live → ℕ → Option ℕ

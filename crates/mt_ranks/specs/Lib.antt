@@ -1,4 +1,5 @@
 pub mod Entries
+pub mod Parts
 pub mod Ranked
 pub mod Rows
 pub mod RowsView

@@ -1,7 +1,7 @@
 -- Lists that grow side by side, each within the room that it was given.
 use Rattle.std.specs.Prelude.{◌≡◌, ℕ, ◌+◌, ◌-◌, ◌<◌, ◌≤◌, List, [], ◌∷◌, ◌++◌, length, map, replicate, slice_range, slice_index, slice_index_or, slice_set}
 use Rattle.mt_terms.specs.Lists.{below}
-use Rattle.mt_terms.specs.Market.{Market, applicants, list_of}
+use Rattle.mt_terms.specs.Market.{Market, list_of}
 use Rattle.mt_ranks.specs.Entries.{entries_among, entries_in, times_in}
 use Rattle.mt_ranks.specs.declared.entries.Live.{Live}
 
@@ -22,18 +22,19 @@ row_of f k = slice_index_or f.lists k []
 abbrev pub HasRoom : Filling → ℕ → ℕ → Type 0
 HasRoom f k n = length (row_of f k) + n ≤ slice_index f.sizes k
 
--- each applicant's row has room for its entries on a program's list
-abbrev pub HasRoomFor : Filling → List ℕ → Type 0
-HasRoomFor f ranking = (a : ℕ) → a < length f.lists → HasRoom f a (times_in ranking a)
+-- Below, the rows are of applicants from a number on. Each has room for its entries on a program's list.
+abbrev pub HasRoomFor : ℕ → Filling → List ℕ → Type 0
+HasRoomFor from f ranking = (k : ℕ) → k < length f.lists → HasRoom f k (times_in ranking (from + k))
 
 -- they are added, for this program
-abbrev pub IsEnteredFor : Filling → Filling → ℕ → List ℕ → Type 0
-IsEnteredFor old new p ranking =
-    (a : ℕ) → a < length old.lists → row_of new a ≡ row_of old a ++ entries_in p 0 ranking a
+abbrev pub IsEnteredFor : ℕ → Filling → Filling → ℕ → List ℕ → Type 0
+IsEnteredFor from old new p ranking =
+    (k : ℕ) → k < length old.lists → row_of new k ≡ row_of old k ++ entries_in p 0 ranking (from + k)
 
--- for each applicant the entries of its row that its list names
-abbrev pub listed_rows : Market → Filling → List (List Live)
-listed_rows m f = map (λ a. entries_among (row_of f a) (list_of m a)) (below (applicants m))
+-- for each of so many applicants the entries of its row that its list names
+abbrev pub listed_rows : Market → ℕ → ℕ → Filling → List (List Live)
+listed_rows m from size f =
+    map (λ k. entries_among (row_of f k) (list_of m (from + k))) (below size)
 
 -- with one element more at the end of a row
 abbrev pub with_entry : Filling → ℕ → Live → Filling

@@ -2,6 +2,7 @@
 //! every applicant that it lists.
 #![tactic(auto)]
 
+mod blocks;
 mod entries;
 mod rows;
 mod tables;

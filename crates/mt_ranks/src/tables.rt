@@ -1,25 +1,35 @@
-ghost use Rattle.std.specs.Prelude.{◌≡◌, ℕ, ◌<◌, false, [], All, length, is_some, slice_index_or, IfOk, IfSome};
+ghost use Rattle.std.specs.Prelude.{◌≡◌, ℕ, ◌+◌, ◌*◌, ◌<◌, ◌≤◌, false, [], All, length, is_some, slice_index_or, sum, ◌^◌, IfOk, IfSome};
 ghost use Rattle.mt_terms.specs.Lists.{has};
 ghost use Rattle.mt_terms.specs.Market.{applicants, program_of};
-ghost use Rattle.mt_ranks.specs.Entries.{AscendFrom};
+ghost use Rattle.mt_ranks.specs.Entries.{AscendFrom, all_times};
 ghost use Rattle.mt_ranks.specs.Ranked.{IsRank, IsEntry, IsRanked, is_single_agent, rank_of, ranked_list, ranked_of, ranking_of};
+ghost use Rattle.mt_ranks.specs.Parts.{live_among, row_among, AreParts, HaveApplicant, IsPart};
 ghost use Rattle.mt_ranks.specs.Rows.{listed_rows, row_of};
 
+use crate::blocks::{BLOCK, Block};
 use crate::entries::{Live, push_live, rank_at};
 use crate::rows::Rows;
-use crate::transpose::transpose;
+use crate::transpose::{listed, of_block, transpose};
 use mt_market::{FlatLists, Roster};
 use mt_terms::{Agent, AppNo, ProgNo};
+use rayon::prelude::*;
 use std::alloc::{AllocError, Global};
 use std::marker::Model;
+use std::thread::Threads;
+
+/// The tables of a block of applicants: its live lists with ranks, and all its ranks on the programs' lists.
+#[derive(Debug, Drop)]
+struct Part {
+    rows: Rows,
+    lists: FlatLists<Live>,
+}
 
 /// The rank tables of a market, beside its roster, which keeps the programs' lists: live lists with ranks, and
 /// every rank on the programs' lists. They show the singles' market with live lists alone, and who is a single.
 #[derive(Debug, Drop)]
 pub struct Ranks<'m> {
     roster: &'m Roster,
-    rows: Rows,
-    lists: FlatLists<Live>,
+    parts: Vec<Part>,
 }
 
 impl<'m> Model for Ranks<'m> {
@@ -44,36 +54,100 @@ fn is_single(agent: Agent) -> bool
     }
 }
 
-/// The live lists of singles, and an empty one for each member.
-fn live_lists(alloc: Global, roster: &Roster, rows: &Rows) -> Result<FlatLists<Live>, AllocError>
-    requires rows { length rows.now.lists ≡ applicants roster.now.market }
-    requires ascend { (a : ℕ) → AscendFrom 0 (row_of rows.now a) }
-    ensures { IfOk result (λ lists. lists ≡ listed_rows roster.now.market rows.now) }
+/// The live lists of the singles of a block, and an empty one for each member.
+fn live_lists(
+    alloc: Global,
+    roster: &Roster,
+    block: Block,
+    rows: &Rows,
+) -> Result<FlatLists<Live>, AllocError>
+    requires block { block.first + block.size ≤ applicants roster.now.market }
+    requires rows { length rows.now.lists ≡ block.size }
+    requires ascend { (k : ℕ) → AscendFrom 0 (row_of rows.now k) }
+    ensures { IfOk result (λ lists. lists ≡ listed_rows roster.now.market block.first block.size rows.now) }
 {
+    roster.is_of_a_file();
     let mut lists = FlatLists::new(alloc);
-    for applicant in 0..roster.applicants() {
-        push_live(
-            &mut lists,
-            roster.single_list(AppNo(applicant)),
-            rows.row(applicant as usize),
-        )?;
+    for place in 0..block.size {
+        let applicant = AppNo((block.first + place) as u32);
+        push_live(&mut lists, roster.single_list(applicant), rows.row(place))?;
     }
     Ok(lists)
 }
 
+/// The tables of the block of applicants with this number, where the programs list each applicant so often.
+fn part_numbered(
+    alloc: Global,
+    roster: &Roster,
+    times: &[usize],
+    number: usize,
+) -> Result<Part, AllocError>
+    requires number { number * BLOCK < applicants roster.now.market }
+    requires times { times.now ≡ all_times roster.now.market }
+    requires few { sum times.now < 2 ^ 64 }
+    ensures { IfOk result (IsPart roster.now.market number) }
+{
+    roster.is_of_a_file();
+    let block = Block::numbered(number, times.len());
+    let rows = transpose(alloc, roster, block, of_block(times, block))?;
+    let lists = live_lists(alloc, roster, block, &rows)?;
+    Ok(Part { rows, lists })
+}
+
+/// The tables of all blocks, made side by side.
+fn all_parts<R: Threads + Sync>(
+    rt: &R,
+    alloc: Global,
+    roster: &Roster,
+) -> Result<Vec<Part>, AllocError>
+    ensures { IfOk result (λ v. AreParts roster.now.market v.items) }
+{
+    let times = listed(alloc, roster)?;
+    let times = times.as_slice();
+    let blocks = times.len().div_ceil(BLOCK);
+    (0..blocks)
+        .into_par_iter()
+        .with_min_len(1)
+        .map(
+            |number: usize| -> Result<Part, AllocError>
+                requires { (number * BLOCK < applicants roster.now.market)
+                    × (times.now ≡ all_times roster.now.market) × (sum times.now < 2 ^ 64) }
+                ensures { IfOk result (IsPart roster.entry.now.market number) }
+            { part_numbered(alloc, roster, times, number) },
+        )
+        .collect::<Result<Vec<Part>, AllocError>>(rt, alloc)?
+}
+
+/// The live list of an applicant, among the tables of all blocks.
+fn live_among(parts: &[Part], applicant: AppNo) -> &[Live]
+    requires { HaveApplicant parts.now applicant }
+    ensures { result.now ≡ live_among parts.now applicant }
+{
+    let index = applicant.index();
+    parts[index / BLOCK].lists.list(index % BLOCK)
+}
+
+/// The row of an applicant, among the tables of all blocks.
+fn row_among(parts: &[Part], applicant: AppNo) -> &[Live]
+    requires { HaveApplicant parts.now applicant }
+    ensures { result.now ≡ row_among parts.now applicant }
+{
+    let index = applicant.index();
+    parts[index / BLOCK].rows.row(index % BLOCK)
+}
+
 impl<'m> Ranks<'m> {
     /// The rank tables of a roster. The only error is want of memory.
-    pub fn build(alloc: Global, roster: &'m Roster) -> Result<Ranks<'m>, AllocError>
+    pub fn build<R: Threads + Sync>(
+        rt: &R,
+        alloc: Global,
+        roster: &'m Roster,
+    ) -> Result<Ranks<'m>, AllocError>
         ensures { IfOk result (λ ranks. ranks ≡ ranked_of roster.now.market) }
     {
         roster.is_of_a_file();
-        let rows = transpose(alloc, roster)?;
-        let lists = live_lists(alloc, roster, &rows)?;
-        Ok(Ranks {
-            roster,
-            rows,
-            lists,
-        })
+        let parts = all_parts(rt, alloc, roster)?;
+        Ok(Ranks { roster, parts })
     }
 
     /// How many applicants there are, members of couples included.
@@ -81,7 +155,7 @@ impl<'m> Ranks<'m> {
         ensures count { result ≡ applicants self.now.market }
         ensures ranked { IsRanked self.now }
     {
-        self.lists.len() as u32
+        self.roster.applicants()
     }
 
     /// How many programs there are.
@@ -116,7 +190,7 @@ impl<'m> Ranks<'m> {
         ensures entries { All (IsEntry self.now.market applicant) result.now }
         ensures member { slice_index_or self.now.singles applicant false ≡ false → result.now ≡ [] }
     {
-        self.lists.list(applicant.index())
+        live_among(&self.parts, applicant)
     }
 
     /// The applicants that the program lists, by their ranks: the most wanted first.
@@ -135,6 +209,6 @@ impl<'m> Ranks<'m> {
         ensures listed { is_some result ≡ has (ranking_of self.now.market program) applicant }
         ensures found { IfSome result (IsRank (ranking_of self.now.market program) applicant) }
     {
-        rank_at(self.rows.row(applicant.index()), program)
+        rank_at(row_among(&self.parts, applicant), program)
     }
 }

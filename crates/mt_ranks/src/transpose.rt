@@ -1,9 +1,9 @@
-ghost use Rattle.std.specs.Prelude.{◌≡◌, ℕ, ◌<◌, ◌^◌, length, map, sum, IfOk, IsTrue};
+ghost use Rattle.std.specs.Prelude.{◌≡◌, ℕ, ◌+◌, ◌<◌, ◌≤◌, ◌^◌, length, map, slice_range, sum, IfOk, IsTrue};
 ghost use Rattle.mt_terms.specs.Lists.{has, below};
-ghost use Rattle.mt_terms.specs.Market.{applicants};
-ghost use Rattle.mt_ranks.specs.Entries.{own_entries, rankings_of, times_listed, CanBeCounted, IsCounted};
+ghost use Rattle.mt_ranks.specs.Entries.{all_times, own_entries, CanBeCounted, IsCounted, ListedTimes};
 ghost use Rattle.mt_ranks.specs.Rows.{HasRoomFor, IsEnteredFor};
 
+use crate::blocks::Block;
 use crate::entries::Live;
 use crate::rows::Rows;
 use mt_market::Roster;
@@ -22,9 +22,9 @@ fn count_listed(counts: &mut [usize], ranking: &[AppNo])
 }
 
 /// How many programs list each applicant.
-fn listed(alloc: Global, roster: &Roster) -> Result<Vec<usize>, AllocError>
+pub(crate) fn listed(alloc: Global, roster: &Roster) -> Result<Vec<usize>, AllocError>
     ensures few { IfOk result (λ v. sum v.items < 2 ^ 64) }
-    ensures times { let m = roster.now.market in IfOk result (λ v. v.items ≡ map (times_listed (rankings_of m)) (below (applicants m))) }
+    ensures times { IfOk result (λ v. v.items ≡ all_times roster.now.market) }
 {
     let mut counts = Vec::from_elem(alloc, 0usize, roster.applicants() as usize)?;
     for program in 0..roster.programs() {
@@ -33,35 +33,54 @@ fn listed(alloc: Global, roster: &Roster) -> Result<Vec<usize>, AllocError>
     Ok(counts)
 }
 
-/// Adds to the rows of the applicants that a program lists their ranks there.
-fn add_ranking(rows: &mut Rows, program: ProgNo, ranking: &[AppNo])
-    requires within { (a : ℕ) → IsTrue (has ranking.now a) → a < length rows.old.lists }
-    requires room { HasRoomFor rows.old ranking.now }
+/// The numbers for the applicants of a block, among those for all applicants.
+pub(crate) fn of_block(numbers: &[usize], block: Block) -> &[usize]
+    requires { block.first + block.size ≤ length numbers.now }
+    ensures { result.now ≡ slice_range numbers.now block.first (block.first + block.size) }
+{
+    let end = block.first + block.size;
+    &numbers[block.first..end]
+}
+
+/// Adds to the rows of those applicants of a block that a program lists their ranks there.
+fn add_ranking(rows: &mut Rows, block: Block, program: ProgNo, ranking: &[AppNo])
+    requires size { length rows.old.lists ≡ block.size }
+    requires room { HasRoomFor block.first rows.old ranking.now }
     requires short { length ranking.now < 2 ^ 32 }
     ensures sizes { rows.new.sizes ≡ rows.old.sizes }
     ensures len { length rows.new.lists ≡ length rows.old.lists }
-    ensures rows { IsEnteredFor rows.old rows.new program ranking.now }
+    ensures rows { IsEnteredFor block.first rows.old rows.new program ranking.now }
 {
     for (rank, applicant) in ranking.iter().enumerate() {
-        rows.push(
-            applicant.index(),
-            Live {
-                program,
-                rank: rank as u32,
-            },
-        );
+        if let Some(place) = block.place(*applicant) {
+            rows.push(
+                place,
+                Live {
+                    program,
+                    rank: rank as u32,
+                },
+            );
+        }
     }
 }
 
-/// For each applicant the programs that list it, in their order, with its rank on each.
-pub(crate) fn transpose(alloc: Global, roster: &Roster) -> Result<Rows, AllocError>
-    ensures { let m = roster.now.market in IfOk result (λ v. v.lists ≡ map (own_entries m) (below (applicants m))) }
+/// For each applicant of a block the programs that list it, in their order, with its rank on each. So many as
+/// these sizes say list each.
+pub(crate) fn transpose(
+    alloc: Global,
+    roster: &Roster,
+    block: Block,
+    sizes: &[usize],
+) -> Result<Rows, AllocError>
+    requires sizes { ListedTimes roster.now.market block.first block.size sizes.now }
+    requires few { sum sizes.now < 2 ^ 64 }
+    ensures { let m = roster.now.market in
+        IfOk result (λ v. v.lists ≡ map (λ k. own_entries m (block.first + k)) (below block.size)) }
 {
-    let sizes = listed(alloc, roster)?;
-    let mut rows = Rows::with_sizes(alloc, &sizes)?;
+    let mut rows = Rows::with_sizes(alloc, sizes)?;
     for program in 0..roster.programs() {
         let program = ProgNo(program);
-        add_ranking(&mut rows, program, roster.program_list(program));
+        add_ranking(&mut rows, block, program, roster.program_list(program));
     }
     Ok(rows)
 }

@@ -1,13 +1,11 @@
-use Rattle.std.proofs.Common.{◌≡◌, length, map}
-use Rattle.mt_terms.specs.Lists.{below}
-use Rattle.mt_terms.specs.Market.{applicants}
-use Rattle.mt_ranks.specs.Entries.{rankings_of, times_listed}
+use Rattle.std.proofs.Common.{◌≡◌, length}
+use Rattle.mt_ranks.specs.Entries.{rankings_of, ListedTimes}
 use Rattle.mt_ranks.proofs.ListedFacts.{AreEntered}
 use Rattle.mt_ranks.proofs.transpose.transpose.Given as goal
 
 abbrev pub invariant-loop-program : goal.invariant-loop-program
 invariant-loop-program l = record {
-  len : length l.rows.lists ≡ applicants l.roster.market;
-  sizes : l.rows.sizes ≡ map (times_listed (rankings_of l.roster.market)) (below (applicants l.roster.market));
-  entered : AreEntered l.rows (rankings_of l.roster.market) l.program;
+  len : length l.rows.lists ≡ l.block.size;
+  sizes : ListedTimes l.roster.market l.block.first l.block.size l.rows.sizes;
+  entered : AreEntered l.block.first l.rows (rankings_of l.roster.market) l.program;
 }

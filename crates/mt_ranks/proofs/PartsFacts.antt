@@ -1,0 +1,123 @@
+-- Rank tables in parts, each of a block of applicants.
+use Rattle.std.proofs.Common.{◌≡◌, ℕ, zero, suc, ◌+◌, ◌-◌, ◌*◌, ◌/◌, ◌%◌, ◌<◌, ◌≤◌, List, [], ◌∷◌, map, length, get_or, min, sum, drop, slice_range, sym, ap, subst, ◌∙◌, inl, inr, arith}
+use Rattle.std.specs.Global.{Global}
+use Rattle.std.specs.Int.{div_ceil}
+use Rattle.std.specs.List.{AllZip, Contains, range_with_len}
+use Rattle.std.specs.Prelude.{Result, Ok, Err, IfOk, MatchResult, Vec}
+use Rattle.std.specs.declared.alloc.AllocError.{AllocError}
+use Rattle.std.proofs.lemmas.Bool.{cases_lt}
+use Rattle.std.proofs.lemmas.List.{get_or_past, get_or-take, get_or-drop}
+use Rattle.std.proofs.lemmas.List.FromFn.{get_or-map-range_with_len, length-map-range_with_len, fill_by_all}
+use Rattle.std.proofs.lemmas.List.Sums.{sum_by-take-le, sum_by-take-drop}
+use Rattle.rayon.specs.Numbers.{nat_range}
+use Rattle.mt_terms.specs.Lists.{below}
+use Rattle.mt_terms.specs.Market.{Market, applicants, list_of}
+use Rattle.mt_terms.specs.WellFormed.{IsWellFormed}
+use Rattle.mt_ranks.specs.Entries.{own_entries, rankings_of, entries_among, times_listed, all_times, ListedTimes, AscendFrom}
+use Rattle.mt_ranks.specs.Parts.{block_size, part_of, live_among, row_among, IsPart, AreParts, HaveApplicant}
+use Rattle.mt_ranks.specs.Rows.{Filling, row_of}
+use Rattle.mt_ranks.specs.declared.entries.Live.{Live}
+use Rattle.mt_ranks.specs.declared.tables.Part.{Part}
+use Rattle.mt_ranks.proofs.LiveLists.{rankings_distinct}
+use Rattle.mt_ranks.proofs.Positions.{entries_ascend}
+use Rattle.mt_ranks.proofs.RowFacts.{length-range}
+
+-- Below, a block's numbers are those from a place of all on.
+pub sum-range : (xs : List ℕ) (a b : ℕ) → sum (slice_range xs a b) ≤ sum xs
+sum-range xs a b = omega (arith, sum_by-take-le (λ x. x) (drop a xs) (b - a), sum_by-take-drop (λ x. x) xs a)
+
+pub many_times : (m : Market) (times : List ℕ) → times ≡ all_times m → length times ≡ applicants m
+many_times m times are = ap length are ∙ length-map-range_with_len (times_listed (rankings_of m)) 0 (applicants m)
+
+pub block_within : (number first size count n : ℕ) → first ≡ number * 25000 → size ≡ min 25000 (count - number * 25000) → count ≡ n → number * 25000 < n → first + size ≤ n
+block_within number first size count n from long all some = omega arith
+
+-- as many blocks as have an applicant
+pub has_block : (number blocks count n : ℕ) → blocks ≡ div_ceil count 25000 → count ≡ n → number * 25000 < n → number < blocks
+has_block number blocks count n are all some = omega arith
+
+pub block_begins : (number blocks count n : ℕ) → blocks ≡ div_ceil count 25000 → count ≡ n → number < blocks → number * 25000 < n
+block_begins number blocks count n are all some = omega arith
+
+pub times_of_block : (m : Market) (times : List ℕ) (from size : ℕ) → times ≡ all_times m → from + size ≤ applicants m → ListedTimes m from size (slice_range times from (from + size))
+times_of_block m times from size are within =
+    let many = many_times m times are in
+    fill_by_all (λ k. times_listed (rankings_of m) (from + k)) (slice_range times from (from + size)) size 0 (omega (arith, length-range times from (from + size) (omega (arith, many))))
+    (λ k w.
+    let inside : from + k < applicants m = omega arith in
+    let short : from + size - from ≡ size = omega arith in
+    get_or-take (from + size - from) (drop from times) k 0 (omega arith) ∙ get_or-drop from times k 0 ∙ ap (λ xs. get_or xs (from + k) 0) are
+    ∙ get_or-map-range_with_len (times_listed (rankings_of m)) 0 (applicants m) (from + k) (from + k) 0 inside (omega arith))
+
+-- the rows of a block of a well-formed market are in the order of the programs
+pub block_ascends : (m : Market) (rows : Filling) (from size k : ℕ) → IsWellFormed m → rows.lists ≡ map (λ j. own_entries m (from + j)) (below size) → AscendFrom 0 (row_of rows k)
+block_ascends m rows from size k w h =
+    let own : ℕ → List Live = λ j. own_entries m (from + j) in
+    elim (cases_lt k size) as (λ o. AscendFrom 0 (row_of rows k)) [
+      | inl within ↦ rw (h, get_or-map-range_with_len own 0 size k k [] within (omega arith)) (entries_ascend (rankings_of m) (from + k) (rankings_distinct m w))
+      | inr past ↦ rw (h, get_or_past (map own (below size)) k [] (omega (arith, length-map-range_with_len own 0 size))) tt
+    ]
+
+-- Below, threads make a part for each number of a range.
+part_made : (P : ℕ → Part → Type 0) (low n : ℕ) (made : List Part) → AllZip (λ k (r : Result Part AllocError). IfOk r (P k)) (range_with_len low n) (map Ok made)
+    → (k : ℕ) → k < n → (k < length made) × P (low + k) (part_of made k)
+part_made P low zero made each k w = absurd (omega arith)
+part_made P low (suc n) [] each k w = absurd each
+part_made P low (suc n) (part ∷ made) each zero w = let same : low ≡ low + 0 = omega arith in (omega arith, subst (λ j. P j part) same each.0)
+part_made P low (suc n) (part ∷ made) each (suc k) w =
+    let same : low + 1 + k ≡ low + suc k = omega arith in
+    let rest = part_made P (low + 1) n made each.1 k (omega arith) in
+    (omega (arith, rest.0), subst (λ j. P j (part_of made k)) same rest.1)
+
+pub parts_by_threads : (m : Market) (start end n : ℕ) (ns : List ℕ) (made : List (Result Part AllocError)) (r : Result (Vec Part Global) AllocError)
+    → start ≡ 0 → end ≡ n → ((number : ℕ) → number * 25000 < applicants m → number < n) → ns ≡ nat_range start end
+    → AllZip (λ k (r : Result Part AllocError). IfOk r (IsPart m k)) ns made
+    → MatchResult r (λ v. (vs : List Part) × (made ≡ map Ok vs) × (v.items ≡ vs)) (λ e. Contains made (Err e))
+    → IfOk r (λ v. AreParts m v.items)
+parts_by_threads m start end n ns made (Err e) from to enough are each is = tt
+parts_by_threads m start end n ns made (Ok v) from to enough are each is =
+    let Made : List ℕ → List (Result Part AllocError) → Type 0 = λ ks rs. AllZip (λ k (r : Result Part AllocError). IfOk r (IsPart m k)) ks rs in
+    let whole : end - start ≡ n = omega arith in
+    let range : ns ≡ range_with_len 0 n = are ∙ ap (λ a. range_with_len a (end - start)) from ∙ ap (range_with_len 0) whole in
+    let all : Made (range_with_len 0 n) (map Ok v.items) = subst (λ rs. Made (range_with_len 0 n) rs) (is.1 ∙ ap (map Ok) (sym is.2)) (subst (λ ks. Made ks made) range each) in
+    record {
+      enough = λ number h. (part_made (IsPart m) 0 n v.items all number (enough number h)).0;
+      each = λ number h.
+          let same : 0 + number ≡ number = omega arith in
+          subst (λ j. IsPart m j (part_of v.items number)) same (part_made (IsPart m) 0 n v.items all number (enough number h)).1;
+    }
+
+-- Below, an applicant is looked up in the part of its block.
+module _ (m : Market) (parts : List Part) (are : AreParts m parts) (a : ℕ) (within : a < applicants m) where
+  own_part : IsPart m (a / 25000) (part_of parts (a / 25000))
+  own_part = are.each (a / 25000) (omega arith)
+
+  in_block : a % 25000 < block_size (a / 25000) (applicants m)
+  in_block = omega arith
+
+  own_place : (a / 25000) * 25000 + a % 25000 ≡ a
+  own_place = omega arith
+
+  pub row_found : row_among parts a ≡ own_entries m a
+  row_found =
+      ap (λ rows. get_or rows (a % 25000) []) own_part.rows
+      ∙ get_or-map-range_with_len (λ k. own_entries m ((a / 25000) * 25000 + k)) 0 (block_size (a / 25000) (applicants m)) (a % 25000) (a % 25000) [] in_block (omega arith)
+      ∙ ap (own_entries m) own_place
+
+  pub live_found : live_among parts a ≡ entries_among (own_entries m a) (list_of m a)
+  live_found =
+      let rows = (part_of parts (a / 25000)).rows in
+      ap (λ lists. get_or lists (a % 25000) []) own_part.lists
+      ∙ get_or-map-range_with_len (λ k. entries_among (row_of rows k) (list_of m ((a / 25000) * 25000 + k))) 0 (block_size (a / 25000) (applicants m)) (a % 25000) (a % 25000) [] in_block (omega arith)
+      ∙ ap (λ b. entries_among (row_of rows (a % 25000)) (list_of m b)) own_place
+      ∙ ap (λ es. entries_among es (list_of m a)) row_found
+
+  pub applicant_held : HaveApplicant parts a
+  applicant_held =
+      let rows = (part_of parts (a / 25000)).rows in
+      let size = block_size (a / 25000) (applicants m) in
+      record {
+        part = are.enough (a / 25000) (omega arith);
+        list = omega (arith, in_block, ap length own_part.lists, length-map-range_with_len (λ k. entries_among (row_of rows k) (list_of m ((a / 25000) * 25000 + k))) 0 size);
+        row = omega (arith, in_block, ap length own_part.rows, length-map-range_with_len (λ k. own_entries m ((a / 25000) * 25000 + k)) 0 size);
+      }

@@ -1,0 +1,57 @@
+use Rattle.std.proofs.Common.{◌≡◌, ◌+◌, ℕ, List, ap, map, length, ◌∙◌, arith}
+use Rattle.std.proofs.lemmas.List.FromFn.{length-map-range_with_len}
+use Rattle.mt_terms.specs.Lists.{below}
+use Rattle.mt_terms.specs.Market.{applicants}
+use Rattle.mt_ranks.specs.Entries.{own_entries}
+use Rattle.mt_ranks.specs.Parts.{block_size}
+use Rattle.mt_ranks.specs.Rows.{listed_rows}
+use Rattle.mt_ranks.specs.declared.entries.Live.{Live}
+use Rattle.mt_ranks.proofs.PartsFacts.{sum-range, many_times, block_within, times_of_block, block_ascends}
+use Rattle.mt_ranks.proofs.tables.part_numbered.Goals as goal
+
+pub numbered-block-requires : goal.numbered-block-requires
+numbered-block-requires c = omega (arith, c.requires.number, many_times c.args.roster.now.market c.args.times.now c.requires.times)
+
+pub of_block-requires : goal.of_block-requires
+of_block-requires c =
+    let many = many_times c.args.roster.now.market c.args.times.now c.requires.times in
+    let block = c.numbered-block.result in
+    omega (arith, many, block_within c.args.number block.first block.size (length c.args.times.now) (applicants c.args.roster.now.market) c.numbered-block.ensures.first c.numbered-block.ensures.size many c.requires.number)
+
+pub transpose-requires-clause-sizes : goal.transpose-requires-clause-sizes
+transpose-requires-clause-sizes c =
+    let block = c.numbered-block.result in
+    c.of_block.ensures ∙ times_of_block c.args.roster.now.market c.args.times.now block.first block.size c.requires.times
+    (block_within c.args.number block.first block.size (length c.args.times.now) (applicants c.args.roster.now.market) c.numbered-block.ensures.first c.numbered-block.ensures.size
+    (many_times c.args.roster.now.market c.args.times.now c.requires.times) c.requires.number)
+
+pub transpose-requires-clause-few : goal.transpose-requires-clause-few
+transpose-requires-clause-few c = rw c.of_block.ensures (omega (arith, sum-range c.args.times.now c.numbered-block.result.first (c.numbered-block.result.first + c.numbered-block.result.size), c.requires.few))
+
+pub live_lists-requires-clause-block : goal.live_lists-requires-clause-block
+live_lists-requires-clause-block c =
+    let block = c.numbered-block.result in
+    block_within c.args.number block.first block.size (length c.args.times.now) (applicants c.args.roster.now.market) c.numbered-block.ensures.first c.numbered-block.ensures.size
+    (many_times c.args.roster.now.market c.args.times.now c.requires.times) c.requires.number
+
+pub live_lists-requires-clause-rows : goal.live_lists-requires-clause-rows
+live_lists-requires-clause-rows c =
+    let block = c.numbered-block.result in
+    let own : ℕ → List Live = λ k. own_entries c.args.roster.now.market (block.first + k) in
+    ap length c.in_ok-rows.ensures ∙ length-map-range_with_len own 0 block.size
+
+pub live_lists-requires-clause-ascend : goal.live_lists-requires-clause-ascend
+live_lists-requires-clause-ascend c k =
+    let block = c.numbered-block.result in
+    block_ascends c.args.roster.now.market c.in_ok-rows.rows block.first block.size k c.is_of_a_file.ensures.well_formed c.in_ok-rows.ensures
+
+pub returns : goal.returns
+returns c =
+    let m = c.args.roster.now.market in
+    let block = c.numbered-block.result in
+    let own : ℕ → ℕ → List Live = λ first k. own_entries m (first + k) in
+    let size : block.size ≡ block_size c.args.number (applicants m) = c.numbered-block.ensures.size ∙ ap (block_size c.args.number) (many_times m c.args.times.now c.requires.times) in
+    record {
+      rows = c.in_ok-rows.ensures ∙ (λ i. map (own (c.numbered-block.ensures.first i)) (below (size i)));
+      lists = c.in_ok-lists.ensures ∙ (λ i. listed_rows m (c.numbered-block.ensures.first i) (size i) c.in_ok-rows.rows);
+    }
