@@ -1,0 +1,64 @@
+/*
+ * Refuses memory to the program that it is preloaded into. The requests of malloc, calloc and realloc are counted from 1,
+ * those of all threads together, and of the C library too, as when it starts a thread. What is to be refused, and what
+ * was, stands in the file MEMORY_TALLY, which tests/memory writes and reads.
+ */
+#include <errno.h>
+#include <fcntl.h>
+#include <stdatomic.h>
+#include <stddef.h>
+#include <stdlib.h>
+#include <sys/mman.h>
+#include <unistd.h>
+
+/* As in tests/memory. */
+struct tally {
+    unsigned long first, last;   /* the numbers of the requests to refuse */
+    atomic_ulong asked, refused; /* how many requests there were, and how many of them were refused */
+};
+
+/* What the C library calls these itself. */
+void *__libc_malloc(size_t size);
+void *__libc_calloc(size_t count, size_t size);
+void *__libc_realloc(void *old, size_t size);
+
+static struct tally *tally;
+
+__attribute__((constructor)) static void open_tally(void)
+{
+    const char *path = getenv("MEMORY_TALLY");
+    int file = path ? open(path, O_RDWR) : -1;
+    struct tally *shared = mmap(NULL, sizeof *shared, PROT_READ | PROT_WRITE, MAP_SHARED, file, 0);
+    if (shared != MAP_FAILED)
+        tally = shared;
+    if (file >= 0)
+        close(file);
+}
+
+static int is_refused(void)
+{
+    unsigned long number;
+    if (!tally)
+        return 0;
+    number = 1 + atomic_fetch_add(&tally->asked, 1);
+    if (number < tally->first || number > tally->last)
+        return 0;
+    atomic_fetch_add(&tally->refused, 1);
+    errno = ENOMEM;
+    return 1;
+}
+
+void *malloc(size_t size)
+{
+    return is_refused() ? NULL : __libc_malloc(size);
+}
+
+void *calloc(size_t count, size_t size)
+{
+    return is_refused() ? NULL : __libc_calloc(count, size);
+}
+
+void *realloc(void *old, size_t size)
+{
+    return is_refused() ? NULL : __libc_realloc(old, size);
+}
