@@ -23,7 +23,8 @@ use std::sync::Wait;
 use std::thread::Threads;
 
 /// Whether the verifier calls a match stable.
-fn is_stable(
+fn is_stable<T: Threads + Sync>(
+    rt: &T,
     alloc: Global,
     roster: &Roster,
     ranks: &Ranks,
@@ -33,7 +34,7 @@ fn is_stable(
     requires places { ArePlaces roster.now.market matched.now.places }
     ensures { IfOk result (λ b. IsTrue b ↔ IsTrue (stable roster.now.market matched.now.places)) }
 {
-    match verify(alloc, roster, ranks, matched)? {
+    match verify(rt, alloc, roster, ranks, matched)? {
         Verdict::Stable => Ok(true),
         Verdict::Unlisted(_) | Verdict::Over(_) => Ok(false),
         // Both kinds of agent are named, so that the proof sees where the type stands.
@@ -68,7 +69,8 @@ fn with_couples(
 }
 
 /// The text of a match, where the verifier calls it stable.
-fn publish(
+fn publish<T: Threads + Sync>(
+    rt: &T,
     alloc: Global,
     roster: &Roster,
     ranks: &Ranks,
@@ -81,7 +83,7 @@ fn publish(
     ensures { IfOk result (λ text. MatchOption text (IsTrue (not (stable roster.now.market matched.now.places)))
         (λ t. IsPublished roster.now matched.now.places proposals.now t.items)) }
 {
-    if !is_stable(alloc, roster, ranks, matched)? {
+    if !is_stable(rt, alloc, roster, ranks, matched)? {
         return Ok(None);
     }
     Ok(Some(published(alloc, roster, matched, proposals)?))
@@ -105,7 +107,7 @@ fn answer_by_ranks<T: Threads + Wait + Sync>(
         return Err(Refusal::alone(OUT_OF_MEMORY));
     };
     let matched = with_couples(alloc, roster, ranks, singles.matched, options.budget)?;
-    match publish(alloc, roster, ranks, &matched, &singles.proposals) {
+    match publish(rt, alloc, roster, ranks, &matched, &singles.proposals) {
         Ok(Some(text)) => Ok(text),
         Ok(None) => unreachable!(),
         Err(_) => Err(Refusal::alone(OUT_OF_MEMORY)),
@@ -123,7 +125,7 @@ pub(crate) fn answer_to_market<T: Threads + Wait + Sync>(
     ensures text { IfOk result (λ text. IsAnswerOfMarket roster.now options.budget 0 text.items) }
     ensures refused { IfErr result (IsRefusalBy (IsAnswerOfMarket roster.now options.budget)) }
 {
-    match Ranks::build(alloc, roster) {
+    match Ranks::build(rt, alloc, roster) {
         Ok(ranks) => answer_by_ranks(rt, alloc, roster, &ranks, options),
         Err(_) => Err(Refusal::alone(OUT_OF_MEMORY)),
     }

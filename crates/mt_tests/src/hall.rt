@@ -166,7 +166,7 @@ fn table_in<K: HallName, R: Abort + Wait>(
 #[test]
 fn each_call_gets_its_answer(rt: HostRuntime) -> Result<(), Fail> {
     let roster = roster_of(rt.alloc(), CHAIN)?;
-    let ranks = Ranks::build(rt.alloc(), &roster)?;
+    let ranks = Ranks::build(&rt, rt.alloc(), &roster)?;
     let blank = blank_for(&ranks, 2);
     Ok(table_in::<Brand, _>(&rt, rt.alloc(), &ranks, blank)?)
 }
@@ -221,7 +221,7 @@ fn wishes_in<K: HallName, R: Abort + Wait>(
 #[test]
 fn whoever_is_displaced_is_told(rt: HostRuntime) -> Result<(), Fail> {
     let roster = roster_of(rt.alloc(), CHAIN)?;
-    let ranks = Ranks::build(rt.alloc(), &roster)?;
+    let ranks = Ranks::build(&rt, rt.alloc(), &roster)?;
     let blank = blank_for(&ranks, 1);
     Ok(wishes_in::<Brand, _>(&rt, rt.alloc(), &ranks, blank)?)
 }
@@ -297,7 +297,7 @@ fn threads_in<K: HallName + Send + Sync, R: Abort + Threads + Wait + Sync>(
 #[test]
 fn two_threads_end_at_the_same_floor(rt: HostRuntime) -> Result<(), Fail> {
     let roster = roster_of(rt.alloc(), CHAIN)?;
-    let ranks = Ranks::build(rt.alloc(), &roster)?;
+    let ranks = Ranks::build(&rt, rt.alloc(), &roster)?;
     for _ in 0..50 {
         let blank = blank_for(&ranks, 2);
         threads_in::<Brand, _>(&rt, rt.alloc(), &ranks, blank)?;
@@ -331,7 +331,7 @@ fn finished_in<K: HallName, R: Abort + Wait>(
 #[test]
 fn what_is_left_is_finished_on_the_floor(rt: HostRuntime) -> Result<(), Fail> {
     let roster = roster_of(rt.alloc(), CHAIN)?;
-    let ranks = Ranks::build(rt.alloc(), &roster)?;
+    let ranks = Ranks::build(&rt, rt.alloc(), &roster)?;
     let blank = blank_for(&ranks, 1);
     Ok(finished_in::<Brand, _>(&rt, rt.alloc(), &ranks, blank)?)
 }
@@ -368,13 +368,13 @@ fn expect_strangers<R: Abort + Wait>(
 #[test]
 fn numbers_past_the_end_are_strangers(rt: HostRuntime) -> Result<(), Fail> {
     let roster = roster_of(rt.alloc(), CHAIN)?;
-    let ranks = Ranks::build(rt.alloc(), &roster)?;
+    let ranks = Ranks::build(&rt, rt.alloc(), &roster)?;
     Ok(expect_strangers(&rt, rt.alloc(), &ranks, [3, u32::MAX])?)
 }
 
 #[test]
 fn members_are_strangers(rt: HostRuntime) -> Result<(), Fail> {
     let roster = roster_of(rt.alloc(), BETWEEN)?;
-    let ranks = Ranks::build(rt.alloc(), &roster)?;
+    let ranks = Ranks::build(&rt, rt.alloc(), &roster)?;
     Ok(expect_strangers(&rt, rt.alloc(), &ranks, [1, 2])?)
 }

@@ -17,6 +17,10 @@ mod holding;
 #[cfg(test)]
 mod markets;
 #[cfg(test)]
+mod parallel;
+#[cfg(test)]
+mod plain;
+#[cfg(test)]
 mod reading;
 #[cfg(test)]
 mod registration;

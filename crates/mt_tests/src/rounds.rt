@@ -12,9 +12,10 @@ use mt_roster::Roster;
 use std::alloc::{AllocError, Global};
 use std::process::Abort;
 use std::test::Fail;
+use std::thread::Threads;
 
-// The best match of the singles.
-fn singles(alloc: Global, roster: &Roster, ranks: &Ranks) -> Result<Match, AllocError>
+/// The best match of the singles.
+pub(crate) fn singles(alloc: Global, roster: &Roster, ranks: &Ranks) -> Result<Match, AllocError>
     requires { ranks.now ≡ ranked_of roster.now.market }
     ensures { IfOk result (λ m. IsTrue (fits roster.now.market m.places)) }
 {
@@ -33,8 +34,13 @@ fn enter(alloc: Global, roster: &Roster, ranks: &Ranks, budget: u32) -> Result<E
     enter_all(alloc, roster, ranks, singles, budget)
 }
 
-fn entered(alloc: Global, roster: &Roster, budget: u32) -> Result<Entered, CoupleEnd> {
-    let ranks = Ranks::build(alloc, roster)?;
+fn entered<R: Threads + Sync>(
+    rt: &R,
+    alloc: Global,
+    roster: &Roster,
+    budget: u32,
+) -> Result<Entered, CoupleEnd> {
+    let ranks = Ranks::build(rt, alloc, roster)?;
     enter(alloc, roster, &ranks, budget)
 }
 
@@ -49,9 +55,9 @@ fn expect_half_a_pair(rt: &impl Abort, ended: &Entered) {
 #[test]
 fn a_couple_takes_half_a_pair_in_four_rounds(rt: HostRuntime) -> Result<(), Fail> {
     let roster = roster_of(rt.alloc(), HALF_PAIR)?;
-    expect_half_a_pair(&rt, &entered(rt.alloc(), &roster, 1_000_000)?);
-    expect_half_a_pair(&rt, &entered(rt.alloc(), &roster, 4)?);
-    let spent = entered(rt.alloc(), &roster, 3);
+    expect_half_a_pair(&rt, &entered(&rt, rt.alloc(), &roster, 1_000_000)?);
+    expect_half_a_pair(&rt, &entered(&rt, rt.alloc(), &roster, 4)?);
+    let spent = entered(&rt, rt.alloc(), &roster, 3);
     assert!(rt; matches!(spent, Err(CoupleEnd::BudgetSpent)));
     Ok(())
 }

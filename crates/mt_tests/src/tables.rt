@@ -7,6 +7,7 @@ use mt_ranks::{Live, Ranks};
 use std::alloc::{AllocError, Global};
 use std::process::Abort;
 use std::test::Fail;
+use std::thread::Threads;
 
 // What the readers should answer. By program: its quota, the numbers of the applicants that it lists, and the rank
 // of each applicant. By applicant: its live list, as the programs' numbers and the ranks there, and whether it is
@@ -83,14 +84,14 @@ fn expect_applicants(rt: &impl Abort, tables: &Ranks, expected: &Expected<'_>) {
     }
 }
 
-fn expect_tables(
-    rt: &impl Abort,
+fn expect_tables<R: Abort + Threads + Sync>(
+    rt: &R,
     alloc: Global,
     file: &[u8],
     expected: &Expected<'_>,
 ) -> Result<(), Fail> {
     let roster = roster_of(alloc, file)?;
-    let tables = Ranks::build(alloc, &roster)?;
+    let tables = Ranks::build(rt, alloc, &roster)?;
     expect_programs(rt, alloc, &tables, expected)?;
     expect_applicants(rt, &tables, expected);
     Ok(())

@@ -2,6 +2,7 @@
 //! places of the applicants in order of registration, `-` for none; a finding by ids, with the position from 0 of the
 //! option that would be taken.
 use crate::markets::{are_places, roster_of};
+use crate::plain::plain_verdict;
 use mt_model::{Agent, Blocker, Match, Places, ProgNo};
 use mt_ranks::Ranks;
 use mt_roster::Roster;
@@ -9,6 +10,7 @@ use mt_verify::{Verdict, verify};
 use std::alloc::{AllocError, Global};
 use std::process::Abort;
 use std::test::Fail;
+use std::thread::Threads;
 
 // x prefers t, which is there; y and z would both take s, which wants y more. At y it doesn't block with z, which
 // comes later on its list.
@@ -128,20 +130,27 @@ fn shown(alloc: Global, verdict: &Verdict) -> Result<String, Fail> {
 }
 
 // What the verifier says of a match, by the market of a file.
-fn finding(rt: &impl Abort, alloc: Global, file: &str, match_text: &str) -> Result<String, Fail> {
+fn finding<R: Abort + Threads + Sync>(
+    rt: &R,
+    alloc: Global,
+    file: &str,
+    match_text: &str,
+) -> Result<String, Fail> {
     let roster = roster_of(alloc, file.as_bytes())?;
-    let ranks = Ranks::build(alloc, &roster)?;
+    let ranks = Ranks::build(rt, alloc, &roster)?;
     let places = places_of(alloc, &roster, match_text)?;
     assert!(rt; are_places(&roster, places.as_slice()));
     let matched = Match {
         places: Places::new(places),
     };
-    shown(alloc, &verify(alloc, &roster, &ranks, &matched)?)
+    let verdict = verify(rt, alloc, &roster, &ranks, &matched)?;
+    assert_eq!(rt; verdict, plain_verdict(&roster, &matched));
+    shown(alloc, &verdict)
 }
 
 // Each match of a file gets this finding.
-fn expect_findings(
-    rt: &impl Abort,
+fn expect_findings<R: Abort + Threads + Sync>(
+    rt: &R,
     alloc: Global,
     matches: &[(&str, &str, &str)],
 ) -> Result<(), Fail> {

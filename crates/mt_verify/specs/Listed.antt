@@ -1,5 +1,5 @@
 -- Places by the lists of singles and couples, and of programs.
-use Rattle.std.specs.Prelude.{ℕ, Bool, not, ◌&&◌, ◌||◌, ◌==◌, List, length, map, Option, is_some, Vec}
+use Rattle.std.specs.Prelude.{◌≡◌, ℕ, Bool, not, ◌&&◌, ◌||◌, ◌==◌, List, length, map, Option, is_some, Vec}
 use Rattle.std.specs.Global.{Global}
 use Rattle.std.specs.List.{list_any}
 use Rattle.mt_terms.specs.Lists.{below}
@@ -36,6 +36,9 @@ is_off_own_list m places a = (lowest_number m g == a) && not (has_own_option m p
 abbrev pub ranks_by_program : Market → Places → List (List ℕ)
 ranks_by_program m places = map (placed_ranks m places) (below (length m.programs))
 
--- the lists that vectors hold
-abbrev pub lists_of : List (Vec ℕ Global) → List (List ℕ)
-lists_of vectors = map Vec.items vectors
+-- a vector holds the ranks of those that are placed at a program, and vectors those at each program
+abbrev pub HoldsRanksAt : Market → Places → ℕ → Vec ℕ Global → Type 0
+HoldsRanksAt m places p ranks = ranks.items ≡ placed_ranks m places p
+
+abbrev pub HoldRanks : Market → Places → List (Vec ℕ Global) → Type 0
+HoldRanks m places vectors = map Vec.items vectors ≡ ranks_by_program m places

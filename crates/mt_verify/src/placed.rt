@@ -2,8 +2,7 @@ ghost use Rattle.std.specs.Prelude.{◌≡◌, ◌<◌, length, nat_lt, IfOk, On
 ghost use Rattle.std.specs.List.Sorted.{IsNonDecreasing};
 ghost use Rattle.mt_terms.specs.Registration.Accepted.{IsRegistration};
 ghost use Rattle.mt_terms.specs.Lists.{count};
-ghost use Rattle.mt_terms.specs.Matching.{placed_ranks};
-ghost use Rattle.mt_verify.specs.Listed.{lists_of, ranks_by_program};
+ghost use Rattle.mt_verify.specs.Listed.{HoldRanks, HoldsRanksAt};
 
 use mt_market::Roster;
 use mt_terms::{Match, ProgNo};
@@ -23,7 +22,7 @@ fn placed_at(
     program: ProgNo,
 ) -> Result<Vec<u32>, AllocError>
     requires { program < length roster.now.market.programs }
-    ensures { IfOk result (λ v. v.items ≡ placed_ranks roster.now.market matched.now.places program) }
+    ensures { IfOk result (HoldsRanksAt roster.now.market matched.now.places program) }
 {
     roster.is_of_a_file();
     let mut ranks = Vec::new(alloc);
@@ -43,7 +42,7 @@ pub(crate) fn placed_by_program<R: Threads + Sync>(
     matched: &Match,
 ) -> Result<Vec<Vec<u32>>, AllocError>
     ensures registration { OnOk result (IsRegistration roster.now) }
-    ensures placed { IfOk result (λ v. lists_of v.items ≡ ranks_by_program roster.now.market matched.now.places) }
+    ensures placed { IfOk result (λ v. HoldRanks roster.now.market matched.now.places v.items) }
 {
     (0..roster.programs())
         .into_par_iter()
@@ -51,7 +50,7 @@ pub(crate) fn placed_by_program<R: Threads + Sync>(
         .map(
             |number: u32| -> Result<Vec<u32>, AllocError>
                 requires { number < length roster.now.market.programs }
-                ensures { IfOk result (λ v. v.items ≡ placed_ranks roster.entry.now.market matched.entry.now.places number) }
+                ensures { IfOk result (HoldsRanksAt roster.entry.now.market matched.entry.now.places number) }
             { placed_at(alloc, roster, matched, ProgNo(number)) },
         )
         .collect::<Result<Vec<Vec<u32>>, AllocError>>(rt, alloc)?

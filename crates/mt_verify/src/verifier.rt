@@ -6,7 +6,7 @@ ghost use Rattle.mt_terms.specs.Places.{ArePlaces};
 ghost use Rattle.mt_terms.specs.Verdict.{is_over, is_unlisted, verdict_of};
 ghost use Rattle.mt_ranks.specs.Ranked.{rank_of, ranked_of};
 ghost use Rattle.mt_verify.specs.Judged.{AreAllowed, first_over, first_unlisted, is_listed_at, is_place_listed};
-ghost use Rattle.mt_verify.specs.Listed.{is_off_own_list, lists_of, ranks_by_program};
+ghost use Rattle.mt_verify.specs.Listed.{HoldRanks, is_off_own_list};
 
 mod blocking;
 mod taken;
@@ -34,7 +34,7 @@ pub(crate) struct Verifier<'a> {
     ghost is_registration: { IsRegistration roster.now },
     ghost one_market: { ranks.now ≡ ranked_of roster.now.market },
     ghost are_places: { ArePlaces roster.now.market matched.now.places },
-    ghost placed_there: { lists_of placed.items ≡ ranks_by_program roster.now.market matched.now.places },
+    ghost placed_there: { HoldRanks roster.now.market matched.now.places placed.items },
 }
 
 impl<'a> Verifier<'a> {
