@@ -123,7 +123,7 @@ fn with_last(
 }
 
 // The best match of the singles; nobody placed; and the best match with the last applicant unplaced, or at the first or
-// second program.
+// the last program.
 fn expect_large<R: Abort + Threads + Sync>(
     rt: &R,
     alloc: Global,
@@ -137,7 +137,8 @@ fn expect_large<R: Abort + Threads + Sync>(
     expect_plain_verdict(rt, alloc, &roster, &ranks, none)?;
     let best = singles(alloc, &roster, &ranks)?;
     let places = best.places.into_vec();
-    for last in [None, Some(ProgNo(0)), Some(ProgNo(1))] {
+    let last_program = ProgNo(roster.programs().saturating_sub(1));
+    for last in [None, Some(ProgNo(0)), Some(last_program)] {
         let changed = with_last(alloc, places.as_slice(), last)?;
         expect_plain_verdict(rt, alloc, &roster, &ranks, changed)?;
     }

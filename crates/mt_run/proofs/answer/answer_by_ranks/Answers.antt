@@ -11,7 +11,7 @@ use Rattle.mt_run.proofs.answer.answer_by_ranks.Goals as goal
 
 -- from the best match the couples' stage ends in a stable match
 pub publish-requires-clause-places : goal.publish-requires-clause-places
-publish-requires-clause-places g c =
+publish-requires-clause-places g c κs within =
     stable_are_places c.args.roster.now.market c.is_of_a_file.ensures.well_formed _
     (stage_is_stable_lem c.args.roster.now.market c.is_of_a_file.ensures.well_formed c.in-Ok.singles.matched.places c.in-Ok.ensures.best c.args.options.budget _
     c.in_ok-matched.ensures.entered.1)
