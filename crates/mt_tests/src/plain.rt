@@ -135,13 +135,14 @@ fn is_unlisted(roster: &Roster, matched: &Match, applicant: AppNo) -> bool {
     is_off_list || is_off_own_list(roster, matched, applicant)
 }
 
+// Whoever is placed there is on its list, where nobody is unlisted.
 fn is_over(roster: &Roster, matched: &Match, program: ProgNo) -> bool {
     if program.0 >= roster.programs() {
         return false;
     }
     let mut placed = 0u32;
-    for place in matched.places.as_slice() {
-        if *place == Some(program) {
+    for listed in roster.program_list(program) {
+        if matched.place(*listed) == Some(program) {
             placed = placed.saturating_add(1);
         }
     }
