@@ -147,7 +147,7 @@ fn expect_large<R: Abort + Threads + Sync>(
 // ones down, and has posts for half of them. Of an applicant's three programs the second doesn't list it.
 fn many_programs(alloc: Global, applicants: u32, programs: u32) -> Result<String, AllocError> {
     let count = programs.max(1);
-    let rounds = applicants / count + 1;
+    let rounds = (applicants / count).saturating_add(1);
     let mut file = String::new(alloc);
     file.push_str("match,2\n")?;
     for program in 0..programs {
