@@ -10,8 +10,8 @@ use rayon::prelude::*;
 use std::alloc::{AllocError, Global};
 use std::thread::Threads;
 
-/// From twice as many programs on, their lists are gone through side by side: a thread costs as much as to
-/// go through some hundreds of them.
+/// From twice as many programs on, their lists are gone through side by side. That a thread pays for itself with
+/// some hundreds of them is an estimate.
 const LEAST_PROGRAMS: usize = 256;
 
 /// Where those that are placed at the program stand on its list, in rising order.

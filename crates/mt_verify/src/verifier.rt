@@ -20,8 +20,8 @@ use rayon::prelude::*;
 use std::alloc::{AllocError, Global};
 use std::thread::Threads;
 
-/// From twice as many applicants on, the market's are judged side by side: a thread costs as much as
-/// to judge some hundreds of them.
+/// From twice as many applicants on, the market's are judged side by side. That a thread pays for itself with so
+/// many is an estimate.
 pub(crate) const LEAST_APPLICANTS: usize = 1024;
 
 /// A match beside the market that it is judged by, with the ranks of those placed at each program.
