@@ -3,9 +3,7 @@
 ghost use Rattle.std.specs.Prelude.{◌≡◌};
 ghost use Rattle.mt_ranks.specs.Ranked.{ranked_of};
 
-use crate::markets::{
-    BETWEEN, CHAIN, CROSSED, HALF_PAIR, THREE_COUPLES, are_places, roster_of,
-};
+use crate::markets::{BETWEEN, CHAIN, CROSSED, HALF_PAIR, THREE_COUPLES, are_places, roster_of};
 use crate::plain::{plain_rank, plain_verdict};
 use crate::rounds::singles;
 use mt_model::{AppNo, Match, Places, ProgNo};
@@ -62,7 +60,10 @@ fn expect_plain_verdict<R: Abort + Threads + Sync>(
     let matched = Match {
         places: Places::new(places),
     };
-    assert_eq!(rt; verify(rt, alloc, roster, ranks, &matched)?, plain_verdict(roster, &matched));
+    assert_eq!(rt;
+        verify(rt, alloc, roster, ranks, &matched)?,
+        plain_verdict(roster, &matched)
+    );
     Ok(())
 }
 
@@ -78,7 +79,11 @@ fn places_by_number(
     for _ in 0..roster.applicants() {
         let digit = digits % base.max(1);
         digits = digits / base.max(1);
-        places.push(if digit == 0 { None } else { Some(ProgNo(digit - 1)) })?;
+        places.push(if digit == 0 {
+            None
+        } else {
+            Some(ProgNo(digit - 1))
+        })?;
     }
     Ok(places)
 }
@@ -123,11 +128,7 @@ fn with_last(
 }
 
 // Nobody placed; the best match of the singles; and that with the last applicant at the last program.
-fn expect_large<R: Abort + Threads + Sync>(
-    rt: &R,
-    alloc: Global,
-    file: &[u8],
-) -> Result<(), Fail> {
+fn expect_large<R: Abort + Threads + Sync>(rt: &R, alloc: Global, file: &[u8]) -> Result<(), Fail> {
     let roster = roster_of(alloc, file)?;
     let ranks = Ranks::build(rt, alloc, &roster)?;
     expect_tables(rt, &roster, &ranks);
@@ -153,7 +154,9 @@ fn many_programs(alloc: Global, applicants: u32, programs: u32) -> Result<String
     for program in 0..programs {
         file.push_str(&format!(in alloc; "program,p{program},{}", applicants / count)?)?;
         for back in 0..rounds {
-            let own = (rounds - 1 - back).saturating_mul(count).saturating_add(program);
+            let own = (rounds - 1 - back)
+                .saturating_mul(count)
+                .saturating_add(program);
             for applicant in own..own.saturating_add(2).min(applicants) {
                 file.push_str(&format!(in alloc; ",a{applicant}")?)?;
             }

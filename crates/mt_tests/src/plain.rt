@@ -89,7 +89,8 @@ fn first_pair(roster: &Roster, matched: &Match, couple: CoupleNo) -> Option<u32>
         }
         let sent = [(first, pair.0), (second, pair.1)];
         if is_taken(roster, matched, &sent, first, pair.0)
-            && is_taken(roster, matched, &sent, second, pair.1) {
+            && is_taken(roster, matched, &sent, second, pair.1)
+        {
             return Some(option);
         }
         option = option.saturating_add(1);
