@@ -1,0 +1,81 @@
+//! The calls on bytes, records and words, and those on a roster alone.
+
+use crate::markets::{CHAIN, roster_of};
+use mt_args::{AskEnd, Asked, asked};
+use mt_hold::Hold;
+use mt_lists::{ListFault, ReadEnd, Tap, read_all, records};
+use mt_ranks::Ranks;
+use mt_terms::{AppNo, LIMITS, ProgNo};
+use std::alloc::{AllocError, Global};
+use std::thread::Threads;
+
+/// Whether the bytes of a file are read.
+pub(crate) fn reads(alloc: Global) -> Result<bool, AllocError> {
+    match read_all(alloc, &mut Tap::new(CHAIN), LIMITS.bytes) {
+        Ok(bytes) => Ok(bytes.as_slice() == CHAIN),
+        Err(ReadEnd::Memory) => Err(AllocError),
+        Err(ReadEnd::TooLarge | ReadEnd::Fault) => Ok(false),
+    }
+}
+
+/// Whether a file with a quote has these rows.
+pub(crate) fn splits(alloc: Global) -> Result<bool, AllocError> {
+    match records(alloc, b"match,1\n\"program\",P,0\n") {
+        Ok(rows) => {
+            let mut left = rows.iter();
+            let lengths = [
+                left.next().map_or(0, |row| row.fields().len()),
+                left.next().map_or(0, |row| row.fields().len()),
+            ];
+            Ok(lengths == [2, 3] && left.next().is_none())
+        }
+        Err(ListFault::Memory) => Err(AllocError),
+        Err(ListFault::TwoMarks) => Ok(false),
+    }
+}
+
+/// Whether the words are taken.
+pub(crate) fn asks(alloc: Global) -> Result<bool, AllocError> {
+    let mut words = Vec::new(alloc);
+    for word in ["--workers", "2", "--budget=7", "file"] {
+        words.push(String::from_str(alloc, word)?)?;
+    }
+    match asked(alloc, words.as_slice()) {
+        Ok(Asked::Run { file, options }) => {
+            Ok(options.workers == 2 && options.budget == 7 && file.is_some())
+        }
+        Ok(Asked::Help(_) | Asked::Version(_)) | Err(AskEnd::Usage(_)) => Ok(false),
+        Err(AskEnd::Memory) => Err(AllocError),
+    }
+}
+
+/// Whether a holding that was opened has received nothing.
+pub(crate) fn holds(alloc: Global) -> Result<bool, AllocError> {
+    let hold = Hold::open(alloc, 2, 100)?;
+    Ok(hold.count() == 0 && !hold.received(99))
+}
+
+/// Whether a file is registered.
+pub(crate) fn registers(alloc: Global) -> Result<bool, AllocError> {
+    let Some(roster) = roster_of(alloc, CHAIN)? else {
+        return Ok(false);
+    };
+    if roster.applicants() != 3 || roster.programs() != 2 {
+        return Ok(false);
+    }
+    Ok(roster.program_list(ProgNo(0)).len() == 3
+        && roster.single_list(AppNo(2)).len() == 1
+        && roster.applicant_id(AppNo(1)) == b"a2".as_slice())
+}
+
+/// Whether the rank tables of a roster are made.
+pub(crate) fn ranks<T: Threads + Sync>(rt: &T, alloc: Global) -> Result<bool, AllocError> {
+    let Some(roster) = roster_of(alloc, CHAIN)? else {
+        return Ok(false);
+    };
+    let ranks = Ranks::build(rt, alloc, &roster)?;
+    if ranks.applicants() != 3 || ranks.programs() != 2 {
+        return Ok(false);
+    }
+    Ok(ranks.live(AppNo(0)).len() == 2 && ranks.rank(ProgNo(0), AppNo(0)) == Some(2))
+}

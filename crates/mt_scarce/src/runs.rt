@@ -1,0 +1,150 @@
+//! The couples' rounds, the judge, the text, and whole runs.
+ghost use Rattle.std.specs.Prelude.{◌≡◌, ◌≤◌, length, IsTrue};
+ghost use Rattle.std.specs.List.{list_all};
+ghost use Rattle.mt_terms.specs.Registration.Accepted.{is_none_or_below};
+ghost use Rattle.mt_terms.specs.Places.{ArePlaces};
+
+use crate::floors::singles;
+use crate::markets::{CHAIN, CHAIN_TEXT, TWO_COUPLES, roster_of};
+use mt_couples::{CoupleEnd, enter_all};
+use mt_lists::Tap;
+use mt_ranks::Ranks;
+use mt_report::{Drain, published};
+use mt_roster::Roster;
+use mt_run::{Options, run};
+use mt_terms::codes::OUT_OF_MEMORY;
+use mt_terms::{Agent, AppNo, Blocker, Match, Places, ProgNo};
+use mt_verify::{Verdict, verify};
+use std::alloc::{AllocError, Global};
+use std::io::{self, Write};
+use std::sync::Wait;
+use std::thread::Threads;
+
+/// What a run writes when memory is refused.
+const OUT_OF_MEMORY_LINE: &[u8] = b"match,1,refused,30,OutOfMemory,0,-\n";
+
+/// Whether the couples end where they should, in five rounds.
+pub(crate) fn enters<T: Threads + Sync>(rt: &T, alloc: Global) -> Result<bool, AllocError> {
+    let Some(roster) = roster_of(alloc, TWO_COUPLES)? else {
+        return Ok(false);
+    };
+    let ranks = Ranks::build(rt, alloc, &roster)?;
+    let singles = singles(alloc, &roster, &ranks)?;
+    match enter_all(alloc, &roster, &ranks, singles, 5) {
+        Ok(entered) => {
+            let places = [Some(ProgNo(0)), None, None, Some(ProgNo(0)), Some(ProgNo(1))];
+            Ok(entered.matched.places.as_slice() == places.as_slice() && entered.rounds == 5)
+        }
+        Err(CoupleEnd::BudgetSpent) => Ok(false),
+        Err(CoupleEnd::Memory) => Err(AllocError),
+    }
+}
+
+// Whether a place is none, or a program of the roster.
+fn is_place(roster: &Roster, place: Option<ProgNo>) -> bool
+    ensures { result ≡ is_none_or_below (length roster.now.market.programs) place }
+{
+    match place {
+        None => true,
+        Some(program) => program.0 < roster.programs(),
+    }
+}
+
+// Whether each place is none, or a program of the roster.
+fn all_places(roster: &Roster, places: &[Option<ProgNo>]) -> bool
+    ensures { result ≡ list_all (λ place. is_none_or_below (length roster.now.market.programs) place) places.now }
+{
+    places.iter().all(|place| is_place(roster, *place))
+}
+
+// Whether there is one place for each applicant, each of them a program of the roster.
+fn are_places(roster: &Roster, places: &[Option<ProgNo>]) -> bool
+    ensures { IsTrue result → ArePlaces roster.now.market places.now }
+{
+    places.len() == roster.applicants() as usize && all_places(roster, places)
+}
+
+/// Whether the judge finds who blocks: a3, whom P1 wants more than a1.
+pub(crate) fn judges<T: Threads + Sync>(rt: &T, alloc: Global) -> Result<bool, AllocError> {
+    let Some(roster) = roster_of(alloc, CHAIN)? else {
+        return Ok(false);
+    };
+    let ranks = Ranks::build(rt, alloc, &roster)?;
+    let places = [Some(ProgNo(0)), Some(ProgNo(1)), None];
+    if !are_places(&roster, &places) {
+        return Ok(false);
+    }
+    let matched = Match {
+        places: Places::new(places.to_vec(alloc)?),
+    };
+    let blocking = Verdict::Blocks(Blocker {
+        agent: Agent::Single(AppNo(2)),
+        option: 0,
+    });
+    Ok(verify(rt, alloc, &roster, &ranks, &matched)? == blocking)
+}
+
+/// Whether a match has its text.
+pub(crate) fn publishes(alloc: Global) -> Result<bool, AllocError> {
+    let Some(roster) = roster_of(alloc, CHAIN)? else {
+        return Ok(false);
+    };
+    let places = [Some(ProgNo(1)), Some(ProgNo(0)), None];
+    if !are_places(&roster, &places) || roster.programs() != 2 {
+        return Ok(false);
+    }
+    let matched = Match {
+        places: Places::new(places.to_vec(alloc)?),
+    };
+    let text = published(alloc, &roster, &matched, &[3, 2])?;
+    Ok(text.as_slice() == CHAIN_TEXT)
+}
+
+/// A writer with room for a small text.
+#[derive(Drop)]
+struct Page {
+    bytes: [u8; 256],
+    len: usize,
+    ghost within: { len ≤ 256 },
+}
+
+impl Write for Page {
+    fn write(&mut self, buf: &[u8]) -> io::Result<usize> {
+        let count = buf.len().min(256 - self.len);
+        let end = self.len + count;
+        self.bytes[self.len..end].copy_from_slice(&buf[..count]);
+        self.len = end;
+        Ok(count)
+    }
+
+    fn flush(&mut self) -> io::Result<()> {
+        Ok(())
+    }
+}
+
+/// Whether a run by so many workers writes this text. Where memory is refused it has to write the line of that.
+pub(crate) fn runs<T: Threads + Wait + Sync>(
+    rt: &T,
+    alloc: Global,
+    input: &[u8],
+    text: &[u8],
+    workers: u32,
+) -> Result<bool, AllocError>
+    requires { (1 ≤ workers) × (workers ≤ 64) }
+{
+    let mut page = Page {
+        bytes: [0; 256],
+        len: 0,
+    };
+    let mut drain = Drain::new(&mut page);
+    let options = Options {
+        workers,
+        budget: 5,
+    };
+    let ended = run(rt, alloc, &mut Tap::new(input), &mut drain, options);
+    let written = &page.bytes[..page.len];
+    if ended.code == OUT_OF_MEMORY && ended.whole && written == OUT_OF_MEMORY_LINE {
+        return Err(AllocError);
+    }
+    Ok(ended.code == 0 && ended.whole && written == text)
+}
