@@ -1,10 +1,11 @@
 //! Which calls there are, and what became of one.
+ghost use Rattle.std.specs.Prelude.{◌≤◌};
 
 use crate::floors::{closes, deals, finishes, works};
 use crate::lists::{asks, holds, ranks, reads, registers, splits};
 use crate::markets::{CHAIN, CHAIN_TEXT, TWO_COUPLES, TWO_COUPLES_TEXT};
 use crate::runs::{enters, judges, publishes, runs};
-use std::alloc::AllocError;
+use std::alloc::{AllocError, Global};
 use std::sync::Wait;
 use std::thread::Threads;
 
@@ -20,16 +21,15 @@ pub(crate) enum Call {
     Finishes,
     Deals,
     Closes,
-    Works(u32),
+    Works,
     Enters,
     Judges,
     Publishes,
-    RunsSingles(u32),
-    RunsCouples(u32),
+    RunsSingles,
+    RunsCouples,
 }
 
-/// All calls. Those with a number are made by so many workers.
-pub(crate) const CALLS: [Call; 18] = [
+pub(crate) const CALLS: [Call; 15] = [
     Call::Reads,
     Call::Splits,
     Call::Asks,
@@ -39,15 +39,12 @@ pub(crate) const CALLS: [Call; 18] = [
     Call::Finishes,
     Call::Deals,
     Call::Closes,
-    Call::Works(1),
-    Call::Works(2),
+    Call::Works,
     Call::Enters,
     Call::Judges,
     Call::Publishes,
-    Call::RunsSingles(1),
-    Call::RunsSingles(2),
-    Call::RunsCouples(1),
-    Call::RunsCouples(2),
+    Call::RunsSingles,
+    Call::RunsCouples,
 ];
 
 /// What became of a call: its answer is what it should be, or another, or memory was refused.
@@ -57,25 +54,31 @@ pub(crate) enum Made {
     Refused,
 }
 
-/// Makes a call.
-pub(crate) fn made<T: Threads + Wait + Sync>(rt: &HostRuntime, crew: &T, call: Call) -> Made {
-    let alloc = rt.alloc();
+/// Makes a call, by so many workers where it takes some.
+pub(crate) fn made<T: Threads + Wait + Sync>(
+    rt: &T,
+    alloc: Global,
+    call: Call,
+    workers: u32,
+) -> Made
+    requires { (1 ≤ workers) × (workers ≤ 64) }
+{
     let answer = match call {
         Call::Reads => reads(alloc),
         Call::Splits => splits(alloc),
         Call::Asks => asks(alloc),
         Call::Holds => holds(alloc),
         Call::Registers => registers(alloc),
-        Call::Ranks => ranks(crew, alloc),
-        Call::Finishes => finishes(crew, alloc),
+        Call::Ranks => ranks(rt, alloc),
+        Call::Finishes => finishes(rt, alloc),
         Call::Deals => deals(alloc),
-        Call::Closes => closes(crew, alloc),
-        Call::Works(workers) => works(crew, alloc, workers),
-        Call::Enters => enters(crew, alloc),
-        Call::Judges => judges(crew, alloc),
+        Call::Closes => closes(rt, alloc),
+        Call::Works => works(rt, alloc, workers),
+        Call::Enters => enters(rt, alloc),
+        Call::Judges => judges(rt, alloc),
         Call::Publishes => publishes(alloc),
-        Call::RunsSingles(workers) => runs(crew, alloc, CHAIN, CHAIN_TEXT, workers),
-        Call::RunsCouples(workers) => runs(crew, alloc, TWO_COUPLES, TWO_COUPLES_TEXT, workers),
+        Call::RunsSingles => runs(rt, alloc, CHAIN, CHAIN_TEXT, workers),
+        Call::RunsCouples => runs(rt, alloc, TWO_COUPLES, TWO_COUPLES_TEXT, workers),
     };
     match answer {
         Ok(true) => Made::Right,

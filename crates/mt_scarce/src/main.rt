@@ -2,13 +2,18 @@
 //! ample memory. A test refuses its requests for memory one after another.
 #![tactic(auto)]
 
+ghost use Rattle.std.specs.Prelude.{◌≤◌};
+
 mod floors;
 mod lists;
 mod made;
 mod markets;
 mod runs;
 
-use made::{Made, made};
+use made::{CALLS, Made, made};
+use std::alloc::Global;
+use std::env;
+use std::io;
 use std::process::ExitCode;
 use std::sync::Wait;
 use std::thread::Threads;
@@ -16,13 +21,15 @@ use std::thread::Threads;
 /// The exit status where an answer was another than it should be.
 const WRONG: u8 = 255;
 
-/// How many calls were refused memory, each counted once more where it was refused a second time; or none where an
-/// answer was another than it should be.
-fn refusals<T: Threads + Wait + Sync>(rt: &HostRuntime, crew: &T) -> Option<u8> {
+/// How many calls by so many workers were refused memory, each counted once more where it was refused a second time; or
+/// none where an answer was another than it should be.
+fn refusals<T: Threads + Wait + Sync>(rt: &T, alloc: Global, workers: u32) -> Option<u8>
+    requires { (1 ≤ workers) × (workers ≤ 64) }
+{
     let mut refused: u8 = 0;
-    for call in made::CALLS {
+    for call in CALLS {
         for _ in 0..2 {
-            match made(rt, crew, call) {
+            match made(rt, alloc, call, workers) {
                 Made::Right => break,
                 Made::Refused => refused = refused.saturating_add(1),
                 Made::Wrong => return None,
@@ -32,7 +39,17 @@ fn refusals<T: Threads + Wait + Sync>(rt: &HostRuntime, crew: &T) -> Option<u8> 
     Some(refused)
 }
 
-// The exit status is the number of refusals, and 255 where an answer was wrong.
+/// Whether the program has a word.
+fn has_word(rt: &HostRuntime) -> io::Result<bool> {
+    Ok(env::args(rt)?.nth(1).is_some())
+}
+
+// The calls are made by one worker, and with a word by two. The exit status is the number of refusals, and 255 where an
+// answer was wrong.
 fn main(rt: HostRuntime) -> ExitCode {
-    ExitCode::from(refusals(&rt, &rt).unwrap_or(WRONG))
+    let Ok(is_pair) = has_word(&rt) else {
+        return ExitCode::from(1);
+    };
+    let workers = if is_pair { 2 } else { 1 };
+    ExitCode::from(refusals(&rt, rt.alloc(), workers).unwrap_or(WRONG))
 }
