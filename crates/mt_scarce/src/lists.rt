@@ -1,25 +1,25 @@
 //! The calls on bytes, records and words, and those on a roster alone.
 
-use crate::markets::{CHAIN, roster_of};
+use mt_samples::markets::{CHAIN, SampleError, roster_of};
 use mt_args::{AskEnd, Asked, asked};
 use mt_hold::Hold;
 use mt_lists::{ListFault, ReadEnd, Tap, read_all, records};
 use mt_ranks::Ranks;
 use mt_terms::{AppNo, LIMITS, ProgNo};
-use std::alloc::{AllocError, Global};
+use std::alloc::Global;
 use std::thread::Threads;
 
 /// Whether the bytes of a file are read.
-pub(crate) fn reads(alloc: Global) -> Result<bool, AllocError> {
+pub(crate) fn reads(alloc: Global) -> Result<bool, SampleError> {
     match read_all(alloc, &mut Tap::new(CHAIN), LIMITS.bytes) {
         Ok(bytes) => Ok(bytes.as_slice() == CHAIN),
-        Err(ReadEnd::Memory) => Err(AllocError),
+        Err(ReadEnd::Memory) => Err(SampleError::Memory),
         Err(ReadEnd::TooLarge | ReadEnd::Fault) => Ok(false),
     }
 }
 
 /// Whether a file with a quote has these rows.
-pub(crate) fn splits(alloc: Global) -> Result<bool, AllocError> {
+pub(crate) fn splits(alloc: Global) -> Result<bool, SampleError> {
     match records(alloc, b"match,1\n\"program\",P,0\n") {
         Ok(rows) => {
             let mut left = rows.iter();
@@ -29,13 +29,13 @@ pub(crate) fn splits(alloc: Global) -> Result<bool, AllocError> {
             ];
             Ok(lengths == [2, 3] && left.next().is_none())
         }
-        Err(ListFault::Memory) => Err(AllocError),
+        Err(ListFault::Memory) => Err(SampleError::Memory),
         Err(ListFault::TwoMarks) => Ok(false),
     }
 }
 
 /// Whether the words are taken.
-pub(crate) fn asks(alloc: Global) -> Result<bool, AllocError> {
+pub(crate) fn asks(alloc: Global) -> Result<bool, SampleError> {
     let mut words = Vec::new(alloc);
     for word in ["--workers", "2", "--budget=7", "file"] {
         words.push(String::from_str(alloc, word)?)?;
@@ -45,21 +45,19 @@ pub(crate) fn asks(alloc: Global) -> Result<bool, AllocError> {
             Ok(options.workers == 2 && options.budget == 7 && file.is_some())
         }
         Ok(Asked::Help(_) | Asked::Version(_)) | Err(AskEnd::Usage(_)) => Ok(false),
-        Err(AskEnd::Memory) => Err(AllocError),
+        Err(AskEnd::Memory) => Err(SampleError::Memory),
     }
 }
 
 /// Whether a holding that was opened has received nothing.
-pub(crate) fn holds(alloc: Global) -> Result<bool, AllocError> {
+pub(crate) fn holds(alloc: Global) -> Result<bool, SampleError> {
     let hold = Hold::open(alloc, 2, 100)?;
     Ok(hold.count() == 0 && !hold.received(99))
 }
 
 /// Whether a file is registered.
-pub(crate) fn registers(alloc: Global) -> Result<bool, AllocError> {
-    let Some(roster) = roster_of(alloc, CHAIN)? else {
-        return Ok(false);
-    };
+pub(crate) fn registers(alloc: Global) -> Result<bool, SampleError> {
+    let roster = roster_of(alloc, CHAIN)?;
     if roster.applicants() != 3 || roster.programs() != 2 {
         return Ok(false);
     }
@@ -69,10 +67,8 @@ pub(crate) fn registers(alloc: Global) -> Result<bool, AllocError> {
 }
 
 /// Whether the rank tables of a roster are made.
-pub(crate) fn ranks<T: Threads + Sync>(rt: &T, alloc: Global) -> Result<bool, AllocError> {
-    let Some(roster) = roster_of(alloc, CHAIN)? else {
-        return Ok(false);
-    };
+pub(crate) fn ranks<T: Threads + Sync>(rt: &T, alloc: Global) -> Result<bool, SampleError> {
+    let roster = roster_of(alloc, CHAIN)?;
     let ranks = Ranks::build(rt, alloc, &roster)?;
     if ranks.applicants() != 3 || ranks.programs() != 2 {
         return Ok(false);

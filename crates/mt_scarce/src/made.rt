@@ -3,9 +3,9 @@ ghost use Rattle.std.specs.Prelude.{◌≤◌};
 
 use crate::floors::{closes, deals, finishes, works};
 use crate::lists::{asks, holds, ranks, reads, registers, splits};
-use crate::markets::{CHAIN, CHAIN_TEXT, TWO_COUPLES, TWO_COUPLES_TEXT};
+use mt_samples::markets::{CHAIN, CHAIN_TEXT, SampleError, TWO_COUPLES, TWO_COUPLES_TEXT};
 use crate::runs::{enters, judges, publishes, runs};
-use std::alloc::{AllocError, Global};
+use std::alloc::Global;
 use std::sync::Wait;
 use std::thread::Threads;
 
@@ -82,7 +82,7 @@ pub(crate) fn made<T: Threads + Wait + Sync>(
     };
     match answer {
         Ok(true) => Made::Right,
-        Ok(false) => Made::Wrong,
-        Err(AllocError) => Made::Refused,
+        Ok(false) | Err(SampleError::Fault) => Made::Wrong,
+        Err(SampleError::Memory) => Made::Refused,
     }
 }

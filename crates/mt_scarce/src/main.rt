@@ -7,7 +7,6 @@ ghost use Rattle.std.specs.Prelude.{◌≤◌};
 mod floors;
 mod lists;
 mod made;
-mod markets;
 mod runs;
 
 use made::{CALLS, Made, made};

@@ -1,21 +1,18 @@
 //! The couples' rounds, the judge, the text, and whole runs.
-ghost use Rattle.std.specs.Prelude.{◌≡◌, ◌≤◌, length, IsTrue};
-ghost use Rattle.std.specs.List.{list_all};
-ghost use Rattle.mt_terms.specs.Registration.Accepted.{is_none_or_below};
-ghost use Rattle.mt_terms.specs.Places.{ArePlaces};
+ghost use Rattle.std.specs.Prelude.{◌≤◌};
 
-use crate::floors::singles;
-use crate::markets::{CHAIN, CHAIN_TEXT, TWO_COUPLES, roster_of};
+use mt_samples::markets::{CHAIN, CHAIN_TEXT, SampleError, TWO_COUPLES, roster_of};
+use mt_samples::places::are_places;
+use mt_samples::singles::singles;
 use mt_couples::{CoupleEnd, enter_all};
 use mt_lists::Tap;
 use mt_ranks::Ranks;
 use mt_report::{Drain, published};
-use mt_roster::Roster;
 use mt_run::{Options, run};
 use mt_terms::codes::OUT_OF_MEMORY;
 use mt_terms::{Agent, AppNo, Blocker, Match, Places, ProgNo};
 use mt_verify::{Verdict, verify};
-use std::alloc::{AllocError, Global};
+use std::alloc::Global;
 use std::io::{self, Write};
 use std::sync::Wait;
 use std::thread::Threads;
@@ -24,10 +21,8 @@ use std::thread::Threads;
 const OUT_OF_MEMORY_LINE: &[u8] = b"match,1,refused,30,OutOfMemory,0,-\n";
 
 /// Whether the couples end where they should, in five rounds.
-pub(crate) fn enters<T: Threads + Sync>(rt: &T, alloc: Global) -> Result<bool, AllocError> {
-    let Some(roster) = roster_of(alloc, TWO_COUPLES)? else {
-        return Ok(false);
-    };
+pub(crate) fn enters<T: Threads + Sync>(rt: &T, alloc: Global) -> Result<bool, SampleError> {
+    let roster = roster_of(alloc, TWO_COUPLES)?;
     let ranks = Ranks::build(rt, alloc, &roster)?;
     let singles = singles(alloc, &roster, &ranks)?;
     match enter_all(alloc, &roster, &ranks, singles, 5) {
@@ -36,39 +31,13 @@ pub(crate) fn enters<T: Threads + Sync>(rt: &T, alloc: Global) -> Result<bool, A
             Ok(entered.matched.places.as_slice() == places.as_slice() && entered.rounds == 5)
         }
         Err(CoupleEnd::BudgetSpent) => Ok(false),
-        Err(CoupleEnd::Memory) => Err(AllocError),
+        Err(CoupleEnd::Memory) => Err(SampleError::Memory),
     }
-}
-
-// Whether a place is none, or a program of the roster.
-fn is_place(roster: &Roster, place: Option<ProgNo>) -> bool
-    ensures { result ≡ is_none_or_below (length roster.now.market.programs) place }
-{
-    match place {
-        None => true,
-        Some(program) => program.0 < roster.programs(),
-    }
-}
-
-// Whether each place is none, or a program of the roster.
-fn all_places(roster: &Roster, places: &[Option<ProgNo>]) -> bool
-    ensures { result ≡ list_all (λ place. is_none_or_below (length roster.now.market.programs) place) places.now }
-{
-    places.iter().all(|place| is_place(roster, *place))
-}
-
-// Whether there is one place for each applicant, each of them a program of the roster.
-fn are_places(roster: &Roster, places: &[Option<ProgNo>]) -> bool
-    ensures { IsTrue result → ArePlaces roster.now.market places.now }
-{
-    places.len() == roster.applicants() as usize && all_places(roster, places)
 }
 
 /// Whether the judge finds who blocks: a3, whom P1 wants more than a1.
-pub(crate) fn judges<T: Threads + Sync>(rt: &T, alloc: Global) -> Result<bool, AllocError> {
-    let Some(roster) = roster_of(alloc, CHAIN)? else {
-        return Ok(false);
-    };
+pub(crate) fn judges<T: Threads + Sync>(rt: &T, alloc: Global) -> Result<bool, SampleError> {
+    let roster = roster_of(alloc, CHAIN)?;
     let ranks = Ranks::build(rt, alloc, &roster)?;
     let places = [Some(ProgNo(0)), Some(ProgNo(1)), None];
     if !are_places(&roster, &places) {
@@ -85,10 +54,8 @@ pub(crate) fn judges<T: Threads + Sync>(rt: &T, alloc: Global) -> Result<bool, A
 }
 
 /// Whether a match has its text.
-pub(crate) fn publishes(alloc: Global) -> Result<bool, AllocError> {
-    let Some(roster) = roster_of(alloc, CHAIN)? else {
-        return Ok(false);
-    };
+pub(crate) fn publishes(alloc: Global) -> Result<bool, SampleError> {
+    let roster = roster_of(alloc, CHAIN)?;
     let places = [Some(ProgNo(1)), Some(ProgNo(0)), None];
     if !are_places(&roster, &places) || roster.programs() != 2 {
         return Ok(false);
@@ -129,7 +96,7 @@ pub(crate) fn runs<T: Threads + Wait + Sync>(
     input: &[u8],
     text: &[u8],
     workers: u32,
-) -> Result<bool, AllocError>
+) -> Result<bool, SampleError>
     requires { (1 ≤ workers) × (workers ≤ 64) }
 {
     let mut page = Page {
@@ -144,7 +111,7 @@ pub(crate) fn runs<T: Threads + Wait + Sync>(
     let ended = run(rt, alloc, &mut Tap::new(input), &mut drain, options);
     let written = &page.bytes[..page.len];
     if ended.code == OUT_OF_MEMORY && ended.whole && written == OUT_OF_MEMORY_LINE {
-        return Err(AllocError);
+        return Err(SampleError::Memory);
     }
     Ok(ended.code == 0 && ended.whole && written == text)
 }

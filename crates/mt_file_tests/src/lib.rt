@@ -1,0 +1,13 @@
+//! Tests of what stands between bytes and a market, and between a match and its text, by public calls alone.
+#![tactic(auto)]
+
+#[cfg(test)]
+mod command_line;
+#[cfg(test)]
+mod reading;
+#[cfg(test)]
+mod registration;
+#[cfg(test)]
+mod text;
+#[cfg(test)]
+mod writing;

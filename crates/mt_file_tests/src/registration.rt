@@ -1,0 +1,152 @@
+//! Files of records by example: the whole market of each that is accepted, by its readers, or its first fault.
+ghost use Rattle.std.specs.Prelude.{◌<◌, length};
+ghost use Rattle.mt_terms.specs.Market.{applicants};
+
+mod faults;
+mod limits;
+mod markets;
+mod withdrawals;
+
+use mt_lists::{ListFault, records};
+use mt_terms::{Agent, AppNo, CoupleNo, ProgNo};
+use mt_roster::{Roster, RosterError, roster};
+use std::alloc::Global;
+use std::process::Abort;
+use std::test::Fail;
+
+/// Adds a blank and a number to a text.
+fn add_number(alloc: Global, text: &mut Vec<u8>, number: u32) -> Result<(), Fail> {
+    text.extend_from_slice(format!(in alloc; " {number}")?.as_bytes())?;
+    Ok(())
+}
+
+/// Adds a blank and a program's number to a text, or `-` for none.
+fn add_place(alloc: Global, text: &mut Vec<u8>, place: Option<ProgNo>) -> Result<(), Fail> {
+    match place {
+        Some(program) => add_number(alloc, text, program.0)?,
+        None => text.extend_from_slice(b" -")?,
+    }
+    Ok(())
+}
+
+/// Adds a program's line: `program ID QUOTA: APPLICANTS`.
+fn add_program(
+    alloc: Global,
+    text: &mut Vec<u8>,
+    roster: &Roster,
+    program: ProgNo,
+) -> Result<(), Fail>
+    requires { program < length roster.now.market.programs }
+{
+    text.extend_from_slice(b"program ")?;
+    text.extend_from_slice(roster.program_id(program))?;
+    add_number(alloc, text, roster.quota(program))?;
+    text.extend_from_slice(b":")?;
+    for applicant in roster.program_list(program) {
+        add_number(alloc, text, applicant.0)?;
+    }
+    text.extend_from_slice(b"\n")?;
+    Ok(())
+}
+
+/// Adds an applicant's line: `applicant ID single NUMBER: PROGRAMS`, or `applicant ID couple NUMBER:` for a member.
+fn add_applicant(
+    alloc: Global,
+    text: &mut Vec<u8>,
+    roster: &Roster,
+    applicant: AppNo,
+) -> Result<(), Fail>
+    requires { applicant < applicants roster.now.market }
+{
+    text.extend_from_slice(b"applicant ")?;
+    text.extend_from_slice(roster.applicant_id(applicant))?;
+    match roster.agent_of(applicant) {
+        Agent::Single(number) => {
+            text.extend_from_slice(b" single")?;
+            add_number(alloc, text, number.0)?;
+        }
+        Agent::Couple(number) => {
+            text.extend_from_slice(b" couple")?;
+            add_number(alloc, text, number.0)?;
+        }
+    }
+    text.extend_from_slice(b":")?;
+    for program in roster.single_list(applicant) {
+        add_number(alloc, text, program.0)?;
+    }
+    text.extend_from_slice(b"\n")?;
+    Ok(())
+}
+
+/// Adds a couple's line: `couple ID MEMBER MEMBER: PLACE PLACE, PLACE PLACE,`.
+fn add_couple(
+    alloc: Global,
+    text: &mut Vec<u8>,
+    roster: &Roster,
+    couple: CoupleNo,
+) -> Result<(), Fail>
+    requires { couple < length roster.now.market.couples }
+{
+    let (first, second) = roster.members(couple);
+    text.extend_from_slice(b"couple ")?;
+    text.extend_from_slice(roster.couple_id(couple))?;
+    add_number(alloc, text, first.0)?;
+    add_number(alloc, text, second.0)?;
+    text.extend_from_slice(b":")?;
+    for pair in roster.couple_list(couple) {
+        add_place(alloc, text, pair.0)?;
+        add_place(alloc, text, pair.1)?;
+        text.extend_from_slice(b",")?;
+    }
+    text.extend_from_slice(b"\n")?;
+    Ok(())
+}
+
+/// A roster as a text, by all its readers: a line for each program, applicant and couple, by number.
+fn shown(alloc: Global, roster: &Roster) -> Result<Vec<u8>, Fail> {
+    let mut text = Vec::new(alloc);
+    for number in 0..roster.programs() {
+        add_program(alloc, &mut text, roster, ProgNo(number))?;
+    }
+    for number in 0..roster.applicants() {
+        add_applicant(alloc, &mut text, roster, AppNo(number))?;
+    }
+    for number in 0..roster.couples() {
+        add_couple(alloc, &mut text, roster, CoupleNo(number))?;
+    }
+    Ok(text)
+}
+
+/// Whether a roster is the one of this text.
+fn shows(alloc: Global, roster: &Roster, market: &str) -> Result<bool, Fail> {
+    Ok(shown(alloc, roster)?.as_slice() == market.as_bytes())
+}
+
+/// Whether a file is accepted, and its market is the one of this text.
+fn gives(alloc: Global, file: &str, market: &str) -> Result<bool, Fail> {
+    let rows = records(alloc, file.as_bytes())?;
+    let roster = roster(alloc, &rows)?;
+    shows(alloc, &roster, market)
+}
+
+/// A fault's code, the number of its record, and its id.
+type Fault<'a> = (u16, u64, &'a str);
+
+/// Whether a file is refused for this fault.
+fn is_refused(alloc: Global, file: &str, (code, row, id): Fault<'_>) -> Result<bool, ListFault> {
+    let rows = records(alloc, file.as_bytes())?;
+    match roster(alloc, &rows) {
+        Err(RosterError::Fault(fault)) => Ok(
+            fault.code == code && fault.row == row && fault.id.as_bytes() == id.as_bytes(),
+        ),
+        Err(RosterError::Memory) | Ok(_) => Ok(false),
+    }
+}
+
+/// Each of these files is refused for its fault.
+fn expect_refused(rt: &impl Abort, alloc: Global, files: &[(&str, Fault<'_>)]) -> Result<(), Fail> {
+    for (file, fault) in files {
+        assert!(rt; is_refused(alloc, file, *fault)?, "{file}");
+    }
+    Ok(())
+}

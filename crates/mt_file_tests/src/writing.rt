@@ -1,0 +1,159 @@
+//! Texts into writers that take little at a time, fail, or take nothing.
+
+use mt_samples::devices::{Faltering, Narrow};
+use mt_samples::markets::CROSSED_TEXT as TEXT;
+use mt_report::{Drain, put_all};
+use std::alloc::Global;
+use std::process::Abort;
+use std::test::Fail;
+
+// Writes the text, of which the writer has to take the first bytes alone, and none after it failed. Only a text
+// that was taken whole is flushed, once.
+fn expect_written(rt: &impl Abort, narrow: Narrow, first: usize, whole: bool) {
+    assert!(rt; first <= TEXT.len());
+    let mut writer = narrow;
+    let mut drain = Drain::new(&mut writer);
+    let wrote = put_all(&mut drain, TEXT);
+    assert_eq!(rt; wrote.written, first as u64);
+    assert_eq!(rt; wrote.whole, whole);
+    assert_eq!(rt; drain.failures(), u64::from(!whole));
+    assert_eq!(rt; writer.taken.as_slice(), &TEXT[..first]);
+    assert_eq!(rt; writer.flushes, u32::from(first == TEXT.len()));
+}
+
+#[test]
+fn a_writer_that_stops_in_the_text(rt: HostRuntime) {
+    assert_eq!(rt; TEXT.len(), 99);
+    for at_once in [1, 7, 100] {
+        for fails in [false, true] {
+            for room in 0..99 {
+                let narrow = Narrow {
+                    at_once,
+                    room,
+                    fails,
+                    flush_fails: false,
+                    flushes: 0,
+                    taken: Vec::new(rt.alloc()),
+                };
+                expect_written(&rt, narrow, room, false);
+            }
+        }
+    }
+}
+
+#[test]
+fn a_writer_that_takes_the_whole_text(rt: HostRuntime) {
+    for at_once in [1, 7, 98, 99, 100] {
+        for flush_fails in [false, true] {
+            let narrow = Narrow {
+                at_once,
+                room: 99,
+                fails: true,
+                flush_fails,
+                flushes: 0,
+                taken: Vec::new(rt.alloc()),
+            };
+            expect_written(&rt, narrow, 99, !flush_fails);
+        }
+    }
+}
+
+// Nothing is to be written, so the writer isn't asked and is flushed once. A second text through the same drain
+// fails, and the drain counts that.
+fn expect_two_texts(rt: &impl Abort, writer: &mut Narrow) {
+    let mut drain = Drain::new(writer);
+    let nothing = put_all(&mut drain, b"");
+    assert_eq!(rt;
+        (nothing.written, nothing.whole, drain.failures()),
+        (0, true, 0)
+    );
+    let some = put_all(&mut drain, TEXT);
+    assert_eq!(rt;
+        (some.written, some.whole, drain.failures()),
+        (10, false, 1)
+    );
+    let none = put_all(&mut drain, TEXT);
+    assert_eq!(rt; (none.written, none.whole, drain.failures()), (0, false, 2));
+}
+
+#[test]
+fn two_texts_through_one_drain(rt: HostRuntime) {
+    let mut writer = Narrow {
+        at_once: 100,
+        room: 10,
+        fails: false,
+        flush_fails: false,
+        flushes: 0,
+        taken: Vec::new(rt.alloc()),
+    };
+    expect_two_texts(&rt, &mut writer);
+    assert_eq!(rt; writer.taken.as_slice(), b"match,1,pu".as_slice());
+    assert_eq!(rt; writer.flushes, 1);
+}
+
+// A writer that takes seven bytes at a time, and falters once.
+fn faltering(alloc: Global, falters_at: u32, fails: bool, flush_fails_at: u32) -> Faltering {
+    Faltering {
+        at_once: 7,
+        falters_at,
+        fails,
+        flush_fails_at,
+        writes: 0,
+        flushes: 0,
+        taken: Vec::new(alloc),
+    }
+}
+
+// Writes the text, and expects the writer to be asked so many times, and to take so many bytes.
+fn expect_asked(
+    rt: &impl Abort,
+    faltering: Faltering,
+    writes: u32,
+    flushes: u32,
+    taken: usize,
+    whole: bool,
+) {
+    assert!(rt; taken <= TEXT.len());
+    let mut writer = faltering;
+    let mut drain = Drain::new(&mut writer);
+    let wrote = put_all(&mut drain, TEXT);
+    assert_eq!(rt; drain.failures(), u64::from(!whole));
+    assert_eq!(rt; (wrote.written, wrote.whole), (taken as u64, whole));
+    assert_eq!(rt; (writer.writes, writer.flushes), (writes, flushes));
+    assert_eq!(rt; writer.taken.as_slice(), &TEXT[..taken]);
+}
+
+// The text has 99 bytes, so fifteen writes take it.
+#[test]
+fn a_write_that_falters_is_the_last(rt: HostRuntime) {
+    for fails in [false, true] {
+        for at in 1..=15u32 {
+            let writer = faltering(rt.alloc(), at, fails, 0);
+            expect_asked(&rt, writer, at, 0, 7 * (at as usize - 1), false);
+        }
+        let writer = faltering(rt.alloc(), 16, fails, 0);
+        expect_asked(&rt, writer, 15, 1, 99, true);
+    }
+}
+
+#[test]
+fn a_flush_is_made_once(rt: HostRuntime) {
+    expect_asked(&rt, faltering(rt.alloc(), 0, true, 1), 15, 1, 99, false);
+    expect_asked(&rt, faltering(rt.alloc(), 0, true, 2), 15, 1, 99, true);
+}
+
+// A writer that takes all of a long text in one write is asked once.
+#[test]
+fn a_long_text_is_offered_whole(rt: HostRuntime) -> Result<(), Fail> {
+    let text = vec![in rt.alloc(); b'a'; 1 << 20]?;
+    let mut writer = Faltering {
+        at_once: 1 << 20,
+        ..faltering(rt.alloc(), 0, true, 0)
+    };
+    let mut drain = Drain::new(&mut writer);
+    let wrote = put_all(&mut drain, &text);
+    assert_eq!(rt; (wrote.written, wrote.whole), (1 << 20, true));
+    assert_eq!(rt; (writer.writes, writer.flushes), (1, 1));
+    assert!(rt; writer.taken == text);
+    Ok(())
+}

@@ -1,0 +1,7 @@
+use Rattle.mt_floor_tests.proofs.hall.what_is_left_is_finished_on_the_floor.Given as goal
+
+abbrev pub ghosts-finished_in-K-HallName : goal.ghosts-finished_in-K-HallName
+ghosts-finished_in-K-HallName g a = record { ranked = a.ranks.now }
+
+abbrev pub ghosts-finished_in-K-Ledger : goal.ghosts-finished_in-K-Ledger
+ghosts-finished_in-K-Ledger g a = record { name = a.blank.name; parts = a.blank.parts }

@@ -1,0 +1,370 @@
+//! Workers: that more than one of them acts, that none leaves anything to be finished, and what they come to.
+ghost use Rattle.std.specs.Prelude.{◌≡◌, ◌+◌, ◌≤◌};
+ghost use Rattle.mt_terms.specs.Market.{applicants};
+
+use mt_samples::markets::{CHAIN, CROSSED, roster_of};
+use mt_crew::{Gate, Open, Singles, work};
+use mt_hall::{Answer, Hall, HallName, Pass};
+use mt_terms::{AppNo, ProgNo};
+use mt_ranks::Ranks;
+use std::alloc::{AllocError, Global};
+use std::marker::Brand;
+use std::process::Abort;
+use std::sync::Wait;
+use std::sync::atomic::{AtomicU64, Ordering};
+use std::sync::ledger::Blank;
+use std::test::Fail;
+use std::thread;
+use std::thread::Threads;
+
+// Two posts and three applicants, the last of whom takes the second one's place.
+const TWO_POSTS: &[u8] = b"match,1\n\
+    program,P,2,c,a,b\n\
+    applicant,a,P\n\
+    applicant,b,P\n\
+    applicant,c,P\n";
+
+// How often to look for what another thread has to do.
+const LOOKS: u32 = 1_000_000;
+
+// How many tickets a worker had, and how many proposals its pass had in the end.
+#[derive(Drop)]
+struct Seen {
+    tickets: AtomicU64,
+    proposals: AtomicU64,
+}
+
+// A gate that remembers what each worker did; and that holds the first ticket of each, where they are to meet, until
+// every one has had one.
+#[derive(Drop)]
+struct Watch {
+    seats: Vec<Seen>,
+    meet: bool,
+    missed: AtomicU64,
+}
+
+fn open_watch(alloc: Global, workers: u32, meet: bool) -> Result<Watch, AllocError> {
+    let mut seats = Vec::with_capacity(alloc, workers as usize)?;
+    for _ in 0..workers {
+        seats.push(Seen {
+            tickets: AtomicU64::new(0),
+            proposals: AtomicU64::new(0),
+        })?;
+    }
+    Ok(Watch {
+        seats,
+        meet,
+        missed: AtomicU64::new(0),
+    })
+}
+
+impl Watch {
+    fn all_came(&self) -> bool {
+        self.seats
+            .iter()
+            .all(|seen| seen.tickets.load(Ordering::SeqCst) > 0)
+    }
+
+    fn await_all(&self) {
+        for _ in 0..LOOKS {
+            if self.all_came() {
+                return;
+            }
+            thread::yield_now();
+        }
+        self.missed.fetch_add(1, Ordering::SeqCst);
+    }
+
+    // How many proposals the passes had that it saw last.
+    fn proposals(&self) -> u64 {
+        let mut all: u64 = 0;
+        for seen in self.seats.iter() {
+            all = all.saturating_add(seen.proposals.load(Ordering::SeqCst));
+        }
+        all
+    }
+
+    fn all_proposed(&self) -> bool {
+        self.seats
+            .iter()
+            .all(|seen| seen.proposals.load(Ordering::SeqCst) > 0)
+    }
+}
+
+impl Gate for Watch {
+    fn before(&self, worker: u32, _applicant: AppNo) {
+        if let Some(seen) = self.seats.get(worker as usize) {
+            let tickets = seen.tickets.fetch_add(1, Ordering::SeqCst);
+            if self.meet && tickets == 0 {
+                self.await_all();
+            }
+        }
+    }
+
+    fn after<K: HallName>(&self, worker: u32, pass: &Pass<K>) {
+        if let Some(seen) = self.seats.get(worker as usize) {
+            seen.proposals.store(pass.proposals(), Ordering::SeqCst);
+        }
+    }
+}
+
+fn total(counts: &[u32]) -> u64 {
+    let mut all: u64 = 0;
+    for count in counts {
+        all = all.saturating_add(*count as u64);
+    }
+    all
+}
+
+fn expect_singles(
+    rt: &impl Abort,
+    singles: &Singles,
+    places: &[Option<ProgNo>],
+    proposals: &[u32],
+) {
+    assert_eq!(rt; singles.matched.places.as_slice(), places);
+    assert_eq!(rt; singles.proposals.as_slice(), proposals);
+}
+
+// One of two workers waits with its first ticket until the other one has one, so both propose.
+#[test]
+fn two_at_the_gate(rt: HostRuntime) -> Result<(), Fail> {
+    let roster = roster_of(rt.alloc(), CHAIN)?;
+    let ranks = Ranks::build(&rt, rt.alloc(), &roster)?;
+    let gate = open_watch(rt.alloc(), 2, true)?;
+    let singles = work(&rt, rt.alloc(), &ranks, 2, &gate)?;
+    assert_eq!(&rt; gate.missed.load(Ordering::SeqCst), 0);
+    assert!(&rt; gate.all_proposed());
+    expect_singles(
+        &rt,
+        &singles,
+        &[Some(ProgNo(1)), Some(ProgNo(0)), None],
+        &[3, 2],
+    );
+    Ok(())
+}
+
+// The workers' passes have all the proposals: nothing was left to be finished after they were closed.
+fn expect_in_time<R: Abort + Threads + Wait + Sync>(
+    rt: &R,
+    alloc: Global,
+    ranks: &Ranks,
+    workers: u32,
+    places: &[Option<ProgNo>],
+    proposals: &[u32],
+) -> Result<(), AllocError>
+    requires { (1 ≤ workers) × (workers ≤ 64) }
+{
+    let gate = open_watch(alloc, workers, false)?;
+    let singles = work(rt, alloc, ranks, workers, &gate)?;
+    expect_singles(rt, &singles, places, proposals);
+    assert_eq!(rt; gate.proposals(), total(&singles.proposals));
+    Ok(())
+}
+
+fn expect_from_all<R: Abort + Threads + Wait + Sync>(
+    rt: &R,
+    alloc: Global,
+    file: &[u8],
+    places: &[Option<ProgNo>],
+    proposals: &[u32],
+) -> Result<(), Fail> {
+    let roster = roster_of(alloc, file)?;
+    let ranks = Ranks::build(rt, alloc, &roster)?;
+    expect_in_time(rt, alloc, &ranks, 1, places, proposals)?;
+    expect_in_time(rt, alloc, &ranks, 2, places, proposals)?;
+    expect_in_time(rt, alloc, &ranks, 8, places, proposals)?;
+    expect_in_time(rt, alloc, &ranks, 64, places, proposals)?;
+    Ok(())
+}
+
+#[test]
+fn nothing_is_left_after_the_workers(rt: HostRuntime) -> Result<(), Fail> {
+    let alloc = rt.alloc();
+    expect_from_all(
+        &rt,
+        alloc,
+        CROSSED,
+        &[Some(ProgNo(0)), Some(ProgNo(1))],
+        &[1, 1],
+    )?;
+    let chain_end = [Some(ProgNo(1)), Some(ProgNo(0)), None];
+    expect_from_all(&rt, alloc, CHAIN, &chain_end, &[3, 2])?;
+    expect_from_all(
+        &rt,
+        alloc,
+        TWO_POSTS,
+        &[Some(ProgNo(0)), None, Some(ProgNo(0))],
+        &[3],
+    )
+}
+
+// A gate at which workers give way, some times that differ from ticket to ticket.
+#[derive(Drop)]
+struct Unrest {
+    state: AtomicU64,
+}
+
+impl Unrest {
+    fn pause(&self) {
+        // Knuth's numbers of a linear congruential generator.
+        let state = self.state.load(Ordering::SeqCst);
+        let next = state
+            .wrapping_mul(6364136223846793005)
+            .wrapping_add(1442695040888963407);
+        self.state.store(next, Ordering::SeqCst);
+        for _ in 0..next >> 60 {
+            thread::yield_now();
+        }
+    }
+}
+
+impl Gate for Unrest {
+    fn before(&self, _worker: u32, _applicant: AppNo) {
+        self.pause();
+    }
+
+    fn after<K: HallName>(&self, _worker: u32, _pass: &Pass<K>) {
+        self.pause();
+    }
+}
+
+// Ten programs of five posts, each of which wants a hundred applicants in an order of its own, and each of these wants
+// all programs.
+fn hundred(alloc: Global) -> Result<String, AllocError> {
+    let mut file = String::new(alloc);
+    file.push_str("match,1\n")?;
+    let steps: [u32; 10] = [1, 3, 7, 9, 11, 13, 17, 19, 21, 23];
+    for program in 0..10u32 {
+        file.push_str(&format!(in alloc; "program,p{program},5")?)?;
+        for place in 0..100u32 {
+            let applicant = (place * steps[program as usize] + program) % 100;
+            file.push_str(&format!(in alloc; ",a{applicant}")?)?;
+        }
+        file.push_str("\n")?;
+    }
+    for applicant in 0..100u32 {
+        file.push_str(&format!(in alloc; "applicant,a{applicant}")?)?;
+        for place in 0..10u32 {
+            let program = (applicant * 7 + place * 3) % 10;
+            file.push_str(&format!(in alloc; ",p{program}")?)?;
+        }
+        file.push_str("\n")?;
+    }
+    Ok(file)
+}
+
+// The match of one worker is the match of eight that give way to one another.
+fn expect_same<R: Abort + Threads + Wait + Sync>(
+    rt: &R,
+    alloc: Global,
+    ranks: &Ranks,
+    runs: u32,
+) -> Result<(), AllocError> {
+    let alone = work(rt, alloc, ranks, 1, &Open)?;
+    let gate = Unrest {
+        state: AtomicU64::new(1),
+    };
+    for _ in 0..runs {
+        let together = work(rt, alloc, ranks, 8, &gate)?;
+        expect_singles(
+            rt,
+            &together,
+            alone.matched.places.as_slice(),
+            &alone.proposals,
+        );
+    }
+    Ok(())
+}
+
+#[test]
+fn unrest_at_the_gate_changes_nothing(rt: HostRuntime) -> Result<(), Fail> {
+    let file = hundred(rt.alloc())?;
+    let roster = roster_of(rt.alloc(), file.as_bytes())?;
+    let ranks = Ranks::build(&rt, rt.alloc(), &roster)?;
+    Ok(expect_same(&rt, rt.alloc(), &ranks, 1000)?)
+}
+
+// Whether a thread has done its part, looked at for some time.
+fn is_done(flag: &AtomicU64) -> bool {
+    for _ in 0..LOOKS {
+        if flag.load(Ordering::SeqCst) > 0 {
+            return true;
+        }
+        thread::yield_now();
+    }
+    false
+}
+
+fn advance_once<K: HallName, R: Abort + Wait>(
+    rt: &R,
+    hall: &Hall<'_, K>,
+    pass: &mut Pass<K>,
+    applicant: u32,
+    done: &AtomicU64,
+) {
+    let to = ProgNo(applicant);
+    let kept = Answer::Moved {
+        to,
+        kept: true,
+        displaced: None,
+    };
+    assert_eq!(rt; hall.advance(rt, AppNo(applicant), pass), kept);
+    done.store(1, Ordering::SeqCst);
+}
+
+// While the first program's door is held, nothing happens at it, and the second program's door is free.
+fn expect_two_doors<K: HallName + Send + Sync, R: Abort + Threads + Wait + Sync>(
+    rt: &R,
+    hall: &Hall<'_, K>,
+    ranks: &Ranks,
+    first: &mut Pass<K>,
+    second: &mut Pass<K>,
+)
+    requires { ranks.now ≡ K.ranked }
+{
+    let (at_first, at_second) = (AtomicU64::new(0), AtomicU64::new(0));
+    let (first_done, second_done) = (&at_first, &at_second);
+    assert!(rt; ranks.programs() == 2);
+    let door = hall.door(ProgNo(0));
+    thread::scope(thread::scope_env(), rt, |scope| {
+        let held = door.lock(rt);
+        let begun = scope.spawn(move || advance_once(rt, hall, first, 0, first_done));
+        assert!(rt; begun.is_ok());
+        for _ in 0..1000 {
+            thread::yield_now();
+        }
+        let begun = scope.spawn(move || advance_once(rt, hall, second, 1, second_done));
+        assert!(rt; begun.is_ok());
+        assert!(rt; is_done(second_done));
+        assert_eq!(rt; first_done.load(Ordering::SeqCst), 0);
+        drop(held);
+    });
+    assert_eq!(rt; at_first.load(Ordering::SeqCst), 1);
+}
+
+fn two_doors_in<K: HallName + Send + Sync, R: Abort + Threads + Wait + Sync>(
+    rt: &R,
+    alloc: Global,
+    ranks: &Ranks,
+    blank: Blank,
+) -> Result<(), AllocError>
+    requires ranks { ranks.now ≡ K.ranked }
+    requires name { blank.name ≡ K.name }
+    requires parts { (blank.parts ≡ K.parts) × (K.parts ≡ applicants K.ranked.market + 2) }
+{
+    let (hall, mut passes) = Hall::<K>::open(alloc, ranks, 2, blank)?;
+    let (first, second) = passes.split_at_mut(1);
+    expect_two_doors(rt, &hall, ranks, &mut first[0], &mut second[0]);
+    let audit = hall.close(passes);
+    assert!(rt; audit.agrees);
+    Ok(())
+}
+
+#[test]
+fn two_doors(rt: HostRuntime) -> Result<(), Fail> {
+    let roster = roster_of(rt.alloc(), CROSSED)?;
+    let ranks = Ranks::build(&rt, rt.alloc(), &roster)?;
+    let blank = Blank::new(ranks.applicants() as u64 + 2);
+    Ok(two_doors_in::<Brand, _>(&rt, rt.alloc(), &ranks, blank)?)
+}

@@ -1,0 +1,308 @@
+//! Events on the floor of the singles: the reply to each, and what it comes to in two orders.
+ghost use Rattle.mt_terms.specs.Floor.{IsRecorded};
+ghost use Rattle.mt_core.specs.Floors.{floor_of, IsOpenedWith};
+
+use mt_samples::markets::{BETWEEN, CHAIN, roster_of};
+use mt_core::{Event, Floor, Reply, apply, finish, made, quiet, received, result, run};
+use mt_terms::{AppNo, ProgNo};
+use mt_ranks::Ranks;
+use std::alloc::{AllocError, Global};
+use std::process::Abort;
+use std::test::Fail;
+
+// Each applicant's first wish first, and then who was displaced.
+const BY_WISHES: [Event; 9] = [
+    Event::Propose(AppNo(0)),
+    Event::Propose(AppNo(1)),
+    Event::Propose(AppNo(2)),
+    Event::Notice(AppNo(0)),
+    Event::Propose(AppNo(0)),
+    Event::Notice(AppNo(1)),
+    Event::Propose(AppNo(1)),
+    Event::Notice(AppNo(2)),
+    Event::Propose(AppNo(2)),
+];
+
+// The last applicant first.
+const FROM_THE_LAST: [Event; 6] = [
+    Event::Propose(AppNo(2)),
+    Event::Propose(AppNo(0)),
+    Event::Propose(AppNo(0)),
+    Event::Propose(AppNo(1)),
+    Event::Propose(AppNo(1)),
+    Event::Notice(AppNo(2)),
+];
+
+// In the market of the couple the applicants 1 and 2 are members, and 3 is the first number past the end.
+const OF_NO_SINGLE: [Event; 7] = [
+    Event::Propose(AppNo(1)),
+    Event::Propose(AppNo(2)),
+    Event::Propose(AppNo(3)),
+    Event::Propose(AppNo(u32::MAX)),
+    Event::Notice(AppNo(1)),
+    Event::Notice(AppNo(3)),
+    Event::Notice(AppNo(u32::MAX)),
+];
+
+fn expect_made(rt: &impl Abort, floor: &Floor, ranks: &Ranks, wanted: &[u32])
+    requires { IsOpenedWith ranks.now.market floor.now }
+{
+    assert_eq!(rt; ranks.applicants() as usize, wanted.len());
+    for applicant in 0..ranks.applicants() {
+        assert_eq!(rt; made(floor, AppNo(applicant)), wanted[applicant as usize]);
+    }
+}
+
+fn expect_received(rt: &impl Abort, floor: &Floor, ranks: &Ranks, wanted: &[u32])
+    requires { IsOpenedWith ranks.now.market floor.now }
+{
+    assert_eq!(rt; ranks.programs() as usize, wanted.len());
+    for program in 0..ranks.programs() {
+        assert_eq!(rt; received(floor, ProgNo(program)), wanted[program as usize]);
+    }
+}
+
+// The rejection chain ends with a1 at P2, which wants it most, a2 at P1, which wants it most, and a3 nowhere.
+pub(crate) fn expect_chain_end(
+    rt: &impl Abort,
+    alloc: Global,
+    floor: &Floor,
+    ranks: &Ranks,
+) -> Result<(), AllocError>
+    requires { IsOpenedWith ranks.now.market floor.now }
+{
+    expect_made(rt, floor, ranks, &[2, 2, 1]);
+    expect_received(rt, floor, ranks, &[3, 2]);
+    assert!(rt; quiet(floor, ranks));
+    let matched = result(alloc, floor, ranks)?;
+    let places = [Some(ProgNo(1)), Some(ProgNo(0)), None];
+    assert_eq!(rt; matched.places.as_slice(), places.as_slice());
+    Ok(())
+}
+
+fn expect_reply(rt: &impl Abort, floor: &mut Floor, ranks: &Ranks, event: Event, reply: Reply)
+    requires opened { IsOpenedWith ranks.now.market floor.old }
+    requires recorded { IsRecorded ranks.now.market (floor_of ranks.now.market floor.old) }
+    ensures opened { IsOpenedWith ranks.now.market floor.new }
+    ensures recorded { IsRecorded ranks.now.market (floor_of ranks.now.market floor.new) }
+{
+    assert_eq!(rt; apply(floor, ranks, event), reply, "at {event:?}");
+}
+
+fn expect_replies(
+    rt: &impl Abort,
+    floor: &mut Floor,
+    ranks: &Ranks,
+    events: &[Event],
+    replies: &[Reply],
+)
+    requires opened { IsOpenedWith ranks.now.market floor.old }
+    requires recorded { IsRecorded ranks.now.market (floor_of ranks.now.market floor.old) }
+    ensures opened { IsOpenedWith ranks.now.market floor.new }
+    ensures recorded { IsRecorded ranks.now.market (floor_of ranks.now.market floor.new) }
+{
+    assert_eq!(rt; events.len(), replies.len());
+    for number in 0..events.len() {
+        expect_reply(rt, floor, ranks, events[number], replies[number]);
+    }
+}
+
+// Each event from the opening floor on gets its reply, and the floor ends as it must.
+fn expect_chain(
+    rt: &impl Abort,
+    alloc: Global,
+    ranks: &Ranks,
+    events: &[Event],
+    replies: &[Reply],
+) -> Result<(), AllocError> {
+    let mut floor = Floor::open(alloc, ranks)?;
+    expect_replies(rt, &mut floor, ranks, events, replies);
+    expect_chain_end(rt, alloc, &floor, ranks)
+}
+
+#[test]
+fn each_event_gets_its_reply(rt: HostRuntime) -> Result<(), Fail> {
+    let replies = [
+        Reply::Kept,
+        Reply::Kept,
+        Reply::KeptInstead(AppNo(0)),
+        Reply::Noticed,
+        Reply::KeptInstead(AppNo(1)),
+        Reply::Noticed,
+        Reply::KeptInstead(AppNo(2)),
+        Reply::Noticed,
+        Reply::NotDue,
+    ];
+    let roster = roster_of(rt.alloc(), CHAIN)?;
+    let ranks = Ranks::build(&rt, rt.alloc(), &roster)?;
+    Ok(expect_chain(&rt, rt.alloc(), &ranks, &BY_WISHES, &replies)?)
+}
+
+#[test]
+fn the_last_applicant_may_be_first(rt: HostRuntime) -> Result<(), Fail> {
+    let replies = [
+        Reply::Kept,
+        Reply::Refused,
+        Reply::Kept,
+        Reply::Refused,
+        Reply::KeptInstead(AppNo(2)),
+        Reply::Noticed,
+    ];
+    let roster = roster_of(rt.alloc(), CHAIN)?;
+    let ranks = Ranks::build(&rt, rt.alloc(), &roster)?;
+    Ok(expect_chain(&rt, rt.alloc(), &ranks, &FROM_THE_LAST, &replies)?)
+}
+
+// Makes the events on a floor on which some are due, and expects so many of them to have been due.
+fn expect_due(rt: &impl Abort, floor: &mut Floor, ranks: &Ranks, events: &[Event], due: u64)
+    requires opened { IsOpenedWith ranks.now.market floor.old }
+    requires recorded { IsRecorded ranks.now.market (floor_of ranks.now.market floor.old) }
+    ensures opened { IsOpenedWith ranks.now.market floor.new }
+    ensures recorded { IsRecorded ranks.now.market (floor_of ranks.now.market floor.new) }
+{
+    assert!(rt; !quiet(floor, ranks));
+    assert_eq!(rt; run(floor, ranks, events), due);
+}
+
+// None of the events is due any more, and there is nothing to finish.
+fn expect_none_due(rt: &impl Abort, floor: &mut Floor, ranks: &Ranks, events: &[Event])
+    requires opened { IsOpenedWith ranks.now.market floor.old }
+    requires recorded { IsRecorded ranks.now.market (floor_of ranks.now.market floor.old) }
+    ensures opened { IsOpenedWith ranks.now.market floor.new }
+    ensures recorded { IsRecorded ranks.now.market (floor_of ranks.now.market floor.new) }
+{
+    assert_eq!(rt; run(floor, ranks, events), 0);
+    assert_eq!(rt; finish(floor, ranks), 0);
+}
+
+// So many of the events are due, the floor ends as it must, and then none is due any more.
+fn expect_end(
+    rt: &impl Abort,
+    alloc: Global,
+    floor: &mut Floor,
+    ranks: &Ranks,
+    events: &[Event],
+    due: u64,
+) -> Result<(), AllocError>
+    requires opened { IsOpenedWith ranks.now.market floor.old }
+    requires recorded { IsRecorded ranks.now.market (floor_of ranks.now.market floor.old) }
+{
+    expect_due(rt, floor, ranks, events, due);
+    expect_chain_end(rt, alloc, floor, ranks)?;
+    expect_none_due(rt, floor, ranks, events);
+    expect_chain_end(rt, alloc, floor, ranks)
+}
+
+fn expect_run(
+    rt: &impl Abort,
+    alloc: Global,
+    ranks: &Ranks,
+    events: &[Event],
+    due: u64,
+) -> Result<(), AllocError> {
+    let mut floor = Floor::open(alloc, ranks)?;
+    expect_end(rt, alloc, &mut floor, ranks, events, due)
+}
+
+#[test]
+fn runs_count_the_events_that_were_due(rt: HostRuntime) -> Result<(), Fail> {
+    let roster = roster_of(rt.alloc(), CHAIN)?;
+    let ranks = Ranks::build(&rt, rt.alloc(), &roster)?;
+    expect_run(&rt, rt.alloc(), &ranks, &BY_WISHES, 8)?;
+    Ok(expect_run(&rt, rt.alloc(), &ranks, &FROM_THE_LAST, 6)?)
+}
+
+// From this floor finish makes so many proposals.
+pub(crate) fn expect_finished(
+    rt: &impl Abort,
+    alloc: Global,
+    floor: &mut Floor,
+    ranks: &Ranks,
+    proposals: u64,
+) -> Result<(), AllocError>
+    requires opened { IsOpenedWith ranks.now.market floor.old }
+    requires recorded { IsRecorded ranks.now.market (floor_of ranks.now.market floor.old) }
+{
+    assert!(rt; !quiet(floor, ranks));
+    assert_eq!(rt; finish(floor, ranks), proposals);
+    expect_chain_end(rt, alloc, floor, ranks)
+}
+
+#[test]
+fn the_chain_takes_five_proposals(rt: HostRuntime) -> Result<(), Fail> {
+    let roster = roster_of(rt.alloc(), CHAIN)?;
+    let ranks = Ranks::build(&rt, rt.alloc(), &roster)?;
+    let mut floor = Floor::open(rt.alloc(), &ranks)?;
+    Ok(expect_finished(&rt, rt.alloc(), &mut floor, &ranks, 5)?)
+}
+
+// After the first five events one proposal is to come: a1 has displaced a2 at P2, so a2 proposes to P1 and displaces
+// a3 there, which wants no other program.
+#[test]
+fn finish_goes_on_from_any_floor(rt: HostRuntime) -> Result<(), Fail> {
+    let roster = roster_of(rt.alloc(), CHAIN)?;
+    let ranks = Ranks::build(&rt, rt.alloc(), &roster)?;
+    let mut floor = Floor::open(rt.alloc(), &ranks)?;
+    expect_due(&rt, &mut floor, &ranks, &BY_WISHES[..5], 5);
+    Ok(expect_finished(&rt, rt.alloc(), &mut floor, &ranks, 1)?)
+}
+
+// None of the events is due.
+fn expect_not_due(rt: &impl Abort, floor: &mut Floor, ranks: &Ranks, events: &[Event])
+    requires opened { IsOpenedWith ranks.now.market floor.old }
+    requires recorded { IsRecorded ranks.now.market (floor_of ranks.now.market floor.old) }
+    ensures opened { IsOpenedWith ranks.now.market floor.new }
+    ensures recorded { IsRecorded ranks.now.market (floor_of ranks.now.market floor.new) }
+{
+    for event in events {
+        expect_reply(rt, floor, ranks, *event, Reply::NotDue);
+    }
+}
+
+fn expect_no_single(rt: &impl Abort, floor: &mut Floor, ranks: &Ranks)
+    requires opened { IsOpenedWith ranks.now.market floor.old }
+    requires recorded { IsRecorded ranks.now.market (floor_of ranks.now.market floor.old) }
+{
+    expect_not_due(rt, floor, ranks, &OF_NO_SINGLE);
+    expect_reply(rt, floor, ranks, Event::Propose(AppNo(0)), Reply::Kept);
+    expect_not_due(rt, floor, ranks, &OF_NO_SINGLE);
+}
+
+#[test]
+fn only_singles_have_events(rt: HostRuntime) -> Result<(), Fail> {
+    let roster = roster_of(rt.alloc(), BETWEEN)?;
+    let ranks = Ranks::build(&rt, rt.alloc(), &roster)?;
+    let mut floor = Floor::open(rt.alloc(), &ranks)?;
+    expect_no_single(&rt, &mut floor, &ranks);
+    Ok(())
+}
+
+// Where a1 stands at P1 and is held, it has nothing to propose or to learn; nobody else stands.
+const TOO_EARLY: [Event; 4] = [
+    Event::Propose(AppNo(0)),
+    Event::Notice(AppNo(0)),
+    Event::Notice(AppNo(1)),
+    Event::Notice(AppNo(2)),
+];
+
+// Once a3 has displaced a1, it learns that before it proposes.
+fn expect_waiting(rt: &impl Abort, floor: &mut Floor, ranks: &Ranks)
+    requires opened { IsOpenedWith ranks.now.market floor.old }
+    requires recorded { IsRecorded ranks.now.market (floor_of ranks.now.market floor.old) }
+{
+    expect_reply(rt, floor, ranks, Event::Propose(AppNo(0)), Reply::Kept);
+    expect_not_due(rt, floor, ranks, &TOO_EARLY);
+    let displaced = Reply::KeptInstead(AppNo(0));
+    expect_reply(rt, floor, ranks, Event::Propose(AppNo(2)), displaced);
+    expect_not_due(rt, floor, ranks, &TOO_EARLY[..1]);
+    expect_reply(rt, floor, ranks, Event::Notice(AppNo(0)), Reply::Noticed);
+}
+
+#[test]
+fn events_wait_until_they_are_due(rt: HostRuntime) -> Result<(), Fail> {
+    let roster = roster_of(rt.alloc(), CHAIN)?;
+    let ranks = Ranks::build(&rt, rt.alloc(), &roster)?;
+    let mut floor = Floor::open(rt.alloc(), &ranks)?;
+    expect_waiting(&rt, &mut floor, &ranks);
+    Ok(())
+}

@@ -1,0 +1,214 @@
+//! Rank tables and findings that are made side by side, beside the plain forms: on small markets with all their matches,
+//! and on large ones, which several threads share.
+ghost use Rattle.std.specs.Prelude.{◌≡◌};
+ghost use Rattle.mt_ranks.specs.Ranked.{ranked_of};
+
+use mt_samples::markets::{BETWEEN, CHAIN, CROSSED, HALF_PAIR, THREE_COUPLES, roster_of};
+use mt_samples::places::are_places;
+use crate::plain::{plain_rank, plain_verdict};
+use mt_samples::singles::singles;
+use mt_terms::{AppNo, Match, Places, ProgNo};
+use mt_ranks::Ranks;
+use mt_roster::Roster;
+use mt_verify::verify;
+use std::alloc::{AllocError, Global};
+use std::process::Abort;
+use std::test::Fail;
+use std::thread::Threads;
+
+// The live list of each applicant is of those programs on its list that list it too, each with the plain rank.
+fn expect_tables(rt: &impl Abort, roster: &Roster, ranks: &Ranks) {
+    assert_eq!(rt; ranks.applicants(), roster.applicants());
+    assert_eq!(rt; ranks.programs(), roster.programs());
+    for number in 0..ranks.applicants() {
+        let applicant = AppNo(number);
+        let mut live = ranks.live(applicant).iter();
+        if number < roster.applicants() {
+            for program in roster.single_list(applicant) {
+                if let Some(rank) = plain_rank(roster, *program, applicant) {
+                    let entry = live.next().expect(rt, "a live entry");
+                    assert_eq!(rt; (entry.program.0, entry.rank), (program.0, rank));
+                }
+            }
+        }
+        assert!(rt; live.next().is_none());
+    }
+}
+
+// Some ranks of each applicant: at two programs from a number on.
+fn expect_ranks(rt: &impl Abort, roster: &Roster, ranks: &Ranks) {
+    for number in 0..ranks.applicants() {
+        for step in 0..2u32 {
+            if ranks.programs() > 0 {
+                let program = ProgNo(number.saturating_add(step) % ranks.programs());
+                let rank = plain_rank(roster, program, AppNo(number));
+                assert_eq!(rt; ranks.rank(program, AppNo(number)), rank);
+            }
+        }
+    }
+}
+
+fn expect_plain_verdict<R: Abort + Threads + Sync>(
+    rt: &R,
+    alloc: Global,
+    roster: &Roster,
+    ranks: &Ranks,
+    places: Vec<Option<ProgNo>>,
+) -> Result<(), AllocError>
+    requires { ranks.now ≡ ranked_of roster.now.market }
+{
+    assert!(rt; are_places(roster, places.as_slice()));
+    let matched = Match {
+        places: Places::new(places),
+    };
+    assert_eq!(rt;
+        verify(rt, alloc, roster, ranks, &matched)?,
+        plain_verdict(roster, &matched)
+    );
+    Ok(())
+}
+
+// The match with this number, whose digits to the base of one more than the programs are the places.
+fn places_by_number(
+    alloc: Global,
+    roster: &Roster,
+    number: u32,
+) -> Result<Vec<Option<ProgNo>>, AllocError> {
+    let base = roster.programs().saturating_add(1);
+    let mut digits = number;
+    let mut places = Vec::new(alloc);
+    for _ in 0..roster.applicants() {
+        let digit = digits % base.max(1);
+        digits = digits / base.max(1);
+        places.push(if digit == 0 {
+            None
+        } else {
+            Some(ProgNo(digit - 1))
+        })?;
+    }
+    Ok(places)
+}
+
+fn expect_small<R: Abort + Threads + Sync>(
+    rt: &R,
+    alloc: Global,
+    file: &[u8],
+    matches: u32,
+) -> Result<(), Fail> {
+    let roster = roster_of(alloc, file)?;
+    let ranks = Ranks::build(rt, alloc, &roster)?;
+    expect_tables(rt, &roster, &ranks);
+    expect_ranks(rt, &roster, &ranks);
+    for number in 0..matches {
+        let places = places_by_number(alloc, &roster, number)?;
+        expect_plain_verdict(rt, alloc, &roster, &ranks, places)?;
+    }
+    Ok(())
+}
+
+// Of the last market, with 117,649 matches, each of the first 7,000.
+#[test]
+fn small_markets_with_all_their_matches(rt: HostRuntime) -> Result<(), Fail> {
+    expect_small(&rt, rt.alloc(), CROSSED, 9)?;
+    expect_small(&rt, rt.alloc(), CHAIN, 27)?;
+    expect_small(&rt, rt.alloc(), BETWEEN, 8)?;
+    expect_small(&rt, rt.alloc(), HALF_PAIR, 27)?;
+    expect_small(&rt, rt.alloc(), THREE_COUPLES, 7_000)
+}
+
+// With the last place changed.
+fn with_last(
+    alloc: Global,
+    places: &[Option<ProgNo>],
+    last: Option<ProgNo>,
+) -> Result<Vec<Option<ProgNo>>, AllocError> {
+    let mut changed = Vec::from_slice(alloc, places)?;
+    changed.pop();
+    changed.push(last)?;
+    Ok(changed)
+}
+
+// Nobody placed; the best match of the singles; and that with the last applicant at the last program.
+fn expect_large<R: Abort + Threads + Sync>(rt: &R, alloc: Global, file: &[u8]) -> Result<(), Fail> {
+    let roster = roster_of(alloc, file)?;
+    let ranks = Ranks::build(rt, alloc, &roster)?;
+    expect_tables(rt, &roster, &ranks);
+    expect_ranks(rt, &roster, &ranks);
+    let none = places_by_number(alloc, &roster, 0)?;
+    expect_plain_verdict(rt, alloc, &roster, &ranks, none)?;
+    let best = singles(alloc, &roster, &ranks)?;
+    let places = best.places.into_vec();
+    let last_program = ProgNo(roster.programs().saturating_sub(1));
+    let changed = with_last(alloc, places.as_slice(), Some(last_program))?;
+    expect_plain_verdict(rt, alloc, &roster, &ranks, changed)?;
+    expect_plain_verdict(rt, alloc, &roster, &ranks, places)?;
+    Ok(())
+}
+
+// Program p lists the applicants whose number is p or p + 1, but for a multiple of the programs' count, from the last
+// ones down, and has posts for half of them. Of an applicant's three programs the second doesn't list it.
+fn many_programs(alloc: Global, applicants: u32, programs: u32) -> Result<String, AllocError> {
+    let count = programs.max(1);
+    let rounds = (applicants / count).saturating_add(1);
+    let mut file = String::new(alloc);
+    file.push_str("match,2\n")?;
+    for program in 0..programs {
+        file.push_str(&format!(in alloc; "program,p{program},{}", applicants / count)?)?;
+        for back in 0..rounds {
+            let own = (rounds - 1 - back)
+                .saturating_mul(count)
+                .saturating_add(program);
+            for applicant in own..own.saturating_add(2).min(applicants) {
+                file.push_str(&format!(in alloc; ",a{applicant}")?)?;
+            }
+        }
+        file.push_str("\n")?;
+    }
+    for applicant in 0..applicants {
+        let own = applicant % count;
+        let before = applicant.saturating_add(count - 1) % count;
+        let other = applicant.saturating_add(5) % count;
+        file.push_str(&format!(in alloc; "applicant,a{applicant},p{before},p{other},p{own}\n")?)?;
+    }
+    Ok(file)
+}
+
+// More applicants than a block of the tables has, and more programs than one thread goes through.
+#[test]
+fn more_applicants_than_a_block(rt: HostRuntime) -> Result<(), Fail> {
+    let file = many_programs(rt.alloc(), 25_011, 530)?;
+    expect_large(&rt, rt.alloc(), file.as_bytes())
+}
+
+// A program with 1,100 posts lists 2,200 applicants, more than one thread judges, and wants the last one most.
+#[test]
+fn one_program_for_all(rt: HostRuntime) -> Result<(), Fail> {
+    let alloc = rt.alloc();
+    let mut file = String::new(alloc);
+    file.push_str("match,1\nprogram,P,1100")?;
+    for back in 0..2_200u32 {
+        file.push_str(&format!(in alloc; ",a{}", 2_199 - back)?)?;
+    }
+    file.push_str("\n")?;
+    for applicant in 0..2_200u32 {
+        file.push_str(&format!(in alloc; "applicant,a{applicant},P\n")?)?;
+    }
+    expect_large(&rt, alloc, file.as_bytes())
+}
+
+// Behind two couples 3,000 singles want the two posts of x.
+#[test]
+fn couples_before_many_singles(rt: HostRuntime) -> Result<(), Fail> {
+    let alloc = rt.alloc();
+    let mut file = String::new(alloc);
+    file.push_str("match,1\nprogram,x,2,c,e1,d")?;
+    for single in 1..3_001u32 {
+        file.push_str(&format!(in alloc; ",s{single}")?)?;
+    }
+    file.push_str("\nprogram,z,1,e2\n")?;
+    for single in 1..3_001u32 {
+        file.push_str(&format!(in alloc; "applicant,s{single},x\n")?)?;
+    }
+    file.push_str("couple,D,c,d,x,x\ncouple,E,e1,e2,x,z\n")?;
+    expect_large(&rt, alloc, file.as_bytes())
+}

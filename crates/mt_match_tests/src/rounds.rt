@@ -1,0 +1,50 @@
+//! The couples enter after the best match of the singles.
+ghost use Rattle.std.specs.Prelude.{◌≡◌};
+ghost use Rattle.mt_ranks.specs.Ranked.{ranked_of};
+
+use mt_samples::markets::{HALF_PAIR, roster_of};
+use mt_samples::singles::singles;
+use mt_couples::{CoupleEnd, Entered, enter_all};
+use mt_terms::ProgNo;
+use mt_ranks::Ranks;
+use mt_roster::Roster;
+use std::alloc::Global;
+use std::process::Abort;
+use std::test::Fail;
+use std::thread::Threads;
+
+// What the couples come to, after the best match of the singles.
+fn enter(alloc: Global, roster: &Roster, ranks: &Ranks, budget: u32) -> Result<Entered, CoupleEnd>
+    requires { ranks.now ≡ ranked_of roster.now.market }
+{
+    let singles = singles(alloc, roster, ranks)?;
+    enter_all(alloc, roster, ranks, singles, budget)
+}
+
+fn entered<R: Threads + Sync>(
+    rt: &R,
+    alloc: Global,
+    roster: &Roster,
+    budget: u32,
+) -> Result<Entered, CoupleEnd> {
+    let ranks = Ranks::build(rt, alloc, roster)?;
+    enter(alloc, roster, &ranks, budget)
+}
+
+// s, a and b are the applicants 0, 1 and 2, x and y the programs 0 and 1.
+fn expect_half_a_pair(rt: &impl Abort, ended: &Entered) {
+    let places = [Some(ProgNo(1)), Some(ProgNo(0)), None];
+    assert_eq!(rt; ended.matched.places.as_slice(), places.as_slice());
+    assert_eq!(rt; ended.rounds, 4);
+}
+
+// The couple takes x and y, s takes y and drives it out, the couple takes x alone, and s isn't taken there.
+#[test]
+fn a_couple_takes_half_a_pair_in_four_rounds(rt: HostRuntime) -> Result<(), Fail> {
+    let roster = roster_of(rt.alloc(), HALF_PAIR)?;
+    expect_half_a_pair(&rt, &entered(&rt, rt.alloc(), &roster, 1_000_000)?);
+    expect_half_a_pair(&rt, &entered(&rt, rt.alloc(), &roster, 4)?);
+    let spent = entered(&rt, rt.alloc(), &roster, 3);
+    assert!(rt; matches!(spent, Err(CoupleEnd::BudgetSpent)));
+    Ok(())
+}

@@ -1,0 +1,262 @@
+//! Matches given by hand, and the finding against each, worked out from the rules beside it. A match is written as the
+//! places of the applicants in order of registration, `-` for none; a finding by ids, with the position from 0 of the
+//! option that would be taken.
+use mt_samples::markets::roster_of;
+use mt_samples::places::are_places;
+use crate::plain::plain_verdict;
+use mt_terms::{Agent, Blocker, Match, Places, ProgNo};
+use mt_ranks::Ranks;
+use mt_roster::Roster;
+use mt_verify::{Verdict, verify};
+use std::alloc::{AllocError, Global};
+use std::process::Abort;
+use std::test::Fail;
+use std::thread::Threads;
+
+// x prefers t, which is there; y and z would both take s, which wants y more. At y it doesn't block with z, which
+// comes later on its list.
+const SINGLES: &str =
+    "match,1\nprogram,x,1,t,s\nprogram,y,1,s\nprogram,z,1,s\napplicant,t,x\napplicant,s,x,y,z\n";
+
+// P1 wants a2, a3 and a1 in this order.
+const CHAIN: &str =
+    "match,1\nprogram,P1,1,a2,a3,a1\nprogram,P2,1,a1,a2\napplicant,a1,P1,P2\napplicant,a2,P2,P1\napplicant,a3,P1\n";
+
+// x prefers s, which is there; z and y would take the couple, and so would z and w, which it wants less.
+const PAIRS: &str =
+    "match,1\nprogram,x,1,s,a\nprogram,y,1,b\nprogram,z,1,a\nprogram,w,1,b\napplicant,s,x\ncouple,c,a,b,x,y,z,y,z,w\n";
+
+// Each has a program to itself, so whoever is unplaced blocks: the one with the lowest number first, a couple by the
+// number of a. The applicants are t, a, b, s in this order.
+const ALL_FREE: &str =
+    "match,1\nprogram,v,1,t\nprogram,x,1,a\nprogram,y,1,b\nprogram,z,1,s\napplicant,t,v\ncouple,c,a,b,x,y\napplicant,s,z\n";
+
+// y doesn't list b, so the couple doesn't block, and s behind it does. The applicants are a, b, s.
+const BEHIND: &str =
+    "match,1\nprogram,x,1,a\nprogram,y,1\nprogram,z,1,s\ncouple,c,a,b,x,y\napplicant,s,z\n";
+
+// Both members stand above s, and there are two posts.
+const BOTH: &str = "match,1\nprogram,x,2,a,b,s\napplicant,s,x\ncouple,c,a,b,x,x\n";
+
+// The single stands between the members.
+const BETWEEN: &str = "match,1\nprogram,x,2,a,s,b\napplicant,s,x\ncouple,c,a,b,x,x\n";
+
+// Each member alone would be the first choice of a program with one post, and of the two together only the first is;
+// without a post nobody is.
+const ONE_POST: &str =
+    "match,1\nprogram,x,1,a,b\nprogram,y,0,d,e\ncouple,c,a,b,x,x\ncouple,f,d,e,y,y\n";
+
+// At x the member a stands above b, and at y b stands above a. So where a is at x and b at y, neither would be taken by
+// the other's program but for both being taken out first.
+const EXCHANGE: &str = "match,1\nprogram,x,1,a,b\nprogram,y,1,b,a\ncouple,c,a,b,y,x,x,y\n";
+
+// From x and y the couple can move to w and x, since a makes room for b; then s, which stands above b, blocks; and with
+// s at x the couple can come back to x and y.
+const OWN_ROOM: &str =
+    "match,1\nprogram,w,1,a\nprogram,x,1,a,s,b\nprogram,y,1,b\napplicant,s,x\ncouple,c,a,b,w,x,x,y\n";
+
+// At y the single stands above b, and x would take a alone.
+const HALF: &str = "match,2\nprogram,x,1,a\nprogram,y,1,s,b\napplicant,s,y\ncouple,c,a,b,x,y,x,-\n";
+
+// y prefers b, which is there and would be sent nowhere: its post is then a's.
+const NOWHERE: &str = "match,2\nprogram,x,1,a\nprogram,y,1,b,a\ncouple,c,a,b,y,-,x,y\n";
+
+// Both programs list both members, and the couple lists x for both alone. Whichever of its members is placed, the
+// couple is reported at a, which has the lower number.
+const NO_PAIR: &str =
+    "match,1\nprogram,x,2,a,b\nprogram,y,1,s,a,b\napplicant,s,y\ncouple,c,a,b,x,x\n";
+
+// The couple lists x for a alone, so it can't have x for b alone.
+const OTHER_HALF: &str = "match,2\nprogram,x,1,a,b\ncouple,c,a,b,x,-\n";
+
+// The pair of x and y is on the couple's list, and y doesn't list b: b is reported at its own number.
+const UNLISTED_MEMBER: &str = "match,1\nprogram,x,2,a,b\nprogram,y,1,a\ncouple,c,a,b,x,y,x,x\n";
+
+// x lists s, which doesn't list x; s lists y, which doesn't list s. So s can be nowhere.
+const ONE_SIDE: &str = "match,1\nprogram,x,1,s\nprogram,y,2,t\napplicant,t,y\napplicant,s,y\n";
+
+// At y the single stands above the second member.
+const ELSEWHERE: &str =
+    "match,1\nprogram,x,1,a,s\nprogram,y,1,s,b\napplicant,s,y,x\ncouple,c,a,b,x,y\n";
+
+// y has no post. With s at x beside a both programs are over their quotas, and without s only y is.
+const OVER: &str = "match,1\nprogram,x,1,s,a\nprogram,y,0,b\napplicant,s,x\ncouple,c,a,b,x,y\n";
+
+// y doesn't list w. With t and u at x it is over its quota, and where s is unplaced it blocks with y: of three kinds of
+// finding the first match has all, the second two and the third one. In the fourth both s and w are at places that
+// aren't allowed.
+const THREE_KINDS: &str =
+    "match,1\nprogram,x,1,t,u\nprogram,y,1,s\napplicant,s,y\napplicant,t,x\napplicant,u,x\napplicant,w,y\n";
+
+// The single displaces b from y, and the couple then displaces the single from x: no match is stable.
+const UNSTABLE: &str =
+    "match,1\nprogram,x,1,a,s\nprogram,y,1,s,b\napplicant,s,x,y\ncouple,c,a,b,x,y\n";
+
+// The number of the program with this id.
+fn program_called(roster: &Roster, id: &str) -> Option<ProgNo> {
+    for number in 0..roster.programs() {
+        let program = ProgNo(number);
+        if roster.program_id(program) == id.as_bytes() {
+            return Some(program);
+        }
+    }
+    None
+}
+
+// The places that a text tells.
+fn places_of(
+    alloc: Global,
+    roster: &Roster,
+    text: &str,
+) -> Result<Vec<Option<ProgNo>>, AllocError> {
+    let mut places = Vec::new(alloc);
+    for id in text.split_whitespace() {
+        places.push(program_called(roster, id))?;
+    }
+    Ok(places)
+}
+
+// A verdict as a text: an agent that blocks with its number and its option.
+fn shown(alloc: Global, verdict: &Verdict) -> Result<String, Fail> {
+    let text = match verdict {
+        Verdict::Stable => format!(in alloc; "stable")?,
+        Verdict::Unlisted(applicant) => format!(in alloc; "unlisted {}", applicant.0)?,
+        Verdict::Over(program) => format!(in alloc; "over {}", program.0)?,
+        Verdict::Blocks(Blocker { agent, option }) => match agent {
+            Agent::Single(single) => format!(in alloc; "single {} by {option}", single.0)?,
+            Agent::Couple(couple) => format!(in alloc; "couple {} by {option}", couple.0)?,
+        },
+    };
+    Ok(text)
+}
+
+// What the verifier says of a match, by the market of a file.
+fn finding<R: Abort + Threads + Sync>(
+    rt: &R,
+    alloc: Global,
+    file: &str,
+    match_text: &str,
+) -> Result<String, Fail> {
+    let roster = roster_of(alloc, file.as_bytes())?;
+    let ranks = Ranks::build(rt, alloc, &roster)?;
+    let places = places_of(alloc, &roster, match_text)?;
+    assert!(rt; are_places(&roster, places.as_slice()));
+    let matched = Match {
+        places: Places::new(places),
+    };
+    let verdict = verify(rt, alloc, &roster, &ranks, &matched)?;
+    assert_eq!(rt; verdict, plain_verdict(&roster, &matched));
+    shown(alloc, &verdict)
+}
+
+// Each match of a file gets this finding.
+fn expect_findings<R: Abort + Threads + Sync>(
+    rt: &R,
+    alloc: Global,
+    matches: &[(&str, &str, &str)],
+) -> Result<(), Fail> {
+    for (file, places, wanted) in matches {
+        let found = finding(rt, alloc, file, places)?;
+        assert_eq!(rt; found.as_str(), *wanted, "{file}{places}");
+    }
+    Ok(())
+}
+
+const PLACES_THAT_ARE_NOT_ALLOWED: &[(&str, &str, &str)] = &[
+    (NO_PAIR, "- x -", "unlisted 1"),
+    (NO_PAIR, "- - x", "unlisted 1"),
+    (NO_PAIR, "- x y", "unlisted 1"),
+    (NO_PAIR, "- y x", "unlisted 1"),
+    (NO_PAIR, "y x x", "stable"),
+    (OTHER_HALF, "- x", "unlisted 0"),
+    (OTHER_HALF, "x -", "stable"),
+    (UNLISTED_MEMBER, "x y", "unlisted 1"),
+    (UNLISTED_MEMBER, "x x", "stable"),
+    (ONE_SIDE, "y x", "unlisted 1"),
+    (ONE_SIDE, "y y", "unlisted 1"),
+    (ONE_SIDE, "y -", "stable"),
+    (ELSEWHERE, "y x -", "unlisted 1"),
+    (ELSEWHERE, "y - -", "stable"),
+];
+
+#[test]
+fn places_that_are_not_allowed(rt: HostRuntime) -> Result<(), Fail> {
+    expect_findings(&rt, rt.alloc(), PLACES_THAT_ARE_NOT_ALLOWED)
+}
+
+const PROGRAMS_OVER_THEIR_QUOTAS: &[(&str, &str, &str)] = &[
+    (BETWEEN, "x x x", "over 0"),
+    (BETWEEN, "x - -", "stable"),
+    (OVER, "x x y", "over 0"),
+    (OVER, "- x y", "over 1"),
+    (OVER, "x - -", "stable"),
+    (ONE_POST, "x x - -", "over 0"),
+    (ONE_POST, "- - - -", "stable"),
+    (THREE_KINDS, "- x x y", "unlisted 3"),
+    (THREE_KINDS, "- x x -", "over 0"),
+    (THREE_KINDS, "- x - -", "single 0 by 0"),
+    (THREE_KINDS, "x - - y", "unlisted 0"),
+    (THREE_KINDS, "y x - -", "stable"),
+];
+
+#[test]
+fn programs_over_their_quotas(rt: HostRuntime) -> Result<(), Fail> {
+    expect_findings(&rt, rt.alloc(), PROGRAMS_OVER_THEIR_QUOTAS)
+}
+
+const AGENTS_THAT_BLOCK: &[(&str, &str, &str)] = &[
+    (SINGLES, "x -", "single 1 by 1"),
+    (SINGLES, "x z", "single 1 by 1"),
+    (SINGLES, "x y", "stable"),
+    (SINGLES, "- y", "single 0 by 0"),
+    (CHAIN, "P1 P2 -", "single 2 by 0"),
+    (CHAIN, "P2 P1 -", "stable"),
+    (PAIRS, "x - -", "couple 0 by 1"),
+    (PAIRS, "x z w", "couple 0 by 1"),
+    (PAIRS, "x z y", "stable"),
+    (ALL_FREE, "- - - -", "single 0 by 0"),
+    (ALL_FREE, "v - - -", "couple 0 by 0"),
+    (ALL_FREE, "v x y -", "single 3 by 0"),
+    (ALL_FREE, "v x y z", "stable"),
+    (BEHIND, "- - -", "single 2 by 0"),
+    (BEHIND, "- - z", "stable"),
+];
+
+#[test]
+fn agents_that_block(rt: HostRuntime) -> Result<(), Fail> {
+    expect_findings(&rt, rt.alloc(), AGENTS_THAT_BLOCK)
+}
+
+const COUPLES_THAT_BLOCK_ONCE_THEY_ARE_TAKEN_OUT: &[(&str, &str, &str)] = &[
+    (BOTH, "x - -", "couple 0 by 0"),
+    (BOTH, "- x x", "stable"),
+    (EXCHANGE, "x y", "couple 0 by 0"),
+    (EXCHANGE, "y x", "stable"),
+    (OWN_ROOM, "- x y", "couple 0 by 0"),
+    (OWN_ROOM, "- w x", "single 0 by 0"),
+    (OWN_ROOM, "x - -", "couple 0 by 1"),
+    (HALF, "y - -", "couple 0 by 1"),
+    (HALF, "y x -", "stable"),
+    (NOWHERE, "x y", "couple 0 by 0"),
+    (NOWHERE, "y -", "stable"),
+];
+
+#[test]
+fn couples_that_block_once_they_are_taken_out(rt: HostRuntime) -> Result<(), Fail> {
+    expect_findings(&rt, rt.alloc(), COUPLES_THAT_BLOCK_ONCE_THEY_ARE_TAKEN_OUT)
+}
+
+// All 27 ways to place three applicants at two programs.
+#[test]
+fn a_market_without_a_stable_match(rt: HostRuntime) -> Result<(), Fail> {
+    for s in ["-", "x", "y"] {
+        for a in ["-", "x", "y"] {
+            for b in ["-", "x", "y"] {
+                let places = format!(in rt.alloc(); "{s} {a} {b}")?;
+                let found = finding(&rt, rt.alloc(), UNSTABLE, &places)?;
+                assert_ne!(rt; found.as_str(), "stable", "{places}");
+            }
+        }
+    }
+    Ok(())
+}

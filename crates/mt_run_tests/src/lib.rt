@@ -1,0 +1,5 @@
+//! Tests of whole runs.
+#![tactic(auto)]
+
+#[cfg(test)]
+mod runs;

@@ -1,0 +1,259 @@
+//! Whole runs: one for each exit, the same text for all workers and pieces, and devices that fail.
+ghost use Rattle.std.specs.Prelude.{◌≤◌};
+
+use mt_samples::devices::{Endless, Narrow, Pieces};
+use mt_samples::markets::{
+    CHAIN, CHAIN_TEXT, CROSSED, CROSSED_TEXT, HALF_PAIR, HALF_PAIR_TEXT, THREE_COUPLES,
+    THREE_COUPLES_TEXT,
+};
+use mt_lists::Tap;
+use mt_report::Drain;
+use mt_run::{Ended, Options, run};
+use std::alloc::{AllocGlobal, Global};
+use std::io::{ErrorKind, Read};
+use std::process::Abort;
+use std::sync::Wait;
+use std::test::Fail;
+use std::thread::Threads;
+
+/// The options where nothing is said.
+const USUAL: Options = Options {
+    workers: 4,
+    budget: 1_000_000,
+};
+
+const READ_FAULT: &[u8] = b"match,1,refused,31,ReadFault,0,-\n";
+
+// A writer with room for so many bytes.
+fn narrow(alloc: Global, at_once: usize, room: usize, fails: bool) -> Narrow {
+    Narrow {
+        at_once,
+        room,
+        fails,
+        flush_fails: false,
+        flushes: 0,
+        taken: Vec::new(alloc),
+    }
+}
+
+// The exit status, once the code is seen to be one of those that there are.
+fn status_of(rt: &impl Abort, ended: &Ended) -> u8 {
+    assert!(rt; matches!(ended.code, 0 | 10..=22 | 30 | 31 | 41));
+    ended.status()
+}
+
+// Expects a run to end with this code and this exit status, and to write this text whole.
+fn expect_end<R: Read + Drop>(
+    rt: &(impl Abort + AllocGlobal + Threads + Wait + Sync),
+    reader: R,
+    options: Options,
+    code: u16,
+    status: u8,
+    text: &[u8],
+)
+    requires { (1 ≤ options.workers) × (options.workers ≤ 64) }
+{
+    let mut writer = narrow(rt.alloc(), usize::MAX, usize::MAX, false);
+    let mut tap = Tap::new(reader);
+    let mut drain = Drain::new(&mut writer);
+    let ended = run(rt, rt.alloc(), &mut tap, &mut drain, options);
+    assert_eq!(rt; drain.failures(), 0);
+    assert_eq!(rt; writer.taken.as_slice(), text, "{options:?}");
+    assert_eq!(rt; writer.flushes, 1);
+    let wanted = Ended {
+        code,
+        written: text.len() as u64,
+        whole: true,
+    };
+    assert_eq!(rt; ended, wanted, "{options:?}");
+    assert_eq!(rt; status_of(rt, &ended), status);
+}
+
+// Expects a run into this writer to write only these bytes of a text, and to end with this code.
+fn expect_cut(
+    rt: &(impl Abort + AllocGlobal + Threads + Wait + Sync),
+    input: &[u8],
+    narrow: Narrow,
+    code: u16,
+    taken: &[u8],
+) {
+    let mut writer = narrow;
+    let mut tap = Tap::new(input);
+    let mut drain = Drain::new(&mut writer);
+    let ended = run(rt, rt.alloc(), &mut tap, &mut drain, USUAL);
+    assert_eq!(rt; drain.failures(), 1);
+    assert_eq!(rt; writer.taken.as_slice(), taken);
+    let wanted = Ended {
+        code,
+        written: taken.len() as u64,
+        whole: false,
+    };
+    assert_eq!(rt; ended, wanted);
+    assert_eq!(rt; status_of(rt, &ended), 5);
+}
+
+#[test]
+fn each_exit(rt: HostRuntime) {
+    expect_end(&rt, CROSSED, USUAL, 0, 0, CROSSED_TEXT);
+    let no_kind = b"match,1\nmatch,1\n".as_slice();
+    expect_end(
+        &rt,
+        no_kind,
+        USUAL,
+        13,
+        2,
+        b"match,1,refused,13,UnknownKind,2,-\n",
+    );
+    let no_round = Options {
+        workers: 4,
+        budget: 3,
+    };
+    expect_end(
+        &rt,
+        HALF_PAIR,
+        no_round,
+        41,
+        3,
+        b"match,1,refused,41,BudgetSpent,0,-\n",
+    );
+    let without_memory = Ended {
+        code: 30,
+        written: 35,
+        whole: true,
+    };
+    assert_eq!(rt; status_of(&rt, &without_memory), 4);
+    let pieces = Pieces::new(CROSSED, 100, 2, ErrorKind::Other);
+    expect_end(&rt, pieces, USUAL, 31, 5, READ_FAULT);
+    expect_cut(
+        &rt,
+        CROSSED,
+        narrow(rt.alloc(), 100, 10, true),
+        0,
+        b"match,1,pu",
+    );
+}
+
+// Expects this text with so many workers, read whole and in pieces of one byte.
+fn expect_with(
+    rt: &(impl Abort + AllocGlobal + Threads + Wait + Sync),
+    input: &[u8],
+    text: &[u8],
+    workers: u32,
+)
+    requires { (1 ≤ workers) × (workers ≤ 64) }
+{
+    let options = Options {
+        workers,
+        budget: 1_000_000,
+    };
+    expect_end(rt, input, options, 0, 0, text);
+    let pieces = Pieces::new(input, 1, 0, ErrorKind::Other);
+    expect_end(rt, pieces, options, 0, 0, text);
+}
+
+fn expect_same(rt: &(impl Abort + AllocGlobal + Threads + Wait + Sync), input: &[u8], text: &[u8]) {
+    expect_with(rt, input, text, 1);
+    expect_with(rt, input, text, 2);
+    expect_with(rt, input, text, 8);
+    expect_with(rt, input, text, 64);
+}
+
+#[test]
+fn workers_and_pieces_change_nothing(rt: HostRuntime) {
+    expect_same(&rt, CHAIN, CHAIN_TEXT);
+    expect_same(&rt, THREE_COUPLES, THREE_COUPLES_TEXT);
+    expect_same(&rt, HALF_PAIR, HALF_PAIR_TEXT);
+}
+
+/// Singles `s1` to `s3000` wait for the post that a couple leaves.
+fn waiting_singles(alloc: Global) -> Result<String, Fail> {
+    let mut input = String::from_str(alloc, "match,1\nprogram,x,2,c,e1,d")?;
+    for i in 1..3_001 {
+        input.push_str(&format!(in alloc; ",s{i}")?)?;
+    }
+    input.push_str("\nprogram,z,1,e2\n")?;
+    for i in 1..3_001 {
+        input.push_str(&format!(in alloc; "applicant,s{i},x\n")?)?;
+    }
+    input.push_str("couple,D,c,d,x,x\ncouple,E,e1,e2,x,z\n")?;
+    Ok(input)
+}
+
+/// The text of the market where the first of them gets it.
+fn waiting_singles_text(alloc: Global) -> Result<String, Fail> {
+    let mut text = String::from_str(alloc, "match,1,published\napplicant,s1,x\n")?;
+    for i in 2..3_001 {
+        text.push_str(&format!(in alloc; "applicant,s{i},-\n")?)?;
+    }
+    text.push_str("applicant,c,-\napplicant,d,-\napplicant,e1,x\napplicant,e2,z\n")?;
+    text.push_str("program,x,2,2,3000\nprogram,z,1,1,0\ntotals,3004,3001,3,0\n")?;
+    Ok(text)
+}
+
+// D takes both posts of x from s1 and s2, which aren't taken again; E takes x and z and drives D out; D isn't
+// taken again; s1 takes the post that was left, and the 2,999 others aren't taken.
+#[test]
+fn all_who_wait_are_looked_at_again(rt: HostRuntime) -> Result<(), Fail> {
+    let input = waiting_singles(rt.alloc())?;
+    let text = waiting_singles_text(rt.alloc())?;
+    expect_same(&rt, input.as_bytes(), text.as_bytes());
+    Ok(())
+}
+
+// The input has 84 bytes: twelve reads of seven, and one that finds the end.
+#[test]
+fn each_read_fails(rt: HostRuntime) {
+    assert_eq!(rt; CROSSED.len(), 84);
+    for failure in [ErrorKind::Other, ErrorKind::Interrupted] {
+        for k in 1..14 {
+            let mut pieces = Pieces::new(CROSSED, 7, k, failure);
+            expect_end(&rt, &mut pieces, USUAL, 31, 5, READ_FAULT);
+            assert_eq!(rt; pieces.calls, k);
+        }
+        let pieces = Pieces::new(CROSSED, 7, 14, failure);
+        expect_end(&rt, pieces, USUAL, 0, 0, CROSSED_TEXT);
+    }
+}
+
+// 64 MiB are the most that an input may have: so many reads of 64 bytes, and one more.
+#[test]
+fn a_reader_without_end(rt: HostRuntime) {
+    let mut tap = Tap::new(Endless { size: 64 });
+    let mut writer = narrow(rt.alloc(), 100, 100, false);
+    let mut drain = Drain::new(&mut writer);
+    let ended = run(&rt, rt.alloc(), &mut tap, &mut drain, USUAL);
+    assert_eq!(rt; ended.code, 10);
+    assert!(rt; tap.reads() <= 1_048_577);
+    assert_eq!(rt; tap.failures(), 0);
+    assert_eq!(rt;
+        writer.taken.as_slice(),
+        b"match,1,refused,10,TooLarge,0,-\n".as_slice()
+    );
+}
+
+#[test]
+fn writers_with_too_little_room(rt: HostRuntime) {
+    assert_eq!(rt; CROSSED_TEXT.len(), 99);
+    for fails in [false, true] {
+        for at_once in [7, 100] {
+            for room in 0..99 {
+                let writer = narrow(rt.alloc(), at_once, room, fails);
+                expect_cut(&rt, CROSSED, writer, 0, &CROSSED_TEXT[..room]);
+            }
+        }
+        expect_cut(&rt, b"", narrow(rt.alloc(), 100, 5, fails), 12, b"match");
+    }
+}
+
+#[test]
+fn a_flush_that_fails(rt: HostRuntime) {
+    let writer = Narrow {
+        at_once: 100,
+        room: 100,
+        fails: false,
+        flush_fails: true,
+        flushes: 0,
+        taken: Vec::new(rt.alloc()),
+    };
+    expect_cut(&rt, CROSSED, writer, 0, CROSSED_TEXT);
+}
