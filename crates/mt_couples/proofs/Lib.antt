@@ -1,3 +1,4 @@
+pub mod AskFacts
 pub mod EnteringFacts
 pub mod JoinFacts
 pub mod MarketFacts

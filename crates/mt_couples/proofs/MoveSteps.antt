@@ -9,7 +9,6 @@ use Rattle.mt_terms.specs.Choice.{choice}
 use Rattle.std.specs.Option.{option_eq}
 use Rattle.mt_couples.proofs.PlaceFacts.{is_program_read}
 use Rattle.mt_terms.specs.Rounds.{programs_sent_to}
-use Rattle.mt_terms.specs.contracts.numbers.ProgNoOrd.TheImpl.{cmp-value}
 use Rattle.std.specs.declared.cmp.Ordering.{Ordering}
 use Rattle.std.specs.declared.cmp.Ordering.TheVariants.{Less, Equal, Greater}
 use Rattle.std.specs.Ordering.{nat_cmp, match_ordering}
@@ -54,28 +53,6 @@ program_sent_to (t ∷ sent) (suc i) s p within read is = later t.1 (program_sen
     later : (place : Option ℕ) → has (programs_sent_to sent) p ≡ true → has (programs_sent_to ((t.0, place) ∷ sent)) p ≡ true
     later None h = h
     later (Some q) h = or_right (q == p) _ h
-
--- a test that is named again
-or_twice : (a b : Bool) → (a || b) ≡ ((a || b) || a)
-or_twice true b = refl
-or_twice false b = sym (or-false b)
-
--- how an ordered set compares programs
-pub compares : (p q : ℕ) → cmp-value.it p q ≡ nat_cmp p q
-compares p q = refl
-
--- a set of programs with one more
-pub has-insert_key : (ks : List ℕ) (k p : ℕ) → has (insert_key cmp-value.it ks k) p ≡ (has ks p || (k == p))
-has-insert_key [] k p = or-false (k == p)
-has-insert_key (x ∷ xs) k p = by_order (cmp-value.it k x) (compares k x) (has-insert_key xs k p)
-  where
-    by_order : (o : Ordering) → o ≡ nat_cmp k x → has (insert_key cmp-value.it xs k) p ≡ (has xs p || (k == p))
-        → has (match_ordering o (k ∷ x ∷ xs) (x ∷ xs) (x ∷ insert_key cmp-value.it xs k)) p ≡ (has (x ∷ xs) p || (k == p))
-    by_order Less is later = or_comm (k == p) (has (x ∷ xs) p)
-    by_order Equal is later =
-        let same : k ≡ x = ranked k x Equal is in
-        or_twice (x == p) (has xs p) ∙ ap (λ y. has (x ∷ xs) p || (y == p)) (sym same)
-    by_order Greater is later = ap (λ (b : Bool). (x == p) || b) later ∙ sym (or_assoc (x == p) (has xs p) (k == p))
 
 -- where an applicant is at a program that chooses it, that is the one program where it is kept
 pub kept_there : (m : Market) (places : Places) (a q p : ℕ) → Some q ≡ place_of places a → choice (program_of m q) (at places q) a ≡ true → (q == p) ≡ is_kept_at m places p a

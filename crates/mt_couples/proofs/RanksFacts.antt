@@ -11,7 +11,7 @@ use Rattle.mt_terms.specs.Lists.{Set, has, count, is_distinct}
 use Rattle.mt_terms.specs.Matching.{ranks_from}
 use Rattle.mt_couples.specs.Assigned.{is_refused}
 use Rattle.mt_couples.proofs.PlaceFacts.{has_at}
-use Rattle.mt_couples.proofs.RowFacts.{IsBelowAll, filter_same}
+use Rattle.mt_couples.proofs.RowFacts.{IsBelowAll, all_above, filter_same}
 use Rattle.mt_couples.proofs.RefusedFacts.{program_with, refused_is, count_is}
 
 -- what a rank of a set is
@@ -44,12 +44,6 @@ pub above_ranks : (i : ℕ) (set : Set) (xs : List ℕ) → IsBelowAll i (ranks_
 above_ranks i set xs p on = let low = (ranks_are (i + 1) set xs p on).low in omega arith
 
 -- they rise
-all_above : (k : ℕ) (ks : List ℕ) → IsBelowAll k ks → AllByRecursion (λ y. nat_cmp k y ≡ Less) ks
-all_above k [] h = tt
-all_above k (x ∷ xs) h =
-    let l = h x (or_left (x == x) (has xs x) (eq-eqb x x refl)) in
-    (rw (lt-ltb k x l) refl, all_above k xs (λ p on. h p (or_right (x == p) (has xs p) on)))
-
 pub ranks_sorted : (i : ℕ) (set : Set) (xs : List ℕ) → IsStrictlySortedBy nat_cmp (ranks_from i set xs)
 unfolding IsStrictlySortedBy
 ranks_sorted i set [] = tt

@@ -1,10 +1,12 @@
 -- Ranks in rising order.
-use Rattle.std.proofs.Common.{◌≡◌, ℕ, suc, ◌+◌, ◌<◌, ◌≤◌, Bool, true, false, not, ◌==◌, nat_lt, List, [], ◌∷◌, filter, length, insert, remove, refl, ap, sym, inl, inr, arith, lt-ltb, le-ltb}
+use Rattle.std.proofs.Common.{◌≡◌, ℕ, suc, ◌+◌, ◌<◌, ◌≤◌, Bool, true, false, not, ◌||◌, ◌==◌, nat_lt, List, [], ◌∷◌, filter, length, insert, remove, refl, ap, sym, ◌∙◌, inl, inr, arith, lt-ltb, le-ltb}
 use Rattle.std.specs.List.{AllByRecursion}
 use Rattle.std.specs.List.Sorted.{IsStrictlySortedBy}
-use Rattle.std.specs.Ordering.{nat_cmp}
+use Rattle.std.specs.Ordering.{nat_cmp, match_ordering}
 use Rattle.std.specs.BTreeSet.{insert_key}
-use Rattle.std.specs.declared.cmp.Ordering.TheVariants.{Less}
+use Rattle.std.specs.declared.cmp.Ordering.{Ordering}
+use Rattle.std.specs.declared.cmp.Ordering.TheVariants.{Less, Equal, Greater}
+use Rattle.std.proofs.Math.Bool.{or_assoc, or_comm, or-false}
 use Rattle.std.proofs.lemmas.Bool.{cases_lt, cases_eq, or_cases, or_parts, or_left, or_right, both_ways, false≢true, not_from_false, eq-eqb, eqb-true, ne_eqb}
 use Rattle.std.proofs.lemmas.Cmp.{ranked}
 use Rattle.std.proofs.lemmas.Map.Keys.{sorted_head, sorted_tail}
@@ -74,3 +76,50 @@ remove_at_place (x ∷ xs) k sorted on = elim (cases_eq x k) [
       let one_more : 1 + count (λ r. nat_lt r k) xs ≡ suc (count (λ r. nat_lt r k) xs) = omega arith in
       rw (lt-ltb x k l, ne_eqb x k other, one_more) (omega (arith, rest.0), ap (λ ys. x ∷ ys) rest.1)
 ]
+
+-- below all of a list, by its order
+pub all_above : (k : ℕ) (ks : List ℕ) → IsBelowAll k ks → AllByRecursion (λ y. nat_cmp k y ≡ Less) ks
+all_above k [] h = tt
+all_above k (x ∷ xs) h =
+    let l = h x (or_left (x == x) (has xs x) (eq-eqb x x refl)) in
+    (rw (lt-ltb k x l) refl, all_above k xs (λ p on. h p (or_right (x == p) (has xs p) on)))
+
+-- a test that is named again
+or_twice : (a b : Bool) → (a || b) ≡ ((a || b) || a)
+or_twice true b = refl
+or_twice false b = sym (or-false b)
+
+-- a set of numbers with one more
+pub has-insert_key : (ks : List ℕ) (k p : ℕ) → has (insert_key nat_cmp ks k) p ≡ (has ks p || (k == p))
+has-insert_key [] k p = or-false (k == p)
+has-insert_key (x ∷ xs) k p = by_order (nat_cmp k x) refl (has-insert_key xs k p)
+  where
+    by_order : (o : Ordering) → o ≡ nat_cmp k x → has (insert_key nat_cmp xs k) p ≡ (has xs p || (k == p))
+        → has (match_ordering o (k ∷ x ∷ xs) (x ∷ xs) (x ∷ insert_key nat_cmp xs k)) p ≡ (has (x ∷ xs) p || (k == p))
+    by_order Less is later = or_comm (k == p) (has (x ∷ xs) p)
+    by_order Equal is later =
+        let same : k ≡ x = ranked k x Equal is in
+        or_twice (x == p) (has xs p) ∙ ap (λ y. has (x ∷ xs) p || (y == p)) (sym same)
+    by_order Greater is later = ap (λ (b : Bool). (x == p) || b) later ∙ sym (or_assoc (x == p) (has xs p) (k == p))
+
+-- and it stays in order
+pub sorted-insert_key : (ks : List ℕ) (k : ℕ) → IsStrictlySortedBy nat_cmp ks → IsStrictlySortedBy nat_cmp (insert_key nat_cmp ks k)
+unfolding IsStrictlySortedBy
+sorted-insert_key [] k sorted = (tt, tt)
+sorted-insert_key (x ∷ xs) k sorted = by_order (nat_cmp k x) refl (sorted-insert_key xs k sorted.1)
+  where
+    by_order : (o : Ordering) → o ≡ nat_cmp k x → IsStrictlySortedBy nat_cmp (insert_key nat_cmp xs k)
+        → IsStrictlySortedBy nat_cmp (match_ordering o (k ∷ x ∷ xs) (x ∷ xs) (x ∷ insert_key nat_cmp xs k))
+    by_order Less is later =
+        let low : k < x = ranked k x Less is in
+        (all_above k (x ∷ xs) (λ p on. elim (or_cases (x == p) (has xs p) on) [
+          | inl here ↦ (let same = eqb-true x p here in omega arith)
+          | inr rest ↦ (let l = below_rest x xs sorted p rest in omega arith)
+        ]), sorted)
+    by_order Equal is later = sorted
+    by_order Greater is later =
+        let high : x < k = ranked k x Greater is in
+        (all_above x (insert_key nat_cmp xs k) (λ p on. elim (or_cases (has xs p) (k == p) (sym (has-insert_key xs k p) ∙ on)) [
+          | inl rest ↦ below_rest x xs sorted p rest
+          | inr here ↦ (let same = eqb-true k p here in omega arith)
+        ]), later)

@@ -1,10 +1,13 @@
 -- What an assignment's tables mean.
-use Rattle.std.specs.Prelude.{◌≡◌, ◌≤◌, ◌+◌}
+use Rattle.std.specs.Prelude.{◌≡◌, ◌≤◌, ◌+◌, ℕ, List}
 use Rattle.mt_terms.specs.Registration.Accepted.{IsRegistration}
 use Rattle.std.specs.VecDeque.{deque_capacity}
 use Rattle.mt_ranks.specs.Ranked.{ranked_of}
 use Rattle.mt_terms.specs.Places.{ArePlaces}
 use Rattle.mt_couples.specs.Assigned.{Assigned, rows_of}
+use Rattle.std.specs.List.Sorted.{IsStrictlySortedBy}
+use Rattle.std.specs.Ordering.{nat_cmp}
+use Rattle.mt_couples.specs.declared.program_set.ProgramSet.TheInside.{Inside as Programs}
 use Rattle.mt_couples.specs.declared.assignment.Assignment.TheInside.{Inside}
 use Rattle.mt_couples.specs.Waiting.{Waiting, IsTold}
 use Rattle.mt_couples.specs.declared.work_list.WorkList.TheInside.{Inside as Queue}
@@ -27,3 +30,10 @@ waiting_in w = record { applicants = w.applicants; couples = w.couples; agents =
 pub record IsWorkList (w : Queue) : Type 0 where
   pub told : IsTold w.applicants w.couples w.queue.items w.waits.items
   pub room : w.applicants + w.couples ≤ deque_capacity w.queue
+
+abbrev pub programs_in : Programs → List ℕ
+programs_in s = s.programs.items
+
+-- They are in order of their numbers, each once.
+pub record AreInOrder (s : Programs) : Type 0 where
+  pub sorted : IsStrictlySortedBy nat_cmp s.programs.items

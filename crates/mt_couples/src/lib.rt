@@ -4,6 +4,7 @@
 mod assignment;
 mod moves;
 mod options;
+mod program_set;
 mod rounds;
 mod row;
 mod work_list;

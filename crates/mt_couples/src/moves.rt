@@ -6,9 +6,9 @@ ghost use Rattle.mt_couples.specs.Assigned.{AreApplicantsOf, AreProgramsOf, AreS
 ghost use Rattle.mt_couples.specs.Moves.{any_kept, displaced_by, is_kept, left_by, moved, movers_leave, seated, without_agents, Adds, IsTaking};
 
 use crate::assignment::Assignment;
+use crate::program_set::ProgramSet;
 use mt_terms::{Agent, AppNo, ProgNo};
 use std::alloc::{AllocError, Global};
-use std::collections::BTreeSet;
 
 /// What a move changes besides the places of the agent that moves.
 #[derive(Drop)]
@@ -75,9 +75,9 @@ impl<'a> Assignment<'a> {
     pub(crate) fn add_left_by_movers(
         &self,
         sent: &[(AppNo, Option<ProgNo>)],
-        left: &mut BTreeSet<ProgNo>,
+        left: &mut ProgramSet,
     ) -> Result<(), AllocError>
-        ensures { OnOk result (Adds left.old.keys left.new.keys (movers_leave self.now sent.now)) }
+        ensures { OnOk result (Adds left.old left.new (movers_leave self.now sent.now)) }
     {
         for seat in sent {
             let place = self.place(seat.0);
@@ -91,9 +91,9 @@ impl<'a> Assignment<'a> {
     }
 
     /// Adds the program where the applicant is, if the program chooses it.
-    fn add_kept(&self, applicant: AppNo, left: &mut BTreeSet<ProgNo>) -> Result<(), AllocError>
+    fn add_kept(&self, applicant: AppNo, left: &mut ProgramSet) -> Result<(), AllocError>
         requires { applicant < applicants self.now.market }
-        ensures { OnOk result (Adds left.old.keys left.new.keys (is_kept self.now applicant)) }
+        ensures { OnOk result (Adds left.old left.new (is_kept self.now applicant)) }
     {
         if let Some(program) = self.place(applicant) {
             if self.is_kept(program, applicant) {
@@ -107,10 +107,10 @@ impl<'a> Assignment<'a> {
     pub(crate) fn add_left_by_partners(
         &self,
         displaced: &[AppNo],
-        left: &mut BTreeSet<ProgNo>,
+        left: &mut ProgramSet,
     ) -> Result<(), AllocError>
         requires { AreApplicantsOf self.now.market displaced.now }
-        ensures { OnOk result (Adds left.old.keys left.new.keys (any_kept self.now displaced.now)) }
+        ensures { OnOk result (Adds left.old left.new (any_kept self.now displaced.now)) }
     {
         for applicant in displaced {
             match self.agent_of(*applicant) {
@@ -137,13 +137,15 @@ impl<'a> Assignment<'a> {
         ensures displaced { IfOk result (λ r. r.displaced.items ≡ displaced_by self.old sent.now) }
         ensures left { IfOk result (λ r. r.left.items ≡ left_by self.old sent.now) }
     {
-        let mut left = BTreeSet::new(alloc);
+        let mut left = ProgramSet::new(alloc);
         self.add_left_by_movers(sent, &mut left)?;
         self.send(sent)?;
         let displaced = self.displaced(alloc, sent)?;
         self.add_left_by_partners(&displaced, &mut left)?;
         self.take_out(&displaced);
-        let left = left.into_iter().collect(alloc)?;
-        Ok(Moved { displaced, left })
+        Ok(Moved {
+            displaced,
+            left: left.into_vec(),
+        })
     }
 }

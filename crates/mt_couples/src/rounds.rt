@@ -1,11 +1,12 @@
 ghost use Rattle.std.specs.Prelude.{◌≡◌, ◌<◌, ◌≤◌, length, IsTrue, IfOk, IsErrOf, OnOk, Some, None, [], ◌∷◌};
 ghost use Rattle.mt_terms.specs.Rounds.{after_taking, has_entered, round_of, settled, stage};
 ghost use Rattle.mt_terms.specs.Best.{IsBest};
+ghost use Rattle.mt_terms.specs.Market.{applicants};
 ghost use Rattle.mt_terms.specs.WellFormed.{IsWellFormed};
 ghost use Rattle.mt_terms.specs.Stability.{fits, stable};
 ghost use Rattle.mt_ranks.specs.Ranked.{ranked_of};
 ghost use Rattle.mt_couples.specs.Assigned.{AreApplicantsOf, AreProgramsOf, IsAgentOf};
-ghost use Rattle.mt_couples.specs.Running.{is_quiet_single, is_reopened, singles_quiet, waiting_first, work_of, IsQuietBut, IsRunning};
+ghost use Rattle.mt_couples.specs.Running.{is_disquiet, is_quiet_single, is_reopened, singles_quiet, waiting_first, work_of, IsQuietBut, IsRunning};
 ghost use Rattle.mt_couples.specs.Waiting.{IsListOf, Joins, KeepsRoom};
 ghost use Rattle.mt_couples.specs.Moves.{agents_of, blockers, if_blocking, reopened, IsTaking};
 
@@ -14,8 +15,14 @@ use crate::work_list::WorkList;
 use mt_market::Roster;
 use mt_ranks::Ranks;
 use mt_terms::{Agent, AppNo, CoupleNo, Match, ProgNo};
+use rayon::prelude::*;
 use std::alloc::{AllocError, Global};
+use std::thread::Threads;
 use thiserror::Error;
+
+/// From twice as many applicants on, it is asked side by side whether they are quiet. That a thread pays for itself
+/// with so many is an estimate.
+const LEAST_APPLICANTS: usize = 1024;
 
 /// Why the couples' stage did not end with a match.
 #[derive(Clone, Copy, Debug, PartialEq, Eq, Error)]
@@ -178,15 +185,20 @@ fn is_quiet_single(assignment: &Assignment<'_>, agent: &Agent) -> bool
 }
 
 /// Whether no single blocks.
-fn are_singles_quiet(assignment: &Assignment<'_>) -> bool
+fn are_singles_quiet<R: Threads + Sync>(rt: &R, assignment: &Assignment<'_>) -> bool
     ensures { result ≡ singles_quiet assignment.now }
 {
-    for number in 0..assignment.roster().applicants() {
-        if !is_quiet_single(assignment, &assignment.agent_of(AppNo(number))) {
-            return false;
-        }
-    }
-    true
+    let disquiet = (0..assignment.roster().applicants())
+        .into_par_iter()
+        .with_min_len(LEAST_APPLICANTS)
+        .find_first(
+            rt,
+            |number: &u32| -> bool
+                requires { number.now < applicants assignment.now.market }
+                ensures { result ≡ is_disquiet assignment.entry.now number.now }
+            { !is_quiet_single(assignment, &assignment.agent_of(AppNo(*number))) },
+        );
+    disquiet.is_none()
 }
 
 /// Puts those agents of the lists of the programs that were left on the work list that have entered and block
@@ -304,7 +316,8 @@ fn settle(
 /// that would be taken, whom it displaces goes with its whole couple, and the agents to whom that may matter
 /// are looked at again. The errors are that more rounds than `budget` would be needed, and want of memory; in
 /// both the given match is gone.
-pub fn enter_all(
+pub fn enter_all<R: Threads + Sync>(
+    rt: &R,
     alloc: Global,
     roster: &Roster,
     ranks: &Ranks,
@@ -327,7 +340,7 @@ pub fn enter_all(
     }
     let mut assignment = Assignment::new(alloc, roster, ranks, singles)?;
     let mut waiting = WorkList::new(alloc, roster.applicants(), couples)?;
-    let quiet = are_singles_quiet(&assignment);
+    let quiet = are_singles_quiet(rt, &assignment);
     let mut left = budget;
     for number in 0..couples {
         let couple = CoupleNo(number);

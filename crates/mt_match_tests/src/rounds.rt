@@ -14,11 +14,17 @@ use std::test::Fail;
 use std::thread::Threads;
 
 // What the couples come to, after the best match of the singles.
-fn enter(alloc: Global, roster: &Roster, ranks: &Ranks, budget: u32) -> Result<Entered, CoupleEnd>
+fn enter<R: Threads + Sync>(
+    rt: &R,
+    alloc: Global,
+    roster: &Roster,
+    ranks: &Ranks,
+    budget: u32,
+) -> Result<Entered, CoupleEnd>
     requires { ranks.now ≡ ranked_of roster.now.market }
 {
     let singles = singles(alloc, roster, ranks)?;
-    enter_all(alloc, roster, ranks, singles, budget)
+    enter_all(rt, alloc, roster, ranks, singles, budget)
 }
 
 fn entered<R: Threads + Sync>(
@@ -28,7 +34,7 @@ fn entered<R: Threads + Sync>(
     budget: u32,
 ) -> Result<Entered, CoupleEnd> {
     let ranks = Ranks::build(rt, alloc, roster)?;
-    enter(alloc, roster, &ranks, budget)
+    enter(rt, alloc, roster, &ranks, budget)
 }
 
 // s, a and b are the applicants 0, 1 and 2, x and y the programs 0 and 1.

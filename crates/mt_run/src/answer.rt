@@ -48,7 +48,8 @@ fn is_stable<T: Threads + Sync>(
 }
 
 /// The match once the couples have entered after a match of the singles.
-fn with_couples(
+fn with_couples<T: Threads + Sync>(
+    rt: &T,
     alloc: Global,
     roster: &Roster,
     ranks: &Ranks,
@@ -61,7 +62,7 @@ fn with_couples(
     ensures refused { IfErr result (IsRefusalBy (IsAnswerOfMarket roster.now budget)) }
 {
     roster.is_of_a_file();
-    match enter_all(alloc, roster, ranks, singles, budget) {
+    match enter_all(rt, alloc, roster, ranks, singles, budget) {
         Ok(entered) => Ok(entered.matched),
         Err(CoupleEnd::BudgetSpent) => Err(Refusal::alone(BUDGET_SPENT)),
         Err(CoupleEnd::Memory) => Err(Refusal::alone(OUT_OF_MEMORY)),
@@ -106,7 +107,7 @@ fn answer_by_ranks<T: Threads + Wait + Sync>(
     let Ok(singles) = match_singles(rt, alloc, roster, ranks, options.workers) else {
         return Err(Refusal::alone(OUT_OF_MEMORY));
     };
-    let matched = with_couples(alloc, roster, ranks, singles.matched, options.budget)?;
+    let matched = with_couples(rt, alloc, roster, ranks, singles.matched, options.budget)?;
     match publish(rt, alloc, roster, ranks, &matched, &singles.proposals) {
         Ok(Some(text)) => Ok(text),
         Ok(None) => unreachable!(),

@@ -13,10 +13,10 @@ use Rattle.mt_couples.proofs.EnteringFacts.{entering_first, next_waits, entering
 use Rattle.mt_couples.proofs.rounds.enter_all.Goals as goal
 
 pub new-requires-clause-places : goal.new-requires-clause-places
-new-requires-clause-places c = places_of_fitting c.args.roster.now.market c.args.singles.places c.couples-couples.ensures.registration.well_formed c.requires.fits
+new-requires-clause-places g c = places_of_fitting c.args.roster.now.market c.args.singles.places c.couples-couples.ensures.registration.well_formed c.requires.fits
 
 pub settle-requires : goal.settle-requires
-settle-requires c =
+settle-requires g c =
     let so_far = c.loop-number.invariant in
     let m = c.args.roster.now.market in
     let joins = known_joins c.loop-number.waiting c.join.new.self c.loop-number.number so_far.nobody_waits c.join.ensures in
@@ -28,7 +28,7 @@ err_is : {T E : Type 0} (P : E → Type 0) (r : Result T E) (y : E) → IsErrAnd
 err_is P r y h is = subst (λ x. IsErrAnd x P) is h
 
 pub returns-in_err-left-clause-spent : goal.returns-in_err-left-clause-spent
-returns-in_err-left-clause-spent c = λ is.
+returns-in_err-left-clause-spent g c = λ is.
     let so_far = c.loop-number.invariant in
     let joins = known_joins c.loop-number.waiting c.join.new.self c.loop-number.number so_far.nobody_waits c.join.ensures in
     let waits = joins.1 in
@@ -38,7 +38,7 @@ returns-in_err-left-clause-spent c = λ is.
     (ap₂ (λ x w. settled x c.loop-number.number c.loop-number.left c.loop-number.assignment.places w) (sym so_far.market) (sym waits) ∙ c.in_err-left.ensures.spent (ap Err (sym same)))
 
 pub loop-number-preserved : goal.loop-number-preserved
-loop-number-preserved c =
+loop-number-preserved g c =
     let so_far = c.loop-number.invariant in
     let m = c.args.roster.now.market in
     let joins = known_joins c.loop-number.waiting c.join.new.self c.loop-number.number so_far.nobody_waits c.join.ensures in
@@ -53,18 +53,18 @@ loop-number-preserved c =
     c.in_ok-left.ensures.within
 
 pub returns-clause-entered : goal.returns-clause-entered
-returns-clause-entered c =
+returns-clause-entered g c =
     entering_all c.args.roster.now.market c.are_singles_quiet-quiet.result c.args.singles.places c.args.budget c.loop-number.number c.loop-number.assignment c.loop-number.waiting c.loop-number.left c.loop-number.invariant
     (omega (arith, c.couples-couples.ensures.count))
     ∙ ap (λ places. Some (places, c.args.budget - c.loop-number.left)) (sym c.into_match.ensures)
 
 pub returns-clause-stable : goal.returns-clause-stable
-returns-clause-stable c = λ best.
+returns-clause-stable g c = λ best.
     let places = c.into_match.result.places in
-    stage_is_stable_lem c.args.roster.now.market c.couples-couples.ensures.registration.well_formed c.args.singles.places best c.args.budget (places, c.args.budget - c.loop-number.left) (returns-clause-entered c)
+    stage_is_stable_lem c.args.roster.now.market c.couples-couples.ensures.registration.well_formed c.args.singles.places best c.args.budget (places, c.args.budget - c.loop-number.left) (returns-clause-entered g c)
 
 pub loop-number-init : goal.loop-number-init
-loop-number-init c =
+loop-number-init g c =
     let m = c.args.roster.now.market in
     let places = c.args.singles.places in
     let is = c.in_ok-assignment.ensures in
@@ -73,7 +73,7 @@ loop-number-init c =
     (λ so. quiet_at_first m c.couples-couples.ensures.registration.well_formed places (sym (c.are_singles_quiet-quiet.ensures ∙ ap singles_quiet is) ∙ so))
 
 pub returns-then-couples-eq0-clause-stable : goal.returns-then-couples-eq0-clause-stable
-returns-then-couples-eq0-clause-stable c = λ best.
+returns-then-couples-eq0-clause-stable g c = λ best.
     let places = c.args.singles.places in
     stage_is_stable_lem c.args.roster.now.market c.couples-couples.ensures.registration.well_formed places best c.args.budget (places, 0)
     (none_enters c.args.roster.now.market places c.args.budget (sym c.couples-couples.ensures.count ∙ c.if-couples-eq0.true))

@@ -6,4 +6,4 @@ use Rattle.mt_couples.proofs.assignment.Assignment.add_left_by_movers.Given as g
 
 abbrev pub invariant-loop-seat : goal.invariant-loop-seat
 invariant-loop-seat l =
-    AreOnTheWay l.left.keys (is_left_by_movers l.self.places (drop l.seat-index l.sent)) (λ p. has l.initial.left.keys p || is_left_by_movers l.self.places l.sent p)
+    AreOnTheWay l.left (is_left_by_movers l.self.places (drop l.seat-index l.sent)) (λ p. has l.initial.left p || is_left_by_movers l.self.places l.sent p)

@@ -7,5 +7,5 @@ use Rattle.mt_couples.proofs.assignment.Assignment.add_left_by_partners.Given as
 
 abbrev pub invariant-loop-applicant : goal.invariant-loop-applicant
 invariant-loop-applicant l =
-    AreOnTheWay l.left.keys (λ p. list_any (is_kept_at l.self.market l.self.places p) (all_members l.self.market (drop l.applicant-index l.displaced)))
-    (λ p. has l.initial.left.keys p || list_any (is_kept_at l.self.market l.self.places p) (all_members l.self.market l.displaced))
+    AreOnTheWay l.left (λ p. list_any (is_kept_at l.self.market l.self.places p) (all_members l.self.market (drop l.applicant-index l.displaced)))
+    (λ p. has l.initial.left p || list_any (is_kept_at l.self.market l.self.places p) (all_members l.self.market l.displaced))

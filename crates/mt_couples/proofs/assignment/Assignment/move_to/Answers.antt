@@ -1,4 +1,6 @@
-use Rattle.std.proofs.Common.{rules, ◌≡◌, ◌∙◌, ◌||◌, ℕ, List, length, ap, sym, arith, Bool}
+use Rattle.std.proofs.Common.{rules, ◌≡◌, ◌∙◌, ◌||◌, ℕ, List, length, ap, sym, arith, subst, Bool}
+use Rattle.std.specs.List.Sorted.{IsStrictlySortedBy}
+use Rattle.std.specs.Ordering.{nat_cmp}
 use Rattle.std.specs.List.{list_any}
 use Rattle.mt_terms.specs.Lists.{has}
 use Rattle.mt_terms.specs.Market.{applicants}
@@ -53,9 +55,10 @@ returns-clause-left c =
     let s0 = c.args.self.now in
     let sent = c.args.sent.now in
     let read = displaced_is s0 c.send.new.self sent c.in_ok-displaced.displaced.items c.in_ok-send.ensures c.in_ok-displaced.ensures in
-    let keys : c.in_ok-left.left.items ≡ c.add_left_by_partners.new.left.keys = search rules in
-    keys
-    ∙ left_keys c.requires.1 c.add_left_by_movers.new.left.keys c.add_left_by_partners.new.left.keys c.into_iter.ensures.into_iter_gives.4
-    (λ p. c.in_ok-add_left_by_movers.ensures p ∙ ap (λ ks. has ks p || is_left_by_movers s0.places sent p) c.new-left.ensures.empty)
+    let left = c.add_left_by_partners.new.left in
+    let sorted = subst (IsStrictlySortedBy nat_cmp) c.into_vec.ensures.programs c.into_vec.ensures.sorted in
+    c.into_vec.ensures.programs
+    ∙ left_keys c.requires.1 c.add_left_by_movers.new.left left sorted
+    (λ p. c.in_ok-add_left_by_movers.ensures p ∙ ap (λ ks. has ks p || is_left_by_movers s0.places sent p) c.new-left.ensures)
     (λ p. c.in_ok-add_left_by_partners.ensures p
-    ∙ ap (λ (b : Bool). has c.add_left_by_movers.new.left.keys p || b) (partners_are s0 c.send.new.self sent c.deref.result.now p c.in_ok-send.ensures (c.deref.ensures.value ∙ read)))
+    ∙ ap (λ (b : Bool). has c.add_left_by_movers.new.left p || b) (partners_are s0 c.send.new.self sent c.deref.result.now p c.in_ok-send.ensures (c.deref.ensures.value ∙ read)))
