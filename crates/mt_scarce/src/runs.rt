@@ -25,7 +25,7 @@ pub(crate) fn enters<T: Threads + Sync>(rt: &T, alloc: Global) -> Result<bool, S
     let roster = roster_of(alloc, TWO_COUPLES)?;
     let ranks = Ranks::build(rt, alloc, &roster)?;
     let singles = singles(alloc, &roster, &ranks)?;
-    match enter_all(alloc, &roster, &ranks, singles, 5) {
+    match enter_all(rt, alloc, &roster, &ranks, singles, 5) {
         Ok(entered) => {
             let places = [Some(ProgNo(0)), None, None, Some(ProgNo(0)), Some(ProgNo(1))];
             Ok(entered.matched.places.as_slice() == places.as_slice() && entered.rounds == 5)
