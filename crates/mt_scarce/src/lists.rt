@@ -6,7 +6,7 @@ use mt_hold::Hold;
 use mt_lists::{ListFault, ReadEnd, Tap, read_all, records};
 use mt_ranks::Ranks;
 use mt_terms::{AppNo, LIMITS, ProgNo};
-use std::alloc::Global;
+use std::alloc::{AllocError, Global};
 use std::thread::Threads;
 
 /// Whether the bytes of a file are read.
@@ -34,12 +34,18 @@ pub(crate) fn splits(alloc: Global) -> Result<bool, SampleError> {
     }
 }
 
-/// Whether the words are taken.
-pub(crate) fn asks(alloc: Global) -> Result<bool, SampleError> {
+// Words that ask for a run.
+fn words(alloc: Global) -> Result<Vec<String>, AllocError> {
     let mut words = Vec::new(alloc);
     for word in ["--workers", "2", "--budget=7", "file"] {
         words.push(String::from_str(alloc, word)?)?;
     }
+    Ok(words)
+}
+
+/// Whether the words are taken.
+pub(crate) fn asks(alloc: Global) -> Result<bool, SampleError> {
+    let words = words(alloc)?;
     match asked(alloc, words.as_slice()) {
         Ok(Asked::Run { file, options }) => {
             Ok(options.workers == 2 && options.budget == 7 && file.is_some())
