@@ -6,10 +6,10 @@ ghost use Rattle.std.specs.Prelude.{◌≤◌};
 
 mod floors;
 mod lists;
-mod made;
+mod outcomes;
 mod runs;
 
-use made::{CALLS, Made, made};
+use outcomes::{CALLS, Outcome, outcome_of};
 use std::alloc::Global;
 use std::env;
 use std::io;
@@ -28,10 +28,10 @@ fn refusals<T: Threads + Wait + Sync>(rt: &T, alloc: Global, workers: u32) -> Op
     let mut refused: u8 = 0;
     for call in CALLS {
         for _ in 0..2 {
-            match made(rt, alloc, call, workers) {
-                Made::Right => break,
-                Made::Refused => refused = refused.saturating_add(1),
-                Made::Wrong => return None,
+            match outcome_of(rt, alloc, call, workers) {
+                Outcome::Right => break,
+                Outcome::Refused => refused = refused.saturating_add(1),
+                Outcome::Wrong => return None,
             }
         }
     }

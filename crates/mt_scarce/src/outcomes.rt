@@ -48,19 +48,19 @@ pub(crate) const CALLS: [Call; 15] = [
 ];
 
 /// What became of a call: its answer is what it should be, or another, or memory was refused.
-pub(crate) enum Made {
+pub(crate) enum Outcome {
     Right,
     Wrong,
     Refused,
 }
 
 /// Makes a call, by so many workers where it takes some.
-pub(crate) fn made<T: Threads + Wait + Sync>(
+pub(crate) fn outcome_of<T: Threads + Wait + Sync>(
     rt: &T,
     alloc: Global,
     call: Call,
     workers: u32,
-) -> Made
+) -> Outcome
     requires { (1 ≤ workers) × (workers ≤ 64) }
 {
     let answer = match call {
@@ -81,8 +81,8 @@ pub(crate) fn made<T: Threads + Wait + Sync>(
         Call::RunsCouples => runs(rt, alloc, TWO_COUPLES, TWO_COUPLES_TEXT, workers),
     };
     match answer {
-        Ok(true) => Made::Right,
-        Ok(false) | Err(SampleError::Fault) => Made::Wrong,
-        Err(SampleError::Memory) => Made::Refused,
+        Ok(true) => Outcome::Right,
+        Ok(false) | Err(SampleError::Fault) => Outcome::Wrong,
+        Err(SampleError::Memory) => Outcome::Refused,
     }
 }
