@@ -9,6 +9,7 @@ use mt_model::ProgNo;
 use mt_roster::{Roster, roster};
 use std::alloc::Global;
 use std::test::Fail;
+use std::thread::Threads;
 
 /// Two programs with one post each, each of which wants the applicant who wants the other one more. Of the two
 /// stable matches the applicants prefer this one.
@@ -93,9 +94,13 @@ pub(crate) const THREE_COUPLES_TEXT: &[u8] = b"match,1,published\n\
     totals,6,2,6,2\n";
 
 /// The market of a file.
-pub(crate) fn roster_of(alloc: Global, file: &[u8]) -> Result<Roster, Fail> {
+pub(crate) fn roster_of<R: Threads + Sync>(
+    rt: &R,
+    alloc: Global,
+    file: &[u8],
+) -> Result<Roster, Fail> {
     let rows = records(alloc, file)?;
-    Ok(roster(alloc, &rows)?)
+    Ok(roster(rt, alloc, &rows)?)
 }
 
 // Whether a place is none, or a program of the roster.
