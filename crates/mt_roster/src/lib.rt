@@ -21,6 +21,7 @@ mod registered;
 mod repeats;
 mod rules;
 mod second_pass;
+mod seed;
 mod unknown;
 mod withdrawals;
 
