@@ -15,3 +15,5 @@ pub mod SentFacts
 pub mod TableFacts
 pub mod WaitingFacts
 pub mod RefusedFacts
+pub mod WatchFacts
+pub mod LookFacts

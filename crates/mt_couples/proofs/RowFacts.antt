@@ -111,15 +111,19 @@ sorted-insert_key (x ∷ xs) k sorted = by_order (nat_cmp k x) refl (sorted-inse
     by_order : (o : Ordering) → o ≡ nat_cmp k x → IsStrictlySortedBy nat_cmp (insert_key nat_cmp xs k)
         → IsStrictlySortedBy nat_cmp (match_ordering o (k ∷ x ∷ xs) (x ∷ xs) (x ∷ insert_key nat_cmp xs k))
     by_order Less is later =
-        let low : k < x = ranked k x Less is in
-        (all_above k (x ∷ xs) (λ p on. elim (or_cases (x == p) (has xs p) on) [
-          | inl here ↦ (let same = eqb-true x p here in omega arith)
-          | inr rest ↦ (let l = below_rest x xs sorted p rest in omega arith)
-        ]), sorted)
+        let low : k < x = ranked k x Less is in (
+          all_above k (x ∷ xs) (λ p on. elim (or_cases (x == p) (has xs p) on) [
+            | inl here ↦ (let same = eqb-true x p here in omega arith)
+            | inr rest ↦ (let l = below_rest x xs sorted p rest in omega arith)
+          ]),
+          sorted,
+        )
     by_order Equal is later = sorted
     by_order Greater is later =
-        let high : x < k = ranked k x Greater is in
-        (all_above x (insert_key nat_cmp xs k) (λ p on. elim (or_cases (has xs p) (k == p) (sym (has-insert_key xs k p) ∙ on)) [
-          | inl rest ↦ below_rest x xs sorted p rest
-          | inr here ↦ (let same = eqb-true k p here in omega arith)
-        ]), later)
+        let high : x < k = ranked k x Greater is in (
+          all_above x (insert_key nat_cmp xs k) (λ p on. elim (or_cases (has xs p) (k == p) (sym (has-insert_key xs k p) ∙ on)) [
+            | inl rest ↦ below_rest x xs sorted p rest
+            | inr here ↦ (let same = eqb-true k p here in omega arith)
+          ]),
+          later,
+        )

@@ -1,5 +1,6 @@
 -- What an assignment's tables mean.
-use Rattle.std.specs.Prelude.{◌≡◌, ◌≤◌, ◌+◌, ℕ, List}
+use Rattle.std.specs.Prelude.{◌≡◌, ◌≤◌, ◌+◌, ℕ, true, false, List, slice_index_or}
+use Rattle.mt_terms.specs.Lists.{has}
 use Rattle.mt_terms.specs.Registration.Accepted.{IsRegistration}
 use Rattle.std.specs.VecDeque.{deque_capacity}
 use Rattle.mt_ranks.specs.Ranked.{ranked_of}
@@ -7,6 +8,7 @@ use Rattle.mt_terms.specs.Places.{ArePlaces}
 use Rattle.mt_couples.specs.Assigned.{Assigned, rows_of}
 use Rattle.std.specs.List.Sorted.{IsStrictlySortedBy}
 use Rattle.std.specs.Ordering.{nat_cmp}
+use Rattle.mt_couples.specs.declared.rank_set.RankSet.TheInside.{Inside as Ranks}
 use Rattle.mt_couples.specs.declared.program_set.ProgramSet.TheInside.{Inside as Programs}
 use Rattle.mt_couples.specs.declared.assignment.Assignment.TheInside.{Inside}
 use Rattle.mt_couples.specs.Waiting.{Waiting, IsTold}
@@ -37,3 +39,10 @@ programs_in s = s.programs.items
 -- They are in order of their numbers, each once.
 pub record AreInOrder (s : Programs) : Type 0 where
   pub sorted : IsStrictlySortedBy nat_cmp s.programs.items
+
+abbrev pub ranks_in : Ranks → List ℕ
+ranks_in s = s.ranks.items
+
+-- A rank of which it is told that it is there is there.
+pub record AreTold (s : Ranks) : Type 0 where
+  pub told : (r : ℕ) → slice_index_or s.told.items r false ≡ true → has s.ranks.items r ≡ true

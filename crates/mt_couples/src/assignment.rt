@@ -5,11 +5,13 @@ ghost use Rattle.mt_terms.specs.Market.{agent_of, applicants, couple_of, program
 ghost use Rattle.mt_terms.specs.Matching.{at, place_of, ranks_from};
 ghost use Rattle.mt_ranks.specs.Ranked.{rank_of, ranked_of};
 ghost use Rattle.mt_terms.specs.Places.{ArePlaces};
+ghost use Rattle.mt_couples.specs.Watching.{better_entries};
 ghost use Rattle.mt_couples.specs.Assigned.{ahead, assignment, displaced_from, rows_of, with_place, with_ranks, AreApplicantsOf, IsAgentOf, IsAssigned};
 
+use crate::options::Pair;
 use crate::row::Row;
 use mt_market::Roster;
-use mt_ranks::Ranks;
+use mt_ranks::{Live, Ranks};
 use mt_terms::{Agent, AppNo, CoupleNo, Match, Places, ProgNo};
 use std::alloc::{AllocError, Global};
 use std::marker::Model;
@@ -155,6 +157,30 @@ impl<'a> Assignment<'a> {
         ensures { result ≡ place_of self.now.places applicant }
     {
         place_in(&self.places, applicant)
+    }
+
+    /// The pairs of the couple's list, the most wanted first.
+    pub(crate) fn pairs(&self, couple: CoupleNo) -> &'a [Pair]
+        requires { couple < length self.now.market.couples }
+        ensures { result.now ≡ (couple_of self.now.market couple).pairs }
+    {
+        self.roster.couple_list(couple)
+    }
+
+    /// The live entries of the single that are better than what it has, with its rank on each.
+    pub(crate) fn better_live(&self, single: AppNo) -> &'a [Live]
+        requires { single < applicants self.now.market }
+        ensures list { result.now ≡ better_entries self.now single }
+        ensures assigned { IsAssigned self.now }
+    {
+        let live = self.ranks.live(single);
+        let place = self.place(single);
+        for (end, entry) in live.iter().enumerate() {
+            if place == Some(entry.program) {
+                return &live[..end];
+            }
+        }
+        live
     }
 
     /// The applicants that the program lists, the most wanted first.

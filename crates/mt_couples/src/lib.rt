@@ -2,11 +2,15 @@
 #![tactic(auto)]
 
 mod assignment;
+mod couple_list;
+mod look;
 mod moves;
 mod options;
 mod program_set;
+mod rank_set;
 mod rounds;
 mod row;
+mod watch;
 mod work_list;
 
 pub use rounds::{CoupleEnd, Entered, enter_all};

@@ -1,16 +1,20 @@
-ghost use Rattle.std.specs.Prelude.{◌≡◌, ◌<◌, ◌≤◌, length, IsTrue, IfOk, IsErrOf, OnOk, Some, None, [], ◌∷◌};
-ghost use Rattle.mt_terms.specs.Rounds.{after_taking, has_entered, round_of, settled, stage};
+ghost use Rattle.std.specs.Prelude.{◌≡◌, ◌<◌, ◌≤◌, length, IsTrue, map, IfOk, IsErrOf, OnOk, Some, None, [], ◌∷◌};
+ghost use Rattle.mt_terms.specs.Rounds.{after_taking, round_of, settled, stage};
 ghost use Rattle.mt_terms.specs.Best.{IsBest};
 ghost use Rattle.mt_terms.specs.Market.{applicants};
 ghost use Rattle.mt_terms.specs.WellFormed.{IsWellFormed};
 ghost use Rattle.mt_terms.specs.Stability.{fits, stable};
 ghost use Rattle.mt_ranks.specs.Ranked.{ranked_of};
-ghost use Rattle.mt_couples.specs.Assigned.{AreApplicantsOf, AreProgramsOf, IsAgentOf};
-ghost use Rattle.mt_couples.specs.Running.{is_disquiet, is_quiet_single, is_reopened, singles_quiet, waiting_first, work_of, IsQuietBut, IsRunning};
+ghost use Rattle.mt_couples.specs.Assigned.{AreApplicantsOf, AreProgramsOf, AreSent, IsAgentOf};
+ghost use Rattle.mt_couples.specs.Looking.{IsWatching};
+ghost use Rattle.mt_couples.specs.Watching.{FollowsAll};
+ghost use Rattle.mt_couples.specs.Running.{is_disquiet, is_quiet_single, singles_quiet, waiting_first, work_of, IsQuietBut, IsRunning};
 ghost use Rattle.mt_couples.specs.Waiting.{IsListOf, Joins, KeepsRoom};
 ghost use Rattle.mt_couples.specs.Moves.{agents_of, blockers, if_blocking, reopened, IsTaking};
 
 use crate::assignment::Assignment;
+use crate::look::{has_entered, look_at_opened};
+use crate::watch::Watch;
 use crate::work_list::WorkList;
 use mt_market::Roster;
 use mt_ranks::Ranks;
@@ -52,16 +56,6 @@ pub struct Entered {
     pub matched: Match,
     /// How many rounds it took, over all couples.
     pub rounds: u32,
-}
-
-/// Whether the agent has entered, once this couple has.
-fn has_entered(agent: &Agent, last: CoupleNo) -> bool
-    ensures { result ≡ has_entered last agent.now }
-{
-    match agent {
-        Agent::Single(_) => true,
-        Agent::Couple(couple) => couple.0 <= last.0,
-    }
 }
 
 /// Puts the agents of displaced applicants on the work list.
@@ -116,63 +110,6 @@ fn look_at_each(
     }
 }
 
-/// Whether the agent has entered, doesn't wait, and has a better option at one of these programs that would be
-/// taken.
-fn is_reopened(
-    assignment: &Assignment<'_>,
-    agent: &Agent,
-    left: &[ProgNo],
-    last: CoupleNo,
-    waiting: &WorkList,
-) -> bool
-    requires agent { IsAgentOf assignment.now.market agent.now }
-    requires waiting { IsListOf assignment.now.market waiting.now }
-    ensures { result ≡ is_reopened last assignment.now left.now waiting.now.agents agent.now }
-{
-    has_entered(agent, last) && !waiting.waits(agent) && assignment.opens(agent, left)
-}
-
-/// The same as `look_at`, where whoever has entered and doesn't wait blocks by an option at a program that was
-/// left alone.
-fn look_at_opened(
-    assignment: &Assignment<'_>,
-    program: ProgNo,
-    left: &[ProgNo],
-    last: CoupleNo,
-    waiting: &mut WorkList,
-)
-    requires market { IsWellFormed assignment.now.market }
-    requires program { program < length assignment.now.market.programs }
-    requires waiting { IsListOf assignment.now.market waiting.old }
-    requires quiet { IsQuietBut last assignment.now left.now waiting.old.agents }
-    ensures { Joins waiting.old waiting.new (blockers assignment.now last program) }
-{
-    for applicant in assignment.ranking(program) {
-        let agent = assignment.agent_of(*applicant);
-        if is_reopened(assignment, &agent, left, last, waiting) {
-            waiting.join(agent);
-        }
-    }
-}
-
-/// The same for all programs that were left.
-fn look_at_each_opened(
-    assignment: &Assignment<'_>,
-    left: &[ProgNo],
-    last: CoupleNo,
-    waiting: &mut WorkList,
-)
-    requires market { IsWellFormed assignment.now.market }
-    requires programs { AreProgramsOf assignment.now.market left.now }
-    requires waiting { IsListOf assignment.now.market waiting.old }
-    requires quiet { IsQuietBut last assignment.now left.now waiting.old.agents }
-    ensures { Joins waiting.old waiting.new (reopened assignment.now last left.now) }
-{
-    for program in left {
-        look_at_opened(assignment, *program, left, last, waiting);
-    }
-}
-
 /// Whether the agent is a couple, or doesn't block.
 fn is_quiet_single(assignment: &Assignment<'_>, agent: &Agent) -> bool
     requires { IsAgentOf assignment.now.market agent.now }
@@ -204,23 +141,58 @@ fn are_singles_quiet<R: Threads + Sync>(rt: &R, assignment: &Assignment<'_>) -> 
 /// Puts those agents of the lists of the programs that were left on the work list that have entered and block
 /// now. Where it is quiet, only options at these programs can have been opened.
 fn look_at_left(
+    alloc: Global,
     assignment: &Assignment<'_>,
+    watch: &Watch,
     left: &[ProgNo],
     last: CoupleNo,
     quiet: bool,
     waiting: &mut WorkList,
-)
+) -> Result<(), AllocError>
     requires market { IsWellFormed assignment.now.market }
     requires programs { AreProgramsOf assignment.now.market left.now }
+    requires watch { IsWatching last assignment.now watch.now }
     requires waiting { IsListOf assignment.now.market waiting.old }
     requires quiet { IsTrue quiet → IsQuietBut last assignment.now left.now waiting.old.agents }
-    ensures { Joins waiting.old waiting.new (reopened assignment.now last left.now) }
+    ensures { OnOk result (Joins waiting.old waiting.new (reopened assignment.now last left.now)) }
 {
     if quiet {
-        look_at_each_opened(assignment, left, last, waiting);
-    } else {
-        look_at_each(assignment, left, last, waiting);
+        return look_at_opened(alloc, assignment, watch, left, last, waiting);
     }
+    look_at_each(assignment, left, last, waiting);
+    Ok(())
+}
+
+/// Watches the applicants that are sent somewhere.
+fn follow_sent(
+    assignment: &Assignment<'_>,
+    watch: &mut Watch,
+    sent: &[(AppNo, Option<ProgNo>)],
+) -> Result<(), AllocError>
+    requires { AreSent assignment.now.market sent.now }
+    ensures couples { OnOk result (watch.new.couples ≡ watch.old.couples) }
+    ensures singles { OnOk result (FollowsAll assignment.now watch.old.singles.items watch.new.singles.items (map (λ s. s.0) sent.now)) }
+{
+    for seat in sent {
+        watch.follow(assignment, seat.0)?;
+    }
+    Ok(())
+}
+
+/// Watches the applicants that are displaced.
+fn follow_displaced(
+    assignment: &Assignment<'_>,
+    watch: &mut Watch,
+    displaced: &[AppNo],
+) -> Result<(), AllocError>
+    requires { AreApplicantsOf assignment.now.market displaced.now }
+    ensures couples { OnOk result (watch.new.couples ≡ watch.old.couples) }
+    ensures singles { OnOk result (FollowsAll assignment.now watch.old.singles.items watch.new.singles.items displaced.now) }
+{
+    for applicant in displaced {
+        watch.follow(assignment, *applicant)?;
+    }
+    Ok(())
 }
 
 /// Moves the agent to an option that would be taken, and puts on the work list who is to be looked at then:
@@ -229,6 +201,7 @@ fn look_at_left(
 fn take_option(
     alloc: Global,
     assignment: &mut Assignment<'_>,
+    watch: &mut Watch,
     waiting: &mut WorkList,
     last: CoupleNo,
     quiet: bool,
@@ -236,15 +209,19 @@ fn take_option(
     sent: &[(AppNo, Option<ProgNo>)],
 ) -> Result<(), AllocError>
     requires taking { IsTaking assignment.old.market assignment.old.places agent sent.now }
+    requires watch { IsWatching last assignment.old watch.old }
     requires running { IsRunning last quiet assignment.old (waiting_first agent waiting.old) }
+    ensures watch { OnOk result (IsWatching last assignment.new watch.new) }
     ensures market { OnOk result (assignment.new.market ≡ assignment.old.market) }
     ensures room { OnOk result (KeepsRoom waiting.old waiting.new) }
     ensures work { OnOk result (work_of assignment.new waiting.new ≡ after_taking assignment.old.market last assignment.old.places agent waiting.old.agents (Some sent.now)) }
 {
     let moved = assignment.move_to(alloc, sent)?;
+    follow_sent(assignment, watch, sent)?;
+    follow_displaced(assignment, watch, &moved.displaced)?;
     join_displaced(assignment, &moved.displaced, waiting);
     look_at_mover(assignment, agent, waiting);
-    look_at_left(assignment, &moved.left, last, quiet, waiting);
+    look_at_left(alloc, assignment, watch, &moved.left, last, quiet, waiting)?;
     Ok(())
 }
 
@@ -253,12 +230,15 @@ fn take_option(
 fn round(
     alloc: Global,
     assignment: &mut Assignment<'_>,
+    watch: &mut Watch,
     waiting: &mut WorkList,
     last: CoupleNo,
     quiet: bool,
     agent: Agent,
 ) -> Result<(), AllocError>
-    requires { IsRunning last quiet assignment.old (waiting_first agent waiting.old) }
+    requires running { IsRunning last quiet assignment.old (waiting_first agent waiting.old) }
+    requires watch { IsWatching last assignment.old watch.old }
+    ensures watch { OnOk result (IsWatching last assignment.new watch.new) }
     ensures market { OnOk result (assignment.new.market ≡ assignment.old.market) }
     ensures room { OnOk result (KeepsRoom waiting.old waiting.new) }
     ensures work { OnOk result (work_of assignment.new waiting.new ≡ round_of assignment.old.market last assignment.old.places (agent ∷ waiting.old.agents)) }
@@ -269,7 +249,7 @@ fn round(
                 return Ok(());
             };
             let sent = [(*applicant, Some(program))];
-            take_option(alloc, assignment, waiting, last, quiet, agent, &sent)
+            take_option(alloc, assignment, watch, waiting, last, quiet, agent, &sent)
         }
         Agent::Couple(couple) => {
             let Some(pair) = assignment.first_pair(*couple) else {
@@ -277,7 +257,7 @@ fn round(
             };
             let (first, second) = assignment.members(*couple);
             let sent = [(first, pair.0), (second, pair.1)];
-            take_option(alloc, assignment, waiting, last, quiet, agent, &sent)
+            take_option(alloc, assignment, watch, waiting, last, quiet, agent, &sent)
         }
     }
 }
@@ -286,12 +266,15 @@ fn round(
 fn settle(
     alloc: Global,
     assignment: &mut Assignment<'_>,
+    watch: &mut Watch,
     waiting: &mut WorkList,
     last: CoupleNo,
     quiet: bool,
     budget: u32,
 ) -> Result<u32, CoupleEnd>
-    requires { IsRunning last quiet assignment.old waiting.old }
+    requires running { IsRunning last quiet assignment.old waiting.old }
+    requires watch { IsWatching last assignment.old watch.old }
+    ensures watch { OnOk result (IsWatching last assignment.new watch.new) }
     ensures settled { IfOk result (λ left. settled assignment.old.market last budget assignment.old.places waiting.old.agents ≡ Some (assignment.new.places, left)) }
     ensures spent { IsErrOf result CoupleEnd.BudgetSpent → settled assignment.old.market last budget assignment.old.places waiting.old.agents ≡ None }
     ensures within { IfOk result (λ left. left ≤ budget) }
@@ -305,7 +288,7 @@ fn settle(
             return Err(CoupleEnd::BudgetSpent);
         }
         left -= 1;
-        round(alloc, assignment, waiting, last, quiet, agent)?;
+        round(alloc, assignment, watch, waiting, last, quiet, agent)?;
     }
     Ok(left)
 }
@@ -339,13 +322,23 @@ pub fn enter_all<R: Threads + Sync>(
         });
     }
     let mut assignment = Assignment::new(alloc, roster, ranks, singles)?;
+    let mut watch = Watch::new(alloc, &assignment)?;
     let mut waiting = WorkList::new(alloc, roster.applicants(), couples)?;
     let quiet = are_singles_quiet(rt, &assignment);
     let mut left = budget;
     for number in 0..couples {
         let couple = CoupleNo(number);
         waiting.join(Agent::Couple(couple));
-        left = settle(alloc, &mut assignment, &mut waiting, couple, quiet, left)?;
+        watch.enter(&assignment, couple)?;
+        left = settle(
+            alloc,
+            &mut assignment,
+            &mut watch,
+            &mut waiting,
+            couple,
+            quiet,
+            left,
+        )?;
     }
     Ok(Entered {
         matched: assignment.into_match(),

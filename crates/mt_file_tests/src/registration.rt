@@ -13,6 +13,7 @@ use mt_roster::{Roster, RosterError, roster};
 use std::alloc::Global;
 use std::process::Abort;
 use std::test::Fail;
+use std::thread::Threads;
 
 /// Adds a blank and a number to a text.
 fn add_number(alloc: Global, text: &mut Vec<u8>, number: u32) -> Result<(), Fail> {
@@ -123,9 +124,14 @@ fn shows(alloc: Global, roster: &Roster, market: &str) -> Result<bool, Fail> {
 }
 
 /// Whether a file is accepted, and its market is the one of this text.
-fn gives(alloc: Global, file: &str, market: &str) -> Result<bool, Fail> {
+fn gives<R: Threads + Sync>(
+    rt: &R,
+    alloc: Global,
+    file: &str,
+    market: &str,
+) -> Result<bool, Fail> {
     let rows = records(alloc, file.as_bytes())?;
-    let roster = roster(alloc, &rows)?;
+    let roster = roster(rt, alloc, &rows)?;
     shows(alloc, &roster, market)
 }
 
@@ -133,9 +139,14 @@ fn gives(alloc: Global, file: &str, market: &str) -> Result<bool, Fail> {
 type Fault<'a> = (u16, u64, &'a str);
 
 /// Whether a file is refused for this fault.
-fn is_refused(alloc: Global, file: &str, (code, row, id): Fault<'_>) -> Result<bool, ListFault> {
+fn is_refused<R: Threads + Sync>(
+    rt: &R,
+    alloc: Global,
+    file: &str,
+    (code, row, id): Fault<'_>,
+) -> Result<bool, ListFault> {
     let rows = records(alloc, file.as_bytes())?;
-    match roster(alloc, &rows) {
+    match roster(rt, alloc, &rows) {
         Err(RosterError::Fault(fault)) => Ok(
             fault.code == code && fault.row == row && fault.id.as_bytes() == id.as_bytes(),
         ),
@@ -144,9 +155,13 @@ fn is_refused(alloc: Global, file: &str, (code, row, id): Fault<'_>) -> Result<b
 }
 
 /// Each of these files is refused for its fault.
-fn expect_refused(rt: &impl Abort, alloc: Global, files: &[(&str, Fault<'_>)]) -> Result<(), Fail> {
+fn expect_refused<R: Abort + Threads + Sync>(
+    rt: &R,
+    alloc: Global,
+    files: &[(&str, Fault<'_>)],
+) -> Result<(), Fail> {
     for (file, fault) in files {
-        assert!(rt; is_refused(alloc, file, *fault)?, "{file}");
+        assert!(rt; is_refused(rt, alloc, file, *fault)?, "{file}");
     }
     Ok(())
 }

@@ -9,7 +9,7 @@ use std::test::Fail;
 
 #[test]
 fn a_match_as_a_text(rt: HostRuntime) -> Result<(), Fail> {
-    let roster = roster_of(rt.alloc(), CHAIN)?;
+    let roster = roster_of(&rt, rt.alloc(), CHAIN)?;
     let places = [Some(ProgNo(1)), Some(ProgNo(0)), None];
     assert!(rt; are_places(&roster, &places));
     let matched = Match {

@@ -129,7 +129,7 @@ fn expect_singles(
 // One of two workers waits with its first ticket until the other one has one, so both propose.
 #[test]
 fn two_at_the_gate(rt: HostRuntime) -> Result<(), Fail> {
-    let roster = roster_of(rt.alloc(), CHAIN)?;
+    let roster = roster_of(&rt, rt.alloc(), CHAIN)?;
     let ranks = Ranks::build(&rt, rt.alloc(), &roster)?;
     let gate = open_watch(rt.alloc(), 2, true)?;
     let singles = work(&rt, rt.alloc(), &ranks, 2, &gate)?;
@@ -169,7 +169,7 @@ fn expect_from_all<R: Abort + Threads + Wait + Sync>(
     places: &[Option<ProgNo>],
     proposals: &[u32],
 ) -> Result<(), Fail> {
-    let roster = roster_of(alloc, file)?;
+    let roster = roster_of(rt, alloc, file)?;
     let ranks = Ranks::build(rt, alloc, &roster)?;
     expect_in_time(rt, alloc, &ranks, 1, places, proposals)?;
     expect_in_time(rt, alloc, &ranks, 2, places, proposals)?;
@@ -280,7 +280,7 @@ fn expect_same<R: Abort + Threads + Wait + Sync>(
 #[test]
 fn unrest_at_the_gate_changes_nothing(rt: HostRuntime) -> Result<(), Fail> {
     let file = hundred(rt.alloc())?;
-    let roster = roster_of(rt.alloc(), file.as_bytes())?;
+    let roster = roster_of(&rt, rt.alloc(), file.as_bytes())?;
     let ranks = Ranks::build(&rt, rt.alloc(), &roster)?;
     Ok(expect_same(&rt, rt.alloc(), &ranks, 1000)?)
 }
@@ -363,7 +363,7 @@ fn two_doors_in<K: HallName + Send + Sync, R: Abort + Threads + Wait + Sync>(
 
 #[test]
 fn two_doors(rt: HostRuntime) -> Result<(), Fail> {
-    let roster = roster_of(rt.alloc(), CROSSED)?;
+    let roster = roster_of(&rt, rt.alloc(), CROSSED)?;
     let ranks = Ranks::build(&rt, rt.alloc(), &roster)?;
     let blank = Blank::new(ranks.applicants() as u64 + 2);
     Ok(two_doors_in::<Brand, _>(&rt, rt.alloc(), &ranks, blank)?)

@@ -133,7 +133,7 @@ fn each_event_gets_its_reply(rt: HostRuntime) -> Result<(), Fail> {
         Reply::Noticed,
         Reply::NotDue,
     ];
-    let roster = roster_of(rt.alloc(), CHAIN)?;
+    let roster = roster_of(&rt, rt.alloc(), CHAIN)?;
     let ranks = Ranks::build(&rt, rt.alloc(), &roster)?;
     Ok(expect_chain(&rt, rt.alloc(), &ranks, &BY_WISHES, &replies)?)
 }
@@ -148,7 +148,7 @@ fn the_last_applicant_may_be_first(rt: HostRuntime) -> Result<(), Fail> {
         Reply::KeptInstead(AppNo(2)),
         Reply::Noticed,
     ];
-    let roster = roster_of(rt.alloc(), CHAIN)?;
+    let roster = roster_of(&rt, rt.alloc(), CHAIN)?;
     let ranks = Ranks::build(&rt, rt.alloc(), &roster)?;
     Ok(expect_chain(&rt, rt.alloc(), &ranks, &FROM_THE_LAST, &replies)?)
 }
@@ -206,7 +206,7 @@ fn expect_run(
 
 #[test]
 fn runs_count_the_events_that_were_due(rt: HostRuntime) -> Result<(), Fail> {
-    let roster = roster_of(rt.alloc(), CHAIN)?;
+    let roster = roster_of(&rt, rt.alloc(), CHAIN)?;
     let ranks = Ranks::build(&rt, rt.alloc(), &roster)?;
     expect_run(&rt, rt.alloc(), &ranks, &BY_WISHES, 8)?;
     Ok(expect_run(&rt, rt.alloc(), &ranks, &FROM_THE_LAST, 6)?)
@@ -230,7 +230,7 @@ pub(crate) fn expect_finished(
 
 #[test]
 fn the_chain_takes_five_proposals(rt: HostRuntime) -> Result<(), Fail> {
-    let roster = roster_of(rt.alloc(), CHAIN)?;
+    let roster = roster_of(&rt, rt.alloc(), CHAIN)?;
     let ranks = Ranks::build(&rt, rt.alloc(), &roster)?;
     let mut floor = Floor::open(rt.alloc(), &ranks)?;
     Ok(expect_finished(&rt, rt.alloc(), &mut floor, &ranks, 5)?)
@@ -240,7 +240,7 @@ fn the_chain_takes_five_proposals(rt: HostRuntime) -> Result<(), Fail> {
 // a3 there, which wants no other program.
 #[test]
 fn finish_goes_on_from_any_floor(rt: HostRuntime) -> Result<(), Fail> {
-    let roster = roster_of(rt.alloc(), CHAIN)?;
+    let roster = roster_of(&rt, rt.alloc(), CHAIN)?;
     let ranks = Ranks::build(&rt, rt.alloc(), &roster)?;
     let mut floor = Floor::open(rt.alloc(), &ranks)?;
     expect_due(&rt, &mut floor, &ranks, &BY_WISHES[..5], 5);
@@ -270,7 +270,7 @@ fn expect_no_single(rt: &impl Abort, floor: &mut Floor, ranks: &Ranks)
 
 #[test]
 fn only_singles_have_events(rt: HostRuntime) -> Result<(), Fail> {
-    let roster = roster_of(rt.alloc(), BETWEEN)?;
+    let roster = roster_of(&rt, rt.alloc(), BETWEEN)?;
     let ranks = Ranks::build(&rt, rt.alloc(), &roster)?;
     let mut floor = Floor::open(rt.alloc(), &ranks)?;
     expect_no_single(&rt, &mut floor, &ranks);
@@ -300,7 +300,7 @@ fn expect_waiting(rt: &impl Abort, floor: &mut Floor, ranks: &Ranks)
 
 #[test]
 fn events_wait_until_they_are_due(rt: HostRuntime) -> Result<(), Fail> {
-    let roster = roster_of(rt.alloc(), CHAIN)?;
+    let roster = roster_of(&rt, rt.alloc(), CHAIN)?;
     let ranks = Ranks::build(&rt, rt.alloc(), &roster)?;
     let mut floor = Floor::open(rt.alloc(), &ranks)?;
     expect_waiting(&rt, &mut floor, &ranks);

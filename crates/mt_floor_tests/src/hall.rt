@@ -165,7 +165,7 @@ fn table_in<K: HallName, R: Abort + Wait>(
 
 #[test]
 fn each_call_gets_its_answer(rt: HostRuntime) -> Result<(), Fail> {
-    let roster = roster_of(rt.alloc(), CHAIN)?;
+    let roster = roster_of(&rt, rt.alloc(), CHAIN)?;
     let ranks = Ranks::build(&rt, rt.alloc(), &roster)?;
     let blank = blank_for(&ranks, 2);
     Ok(table_in::<Brand, _>(&rt, rt.alloc(), &ranks, blank)?)
@@ -220,7 +220,7 @@ fn wishes_in<K: HallName, R: Abort + Wait>(
 
 #[test]
 fn whoever_is_displaced_is_told(rt: HostRuntime) -> Result<(), Fail> {
-    let roster = roster_of(rt.alloc(), CHAIN)?;
+    let roster = roster_of(&rt, rt.alloc(), CHAIN)?;
     let ranks = Ranks::build(&rt, rt.alloc(), &roster)?;
     let blank = blank_for(&ranks, 1);
     Ok(wishes_in::<Brand, _>(&rt, rt.alloc(), &ranks, blank)?)
@@ -296,7 +296,7 @@ fn threads_in<K: HallName + Send + Sync, R: Abort + Threads + Wait + Sync>(
 
 #[test]
 fn two_threads_end_at_the_same_floor(rt: HostRuntime) -> Result<(), Fail> {
-    let roster = roster_of(rt.alloc(), CHAIN)?;
+    let roster = roster_of(&rt, rt.alloc(), CHAIN)?;
     let ranks = Ranks::build(&rt, rt.alloc(), &roster)?;
     for _ in 0..50 {
         let blank = blank_for(&ranks, 2);
@@ -330,7 +330,7 @@ fn finished_in<K: HallName, R: Abort + Wait>(
 // One of the chain's five proposals was made behind the locks.
 #[test]
 fn what_is_left_is_finished_on_the_floor(rt: HostRuntime) -> Result<(), Fail> {
-    let roster = roster_of(rt.alloc(), CHAIN)?;
+    let roster = roster_of(&rt, rt.alloc(), CHAIN)?;
     let ranks = Ranks::build(&rt, rt.alloc(), &roster)?;
     let blank = blank_for(&ranks, 1);
     Ok(finished_in::<Brand, _>(&rt, rt.alloc(), &ranks, blank)?)
@@ -367,14 +367,14 @@ fn expect_strangers<R: Abort + Wait>(
 
 #[test]
 fn numbers_past_the_end_are_strangers(rt: HostRuntime) -> Result<(), Fail> {
-    let roster = roster_of(rt.alloc(), CHAIN)?;
+    let roster = roster_of(&rt, rt.alloc(), CHAIN)?;
     let ranks = Ranks::build(&rt, rt.alloc(), &roster)?;
     Ok(expect_strangers(&rt, rt.alloc(), &ranks, [3, u32::MAX])?)
 }
 
 #[test]
 fn members_are_strangers(rt: HostRuntime) -> Result<(), Fail> {
-    let roster = roster_of(rt.alloc(), BETWEEN)?;
+    let roster = roster_of(&rt, rt.alloc(), BETWEEN)?;
     let ranks = Ranks::build(&rt, rt.alloc(), &roster)?;
     Ok(expect_strangers(&rt, rt.alloc(), &ranks, [1, 2])?)
 }

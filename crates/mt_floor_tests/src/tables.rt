@@ -90,7 +90,7 @@ fn expect_tables<R: Abort + Threads + Sync>(
     file: &[u8],
     expected: &Expected<'_>,
 ) -> Result<(), Fail> {
-    let roster = roster_of(alloc, file)?;
+    let roster = roster_of(rt, alloc, file)?;
     let tables = Ranks::build(rt, alloc, &roster)?;
     expect_programs(rt, alloc, &tables, expected)?;
     expect_applicants(rt, &tables, expected);

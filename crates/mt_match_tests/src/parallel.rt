@@ -95,7 +95,7 @@ fn expect_small<R: Abort + Threads + Sync>(
     file: &[u8],
     matches: u32,
 ) -> Result<(), Fail> {
-    let roster = roster_of(alloc, file)?;
+    let roster = roster_of(rt, alloc, file)?;
     let ranks = Ranks::build(rt, alloc, &roster)?;
     expect_tables(rt, &roster, &ranks);
     expect_ranks(rt, &roster, &ranks);
@@ -130,7 +130,7 @@ fn with_last(
 
 // Nobody placed; the best match of the singles; and that with the last applicant at the last program.
 fn expect_large<R: Abort + Threads + Sync>(rt: &R, alloc: Global, file: &[u8]) -> Result<(), Fail> {
-    let roster = roster_of(alloc, file)?;
+    let roster = roster_of(rt, alloc, file)?;
     let ranks = Ranks::build(rt, alloc, &roster)?;
     expect_tables(rt, &roster, &ranks);
     expect_ranks(rt, &roster, &ranks);

@@ -47,7 +47,7 @@ fn expect_half_a_pair(rt: &impl Abort, ended: &Entered) {
 // The couple takes x and y, s takes y and drives it out, the couple takes x alone, and s isn't taken there.
 #[test]
 fn a_couple_takes_half_a_pair_in_four_rounds(rt: HostRuntime) -> Result<(), Fail> {
-    let roster = roster_of(rt.alloc(), HALF_PAIR)?;
+    let roster = roster_of(&rt, rt.alloc(), HALF_PAIR)?;
     expect_half_a_pair(&rt, &entered(&rt, rt.alloc(), &roster, 1_000_000)?);
     expect_half_a_pair(&rt, &entered(&rt, rt.alloc(), &roster, 4)?);
     let spent = entered(&rt, rt.alloc(), &roster, 3);

@@ -137,7 +137,7 @@ fn finding<R: Abort + Threads + Sync>(
     file: &str,
     match_text: &str,
 ) -> Result<String, Fail> {
-    let roster = roster_of(alloc, file.as_bytes())?;
+    let roster = roster_of(rt, alloc, file.as_bytes())?;
     let ranks = Ranks::build(rt, alloc, &roster)?;
     let places = places_of(alloc, &roster, match_text)?;
     assert!(rt; are_places(&roster, places.as_slice()));

@@ -7,6 +7,7 @@ pub mod DraftFacts
 pub mod NumberingSteps
 pub mod StampFacts
 pub mod ReadingSteps
+pub mod BlockFacts
 pub mod EntryFacts
 pub mod PairSteps
 pub mod NumberingTables

@@ -8,6 +8,7 @@ pub mod Registered
 pub mod Registers
 pub mod Withdrawals
 pub mod Reading
+pub mod Blocks
 pub mod Markets
 pub mod Passes
 pub mod Faults

@@ -10,8 +10,10 @@ use crate::record::{Record, record_of};
 use crate::refusal::Refusal;
 use crate::register::Register;
 use crate::rules::Rules;
+use crate::seed::{Seed, add_fields};
 use mt_lists::{Fields, Row, RowsIter};
 use std::alloc::Global;
+use std::hash::DefaultHasher;
 
 /// The record of a row that follows those of a register, or its first fault.
 fn next_record<'a>(
@@ -69,6 +71,15 @@ fn read_row<'a>(
     read_fields(alloc, rules, register, number, row.fields())
 }
 
+/// The seed of tables of what these rows register and withdraw.
+fn seed_of(rows: RowsIter<'_>) -> Seed {
+    let mut digest = DefaultHasher::new();
+    for row in rows {
+        add_fields(&mut digest, row.fields());
+    }
+    Seed::of(&digest)
+}
+
 /// The records of these rows, of which the first has this number, or their first fault.
 pub(crate) fn first_pass<'a>(
     alloc: Global,
@@ -80,7 +91,7 @@ pub(crate) fn first_pass<'a>(
     requires few { first + length (rows_left rows) < 2 ^ 64 }
     ensures { GivesRegister result (first_pass rules.now [] (numbered_from first (rows_left rows.entry))) }
 {
-    let mut register = Register::new(alloc);
+    let mut register = Register::new(alloc, seed_of(rows));
     let mut number = first;
     for row in rows {
         read_row(alloc, rules, &mut register, number, row)?;

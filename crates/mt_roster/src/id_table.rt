@@ -2,10 +2,11 @@ ghost use Rattle.std.specs.Prelude.{◌≡◌, ◌<◌, ◌≤◌, ◌+◌, ◌^
 ghost use Rattle.mt_terms.specs.Registration.Ids.{has_id, all_differ};
 ghost use Rattle.mt_roster.specs.Keys.{AreBytes, four_from, head_of};
 
+use crate::seed::Seed;
 use indexmap::IndexSet;
 use mt_market::FlatLists;
 use std::alloc::{AllocError, Global};
-use std::hash::{Hash, Hasher};
+use std::hash::{DefaultHasher, Hash, Hasher};
 use std::marker::Model;
 
 /// An id as tables hold it, with its head, by which most ids are told apart without a look at their bytes.
@@ -93,10 +94,19 @@ fn four(bytes: &[u8], at: usize) -> u64
     u64::from(u32::from_le_bytes([bytes[at], bytes[at + 1], bytes[at + 2], bytes[at + 3]]))
 }
 
+/// The seed of a table of these names.
+fn seed_of(names: &FlatLists<u8>) -> Seed {
+    let mut digest = DefaultHasher::new();
+    for number in 0..names.len() {
+        digest.write(names.list(number));
+    }
+    Seed::of(&digest)
+}
+
 /// Ids in the order in which they came, each of them once.
 #[derive(Drop)]
 pub(crate) struct IdTable<'a> {
-    ids: IndexSet<Key<'a>>,
+    ids: IndexSet<Key<'a>, Seed>,
 }
 
 impl<'a> Model for IdTable<'a> {
@@ -109,20 +119,24 @@ impl<'a> Model for IdTable<'a> {
 
 impl<'a> IdTable<'a> {
     /// No ids.
-    pub(crate) fn new(alloc: Global) -> Self
+    pub(crate) fn new(alloc: Global, seed: Seed) -> Self
         ensures { result ≡ [] }
     {
         IdTable {
-            ids: IndexSet::new(alloc),
+            ids: IndexSet::with_hasher(alloc, seed),
         }
     }
 
     /// No ids, with room for some.
-    pub(crate) fn with_capacity(alloc: Global, capacity: usize) -> Result<Self, AllocError>
+    pub(crate) fn with_capacity(
+        alloc: Global,
+        capacity: usize,
+        seed: Seed,
+    ) -> Result<Self, AllocError>
         ensures { IfOk result (λ table. table ≡ []) }
     {
         Ok(IdTable {
-            ids: IndexSet::with_capacity(alloc, capacity)?,
+            ids: IndexSet::with_capacity_and_hasher(alloc, capacity, seed)?,
         })
     }
 
@@ -131,7 +145,7 @@ impl<'a> IdTable<'a> {
         ensures ids { IfOk result (λ found. IfSome found (λ table. table ≡ names.now)) }
         ensures differ { IfOk result (λ found. is_some found ≡ all_differ bytes_eq names.now) }
     {
-        let mut table = IdTable::with_capacity(alloc, names.len())?;
+        let mut table = IdTable::with_capacity(alloc, names.len(), seed_of(names))?;
         for i in 0..names.len() {
             if !table.add(names.list(i))? {
                 return Ok(None);

@@ -1,6 +1,7 @@
 //! Records to market: the roster of a residency match.
 #![tactic(auto)]
 
+mod blocks;
 mod draft;
 mod drafts;
 mod fault;
@@ -8,6 +9,7 @@ mod fields;
 mod first_pass;
 mod id_table;
 mod ids;
+mod listed;
 mod market;
 mod names;
 mod numbering;
@@ -19,6 +21,7 @@ mod registered;
 mod repeats;
 mod rules;
 mod second_pass;
+mod seed;
 mod unknown;
 mod withdrawals;
 

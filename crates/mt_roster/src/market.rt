@@ -24,6 +24,7 @@ use mt_lists::RowsIter;
 use mt_market::{Roster, Tables};
 use mt_terms::{AppNo, Limits};
 use std::alloc::{AllocError, Global};
+use std::thread::Threads;
 
 /// The new numbers of programs and applicants where these ids are withdrawn.
 fn numbers_of(
@@ -71,7 +72,8 @@ fn with_entries(
 
 /// The records that stay where these ids are withdrawn, and what their lists say by new numbers, where the lists of all
 /// records stand and have no more entries than a version takes.
-fn read_entries<'a>(
+fn read_entries<'a, R: Threads + Sync>(
+    rt: &R,
     alloc: Global,
     limits: &Limits,
     registered: &Registered<'_>,
@@ -85,18 +87,19 @@ fn read_entries<'a>(
 {
     let mut room = limits.entries;
     let leaving = leaving(alloc, withdrawn, &records)?;
-    if entries_of(alloc, registered, numbers, &mut room, &leaving)?.is_none() {
+    if entries_of(rt, alloc, registered, numbers, &mut room, &leaving)?.is_none() {
         return Ok(None);
     }
     let staying = staying(withdrawn, records);
-    let Some(entries) = entries_of(alloc, registered, numbers, &mut room, &staying)? else {
+    let Some(entries) = entries_of(rt, alloc, registered, numbers, &mut room, &staying)? else {
         return Ok(None);
     };
     Ok(Some((staying, entries)))
 }
 
 /// The market of records by their ids, none of which is registered twice, if they have no fault among them.
-fn market_by(
+fn market_by<R: Threads + Sync>(
+    rt: &R,
     alloc: Global,
     limits: &Limits,
     ids: &Registered<'_>,
@@ -112,7 +115,7 @@ fn market_by(
         return Ok(None);
     };
     let numbers = numbers_of(alloc, &withdrawn, &records)?;
-    let Some((records, entries)) = read_entries(alloc, limits, ids, &withdrawn, &numbers, records)?
+    let Some((records, entries)) = read_entries(rt, alloc, limits, ids, &withdrawn, &numbers, records)?
     else {
         return Ok(None);
     };
@@ -122,7 +125,8 @@ fn market_by(
 }
 
 /// The market of drafts, if they have no fault among them.
-fn market_of_drafts(
+fn market_of_drafts<R: Threads + Sync>(
+    rt: &R,
     alloc: Global,
     limits: &Limits,
     drafts: Drafts<'_>,
@@ -135,13 +139,14 @@ fn market_of_drafts(
 {
     let Drafts { records, names } = drafts;
     match Registered::of(alloc, &names)? {
-        Some(ids) => market_by(alloc, limits, &ids, records),
+        Some(ids) => market_by(rt, alloc, limits, &ids, records),
         None => Ok(None),
     }
 }
 
 /// The market of rows, if they have no fault.
-pub(crate) fn faultless_market(
+pub(crate) fn faultless_market<R: Threads + Sync>(
+    rt: &R,
     alloc: Global,
     rules: &Rules,
     rows: RowsIter<'_>,
@@ -151,7 +156,7 @@ pub(crate) fn faultless_market(
     ensures { IfOk result (λ found. found ≡ faultless_market rules.now (with_fields (rows_left rows.entry))) }
 {
     match drafts_of(alloc, rules, rows)? {
-        Some(drafts) => market_of_drafts(alloc, &rules.limits, drafts),
+        Some(drafts) => market_of_drafts(rt, alloc, &rules.limits, drafts),
         None => Ok(None),
     }
 }

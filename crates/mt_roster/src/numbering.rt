@@ -7,11 +7,13 @@ ghost use Rattle.mt_terms.specs.Market.{agent_from};
 ghost use Rattle.mt_terms.specs.Registration.Rows.{applicant_ids};
 ghost use Rattle.mt_file_laws.specs.Staying.{new_place, new_pair};
 ghost use Rattle.mt_roster.specs.Fields.{pairs_left};
-ghost use Rattle.mt_roster.specs.Numbered.{all_seen, place_in, pair_in, quota_in, bare_couples, program_lists, applicant_lists, couple_lists};
+ghost use Rattle.mt_roster.specs.Numbered.{all_seen, place_in, pair_in, quota_in, bare_couples, lists_seen, program_lists, applicant_lists, couple_lists};
 ghost use Rattle.mt_roster.specs.Reading.{AreStampedBelow, ReadsList, ReadsLists, ReadsPairs, ReadsAllPairs, ReadsEntries, number_by, members_by, HaveNumbers};
 
+use crate::blocks::read_side_by_side;
 use crate::fields::Pairs;
 use crate::id_table::IdTable;
+use crate::listed::{applicant_lists, program_lists};
 use crate::record::Record;
 use crate::registered::Registered;
 use crate::repeats::has_repeated_pair;
@@ -19,6 +21,7 @@ use mt_lists::Fields;
 use mt_market::FlatLists;
 use mt_terms::{Agent, AppNo, CoupleNo, ProgNo};
 use std::alloc::{AllocError, Global};
+use std::thread::Threads;
 
 /// The programs' quotas.
 pub(crate) fn quotas(alloc: Global, records: &[Record<'_>]) -> Result<Vec<u32>, AllocError>
@@ -68,8 +71,33 @@ fn push_list<T: Copy + Drop>(
     Ok(true)
 }
 
+/// These lists by numbers, where each names none but these ids, none twice, and there is room for all entries.
+pub(crate) fn read_lists<T: Copy + Drop>(
+    alloc: Global,
+    ids: &IdTable<'_>,
+    numbers: &[Option<T>],
+    room: &mut u32,
+    lists: &[Option<Fields<'_>>],
+) -> Result<Option<FlatLists<T>>, AllocError>
+    requires { length numbers.now ≡ length ids.now }
+    ensures { IfOk result (ReadsLists ids.now numbers.now room.old room.new (lists_seen lists.now)) }
+{
+    let mut read = FlatLists::new(alloc);
+    let mut stamps = vec![in alloc; 0; ids.len()]?;
+    for list in lists {
+        read.begin()?;
+        if let Some(fields) = list {
+            if !push_list(&mut read, ids, numbers, &mut stamps, room, *fields)? {
+                return Ok(None);
+            }
+        }
+    }
+    Ok(Some(read))
+}
+
 /// The programs' lists by numbers, where each names applicants alone, none twice, and there is room for all entries.
-fn rankings(
+fn rankings<R: Threads + Sync>(
+    rt: &R,
     alloc: Global,
     applicants: &IdTable<'_>,
     numbers: &[Option<AppNo>],
@@ -79,22 +107,14 @@ fn rankings(
     requires { length numbers.now ≡ length applicants.now }
     ensures { IfOk result (ReadsLists applicants.now numbers.now room.old room.new (program_lists (all_seen records.now))) }
 {
-    let mut lists = FlatLists::new(alloc);
-    let mut stamps = vec![in alloc; 0; applicants.len()]?;
-    for one in records {
-        if let Record::Program { list, .. } = one {
-            lists.begin()?;
-            if !push_list(&mut lists, applicants, numbers, &mut stamps, room, *list)? {
-                return Ok(None);
-            }
-        }
-    }
-    Ok(Some(lists))
+    let lists = program_lists(alloc, records)?;
+    read_side_by_side(rt, alloc, applicants, numbers, room, &lists)
 }
 
 /// The applicants' lists by numbers, where each names programs alone, none twice, and there is room for all entries. A
 /// couple's two members have empty ones.
-fn lists(
+fn lists<R: Threads + Sync>(
+    rt: &R,
     alloc: Global,
     programs: &IdTable<'_>,
     numbers: &[Option<ProgNo>],
@@ -104,24 +124,8 @@ fn lists(
     requires { length numbers.now ≡ length programs.now }
     ensures { IfOk result (ReadsLists programs.now numbers.now room.old room.new (applicant_lists (all_seen records.now))) }
 {
-    let mut lists = FlatLists::new(alloc);
-    let mut stamps = vec![in alloc; 0; programs.len()]?;
-    for one in records {
-        match one {
-            Record::Applicant { list, .. } => {
-                lists.begin()?;
-                if !push_list(&mut lists, programs, numbers, &mut stamps, room, *list)? {
-                    return Ok(None);
-                }
-            }
-            Record::Couple { .. } => {
-                lists.begin()?;
-                lists.begin()?;
-            }
-            Record::Program { .. } | Record::Withdraw { .. } => {}
-        }
-    }
-    Ok(Some(lists))
+    let lists = applicant_lists(alloc, records)?;
+    read_side_by_side(rt, alloc, programs, numbers, room, &lists)
 }
 
 /// Where a pair sends a member, by number, if it names none but these programs.
@@ -247,7 +251,8 @@ pub(crate) struct Entries {
 
 /// What the lists of records say by numbers, where each names none but these programs or applicants, none twice, and
 /// there is room for all entries.
-pub(crate) fn entries_of(
+pub(crate) fn entries_of<R: Threads + Sync>(
+    rt: &R,
     alloc: Global,
     registered: &Registered<'_>,
     numbers: &Numbers,
@@ -259,11 +264,12 @@ pub(crate) fn entries_of(
     ensures { IfOk result (ReadsEntries registered.now numbers.now room.old room.new (all_seen records.now)) }
 {
     let applicants = &registered.applicants;
-    let Some(rankings) = rankings(alloc, applicants, &numbers.applicants, room, records)? else {
+    let Some(rankings) = rankings(rt, alloc, applicants, &numbers.applicants, room, records)?
+    else {
         return Ok(None);
     };
     let programs = &registered.programs;
-    let Some(lists) = lists(alloc, programs, &numbers.programs, room, records)? else {
+    let Some(lists) = lists(rt, alloc, programs, &numbers.programs, room, records)? else {
         return Ok(None);
     };
     let Some(pairs) = pairs(alloc, programs, &numbers.programs, room, records)? else {

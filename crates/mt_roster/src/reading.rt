@@ -19,6 +19,7 @@ use mt_lists::{Rows, RowsIter};
 use mt_market::Roster;
 use mt_terms::codes::NO_VERSION;
 use std::alloc::Global;
+use std::thread::Threads;
 
 /// A refusal because no version is named, at this record.
 fn no_version<'a>(row: u64) -> Refusal<'a>
@@ -79,24 +80,32 @@ fn first_fault<'a>(alloc: Global, body: &Body<'a>) -> Refusal<'a>
 }
 
 /// The market of what follows the record that names a version, or its first fault.
-fn read_body<'a>(alloc: Global, body: &Body<'a>) -> Result<Roster, Refusal<'a>>
+fn read_body<'a, R: Threads + Sync>(
+    rt: &R,
+    alloc: Global,
+    body: &Body<'a>,
+) -> Result<Roster, Refusal<'a>>
     requires limits { AreBounded body.now.rules.limits }
     requires short { IsShort body.now }
     requires accepted { AcceptsRegistrations body.now.rules (with_fields (rows_left body.now.rows)) }
     ensures { Gives same result (market_under body.now.rules (numbered_from body.now.first (rows_left body.now.rows))) }
 {
-    match faultless_market(alloc, &body.rules, body.rows)? {
+    match faultless_market(rt, alloc, &body.rules, body.rows)? {
         Some(roster) => Ok(roster),
         None => Err(first_fault(alloc, body)),
     }
 }
 
 /// The market of a file's records, or its first fault.
-fn read<'a>(alloc: Global, rows: &'a Rows<'_>) -> Result<Roster, Refusal<'a>>
+fn read<'a, R: Threads + Sync>(
+    rt: &R,
+    alloc: Global,
+    rows: &'a Rows<'_>,
+) -> Result<Roster, Refusal<'a>>
     ensures { Gives same result (market_of rows.now) }
 {
     match body_of(rows) {
-        Ok(body) => read_body(alloc, &body),
+        Ok(body) => read_body(rt, alloc, &body),
         Err(refusal) => Err(refusal),
     }
 }
@@ -104,11 +113,15 @@ fn read<'a>(alloc: Global, rows: &'a Rows<'_>) -> Result<Roster, Refusal<'a>>
 /// The roster of a file's records: of the market that they are, or their first fault. A record is a list of fields
 /// without its trailing empty ones; records are counted from 1, and one without a field is passed over.
 #[tactic(auto, using(crate::proofs::FaultFacts::has_short_id, crate::proofs::FaultFacts::tells))]
-pub fn roster(alloc: Global, rows: &Rows<'_>) -> Result<Roster, RosterError>
+pub fn roster<R: Threads + Sync>(
+    rt: &R,
+    alloc: Global,
+    rows: &Rows<'_>,
+) -> Result<Roster, RosterError>
     ensures market { IfOk result (λ roster. market_of rows.now ≡ Ok roster) }
     ensures fault { IfErr result (λ error. Tells error (market_of rows.now)) }
 {
-    match read(alloc, rows) {
+    match read(rt, alloc, rows) {
         Ok(roster) => Ok(roster),
         Err(refusal) => Err(error_of(&refusal)),
     }

@@ -9,6 +9,7 @@ use crate::id_table::IdTable;
 use crate::record::{Charge, Kind, Record};
 use crate::repeats::{has_repeat, has_repeated_pair};
 use crate::rules::Rules;
+use crate::seed::Seed;
 use mt_terms::Limits;
 use mt_terms::codes::{DUPLICATE_ENTRY, DUPLICATE_ID, TOO_MANY};
 use std::alloc::{AllocError, Global};
@@ -29,15 +30,16 @@ pub(crate) struct Kinds<'a> {
 }
 
 impl<'a> Kinds<'a> {
-    pub(crate) fn new(alloc: Global) -> Self
+    /// No ids. The tables will hash by this seed.
+    pub(crate) fn new(alloc: Global, seed: Seed) -> Self
         ensures programs { result.programs ≡ [] }
         ensures applicants { result.applicants ≡ [] }
         ensures couples { result.couples ≡ [] }
     {
         Kinds {
-            programs: IdTable::new(alloc),
-            applicants: IdTable::new(alloc),
-            couples: IdTable::new(alloc),
+            programs: IdTable::new(alloc, seed),
+            applicants: IdTable::new(alloc, seed),
+            couples: IdTable::new(alloc, seed),
         }
     }
 
@@ -92,16 +94,16 @@ pub(crate) struct Register<'a> {
 }
 
 impl<'a> Register<'a> {
-    /// No records.
-    pub(crate) fn new(alloc: Global) -> Self
+    /// No records. The tables of their ids will hash by this seed.
+    pub(crate) fn new(alloc: Global, seed: Seed) -> Self
         ensures register { IsRegister result }
         ensures records { records_seen result ≡ [] }
     {
         Register {
             records: Vec::new(alloc),
-            registered: Kinds::new(alloc),
-            applicants: IdTable::new(alloc),
-            withdrawn: Kinds::new(alloc),
+            registered: Kinds::new(alloc, seed),
+            applicants: IdTable::new(alloc, seed),
+            withdrawn: Kinds::new(alloc, seed),
             entries: 0,
         }
     }

@@ -8,16 +8,20 @@ ghost use Rattle.mt_roster.specs.Fields.{pairs_left};
 
 use crate::fields::Pairs;
 use crate::id_table::IdTable;
+use crate::seed::{Seed, add_fields};
 use indexmap::IndexSet;
 use mt_lists::Fields;
 use std::alloc::{AllocError, Global};
+use std::hash::{DefaultHasher, Hasher};
 use std::marker::Model;
 
 /// Whether an id stands twice in a list.
 pub(crate) fn has_repeat(alloc: Global, list: Fields<'_>) -> Result<bool, AllocError>
     ensures { IfOk result (λ repeats. repeats ≡ not (all_differ bytes_eq (fields_left list.entry))) }
 {
-    let mut seen = IdTable::with_capacity(alloc, list.len())?;
+    let mut digest = DefaultHasher::new();
+    add_fields(&mut digest, list);
+    let mut seen = IdTable::with_capacity(alloc, list.len(), Seed::of(&digest))?;
     for id in list {
         if !seen.add(id)? {
             return Ok(true);
@@ -29,7 +33,7 @@ pub(crate) fn has_repeat(alloc: Global, list: Fields<'_>) -> Result<bool, AllocE
 /// Pairs in the order in which they came, each of them once.
 #[derive(Drop)]
 struct PairTable<'a> {
-    pairs: IndexSet<(Option<&'a [u8]>, Option<&'a [u8]>)>,
+    pairs: IndexSet<(Option<&'a [u8]>, Option<&'a [u8]>), Seed>,
 }
 
 impl<'a> Model for PairTable<'a> {
@@ -43,11 +47,11 @@ impl<'a> Model for PairTable<'a> {
 
 impl<'a> PairTable<'a> {
     /// No pairs, with room for some.
-    fn with_capacity(alloc: Global, capacity: usize) -> Result<Self, AllocError>
+    fn with_capacity(alloc: Global, capacity: usize, seed: Seed) -> Result<Self, AllocError>
         ensures { IfOk result (λ table. table ≡ []) }
     {
         Ok(PairTable {
-            pairs: IndexSet::with_capacity(alloc, capacity)?,
+            pairs: IndexSet::with_capacity_and_hasher(alloc, capacity, seed)?,
         })
     }
 
@@ -61,11 +65,21 @@ impl<'a> PairTable<'a> {
     }
 }
 
+/// The seed of a table of these pairs.
+fn seed_of(pairs: Pairs<'_>) -> Seed {
+    let mut digest = DefaultHasher::new();
+    for (first, second) in pairs {
+        digest.write(first.unwrap_or(b"-"));
+        digest.write(second.unwrap_or(b"-"));
+    }
+    Seed::of(&digest)
+}
+
 /// Whether a pair stands twice in a couple's list.
 pub(crate) fn has_repeated_pair(alloc: Global, pairs: Pairs<'_>) -> Result<bool, AllocError>
     ensures { IfOk result (λ repeats. repeats ≡ not (all_differ is_same_pair (pairs_left pairs.entry))) }
 {
-    let mut seen = PairTable::with_capacity(alloc, pairs.len())?;
+    let mut seen = PairTable::with_capacity(alloc, pairs.len(), seed_of(pairs))?;
     for pair in pairs {
         if !seen.add(pair)? {
             return Ok(true);

@@ -12,8 +12,21 @@ ghost use Rattle.mt_roster.specs.Withdrawals.{stays_after, Stand};
 use crate::record::Record;
 use crate::register::Kinds;
 use crate::registered::Registered;
+use crate::seed::Seed;
 use mt_terms::{AppNo, ProgNo};
 use std::alloc::{AllocError, Global};
+use std::hash::{DefaultHasher, Hasher};
+
+/// The seed of tables of what these records withdraw.
+fn seed_of(records: &[Record<'_>]) -> Seed {
+    let mut digest = DefaultHasher::new();
+    for one in records {
+        if let Record::Withdraw { id, .. } = one {
+            digest.write(id);
+        }
+    }
+    Seed::of(&digest)
+}
 
 /// The ids that records withdraw, if each is registered and none is withdrawn twice.
 pub(crate) fn withdrawn_by<'a>(
@@ -25,7 +38,7 @@ pub(crate) fn withdrawn_by<'a>(
     requires known { KnowsIds registered.now records.now }
     ensures { IfOk result (λ found. MatchOption found (withdrawals_stand (all_seen records.now) ≡ false) (Stand (all_seen records.now))) }
 {
-    let mut withdrawn = Kinds::new(alloc);
+    let mut withdrawn = Kinds::new(alloc, seed_of(records));
     for one in records {
         if let Record::Withdraw { kind, id } = one {
             if !registered.has(*kind, id) || !withdrawn.add(*kind, id)? {

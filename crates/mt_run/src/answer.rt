@@ -133,11 +133,15 @@ pub(crate) fn answer_to_market<T: Threads + Wait + Sync>(
 }
 
 /// The roster of the records of a file, or the refusal that is the answer.
-pub(crate) fn roster_of(alloc: Global, rows: &Rows<'_>) -> Result<Roster, Refusal>
+pub(crate) fn roster_of<T: Threads + Sync>(
+    rt: &T,
+    alloc: Global,
+    rows: &Rows<'_>,
+) -> Result<Roster, Refusal>
     ensures market { IfOk result (λ roster. market_of rows.now ≡ Ok roster) }
     ensures refused { (budget : ℕ) → IfErr result (IsRefusalBy (λ code text. IsAnswerOfRows budget code text rows.now)) }
 {
-    match roster(alloc, rows) {
+    match roster(rt, alloc, rows) {
         Ok(roster) => Ok(roster),
         Err(RosterError::Fault(fault)) => Err(fault),
         Err(RosterError::Memory) => Err(Refusal::alone(OUT_OF_MEMORY)),

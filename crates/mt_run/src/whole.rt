@@ -18,13 +18,17 @@ use std::sync::Wait;
 use std::thread::Threads;
 
 /// The roster of bytes that are no more than the limit, or the refusal that is the answer.
-fn roster_of_bytes(alloc: Global, bytes: &[u8]) -> Result<Roster, Refusal>
+fn roster_of_bytes<T: Threads + Sync>(
+    rt: &T,
+    alloc: Global,
+    bytes: &[u8],
+) -> Result<Roster, Refusal>
     requires { length bytes.now ≤ most_bytes }
     ensures market { IfOk result (IsRosterOf bytes.now) }
     ensures refused { (budget : ℕ) → IfErr result (IsRefusalBy (IsAnswer bytes.now budget)) }
 {
     match records(alloc, bytes) {
-        Ok(rows) => roster_of(alloc, &rows),
+        Ok(rows) => roster_of(rt, alloc, &rows),
         Err(ListFault::TwoMarks) => Err(Refusal::alone(TWO_MARKS)),
         Err(ListFault::Memory) => Err(Refusal::alone(OUT_OF_MEMORY)),
     }
@@ -42,7 +46,7 @@ fn answer_to_bytes<T: Threads + Wait + Sync>(
     ensures text { IfOk result (λ text. IsAnswer bytes.items options.budget 0 text.items) }
     ensures refused { IfErr result (IsRefusalBy (IsAnswer bytes.items options.budget)) }
 {
-    let roster = roster_of_bytes(alloc, &bytes)?;
+    let roster = roster_of_bytes(rt, alloc, &bytes)?;
     drop(bytes);
     answer_to_market(rt, alloc, &roster, options)
 }

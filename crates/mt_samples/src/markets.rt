@@ -3,6 +3,7 @@
 use mt_lists::{ListFault, records};
 use mt_roster::{Roster, RosterError, roster};
 use std::alloc::{AllocError, Global};
+use std::thread::Threads;
 use thiserror::Error;
 
 /// Two programs with one post each, each of which wants the applicant who wants the other one more. Of the two
@@ -121,12 +122,16 @@ impl From<AllocError> for SampleError {
 }
 
 /// The market of a file that has no fault.
-pub fn roster_of(alloc: Global, file: &[u8]) -> Result<Roster, SampleError> {
+pub fn roster_of<R: Threads + Sync>(
+    rt: &R,
+    alloc: Global,
+    file: &[u8],
+) -> Result<Roster, SampleError> {
     let rows = records(alloc, file).map_err(|error| match error {
         ListFault::TwoMarks => SampleError::Fault,
         ListFault::Memory => SampleError::Memory,
     })?;
-    roster(alloc, &rows).map_err(|error| match error {
+    roster(rt, alloc, &rows).map_err(|error| match error {
         RosterError::Fault(_) => SampleError::Fault,
         RosterError::Memory => SampleError::Memory,
     })

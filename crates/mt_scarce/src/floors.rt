@@ -22,7 +22,7 @@ fn is_end_of_chain(places: &[Option<ProgNo>]) -> bool {
 
 /// Whether a floor ends in the best match.
 pub(crate) fn finishes<T: Threads + Sync>(rt: &T, alloc: Global) -> Result<bool, SampleError> {
-    let roster = roster_of(alloc, CHAIN)?;
+    let roster = roster_of(rt, alloc, CHAIN)?;
     let ranks = Ranks::build(rt, alloc, &roster)?;
     let matched = singles(alloc, &roster, &ranks)?;
     Ok(is_end_of_chain(matched.places.as_slice()))
@@ -62,7 +62,7 @@ fn closes_in<K: HallName>(alloc: Global, ranks: &Ranks, blank: Blank) -> Result<
 
 /// Whether a hall in which nothing happens agrees with its floor.
 pub(crate) fn closes<T: Threads + Sync>(rt: &T, alloc: Global) -> Result<bool, SampleError> {
-    let roster = roster_of(alloc, CHAIN)?;
+    let roster = roster_of(rt, alloc, CHAIN)?;
     let ranks = Ranks::build(rt, alloc, &roster)?;
     let blank = Blank::new(ranks.applicants() as u64 + 2);
     closes_in::<Brand>(alloc, &ranks, blank)
@@ -76,7 +76,7 @@ pub(crate) fn works<T: Threads + Wait + Sync>(
 ) -> Result<bool, SampleError>
     requires { (1 ≤ workers) × (workers ≤ 64) }
 {
-    let roster = roster_of(alloc, CHAIN)?;
+    let roster = roster_of(rt, alloc, CHAIN)?;
     let ranks = Ranks::build(rt, alloc, &roster)?;
     let singles = work(rt, alloc, &ranks, workers, &Open)?;
     let is_count = singles.proposals.as_slice() == [3, 2].as_slice();

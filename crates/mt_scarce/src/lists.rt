@@ -62,8 +62,8 @@ pub(crate) fn holds(alloc: Global) -> Result<bool, SampleError> {
 }
 
 /// Whether a file is registered.
-pub(crate) fn registers(alloc: Global) -> Result<bool, SampleError> {
-    let roster = roster_of(alloc, CHAIN)?;
+pub(crate) fn registers<T: Threads + Sync>(rt: &T, alloc: Global) -> Result<bool, SampleError> {
+    let roster = roster_of(rt, alloc, CHAIN)?;
     if roster.applicants() != 3 || roster.programs() != 2 {
         return Ok(false);
     }
@@ -74,7 +74,7 @@ pub(crate) fn registers(alloc: Global) -> Result<bool, SampleError> {
 
 /// Whether the rank tables of a roster are made.
 pub(crate) fn ranks<T: Threads + Sync>(rt: &T, alloc: Global) -> Result<bool, SampleError> {
-    let roster = roster_of(alloc, CHAIN)?;
+    let roster = roster_of(rt, alloc, CHAIN)?;
     let ranks = Ranks::build(rt, alloc, &roster)?;
     if ranks.applicants() != 3 || ranks.programs() != 2 {
         return Ok(false);

@@ -68,7 +68,7 @@ pub(crate) fn outcome_of<T: Threads + Wait + Sync>(
         Call::Splits => splits(alloc),
         Call::Asks => asks(alloc),
         Call::Holds => holds(alloc),
-        Call::Registers => registers(alloc),
+        Call::Registers => registers(rt, alloc),
         Call::Ranks => ranks(rt, alloc),
         Call::Finishes => finishes(rt, alloc),
         Call::Deals => deals(alloc),
@@ -76,7 +76,7 @@ pub(crate) fn outcome_of<T: Threads + Wait + Sync>(
         Call::Works => works(rt, alloc, workers),
         Call::Enters => enters(rt, alloc),
         Call::Judges => judges(rt, alloc),
-        Call::Publishes => publishes(alloc),
+        Call::Publishes => publishes(rt, alloc),
         Call::RunsSingles => runs(rt, alloc, CHAIN, CHAIN_TEXT, workers),
         Call::RunsCouples => runs(rt, alloc, TWO_COUPLES, TWO_COUPLES_TEXT, workers),
     };

@@ -22,7 +22,7 @@ const OUT_OF_MEMORY_LINE: &[u8] = b"match,1,refused,30,OutOfMemory,0,-\n";
 
 /// Whether the couples end where they should, in five rounds.
 pub(crate) fn enters<T: Threads + Sync>(rt: &T, alloc: Global) -> Result<bool, SampleError> {
-    let roster = roster_of(alloc, TWO_COUPLES)?;
+    let roster = roster_of(rt, alloc, TWO_COUPLES)?;
     let ranks = Ranks::build(rt, alloc, &roster)?;
     let singles = singles(alloc, &roster, &ranks)?;
     match enter_all(rt, alloc, &roster, &ranks, singles, 5) {
@@ -37,7 +37,7 @@ pub(crate) fn enters<T: Threads + Sync>(rt: &T, alloc: Global) -> Result<bool, S
 
 /// Whether the judge finds who blocks: a3, whom P1 wants more than a1.
 pub(crate) fn judges<T: Threads + Sync>(rt: &T, alloc: Global) -> Result<bool, SampleError> {
-    let roster = roster_of(alloc, CHAIN)?;
+    let roster = roster_of(rt, alloc, CHAIN)?;
     let ranks = Ranks::build(rt, alloc, &roster)?;
     let places = [Some(ProgNo(0)), Some(ProgNo(1)), None];
     if !are_places(&roster, &places) {
@@ -54,8 +54,8 @@ pub(crate) fn judges<T: Threads + Sync>(rt: &T, alloc: Global) -> Result<bool, S
 }
 
 /// Whether a match has its text.
-pub(crate) fn publishes(alloc: Global) -> Result<bool, SampleError> {
-    let roster = roster_of(alloc, CHAIN)?;
+pub(crate) fn publishes<T: Threads + Sync>(rt: &T, alloc: Global) -> Result<bool, SampleError> {
+    let roster = roster_of(rt, alloc, CHAIN)?;
     let places = [Some(ProgNo(1)), Some(ProgNo(0)), None];
     if !are_places(&roster, &places) || roster.programs() != 2 {
         return Ok(false);

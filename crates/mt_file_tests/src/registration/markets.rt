@@ -6,7 +6,7 @@ use std::test::Fail;
 #[test]
 fn an_empty_market(rt: HostRuntime) -> Result<(), Fail> {
     for file in ["match,1", "match,1\n", "match,2\n", ",\n\nmatch,1,,\n,,,\n"] {
-        assert!(rt; gives(rt.alloc(), file, "")?, "{file}");
+        assert!(rt; gives(&rt, rt.alloc(), file, "")?, "{file}");
     }
     laws::fault_ids();
     Ok(())
@@ -25,7 +25,7 @@ fn two_programs_and_two_applicants(rt: HostRuntime) -> Result<(), Fail> {
         "match,2\nprogram,P1,1,a2,a1\nprogram,P2,1,a1,a2\napplicant,a1,P1,P2\napplicant,a2,P2,P1\n",
         "\u{FEFF}match,1,,\r\n\"program\",P1,1,\"a2\",a1\r\n\r\nprogram,P2,01,a1,a2,\r\n,,,\r\napplicant,a1,P1,P2\r\napplicant,\"a2\",P2,P1",
     ] {
-        assert!(rt; gives(rt.alloc(), file, CROSSED)?, "{file}");
+        assert!(rt; gives(&rt, rt.alloc(), file, CROSSED)?, "{file}");
     }
     Ok(())
 }
@@ -38,7 +38,7 @@ fn numbers_follow_the_records(rt: HostRuntime) -> Result<(), Fail> {
         "match,1\napplicant,a3,P1\nprogram,P2,1,a1,a2\napplicant,a1,P1,P2\nprogram,P1,1,a2,a3,a1\napplicant,a2,P2,P1\n";
     let market =
         "program P2 1: 1 2\nprogram P1 1: 2 0 1\napplicant a3 single 0: 1\napplicant a1 single 1: 1 0\napplicant a2 single 2: 0 1\n";
-    assert!(rt; gives(rt.alloc(), file, market)?);
+    assert!(rt; gives(&rt, rt.alloc(), file, market)?);
     Ok(())
 }
 
@@ -50,7 +50,7 @@ fn entries_of_one_side(rt: HostRuntime) -> Result<(), Fail> {
         "match,1\nprogram,P,0,a1\nprogram,Q,9999\nprogram,a1,0007\napplicant,a1,Q\napplicant,a2,P\ncouple,a1,P,Q\n";
     let market =
         "program P 0: 0\nprogram Q 9999:\nprogram a1 7:\napplicant a1 single 0: 1\napplicant a2 single 1: 0\napplicant P couple 0:\napplicant Q couple 0:\ncouple a1 2 3:\n";
-    assert!(rt; gives(rt.alloc(), file, market)?);
+    assert!(rt; gives(&rt, rt.alloc(), file, market)?);
     Ok(())
 }
 
@@ -61,7 +61,7 @@ fn a_couple_and_its_members(rt: HostRuntime) -> Result<(), Fail> {
         "match,1\nprogram,x,2,a,s,b\nprogram,y,1,s,b\napplicant,s,x,y\ncouple,c,a,b,x,x,x,y\n";
     let market =
         "program x 2: 1 0 2\nprogram y 1: 0 2\napplicant s single 0: 0 1\napplicant a couple 0:\napplicant b couple 0:\ncouple c 1 2: 0 0, 0 1,\n";
-    assert!(rt; gives(rt.alloc(), file, market)?);
+    assert!(rt; gives(&rt, rt.alloc(), file, market)?);
     Ok(())
 }
 
@@ -75,7 +75,7 @@ fn three_couples_and_a_single(rt: HostRuntime) -> Result<(), Fail> {
         "applicant d1 couple 0:\napplicant d2 couple 0:\napplicant s single 2: 1\napplicant a1 couple 1:\napplicant a2 couple 1:\napplicant e1 couple 2:\napplicant e2 couple 2:\n";
     let couples = "couple D 0 1: 0 2,\ncouple A 3 4: 0 1, 1 0,\ncouple E 5 6: 2 2,\n";
     let market = format!(in rt.alloc(); "{programs}{applicants}{couples}")?;
-    assert!(rt; gives(rt.alloc(), file, &market)?);
+    assert!(rt; gives(&rt, rt.alloc(), file, &market)?);
     Ok(())
 }
 
@@ -86,6 +86,6 @@ fn pairs_with_one_member_unplaced(rt: HostRuntime) -> Result<(), Fail> {
         "match,2\nprogram,x,1,a,s\nprogram,y,1,s,b\napplicant,s,x,y\ncouple,c,a,b,x,y,x,-,-,x,-,y\n";
     let market =
         "program x 1: 1 0\nprogram y 1: 0 2\napplicant s single 0: 0 1\napplicant a couple 0:\napplicant b couple 0:\ncouple c 1 2: 0 1, 0 -, - 0, - 1,\n";
-    assert!(rt; gives(rt.alloc(), file, market)?);
+    assert!(rt; gives(&rt, rt.alloc(), file, market)?);
     Ok(())
 }

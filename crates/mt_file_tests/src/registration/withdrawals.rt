@@ -10,7 +10,7 @@ fn withdrawn_program_leaves_all_lists(rt: HostRuntime) -> Result<(), Fail> {
         "match,2\nprogram,P1,1,a2,a1\nprogram,P2,1,a1,a2\napplicant,a1,P1,P2\napplicant,a2,P2,P1\nwithdraw,program,P1\n",
         "match,2\nwithdraw,program,P1\nprogram,P1,1,a2,a1\nprogram,P2,1,a1,a2\napplicant,a1,P1,P2\napplicant,a2,P2,P1\n",
     ] {
-        assert!(rt; gives(rt.alloc(), file, market)?, "{file}");
+        assert!(rt; gives(&rt, rt.alloc(), file, market)?, "{file}");
     }
     Ok(())
 }
@@ -22,7 +22,7 @@ fn withdrawn_applicant_leaves_all_lists(rt: HostRuntime) -> Result<(), Fail> {
         "match,2\nwithdraw,applicant,a1\nprogram,P1,1,a2,a3,a1\nprogram,P2,1,a1,a2\napplicant,a1,P1,P2\napplicant,a2,P2,P1\napplicant,a3,P1\n";
     let market =
         "program P1 1: 0 1\nprogram P2 1: 0\napplicant a2 single 0: 1 0\napplicant a3 single 1: 0\n";
-    assert!(rt; gives(rt.alloc(), file, market)?);
+    assert!(rt; gives(&rt, rt.alloc(), file, market)?);
     Ok(())
 }
 
@@ -33,7 +33,7 @@ fn withdrawn_couple_takes_its_members(rt: HostRuntime) -> Result<(), Fail> {
         "match,2\nprogram,x,1,a,s,e\nprogram,y,1,s,b,f\napplicant,s,x,y\ncouple,c,a,b,x,y\ncouple,d,e,f,x,y\nwithdraw,couple,c\n";
     let market =
         "program x 1: 0 1\nprogram y 1: 0 2\napplicant s single 0: 0 1\napplicant e couple 0:\napplicant f couple 0:\ncouple d 1 2: 0 1,\n";
-    assert!(rt; gives(rt.alloc(), file, market)?);
+    assert!(rt; gives(&rt, rt.alloc(), file, market)?);
     Ok(())
 }
 
@@ -45,7 +45,7 @@ fn pairs_of_withdrawn_program_leave_the_list(rt: HostRuntime) -> Result<(), Fail
         "match,2\nprogram,p,1,a1\nprogram,q,1,a2\nprogram,u,1,a1\nprogram,v,1,a2\ncouple,A,a1,a2,p,q,p,-,q,p,q,-,u,v,-,q,-,v\nwithdraw,program,q\n";
     let market =
         "program p 1: 0\nprogram u 1: 0\nprogram v 1: 1\napplicant a1 couple 0:\napplicant a2 couple 0:\ncouple A 0 1: 0 -, 1 2, - 2,\n";
-    assert!(rt; gives(rt.alloc(), file, market)?);
+    assert!(rt; gives(&rt, rt.alloc(), file, market)?);
     Ok(())
 }
 
@@ -68,7 +68,7 @@ fn one_id_withdrawn_in_each_name_space(rt: HostRuntime) -> Result<(), Fail> {
         ),
     ] {
         let file = format!(in rt.alloc(); "match,2\n{rows}withdraw,{kind},i\n")?;
-        assert!(rt; gives(rt.alloc(), &file, market)?, "{kind}");
+        assert!(rt; gives(&rt, rt.alloc(), &file, market)?, "{kind}");
     }
     Ok(())
 }

@@ -1,10 +1,12 @@
-use Rattle.std.proofs.Common.{◌≡◌, ◌∙◌, ◌∷◌, ◌-◌, [], true, Result, Some, Err, IsErrAnd, sym, ap, ap₂, subst, arith}
+use Rattle.std.proofs.Common.{◌≡◌, ◌∙◌, ◌∷◌, ◌-◌, [], true, Result, Some, Err, IsErrAnd, Vec, length, sym, ap, ap₂, subst, arith}
+use Rattle.mt_terms.specs.Market.{Market}
 use Rattle.mt_terms.specs.Stability.{fits}
 use Rattle.mt_terms.specs.Rounds.{settled}
 use Rattle.mt_terms.specs.declared.numbers.Agent.TheVariants.{Couple}
 use Rattle.mt_round_laws.proofs.RoundsStage.{stage_is_stable_lem}
 use Rattle.mt_couples.specs.Waiting.{nobody, IsListOf}
 use Rattle.mt_couples.specs.Running.{singles_quiet, IsQuiet}
+use Rattle.mt_couples.specs.Watching.{AreWatched}
 use Rattle.mt_couples.proofs.QuietFacts.{quiet_at_first}
 use Rattle.mt_couples.proofs.JoinFacts.{joined_list, known_joins}
 use Rattle.mt_couples.specs.declared.rounds.CoupleEnd.TheVariants.{BudgetSpent}
@@ -15,9 +17,9 @@ use Rattle.mt_couples.proofs.rounds.enter_all.Goals as goal
 pub new-requires-clause-places : goal.new-requires-clause-places
 new-requires-clause-places g c = places_of_fitting c.args.roster.now.market c.args.singles.places c.couples-couples.ensures.registration.well_formed c.requires.fits
 
-pub settle-requires : goal.settle-requires
-settle-requires g c =
-    let so_far = c.loop-number.invariant in
+pub settle-requires-clause-running : goal.settle-requires-clause-running
+settle-requires-clause-running g c =
+    let so_far = c.loop-number.invariant.entering in
     let m = c.args.roster.now.market in
     let joins = known_joins c.loop-number.waiting c.join.new.self c.loop-number.number so_far.nobody_waits c.join.ensures in
     next_waits m c.couples-couples.ensures.registration.well_formed c.are_singles_quiet-quiet.result c.loop-number.number c.loop-number.assignment c.join.new.self so_far.market
@@ -29,7 +31,7 @@ err_is P r y h is = subst (λ x. IsErrAnd x P) is h
 
 pub returns-in_err-left-clause-spent : goal.returns-in_err-left-clause-spent
 returns-in_err-left-clause-spent g c = λ is.
-    let so_far = c.loop-number.invariant in
+    let so_far = c.loop-number.invariant.entering in
     let joins = known_joins c.loop-number.waiting c.join.new.self c.loop-number.number so_far.nobody_waits c.join.ensures in
     let waits = joins.1 in
     let same : BudgetSpent ≡ c.in_err-left.field-0.0 = err_is _ c.from_residual-in_err-left.result BudgetSpent c.from_residual-in_err-left.ensures.1 is in
@@ -39,22 +41,26 @@ returns-in_err-left-clause-spent g c = λ is.
 
 pub loop-number-preserved : goal.loop-number-preserved
 loop-number-preserved g c =
-    let so_far = c.loop-number.invariant in
+    let so_far = c.loop-number.invariant.entering in
     let m = c.args.roster.now.market in
     let joins = known_joins c.loop-number.waiting c.join.new.self c.loop-number.number so_far.nobody_waits c.join.ensures in
     let waits = joins.1 in
     let same : c.settle.new.assignment.market ≡ m = c.in_ok-left.ensures.market ∙ so_far.market in
-    entering_more m c.are_singles_quiet-quiet.result c.args.singles.places c.args.budget c.loop-number.number c.loop-number.assignment c.settle.new.assignment c.loop-number.waiting c.settle.new.waiting
-    c.loop-number.left c.in_ok-left.left so_far (omega (arith, c.couples-couples.ensures.count)) same
-    (subst (λ x. fits x c.settle.new.assignment.places ≡ true) same c.in_ok-left.ensures.running.fitting.fitting)
-    (subst (λ x. IsListOf x c.settle.new.waiting) same c.in_ok-left.ensures.running.waiting) c.in_ok-left.ensures.empty
-    (λ so. subst (λ x. IsQuiet c.loop-number.number (record { market = x; places = c.settle.new.assignment.places }) c.settle.new.waiting.agents) same (c.in_ok-left.ensures.running.is_quiet so))
-    (ap₂ (λ x w. settled x c.loop-number.number c.loop-number.left c.loop-number.assignment.places w) (sym so_far.market) (sym waits) ∙ c.in_ok-left.ensures.settled)
-    c.in_ok-left.ensures.within
+    record {
+      entering = entering_more m c.are_singles_quiet-quiet.result c.args.singles.places c.args.budget c.loop-number.number c.loop-number.assignment c.settle.new.assignment c.loop-number.waiting c.settle.new.waiting
+          c.loop-number.left c.in_ok-left.left so_far (omega (arith, c.couples-couples.ensures.count)) same
+          (subst (λ x. fits x c.settle.new.assignment.places ≡ true) same c.in_ok-left.ensures.running.fitting.fitting)
+          (subst (λ x. IsListOf x c.settle.new.waiting) same c.in_ok-left.ensures.running.waiting) c.in_ok-left.ensures.empty
+          (λ so. subst (λ x. IsQuiet c.loop-number.number (record { market = x; places = c.settle.new.assignment.places }) c.settle.new.waiting.agents) same (c.in_ok-left.ensures.running.is_quiet so))
+          (ap₂ (λ x w. settled x c.loop-number.number c.loop-number.left c.loop-number.assignment.places w) (sym so_far.market) (sym waits) ∙ c.in_ok-left.ensures.settled)
+          c.in_ok-left.ensures.within;
+      watched = c.in_ok-left.ensures.watch.watched;
+      named = c.in_ok-left.ensures.watch.named;
+    }
 
 pub returns-clause-entered : goal.returns-clause-entered
 returns-clause-entered g c =
-    entering_all c.args.roster.now.market c.are_singles_quiet-quiet.result c.args.singles.places c.args.budget c.loop-number.number c.loop-number.assignment c.loop-number.waiting c.loop-number.left c.loop-number.invariant
+    entering_all c.args.roster.now.market c.are_singles_quiet-quiet.result c.args.singles.places c.args.budget c.loop-number.number c.loop-number.assignment c.loop-number.waiting c.loop-number.left c.loop-number.invariant.entering
     (omega (arith, c.couples-couples.ensures.count))
     ∙ ap (λ places. Some (places, c.args.budget - c.loop-number.left)) (sym c.into_match.ensures)
 
@@ -68,12 +74,26 @@ loop-number-init g c =
     let m = c.args.roster.now.market in
     let places = c.args.singles.places in
     let is = c.in_ok-assignment.ensures in
-    entering_first m c.are_singles_quiet-quiet.result places c.args.budget c.in_ok-assignment.assignment c.in_ok-waiting.waiting is c.requires.fits
-    (c.in_ok-waiting.ensures ∙ ap₂ nobody c.applicants.ensures.count c.couples-couples.ensures.count)
-    (λ so. quiet_at_first m c.couples-couples.ensures.registration.well_formed places (sym (c.are_singles_quiet-quiet.ensures ∙ ap singles_quiet is) ∙ so))
+    record {
+      entering = entering_first m c.are_singles_quiet-quiet.result places c.args.budget c.in_ok-assignment.assignment c.in_ok-waiting.waiting is c.requires.fits
+          (c.in_ok-waiting.ensures ∙ ap₂ nobody c.applicants.ensures.count c.couples-couples.ensures.count)
+          (λ so. quiet_at_first m c.couples-couples.ensures.registration.well_formed places (sym (c.are_singles_quiet-quiet.ensures ∙ ap singles_quiet is) ∙ so));
+      watched = c.in_ok-watch.ensures.watched;
+      named = c.in_ok-watch.ensures.named;
+    }
 
 pub returns-then-couples-eq0-clause-stable : goal.returns-then-couples-eq0-clause-stable
 returns-then-couples-eq0-clause-stable g c = λ best.
     let places = c.args.singles.places in
     stage_is_stable_lem c.args.roster.now.market c.couples-couples.ensures.registration.well_formed places best c.args.budget (places, 0)
     (none_enters c.args.roster.now.market places c.args.budget (sym c.couples-couples.ensures.count ∙ c.if-couples-eq0.true))
+
+pub enter-requires-clause-couple : goal.enter-requires-clause-couple
+enter-requires-clause-couple g c =
+    omega (arith, c.couples-couples.ensures.count, ap (λ (x : Market). length x.couples) c.loop-number.invariant.entering.market)
+
+pub settle-requires-clause-watch : goal.settle-requires-clause-watch
+settle-requires-clause-watch g c = record {
+  watched = subst (AreWatched c.loop-number.assignment) (ap Vec.items (sym c.in_ok-enter.ensures.singles)) c.loop-number.invariant.watched;
+  named = c.in_ok-enter.ensures.named;
+}

@@ -2,6 +2,9 @@ use Rattle.mt_couples.proofs.RoundFacts.{settling_more}
 use Rattle.mt_couples.proofs.rounds.settle.Goals as goal
 
 pub loop-agent-preserved : goal.loop-agent-preserved
-loop-agent-preserved c =
-    settling_more c.args.last c.args.quiet c.args.budget c.args.assignment.now c.loop-agent.assignment c.round.new.assignment c.args.waiting.now c.loop-agent.waiting c.take.new.self c.round.new.waiting
-    c.loop-agent.left c.in-Some.agent c.loop-agent.invariant c.in-Some.ensures.taken c.if-left-eq0.false c.in_ok-round.ensures.market c.in_ok-round.ensures.room c.in_ok-round.ensures.work
+loop-agent-preserved c = record {
+  settling =
+      settling_more c.args.last c.args.quiet c.args.budget c.args.assignment.now c.loop-agent.assignment c.round.new.assignment c.args.waiting.now c.loop-agent.waiting c.take.new.self c.round.new.waiting
+      c.loop-agent.left c.in-Some.agent c.loop-agent.invariant.settling c.in-Some.ensures.taken c.if-left-eq0.false c.in_ok-round.ensures.market c.in_ok-round.ensures.room c.in_ok-round.ensures.work;
+  watch = c.in_ok-round.ensures.watch;
+}

@@ -12,50 +12,50 @@ use Rattle.mt_roster.proofs.MarketFacts.{length-singles, knows_ids, few_ids, unf
 use Rattle.mt_roster.proofs.market.market_by.Goals as goal
 
 pub withdrawn_by-requires-clause-long : goal.withdrawn_by-requires-clause-long
-withdrawn_by-requires-clause-long c = length-singles (all_seen c.args.records.items) _ c.requires.ids
+withdrawn_by-requires-clause-long g c = length-singles (all_seen c.args.records.items) _ c.requires.ids
 
 pub withdrawn_by-requires-clause-known : goal.withdrawn_by-requires-clause-known
-withdrawn_by-requires-clause-known c =
+withdrawn_by-requires-clause-known g c =
     λ kind id. knows_ids (all_seen c.args.records.items) _ c.requires.ids kind id ∙ ap (λ (xs : List Checked). has_id (ids_of kind (all_seen xs)) id) (sym c.deref.ensures.value)
 
 pub returns-in_default : goal.returns-in_default
-returns-in_default c =
+returns-in_default g c =
     not_standing c.args.limits.now (all_seen c.args.records.items) _ c.requires.ids c.requires.few
     (stand_missing _ _ _ c.deref.ensures.value c.in_ok-withdrawn.ensures c.in_default.is)
 
 pub numbers_of-requires-clause-programs : goal.numbers_of-requires-clause-programs
-numbers_of-requires-clause-programs c =
+numbers_of-requires-clause-programs g c =
     subst (λ (xs : List Checked). length (ids_of OfProgram (all_seen xs)) < 2 ^ 31) (sym c.deref-2.ensures.value) (few_ids c.args.limits.now (all_seen c.args.records.items) c.requires.limits c.requires.few).0
 
 pub numbers_of-requires-clause-applicants : goal.numbers_of-requires-clause-applicants
-numbers_of-requires-clause-applicants c =
+numbers_of-requires-clause-applicants g c =
     subst (λ (xs : List Checked). length (applicant_ids (all_seen xs)) < 2 ^ 31) (sym c.deref-2.ensures.value) (few_ids c.args.limits.now (all_seen c.args.records.items) c.requires.limits c.requires.few).1
 
 pub read_entries-requires-clause-programs : goal.read_entries-requires-clause-programs
-read_entries-requires-clause-programs c =
+read_entries-requires-clause-programs g c κs within =
     let stand = stand_found _ _ _ _ c.deref.ensures.value c.in_ok-withdrawn.ensures c.in-Some.is in
     let new = subst (λ (xs : List Checked). AreNewNumbers c.in-Some.withdrawn (all_seen xs) c.in_ok-numbers.numbers) c.deref-2.ensures.value c.in_ok-numbers.ensures in
     long_programs c.args.limits.now (all_seen c.args.records.items) _ c.requires.ids _ _ stand new
 
 pub read_entries-requires-clause-applicants : goal.read_entries-requires-clause-applicants
-read_entries-requires-clause-applicants c =
+read_entries-requires-clause-applicants g c κs within =
     let stand = stand_found _ _ _ _ c.deref.ensures.value c.in_ok-withdrawn.ensures c.in-Some.is in
     let new = subst (λ (xs : List Checked). AreNewNumbers c.in-Some.withdrawn (all_seen xs) c.in_ok-numbers.numbers) c.deref-2.ensures.value c.in_ok-numbers.ensures in
     long_applicants c.args.limits.now (all_seen c.args.records.items) _ c.requires.ids _ _ stand new
 
 pub returns-in_default-2 : goal.returns-in_default-2
-returns-in_default-2 c =
+returns-in_default-2 g c =
     unfit c.args.limits.now (all_seen c.args.records.items) _ c.requires.ids c.requires.few
     (entries_missing c.args.limits.now _ _ _ (all_seen c.args.records.items) _ c.in_ok-records.ensures c.in_default-2.is)
 
 pub members-requires-clause-numbers : goal.members-requires-clause-numbers
-members-requires-clause-numbers c =
+members-requires-clause-numbers g c =
     let stand = stand_found _ _ _ _ c.deref.ensures.value c.in_ok-withdrawn.ensures c.in-Some.is in
     let new = subst (λ (xs : List Checked). AreNewNumbers c.in-Some.withdrawn (all_seen xs) c.in_ok-numbers.numbers) c.deref-2.ensures.value c.in_ok-numbers.ensures in
     ap length c.deref-3.ensures.value ∙ long_applicants c.args.limits.now (all_seen c.args.records.items) _ c.requires.ids _ _ stand new
 
 pub members-requires-clause-all : goal.members-requires-clause-all
-members-requires-clause-all c =
+members-requires-clause-all g c =
     let rs = all_seen c.args.records.items in
     let stand = stand_found _ _ _ _ c.deref.ensures.value c.in_ok-withdrawn.ensures c.in-Some.is in
     let new = subst (λ (xs : List Checked). AreNewNumbers c.in-Some.withdrawn (all_seen xs) c.in_ok-numbers.numbers) c.deref-2.ensures.value c.in_ok-numbers.ensures in
@@ -64,7 +64,7 @@ members-requires-clause-all c =
     rw (c.deref-3.ensures.value, seen) (have_numbers c.args.limits.now rs _ c.requires.ids _ _ stand new)
 
 pub with_entries-requires-clause-market : goal.with_entries-requires-clause-market
-with_entries-requires-clause-market c =
+with_entries-requires-clause-market g c =
     let rs = all_seen c.args.records.items in
     let stand = stand_found _ _ _ _ c.deref.ensures.value c.in_ok-withdrawn.ensures c.in-Some.is in
     let new = subst (λ (xs : List Checked). AreNewNumbers c.in-Some.withdrawn (all_seen xs) c.in_ok-numbers.numbers) c.deref-2.ensures.value c.in_ok-numbers.ensures in
@@ -73,7 +73,7 @@ with_entries-requires-clause-market c =
     subst (λ (xs : List Record). IsRegistration (registered_by_all xs)) (sym seen) (c.requires.accepted (faultless c.args.limits.now rs _ c.requires.ids _ _ stand new found.0 c.requires.few))
 
 pub with_entries-requires-clause-entries : goal.with_entries-requires-clause-entries
-with_entries-requires-clause-entries c =
+with_entries-requires-clause-entries g c =
     let rs = all_seen c.args.records.items in
     let stand = stand_found _ _ _ _ c.deref.ensures.value c.in_ok-withdrawn.ensures c.in-Some.is in
     let new = subst (λ (xs : List Checked). AreNewNumbers c.in-Some.withdrawn (all_seen xs) c.in_ok-numbers.numbers) c.deref-2.ensures.value c.in_ok-numbers.ensures in
@@ -82,7 +82,7 @@ with_entries-requires-clause-entries c =
     subst (λ (xs : List Record). AreEntries xs c.in-Some-2.entries) (sym seen) (entries_are c.args.limits.now rs _ c.requires.ids _ _ stand new found.0 _ found.2)
 
 pub with_entries-requires-clause-members : goal.with_entries-requires-clause-members
-with_entries-requires-clause-members c =
+with_entries-requires-clause-members g c =
     let rs = all_seen c.args.records.items in
     let stand = stand_found _ _ _ _ c.deref.ensures.value c.in_ok-withdrawn.ensures c.in-Some.is in
     let new = subst (λ (xs : List Checked). AreNewNumbers c.in-Some.withdrawn (all_seen xs) c.in_ok-numbers.numbers) c.deref-2.ensures.value c.in_ok-numbers.ensures in
@@ -94,7 +94,7 @@ with_entries-requires-clause-members c =
     ∙ members_are c.args.limits.now rs _ c.requires.ids _ _ stand new)
 
 pub returns : goal.returns
-returns c =
+returns g c =
     let rs = all_seen c.args.records.items in
     let stand = stand_found _ _ _ _ c.deref.ensures.value c.in_ok-withdrawn.ensures c.in-Some.is in
     let new = subst (λ (xs : List Checked). AreNewNumbers c.in-Some.withdrawn (all_seen xs) c.in_ok-numbers.numbers) c.deref-2.ensures.value c.in_ok-numbers.ensures in

@@ -3,7 +3,7 @@ use Rattle.mt_roster.proofs.AcceptedFacts.{ids_found, ids_missing}
 use Rattle.mt_roster.proofs.market.market_of_drafts.Goals as goal
 
 pub market_by-requires-clause-ids : goal.market_by-requires-clause-ids
-market_by-requires-clause-ids c = ids_found (drafted c.args.drafts) _ c.requires.drafts.names _ _ c.in_ok-ids.ensures c.in-Some.is
+market_by-requires-clause-ids g c κs within = ids_found (drafted c.args.drafts) _ c.requires.drafts.names _ _ c.in_ok-ids.ensures c.in-Some.is
 
 pub returns-in-None : goal.returns-in-None
-returns-in-None c = ids_missing (drafted c.args.drafts) _ c.requires.drafts.names c.args.limits.now _ c.in_ok-ids.ensures c.in-None.is
+returns-in-None g c = ids_missing (drafted c.args.drafts) _ c.requires.drafts.names c.args.limits.now _ c.in_ok-ids.ensures c.in-None.is

@@ -6,14 +6,14 @@ use Rattle.mt_roster.proofs.MarketFacts.{both_read, first_fails, second_fails}
 use Rattle.mt_roster.proofs.market.read_entries.Goals as goal
 
 pub returns-then-is_none : goal.returns-then-is_none
-returns-then-is_none c =
+returns-then-is_none g c =
     let leave = λ (xs : List Checked). filter (λ r. not (stays_after c.args.withdrawn.now r)) (all_seen xs) in
     let leaving = ap all_seen c.deref-2.ensures.value ∙ c.in_ok-leaving.ensures ∙ ap leave c.deref.ensures.value in
     first_fails c.args.limits.now c.args.registered.now c.args.withdrawn.now c.args.numbers.now (all_seen c.args.records.items) _ _ _
     leaving c.in_ok-entries_of.ensures (c.is_none.ensures ∙ ap not c.if-is_none.true)
 
 pub returns-in_default : goal.returns-in_default
-returns-in_default c =
+returns-in_default g c =
     let leave = λ (xs : List Checked). filter (λ r. not (stays_after c.args.withdrawn.now r)) (all_seen xs) in
     let leaving = ap all_seen c.deref-2.ensures.value ∙ c.in_ok-leaving.ensures ∙ ap leave c.deref.ensures.value in
     let staying = ap all_seen c.deref-3.ensures.value ∙ c.staying-staying.ensures in
@@ -21,7 +21,7 @@ returns-in_default c =
     leaving staying c.in_ok-entries_of.ensures (c.is_none.ensures ∙ ap not c.if-is_none.false) c.in_ok-entries.ensures c.in_default.is
 
 pub returns : goal.returns
-returns c =
+returns g c =
     let leave = λ (xs : List Checked). filter (λ r. not (stays_after c.args.withdrawn.now r)) (all_seen xs) in
     let leaving = ap all_seen c.deref-2.ensures.value ∙ c.in_ok-leaving.ensures ∙ ap leave c.deref.ensures.value in
     let staying = ap all_seen c.deref-3.ensures.value ∙ c.staying-staying.ensures in

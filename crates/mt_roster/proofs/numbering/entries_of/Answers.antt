@@ -5,7 +5,7 @@ use Rattle.mt_roster.proofs.EntryFacts.{rankings_fail, lists_fail, pairs_fail, a
 use Rattle.mt_roster.proofs.numbering.entries_of.Goals as goal
 
 pub returns-in_default : goal.returns-in_default
-returns-in_default c =
+returns-in_default g c =
     let r = c.args.registered.now in
     let rs = all_seen c.args.records.now in
     let fails = subst (ReadsLists {X = ℕ} r.applicants c.deref.result.now c.args.room.now c.rankings.new.room (program_lists rs)) c.in_default.is c.in_ok-rankings.ensures in
@@ -13,7 +13,7 @@ returns-in_default c =
     c.deref.ensures.value refl refl fails
 
 pub returns-in_default-2 : goal.returns-in_default-2
-returns-in_default-2 c =
+returns-in_default-2 g c =
     let r = c.args.registered.now in
     let rs = all_seen c.args.records.now in
     let rankings = subst (ReadsLists {X = ℕ} r.applicants c.deref.result.now c.args.room.now c.rankings.new.room (program_lists rs)) c.in-Some.is c.in_ok-rankings.ensures in
@@ -22,7 +22,7 @@ returns-in_default-2 c =
     c.deref.ensures.value c.deref-2.ensures.value refl c.in-Some.rankings rankings fails
 
 pub returns-in_default-3 : goal.returns-in_default-3
-returns-in_default-3 c =
+returns-in_default-3 g c =
     let r = c.args.registered.now in
     let rs = all_seen c.args.records.now in
     let rankings = subst (ReadsLists {X = ℕ} r.applicants c.deref.result.now c.args.room.now c.rankings.new.room (program_lists rs)) c.in-Some.is c.in_ok-rankings.ensures in
@@ -32,7 +32,7 @@ returns-in_default-3 c =
     c.deref.ensures.value c.deref-2.ensures.value c.deref-3.ensures.value c.in-Some.rankings rankings c.in-Some-2.lists lists fails
 
 pub returns : goal.returns
-returns c =
+returns g c =
     let r = c.args.registered.now in
     let rs = all_seen c.args.records.now in
     let rankings = subst (ReadsLists {X = ℕ} r.applicants c.deref.result.now c.args.room.now c.rankings.new.room (program_lists rs)) c.in-Some.is c.in_ok-rankings.ensures in

@@ -1,0 +1,257 @@
+-- Who is found when programs that were left are looked at, and who is passed over.
+use Rattle.std.proofs.Common.{◌≡◌, ◌∙◌, ℕ, zero, suc, ◌+◌, ◌-◌, ◌<◌, ◌≤◌, Bool, true, false, not, ◌&&◌, ◌||◌, ◌==◌, nat_le, List, [], ◌∷◌, ◌++◌, map, filter, take, drop, length, get_or, Option, Some, None, is_some, refl, ap, sym, subst, inl, inr, ◌⊎◌, arith, Result, Ok, Err, OnOk}
+use Rattle.std.specs.List.{list_any, position}
+use Rattle.std.proofs.lemmas.List.{drop_more}
+use Rattle.std.proofs.lemmas.List.Quantifiers.{position-Some}
+use Rattle.std.proofs.lemmas.Bool.{cases_Bool, cases_lt, and_parts, and_from, or_cases, or_left, or_right, eq-eqb, eqb-true, both_ways, false≢true, false_from_ne_true, true_from_ne_false, not_from_false, not-true}
+use Rattle.std.proofs.lemmas.Bool.Decides.{nat_tests}
+use Rattle.std.proofs.Math.Bool.{or-false, and-true}
+use Rattle.mt_terms.specs.Lists.{has, until}
+use Rattle.mt_terms.specs.Market.{Market, Pair, applicants, agent_of, agents, couple_of, list_of, members, program_of}
+use Rattle.mt_terms.specs.Matching.{Places, Placement, place_of, is_program, is_same_place, at, better, holds, options, send, single_placement, couple_placement}
+use Rattle.mt_terms.specs.Rounds.{has_entered, is_on, is_same_agent, joined}
+use Rattle.mt_terms.specs.Stability.{is_chosen, would_be_taken}
+use Rattle.mt_terms.specs.WellFormed.{IsWellFormed}
+use Rattle.mt_terms.specs.declared.numbers.Agent.{Agent}
+use Rattle.mt_terms.specs.declared.numbers.Agent.TheVariants.{Single, Couple}
+use Rattle.mt_match_laws.proofs.ListLemmas.{until-map}
+use Rattle.mt_match_laws.proofs.ChoiceLemmas.{choice_facts}
+use Rattle.mt_ranks.proofs.Positions.{has-position}
+use Rattle.mt_ranks.specs.Ranked.{rank_of}
+use Rattle.mt_round_laws.proofs.RoundsLists.{In, found, finds, each, has_in, in_has, in_image, of_image, of_until, same_until}
+use Rattle.mt_round_laws.proofs.RoundsAgents.{member_of_agent, one_of_two}
+use Rattle.mt_couples.specs.Assigned.{Assigned, AreApplicantsOf}
+use Rattle.mt_couples.specs.Looking.{AddsCouples, AddsSingles, HaveReopened, IsWatching}
+use Rattle.mt_couples.specs.Moves.{agents_of, blockers, names_one_of, opens, some_has}
+use Rattle.mt_couples.specs.Running.{is_reopened, IsQuietBut}
+use Rattle.mt_couples.specs.Waiting.{Waiting, with_agents}
+use Rattle.mt_couples.specs.Watching.{names, row_at, wanted, AreNamed, AreWatched, Covers}
+use Rattle.mt_couples.specs.declared.watch.Watch.{Watch}
+use Rattle.mt_terms.specs.Lists.{is_distinct}
+use Rattle.mt_terms.proofs.ListFacts.{same_position}
+use Rattle.mt_couples.proofs.PlaceFacts.{has_at, has_read}
+use Rattle.mt_couples.proofs.WatchFacts.{has_end, has_parts, has_still, index_of}
+use Rattle.mt_couples.proofs.JoinFacts.{next_mapped}
+use Rattle.mt_couples.proofs.QuietFacts.{blocking, is_agent, looking_joins, looking_skips, IsLooking}
+
+-- one of a single program is that program
+of_one : (p : ℕ) (v : Option ℕ) → some_has (p ∷ []) v ≡ true → v ≡ Some p
+of_one p None h = absurd (false≢true h)
+of_one p (Some q) h = ap Some (sym (eqb-true p q (sym (or-false (p == q)) ∙ h)))
+
+-- whether a single has this place, in two forms
+same_place : (q : ℕ) (v : Option ℕ) → (is_same_place v (Some q) && true) ≡ is_program q v
+same_place q None = refl
+same_place q (Some p) = and-true (p == q)
+
+-- the rank of who is on a list
+rank_there : (xs : List ℕ) (a : ℕ) → has xs a ≡ true → (r : ℕ) × (position (λ x. x == a) xs ≡ Some r)
+rank_there xs a on = by (position (λ x. x == a) xs) refl (sym (has-position xs a) ∙ on)
+  where
+    by : (o : Option ℕ) → position (λ x. x == a) xs ≡ o → is_some o ≡ true → (r : ℕ) × (position (λ x. x == a) xs ≡ Some r)
+    by None is h = absurd (false≢true h)
+    by (Some r) is h = (r, is)
+
+-- A better option of an agent, at a program, that would be taken.
+record IsOpen (s : Assigned) (p : ℕ) (g : Agent) : Type 0 where
+  option : Placement
+  is_better : In option (better s.market s.places g)
+  at_program : names_one_of (p ∷ []) option ≡ true
+  taken : would_be_taken s.market s.places option ≡ true
+
+open_at : (s : Assigned) (p : ℕ) (g : Agent) → opens s (p ∷ []) g ≡ true → IsOpen s p g
+open_at s p g h =
+    let o = found (λ o. names_one_of (p ∷ []) o && would_be_taken s.market s.places o) (better s.market s.places g) h in
+    let parts = and_parts (names_one_of (p ∷ []) o.0) (would_be_taken s.market s.places o.0) o.2 in
+    record { option = o.0; is_better = o.1; at_program = parts.0; taken = parts.1 }
+
+-- a single's is a program that it wants more than what it has, and that lists it
+open_single : (s : Assigned) (p a : ℕ) → IsOpen s p (Single a) → (has (wanted s a) p ≡ true) × (has (program_of s.market p).ranking a ≡ true)
+open_single s p a o =
+    let m = s.market in
+    let is : better m s.places (Single a) ≡ map (single_placement a) (wanted s a) =
+    until-map (holds s.places) (single_placement a) (list_of m a)
+    ∙ ap (map (single_placement a)) (same_until (λ q. holds s.places (single_placement a q)) (λ q. at s.places q a) (list_of m a) (λ q i. same_place q (place_of s.places a))) in
+    let w = of_image (single_placement a) o.option (wanted s a) (subst (λ (xs : List Placement). In o.option xs) is o.is_better) in
+    let q = w.0 in
+    let here : some_has (p ∷ []) (Some q) ≡ true = sym (or-false (some_has (p ∷ []) (Some q))) ∙ subst (λ x. names_one_of (p ∷ []) x ≡ true) (sym w.2) o.at_program in
+    let same : p ≡ q = eqb-true p q (sym (or-false (p == q)) ∙ here) in
+    let taken : would_be_taken m s.places (single_placement a q) ≡ true = subst (λ x. would_be_taken m s.places x ≡ true) (sym w.2) o.taken in
+    let chosen = each (λ (x : ℕ × Option ℕ). is_chosen m (send (single_placement a q) s.places) x.0 x.1) (a, Some q) (single_placement a q) taken (inl refl) in
+    let listed = (choice_facts (program_of m q) (at (send (single_placement a q) s.places) q) a chosen).is_listed in
+    (subst (λ x. has (wanted s a) x ≡ true) (sym same) (in_has q (wanted s a) w.1), subst (λ x. has (program_of m x).ranking a ≡ true) (sym same) listed)
+
+-- a couple's is a pair that names the program
+open_couple : (s : Assigned) (p c : ℕ) → IsOpen s p (Couple c) → list_any (names p) (couple_of s.market c).pairs ≡ true
+open_couple s p c o =
+    let couple = couple_of s.market c in
+    let w = of_image (couple_placement couple.first couple.second) o.option couple.pairs (of_until (holds s.places) o.option (options s.market (Couple c)) o.is_better) in
+    let named : (some_has (p ∷ []) w.0.0 || (some_has (p ∷ []) w.0.1 || false)) ≡ true = subst (λ x. names_one_of (p ∷ []) x ≡ true) (sym w.2) o.at_program in
+    finds (names p) w.0 couple.pairs w.1 (elim (or_cases (some_has (p ∷ []) w.0.0) (some_has (p ∷ []) w.0.1 || false) named) [
+      | inl first ↦ or_left (is_program p w.0.0) (is_program p w.0.1) (ap (is_program p) (of_one p w.0.0 first) ∙ eq-eqb p p refl)
+      | inr second ↦ or_right (is_program p w.0.0) (is_program p w.0.1)
+          (ap (is_program p) (of_one p w.0.1 (sym (or-false (some_has (p ∷ []) w.0.1)) ∙ second)) ∙ eq-eqb p p refl)
+    ])
+
+below_next : (c k : ℕ) → nat_le c k ≡ true → c < k + 1
+below_next c k le = grind (arith, nat_tests, le)
+
+-- Whoever is reopened by an option at a program is found there.
+pub covers_one : (k : ℕ) (s : Assigned) (w : Watch) (p : ℕ) (ws : List Agent) (mid new : List ℕ) → IsWatching k s w → p < length s.market.programs
+    → AddsSingles k s p ws (row_at w.singles.items p) mid → ((a : ℕ) → has mid a ≡ true → has new a ≡ true) → AddsCouples k s p ws (row_at w.couples.items p) new → Covers k s (p ∷ []) ws new
+covers_one k s w p ws mid new watching known singles keeps couples a within reopened = by_agent (agent_of s.market a) refl
+  where
+    by_agent : (g : Agent) → agent_of s.market a ≡ g → has new a ≡ true
+    by_agent (Single b) is =
+        let now : is_reopened k s (p ∷ []) ws (Single b) ≡ true = subst (λ g. is_reopened k s (p ∷ []) ws g ≡ true) is reopened in
+        let here : b ≡ a = eqb-true b a (sym (or-false (b == a)) ∙ subst (λ g. has (members s.market g) a ≡ true) is (member_of_agent s.market a)) in
+        let parts = and_parts (has_entered k (Single b) && not (is_on ws (Single b))) (opens s (p ∷ []) (Single b)) now in
+        let o = open_single s p b (open_at s p (Single b) parts.1) in
+        let wants : has (wanted s a) p ≡ true = subst (λ x. has (wanted s x) p ≡ true) here o.0 in
+        let rank = rank_there (program_of s.market p).ranking a (subst (λ x. has (program_of s.market p).ranking x ≡ true) here o.1) in
+        keeps a (singles rank.0 a (watching.watched.each a within p rank.0 wants rank.1) rank.1 reopened)
+    by_agent (Couple c) is =
+        let now : is_reopened k s (p ∷ []) ws (Couple c) ≡ true = subst (λ g. is_reopened k s (p ∷ []) ws g ≡ true) is reopened in
+        let parts = and_parts (nat_le c k && not (is_on ws (Couple c))) (opens s (p ∷ []) (Couple c)) now in
+        let entered : nat_le c k ≡ true = (and_parts (nat_le c k) (not (is_on ws (Couple c))) parts.0).0 in
+        let low : c < k + 1 = below_next c k entered in
+        let pairs = open_couple s p c (open_at s p (Couple c) parts.1) in
+        couples c a (watching.named.each c p low known pairs) now is
+
+-- whoever is reopened by an option at some of these programs is so by one at one of them
+pub covers_all : (k : ℕ) (s : Assigned) (ps : List ℕ) (ws : List Agent) (xs : List ℕ) → ((p : ℕ) → has ps p ≡ true → Covers k s (p ∷ []) ws xs) → Covers k s ps ws xs
+covers_all k s ps ws xs at_each a within reopened =
+    let g = agent_of s.market a in
+    let parts = and_parts (has_entered k g && not (is_on ws g)) (opens s ps g) reopened in
+    let o = found (λ o. names_one_of ps o && would_be_taken s.market s.places o) (better s.market s.places g) parts.1 in
+    let named = and_parts (names_one_of ps o.0) (would_be_taken s.market s.places o.0) o.2 in
+    let seat = found (λ (x : ℕ × Option ℕ). some_has ps x.1) o.0 named.0 in
+    let p = some_program ps seat.0.1 seat.2 in
+    let at_p : names_one_of (p.0 ∷ []) o.0 ≡ true = finds (λ (x : ℕ × Option ℕ). some_has (p.0 ∷ []) x.1) seat.0 o.0 seat.1
+    (ap (some_has (p.0 ∷ [])) p.2 ∙ or_left (p.0 == p.0) false (eq-eqb p.0 p.0 refl)) in
+    at_each p.0 p.1 a within (and_from _ _ parts.0 (finds (λ o. names_one_of (p.0 ∷ []) o && would_be_taken s.market s.places o) o.0 (better s.market s.places g) o.1 (and_from _ _ at_p named.1)))
+  where
+    some_program : (ps : List ℕ) (v : Option ℕ) → some_has ps v ≡ true → (p : ℕ) × (has ps p ≡ true) × (v ≡ Some p)
+    some_program ps None h = absurd (false≢true h)
+    some_program ps (Some p) h = (p, h, refl)
+
+-- who is reopened while more wait was so before
+pub reopened_before : (k : ℕ) (s : Assigned) (ps : List ℕ) (old now : List Agent) (g : Agent) → ((h : Agent) → is_on old h ≡ true → is_on now h ≡ true)
+    → is_reopened k s ps now g ≡ true → is_reopened k s ps old g ≡ true
+reopened_before k s ps old now g grows reopened =
+    let parts = and_parts (has_entered k g && not (is_on now g)) (opens s ps g) reopened in
+    let out = and_parts (has_entered k g) (not (is_on now g)) parts.0 in
+    let off : is_on old g ≡ false = false_from_ne_true _ (λ on. both_ways (is_on now g) (not-true _ out.1) (grows g on)) in
+    and_from _ _ (and_from _ _ out.0 (not_from_false _ off)) parts.1
+
+-- the default of a place within doesn't matter
+pub any_default : (xs : List ℕ) (i d e : ℕ) → i < length xs → get_or xs i d ≡ get_or xs i e
+any_default [] i d e within = absurd (omega arith)
+any_default (x ∷ xs) zero d e within = refl
+any_default (x ∷ xs) (suc i) d e within = any_default xs i d e (omega arith)
+
+-- the applicant at a rank
+pub at_rank : (xs : List ℕ) (a r : ℕ) → position (λ x. x == a) xs ≡ Some r → (r < length xs) × (get_or xs r 0 ≡ a)
+at_rank xs a r found = let w = position-Some (λ x. x == a) xs r 0 found in (w.0, eqb-true (get_or xs r 0) a w.1)
+
+-- on a list without repeats, the rank of the applicant at a place is that place
+pub rank_at_place : (xs : List ℕ) (i a : ℕ) → is_distinct xs ≡ true → i < length xs → a ≡ get_or xs i a → position (λ x. x == a) xs ≡ Some i
+rank_at_place xs i a distinct within read =
+    let w = rank_there xs a (has_read xs i a within read) in
+    let there = at_rank xs a w.0 w.1 in
+    let same : w.0 ≡ i = same_position xs w.0 i distinct there.0 within (there.1 ∙ read ∙ any_default xs i a 0 within) in
+    w.1 ∙ ap Some same
+
+-- Below, a program's list is gone through from one place to another: who stands between them isn't reopened.
+module _ (k : ℕ) (s : Assigned) (ps : List ℕ) (wf : IsWellFormed s.market) (start : Waiting) (all : List Agent) where
+  abbrev pub Rest : List ℕ → Waiting → ℕ → Type 0
+  Rest xs now i = IsLooking k s ps start now (filter (blocking k s) (agents_of s (drop i xs))) all
+
+  pub passing : (xs : List ℕ) → ((a : ℕ) → has xs a ≡ true → a < applicants s.market) → (now : Waiting) (n i : ℕ) → i + n ≤ length xs
+      → ((x : ℕ) → i ≤ x → x < i + n → is_reopened k s ps now.agents (agent_of s.market (get_or xs x 0)) ≡ false) → Rest xs now i → Rest xs now (i + n)
+  passing xs known now zero i within none looking = let e : i ≡ i + 0 = omega arith in subst (Rest xs now) e looking
+  passing xs known now (suc n) i within none looking =
+      let a = get_or xs i 0 in
+      let a_in : a < applicants s.market = known a (has_at xs i 0 (omega arith)) in
+      let split : agents_of s (drop i xs) ≡ agent_of s.market a ∷ agents_of s (drop (i + 1) xs) = ap (agents_of s) (drop_more xs i 0 (omega arith)) in
+      let now_at : IsLooking k s ps start now (filter (blocking k s) (agent_of s.market a ∷ agents_of s (drop (i + 1) xs))) all =
+      subst (λ gs. IsLooking k s ps start now (filter (blocking k s) gs) all) split looking in
+      let next = looking_skips k s ps start now (agent_of s.market a) (agents_of s (drop (i + 1) xs)) all now_at (is_agent s.market wf a a_in) (none i (omega arith) (omega arith)) in
+      let e : i + 1 + n ≡ i + suc n = omega arith in
+      subst (Rest xs now) e (passing xs known now n (i + 1) (omega arith) (λ x low high. none x (omega arith) (omega arith)) next)
+
+  -- the one at a place is looked at, and joins or doesn't
+  pub passes_joined : (xs : List ℕ) → (now new : Waiting) (i a : ℕ) → i < length xs → a ≡ get_or xs i a → Rest xs now i → is_reopened k s ps now.agents (agent_of s.market a) ≡ true
+      → new ≡ with_agents now (joined now.agents (agent_of s.market a)) → Rest xs new (i + 1)
+  passes_joined xs now new i a within read looking reopened is =
+      let split : agents_of s (drop i xs) ≡ agent_of s.market a ∷ agents_of s (drop (i + 1) xs) = next_mapped (agent_of s.market) xs i a within read in
+      looking_joins k s ps start now new (agent_of s.market a) (agents_of s (drop (i + 1) xs)) all
+      (subst (λ gs. IsLooking k s ps start now (filter (blocking k s) gs) all) split looking) reopened is
+
+  pub passes_skipped : (xs : List ℕ) → (now : Waiting) (i a : ℕ) → i < length xs → a ≡ get_or xs i a → a < applicants s.market → Rest xs now i
+      → is_reopened k s ps now.agents (agent_of s.market a) ≡ false → Rest xs now (i + 1)
+  passes_skipped xs now i a within read known looking other =
+      let split : agents_of s (drop i xs) ≡ agent_of s.market a ∷ agents_of s (drop (i + 1) xs) = next_mapped (agent_of s.market) xs i a within read in
+      looking_skips k s ps start now (agent_of s.market a) (agents_of s (drop (i + 1) xs)) all
+      (subst (λ gs. IsLooking k s ps start now (filter (blocking k s) gs) all) split looking) (is_agent s.market wf a known) other
+
+  -- between the ranks that were passed and those to come nobody is reopened
+  pub none_between : (p : ℕ) (now : Waiting) (ranks : List ℕ) (i next bound x : ℕ) → HaveReopened k s p ps start.agents ranks
+      → ((g : Agent) → is_on start.agents g ≡ true → is_on now.agents g ≡ true) → ((j : ℕ) → j < i → get_or ranks j 0 < next)
+      → ((j : ℕ) → i ≤ j → j < length ranks → bound ≤ get_or ranks j 0) → next ≤ x → x < bound → x < length (program_of s.market p).ranking
+      → is_reopened k s ps now.agents (agent_of s.market (get_or (program_of s.market p).ranking x 0)) ≡ false
+  none_between p now ranks i next bound x have grows passed coming low high within =
+      let ranking = (program_of s.market p).ranking in
+      let a = get_or ranking x 0 in
+      false_from_ne_true _ (λ reopened.
+      let known = wf.rankings_within p a (has_at ranking x 0 within) in
+      let ranked = rank_at_place ranking x a (wf.rankings_distinct p) within (any_default ranking x 0 a within) in
+      let on = have.all a x known (reopened_before k s ps start.agents now.agents (agent_of s.market a) grows reopened) ranked in
+      let w = index_of x ranks (has_in x ranks on) in
+      let is : x ≡ get_or ranks w.0 0 = w.2 ∙ any_default ranks w.0 x 0 w.1 in
+      elim (cases_lt w.0 i) [
+        | inl before ↦ (let l = passed w.0 before in omega arith)
+        | inr after ↦ (let l = coming w.0 after w.1 in omega arith)
+      ])
+
+-- a value that holds once both of two do, in a result
+pub both_ok : {T X : Type 0} {A B C : Type 0} (r : Result T X) → OnOk r A → OnOk r B → (A → B → C) → OnOk r C
+both_ok (Ok x) a b f = f a b
+both_ok (Err e) a b f = tt
+
+-- Below, who stands at a rank of a program's list is found where it is reopened by an option there.
+module _ (k : ℕ) (s : Assigned) (p : ℕ) (ws : List Agent) where
+  abbrev pub IsFoundAt : List ℕ → ℕ → Type 0
+  IsFoundAt found r = (a : ℕ) → rank_of s.market p a ≡ Some r → is_reopened k s (p ∷ []) ws (agent_of s.market a) ≡ true → has found a ≡ true
+
+  same_there : (r x a : ℕ) → r < length (program_of s.market p).ranking → x ≡ get_or (program_of s.market p).ranking r x → rank_of s.market p a ≡ Some r → x ≡ a
+  same_there r x a within read ranked = read ∙ any_default (program_of s.market p).ranking r x 0 within ∙ (at_rank (program_of s.market p).ranking a r ranked).1
+
+  pub found_at : (found : List ℕ) (r x : ℕ) → r < length (program_of s.market p).ranking → x ≡ get_or (program_of s.market p).ranking r x → IsFoundAt (found ++ x ∷ []) r
+  found_at found r x within read a ranked reopened = subst (λ y. has (found ++ x ∷ []) y ≡ true) (same_there r x a within read ranked) (has_end found x)
+
+  pub passed_at : (found : List ℕ) (r x : ℕ) → r < length (program_of s.market p).ranking → x ≡ get_or (program_of s.market p).ranking r x
+      → is_reopened k s (p ∷ []) ws (agent_of s.market x) ≡ false → IsFoundAt found r
+  passed_at found r x within read other a ranked reopened =
+      absurd (both_ways (is_reopened k s (p ∷ []) ws (agent_of s.market a)) (subst (λ y. is_reopened k s (p ∷ []) ws (agent_of s.market y) ≡ false) (same_there r x a within read ranked) other) reopened)
+
+  pub nobody_at : (found : List ℕ) (r : ℕ) → length (program_of s.market p).ranking ≤ r → IsFoundAt found r
+  nobody_at found r past a ranked reopened = (let w = (at_rank (program_of s.market p).ranking a r ranked).0 in absurd (omega arith))
+
+  -- the members of a couple are found where it is reopened
+  abbrev pub AreFoundOf : List ℕ → ℕ → Type 0
+  AreFoundOf found c = (a : ℕ) → is_reopened k s (p ∷ []) ws (Couple c) ≡ true → agent_of s.market a ≡ Couple c → has found a ≡ true
+
+  pub found_both : (found : List ℕ) (c x y : ℕ) → x ≡ (couple_of s.market c).first → y ≡ (couple_of s.market c).second → AreFoundOf ((found ++ x ∷ []) ++ y ∷ []) c
+  found_both found c x y is_first is_second a reopened of_a =
+      elim (one_of_two (couple_of s.market c).first (couple_of s.market c).second a (subst (λ g. has (members s.market g) a ≡ true) of_a (member_of_agent s.market a))) [
+        | inl first ↦ has_still (found ++ x ∷ []) (y ∷ []) a (subst (λ z. has (found ++ x ∷ []) z ≡ true) (is_first ∙ first) (has_end found x))
+        | inr second ↦ subst (λ z. has ((found ++ x ∷ []) ++ y ∷ []) z ≡ true) (is_second ∙ second) (has_end (found ++ x ∷ []) y)
+      ]
+
+  pub found_neither : (found : List ℕ) (c : ℕ) → is_reopened k s (p ∷ []) ws (Couple c) ≡ false → AreFoundOf found c
+  found_neither found c other a reopened of_a = absurd (both_ways (is_reopened k s (p ∷ []) ws (Couple c)) other reopened)
+
+-- applicants of a market, and one more
+pub within_more : (m : Market) (xs : List ℕ) (x : ℕ) → AreApplicantsOf m xs → x < applicants m → AreApplicantsOf m (xs ++ x ∷ [])
+within_more m xs x all within a on = elim (has_parts xs x a on) [ inl earlier ↦ all a earlier | inr here ↦ subst (λ y. y < applicants m) here within ]

@@ -1,0 +1,18 @@
+use Rattle.std.proofs.Common.{◌≡◌, ◌∙◌, ap, subst, sym}
+use Rattle.mt_couples.specs.Looking.{AddsCouples, AddsSingles}
+use Rattle.mt_couples.specs.Watching.{row_at}
+use Rattle.mt_couples.proofs.LookFacts.{both_ok, covers_one}
+use Rattle.mt_couples.proofs.look.add_reopened.Goals as goal
+
+pub returns-clause-covers : goal.returns-clause-covers
+returns-clause-covers c =
+    let k = c.args.last in
+    let s = c.args.assignment.now in
+    let w = c.args.watch.now in
+    let p = c.args.program in
+    let ws = c.args.waiting.now.agents in
+    let mid = c.add_by_rank.new.found.items in
+    let new = c.add_members.new.found.items in
+    let singles : AddsSingles k s p ws (row_at w.singles.items p) mid = subst (λ rs. AddsSingles k s p ws rs mid) c.singles.ensures c.in_ok-add_by_rank.ensures.adds in
+    both_ok c.add_members.result c.add_members.ensures.keeps c.add_members.ensures.adds
+    (λ keeps adds. covers_one k s w p ws mid new c.requires.watch c.requires.program singles keeps (subst (λ cs. AddsCouples k s p ws cs new) c.couples.ensures adds))

@@ -1,0 +1,15 @@
+use Rattle.std.proofs.Common.{◌≡◌, ◌<◌, ◌≤◌, ℕ, true, drop, filter, length, get_or}
+use Rattle.mt_terms.specs.Rounds.{is_on}
+use Rattle.mt_couples.specs.Moves.{agents_of, blockers}
+use Rattle.mt_couples.proofs.QuietFacts.{blocking, IsLooking}
+use Rattle.mt_terms.specs.declared.numbers.Agent.{Agent}
+use Rattle.mt_couples.proofs.look.join_reopened.Given as goal
+
+abbrev pub invariant-loop-rank : goal.invariant-loop-rank
+invariant-loop-rank l = record {
+  looking : IsLooking l.last l.assignment l.left l.initial.waiting l.waiting (filter (blocking l.last l.assignment) (agents_of l.assignment (drop l.next l.ranking)))
+      (blockers l.assignment l.last l.fn.program);
+  grows : (g : Agent) → is_on l.initial.waiting.agents g ≡ true → is_on l.waiting.agents g ≡ true;
+  passed : (i : ℕ) → i < l.rank-index → get_or l.ranks i 0 < l.next;
+  next_in : l.next ≤ length l.ranking;
+}

@@ -1,0 +1,16 @@
+use Rattle.std.proofs.Common.{◌≡◌, ◌∷◌, [], true}
+use Rattle.mt_couples.specs.Watching.{Covers}
+use Rattle.mt_couples.proofs.PlaceFacts.{has_read}
+use Rattle.mt_couples.proofs.WatchFacts.{each_all}
+use Rattle.mt_couples.proofs.LookFacts.{covers_all}
+use Rattle.mt_couples.proofs.look.reopened.Goals as goal
+
+pub add_reopened-requires-clause-program : goal.add_reopened-requires-clause-program
+add_reopened-requires-clause-program c =
+    c.requires.programs c.program-item.result (has_read c.args.left.now c.loop-program.program-index c.program-item.result c.loop-program-test.true c.program-item.is)
+
+pub returns-clause-covers : goal.returns-clause-covers
+returns-clause-covers c =
+    let found = c.loop-program.found.items in
+    covers_all c.args.last c.args.assignment.now c.args.left.now c.args.waiting.now.agents found
+    (each_all (λ p. Covers c.args.last c.args.assignment.now (p ∷ []) c.args.waiting.now.agents found) c.args.left.now c.loop-program.program-index c.loop-program-test.false c.loop-program.invariant.covers)

@@ -1,0 +1,9 @@
+use Rattle.std.proofs.Common.{◌≡◌, map, take}
+use Rattle.mt_couples.specs.Watching.{FollowsAll}
+use Rattle.mt_couples.proofs.rounds.follow_displaced.Given as goal
+
+abbrev pub invariant-loop-applicant : goal.invariant-loop-applicant
+invariant-loop-applicant l = record {
+  couples : l.watch.couples ≡ l.initial.watch.couples;
+  singles : FollowsAll l.assignment l.initial.watch.singles.items l.watch.singles.items (take l.applicant-index l.displaced);
+}

@@ -1,0 +1,40 @@
+-- What is found, and where, when programs that were left are looked at.
+use Rattle.std.specs.Prelude.{◌≡◌, ℕ, ◌+◌, ◌<◌, true, List, [], ◌∷◌, length, Some}
+use Rattle.mt_terms.specs.Lists.{has}
+use Rattle.mt_terms.specs.Market.{Market, applicants, agent_of, program_of}
+use Rattle.mt_terms.specs.declared.numbers.Agent.{Agent}
+use Rattle.mt_terms.specs.declared.numbers.Agent.TheVariants.{Couple}
+use Rattle.mt_ranks.specs.Ranked.{rank_of}
+use Rattle.mt_couples.specs.Assigned.{Assigned}
+use Rattle.mt_couples.specs.Running.{is_reopened}
+use Rattle.mt_couples.specs.Watching.{AreNamed, AreWatched}
+use Rattle.mt_couples.specs.declared.watch.Watch.{Watch}
+
+-- once a couple has entered, the singles are watched, and the pairs of the couples up to it are noted
+pub record IsWatching (k : ℕ) (s : Assigned) (w : Watch) : Type 0 where
+  pub watched : AreWatched s w.singles.items
+  pub named : AreNamed s.market (k + 1) w.couples.items
+
+-- nobody is lost from a list
+abbrev pub Keeps : List ℕ → List ℕ → Type 0
+Keeps old new = (a : ℕ) → has old a ≡ true → has new a ≡ true
+
+-- who has one of these ranks on a program's list, and whose agent is reopened by an option there, is found
+abbrev pub AddsSingles : ℕ → Assigned → ℕ → List Agent → List ℕ → List ℕ → Type 0
+AddsSingles k s p waiting ranks found =
+    (r a : ℕ) → has ranks r ≡ true → rank_of s.market p a ≡ Some r → is_reopened k s (p ∷ []) waiting (agent_of s.market a) ≡ true → has found a ≡ true
+
+-- the members of a couple, out of these, are found that is reopened by an option at the program
+abbrev pub AddsCouples : ℕ → Assigned → ℕ → List Agent → List ℕ → List ℕ → Type 0
+AddsCouples k s p waiting couples found =
+    (c a : ℕ) → has couples c ≡ true → is_reopened k s (p ∷ []) waiting (Couple c) ≡ true → agent_of s.market a ≡ Couple c → has found a ≡ true
+
+-- these are the ranks of some applicants on a program's list
+pub record AreRanksOf (m : Market) (p : ℕ) (xs ranks : List ℕ) : Type 0 where
+  pub within : (r : ℕ) → has ranks r ≡ true → r < length (program_of m p).ranking
+  pub all : (a r : ℕ) → has xs a ≡ true → rank_of m p a ≡ Some r → has ranks r ≡ true
+
+-- whoever is reopened and on a program's list stands there at one of these ranks, which are ranks of the list
+pub record HaveReopened (k : ℕ) (s : Assigned) (p : ℕ) (ps : List ℕ) (waiting : List Agent) (ranks : List ℕ) : Type 0 where
+  pub within : (r : ℕ) → has ranks r ≡ true → r < length (program_of s.market p).ranking
+  pub all : (a r : ℕ) → a < applicants s.market → is_reopened k s ps waiting (agent_of s.market a) ≡ true → rank_of s.market p a ≡ Some r → has ranks r ≡ true

@@ -1,0 +1,245 @@
+ghost use Rattle.std.specs.Prelude.{◌≡◌, ◌≤◌, ◌<◌, ℕ, length, slice_index, true, false, [], ◌∷◌, IfOk, OnOk};
+ghost use Rattle.std.specs.List.Sorted.{IsNonDecreasing};
+ghost use Rattle.mt_terms.specs.Lists.{has};
+ghost use Rattle.mt_terms.specs.Market.{applicants};
+ghost use Rattle.mt_terms.specs.Rounds.{has_entered};
+ghost use Rattle.mt_terms.specs.WellFormed.{IsWellFormed};
+ghost use Rattle.mt_ranks.specs.Ranked.{rank_of};
+ghost use Rattle.mt_couples.specs.Assigned.{AreApplicantsOf, AreProgramsOf, IsAgentOf};
+ghost use Rattle.mt_couples.specs.Looking.{AddsCouples, AddsSingles, AreRanksOf, HaveReopened, IsWatching, Keeps};
+ghost use Rattle.mt_couples.specs.Moves.{blockers, reopened};
+ghost use Rattle.mt_couples.specs.Running.{is_reopened, IsQuietBut};
+ghost use Rattle.mt_couples.specs.Waiting.{IsListOf, Joins};
+ghost use Rattle.mt_couples.specs.Watching.{AreCouplesOf, Covers};
+
+use crate::assignment::Assignment;
+use crate::watch::Watch;
+use crate::work_list::WorkList;
+use mt_terms::{Agent, AppNo, CoupleNo, ProgNo};
+use std::alloc::{AllocError, Global};
+
+/// Whether the agent has entered, once this couple has.
+pub(crate) fn has_entered(agent: &Agent, last: CoupleNo) -> bool
+    ensures { result ≡ has_entered last agent.now }
+{
+    match agent {
+        Agent::Single(_) => true,
+        Agent::Couple(couple) => couple.0 <= last.0,
+    }
+}
+
+/// Whether the agent has entered, doesn't wait, and has a better option at one of these programs that would be
+/// taken.
+fn is_reopened(
+    assignment: &Assignment<'_>,
+    agent: &Agent,
+    left: &[ProgNo],
+    last: CoupleNo,
+    waiting: &WorkList,
+) -> bool
+    requires agent { IsAgentOf assignment.now.market agent.now }
+    requires waiting { IsListOf assignment.now.market waiting.now }
+    ensures { result ≡ is_reopened last assignment.now left.now waiting.now.agents agent.now }
+{
+    has_entered(agent, last) && !waiting.waits(agent) && assignment.opens(agent, left)
+}
+
+/// Adds those applicants, of these ranks on a program's list, whose agents are reopened by an option there.
+fn add_by_rank(
+    assignment: &Assignment<'_>,
+    program: ProgNo,
+    ranks: &[u32],
+    last: CoupleNo,
+    waiting: &WorkList,
+    found: &mut Vec<AppNo>,
+) -> Result<(), AllocError>
+    requires program { program < length assignment.now.market.programs }
+    requires waiting { IsListOf assignment.now.market waiting.now }
+    requires found { AreApplicantsOf assignment.now.market found.old.items }
+    ensures found { OnOk result (AreApplicantsOf assignment.now.market found.new.items) }
+    ensures keeps { OnOk result (Keeps found.old.items found.new.items) }
+    ensures adds { OnOk result (AddsSingles last assignment.now program waiting.now.agents ranks.now found.new.items) }
+{
+    let ranking = assignment.ranking(program);
+    for rank in ranks {
+        let place = *rank as usize;
+        if place < ranking.len() {
+            let applicant = ranking[place];
+            let agent = assignment.agent_of(applicant);
+            if is_reopened(assignment, &agent, &[program], last, waiting) {
+                found.push(applicant)?;
+            }
+        }
+    }
+    Ok(())
+}
+
+/// Adds the members of those couples, out of these, that are reopened by an option at the program.
+fn add_members(
+    assignment: &Assignment<'_>,
+    program: ProgNo,
+    couples: &[CoupleNo],
+    last: CoupleNo,
+    waiting: &WorkList,
+    found: &mut Vec<AppNo>,
+) -> Result<(), AllocError>
+    requires couples { AreCouplesOf assignment.now.market couples.now }
+    requires waiting { IsListOf assignment.now.market waiting.now }
+    requires found { AreApplicantsOf assignment.now.market found.old.items }
+    ensures found { OnOk result (AreApplicantsOf assignment.now.market found.new.items) }
+    ensures keeps { OnOk result (Keeps found.old.items found.new.items) }
+    ensures adds { OnOk result (AddsCouples last assignment.now program waiting.now.agents couples.now found.new.items) }
+{
+    for couple in couples {
+        if is_reopened(
+            assignment,
+            &Agent::Couple(*couple),
+            &[program],
+            last,
+            waiting,
+        ) {
+            let (first, second) = assignment.members(*couple);
+            found.push(first)?;
+            found.push(second)?;
+        }
+    }
+    Ok(())
+}
+
+/// Adds all applicants whose agents are reopened by an option at the program.
+fn add_reopened(
+    assignment: &Assignment<'_>,
+    watch: &Watch,
+    program: ProgNo,
+    last: CoupleNo,
+    waiting: &WorkList,
+    found: &mut Vec<AppNo>,
+) -> Result<(), AllocError>
+    requires market { IsWellFormed assignment.now.market }
+    requires program { program < length assignment.now.market.programs }
+    requires watch { IsWatching last assignment.now watch.now }
+    requires waiting { IsListOf assignment.now.market waiting.now }
+    requires found { AreApplicantsOf assignment.now.market found.old.items }
+    ensures found { OnOk result (AreApplicantsOf assignment.now.market found.new.items) }
+    ensures keeps { OnOk result (Keeps found.old.items found.new.items) }
+    ensures covers { OnOk result (Covers last assignment.now (program ∷ []) waiting.now.agents found.new.items) }
+{
+    add_by_rank(
+        assignment,
+        program,
+        watch.singles(program),
+        last,
+        waiting,
+        found,
+    )?;
+    add_members(
+        assignment,
+        program,
+        watch.couples(program),
+        last,
+        waiting,
+        found,
+    )
+}
+
+/// All applicants whose agents are reopened by an option at a program that was left.
+fn reopened(
+    alloc: Global,
+    assignment: &Assignment<'_>,
+    watch: &Watch,
+    left: &[ProgNo],
+    last: CoupleNo,
+    waiting: &WorkList,
+) -> Result<Vec<AppNo>, AllocError>
+    requires market { IsWellFormed assignment.now.market }
+    requires programs { AreProgramsOf assignment.now.market left.now }
+    requires watch { IsWatching last assignment.now watch.now }
+    requires waiting { IsListOf assignment.now.market waiting.now }
+    ensures found { IfOk result (λ v. AreApplicantsOf assignment.now.market v.items) }
+    ensures covers { IfOk result (λ v. Covers last assignment.now left.now waiting.now.agents v.items) }
+{
+    let mut found = Vec::new(alloc);
+    for program in left {
+        add_reopened(assignment, watch, *program, last, waiting, &mut found)?;
+    }
+    Ok(found)
+}
+
+/// The ranks of these applicants on a program's list, in rising order.
+fn ranks_of(
+    alloc: Global,
+    assignment: &Assignment<'_>,
+    program: ProgNo,
+    applicants: &[AppNo],
+) -> Result<Vec<u32>, AllocError>
+    requires program { program < length assignment.now.market.programs }
+    requires applicants { AreApplicantsOf assignment.now.market applicants.now }
+    ensures ranks { IfOk result (λ v. AreRanksOf assignment.now.market program applicants.now v.items) }
+    ensures sorted { IfOk result (λ v. IsNonDecreasing v.items) }
+{
+    let mut ranks = Vec::new(alloc);
+    for applicant in applicants {
+        if let Some(rank) = assignment.rank(program, *applicant) {
+            ranks.push(rank)?;
+        }
+    }
+    ranks.sort_unstable();
+    Ok(ranks)
+}
+
+/// Puts those agents of a program's list on the work list that have entered and block now. At these ranks, in
+/// rising order, stand all that can have been reopened.
+fn join_reopened(
+    assignment: &Assignment<'_>,
+    program: ProgNo,
+    ranks: &[u32],
+    left: &[ProgNo],
+    last: CoupleNo,
+    waiting: &mut WorkList,
+)
+    requires market { IsWellFormed assignment.now.market }
+    requires program { program < length assignment.now.market.programs }
+    requires sorted { IsNonDecreasing ranks.now }
+    requires ranks { HaveReopened last assignment.now program left.now waiting.old.agents ranks.now }
+    requires waiting { IsListOf assignment.now.market waiting.old }
+    requires quiet { IsQuietBut last assignment.now left.now waiting.old.agents }
+    ensures { Joins waiting.old waiting.new (blockers assignment.now last program) }
+{
+    let ranking = assignment.ranking(program);
+    let mut next = 0;
+    for rank in ranks {
+        let place = *rank as usize;
+        if next <= place {
+            next = place + 1;
+            let agent = assignment.agent_of(ranking[place]);
+            if is_reopened(assignment, &agent, left, last, waiting) {
+                waiting.join(agent);
+            }
+        }
+    }
+}
+
+/// Puts those agents of the lists of the programs that were left on the work list that have entered and block
+/// now, where whoever has entered and doesn't wait blocks by an option at such a program alone.
+pub(crate) fn look_at_opened(
+    alloc: Global,
+    assignment: &Assignment<'_>,
+    watch: &Watch,
+    left: &[ProgNo],
+    last: CoupleNo,
+    waiting: &mut WorkList,
+) -> Result<(), AllocError>
+    requires market { IsWellFormed assignment.now.market }
+    requires programs { AreProgramsOf assignment.now.market left.now }
+    requires watch { IsWatching last assignment.now watch.now }
+    requires waiting { IsListOf assignment.now.market waiting.old }
+    requires quiet { IsQuietBut last assignment.now left.now waiting.old.agents }
+    ensures { OnOk result (Joins waiting.old waiting.new (reopened assignment.now last left.now)) }
+{
+    let found = reopened(alloc, assignment, watch, left, last, waiting)?;
+    for program in left {
+        let ranks = ranks_of(alloc, assignment, *program, &found)?;
+        join_reopened(assignment, *program, &ranks, left, last, waiting);
+    }
+    Ok(())
+}

@@ -1,0 +1,142 @@
+ghost use Rattle.std.specs.Prelude.{◌≡◌, ◌+◌, ◌<◌, ℕ, length, IfOk, OnOk};
+ghost use Rattle.mt_terms.specs.Market.{applicants};
+ghost use Rattle.mt_couples.specs.Assigned.{AreApplicantsOf};
+ghost use Rattle.mt_couples.specs.Watching.{row_at, AreEmpty, AreNamed, AreWatched, Follows, Notes, Watches};
+
+use crate::assignment::Assignment;
+use crate::couple_list::CoupleList;
+use crate::rank_set::RankSet;
+use mt_ranks::Live;
+use mt_terms::{AppNo, CoupleNo, ProgNo};
+use std::alloc::{AllocError, Global};
+
+/// Where to look for an option that is opened once somebody leaves a program: for each program the ranks of the
+/// singles that may want it more than what they have, and the couples that have entered and name it in a pair.
+#[derive(Drop)]
+pub(crate) struct Watch {
+    singles: Vec<RankSet>,
+    couples: Vec<CoupleList>,
+}
+
+/// No ranks for each program.
+fn no_ranks(alloc: Global, assignment: &Assignment<'_>) -> Result<Vec<RankSet>, AllocError>
+    ensures { IfOk result (λ v. length v.items ≡ length assignment.now.market.programs) }
+{
+    let mut rows = Vec::new(alloc);
+    for number in 0..assignment.roster().programs() {
+        let ranking = assignment.ranking(ProgNo(number));
+        rows.push(RankSet::new(alloc, ranking.len())?)?;
+    }
+    Ok(rows)
+}
+
+/// No couples for each program.
+fn no_couples(alloc: Global, assignment: &Assignment<'_>) -> Result<Vec<CoupleList>, AllocError>
+    ensures { IfOk result (λ v. AreEmpty assignment.now.market v.items) }
+{
+    let mut rows = Vec::new(alloc);
+    for _ in 0..assignment.roster().programs() {
+        rows.push(CoupleList::new(alloc))?;
+    }
+    Ok(rows)
+}
+
+/// Watches the rank of each of these entries at its program.
+fn watch_each(rows: &mut Vec<RankSet>, entries: &[Live]) -> Result<(), AllocError>
+    ensures { OnOk result (Watches rows.old.items rows.new.items entries.now) }
+{
+    for entry in entries {
+        let program = entry.program.index();
+        if program < rows.len() {
+            let row = &mut rows[program];
+            row.insert(entry.rank)?;
+        }
+    }
+    Ok(())
+}
+
+/// Notes that a couple names the program of a place, if there is one.
+fn note(
+    rows: &mut Vec<CoupleList>,
+    place: Option<ProgNo>,
+    couple: CoupleNo,
+) -> Result<(), AllocError>
+    ensures { OnOk result (Notes rows.old.items rows.new.items place couple) }
+{
+    if let Some(program) = place {
+        let program = program.index();
+        if program < rows.len() {
+            let row = &mut rows[program];
+            row.add(couple)?;
+        }
+    }
+    Ok(())
+}
+
+impl Watch {
+    /// Each single is watched at the programs that it wants more than what it has. No couple has entered.
+    pub(crate) fn new(alloc: Global, assignment: &Assignment<'_>) -> Result<Self, AllocError>
+        ensures watched { IfOk result (λ w. AreWatched assignment.now w.singles.items) }
+        ensures named { IfOk result (λ w. AreNamed assignment.now.market 0 w.couples.items) }
+    {
+        let mut singles = no_ranks(alloc, assignment)?;
+        for number in 0..assignment.roster().applicants() {
+            watch_each(&mut singles, assignment.better_live(AppNo(number)))?;
+        }
+        Ok(Watch {
+            singles,
+            couples: no_couples(alloc, assignment)?,
+        })
+    }
+
+    /// The ranks that are watched at a program.
+    pub(crate) fn singles(&self, program: ProgNo) -> &[u32]
+        ensures { result.now ≡ row_at self.now.singles.items program }
+    {
+        match self.singles.get(program.index()) {
+            Some(row) => row.as_slice(),
+            None => &[],
+        }
+    }
+
+    /// The couples that name a program.
+    pub(crate) fn couples(&self, program: ProgNo) -> &[CoupleNo]
+        ensures { result.now ≡ row_at self.now.couples.items program }
+    {
+        match self.couples.get(program.index()) {
+            Some(row) => row.as_slice(),
+            None => &[],
+        }
+    }
+
+    /// Watches an applicant that has another place now.
+    pub(crate) fn follow(
+        &mut self,
+        assignment: &Assignment<'_>,
+        applicant: AppNo,
+    ) -> Result<(), AllocError>
+        requires { applicant < applicants assignment.now.market }
+        ensures couples { OnOk result (self.new.couples ≡ self.old.couples) }
+        ensures singles { OnOk result (Follows assignment.now self.old.singles.items self.new.singles.items applicant) }
+    {
+        watch_each(&mut self.singles, assignment.better_live(applicant))
+    }
+
+    /// Notes which programs the pairs of a couple name that enters.
+    pub(crate) fn enter(
+        &mut self,
+        assignment: &Assignment<'_>,
+        couple: CoupleNo,
+    ) -> Result<(), AllocError>
+        requires couple { couple < length assignment.now.market.couples }
+        requires named { AreNamed assignment.now.market couple self.old.couples.items }
+        ensures singles { OnOk result (self.new.singles ≡ self.old.singles) }
+        ensures named { OnOk result (AreNamed assignment.now.market (couple + 1) self.new.couples.items) }
+    {
+        for pair in assignment.pairs(couple) {
+            note(&mut self.couples, pair.0, couple)?;
+            note(&mut self.couples, pair.1, couple)?;
+        }
+        Ok(())
+    }
+}

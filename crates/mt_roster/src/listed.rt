@@ -1,0 +1,44 @@
+//! The lists of records, one after another.
+ghost use Rattle.std.specs.Prelude.{◌≡◌, IfOk};
+ghost use Rattle.mt_roster.specs.Numbered.{all_seen, lists_seen, program_lists, applicant_lists};
+
+use crate::record::Record;
+use mt_lists::Fields;
+use std::alloc::{AllocError, Global};
+
+/// The lists of programs.
+pub(crate) fn program_lists<'a>(
+    alloc: Global,
+    records: &[Record<'a>],
+) -> Result<Vec<Option<Fields<'a>>>, AllocError>
+    ensures { IfOk result (λ lists. lists_seen lists.items ≡ program_lists (all_seen records.now)) }
+{
+    let mut lists = Vec::new(alloc);
+    for one in records {
+        if let Record::Program { list, .. } = one {
+            lists.push(Some(*list))?;
+        }
+    }
+    Ok(lists)
+}
+
+/// The lists of applicants: a couple's two members have none.
+pub(crate) fn applicant_lists<'a>(
+    alloc: Global,
+    records: &[Record<'a>],
+) -> Result<Vec<Option<Fields<'a>>>, AllocError>
+    ensures { IfOk result (λ lists. lists_seen lists.items ≡ applicant_lists (all_seen records.now)) }
+{
+    let mut lists = Vec::new(alloc);
+    for one in records {
+        match one {
+            Record::Applicant { list, .. } => lists.push(Some(*list))?,
+            Record::Couple { .. } => {
+                lists.push(None)?;
+                lists.push(None)?;
+            }
+            Record::Program { .. } | Record::Withdraw { .. } => {}
+        }
+    }
+    Ok(lists)
+}
