@@ -1,11 +1,9 @@
 -- What an answer says.
 use Rattle.std.proofs.Common.{◌≡◌, ℕ, ◌<◌, ◌≤◌, Bool, true, false, List, [], length, Option, None, Some, Result, Ok, Err, refl, sym, ap, ◌∙◌, subst, arith, nat_lt, if◌then◌else◌}
-use Rattle.std.specs.Prelude.{IsTrue}
 use Rattle.std.proofs.lemmas.Bool.Decides.{nat_tests}
 use Rattle.mt_lists.specs.Records.{records_of}
 use Rattle.mt_terms.specs.Market.{Registered}
 use Rattle.mt_terms.specs.Registration.{market_of}
-use Rattle.mt_terms.specs.Registration.Accepted.{IsRegistration}
 use Rattle.mt_terms.specs.Registration.Faults.{Fault, charge_alone, fault_at}
 use Rattle.mt_terms.specs.Registration.Ids.{Bytes}
 use Rattle.mt_file_laws.proofs.PassFacts.{accepted_is_registration_lem}
@@ -19,7 +17,7 @@ use Rattle.mt_check.specs.declared.finding.Finding.{Finding}
 use Rattle.mt_terms.specs.declared.refusal.Refusal.{Refusal}
 use Rattle.mt_check.specs.Headline.{IsJudged, IsNamedRefusal, IsRefusal, by_records, market_in, most_bytes, of_bytes, told_in}
 use Rattle.mt_check.specs.Laws.{AnswersAreSo}
-use Rattle.mt_check.specs.Text.{finding_line, is_code_of, refused_line}
+use Rattle.mt_check.specs.Text.{is_code_of, refused_line}
 use Rattle.mt_check.specs.declared.source.Source.{Source}
 use Rattle.mt_check.specs.declared.source.Source.TheVariants.{Market, Match}
 use Rattle.mt_check.proofs.FaultFacts.{bytes_named, market_named, match_named}

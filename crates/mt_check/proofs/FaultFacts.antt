@@ -1,6 +1,6 @@
 -- The refusals of a file.
-use Rattle.std.proofs.Common.{◌≡◌, ℕ, suc, ◌<◌, ◌≤◌, Bool, true, false, not, ◌&&◌, ◌||◌, List, [], length, Option, None, Some, Result, Ok, Err, refl, sym, ap, ◌∙◌, subst, arith, nat_lt, nat_le, if◌then◌else◌}
-use Rattle.std.specs.Prelude.{◌≢◌, ◌==◌, IsTrue, IfOk, IfErr, IfSome, replicate}
+use Rattle.std.proofs.Common.{◌≡◌, ℕ, suc, ◌<◌, ◌≤◌, Bool, true, false, ◌&&◌, ◌||◌, List, [], length, Option, None, Some, Result, Ok, Err, refl, sym, ap, ◌∙◌, subst, arith, nat_lt, nat_le, if◌then◌else◌}
+use Rattle.std.specs.Prelude.{◌==◌, IfOk, IfErr, IfSome, replicate}
 use Rattle.std.proofs.lemmas.Bool.{and_parts, lt-ltb, true≢false}
 use Rattle.std.proofs.lemmas.Bool.Decides.{nat_tests}
 use Rattle.std.proofs.lemmas.List.{length-replicate}
@@ -10,15 +10,14 @@ use Rattle.mt_terms.specs.Market.{Registered}
 use Rattle.mt_terms.specs.Registration.{market_of}
 use Rattle.mt_terms.specs.Registration.Faults.{Fault, charge_alone, fault_at}
 use Rattle.mt_terms.specs.Registration.Ids.{Bytes}
-use Rattle.mt_terms.specs.Text.{is_fault_code, is_known_code, is_none_or_id}
+use Rattle.mt_terms.specs.Text.{is_fault_code, is_known_code}
 use Rattle.mt_terms.specs.declared.refusal.Refusal.{Refusal}
 use Rattle.mt_file_laws.proofs.FaultFacts.{fault_codes_lem, fault_ids_lem}
-use Rattle.mt_match.specs.Laws.{IsMatchFault, fault_codes}
-use Rattle.mt_match.specs.Told.{Told, told_by}
+use Rattle.mt_match.specs.Laws.{fault_codes}
+use Rattle.mt_match.specs.Told.{told_by}
 use Rattle.mt_match.proofs.FaultFacts.{faults_are_named_lem}
-use Rattle.mt_check.specs.Answer.{AreLeft}
 use Rattle.mt_check.specs.Headline.{IsNamedRefusal, by_records, most_bytes, of_bytes}
-use Rattle.mt_check.specs.Refusals.{AreRead, CannotRead, IsRefusalIn, IsRefusalOf, LeftIs, code_of, fault_of}
+use Rattle.mt_check.specs.Refusals.{AreRead, CannotRead, IsRefusalIn, IsRefusalOf, LeftIs, fault_of}
 use Rattle.mt_check.specs.Text.{is_code_alone, is_code_of}
 use Rattle.mt_check.specs.declared.source.Source.{Source}
 use Rattle.mt_check.specs.declared.source.Source.TheVariants.{Market, Match}

@@ -1,5 +1,5 @@
 -- What an option of an agent's list names.
-use Rattle.std.proofs.Common.{◌≡◌, ℕ, zero, suc, ◌<◌, Bool, true, false, ◌&&◌, ◌||◌, List, [], ◌∷◌, length, map, get_or, Option, Some, None, refl, ap, sym, ◌∙◌, arith}
+use Rattle.std.proofs.Common.{◌≡◌, ℕ, zero, suc, ◌<◌, Bool, true, false, ◌||◌, List, [], ◌∷◌, length, get_or, Option, Some, None, refl, ap, sym, ◌∙◌, arith}
 use Rattle.std.specs.Prelude.{◌==◌, codes, IfSome, IsTrue, is_some, slice_index_or}
 use Rattle.std.specs.List.{list_all}
 use Rattle.std.proofs.lemmas.Bool.{and_parts}
@@ -8,7 +8,7 @@ use Rattle.std.proofs.lemmas.List.{get_or-map, length-map}
 use Rattle.mt_file_laws.proofs.IdFacts.{or_right}
 use Rattle.mt_roster.proofs.DigitFacts.{passes_at}
 use Rattle.mt_terms.specs.Lists.{has}
-use Rattle.mt_terms.specs.Market.{Market, Names, Pair, Registered, couple_of, list_of}
+use Rattle.mt_terms.specs.Market.{Pair, Registered, couple_of, list_of}
 use Rattle.mt_terms.specs.Matching.{couple_placement, options, single_placement}
 use Rattle.mt_terms.specs.Registration.Accepted.{is_none_or_below, is_pair_below}
 use Rattle.mt_terms.specs.Registration.Ids.{Bytes}

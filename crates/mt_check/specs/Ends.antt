@@ -1,5 +1,5 @@
 -- How an answer ends: with a finding, or with the refusal of a file.
-use Rattle.std.specs.Prelude.{◌≡◌, ◌≢◌, ℕ, List, Option, Result, Ok, Err}
+use Rattle.std.specs.Prelude.{◌≢◌, ℕ, List, Option, Result, Ok, Err}
 use Rattle.mt_terms.specs.declared.codes.TheConstants.{OUT_OF_MEMORY, READ_FAULT}
 use Rattle.mt_check.specs.Answer.{Answer, IsAnswer, OfLeft}
 use Rattle.mt_check.specs.Headline.{IsNamedRefusal}

@@ -1,5 +1,5 @@
 -- The headline in its own words: what the line of a check says of the bytes of its two files.
-use Rattle.std.specs.Prelude.{◌≡◌, ◌↔◌, ◌≤◌, ℕ, nat_lt, List, [], length, Option, None, Result, Ok, Err, IfSome, IsTrue, if◌then◌else◌}
+use Rattle.std.specs.Prelude.{◌≡◌, ◌↔◌, ℕ, nat_lt, List, [], length, Option, None, Result, Ok, Err, IsTrue, if◌then◌else◌}
 use Rattle.mt_lists.specs.Records.{records_of}
 use Rattle.mt_terms.specs.Market.{Registered}
 use Rattle.mt_terms.specs.Registration.{market_of}

@@ -1,6 +1,5 @@
 use Rattle.mt_lists.specs.Tap.{bytes_left}
-use Rattle.mt_check.specs.Ends.{answer_seen}
-use Rattle.mt_check.proofs.AnswerFacts.{found_left, market_refused, match_refused}
+use Rattle.mt_check.proofs.AnswerFacts.{market_refused}
 use Rattle.mt_check.proofs.whole.answer.Goals as goal
 
 pub returns-in-Err-clause-refused : goal.returns-in-Err-clause-refused

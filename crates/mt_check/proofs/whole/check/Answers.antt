@@ -1,7 +1,6 @@
-use Rattle.std.proofs.Common.{◌≡◌, ◌∙◌, ap, refl, arith}
+use Rattle.std.proofs.Common.{arith}
 use Rattle.mt_lists.specs.Tap.{bytes_left}
-use Rattle.mt_check.specs.Text.{refused_line}
-use Rattle.mt_check.proofs.AnswerFacts.{codes_large, judged_left}
+use Rattle.mt_check.proofs.AnswerFacts.{judged_left}
 use Rattle.mt_check.proofs.whole.check.Goals as goal
 
 pub returns-in-Ok-clause-answers : goal.returns-in-Ok-clause-answers

@@ -1,5 +1,5 @@
-use Rattle.std.proofs.Common.{subst, sym, ap, ◌∙◌}
-use Rattle.mt_check.specs.Findings.{IsThere, finding_of}
+use Rattle.std.proofs.Common.{subst, sym}
+use Rattle.mt_check.specs.Findings.{IsThere}
 use Rattle.mt_check.specs.declared.finding.Finding.{Finding}
 use Rattle.mt_check.proofs.FindingFacts.{finding_there}
 use Rattle.mt_check.proofs.whole.found.Goals as goal

@@ -1,8 +1,7 @@
 use Rattle.mt_lists.specs.Tap.{bytes_left}
 use Rattle.mt_terms.specs.Registration.{market_of}
-use Rattle.mt_match.specs.Told.{told_by}
 use Rattle.mt_check.proofs.FaultFacts.{cannot_read}
-use Rattle.mt_check.specs.declared.source.Source.TheVariants.{Market, Match}
+use Rattle.mt_check.specs.declared.source.Source.TheVariants.{Market}
 use Rattle.mt_check.proofs.whole.read_market.Goals as goal
 
 pub returns-in-Err-clause-refused : goal.returns-in-Err-clause-refused

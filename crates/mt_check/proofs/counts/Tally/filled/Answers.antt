@@ -1,4 +1,4 @@
-use Rattle.std.proofs.Common.{◌≡◌, ◌<◌, arith, ap, refl, ◌∙◌, length, get_or}
+use Rattle.std.proofs.Common.{◌<◌, arith, ap, refl, ◌∙◌, length, get_or}
 use Rattle.std.proofs.lemmas.List.{get_or_read_under}
 use Rattle.mt_terms.specs.Matching.{filled}
 use Rattle.mt_terms.proofs.BelowFacts.{length-map_below, map_below_at}

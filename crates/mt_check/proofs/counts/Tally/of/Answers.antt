@@ -1,7 +1,7 @@
 use Rattle.std.proofs.Common.{◌≡◌, ◌∙◌, ◌-◌, ℕ, List, arith, ap, ap₂, length, map}
 use Rattle.std.specs.Prelude.{slice_index}
 use Rattle.mt_terms.specs.Lists.{below, total_below}
-use Rattle.mt_terms.specs.Matching.{Places, filled, filled_counts}
+use Rattle.mt_terms.specs.Matching.{Places, filled}
 use Rattle.mt_terms.specs.Text.{all_filled, unmatched}
 use Rattle.mt_terms.proofs.BelowFacts.{length-map_below, map_below_at}
 use Rattle.mt_terms.proofs.Totals.{total_below-same}
