@@ -1,0 +1,28 @@
+use Rattle.std.proofs.Common.{◌∙◌}
+use Rattle.std.proofs.lemmas.Result.{IfOk-weaker}
+use Rattle.mt_check.proofs.OptionFacts.{couple_line, program_below, programs_below}
+use Rattle.mt_check.proofs.text.blocker_line.Goals as goal
+
+pub place_id-place-requires : goal.place_id-place-requires
+place_id-place-requires c =
+    program_below c.args.roster.now c.args.agent c.args.option c.requires c.is_of_a_file.ensures.well_formed c.in-Single.applicant c.index-single_list-option.result c.single_list.result.now
+    c.in-Single.is c.single_list.ensures c.index-single_list-option.is
+
+pub place_id-first-requires : goal.place_id-first-requires
+place_id-first-requires c =
+    (programs_below c.args.roster.now c.args.agent c.args.option c.requires c.in-Couple.couple c.couple_list.result.now c.in-Couple.is c.couple_list.ensures
+    (c.is_of_a_file.ensures.pairs_below c.in-Couple.couple) c.index-couple_list-option.result).0
+
+pub place_id-second-requires : goal.place_id-second-requires
+place_id-second-requires c =
+    (programs_below c.args.roster.now c.args.agent c.args.option c.requires c.in-Couple.couple c.couple_list.result.now c.in-Couple.is c.couple_list.ensures
+    (c.is_of_a_file.ensures.pairs_below c.in-Couple.couple) c.index-couple_list-option-in-Couple.result).1
+
+pub returns-in-Couple : goal.returns-in-Couple
+returns-in-Couple c =
+    IfOk-weaker c.check_line-in-Couple.result _ _
+    (λ text is. is
+    ∙ couple_line c.args.roster.now c.args.agent c.args.option c.requires c.in-Couple.couple c.couple_list.result.now c.in-Couple.is c.couple_list.ensures _ _ _ _ _
+    c.index-couple_list-option.result c.index-couple_list-option-in-Couple.result c.as_slice-word.ensures c.as_slice-in-Couple.ensures c.couple_id-id.ensures c.place_id-first.ensures
+    c.place_id-second.ensures)
+    c.check_line-in-Couple.ensures

@@ -1,0 +1,78 @@
+-- The answer to the bytes of a market and of a match, and what a check did.
+use Rattle.std.specs.Prelude.{◌≡◌, ◌≢◌, ℕ, ◌+◌, ◌<◌, ◌≤◌, Bool, List, length, take, Option, Result, Ok, Err, IfSome, IsTrue}
+use Rattle.std.specs.Io.KnownBytes.{Appends}
+use Rattle.mt_terms.specs.Market.{Registered}
+use Rattle.mt_terms.specs.Registration.Faults.{Fault}
+use Rattle.mt_terms.specs.declared.codes.TheConstants.{OUT_OF_MEMORY, READ_FAULT}
+use Rattle.mt_terms.specs.declared.verdict.Verdict.TheVariants.{Stable, Unlisted, Over, Blocks}
+use Rattle.mt_match.specs.Told.{Told}
+use Rattle.mt_check.specs.Findings.{finding_of}
+use Rattle.mt_check.specs.Headline.{IsJudged, IsRefusal, market_in, told_in}
+use Rattle.mt_check.specs.Text.{finding_line, refused_line}
+use Rattle.mt_check.specs.declared.finding.Finding.{Finding}
+use Rattle.mt_check.specs.declared.finding.Finding.TheVariants.{Of, Differs}
+use Rattle.mt_check.specs.declared.source.Source.{Source}
+use Rattle.mt_check.specs.declared.source.Source.TheVariants.{Market, Match}
+
+-- a code, 0 for a stable match, 1 for a finding, and else that of a refusal; and a line
+pub record Answer : Type 0 where
+  pub code : ℕ
+  pub text : List ℕ
+
+abbrev pub finding_code : Finding → ℕ
+finding_code (Of Stable) = 0
+finding_code (Of (Unlisted a)) = 1
+finding_code (Of (Over p)) = 1
+finding_code (Of (Blocks b)) = 1
+finding_code (Differs row) = 1
+
+abbrev pub finding_answer : Registered → Finding → Answer
+finding_answer r finding = record { code = finding_code finding; text = finding_line r finding }
+
+abbrev pub fault_answer : Source → Fault → Answer
+fault_answer file f = record { code = f.code; text = refused_line file f.code f.row f.id }
+
+-- the answer by what is told of a market, and by the market
+abbrev pub told_answer : Registered → Result Told Fault → Answer
+told_answer r (Ok told) = finding_answer r (finding_of r.market told)
+told_answer r (Err f) = fault_answer Match f
+
+abbrev pub market_answer : Result Registered Fault → List ℕ → Answer
+market_answer (Ok r) match_bytes = told_answer r (told_in r match_bytes)
+market_answer (Err f) match_bytes = fault_answer Market f
+
+-- The answer to the bytes of a market and of a match: the first finding, or the first fault of the market, or else of
+-- the match.
+abbrev pub answer_to : List ℕ → List ℕ → Answer
+answer_to market_bytes match_bytes = market_answer (market_in market_bytes) match_bytes
+
+abbrev pub IsAnswer : List ℕ → List ℕ → ℕ → List ℕ → Type 0
+IsAnswer market_bytes match_bytes code text = answer_to market_bytes match_bytes ≡ record { code = code; text = text }
+
+-- these are the bytes that a reader had left, where it tells them
+abbrev pub AreLeft : Option (List ℕ) → List ℕ → Type 0
+AreLeft left bytes = IfSome left (λ xs. bytes ≡ xs)
+
+-- something is so of the bytes that two readers had left, or of some bytes where they don't tell them
+pub record OfLeft (P : List ℕ → List ℕ → ℕ → List ℕ → Type 0) (market told : Option (List ℕ)) (code : ℕ) (text : List ℕ) : Type 0 where
+  pub market_bytes : List ℕ
+  pub market_left : AreLeft market market_bytes
+  pub match_bytes : List ℕ
+  pub match_left : AreLeft told match_bytes
+  pub is_so : P market_bytes match_bytes code text
+
+-- a count goes up by no more than this
+abbrev pub RisesAtMost : ℕ → ℕ → ℕ → Type 0
+RisesAtMost most old new = (old ≤ new) × (new ≤ old + most)
+
+-- What a check did: it appended the first bytes of a line, all of it where the writer didn't fail. The line says what is
+-- so of the match that is told, where the code is 0 or 1, and else it is one named refusal line; and but for want of
+-- memory and a read that failed it is the answer to the bytes that were there to read.
+pub record Answers (market told old new : Option (List ℕ)) (code written : ℕ) (whole : Bool) : Type 0 where
+  pub text : List ℕ
+  pub appended : Appends old new (take written text)
+  pub within : written ≤ length text
+  pub all : IsTrue whole → written ≡ length text
+  pub judged : code ≤ 1 → OfLeft IsJudged market told code text
+  pub refusal : 1 < code → IsRefusal code text
+  pub answer : code ≢ OUT_OF_MEMORY → code ≢ READ_FAULT → OfLeft IsAnswer market told code text

@@ -1,0 +1,59 @@
+-- What there is to say of a match that is told: the first finding, by the places and then by the counts.
+use Rattle.std.specs.Prelude.{◌≡◌, ℕ, ◌<◌, ◌-◌, Bool, not, ◌&&◌, ◌==◌, nat_lt, List, length, find, Option, Some, None, option_map, IsTrue}
+use Rattle.mt_terms.specs.Market.{Market, applicants, program_of}
+use Rattle.mt_terms.specs.Matching.{Places, filled, options}
+use Rattle.mt_terms.specs.Stability.{stable}
+use Rattle.mt_terms.specs.Text.{all_filled, positions, unmatched}
+use Rattle.mt_terms.specs.Verdict.{verdict_of}
+use Rattle.mt_terms.specs.declared.verdict.Verdict.{Verdict}
+use Rattle.mt_terms.specs.declared.verdict.Verdict.TheVariants.{Stable, Unlisted, Over, Blocks}
+use Rattle.mt_match_laws.specs.Verdict.{VerdictSays}
+use Rattle.mt_match.specs.Told.{Told}
+use Rattle.mt_match.specs.declared.told_match.Count.{Count}
+use Rattle.mt_match.specs.declared.told_match.Count.TheVariants as count
+use Rattle.mt_match.specs.declared.told_match.Counted.{Counted}
+use Rattle.mt_check.specs.declared.finding.Finding.{Finding}
+use Rattle.mt_check.specs.declared.finding.Finding.TheVariants.{Of, Differs}
+
+-- whether a record says the counts that a market and the places of a match have
+abbrev pub fits_count : Market → Places → Count → Bool
+fits_count m places (count.Program p quota placed) =
+    nat_lt p (length m.programs) && (quota == (program_of m p).quota) && (placed == filled places p)
+fits_count m places (count.Totals all none posts free) =
+    (all == applicants m) && (none == unmatched places) && (posts == positions m) && (free == (positions m - all_filled m places))
+
+-- the number of the first record that says other counts
+abbrev pub first_differing_of : Market → Places → List Counted → Option ℕ
+first_differing_of m places counts = option_map (λ c. Counted.row c) (find (λ c. not (fits_count m places (Counted.count c))) counts)
+
+abbrev pub first_differing : Market → Told → Option ℕ
+first_differing m told = first_differing_of m told.places told.counts
+
+-- the finding: the verdict on the places, and where they are stable the first record that says other counts
+abbrev pub finding_by : Verdict → Option ℕ → Finding
+finding_by Stable None = Of Stable
+finding_by Stable (Some row) = Differs row
+finding_by (Unlisted a) differing = Of (Unlisted a)
+finding_by (Over p) differing = Of (Over p)
+finding_by (Blocks b) differing = Of (Blocks b)
+
+abbrev pub finding_of : Market → Told → Finding
+finding_of m told = finding_by (verdict_of m told.places) (first_differing m told)
+
+-- What a finding says: that the match is stable and no record says other counts; that it is stable, and which record is
+-- the first that does; or what the verdict says, the first applicant with a place that isn't allowed, the first program
+-- over its quota, or the first agent that blocks with its first option that would be taken.
+abbrev pub FindingSays : Market → Told → Finding → Type 0
+FindingSays m told (Of Stable) = IsTrue (stable m told.places) × (first_differing m told ≡ None)
+FindingSays m told (Of (Unlisted a)) = VerdictSays m told.places (Unlisted a)
+FindingSays m told (Of (Over p)) = VerdictSays m told.places (Over p)
+FindingSays m told (Of (Blocks b)) = VerdictSays m told.places (Blocks b)
+FindingSays m told (Differs row) = IsTrue (stable m told.places) × (first_differing m told ≡ Some row)
+
+-- what a finding names is there
+abbrev pub IsThere : Market → Finding → Type 0
+IsThere m (Of Stable) = Unit {0}
+IsThere m (Of (Unlisted a)) = a < applicants m
+IsThere m (Of (Over p)) = p < length m.programs
+IsThere m (Of (Blocks b)) = b.option < length (options m b.agent)
+IsThere m (Differs row) = Unit {0}

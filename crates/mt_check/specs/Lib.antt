@@ -1,0 +1,9 @@
+pub mod Text
+pub mod Status
+pub mod Findings
+pub mod Headline
+pub mod Answer
+pub mod Refusals
+pub mod Ends
+pub mod View
+pub mod Laws

@@ -1,0 +1,170 @@
+ghost use Rattle.std.specs.Prelude.{◌≡◌, ℕ, ◌<◌, ◌^◌, ◌-◌, map, length, slice_index, IfOk, IsTrue};
+ghost use Rattle.mt_terms.specs.Lists.{below, total_below};
+ghost use Rattle.mt_terms.specs.Matching.{at, filled, filled_counts};
+ghost use Rattle.mt_terms.specs.Places.{ArePlaces};
+ghost use Rattle.mt_terms.specs.Registration.Accepted.{IsRegistration};
+ghost use Rattle.mt_check.specs.Findings.{first_differing};
+ghost use Rattle.mt_terms.specs.Text.{all_filled, positions, unmatched};
+
+use mt_market::Roster;
+use mt_match::{Count, Counted, ToldMatch};
+use mt_terms::{Match, ProgNo};
+use std::alloc::{AllocError, Global};
+
+/// How many applicants are placed at each program.
+fn filled_counts(
+    alloc: Global,
+    programs: usize,
+    places: &[Option<ProgNo>],
+) -> Result<Vec<u32>, AllocError>
+    requires within { (a p : ℕ) → IsTrue (at places.now p a) → p < programs }
+    requires few { length places.now < 2 ^ 32 }
+    ensures { IfOk result (λ v. v.items ≡ map (filled places.now) (below programs)) }
+{
+    let mut counts = vec![in alloc; 0u32; programs]?;
+    for place in places {
+        if let Some(program) = place {
+            counts[program.index()] += 1;
+        }
+    }
+    Ok(counts)
+}
+
+/// How many applicants have no place.
+fn unmatched_count(places: &[Option<ProgNo>]) -> u32
+    requires { length places.now < 2 ^ 32 }
+    ensures { result ≡ unmatched places.now }
+{
+    let mut count = 0;
+    for place in places {
+        if place.is_none() {
+            count += 1;
+        }
+    }
+    count
+}
+
+/// How many posts there are.
+fn position_count(roster: &Roster) -> u64
+    ensures { result ≡ positions roster.now.market }
+{
+    let mut count = 0;
+    for number in 0..roster.programs() {
+        count += u64::from(roster.quota(ProgNo(number)));
+    }
+    count
+}
+
+/// The sum of the programs' counts.
+fn filled_total(counts: &[u32]) -> u64
+    requires { length counts.now < 2 ^ 32 }
+    ensures { result ≡ total_below (slice_index counts.now) (length counts.now) }
+{
+    let mut total = 0;
+    for count in counts {
+        total += u64::from(*count);
+    }
+    total
+}
+
+/// The counts of a match, by its places and its market.
+#[derive(Drop)]
+struct Tally<'a> {
+    roster: &'a Roster,
+    matched: &'a Match,
+    at_programs: Vec<u32>,
+    unplaced: u32,
+    posts: u64,
+    free: u64,
+    ghost of_a_file: { IsRegistration roster.now },
+    ghost are_at_programs: { at_programs.items ≡ filled_counts roster.now.market matched.now.places },
+    ghost are_unplaced: { unplaced ≡ unmatched matched.now.places },
+    ghost are_posts: { posts ≡ positions roster.now.market },
+    ghost are_free: { free ≡ positions roster.now.market - all_filled roster.now.market matched.now.places },
+}
+
+impl<'a> Tally<'a> {
+    ghost use Rattle.mt_check.specs.Findings.{first_differing_of, fits_count};
+    ghost use Rattle.mt_check.specs.View.{market_of, places_of};
+
+    /// The counts of a match.
+    fn of(alloc: Global, roster: &'a Roster, matched: &'a Match) -> Result<Self, AllocError>
+        requires { ArePlaces roster.now.market matched.now.places }
+        ensures market { IfOk result (λ tally. market_of tally ≡ roster.entry.now.market) }
+        ensures places { IfOk result (λ tally. places_of tally ≡ matched.entry.now.places) }
+    {
+        roster.is_of_a_file();
+        let places = matched.places.as_slice();
+        let at_programs = filled_counts(alloc, roster.programs() as usize, places)?;
+        let posts = position_count(roster);
+        let free = posts.saturating_sub(filled_total(&at_programs));
+        Ok(Tally {
+            roster,
+            matched,
+            at_programs,
+            unplaced: unmatched_count(places),
+            posts,
+            free,
+        })
+    }
+
+    /// How many applicants are placed at a program.
+    fn filled(&self, program: ProgNo) -> u32
+        requires { program < length (market_of self.now).programs }
+        ensures { result ≡ filled (places_of self.now) program }
+    {
+        self.at_programs[program.index()]
+    }
+
+    /// Whether a record says the counts that these are.
+    fn fits(&self, count: &Count) -> bool
+        ensures { result ≡ fits_count (market_of self.now) (places_of self.now) count.now }
+    {
+        match *count {
+            Count::Program {
+                program,
+                quota,
+                filled,
+            } => {
+                program.0 < self.roster.programs()
+                    && quota == u64::from(self.roster.quota(program))
+                    && filled == u64::from(self.filled(program))
+            }
+            Count::Totals {
+                applicants,
+                unmatched,
+                positions,
+                unfilled,
+            } => {
+                let are_people = applicants == u64::from(self.roster.applicants())
+                    && unmatched == u64::from(self.unplaced);
+                are_people && positions == self.posts && unfilled == self.free
+            }
+        }
+    }
+
+    /// The first of these records that says other counts.
+    fn first_differing(&self, counts: &[Counted]) -> Option<u64>
+        ensures { result ≡ first_differing_of (market_of self.now) (places_of self.now) counts.now }
+    {
+        for counted in counts {
+            if !self.fits(&counted.count) {
+                return Some(counted.row);
+            }
+        }
+        None
+    }
+}
+
+/// The number of the first record of a match that says other counts than its places and its market.
+pub(crate) fn first_differing(
+    alloc: Global,
+    roster: &Roster,
+    told: &ToldMatch,
+) -> Result<Option<u64>, AllocError>
+    requires { ArePlaces roster.now.market told.now.places }
+    ensures { IfOk result (λ row. row ≡ first_differing roster.now.market told.now) }
+{
+    let tally = Tally::of(alloc, roster, told.matched())?;
+    Ok(tally.first_differing(told.counts()))
+}

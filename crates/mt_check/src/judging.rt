@@ -1,0 +1,36 @@
+ghost use Rattle.std.specs.Prelude.{◌≡◌, IfOk};
+ghost use Rattle.mt_terms.specs.Places.{ArePlaces};
+ghost use Rattle.mt_check.specs.Findings.{finding_of};
+
+use crate::counts::first_differing;
+use crate::finding::Finding;
+use mt_market::Roster;
+use mt_match::ToldMatch;
+use mt_ranks::Ranks;
+use mt_terms::Verdict;
+use mt_verify::verify;
+use std::alloc::{AllocError, Global};
+use std::thread::Threads;
+
+/// What there is to say of a match that is told.
+pub(crate) fn judge<T: Threads + Sync>(
+    rt: &T,
+    alloc: Global,
+    roster: &Roster,
+    told: &ToldMatch,
+) -> Result<Finding, AllocError>
+    requires { ArePlaces roster.now.market told.now.places }
+    ensures { IfOk result (λ finding. finding ≡ finding_of roster.now.market told.now) }
+{
+    roster.is_of_a_file();
+    let ranks = Ranks::build(rt, alloc, roster)?;
+    let verdict = verify(rt, alloc, roster, &ranks, told.matched())?;
+    let differing = match verdict {
+        Verdict::Stable => first_differing(alloc, roster, told)?,
+        _ => None,
+    };
+    Ok(match differing {
+        Some(row) => Finding::Differs(row),
+        None => Finding::Of(verdict),
+    })
+}

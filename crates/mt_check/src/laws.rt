@@ -1,0 +1,14 @@
+//! Laws of the answer: each is the contract of a function that does nothing.
+
+ghost use Rattle.mt_check.specs.Laws.{AnswersAreSo, OneAnswer};
+
+/// The answer depends on the bytes of the two files alone.
+pub fn one_answer()
+    ensures { OneAnswer }
+{}
+
+/// An answer says that a match is stable, and that its counts fit it, exactly where both are so; or it is the line of
+/// the first finding; or one named refusal line.
+pub fn answers_are_so()
+    ensures { AnswersAreSo }
+{}

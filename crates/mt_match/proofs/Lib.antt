@@ -1,0 +1,5 @@
+pub mod NumberFacts
+pub mod IdFacts
+pub mod FaultFacts
+pub mod PlaceFacts
+pub mod ReadingFacts

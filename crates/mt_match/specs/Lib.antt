@@ -1,0 +1,6 @@
+pub mod Told
+pub mod Errors
+pub mod View
+pub mod Reading
+pub mod Laws
+pub mod Examples

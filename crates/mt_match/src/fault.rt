@@ -1,0 +1,83 @@
+ghost use Rattle.std.specs.Prelude.{◌≡◌, ◌≤◌, [], length};
+ghost use Rattle.mt_match.specs.Told.{shown};
+
+use crate::fields::is_id;
+use mt_terms::{IdText, LIMITS_2, Refusal};
+use std::alloc::AllocError;
+use thiserror::Error;
+
+/// Why the records of a match tell none.
+#[derive(Debug, Drop, Error)]
+pub enum MatchError {
+    /// The match has this fault first.
+    #[error("a fault in the records")]
+    Fault(Refusal),
+    /// Memory was refused.
+    #[error("out of memory")]
+    Memory,
+}
+
+impl From<AllocError> for MatchError {
+    ghost use Rattle.mt_match.specs.declared.fault.MatchError.TheVariants.{Memory};
+
+    ghost from_gives = { λ _ e. e ≡ Memory };
+
+    fn from(_error: AllocError) -> Self {
+        MatchError::Memory
+    }
+}
+
+/// A fault of a record: its code, and the id at fault as it may be told, which is empty where there is none.
+#[derive(Clone, Copy, Debug)]
+pub(crate) struct Charge<'a> {
+    code: u16,
+    id: &'a [u8],
+    ghost short: { length id.now ≤ 64 },
+}
+
+/// A field where it is an id, which may be told, and else nothing.
+fn shown(field: &[u8]) -> &[u8]
+    ensures shown { result.now ≡ shown field.now }
+    ensures short { length result.now ≤ 64 }
+{
+    if is_id(LIMITS_2.id_bytes, field) {
+        field
+    } else {
+        b""
+    }
+}
+
+impl<'a> Charge<'a> {
+    ghost use Rattle.mt_terms.specs.Registration.Faults.{charge_alone, fault_at};
+    ghost use Rattle.mt_match.specs.Errors.{IsFault};
+    ghost use Rattle.mt_match.specs.Told.{charge_at};
+    ghost use Rattle.mt_match.specs.View.{charge_seen};
+
+    /// A fault that no id is at.
+    pub(crate) fn alone(code: u16) -> Charge<'a>
+        ensures { charge_seen result ≡ charge_alone code }
+    {
+        Charge { code, id: b"" }
+    }
+
+    /// A fault at a field, which is told where it is an id.
+    pub(crate) fn of(code: u16, field: &'a [u8]) -> Charge<'a>
+        ensures { charge_seen result ≡ charge_at code field.now }
+    {
+        Charge {
+            code,
+            id: shown(field),
+        }
+    }
+
+    /// The fault of the record with this number.
+    pub(crate) fn at(self, row: u64) -> MatchError
+        ensures { IsFault result (fault_at row (charge_seen self.entry)) }
+    {
+        MatchError::Fault(Refusal {
+            code: self.code,
+            row,
+            id: IdText::new(self.id),
+        })
+    }
+}

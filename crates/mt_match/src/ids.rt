@@ -1,0 +1,135 @@
+ghost use Rattle.std.specs.Prelude.{◌≡◌, ◌<◌, ◌++◌, [], ◌∷◌, length, position, bytes_eq, false, OnOk, IfOk};
+ghost use Rattle.mt_terms.specs.Registration.Accepted.{IsRegistration};
+ghost use Rattle.mt_terms.specs.Registration.Ids.{has_id};
+ghost use Rattle.mt_match.specs.Told.{place_named};
+
+use crate::fields::is_dash;
+use indexmap::IndexSet;
+use mt_market::Roster;
+use mt_terms::{AppNo, ProgNo};
+use std::alloc::{AllocError, Global};
+use std::marker::Model;
+
+/// Ids by number, each of them once.
+#[derive(Drop)]
+struct IdTable<'a> {
+    ids: IndexSet<&'a [u8]>,
+}
+
+impl<'a> Model for IdTable<'a> {
+    ghost use Rattle.std.specs.Prelude.{List, ℕ, map};
+
+    ghost Value = { List (List ℕ) };
+
+    ghost view = { λ table. map (λ id. id.now) table.ids.keys };
+}
+
+impl<'a> IdTable<'a> {
+    /// No ids, with room for some.
+    fn with_capacity(alloc: Global, capacity: usize) -> Result<Self, AllocError>
+        ensures { IfOk result (λ table. table ≡ []) }
+    {
+        Ok(IdTable {
+            ids: IndexSet::with_capacity(alloc, capacity)?,
+        })
+    }
+
+    /// The number of an id, from 0, if it is one of them.
+    fn number(&self, id: &[u8]) -> Option<usize>
+        ensures { result ≡ position (bytes_eq id.now) self.now }
+    {
+        self.ids.get_index_of(&id)
+    }
+
+    /// Adds an id that is none of them at the end.
+    fn push(&mut self, id: &'a [u8]) -> Result<(), AllocError>
+        requires { has_id self.old id.now ≡ false }
+        ensures { OnOk result (self.new ≡ self.old ++ id.now ∷ []) }
+    {
+        self.ids.insert(id)?;
+        Ok(())
+    }
+}
+
+/// The ids of the programs.
+fn programs(alloc: Global, roster: &Roster) -> Result<IdTable<'_>, AllocError>
+    ensures { IfOk result (λ table. table ≡ roster.entry.now.names.programs) }
+{
+    let mut table = IdTable::with_capacity(alloc, roster.programs() as usize)?;
+    for number in 0..roster.programs() {
+        table.push(roster.program_id(ProgNo(number)))?;
+    }
+    Ok(table)
+}
+
+/// The ids of the applicants.
+fn applicants(alloc: Global, roster: &Roster) -> Result<IdTable<'_>, AllocError>
+    ensures { IfOk result (λ table. table ≡ roster.entry.now.names.applicants) }
+{
+    let mut table = IdTable::with_capacity(alloc, roster.applicants() as usize)?;
+    for number in 0..roster.applicants() {
+        table.push(roster.applicant_id(AppNo(number)))?;
+    }
+    Ok(table)
+}
+
+/// A market with its ids, by which its programs and applicants are found.
+#[derive(Drop)]
+pub(crate) struct Ids<'a> {
+    roster: &'a Roster,
+    programs: IdTable<'a>,
+    applicants: IdTable<'a>,
+    pub ghost of_a_file: { IsRegistration roster.now },
+    pub ghost of_programs: { programs ≡ roster.now.names.programs },
+    pub ghost of_applicants: { applicants ≡ roster.now.names.applicants },
+}
+
+impl<'a> Ids<'a> {
+    ghost use Rattle.mt_match.specs.View.{market_of};
+
+    /// The ids of a market.
+    pub(crate) fn of(alloc: Global, roster: &'a Roster) -> Result<Self, AllocError>
+        ensures { IfOk result (λ ids. market_of ids ≡ roster.entry.now) }
+    {
+        roster.is_of_a_file();
+        Ok(Ids {
+            roster,
+            programs: programs(alloc, roster)?,
+            applicants: applicants(alloc, roster)?,
+        })
+    }
+
+    /// The market.
+    pub(crate) fn roster(&self) -> &'a Roster
+        ensures { result.now ≡ market_of self.now }
+    {
+        self.roster
+    }
+
+    /// The applicant with an id.
+    pub(crate) fn applicant(&self, id: &[u8]) -> Option<AppNo>
+        ensures { result ≡ position (bytes_eq id.now) (market_of self.now).names.applicants }
+    {
+        let number = self.applicants.number(id)?;
+        Some(AppNo(number as u32))
+    }
+
+    /// The program with an id.
+    pub(crate) fn program(&self, id: &[u8]) -> Option<ProgNo>
+        ensures { result ≡ position (bytes_eq id.now) (market_of self.now).names.programs }
+    {
+        let number = self.programs.number(id)?;
+        Some(ProgNo(number as u32))
+    }
+
+    /// The place that a field names: a program by its id, or none by `-`.
+    pub(crate) fn place(&self, field: &[u8]) -> Option<Option<ProgNo>>
+        ensures { result ≡ place_named (market_of self.now).names.programs field.now }
+    {
+        if is_dash(field) {
+            return Some(None);
+        }
+        let program = self.program(field)?;
+        Some(Some(program))
+    }
+}

@@ -1,0 +1,13 @@
+//! Laws of what the records of a match tell: each is the contract of a function that does nothing.
+
+ghost use Rattle.mt_match.specs.Laws.{FaultsAreNamed, TellsPlaces};
+
+/// A fault of a match has a code of its own, and what it tells as an id is one.
+pub fn faults_are_named()
+    ensures { FaultsAreNamed }
+{}
+
+/// A match that is told has one place for each applicant of the market, a program of it or none.
+pub fn tells_places()
+    ensures { TellsPlaces }
+{}

@@ -1,0 +1,18 @@
+//! Records to a match: where each applicant of a market is placed, by the text of a match that anybody wrote.
+#![tactic(auto)]
+
+pub mod codes;
+pub mod examples;
+mod fault;
+mod fields;
+mod ids;
+pub mod laws;
+mod line;
+mod reading;
+mod so_far;
+mod told_match;
+
+pub use fault::MatchError;
+pub use mt_terms::{IdText, Refusal as MatchFault};
+pub use reading::told;
+pub use told_match::{Count, Counted, ToldMatch};

@@ -1,0 +1,77 @@
+ghost use Rattle.std.specs.Prelude.{◌≡◌, ◌<◌, length, map, None, IfOk, OnOk};
+ghost use Rattle.std.specs.Option.{unwrap_or};
+ghost use Rattle.mt_terms.specs.Market.{applicants};
+ghost use Rattle.mt_match.specs.Told.{after, match_of, first_unplaced, nothing_told};
+ghost use Rattle.mt_match.specs.Reading.{FitsInto, Gives};
+ghost use Rattle.mt_match.specs.View.{told_so_far};
+
+use crate::codes::NOT_PLACED;
+use crate::fault::{Charge, MatchError};
+use crate::line::Line;
+use crate::told_match::{Counted, ToldMatch};
+use mt_market::Roster;
+use mt_terms::{AppNo, Match, Places, ProgNo};
+use std::alloc::{AllocError, Global};
+
+/// What some records told: for each applicant, by number, its place, where one of them told it; and the counts.
+#[derive(Drop)]
+pub(crate) struct SoFar {
+    pub(crate) places: Vec<Option<Option<ProgNo>>>,
+    counts: Vec<Counted>,
+}
+
+impl SoFar {
+    /// Nothing of the applicants of a market.
+    pub(crate) fn new(alloc: Global, roster: &Roster) -> Result<Self, AllocError>
+        ensures { IfOk result (λ s. told_so_far s ≡ nothing_told (applicants roster.now.market)) }
+    {
+        Ok(SoFar {
+            places: vec![in alloc; None; roster.applicants() as usize]?,
+            counts: Vec::new(alloc),
+        })
+    }
+
+    /// Adds what a record with this number tells.
+    pub(crate) fn add(&mut self, row: u64, line: Line) -> Result<(), AllocError>
+        requires { FitsInto (length self.old.places.items) line }
+        ensures { OnOk result (told_so_far self.new ≡ after row (told_so_far self.old) line) }
+    {
+        match line {
+            Line::Head => {}
+            Line::Place(applicant, place) => self.places[applicant.index()] = Some(place),
+            Line::Counts(count) => self.counts.push(Counted { row, count })?,
+        }
+        Ok(())
+    }
+
+    /// The first applicant whose place no record told.
+    fn first_unplaced(&self) -> Option<usize>
+        ensures { result ≡ first_unplaced (told_so_far self.now) }
+    {
+        self.places.iter().position(|place| place.is_none())
+    }
+
+    /// The places of all applicants, where each has one.
+    fn all_places(&self, alloc: Global) -> Result<Vec<Option<ProgNo>>, AllocError>
+        ensures { IfOk result (λ v. v.items ≡ map (λ place. unwrap_or place None) self.now.places.items) }
+    {
+        self.places
+            .iter()
+            .map(|place| (*place).flatten())
+            .collect(alloc)
+    }
+
+    /// The match that is told, where each applicant has its place.
+    pub(crate) fn into_match(self, alloc: Global, roster: &Roster) -> Result<ToldMatch, MatchError>
+        requires { length self.places.items ≡ applicants roster.now.market }
+        ensures { Gives result (match_of roster.now.names (told_so_far self) (first_unplaced (told_so_far self))) }
+    {
+        if let Some(missing) = self.first_unplaced() {
+            roster.is_of_a_file();
+            let id = roster.applicant_id(AppNo(missing as u32));
+            return Err(Charge::of(NOT_PLACED, id).at(0));
+        }
+        let places = Places::new(self.all_places(alloc)?);
+        Ok(ToldMatch::new(Match { places }, self.counts))
+    }
+}
