@@ -1,15 +1,15 @@
 -- Who is found when programs that were left are looked at, and who is passed over.
-use Rattle.std.proofs.Common.{◌≡◌, ◌∙◌, ℕ, zero, suc, ◌+◌, ◌-◌, ◌<◌, ◌≤◌, Bool, true, false, not, ◌&&◌, ◌||◌, ◌==◌, nat_le, List, [], ◌∷◌, ◌++◌, map, filter, take, drop, length, get_or, Option, Some, None, is_some, refl, ap, sym, subst, inl, inr, ◌⊎◌, arith, Result, Ok, Err, OnOk}
+use Rattle.std.proofs.Common.{◌≡◌, ◌∙◌, ℕ, zero, suc, ◌+◌, ◌<◌, ◌≤◌, true, false, not, ◌&&◌, ◌||◌, ◌==◌, nat_le, List, [], ◌∷◌, ◌++◌, map, filter, drop, length, get_or, Option, Some, None, is_some, refl, ap, sym, subst, inl, inr, arith, Result, Ok, Err, OnOk}
 use Rattle.std.specs.List.{list_any, position}
 use Rattle.std.proofs.lemmas.List.{drop_more}
 use Rattle.std.proofs.lemmas.List.Quantifiers.{position-Some}
-use Rattle.std.proofs.lemmas.Bool.{cases_Bool, cases_lt, and_parts, and_from, or_cases, or_left, or_right, eq-eqb, eqb-true, both_ways, false≢true, false_from_ne_true, true_from_ne_false, not_from_false, not-true}
+use Rattle.std.proofs.lemmas.Bool.{cases_lt, and_parts, and_from, or_cases, or_left, or_right, eq-eqb, eqb-true, both_ways, false≢true, false_from_ne_true, not_from_false, not-true}
 use Rattle.std.proofs.lemmas.Bool.Decides.{nat_tests}
 use Rattle.std.proofs.Math.Bool.{or-false, and-true}
-use Rattle.mt_terms.specs.Lists.{has, until}
-use Rattle.mt_terms.specs.Market.{Market, Pair, applicants, agent_of, agents, couple_of, list_of, members, program_of}
-use Rattle.mt_terms.specs.Matching.{Places, Placement, place_of, is_program, is_same_place, at, better, holds, options, send, single_placement, couple_placement}
-use Rattle.mt_terms.specs.Rounds.{has_entered, is_on, is_same_agent, joined}
+use Rattle.mt_terms.specs.Lists.{has}
+use Rattle.mt_terms.specs.Market.{Market, applicants, agent_of, couple_of, list_of, members, program_of}
+use Rattle.mt_terms.specs.Matching.{Placement, place_of, is_program, is_same_place, at, better, holds, options, send, single_placement, couple_placement}
+use Rattle.mt_terms.specs.Rounds.{has_entered, is_on, joined}
 use Rattle.mt_terms.specs.Stability.{is_chosen, would_be_taken}
 use Rattle.mt_terms.specs.WellFormed.{IsWellFormed}
 use Rattle.mt_terms.specs.declared.numbers.Agent.{Agent}
@@ -18,14 +18,14 @@ use Rattle.mt_match_laws.proofs.ListLemmas.{until-map}
 use Rattle.mt_match_laws.proofs.ChoiceLemmas.{choice_facts}
 use Rattle.mt_ranks.proofs.Positions.{has-position}
 use Rattle.mt_ranks.specs.Ranked.{rank_of}
-use Rattle.mt_round_laws.proofs.RoundsLists.{In, found, finds, each, has_in, in_has, in_image, of_image, of_until, same_until}
+use Rattle.mt_round_laws.proofs.RoundsLists.{In, found, finds, each, has_in, in_has, of_image, of_until, same_until}
 use Rattle.mt_round_laws.proofs.RoundsAgents.{member_of_agent, one_of_two}
 use Rattle.mt_couples.specs.Assigned.{Assigned, AreApplicantsOf}
 use Rattle.mt_couples.specs.Looking.{AddsCouples, AddsSingles, HaveReopened, IsWatching}
-use Rattle.mt_couples.specs.Moves.{agents_of, blockers, names_one_of, opens, some_has}
-use Rattle.mt_couples.specs.Running.{is_reopened, IsQuietBut}
+use Rattle.mt_couples.specs.Moves.{agents_of, names_one_of, opens, some_has}
+use Rattle.mt_couples.specs.Running.{is_reopened}
 use Rattle.mt_couples.specs.Waiting.{Waiting, with_agents}
-use Rattle.mt_couples.specs.Watching.{names, row_at, wanted, AreNamed, AreWatched, Covers}
+use Rattle.mt_couples.specs.Watching.{names, row_at, wanted, Covers}
 use Rattle.mt_couples.specs.declared.watch.Watch.{Watch}
 use Rattle.mt_terms.specs.Lists.{is_distinct}
 use Rattle.mt_terms.proofs.ListFacts.{same_position}

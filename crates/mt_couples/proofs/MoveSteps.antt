@@ -9,14 +9,9 @@ use Rattle.mt_terms.specs.Choice.{choice}
 use Rattle.std.specs.Option.{option_eq}
 use Rattle.mt_couples.proofs.PlaceFacts.{is_program_read}
 use Rattle.mt_terms.specs.Rounds.{programs_sent_to}
-use Rattle.std.specs.declared.cmp.Ordering.{Ordering}
-use Rattle.std.specs.declared.cmp.Ordering.TheVariants.{Less, Equal, Greater}
-use Rattle.std.specs.Ordering.{nat_cmp, match_ordering}
-use Rattle.std.proofs.lemmas.Cmp.{ranked}
-use Rattle.std.specs.BTreeSet.{insert_key}
 use Rattle.std.proofs.lemmas.Bool.{or_left, or_right, eq-eqb, eqb-true, cases_Bool, and_from, and_left, and_right, not_from_false, not_from_true}
 use Rattle.mt_couples.specs.Assigned.{Assigned, with_place, with_places}
-use Rattle.std.proofs.Math.Bool.{or_assoc, or_comm, or-false}
+use Rattle.std.proofs.Math.Bool.{or_assoc, or-false}
 use Rattle.mt_couples.specs.Moves.{is_kept_at}
 
 -- An assignment on the way from one match to another: the market is the same, and what is left of the way

@@ -1,10 +1,8 @@
 -- The ranks of a set on a list: as the set gains or loses one, how many there are, and who they are.
 use Rattle.std.proofs.Common.{◌≡◌, ◌≢◌, ℕ, zero, suc, ◌+◌, ◌-◌, ◌<◌, ◌≤◌, Bool, true, false, not, ◌&&◌, ◌==◌, nat_lt, List, [], ◌∷◌, map, filter, length, take, drop, get_or, refl, ap, ap₂, sym, ◌∙◌, inl, inr, arith, subst, lt-ltb, le-ltb, if◌then◌else◌}
-use Rattle.std.specs.List.{AllByRecursion}
 use Rattle.std.specs.List.Sorted.{IsStrictlySortedBy}
 use Rattle.std.specs.Ordering.{nat_cmp}
 use Rattle.std.specs.BTreeSet.{insert_key}
-use Rattle.std.specs.declared.cmp.Ordering.TheVariants.{Less}
 use Rattle.std.proofs.lemmas.Bool.{cases_Bool, cases_lt, and_parts, or_cases, or_parts, or_left, or_right, both_ways, false≢true, false_from_ne_true, not-true, not_from_false, eq-eqb, eqb-true, ne_eqb}
 use Rattle.std.proofs.lemmas.List.{drop_all, get_or_default}
 use Rattle.mt_terms.specs.Lists.{Set, has, count, is_distinct}

@@ -1,12 +1,11 @@
 -- Who is watched where, and that nobody is lost.
-use Rattle.std.proofs.Common.{◌≡◌, ◌∙◌, ℕ, zero, suc, ◌+◌, ◌<◌, ◌≤◌, Bool, true, false, ◌&&◌, ◌||◌, ◌==◌, List, [], ◌∷◌, ◌++◌, map, filter, take, drop, length, get_or, Option, Some, None, is_some, unwrap_or, refl, ap, sym, subst, inl, inr, ◌⊎◌, arith, Result, Ok, Err, OnOk}
-use Rattle.std.specs.List.{list_any, position}
+use Rattle.std.proofs.Common.{◌≡◌, ◌∙◌, ℕ, zero, suc, ◌+◌, ◌<◌, ◌≤◌, Bool, true, false, ◌||◌, ◌==◌, List, [], ◌∷◌, ◌++◌, map, filter, take, drop, length, get_or, Some, unwrap_or, refl, ap, sym, subst, inl, inr, ◌⊎◌, arith, Result, Ok, Err, OnOk}
 use Rattle.std.proofs.lemmas.List.{take_more, take_all, drop_more}
 use Rattle.std.proofs.lemmas.List.Folds.{list_any-append}
-use Rattle.std.proofs.lemmas.Bool.{cases_Bool, and_parts, or_cases, or_left, or_right, eq-eqb, eqb-true, both_ways, false≢true}
+use Rattle.std.proofs.lemmas.Bool.{cases_Bool, or_cases, or_left, or_right, eq-eqb, eqb-true, both_ways, false≢true}
 use Rattle.std.proofs.Math.Bool.{or-false}
-use Rattle.mt_terms.specs.Lists.{has, until, below}
-use Rattle.mt_terms.specs.Market.{Market, Pair, applicants, agent_of, couple_of, list_of, live, live_market, members, program_of}
+use Rattle.mt_terms.specs.Lists.{has, until}
+use Rattle.mt_terms.specs.Market.{Market, applicants, agent_of, couple_of, list_of, live, live_market, members, program_of}
 use Rattle.mt_terms.specs.Matching.{Places, Placement, place_of, is_program, at, send}
 use Rattle.mt_terms.specs.Rounds.{displaced, is_same_agent}
 use Rattle.mt_terms.specs.WellFormed.{IsWellFormed}
@@ -14,14 +13,14 @@ use Rattle.mt_terms.specs.declared.numbers.Agent.{Agent}
 use Rattle.mt_terms.specs.declared.numbers.Agent.TheVariants.{Single, Couple}
 use Rattle.mt_terms.proofs.BelowFacts.{map_below_at}
 use Rattle.mt_match_laws.proofs.ListLemmas.{until-map}
-use Rattle.mt_ranks.specs.Ranked.{rank_of, ranked_entry, ranked_list}
+use Rattle.mt_ranks.specs.Ranked.{rank_of, ranked_entry}
 use Rattle.mt_ranks.specs.declared.entries.Live.{Live}
 use Rattle.mt_round_laws.proofs.RoundsLists.{In, has_in, in_has, in_image, of_image, of_until}
 use Rattle.mt_round_laws.proofs.RoundsAgents.{IsAgent, agent_of_applicant, couple_number, member_of_agent, of_list, one_of_two, option_movers, same_agent}
 use Rattle.mt_round_laws.proofs.RoundsMove.{IsMove, match_after, displaced_agents, is_displaced, untouched}
 use Rattle.mt_couples.specs.Assigned.{Assigned}
 use Rattle.mt_couples.specs.Moves.{IsTaking}
-use Rattle.mt_couples.specs.Watching.{better_entries, row_at, wanted, names, AreNamed, AreWatched, Follows, FollowsAll, IsWatched, KeepsRows, Notes, Watches}
+use Rattle.mt_couples.specs.Watching.{better_entries, row_at, wanted, AreWatched, FollowsAll, IsWatched, KeepsRows, Watches}
 use Rattle.mt_couples.proofs.MoveFacts.{is_move}
 use Rattle.mt_couples.proofs.RankFacts.{has_rank}
 

@@ -1,5 +1,5 @@
 -- Where it is watched that an option may be opened.
-use Rattle.std.specs.Prelude.{◌≡◌, ℕ, ◌<◌, Bool, true, ◌||◌, ◌==◌, ◌⊎◌, List, [], length, Option, Some, None, slice_index_or}
+use Rattle.std.specs.Prelude.{◌≡◌, ℕ, ◌<◌, Bool, true, ◌||◌, ◌⊎◌, List, [], length, Option, Some, slice_index_or}
 use Rattle.std.specs.List.{list_any}
 use Rattle.mt_terms.specs.Lists.{has, until}
 use Rattle.mt_terms.specs.Market.{Market, Pair, applicants, agent_of, couple_of, list_of, live_market}

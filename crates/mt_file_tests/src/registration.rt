@@ -124,12 +124,7 @@ fn shows(alloc: Global, roster: &Roster, market: &str) -> Result<bool, Fail> {
 }
 
 /// Whether a file is accepted, and its market is the one of this text.
-fn gives<R: Threads + Sync>(
-    rt: &R,
-    alloc: Global,
-    file: &str,
-    market: &str,
-) -> Result<bool, Fail> {
+fn gives<R: Threads + Sync>(rt: &R, alloc: Global, file: &str, market: &str) -> Result<bool, Fail> {
     let rows = records(alloc, file.as_bytes())?;
     let roster = roster(rt, alloc, &rows)?;
     shows(alloc, &roster, market)

@@ -62,8 +62,8 @@ more_seen c cs = map-append list_seen c (flat_map (λ c. c) cs)
 
 -- What is known of blocks of lists, one by one, is known of the lists.
 module _ {X : Type 0} (ids : List Bytes) (numbers : List (Option X)) (most : ℕ) where
-  abbrev pub AreBlocks : List (List (Option Fields)) → List (Option (Block X)) → Type 0
-  AreBlocks chunks blocks = AllZip (λ c b. IsBlock ids numbers most (lists_seen c) b) chunks blocks
+  abbrev pub AreBlocksOf : List (List (Option Fields)) → List (Option (Block X)) → Type 0
+  AreBlocksOf chunks blocks = AllZip (λ c b. IsBlock ids numbers most (lists_seen c) b) chunks blocks
 
   abbrev side_by_side : List (List (Option Fields)) → List (List Bytes)
   side_by_side chunks = lists_seen (flat_map (λ c. c) chunks)
@@ -74,7 +74,7 @@ module _ {X : Type 0} (ids : List Bytes) (numbers : List (Option X)) (most : ℕ
     pub lists : flat_map lists_in blocks ≡ map (numbers_by ids numbers) all
 
   -- all are read
-  pub blocks_read : (chunks : List (List (Option Fields))) (blocks : List (Option (Block X))) → AreBlocks chunks blocks → list_all is_some blocks ≡ true
+  pub blocks_read : (chunks : List (List (Option Fields))) (blocks : List (Option (Block X))) → AreBlocksOf chunks blocks → list_all is_some blocks ≡ true
       → AreRead (side_by_side chunks) blocks
   blocks_read [] [] are all = record { stand = refl; entries = refl; lists = refl }
   blocks_read [] (b ∷ bs) are all = absurd are
@@ -102,7 +102,7 @@ module _ {X : Type 0} (ids : List Bytes) (numbers : List (Option X)) (most : ℕ
     both_count = ap (sum_by (length {A = Bytes})) (more_seen c cs) ∙ sum_by-append (length {A = Bytes}) (lists_seen c) (side_by_side cs)
 
   -- one wasn't read
-  one_fails : (chunks : List (List (Option Fields))) (blocks : List (Option (Block X))) → AreBlocks chunks blocks → list_all is_some blocks ≡ false
+  one_fails : (chunks : List (List (Option Fields))) (blocks : List (Option (Block X))) → AreBlocksOf chunks blocks → list_all is_some blocks ≡ false
       → list_all (stands_once ids) (side_by_side chunks) ≡ true → most < sum_by length (side_by_side chunks)
   one_fails [] [] are none h = cc
   one_fails [] (b ∷ bs) are none h = absurd are
@@ -111,7 +111,7 @@ module _ {X : Type 0} (ids : List Bytes) (numbers : List (Option X)) (most : ℕ
   one_fails (c ∷ cs) (Some b ∷ bs) are none h = omega (arith, both_count c cs h, one_fails cs bs are.1 none (both_stand c cs h).1)
 
   -- one wasn't read, or there is no room for all
-  pub blocks_fail : (chunks : List (List (Option Fields))) (blocks : List (Option (Block X))) → AreBlocks chunks blocks
+  pub blocks_fail : (chunks : List (List (Option Fields))) (blocks : List (Option (Block X))) → AreBlocksOf chunks blocks
       → (list_all is_some blocks ≡ true → most < sum_by entries_in blocks)
       → list_all (stands_once ids) (side_by_side chunks) ≡ true → most < sum_by length (side_by_side chunks)
   blocks_fail chunks blocks are fails h = by (list_all is_some blocks) refl
@@ -122,7 +122,7 @@ module _ {X : Type 0} (ids : List Bytes) (numbers : List (Option X)) (most : ℕ
 
   -- the lists are read where their blocks are joined
   pub lists_read : (lists : List (Option Fields)) (chunks : List (List (Option Fields))) (blocks : List (Option (Block X))) (left : ℕ) (new : Option (List (List X)))
-      → AreBlocks chunks blocks → flat_map (λ c. c) chunks ≡ lists → Joins most left blocks new → ReadsLists ids numbers most left (lists_seen lists) new
+      → AreBlocksOf chunks blocks → flat_map (λ c. c) chunks ≡ lists → Joins most left blocks new → ReadsLists ids numbers most left (lists_seen lists) new
   lists_read lists chunks blocks left None are whole joins =
       subst (λ (l : List (Option Fields)). ReadsLists ids numbers most left (lists_seen l) None) whole (blocks_fail chunks blocks are joins)
   lists_read lists chunks blocks left (Some new) are whole joins =
@@ -143,7 +143,7 @@ module _ {X : Type 0} (ids : List Bytes) (numbers : List (Option X)) (most : ℕ
       (r : Result (Vec (Option (Block X)) Global) AllocError) → 0 < size → n ≡ size → slice ≡ lists → map (λ (z : Bor (List (Option Fields))). z.now) zs ≡ chunks_of (max n 1) slice
       → AllZip (λ (z : Bor (List (Option Fields))) (r : Result (Option (Block X)) AllocError). IfOk r (IsBlock ids numbers most (lists_seen z.now))) zs made
       → MatchResult r (λ v. (bs : List (Option (Block X))) × (made ≡ map Ok bs) × (v.items ≡ bs)) (λ e. Contains made (Err e))
-      → IfOk r (λ v. AreBlocks (chunks_of size lists) v.items)
+      → IfOk r (λ v. AreBlocksOf (chunks_of size lists) v.items)
   blocks_by_threads lists slice size n zs made (Err e) pos is whole shown each gives = tt
   blocks_by_threads lists slice size n zs made (Ok v) pos is whole shown each gives =
       let P : List (Option Fields) → Option (Block X) → Type 0 = λ c b. IsBlock ids numbers most (lists_seen c) b in
@@ -156,8 +156,8 @@ module _ {X : Type 0} (ids : List Bytes) (numbers : List (Option X)) (most : ℕ
 -- Blocks that were read by the same ids and numbers, with the same room.
 pub same_blocks : {X : Type 0} (ids ids' : List Bytes) (numbers numbers' : List (Option X)) (most most' : ℕ) (chunks : List (List (Option Fields)))
     (r : Result (Vec (Option (Block X)) Global) AllocError) → ids' ≡ ids → numbers' ≡ numbers → most' ≡ most
-    → IfOk r (λ v. AreBlocks ids' numbers' most' chunks v.items) → IfOk r (λ v. AreBlocks ids numbers most chunks v.items)
+    → IfOk r (λ v. AreBlocksOf ids' numbers' most' chunks v.items) → IfOk r (λ v. AreBlocksOf ids numbers most chunks v.items)
 same_blocks {X = X} ids ids' numbers numbers' most most' chunks r p q s h =
-    subst (λ (i : List Bytes). IfOk r (λ v. AreBlocks i numbers most chunks v.items)) p
-    (subst (λ (n : List (Option X)). IfOk r (λ v. AreBlocks ids' n most chunks v.items)) q
-    (subst (λ (m : ℕ). IfOk r (λ v. AreBlocks ids' numbers' m chunks v.items)) s h))
+    subst (λ (i : List Bytes). IfOk r (λ v. AreBlocksOf i numbers most chunks v.items)) p
+    (subst (λ (n : List (Option X)). IfOk r (λ v. AreBlocksOf ids' n most chunks v.items)) q
+    (subst (λ (m : ℕ). IfOk r (λ v. AreBlocksOf ids' numbers' m chunks v.items)) s h))

@@ -1,8 +1,6 @@
 //! Lists by numbers, read in blocks side by side.
-ghost use Rattle.std.specs.Prelude.{◌≡◌, ◌++◌, ◌<◌, length, map, IfOk, OnOk};
-ghost use Rattle.std.specs.List.{AllZip};
-ghost use Rattle.rayon.specs.Lists.{chunks_of};
-ghost use Rattle.mt_roster.specs.Blocks.{IsBlock, Joins};
+ghost use Rattle.std.specs.Prelude.{◌≡◌, ◌++◌, ◌<◌, length, IfOk, OnOk};
+ghost use Rattle.mt_roster.specs.Blocks.{AreBlocks, IsBlock, Joins};
 ghost use Rattle.mt_roster.specs.Numbered.{lists_seen};
 ghost use Rattle.mt_roster.specs.Reading.{ReadsLists};
 
@@ -77,7 +75,7 @@ fn read_blocks<R: Threads + Sync, T: Copy + Drop + Send + Sync>(
 ) -> Result<Vec<Option<Block<T>>>, AllocError>
     requires numbers { length numbers.now ≡ length ids.now }
     requires size { 0 < size }
-    ensures { IfOk result (λ blocks. AllZip (λ c b. IsBlock ids.now numbers.now most (lists_seen c) b) (chunks_of size lists.now) blocks.items) }
+    ensures { IfOk result (λ blocks. AreBlocks ids.now numbers.now most size lists.now blocks.items) }
 {
     lists
         .par_chunks(size)

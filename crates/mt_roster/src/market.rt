@@ -115,7 +115,9 @@ fn market_by<R: Threads + Sync>(
         return Ok(None);
     };
     let numbers = numbers_of(alloc, &withdrawn, &records)?;
-    let Some((records, entries)) = read_entries(rt, alloc, limits, ids, &withdrawn, &numbers, records)?
+    let Some((records, entries)) = read_entries(
+        rt, alloc, limits, ids, &withdrawn, &numbers, records,
+    )?
     else {
         return Ok(None);
     };

@@ -264,8 +264,7 @@ pub(crate) fn entries_of<R: Threads + Sync>(
     ensures { IfOk result (ReadsEntries registered.now numbers.now room.old room.new (all_seen records.now)) }
 {
     let applicants = &registered.applicants;
-    let Some(rankings) = rankings(rt, alloc, applicants, &numbers.applicants, room, records)?
-    else {
+    let Some(rankings) = rankings(rt, alloc, applicants, &numbers.applicants, room, records)? else {
         return Ok(None);
     };
     let programs = &registered.programs;

@@ -1,4 +1,5 @@
-//! Seeds of tables. Each is made of all that its table will hold, so that nobody can choose beforehand what collides there.
+//! Seeds of tables. Each is made of all that its table will hold, so that nobody can choose beforehand what collides
+//! there.
 use mt_lists::Fields;
 use std::hash::{BuildHasher, DefaultHasher, FoldHasher, Hasher};
 

@@ -17,7 +17,10 @@ fn ids_of_each_version(rt: HostRuntime) -> Result<(), Fail> {
         let market = format!(in rt.alloc(); "applicant {id} single 0:\n")?;
         assert!(rt; gives(&rt, rt.alloc(), &file, &market)?, "{file}");
         let twice = format!(in rt.alloc(); "{file}applicant,{id}\n")?;
-        assert!(rt; is_refused(&rt, rt.alloc(), &twice, (17, 3, id))?, "{twice}");
+        assert!(rt;
+            is_refused(&rt, rt.alloc(), &twice, (17, 3, id))?,
+            "{twice}"
+        );
     }
     for (version, id) in [(1, BYTES_32), (2, BYTES_64)] {
         let file = format!(in rt.alloc(); "match,{version}\napplicant,{id}6\n")?;

@@ -1,4 +1,4 @@
-use Rattle.std.proofs.Common.{◌≡◌, ◌∙◌, ap, subst, sym}
+use Rattle.std.proofs.Common.{subst}
 use Rattle.mt_couples.specs.Looking.{AddsCouples, AddsSingles}
 use Rattle.mt_couples.specs.Watching.{row_at}
 use Rattle.mt_couples.proofs.LookFacts.{both_ok, covers_one}

@@ -1,4 +1,4 @@
-use Rattle.std.proofs.Common.{◌≡◌, ◌∷◌, [], true}
+use Rattle.std.proofs.Common.{◌∷◌, []}
 use Rattle.mt_couples.specs.Watching.{Covers}
 use Rattle.mt_couples.proofs.PlaceFacts.{has_read}
 use Rattle.mt_couples.proofs.WatchFacts.{each_all}

@@ -1,4 +1,4 @@
-use Rattle.std.proofs.Common.{◌≡◌, map, take}
+use Rattle.std.proofs.Common.{◌≡◌, take}
 use Rattle.mt_couples.specs.Watching.{FollowsAll}
 use Rattle.mt_couples.proofs.rounds.follow_displaced.Given as goal
 

@@ -1,8 +1,8 @@
-use Rattle.std.proofs.Common.{◌≡◌, ◌∙◌, nat_lt, ◌≤◌, ℕ, List, true, false, insert, length, sym, rules, ap, ap₂, subst, arith}
+use Rattle.std.proofs.Common.{◌≡◌, ◌∙◌, nat_lt, ◌≤◌, ℕ, List, true, false, insert, length, sym, rules, ap, subst}
 use Rattle.std.specs.List.Sorted.{IsNonDecreasing, IsPartitionPoint, IsStrictlySortedBy}
 use Rattle.std.specs.Ordering.{nat_cmp}
 use Rattle.std.specs.BTreeSet.{insert_key}
-use Rattle.mt_terms.specs.Lists.{count, has}
+use Rattle.mt_terms.specs.Lists.{has}
 use Rattle.std.proofs.lemmas.List.Sorted.{IsPartitionPoint-from_clause, IsPartitionedBy-ltb}
 use Rattle.std.proofs.lemmas.Map.Keys.{non_decreasing_from_sorted}
 use Rattle.mt_terms.proofs.ListFacts.{count_to_point}

@@ -1,7 +1,6 @@
-use Rattle.std.proofs.Common.{◌≡◌, ◌<◌, ℕ, Bool, true, length, take}
+use Rattle.std.proofs.Common.{◌≡◌, ◌<◌, ℕ, true, length, take}
 use Rattle.std.specs.List.{list_any}
 use Rattle.mt_terms.specs.Lists.{has}
-use Rattle.mt_terms.specs.Market.{couple_of}
 use Rattle.mt_couples.specs.Watching.{names, row_at, KeepsRows}
 use Rattle.mt_couples.proofs.watch.Watch.enter.Given as goal
 

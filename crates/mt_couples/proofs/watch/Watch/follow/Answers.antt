@@ -1,4 +1,3 @@
-use Rattle.std.proofs.Common.{◌∙◌, ap, sym, arith}
 use Rattle.mt_couples.proofs.WatchFacts.{if_ok, watched_now}
 use Rattle.mt_couples.proofs.watch.Watch.follow.Goals as goal
 

@@ -1,8 +1,8 @@
-use Rattle.std.proofs.Common.{◌≡◌, ◌∙◌, ◌<◌, ◌+◌, [], true, ap, sym, subst, inl, inr, arith}
+use Rattle.std.proofs.Common.{◌∙◌, ◌<◌, ap, sym, subst, inl, inr, arith}
 use Rattle.std.proofs.lemmas.Bool.{cases_eq, false≢true}
 use Rattle.mt_terms.specs.Lists.{has}
 use Rattle.mt_terms.specs.Market.{applicants}
-use Rattle.mt_couples.specs.Watching.{row_at, IsWatched}
+use Rattle.mt_couples.specs.Watching.{IsWatched}
 use Rattle.mt_couples.proofs.WatchFacts.{watched_now, watched_still}
 use Rattle.mt_couples.proofs.watch.Watch.new.Goals as goal
 
