@@ -17,11 +17,11 @@ use Rattle.mt_check.specs.declared.finding.Finding.{Finding}
 use Rattle.mt_terms.specs.declared.refusal.Refusal.{Refusal}
 use Rattle.mt_check.specs.Headline.{IsJudged, IsNamedRefusal, IsRefusal, by_records, market_in, most_bytes, of_bytes, told_in}
 use Rattle.mt_check.specs.Laws.{AnswersAreSo}
-use Rattle.mt_check.specs.Text.{is_code_of, refused_line}
+use Rattle.mt_check.specs.Text.{finding_line, is_code_of, refused_line}
 use Rattle.mt_check.specs.declared.source.Source.{Source}
 use Rattle.mt_check.specs.declared.source.Source.TheVariants.{Market, Match}
 use Rattle.mt_check.proofs.FaultFacts.{bytes_named, market_named, match_named}
-use Rattle.mt_check.proofs.FindingFacts.{code_small, finding_says, stable_code}
+use Rattle.mt_check.proofs.FindingFacts.{code_small, finding_says, stable_ends, stable_line_is}
 
 -- what the bytes of a file are, their records are
 rows_in : {X : Type 0} (of_rows : List (List Bytes) → Result X Fault) (bytes : List ℕ) (x : X) → of_bytes of_rows bytes ≡ Ok x → (rows : List (List Bytes)) × (of_rows rows ≡ Ok x)
@@ -64,7 +64,9 @@ module _ (market_bytes match_bytes : List ℕ) (code : ℕ) (text : List ℕ) wh
       let registration = accepted_is_registration_lem market_rows.0 r market_rows.1 in
       let places = tells_places_lem r registration match_rows.0 told match_rows.1 in
       let same : finding_code (finding_of r.market told) ≡ code = ap (λ (a : Answer). a.code) is in
-      let zero = stable_code r.market registration.well_formed told places.one_each in
+      let is_line : text ≡ finding_line r (finding_of r.market told) = sym (ap (λ (a : Answer). a.text) is) in
+      let line = stable_line_is r registration.well_formed told places.one_each in
+      let ends = stable_ends r (finding_of r.market told) in
       let small = code_small (finding_of r.market told) in (
         λ _. record {
           registered = r;
@@ -72,9 +74,10 @@ module _ (market_bytes match_bytes : List ℕ) (code : ℕ) (text : List ℕ) wh
           told = told;
           of_match = of_match;
           finding = finding_of r.market told;
-          is_text = sym (ap (λ (a : Answer). a.text) is);
+          is_text = is_line;
           is_so = finding_says r.market registration.well_formed told places.one_each;
-          stable = (λ none. zero.0 (same ∙ none), λ both. sym same ∙ zero.1 both);
+          stable = (λ stable. line.0 (sym is_line ∙ stable), λ both. is_line ∙ line.1 both);
+          ends = (λ none. is_line ∙ ends.0 (same ∙ none), λ stable. sym same ∙ ends.1 (sym is_line ∙ stable));
         },
         λ large. absurd (omega arith),
       )

@@ -1,7 +1,10 @@
 -- What a finding says, and that what it names is there.
-use Rattle.std.proofs.Common.{◌≡◌, ℕ, ◌≤◌, length, Option, None, Some, refl, arith}
-use Rattle.std.specs.Prelude.{◌↔◌, IsTrue}
-use Rattle.mt_terms.specs.Market.{Market, applicants}
+use Rattle.std.proofs.Common.{◌≡◌, ◌∙◌, ℕ, ◌≤◌, Bool, List, length, Option, None, Some, refl, sym, ap, subst, arith}
+use Rattle.std.specs.Prelude.{◌↔◌, ◌==◌, IsTrue, slice_index_or}
+use Rattle.mt_terms.specs.Market.{Market, Registered, applicants}
+use Rattle.mt_terms.specs.declared.numbers.Agent.{Agent}
+use Rattle.mt_terms.specs.declared.numbers.Agent.TheVariants.{Single, Couple}
+use Rattle.std.proofs.lemmas.Bool.{true≢false}
 use Rattle.mt_terms.specs.Stability.{stable}
 use Rattle.mt_terms.specs.Verdict.{verdict_of}
 use Rattle.mt_terms.specs.WellFormed.{IsWellFormed}
@@ -12,6 +15,7 @@ use Rattle.mt_match_laws.specs.Verdict.{VerdictSays}
 use Rattle.mt_match_laws.proofs.VerdictLemmas.{stable_verdict_lem, verdict_in_words_lem}
 use Rattle.mt_check.specs.Answer.{finding_code}
 use Rattle.mt_check.specs.Findings.{FindingSays, IsThere, finding_by, finding_of, first_differing}
+use Rattle.mt_check.specs.Text.{finding_line, stable_line}
 use Rattle.mt_check.specs.declared.finding.Finding.{Finding}
 use Rattle.mt_check.specs.declared.finding.Finding.TheVariants.{Of, Differs}
 
@@ -42,17 +46,38 @@ code_small (Of (Over p)) = omega arith
 code_small (Of (Blocks b)) = omega arith
 code_small (Differs row) = omega arith
 
-zero_is_stable : (m : Market) (told : Told) (f : Finding) → FindingSays m told f → finding_code f ≡ 0 → IsTrue (stable m told.places) × (first_differing m told ≡ None)
-zero_is_stable m told (Of Stable) says h = says
-zero_is_stable m told (Of (Unlisted a)) says h = absurd (omega arith)
-zero_is_stable m told (Of (Over p)) says h = absurd (omega arith)
-zero_is_stable m told (Of (Blocks b)) says h = absurd (omega arith)
-zero_is_stable m told (Differs row) says h = absurd (omega arith)
+-- the code is 0, and the line that of a stable match, for that finding alone
+zero_is_stable : (f : Finding) → finding_code f ≡ 0 → f ≡ Of Stable
+zero_is_stable (Of Stable) h = refl
+zero_is_stable (Of (Unlisted a)) h = absurd (omega arith)
+zero_is_stable (Of (Over p)) h = absurd (omega arith)
+zero_is_stable (Of (Blocks b)) h = absurd (omega arith)
+zero_is_stable (Differs row) h = absurd (omega arith)
 
--- the code is 0 exactly where the match is stable and its counts fit
-pub stable_code : (m : Market) → IsWellFormed m → (told : Told) → length told.places ≡ applicants m
-    → (finding_code (finding_of m told) ≡ 0) ↔ (IsTrue (stable m told.places) × (first_differing m told ≡ None))
-stable_code m h told one_each = (
-  zero_is_stable m told (finding_of m told) (finding_says m h told one_each),
-  λ both. let is : verdict_of m told.places ≡ Stable = (stable_verdict_lem m h told.places one_each).1 both.0 in rw (is, both.1) refl,
+-- the first byte of the word tells the lines apart
+word_is_stable : List ℕ → Bool
+word_is_stable text = slice_index_or text 8 0 == 115
+
+blocks_is_not_stable : (r : Registered) (g : Agent) (option : ℕ) → finding_line r (Of (Blocks (record { agent = g; option = option }))) ≡ stable_line → ⊥
+unfolding word_is_stable
+blocks_is_not_stable r (Single a) option h = true≢false (sym (ap word_is_stable h))
+blocks_is_not_stable r (Couple c) option h = true≢false (sym (ap word_is_stable h))
+
+line_is_stable : (r : Registered) (f : Finding) → finding_line r f ≡ stable_line → f ≡ Of Stable
+unfolding word_is_stable
+line_is_stable r (Of Stable) h = refl
+line_is_stable r (Of (Unlisted a)) h = absurd (true≢false (sym (ap word_is_stable h)))
+line_is_stable r (Of (Over p)) h = absurd (true≢false (sym (ap word_is_stable h)))
+line_is_stable r (Of (Blocks b)) h = absurd (blocks_is_not_stable r b.agent b.option h)
+line_is_stable r (Differs row) h = absurd (true≢false (sym (ap word_is_stable h)))
+
+pub stable_ends : (r : Registered) (f : Finding) → (finding_code f ≡ 0) ↔ (finding_line r f ≡ stable_line)
+stable_ends r f = (λ zero. ap (finding_line r) (zero_is_stable f zero), λ line. ap finding_code (line_is_stable r f line))
+
+-- the line is that of a stable match exactly where the match is stable and its counts fit
+pub stable_line_is : (r : Registered) → IsWellFormed r.market → (told : Told) → length told.places ≡ applicants r.market
+    → (finding_line r (finding_of r.market told) ≡ stable_line) ↔ (IsTrue (stable r.market told.places) × (first_differing r.market told ≡ None))
+stable_line_is r h told one_each = (
+  λ line. subst (λ (f : Finding). FindingSays r.market told f) (line_is_stable r (finding_of r.market told) line) (finding_says r.market h told one_each),
+  λ both. let is : verdict_of r.market told.places ≡ Stable = (stable_verdict_lem r.market h told.places one_each).1 both.0 in rw (is, both.1) refl,
 )

@@ -11,7 +11,7 @@ use Rattle.mt_terms.specs.declared.codes.TheConstants.{TOO_LARGE, TWO_MARKS}
 use Rattle.mt_terms.specs.declared.limits.TheConstants.{LIMITS_2}
 use Rattle.mt_match.specs.Told.{Told, told_by}
 use Rattle.mt_check.specs.Findings.{FindingSays, first_differing}
-use Rattle.mt_check.specs.Text.{finding_line, is_code_alone, is_code_of, refused_line}
+use Rattle.mt_check.specs.Text.{finding_line, is_code_alone, is_code_of, refused_line, stable_line}
 use Rattle.mt_check.specs.declared.finding.Finding.{Finding}
 use Rattle.mt_check.specs.declared.source.Source.{Source}
 use Rattle.std.specs.Prelude.{Some}
@@ -36,8 +36,9 @@ market_in bytes = of_bytes market_of bytes
 abbrev pub told_in : Registered → List ℕ → Result Told Fault
 told_in r bytes = of_bytes (told_by r) bytes
 
--- The bytes are a market and a match that is told of it, and the line says what is so of that match: that it is stable
--- by the market's lists and its counts fit it, exactly where both are so, or the first finding.
+-- The bytes are a market and a match that is told of it, and the line says what is so of that match: it is that of a
+-- stable match exactly where the match is stable by the market's lists and no record says other counts; and else it is
+-- that of the first finding.
 pub record IsJudged (market_bytes match_bytes : List ℕ) (code : ℕ) (text : List ℕ) : Type 0 where
   pub registered : Registered
   pub of_market : market_in market_bytes ≡ Ok registered
@@ -46,7 +47,8 @@ pub record IsJudged (market_bytes match_bytes : List ℕ) (code : ℕ) (text : L
   pub finding : Finding
   pub is_text : text ≡ finding_line registered finding
   pub is_so : FindingSays registered.market told finding
-  pub stable : (code ≡ 0) ↔ (IsTrue (stable registered.market told.places) × (first_differing registered.market told ≡ None))
+  pub stable : (text ≡ stable_line) ↔ (IsTrue (stable registered.market told.places) × (first_differing registered.market told ≡ None))
+  pub ends : (code ≡ 0) ↔ (text ≡ stable_line)
 
 -- What a refusal line may say of a file: a code of its refusals; an id or none; and neither a record nor an id where
 -- the code is no fault of its records.

@@ -21,6 +21,10 @@ use Rattle.mt_check.specs.declared.source.Source.TheVariants as source
 abbrev pub check_line : List Bytes → Bytes
 check_line fields = line (codes "check" ∷ codes "1" ∷ fields)
 
+-- the line of a stable match whose counts fit it
+abbrev pub stable_line : Bytes
+stable_line = check_line (codes "stable" ∷ [])
+
 -- an agent by its kind and its id, and where an option sends its members
 abbrev pub agent_fields : Names → Agent → List Bytes
 agent_fields names (Single a) = codes "applicant" ∷ name_of names.applicants a ∷ []
