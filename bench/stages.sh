@@ -11,8 +11,8 @@
 # process after it and the most so far, both in MiB, and a count of what it made. LAST `hash` stops after two passes
 # that hash each field once (bench/README.md), and LAST `table` after one that puts each field into a table of ids. LAST
 # `hall` goes on from `finish` with a hall for one worker, and LAST `crew` with one, two, four and eight workers, by the
-# clock of the wall, as `ranks`, `couples` and `verify` are, which several threads share. The scratch folder is $BENCH_SCRATCH, or
-# nrmatch-bench in the folder for temporary files.
+# clock of the wall, as `ranks`, `couples` and `verify` are, which several threads share. The scratch folder is
+# $BENCH_SCRATCH, or nrmatch-bench in the folder for temporary files.
 #
 # `build` proves nothing. `rt try` compiles without optimising, so its LLVM module is compiled a second time here, at
 # the level of a proved build. The checks at run time that `rt try` puts in stay, which a proved build has none of:
