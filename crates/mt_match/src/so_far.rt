@@ -55,10 +55,11 @@ impl SoFar {
     fn all_places(&self, alloc: Global) -> Result<Vec<Option<ProgNo>>, AllocError>
         ensures { IfOk result (λ v. v.items ≡ map (λ place. unwrap_or place None) self.now.places.items) }
     {
-        self.places
-            .iter()
-            .map(|place| (*place).flatten())
-            .collect(alloc)
+        let mut places = Vec::with_capacity(alloc, self.places.len())?;
+        for place in &self.places {
+            places.push((*place).flatten())?;
+        }
+        Ok(places)
     }
 
     /// The match that is told, where each applicant has its place.
