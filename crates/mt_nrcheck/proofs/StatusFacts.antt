@@ -1,0 +1,44 @@
+-- What an exit status says of the words.
+use Rattle.std.proofs.Common.{◌≡◌, ℕ, zero, suc, Bool, true, false, List, [], ◌∷◌, refl, sym, subst, inl, nat_le, arith, ◌≤◌}
+use Rattle.std.specs.Prelude.{◌==◌, if◌then◌else◌}
+use Rattle.std.proofs.lemmas.Bool.Decides.{nat_tests}
+use Rattle.clap.specs.Words.{Text, fault_of}
+use Rattle.mt_terms.specs.Lists.{has}
+use Rattle.mt_check.specs.Status.{status_of}
+use Rattle.mt_nrcheck.specs.CommandLine.{nrcheck}
+use Rattle.mt_nrcheck.specs.Program.{IsExitFor}
+
+-- a status of a check
+record IsOfCheck (status : ℕ) : Type 0 where
+  known : has (0 ∷ 1 ∷ 2 ∷ 4 ∷ 5 ∷ 64 ∷ []) status ≡ true
+  small : status ≤ 5
+
+small_is : (code : ℕ) → nat_le code 1 ≡ true → code ≤ 1
+small_is code h = grind (arith, nat_tests)
+
+at_most_one : (code : ℕ) → nat_le code 1 ≡ true → IsOfCheck code
+at_most_one zero h = record { known = refl; small = omega arith }
+at_most_one (suc zero) h = record { known = refl; small = omega arith }
+at_most_one (suc (suc code)) h = let low : suc (suc code) ≤ 1 = small_is (suc (suc code)) h in absurd (omega arith)
+
+of_check : (code : ℕ) (whole : Bool) → IsOfCheck (status_of code whole)
+of_check code false = record { known = refl; small = omega arith }
+of_check code true = by (nat_le code 1) (code == 30) (code == 31) (at_most_one code)
+  where
+    by : (a b c : Bool) → (a ≡ true → IsOfCheck code) → IsOfCheck (if a then code else if b then 4 else if c then 5 else 2)
+    by true b c h = h refl
+    by false true c h = record { known = refl; small = omega arith }
+    by false false true h = record { known = refl; small = omega arith }
+    by false false false h = record { known = refl; small = omega arith }
+
+pub exit_of_check : (words : List Text) (code status : ℕ) (whole : Bool) → status ≡ status_of code whole → fault_of nrcheck words ≡ [] → IsExitFor words status
+exit_of_check words code status whole is taken =
+    let of : IsOfCheck status = subst IsOfCheck (sym is) (of_check code whole) in
+    let small : status ≤ 5 = of.small in
+    record { known = of.known; misuse = λ h. absurd (omega arith); taken = λ h. taken; done = λ h. inl taken }
+
+pub exit_without_memory : (words : List Text) (status : ℕ) (whole : Bool) → status ≡ (if whole then 4 else 5) → IsExitFor words status
+exit_without_memory words status true is =
+    subst (IsExitFor words) (sym is) (record { known = refl; misuse = λ h. absurd (omega arith); taken = λ h. cc; done = λ h. absurd (omega arith) })
+exit_without_memory words status false is =
+    subst (IsExitFor words) (sym is) (record { known = refl; misuse = λ h. absurd (omega arith); taken = λ h. cc; done = λ h. absurd (omega arith) })

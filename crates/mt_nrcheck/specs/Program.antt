@@ -1,0 +1,35 @@
+-- What the program does with two readers and a writer, and how it ends.
+use Rattle.std.specs.Prelude.{◌≡◌, ◌⊎◌, ℕ, ◌≤◌, Bool, List, [], ◌∷◌, length, take, Option, IsTrue, if◌then◌else◌}
+use Rattle.std.specs.Io.KnownBytes.{Appends}
+use Rattle.clap.specs.Words.{Text, fault_of}
+use Rattle.mt_terms.specs.Lists.{has}
+use Rattle.mt_check.specs.Answer.{Answers}
+use Rattle.mt_check.specs.Status.{status_of}
+use Rattle.mt_nrcheck.specs.CommandLine.{AreMisuse, AskToBeTold, nrcheck}
+
+-- The program checked a match: what it did to its writer answers what its readers had left, and it ends with the status
+-- of that.
+pub record IsCheck (market matched old new : Option (List ℕ)) (status : ℕ) : Type 0 where
+  pub code : ℕ
+  pub written : ℕ
+  pub whole : Bool
+  pub answers : Answers market matched old new code written whole
+  pub is_status : status ≡ status_of code whole
+
+-- The program wrote a text, or its first bytes, and ends with this status where all of it was written, and with that
+-- one where it wasn't.
+pub record IsTold (text : List ℕ) (done undone : ℕ) (old new : Option (List ℕ)) (status : ℕ) : Type 0 where
+  pub written : ℕ
+  pub whole : Bool
+  pub appended : Appends old new (take written text)
+  pub within : written ≤ length text
+  pub all : IsTrue whole → written ≡ length text
+  pub is_status : status ≡ (if whole then done else undone)
+
+-- what an exit status says of the words of the command line: 64 that they are misuse; 1 and 2 that the command takes
+-- them; 0 that it does, or that they ask for help or the version; 4 and 5 nothing
+pub record IsExitFor (words : List Text) (status : ℕ) : Type 0 where
+  pub known : IsTrue (has (0 ∷ 1 ∷ 2 ∷ 4 ∷ 5 ∷ 64 ∷ []) status)
+  pub misuse : status ≡ 64 → AreMisuse words
+  pub taken : IsTrue (has (1 ∷ 2 ∷ []) status) → fault_of nrcheck words ≡ []
+  pub done : status ≡ 0 → (fault_of nrcheck words ≡ []) ⊎ AskToBeTold words
