@@ -45,11 +45,7 @@ fn bytes_of<R: Read>(alloc: Global, tap: &mut Tap<R>) -> Result<Vec<u8>, Refusal
 }
 
 /// The roster of a market's records, or the market's refusal.
-fn roster_of<T: Threads + Sync>(
-    rt: &T,
-    alloc: Global,
-    rows: &Rows<'_>,
-) -> Result<Roster, Refusal>
+fn roster_of<T: Threads + Sync>(rt: &T, alloc: Global, rows: &Rows<'_>) -> Result<Roster, Refusal>
     ensures market { IfOk result (λ roster. market_of rows.now ≡ Ok roster) }
     ensures refused { IfErr result (IsRefusalIn Source.Market (market_of rows.now)) }
 {

@@ -1,7 +1,7 @@
 //! Bytes to records: reads that fail, limits, and the rows of a file as a spreadsheet writes it.
 
-use mt_samples::devices::{Endless, Pieces};
 use mt_lists::{ListFault, ReadEnd, Row, Rows, SourceFault, Tap, laws, read_all, records};
+use mt_samples::devices::{Endless, Pieces};
 use std::alloc::{AllocError, Global};
 use std::io::ErrorKind;
 use std::process::Abort;

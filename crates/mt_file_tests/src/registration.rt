@@ -8,8 +8,8 @@ mod markets;
 mod withdrawals;
 
 use mt_lists::{ListFault, records};
-use mt_terms::{Agent, AppNo, CoupleNo, ProgNo};
 use mt_roster::{Roster, RosterError, roster};
+use mt_terms::{Agent, AppNo, CoupleNo, ProgNo};
 use std::alloc::Global;
 use std::process::Abort;
 use std::test::Fail;

@@ -1,9 +1,9 @@
 //! The text of a match and the lines of refusals, byte for byte.
 
+use mt_report::{published, refused};
 use mt_samples::markets::{CHAIN, CHAIN_TEXT, roster_of};
 use mt_samples::places::are_places;
 use mt_terms::{Match, Places, ProgNo};
-use mt_report::{published, refused};
 use std::process::Abort;
 use std::test::Fail;
 

@@ -1,8 +1,8 @@
 //! Texts into writers that take little at a time, fail, or take nothing.
 
+use mt_report::{Drain, put_all};
 use mt_samples::devices::{Faltering, Narrow};
 use mt_samples::markets::CROSSED_TEXT as TEXT;
-use mt_report::{Drain, put_all};
 use std::alloc::Global;
 use std::process::Abort;
 use std::test::Fail;

@@ -2,11 +2,11 @@
 ghost use Rattle.std.specs.Prelude.{◌≡◌, ◌+◌, ◌≤◌};
 ghost use Rattle.mt_terms.specs.Market.{applicants};
 
-use mt_samples::markets::{CHAIN, CROSSED, roster_of};
 use mt_crew::{Gate, Open, Singles, work};
 use mt_hall::{Answer, Hall, HallName, Pass};
-use mt_terms::{AppNo, ProgNo};
 use mt_ranks::Ranks;
+use mt_samples::markets::{CHAIN, CROSSED, roster_of};
+use mt_terms::{AppNo, ProgNo};
 use std::alloc::{AllocError, Global};
 use std::marker::Brand;
 use std::process::Abort;

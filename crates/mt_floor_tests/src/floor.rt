@@ -2,10 +2,10 @@
 ghost use Rattle.mt_terms.specs.Floor.{IsRecorded};
 ghost use Rattle.mt_core.specs.Floors.{floor_of, IsOpenedWith};
 
-use mt_samples::markets::{BETWEEN, CHAIN, roster_of};
 use mt_core::{Event, Floor, Reply, apply, finish, made, quiet, received, result, run};
-use mt_terms::{AppNo, ProgNo};
 use mt_ranks::Ranks;
+use mt_samples::markets::{BETWEEN, CHAIN, roster_of};
+use mt_terms::{AppNo, ProgNo};
 use std::alloc::{AllocError, Global};
 use std::process::Abort;
 use std::test::Fail;

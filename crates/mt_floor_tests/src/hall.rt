@@ -4,10 +4,10 @@ ghost use Rattle.mt_terms.specs.Market.{applicants};
 ghost use Rattle.mt_core.specs.Floors.{IsOpenedWith};
 
 use crate::floor::{expect_chain_end, expect_finished};
-use mt_samples::markets::{BETWEEN, CHAIN, roster_of};
 use mt_hall::{Answer, Audit, Hall, HallName, Pass};
-use mt_terms::{AppNo, ProgNo};
 use mt_ranks::Ranks;
+use mt_samples::markets::{BETWEEN, CHAIN, roster_of};
+use mt_terms::{AppNo, ProgNo};
 use std::alloc::{AllocError, Global};
 use std::marker::Brand;
 use std::process::Abort;

@@ -1,9 +1,9 @@
 //! The rank tables of two markets, by all readers.
 ghost use Rattle.std.specs.Prelude.{◌<◌, length};
 
+use mt_ranks::{Live, Ranks};
 use mt_samples::markets::{BETWEEN, roster_of};
 use mt_terms::{AppNo, ProgNo};
-use mt_ranks::{Live, Ranks};
 use std::alloc::{AllocError, Global};
 use std::process::Abort;
 use std::test::Fail;

@@ -3,13 +3,13 @@
 ghost use Rattle.std.specs.Prelude.{◌≡◌};
 ghost use Rattle.mt_ranks.specs.Ranked.{ranked_of};
 
-use mt_samples::markets::{BETWEEN, CHAIN, CROSSED, HALF_PAIR, THREE_COUPLES, roster_of};
-use mt_samples::places::are_places;
 use crate::plain::{plain_rank, plain_verdict};
-use mt_samples::singles::singles;
-use mt_terms::{AppNo, Match, Places, ProgNo};
 use mt_ranks::Ranks;
 use mt_roster::Roster;
+use mt_samples::markets::{BETWEEN, CHAIN, CROSSED, HALF_PAIR, THREE_COUPLES, roster_of};
+use mt_samples::places::are_places;
+use mt_samples::singles::singles;
+use mt_terms::{AppNo, Match, Places, ProgNo};
 use mt_verify::verify;
 use std::alloc::{AllocError, Global};
 use std::process::Abort;

@@ -1,7 +1,7 @@
 //! The rank of an applicant and the finding against a match, each by a plain search from the rules, on one thread and
 //! with no table. Numbers of no applicant, program or couple have no rank, and aren't taken.
-use mt_terms::{Agent, AppNo, Blocker, CoupleNo, Match, ProgNo, Verdict};
 use mt_roster::Roster;
+use mt_terms::{Agent, AppNo, Blocker, CoupleNo, Match, ProgNo, Verdict};
 
 /// The applicant's position on the program's list.
 pub(crate) fn plain_rank(roster: &Roster, program: ProgNo, applicant: AppNo) -> Option<u32> {

@@ -2,12 +2,12 @@
 ghost use Rattle.std.specs.Prelude.{◌≡◌};
 ghost use Rattle.mt_ranks.specs.Ranked.{ranked_of};
 
-use mt_samples::markets::{HALF_PAIR, roster_of};
-use mt_samples::singles::singles;
 use mt_couples::{CoupleEnd, Entered, enter_all};
-use mt_terms::ProgNo;
 use mt_ranks::Ranks;
 use mt_roster::Roster;
+use mt_samples::markets::{HALF_PAIR, roster_of};
+use mt_samples::singles::singles;
+use mt_terms::ProgNo;
 use std::alloc::Global;
 use std::process::Abort;
 use std::test::Fail;

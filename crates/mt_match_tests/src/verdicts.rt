@@ -1,12 +1,12 @@
 //! Matches given by hand, and the finding against each, worked out from the rules beside it. A match is written as the
 //! places of the applicants in order of registration, `-` for none; a finding by ids, with the position from 0 of the
 //! option that would be taken.
-use mt_samples::markets::roster_of;
-use mt_samples::places::are_places;
 use crate::plain::plain_verdict;
-use mt_terms::{Agent, Blocker, Match, Places, ProgNo};
 use mt_ranks::Ranks;
 use mt_roster::Roster;
+use mt_samples::markets::roster_of;
+use mt_samples::places::are_places;
+use mt_terms::{Agent, Blocker, Match, Places, ProgNo};
 use mt_verify::{Verdict, verify};
 use std::alloc::{AllocError, Global};
 use std::process::Abort;

@@ -8,7 +8,7 @@ use std::alloc::{AllocError, Global};
 /// The version of the program, and the line of the toolchain that it was proved with.
 const VERSION: &str = "\
 1.0.0
-Proved with rattle-kit-13b logic dac8208d650f15bf.";
+Proved with rattle-kit-13f logic dac8208d650f15bf.";
 
 const ABOUT: &str = "\
 Whether a residency match is stable by the rank order lists of a market,

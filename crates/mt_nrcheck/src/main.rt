@@ -38,7 +38,11 @@ const NO_TEXT: &str = "error: invalid UTF-8 was detected in one or more argument
 
 /// The words after the program's name. One that is not UTF-8 is an error.
 fn words_of(rt: &HostRuntime) -> io::Result<Vec<String>> {
-    Ok(env::args(rt)?.skip(1).collect::<Vec<String>>(rt.alloc())?)
+    let mut words = Vec::new(rt.alloc());
+    for word in env::args(rt)?.skip(1) {
+        words.push(word)?;
+    }
+    Ok(words)
 }
 
 /// Checks the match that one reader gives by the market that another gives, and gives the exit status.

@@ -1,14 +1,14 @@
 //! Whole runs: one for each exit, the same text for all workers and pieces, and devices that fail.
 ghost use Rattle.std.specs.Prelude.{◌≤◌};
 
+use mt_lists::Tap;
+use mt_report::Drain;
+use mt_run::{Ended, Options, run};
 use mt_samples::devices::{Endless, Narrow, Pieces};
 use mt_samples::markets::{
     CHAIN, CHAIN_TEXT, CROSSED, CROSSED_TEXT, HALF_PAIR, HALF_PAIR_TEXT, THREE_COUPLES,
     THREE_COUPLES_TEXT,
 };
-use mt_lists::Tap;
-use mt_report::Drain;
-use mt_run::{Ended, Options, run};
 use std::alloc::{AllocGlobal, Global};
 use std::io::{ErrorKind, Read};
 use std::process::Abort;

@@ -2,11 +2,11 @@
 ghost use Rattle.std.specs.Prelude.{◌≡◌, ◌+◌, ◌≤◌};
 ghost use Rattle.mt_terms.specs.Market.{applicants};
 
-use mt_samples::markets::{CHAIN, SampleError, roster_of};
-use mt_samples::singles::singles;
 use mt_crew::{Open, work};
 use mt_hall::{Hall, HallName};
 use mt_ranks::Ranks;
+use mt_samples::markets::{CHAIN, SampleError, roster_of};
+use mt_samples::singles::singles;
 use mt_tally::{deal, settle, take_desk, take_pass};
 use mt_terms::ProgNo;
 use std::alloc::Global;

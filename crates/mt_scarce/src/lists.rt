@@ -1,10 +1,10 @@
 //! The calls on bytes, records and words, and those on a roster alone.
 
-use mt_samples::markets::{CHAIN, SampleError, roster_of};
 use mt_args::{AskEnd, Asked, asked};
 use mt_hold::Hold;
 use mt_lists::{ListFault, ReadEnd, Tap, read_all, records};
 use mt_ranks::Ranks;
+use mt_samples::markets::{CHAIN, SampleError, roster_of};
 use mt_terms::{AppNo, LIMITS, ProgNo};
 use std::alloc::{AllocError, Global};
 use std::thread::Threads;
@@ -67,9 +67,11 @@ pub(crate) fn registers<T: Threads + Sync>(rt: &T, alloc: Global) -> Result<bool
     if roster.applicants() != 3 || roster.programs() != 2 {
         return Ok(false);
     }
-    Ok(roster.program_list(ProgNo(0)).len() == 3
-        && roster.single_list(AppNo(2)).len() == 1
-        && roster.applicant_id(AppNo(1)) == b"a2".as_slice())
+    Ok(
+        roster.program_list(ProgNo(0)).len() == 3
+            && roster.single_list(AppNo(2)).len() == 1
+            && roster.applicant_id(AppNo(1)) == b"a2".as_slice(),
+    )
 }
 
 /// Whether the rank tables of a roster are made.

@@ -11,11 +11,10 @@ mod runs;
 
 use outcomes::{CALLS, Outcome, outcome_of};
 use std::alloc::Global;
-use std::env;
-use std::io;
 use std::process::ExitCode;
 use std::sync::Wait;
 use std::thread::Threads;
+use std::{env, io};
 
 /// The exit status where an answer was another than it should be.
 const WRONG: u8 = 255;

@@ -3,8 +3,8 @@ ghost use Rattle.std.specs.Prelude.{◌≤◌};
 
 use crate::floors::{closes, deals, finishes, works};
 use crate::lists::{asks, holds, ranks, reads, registers, splits};
-use mt_samples::markets::{CHAIN, CHAIN_TEXT, SampleError, TWO_COUPLES, TWO_COUPLES_TEXT};
 use crate::runs::{enters, judges, publishes, runs};
+use mt_samples::markets::{CHAIN, CHAIN_TEXT, SampleError, TWO_COUPLES, TWO_COUPLES_TEXT};
 use std::alloc::Global;
 use std::sync::Wait;
 use std::thread::Threads;

@@ -1,14 +1,14 @@
 //! The couples' rounds, the judge, the text, and whole runs.
 ghost use Rattle.std.specs.Prelude.{◌≤◌};
 
-use mt_samples::markets::{CHAIN, CHAIN_TEXT, SampleError, TWO_COUPLES, roster_of};
-use mt_samples::places::are_places;
-use mt_samples::singles::singles;
 use mt_couples::{CoupleEnd, enter_all};
 use mt_lists::Tap;
 use mt_ranks::Ranks;
 use mt_report::{Drain, published};
 use mt_run::{Options, run};
+use mt_samples::markets::{CHAIN, CHAIN_TEXT, SampleError, TWO_COUPLES, roster_of};
+use mt_samples::places::are_places;
+use mt_samples::singles::singles;
 use mt_terms::codes::OUT_OF_MEMORY;
 use mt_terms::{Agent, AppNo, Blocker, Match, Places, ProgNo};
 use mt_verify::{Verdict, verify};
@@ -27,7 +27,13 @@ pub(crate) fn enters<T: Threads + Sync>(rt: &T, alloc: Global) -> Result<bool, S
     let singles = singles(alloc, &roster, &ranks)?;
     match enter_all(rt, alloc, &roster, &ranks, singles, 5) {
         Ok(entered) => {
-            let places = [Some(ProgNo(0)), None, None, Some(ProgNo(0)), Some(ProgNo(1))];
+            let places = [
+                Some(ProgNo(0)),
+                None,
+                None,
+                Some(ProgNo(0)),
+                Some(ProgNo(1)),
+            ];
             Ok(entered.matched.places.as_slice() == places.as_slice() && entered.rounds == 5)
         }
         Err(CoupleEnd::BudgetSpent) => Ok(false),
@@ -104,10 +110,7 @@ pub(crate) fn runs<T: Threads + Wait + Sync>(
         len: 0,
     };
     let mut drain = Drain::new(&mut page);
-    let options = Options {
-        workers,
-        budget: 5,
-    };
+    let options = Options { workers, budget: 5 };
     let ended = run(rt, alloc, &mut Tap::new(input), &mut drain, options);
     let written = &page.bytes[..page.len];
     if ended.code == OUT_OF_MEMORY && ended.whole && written == OUT_OF_MEMORY_LINE {
