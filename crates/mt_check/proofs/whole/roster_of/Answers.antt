@@ -6,5 +6,5 @@ use Rattle.mt_check.proofs.FaultFacts.{market_refusal}
 use Rattle.mt_check.proofs.whole.roster_of.Goals as goal
 
 pub returns-in-Err-Fault-clause-refused : goal.returns-in-Err-Fault-clause-refused
-returns-in-Err-Fault-clause-refused c =
+returns-in-Err-Fault-clause-refused g c =
     market_refusal c.args.rows.now c.in-Err-Fault.fault (subst (λ (e : RosterError). Tells e (market_of c.args.rows.now)) c.in-Err-Fault.field-0-is c.in-Err-Fault.ensures.fault)
