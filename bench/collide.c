@@ -1,10 +1,12 @@
-/* Writes ids, one a line, that all begin their search in one place of a table of ids with that many entries.
+/* Writes ids, one a line, that all begin their search in one place of a table with that many entries, if the table hashes
+ * by the fixed seed of std's hasher.
  *
  *     cc -O2 -o collide bench/collide.c && ./collide 100000 > ids
  *     bench/market.py --names ids --singles 100000 --programs 20000 --couples 0 --list 20
  *
- * The hasher of such a table has a fixed seed, so these ids can be looked for beforehand: each is a letter and seven
- * digits of base 62. Each search then runs past all entries before it, so the time grows with their square.
+ * Such ids can be looked for beforehand: each is a letter and seven digits of base 62. Each search then runs past all
+ * entries before it, so the time grows with their square. The tables of ids hash by a seed that is made of all that they
+ * will hold (mt_roster's seed.rt), so there these ids are like others.
  */
 #include <stdint.h>
 #include <stdio.h>
