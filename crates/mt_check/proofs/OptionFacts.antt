@@ -6,7 +6,7 @@ use Rattle.std.proofs.lemmas.Bool.{and_parts}
 use Rattle.std.proofs.lemmas.Bool.Decides.{nat_tests}
 use Rattle.std.proofs.lemmas.List.{get_or-map, length-map}
 use Rattle.mt_file_laws.proofs.IdFacts.{or_right}
-use Rattle.mt_roster.proofs.DigitFacts.{passes_at}
+use Rattle.mt_ids.proofs.DigitFacts.{passes_at}
 use Rattle.mt_terms.specs.Lists.{has}
 use Rattle.mt_terms.specs.Market.{Pair, Registered, couple_of, list_of}
 use Rattle.mt_terms.specs.Matching.{couple_placement, options, single_placement}

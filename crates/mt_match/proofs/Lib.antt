@@ -1,5 +1,3 @@
-pub mod NumberFacts
-pub mod IdFacts
 pub mod FaultFacts
 pub mod PlaceFacts
 pub mod ReadingFacts

@@ -16,7 +16,7 @@ use Rattle.mt_match.specs.Told.{SoFar, Told, after, all_told, applicant_line, ch
 use Rattle.mt_match.specs.declared.line.Line.{Line}
 use Rattle.mt_match.specs.declared.line.Line.TheVariants.{Counts, Head, Place}
 use Rattle.mt_match.specs.declared.told_match.Count.TheVariants as count
-use Rattle.mt_match.proofs.IdFacts.{found_below}
+use Rattle.mt_ids.proofs.IdFacts.{found_below}
 
 -- what a record tells is of these ids: an applicant, and a place that is a program or none
 abbrev pub FitsLine : Names → Line → Type 0

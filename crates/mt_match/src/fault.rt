@@ -1,7 +1,7 @@
 ghost use Rattle.std.specs.Prelude.{◌≡◌, ◌≤◌, [], length};
 ghost use Rattle.mt_match.specs.Told.{shown};
 
-use crate::fields::is_id;
+use mt_ids::is_id;
 use mt_terms::{IdText, LIMITS_2, Refusal};
 use std::alloc::AllocError;
 use thiserror::Error;

@@ -3,59 +3,35 @@ ghost use Rattle.mt_terms.specs.Registration.Accepted.{IsRegistration};
 ghost use Rattle.mt_terms.specs.Registration.Ids.{has_id};
 ghost use Rattle.mt_match.specs.Told.{place_named};
 
-use crate::fields::is_dash;
-use indexmap::IndexSet;
+use mt_ids::{IdTable, Seed, is_dash};
 use mt_market::Roster;
 use mt_terms::{AppNo, ProgNo};
 use std::alloc::{AllocError, Global};
-use std::marker::Model;
+use std::hash::{DefaultHasher, Hasher};
 
-/// Ids by number, each of them once.
-#[derive(Drop)]
-struct IdTable<'a> {
-    ids: IndexSet<&'a [u8]>,
+/// The seed of a table of the programs' ids.
+fn programs_seed(roster: &Roster) -> Seed {
+    let mut digest = DefaultHasher::new();
+    for number in 0..roster.programs() {
+        digest.write(roster.program_id(ProgNo(number)));
+    }
+    Seed::of(&digest)
 }
 
-impl<'a> Model for IdTable<'a> {
-    ghost use Rattle.std.specs.Prelude.{List, ℕ, map};
-
-    ghost Value = { List (List ℕ) };
-
-    ghost view = { λ table. map (λ id. id.now) table.ids.keys };
-}
-
-impl<'a> IdTable<'a> {
-    /// No ids, with room for some.
-    fn with_capacity(alloc: Global, capacity: usize) -> Result<Self, AllocError>
-        ensures { IfOk result (λ table. table ≡ []) }
-    {
-        Ok(IdTable {
-            ids: IndexSet::with_capacity(alloc, capacity)?,
-        })
+/// The seed of a table of the applicants' ids.
+fn applicants_seed(roster: &Roster) -> Seed {
+    let mut digest = DefaultHasher::new();
+    for number in 0..roster.applicants() {
+        digest.write(roster.applicant_id(AppNo(number)));
     }
-
-    /// The number of an id, from 0, if it is one of them.
-    fn number(&self, id: &[u8]) -> Option<usize>
-        ensures { result ≡ position (bytes_eq id.now) self.now }
-    {
-        self.ids.get_index_of(&id)
-    }
-
-    /// Adds an id that is none of them at the end.
-    fn push(&mut self, id: &'a [u8]) -> Result<(), AllocError>
-        requires { has_id self.old id.now ≡ false }
-        ensures { OnOk result (self.new ≡ self.old ++ id.now ∷ []) }
-    {
-        self.ids.insert(id)?;
-        Ok(())
-    }
+    Seed::of(&digest)
 }
 
 /// The ids of the programs.
 fn programs(alloc: Global, roster: &Roster) -> Result<IdTable<'_>, AllocError>
     ensures { IfOk result (λ table. table ≡ roster.entry.now.names.programs) }
 {
-    let mut table = IdTable::with_capacity(alloc, roster.programs() as usize)?;
+    let mut table = IdTable::with_capacity(alloc, roster.programs() as usize, programs_seed(roster))?;
     for number in 0..roster.programs() {
         table.push(roster.program_id(ProgNo(number)))?;
     }
@@ -66,7 +42,7 @@ fn programs(alloc: Global, roster: &Roster) -> Result<IdTable<'_>, AllocError>
 fn applicants(alloc: Global, roster: &Roster) -> Result<IdTable<'_>, AllocError>
     ensures { IfOk result (λ table. table ≡ roster.entry.now.names.applicants) }
 {
-    let mut table = IdTable::with_capacity(alloc, roster.applicants() as usize)?;
+    let mut table = IdTable::with_capacity(alloc, roster.applicants() as usize, applicants_seed(roster))?;
     for number in 0..roster.applicants() {
         table.push(roster.applicant_id(AppNo(number)))?;
     }

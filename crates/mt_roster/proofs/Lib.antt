@@ -1,5 +1,3 @@
-pub mod DigitFacts
-pub mod KeyFacts
 pub mod FieldFacts
 pub mod RepeatFacts
 pub mod NameFacts

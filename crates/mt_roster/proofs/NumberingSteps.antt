@@ -53,33 +53,6 @@ take_whole xs ys n h e =
     let none : drop (length xs) ys ≡ [] = drop_all (length xs) ys (omega arith) in
     rw (none, append-nil) (take_all n xs (omega arith))
 
--- an id has a number where it is one of these
-number_there : (ids : List Bytes) (id : Bytes) → nat_lt (number_of ids id) (length ids) ≡ has_id ids id
-number_there [] id = refl
-number_there (y ∷ ys) id = by (bytes_eq id y) (number_there ys id)
-  where
-    by : (b : Bool) → nat_lt (number_of ys id) (length ys) ≡ has_id ys id → nat_lt (cond (not b) (1 + number_of ys id) 0) (suc (length ys)) ≡ (b || has_id ys id)
-    by true ih = grind (arith, nat_tests)
-    by false ih = grind (arith, nat_tests)
-
-position-is : (ids : List Bytes) (id : Bytes) → position (bytes_eq id) ids ≡ (if has_id ids id then Some (number_of ids id) else None)
-position-is ids id = rw (number_there ids id) refl
-
--- an id that was looked up
-pub found_id : (ids : List Bytes) (id : Bytes) (n : ℕ) → Some n ≡ position (bytes_eq id) ids → (has_id ids id ≡ true) × (number_of ids id ≡ n)
-found_id ids id n h = by (has_id ids id) (h ∙ position-is ids id)
-  where
-    by : (b : Bool) → Some n ≡ (if b then Some (number_of ids id) else None) → (b ≡ true) × (number_of ids id ≡ n)
-    by true e = (refl, cc)
-    by false e = cc
-
-pub missing_id : (ids : List Bytes) (id : Bytes) → None ≡ position (bytes_eq id) ids → has_id ids id ≡ false
-missing_id ids id h = by (has_id ids id) (h ∙ position-is ids id)
-  where
-    by : (b : Bool) → None ≡ (if b then Some (number_of ids id) else None) → b ≡ false
-    by true e = cc
-    by false e = refl
-
 -- what is so of each applicant is so of the two members of a couple
 pub members_pass : (test : Bytes → Bool) (records : List Checked) (i : ℕ) (r : Checked) (a b : Bytes) → i < length records → r ≡ get_or records i r
     → applicants_of (record_seen r) ≡ a ∷ b ∷ [] → list_all test (applicant_ids (all_seen records)) ≡ true → (test a ≡ true) × (test b ≡ true)

@@ -13,4 +13,3 @@ pub mod Markets
 pub mod Passes
 pub mod Faults
 pub mod Read
-pub mod Keys

@@ -4,7 +4,7 @@ ghost use Rattle.mt_roster.specs.Blocks.{AreBlocks, IsBlock, Joins};
 ghost use Rattle.mt_roster.specs.Numbered.{lists_seen};
 ghost use Rattle.mt_roster.specs.Reading.{ReadsLists};
 
-use crate::id_table::IdTable;
+use mt_ids::IdTable;
 use crate::numbering::read_lists;
 use mt_lists::Fields;
 use mt_market::FlatLists;

@@ -5,7 +5,7 @@ ghost use Rattle.mt_lists.specs.Rows.{fields_left};
 ghost use Rattle.mt_file_laws.specs.Faultless.{program_draft, applicant_draft, draft};
 ghost use Rattle.mt_roster.specs.Records.{record_seen};
 
-use crate::ids::{is_id, quota_of};
+use mt_ids::{is_id, quota_of};
 use crate::record::{Kind, Record, couple_record, kind_of, withdraw_record, withdraws};
 use crate::rules::Rules;
 use mt_lists::Fields;

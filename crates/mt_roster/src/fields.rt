@@ -5,7 +5,7 @@ ghost use Rattle.mt_lists.specs.Rows.{fields_left};
 ghost use Rattle.mt_terms.specs.Registration.Records.{are_ids, is_pair, pair_of};
 ghost use Rattle.mt_roster.specs.Fields.{by_pairs, pairs_left};
 
-use crate::ids::{is_dash, is_id};
+use mt_ids::{is_dash, is_id};
 use crate::rules::Rules;
 use mt_lists::Fields;
 

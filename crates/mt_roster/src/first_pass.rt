@@ -10,7 +10,7 @@ use crate::record::{Record, record_of};
 use crate::refusal::Refusal;
 use crate::register::Register;
 use crate::rules::Rules;
-use crate::seed::{Seed, add_fields};
+use mt_ids::{Seed, add_fields};
 use mt_lists::{Fields, Row, RowsIter};
 use std::alloc::Global;
 use std::hash::DefaultHasher;

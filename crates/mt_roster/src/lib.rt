@@ -7,8 +7,6 @@ mod drafts;
 mod fault;
 mod fields;
 mod first_pass;
-mod id_table;
-mod ids;
 mod listed;
 mod market;
 mod names;
@@ -21,7 +19,6 @@ mod registered;
 mod repeats;
 mod rules;
 mod second_pass;
-mod seed;
 mod unknown;
 mod withdrawals;
 

@@ -12,7 +12,7 @@ ghost use Rattle.mt_roster.specs.Reading.{AreStampedBelow, ReadsList, ReadsLists
 
 use crate::blocks::read_side_by_side;
 use crate::fields::Pairs;
-use crate::id_table::IdTable;
+use mt_ids::IdTable;
 use crate::listed::{applicant_lists, program_lists};
 use crate::record::Record;
 use crate::registered::Registered;

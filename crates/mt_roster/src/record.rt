@@ -7,7 +7,7 @@ ghost use Rattle.mt_terms.specs.Registration.Rows.{id_of, own_id, applicants_of,
 ghost use Rattle.mt_roster.specs.Records.{kind_seen, record_seen, charge_seen, read_seen};
 
 use crate::fields::{Pairs, are_ids, are_pairs};
-use crate::ids::{is_id, quota_of};
+use mt_ids::{is_id, quota_of};
 use crate::rules::Rules;
 use mt_lists::Fields;
 use mt_terms::codes::{BAD_ID, BAD_QUOTA, FIELD_COUNT, UNKNOWN_KIND};

@@ -5,11 +5,11 @@ ghost use Rattle.mt_terms.specs.Registration.Passes.{first_in, registered_before
 ghost use Rattle.mt_roster.specs.Records.{kind_seen, record_seen, charge_seen};
 ghost use Rattle.mt_roster.specs.Registers.{records_seen, contents_seen, ids_in, withdraws_twice, AreFew, IsRegister, AddsId, AddsRecord};
 
-use crate::id_table::IdTable;
+use mt_ids::IdTable;
 use crate::record::{Charge, Kind, Record};
 use crate::repeats::{has_repeat, has_repeated_pair};
 use crate::rules::Rules;
-use crate::seed::Seed;
+use mt_ids::Seed;
 use mt_terms::Limits;
 use mt_terms::codes::{DUPLICATE_ENTRY, DUPLICATE_ID, TOO_MANY};
 use std::alloc::{AllocError, Global};

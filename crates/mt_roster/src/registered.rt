@@ -2,7 +2,7 @@ ghost use Rattle.std.specs.Prelude.{◌≡◌, false, length, IfOk, MatchOption}
 ghost use Rattle.mt_roster.specs.Records.{kind_seen};
 ghost use Rattle.mt_roster.specs.Registered.{names_differ, is_registered, AreIdsOf};
 
-use crate::id_table::IdTable;
+use mt_ids::IdTable;
 use crate::names::NameLists;
 use crate::record::Kind;
 use std::alloc::{AllocError, Global};

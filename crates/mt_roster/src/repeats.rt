@@ -7,8 +7,8 @@ ghost use Rattle.mt_terms.specs.Registration.Passes.{is_same_pair};
 ghost use Rattle.mt_roster.specs.Fields.{pairs_left};
 
 use crate::fields::Pairs;
-use crate::id_table::IdTable;
-use crate::seed::{Seed, add_fields};
+use mt_ids::IdTable;
+use mt_ids::{Seed, add_fields};
 use indexmap::IndexSet;
 use mt_lists::Fields;
 use std::alloc::{AllocError, Global};

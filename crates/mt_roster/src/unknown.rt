@@ -6,7 +6,7 @@ ghost use Rattle.mt_terms.specs.Registration.Passes.{first_not_in, named};
 ghost use Rattle.mt_roster.specs.Fields.{pairs_left};
 
 use crate::fields::Pairs;
-use crate::id_table::IdTable;
+use mt_ids::IdTable;
 use mt_lists::Fields;
 
 /// The first id of a list that is none of these.

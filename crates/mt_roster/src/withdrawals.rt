@@ -12,7 +12,7 @@ ghost use Rattle.mt_roster.specs.Withdrawals.{stays_after, Stand};
 use crate::record::Record;
 use crate::register::Kinds;
 use crate::registered::Registered;
-use crate::seed::Seed;
+use mt_ids::Seed;
 use mt_terms::{AppNo, ProgNo};
 use std::alloc::{AllocError, Global};
 use std::hash::{DefaultHasher, Hasher};

@@ -1,5 +1,5 @@
 use Rattle.std.proofs.Common.{refl, sym, ◌∙◌}
-use Rattle.mt_roster.proofs.NumberingSteps.{found_id, missing_id}
+use Rattle.mt_ids.proofs.IdFacts.{found_id, missing_id}
 use Rattle.mt_roster.proofs.numbering.place.Goals as goal
 
 pub returns-in_err-place : goal.returns-in_err-place

@@ -4,7 +4,8 @@ use Rattle.mt_file_laws.proofs.IdFacts.{number_below}
 use Rattle.mt_terms.specs.Registration.Ids.{Bytes}
 use Rattle.mt_roster.specs.Numbered.{with_more}
 use Rattle.mt_roster.specs.Reading.{AreStampedBelow, numbers_by}
-use Rattle.mt_roster.proofs.NumberingSteps.{found_id, missing_id, length-with_last}
+use Rattle.mt_ids.proofs.IdFacts.{found_id, missing_id}
+use Rattle.mt_roster.proofs.NumberingSteps.{length-with_last}
 use Rattle.mt_roster.proofs.ReadingSteps.{numbers_by-some, numbers_by-none}
 use Rattle.mt_roster.proofs.StampFacts.{below_more, set_below, stands_from, stands_from-once, stands_from-missing, stands_from-again, stands_from-new}
 use Rattle.mt_roster.proofs.numbering.push_list.Goals.{then-room-eq0-via-then-room-eq0, then-room-eq0-via-else-room-eq0+then-stamps-place}

@@ -1,5 +1,5 @@
 use Rattle.std.proofs.Common.{refl}
-use Rattle.mt_roster.proofs.NumberingSteps.{found_id}
+use Rattle.mt_ids.proofs.IdFacts.{found_id}
 use Rattle.mt_roster.proofs.registered.Registered.has.Goals as goal
 
 pub returns-in-Some : goal.returns-in-Some

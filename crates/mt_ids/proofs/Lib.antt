@@ -1,0 +1,3 @@
+pub mod DigitFacts
+pub mod IdFacts
+pub mod KeyFacts

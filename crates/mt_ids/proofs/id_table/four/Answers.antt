@@ -1,0 +1,7 @@
+use Rattle.std.proofs.Common.{◌∙◌}
+use Rattle.mt_ids.specs.Keys.{four_from}
+use Rattle.mt_ids.proofs.id_table.four.Goals as goal
+
+pub returns-clause-value : goal.returns-clause-value
+unfolding four_from
+returns-clause-value c = c.from.ensures ∙ c.from_le_bytes.ensures

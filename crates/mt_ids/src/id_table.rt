@@ -1,0 +1,196 @@
+ghost use Rattle.std.specs.Prelude.{◌≡◌, ◌<◌, ◌≤◌, ◌+◌, ◌^◌, ◌++◌, [], ◌∷◌, not, length, position, bytes_eq, true, false, OnOk, OnErr, IfOk, IfSome, is_some, if◌then◌else◌};
+ghost use Rattle.mt_terms.specs.Registration.Ids.{has_id, all_differ};
+ghost use Rattle.mt_ids.specs.Keys.{AreBytes, four_from, head_of};
+
+use crate::seed::Seed;
+use indexmap::IndexSet;
+use mt_market::FlatLists;
+use std::alloc::{AllocError, Global};
+use std::hash::{DefaultHasher, Hash, Hasher};
+use std::marker::Model;
+
+/// An id as tables hold it, with its head, by which most ids are told apart without a look at their bytes.
+#[derive(Clone, Copy)]
+struct Key<'a> {
+    head: u64,
+    id: &'a [u8],
+    ghost is_head: { head ≡ head_of id.now },
+    ghost of_bytes: { AreBytes id.now },
+}
+
+impl<'a> Key<'a> {
+    /// The key of an id.
+    fn of(id: &'a [u8]) -> Key<'a>
+        ensures { result.id.now ≡ id.now }
+    {
+        Key {
+            head: head_of(id),
+            id,
+        }
+    }
+}
+
+impl<'a> PartialEq for Key<'a> {
+    ghost use Rattle.std.specs.Prelude.{bytes_eq};
+    ghost use Rattle.std.specs.Cmp.{on_per, partial_equiv_from_equiv};
+    ghost use Rattle.std.specs.Cmp.Lexicographic.{nat_list_eq_equiv};
+
+    ghost eq = { λ a b. bytes_eq a.id.now b.id.now };
+
+    ghost laws = { on_per (λ key. key.id.now) (partial_equiv_from_equiv nat_list_eq_equiv) };
+
+    fn eq(&self, other: &Self) -> bool {
+        self.head == other.head
+            && self.id.len() == other.id.len()
+            && (self.id.len() <= 8 || self.id == other.id)
+    }
+}
+
+impl<'a> Eq for Key<'a> {
+    ghost use Rattle.std.specs.Cmp.{on_equiv};
+    ghost use Rattle.std.specs.Cmp.Lexicographic.{nat_list_eq_equiv};
+
+    ghost laws = { on_equiv (λ key. key.id.now) nat_list_eq_equiv };
+}
+
+impl<'a> Hash for Key<'a> {
+    ghost use Rattle.std.specs.Cmp.Rules.{hashing};
+    ghost use Rattle.std.proofs.Common.{rules};
+    ghost use Rattle.mt_ids.specs.Keys.{id_writes};
+
+    ghost hash_input = { λ key. id_writes key.id.now };
+
+    ghost respects_eq = { Prim.search (hashing, rules) };
+
+    fn hash<H: Hasher>(&self, state: &mut H) {
+        if self.id.len() <= 8 {
+            state.write_u64(self.head);
+        } else {
+            state.write(self.id);
+        }
+    }
+}
+
+/// The first eight bytes of an id as a number; of a shorter one all its bytes, by reads that may overlap.
+fn head_of(id: &[u8]) -> u64
+    ensures { result ≡ head_of id.now }
+{
+    let len = id.len();
+    if len >= 4 {
+        four(id, 0) | four(id, len.min(8) - 4) << 32
+    } else if len > 0 {
+        u64::from(id[0]) | u64::from(id[len / 2]) << 8 | u64::from(id[len - 1]) << 16
+    } else {
+        0
+    }
+}
+
+/// Four bytes of an id from a place on, as a number.
+fn four(bytes: &[u8], at: usize) -> u64
+    requires { at + 4 ≤ length bytes.now }
+    ensures value { result ≡ four_from bytes.now at }
+    ensures bound { result < 2 ^ 32 }
+{
+    u64::from(u32::from_le_bytes([bytes[at], bytes[at + 1], bytes[at + 2], bytes[at + 3]]))
+}
+
+/// The seed of a table of these names.
+fn seed_of(names: &FlatLists<u8>) -> Seed {
+    let mut digest = DefaultHasher::new();
+    for number in 0..names.len() {
+        digest.write(names.list(number));
+    }
+    Seed::of(&digest)
+}
+
+/// Ids in the order in which they came, each of them once. The number of an id is its place, from 0.
+#[derive(Drop)]
+pub struct IdTable<'a> {
+    ids: IndexSet<Key<'a>, Seed>,
+}
+
+impl<'a> Model for IdTable<'a> {
+    ghost use Rattle.std.specs.Prelude.{List, ℕ, map};
+
+    ghost Value = { List (List ℕ) };
+
+    ghost view = { λ table. map (λ key. key.id.now) table.ids.keys };
+}
+
+impl<'a> IdTable<'a> {
+    /// No ids.
+    pub fn new(alloc: Global, seed: Seed) -> Self
+        ensures { result ≡ [] }
+    {
+        IdTable {
+            ids: IndexSet::with_hasher(alloc, seed),
+        }
+    }
+
+    /// No ids, with room for some.
+    pub fn with_capacity(
+        alloc: Global,
+        capacity: usize,
+        seed: Seed,
+    ) -> Result<Self, AllocError>
+        ensures { IfOk result (λ table. table ≡ []) }
+    {
+        Ok(IdTable {
+            ids: IndexSet::with_capacity_and_hasher(alloc, capacity, seed)?,
+        })
+    }
+
+    /// The ids that these names are, if they differ.
+    pub fn of(alloc: Global, names: &'a FlatLists<u8>) -> Result<Option<Self>, AllocError>
+        ensures ids { IfOk result (λ found. IfSome found (λ table. table ≡ names.now)) }
+        ensures differ { IfOk result (λ found. is_some found ≡ all_differ bytes_eq names.now) }
+    {
+        let mut table = IdTable::with_capacity(alloc, names.len(), seed_of(names))?;
+        for i in 0..names.len() {
+            if !table.add(names.list(i))? {
+                return Ok(None);
+            }
+        }
+        Ok(Some(table))
+    }
+
+    /// How many ids there are.
+    pub fn len(&self) -> usize
+        ensures len { result ≡ length self.now }
+        ensures small { result < 2 ^ 63 }
+    {
+        self.ids.len()
+    }
+
+    /// Whether an id is one of them.
+    pub fn contains(&self, id: &[u8]) -> bool
+        ensures { result ≡ has_id self.now id.now }
+    {
+        self.ids.contains(&Key::of(id))
+    }
+
+    /// The number of an id, from 0, if it is one of them.
+    pub fn number(&self, id: &[u8]) -> Option<usize>
+        ensures { result ≡ position (bytes_eq id.now) self.now }
+    {
+        self.ids.get_index_of(&Key::of(id))
+    }
+
+    /// Adds an id at the end, and says that it did so, where it is none of them.
+    pub fn add(&mut self, id: &'a [u8]) -> Result<bool, AllocError>
+        ensures added { IfOk result (λ added. added ≡ not (has_id self.old id.now)) }
+        ensures ids { IfOk result (λ _. self.new ≡ (if has_id self.old id.now then self.old else self.old ++ id.now ∷ [])) }
+        ensures err { OnErr result (self.new ≡ self.old) }
+    {
+        Ok(self.ids.insert(Key::of(id))?)
+    }
+
+    /// Adds an id that is none of them at the end.
+    pub fn push(&mut self, id: &'a [u8]) -> Result<(), AllocError>
+        requires { has_id self.old id.now ≡ false }
+        ensures { OnOk result (self.new ≡ self.old ++ id.now ∷ []) }
+    {
+        self.add(id)?;
+        Ok(())
+    }
+}

@@ -1,0 +1,36 @@
+//! Seeds of tables. Each is made of all that its table will hold, so that nobody can choose beforehand what collides
+//! there.
+use mt_lists::Fields;
+use std::hash::{BuildHasher, DefaultHasher, FoldHasher, Hasher};
+
+/// What makes the hashers of a table.
+#[derive(Clone, Copy)]
+pub struct Seed {
+    begun: FoldHasher,
+}
+
+impl Seed {
+    /// The seed of a table, by a digest of all that it will hold.
+    pub fn of(digest: &DefaultHasher) -> Seed {
+        let mut begun = FoldHasher::default();
+        begun.write_u64(digest.finish());
+        Seed { begun }
+    }
+}
+
+impl BuildHasher for Seed {
+    type Hasher = FoldHasher;
+
+    ghost build_hasher = { λ seed. seed.begun };
+
+    fn build_hasher(&self) -> FoldHasher {
+        self.begun
+    }
+}
+
+/// Adds fields to a digest.
+pub fn add_fields(digest: &mut DefaultHasher, fields: Fields<'_>) {
+    for field in fields {
+        digest.write(field);
+    }
+}
