@@ -35,8 +35,7 @@ pub value_more : (ds : List ℕ) (i : ℕ) → list_all is_ascii_digit ds ≡ tr
     → (48 ≤ get_or ds i 0) × (digits_value 10 (take (i + 1) ds) ≡ digits_value 10 (take i ds) * 10 + (get_or ds i 0 - 48)) × (digits_value 10 (take (i + 1) ds) < 10 ^ 10)
 value_more ds i h k l =
     let d : is_ascii_digit (get_or ds i 0) ≡ true = passes_at is_ascii_digit ds i 0 h l in
-    let digit = is_digit_small (get_or ds i 0) d in
-    (
+    let digit = is_digit_small (get_or ds i 0) d in (
       omega (arith, digit),
       omega (arith, digits_value_more 10 ds i l, digit),
       omega (arith, value_small ds 10 h k, digits_value-take-le 10 ds (i + 1) (omega arith)),

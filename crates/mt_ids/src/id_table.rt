@@ -128,11 +128,7 @@ impl<'a> IdTable<'a> {
     }
 
     /// No ids, with room for some.
-    pub fn with_capacity(
-        alloc: Global,
-        capacity: usize,
-        seed: Seed,
-    ) -> Result<Self, AllocError>
+    pub fn with_capacity(alloc: Global, capacity: usize, seed: Seed) -> Result<Self, AllocError>
         ensures { IfOk result (λ table. table ≡ []) }
     {
         Ok(IdTable {

@@ -31,7 +31,11 @@ fn applicants_seed(roster: &Roster) -> Seed {
 fn programs(alloc: Global, roster: &Roster) -> Result<IdTable<'_>, AllocError>
     ensures { IfOk result (λ table. table ≡ roster.entry.now.names.programs) }
 {
-    let mut table = IdTable::with_capacity(alloc, roster.programs() as usize, programs_seed(roster))?;
+    let mut table = IdTable::with_capacity(
+        alloc,
+        roster.programs() as usize,
+        programs_seed(roster),
+    )?;
     for number in 0..roster.programs() {
         table.push(roster.program_id(ProgNo(number)))?;
     }
@@ -42,7 +46,11 @@ fn programs(alloc: Global, roster: &Roster) -> Result<IdTable<'_>, AllocError>
 fn applicants(alloc: Global, roster: &Roster) -> Result<IdTable<'_>, AllocError>
     ensures { IfOk result (λ table. table ≡ roster.entry.now.names.applicants) }
 {
-    let mut table = IdTable::with_capacity(alloc, roster.applicants() as usize, applicants_seed(roster))?;
+    let mut table = IdTable::with_capacity(
+        alloc,
+        roster.applicants() as usize,
+        applicants_seed(roster),
+    )?;
     for number in 0..roster.applicants() {
         table.push(roster.applicant_id(AppNo(number)))?;
     }

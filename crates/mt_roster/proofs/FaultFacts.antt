@@ -5,9 +5,9 @@ use Rattle.mt_terms.specs.Registration.{market_of}
 use Rattle.mt_terms.specs.Registration.Ids.{Bytes}
 use Rattle.mt_terms.specs.Registration.Faults.{Fault}
 use Rattle.mt_roster.specs.declared.fault.RosterError.{RosterError}
-use Rattle.mt_roster.specs.declared.refusal.Refusal.{Refusal}
-use Rattle.mt_roster.specs.declared.refusal.Refusal.TheVariants as refusals
-use Rattle.mt_roster.specs.Refusals.{fault_seen, Refuses}
+use Rattle.mt_records.specs.declared.refusal.Refusal.{Refusal}
+use Rattle.mt_records.specs.declared.refusal.Refusal.TheVariants as refusals
+use Rattle.mt_records.specs.Refusals.{fault_seen, Refuses}
 use Rattle.mt_roster.specs.Faults.{HasShortId, IsErrorOf, Tells}
 use Rattle.mt_file_laws.proofs.FaultFacts.{fault_ids_lem, short_id}
 

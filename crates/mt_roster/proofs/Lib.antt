@@ -1,4 +1,3 @@
-pub mod FieldFacts
 pub mod RepeatFacts
 pub mod NameFacts
 pub mod DraftFacts

@@ -8,8 +8,8 @@ use Rattle.std.proofs.lemmas.List.Folds.{list_all-append}
 use Rattle.mt_market.specs.FlatLists.{with_last}
 use Rattle.mt_terms.specs.Registration.Ids.{Bytes, has_id, number_of}
 use Rattle.mt_terms.specs.Registration.Rows.{applicants_of, applicant_ids}
-use Rattle.mt_roster.specs.declared.record.Record.{Record as Checked}
-use Rattle.mt_roster.specs.Records.{record_seen}
+use Rattle.mt_records.specs.declared.record.Record.{Record as Checked}
+use Rattle.mt_records.specs.Records.{record_seen}
 use Rattle.mt_roster.specs.Numbered.{all_seen, with_more}
 use Rattle.mt_roster.specs.Reading.{number_by}
 

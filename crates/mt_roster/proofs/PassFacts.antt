@@ -5,12 +5,12 @@ use Rattle.std.proofs.lemmas.Bool.Decides.{nat_tests}
 use Rattle.mt_file_laws.proofs.IdFacts.{neither}
 use Rattle.mt_file_laws.proofs.PassFacts.{kept_parts}
 use Rattle.mt_terms.specs.Registration.Ids.{Bytes}
-use Rattle.mt_roster.specs.declared.refusal.Refusal.{Refusal}
-use Rattle.mt_roster.specs.declared.refusal.Refusal.TheVariants as refusals
+use Rattle.mt_records.specs.declared.refusal.Refusal.{Refusal}
+use Rattle.mt_records.specs.declared.refusal.Refusal.TheVariants as refusals
 use Rattle.mt_roster.specs.declared.register.Register.{Register}
 use Rattle.mt_roster.specs.Registers.{withdraws_twice, AreFew, AreBounded, IsRegister}
 use Rattle.mt_roster.specs.Passes.{Reads, ReadsRow, GivesRegister}
-use Rattle.mt_roster.specs.Refusals.{Refuses}
+use Rattle.mt_records.specs.Refusals.{Refuses}
 use Rattle.mt_terms.specs.Registration.Faults.{Charge, Fault}
 use Rattle.mt_terms.specs.Registration.Records.{Rules, Record, ProgramRecord, ApplicantRecord, CoupleRecord, WithdrawRecord, OfProgram, OfCouple, record_of}
 use Rattle.mt_terms.specs.Registration.Rows.{ids_of, applicant_ids, entry_count}

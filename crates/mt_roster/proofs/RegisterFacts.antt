@@ -9,7 +9,7 @@ use Rattle.mt_terms.specs.Registration.Records.{Record, Kind, OfProgram, OfAppli
 use Rattle.mt_terms.specs.Registration.Rows.{own_id, ids_of, withdrawn, withdrawn_id, applicants_of, applicant_ids, entries_of, entry_count}
 use Rattle.mt_terms.specs.Registration.Passes.{registered_before, contents}
 use Rattle.mt_roster.specs.declared.register.Numbered as declared
-use Rattle.mt_roster.specs.Records.{record_seen}
+use Rattle.mt_records.specs.Records.{record_seen}
 use Rattle.mt_roster.specs.declared.register.Kinds.{Kinds}
 use Rattle.mt_roster.specs.declared.register.Register.{Register}
 use Rattle.mt_roster.specs.Registers.{numbered_seen, ids_in, under, contents_seen, AreFew, IsRegister, AddsRecord}

@@ -10,7 +10,7 @@ use Rattle.mt_file_laws.proofs.IdFacts.{same_id, is_same, neither, not_true, or_
 use Rattle.mt_terms.specs.Registration.Ids.{Bytes, all_differ}
 use Rattle.mt_terms.specs.Registration.Records.{IdPair}
 use Rattle.mt_terms.specs.Registration.Passes.{is_same_pair}
-use Rattle.mt_roster.specs.Fields.{pair_seen}
+use Rattle.mt_records.specs.Fields.{pair_seen}
 
 -- a test that says whether two elements are equal
 abbrev pub Tests : {X : Type 0} → (X → X → Bool) → Type 0

@@ -8,7 +8,7 @@ use Rattle.mt_terms.specs.Registration.Faults as faults
 use Rattle.mt_terms.specs.Registration.Faults.{fault_at}
 use Rattle.mt_roster.specs.declared.register.Numbered as declared
 use Rattle.mt_roster.specs.declared.register.Register.{Register}
-use Rattle.mt_roster.specs.Records.{record_seen}
+use Rattle.mt_records.specs.Records.{record_seen}
 use Rattle.mt_roster.specs.Registers.{numbered_seen, records_seen, contents_seen}
 
 first_of_append : {X : Type 0} (xs ys : List (Option X)) → first_of xs ≡ None → first_of (xs ++ ys) ≡ first_of ys

@@ -14,12 +14,12 @@ use Rattle.mt_file_laws.specs.Faultless.{stands_once, withdrawals_stand}
 use Rattle.mt_file_laws.specs.Staying.{new_numbers}
 use Rattle.mt_file_laws.proofs.IdFacts.{differ_parts, differ_push, is_same, not_true, or_left, or_right, same_id}
 use Rattle.mt_file_laws.proofs.NumberingFacts.{both}
-use Rattle.mt_roster.specs.declared.record.Kind as checked
-use Rattle.mt_roster.specs.declared.record.Record.{Record as Checked}
-use Rattle.mt_roster.specs.declared.record.Record.TheVariants as variants
+use Rattle.mt_records.specs.declared.record.Kind as checked
+use Rattle.mt_records.specs.declared.record.Record.{Record as Checked}
+use Rattle.mt_records.specs.declared.record.Record.TheVariants as variants
 use Rattle.mt_roster.specs.declared.register.Kinds.{Kinds}
 use Rattle.mt_roster.specs.Numbered.{all_seen}
-use Rattle.mt_roster.specs.Records.{record_seen}
+use Rattle.mt_records.specs.Records.{record_seen}
 use Rattle.mt_roster.specs.Registers.{ids_in, under, AddsId}
 use Rattle.mt_roster.specs.Withdrawals.{Stand}
 use Rattle.mt_file_laws.proofs.GrowthFacts.{withdrawn-more}

@@ -4,8 +4,8 @@ use Rattle.mt_terms.specs.Market.{Registered}
 use Rattle.mt_terms.specs.Registration.Faults.{Fault}
 use Rattle.mt_roster.specs.declared.fault.RosterError.{RosterError}
 use Rattle.mt_roster.specs.declared.fault.RosterError.TheVariants as errors
-use Rattle.mt_roster.specs.declared.refusal.Refusal.{Refusal}
-use Rattle.mt_roster.specs.declared.refusal.Refusal.TheVariants as refusals
+use Rattle.mt_records.specs.declared.refusal.Refusal.{Refusal}
+use Rattle.mt_records.specs.declared.refusal.Refusal.TheVariants as refusals
 
 -- a fault is the file's first one; want of memory tells nothing
 abbrev pub Tells : RosterError → Result Registered Fault → Type 0

@@ -1,7 +1,4 @@
-pub mod Fields
-pub mod Records
 pub mod Drafts
-pub mod Refusals
 pub mod Numbered
 pub mod Entries
 pub mod Registered

@@ -12,7 +12,7 @@ use Rattle.mt_terms.specs.Registration.Numbering.{registered}
 use Rattle.mt_terms.specs.Registration.Accepted.{IsRegistration}
 use Rattle.mt_roster.specs.declared.numbering.Entries.{Entries}
 use Rattle.mt_roster.specs.declared.numbering.Numbers.{Numbers}
-use Rattle.mt_roster.specs.declared.record.Record.{Record as Checked}
+use Rattle.mt_records.specs.declared.record.Record.{Record as Checked}
 use Rattle.mt_roster.specs.declared.register.Kinds.{Kinds}
 use Rattle.mt_roster.specs.declared.registered.Registered.{Registered}
 use Rattle.mt_roster.specs.Entries.{single_flags}

@@ -7,8 +7,8 @@ use Rattle.mt_terms.specs.Market.{Pair, Partners, Registered}
 use Rattle.mt_terms.specs.Registration.Ids.{Bytes, number_of, numbers_of}
 use Rattle.mt_terms.specs.Registration.Records.{Record, ProgramRecord, ApplicantRecord, CoupleRecord, IdPair}
 use Rattle.mt_terms.specs.Registration.Numbering.{is_none_or_in, names_only, pair_by_number, pairs_by_number, names_of, market_by}
-use Rattle.mt_roster.specs.declared.record.Record.{Record as Checked}
-use Rattle.mt_roster.specs.Records.{record_seen}
+use Rattle.mt_records.specs.declared.record.Record.{Record as Checked}
+use Rattle.mt_records.specs.Records.{record_seen}
 
 -- records as those of the definition
 abbrev pub all_seen : List Checked → List Record

@@ -4,9 +4,9 @@ use Rattle.mt_terms.specs.Registration.Ids.{Bytes}
 use Rattle.mt_terms.specs.Registration.Faults as faults
 use Rattle.mt_terms.specs.Registration.Records as model
 use Rattle.mt_terms.specs.Registration.Passes.{Numbered, numbered_from, first_pass}
-use Rattle.mt_roster.specs.declared.refusal.Refusal.{Refusal}
+use Rattle.mt_records.specs.declared.refusal.Refusal.{Refusal}
 use Rattle.mt_roster.specs.declared.register.Register.{Register}
-use Rattle.mt_roster.specs.Refusals.{Refuses}
+use Rattle.mt_records.specs.Refusals.{Refuses}
 use Rattle.mt_roster.specs.Registers.{records_seen, IsRegister}
 
 -- After a row the pass goes on from the new register, or it ends with the fault that was returned, whatever follows.

@@ -6,12 +6,12 @@ use Rattle.mt_terms.specs.Registration.Faults.{fault_at, charge_alone}
 use Rattle.mt_terms.specs.declared.codes.TheConstants.{NO_VERSION}
 use Rattle.mt_terms.specs.Registration.Ids.{Bytes}
 use Rattle.mt_terms.specs.Registration.Passes.{numbered_from}
-use Rattle.mt_roster.specs.declared.refusal.Refusal.{Refusal}
+use Rattle.mt_records.specs.declared.refusal.Refusal.{Refusal}
 use Rattle.mt_lists.specs.Rows.{rows_left}
 use Rattle.mt_roster.specs.declared.reading.Body.{Body}
 use Rattle.mt_roster.specs.Drafts.{with_fields}
 use Rattle.mt_roster.specs.Markets.{AcceptsRegistrations}
-use Rattle.mt_roster.specs.Refusals.{Refuses}
+use Rattle.mt_records.specs.Refusals.{Refuses}
 use Rattle.mt_roster.specs.Registers.{AreBounded}
 
 -- a value as itself

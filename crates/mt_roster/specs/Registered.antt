@@ -4,7 +4,7 @@ use Rattle.mt_terms.specs.Registration.Ids.{Bytes, has_id, all_differ, number_of
 use Rattle.mt_terms.specs.Registration.Records.{Kind, OfProgram, OfApplicant, OfCouple}
 use Rattle.mt_terms.specs.Registration.Rows.{ids_of}
 use Rattle.mt_roster.specs.declared.names.NameLists.{NameLists}
-use Rattle.mt_roster.specs.declared.record.Record.{Record as Checked}
+use Rattle.mt_records.specs.declared.record.Record.{Record as Checked}
 use Rattle.mt_roster.specs.declared.registered.Registered.{Registered}
 use Rattle.mt_roster.specs.Numbered.{all_seen}
 

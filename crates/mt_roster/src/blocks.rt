@@ -4,8 +4,8 @@ ghost use Rattle.mt_roster.specs.Blocks.{AreBlocks, IsBlock, Joins};
 ghost use Rattle.mt_roster.specs.Numbered.{lists_seen};
 ghost use Rattle.mt_roster.specs.Reading.{ReadsLists};
 
-use mt_ids::IdTable;
 use crate::numbering::read_lists;
+use mt_ids::IdTable;
 use mt_lists::Fields;
 use mt_market::FlatLists;
 use rayon::current_num_threads;

@@ -3,12 +3,11 @@
 ghost use Rattle.std.specs.Prelude.{◌≡◌, option_map};
 ghost use Rattle.mt_lists.specs.Rows.{fields_left};
 ghost use Rattle.mt_file_laws.specs.Faultless.{program_draft, applicant_draft, draft};
-ghost use Rattle.mt_roster.specs.Records.{record_seen};
+ghost use Rattle.mt_records.specs.Records.{record_seen};
 
 use mt_ids::{is_id, quota_of};
-use crate::record::{Kind, Record, couple_record, kind_of, withdraw_record, withdraws};
-use crate::rules::Rules;
 use mt_lists::Fields;
+use mt_records::{Kind, Record, Rules, couple_record, kind_of, withdraw_record, withdraws};
 
 /// A program by the fields after its first, if nothing is at fault beside its list.
 fn program_draft<'a>(rules: &Rules, fields: Fields<'a>) -> Option<Record<'a>>

@@ -2,15 +2,14 @@
 //! program or a single, is not yet known.
 ghost use Rattle.std.specs.Prelude.{◌≡◌, ◌++◌, [], ◌∷◌, IfOk, MatchOption, OnOk};
 ghost use Rattle.mt_lists.specs.Rows.{rows_left};
-ghost use Rattle.mt_roster.specs.Records.{record_seen};
+ghost use Rattle.mt_records.specs.Records.{record_seen};
 ghost use Rattle.mt_roster.specs.Drafts.{drafted, has_too_many_names, AreDrafts, AreDraftsOf, HaveFault};
 
 use crate::draft::draft_of;
 use crate::names::NameLists;
-use crate::record::Record;
 use crate::register::are_over;
-use crate::rules::Rules;
 use mt_lists::RowsIter;
+use mt_records::{Record, Rules};
 use mt_terms::Limits;
 use std::alloc::{AllocError, Global};
 

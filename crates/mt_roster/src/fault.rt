@@ -1,6 +1,6 @@
 ghost use Rattle.mt_roster.specs.Faults.{HasShortId, IsErrorOf};
 
-use crate::refusal::{Fault, Refusal};
+use mt_records::{Fault, Refusal};
 use mt_terms::{IdText, Refusal as RosterFault};
 use thiserror::Error;
 

@@ -1,17 +1,15 @@
 ghost use Rattle.std.specs.Prelude.{◌+◌, ◌<◌, ◌^◌, [], length};
 ghost use Rattle.mt_lists.specs.Rows.{fields_left, rows_left};
 ghost use Rattle.mt_terms.specs.Registration.Passes.{at_record, next_record, first_pass, numbered_from};
-ghost use Rattle.mt_roster.specs.Records.{record_seen};
-ghost use Rattle.mt_roster.specs.Refusals.{Gives};
+ghost use Rattle.mt_records.specs.Records.{record_seen};
+ghost use Rattle.mt_records.specs.Refusals.{Gives};
 ghost use Rattle.mt_roster.specs.Registers.{contents_seen, AreBounded, IsRegister};
 ghost use Rattle.mt_roster.specs.Passes.{Reads, ReadsRow, GivesRegister};
 
-use crate::record::{Record, record_of};
-use crate::refusal::Refusal;
 use crate::register::Register;
-use crate::rules::Rules;
 use mt_ids::{Seed, add_fields};
 use mt_lists::{Fields, Row, RowsIter};
+use mt_records::{Record, Refusal, Rules, record_of};
 use std::alloc::Global;
 use std::hash::DefaultHasher;
 

@@ -2,8 +2,8 @@
 ghost use Rattle.std.specs.Prelude.{◌≡◌, IfOk};
 ghost use Rattle.mt_roster.specs.Numbered.{all_seen, lists_seen, program_lists, applicant_lists};
 
-use crate::record::Record;
 use mt_lists::Fields;
+use mt_records::Record;
 use std::alloc::{AllocError, Global};
 
 /// The lists of programs.

@@ -1,11 +1,11 @@
 //! The ids of records, side by side.
 ghost use Rattle.std.specs.Prelude.{[], OnOk, IfOk};
-ghost use Rattle.mt_roster.specs.Records.{record_seen};
+ghost use Rattle.mt_records.specs.Records.{record_seen};
 ghost use Rattle.mt_roster.specs.Numbered.{all_seen};
 ghost use Rattle.mt_roster.specs.Entries.{AreNames, AddsNames};
 
-use crate::record::Record;
 use mt_market::FlatLists;
+use mt_records::Record;
 use std::alloc::{AllocError, Global};
 
 /// The ids of records, those of a kind side by side. A couple registers its first and then its second member among the

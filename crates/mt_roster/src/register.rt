@@ -2,14 +2,12 @@ ghost use Rattle.std.specs.Prelude.{◌≡◌, ◌+◌, ◌||◌, true, false, n
 ghost use Rattle.std.specs.Option.{option_copied};
 ghost use Rattle.mt_terms.specs.Registration.Ids.{has_id};
 ghost use Rattle.mt_terms.specs.Registration.Passes.{first_in, registered_before, says_twice, are_too_many, first_conflict};
-ghost use Rattle.mt_roster.specs.Records.{kind_seen, record_seen, charge_seen};
+ghost use Rattle.mt_records.specs.Records.{kind_seen, record_seen, charge_seen};
 ghost use Rattle.mt_roster.specs.Registers.{records_seen, contents_seen, ids_in, withdraws_twice, AreFew, IsRegister, AddsId, AddsRecord};
 
-use mt_ids::IdTable;
-use crate::record::{Charge, Kind, Record};
 use crate::repeats::{has_repeat, has_repeated_pair};
-use crate::rules::Rules;
-use mt_ids::Seed;
+use mt_ids::{IdTable, Seed};
+use mt_records::{Charge, Kind, Record, Rules};
 use mt_terms::Limits;
 use mt_terms::codes::{DUPLICATE_ENTRY, DUPLICATE_ID, TOO_MANY};
 use std::alloc::{AllocError, Global};

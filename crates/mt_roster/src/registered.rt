@@ -1,10 +1,10 @@
 ghost use Rattle.std.specs.Prelude.{◌≡◌, false, length, IfOk, MatchOption};
-ghost use Rattle.mt_roster.specs.Records.{kind_seen};
+ghost use Rattle.mt_records.specs.Records.{kind_seen};
 ghost use Rattle.mt_roster.specs.Registered.{names_differ, is_registered, AreIdsOf};
 
-use mt_ids::IdTable;
 use crate::names::NameLists;
-use crate::record::Kind;
+use mt_ids::IdTable;
+use mt_records::Kind;
 use std::alloc::{AllocError, Global};
 
 /// The ids of records by number, where none is registered twice, and for each applicant whether it is a single.

@@ -4,13 +4,12 @@ ghost use Rattle.std.specs.Option.{option_copied};
 ghost use Rattle.mt_lists.specs.Rows.{fields_left};
 ghost use Rattle.mt_terms.specs.Registration.Ids.{all_differ};
 ghost use Rattle.mt_terms.specs.Registration.Passes.{is_same_pair};
-ghost use Rattle.mt_roster.specs.Fields.{pairs_left};
+ghost use Rattle.mt_records.specs.Fields.{pairs_left};
 
-use crate::fields::Pairs;
-use mt_ids::IdTable;
-use mt_ids::{Seed, add_fields};
 use indexmap::IndexSet;
+use mt_ids::{IdTable, Seed, add_fields};
 use mt_lists::Fields;
+use mt_records::Pairs;
 use std::alloc::{AllocError, Global};
 use std::hash::{DefaultHasher, Hasher};
 use std::marker::Model;

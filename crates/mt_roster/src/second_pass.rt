@@ -2,14 +2,13 @@ ghost use Rattle.std.specs.Prelude.{◌≡◌, option_map};
 ghost use Rattle.std.specs.Option.{option_copied};
 ghost use Rattle.mt_terms.specs.Registration.Faults.{charge};
 ghost use Rattle.mt_terms.specs.Registration.Passes.{second_pass, unknown_id};
-ghost use Rattle.mt_roster.specs.Records.{charge_seen, record_seen};
-ghost use Rattle.mt_roster.specs.Refusals.{fault_seen};
+ghost use Rattle.mt_records.specs.Records.{charge_seen, record_seen};
+ghost use Rattle.mt_records.specs.Refusals.{fault_seen};
 ghost use Rattle.mt_roster.specs.Registers.{records_seen, contents_seen, IsRegister};
 
-use crate::record::{Charge, Record};
-use crate::refusal::Fault;
 use crate::register::Register;
 use crate::unknown::{first_unknown, first_unknown_of_pairs};
+use mt_records::{Charge, Fault, Record};
 use mt_terms::codes::{NOT_REGISTERED, UNKNOWN_APPLICANT, UNKNOWN_PROGRAM};
 
 /// A fault with this code at an id, if there is one.

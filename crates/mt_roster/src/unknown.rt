@@ -3,11 +3,11 @@ ghost use Rattle.std.specs.List.{flat_map};
 ghost use Rattle.std.specs.Option.{option_copied};
 ghost use Rattle.mt_lists.specs.Rows.{fields_left};
 ghost use Rattle.mt_terms.specs.Registration.Passes.{first_not_in, named};
-ghost use Rattle.mt_roster.specs.Fields.{pairs_left};
+ghost use Rattle.mt_records.specs.Fields.{pairs_left};
 
-use crate::fields::Pairs;
 use mt_ids::IdTable;
 use mt_lists::Fields;
+use mt_records::Pairs;
 
 /// The first id of a list that is none of these.
 pub(crate) fn first_unknown<'a>(all: &IdTable<'_>, list: Fields<'a>) -> Option<&'a [u8]>

@@ -5,14 +5,14 @@ ghost use Rattle.mt_file_laws.specs.Staying.{new_numbers, program_flags, applica
 ghost use Rattle.mt_terms.specs.Registration.Records.{OfProgram};
 ghost use Rattle.mt_terms.specs.Registration.Rows.{ids_of, applicant_ids};
 ghost use Rattle.mt_roster.specs.Numbered.{all_seen};
-ghost use Rattle.mt_roster.specs.Records.{record_seen};
+ghost use Rattle.mt_records.specs.Records.{record_seen};
 ghost use Rattle.mt_roster.specs.Registered.{KnowsIds};
 ghost use Rattle.mt_roster.specs.Withdrawals.{stays_after, Stand};
 
-use crate::record::Record;
 use crate::register::Kinds;
 use crate::registered::Registered;
 use mt_ids::Seed;
+use mt_records::Record;
 use mt_terms::{AppNo, ProgNo};
 use std::alloc::{AllocError, Global};
 use std::hash::{DefaultHasher, Hasher};

@@ -2,7 +2,7 @@ use Rattle.std.proofs.Common.{sym, ap, ◌∙◌}
 use Rattle.std.specs.Prelude.{option_map}
 use Rattle.mt_lists.specs.Rows.{fields_left, rows_left}
 use Rattle.mt_terms.specs.Registration.Records.{Rules}
-use Rattle.mt_roster.specs.Records.{record_seen}
+use Rattle.mt_records.specs.Records.{record_seen}
 use Rattle.mt_roster.specs.Drafts.{drafted, has_too_many_names}
 use Rattle.mt_roster.proofs.PassFacts.{is_positive}
 use Rattle.mt_roster.proofs.DraftFacts.{goes_on, too_many_drafts}

@@ -1,5 +1,5 @@
 use Rattle.mt_lists.specs.Rows.{fields_left}
-use Rattle.mt_roster.specs.Records.{record_seen}
+use Rattle.mt_records.specs.Records.{record_seen}
 use Rattle.mt_roster.specs.Registers.{contents_seen}
 use Rattle.mt_roster.proofs.PassFacts.{IsAccepted, is_accepted, once_said, few_more}
 use Rattle.mt_roster.proofs.first_pass.read_fields.Goals as goal

@@ -3,7 +3,7 @@ use Rattle.mt_terms.specs.Registration.Ids.{has_id}
 use Rattle.mt_terms.specs.Registration.Records.{Record, OfProgram}
 use Rattle.mt_terms.specs.Registration.Rows.{ids_of, applicant_ids}
 use Rattle.mt_terms.specs.Registration.Accepted.{IsRegistration}
-use Rattle.mt_roster.specs.declared.record.Record.{Record as Checked}
+use Rattle.mt_records.specs.declared.record.Record.{Record as Checked}
 use Rattle.mt_roster.specs.Markets.{AreNewNumbers, AreEntries}
 use Rattle.mt_roster.specs.Numbered.{all_seen, registered_by_all}
 use Rattle.mt_roster.specs.Reading.{members_by}

@@ -1,5 +1,5 @@
 use Rattle.std.proofs.Common.{◌∙◌, ap, List, filter, not}
-use Rattle.mt_roster.specs.declared.record.Record.{Record as Checked}
+use Rattle.mt_records.specs.declared.record.Record.{Record as Checked}
 use Rattle.mt_roster.specs.Numbered.{all_seen}
 use Rattle.mt_roster.specs.Withdrawals.{stays_after}
 use Rattle.mt_roster.proofs.MarketFacts.{both_read, first_fails, second_fails}

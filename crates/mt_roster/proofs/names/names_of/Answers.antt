@@ -2,7 +2,7 @@ use Rattle.std.proofs.Common.{ap, sym, ◌∙◌, subst, take, [], ◌∷◌, �
 use Rattle.std.proofs.lemmas.List.{take_more, map-append}
 use Rattle.mt_roster.specs.Entries.{AreNames}
 use Rattle.mt_roster.specs.Numbered.{all_seen}
-use Rattle.mt_roster.specs.Records.{record_seen}
+use Rattle.mt_records.specs.Records.{record_seen}
 use Rattle.mt_roster.proofs.NameFacts.{names_more}
 use Rattle.mt_roster.proofs.names.names_of.Goals as goal
 

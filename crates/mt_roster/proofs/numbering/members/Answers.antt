@@ -2,9 +2,9 @@ use Rattle.std.proofs.Common.{ap}
 use Rattle.std.specs.Prelude.{◌&&◌, is_some}
 use Rattle.mt_terms.specs.Registration.Ids.{Bytes, has_id}
 use Rattle.mt_terms.specs.Registration.Rows.{applicants_of}
-use Rattle.mt_roster.specs.declared.record.Record.{Record as Checked}
+use Rattle.mt_records.specs.declared.record.Record.{Record as Checked}
 use Rattle.mt_roster.specs.Reading.{number_by}
-use Rattle.mt_roster.specs.Records.{record_seen}
+use Rattle.mt_records.specs.Records.{record_seen}
 use Rattle.mt_roster.proofs.NumberingSteps.{members_pass, found_number}
 use Rattle.mt_roster.proofs.numbering.members.Goals as goal
 

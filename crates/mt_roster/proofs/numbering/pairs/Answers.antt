@@ -1,6 +1,6 @@
 use Rattle.std.proofs.Common.{◌≡◌, ◌+◌, ◌∷◌, arith, drop}
 use Rattle.std.proofs.lemmas.Grind.{common_steps}
-use Rattle.mt_roster.specs.Fields.{pairs_left}
+use Rattle.mt_records.specs.Fields.{pairs_left}
 use Rattle.mt_roster.specs.Numbered.{all_seen, couple_lists}
 use Rattle.mt_roster.proofs.PairSteps.{differ_found, repeats_found, pairs_no_more, pairs_none, read_pairs}
 use Rattle.mt_roster.proofs.numbering.pairs.Goals.{in-Couple+in_ok-has_repeated_pair+else-branch+in_ok-begin+in_ok-push_pairs+else-not-branch, in_default}

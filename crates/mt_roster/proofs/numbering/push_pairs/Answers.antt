@@ -2,7 +2,7 @@ use Rattle.std.proofs.Common.{Bool, ◌&&◌, length, ap, sym, ◌∙◌, arith}
 use Rattle.std.specs.List.{list_all}
 use Rattle.std.specs.Option.{option_copied}
 use Rattle.mt_terms.specs.Registration.Numbering.{names_only}
-use Rattle.mt_roster.specs.Fields.{pairs_left}
+use Rattle.mt_records.specs.Fields.{pairs_left}
 use Rattle.mt_roster.proofs.NumberingSteps.{length-with_last}
 use Rattle.mt_roster.proofs.PairSteps.{found_pair, pairs_by-some}
 use Rattle.mt_roster.proofs.numbering.push_pairs.Goals as goal

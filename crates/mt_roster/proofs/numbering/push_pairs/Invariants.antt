@@ -1,7 +1,7 @@
 use Rattle.std.proofs.Common.{◌≡◌, ◌+◌, ◌*◌, length}
 use Rattle.std.specs.List.{list_all}
 use Rattle.mt_terms.specs.Registration.Numbering.{names_only}
-use Rattle.mt_roster.specs.Fields.{pairs_left}
+use Rattle.mt_records.specs.Fields.{pairs_left}
 use Rattle.mt_roster.specs.Numbered.{with_more}
 use Rattle.mt_roster.specs.Reading.{pairs_by}
 use Rattle.mt_roster.proofs.numbering.push_pairs.Given as goal

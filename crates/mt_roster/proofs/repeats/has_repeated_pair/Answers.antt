@@ -1,6 +1,6 @@
 use Rattle.std.proofs.Common.{not, sym, ap, subst}
 use Rattle.mt_terms.specs.Registration.Passes.{is_same_pair}
-use Rattle.mt_roster.specs.Fields.{pairs_left, pair_seen}
+use Rattle.mt_records.specs.Fields.{pairs_left, pair_seen}
 use Rattle.mt_roster.proofs.RepeatFacts.{SeesEach, same_pairs, stands_twice, sees_next}
 use Rattle.mt_roster.proofs.repeats.has_repeated_pair.Goals as goal
 

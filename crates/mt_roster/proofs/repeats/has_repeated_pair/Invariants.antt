@@ -1,5 +1,5 @@
 use Rattle.mt_terms.specs.Registration.Passes.{is_same_pair}
-use Rattle.mt_roster.specs.Fields.{pairs_left}
+use Rattle.mt_records.specs.Fields.{pairs_left}
 use Rattle.mt_roster.proofs.RepeatFacts.{SeesEach}
 use Rattle.mt_roster.proofs.repeats.has_repeated_pair.Given as goal
 

@@ -1,7 +1,7 @@
 use Rattle.std.proofs.Common.{◌≡◌}
 use Rattle.std.specs.List.{flat_map}
 use Rattle.mt_terms.specs.Registration.Passes.{first_not_in, named}
-use Rattle.mt_roster.specs.Fields.{pairs_left}
+use Rattle.mt_records.specs.Fields.{pairs_left}
 use Rattle.mt_roster.proofs.unknown.first_unknown_of_pairs.Given as goal
 
 -- the rest decides

@@ -1,8 +1,8 @@
 use Rattle.std.proofs.Common.{◌∙◌, ap, rules}
 use Rattle.std.proofs.lemmas.Fn.{filter_same}
-use Rattle.mt_roster.specs.declared.record.Record.{Record}
+use Rattle.mt_records.specs.declared.record.Record.{Record}
 use Rattle.mt_roster.specs.Numbered.{all_seen}
-use Rattle.mt_roster.specs.Records.{record_seen}
+use Rattle.mt_records.specs.Records.{record_seen}
 use Rattle.mt_roster.specs.Withdrawals.{stays_after}
 use Rattle.mt_roster.proofs.NumberingSteps.{filter-map}
 use Rattle.mt_roster.proofs.withdrawals.staying.Goals as goal

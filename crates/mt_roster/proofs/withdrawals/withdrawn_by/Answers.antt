@@ -2,9 +2,9 @@ use Rattle.std.proofs.Common.{◌≡◌, ◌+◌, ◌∷◌, ◌++◌, List, ap,
 use Rattle.std.proofs.lemmas.List.{take_all}
 use Rattle.mt_terms.specs.Registration.Ids.{has_id}
 use Rattle.mt_terms.specs.Registration.Records.{Record, WithdrawRecord}
-use Rattle.mt_roster.specs.declared.record.Record.{Record as Checked}
+use Rattle.mt_records.specs.declared.record.Record.{Record as Checked}
 use Rattle.mt_roster.specs.Numbered.{all_seen}
-use Rattle.mt_roster.specs.Records.{record_seen, kind_seen}
+use Rattle.mt_records.specs.Records.{record_seen, kind_seen}
 use Rattle.mt_roster.proofs.WithdrawalFacts.{AreWithdrawn, seen_more, seen_split, is_withdrawal, no_withdrawal, still_withdrawn, one_withdrawn, unregistered, withdrawn_twice, all_withdrawn, was_true, was_false}
 use Rattle.mt_roster.proofs.withdrawals.withdrawn_by.Goals.{then-not-has-via-then-not-has, then-not-has-via-else-not-has+in_ok-add+then-not-branch, in-Withdraw+else-not-has+in_ok-add+else-not-branch, in_default}
 use Rattle.mt_roster.proofs.withdrawals.withdrawn_by.Goals as goal

@@ -1,6 +1,6 @@
 use Rattle.std.proofs.Common.{◌∙◌, ap, sym, subst}
 use Rattle.std.proofs.lemmas.List.{map-append}
-use Rattle.mt_roster.specs.Records.{record_seen}
+use Rattle.mt_records.specs.Records.{record_seen}
 use Rattle.mt_roster.specs.Numbered.{all_seen}
 use Rattle.mt_roster.specs.Drafts.{drafted}
 use Rattle.mt_roster.specs.Entries.{AreNames}

@@ -1,6 +1,6 @@
 use Rattle.std.proofs.Common.{◌+◌, ap, ◌∙◌, arith, length, refl}
 use Rattle.mt_terms.specs.Registration.Records.{OfProgram, OfCouple}
-use Rattle.mt_roster.specs.Records.{record_seen}
+use Rattle.mt_records.specs.Records.{record_seen}
 use Rattle.mt_roster.specs.Registers.{contents_seen}
 use Rattle.mt_roster.proofs.CountFacts.{too_many_rows, too_many_entries}
 use Rattle.mt_roster.proofs.register.Register.are_too_many.Goals as goal

@@ -1,5 +1,5 @@
 use Rattle.std.proofs.Common.{refl, ap, ◌+◌}
-use Rattle.mt_roster.specs.Records.{record_seen}
+use Rattle.mt_records.specs.Records.{record_seen}
 use Rattle.mt_roster.proofs.RegisterFacts.{is_register_more, contents_more}
 use Rattle.mt_roster.proofs.register.Register.push.Goals as goal
 

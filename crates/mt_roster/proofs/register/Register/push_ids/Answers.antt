@@ -3,7 +3,7 @@ use Rattle.mt_lists.specs.Rows.{fields_left}
 use Rattle.mt_terms.specs.Registration.Records.{OfApplicant}
 use Rattle.mt_terms.specs.Registration.Passes.{registered_before}
 use Rattle.mt_terms.specs.Registration.Ids.{has_id}
-use Rattle.mt_roster.specs.Records.{record_seen}
+use Rattle.mt_records.specs.Records.{record_seen}
 use Rattle.mt_roster.specs.Registers.{contents_seen}
 use Rattle.mt_roster.proofs.RegisterFacts.{new_single}
 use Rattle.mt_roster.proofs.register.Register.push_ids.Goals as goal

@@ -4,7 +4,7 @@ use Rattle.std.proofs.lemmas.List.{take_all}
 use Rattle.mt_terms.specs.Registration.Faults.{fault_at}
 use Rattle.mt_terms.specs.Registration.Passes.{first_of}
 use Rattle.mt_roster.proofs.UnknownFacts.{fault_of, first_at, none_more, pass_is}
-use Rattle.mt_roster.specs.Records.{charge_seen}
+use Rattle.mt_records.specs.Records.{charge_seen}
 use Rattle.mt_roster.specs.Registers.{contents_seen}
 use Rattle.mt_roster.proofs.register.Register.second_pass.Goals as goal
 

@@ -6,8 +6,8 @@ use Rattle.mt_terms.specs.Registration.Faults.{charge}
 use Rattle.mt_terms.specs.declared.codes.TheConstants.{UNKNOWN_PROGRAM}
 use Rattle.mt_terms.specs.Registration.Records.{OfProgram}
 use Rattle.mt_terms.specs.Registration.Passes.{first_not_in, unknown_id, named}
-use Rattle.mt_roster.specs.Fields.{pairs_left}
-use Rattle.mt_roster.specs.Records.{record_seen}
+use Rattle.mt_records.specs.Fields.{pairs_left}
+use Rattle.mt_records.specs.Records.{record_seen}
 use Rattle.mt_roster.specs.Registers.{contents_seen}
 use Rattle.mt_roster.proofs.register.Register.unknown_id.Goals as goal
 

@@ -1,7 +1,7 @@
 use Rattle.std.proofs.Common.{map, sym, ap, ◌∙◌, not}
 use Rattle.std.specs.List.{list_any}
 use Rattle.mt_terms.specs.Registration.Passes.{is_same_pair}
-use Rattle.mt_roster.specs.Fields.{pair_seen}
+use Rattle.mt_records.specs.Fields.{pair_seen}
 use Rattle.mt_roster.proofs.RepeatFacts.{pair_alike, pair_agree, list_any-seen, add-seen}
 use Rattle.mt_roster.proofs.repeats.PairTable.add.Goals as goal
 

@@ -1,9 +1,9 @@
 use Rattle.std.proofs.Common.{sym, arith, ◌∙◌, ap, Ok, Err}
 use Rattle.mt_lists.specs.Rows.{fields_left}
 use Rattle.mt_terms.specs.Registration.Records.{CoupleRecord}
-use Rattle.mt_roster.proofs.FieldFacts.{odd_couple, couple_is_read, couple_is_refused, left_fails, right_fails}
-use Rattle.mt_roster.proofs.record.couple_by_pairs.Goals as goal
-use Rattle.mt_roster.proofs.record.couple_by_pairs.Goals.{else-names_are_ids-via-then-names_are_ids+else-are_pairs, else-names_are_ids-via-else-names_are_ids}
+use Rattle.mt_records.proofs.FieldFacts.{odd_couple, couple_is_read, couple_is_refused, left_fails, right_fails}
+use Rattle.mt_records.proofs.record.couple_by_pairs.Goals as goal
+use Rattle.mt_records.proofs.record.couple_by_pairs.Goals.{else-names_are_ids-via-then-names_are_ids+else-are_pairs, else-names_are_ids-via-else-names_are_ids}
 
 pub returns-then-len-eq1 : goal.returns-then-len-eq1
 returns-then-len-eq1 c =

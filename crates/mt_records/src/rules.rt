@@ -8,12 +8,12 @@ use std::marker::Model;
 
 /// What a version of the format allows.
 #[derive(Clone, Copy, Debug)]
-pub(crate) struct Rules {
-    pub(crate) limits: Limits,
+pub struct Rules {
+    pub limits: Limits,
     /// Whether rows may be withdrawn.
-    pub(crate) withdrawals: bool,
+    pub withdrawals: bool,
     /// Whether one of the two ids of a pair may be `-`.
-    pub(crate) half_pairs: bool,
+    pub half_pairs: bool,
 }
 
 impl Model for Rules {
@@ -41,7 +41,7 @@ const VERSION_2: Rules = Rules {
 };
 
 /// The rules of the version that a record names, which is exactly `match`, `1` or `match`, `2`.
-pub(crate) fn rules_of(all: Fields<'_>) -> Option<Rules>
+pub fn rules_of(all: Fields<'_>) -> Option<Rules>
     ensures { result ≡ rules_of (fields_left all.entry) }
 {
     let mut fields = all;

@@ -4,17 +4,17 @@ ghost use Rattle.mt_terms.specs.Registration.Faults.{charge_alone};
 ghost use Rattle.mt_terms.specs.Registration.Records.{kind_of, are_ids, two_by_two, program_record, applicant_record, couple_by_pairs, couple_record, withdraw_record, record_of};
 ghost use Rattle.mt_terms.specs.Registration.Records.{OfProgram, OfCouple};
 ghost use Rattle.mt_terms.specs.Registration.Rows.{id_of, own_id, applicants_of, entries_of};
-ghost use Rattle.mt_roster.specs.Records.{kind_seen, record_seen, charge_seen, read_seen};
+ghost use Rattle.mt_records.specs.Records.{kind_seen, record_seen, charge_seen, read_seen};
 
 use crate::fields::{Pairs, are_ids, are_pairs};
-use mt_ids::{is_id, quota_of};
 use crate::rules::Rules;
+use mt_ids::{is_id, quota_of};
 use mt_lists::Fields;
 use mt_terms::codes::{BAD_ID, BAD_QUOTA, FIELD_COUNT, UNKNOWN_KIND};
 
 /// What is registered under an id of its own.
 #[derive(Clone, Copy, Debug, PartialEq, Eq)]
-pub(crate) enum Kind {
+pub enum Kind {
     Program,
     Applicant,
     Couple,
@@ -22,7 +22,7 @@ pub(crate) enum Kind {
 
 /// A record taken apart. Its ids lie in the row.
 #[derive(Clone, Copy, Debug)]
-pub(crate) enum Record<'a> {
+pub enum Record<'a> {
     Program {
         id: &'a [u8],
         quota: u32,
@@ -46,7 +46,7 @@ pub(crate) enum Record<'a> {
 
 impl<'a> Record<'a> {
     /// The record's own id, or the one that it withdraws.
-    pub(crate) fn id(&self) -> &'a [u8]
+    pub fn id(&self) -> &'a [u8]
         ensures { result.now ≡ id_of (record_seen self.now) }
     {
         match self {
@@ -58,7 +58,7 @@ impl<'a> Record<'a> {
     }
 
     /// How many applicants it registers.
-    pub(crate) fn applicant_count(&self) -> usize
+    pub fn applicant_count(&self) -> usize
         ensures { result ≡ length (applicants_of (record_seen self.now)) }
     {
         match self {
@@ -69,7 +69,7 @@ impl<'a> Record<'a> {
     }
 
     /// How many programs it registers.
-    pub(crate) fn program_count(&self) -> usize
+    pub fn program_count(&self) -> usize
         ensures { result ≡ length (option_to_list (own_id OfProgram (record_seen self.now))) }
     {
         match self {
@@ -79,7 +79,7 @@ impl<'a> Record<'a> {
     }
 
     /// How many couples it registers.
-    pub(crate) fn couple_count(&self) -> usize
+    pub fn couple_count(&self) -> usize
         ensures { result ≡ length (option_to_list (own_id OfCouple (record_seen self.now))) }
     {
         match self {
@@ -89,7 +89,7 @@ impl<'a> Record<'a> {
     }
 
     /// How many entries its list has: a pair counts as two.
-    pub(crate) fn entry_count(&self) -> u64
+    pub fn entry_count(&self) -> u64
         ensures { result ≡ entries_of (record_seen self.now) }
     {
         match self {
@@ -103,9 +103,9 @@ impl<'a> Record<'a> {
 
 /// A fault of a record: its code and the id at fault, which is empty where there is none.
 #[derive(Clone, Copy, Debug)]
-pub(crate) struct Charge<'a> {
-    pub(crate) code: u16,
-    pub(crate) id: &'a [u8],
+pub struct Charge<'a> {
+    pub code: u16,
+    pub id: &'a [u8],
 }
 
 /// A fault that no id is at.
@@ -116,7 +116,7 @@ fn charge_alone<'a>(code: u16) -> Charge<'a>
 }
 
 /// The kind that a field names.
-pub(crate) fn kind_of(word: &[u8]) -> Option<Kind>
+pub fn kind_of(word: &[u8]) -> Option<Kind>
     ensures { option_map kind_seen result ≡ kind_of word.now }
 {
     if word == b"program".as_slice() {
@@ -202,7 +202,7 @@ fn couple_by_pairs<'a>(
 }
 
 /// A couple by the fields after its first.
-pub(crate) fn couple_record<'a>(rules: &Rules, fields: Fields<'a>) -> Result<Record<'a>, Charge<'a>>
+pub fn couple_record<'a>(rules: &Rules, fields: Fields<'a>) -> Result<Record<'a>, Charge<'a>>
     ensures { read_seen result ≡ couple_record rules.now (fields_left fields.entry) }
 {
     let mut list = fields;
@@ -219,10 +219,7 @@ pub(crate) fn couple_record<'a>(rules: &Rules, fields: Fields<'a>) -> Result<Rec
 }
 
 /// A withdrawal by the fields after its first.
-pub(crate) fn withdraw_record<'a>(
-    rules: &Rules,
-    fields: Fields<'a>,
-) -> Result<Record<'a>, Charge<'a>>
+pub fn withdraw_record<'a>(rules: &Rules, fields: Fields<'a>) -> Result<Record<'a>, Charge<'a>>
     ensures { read_seen result ≡ withdraw_record rules.now (fields_left fields.entry) }
 {
     let mut rest = fields;
@@ -246,14 +243,14 @@ pub(crate) fn withdraw_record<'a>(
 }
 
 /// Whether a field is the word of a withdrawal, where the version knows withdrawals.
-pub(crate) fn withdraws(rules: &Rules, word: &[u8]) -> bool
+pub fn withdraws(rules: &Rules, word: &[u8]) -> bool
     ensures { result ≡ (rules.now.withdrawals && bytes_eq word.now (codes "withdraw")) }
 {
     rules.withdrawals && word == b"withdraw".as_slice()
 }
 
 /// A record taken apart by itself, or its first fault.
-pub(crate) fn record_of<'a>(rules: &Rules, fields: Fields<'a>) -> Result<Record<'a>, Charge<'a>>
+pub fn record_of<'a>(rules: &Rules, fields: Fields<'a>) -> Result<Record<'a>, Charge<'a>>
     ensures { read_seen result ≡ record_of rules.now (fields_left fields.entry) }
 {
     let mut rest = fields;

@@ -3,12 +3,12 @@ use Rattle.std.specs.Prelude.{Result, Ok, Err}
 use Rattle.mt_lists.specs.Rows.{fields_left}
 use Rattle.mt_terms.specs.Registration.Faults as faults
 use Rattle.mt_terms.specs.Registration.Records as model
-use Rattle.mt_roster.specs.Fields.{pairs_left}
-use Rattle.mt_roster.specs.declared.record.Kind.{Kind}
-use Rattle.mt_roster.specs.declared.record.Kind.TheVariants as kinds
-use Rattle.mt_roster.specs.declared.record.Record.{Record}
-use Rattle.mt_roster.specs.declared.record.Record.TheVariants as records
-use Rattle.mt_roster.specs.declared.record.Charge.{Charge}
+use Rattle.mt_records.specs.Fields.{pairs_left}
+use Rattle.mt_records.specs.declared.record.Kind.{Kind}
+use Rattle.mt_records.specs.declared.record.Kind.TheVariants as kinds
+use Rattle.mt_records.specs.declared.record.Record.{Record}
+use Rattle.mt_records.specs.declared.record.Record.TheVariants as records
+use Rattle.mt_records.specs.declared.record.Charge.{Charge}
 
 abbrev pub kind_seen : Kind → model.Kind
 kind_seen kinds.Program = model.OfProgram

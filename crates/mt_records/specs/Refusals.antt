@@ -1,9 +1,9 @@
 -- How what a step of the reading gives is seen as the definition's result.
 use Rattle.std.specs.Prelude.{◌≡◌, Result, Ok, Err}
 use Rattle.mt_terms.specs.Registration.Faults as faults
-use Rattle.mt_roster.specs.declared.refusal.Fault.{Fault}
-use Rattle.mt_roster.specs.declared.refusal.Refusal.{Refusal}
-use Rattle.mt_roster.specs.declared.refusal.Refusal.TheVariants as refusals
+use Rattle.mt_records.specs.declared.refusal.Fault.{Fault}
+use Rattle.mt_records.specs.declared.refusal.Refusal.{Refusal}
+use Rattle.mt_records.specs.declared.refusal.Refusal.TheVariants as refusals
 
 abbrev pub fault_seen : Fault → faults.Fault
 fault_seen f = record { code = f.code; row = f.row; id = f.id.now }

@@ -6,7 +6,7 @@ use Rattle.mt_terms.specs.Registration.Ids.{Bytes}
 use Rattle.mt_terms.specs.Registration.Faults.{charge_alone}
 use Rattle.mt_terms.specs.declared.codes.TheConstants.{FIELD_COUNT, BAD_ID}
 use Rattle.mt_terms.specs.Registration.Records.{Rules, CoupleRecord, are_ids, is_pair, pair_of, two_by_two, couple_by_pairs}
-use Rattle.mt_roster.specs.Fields.{by_pairs}
+use Rattle.mt_records.specs.Fields.{by_pairs}
 
 length-by_pairs : (xs : List Bytes) → length (by_pairs xs) ≡ length xs / 2
 length-by_pairs [] = refl

@@ -2,8 +2,8 @@ use Rattle.std.proofs.Common.{◌≡◌, length}
 use Rattle.std.specs.List.{list_all}
 use Rattle.mt_lists.specs.Rows.{fields_left}
 use Rattle.mt_terms.specs.Registration.Records.{is_pair}
-use Rattle.mt_roster.specs.Fields.{by_pairs}
-use Rattle.mt_roster.proofs.fields.are_pairs.Given as goal
+use Rattle.mt_records.specs.Fields.{by_pairs}
+use Rattle.mt_records.proofs.fields.are_pairs.Given as goal
 
 -- the rest decides
 abbrev pub invariant-loop-first : goal.invariant-loop-first

@@ -1,8 +1,8 @@
 ghost use Rattle.std.specs.Prelude.{◌≡◌};
 ghost use Rattle.mt_terms.specs.Registration.Faults.{fault_at};
-ghost use Rattle.mt_roster.specs.Records.{charge_seen};
-ghost use Rattle.mt_roster.specs.Refusals.{fault_seen};
-ghost use Rattle.mt_roster.specs.declared.refusal.Refusal.TheVariants.{Memory};
+ghost use Rattle.mt_records.specs.Records.{charge_seen};
+ghost use Rattle.mt_records.specs.Refusals.{fault_seen};
+ghost use Rattle.mt_records.specs.declared.refusal.Refusal.TheVariants.{Memory};
 
 use crate::record::Charge;
 use std::alloc::AllocError;
@@ -10,15 +10,15 @@ use std::alloc::AllocError;
 /// The fault of a file: its code, the number of the record at fault, and the id at fault, which is empty where there
 /// is none.
 #[derive(Clone, Copy, Debug)]
-pub(crate) struct Fault<'a> {
-    pub(crate) code: u16,
-    pub(crate) row: u64,
-    pub(crate) id: &'a [u8],
+pub struct Fault<'a> {
+    pub code: u16,
+    pub row: u64,
+    pub id: &'a [u8],
 }
 
 /// Why a file has no market, or none yet.
 #[derive(Debug, Drop)]
-pub(crate) enum Refusal<'a> {
+pub enum Refusal<'a> {
     Fault(Fault<'a>),
     Memory,
 }
@@ -33,7 +33,7 @@ impl From<AllocError> for Refusal<'_> {
 
 impl<'a> Charge<'a> {
     /// The fault of the record with this number.
-    pub(crate) fn at(self, row: u64) -> Fault<'a>
+    pub fn at(self, row: u64) -> Fault<'a>
         ensures { fault_seen result ≡ fault_at row (charge_seen self.entry) }
     {
         Fault {

@@ -3,14 +3,14 @@ ghost use Rattle.std.specs.Option.{option_copied};
 ghost use Rattle.std.specs.List.{list_all};
 ghost use Rattle.mt_lists.specs.Rows.{fields_left};
 ghost use Rattle.mt_terms.specs.Registration.Records.{are_ids, is_pair, pair_of};
-ghost use Rattle.mt_roster.specs.Fields.{by_pairs, pairs_left};
+ghost use Rattle.mt_records.specs.Fields.{by_pairs, pairs_left};
 
-use mt_ids::{is_dash, is_id};
 use crate::rules::Rules;
+use mt_ids::{is_dash, is_id};
 use mt_lists::Fields;
 
 /// Whether each field is an id by the rules of a version.
-pub(crate) fn are_ids(rules: &Rules, fields: Fields<'_>) -> bool
+pub fn are_ids(rules: &Rules, fields: Fields<'_>) -> bool
     ensures { result ≡ are_ids rules.now (fields_left fields.entry) }
 {
     for field in fields {
@@ -44,7 +44,7 @@ fn next_two<'a>(fields: &mut Fields<'a>) -> Option<(&'a [u8], &'a [u8])>
 }
 
 /// Whether some fields are pairs, two by two, by the rules of a version.
-pub(crate) fn are_pairs(rules: &Rules, fields: Fields<'_>) -> bool
+pub fn are_pairs(rules: &Rules, fields: Fields<'_>) -> bool
     ensures { result ≡ list_all (is_pair rules.now) (by_pairs (fields_left fields.entry)) }
 {
     let mut rest = fields;
@@ -65,27 +65,27 @@ fn place_of<'a>(field: &'a [u8]) -> Option<&'a [u8]>
 
 /// The pairs of a couple's list in turn: the program of each member, or none.
 #[derive(Clone, Copy, Debug)]
-pub(crate) struct Pairs<'a> {
+pub struct Pairs<'a> {
     fields: Fields<'a>,
 }
 
 impl<'a> Pairs<'a> {
     /// Some fields, two by two.
-    pub(crate) fn new(fields: Fields<'a>) -> Pairs<'a>
+    pub fn new(fields: Fields<'a>) -> Pairs<'a>
         ensures { pairs_left result ≡ map pair_of (by_pairs (fields_left fields.entry)) }
     {
         Pairs { fields }
     }
 
     /// How many pairs there are.
-    pub(crate) fn len(&self) -> usize
+    pub fn len(&self) -> usize
         ensures { result ≡ length (pairs_left self.now) }
     {
         self.fields.len() / 2
     }
 
     /// How many fields the pairs have.
-    pub(crate) fn entries(&self) -> usize
+    pub fn entries(&self) -> usize
         ensures { result ≡ 2 * length (pairs_left self.now) }
     {
         self.fields.len() / 2 * 2
@@ -94,7 +94,7 @@ impl<'a> Pairs<'a> {
 
 impl<'a> Iterator for Pairs<'a> {
     ghost use Rattle.std.specs.Iterator.{YieldsFirstBy, item_count};
-    ghost use Rattle.mt_roster.specs.Fields.{pair_seen, pairs_left};
+    ghost use Rattle.mt_records.specs.Fields.{pair_seen, pairs_left};
 
     type Item = (Option<&'a [u8]>, Option<&'a [u8]>);
 

@@ -5,7 +5,7 @@ use Rattle.std.specs.Option.{option_copied}
 use Rattle.mt_lists.specs.Rows.{fields_left}
 use Rattle.mt_terms.specs.Registration.Ids.{Bytes}
 use Rattle.mt_terms.specs.Registration.Records.{IdPair, pair_of}
-use Rattle.mt_roster.specs.declared.fields.Pairs.{Pairs}
+use Rattle.mt_records.specs.declared.fields.Pairs.{Pairs}
 
 -- the fields two by two, without a last one that has no other
 abbrev pub by_pairs : List Bytes → List (Bytes × Bytes)

@@ -1,7 +1,7 @@
 use Rattle.std.proofs.Common.{◌≡◌}
 use Rattle.mt_lists.specs.Rows.{fields_left}
 use Rattle.mt_terms.specs.Registration.Records.{are_ids}
-use Rattle.mt_roster.proofs.fields.are_ids.Given as goal
+use Rattle.mt_records.proofs.fields.are_ids.Given as goal
 
 -- the rest decides
 abbrev pub invariant-loop-field : goal.invariant-loop-field
