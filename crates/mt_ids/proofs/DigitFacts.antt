@@ -1,5 +1,5 @@
 -- The value of a few digits.
-use Rattle.std.proofs.Common.{◌≡◌, ℕ, zero, suc, ◌+◌, ◌*◌, ◌^◌, ◌<◌, ◌≤◌, ◌-◌, Bool, true, List, [], ◌∷◌, length, get_or, take, arith}
+use Rattle.std.proofs.Common.{◌≡◌, ℕ, zero, suc, ◌+◌, ◌*◌, ◌^◌, ◌<◌, ◌≤◌, ◌-◌, Bool, true, ◌&&◌, nat_lt, nat_le, List, [], ◌∷◌, length, get_or, take, arith}
 use Rattle.std.proofs.Math.Nat.{pow-le-pow_right}
 use Rattle.std.specs.List.{list_all}
 use Rattle.std.specs.Char.{is_ascii_digit, digit_value}
@@ -29,6 +29,14 @@ pub value_small : (ds : List ℕ) (most : ℕ) → list_all is_ascii_digit ds �
 value_small ds most h k =
     let bound : 10 ^ length ds ≤ 10 ^ most = pow-le-pow_right (let some : 0 < 10 = omega arith in some) k in
     omega (arith, digits_value-lt 10 ds (are_digits ds h), bound)
+
+-- one to four digits write a number below 2 ^ 32
+pub quota_small : (ds : List ℕ) → (nat_lt 0 (length ds) && nat_le (length ds) 4 && list_all is_ascii_digit ds) ≡ true → digits_value 10 ds < 2 ^ 32
+quota_small ds h =
+    let parts = and_parts (nat_lt 0 (length ds) && nat_le (length ds) 4) _ h in
+    let short = and_parts (nat_lt 0 (length ds)) _ parts.0 in
+    let few : length ds ≤ 4 = let fact = short.1 in grind (arith, nat_tests) in
+    omega (arith, value_small ds 4 parts.1 few)
 
 -- one digit more of at most ten
 pub value_more : (ds : List ℕ) (i : ℕ) → list_all is_ascii_digit ds ≡ true → length ds ≤ 10 → i < length ds

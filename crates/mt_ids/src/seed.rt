@@ -19,9 +19,11 @@ impl Seed {
 }
 
 impl BuildHasher for Seed {
+    ghost use Rattle.mt_ids.specs.Seeds.{first_hasher};
+
     type Hasher = FoldHasher;
 
-    ghost build_hasher = { λ seed. seed.begun };
+    ghost build_hasher = { first_hasher };
 
     fn build_hasher(&self) -> FoldHasher {
         self.begun

@@ -10,7 +10,7 @@ use mt_ids::{is_dash, is_id};
 use mt_lists::Fields;
 
 /// Whether each field is an id by the rules of a version.
-pub fn are_ids(rules: &Rules, fields: Fields<'_>) -> bool
+pub(crate) fn are_ids(rules: &Rules, fields: Fields<'_>) -> bool
     ensures { result ≡ are_ids rules.now (fields_left fields.entry) }
 {
     for field in fields {
@@ -44,7 +44,7 @@ fn next_two<'a>(fields: &mut Fields<'a>) -> Option<(&'a [u8], &'a [u8])>
 }
 
 /// Whether some fields are pairs, two by two, by the rules of a version.
-pub fn are_pairs(rules: &Rules, fields: Fields<'_>) -> bool
+pub(crate) fn are_pairs(rules: &Rules, fields: Fields<'_>) -> bool
     ensures { result ≡ list_all (is_pair rules.now) (by_pairs (fields_left fields.entry)) }
 {
     let mut rest = fields;
@@ -71,7 +71,7 @@ pub struct Pairs<'a> {
 
 impl<'a> Pairs<'a> {
     /// Some fields, two by two.
-    pub fn new(fields: Fields<'a>) -> Pairs<'a>
+    pub(crate) fn new(fields: Fields<'a>) -> Pairs<'a>
         ensures { pairs_left result ≡ map pair_of (by_pairs (fields_left fields.entry)) }
     {
         Pairs { fields }
