@@ -7,7 +7,7 @@ use Rattle.mt_terms.specs.Text.{all_filled, positions, unmatched}
 use Rattle.mt_terms.specs.Verdict.{verdict_of}
 use Rattle.mt_terms.specs.declared.verdict.Verdict.{Verdict}
 use Rattle.mt_terms.specs.declared.verdict.Verdict.TheVariants.{Stable, Unlisted, Over, Blocks}
-use Rattle.mt_match_laws.specs.Verdict.{VerdictSays}
+use Rattle.mt_verdict_laws.specs.Verdict.{VerdictSays}
 use Rattle.mt_match.specs.Told.{Told}
 use Rattle.mt_match.specs.declared.told_match.Count.{Count}
 use Rattle.mt_match.specs.declared.told_match.Count.TheVariants as count

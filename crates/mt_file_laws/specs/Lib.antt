@@ -1,4 +1,3 @@
 pub mod Faultless
 pub mod Registration
 pub mod Staying
-pub mod Text

@@ -1,11 +1,9 @@
 -- What holds of every file that is accepted.
-use Rattle.std.specs.Prelude.{◌≡◌, ℕ, List, [], ◌∷◌, ◌++◌, replicate, Ok, Err, codes, IsTrue}
+use Rattle.std.specs.Prelude.{◌≡◌, ℕ, List, [], ◌∷◌, ◌++◌, replicate, Ok, codes}
 use Rattle.mt_terms.specs.Market.{Registered}
 use Rattle.mt_terms.specs.Registration.{market_of}
-use Rattle.mt_terms.specs.Registration.Faults.{Fault}
 use Rattle.mt_terms.specs.Registration.Ids.{Bytes}
 use Rattle.mt_terms.specs.Registration.Accepted.{IsRegistration}
-use Rattle.mt_terms.specs.Text.{is_fault_code, is_none_or_id}
 
 -- it is a market with its names, well formed and within the limits
 abbrev pub AcceptedIsRegistration : Type 0
@@ -20,11 +18,3 @@ abbrev pub VersionsAgree : Type 0
 VersionsAgree =
     (blanks : ℕ) (rows : List (List Bytes)) (r : Registered)
     → market_of (file_of (codes "1") blanks rows) ≡ Ok r → market_of (file_of (codes "2") blanks rows) ≡ Ok r
-
--- each fault of a file has one of the known codes from 12 to 22
-abbrev pub FaultCodes : Type 0
-FaultCodes = (rows : List (List Bytes)) (fault : Fault) → market_of rows ≡ Err fault → IsTrue (is_fault_code fault.code)
-
--- and its id is empty or an id
-abbrev pub FaultIds : Type 0
-FaultIds = (rows : List (List Bytes)) (fault : Fault) → market_of rows ≡ Err fault → IsTrue (is_none_or_id fault.id)

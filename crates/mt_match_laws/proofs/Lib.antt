@@ -1,4 +1,3 @@
-pub mod BlockingPairLemmas
 pub mod ChoiceLemmas
 pub mod ExclusionLemmas
 pub mod FloorChoices
@@ -6,5 +5,4 @@ pub mod ListLemmas
 pub mod Seats
 pub mod SinglesFacts
 pub mod TakenLemmas
-pub mod VerdictLemmas
 pub mod WellFormedLemmas

@@ -1,6 +1,6 @@
 -- Lists of numbers as sets: what passes a test, what stands before a first one, and how many.
-use Rattle.std.proofs.Common.{◌≡◌, ℕ, zero, suc, ◌+◌, ◌<◌, ◌≤◌, Bool, true, false, not, ◌||◌, ◌==◌, List, [], ◌∷◌, map, filter, length, IsTrue, IsFalse, refl, ap, sym, ◌∙◌, arith, eq-eqb, ne_eqb, slice_index_or, slice_set, if◌then◌else◌, ◌⊎◌, ◌≢◌, subst, inl, inr, eq-or-lt_of_le}
-use Rattle.std.specs.List.{list_any, list_all, range_with_len}
+use Rattle.std.proofs.Common.{◌≡◌, ℕ, zero, suc, ◌+◌, ◌<◌, ◌≤◌, Bool, true, false, not, ◌||◌, ◌==◌, List, [], ◌∷◌, map, filter, length, None, IsTrue, IsFalse, refl, ap, sym, ◌∙◌, arith, eq-eqb, ne_eqb, slice_index_or, slice_set, if◌then◌else◌, ◌⊎◌, ◌≢◌, subst, inl, inr, eq-or-lt_of_le}
+use Rattle.std.specs.List.{list_any, list_all, range_with_len, find}
 use Rattle.std.proofs.lemmas.Bool.{and_parts, and_from, or_parts, or_from, or_left, or_right, not-true, not-false, not_from_true, not_from_false, cases_Bool, both_ways}
 use Rattle.std.proofs.lemmas.Bool.Decides.{nat_tests}
 use mathlib.Core.Path.{fun_ext}
@@ -31,6 +31,13 @@ all_below test n h = all_in_range test 0 n (λ k low high. h k (omega arith))
 -- each number below n passes where all of them do
 pub each_below : (test : Set) (n : ℕ) → IsTrue (list_all test (below n)) → (k : ℕ) → k < n → IsTrue (test k)
 each_below test n h k k_below = each_in_range test 0 n h k (omega arith) (omega arith)
+
+-- a search that finds nothing
+pub nothing_found : {X : Type 0} (test : X → Bool) (xs : List X) → IsFalse (list_any test xs) → find test xs ≡ None
+nothing_found test [] h = refl
+nothing_found test (x ∷ xs) h =
+    let parts = or_parts (test x) (list_any test xs) h in
+    rw parts.0 (nothing_found test xs parts.1)
 
 -- some element passes, unless all pass the opposite test
 pub list_any-not : {X : Type 0} (test : X → Bool) (xs : List X) → list_any test xs ≡ not (list_all (λ x. not (test x)) xs)

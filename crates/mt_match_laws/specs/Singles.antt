@@ -38,29 +38,6 @@ pub record IsStableForSingles (m : Market) (places : Places) : Type 0 where
 abbrev pub StabilityOfSingles : Type 0
 StabilityOfSingles = (m : Market) (places : Places) → IsTrue (stable (singles_market m) places) ↔ IsStableForSingles m places
 
--- whether a program has a free post, or somebody there whom it wants less than this applicant
-abbrev pub HasRoomFor : Market → Places → ℕ → ℕ → Type 0
-HasRoomFor m places p a =
-    (filled places p < (program_of m p).quota) ⊎ ((b : ℕ) × IsTrue (at places p b) × IsTrue (has (until (λ x. x == b) (program_of m p).ranking) a))
-
--- An applicant and a program block where each lists the other, the applicant is unplaced or wants the program
--- more than its place, and the program has room for it.
-pub record IsBlockingPair (m : Market) (places : Places) (a p : ℕ) : Type 0 where
-  pub is_better : IsTrue (has (better_programs m places a) p)
-  pub is_listed : IsTrue (has (program_of m p).ranking a)
-  pub has_room : HasRoomFor m places p a
-
--- Stability for hospitals and residents as in Gusfield and Irving 1989.
-pub record IsStableByPairs (m : Market) (places : Places) : Type 0 where
-  pub one_each : length places ≡ applicants m
-  pub on_list : (a p : ℕ) → IsTrue (at places p a) → IsTrue (has (list_of m a) p)
-  pub listed : (a p : ℕ) → IsTrue (at places p a) → IsTrue (has (program_of m p).ranking a)
-  pub within : (p : ℕ) → filled places p ≤ (program_of m p).quota
-  pub no_blocking_pair : (a p : ℕ) → ¬ IsBlockingPair m places a p
-
-abbrev pub StabilityByPairs : Type 0
-StabilityByPairs = (m : Market) → IsWellFormed m → (places : Places) → IsTrue (stable (singles_market m) places) ↔ IsStableByPairs m places
-
 -- Of a set of singles that have the program on their lists, and only excluded programs above it on their
 -- live lists, whoever isn't chosen is excluded there.
 abbrev pub Exclusion : Type 0

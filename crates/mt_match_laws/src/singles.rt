@@ -1,4 +1,4 @@
-ghost use Rattle.mt_match_laws.specs.Singles.{ChoiceInWords, GrowingChoice, NoneComesBack, StabilityOfSingles, StabilityByPairs, Exclusion, ExclusionByQuota, BestIsUnique, BestIsAtLeast, WellFormedTest, ChosenForTwoPosts, ExcludedInChain};
+ghost use Rattle.mt_match_laws.specs.Singles.{ChoiceInWords, GrowingChoice, NoneComesBack, StabilityOfSingles, Exclusion, ExclusionByQuota, BestIsUnique, BestIsAtLeast, WellFormedTest, ChosenForTwoPosts, ExcludedInChain};
 
 /// A program chooses who is on its list, is of the set, and has fewer than quota of the set above it.
 pub fn choice_in_words()
@@ -19,12 +19,6 @@ pub fn none_comes_back()
 /// single wants more would choose it.
 pub fn stability_of_singles()
     ensures { StabilityOfSingles }
-{}
-
-/// A match of the singles is stable where it fits and no applicant and program block it (Gusfield and Irving
-/// 1989).
-pub fn stability_by_pairs()
-    ensures { StabilityByPairs }
 {}
 
 /// Of a set of singles that have only excluded programs above this one on their live lists, whoever isn't

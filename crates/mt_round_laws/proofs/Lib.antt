@@ -1,6 +1,5 @@
 pub mod PlacesFacts
 pub mod RoundsAgents
-pub mod RoundsCounted
 pub mod RoundsFits
 pub mod RoundsKeep
 pub mod RoundsLists

@@ -1,14 +1,13 @@
 -- What the couples' rounds keep, and where they end.
-use Rattle.std.specs.Prelude.{◌≡◌, ℕ, ◌+◌, ◌<◌, List, [], ◌∷◌, length, Some, None, IsTrue}
+use Rattle.std.specs.Prelude.{◌≡◌, ℕ, ◌+◌, ◌<◌, List, [], ◌∷◌, length, Some, IsTrue}
 use Rattle.mt_terms.specs.Market.{Market}
 use Rattle.mt_terms.specs.Matching.{Places}
 use Rattle.mt_terms.specs.Stability.{fits, stable}
 use Rattle.mt_terms.specs.Best.{IsBest}
-use Rattle.mt_terms.specs.Rounds.{Work, round, stage, IsRoundState, IsFittingState, NeedsRounds}
+use Rattle.mt_terms.specs.Rounds.{Work, round, stage, IsRoundState, IsFittingState}
 use Rattle.mt_terms.specs.WellFormed.{IsWellFormed}
-use Rattle.mt_terms.specs.Examples.Markets.{three_couples, partner_withdraws, nobody}
 use Rattle.mt_terms.specs.declared.numbers.Agent.{Agent}
-use Rattle.mt_terms.specs.declared.numbers.Agent.TheVariants.{Single, Couple}
+use Rattle.mt_terms.specs.declared.numbers.Agent.TheVariants.{Couple}
 
 -- the state with this match and this work list
 abbrev pub state : Places → List Agent → Work
@@ -59,22 +58,3 @@ abbrev pub StageFits : Type 0
 StageFits =
     (m : Market) → IsWellFormed m → (places : Places) → IsTrue (fits m places)
     → OfEveryEnd m places (λ budget r. IsTrue (fits m r.0))
-
-abbrev pub StageRounds : Type 0
-StageRounds = (m : Market) (places : Places) → OfEveryEnd m places (NeedsRounds m places)
-
--- where the partner withdraws: the single back in its post, beside the second couple
-abbrev pub single_back : Places
-single_back = Some 0 ∷ None ∷ None ∷ Some 0 ∷ Some 1 ∷ []
-
--- What these laws ask for is so where the partner withdraws: the single alone is placed best, a stage ends, and
--- once the second couple moved the first couple and the single are still to be looked at. It is so in the
--- market of three couples where the second one enters, the first one placed and the third one outside.
-pub record PremisesOfRounds : Type 0 where
-  pub well_formed : IsWellFormed partner_withdraws
-  pub best : IsBest partner_withdraws (Some 0 ∷ nobody 4)
-  pub ends : stage partner_withdraws (Some 0 ∷ nobody 4) 5 ≡ Some (single_back, 5)
-  pub all_entered : IsRoundState partner_withdraws 1
-      (state (None ∷ None ∷ None ∷ Some 0 ∷ Some 1 ∷ []) (Couple 0 ∷ Single 0 ∷ []))
-  pub one_outside : IsRoundState three_couples 1
-      (state (Some 0 ∷ Some 2 ∷ None ∷ None ∷ None ∷ None ∷ []) (Couple 1 ∷ []))

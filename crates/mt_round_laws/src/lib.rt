@@ -4,6 +4,6 @@
 mod rounds;
 
 pub use rounds::{
-    first_couple_waits, last_list_is_stable, next_couple_waits, premises_of_rounds, round_fits,
-    round_keeps, stage_fits, stage_is_stable, stage_rounds,
+    first_couple_waits, last_list_is_stable, next_couple_waits, round_fits, round_keeps,
+    stage_fits, stage_is_stable,
 };

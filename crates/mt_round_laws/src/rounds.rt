@@ -1,4 +1,4 @@
-ghost use Rattle.mt_round_laws.specs.Rounds.{FirstCoupleWaits, NextCoupleWaits, LastListIsStable, RoundKeeps, RoundFits, StageIsStable, StageFits, StageRounds, PremisesOfRounds};
+ghost use Rattle.mt_round_laws.specs.Rounds.{FirstCoupleWaits, NextCoupleWaits, LastListIsStable, RoundKeeps, RoundFits, StageIsStable, StageFits};
 
 /// After the best match of the singles, the first couple waits in the state that a round keeps.
 pub fn first_couple_waits()
@@ -34,15 +34,4 @@ pub fn stage_is_stable()
 /// Whatever a stage ends in, from any match that fits, fits.
 pub fn stage_fits()
     ensures { StageFits }
-{}
-
-/// A stage answers with exactly the rounds that it needs: any budget of at least as many gives the same, and
-/// any smaller one is spent.
-pub fn stage_rounds()
-    ensures { StageRounds }
-{}
-
-/// What these laws ask for is so in two of the example markets.
-pub fn premises_of_rounds()
-    ensures { PremisesOfRounds }
 {}

@@ -10,7 +10,7 @@ use Rattle.mt_terms.specs.Stability.{would_be_taken, blocks}
 use Rattle.mt_terms.specs.declared.numbers.Agent.{Agent}
 use Rattle.mt_terms.specs.declared.numbers.Agent.TheVariants.{Single, Couple}
 use Rattle.mt_terms.specs.Lists.{below}
-use Rattle.mt_match_laws.proofs.VerdictLemmas.{find-map-filter}
+use Rattle.mt_verdict_laws.proofs.VerdictLemmas.{find-map-filter}
 use Rattle.mt_verify.specs.Blocking.{blocker, blocker_led_by, leads_blocker}
 use Rattle.mt_verify.proofs.FindFacts.{NoneYet, passes_at, stops_at, none_passes, position_mapped, any_has_position, found_below}
 use Rattle.mt_verify.proofs.OptionFacts.{and-true, holds_single}

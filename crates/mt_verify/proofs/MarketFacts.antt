@@ -16,7 +16,7 @@ use Rattle.mt_terms.specs.Stability.{is_listed}
 use Rattle.mt_terms.specs.Verdict.{is_unlisted}
 use Rattle.mt_terms.specs.WellFormed.{IsWellFormed}
 use Rattle.mt_terms.proofs.Totals.{count_below-same}
-use Rattle.mt_match_laws.proofs.VerdictLemmas.{allowed_parts}
+use Rattle.mt_verdict_laws.proofs.VerdictLemmas.{allowed_parts}
 use Rattle.mt_ranks.specs.Ranked.{Ranked, ranked_of}
 use Rattle.mt_verify.proofs.PlacedFacts.{length-ranks_from}
 

@@ -8,7 +8,7 @@ use Rattle.mt_terms.specs.Stability.{has_own_option}
 use Rattle.mt_terms.specs.declared.numbers.Agent.TheVariants.{Single, Couple}
 use Rattle.mt_verify.specs.Listed.{is_off_own_list}
 use Rattle.mt_match_laws.proofs.ListLemmas.{list_any-map}
-use Rattle.mt_match_laws.proofs.VerdictLemmas.{agent_cases}
+use Rattle.mt_verdict_laws.proofs.VerdictLemmas.{agent_cases}
 
 pub and-true : (b : Bool) → (b && true) ≡ b
 and-true true = refl

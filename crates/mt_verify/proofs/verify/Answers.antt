@@ -3,7 +3,7 @@ use Rattle.mt_terms.specs.Market.{Registered}
 use Rattle.mt_terms.specs.declared.matching.Match.{Match}
 use Rattle.mt_terms.specs.Verdict.{verdict_of}
 use Rattle.mt_terms.specs.WellFormed.{IsWellFormed}
-use Rattle.mt_match_laws.proofs.VerdictLemmas.{stable_verdict_lem}
+use Rattle.mt_verdict_laws.proofs.VerdictLemmas.{stable_verdict_lem}
 use Rattle.mt_verify.proofs.verify.Goals as goal
 
 pub returns-clause-stable : goal.returns-clause-stable

@@ -1,7 +1,7 @@
 use Rattle.std.proofs.Common.{sym, ◌∙◌}
 use Rattle.mt_terms.specs.Market.{applicants}
 use Rattle.mt_terms.specs.Verdict.{is_unlisted}
-use Rattle.mt_match_laws.proofs.VerdictLemmas.{none_found_below}
+use Rattle.mt_verdict_laws.proofs.VerdictLemmas.{none_found_below}
 use Rattle.mt_verify.proofs.verifier.Verifier.verdict.Goals as goal
 
 pub first_over-requires : goal.first_over-requires

@@ -1,0 +1,30 @@
+-- How many rounds a stage makes, and markets in which what the laws of rounds ask for is so.
+use Rattle.std.specs.Prelude.{◌≡◌, [], ◌∷◌, Some, None}
+use Rattle.mt_terms.specs.Market.{Market}
+use Rattle.mt_terms.specs.Matching.{Places}
+use Rattle.mt_terms.specs.Best.{IsBest}
+use Rattle.mt_terms.specs.Rounds.{stage, IsRoundState, NeedsRounds}
+use Rattle.mt_terms.specs.WellFormed.{IsWellFormed}
+use Rattle.mt_terms.specs.Examples.Markets.{three_couples, partner_withdraws, nobody}
+use Rattle.mt_terms.specs.declared.numbers.Agent.TheVariants.{Single, Couple}
+use Rattle.mt_round_laws.specs.Rounds.{state, OfEveryEnd}
+
+-- a stage makes just the rounds that it needs
+abbrev pub StageRounds : Type 0
+StageRounds = (m : Market) (places : Places) → OfEveryEnd m places (NeedsRounds m places)
+
+-- where the partner withdraws: the single back in its post, beside the second couple
+abbrev pub single_back : Places
+single_back = Some 0 ∷ None ∷ None ∷ Some 0 ∷ Some 1 ∷ []
+
+-- What the laws of rounds ask for is so where the partner withdraws: the single alone is placed best, a stage ends, and
+-- once the second couple moved the first couple and the single are still to be looked at. It is so in the
+-- market of three couples where the second one enters, the first one placed and the third one outside.
+pub record PremisesOfRounds : Type 0 where
+  pub well_formed : IsWellFormed partner_withdraws
+  pub best : IsBest partner_withdraws (Some 0 ∷ nobody 4)
+  pub ends : stage partner_withdraws (Some 0 ∷ nobody 4) 5 ≡ Some (single_back, 5)
+  pub all_entered : IsRoundState partner_withdraws 1
+      (state (None ∷ None ∷ None ∷ Some 0 ∷ Some 1 ∷ []) (Couple 0 ∷ Single 0 ∷ []))
+  pub one_outside : IsRoundState three_couples 1
+      (state (Some 0 ∷ Some 2 ∷ None ∷ None ∷ None ∷ None ∷ []) (Couple 1 ∷ []))

@@ -1,5 +1,0 @@
-use Rattle.mt_file_laws.proofs.FaultFacts.{fault_ids_lem}
-use Rattle.mt_file_laws.proofs.registration.fault_ids.Goals as goal
-
-pub returns : goal.returns
-returns c = fault_ids_lem

@@ -1,0 +1,2 @@
+pub mod FaultFacts
+pub mod RefusalLine

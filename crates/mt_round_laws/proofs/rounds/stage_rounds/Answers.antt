@@ -1,5 +1,0 @@
-use Rattle.mt_round_laws.proofs.RoundsCounted.{stage_rounds_lem}
-use Rattle.mt_round_laws.proofs.rounds.stage_rounds.Goals as goal
-
-pub returns : goal.returns
-returns c = stage_rounds_lem

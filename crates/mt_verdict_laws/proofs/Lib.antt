@@ -1,0 +1,2 @@
+pub mod BlockingPairLemmas
+pub mod VerdictLemmas
