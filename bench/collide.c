@@ -6,7 +6,7 @@
  *
  * Such ids can be looked for beforehand: each is a letter and seven digits of base 62. Each search then runs past all
  * entries before it, so the time grows with their square. The tables of ids hash by a seed that is made of all that they
- * will hold (mt_roster's seed.rt), so there these ids are like others.
+ * will hold (mt_ids's seed.rt), so there these ids are like others.
  */
 #include <stdint.h>
 #include <stdio.h>
