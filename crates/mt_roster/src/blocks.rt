@@ -13,8 +13,8 @@ use rayon::prelude::*;
 use std::alloc::{AllocError, Global};
 use std::thread::Threads;
 
-/// The fewest lists that are worth a thread of their own.
-const FEWEST: usize = 512;
+/// The fewest entries that are worth threads.
+const FEWEST: usize = 8192;
 
 /// The most processors that blocks are made for.
 const MOST_PROCESSORS: usize = 64;
@@ -26,19 +26,33 @@ struct Block<T> {
     entries: u32,
 }
 
-/// How many lists a block has, of so many: there are two blocks for each processor, and one block where there is only
-/// one processor, or where the lists are few.
-fn block_size<R: Threads>(rt: &R, count: usize) -> usize
+/// Whether lists have so many entries that they are worth threads.
+fn are_long(lists: &[Option<Fields<'_>>]) -> bool {
+    let mut entries: usize = 0;
+    for list in lists {
+        if let Some(fields) = list {
+            entries = entries.saturating_add(fields.len());
+        }
+        if entries >= FEWEST {
+            return true;
+        }
+    }
+    false
+}
+
+/// How many lists a block has, of so many, with many entries or few: there are two blocks for each processor, and one
+/// block where there is only one processor, or where the entries are few.
+fn block_size<R: Threads>(rt: &R, count: usize, are_long: bool) -> usize
     ensures { 0 < result }
 {
-    if count < 2 * FEWEST {
-        return FEWEST * 2;
+    if !are_long {
+        return count.max(1);
     }
     let processors = current_num_threads(rt).min(MOST_PROCESSORS);
     if processors == 1 {
-        count
+        count.max(1)
     } else {
-        count.div_ceil(processors * 2).max(FEWEST)
+        count.div_ceil(processors * 2).max(1)
     }
 }
 
@@ -134,7 +148,7 @@ pub(crate) fn read_side_by_side<R: Threads + Sync, T: Copy + Drop + Send + Sync>
     requires { length numbers.now ≡ length ids.now }
     ensures { IfOk result (ReadsLists ids.now numbers.now room.old room.new (lists_seen lists.now)) }
 {
-    let size = block_size(rt, lists.len());
+    let size = block_size(rt, lists.len(), are_long(lists));
     if lists.len() <= size {
         return read_lists(alloc, ids, numbers, room, lists);
     }
