@@ -1,9 +1,7 @@
 -- Steps of the loops that read couples' lists of pairs by new numbers.
-use Rattle.std.proofs.Common.{◌≡◌, ◌<◌, ◌+◌, ◌*◌, ℕ, Bool, true, false, not, ◌&&◌, List, [], ◌∷◌, ◌++◌, length, map, Option, Some, None, refl, ap, sym, subst, ◌∙◌, arith, if◌then◌else◌}
-use Rattle.std.specs.Prelude.{sum_by, option_map, IfSome}
+use Rattle.std.proofs.Common.{◌≡◌, ◌<◌, ℕ, Bool, true, false, not, List, ◌∷◌, length, Option, Some, None, refl, ap, sym, ◌∙◌, arith, if◌then◌else◌}
+use Rattle.std.specs.Prelude.{option_map, IfSome}
 use Rattle.std.specs.List.{list_all}
-use Rattle.std.proofs.lemmas.List.{append_assoc}
-use Rattle.std.proofs.lemmas.List.Sums.{sum_by-cons}
 use Rattle.mt_file_laws.specs.Staying.{new_pair}
 use Rattle.mt_file_laws.proofs.IdFacts.{number_below}
 use Rattle.mt_market.specs.FlatLists.{with_last}
@@ -13,8 +11,7 @@ use Rattle.mt_terms.specs.Registration.Records.{IdPair}
 use Rattle.mt_terms.specs.Registration.Passes.{is_same_pair}
 use Rattle.mt_terms.specs.Registration.Numbering.{is_none_or_in, names_only, pair_by_number}
 use Rattle.mt_roster.specs.Numbered.{with_more, pair_in}
-use Rattle.mt_roster.specs.Reading.{pairs_by, pairs_once, ReadsPairs}
-use Rattle.mt_roster.proofs.NumberingSteps.{with_more-begun}
+use Rattle.mt_roster.specs.Reading.{pairs_by, pairs_once, pair_entries, ReadsOne}
 use Rattle.mt_roster.proofs.ReadingSteps.{both}
 
 -- a place by number is within the programs
@@ -66,6 +63,13 @@ module _ (ids : List Bytes) (numbers : List (Option ℕ)) (left : List IdPair) (
       let none : new_pair numbers (pair_by_number ids p) ≡ None = ap (new_pair numbers) at ∙ h in
       rw (is, none) refl
 
+-- a list of pairs that was read, none of which stands twice
+pub read_once : {X : Type 0} (ids : List Bytes) (read : List IdPair → List X) (room left : ℕ) (list : List IdPair) (old new : List (List X)) (found : Bool)
+    → all_differ is_same_pair list ≡ true → ReadsOne (list_all (names_only ids)) pair_entries read room left list old new found
+    → ReadsOne (pairs_once ids) pair_entries read room left list old new found
+read_once ids read room left list old new true differ reads = (rw (reads.0, differ) refl, reads.1, reads.2)
+read_once ids read room left list old new false differ reads = λ once. reads (both (list_all (names_only ids) list) (all_differ is_same_pair list) once).0
+
 -- whether a pair stands twice in a list, as it was found
 pub differ_found : (list : List IdPair) (b : Bool) → b ≡ not (all_differ is_same_pair list) → b ≡ false → all_differ is_same_pair list ≡ true
 differ_found list b h e = by (all_differ is_same_pair list) (sym h ∙ e)
@@ -80,41 +84,3 @@ repeats_found ids list b h e once = by (all_differ is_same_pair list) (sym h ∙
     by : (d : Bool) → not d ≡ true → d ≡ true → ⊥
     by true k l = cc
     by false k l = cc
-
--- Lists of pairs are read by new numbers, of which these are left, with room for so many entries.
-pub record ArePairsReadTo (ids : List Bytes) (numbers : List (Option ℕ)) (all : List (List IdPair)) (most room : ℕ)
-    (lists : List (List Pair)) (left : List (List IdPair)) : Type 0 where
-  pub balance : room + 2 * sum_by length all ≡ most + 2 * sum_by length left
-  pub stand : list_all (pairs_once ids) left ≡ list_all (pairs_once ids) all
-  pub rest : lists ++ map (pairs_by ids numbers) left ≡ map (pairs_by ids numbers) all
-
-module _ (ids : List Bytes) (numbers : List (Option ℕ)) (all : List (List IdPair)) (most room : ℕ)
-    (lists : List (List Pair)) (left : List (List IdPair)) (are : ArePairsReadTo ids numbers all most room lists left) where
-  -- none is there to read at a record that is no couple's
-  pub pairs_none : (rest : List (List IdPair)) → left ≡ rest → ArePairsReadTo ids numbers all most room lists rest
-  pairs_none rest is = subst (λ (l : List (List IdPair)). ArePairsReadTo ids numbers all most room lists l) is are
-
-  -- a list is read, after it was begun
-  pub read_pairs : (list : List IdPair) (rest : List (List IdPair)) (room' : ℕ) (begun new : List (List Pair)) (found : Bool) → left ≡ list ∷ rest
-      → all_differ is_same_pair list ≡ true → begun ≡ lists ++ [] ∷ []
-      → ReadsPairs ids numbers room room' list begun new found → found ≡ true → ArePairsReadTo ids numbers all most room' new rest
-  read_pairs list rest room' begun new false is differ begins reads is_true = cc
-  read_pairs list rest room' begun new true is differ begins reads is_true =
-      let last : new ≡ lists ++ pairs_by ids numbers list ∷ [] =
-      reads.2 ∙ ap (λ (l : List (List Pair)). with_more l (pairs_by ids numbers list)) begins ∙ with_more-begun lists (pairs_by ids numbers list)
-      in
-      let once : pairs_once ids list ≡ true = rw (reads.0, differ) refl in
-      record {
-        balance = omega (arith, reads.1, are.balance, ap (sum_by (length {A = IdPair})) is, sum_by-cons (length {A = IdPair}) list rest);
-        stand = ap (λ (b : Bool). b && list_all (pairs_once ids) rest) (sym once) ∙ sym (ap (list_all (pairs_once ids)) is) ∙ are.stand;
-        rest = ap (λ (l : List (List Pair)). l ++ map (pairs_by ids numbers) rest) last
-            ∙ append_assoc lists (pairs_by ids numbers list ∷ []) (map (pairs_by ids numbers) rest)
-            ∙ ap (λ (l : List (List IdPair)). lists ++ map (pairs_by ids numbers) l) (sym is) ∙ are.rest;
-      }
-
-  -- a list doesn't stand, or there is no room for it
-  pub pairs_no_more : (list : List IdPair) (rest : List (List IdPair)) → left ≡ list ∷ rest → (pairs_once ids list ≡ true → room < 2 * length list)
-      → list_all (pairs_once ids) all ≡ true → most < 2 * sum_by length all
-  pairs_no_more list rest is fails h =
-      let stands : (pairs_once ids list ≡ true) × (list_all (pairs_once ids) rest ≡ true) = both _ _ (sym (ap (list_all (pairs_once ids)) is) ∙ are.stand ∙ h) in
-      omega (arith, fails stands.0, are.balance, ap (sum_by (length {A = IdPair})) is, sum_by-cons (length {A = IdPair}) list rest)

@@ -13,6 +13,7 @@ mod listed;
 mod market;
 mod names;
 mod numbering;
+mod pair_blocks;
 mod reading;
 mod record;
 mod refusal;

@@ -1,7 +1,9 @@
 //! The lists of records, one after another.
-ghost use Rattle.std.specs.Prelude.{◌≡◌, IfOk};
-ghost use Rattle.mt_roster.specs.Numbered.{all_seen, lists_seen, program_lists, applicant_lists};
+ghost use Rattle.std.specs.Prelude.{◌≡◌, map, IfOk};
+ghost use Rattle.mt_roster.specs.Fields.{pairs_left};
+ghost use Rattle.mt_roster.specs.Numbered.{all_seen, lists_seen, program_lists, applicant_lists, couple_lists};
 
+use crate::fields::Pairs;
 use crate::record::Record;
 use mt_lists::Fields;
 use std::alloc::{AllocError, Global};
@@ -38,6 +40,22 @@ pub(crate) fn applicant_lists<'a>(
                 lists.push(None)?;
             }
             Record::Program { .. } | Record::Withdraw { .. } => {}
+        }
+    }
+    Ok(lists)
+}
+
+/// The lists of couples.
+pub(crate) fn couple_lists<'a>(
+    alloc: Global,
+    records: &[Record<'a>],
+) -> Result<Vec<Pairs<'a>>, AllocError>
+    ensures { IfOk result (λ lists. map pairs_left lists.items ≡ couple_lists (all_seen records.now)) }
+{
+    let mut lists = Vec::new(alloc);
+    for one in records {
+        if let Record::Couple { pairs, .. } = one {
+            lists.push(*pairs)?;
         }
     }
     Ok(lists)

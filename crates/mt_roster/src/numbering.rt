@@ -13,7 +13,8 @@ ghost use Rattle.mt_roster.specs.Reading.{AreStampedBelow, ReadsList, ReadsLists
 use crate::blocks::read_side_by_side;
 use crate::fields::Pairs;
 use crate::id_table::IdTable;
-use crate::listed::{applicant_lists, program_lists};
+use crate::listed::{applicant_lists, couple_lists, program_lists};
+use crate::pair_blocks;
 use crate::record::Record;
 use crate::registered::Registered;
 use crate::repeats::has_repeated_pair;
@@ -207,9 +208,35 @@ fn push_pairs(
     Ok(true)
 }
 
+/// These couples' lists of pairs by numbers, where each names none but these programs, none has a pair twice, and there
+/// is room for all entries.
+pub(crate) fn read_pairs(
+    alloc: Global,
+    programs: &IdTable<'_>,
+    numbers: &[Option<ProgNo>],
+    room: &mut u32,
+    lists: &[Pairs<'_>],
+) -> Result<Option<FlatLists<(Option<ProgNo>, Option<ProgNo>)>>, AllocError>
+    requires { length numbers.now ≡ length programs.now }
+    ensures { IfOk result (ReadsAllPairs programs.now numbers.now room.old room.new (map pairs_left lists.now)) }
+{
+    let mut read = FlatLists::new(alloc);
+    for list in lists {
+        if has_repeated_pair(alloc, *list)? {
+            return Ok(None);
+        }
+        read.begin()?;
+        if !push_pairs(&mut read, programs, numbers, room, *list)? {
+            return Ok(None);
+        }
+    }
+    Ok(Some(read))
+}
+
 /// The couples' lists of pairs by numbers, where each names programs alone, none has a pair twice, and there is room for
 /// all entries.
-fn pairs(
+fn pairs<R: Threads + Sync>(
+    rt: &R,
     alloc: Global,
     programs: &IdTable<'_>,
     numbers: &[Option<ProgNo>],
@@ -219,19 +246,8 @@ fn pairs(
     requires { length numbers.now ≡ length programs.now }
     ensures { IfOk result (ReadsAllPairs programs.now numbers.now room.old room.new (couple_lists (all_seen records.now))) }
 {
-    let mut lists = FlatLists::new(alloc);
-    for one in records {
-        if let Record::Couple { pairs, .. } = one {
-            if has_repeated_pair(alloc, *pairs)? {
-                return Ok(None);
-            }
-            lists.begin()?;
-            if !push_pairs(&mut lists, programs, numbers, room, *pairs)? {
-                return Ok(None);
-            }
-        }
-    }
-    Ok(Some(lists))
+    let lists = couple_lists(alloc, records)?;
+    pair_blocks::read_side_by_side(rt, alloc, programs, numbers, room, &lists)
 }
 
 /// The new numbers of programs and of applicants, by their numbers: none for what has none.
@@ -271,7 +287,7 @@ pub(crate) fn entries_of<R: Threads + Sync>(
     let Some(lists) = lists(rt, alloc, programs, &numbers.programs, room, records)? else {
         return Ok(None);
     };
-    let Some(pairs) = pairs(alloc, programs, &numbers.programs, room, records)? else {
+    let Some(pairs) = pairs(rt, alloc, programs, &numbers.programs, room, records)? else {
         return Ok(None);
     };
     Ok(Some(Entries {
