@@ -2,6 +2,7 @@ pub mod DigitFacts
 pub mod KeyFacts
 pub mod FieldFacts
 pub mod RepeatFacts
+pub mod NeighbourFacts
 pub mod NameFacts
 pub mod DraftFacts
 pub mod NumberingSteps

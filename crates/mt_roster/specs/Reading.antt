@@ -58,12 +58,11 @@ ReadsList ids numbers = ReadsOne (stands_once ids) length (numbers_by ids number
 abbrev pub ReadsLists : {X : Type 0} → List Bytes → List (Option X) → ℕ → ℕ → List (List Bytes) → Option (List (List X)) → Type 0
 ReadsLists ids numbers = ReadsAll (stands_once ids) length (numbers_by ids numbers)
 
+abbrev pub ReadsPairs : List Bytes → List (Option ℕ) → ℕ → ℕ → List IdPair → List (List Pair) → List (List Pair) → Bool → Type 0
+ReadsPairs ids numbers = ReadsOne (pairs_once ids) pair_entries (pairs_by ids numbers)
+
 abbrev pub ReadsAllPairs : List Bytes → List (Option ℕ) → ℕ → ℕ → List (List IdPair) → Option (List (List Pair)) → Type 0
 ReadsAllPairs ids numbers = ReadsAll (pairs_once ids) pair_entries (pairs_by ids numbers)
-
--- One list of pairs is, but for pairs that stand twice.
-abbrev pub ReadsPairs : List Bytes → List (Option ℕ) → ℕ → ℕ → List IdPair → List (List Pair) → List (List Pair) → Bool → Type 0
-ReadsPairs ids numbers = ReadsOne (list_all (names_only ids)) pair_entries (pairs_by ids numbers)
 
 -- whether the lists of these records stand, by all programs and applicants
 abbrev pub lists_stand : List Bytes → List Bytes → List Record → Bool

@@ -17,7 +17,7 @@ use crate::listed::{applicant_lists, couple_lists, program_lists};
 use crate::pair_blocks;
 use crate::record::Record;
 use crate::registered::Registered;
-use crate::repeats::has_repeated_pair;
+use crate::repeats::has_duplicate;
 use mt_lists::Fields;
 use mt_market::FlatLists;
 use mt_terms::{Agent, AppNo, CoupleNo, ProgNo};
@@ -181,11 +181,13 @@ fn new_pair(
 }
 
 /// Adds the pairs of a couple's list by numbers, of those whose programs have one, to the last of these lists, and says
-/// that it did so, where they name none but these programs, and there is room for all entries: a pair is two.
+/// that it did so, where they name none but these programs, none stands twice, and there is room for all entries: a pair
+/// is two. The pairs by their numbers among all programs are left in `found`.
 fn push_pairs(
     lists: &mut FlatLists<(Option<ProgNo>, Option<ProgNo>)>,
     programs: &IdTable<'_>,
     numbers: &[Option<ProgNo>],
+    found: &mut Vec<(Option<usize>, Option<usize>)>,
     room: &mut u32,
     list: Pairs<'_>,
 ) -> Result<bool, AllocError>
@@ -193,6 +195,7 @@ fn push_pairs(
     requires begun { 0 < length lists.old }
     ensures { IfOk result (ReadsPairs programs.now numbers.now room.old room.new (pairs_left list.entry) lists.old lists.new) }
 {
+    found.clear();
     for (first, second) in list {
         let Some((first, second)) = pair(programs, first, second) else {
             return Ok(false);
@@ -201,11 +204,12 @@ fn push_pairs(
             return Ok(false);
         }
         *room -= 2;
+        found.push((first, second))?;
         if let Some(pair) = new_pair(numbers, first, second) {
             lists.push(pair)?;
         }
     }
-    Ok(true)
+    Ok(!has_duplicate(found))
 }
 
 /// These couples' lists of pairs by numbers, where each names none but these programs, none has a pair twice, and there
@@ -221,12 +225,10 @@ pub(crate) fn read_pairs(
     ensures { IfOk result (ReadsAllPairs programs.now numbers.now room.old room.new (map pairs_left lists.now)) }
 {
     let mut read = FlatLists::new(alloc);
+    let mut found = Vec::new(alloc);
     for list in lists {
-        if has_repeated_pair(alloc, *list)? {
-            return Ok(None);
-        }
         read.begin()?;
-        if !push_pairs(&mut read, programs, numbers, room, *list)? {
+        if !push_pairs(&mut read, programs, numbers, &mut found, room, *list)? {
             return Ok(None);
         }
     }
