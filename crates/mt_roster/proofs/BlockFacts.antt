@@ -1,5 +1,5 @@
 -- Lists that are read in blocks, and the blocks joined.
-use Rattle.std.proofs.Common.{◌≡◌, ◌<◌, ◌≤◌, ◌+◌, ◌-◌, ℕ, Bool, true, false, List, [], ◌∷◌, ◌++◌, length, map, flat_map, Option, Some, None, refl, ap, sym, subst, ◌∙◌, arith}
+use Rattle.std.proofs.Common.{◌≡◌, ◌<◌, ◌≤◌, ◌+◌, ◌-◌, ℕ, Bool, true, false, ◌&&◌, List, [], ◌∷◌, ◌++◌, map, flat_map, Option, Some, None, refl, ap, sym, subst, ◌∙◌, arith}
 use Rattle.std.specs.Prelude.{sum_by, is_some, Vec, Result, Ok, Err, MatchResult, IfOk, max}
 use Rattle.std.specs.Global.{Global}
 use Rattle.std.specs.Borrow.{Bor}
@@ -10,13 +10,9 @@ use Rattle.std.proofs.lemmas.List.Folds.{list_all-append}
 use Rattle.std.proofs.lemmas.List.Sums.{sum_by-cons, sum_by-append}
 use Rattle.rayon.proofs.ToStd.{slice-AllZip}
 use Rattle.rayon.specs.Lists.{chunks_of}
-use Rattle.mt_lists.specs.declared.row.Fields.{Fields}
-use Rattle.mt_file_laws.specs.Faultless.{stands_once}
-use Rattle.mt_terms.specs.Registration.Ids.{Bytes}
 use Rattle.mt_roster.specs.declared.blocks.Block.{Block}
 use Rattle.mt_roster.specs.Blocks.{IsBlock, Joins, entries_in, lists_in}
-use Rattle.mt_roster.specs.Numbered.{list_seen, lists_seen}
-use Rattle.mt_roster.specs.Reading.{numbers_by, ReadsLists}
+use Rattle.mt_roster.specs.Reading.{ReadsAll}
 use Rattle.mt_roster.proofs.ReadingSteps.{both}
 
 -- Blocks are joined, of which these are left, with room for so many entries.
@@ -56,25 +52,30 @@ module _ {X : Type 0} (all : List (Option (Block X))) (most room : ℕ) (joined 
           ∙ sym (ap (λ (l : List (Option (Block X))). joined ++ flat_map lists_in l) is) ∙ are.rest;
     }
 
--- lists side by side are seen so
-more_seen : (c : List (Option Fields)) (cs : List (List (Option Fields))) → lists_seen (flat_map (λ c. c) (c ∷ cs)) ≡ lists_seen c ++ lists_seen (flat_map (λ c. c) cs)
-more_seen c cs = map-append list_seen c (flat_map (λ c. c) cs)
-
 -- What is known of blocks of lists, one by one, is known of the lists.
-module _ {X : Type 0} (ids : List Bytes) (numbers : List (Option X)) (most : ℕ) where
-  abbrev pub AreBlocksOf : List (List (Option Fields)) → List (Option (Block X)) → Type 0
-  AreBlocksOf chunks blocks = AllZip (λ c b. IsBlock ids numbers most (lists_seen c) b) chunks blocks
+module _ {S L X : Type 0} (seen : S → L) (stands : L → Bool) (count : L → ℕ) (read : L → List X) (most : ℕ) where
+  abbrev pub AreBlocksOf : List (List S) → List (Option (Block X)) → Type 0
+  AreBlocksOf chunks blocks = AllZip (λ c b. IsBlock (ReadsAll stands count read) most (map seen c) b) chunks blocks
 
-  abbrev side_by_side : List (List (Option Fields)) → List (List Bytes)
-  side_by_side chunks = lists_seen (flat_map (λ c. c) chunks)
+  abbrev side_by_side : List (List S) → List L
+  side_by_side chunks = map seen (flat_map (λ c. c) chunks)
 
-  pub record AreRead (all : List (List Bytes)) (blocks : List (Option (Block X))) : Type 0 where
-    pub stand : list_all (stands_once ids) all ≡ true
-    pub entries : sum_by entries_in blocks ≡ sum_by length all
-    pub lists : flat_map lists_in blocks ≡ map (numbers_by ids numbers) all
+  more_seen : (c : List S) (cs : List (List S)) → side_by_side (c ∷ cs) ≡ map seen c ++ side_by_side cs
+  more_seen c cs = map-append seen c (flat_map (λ c. c) cs)
+
+  count_both : (c : List S) (cs : List (List S)) → sum_by count (side_by_side (c ∷ cs)) ≡ sum_by count (map seen c) + sum_by count (side_by_side cs)
+  count_both c cs = ap (sum_by count) (more_seen c cs) ∙ sum_by-append count (map seen c) (side_by_side cs)
+
+  stand_both : (c : List S) (cs : List (List S)) → list_all stands (side_by_side (c ∷ cs)) ≡ (list_all stands (map seen c) && list_all stands (side_by_side cs))
+  stand_both c cs = ap (list_all stands) (more_seen c cs) ∙ list_all-append stands (map seen c) (side_by_side cs)
+
+  pub record AreRead (all : List L) (blocks : List (Option (Block X))) : Type 0 where
+    pub stand : list_all stands all ≡ true
+    pub entries : sum_by entries_in blocks ≡ sum_by count all
+    pub lists : flat_map lists_in blocks ≡ map read all
 
   -- all are read
-  pub blocks_read : (chunks : List (List (Option Fields))) (blocks : List (Option (Block X))) → AreBlocksOf chunks blocks → list_all is_some blocks ≡ true
+  pub blocks_read : (chunks : List (List S)) (blocks : List (Option (Block X))) → AreBlocksOf chunks blocks → list_all is_some blocks ≡ true
       → AreRead (side_by_side chunks) blocks
   blocks_read [] [] are all = record { stand = refl; entries = refl; lists = refl }
   blocks_read [] (b ∷ bs) are all = absurd are
@@ -83,81 +84,72 @@ module _ {X : Type 0} (ids : List Bytes) (numbers : List (Option X)) (most : ℕ
   blocks_read (c ∷ cs) (Some b ∷ bs) are all =
       let rest = blocks_read cs bs are.1 all in
       let own = are.0.1 in
-      let more = more_seen c cs in
       record {
-        stand = ap (list_all (stands_once ids)) more ∙ list_all-append (stands_once ids) (lists_seen c) (side_by_side cs) ∙ rw (own.0, rest.stand) refl;
-        entries = omega (arith, sum_by-cons entries_in (Some b) bs, ap (sum_by (length {A = Bytes})) more, sum_by-append (length {A = Bytes}) (lists_seen c) (side_by_side cs), rest.entries, are.0.0, own.1);
+        stand = stand_both c cs ∙ rw (own.0, rest.stand) refl;
+        entries = omega (arith, sum_by-cons entries_in (Some b) bs, count_both c cs, rest.entries, are.0.0, own.1);
         lists = ap (λ (l : List (List X)). l ++ flat_map lists_in bs) own.2
-            ∙ ap (λ (l : List (List X)). map (numbers_by ids numbers) (lists_seen c) ++ l) rest.lists
-            ∙ sym (map-append (numbers_by ids numbers) (lists_seen c) (side_by_side cs)) ∙ ap (map (numbers_by ids numbers)) (sym more);
+            ∙ ap (λ (l : List (List X)). map read (map seen c) ++ l) rest.lists
+            ∙ sym (map-append read (map seen c) (side_by_side cs)) ∙ ap (map read) (sym (more_seen c cs));
       }
 
-  -- a list stands beside others where all do, and has no more entries than all
-  module _ (c : List (Option Fields)) (cs : List (List (Option Fields))) (h : list_all (stands_once ids) (side_by_side (c ∷ cs)) ≡ true) where
-    both_stand : (list_all (stands_once ids) (lists_seen c) ≡ true) × (list_all (stands_once ids) (side_by_side cs) ≡ true)
-    both_stand =
-        both _ _ (sym (list_all-append (stands_once ids) (lists_seen c) (side_by_side cs)) ∙ ap (list_all (stands_once ids)) (sym (more_seen c cs)) ∙ h)
-
-    both_count : sum_by length (side_by_side (c ∷ cs)) ≡ sum_by length (lists_seen c) + sum_by length (side_by_side cs)
-    both_count = ap (sum_by (length {A = Bytes})) (more_seen c cs) ∙ sum_by-append (length {A = Bytes}) (lists_seen c) (side_by_side cs)
-
-  -- one wasn't read
-  one_fails : (chunks : List (List (Option Fields))) (blocks : List (Option (Block X))) → AreBlocksOf chunks blocks → list_all is_some blocks ≡ false
-      → list_all (stands_once ids) (side_by_side chunks) ≡ true → most < sum_by length (side_by_side chunks)
+  -- one wasn't read: lists stand beside others where all do, and have no more entries than all
+  one_fails : (chunks : List (List S)) (blocks : List (Option (Block X))) → AreBlocksOf chunks blocks → list_all is_some blocks ≡ false
+      → list_all stands (side_by_side chunks) ≡ true → most < sum_by count (side_by_side chunks)
   one_fails [] [] are none h = cc
   one_fails [] (b ∷ bs) are none h = absurd are
   one_fails (c ∷ cs) [] are none h = absurd are
-  one_fails (c ∷ cs) (None ∷ bs) are none h = omega (arith, both_count c cs h, are.0 (both_stand c cs h).0)
-  one_fails (c ∷ cs) (Some b ∷ bs) are none h = omega (arith, both_count c cs h, one_fails cs bs are.1 none (both_stand c cs h).1)
+  one_fails (c ∷ cs) (None ∷ bs) are none h = omega (arith, count_both c cs, are.0 (both _ _ (sym (stand_both c cs) ∙ h)).0)
+  one_fails (c ∷ cs) (Some b ∷ bs) are none h = omega (arith, count_both c cs, one_fails cs bs are.1 none (both _ _ (sym (stand_both c cs) ∙ h)).1)
 
   -- one wasn't read, or there is no room for all
-  pub blocks_fail : (chunks : List (List (Option Fields))) (blocks : List (Option (Block X))) → AreBlocksOf chunks blocks
+  pub blocks_fail : (chunks : List (List S)) (blocks : List (Option (Block X))) → AreBlocksOf chunks blocks
       → (list_all is_some blocks ≡ true → most < sum_by entries_in blocks)
-      → list_all (stands_once ids) (side_by_side chunks) ≡ true → most < sum_by length (side_by_side chunks)
+      → list_all stands (side_by_side chunks) ≡ true → most < sum_by count (side_by_side chunks)
   blocks_fail chunks blocks are fails h = by (list_all is_some blocks) refl
     where
-      by : (b : Bool) → list_all is_some blocks ≡ b → most < sum_by length (side_by_side chunks)
+      by : (b : Bool) → list_all is_some blocks ≡ b → most < sum_by count (side_by_side chunks)
       by true all = omega (arith, fails all, (blocks_read chunks blocks are all).entries)
       by false none = one_fails chunks blocks are none h
 
   -- the lists are read where their blocks are joined
-  pub lists_read : (lists : List (Option Fields)) (chunks : List (List (Option Fields))) (blocks : List (Option (Block X))) (left : ℕ) (new : Option (List (List X)))
-      → AreBlocksOf chunks blocks → flat_map (λ c. c) chunks ≡ lists → Joins most left blocks new → ReadsLists ids numbers most left (lists_seen lists) new
+  pub lists_read : (lists : List S) (chunks : List (List S)) (blocks : List (Option (Block X))) (left : ℕ) (new : Option (List (List X)))
+      → AreBlocksOf chunks blocks → flat_map (λ c. c) chunks ≡ lists → Joins most left blocks new → ReadsAll stands count read most left (map seen lists) new
   lists_read lists chunks blocks left None are whole joins =
-      subst (λ (l : List (Option Fields)). ReadsLists ids numbers most left (lists_seen l) None) whole (blocks_fail chunks blocks are joins)
+      subst (λ (l : List S). ReadsAll stands count read most left (map seen l) None) whole (blocks_fail chunks blocks are joins)
   lists_read lists chunks blocks left (Some new) are whole joins =
-      let read = blocks_read chunks blocks are joins.0 in
-      subst (λ (l : List (Option Fields)). ReadsLists ids numbers most left (lists_seen l) (Some new)) whole
-      (read.stand, omega (arith, joins.1, read.entries), joins.2 ∙ read.lists)
+      let all = blocks_read chunks blocks are joins.0 in
+      subst (λ (l : List S). ReadsAll stands count read most left (map seen l) (Some new)) whole
+      (all.stand, omega (arith, joins.1, all.entries), joins.2 ∙ all.lists)
 
+-- What is known of the block that a thread makes of some lists, by ids, by their numbers and with room for so many entries.
+module _ {S X I N : Type 0} (Is : I → N → ℕ → List S → Option (Block X) → Type 0) where
   -- results of threads that are all there
-  all_there : (P : List (Option Fields) → Option (Block X) → Type 0) (cs : List (List (Option Fields))) (bs : List (Option (Block X)))
-      → AllZip (λ c (r : Result (Option (Block X)) AllocError). IfOk r (P c)) cs (map Ok bs) → AllZip P cs bs
-  all_there P [] [] h = tt
-  all_there P [] (b ∷ bs) h = absurd h
-  all_there P (c ∷ cs) [] h = absurd h
-  all_there P (c ∷ cs) (b ∷ bs) h = (h.0, all_there P cs bs h.1)
+  all_there : (ids : I) (numbers : N) (most : ℕ) (cs : List (List S)) (bs : List (Option (Block X)))
+      → AllZip (λ c (r : Result (Option (Block X)) AllocError). IfOk r (Is ids numbers most c)) cs (map Ok bs) → AllZip (Is ids numbers most) cs bs
+  all_there ids numbers most [] [] h = tt
+  all_there ids numbers most [] (b ∷ bs) h = absurd h
+  all_there ids numbers most (c ∷ cs) [] h = absurd h
+  all_there ids numbers most (c ∷ cs) (b ∷ bs) h = (h.0, all_there ids numbers most cs bs h.1)
 
   -- the blocks that threads read
-  pub blocks_by_threads : (lists slice : List (Option Fields)) (size n : ℕ) (zs : List (Bor (List (Option Fields)))) (made : List (Result (Option (Block X)) AllocError))
-      (r : Result (Vec (Option (Block X)) Global) AllocError) → 0 < size → n ≡ size → slice ≡ lists → map (λ (z : Bor (List (Option Fields))). z.now) zs ≡ chunks_of (max n 1) slice
-      → AllZip (λ (z : Bor (List (Option Fields))) (r : Result (Option (Block X)) AllocError). IfOk r (IsBlock ids numbers most (lists_seen z.now))) zs made
+  pub blocks_by_threads : (ids : I) (numbers : N) (most : ℕ) (lists slice : List S) (size n : ℕ) (zs : List (Bor (List S))) (made : List (Result (Option (Block X)) AllocError))
+      (r : Result (Vec (Option (Block X)) Global) AllocError) → 0 < size → n ≡ size → slice ≡ lists → map (λ (z : Bor (List S)). z.now) zs ≡ chunks_of (max n 1) slice
+      → AllZip (λ (z : Bor (List S)) (r : Result (Option (Block X)) AllocError). IfOk r (Is ids numbers most z.now)) zs made
       → MatchResult r (λ v. (bs : List (Option (Block X))) × (made ≡ map Ok bs) × (v.items ≡ bs)) (λ e. Contains made (Err e))
-      → IfOk r (λ v. AreBlocksOf (chunks_of size lists) v.items)
-  blocks_by_threads lists slice size n zs made (Err e) pos is whole shown each gives = tt
-  blocks_by_threads lists slice size n zs made (Ok v) pos is whole shown each gives =
-      let P : List (Option Fields) → Option (Block X) → Type 0 = λ c b. IsBlock ids numbers most (lists_seen c) b in
-      let R : List (Option Fields) → Result (Option (Block X)) AllocError → Type 0 = λ c r. IfOk r (P c) in
+      → IfOk r (λ v. AllZip (Is ids numbers most) (chunks_of size lists) v.items)
+  blocks_by_threads ids numbers most lists slice size n zs made (Err e) pos is whole shown each gives = tt
+  blocks_by_threads ids numbers most lists slice size n zs made (Ok v) pos is whole shown each gives =
+      let R : List S → Result (Option (Block X)) AllocError → Type 0 = λ c r. IfOk r (Is ids numbers most c) in
       let same : max n 1 ≡ size = omega arith in
-      let chunks : map (λ (z : Bor (List (Option Fields))). z.now) zs ≡ chunks_of size lists = shown ∙ ap (λ (k : ℕ). chunks_of k slice) same ∙ ap (chunks_of size) whole in
+      let chunks : map (λ (z : Bor (List S)). z.now) zs ≡ chunks_of size lists = shown ∙ ap (λ (k : ℕ). chunks_of k slice) same ∙ ap (chunks_of size) whole in
       let all : AllZip R (chunks_of size lists) made = slice-AllZip zs (chunks_of size lists) chunks R made each in
-      all_there P (chunks_of size lists) v.items (subst (λ rs. AllZip R (chunks_of size lists) rs) (gives.1 ∙ ap (map Ok) (sym gives.2)) all)
+      all_there ids numbers most (chunks_of size lists) v.items (subst (λ rs. AllZip R (chunks_of size lists) rs) (gives.1 ∙ ap (map Ok) (sym gives.2)) all)
 
--- Blocks that were read by the same ids and numbers, with the same room.
-pub same_blocks : {X : Type 0} (ids ids' : List Bytes) (numbers numbers' : List (Option X)) (most most' : ℕ) (chunks : List (List (Option Fields)))
-    (r : Result (Vec (Option (Block X)) Global) AllocError) → ids' ≡ ids → numbers' ≡ numbers → most' ≡ most
-    → IfOk r (λ v. AreBlocksOf ids' numbers' most' chunks v.items) → IfOk r (λ v. AreBlocksOf ids numbers most chunks v.items)
-same_blocks {X = X} ids ids' numbers numbers' most most' chunks r p q s h =
-    subst (λ (i : List Bytes). IfOk r (λ v. AreBlocksOf i numbers most chunks v.items)) p
-    (subst (λ (n : List (Option X)). IfOk r (λ v. AreBlocksOf ids' n most chunks v.items)) q
-    (subst (λ (m : ℕ). IfOk r (λ v. AreBlocksOf ids' numbers' m chunks v.items)) s h))
+  -- blocks that were read by the same ids and numbers, with the same room
+  pub same_blocks : (ids ids' : I) (numbers numbers' : N) (most most' : ℕ) (chunks : List (List S)) (r : Result (Vec (Option (Block X)) Global) AllocError)
+      → ids' ≡ ids → numbers' ≡ numbers → most' ≡ most
+      → IfOk r (λ v. AllZip (Is ids' numbers' most') chunks v.items) → IfOk r (λ v. AllZip (Is ids numbers most) chunks v.items)
+  same_blocks ids ids' numbers numbers' most most' chunks r p q s h =
+      subst (λ (i : I). IfOk r (λ v. AllZip (Is i numbers most) chunks v.items)) p
+      (subst (λ (n : N). IfOk r (λ v. AllZip (Is ids' n most) chunks v.items)) q
+      (subst (λ (m : ℕ). IfOk r (λ v. AllZip (Is ids' numbers' m) chunks v.items)) s h))

@@ -1,21 +1,21 @@
 -- The lists of records: how many entries they have, and where they all stand.
-use Rattle.std.proofs.Common.{◌≡◌, ◌+◌, ◌*◌, Bool, true, ◌&&◌, List, [], ◌∷◌, length, map, ℕ, Option, Some, None, refl, ap, sym, ◌∙◌, arith}
+use Rattle.std.proofs.Common.{◌≡◌, ◌+◌, Bool, true, ◌&&◌, List, [], ◌∷◌, length, map, ℕ, Option, Some, None, refl, ap, sym, ◌∙◌, arith}
 use Rattle.std.specs.Prelude.{sum_by}
 use Rattle.std.specs.List.{list_all}
 use Rattle.std.proofs.lemmas.List.Sums.{sum_by-cons}
 use Rattle.mt_file_laws.specs.Faultless.{stands_once, ranking_stands, list_stands, pairs_stand}
 use Rattle.mt_terms.specs.Market.{Pair}
 use Rattle.mt_terms.specs.Registration.Ids.{Bytes}
-use Rattle.mt_terms.specs.Registration.Records.{Record, ProgramRecord, ApplicantRecord, CoupleRecord, WithdrawRecord, IdPair}
+use Rattle.mt_terms.specs.Registration.Records.{Record, ProgramRecord, ApplicantRecord, CoupleRecord, WithdrawRecord}
 use Rattle.mt_terms.specs.Registration.Rows.{entries_of, entry_count}
 use Rattle.mt_roster.specs.Numbered.{program_lists, applicant_lists, couple_lists}
 use Rattle.mt_roster.specs.declared.numbering.Numbers.{Numbers}
 use Rattle.mt_roster.specs.declared.registered.Registered.{Registered}
-use Rattle.mt_roster.specs.Reading.{numbers_by, pairs_by, pairs_once, lists_stand, ReadsLists, ReadsAllPairs, ReadsEntries}
+use Rattle.mt_roster.specs.Reading.{numbers_by, pairs_by, pairs_once, pair_entries, lists_stand, ReadsLists, ReadsAllPairs, ReadsEntries}
 use Rattle.mt_roster.proofs.ReadingSteps.{both}
 
 -- the entries of all records are those of the lists of programs, of applicants and of couples
-pub entry_count-is : (rs : List Record) → entry_count rs ≡ sum_by length (program_lists rs) + sum_by length (applicant_lists rs) + 2 * sum_by length (couple_lists rs)
+pub entry_count-is : (rs : List Record) → entry_count rs ≡ sum_by length (program_lists rs) + sum_by length (applicant_lists rs) + sum_by pair_entries (couple_lists rs)
 entry_count-is [] = refl
 entry_count-is (ProgramRecord id quota list ∷ rs) =
     omega (arith, entry_count-is rs, sum_by-cons entries_of (ProgramRecord id quota list) rs, sum_by-cons (length {A = Bytes}) list (program_lists rs))
@@ -28,7 +28,7 @@ entry_count-is (CoupleRecord id a b pairs ∷ rs) =
       sum_by-cons entries_of (CoupleRecord id a b pairs) rs,
       sum_by-cons (length {A = Bytes}) [] ([] ∷ applicant_lists rs),
       sum_by-cons (length {A = Bytes}) [] (applicant_lists rs),
-      sum_by-cons (length {A = IdPair}) pairs (couple_lists rs),
+      sum_by-cons pair_entries pairs (couple_lists rs),
     )
 entry_count-is (WithdrawRecord kind id ∷ rs) = omega (arith, entry_count-is rs, sum_by-cons entries_of (WithdrawRecord kind id) rs)
 

@@ -1,4 +1,5 @@
 pub mod RepeatFacts
+pub mod NeighbourFacts
 pub mod NameFacts
 pub mod DraftFacts
 pub mod NumberingSteps

@@ -1,20 +1,20 @@
 -- Steps of the loops that read couples' lists of pairs by new numbers.
-use Rattle.std.proofs.Common.{◌≡◌, ◌<◌, ◌+◌, ◌*◌, ℕ, Bool, true, false, not, ◌&&◌, List, [], ◌∷◌, ◌++◌, length, map, Option, Some, None, refl, ap, sym, subst, ◌∙◌, arith, if◌then◌else◌}
-use Rattle.std.specs.Prelude.{sum_by, option_map, IfSome}
-use Rattle.std.specs.List.{list_all}
+use Rattle.std.proofs.Common.{◌≡◌, ◌<◌, ◌+◌, ◌*◌, ℕ, Bool, true, false, not, ◌&&◌, List, [], ◌∷◌, ◌++◌, length, map, Option, Some, None, refl, ap, sym, ◌∙◌, arith, if◌then◌else◌}
+use Rattle.std.specs.Prelude.{option_map, IfSome, bytes_eq, nat_eq}
+use Rattle.std.specs.List.{list_all, list_any}
+use Rattle.std.specs.Option.{option_eq}
+use Rattle.std.proofs.lemmas.Bool.Decides.{nat_tests}
 use Rattle.std.proofs.lemmas.List.{append_assoc}
-use Rattle.std.proofs.lemmas.List.Sums.{sum_by-cons}
 use Rattle.mt_file_laws.specs.Staying.{new_pair}
-use Rattle.mt_file_laws.proofs.IdFacts.{number_below}
+use Rattle.mt_file_laws.proofs.IdFacts.{number_below, same_number, same_id, is_same, not_true}
 use Rattle.mt_market.specs.FlatLists.{with_last}
 use Rattle.mt_terms.specs.Market.{Pair}
-use Rattle.mt_terms.specs.Registration.Ids.{Bytes, number_of, all_differ}
+use Rattle.mt_terms.specs.Registration.Ids.{Bytes, has_id, number_of, all_differ}
 use Rattle.mt_terms.specs.Registration.Records.{IdPair}
 use Rattle.mt_terms.specs.Registration.Passes.{is_same_pair}
 use Rattle.mt_terms.specs.Registration.Numbering.{is_none_or_in, names_only, pair_by_number}
 use Rattle.mt_roster.specs.Numbered.{with_more, pair_in}
-use Rattle.mt_roster.specs.Reading.{pairs_by, pairs_once, ReadsPairs}
-use Rattle.mt_roster.proofs.NumberingSteps.{with_more-begun}
+use Rattle.mt_roster.specs.Reading.{pairs_by, ReadsPairs}
 use Rattle.mt_roster.proofs.ReadingSteps.{both}
 
 -- a place by number is within the programs
@@ -66,55 +66,64 @@ module _ (ids : List Bytes) (numbers : List (Option ℕ)) (left : List IdPair) (
       let none : new_pair numbers (pair_by_number ids p) ≡ None = ap (new_pair numbers) at ∙ h in
       rw (is, none) refl
 
--- whether a pair stands twice in a list, as it was found
-pub differ_found : (list : List IdPair) (b : Bool) → b ≡ not (all_differ is_same_pair list) → b ≡ false → all_differ is_same_pair list ≡ true
-differ_found list b h e = by (all_differ is_same_pair list) (sym h ∙ e)
-  where
-    by : (d : Bool) → not d ≡ false → d ≡ true
-    by true k = refl
-    by false k = cc
+  -- the pairs by their numbers among all programs
+  pub numbers-more : (found new : List Pair) → new ≡ found ++ q ∷ [] → new ++ map (pair_by_number ids) rest ≡ found ++ map (pair_by_number ids) left
+  numbers-more found new e =
+      ap (λ (l : List Pair). l ++ map (pair_by_number ids) rest) e
+      ∙ append_assoc found (q ∷ []) (map (pair_by_number ids) rest)
+      ∙ ap (λ (x : Pair). found ++ x ∷ map (pair_by_number ids) rest) (sym at)
+      ∙ ap (λ (l : List IdPair). found ++ map (pair_by_number ids) l) (sym is)
 
-pub repeats_found : (ids : List Bytes) (list : List IdPair) (b : Bool) → b ≡ not (all_differ is_same_pair list) → b ≡ true → pairs_once ids list ≡ true → ⊥
-repeats_found ids list b h e once = by (all_differ is_same_pair list) (sym h ∙ e) (both (list_all (names_only ids) list) (all_differ is_same_pair list) once).1
-  where
-    by : (d : Bool) → not d ≡ true → d ≡ true → ⊥
-    by true k l = cc
-    by false k l = cc
+-- whether two pairs of numbers are the same
+abbrev pub is_same_numbers : Pair → Pair → Bool
+is_same_numbers p q = option_eq nat_eq p.0 q.0 && option_eq nat_eq p.1 q.1
 
--- Lists of pairs are read by new numbers, of which these are left, with room for so many entries.
-pub record ArePairsReadTo (ids : List Bytes) (numbers : List (Option ℕ)) (all : List (List IdPair)) (most room : ℕ)
-    (lists : List (List Pair)) (left : List (List IdPair)) : Type 0 where
-  pub balance : room + 2 * sum_by length all ≡ most + 2 * sum_by length left
-  pub stand : list_all (pairs_once ids) left ≡ list_all (pairs_once ids) all
-  pub rest : lists ++ map (pairs_by ids numbers) left ≡ map (pairs_by ids numbers) all
+-- elements by what they are seen as, of which two are alike just where the elements are the same
+module _ {X Y : Type 0} (seen : X → Y) (ok : X → Bool) (same : X → X → Bool) (alike : Y → Y → Bool)
+    (agree : (x y : X) → ok x ≡ true → ok y ≡ true → alike (seen x) (seen y) ≡ same x y) where
+  any_alike : (x : X) (xs : List X) → ok x ≡ true → list_all ok xs ≡ true → list_any (alike (seen x)) (map seen xs) ≡ list_any (same x) xs
+  any_alike x [] h all = refl
+  any_alike x (y ∷ ys) h all = let parts = both (ok y) (list_all ok ys) all in rw (agree x y h parts.0, any_alike x ys h parts.1) refl
 
-module _ (ids : List Bytes) (numbers : List (Option ℕ)) (all : List (List IdPair)) (most room : ℕ)
-    (lists : List (List Pair)) (left : List (List IdPair)) (are : ArePairsReadTo ids numbers all most room lists left) where
-  -- none is there to read at a record that is no couple's
-  pub pairs_none : (rest : List (List IdPair)) → left ≡ rest → ArePairsReadTo ids numbers all most room lists rest
-  pairs_none rest is = subst (λ (l : List (List IdPair)). ArePairsReadTo ids numbers all most room lists l) is are
+  differ_alike : (xs : List X) → list_all ok xs ≡ true → all_differ alike (map seen xs) ≡ all_differ same xs
+  differ_alike [] all = refl
+  differ_alike (x ∷ xs) all = let parts = both (ok x) (list_all ok xs) all in rw (any_alike x xs parts.0 parts.1, differ_alike xs parts.1) refl
 
-  -- a list is read, after it was begun
-  pub read_pairs : (list : List IdPair) (rest : List (List IdPair)) (room' : ℕ) (begun new : List (List Pair)) (found : Bool) → left ≡ list ∷ rest
-      → all_differ is_same_pair list ≡ true → begun ≡ lists ++ [] ∷ []
-      → ReadsPairs ids numbers room room' list begun new found → found ≡ true → ArePairsReadTo ids numbers all most room' new rest
-  read_pairs list rest room' begun new false is differ begins reads is_true = cc
-  read_pairs list rest room' begun new true is differ begins reads is_true =
-      let last : new ≡ lists ++ pairs_by ids numbers list ∷ [] =
-      reads.2 ∙ ap (λ (l : List (List Pair)). with_more l (pairs_by ids numbers list)) begins ∙ with_more-begun lists (pairs_by ids numbers list)
+-- ids and pairs are the same where their numbers are
+module _ (ids : List Bytes) where
+  ids_agree : (x y : Bytes) → has_id ids x ≡ true → has_id ids y ≡ true → nat_eq (number_of ids x) (number_of ids y) ≡ bytes_eq x y
+  ids_agree x y h k = by (bytes_eq x y) refl
+    where
+      by : (b : Bool) → bytes_eq x y ≡ b → nat_eq (number_of ids x) (number_of ids y) ≡ b
+      by true e = let s : number_of ids x ≡ number_of ids y = ap (number_of ids) (same_id x y e) in grind (arith, nat_tests)
+      by false e = not_true _ (λ t. let s : number_of ids x ≡ number_of ids y = grind (arith, nat_tests) in cc (is_same x y (same_number ids x y h k s)))
+
+  places_agree : (o u : Option Bytes) → is_none_or_in ids o ≡ true → is_none_or_in ids u ≡ true
+      → option_eq nat_eq (option_map (number_of ids) o) (option_map (number_of ids) u) ≡ option_eq bytes_eq o u
+  places_agree None None h k = refl
+  places_agree None (Some y) h k = refl
+  places_agree (Some x) None h k = refl
+  places_agree (Some x) (Some y) h k = ids_agree x y h k
+
+  pairs_agree : (p q : IdPair) → names_only ids p ≡ true → names_only ids q ≡ true → is_same_numbers (pair_by_number ids p) (pair_by_number ids q) ≡ is_same_pair p q
+  pairs_agree p q h k =
+      let a = both (is_none_or_in ids p.0) (is_none_or_in ids p.1) h in
+      let b = both (is_none_or_in ids q.0) (is_none_or_in ids q.1) k in
+      rw (places_agree p.0 q.0 a.0 b.0, places_agree p.1 q.1 a.1 b.1) refl
+
+  -- all pairs of a list are read, of which one stands twice or none does
+  pub pairs_read : (numbers : List (Option ℕ)) (room left : ℕ) (list : List IdPair) (old new : List (List Pair)) (found : List Pair) (repeats : Bool)
+      → list_all (names_only ids) list ≡ true → left + 2 * length list ≡ room → new ≡ with_more old (pairs_by ids numbers list)
+      → found ≡ map (pair_by_number ids) list → repeats ≡ not (all_differ is_same_numbers found)
+      → ReadsPairs ids numbers room left list old new (not repeats)
+  pairs_read numbers room left list old new found repeats only count rest by_number said =
+      let same : all_differ is_same_numbers found ≡ all_differ is_same_pair list =
+      ap (all_differ is_same_numbers) by_number ∙ differ_alike (pair_by_number ids) (names_only ids) is_same_pair is_same_numbers pairs_agree list only
       in
-      let once : pairs_once ids list ≡ true = rw (reads.0, differ) refl in
-      record {
-        balance = omega (arith, reads.1, are.balance, ap (sum_by (length {A = IdPair})) is, sum_by-cons (length {A = IdPair}) list rest);
-        stand = ap (λ (b : Bool). b && list_all (pairs_once ids) rest) (sym once) ∙ sym (ap (list_all (pairs_once ids)) is) ∙ are.stand;
-        rest = ap (λ (l : List (List Pair)). l ++ map (pairs_by ids numbers) rest) last
-            ∙ append_assoc lists (pairs_by ids numbers list ∷ []) (map (pairs_by ids numbers) rest)
-            ∙ ap (λ (l : List (List IdPair)). lists ++ map (pairs_by ids numbers) l) (sym is) ∙ are.rest;
-      }
-
-  -- a list doesn't stand, or there is no room for it
-  pub pairs_no_more : (list : List IdPair) (rest : List (List IdPair)) → left ≡ list ∷ rest → (pairs_once ids list ≡ true → room < 2 * length list)
-      → list_all (pairs_once ids) all ≡ true → most < 2 * sum_by length all
-  pairs_no_more list rest is fails h =
-      let stands : (pairs_once ids list ≡ true) × (list_all (pairs_once ids) rest ≡ true) = both _ _ (sym (ap (list_all (pairs_once ids)) is) ∙ are.stand ∙ h) in
-      omega (arith, fails stands.0, are.balance, ap (sum_by (length {A = IdPair})) is, sum_by-cons (length {A = IdPair}) list rest)
+      by repeats (all_differ is_same_pair list) refl (said ∙ ap not same)
+    where
+      by : (r d : Bool) → all_differ is_same_pair list ≡ d → r ≡ not d → ReadsPairs ids numbers room left list old new (not r)
+      by true true e k = cc
+      by true false e k = λ once. let differ = (both (list_all (names_only ids) list) (all_differ is_same_pair list) once).1 in cc
+      by false true e k = (rw (only, e) refl, count, rest)
+      by false false e k = cc

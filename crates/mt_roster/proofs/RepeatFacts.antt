@@ -36,6 +36,14 @@ same_pairs p q = (
       rw (a, b) refl,
 )
 
+-- an element that isn't among the others, and those differ too
+pub differ_parts : {X : Type 0} (same : X → X → Bool) (x : X) (xs : List X) → all_differ same (x ∷ xs) ≡ true → (list_any (same x) xs ≡ false) × (all_differ same xs ≡ true)
+differ_parts same x xs h = by (list_any (same x) xs) h
+  where
+    by : (b : Bool) → (not b && all_differ same xs) ≡ true → (b ≡ false) × (all_differ same xs ≡ true)
+    by true k = cc
+    by false k = (refl, k)
+
 -- no element of those seen stands twice, and with those left they are the whole list
 abbrev pub SeesEach : {X : Type 0} → (X → X → Bool) → List X → List X → List X → Type 0
 SeesEach same seen left whole = (all_differ same seen ≡ true) × (seen ++ left ≡ whole)
@@ -47,13 +55,6 @@ module _ {X : Type 0} (same : X → X → Bool) (tests : Tests same) where
   itself : (x : X) → same x x ≡ true
   itself x = (tests x x).1 refl
 
-  differ_parts : (x : X) (xs : List X) → all_differ same (x ∷ xs) ≡ true → (list_any (same x) xs ≡ false) × (all_differ same xs ≡ true)
-  differ_parts x xs h = by (list_any (same x) xs) h
-    where
-      by : (b : Bool) → (not b && all_differ same xs) ≡ true → (b ≡ false) × (all_differ same xs ≡ true)
-      by true k = cc
-      by false k = (refl, k)
-
   differ_join : (x : X) (xs : List X) → list_any (same x) xs ≡ false → all_differ same xs ≡ true → all_differ same (x ∷ xs) ≡ true
   differ_join x xs h k = rw (h, k) refl
 
@@ -61,7 +62,7 @@ module _ {X : Type 0} (same : X → X → Bool) (tests : Tests same) where
   differ_push : (xs : List X) (x : X) → list_any (same x) xs ≡ false → all_differ same xs ≡ true → all_differ same (xs ++ x ∷ []) ≡ true
   differ_push [] x h k = refl
   differ_push (y ∷ ys) x h k =
-      let p : (list_any (same y) ys ≡ false) × (all_differ same ys ≡ true) = differ_parts y ys k in
+      let p : (list_any (same y) ys ≡ false) × (all_differ same ys ≡ true) = differ_parts same y ys k in
       let q : (same x y ≡ false) × (list_any (same x) ys ≡ false) = neither (same x y) (list_any (same x) ys) h in
       let n : same y x ≡ false = symmetric x y q.0 in
       let e : list_any (same y) (ys ++ x ∷ []) ≡ false = rw (list_any-append, p.0, n) refl in

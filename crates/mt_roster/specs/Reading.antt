@@ -31,32 +31,38 @@ pairs_by ids numbers list = filter_map (λ p. new_pair numbers (pair_by_number i
 abbrev pub AreStampedBelow : ℕ → List ℕ → Type 0
 AreStampedBelow n stamps = (i : ℕ) → i < length stamps → slice_index_or stamps i 0 < n
 
--- After a list was read, where it stands and there was room; or it doesn't stand, or there wasn't room.
-abbrev pub ReadsList : {X : Type 0} → List Bytes → List (Option X) → ℕ → ℕ → List Bytes → List (List X) → List (List X) → Bool → Type 0
-ReadsList ids numbers room left list old new true =
-    (stands_once ids list ≡ true) × (left + length list ≡ room) × (new ≡ with_more old (numbers_by ids numbers list))
-ReadsList ids numbers room left list old new false = stands_once ids list ≡ true → room < length list
-
--- The same of a list of pairs, but for pairs that stand twice.
-abbrev pub ReadsPairs : List Bytes → List (Option ℕ) → ℕ → ℕ → List IdPair → List (List Pair) → List (List Pair) → Bool → Type 0
-ReadsPairs ids numbers room left list old new true =
-    (list_all (names_only ids) list ≡ true) × (left + 2 * length list ≡ room) × (new ≡ with_more old (pairs_by ids numbers list))
-ReadsPairs ids numbers room left list old new false = list_all (names_only ids) list ≡ true → room < 2 * length list
-
--- The same of all lists.
-abbrev pub ReadsLists : {X : Type 0} → List Bytes → List (Option X) → ℕ → ℕ → List (List Bytes) → Option (List (List X)) → Type 0
-ReadsLists ids numbers room left lists (Some new) =
-    (list_all (stands_once ids) lists ≡ true) × (left + sum_by length lists ≡ room) × (new ≡ map (numbers_by ids numbers) lists)
-ReadsLists ids numbers room left lists None = list_all (stands_once ids) lists ≡ true → room < sum_by length lists
-
 -- whether a list of pairs names none but these programs, and has no pair twice
 abbrev pub pairs_once : List Bytes → List IdPair → Bool
 pairs_once ids pairs = list_all (names_only ids) pairs && all_differ is_same_pair pairs
 
+-- how many entries a list of pairs has: a pair is two
+abbrev pub pair_entries : List IdPair → ℕ
+pair_entries pairs = 2 * length pairs
+
+-- After a list was read, where it stands and there was room for its entries; or it doesn't stand, or there wasn't room.
+abbrev pub ReadsOne : {L X : Type 0} → (L → Bool) → (L → ℕ) → (L → List X) → ℕ → ℕ → L → List (List X) → List (List X) → Bool → Type 0
+ReadsOne stands count read room left list old new true =
+    (stands list ≡ true) × (left + count list ≡ room) × (new ≡ with_more old (read list))
+ReadsOne stands count read room left list old new false = stands list ≡ true → room < count list
+
+-- The same of all lists.
+abbrev pub ReadsAll : {L X : Type 0} → (L → Bool) → (L → ℕ) → (L → List X) → ℕ → ℕ → List L → Option (List (List X)) → Type 0
+ReadsAll stands count read room left lists (Some new) =
+    (list_all stands lists ≡ true) × (left + sum_by count lists ≡ room) × (new ≡ map read lists)
+ReadsAll stands count read room left lists None = list_all stands lists ≡ true → room < sum_by count lists
+
+-- Lists of ids, and lists of pairs, are read so.
+abbrev pub ReadsList : {X : Type 0} → List Bytes → List (Option X) → ℕ → ℕ → List Bytes → List (List X) → List (List X) → Bool → Type 0
+ReadsList ids numbers = ReadsOne (stands_once ids) length (numbers_by ids numbers)
+
+abbrev pub ReadsLists : {X : Type 0} → List Bytes → List (Option X) → ℕ → ℕ → List (List Bytes) → Option (List (List X)) → Type 0
+ReadsLists ids numbers = ReadsAll (stands_once ids) length (numbers_by ids numbers)
+
+abbrev pub ReadsPairs : List Bytes → List (Option ℕ) → ℕ → ℕ → List IdPair → List (List Pair) → List (List Pair) → Bool → Type 0
+ReadsPairs ids numbers = ReadsOne (pairs_once ids) pair_entries (pairs_by ids numbers)
+
 abbrev pub ReadsAllPairs : List Bytes → List (Option ℕ) → ℕ → ℕ → List (List IdPair) → Option (List (List Pair)) → Type 0
-ReadsAllPairs ids numbers room left lists (Some new) =
-    (list_all (pairs_once ids) lists ≡ true) × (left + 2 * sum_by length lists ≡ room) × (new ≡ map (pairs_by ids numbers) lists)
-ReadsAllPairs ids numbers room left lists None = list_all (pairs_once ids) lists ≡ true → room < 2 * sum_by length lists
+ReadsAllPairs ids numbers = ReadsAll (pairs_once ids) pair_entries (pairs_by ids numbers)
 
 -- whether the lists of these records stand, by all programs and applicants
 abbrev pub lists_stand : List Bytes → List Bytes → List Record → Bool

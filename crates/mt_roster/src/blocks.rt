@@ -1,7 +1,7 @@
 //! Lists by numbers, read in blocks side by side.
 ghost use Rattle.std.specs.Prelude.{◌≡◌, ◌++◌, ◌<◌, length, IfOk, OnOk};
 ghost use Rattle.mt_roster.specs.Blocks.{AreBlocks, IsBlock, Joins};
-ghost use Rattle.mt_roster.specs.Numbered.{lists_seen};
+ghost use Rattle.mt_roster.specs.Numbered.{list_seen, lists_seen};
 ghost use Rattle.mt_roster.specs.Reading.{ReadsLists};
 
 use crate::numbering::read_lists;
@@ -13,32 +13,46 @@ use rayon::prelude::*;
 use std::alloc::{AllocError, Global};
 use std::thread::Threads;
 
-/// The fewest lists that are worth a thread of their own.
-const FEWEST: usize = 512;
+/// The fewest entries that are worth threads.
+pub(crate) const FEWEST: usize = 8192;
 
 /// The most processors that blocks are made for.
 const MOST_PROCESSORS: usize = 64;
 
 /// Lists by numbers, and how many entries were read for them.
 #[derive(Drop)]
-struct Block<T> {
-    lists: FlatLists<T>,
-    entries: u32,
+pub(crate) struct Block<T> {
+    pub(crate) lists: FlatLists<T>,
+    pub(crate) entries: u32,
 }
 
-/// How many lists a block has, of so many: there are two blocks for each processor, and one block where there is only
-/// one processor, or where the lists are few.
-fn block_size<R: Threads>(rt: &R, count: usize) -> usize
+/// Whether lists have so many entries that they are worth threads.
+fn are_long(lists: &[Option<Fields<'_>>]) -> bool {
+    let mut entries: usize = 0;
+    for list in lists {
+        if let Some(fields) = list {
+            entries = entries.saturating_add(fields.len());
+        }
+        if entries >= FEWEST {
+            return true;
+        }
+    }
+    false
+}
+
+/// How many lists a block has, of so many, with many entries or few: there are two blocks for each processor, and one
+/// block where there is only one processor, or where the entries are few.
+pub(crate) fn block_size<R: Threads>(rt: &R, count: usize, are_long: bool) -> usize
     ensures { 0 < result }
 {
-    if count < 2 * FEWEST {
-        return FEWEST * 2;
+    if !are_long {
+        return count.max(1);
     }
     let processors = current_num_threads(rt).min(MOST_PROCESSORS);
     if processors == 1 {
-        count
+        count.max(1)
     } else {
-        count.div_ceil(processors * 2).max(FEWEST)
+        count.div_ceil(processors * 2).max(1)
     }
 }
 
@@ -51,7 +65,7 @@ fn read_block<T: Copy + Drop>(
     lists: &[Option<Fields<'_>>],
 ) -> Result<Option<Block<T>>, AllocError>
     requires { length numbers.now ≡ length ids.now }
-    ensures { IfOk result (IsBlock ids.now numbers.now most (lists_seen lists.now)) }
+    ensures { IfOk result (IsBlock (ReadsLists ids.now numbers.now) most (lists_seen lists.now)) }
 {
     let mut room = most;
     match read_lists(alloc, ids, numbers, &mut room, lists)? {
@@ -75,7 +89,7 @@ fn read_blocks<R: Threads + Sync, T: Copy + Drop + Send + Sync>(
 ) -> Result<Vec<Option<Block<T>>>, AllocError>
     requires numbers { length numbers.now ≡ length ids.now }
     requires size { 0 < size }
-    ensures { IfOk result (λ blocks. AreBlocks ids.now numbers.now most size lists.now blocks.items) }
+    ensures { IfOk result (λ blocks. AreBlocks (ReadsLists ids.now numbers.now) list_seen most size lists.now blocks.items) }
 {
     lists
         .par_chunks(size)
@@ -83,7 +97,7 @@ fn read_blocks<R: Threads + Sync, T: Copy + Drop + Send + Sync>(
         .map(
             |block: &[Option<Fields<'_>>]| -> Result<Option<Block<T>>, AllocError>
                 requires { length numbers.now ≡ length ids.now }
-                ensures { IfOk result (IsBlock ids.entry.now numbers.entry.now most (lists_seen block.entry.now)) }
+                ensures { IfOk result (IsBlock (ReadsLists ids.entry.now numbers.entry.now) most (lists_seen block.entry.now)) }
             { read_block(alloc, ids, numbers, most, block) },
         )
         .collect::<Result<Vec<Option<Block<T>>>, AllocError>>(rt, alloc)?
@@ -100,7 +114,7 @@ fn append<T: Copy + Drop>(to: &mut FlatLists<T>, lists: &FlatLists<T>) -> Result
 }
 
 /// The lists of blocks one after another, where each has been read and there is room for all entries together.
-fn join_blocks<T: Copy + Drop>(
+pub(crate) fn join_blocks<T: Copy + Drop>(
     alloc: Global,
     blocks: &[Option<Block<T>>],
     room: &mut u32,
@@ -134,7 +148,7 @@ pub(crate) fn read_side_by_side<R: Threads + Sync, T: Copy + Drop + Send + Sync>
     requires { length numbers.now ≡ length ids.now }
     ensures { IfOk result (ReadsLists ids.now numbers.now room.old room.new (lists_seen lists.now)) }
 {
-    let size = block_size(rt, lists.len());
+    let size = block_size(rt, lists.len(), are_long(lists));
     if lists.len() <= size {
         return read_lists(alloc, ids, numbers, room, lists);
     }

@@ -10,6 +10,7 @@ mod listed;
 mod market;
 mod names;
 mod numbering;
+mod pair_blocks;
 mod reading;
 mod register;
 mod registered;

@@ -1,9 +1,10 @@
 //! The lists of records, one after another.
-ghost use Rattle.std.specs.Prelude.{◌≡◌, IfOk};
-ghost use Rattle.mt_roster.specs.Numbered.{all_seen, lists_seen, program_lists, applicant_lists};
+ghost use Rattle.std.specs.Prelude.{◌≡◌, map, IfOk};
+ghost use Rattle.mt_records.specs.Fields.{pairs_left};
+ghost use Rattle.mt_roster.specs.Numbered.{all_seen, lists_seen, program_lists, applicant_lists, couple_lists};
 
 use mt_lists::Fields;
-use mt_records::Record;
+use mt_records::{Pairs, Record};
 use std::alloc::{AllocError, Global};
 
 /// The lists of programs.
@@ -38,6 +39,22 @@ pub(crate) fn applicant_lists<'a>(
                 lists.push(None)?;
             }
             Record::Program { .. } | Record::Withdraw { .. } => {}
+        }
+    }
+    Ok(lists)
+}
+
+/// The lists of couples.
+pub(crate) fn couple_lists<'a>(
+    alloc: Global,
+    records: &[Record<'a>],
+) -> Result<Vec<Pairs<'a>>, AllocError>
+    ensures { IfOk result (λ lists. map pairs_left lists.items ≡ couple_lists (all_seen records.now)) }
+{
+    let mut lists = Vec::new(alloc);
+    for one in records {
+        if let Record::Couple { pairs, .. } = one {
+            lists.push(*pairs)?;
         }
     }
     Ok(lists)

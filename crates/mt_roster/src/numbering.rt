@@ -11,9 +11,10 @@ ghost use Rattle.mt_roster.specs.Numbered.{all_seen, place_in, pair_in, quota_in
 ghost use Rattle.mt_roster.specs.Reading.{AreStampedBelow, ReadsList, ReadsLists, ReadsPairs, ReadsAllPairs, ReadsEntries, number_by, members_by, HaveNumbers};
 
 use crate::blocks::read_side_by_side;
-use crate::listed::{applicant_lists, program_lists};
+use crate::listed::{applicant_lists, couple_lists, program_lists};
+use crate::pair_blocks;
 use crate::registered::Registered;
-use crate::repeats::has_repeated_pair;
+use crate::repeats::has_duplicate;
 use mt_ids::IdTable;
 use mt_lists::Fields;
 use mt_market::FlatLists;
@@ -179,11 +180,13 @@ fn new_pair(
 }
 
 /// Adds the pairs of a couple's list by numbers, of those whose programs have one, to the last of these lists, and says
-/// that it did so, where they name none but these programs, and there is room for all entries: a pair is two.
+/// that it did so, where they name none but these programs, none stands twice, and there is room for all entries: a pair
+/// is two. The pairs by their numbers among all programs are left in `found`.
 fn push_pairs(
     lists: &mut FlatLists<(Option<ProgNo>, Option<ProgNo>)>,
     programs: &IdTable<'_>,
     numbers: &[Option<ProgNo>],
+    found: &mut Vec<(Option<usize>, Option<usize>)>,
     room: &mut u32,
     list: Pairs<'_>,
 ) -> Result<bool, AllocError>
@@ -191,6 +194,7 @@ fn push_pairs(
     requires begun { 0 < length lists.old }
     ensures { IfOk result (ReadsPairs programs.now numbers.now room.old room.new (pairs_left list.entry) lists.old lists.new) }
 {
+    found.clear();
     for (first, second) in list {
         let Some((first, second)) = pair(programs, first, second) else {
             return Ok(false);
@@ -199,16 +203,41 @@ fn push_pairs(
             return Ok(false);
         }
         *room -= 2;
+        found.push((first, second))?;
         if let Some(pair) = new_pair(numbers, first, second) {
             lists.push(pair)?;
         }
     }
-    Ok(true)
+    Ok(!has_duplicate(found))
+}
+
+/// These couples' lists of pairs by numbers, where each names none but these programs, none has a pair twice, and there
+/// is room for all entries.
+pub(crate) fn read_pairs(
+    alloc: Global,
+    programs: &IdTable<'_>,
+    numbers: &[Option<ProgNo>],
+    room: &mut u32,
+    lists: &[Pairs<'_>],
+) -> Result<Option<FlatLists<(Option<ProgNo>, Option<ProgNo>)>>, AllocError>
+    requires { length numbers.now ≡ length programs.now }
+    ensures { IfOk result (ReadsAllPairs programs.now numbers.now room.old room.new (map pairs_left lists.now)) }
+{
+    let mut read = FlatLists::new(alloc);
+    let mut found = Vec::new(alloc);
+    for list in lists {
+        read.begin()?;
+        if !push_pairs(&mut read, programs, numbers, &mut found, room, *list)? {
+            return Ok(None);
+        }
+    }
+    Ok(Some(read))
 }
 
 /// The couples' lists of pairs by numbers, where each names programs alone, none has a pair twice, and there is room for
 /// all entries.
-fn pairs(
+fn pairs<R: Threads + Sync>(
+    rt: &R,
     alloc: Global,
     programs: &IdTable<'_>,
     numbers: &[Option<ProgNo>],
@@ -218,19 +247,8 @@ fn pairs(
     requires { length numbers.now ≡ length programs.now }
     ensures { IfOk result (ReadsAllPairs programs.now numbers.now room.old room.new (couple_lists (all_seen records.now))) }
 {
-    let mut lists = FlatLists::new(alloc);
-    for one in records {
-        if let Record::Couple { pairs, .. } = one {
-            if has_repeated_pair(alloc, *pairs)? {
-                return Ok(None);
-            }
-            lists.begin()?;
-            if !push_pairs(&mut lists, programs, numbers, room, *pairs)? {
-                return Ok(None);
-            }
-        }
-    }
-    Ok(Some(lists))
+    let lists = couple_lists(alloc, records)?;
+    pair_blocks::read_side_by_side(rt, alloc, programs, numbers, room, &lists)
 }
 
 /// The new numbers of programs and of applicants, by their numbers: none for what has none.
@@ -270,7 +288,7 @@ pub(crate) fn entries_of<R: Threads + Sync>(
     let Some(lists) = lists(rt, alloc, programs, &numbers.programs, room, records)? else {
         return Ok(None);
     };
-    let Some(pairs) = pairs(alloc, programs, &numbers.programs, room, records)? else {
+    let Some(pairs) = pairs(rt, alloc, programs, &numbers.programs, room, records)? else {
         return Ok(None);
     };
     Ok(Some(Entries {

@@ -1,10 +1,16 @@
-use Rattle.std.proofs.Common.{Bool, ◌&&◌, length, ap, sym, ◌∙◌, arith}
+use Rattle.std.proofs.Common.{◌≡◌, Bool, ◌&&◌, not, List, [], ◌++◌, length, map, ap, sym, ◌∙◌, arith}
 use Rattle.std.specs.List.{list_all}
 use Rattle.std.specs.Option.{option_copied}
-use Rattle.mt_terms.specs.Registration.Numbering.{names_only}
+use Rattle.std.proofs.lemmas.List.{append-nil}
+use Rattle.mt_terms.specs.Market.{Pair}
+use Rattle.mt_terms.specs.Registration.Ids.{all_differ}
+use Rattle.mt_terms.specs.Registration.Numbering.{names_only, pair_by_number}
+use Rattle.mt_terms.specs.Registration.Records.{IdPair}
 use Rattle.mt_records.specs.Fields.{pairs_left}
+use Rattle.mt_roster.specs.Numbered.{with_more}
+use Rattle.mt_roster.specs.Reading.{pairs_by}
 use Rattle.mt_roster.proofs.NumberingSteps.{length-with_last}
-use Rattle.mt_roster.proofs.PairSteps.{found_pair, pairs_by-some}
+use Rattle.mt_roster.proofs.PairSteps.{found_pair, is_same_numbers, numbers-more, pairs_by-none, pairs_by-some, pairs_read}
 use Rattle.mt_roster.proofs.numbering.push_pairs.Goals as goal
 
 pub new_pair-requires-clause-first : goal.new_pair-requires-clause-first
@@ -21,20 +27,53 @@ new_pair-requires-clause-second c =
     in
     found.second
 
-pub loop-first-preserved-in-Continue-1 : goal.loop-first-preserved-in-Continue-1
-loop-first-preserved-in-Continue-1 c =
+pub loop-first-preserved-in-Continue-branch-2 : goal.loop-first-preserved-in-Continue-branch-2
+loop-first-preserved-in-Continue-branch-2 c =
     let ids = c.args.programs.now in
-    let found = found_pair ids (length c.args.numbers.now) c.requires.numbers (option_copied c.in-Some.first, option_copied c.in-Some.second)
-    (c.in-Some-pair.first, c.in-Some-pair.second) c.in-Some-pair.ensures
-    in
+    let numbers = c.args.numbers.now in
+    let p : IdPair = (option_copied c.in-Some.first, option_copied c.in-Some.second) in
+    let q : Pair = (c.in-Some-pair.first, c.in-Some-pair.second) in
+    let found = found_pair ids (length numbers) c.requires.numbers p q c.in-Some-pair.ensures in
     let left = pairs_left c.loop-first.first-iterator in
     let rest = pairs_left c.next.new.self in
     record {
-      count = ap length c.in_ok-push.ensures.ok ∙ length-with_last _ _ ∙ c.loop-first.invariant.count;
+      count = ap length c.in_ok-push-2.ensures.ok ∙ length-with_last _ _ ∙ c.loop-first.invariant.count;
       room = omega (arith, c.if-room-lt2.false, c.loop-first.invariant.room, ap length c.in-Some.ensures.steps);
       stand = ap (λ (b : Bool). b && list_all (names_only ids) rest) (sym found.only)
           ∙ sym (ap (list_all (names_only ids)) c.in-Some.ensures.steps) ∙ c.loop-first.invariant.stand;
-      rest = pairs_by-some ids c.args.numbers.now left (option_copied c.in-Some.first, option_copied c.in-Some.second) rest c.in-Some.ensures.steps
-          (c.in-Some-pair.first, c.in-Some-pair.second) found.is c.loop-first.lists c.push.new.self c.in-Some-new_pair.pair (sym c.in-Some-new_pair.ensures) c.in_ok-push.ensures.ok
+      rest = pairs_by-some ids numbers left p rest c.in-Some.ensures.steps q found.is c.loop-first.lists c.push-in-Some-new_pair.new.self c.in-Some-new_pair.pair (sym c.in-Some-new_pair.ensures) c.in_ok-push-2.ensures.ok
           ∙ c.loop-first.invariant.rest;
+      numbered = numbers-more ids numbers left p rest c.in-Some.ensures.steps q found.is c.loop-first.found.items c.push.new.self.items c.in_ok-push.ensures.items ∙ c.loop-first.invariant.numbered;
     }
+
+pub loop-first-preserved : goal.loop-first-preserved
+loop-first-preserved c =
+    let ids = c.args.programs.now in
+    let numbers = c.args.numbers.now in
+    let p : IdPair = (option_copied c.in-Some.first, option_copied c.in-Some.second) in
+    let q : Pair = (c.in-Some-pair.first, c.in-Some-pair.second) in
+    let found = found_pair ids (length numbers) c.requires.numbers p q c.in-Some-pair.ensures in
+    let left = pairs_left c.loop-first.first-iterator in
+    let rest = pairs_left c.next.new.self in
+    record {
+      count = c.loop-first.invariant.count;
+      room = omega (arith, c.if-room-lt2.false, c.loop-first.invariant.room, ap length c.in-Some.ensures.steps);
+      stand = ap (λ (b : Bool). b && list_all (names_only ids) rest) (sym found.only)
+          ∙ sym (ap (list_all (names_only ids)) c.in-Some.ensures.steps) ∙ c.loop-first.invariant.stand;
+      rest = pairs_by-none ids numbers left p rest c.in-Some.ensures.steps q found.is c.loop-first.lists (sym c.new_pair.ensures ∙ c.in_default-new_pair.is) ∙ c.loop-first.invariant.rest;
+      numbered = numbers-more ids numbers left p rest c.in-Some.ensures.steps q found.is c.loop-first.found.items c.push.new.self.items c.in_ok-push.ensures.items ∙ c.loop-first.invariant.numbered;
+    }
+
+pub returns : goal.returns
+returns c =
+    let ids = c.args.programs.now in
+    let numbers = c.args.numbers.now in
+    let list = pairs_left c.args.list in
+    let found = c.loop-first.found.items in
+    let none : pairs_left c.loop-first.first-iterator ≡ [] = c.in-None.ensures.steps.0 in
+    pairs_read ids numbers c.args.room.now c.loop-first.room list c.args.lists.now c.loop-first.lists found c.has_duplicate.result
+    (sym c.loop-first.invariant.stand ∙ ap (list_all (names_only ids)) none)
+    (omega (arith, c.loop-first.invariant.room, ap length none))
+    (sym (ap (λ (l : List IdPair). with_more c.loop-first.lists (pairs_by ids numbers l)) none) ∙ c.loop-first.invariant.rest)
+    (sym (append-nil found) ∙ sym (ap (λ (l : List IdPair). found ++ map (pair_by_number ids) l) none) ∙ c.loop-first.invariant.numbered)
+    (c.has_duplicate.ensures ∙ ap (λ (l : List Pair). not (all_differ is_same_numbers l)) c.deref_mut.ensures.value)

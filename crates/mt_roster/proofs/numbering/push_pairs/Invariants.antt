@@ -1,6 +1,6 @@
-use Rattle.std.proofs.Common.{◌≡◌, ◌+◌, ◌*◌, length}
+use Rattle.std.proofs.Common.{◌≡◌, ◌+◌, ◌*◌, ◌++◌, length, map}
 use Rattle.std.specs.List.{list_all}
-use Rattle.mt_terms.specs.Registration.Numbering.{names_only}
+use Rattle.mt_terms.specs.Registration.Numbering.{names_only, pair_by_number}
 use Rattle.mt_records.specs.Fields.{pairs_left}
 use Rattle.mt_roster.specs.Numbered.{with_more}
 use Rattle.mt_roster.specs.Reading.{pairs_by}
@@ -12,4 +12,5 @@ invariant-loop-first l = record {
   room : l.room + 2 * length (pairs_left l.fn.list) ≡ l.fn.room + 2 * length (pairs_left l.first-iterator);
   stand : list_all (names_only l.programs) (pairs_left l.first-iterator) ≡ list_all (names_only l.programs) (pairs_left l.fn.list);
   rest : with_more l.lists (pairs_by l.programs l.numbers (pairs_left l.first-iterator)) ≡ with_more l.fn.lists (pairs_by l.programs l.numbers (pairs_left l.fn.list));
+  numbered : l.found.items ++ map (pair_by_number l.programs) (pairs_left l.first-iterator) ≡ map (pair_by_number l.programs) (pairs_left l.fn.list);
 }
