@@ -11,7 +11,7 @@ use Rattle.mt_terms.specs.Market.{Market, applicants, program_of, agent_of, memb
 use Rattle.mt_terms.specs.Matching.{Places, Placement, place_of, is_program, at, send, options, single_placement, couple_placement}
 use Rattle.mt_terms.specs.Choice.{choice}
 use Rattle.mt_terms.specs.Rounds.{programs_sent_to, displaced, displaced_at, is_left, is_same_agent, all_joined, left_programs, move_of, blocking_on_list, rechecked}
-use Rattle.mt_terms.specs.Stability.{blocks}
+use Rattle.mt_terms.specs.Stability.{blocks, is_chosen}
 use Rattle.mt_terms.specs.declared.numbers.Agent.{Agent}
 use Rattle.mt_terms.specs.declared.numbers.Agent.TheVariants.{Single, Couple}
 use Rattle.mt_match_laws.proofs.ChoiceLemmas.{choice_facts}
