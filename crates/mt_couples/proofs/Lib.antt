@@ -16,4 +16,5 @@ pub mod TableFacts
 pub mod WaitingFacts
 pub mod RefusedFacts
 pub mod WatchFacts
+pub mod LiveFacts
 pub mod LookFacts

@@ -29,6 +29,7 @@ use Rattle.mt_couples.specs.Watching.{names, row_at, wanted, Covers}
 use Rattle.mt_couples.specs.declared.watch.Watch.{Watch}
 use Rattle.mt_terms.specs.Lists.{is_distinct}
 use Rattle.mt_terms.proofs.ListFacts.{same_position}
+use Rattle.mt_couples.proofs.LiveFacts.{better_single}
 use Rattle.mt_couples.proofs.PlaceFacts.{has_at, has_read}
 use Rattle.mt_couples.proofs.WatchFacts.{has_end, has_parts, has_still, index_of}
 use Rattle.mt_couples.proofs.JoinFacts.{next_mapped}
@@ -38,11 +39,6 @@ use Rattle.mt_couples.proofs.QuietFacts.{blocking, is_agent, looking_joins, look
 of_one : (p : ℕ) (v : Option ℕ) → some_has (p ∷ []) v ≡ true → v ≡ Some p
 of_one p None h = absurd (false≢true h)
 of_one p (Some q) h = ap Some (sym (eqb-true p q (sym (or-false (p == q)) ∙ h)))
-
--- whether a single has this place, in two forms
-same_place : (q : ℕ) (v : Option ℕ) → (is_same_place v (Some q) && true) ≡ is_program q v
-same_place q None = refl
-same_place q (Some p) = and-true (p == q)
 
 -- the rank of who is on a list
 rank_there : (xs : List ℕ) (a : ℕ) → has xs a ≡ true → (r : ℕ) × (position (λ x. x == a) xs ≡ Some r)
@@ -69,10 +65,7 @@ open_at s p g h =
 open_single : (s : Assigned) (p a : ℕ) → IsOpen s p (Single a) → (has (wanted s a) p ≡ true) × (has (program_of s.market p).ranking a ≡ true)
 open_single s p a o =
     let m = s.market in
-    let is : better m s.places (Single a) ≡ map (single_placement a) (wanted s a) =
-    until-map (holds s.places) (single_placement a) (list_of m a)
-    ∙ ap (map (single_placement a)) (same_until (λ q. holds s.places (single_placement a q)) (λ q. at s.places q a) (list_of m a) (λ q i. same_place q (place_of s.places a))) in
-    let w = of_image (single_placement a) o.option (wanted s a) (subst (λ (xs : List Placement). In o.option xs) is o.is_better) in
+    let w = of_image (single_placement a) o.option (wanted s a) (subst (λ (xs : List Placement). In o.option xs) (better_single s a) o.is_better) in
     let q = w.0 in
     let here : some_has (p ∷ []) (Some q) ≡ true = sym (or-false (some_has (p ∷ []) (Some q))) ∙ subst (λ x. names_one_of (p ∷ []) x ≡ true) (sym w.2) o.at_program in
     let same : p ≡ q = eqb-true p q (sym (or-false (p == q)) ∙ here) in

@@ -11,7 +11,7 @@ use Rattle.mt_terms.specs.Market.{Market, applicants, program_of, agent_of, memb
 use Rattle.mt_terms.specs.Matching.{Places, Placement, place_of, is_program, at, send, options, single_placement, couple_placement}
 use Rattle.mt_terms.specs.Choice.{choice}
 use Rattle.mt_terms.specs.Rounds.{programs_sent_to, displaced, displaced_at, is_left, is_same_agent, all_joined, left_programs, move_of, blocking_on_list, rechecked}
-use Rattle.mt_terms.specs.Stability.{blocks}
+use Rattle.mt_terms.specs.Stability.{blocks, is_chosen}
 use Rattle.mt_terms.specs.declared.numbers.Agent.{Agent}
 use Rattle.mt_terms.specs.declared.numbers.Agent.TheVariants.{Single, Couple}
 use Rattle.mt_match_laws.proofs.ChoiceLemmas.{choice_facts}
@@ -20,7 +20,7 @@ use Rattle.mt_round_laws.proofs.RoundsPlaces.{at_none}
 use Rattle.mt_round_laws.proofs.RoundsAgents.{agent_of_applicant, agent_from_list, of_list, on_list, same_agent, member_of_agent, apart, option_movers, option_entry, option_member, option_there, option_elsewhere}
 use Rattle.mt_round_laws.proofs.RoundsFits.{listing_program, fitting_facts}
 use Rattle.mt_round_laws.proofs.RoundsMove.{IsMove, of_displaced, displaced_agents, match_after, is_displaced, displaced_agent, goes_out, mover_stays, stays_in, was_before}
-use Rattle.mt_couples.specs.Assigned.{AreSent}
+use Rattle.mt_couples.specs.Assigned.{AreSent, AreSentToLists}
 use Rattle.mt_couples.specs.Moves.{is_left_by_movers, is_kept_at, all_members, IsTaking}
 use Rattle.mt_couples.specs.Waiting.{Waiting, with_agents, Joins}
 use Rattle.mt_couples.proofs.SentFacts.{in_list}
@@ -72,6 +72,11 @@ module _ {m : Market} {old : Places} {g : Agent} {sent : Placement} (taking : Is
       let a = of_sent_to sent p on in
       let chosen = each _ (a.0, Some p) sent mv.taken a.1 in
       listing_program m p a.0 (choice_facts (program_of m p) (at (send sent old) p) a.0 chosen).is_listed
+
+  pub sent_to_lists : AreSentToLists m sent
+  sent_to_lists s p on is =
+      let chosen = each (λ (x : ℕ × Option ℕ). is_chosen m (send sent old) x.0 x.1) s sent is_move.taken (in_list sent s on) in
+      (choice_facts (program_of m p) (at (send sent old) p) s.0 (subst (λ v. is_chosen m (send sent old) s.0 v ≡ true) is chosen)).is_listed
 
   pub displaced_within : (a : ℕ) → has (displaced m (send sent old) sent) a ≡ true → a < applicants m
   displaced_within a on =

@@ -13,7 +13,7 @@ use Rattle.mt_round_laws.proofs.RoundsLists.{In, of_until}
 use Rattle.mt_round_laws.proofs.RoundsAgents.{is_same_agent_refl, agent_from_list, of_list}
 use Rattle.mt_round_laws.proofs.RoundsFits.{fitting_facts, listing_program}
 use Rattle.mt_round_laws.proofs.RoundsKeep.{fitting_round, found_first}
-use Rattle.mt_couples.specs.Assigned.{Assigned, IsAgentOf}
+use Rattle.mt_couples.specs.Assigned.{Assigned, AreListed, IsAgentOf}
 use Rattle.mt_couples.specs.Moves.{IsTaking}
 use Rattle.mt_couples.specs.Running.{waiting_first, work_of, IsRunning}
 use Rattle.mt_couples.specs.Waiting.{Waiting, IsListOf, KeepsRoom}
@@ -97,3 +97,6 @@ pub places_of_fitting : (m : Market) (places : Places) → IsWellFormed m → fi
 places_of_fitting m places wf fit =
     let facts = fitting_facts m wf places fit in
     record { one_each = facts.one_each; within = λ a p there. listing_program m p a (facts.listed a p there) }
+
+pub listed_of_fitting : (m : Market) (places : Places) → IsWellFormed m → fits m places ≡ true → AreListed m places
+listed_of_fitting m places wf fit = (fitting_facts m wf places fit).listed

@@ -1,5 +1,5 @@
 -- Ranks in rising order.
-use Rattle.std.proofs.Common.{◌≡◌, ℕ, suc, ◌+◌, ◌<◌, ◌≤◌, Bool, true, false, not, ◌||◌, ◌==◌, nat_lt, List, [], ◌∷◌, filter, length, insert, remove, refl, ap, sym, ◌∙◌, inl, inr, arith, lt-ltb, le-ltb}
+use Rattle.std.proofs.Common.{◌≡◌, ℕ, zero, suc, ◌+◌, ◌<◌, ◌≤◌, Bool, true, false, not, ◌||◌, ◌==◌, nat_lt, List, [], ◌∷◌, filter, length, get_or, nat_le, insert, remove, refl, ap, sym, ◌∙◌, inl, inr, arith, lt-ltb, le-ltb, le-leb, ltb-true}
 use Rattle.std.specs.List.{AllByRecursion}
 use Rattle.std.specs.List.Sorted.{IsStrictlySortedBy}
 use Rattle.std.specs.Ordering.{nat_cmp, match_ordering}
@@ -7,10 +7,11 @@ use Rattle.std.specs.BTreeSet.{insert_key}
 use Rattle.std.specs.declared.cmp.Ordering.{Ordering}
 use Rattle.std.specs.declared.cmp.Ordering.TheVariants.{Less, Equal, Greater}
 use Rattle.std.proofs.Math.Bool.{or_assoc, or_comm, or-false}
-use Rattle.std.proofs.lemmas.Bool.{cases_lt, cases_eq, or_cases, or_parts, or_left, or_right, both_ways, false≢true, not_from_false, eq-eqb, eqb-true, ne_eqb}
+use Rattle.std.proofs.lemmas.Bool.{cases_lt, cases_eq, or_cases, or_parts, or_left, or_right, both_ways, false≢true, not_from_false, eq-eqb, eqb-true, ne_eqb, lt-leb}
 use Rattle.std.proofs.lemmas.Cmp.{ranked}
 use Rattle.std.proofs.lemmas.Map.Keys.{sorted_head, sorted_tail}
 use Rattle.mt_terms.specs.Lists.{has, count}
+use Rattle.mt_couples.proofs.PlaceFacts.{has_at}
 
 -- a number is below all of a list
 abbrev pub IsBelowAll : ℕ → List ℕ → Type 0
@@ -36,6 +37,33 @@ count_nobody test (x ∷ xs) h =
 
 none_before : (x k : ℕ) (xs : List ℕ) → k ≤ x → IsBelowAll x xs → count (λ r. nat_lt r k) xs ≡ 0
 none_before x k xs low above = count_nobody (λ r. nat_lt r k) xs (λ p on. let l = above p on in le-ltb p k (omega arith))
+
+-- two comparisons that say the same
+pub same_lt : (a b c d : ℕ) → (a < b → c < d) → (c < d → a < b) → nat_lt a b ≡ nat_lt c d
+same_lt a b c d to from = elim (cases_lt a b) [
+  | inl l ↦ lt-ltb a b l ∙ sym (lt-ltb c d (to l))
+  | inr h ↦ le-ltb a b h ∙ sym (elim (cases_lt c d) [ inl k ↦ (let l = from k in absurd (omega arith)) | inr g ↦ le-ltb c d g ])
+]
+
+-- whether fewer than so many of a list are below a number, by the one at a place
+pub fewer_at : (ks : List ℕ) (k i : ℕ) → IsStrictlySortedBy nat_cmp ks → i < length ks → nat_le k (get_or ks i 0) ≡ nat_lt (count (λ r. nat_lt r k) ks) (i + 1)
+fewer_at [] k i sorted within = absurd (omega arith)
+fewer_at (x ∷ xs) k i sorted within = elim (cases_lt x k) [
+  | inl low ↦ by_place i within (lt-ltb x k low) (λ j l. fewer_at xs k j (sorted_tail nat_cmp x xs sorted) l)
+  | inr high ↦
+      let none : count (λ r. nat_lt r k) (x ∷ xs) ≡ 0 = rw (le-ltb x k high, none_before x k xs high (below_rest x xs sorted)) refl in
+      le-leb k (get_or (x ∷ xs) i 0) (above i within high) ∙ sym (ap (λ n. nat_lt n (i + 1)) none ∙ lt-ltb 0 (i + 1) (omega arith))
+]
+  where
+    by_place : (i : ℕ) → i < length (x ∷ xs) → nat_lt x k ≡ true → ((j : ℕ) → j < length xs → nat_le k (get_or xs j 0) ≡ nat_lt (count (λ r. nat_lt r k) xs) (j + 1))
+        → nat_le k (get_or (x ∷ xs) i 0) ≡ nat_lt (count (λ r. nat_lt r k) (x ∷ xs)) (i + 1)
+    by_place zero within low later = rw low (lt-leb k x (ltb-true x k low) ∙ sym (le-ltb (1 + count (λ r. nat_lt r k) xs) 1 (omega arith)))
+    by_place (suc i) within low later =
+        rw low (later i (omega arith) ∙ same_lt (count (λ r. nat_lt r k) xs) (i + 1) (1 + count (λ r. nat_lt r k) xs) (suc i + 1) (λ l. omega arith) (λ l. omega arith))
+
+    above : (i : ℕ) → i < length (x ∷ xs) → k ≤ x → k ≤ get_or (x ∷ xs) i 0
+    above zero within high = high
+    above (suc i) within high = (let l = below_rest x xs sorted (get_or xs i 0) (has_at xs i 0 (omega arith)) in omega arith)
 
 -- a filter that everything passes
 pub filter_same : (test : ℕ → Bool) (xs : List ℕ) → ((p : ℕ) → has xs p ≡ true → test p ≡ true) → filter test xs ≡ xs

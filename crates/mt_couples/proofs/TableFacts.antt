@@ -18,7 +18,7 @@ use Rattle.mt_terms.specs.Places.{ArePlaces}
 use Rattle.mt_ranks.specs.Ranked.{ranked_of}
 use Rattle.std.specs.List.Sorted.{IsStrictlySortedBy}
 use Rattle.std.specs.Vec.{with_item}
-use Rattle.mt_couples.specs.Assigned.{Assigned}
+use Rattle.mt_couples.specs.Assigned.{Assigned, AreListed}
 use Rattle.mt_couples.specs.View.{assigned_of, AreTables}
 use Rattle.mt_couples.specs.declared.assignment.Assignment.TheInside.{Inside}
 use Rattle.mt_couples.proofs.MarketFacts.{ranked_ranking}
@@ -109,6 +109,15 @@ places_moved m places a v are a_in within = record {
   ];
 }
 
+-- and one that lists the applicant
+listed_moved : (m : Market) (places : Places) (a : ℕ) (v : Option ℕ) → AreListed m places → a < length places
+    → ((p : ℕ) → is_program p v ≡ true → has (program_of m p).ranking a ≡ true) → AreListed m (slice_set places a v)
+listed_moved m places a v are a_in lists b p there = elim (cases_eq b a) [
+  | inl is ↦
+      subst (λ x. has (program_of m p).ranking x ≡ true) (sym is) (lists p (sym (at-slice_set_same places a p v a_in) ∙ ap (at (slice_set places a v) p) (sym is) ∙ there))
+  | inr other ↦ are b p (sym (at-slice_set_other places a b p v other) ∙ there)
+]
+
 -- Below, t are the tables of an assignment.
 module _ (t : Inside) (h : AreTables t) where
   abbrev market : Market
@@ -161,15 +170,17 @@ program_known t s p is within = omega (arith, ap (λ (x : Assigned). length x.ma
 
 -- the tables once one place is written, after the rows were
 pub tables_after : (X Y : Inside) (i a : ℕ) (v : Option ℕ) → X ≡ Y → i ≡ a → IsRegistration Y.roster.now → Y.ranks.now ≡ ranked_of Y.roster.now.market
-    → ArePlaces Y.roster.now.market Y.places.items → a < length Y.places.items → ((p : ℕ) → is_program p v ≡ true → p < length Y.roster.now.market.programs)
+    → ArePlaces Y.roster.now.market Y.places.items → AreListed Y.roster.now.market Y.places.items → a < length Y.places.items
+    → ((p : ℕ) → is_program p v ≡ true → p < length Y.roster.now.market.programs) → ((p : ℕ) → is_program p v ≡ true → has (program_of Y.roster.now.market p).ranking a ≡ true)
     → AreRows Y.roster.now.market (slice_set Y.places.items a v) Y.rows.items
     → AreTables (record { roster = X.roster; ranks = X.ranks; places = with_item X.places i v; rows = X.rows })
-tables_after X Y i a v written index roster ranks are a_in within rows =
+tables_after X Y i a v written index roster ranks are listed a_in within lists rows =
     subst (λ (Z : Inside). AreTables (record { roster = Z.roster; ranks = Z.ranks; places = with_item Z.places i v; rows = Z.rows })) (sym written)
     (subst (λ j. AreTables (record { roster = Y.roster; ranks = Y.ranks; places = with_item Y.places j v; rows = Y.rows })) (sym index) (record {
       is_registration = roster;
       one_market = ranks;
       are_places = places_moved Y.roster.now.market Y.places.items a v are a_in within;
+      listed = listed_moved Y.roster.now.market Y.places.items a v listed a_in lists;
       rows = rows;
     }))
 

@@ -1,5 +1,5 @@
 -- A market with a match of it.
-use Rattle.std.specs.Prelude.{ℕ, ◌<◌, ◌≤◌, Bool, ◌&&◌, not, List, map, filter, take, length, Option, slice_index, slice_set, IsTrue}
+use Rattle.std.specs.Prelude.{◌≡◌, ℕ, true, Some, Contains, ◌<◌, ◌≤◌, Bool, ◌&&◌, not, List, map, filter, take, length, Option, slice_index, slice_set, IsTrue, nat_lt}
 use Rattle.mt_terms.specs.Lists.{Set, has, is_distinct, count, below}
 use Rattle.mt_terms.specs.Market.{Market, Program, applicants, program_of, couple_of}
 use Rattle.mt_terms.specs.Places.{ArePlaces}
@@ -40,6 +40,10 @@ front_of s p rank = take rank (program_of s.market p).ranking
 abbrev pub ahead : Assigned → ℕ → ℕ → ℕ
 ahead s p rank = count (at s.places p) (front_of s p rank)
 
+-- whether a program has a post for a rank, by those that are there
+abbrev pub has_post : Assigned → ℕ → ℕ → Bool
+has_post s p rank = nat_lt (ahead s p rank) (program_of s.market p).quota
+
 -- whether a program chooses an applicant from those that are there
 abbrev pub chooses : Assigned → ℕ → ℕ → Bool
 chooses s p a = choice (program_of s.market p) (at s.places p) a
@@ -56,10 +60,19 @@ taken_by s g = first_taken s.market s.places g
 abbrev pub pair_of : Assigned → ℕ → Option ℕ × Option ℕ → Placement
 pair_of s c pair = couple_placement (couple_of s.market c).first (couple_of s.market c).second pair
 
--- What every assignment has: a well-formed market, and a place for each of its applicants.
+-- whoever is at a program is on the program's list
+abbrev pub AreListed : Market → Places → Type 0
+AreListed m places = (a p : ℕ) → at places p a ≡ true → has (program_of m p).ranking a ≡ true
+
+-- whoever is sent to a program is on the program's list
+abbrev pub AreSentToLists : Market → Placement → Type 0
+AreSentToLists m sent = (s : ℕ × Option ℕ) (p : ℕ) → Contains sent s → s.1 ≡ Some p → has (program_of m p).ranking s.0 ≡ true
+
+-- What every assignment has: a well-formed market, and for each of its applicants a place, where it is listed.
 pub record IsAssigned (s : Assigned) : Type 0 where
   pub well_formed : IsWellFormed s.market
   pub are_places : ArePlaces s.market s.places
+  pub listed : AreListed s.market s.places
 
 -- whether a program refuses an applicant of a set: one that it doesn't choose from the set
 abbrev pub is_refused : Program → Set → Set

@@ -5,7 +5,7 @@ use Rattle.mt_terms.specs.Registration.Accepted.{IsRegistration}
 use Rattle.std.specs.VecDeque.{deque_capacity}
 use Rattle.mt_ranks.specs.Ranked.{ranked_of}
 use Rattle.mt_terms.specs.Places.{ArePlaces}
-use Rattle.mt_couples.specs.Assigned.{Assigned, rows_of}
+use Rattle.mt_couples.specs.Assigned.{Assigned, rows_of, AreListed}
 use Rattle.std.specs.List.Sorted.{IsStrictlySortedBy}
 use Rattle.std.specs.Ordering.{nat_cmp}
 use Rattle.mt_couples.specs.declared.rank_set.RankSet.TheInside.{Inside as Ranks}
@@ -17,12 +17,13 @@ use Rattle.mt_couples.specs.declared.work_list.WorkList.TheInside.{Inside as Que
 abbrev pub assigned_of : Inside → Assigned
 assigned_of t = record { market = t.roster.now.market; places = t.places.items }
 
--- The rank tables are those of the market, each applicant has one place, and for each program there are the
--- ranks of those that are placed there.
+-- The rank tables are those of the market, each applicant has one place, at a program that lists it, and for each
+-- program there are the ranks of those that are placed there.
 pub record AreTables (t : Inside) : Type 0 where
   pub is_registration : IsRegistration t.roster.now
   pub one_market : t.ranks.now ≡ ranked_of t.roster.now.market
   pub are_places : ArePlaces t.roster.now.market t.places.items
+  pub listed : AreListed t.roster.now.market t.places.items
   pub rows : t.rows.items ≡ rows_of t.roster.now.market t.places.items
 
 abbrev pub waiting_in : Queue → Waiting

@@ -1,4 +1,4 @@
-ghost use Rattle.std.specs.Prelude.{◌≡◌, ◌++◌, ◌<◌, ℕ, Some, None, length, slice_index, IfOk, OnOk};
+ghost use Rattle.std.specs.Prelude.{◌≡◌, ◌++◌, ◌<◌, ℕ, Some, None, length, slice_index, IfOk, IsTrue, OnOk, nat_lt};
 ghost use Rattle.mt_terms.specs.Registration.Accepted.{IsRegistration};
 ghost use Rattle.mt_terms.specs.Lists.{has};
 ghost use Rattle.mt_terms.specs.Market.{agent_of, applicants, couple_of, program_of};
@@ -6,7 +6,7 @@ ghost use Rattle.mt_terms.specs.Matching.{at, place_of, ranks_from};
 ghost use Rattle.mt_ranks.specs.Ranked.{rank_of, ranked_of};
 ghost use Rattle.mt_terms.specs.Places.{ArePlaces};
 ghost use Rattle.mt_couples.specs.Watching.{better_entries};
-ghost use Rattle.mt_couples.specs.Assigned.{ahead, assignment, displaced_from, rows_of, with_place, with_ranks, AreApplicantsOf, IsAgentOf, IsAssigned};
+ghost use Rattle.mt_couples.specs.Assigned.{ahead, assignment, displaced_from, rows_of, with_place, with_ranks, AreApplicantsOf, AreListed, IsAgentOf, IsAssigned};
 
 use crate::options::Pair;
 use crate::row::Row;
@@ -103,6 +103,7 @@ impl<'a> Assignment<'a> {
     ) -> Result<Self, AllocError>
         requires ranks { ranks.now ≡ ranked_of roster.now.market }
         requires places { ArePlaces roster.now.market matched.places }
+        requires listed { AreListed roster.now.market matched.places }
         ensures { IfOk result (λ s. s ≡ assignment roster.entry.now.market matched.places) }
     {
         let rows = placed_rows(alloc, roster, matched.places.as_slice())?;
@@ -214,14 +215,14 @@ impl<'a> Assignment<'a> {
         }
     }
 
-    /// How many of those at the program have a rank below this one.
-    pub(crate) fn ahead(&self, program: ProgNo, rank: u32) -> usize
+    /// Whether fewer than so many of those at the program have a rank below this one.
+    pub(crate) fn has_fewer_ahead(&self, program: ProgNo, rank: u32, most: usize) -> bool
         requires { program < length self.now.market.programs }
-        ensures count { result ≡ ahead self.now program rank }
+        ensures fewer { result ≡ nat_lt (ahead self.now program rank) most }
         ensures assigned { IsAssigned self.now }
     {
         let row = &self.rows[program.index()];
-        row.count_below(rank as usize)
+        row.has_fewer_below(rank as usize, most)
     }
 
     /// Unplaces the applicant.
@@ -239,10 +240,11 @@ impl<'a> Assignment<'a> {
         self.places[applicant.index()] = None;
     }
 
-    /// Places the applicant, which is unplaced, at the program.
+    /// Places the applicant, which is unplaced, at a program that lists it.
     pub(crate) fn put(&mut self, applicant: AppNo, program: ProgNo) -> Result<(), AllocError>
         requires applicant { applicant < applicants self.old.market }
         requires program { program < length self.old.market.programs }
+        requires listed { IsTrue (has (program_of self.old.market program).ranking applicant) }
         requires unplaced { place_of self.old.places applicant ≡ None }
         ensures { OnOk result (self.new ≡ with_place self.old applicant (Some program)) }
     {

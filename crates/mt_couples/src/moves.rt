@@ -2,7 +2,7 @@ ghost use Rattle.std.specs.Prelude.{◌≡◌, ◌<◌, IfOk, OnOk};
 ghost use Rattle.mt_terms.specs.Market.{applicants};
 ghost use Rattle.mt_terms.specs.declared.numbers.Agent.{Agent};
 ghost use Rattle.mt_terms.specs.Rounds.{displaced, programs_sent_to};
-ghost use Rattle.mt_couples.specs.Assigned.{AreApplicantsOf, AreProgramsOf, AreSent};
+ghost use Rattle.mt_couples.specs.Assigned.{AreApplicantsOf, AreProgramsOf, AreSent, AreSentToLists};
 ghost use Rattle.mt_couples.specs.Moves.{any_kept, displaced_by, is_kept, left_by, moved, movers_leave, seated, without_agents, Adds, IsTaking};
 
 use crate::assignment::Assignment;
@@ -24,6 +24,7 @@ impl<'a> Assignment<'a> {
     pub(crate) fn send(&mut self, sent: &[(AppNo, Option<ProgNo>)]) -> Result<(), AllocError>
         requires sent { AreSent self.old.market sent.now }
         requires programs { AreProgramsOf self.old.market (programs_sent_to sent.now) }
+        requires listed { AreSentToLists self.old.market sent.now }
         ensures { OnOk result (self.new ≡ seated self.old sent.now) }
     {
         for (applicant, place) in sent {

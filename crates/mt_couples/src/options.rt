@@ -5,7 +5,8 @@ ghost use Rattle.mt_terms.specs.Market.{applicants};
 ghost use Rattle.mt_terms.specs.Matching.{at, single_placement};
 ghost use Rattle.mt_terms.specs.Stability.{blocks, would_be_taken};
 ghost use Rattle.mt_terms.specs.declared.numbers.Agent.TheVariants.{Single, Couple};
-ghost use Rattle.mt_couples.specs.Assigned.{ahead, chooses, front_of, pair_of, taken_by, AreSent, IsAgentOf};
+ghost use Rattle.mt_couples.specs.Assigned.{chooses, front_of, has_post, pair_of, taken_by, AreSent, IsAgentOf, IsAssigned};
+ghost use Rattle.mt_ranks.specs.Ranked.{rank_of};
 ghost use Rattle.mt_couples.specs.Moves.{coming, leaving, opens, seated, some_has};
 
 use crate::assignment::Assignment;
@@ -62,28 +63,55 @@ impl<'a> Assignment<'a> {
         leaving
     }
 
-    /// How many are sent to the program that have a rank below this one there.
-    fn coming(&self, program: ProgNo, rank: u32, sent: &[(AppNo, Option<ProgNo>)]) -> usize
-        requires { AreSent self.now.market sent.now }
+    /// How many others than an applicant of this rank are sent to the program with a rank below it there.
+    fn coming(
+        &self,
+        program: ProgNo,
+        applicant: AppNo,
+        rank: u32,
+        sent: &[(AppNo, Option<ProgNo>)],
+    ) -> usize
+        requires rank { rank_of self.now.market program applicant ≡ Some rank }
+        requires sent { AreSent self.now.market sent.now }
         ensures { result ≡ coming self.now program rank sent.now }
     {
         let mut coming = 0;
         for seat in sent {
-            if seat.1 == Some(program) && self.is_ahead(program, seat.0, rank) {
+            if seat.0 != applicant
+                && seat.1 == Some(program)
+                && self.is_ahead(program, seat.0, rank)
+            {
                 coming += 1;
             }
         }
         coming
     }
 
-    /// How many of those at the program have a rank below this one, once everybody is sent.
-    fn ahead_after(&self, program: ProgNo, rank: u32, sent: &[(AppNo, Option<ProgNo>)]) -> usize
+    /// Whether the program has a post for an applicant of this rank there, once everybody is sent.
+    fn has_post_after(
+        &self,
+        program: ProgNo,
+        applicant: AppNo,
+        rank: u32,
+        sent: &[(AppNo, Option<ProgNo>)],
+    ) -> bool
         requires program { program < length self.now.market.programs }
+        requires rank { rank_of self.now.market program applicant ≡ Some rank }
         requires sent { AreSent self.now.market sent.now }
-        ensures { result ≡ ahead (seated self.now sent.now) program rank }
+        ensures { result ≡ has_post (seated self.now sent.now) program rank }
     {
-        self.ahead(program, rank) + self.coming(program, rank, sent)
-            - self.leaving(program, rank, sent)
+        let posts = self.quota(program) as usize + self.leaving(program, rank, sent);
+        let coming = self.coming(program, applicant, rank, sent);
+        self.has_fewer_ahead(program, rank, posts.saturating_sub(coming))
+    }
+
+    /// Whether the program has a post for a rank, by those that are there.
+    fn has_post(&self, program: ProgNo, rank: u32) -> bool
+        requires program { program < length self.now.market.programs }
+        ensures post { result ≡ has_post self.now program rank }
+        ensures assigned { IsAssigned self.now }
+    {
+        self.has_fewer_ahead(program, rank, self.quota(program) as usize)
     }
 
     /// Whether the program chooses an applicant that is sent there, once everybody is sent.
@@ -93,7 +121,7 @@ impl<'a> Assignment<'a> {
         ensures { result ≡ chooses (seated self.now sent.now) program applicant }
     {
         match self.rank(program, applicant) {
-            Some(rank) => { self.ahead_after(program, rank, sent) < self.quota(program) as usize }
+            Some(rank) => self.has_post_after(program, applicant, rank, sent),
             None => false,
         }
     }
@@ -105,7 +133,7 @@ impl<'a> Assignment<'a> {
         ensures { result ≡ chooses self.now program applicant }
     {
         match self.rank(program, applicant) {
-            Some(rank) => self.ahead(program, rank) < self.quota(program) as usize,
+            Some(rank) => self.has_post(program, rank),
             None => false,
         }
     }
@@ -130,13 +158,9 @@ impl<'a> Assignment<'a> {
         requires { single < applicants self.now.market }
         ensures { option_map (single_placement single) result ≡ taken_by self.now (Single single) }
     {
-        let place = self.place(single);
-        for program in self.roster().single_list(single) {
-            if place == Some(*program) {
-                return None;
-            }
-            if self.would_be_taken(&[(single, Some(*program))]) {
-                return Some(*program);
+        for entry in self.better_live(single) {
+            if self.has_post(entry.program, entry.rank) {
+                return Some(entry.program);
             }
         }
         None
@@ -150,7 +174,7 @@ impl<'a> Assignment<'a> {
         let (first, second) = self.members(couple);
         let own = (self.place(first), self.place(second));
         for pair in self.roster().couple_list(couple) {
-            if own == *pair {
+            if own.0 == pair.0 && own.1 == pair.1 {
                 return None;
             }
             if self.would_be_taken(&[(first, pair.0), (second, pair.1)]) {
@@ -176,12 +200,8 @@ impl<'a> Assignment<'a> {
         requires { single < applicants self.now.market }
         ensures { result ≡ opens self.now programs.now (Single single) }
     {
-        let place = self.place(single);
-        for program in self.roster().single_list(single) {
-            if place == Some(*program) {
-                return false;
-            }
-            if has_program(programs, *program) && self.would_be_taken(&[(single, Some(*program))]) {
+        for entry in self.better_live(single) {
+            if has_program(programs, entry.program) && self.has_post(entry.program, entry.rank) {
                 return true;
             }
         }
@@ -196,7 +216,7 @@ impl<'a> Assignment<'a> {
         let (first, second) = self.members(couple);
         let own = (self.place(first), self.place(second));
         for pair in self.roster().couple_list(couple) {
-            if own == *pair {
+            if own.0 == pair.0 && own.1 == pair.1 {
                 return false;
             }
             if (is_one_of(pair.0, programs) || is_one_of(pair.1, programs))

@@ -47,6 +47,20 @@ impl Row {
         self.ranks.partition_point(|other| *other < rank)
     }
 
+    /// Whether fewer than so many ranks are below this one.
+    pub(crate) fn has_fewer_below(&self, rank: usize, most: usize) -> bool
+        requires { IsStrictlySortedBy nat_cmp self.now }
+        ensures { result ≡ nat_lt (count (λ r. nat_lt r rank) self.now) most }
+    {
+        if most == 0 {
+            return false;
+        }
+        match self.ranks.get(most - 1) {
+            Some(other) => *other >= rank,
+            None => true,
+        }
+    }
+
     /// Puts a rank in its place.
     pub(crate) fn insert(&mut self, rank: usize) -> Result<(), AllocError>
         requires sorted { IsStrictlySortedBy nat_cmp self.old }

@@ -10,12 +10,15 @@ use Rattle.mt_couples.specs.Watching.{AreWatched}
 use Rattle.mt_couples.proofs.QuietFacts.{quiet_at_first}
 use Rattle.mt_couples.proofs.JoinFacts.{joined_list, known_joins}
 use Rattle.mt_couples.specs.declared.rounds.CoupleEnd.TheVariants.{BudgetSpent}
-use Rattle.mt_couples.proofs.RoundFacts.{places_of_fitting}
+use Rattle.mt_couples.proofs.RoundFacts.{listed_of_fitting, places_of_fitting}
 use Rattle.mt_couples.proofs.EnteringFacts.{entering_first, next_waits, entering_more, entering_spent, entering_all, none_enters}
 use Rattle.mt_couples.proofs.rounds.enter_all.Goals as goal
 
 pub new-requires-clause-places : goal.new-requires-clause-places
 new-requires-clause-places g c = places_of_fitting c.args.roster.now.market c.args.singles.places c.couples-couples.ensures.registration.well_formed c.requires.fits
+
+pub new-requires-clause-listed : goal.new-requires-clause-listed
+new-requires-clause-listed g c = listed_of_fitting c.args.roster.now.market c.args.singles.places c.couples-couples.ensures.registration.well_formed c.requires.fits
 
 pub settle-requires-clause-running : goal.settle-requires-clause-running
 settle-requires-clause-running g c =

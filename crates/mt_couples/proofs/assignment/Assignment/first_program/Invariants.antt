@@ -1,12 +1,13 @@
-use Rattle.std.proofs.Common.{◌≡◌, drop, map}
-use Rattle.mt_terms.specs.Matching.{holds, single_placement}
-use Rattle.mt_terms.specs.Stability.{would_be_taken}
-use Rattle.mt_terms.specs.Rounds.{first_taken}
+use Rattle.std.proofs.Common.{◌≡◌, drop}
+use Rattle.std.specs.List.{find}
+use Rattle.std.specs.Option.{option_map}
+use Rattle.mt_terms.specs.Matching.{single_placement}
 use Rattle.mt_terms.specs.declared.numbers.Agent.TheVariants.{Single}
-use Rattle.mt_couples.proofs.OptionFacts.{first_before}
+use Rattle.mt_ranks.specs.declared.entries.Live.{Live}
+use Rattle.mt_couples.specs.Assigned.{has_post, taken_by}
 use Rattle.mt_couples.proofs.assignment.Assignment.first_program.Given as goal
 
-abbrev pub invariant-loop-program : goal.invariant-loop-program
-invariant-loop-program l =
-    first_before (holds l.self.places) (would_be_taken l.self.market l.self.places) (map (single_placement l.single) (drop l.program-index l.program-items))
-    ≡ first_taken l.self.market l.self.places (Single l.single)
+abbrev pub invariant-loop-entry : goal.invariant-loop-entry
+invariant-loop-entry l =
+    option_map (single_placement l.fn.single) (option_map (λ (e : Live). e.program) (find (λ (e : Live). has_post l.self e.program e.rank) (drop l.entry-index l.entry-items)))
+    ≡ taken_by l.self (Single l.fn.single)

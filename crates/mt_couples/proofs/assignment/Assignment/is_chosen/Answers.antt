@@ -1,4 +1,4 @@
-use Rattle.std.proofs.Common.{◌≡◌, ◌∙◌, nat_lt, Some, sym, ap, ap₂, refl}
+use Rattle.std.proofs.Common.{◌≡◌, ◌∙◌, nat_lt, Some, take, sym, ap, refl}
 use Rattle.mt_terms.specs.Lists.{count, above}
 use Rattle.mt_terms.specs.Market.{program_of}
 use Rattle.mt_terms.specs.Matching.{at, send}
@@ -20,8 +20,8 @@ returns-in-Some c =
     let a = c.args.applicant in
     let found = sym c.in-Some.ensures.position in
     let there = sent_there c.args.self.now.market c.args.self.now.places c.args.sent.now a c.args.program c.requires.sent c.in-Some.ensures.assigned.are_places.one_each (in_list c.args.sent.now _ c.requires.there) in
-    let above_is : c.ahead_after.result ≡ above set ranking a = c.ahead_after.ensures ∙ ap (count set) (sym (until_position ranking a c.in-Some.rank found)) in
-    rw (has_rank ranking a c.in-Some.rank found, there) (ap₂ nat_lt above_is c.quota.ensures)
+    let above_is : count set (take c.in-Some.rank ranking) ≡ above set ranking a = ap (count set) (sym (until_position ranking a c.in-Some.rank found)) in
+    rw (has_rank ranking a c.in-Some.rank found, there) (c.has_post_after.ensures ∙ ap (λ n. nat_lt n (program_of c.args.self.now.market c.args.program).quota) above_is)
 
 pub returns-in-None : goal.returns-in-None
 returns-in-None c =

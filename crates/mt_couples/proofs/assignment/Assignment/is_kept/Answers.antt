@@ -1,4 +1,4 @@
-use Rattle.std.proofs.Common.{◌≡◌, ◌∙◌, nat_lt, sym, ap, ap₂, refl}
+use Rattle.std.proofs.Common.{◌≡◌, ◌∙◌, nat_lt, take, sym, ap, refl}
 use Rattle.mt_terms.specs.Lists.{count, above}
 use Rattle.mt_terms.specs.Market.{program_of}
 use Rattle.mt_terms.specs.Matching.{at}
@@ -12,8 +12,8 @@ returns-in-Some c =
     let set = at c.args.self.now.places c.args.program in
     let a = c.args.applicant in
     let found = sym c.in-Some.ensures.position in
-    let above_is : c.ahead.result ≡ above set ranking a = c.ahead.ensures.count ∙ ap (count set) (sym (until_position ranking a c.in-Some.rank found)) in
-    rw (has_rank ranking a c.in-Some.rank found, c.requires.there) (ap₂ nat_lt above_is c.quota.ensures)
+    let above_is : count set (take c.in-Some.rank ranking) ≡ above set ranking a = ap (count set) (sym (until_position ranking a c.in-Some.rank found)) in
+    rw (has_rank ranking a c.in-Some.rank found, c.requires.there) (c.has_post.ensures.post ∙ ap (λ n. nat_lt n (program_of c.args.self.now.market c.args.program).quota) above_is)
 
 pub returns-in-None : goal.returns-in-None
 returns-in-None c =

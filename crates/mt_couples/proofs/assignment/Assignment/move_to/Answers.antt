@@ -8,7 +8,7 @@ use Rattle.mt_terms.specs.Matching.{Places, Placement, send}
 use Rattle.mt_terms.specs.Rounds.{displaced}
 use Rattle.mt_couples.specs.Assigned.{Assigned, with_places}
 use Rattle.mt_couples.specs.Moves.{all_members, is_kept_at, is_left_by_movers}
-use Rattle.mt_couples.proofs.MoveFacts.{are_sent, programs_within, displaced_within, left_keys}
+use Rattle.mt_couples.proofs.MoveFacts.{are_sent, programs_within, sent_to_lists, displaced_within, left_keys}
 use Rattle.mt_couples.proofs.assignment.Assignment.move_to.Goals as goal
 
 pub send-requires-clause-sent : goal.send-requires-clause-sent
@@ -16,6 +16,9 @@ send-requires-clause-sent c = are_sent c.requires.1
 
 pub send-requires-clause-programs : goal.send-requires-clause-programs
 send-requires-clause-programs c = programs_within c.requires.1
+
+pub send-requires-clause-listed : goal.send-requires-clause-listed
+send-requires-clause-listed c = sent_to_lists c.requires.1
 
 -- Below, s is the assignment once everybody is sent, and t the one once those displaced are taken out.
 same_programs : (s0 s : Assigned) (places : Places) → s ≡ with_places s0 places → length s.market.programs ≡ length s0.market.programs

@@ -1,5 +1,7 @@
 use Rattle.std.proofs.Common.{◌≡◌, ◌<◌, ◌∙◌, ℕ, true, Some, None, length, arith, ap, sym, subst}
 use Rattle.std.proofs.lemmas.Bool.{eqb-true}
+use Rattle.mt_terms.specs.Lists.{has}
+use Rattle.mt_terms.specs.Market.{program_of}
 use Rattle.mt_terms.specs.Matching.{is_program, place_of}
 use Rattle.mt_couples.specs.Assigned.{Assigned}
 use Rattle.mt_couples.proofs.MarketFacts.{ranked_applicants}
@@ -45,12 +47,16 @@ invariant_of-self-2 c =
     let place = sym c.requires.unplaced ∙ ap (λ (s : Assigned). place_of s.places a) (sym c.self.view_is) in
     let there : (q : ℕ) → is_program q (Some p) ≡ true → q < length t.roster.now.market.programs =
     (λ q is. subst (λ n. n < length t.roster.now.market.programs) (eqb-true p q is) p_known) in
+    let listed : (q : ℕ) → is_program q (Some p) ≡ true → has (program_of t.roster.now.market q).ranking a ≡ true =
+    (λ q is.
+    subst (λ n. has (program_of t.roster.now.market n).ranking a ≡ true) (eqb-true p q is)
+    (ap (λ (s : Assigned). has (program_of s.market p).ranking a) c.self.view_is ∙ c.requires.listed)) in
     elim c.match-rank.branch [
       | in-Some+in_ok-insert w ↦
-          tables_after _ _ c.index-2.result a (Some p) w.self-inside-is c.index-2.ensures h.is_registration h.one_market h.are_places a_in there
+          tables_after _ _ c.index-2.result a (Some p) w.self-inside-is c.index-2.ensures h.is_registration h.one_market h.are_places h.listed a_in there listed
           (rows_on t h a a_known p w.index.result w.in-Some.rank w.index_mut-row.result.now w.insert.new.self w.index.ensures p_known place
           w.index_mut-row.ensures.value (ranked_at t h p a (Some w.in-Some.rank) w.in-Some.ensures.position) w.in_ok-insert.ensures.ok)
       | in_default w ↦
-          tables_after _ _ c.index-2.result a (Some p) w.self-inside-is c.index-2.ensures h.is_registration h.one_market h.are_places a_in there
+          tables_after _ _ c.index-2.result a (Some p) w.self-inside-is c.index-2.ensures h.is_registration h.one_market h.are_places h.listed a_in there listed
           (rows_on_unlisted t h a a_known p place (ranked_at t h p a None w.in_default.ensures.position))
     ]

@@ -1,5 +1,7 @@
-use Rattle.std.proofs.Common.{Some, ◌≡◌, ◌∙◌, ap, sym, length, arith}
-use Rattle.mt_terms.specs.Market.{Market, applicants}
+use Rattle.std.proofs.Common.{Some, true, ◌≡◌, ◌∙◌, ap, sym, subst, length, arith}
+use Rattle.std.proofs.lemmas.List.{get_or_read}
+use Rattle.mt_terms.specs.Lists.{has}
+use Rattle.mt_terms.specs.Market.{Market, applicants, program_of}
 use Rattle.mt_couples.specs.Assigned.{Assigned, with_place}
 use Rattle.mt_couples.proofs.SentFacts.{sent_within}
 use Rattle.mt_couples.proofs.MoveSteps.{program_sent_to, sent_one, placed_twice}
@@ -31,6 +33,15 @@ put-requires-clause-program c =
       ap (λ (m : Market). length m.programs) c.loop-applicant.invariant.market,
       c.requires.programs c.in-Some.program (program_sent_to c.args.sent.now c.loop-applicant.applicant-index c.loop-applicant-item.result c.in-Some.program c.loop-applicant-test.true c.loop-applicant-item.is c.in-Some.is),
     )
+
+pub put-requires-clause-listed : goal.put-requires-clause-listed
+put-requires-clause-listed c =
+    let m = c.args.self.now.market in
+    let i = c.loop-applicant.applicant-index in
+    let s = c.loop-applicant-item.result in
+    let same : c.unplace.new.self.market ≡ m = ap (λ (x : Assigned). x.market) c.unplace.ensures.moved ∙ c.loop-applicant.invariant.market in
+    subst (λ (n : Market). has (program_of n c.in-Some.program).ranking s.0 ≡ true) (sym same)
+    (c.requires.listed s c.in-Some.program (i, c.loop-applicant-test.true, sym (get_or_read c.args.sent.now i s c.loop-applicant-test.true c.loop-applicant-item.is s)) c.in-Some.is)
 
 pub loop-applicant-preserved : goal.loop-applicant-preserved
 loop-applicant-preserved c =

@@ -1,5 +1,7 @@
 use Rattle.std.proofs.Common.{◌≡◌, ◌<◌, ◌∙◌, ℕ, true, Some, None, length, arith, ap}
 use Rattle.std.proofs.lemmas.Bool.{false≢true}
+use Rattle.mt_terms.specs.Lists.{has}
+use Rattle.mt_terms.specs.Market.{program_of}
 use Rattle.mt_terms.specs.Matching.{is_program, place_of}
 use Rattle.mt_couples.proofs.MarketFacts.{ranked_applicants, ranked_programs}
 use Rattle.mt_couples.proofs.TableFacts.{applicant_known, row_index, row_sorted, ranked_at, own_rank, known_at, stands_at, rows_off, rows_off_unlisted, rows_same, tables_after}
@@ -54,15 +56,16 @@ invariant_of-self c =
     let a_in : a < length t.places.items = (let one_each = h.are_places.one_each in omega arith) in
     let value = ap (λ places. place_of places a) c.deref.ensures.value in
     let none : (p : ℕ) → is_program p None ≡ true → p < length t.roster.now.market.programs = (λ p no. absurd (false≢true no)) in
+    let no_list : (p : ℕ) → is_program p None ≡ true → has (program_of t.roster.now.market p).ranking a ≡ true = (λ p no. absurd (false≢true no)) in
     elim c.match-place_in.branch [
       | in-Some+in-Some-rank w ↦
-          tables_after _ _ c.index-2.result a None w.self-inside-is c.index-2.ensures h.is_registration h.one_market h.are_places a_in none
+          tables_after _ _ c.index-2.result a None w.self-inside-is c.index-2.ensures h.is_registration h.one_market h.are_places h.listed a_in none no_list
           (rows_off t h a a_known w.in-Some.program w.index.result w.in-Some-rank.rank w.index_mut-row.result.now w.remove.new.self w.index.ensures (w.in-Some.ensures ∙ value)
           w.index_mut-row.ensures.value (ranked_at t h w.in-Some.program a (Some w.in-Some-rank.rank) w.in-Some-rank.ensures.position) w.remove.ensures)
       | in-Some+in_default-rank w ↦
-          tables_after _ _ c.index-2.result a None w.self-inside-is c.index-2.ensures h.is_registration h.one_market h.are_places a_in none
+          tables_after _ _ c.index-2.result a None w.self-inside-is c.index-2.ensures h.is_registration h.one_market h.are_places h.listed a_in none no_list
           (rows_off_unlisted t h a a_known w.in-Some.program (w.in-Some.ensures ∙ value) (ranked_at t h w.in-Some.program a None w.in_default-rank.ensures.position))
       | in_default w ↦
-          tables_after _ _ c.index-2.result a None w.self-inside-is c.index-2.ensures h.is_registration h.one_market h.are_places a_in none
+          tables_after _ _ c.index-2.result a None w.self-inside-is c.index-2.ensures h.is_registration h.one_market h.are_places h.listed a_in none no_list
           (rows_same t h a a_known (w.in_default.ensures ∙ value))
     ]
