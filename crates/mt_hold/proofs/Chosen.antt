@@ -1,12 +1,12 @@
 -- Whom a holding holds, told by how many others were received from better ranks.
 use Rattle.std.proofs.Common.{◌≡◌, ℕ, zero, suc, ◌+◌, ◌<◌, ◌≤◌, true, false, refl, sym, ap, ◌∙◌, inl, inr, arith, eqb, ltb, ◌&&◌}
 use Rattle.std.specs.List.{range_with_len}
-use Rattle.std.proofs.lemmas.Bool.{cases_lt, cases_eq, ne_eqb, eq-eqb, and_parts, ltb-true, lt-ltb, le-ltb, and_from, and_right, or_right, false≢true}
-use Rattle.mt_terms.specs.Lists.{Set, has, above, below, with_one, count_below}
+use Rattle.std.proofs.lemmas.Bool.{cases_lt, cases_eq, ne_eqb, eq-eqb, and_parts, ltb-true, lt-ltb, le-ltb, and_from, and_right}
+use Rattle.mt_terms.specs.Lists.{Set, has, above, below, count_below}
 use Rattle.mt_terms.specs.Choice.{choice}
 use Rattle.mt_hold.specs.Holding.{Holding, ranks, has_received, held}
 use Rattle.mt_terms.proofs.Totals.{count_below-same}
-use Rattle.mt_hold.proofs.Counting.{count_suc, count_past, count-le, same_from_count, count-with_one_above, count-with_one_below, with_one_same}
+use Rattle.mt_hold.proofs.Counting.{count_suc}
 
 -- whether a rank below n is among the first `quota` members of a set
 abbrev pub chosen : ℕ → ℕ → Set → Set
@@ -75,60 +75,3 @@ chosen_from quota n set rank low member few =
 -- a rank with enough others before it isn't chosen
 pub not_chosen : (quota n : ℕ) (set : Set) (rank : ℕ) → quota ≤ count_below set rank → chosen quota n set rank ≡ false
 not_chosen quota n set rank many = and_right (ltb rank n && set rank) (ltb (count_below set rank) quota) (le-ltb (count_below set rank) quota many)
-
--- ---- one member more: s is the set before it and r the member, which wasn't in the set
-
-pub one_more_chosen : (quota n : ℕ) (s : Set) (r : ℕ) → r < n → count_below s r < quota → chosen quota n (with_one s r) r ≡ true
-one_more_chosen quota n s r low few = chosen_from quota n (with_one s r) r low (with_one_same s r) (omega (arith, count-with_one_below s r r (omega arith)))
-
-pub one_more_refused : (quota n : ℕ) (s : Set) (r : ℕ) → quota ≤ count_below s r → chosen quota n (with_one s r) r ≡ false
-one_more_refused quota n s r many = not_chosen quota n (with_one s r) r (omega (arith, count-with_one_below s r r (omega arith)))
-
-pub still_member : (s : Set) (r k : ℕ) → s k ≡ true → with_one s r k ≡ true
-still_member s r k h = or_right (eqb k r) (s k) h
-
-one_more_at_most : (s : Set) (r k : ℕ) → s r ≡ false → count_below (with_one s r) k ≤ count_below s k + 1
-one_more_at_most s r k out =
-    elim (cases_lt r k) [
-      | inl h ↦ omega (arith, count-with_one_above s r k out h)
-      | inr h ↦ omega (arith, count-with_one_below s r k h)
-    ]
-
--- who has two posts left, or more, stays chosen
-stays : (quota n : ℕ) (s : Set) (r k : ℕ) → s r ≡ false → IsChosen quota n s k → count_below s k + 1 < quota → chosen quota n (with_one s r) k ≡ true
-stays quota n s r k out h spare =
-    chosen_from quota n (with_one s r) k h.within (still_member s r k h.member) (omega (arith, one_more_at_most s r k out))
-
--- where there is room for one more, all stay chosen
-pub stays_with_room : (quota n : ℕ) (s : Set) (r : ℕ) → s r ≡ false → count_below s n < quota → (k : ℕ) → chosen quota n s k ≡ true → chosen quota n (with_one s r) k ≡ true
-stays_with_room quota n s r out room k h =
-    let c = IsChosen-from quota n s k h in
-    stays quota n s r k out c (omega (arith, count_past s k n c.member c.within))
-
--- where the new member is refused, all stay chosen
-pub stays_where_refused : (quota n : ℕ) (s : Set) (r : ℕ) → s r ≡ false → quota ≤ count_below s r → (k : ℕ) → chosen quota n s k ≡ true → chosen quota n (with_one s r) k ≡ true
-stays_where_refused quota n s r out many k h =
-    let c = IsChosen-from quota n s k h in
-    let early : k ≤ r = before s r k (omega arith) in
-    chosen_from quota n (with_one s r) k c.within (still_member s r k c.member) (omega (arith, count-with_one_below s r k early))
-  where
-    before : (s : Set) (r k : ℕ) → count_below s k < count_below s r → k ≤ r
-    before s r k l =
-        elim (cases_lt r k) [
-          | inl h ↦ absurd (omega (arith, count-le s r k (omega arith)))
-          | inr h ↦ h
-        ]
-
--- the last one chosen falls out where a better one comes, and no other does
-pub last_falls : (quota n : ℕ) (s : Set) (r last : ℕ) → s r ≡ false → r < last → count_below s last + 1 ≡ quota → chosen quota n (with_one s r) last ≡ false
-last_falls quota n s r last out better at_end =
-    not_chosen quota n (with_one s r) last (omega (arith, count-with_one_above s r last out better))
-
-pub only_last_falls : (quota n : ℕ) (s : Set) (r last : ℕ) → s r ≡ false → s last ≡ true → count_below s last + 1 ≡ quota
-    → (k : ℕ) → chosen quota n s k ≡ true → chosen quota n (with_one s r) k ≡ false → k ≡ last
-only_last_falls quota n s r last out member at_end k was isn't =
-    let c = IsChosen-from quota n s k was in
-    elim (cases_lt (count_below s k + 1) quota) [
-      | inl spare ↦ absurd (false≢true (sym isn't ∙ stays quota n s r k out c spare))
-      | inr full ↦ same_from_count s k last c.member member (omega (arith, c.few))
-    ]

@@ -37,13 +37,13 @@ count_most s (suc k) = omega (arith, count_most s k, at_most_one (s k))
     at_most_one true = omega arith
     at_most_one false = omega arith
 
--- two members with as many below them are one
-pub same_from_count : (s : Set) (a b : ℕ) → s a ≡ true → s b ≡ true → count_below s a ≡ count_below s b → a ≡ b
-same_from_count s a b ha hb e =
-    elim (cases_order a b) [
-      | inl same ↦ same
-      | inr (inl l) ↦ absurd (omega (arith, count_past s a b ha l))
-      | inr (inr l) ↦ absurd (omega (arith, count_past s b a hb l))
+-- no member from a up to b
+pub count_flat : (s : Set) (a b : ℕ) → a ≤ b → ((k : ℕ) → a ≤ k → k < b → s k ≡ false) → count_below s b ≡ count_below s a
+count_flat s a zero h none = let e : a ≡ 0 = omega arith in rw e refl
+count_flat s a (suc b) h none =
+    elim (cases_eq a (suc b)) [
+      | inl e ↦ rw e refl
+      | inr ne ↦ rw (none b (omega arith) (omega arith)) (omega (arith, count_flat s a b (omega arith) (λ k l m. none k l (omega arith))))
     ]
 
 pub with_one_same : (s : Set) (r : ℕ) → with_one s r r ≡ true

@@ -1,7 +1,7 @@
 pub mod Bits
 pub mod Chosen
 pub mod Counting
-pub mod Entering
+pub mod Ends
+pub mod LastFlag
 pub mod Lists
 pub mod Proposing
-pub mod Rows

@@ -1,6 +1,6 @@
-pub mod Entered
+pub mod Ends
 pub mod Flags
 pub mod Holding
 pub mod Inside
 pub mod Laws
-pub mod Row
+pub mod Settled

@@ -1,8 +1,8 @@
-ghost use Rattle.std.specs.Prelude.{◌≡◌, ◌↔◌, ◌<◌, ◌≤◌, ◌+◌, ◌/◌, ℕ, IfOk, IsTrue, IsFalse, length, vec_len, vec_capacity, min};
-ghost use Rattle.mt_terms.specs.Lists.{with_one};
+ghost use Rattle.std.specs.Prelude.{◌≡◌, ◌↔◌, ◌<◌, ◌/◌, ℕ, IfOk, IsTrue, IsFalse, length};
+ghost use Rattle.mt_terms.specs.Lists.{with_one, count_below};
 ghost use Rattle.mt_hold.specs.Flags.{flag};
-ghost use Rattle.mt_hold.specs.Row.{Rises, IsInsertedInOrder};
-ghost use Rattle.mt_hold.specs.Entered.{IsEntered};
+ghost use Rattle.mt_hold.specs.Ends.{IsLastBelow};
+ghost use Rattle.mt_hold.specs.Settled.{IsSettled};
 
 use std::alloc::{AllocError, Global};
 use std::marker::Model;
@@ -26,10 +26,10 @@ pub struct Hold {
     quota: u32,
     list_len: u32,
     count: u32,
-    // One bit for each rank: whether a proposal came from there.
+    // One bit for each rank, and one more at least: whether a proposal came from there.
     received: Vec<u64>,
-    // The held ranks, in ascending order. It has room for all that can ever be held.
-    row: Vec<u32>,
+    // The held ranks are the received ones below it.
+    end: u32,
 }
 
 impl Model for Hold {
@@ -53,14 +53,13 @@ impl Hold {
     pub fn open(alloc: Global, quota: u32, list_len: u32) -> Result<Hold, AllocError>
         ensures { IfOk result (λ hold. hold ≡ opened quota list_len) }
     {
-        let received = vec![in alloc; 0u64; list_len.div_ceil(64) as usize]?;
-        let row = Vec::with_capacity(alloc, quota.min(list_len) as usize)?;
+        let received = vec![in alloc; 0u64; list_len as usize / 64 + 1]?;
         Ok(Hold {
             quota,
             list_len,
             count: 0,
             received,
-            row,
+            end: list_len,
         })
     }
 
@@ -78,14 +77,15 @@ impl Hold {
     {
         set_flag(self.received.as_mut_slice(), rank);
         self.count += 1;
-        enter_row(&mut self.row, self.quota, rank)
+        let is_over = self.count > self.quota;
+        settle(self.received.as_slice(), is_over, &mut self.end, rank)
     }
 
     /// Whether the rank is held.
     pub fn holds(&self, rank: u32) -> bool
         ensures { result ≡ held self.now rank }
     {
-        self.row.binary_search(&rank).is_ok()
+        rank < self.end && is_flagged(self.received.as_slice(), rank)
     }
 
     /// Whether a proposal from the rank was received.
@@ -120,33 +120,39 @@ fn set_flag(words: &mut [u64], rank: u32)
     words[rank as usize / 64] |= 1 << (rank % 64);
 }
 
-// Puts the rank in its place in an ascending row of at most `quota`, where there is room or the last, which then
-// leaves, comes after it.
-fn enter_row(row: &mut Vec<u32>, quota: u32, rank: u32) -> Taken
-    requires ascending { Rises row.old.items }
-    requires bounded { vec_len row.old ≤ quota }
-    requires room { min quota (vec_len row.old + 1) ≤ vec_capacity row.old }
-    ensures entered { IsEntered quota row.old.items rank result row.new.items }
-    ensures capacity { vec_capacity row.old ≤ vec_capacity row.new }
+// Moves the end down to the last rank below it, where more than the quota are received and the rank, which was
+// just received, comes before the end.
+fn settle(words: &[u64], is_over: bool, end: &mut u32, rank: u32) -> Taken
+    requires within { end.old / 64 < length words.now }
+    requires received { IsTrue (flag words.now rank) }
+    ensures { IsSettled (flag words.now) is_over rank end.old result end.new }
 {
-    if row.len() < quota as usize {
-        insert_in_order(row, rank);
+    if !is_over {
         return Taken::Kept;
     }
-    let Some(last) = row.pop_if(|last| rank < *last) else {
+    if *end <= rank {
         return Taken::Refused;
-    };
-    insert_in_order(row, rank);
-    Taken::KeptInstead(last)
+    }
+    let last = last_flag_below(words, *end);
+    *end = last;
+    if last == rank {
+        Taken::Refused
+    } else {
+        Taken::KeptInstead(last)
+    }
 }
 
-// Puts the rank in its place in a row that ascends and has room.
-fn insert_in_order(row: &mut Vec<u32>, rank: u32)
-    requires ascending { Rises row.old.items }
-    requires room { vec_len row.old < vec_capacity row.old }
-    ensures inserted { IsInsertedInOrder row.old.items rank row.new.items }
-    ensures capacity { vec_capacity row.old ≤ vec_capacity row.new }
+// The last rank below the end whose bit is set.
+fn last_flag_below(words: &[u64], end: u32) -> u32
+    requires within { end / 64 < length words.now }
+    requires some { 0 < count_below (flag words.now) end }
+    ensures { IsLastBelow (flag words.now) end result }
 {
-    let at = row.partition_point(|other| *other < rank);
-    row.insert(at, rank).unwrap();
+    let mut at = end / 64;
+    let mut word = words[at as usize] & ((1 << (end % 64)) - 1);
+    while word == 0 {
+        at -= 1;
+        word = words[at as usize];
+    }
+    64 * at + word.ilog2()
 }
