@@ -1,6 +1,6 @@
 -- How many members of a set stand below a number.
 use Rattle.std.proofs.Common.{◌≡◌, ℕ, zero, suc, ◌+◌, ◌<◌, ◌≤◌, Bool, true, false, cond, refl, inl, inr, arith, add-one}
-use Rattle.std.proofs.lemmas.Bool.{cases_eq, cases_order, eq-eqb}
+use Rattle.std.proofs.lemmas.Bool.{cases_eq, eq-eqb}
 use Rattle.mt_terms.specs.Lists.{Set, with_one, count_below}
 use Rattle.mt_terms.proofs.Totals.{count_below-same}
 use Rattle.mt_terms.proofs.ListFacts.{with_one-other}

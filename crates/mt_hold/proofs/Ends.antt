@@ -1,10 +1,10 @@
 -- What is chosen, by where it ends, and what becomes of the end once a rank was received.
-use Rattle.std.proofs.Common.{◌≡◌, ◌≢◌, ◌⊎◌, ◌↔◌, ℕ, ◌+◌, ◌<◌, ◌≤◌, true, false, Bool, ltb, ◌&&◌, refl, sym, ap, subst, ◌∙◌, inl, inr, arith, eqb}
-use Rattle.std.proofs.lemmas.Bool.{cases_lt, cases_order, cases_Bool, ltb-true, ltb-false, lt-ltb, le-ltb, or_right, false≢true}
+use Rattle.std.proofs.Common.{◌≡◌, ◌↔◌, ℕ, ◌+◌, ◌<◌, ◌≤◌, true, false, ltb, ◌&&◌, refl, sym, ap, ◌∙◌, inl, inr, arith, eqb}
+use Rattle.std.proofs.lemmas.Bool.{cases_lt, cases_Bool, ltb-true, ltb-false, lt-ltb, le-ltb, or_right, false≢true}
 use Rattle.mt_terms.specs.Lists.{Set, with_one, count_below}
 use Rattle.mt_terms.proofs.ListFacts.{with_one-other}
 use Rattle.mt_hold.specs.Ends.{IsEnd, IsLastBelow}
-use Rattle.mt_hold.specs.Settled.{IsSettled, HasRoom, LetsLastGo, IsTooLate}
+use Rattle.mt_hold.specs.Settled.{IsSettled}
 use Rattle.mt_hold.specs.declared.holding.Taken.{Taken}
 use Rattle.mt_hold.specs.declared.holding.Taken.TheVariants.{Kept, KeptInstead, Refused}
 use Rattle.mt_hold.proofs.Counting.{count_in, count_flat, count-le, count_past, with_one_same, count-with_one_below, count-with_one_above}

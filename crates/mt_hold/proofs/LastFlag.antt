@@ -1,16 +1,71 @@
--- The highest bit of a word, and words whose bits are those of the flags below an end.
-use Rattle.std.proofs.Common.{◌≡◌, ◌≢◌, ◌⊎◌, ℕ, zero, suc, ◌+◌, ◌-◌, ◌*◌, ◌/◌, ◌%◌, ◌^◌, ◌<◌, ◌≤◌, true, false, List, length, get_or, ltb, ◌&&◌, ◌==◌, bit_and, refl, sym, ap, ◌∙◌, inl, inr, arith}
+-- The last flag below an end, by the highest bit of a word.
+use Rattle.std.proofs.Common.{◌≡◌, ℕ, suc, ◌+◌, ◌-◌, ◌*◌, ◌/◌, ◌%◌, ◌^◌, ◌<◌, ◌≤◌, true, false, List, get_or, eqb, ltb, ◌&&◌, bit_and, pow-suc, refl, sym, ap, ◌∙◌, inl, inr, arith, eq-eqb}
 use Rattle.std.specs.Int.{bit_at}
-use Rattle.std.proofs.lemmas.Bool.{cases_lt, lt-ltb, le-ltb, and_parts, ltb-true, eqb-true}
+use Rattle.std.proofs.lemmas.Bool.{cases_lt, cases_eq, lt-ltb, le-ltb, and_parts, ltb-true}
 use Rattle.std.proofs.lemmas.Nat.{shr_high, one_shl}
 use Rattle.std.proofs.lemmas.Nat.Bits.{bit_at_and, bit_at_ones, bit_at_ones_above, bit_at_above, bit_at-lt, bit_at-zero}
-use Rattle.mt_terms.specs.Lists.{Set, count_below}
+use Rattle.mt_terms.specs.Lists.{count_below}
 use Rattle.mt_hold.specs.Flags.{flag}
 use Rattle.mt_hold.specs.Ends.{IsLastBelow}
-use Rattle.mt_terms.proofs.Totals.{count_below-none}
+use Rattle.mt_hold.proofs.Counting.{count_flat}
+
+-- The word has the bits of the flags below the end in the word at an index, and no flag after that word is set.
+pub record IsWordBelow (words : List ℕ) (end at word : ℕ) : Type 0 where
+  pub within : at ≤ end / 64
+  pub bits : (k : ℕ) → k / 64 ≡ at → eqb (bit_at word (k % 64)) 1 ≡ (ltb k end && flag words k)
+  pub none_after : (k : ℕ) → at < k / 64 → k < end → flag words k ≡ false
+
+-- the bits below a place, of a word with one bit at that place
+mask_low : (place i : ℕ) → place < 64 → i < place → bit_at (1 * 2 ^ place % 2 ^ 64 - 1) i ≡ 1
+mask_low place i within low = ap (λ m. bit_at (m - 1) i) (one_shl place 64 within) ∙ bit_at_ones place i low
+
+mask_high : (place i : ℕ) → place < 64 → place ≤ i → bit_at (1 * 2 ^ place % 2 ^ 64 - 1) i ≡ 0
+mask_high place i within high = ap (λ m. bit_at (m - 1) i) (one_shl place 64 within) ∙ bit_at_ones_above place i high
+
+-- the end's own word, without the bits from the end on
+pub word_of_end : (words : List ℕ) (end : ℕ) → IsWordBelow words end (end / 64) (bit_and (get_or words (end / 64) 0) (1 * 2 ^ (end % 64) % 2 ^ 64 - 1))
+word_of_end words end = record { within = omega arith; bits = bits; none_after = λ k past low. absurd (omega arith) }
+  where
+    bits : (k : ℕ) → k / 64 ≡ end / 64
+        → eqb (bit_at (bit_and (get_or words (end / 64) 0) (1 * 2 ^ (end % 64) % 2 ^ 64 - 1)) (k % 64)) 1 ≡ (ltb k end && flag words k)
+    bits k here =
+        let both = bit_at_and (get_or words (end / 64) 0) (1 * 2 ^ (end % 64) % 2 ^ 64 - 1) (k % 64) in
+        elim (cases_lt k end) [
+          | inl low ↦
+              let same : bit_at (bit_and (get_or words (end / 64) 0) (1 * 2 ^ (end % 64) % 2 ^ 64 - 1)) (k % 64) ≡ bit_at (get_or words (end / 64) 0) (k % 64) =
+                  omega (arith, both, mask_low (end % 64) (k % 64) (omega arith) (omega arith), bit_at-lt (get_or words (end / 64) 0) (k % 64)) in
+              rw (lt-ltb k end low, same, here) refl
+          | inr high ↦
+              let none : bit_at (bit_and (get_or words (end / 64) 0) (1 * 2 ^ (end % 64) % 2 ^ 64 - 1)) (k % 64) ≡ 0 =
+                  omega (arith, both, mask_high (end % 64) (k % 64) (omega arith) (omega arith)) in
+              rw (le-ltb k end high, none) refl
+        ]
+
+-- no flag is set from a word of zeros on
+none_from : (words : List ℕ) (end at word : ℕ) → IsWordBelow words end at word → word ≡ 0 → (k : ℕ) → at ≤ k / 64 → k < end → flag words k ≡ false
+none_from words end at word is zero k past low =
+    elim (cases_eq (k / 64) at) [
+      | inl here ↦ sym (rw (lt-ltb k end low, zero, bit_at-zero (k % 64)) at (is.bits k here))
+      | inr ne ↦ is.none_after k (omega arith) low
+    ]
+
+-- where some flag is set below the end, a word of zeros isn't the first
+pub not_first : (words : List ℕ) (end at word : ℕ) → IsWordBelow words end at word → word ≡ 0 → 0 < count_below (flag words) end → 0 < at
+not_first words end at word is zero some =
+    elim (cases_lt 0 at) [
+      | inl h ↦ h
+      | inr first ↦ absurd (omega (arith, count_flat (flag words) 0 end (omega arith) (λ k _ low. none_from words end at word is zero k (omega arith) low)))
+    ]
+
+pub word_before : (words : List ℕ) (end at word : ℕ) → IsWordBelow words end at word → word ≡ 0 → 0 < at → IsWordBelow words end (at - 1) (get_or words (at - 1) 0)
+word_before words end at word is zero some = record {
+  within = omega (arith, is.within);
+  bits = λ k here. let low : k < end = omega (arith, is.within) in rw (lt-ltb k end low, here) refl;
+  none_after = λ k past low. none_from words end at word is zero k (omega arith) low;
+}
 
 -- the highest bit of a word
-pub top_bit : (word top : ℕ) → 2 ^ top ≤ word → word < 2 * 2 ^ top → bit_at word top ≡ 1
+top_bit : (word top : ℕ) → 2 ^ top ≤ word → word < 2 * 2 ^ top → bit_at word top ≡ 1
 top_bit word top low high =
     let split : word ≡ 1 * 2 ^ top + (word - 2 ^ top) = omega arith in
     ap (λ w. w / 2 ^ top % 2) split ∙ ap (λ q. q % 2) (shr_high 1 top (word - 2 ^ top) (omega arith))
@@ -18,12 +73,18 @@ top_bit word top low high =
 above_top : (word top i : ℕ) → word < 2 * 2 ^ top → top < i → bit_at word i ≡ 0
 above_top word top i high above = bit_at_above word (suc top) i (omega (arith, pow-suc 2 top)) (omega arith)
 
--- the flags below an end
-below_end : List ℕ → ℕ → Set
-below_end words end k = ltb k end && flag words k
-
--- A word has the bits of the flags below the end, of the word at an index, and none after that word are set.
-pub record IsWordBelow (words : List ℕ) (end at word : ℕ) : Type 0 where
-  pub within : at ≤ end / 64
-  pub bits : (k : ℕ) → k / 64 ≡ at → (bit_at word (k % 64) == 1) ≡ (ltb k end && flag words k)
-  pub none_after : (k : ℕ) → at < k / 64 → k < end → flag words k ≡ false
+pub last_in_word : (words : List ℕ) (end at word top : ℕ) → IsWordBelow words end at word → 2 ^ top ≤ word → word < 2 * 2 ^ top → top < 64
+    → IsLastBelow (flag words) end (64 * at + top)
+last_in_word words end at word top is low high fits =
+    let here : (64 * at + top) / 64 ≡ at = omega arith in
+    let place : (64 * at + top) % 64 ≡ top = omega arith in
+    let set : eqb (bit_at word ((64 * at + top) % 64)) 1 ≡ true = eq-eqb _ _ (ap (bit_at word) place ∙ top_bit word top low high) in
+    let parts = and_parts (ltb (64 * at + top) end) (flag words (64 * at + top)) (sym (is.bits (64 * at + top) here) ∙ set) in
+    record {
+      below = ltb-true (64 * at + top) end parts.0;
+      member = parts.1;
+      none_after = λ k after before. elim (cases_eq (k / 64) at) [
+        | inl same ↦ let past : top < k % 64 = omega arith in sym (rw (lt-ltb k end before, above_top word top (k % 64) high past) at (is.bits k same))
+        | inr ne ↦ is.none_after k (omega arith) before
+      ];
+    }

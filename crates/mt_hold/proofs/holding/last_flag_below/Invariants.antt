@@ -1,5 +1,3 @@
-use Rattle.std.proofs.Common.{◌≡◌, ◌<◌, ◌/◌}
-use Rattle.mt_hold.specs.Flags.{flag}
 use Rattle.mt_hold.proofs.LastFlag.{IsWordBelow}
 use Rattle.mt_hold.proofs.holding.last_flag_below.Given as goal
 
