@@ -11,9 +11,6 @@ count_suc s k = rw add-one refl
 pub count_in : (s : Set) (k : ℕ) → s k ≡ true → count_below s (k + 1) ≡ count_below s k + 1
 count_in s k h = rw (count_suc s k, h) (omega arith)
 
-pub count_out : (s : Set) (k : ℕ) → s k ≡ false → count_below s (k + 1) ≡ count_below s k
-count_out s k h = rw (count_suc s k, h) (omega arith)
-
 step_up : (b : Bool) (m : ℕ) → m ≤ cond b 1 0 + m
 step_up true m = omega arith
 step_up false m = omega arith

@@ -1,6 +1,6 @@
 -- What is chosen, by where it ends, and what becomes of the end once a rank was received.
 use Rattle.std.proofs.Common.{◌≡◌, ◌↔◌, ℕ, ◌+◌, ◌<◌, ◌≤◌, true, false, ltb, ◌&&◌, refl, sym, ap, ◌∙◌, inl, inr, arith, eqb}
-use Rattle.std.proofs.lemmas.Bool.{cases_lt, cases_Bool, ltb-true, ltb-false, lt-ltb, le-ltb, or_right, false≢true}
+use Rattle.std.proofs.lemmas.Bool.{cases_lt, cases_Bool, lt-ltb, le-ltb, or_right, false≢true}
 use Rattle.mt_terms.specs.Lists.{Set, with_one, count_below}
 use Rattle.mt_terms.proofs.ListFacts.{with_one-other}
 use Rattle.mt_hold.specs.Ends.{IsEnd, IsLastBelow}
@@ -96,21 +96,21 @@ end_stays_open quota n s r end new e low out room stays =
     record { within = omega arith; counted = omega (arith, ap (count_below (with_one s r)) all); all = λ _. all }
 
 pub settled_end : (quota n : ℕ) (s : Set) (r end : ℕ) (result : Taken) (new : ℕ) → IsEnd quota n s end → r < n → s r ≡ false
-    → IsSettled (with_one s r) (ltb quota (count_below (with_one s r) n)) r end result new → IsEnd quota n (with_one s r) new
-settled_end quota n s r end Kept new e low out settled = end_stays_open quota n s r end new e low out (ltb-false _ _ settled.room) settled.stays
+    → IsSettled (with_one s r) quota (count_below (with_one s r) n) r end result new → IsEnd quota n (with_one s r) new
+settled_end quota n s r end Kept new e low out settled = end_stays_open quota n s r end new e low out settled.room settled.stays
 settled_end quota n s r end (KeptInstead last) new e low out settled =
-    end_moved quota n s r end last new e low out (ltb-true _ _ settled.over) settled.in_time settled.falls settled.moves
+    end_moved quota n s r end last new e low out settled.over settled.in_time settled.falls settled.moves
 settled_end quota n s r end Refused new e low out settled =
     elim settled.late [
-      | inl past ↦ end_stays_past quota n s r end new e low out (ltb-true _ _ settled.over) past.0 past.1
-      | inr last ↦ end_moved quota n s r end r new e low out (ltb-true _ _ settled.over) last.0.below last.0 last.1
+      | inl past ↦ end_stays_past quota n s r end new e low out settled.over past.0 past.1
+      | inr last ↦ end_moved quota n s r end r new e low out settled.over last.0.below last.0 last.1
     ]
 
 -- Refused exactly where the rank isn't before the new end
 refused_by_end : (quota n : ℕ) (s : Set) (r end : ℕ) (result : Taken) (new : ℕ) → IsEnd quota n s end → r < n → s r ≡ false
-    → IsSettled (with_one s r) (ltb quota (count_below (with_one s r) n)) r end result new → (result ≡ Refused) ↔ (new ≤ r)
+    → IsSettled (with_one s r) quota (count_below (with_one s r) n) r end result new → (result ≡ Refused) ↔ (new ≤ r)
 refused_by_end quota n s r end Kept new e low out settled =
-    let all = end_open quota n s r end e low out (ltb-false _ _ settled.room) in
+    let all = end_open quota n s r end e low out settled.room in
     (λ k. cc, λ f. absurd (omega (arith, all, settled.stays)))
 refused_by_end quota n s r end (KeptInstead last) new e low out settled =
     let before = not_after (with_one s r) end last r settled.falls (with_one_same s r) settled.in_time in
@@ -119,7 +119,7 @@ refused_by_end quota n s r end Refused new e low out settled =
     (λ _. elim settled.late [ inl past ↦ omega (arith, past.0, past.1) | inr last ↦ omega (arith, last.1) ], λ _. refl)
 
 pub refused_exactly : (quota n : ℕ) (s : Set) (r end : ℕ) (result : Taken) (new : ℕ) → IsEnd quota n s end → r < n → s r ≡ false
-    → IsSettled (with_one s r) (ltb quota (count_below (with_one s r) n)) r end result new
+    → IsSettled (with_one s r) quota (count_below (with_one s r) n) r end result new
     → (result ≡ Refused) ↔ (chosen quota n (with_one s r) r ≡ false)
 refused_exactly quota n s r end result new e low out settled =
     let after = settled_end quota n s r end result new e low out settled in
@@ -143,12 +143,12 @@ falls_by_end quota n s r end new other e after was isn't =
 
 -- another rank is named exactly where it was chosen and is no longer
 pub dropped_exactly : (quota n : ℕ) (s : Set) (r end : ℕ) (result : Taken) (new : ℕ) → IsEnd quota n s end → r < n → s r ≡ false
-    → IsSettled (with_one s r) (ltb quota (count_below (with_one s r) n)) r end result new
+    → IsSettled (with_one s r) quota (count_below (with_one s r) n) r end result new
     → (other : ℕ) → (result ≡ KeptInstead other) ↔ ((chosen quota n s other ≡ true) × (chosen quota n (with_one s r) other ≡ false))
 dropped_exactly quota n s r end result new e low out settled other =
     go result settled (settled_end quota n s r end result new e low out settled)
   where
-    go : (result : Taken) → IsSettled (with_one s r) (ltb quota (count_below (with_one s r) n)) r end result new → IsEnd quota n (with_one s r) new
+    go : (result : Taken) → IsSettled (with_one s r) quota (count_below (with_one s r) n) r end result new → IsEnd quota n (with_one s r) new
         → (result ≡ KeptInstead other) ↔ ((chosen quota n s other ≡ true) × (chosen quota n (with_one s r) other ≡ false))
     go Kept settled after =
         (λ k. cc, λ fell. let f = falls_by_end quota n s r end new other e after fell.0 fell.1 in absurd (omega (arith, f.0, f.1, settled.stays)))

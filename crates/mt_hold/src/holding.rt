@@ -77,8 +77,13 @@ impl Hold {
     {
         set_flag(self.received.as_mut_slice(), rank);
         self.count += 1;
-        let is_over = self.count > self.quota;
-        settle(self.received.as_slice(), is_over, &mut self.end, rank)
+        settle(
+            self.received.as_slice(),
+            self.quota,
+            self.count,
+            &mut self.end,
+            rank,
+        )
     }
 
     /// Whether the rank is held.
@@ -122,12 +127,12 @@ fn set_flag(words: &mut [u64], rank: u32)
 
 // Moves the end down to the last rank below it, where more than the quota are received and the rank, which was
 // just received, comes before the end.
-fn settle(words: &[u64], is_over: bool, end: &mut u32, rank: u32) -> Taken
+fn settle(words: &[u64], quota: u32, count: u32, end: &mut u32, rank: u32) -> Taken
     requires within { end.old / 64 < length words.now }
     requires received { IsTrue (flag words.now rank) }
-    ensures { IsSettled (flag words.now) is_over rank end.old result end.new }
+    ensures { IsSettled (flag words.now) quota count rank end.old result end.new }
 {
-    if !is_over {
+    if count <= quota {
         return Taken::Kept;
     }
     if *end <= rank {

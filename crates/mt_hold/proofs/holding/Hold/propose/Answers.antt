@@ -1,4 +1,4 @@
-use Rattle.std.proofs.Common.{◌≡◌, ◌+◌, ◌<◌, ◌↔◌, ltb, true, false, ap, sym, subst, ◌∙◌, arith, length}
+use Rattle.std.proofs.Common.{◌≡◌, ◌+◌, ◌<◌, ◌↔◌, true, false, ap, sym, subst, ◌∙◌, arith, length}
 use Rattle.std.specs.Vec.{with_items}
 use Rattle.mt_terms.specs.Lists.{with_one, count_below}
 use Rattle.mt_hold.specs.Flags.{flag}
@@ -63,15 +63,17 @@ counted c =
     let a = c.self.inside in
     omega (arith, c.self.invariant.counted, count-with_one_above (flag a.received.items) c.args.rank a.list_len (out c) (low c))
 
+-- what came of the proposal, by the set of ranks before it
 settled : (c : After-settle)
     → let a = c.self.inside in
     let t = with_one (flag a.received.items) c.args.rank in
-    IsSettled t (ltb a.quota (count_below t a.list_len)) c.args.rank a.end c.settle.result c.settle.new.end
-settled c =
+    IsSettled (flag c.as_slice.result.now) a.quota (a.count + 1) c.args.rank a.end c.settle.result c.settle.new.end
+    → IsSettled t a.quota (count_below t a.list_len) c.args.rank a.end c.settle.result c.settle.new.end
+settled c by =
     let a = c.self.inside in
     let t = with_one (flag a.received.items) c.args.rank in
-    subst (λ m. IsSettled t (ltb a.quota m) c.args.rank a.end c.settle.result c.settle.new.end) (counted c)
-    (subst (λ s. IsSettled s (ltb a.quota (a.count + 1)) c.args.rank a.end c.settle.result c.settle.new.end) (ap flag c.as_slice.ensures.value ∙ marked c) c.settle.ensures)
+    subst (λ m. IsSettled t a.quota m c.args.rank a.end c.settle.result c.settle.new.end) (counted c)
+    (subst (λ s. IsSettled s a.quota (a.count + 1) c.args.rank a.end c.settle.result c.settle.new.end) (ap flag c.as_slice.ensures.value ∙ marked c) by)
 
 pub invariant_of-self : goal.invariant_of-self
 invariant_of-self c =
@@ -82,7 +84,7 @@ invariant_of-self c =
       words = omega (arith, c.self.invariant.words, ap length written, c.set_flag.auto.words, ap length c.as_mut_slice.ensures.value);
       counted = omega (arith, ap (λ t. count_below t a.list_len) (marked c), counted c);
       ends = subst (λ t. IsEnd a.quota a.list_len t c.settle.new.end) (sym (marked c))
-          (settled_end a.quota a.list_len s c.args.rank a.end c.settle.result c.settle.new.end c.self.invariant.ends (low c) (out c) (settled c));
+          (settled_end a.quota a.list_len s c.args.rank a.end c.settle.result c.settle.new.end c.self.invariant.ends (low c) (out c) (settled c c.settle.ensures));
     }
 
 pub returns-clause-received : goal.returns-clause-received
@@ -98,7 +100,7 @@ returns-clause-refused c =
     let s = flag a.received.items in
     rw (held-flags a.quota a.list_len (with_items a.received c.set_flag.new.words).items c.args.rank)
     (subst (λ t. (c.settle.result ≡ Refused) ↔ (chosen a.quota a.list_len t c.args.rank ≡ false)) (sym (marked c))
-    (refused_exactly a.quota a.list_len s c.args.rank a.end c.settle.result c.settle.new.end c.self.invariant.ends (low c) (out c) (settled c)))
+    (refused_exactly a.quota a.list_len s c.args.rank a.end c.settle.result c.settle.new.end c.self.invariant.ends (low c) (out c) (settled c c.settle.ensures)))
 
 pub returns-clause-dropped : goal.returns-clause-dropped
 returns-clause-dropped c other =
@@ -106,4 +108,4 @@ returns-clause-dropped c other =
     let s = flag a.received.items in
     rw (← c.self.view_is, held-flags a.quota a.list_len a.received.items other, held-flags a.quota a.list_len (with_items a.received c.set_flag.new.words).items other)
     (subst (λ t. (c.settle.result ≡ KeptInstead other) ↔ ((chosen a.quota a.list_len s other ≡ true) × (chosen a.quota a.list_len t other ≡ false))) (sym (marked c))
-    (dropped_exactly a.quota a.list_len s c.args.rank a.end c.settle.result c.settle.new.end c.self.invariant.ends (low c) (out c) (settled c) other))
+    (dropped_exactly a.quota a.list_len s c.args.rank a.end c.settle.result c.settle.new.end c.self.invariant.ends (low c) (out c) (settled c c.settle.ensures) other))
