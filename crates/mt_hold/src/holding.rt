@@ -77,13 +77,8 @@ impl Hold {
     {
         set_flag(self.received.as_mut_slice(), rank);
         self.count += 1;
-        settle(
-            self.received.as_slice(),
-            self.quota,
-            self.count,
-            &mut self.end,
-            rank,
-        )
+        let words = self.received.as_slice();
+        settle(words, self.quota, self.count, &mut self.end, rank)
     }
 
     /// Whether the rank is held.

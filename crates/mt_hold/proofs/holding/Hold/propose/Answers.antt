@@ -34,7 +34,7 @@ settle-requires-clause-within c =
       arith,
       c.self.invariant.words,
       c.self.invariant.ends.within,
-      ap length c.as_slice.ensures.value,
+      ap length c.as_slice-words.ensures.value,
       ap length written,
       c.set_flag.auto.words,
       ap length c.as_mut_slice.ensures.value,
@@ -44,7 +44,7 @@ pub settle-requires-clause-received : goal.settle-requires-clause-received
 settle-requires-clause-received c =
     let before = c.as_mut_slice.result.now in
     let written = words_written c.self.inside.received before c.set_flag.new.words c.as_mut_slice.ensures.len c.set_flag.auto.words in
-    ap (λ words. flag words c.args.rank) (c.as_slice.ensures.value ∙ written) ∙ c.set_flag.ensures c.args.rank ∙ with_one_same (flag before) c.args.rank
+    ap (λ words. flag words c.args.rank) (c.as_slice-words.ensures.value ∙ written) ∙ c.set_flag.ensures c.args.rank ∙ with_one_same (flag before) c.args.rank
 
 -- ---- what is known after all steps
 
@@ -67,13 +67,13 @@ counted c =
 settled : (c : After-settle)
     → let a = c.self.inside in
     let t = with_one (flag a.received.items) c.args.rank in
-    IsSettled (flag c.as_slice.result.now) a.quota (a.count + 1) c.args.rank a.end c.settle.result c.settle.new.end
+    IsSettled (flag c.as_slice-words.result.now) a.quota (a.count + 1) c.args.rank a.end c.settle.result c.settle.new.end
     → IsSettled t a.quota (count_below t a.list_len) c.args.rank a.end c.settle.result c.settle.new.end
 settled c by =
     let a = c.self.inside in
     let t = with_one (flag a.received.items) c.args.rank in
     subst (λ m. IsSettled t a.quota m c.args.rank a.end c.settle.result c.settle.new.end) (counted c)
-    (subst (λ s. IsSettled s a.quota (a.count + 1) c.args.rank a.end c.settle.result c.settle.new.end) (ap flag c.as_slice.ensures.value ∙ marked c) by)
+    (subst (λ s. IsSettled s a.quota (a.count + 1) c.args.rank a.end c.settle.result c.settle.new.end) (ap flag c.as_slice-words.ensures.value ∙ marked c) by)
 
 pub invariant_of-self : goal.invariant_of-self
 invariant_of-self c =
