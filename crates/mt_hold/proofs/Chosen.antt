@@ -1,7 +1,7 @@
 -- Whom a holding holds, told by how many others were received from better ranks.
-use Rattle.std.proofs.Common.{◌≡◌, ℕ, zero, suc, ◌+◌, ◌<◌, ◌≤◌, true, false, refl, sym, ap, ◌∙◌, inl, inr, arith, ltb, ◌&&◌}
+use Rattle.std.proofs.Common.{◌≡◌, ℕ, zero, suc, ◌+◌, ◌<◌, ◌≤◌, true, refl, sym, ap, ◌∙◌, inl, inr, arith, ltb, ◌&&◌}
 use Rattle.std.specs.List.{range_with_len}
-use Rattle.std.proofs.lemmas.Bool.{cases_lt, cases_eq, ne_eqb, eq-eqb, and_parts, ltb-true, lt-ltb, le-ltb, and_from, and_right}
+use Rattle.std.proofs.lemmas.Bool.{cases_lt, cases_eq, ne_eqb, eq-eqb, and_parts, ltb-true, lt-ltb, le-ltb}
 use Rattle.mt_terms.specs.Lists.{Set, has, above, below, count_below}
 use Rattle.mt_terms.specs.Choice.{choice}
 use Rattle.mt_hold.specs.Holding.{Holding, ranks, has_received, held}
@@ -66,12 +66,3 @@ IsChosen-from quota n set rank h =
     let a = and_parts (ltb rank n && set rank) (ltb (count_below set rank) quota) h in
     let b = and_parts (ltb rank n) (set rank) a.0 in
     record { within = ltb-true rank n b.0; member = b.1; few = ltb-true (count_below set rank) quota a.1 }
-
-pub chosen_from : (quota n : ℕ) (set : Set) (rank : ℕ) → rank < n → set rank ≡ true → count_below set rank < quota → chosen quota n set rank ≡ true
-chosen_from quota n set rank low member few =
-    and_from (ltb rank n && set rank) (ltb (count_below set rank) quota)
-    (and_from (ltb rank n) (set rank) (lt-ltb rank n low) member) (lt-ltb (count_below set rank) quota few)
-
--- a rank with enough others before it isn't chosen
-pub not_chosen : (quota n : ℕ) (set : Set) (rank : ℕ) → quota ≤ count_below set rank → chosen quota n set rank ≡ false
-not_chosen quota n set rank many = and_right (ltb rank n && set rank) (ltb (count_below set rank) quota) (le-ltb (count_below set rank) quota many)

@@ -1,6 +1,7 @@
 -- What is chosen, by where it ends, and what becomes of the end once a rank was received.
-use Rattle.std.proofs.Common.{◌≡◌, ◌↔◌, ℕ, ◌+◌, ◌<◌, ◌≤◌, true, false, ltb, ◌&&◌, refl, sym, ap, ◌∙◌, inl, inr, arith, eqb}
-use Rattle.std.proofs.lemmas.Bool.{cases_lt, cases_Bool, lt-ltb, le-ltb, or_right, false≢true}
+use Rattle.std.proofs.Common.{◌≡◌, ◌↔◌, ℕ, ◌+◌, ◌<◌, ◌≤◌, true, false, ltb, ◌&&◌, refl, sym, ap, ◌∙◌, inl, inr, arith}
+use Rattle.std.proofs.lemmas.Bool.{cases_lt, false≢true}
+use Rattle.std.proofs.lemmas.Bool.Decides.{nat_tests}
 use Rattle.mt_terms.specs.Lists.{Set, with_one, count_below}
 use Rattle.mt_terms.proofs.ListFacts.{with_one-other}
 use Rattle.mt_hold.specs.Ends.{IsEnd, IsLastBelow}
@@ -8,45 +9,15 @@ use Rattle.mt_hold.specs.Settled.{IsSettled}
 use Rattle.mt_hold.specs.declared.holding.Taken.{Taken}
 use Rattle.mt_hold.specs.declared.holding.Taken.TheVariants.{Kept, KeptInstead, Refused}
 use Rattle.mt_hold.proofs.Counting.{count_in, count_flat, count-le, count_past, with_one_same, count-with_one_below, count-with_one_above}
-use Rattle.mt_hold.proofs.Chosen.{chosen, chosen_from, not_chosen}
+use Rattle.mt_hold.proofs.Chosen.{chosen}
 
--- who comes before the end is chosen, and nobody else
-pub chosen_before : (quota n : ℕ) (s : Set) (end k : ℕ) → IsEnd quota n s end → k < end → s k ≡ true → chosen quota n s k ≡ true
-chosen_before quota n s end k e low member = chosen_from quota n s k (omega (arith, e.within)) member (omega (arith, count_past s k end member low, e.counted))
-
-pub chosen_past : (quota n : ℕ) (s : Set) (end k : ℕ) → IsEnd quota n s end → end ≤ k → chosen quota n s k ≡ false
-chosen_past quota n s end k e high =
-    elim (cases_lt k n) [
-      | inl low ↦ elim (cases_Bool (s k)) [
-        | inl member ↦ not_chosen quota n s k (omega (arith, count-le s end k high, count_past s k n member low, e.counted))
-        | inr other ↦ rw (lt-ltb k n low, other) refl
-      ]
-      | inr over ↦ rw (le-ltb k n over) refl
-    ]
-
+-- who is chosen comes before the end, and nobody else does
 pub chosen-ended : (quota n : ℕ) (s : Set) (end k : ℕ) → IsEnd quota n s end → chosen quota n s k ≡ (ltb k end && s k)
-chosen-ended quota n s end k e =
-    elim (cases_lt k end) [
-      | inl low ↦ elim (cases_Bool (s k)) [
-        | inl member ↦ chosen_before quota n s end k e low member ∙ sym (rw (lt-ltb k end low, member) refl)
-        | inr other ↦ let within : k < n = omega (arith, e.within) in rw (lt-ltb k end low, lt-ltb k n within, other) refl
-      ]
-      | inr high ↦ chosen_past quota n s end k e high ∙ sym (rw (le-ltb k end high) refl)
-    ]
-
-member_before : (quota n : ℕ) (s : Set) (end k : ℕ) → IsEnd quota n s end → chosen quota n s k ≡ true → (k < end) × (s k ≡ true)
-member_before quota n s end k e h =
-    let parts = sym (chosen-ended quota n s end k e) ∙ h in
-    elim (cases_lt k end) [
-      | inl low ↦ (low, rw (lt-ltb k end low) at parts)
-      | inr high ↦ absurd (false≢true (sym (chosen_past quota n s end k e high) ∙ h))
-    ]
+chosen-ended quota n s end k e = grind (arith, nat_tests, count-le s end k, count_past s k end, count_past s k n)
 
 -- the end of a set without members
 pub IsEnd-empty : (quota n : ℕ) (s : Set) → count_below s n ≡ 0 → IsEnd quota n s n
 IsEnd-empty quota n s none = record { within = omega arith; counted = omega arith; all = λ _. refl }
-
--- ---- a rank r was received: s is the set before it, and t the set with it
 
 count_last : (s : Set) (end last : ℕ) → IsLastBelow s end last → count_below s end ≡ count_below s last + 1
 count_last s end last l =
@@ -60,28 +31,22 @@ not_after s end last k l member low =
       | inr h ↦ h
     ]
 
+-- ---- a rank r was received: s is the set before it
+
 -- the end moved down to the last member
-end_moved : (quota n : ℕ) (s : Set) (r end last new : ℕ) → IsEnd quota n s end → r < n → s r ≡ false → quota < count_below (with_one s r) n
-    → r < end → IsLastBelow (with_one s r) end last → new ≡ last → IsEnd quota n (with_one s r) new
-end_moved quota n s r end last new e low out over in_time l moves = record {
+end_moved : (quota n : ℕ) (s : Set) (r end last : ℕ) → IsEnd quota n s end → r < n → s r ≡ false → quota < count_below (with_one s r) n
+    → r < end → IsLastBelow (with_one s r) end last → IsEnd quota n (with_one s r) last
+end_moved quota n s r end last e low out over in_time l = record {
   within = omega (arith, e.within, l.below);
-  counted = omega (
-      arith,
-      ap (count_below (with_one s r)) moves,
-      count_last (with_one s r) end last l,
-      count-with_one_above s r end out in_time,
-      count-with_one_above s r n out low,
-      e.counted,
-    );
+  counted = omega (arith, count_last (with_one s r) end last l, count-with_one_above s r end out in_time, count-with_one_above s r n out low, e.counted);
   all = λ h. absurd (omega arith);
 }
 
 -- the rank came past the end, which stays
-end_stays_past : (quota n : ℕ) (s : Set) (r end new : ℕ) → IsEnd quota n s end → r < n → s r ≡ false → quota < count_below (with_one s r) n
-    → end ≤ r → new ≡ end → IsEnd quota n (with_one s r) new
-end_stays_past quota n s r end new e low out over late stays = record {
-  within = omega (arith, e.within);
-  counted = omega (arith, ap (count_below (with_one s r)) stays, count-with_one_below s r end late, count-with_one_above s r n out low, e.counted);
+end_stays : (quota n : ℕ) (s : Set) (r end : ℕ) → IsEnd quota n s end → r < n → s r ≡ false → quota < count_below (with_one s r) n → end ≤ r → IsEnd quota n (with_one s r) end
+end_stays quota n s r end e low out over late = record {
+  within = e.within;
+  counted = omega (arith, count-with_one_below s r end late, count-with_one_above s r n out low, e.counted);
   all = λ h. absurd (omega arith);
 }
 
@@ -89,21 +54,19 @@ end_stays_past quota n s r end new e low out over late stays = record {
 end_open : (quota n : ℕ) (s : Set) (r end : ℕ) → IsEnd quota n s end → r < n → s r ≡ false → count_below (with_one s r) n ≤ quota → end ≡ n
 end_open quota n s r end e low out room = e.all (omega (arith, count-with_one_above s r n out low))
 
-end_stays_open : (quota n : ℕ) (s : Set) (r end new : ℕ) → IsEnd quota n s end → r < n → s r ≡ false → count_below (with_one s r) n ≤ quota
-    → new ≡ end → IsEnd quota n (with_one s r) new
-end_stays_open quota n s r end new e low out room stays =
-    let all : new ≡ n = stays ∙ end_open quota n s r end e low out room in
-    record { within = omega arith; counted = omega (arith, ap (count_below (with_one s r)) all); all = λ _. all }
+IsEnd-open : (quota n : ℕ) (s : Set) → count_below s n ≤ quota → IsEnd quota n s n
+IsEnd-open quota n s room = record { within = omega arith; counted = omega arith; all = λ _. refl }
 
 pub settled_end : (quota n : ℕ) (s : Set) (r end : ℕ) (result : Taken) (new : ℕ) → IsEnd quota n s end → r < n → s r ≡ false
     → IsSettled (with_one s r) quota (count_below (with_one s r) n) r end result new → IsEnd quota n (with_one s r) new
-settled_end quota n s r end Kept new e low out settled = end_stays_open quota n s r end new e low out settled.room settled.stays
+settled_end quota n s r end Kept new e low out settled =
+    rw (settled.stays ∙ end_open quota n s r end e low out settled.room) (IsEnd-open quota n (with_one s r) settled.room)
 settled_end quota n s r end (KeptInstead last) new e low out settled =
-    end_moved quota n s r end last new e low out settled.over settled.in_time settled.falls settled.moves
+    rw settled.moves (end_moved quota n s r end last e low out settled.over settled.in_time settled.falls)
 settled_end quota n s r end Refused new e low out settled =
     elim settled.late [
-      | inl past ↦ end_stays_past quota n s r end new e low out settled.over past.0 past.1
-      | inr last ↦ end_moved quota n s r end r new e low out settled.over last.0.below last.0 last.1
+      | inl past ↦ rw past.1 (end_stays quota n s r end e low out settled.over past.0)
+      | inr last ↦ rw last.1 (end_moved quota n s r end r e low out settled.over last.0.below last.0)
     ]
 
 -- Refused exactly where the rank isn't before the new end
@@ -123,54 +86,38 @@ pub refused_exactly : (quota n : ℕ) (s : Set) (r end : ℕ) (result : Taken) (
     → (result ≡ Refused) ↔ (chosen quota n (with_one s r) r ≡ false)
 refused_exactly quota n s r end result new e low out settled =
     let after = settled_end quota n s r end result new e low out settled in
-    let by = refused_by_end quota n s r end result new e low out settled in (
-      λ h. chosen_past quota n (with_one s r) new r after (by.0 h),
-      λ f. by.1 (elim (cases_lt r new) [
-        | inl in_time ↦ absurd (false≢true (sym f ∙ chosen_before quota n (with_one s r) new r after in_time (with_one_same s r)))
-        | inr past ↦ past
-      ]),
-    )
+    let by = refused_by_end quota n s r end result new e low out settled in
+    rw (chosen-ended quota n (with_one s r) new r after) (grind (arith, nat_tests, with_one_same s r, by))
 
--- another member falls out where the end moves to it or past it
-falls_by_end : (quota n : ℕ) (s : Set) (r end new other : ℕ) → IsEnd quota n s end → IsEnd quota n (with_one s r) new
-    → chosen quota n s other ≡ true → chosen quota n (with_one s r) other ≡ false → (other < end) × (new ≤ other) × (s other ≡ true)
-falls_by_end quota n s r end new other e after was isn't =
-    let before = member_before quota n s end other e was in
-    elim (cases_lt other new) [
-      | inl still ↦ absurd (false≢true (sym isn't ∙ chosen_before quota n (with_one s r) new other after still (or_right (eqb other r) (s other) before.1)))
-      | inr past ↦ (before.0, past, before.1)
-    ]
+-- A rank is named exactly where it was before the end, and the end moved to it or past it.
+dropped_by_end : (quota n : ℕ) (s : Set) (r end : ℕ) (result : Taken) (new : ℕ) → r < n → s r ≡ false
+    → IsSettled (with_one s r) quota (count_below (with_one s r) n) r end result new
+    → (other : ℕ) → (result ≡ KeptInstead other) ↔ ((s other ≡ true) × (other < end) × (new ≤ other))
+dropped_by_end quota n s r end Kept new low out settled other = (λ k. cc, λ f. absurd (omega (arith, f.1, f.2, settled.stays)))
+dropped_by_end quota n s r end (KeptInstead last) new low out settled other = (
+  λ k. let same : last ≡ other = cc in
+      (sym (with_one-other s r other (λ x. settled.other (same ∙ x))) ∙ ap (with_one s r) (sym same) ∙ settled.falls.member, omega (arith, settled.falls.below), omega (arith, settled.moves)),
+  λ f.
+      let first = not_after (with_one s r) end last other settled.falls (grind (arith, nat_tests, f.0)) f.1 in
+      let same : last ≡ other = omega (arith, f.2, settled.moves) in
+      ap KeptInstead same,
+)
+dropped_by_end quota n s r end Refused new low out settled other = (
+  λ k. cc,
+  λ f. elim settled.late [
+    | inl past ↦ absurd (omega (arith, f.1, f.2, past.1))
+    | inr last ↦
+        let first = not_after (with_one s r) end r other last.0 (grind (arith, nat_tests, f.0)) f.1 in
+        let same : other ≡ r = omega (arith, f.2, last.1) in
+        absurd (false≢true (sym out ∙ ap s (sym same) ∙ f.0))
+  ],
+)
 
 -- another rank is named exactly where it was chosen and is no longer
 pub dropped_exactly : (quota n : ℕ) (s : Set) (r end : ℕ) (result : Taken) (new : ℕ) → IsEnd quota n s end → r < n → s r ≡ false
     → IsSettled (with_one s r) quota (count_below (with_one s r) n) r end result new
     → (other : ℕ) → (result ≡ KeptInstead other) ↔ ((chosen quota n s other ≡ true) × (chosen quota n (with_one s r) other ≡ false))
 dropped_exactly quota n s r end result new e low out settled other =
-    go result settled (settled_end quota n s r end result new e low out settled)
-  where
-    go : (result : Taken) → IsSettled (with_one s r) quota (count_below (with_one s r) n) r end result new → IsEnd quota n (with_one s r) new
-        → (result ≡ KeptInstead other) ↔ ((chosen quota n s other ≡ true) × (chosen quota n (with_one s r) other ≡ false))
-    go Kept settled after =
-        (λ k. cc, λ fell. let f = falls_by_end quota n s r end new other e after fell.0 fell.1 in absurd (omega (arith, f.0, f.1, settled.stays)))
-    go (KeptInstead last) settled after = (
-      λ k. let same : last ≡ other = cc in
-          let member : s other ≡ true = sym (with_one-other s r other (λ x. settled.other (same ∙ x))) ∙ ap (with_one s r) (sym same) ∙ settled.falls.member in (
-            chosen_before quota n s end other e (omega (arith, settled.falls.below)) member,
-            chosen_past quota n (with_one s r) new other after (omega (arith, settled.moves)),
-          ),
-      λ fell.
-          let f = falls_by_end quota n s r end new other e after fell.0 fell.1 in
-          let first = not_after (with_one s r) end last other settled.falls (or_right (eqb other r) (s other) f.2) f.0 in
-          let same : last ≡ other = omega (arith, f.1, settled.moves) in
-          ap KeptInstead same,
-    )
-    go Refused settled after =
-        (λ k. cc, λ fell.
-          let f = falls_by_end quota n s r end new other e after fell.0 fell.1 in
-          elim settled.late [
-            | inl past ↦ absurd (omega (arith, f.0, f.1, past.1))
-            | inr last ↦
-                let first = not_after (with_one s r) end r other last.0 (or_right (eqb other r) (s other) f.2) f.0 in
-                let same : other ≡ r = omega (arith, f.1, last.1) in
-                absurd (false≢true (sym out ∙ ap s (sym same) ∙ f.2))
-          ])
+    let after = settled_end quota n s r end result new e low out settled in
+    let by = dropped_by_end quota n s r end result new low out settled other in
+    rw (chosen-ended quota n s end other e, chosen-ended quota n (with_one s r) new other after) (grind (arith, nat_tests, out, by))

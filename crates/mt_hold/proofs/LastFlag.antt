@@ -1,7 +1,8 @@
 -- The last flag below an end, by the highest bit of a word.
-use Rattle.std.proofs.Common.{◌≡◌, ℕ, suc, ◌+◌, ◌-◌, ◌*◌, ◌/◌, ◌%◌, ◌^◌, ◌<◌, ◌≤◌, true, false, List, get_or, eqb, ltb, ◌&&◌, bit_and, pow-suc, refl, sym, ap, ◌∙◌, inl, inr, arith, eq-eqb}
+use Rattle.std.proofs.Common.{cond, min, ◌≡◌, ℕ, suc, ◌+◌, ◌-◌, ◌*◌, ◌/◌, ◌%◌, ◌^◌, ◌<◌, ◌≤◌, true, false, List, get_or, eqb, ltb, ◌&&◌, bit_and, pow-suc, refl, sym, ap, ◌∙◌, inl, inr, arith, eq-eqb}
 use Rattle.std.specs.Int.{bit_at}
-use Rattle.std.proofs.lemmas.Bool.{cases_lt, cases_eq, lt-ltb, le-ltb, and_parts, ltb-true}
+use Rattle.std.proofs.lemmas.Bool.{cases_lt, cases_eq, lt-ltb, and_parts, ltb-true}
+use Rattle.std.proofs.lemmas.Bool.Decides.{nat_tests}
 use Rattle.std.proofs.lemmas.Nat.{shr_high, one_shl}
 use Rattle.std.proofs.lemmas.Nat.Bits.{bit_at_and, bit_at_ones, bit_at_ones_above, bit_at_above, bit_at-lt, bit_at-zero}
 use Rattle.mt_terms.specs.Lists.{count_below}
@@ -15,31 +16,24 @@ pub record IsWordBelow (words : List ℕ) (end at word : ℕ) : Type 0 where
   pub bits : (k : ℕ) → k / 64 ≡ at → eqb (bit_at word (k % 64)) 1 ≡ (ltb k end && flag words k)
   pub none_after : (k : ℕ) → at < k / 64 → k < end → flag words k ≡ false
 
--- the bits below a place, of a word with one bit at that place
-mask_low : (place i : ℕ) → place < 64 → i < place → bit_at (1 * 2 ^ place % 2 ^ 64 - 1) i ≡ 1
-mask_low place i within low = ap (λ m. bit_at (m - 1) i) (one_shl place 64 within) ∙ bit_at_ones place i low
-
-mask_high : (place i : ℕ) → place < 64 → place ≤ i → bit_at (1 * 2 ^ place % 2 ^ 64 - 1) i ≡ 0
-mask_high place i within high = ap (λ m. bit_at (m - 1) i) (one_shl place 64 within) ∙ bit_at_ones_above place i high
-
 -- the end's own word, without the bits from the end on
-pub word_of_end : (words : List ℕ) (end : ℕ) → IsWordBelow words end (end / 64) (bit_and (get_or words (end / 64) 0) (1 * 2 ^ (end % 64) % 2 ^ 64 - 1))
-word_of_end words end = record { within = omega arith; bits = bits; none_after = λ k past low. absurd (omega arith) }
-  where
-    bits : (k : ℕ) → k / 64 ≡ end / 64
-        → eqb (bit_at (bit_and (get_or words (end / 64) 0) (1 * 2 ^ (end % 64) % 2 ^ 64 - 1)) (k % 64)) 1 ≡ (ltb k end && flag words k)
-    bits k here =
-        let both = bit_at_and (get_or words (end / 64) 0) (1 * 2 ^ (end % 64) % 2 ^ 64 - 1) (k % 64) in
-        elim (cases_lt k end) [
-          | inl low ↦
-              let same : bit_at (bit_and (get_or words (end / 64) 0) (1 * 2 ^ (end % 64) % 2 ^ 64 - 1)) (k % 64) ≡ bit_at (get_or words (end / 64) 0) (k % 64) =
-                  omega (arith, both, mask_low (end % 64) (k % 64) (omega arith) (omega arith), bit_at-lt (get_or words (end / 64) 0) (k % 64)) in
-              rw (lt-ltb k end low, same, here) refl
-          | inr high ↦
-              let none : bit_at (bit_and (get_or words (end / 64) 0) (1 * 2 ^ (end % 64) % 2 ^ 64 - 1)) (k % 64) ≡ 0 =
-                  omega (arith, both, mask_high (end % 64) (k % 64) (omega arith) (omega arith)) in
-              rw (le-ltb k end high, none) refl
-        ]
+abbrev pub masked : List ℕ → ℕ → ℕ
+masked words end = bit_and (get_or words (end / 64) 0) (1 * 2 ^ (end % 64) % 2 ^ 64 - 1)
+
+bit_masked : (words : List ℕ) (end i : ℕ) → bit_at (masked words end) i ≡ cond (ltb i (end % 64)) (bit_at (get_or words (end / 64) 0) i) 0
+bit_masked words end i =
+    let place = end % 64 in
+    let word = get_or words (end / 64) 0 in
+    let both : bit_at (masked words end) i ≡ min (bit_at word i) (bit_at (2 ^ place - 1) i) =
+    ap (λ m. bit_at (bit_and word (m - 1)) i) (one_shl place 64 (omega arith)) ∙ bit_at_and word (2 ^ place - 1) i in
+    grind (arith, nat_tests, both, bit_at_ones place i, bit_at_ones_above place i, bit_at-lt word i)
+
+pub word_of_end : (words : List ℕ) (end : ℕ) → IsWordBelow words end (end / 64) (masked words end)
+word_of_end words end = record {
+  within = omega arith;
+  bits = λ k here. let same : ltb (k % 64) (end % 64) ≡ ltb k end = grind (arith, nat_tests) in rw (bit_masked words end (k % 64), same, here) (grind (arith, nat_tests));
+  none_after = λ k past low. absurd (omega arith);
+}
 
 -- no flag is set from a word of zeros on
 none_from : (words : List ℕ) (end at word : ℕ) → IsWordBelow words end at word → word ≡ 0 → (k : ℕ) → at ≤ k / 64 → k < end → flag words k ≡ false
