@@ -45,11 +45,11 @@ before_stop {X} test x (y ∷ ys) i = by_head (test y) refl (before_stop test x 
         let here : In x (y ∷ until test ys) = rw goes at i in
         elim here [ inl is ↦ ap test (sym is) ∙ goes | inr rest ↦ later rest ]
 
-find-map : {X Y : Type 0} (test : Y → Bool) (f : X → Y) (xs : List X) → find test (map f xs) ≡ option_map f (find (λ x. test (f x)) xs)
+pub find-map : {X Y : Type 0} (test : Y → Bool) (f : X → Y) (xs : List X) → find test (map f xs) ≡ option_map f (find (λ x. test (f x)) xs)
 find-map test f [] = refl
 find-map test f (x ∷ xs) = elim (cases_Bool (test (f x))) [ inl t ↦ rw t refl | inr t ↦ rw t (find-map test f xs) ]
 
-list_any-map : {X Y : Type 0} (test : Y → Bool) (f : X → Y) (xs : List X) → list_any test (map f xs) ≡ list_any (λ x. test (f x)) xs
+pub list_any-map : {X Y : Type 0} (test : Y → Bool) (f : X → Y) (xs : List X) → list_any test (map f xs) ≡ list_any (λ x. test (f x)) xs
 list_any-map test f [] = refl
 list_any-map test f (x ∷ xs) = ap (λ (b : Bool). test (f x) || b) (list_any-map test f xs)
 

@@ -7,13 +7,15 @@ use Rattle.mt_terms.specs.declared.numbers.Agent.TheVariants.{Couple}
 use Rattle.mt_ranks.specs.Ranked.{rank_of}
 use Rattle.mt_couples.specs.Assigned.{Assigned}
 use Rattle.mt_couples.specs.Running.{is_reopened}
-use Rattle.mt_couples.specs.Watching.{AreNamed, AreWatched}
+use Rattle.mt_couples.specs.Watching.{AreCounted, AreNamed, AreWatched}
 use Rattle.mt_couples.specs.declared.watch.Watch.{Watch}
 
--- once a couple has entered, the singles are watched, and the pairs of the couples up to it are noted
+-- once a couple has entered, the singles are watched, the pairs of the couples up to it are noted, and for each
+-- couple it is counted how many it wants more than what it has
 pub record IsWatching (k : ℕ) (s : Assigned) (w : Watch) : Type 0 where
   pub watched : AreWatched s w.singles.items
   pub named : AreNamed s.market (k + 1) w.couples.items
+  pub counted : AreCounted s w.better.items
 
 -- nobody is lost from a list
 abbrev pub Keeps : List ℕ → List ℕ → Type 0
@@ -24,10 +26,10 @@ abbrev pub AddsSingles : ℕ → Assigned → ℕ → List Agent → List ℕ �
 AddsSingles k s p waiting ranks found =
     (r a : ℕ) → has ranks r ≡ true → rank_of s.market p a ≡ Some r → is_reopened k s (p ∷ []) waiting (agent_of s.market a) ≡ true → has found a ≡ true
 
--- the members of a couple, out of these, are found that is reopened by an option at the program
-abbrev pub AddsCouples : ℕ → Assigned → ℕ → List Agent → List ℕ → List ℕ → Type 0
-AddsCouples k s p waiting couples found =
-    (c a : ℕ) → has couples c ≡ true → is_reopened k s (p ∷ []) waiting (Couple c) ≡ true → agent_of s.market a ≡ Couple c → has found a ≡ true
+-- the members of each couple are found that is reopened by an option at the program
+abbrev pub AddsCouples : ℕ → Assigned → ℕ → List Agent → List ℕ → Type 0
+AddsCouples k s p waiting found =
+    (c a : ℕ) → is_reopened k s (p ∷ []) waiting (Couple c) ≡ true → agent_of s.market a ≡ Couple c → has found a ≡ true
 
 -- these are the ranks of some applicants on a program's list
 pub record AreRanksOf (m : Market) (p : ℕ) (xs ranks : List ℕ) : Type 0 where

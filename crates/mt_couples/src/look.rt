@@ -10,7 +10,7 @@ ghost use Rattle.mt_couples.specs.Looking.{AddsCouples, AddsSingles, AreRanksOf,
 ghost use Rattle.mt_couples.specs.Moves.{blockers, reopened};
 ghost use Rattle.mt_couples.specs.Running.{is_reopened, IsQuietBut};
 ghost use Rattle.mt_couples.specs.Waiting.{IsListOf, Joins};
-ghost use Rattle.mt_couples.specs.Watching.{AreCouplesOf, Covers};
+ghost use Rattle.mt_couples.specs.Watching.{Covers};
 
 use crate::assignment::Assignment;
 use crate::watch::Watch;
@@ -74,31 +74,28 @@ fn add_by_rank(
     Ok(())
 }
 
-/// Adds the members of those couples, out of these, that are reopened by an option at the program.
+/// Adds the members of the couples that are reopened by an option at the program. One that has what it has from a
+/// better place on its list than its first pair there isn't looked at.
 fn add_members(
     assignment: &Assignment<'_>,
+    watch: &Watch,
     program: ProgNo,
-    couples: &[CoupleNo],
     last: CoupleNo,
     waiting: &WorkList,
     found: &mut Vec<AppNo>,
 ) -> Result<(), AllocError>
-    requires couples { AreCouplesOf assignment.now.market couples.now }
+    requires program { program < length assignment.now.market.programs }
+    requires watch { IsWatching last assignment.now watch.now }
     requires waiting { IsListOf assignment.now.market waiting.now }
     requires found { AreApplicantsOf assignment.now.market found.old.items }
     ensures found { OnOk result (AreApplicantsOf assignment.now.market found.new.items) }
     ensures keeps { OnOk result (Keeps found.old.items found.new.items) }
-    ensures adds { OnOk result (AddsCouples last assignment.now program waiting.now.agents couples.now found.new.items) }
+    ensures adds { OnOk result (AddsCouples last assignment.now program waiting.now.agents found.new.items) }
 {
-    for couple in couples {
-        if is_reopened(
-            assignment,
-            &Agent::Couple(*couple),
-            &[program],
-            last,
-            waiting,
-        ) {
-            let (first, second) = assignment.members(*couple);
+    for note in watch.couples(program) {
+        let agent = Agent::Couple(note.couple);
+        if watch.may_open(note) && is_reopened(assignment, &agent, &[program], last, waiting) {
+            let (first, second) = assignment.members(note.couple);
             found.push(first)?;
             found.push(second)?;
         }
@@ -132,14 +129,7 @@ fn add_reopened(
         waiting,
         found,
     )?;
-    add_members(
-        assignment,
-        program,
-        watch.couples(program),
-        last,
-        waiting,
-        found,
-    )
+    add_members(assignment, watch, program, last, waiting, found)
 }
 
 /// All applicants whose agents are reopened by an option at a program that was left.

@@ -8,6 +8,7 @@ ghost use Rattle.mt_terms.specs.declared.numbers.Agent.TheVariants.{Single, Coup
 ghost use Rattle.mt_couples.specs.Assigned.{chooses, front_of, has_post, pair_of, taken_by, AreSent, IsAgentOf, IsAssigned};
 ghost use Rattle.mt_ranks.specs.Ranked.{rank_of};
 ghost use Rattle.mt_couples.specs.Moves.{coming, leaving, opens, seated, some_has};
+ghost use Rattle.mt_couples.specs.Watching.{better_pairs};
 
 use crate::assignment::Assignment;
 use mt_terms::{Agent, AppNo, CoupleNo, ProgNo};
@@ -166,17 +167,29 @@ impl<'a> Assignment<'a> {
         None
     }
 
+    /// The pairs that the couple wants more than what it has.
+    pub(crate) fn better_pairs(&self, couple: CoupleNo) -> &'a [Pair]
+        requires { couple < length self.now.market.couples }
+        ensures { result.now ≡ better_pairs self.now couple }
+    {
+        let (first, second) = self.members(couple);
+        let own = (self.place(first), self.place(second));
+        let pairs = self.pairs(couple);
+        for (end, pair) in pairs.iter().enumerate() {
+            if own.0 == pair.0 && own.1 == pair.1 {
+                return &pairs[..end];
+            }
+        }
+        pairs
+    }
+
     /// The pair that the couple takes: the first on its list before its own that would be taken.
     pub(crate) fn first_pair(&self, couple: CoupleNo) -> Option<Pair>
         requires { couple < length self.now.market.couples }
         ensures { option_map (pair_of self.now couple) result ≡ taken_by self.now (Couple couple) }
     {
         let (first, second) = self.members(couple);
-        let own = (self.place(first), self.place(second));
-        for pair in self.roster().couple_list(couple) {
-            if own.0 == pair.0 && own.1 == pair.1 {
-                return None;
-            }
+        for pair in self.better_pairs(couple) {
             if self.would_be_taken(&[(first, pair.0), (second, pair.1)]) {
                 return Some(*pair);
             }
@@ -214,11 +227,7 @@ impl<'a> Assignment<'a> {
         ensures { result ≡ opens self.now programs.now (Couple couple) }
     {
         let (first, second) = self.members(couple);
-        let own = (self.place(first), self.place(second));
-        for pair in self.roster().couple_list(couple) {
-            if own.0 == pair.0 && own.1 == pair.1 {
-                return false;
-            }
+        for pair in self.better_pairs(couple) {
             if (is_one_of(pair.0, programs) || is_one_of(pair.1, programs))
                 && self.would_be_taken(&[(first, pair.0), (second, pair.1)])
             {
