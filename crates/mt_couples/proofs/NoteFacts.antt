@@ -36,8 +36,8 @@ each_next P xs i x d within read before here j low = elim (cases_lt j i) [
 
 -- what stands at a place of a list's front stands there on the list
 pub until_front : {X : Type 0} (test : X → Bool) (xs : List X) (i : ℕ) (d : X) → i < length (until test xs) → (i < length xs) × (get_or (until test xs) i d ≡ get_or xs i d)
-until_front test [] i d within = absurd (omega arith)
-until_front test (x ∷ xs) i d within = by_head (test x) refl i within (until_front test xs)
+until_front {X} test [] i d within = absurd (omega arith)
+until_front {X} test (x ∷ xs) i d within = by_head (test x) refl i within (until_front test xs)
   where
     by_head : (t : Bool) → test x ≡ t → (i : ℕ) → i < length (until test (x ∷ xs))
         → ((j : ℕ) (d : X) → j < length (until test xs) → (j < length xs) × (get_or (until test xs) j d ≡ get_or xs j d))

@@ -170,11 +170,12 @@ impl<'a> Assignment<'a> {
     /// The pairs that the couple wants more than what it has.
     pub(crate) fn better_pairs(&self, couple: CoupleNo) -> &'a [Pair]
         requires { couple < length self.now.market.couples }
-        ensures { result.now ≡ better_pairs self.now couple }
+        ensures list { result.now ≡ better_pairs self.now couple }
+        ensures assigned { IsAssigned self.now }
     {
         let (first, second) = self.members(couple);
         let own = (self.place(first), self.place(second));
-        let pairs = self.pairs(couple);
+        let pairs = self.roster().couple_list(couple);
         for (end, pair) in pairs.iter().enumerate() {
             if own.0 == pair.0 && own.1 == pair.1 {
                 return &pairs[..end];

@@ -158,10 +158,11 @@ impl Watch {
         ensures singles { OnOk result (Follows assignment.now self.old.singles.items self.new.singles.items applicant) }
         ensures better { OnOk result (Counts assignment.now self.old.better.items self.new.better.items applicant) }
     {
+        watch_each(&mut self.singles, assignment.better_live(applicant))?;
         if let Agent::Couple(couple) = assignment.agent_of(applicant) {
             self.count(assignment, couple);
         }
-        watch_each(&mut self.singles, assignment.better_live(applicant))
+        Ok(())
     }
 
     /// Notes which programs the pairs of a couple name that enters.

@@ -12,6 +12,6 @@ pub loop-pair-init : goal.loop-pair-init
 loop-pair-init c =
     let s = c.args.self.now in
     let d = c.args.couple in
-    ap (λ ps. option_map (pair_of s d) (find (λ pair. would_be_taken s.market s.places (pair_of s d pair)) ps)) c.better_pairs-pair-items.ensures
+    ap (λ ps. option_map (pair_of s d) (find (λ pair. would_be_taken s.market s.places (pair_of s d pair)) ps)) c.better_pairs-pair-items.ensures.list
     ∙ sym (find-map (would_be_taken s.market s.places) (pair_of s d) (better_pairs s d))
     ∙ ap (find (would_be_taken s.market s.places)) (sym (better_couple s d))

@@ -9,7 +9,7 @@ invariant-loop-from l = record {
   better : l.self.better ≡ l.initial.self.better;
   as_many : length l.self.couples.items ≡ length l.initial.self.couples.items;
   keeps : KeepsNotes l.initial.self.couples.items l.self.couples.items;
-  adds : (i : ℕ) → i < l.from → (p : ℕ) (pair : Pair) → p < length l.initial.self.couples.items → pair ≡ get_or l.from-items i pair → names p pair ≡ true
+  adds : (i : ℕ) → i < l.from → (p : ℕ) (pair : Pair) → p < length l.initial.self.couples.items → pair ≡ get_or l.pair-items i pair → names p pair ≡ true
       → is_noted (row_at l.self.couples.items p) l.fn.couple i ≡ true;
   within : (p c i : ℕ) → is_noted (row_at l.self.couples.items p) c i ≡ true → c < length l.assignment.market.couples;
 }
