@@ -1,8 +1,10 @@
 -- Which pairs of couples are noted, and that it is counted how many a couple wants more than what it has.
-use Rattle.std.proofs.Common.{◌≡◌, ◌∙◌, ℕ, zero, suc, ◌+◌, ◌<◌, ◌≤◌, Bool, true, false, ◌&&◌, ◌||◌, ◌==◌, nat_le, List, [], ◌∷◌, ◌++◌, map, length, get_or, refl, ap, ap₂, sym, subst, inl, inr, arith}
-use Rattle.std.proofs.lemmas.Bool.{cases_Bool, cases_lt, or_left, or_right, eq-eqb}
+use Rattle.std.proofs.Common.{◌≡◌, ◌∙◌, ℕ, zero, suc, ◌+◌, ◌-◌, ◌<◌, ◌≤◌, Bool, true, false, ◌&&◌, ◌||◌, ◌==◌, nat_le, List, [], ◌∷◌, ◌++◌, map, take, drop, length, get_or, slice_range, refl, ap, ap₂, sym, subst, inl, inr, arith}
+use Rattle.std.proofs.lemmas.Bool.{and_from, cases_Bool, cases_lt, or_left, or_right, eq-eqb}
 use Rattle.std.proofs.lemmas.Bool.Decides.{nat_tests}
+use Rattle.std.proofs.lemmas.List.{get_or-drop, get_or-take, length-drop, length-take}
 use Rattle.std.proofs.lemmas.List.Folds.{list_any-append}
+use Rattle.std.specs.List.{list_any}
 use Rattle.std.proofs.Math.Bool.{or-false}
 use Rattle.mt_terms.specs.Lists.{has, until}
 use Rattle.mt_terms.specs.Market.{Market, Pair, agent_of, couple_of, members}
@@ -16,9 +18,10 @@ use Rattle.mt_round_laws.proofs.RoundsAgents.{IsAgent, agent_of_applicant, of_li
 use Rattle.mt_round_laws.proofs.RoundsMove.{IsMove, match_after, displaced_agents, is_displaced, untouched}
 use Rattle.mt_couples.specs.Assigned.{Assigned, pair_of}
 use Rattle.mt_couples.specs.Moves.{IsTaking}
-use Rattle.mt_couples.specs.Watching.{better_pairs, is_noted, notes_pair, AreCounted, CountsAll, IsCounted}
+use Rattle.mt_couples.specs.Watching.{better_pairs, is_noted, notes_pair, row_at, AreCounted, AreNamed, CountsAll, IsCounted}
 use Rattle.mt_couples.specs.declared.couple_list.Note.{Note}
 use Rattle.mt_couples.proofs.MoveFacts.{is_move}
+use Rattle.mt_couples.proofs.SentFacts.{in_read}
 
 -- the default of a place within doesn't matter
 pub read_any : {X : Type 0} (xs : List X) (i : ℕ) (d e : X) → i < length xs → get_or xs i d ≡ get_or xs i e
@@ -49,6 +52,37 @@ until_front {X} test (x ∷ xs) i d within = by_head (test x) refl i within (unt
         let w = later j d (omega arith) in
         (omega (arith, w.0), rw goes w.1)
 
+-- no more stand there than on the list
+pub until_within : {X : Type 0} (test : X → Bool) (xs : List X) → length (until test xs) ≤ length xs
+until_within test [] = omega arith
+until_within {X} test (x ∷ xs) = by_head (test x) refl (until_within test xs)
+  where
+    by_head : (t : Bool) → test x ≡ t → length (until test xs) ≤ length xs → length (until test (x ∷ xs)) ≤ suc (length xs)
+    by_head true stops later = rw stops (omega arith)
+    by_head false goes later = rw goes (omega arith)
+
+-- what passes at a place is found between one before it and one after it
+pub any_between : {X : Type 0} (test : X → Bool) (xs : List X) (x : X) (i from end : ℕ) → from ≤ i → i < end → i < length xs → x ≡ get_or xs i x → test x ≡ true
+    → list_any test (slice_range xs from end) ≡ true
+any_between test xs x i from end low high within read passes =
+    let ys = slice_range xs from end in
+    let j = i - from in
+    let back : from + j ≡ i = omega arith in
+    let at : get_or ys j x ≡ get_or xs i x = get_or-take (end - from) (drop from xs) j x (omega arith) ∙ get_or-drop from xs j x ∙ ap (λ n. get_or xs n x) back in
+    let inside : j < length ys = omega (arith, length-take (end - from) (drop from xs), length-drop from xs) in
+    finds test x ys (in_read ys j x inside (read ∙ sym at)) passes
+
+-- and nothing between a place and one that isn't after it
+pub none_between_same : {X : Type 0} (test : X → Bool) (xs : List X) (from end : ℕ) → end ≤ from → list_any test (slice_range xs from end) ≡ false
+none_between_same test xs from end past =
+    let none : end - from ≡ 0 = omega arith in
+    ap (λ n. list_any test (take n (drop from xs))) none ∙ refl
+
+-- a couple wants no more pairs than it lists
+pub counted_within : (s : Assigned) (counts : List ℕ) (c : ℕ) → AreCounted s counts → c < length s.market.couples → get_or counts c 0 ≤ length (couple_of s.market c).pairs
+counted_within s counts c counted known =
+    omega (arith, counted.each c known, until_within (λ pair. holds s.places (pair_of s c pair)) (couple_of s.market c).pairs)
+
 -- a note more
 pub noted_more : (notes : List Note) (n : Note) (c i : ℕ) → is_noted (notes ++ n ∷ []) c i ≡ (is_noted notes c i || notes_pair c i n)
 noted_more notes n c i = list_any-append (notes_pair c i) notes (n ∷ []) ∙ ap (λ (b : Bool). is_noted notes c i || b) (or-false (notes_pair c i n))
@@ -63,6 +97,14 @@ noted_already notes n c from on is low d i = elim (cases_Bool (c == d && nat_le 
       rw there refl
   | inr other ↦ rw other (sym (or-false (is_noted notes d i)))
 ]
+
+-- only couples of the market are noted
+pub note_within : (m : Market) (number : ℕ) (rows : List (List Note)) (p : ℕ) (notes : List Note) (i : ℕ) (n : Note) → AreNamed m number rows → notes ≡ row_at rows p → i < length notes
+    → n ≡ get_or notes i n → n.couple < length m.couples
+note_within m number rows p notes i n named is within read =
+    let here : notes_pair n.couple n.from n ≡ true = and_from _ _ (eq-eqb n.couple n.couple refl) (grind (arith, nat_tests)) in
+    let noted : is_noted notes n.couple n.from ≡ true = finds (notes_pair n.couple n.from) n notes (in_read notes i n within read) here in
+    named.within p n.couple n.from (subst (λ xs. is_noted xs n.couple n.from ≡ true) is noted)
 
 -- a couple's better options are the pairs that it wants more than what it has
 pub better_couple : (s : Assigned) (c : ℕ) → better s.market s.places (Couple c) ≡ map (pair_of s c) (better_pairs s c)

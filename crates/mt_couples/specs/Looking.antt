@@ -1,13 +1,14 @@
 -- What is found, and where, when programs that were left are looked at.
-use Rattle.std.specs.Prelude.{◌≡◌, ℕ, ◌+◌, ◌<◌, true, List, [], ◌∷◌, length, Some}
+use Rattle.std.specs.Prelude.{◌≡◌, ℕ, Bool, ◌&&◌, ◌+◌, ◌<◌, true, List, [], ◌∷◌, length, Some, slice_index_or}
 use Rattle.mt_terms.specs.Lists.{has}
 use Rattle.mt_terms.specs.Market.{Market, applicants, agent_of, program_of}
 use Rattle.mt_terms.specs.declared.numbers.Agent.{Agent}
 use Rattle.mt_terms.specs.declared.numbers.Agent.TheVariants.{Couple}
 use Rattle.mt_ranks.specs.Ranked.{rank_of}
 use Rattle.mt_couples.specs.Assigned.{Assigned}
-use Rattle.mt_couples.specs.Running.{is_reopened}
-use Rattle.mt_couples.specs.Watching.{AreCounted, AreNamed, AreWatched}
+use Rattle.mt_couples.specs.Running.{is_idle, is_reopened}
+use Rattle.mt_couples.specs.Watching.{opens_between, AreCounted, AreNamed, AreWatched}
+use Rattle.mt_couples.specs.declared.couple_list.Note.{Note}
 use Rattle.mt_couples.specs.declared.watch.Watch.{Watch}
 
 -- once a couple has entered, the singles are watched, the pairs of the couples up to it are noted, and for each
@@ -25,6 +26,11 @@ Keeps old new = (a : ℕ) → has old a ≡ true → has new a ≡ true
 abbrev pub AddsSingles : ℕ → Assigned → ℕ → List Agent → List ℕ → List ℕ → Type 0
 AddsSingles k s p waiting ranks found =
     (r a : ℕ) → has ranks r ≡ true → rank_of s.market p a ≡ Some r → is_reopened k s (p ∷ []) waiting (agent_of s.market a) ≡ true → has found a ≡ true
+
+-- whether the couple of a note at a program has entered, doesn't wait, and has a pair there that would be taken, of
+-- those from the noted one on that it wants more than what it has
+abbrev pub is_noted_reopened : ℕ → Assigned → ℕ → List Agent → List ℕ → Note → Bool
+is_noted_reopened k s p waiting counts n = is_idle k waiting (Couple n.couple) && opens_between s n.couple p n.from (slice_index_or counts n.couple 0)
 
 -- the members of each couple are found that is reopened by an option at the program
 abbrev pub AddsCouples : ℕ → Assigned → ℕ → List Agent → List ℕ → Type 0

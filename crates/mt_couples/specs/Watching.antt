@@ -1,9 +1,10 @@
 -- Where it is watched that an option may be opened.
-use Rattle.std.specs.Prelude.{◌≡◌, ℕ, ◌<◌, ◌≤◌, Bool, true, ◌&&◌, ◌||◌, ◌==◌, nat_le, nat_lt, ◌⊎◌, List, [], length, Option, Some, slice_index_or}
+use Rattle.std.specs.Prelude.{◌≡◌, ℕ, ◌<◌, ◌≤◌, Bool, true, ◌&&◌, ◌||◌, ◌==◌, nat_le, ◌⊎◌, List, [], length, Option, Some, slice_index_or, slice_range}
 use Rattle.std.specs.List.{list_any}
 use Rattle.mt_terms.specs.Lists.{has, until}
 use Rattle.mt_terms.specs.Market.{Market, Pair, applicants, agent_of, couple_of, list_of, live_market}
 use Rattle.mt_terms.specs.Matching.{at, holds, is_program}
+use Rattle.mt_terms.specs.Stability.{would_be_taken}
 use Rattle.mt_ranks.specs.Ranked.{rank_of, ranked_list}
 use Rattle.mt_ranks.specs.declared.entries.Live.{Live}
 use Rattle.mt_terms.specs.declared.numbers.Agent.{Agent}
@@ -60,6 +61,11 @@ pub record FollowsAll (s : Assigned) (old new : List (List ℕ)) (xs : List ℕ)
 -- whether a pair names a program
 abbrev pub names : ℕ → Pair → Bool
 names p pair = is_program p pair.0 || is_program p pair.1
+
+-- whether a couple has a pair at a program that would be taken, of those from one index on its list up to another
+abbrev pub opens_between : Assigned → ℕ → ℕ → ℕ → ℕ → Bool
+opens_between s c p from end =
+    list_any (λ pair. names p pair && would_be_taken s.market s.places (pair_of s c pair)) (slice_range (couple_of s.market c).pairs from end)
 
 -- whether a couple's pair at an index is noted: that one, or one before it
 abbrev pub notes_pair : ℕ → ℕ → Note → Bool
@@ -119,10 +125,6 @@ pub record CountsAll (s : Assigned) (old new : List ℕ) (xs : List ℕ) : Type 
   pub as_many : length new ≡ length old
   pub keeps : (c : ℕ) → IsCounted s old c → IsCounted s new c
   pub counted : (a : ℕ) → has xs a ≡ true → (c : ℕ) → agent_of s.market a ≡ Couple c → c < length old → IsCounted s new c
-
--- whether the couple of a note wants the noted pair more than what it has
-abbrev pub may_open : List ℕ → Note → Bool
-may_open counts n = nat_lt n.from (slice_index_or counts n.couple 0)
 
 -- whoever is reopened is among these applicants
 abbrev pub Covers : ℕ → Assigned → List ℕ → List Agent → List ℕ → Type 0

@@ -1,14 +1,14 @@
-ghost use Rattle.std.specs.Prelude.{◌≡◌, ◌<◌, length, Contains, IsTrue, Some};
+ghost use Rattle.std.specs.Prelude.{◌≡◌, ◌<◌, ◌≤◌, length, Contains, IsTrue, Some};
 ghost use Rattle.std.specs.Option.{option_map};
 ghost use Rattle.mt_terms.specs.Lists.{has};
-ghost use Rattle.mt_terms.specs.Market.{applicants};
+ghost use Rattle.mt_terms.specs.Market.{applicants, couple_of};
 ghost use Rattle.mt_terms.specs.Matching.{at, single_placement};
 ghost use Rattle.mt_terms.specs.Stability.{blocks, would_be_taken};
 ghost use Rattle.mt_terms.specs.declared.numbers.Agent.TheVariants.{Single, Couple};
 ghost use Rattle.mt_couples.specs.Assigned.{chooses, front_of, has_post, pair_of, taken_by, AreSent, IsAgentOf, IsAssigned};
 ghost use Rattle.mt_ranks.specs.Ranked.{rank_of};
 ghost use Rattle.mt_couples.specs.Moves.{coming, leaving, opens, seated, some_has};
-ghost use Rattle.mt_couples.specs.Watching.{better_pairs};
+ghost use Rattle.mt_couples.specs.Watching.{better_pairs, opens_between};
 
 use crate::assignment::Assignment;
 use mt_terms::{Agent, AppNo, CoupleNo, ProgNo};
@@ -230,6 +230,31 @@ impl<'a> Assignment<'a> {
         let (first, second) = self.members(couple);
         for pair in self.better_pairs(couple) {
             if (is_one_of(pair.0, programs) || is_one_of(pair.1, programs))
+                && self.would_be_taken(&[(first, pair.0), (second, pair.1)])
+            {
+                return true;
+            }
+        }
+        false
+    }
+
+    /// Whether the couple has a pair at the program that would be taken, of those from one index on its list up to
+    /// another.
+    pub(crate) fn opens_between(
+        &self,
+        couple: CoupleNo,
+        program: ProgNo,
+        from: usize,
+        end: usize,
+    ) -> bool
+        requires couple { couple < length self.now.market.couples }
+        requires from { from ≤ end }
+        requires end { end ≤ length (couple_of self.now.market couple).pairs }
+        ensures { result ≡ opens_between self.now couple program from end }
+    {
+        let (first, second) = self.members(couple);
+        for pair in &self.roster().couple_list(couple)[from..end] {
+            if (pair.0 == Some(program) || pair.1 == Some(program))
                 && self.would_be_taken(&[(first, pair.0), (second, pair.1)])
             {
                 return true;

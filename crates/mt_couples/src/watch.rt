@@ -1,6 +1,6 @@
-ghost use Rattle.std.specs.Prelude.{◌≡◌, ◌+◌, ◌<◌, ℕ, length, IfOk, OnOk};
+ghost use Rattle.std.specs.Prelude.{◌≡◌, ◌+◌, ◌<◌, ℕ, length, slice_index_or, IfOk, OnOk};
 ghost use Rattle.mt_terms.specs.Market.{applicants};
-ghost use Rattle.mt_couples.specs.Watching.{better_pairs, may_open, row_at, AreCounted, AreEmpty, AreNamed, AreWatched, Counts, CountsCouple, Follows, Notes, Watches};
+ghost use Rattle.mt_couples.specs.Watching.{better_pairs, row_at, AreCounted, AreEmpty, AreNamed, AreWatched, Counts, CountsCouple, Follows, Notes, Watches};
 
 use crate::assignment::Assignment;
 use crate::couple_list::{CoupleList, Note};
@@ -124,14 +124,11 @@ impl Watch {
         }
     }
 
-    /// Whether the couple of a note wants the noted pair more than what it has.
-    pub(crate) fn may_open(&self, note: &Note) -> bool
-        ensures { result ≡ may_open self.now.better.items note.now }
+    /// How many pairs the couple wants more than what it has.
+    pub(crate) fn better(&self, couple: CoupleNo) -> usize
+        ensures { result ≡ slice_index_or self.now.better.items couple 0 }
     {
-        match self.better.get(note.couple.index()) {
-            Some(better) => note.from < *better,
-            None => false,
-        }
+        self.better.get(couple.index()).copied().unwrap_or(0)
     }
 
     /// Counts again how many pairs a couple wants more than what it has.

@@ -1,16 +1,20 @@
-use Rattle.std.proofs.Common.{◌≡◌, ◌∙◌, ◌++◌, ◌∷◌, ◌<◌, [], ℕ, List, Vec, true, false, length, get_or, ap, sym, subst, arith}
+use Rattle.std.proofs.Common.{◌≡◌, ◌∙◌, ◌++◌, ◌∷◌, ◌+◌, ◌<◌, [], ℕ, List, Vec, true, false, length, get_or, ap, sym, subst, arith}
 use Rattle.std.proofs.lemmas.Bool.{both_ways}
 use Rattle.mt_terms.specs.Lists.{has}
 use Rattle.mt_terms.specs.Market.{agent_of, applicants}
 use Rattle.mt_terms.specs.declared.numbers.Agent.TheVariants.{Couple}
-use Rattle.mt_couples.specs.Running.{is_reopened}
-use Rattle.mt_couples.specs.Watching.{may_open}
+use Rattle.mt_couples.specs.Looking.{is_noted_reopened}
 use Rattle.mt_round_laws.proofs.RoundsLists.{In}
-use Rattle.mt_couples.proofs.NoteFacts.{each_next, read_any}
+use Rattle.mt_couples.proofs.NoteFacts.{each_next, note_within, read_any}
 use Rattle.mt_couples.proofs.WatchFacts.{has_still, index_of}
-use Rattle.mt_couples.proofs.LookFacts.{found_both, found_neither, no_note, open_note, within_more, AreFoundBy, AreFoundOf}
+use Rattle.mt_couples.proofs.LookFacts.{found_both, no_note, open_note, within_more, AreFoundBy}
 use Rattle.mt_couples.proofs.look.add_members.Goals as goal
-use Rattle.mt_couples.proofs.look.add_members.Goals.{then-may_open+then-is_reopened+in_ok-push+in_ok-push-2, else-may_open, else-may_open-via-then-may_open+else-is_reopened, else-may_open-via-else-may_open}
+use Rattle.mt_couples.proofs.look.add_members.Goals.{then-is_noted_reopened+in_ok-push+in_ok-push-2, else-is_noted_reopened}
+
+pub is_noted_reopened-requires-clause-couple : goal.is_noted_reopened-requires-clause-couple
+is_noted_reopened-requires-clause-couple c =
+    note_within c.args.assignment.now.market (c.args.last + 1) c.args.watch.now.couples.items c.args.program c.couples-note-items.result.now c.loop-note.note-index c.note-item.result
+    c.requires.watch.named c.couples-note-items.ensures c.loop-note-test.true c.note-item.is
 
 pub loop-note-preserved : goal.loop-note-preserved
 loop-note-preserved c =
@@ -25,31 +29,29 @@ loop-note-preserved c =
     let so_far = c.loop-note.invariant in
     let more = λ (found : List ℕ) (keeps : (a : ℕ) → has before a ≡ true → has found a ≡ true) (here : AreFoundBy k s p ws counts found n).
     each_next (AreFoundBy k s p ws counts found) c.couples-note-items.result.now c.loop-note.note-index n no_note c.loop-note-test.true c.note-item.is
-    (λ j low opened a reopened of_a. keeps a (so_far.adds j low opened a reopened of_a)) here in
-    elim c.if-may_open.branch [
-      | then-may_open+then-is_reopened+in_ok-push+in_ok-push-2 w ↦
+    (λ j low opened a of_a. keeps a (so_far.adds j low opened a of_a)) here in
+    elim c.if-is_noted_reopened.branch [
+      | then-is_noted_reopened+in_ok-push+in_ok-push-2 w ↦
           let x = w.members-first.result.0 in
           let y = w.members-first.result.1 in
-          let is : c.if-may_open.found.items ≡ (before ++ x ∷ []) ++ y ∷ [] =
+          let is : c.if-is_noted_reopened.found.items ≡ (before ++ x ∷ []) ++ y ∷ [] =
           ap Vec.items w.found-is ∙ w.in_ok-push-2.ensures.items ∙ ap (λ xs. xs ++ y ∷ []) w.in_ok-push.ensures.items in
           let keeps = λ (a : ℕ) (on : has before a ≡ true). has_still (before ++ x ∷ []) (y ∷ []) a (has_still before (x ∷ []) a on) in
           record {
             within = subst (λ xs. (a : ℕ) → has xs a ≡ true → a < applicants m) (sym is)
                 (within_more m (before ++ x ∷ []) y (within_more m before x so_far.within w.members-first.ensures.first_within) w.members-first.ensures.second_within);
             keeps = λ a on. ap (λ xs. has xs a) is ∙ keeps a (so_far.keeps a on);
-            adds = λ j low opened a reopened of_a. ap (λ xs. has xs a) is
-                ∙ more ((before ++ x ∷ []) ++ y ∷ []) keeps (λ opens. found_both k s p ws before n.couple x y w.members-first.ensures.first w.members-first.ensures.second) j low opened a reopened of_a;
+            adds = λ j low opened a of_a. ap (λ xs. has xs a) is
+                ∙ more ((before ++ x ∷ []) ++ y ∷ []) keeps (λ opens. found_both k s p ws before n.couple x y w.members-first.ensures.first w.members-first.ensures.second) j low opened a of_a;
           }
-      | else-may_open w ↦
-          let is : c.if-may_open.found.items ≡ before = ap Vec.items w.found-is in
-          let none : AreFoundBy k s p ws counts before n = elim w.else-may_open.branch [
-            | else-may_open-via-then-may_open+else-is_reopened v ↦ (λ opens. found_neither k s p ws before n.couple (sym v.is_reopened.ensures ∙ v.if-is_reopened.false))
-            | else-may_open-via-else-may_open v ↦ (λ opens. absurd (both_ways (may_open counts n) (sym c.may_open.ensures ∙ v.if-may_open.false) opens))
-          ] in
+      | else-is_noted_reopened w ↦
+          let is : c.if-is_noted_reopened.found.items ≡ before = ap Vec.items w.found-is in
+          let none : AreFoundBy k s p ws counts before n = λ opens a of_a.
+          absurd (both_ways (is_noted_reopened k s p ws counts n) (sym c.is_noted_reopened.ensures ∙ w.if-is_noted_reopened.false) opens) in
           record {
             within = subst (λ xs. (a : ℕ) → has xs a ≡ true → a < applicants m) (sym is) so_far.within;
             keeps = λ a on. ap (λ xs. has xs a) is ∙ so_far.keeps a on;
-            adds = λ j low opened a reopened of_a. ap (λ xs. has xs a) is ∙ more before (λ b there. there) none j low opened a reopened of_a;
+            adds = λ j low opened a of_a. ap (λ xs. has xs a) is ∙ more before (λ b there. there) none j low opened a of_a;
           }
     ]
 
@@ -67,4 +69,4 @@ returns-clause-adds c = λ d a reopened of_a.
     let is : n.0 ≡ get_or notes place.0 no_note = place.2 ∙ read_any notes place.0 n.0 no_note place.1 in
     let found : AreFoundBy k s p ws counts c.loop-note.found.items n.0 =
     subst (AreFoundBy k s p ws counts c.loop-note.found.items) (sym is) (c.loop-note.invariant.adds place.0 (omega (arith, place.1, c.loop-note-test.false))) in
-    found n.3 a (subst (λ e. is_reopened k s (p ∷ []) ws (Couple e) ≡ true) (sym n.2) reopened) (of_a ∙ ap Couple (sym n.2))
+    found n.3 a (of_a ∙ ap Couple (sym n.2))
