@@ -1,24 +1,23 @@
 -- Who is found when programs that were left are looked at, and who is passed over.
-use Rattle.std.proofs.Common.{◌≡◌, ◌∙◌, ℕ, zero, suc, ◌+◌, ◌<◌, ◌≤◌, true, false, not, ◌&&◌, ◌||◌, ◌==◌, nat_le, nat_lt, List, [], ◌∷◌, ◌++◌, map, filter, drop, length, get_or, Option, Some, None, is_some, refl, ap, sym, subst, inl, inr, arith, Result, Ok, Err, OnOk}
-use Rattle.std.specs.List.{list_any, position}
+use Rattle.std.proofs.Common.{◌≡◌, ◌∙◌, ℕ, zero, suc, ◌+◌, ◌<◌, ◌≤◌, true, false, not, ◌&&◌, ◌||◌, ◌==◌, nat_le, List, [], ◌∷◌, ◌++◌, filter, drop, length, get_or, Option, Some, None, is_some, refl, ap, sym, subst, inl, inr, arith, Result, Ok, Err, OnOk}
+use Rattle.std.specs.List.{position}
 use Rattle.std.proofs.lemmas.List.{drop_more}
 use Rattle.std.proofs.lemmas.List.Quantifiers.{position-Some}
 use Rattle.std.proofs.lemmas.Bool.{cases_lt, and_parts, and_from, or_cases, or_left, or_right, eq-eqb, eqb-true, both_ways, false≢true, false_from_ne_true, not_from_false, not-true}
 use Rattle.std.proofs.lemmas.Bool.Decides.{nat_tests}
-use Rattle.std.proofs.Math.Bool.{or-false, and-true}
+use Rattle.std.proofs.Math.Bool.{or-false}
 use Rattle.mt_terms.specs.Lists.{has}
-use Rattle.mt_terms.specs.Market.{Market, Pair, applicants, agent_of, couple_of, list_of, members, program_of}
-use Rattle.mt_terms.specs.Matching.{Placement, place_of, is_program, is_same_place, at, better, holds, options, send, single_placement, couple_placement}
+use Rattle.mt_terms.specs.Market.{Market, Pair, applicants, agent_of, couple_of, members, program_of}
+use Rattle.mt_terms.specs.Matching.{Placement, is_program, at, better, holds, send, single_placement, couple_placement}
 use Rattle.mt_terms.specs.Rounds.{has_entered, is_on, joined}
 use Rattle.mt_terms.specs.Stability.{is_chosen, would_be_taken}
 use Rattle.mt_terms.specs.WellFormed.{IsWellFormed}
 use Rattle.mt_terms.specs.declared.numbers.Agent.{Agent}
 use Rattle.mt_terms.specs.declared.numbers.Agent.TheVariants.{Single, Couple}
-use Rattle.mt_match_laws.proofs.ListLemmas.{until-map}
 use Rattle.mt_match_laws.proofs.ChoiceLemmas.{choice_facts}
 use Rattle.mt_ranks.proofs.Positions.{has-position}
 use Rattle.mt_ranks.specs.Ranked.{rank_of}
-use Rattle.mt_round_laws.proofs.RoundsLists.{In, found, finds, each, has_in, in_has, of_image, of_until, same_until}
+use Rattle.mt_round_laws.proofs.RoundsLists.{In, found, finds, each, has_in, in_has, of_image}
 use Rattle.mt_round_laws.proofs.RoundsAgents.{member_of_agent, one_of_two}
 use Rattle.mt_couples.specs.Assigned.{Assigned, pair_of, AreApplicantsOf}
 use Rattle.mt_couples.specs.Looking.{is_noted_reopened, AddsCouples, AddsSingles, HaveReopened, IsWatching}

@@ -1,7 +1,7 @@
-use Rattle.std.proofs.Common.{◌≡◌, ◌∙◌, ◌++◌, ◌∷◌, ◌+◌, ◌<◌, [], ℕ, List, Vec, true, false, length, get_or, ap, sym, subst, arith}
+use Rattle.std.proofs.Common.{◌≡◌, ◌∙◌, ◌++◌, ◌∷◌, ◌+◌, ◌<◌, [], ℕ, List, Vec, true, get_or, ap, sym, subst, arith}
 use Rattle.std.proofs.lemmas.Bool.{both_ways}
 use Rattle.mt_terms.specs.Lists.{has}
-use Rattle.mt_terms.specs.Market.{agent_of, applicants}
+use Rattle.mt_terms.specs.Market.{applicants}
 use Rattle.mt_terms.specs.declared.numbers.Agent.TheVariants.{Couple}
 use Rattle.mt_couples.specs.Looking.{is_noted_reopened}
 use Rattle.mt_round_laws.proofs.RoundsLists.{In}

@@ -1,4 +1,4 @@
-use Rattle.std.proofs.Common.{◌∙◌, Vec, ap, subst, sym}
+use Rattle.std.proofs.Common.{Vec, ap, subst, sym}
 use Rattle.mt_couples.specs.Watching.{Follows}
 use Rattle.mt_couples.proofs.WatchFacts.{watched_now}
 use Rattle.mt_couples.proofs.watch.Watch.follow.Goals as goal
