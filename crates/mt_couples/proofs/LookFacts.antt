@@ -95,7 +95,7 @@ below_next c k le = grind (arith, nat_tests, le)
 -- The note by which a couple is found that is reopened by an option at a program: of a pair there that stands no
 -- later than the option.
 pub open_note : (k : ℕ) (s : Assigned) (w : Watch) (p : ℕ) (ws : List Agent) (c : ℕ) → IsWatching k s w → p < length s.market.programs
-    → is_reopened k s (p ∷ []) ws (Couple c) ≡ true → (n : Note) × In n (row_at w.couples.items p) × (n.couple ≡ c) × (is_noted_reopened k s p ws w.better.items n ≡ true)
+    → is_reopened k s (p ∷ []) ws (Couple c) ≡ true → (n : Note) × In n (row_at w.couples.items p) × (n.couple ≡ c) × (is_noted_reopened k s w p ws n ≡ true)
 open_note k s w p ws c watching known reopened =
     let notes = row_at w.couples.items p in
     let counts = w.better.items in
@@ -114,8 +114,13 @@ open_note k s w p ws c watching known reopened =
     let counted = watching.counted.each c (watching.named.within p c i noted) in
     let opened : opens_between s c p n.0.from (get_or counts c 0) ≡ true =
     any_between (λ x. names p x && would_be_taken s.market s.places (pair_of s c x)) pairs pair.0 i n.0.from (get_or counts c 0) (no_later n.0.from i is.1)
-    (omega (arith, counted, place.1)) front.0 (place.2 ∙ front.1) pair.2 in
-    (n.0, n.1, of_couple, subst (λ d. (is_idle k ws (Couple d) && opens_between s d p n.0.from (get_or counts d 0)) ≡ true) (sym of_couple) (and_from _ _ parts.0 opened))
+    (omega (arith, counted, place.1)) front.0 (place.2 ∙ front.1) pair.2 in (
+      n.0,
+      n.1,
+      of_couple,
+      subst (λ d. (is_idle k ws (Couple d) && opens_between s d p n.0.from (get_or counts d 0)) ≡ true) (sym of_couple)
+          (and_from (is_idle k ws (Couple c)) (opens_between s c p n.0.from (get_or counts c 0)) parts.0 opened),
+    )
   where
     no_later : (a b : ℕ) → nat_le a b ≡ true → a ≤ b
     no_later a b le = grind (arith, nat_tests, le)
@@ -263,8 +268,8 @@ module _ (k : ℕ) (s : Assigned) (p : ℕ) (ws : List Agent) where
   nobody_at found r past a ranked reopened = (let w = (at_rank (program_of s.market p).ranking a r ranked).0 in absurd (omega arith))
 
   -- the members of a note's couple are found where that is reopened
-  abbrev pub AreFoundBy : List ℕ → List ℕ → Note → Type 0
-  AreFoundBy counts found n = is_noted_reopened k s p ws counts n ≡ true → (a : ℕ) → agent_of s.market a ≡ Couple n.couple → has found a ≡ true
+  abbrev pub AreFoundBy : Watch → List ℕ → Note → Type 0
+  AreFoundBy w found n = is_noted_reopened k s w p ws n ≡ true → (a : ℕ) → agent_of s.market a ≡ Couple n.couple → has found a ≡ true
 
   pub found_both : (found : List ℕ) (c x y : ℕ) → x ≡ (couple_of s.market c).first → y ≡ (couple_of s.market c).second
       → (a : ℕ) → agent_of s.market a ≡ Couple c → has ((found ++ x ∷ []) ++ y ∷ []) a ≡ true

@@ -20,6 +20,7 @@ use Rattle.mt_couples.specs.Assigned.{Assigned, pair_of}
 use Rattle.mt_couples.specs.Moves.{IsTaking}
 use Rattle.mt_couples.specs.Watching.{better_pairs, is_noted, notes_pair, row_at, AreCounted, AreNamed, CountsAll, IsCounted}
 use Rattle.mt_couples.specs.declared.couple_list.Note.{Note}
+use Rattle.mt_couples.specs.declared.watch.Watch.{Watch}
 use Rattle.mt_couples.proofs.MoveFacts.{is_move}
 use Rattle.mt_couples.proofs.SentFacts.{in_read}
 
@@ -124,9 +125,9 @@ module _ {m : Market} {old : Places} {g : Agent} {sent : Placement} (taking : Is
   abbrev after : Assigned
   after = record { market = m; places = match_after m old sent }
 
-  pub counted_after : (counts mid new : List ℕ) → AreCounted before counts → CountsAll after counts mid (map (λ s. s.0) sent)
-      → CountsAll after mid new (displaced m (send sent old) sent) → AreCounted after new
-  counted_after counts mid new counted first second = record {
+  pub counted_after : (w mid new : Watch) → AreCounted before w.better.items → CountsAll after w mid (map (λ s. s.0) sent)
+      → CountsAll after mid new (displaced m (send sent old) sent) → AreCounted after new.better.items
+  counted_after w mid new counted first second = record {
     one_each = second.as_many ∙ first.as_many ∙ counted.one_each;
     each = λ c known. elim (cases_Bool (is_displaced m old sent (Couple c))) [
       | inl out ↦ goes c known (of_image (agent_of m) (Couple c) (displaced m (send sent old) sent) (of_list (Couple c) (displaced_agents m old sent) out))
@@ -145,17 +146,17 @@ module _ {m : Market} {old : Places} {g : Agent} {sent : Placement} (taking : Is
           let first = mv.well_formed.first_member c known in
           subst (IsAgent m) first.belongs (agent_of_applicant m mv.well_formed (couple_of m c).first first.within)
 
-      goes : (c : ℕ) → c < length m.couples → (z : ℕ) × In z (displaced m (send sent old) sent) × (agent_of m z ≡ Couple c) → IsCounted after new c
+      goes : (c : ℕ) → c < length m.couples → (z : ℕ) × In z (displaced m (send sent old) sent) × (agent_of m z ≡ Couple c) → IsCounted after new.better.items c
       goes c known z = second.counted z.0 (in_has z.0 _ z.1) c z.2 (omega (arith, first.as_many, counted.one_each))
 
-      moves : (c : ℕ) → c < length m.couples → Couple c ≡ g → IsCounted after new c
+      moves : (c : ℕ) → c < length m.couples → Couple c ≡ g → IsCounted after new.better.items c
       moves c known is =
           let a = (couple_of m c).first in
           let member = subst (λ x. has (members m x) a ≡ true) is (or_left (a == a) _ (eq-eqb a a refl)) in
           let on = ap (λ xs. has xs a) (option_movers m g sent mv.option) ∙ member in
           second.keeps c (first.counted a on c (mv.well_formed.first_member c known).belongs (omega (arith, counted.one_each)))
 
-      stays : (c : ℕ) → c < length m.couples → is_displaced m old sent (Couple c) ≡ false → is_same_agent (Couple c) g ≡ false → IsCounted after new c
+      stays : (c : ℕ) → c < length m.couples → is_displaced m old sent (Couple c) ≡ false → is_same_agent (Couple c) g ≡ false → IsCounted after new.better.items c
       stays c known stay other =
           let a = (couple_of m c).first in
           let b = (couple_of m c).second in

@@ -29,8 +29,9 @@ AddsSingles k s p waiting ranks found =
 
 -- whether the couple of a note at a program has entered, doesn't wait, and has a pair there that would be taken, of
 -- those from the noted one on that it wants more than what it has
-abbrev pub is_noted_reopened : ℕ → Assigned → ℕ → List Agent → List ℕ → Note → Bool
-is_noted_reopened k s p waiting counts n = is_idle k waiting (Couple n.couple) && opens_between s n.couple p n.from (slice_index_or counts n.couple 0)
+abbrev pub is_noted_reopened : ℕ → Assigned → Watch → ℕ → List Agent → Note → Bool
+is_noted_reopened k s w p waiting n =
+    is_idle k waiting (Couple n.couple) && opens_between s n.couple p n.from (slice_index_or w.better.items n.couple 0)
 
 -- the members of each couple are found that is reopened by an option at the program
 abbrev pub AddsCouples : ℕ → Assigned → ℕ → List Agent → List ℕ → Type 0

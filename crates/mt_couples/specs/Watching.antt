@@ -11,6 +11,7 @@ use Rattle.mt_terms.specs.declared.numbers.Agent.{Agent}
 use Rattle.mt_terms.specs.declared.numbers.Agent.TheVariants.{Couple}
 use Rattle.mt_couples.specs.Assigned.{Assigned, pair_of}
 use Rattle.mt_couples.specs.declared.couple_list.Note.{Note}
+use Rattle.mt_couples.specs.declared.watch.Watch.{Watch}
 use Rattle.mt_couples.specs.Running.{is_reopened}
 
 -- the programs that an applicant's list has before its place
@@ -74,6 +75,10 @@ notes_pair c i n = n.couple == c && nat_le n.from i
 abbrev pub is_noted : List Note → ℕ → ℕ → Bool
 is_noted notes c i = list_any (notes_pair c i) notes
 
+-- a couple's pair at an index is noted too
+abbrev pub AddsNote : List Note → List Note → ℕ → ℕ → Type 0
+AddsNote old new c from = (d i : ℕ) → is_noted new d i ≡ (is_noted old d i || (c == d && nat_le from i))
+
 -- no note is lost from a row
 abbrev pub KeepsNotes : List (List Note) → List (List Note) → Type 0
 KeepsNotes old new = (p c i : ℕ) → is_noted (row_at old p) c i ≡ true → is_noted (row_at new p) c i ≡ true
@@ -116,15 +121,15 @@ pub record CountsCouple (s : Assigned) (old new : List ℕ) (c : ℕ) : Type 0 w
   pub keeps : (d : ℕ) → IsCounted s old d → IsCounted s new d
   pub counted : c < length old → IsCounted s new c
 
-pub record Counts (s : Assigned) (old new : List ℕ) (a : ℕ) : Type 0 where
-  pub as_many : length new ≡ length old
-  pub keeps : (c : ℕ) → IsCounted s old c → IsCounted s new c
-  pub counted : (c : ℕ) → agent_of s.market a ≡ Couple c → c < length old → IsCounted s new c
+pub record Counts (s : Assigned) (old new : Watch) (a : ℕ) : Type 0 where
+  pub as_many : length new.better.items ≡ length old.better.items
+  pub keeps : (c : ℕ) → IsCounted s old.better.items c → IsCounted s new.better.items c
+  pub counted : (c : ℕ) → agent_of s.market a ≡ Couple c → c < length old.better.items → IsCounted s new.better.items c
 
-pub record CountsAll (s : Assigned) (old new : List ℕ) (xs : List ℕ) : Type 0 where
-  pub as_many : length new ≡ length old
-  pub keeps : (c : ℕ) → IsCounted s old c → IsCounted s new c
-  pub counted : (a : ℕ) → has xs a ≡ true → (c : ℕ) → agent_of s.market a ≡ Couple c → c < length old → IsCounted s new c
+pub record CountsAll (s : Assigned) (old new : Watch) (xs : List ℕ) : Type 0 where
+  pub as_many : length new.better.items ≡ length old.better.items
+  pub keeps : (c : ℕ) → IsCounted s old.better.items c → IsCounted s new.better.items c
+  pub counted : (a : ℕ) → has xs a ≡ true → (c : ℕ) → agent_of s.market a ≡ Couple c → c < length old.better.items → IsCounted s new.better.items c
 
 -- whoever is reopened is among these applicants
 abbrev pub Covers : ℕ → Assigned → List ℕ → List Agent → List ℕ → Type 0

@@ -1,5 +1,5 @@
-ghost use Rattle.std.specs.Prelude.{◌≡◌, ◌||◌, ◌&&◌, ◌==◌, ℕ, [], nat_le, OnOk};
-ghost use Rattle.mt_couples.specs.Watching.{is_noted};
+ghost use Rattle.std.specs.Prelude.{◌≡◌, [], OnOk};
+ghost use Rattle.mt_couples.specs.Watching.{AddsNote};
 
 use mt_terms::CoupleNo;
 use std::alloc::{AllocError, Global};
@@ -40,7 +40,7 @@ impl CoupleList {
 
     /// Notes the couple's pair at an index, unless the last note is of an earlier one of that couple.
     pub(crate) fn add(&mut self, couple: CoupleNo, from: usize) -> Result<(), AllocError>
-        ensures { OnOk result ((c i : ℕ) → is_noted self.new c i ≡ (is_noted self.old c i || (couple == c && nat_le from i))) }
+        ensures { OnOk result (AddsNote self.old self.new couple from) }
     {
         if let Some(last) = self.notes.last() {
             if last.couple == couple && last.from <= from {

@@ -96,7 +96,7 @@ fn is_noted_reopened(
     requires couple { note.now.couple < length assignment.now.market.couples }
     requires counted { AreCounted assignment.now watch.now.better.items }
     requires waiting { IsListOf assignment.now.market waiting.now }
-    ensures { result ≡ is_noted_reopened last assignment.now program waiting.now.agents watch.now.better.items note.now }
+    ensures { result ≡ is_noted_reopened last assignment.now watch.now program waiting.now.agents note.now }
 {
     let better = watch.better(note.couple);
     note.from < better

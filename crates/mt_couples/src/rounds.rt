@@ -172,7 +172,7 @@ fn follow_sent(
     requires { AreSent assignment.now.market sent.now }
     ensures couples { OnOk result (watch.new.couples ≡ watch.old.couples) }
     ensures singles { OnOk result (FollowsAll assignment.now watch.old.singles.items watch.new.singles.items (map (λ s. s.0) sent.now)) }
-    ensures better { OnOk result (CountsAll assignment.now watch.old.better.items watch.new.better.items (map (λ s. s.0) sent.now)) }
+    ensures better { OnOk result (CountsAll assignment.now watch.old watch.new (map (λ s. s.0) sent.now)) }
 {
     for seat in sent {
         watch.follow(assignment, seat.0)?;
@@ -189,7 +189,7 @@ fn follow_displaced(
     requires { AreApplicantsOf assignment.now.market displaced.now }
     ensures couples { OnOk result (watch.new.couples ≡ watch.old.couples) }
     ensures singles { OnOk result (FollowsAll assignment.now watch.old.singles.items watch.new.singles.items displaced.now) }
-    ensures better { OnOk result (CountsAll assignment.now watch.old.better.items watch.new.better.items displaced.now) }
+    ensures better { OnOk result (CountsAll assignment.now watch.old watch.new displaced.now) }
 {
     for applicant in displaced {
         watch.follow(assignment, *applicant)?;

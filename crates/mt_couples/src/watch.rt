@@ -153,7 +153,7 @@ impl Watch {
         requires { applicant < applicants assignment.now.market }
         ensures couples { OnOk result (self.new.couples ≡ self.old.couples) }
         ensures singles { OnOk result (Follows assignment.now self.old.singles.items self.new.singles.items applicant) }
-        ensures better { OnOk result (Counts assignment.now self.old.better.items self.new.better.items applicant) }
+        ensures better { OnOk result (Counts assignment.now self.old self.new applicant) }
     {
         watch_each(&mut self.singles, assignment.better_live(applicant))?;
         if let Agent::Couple(couple) = assignment.agent_of(applicant) {

@@ -23,12 +23,12 @@ loop-note-preserved c =
     let p = c.args.program in
     let k = c.args.last in
     let ws = c.args.waiting.now.agents in
-    let counts = c.args.watch.now.better.items in
+    let watch = c.args.watch.now in
     let n = c.note-item.result in
     let before = c.loop-note.found.items in
     let so_far = c.loop-note.invariant in
-    let more = λ (found : List ℕ) (keeps : (a : ℕ) → has before a ≡ true → has found a ≡ true) (here : AreFoundBy k s p ws counts found n).
-    each_next (AreFoundBy k s p ws counts found) c.couples-note-items.result.now c.loop-note.note-index n no_note c.loop-note-test.true c.note-item.is
+    let more = λ (found : List ℕ) (keeps : (a : ℕ) → has before a ≡ true → has found a ≡ true) (here : AreFoundBy k s p ws watch found n).
+    each_next (AreFoundBy k s p ws watch found) c.couples-note-items.result.now c.loop-note.note-index n no_note c.loop-note-test.true c.note-item.is
     (λ j low opened a of_a. keeps a (so_far.adds j low opened a of_a)) here in
     elim c.if-is_noted_reopened.branch [
       | then-is_noted_reopened+in_ok-push+in_ok-push-2 w ↦
@@ -46,8 +46,8 @@ loop-note-preserved c =
           }
       | else-is_noted_reopened w ↦
           let is : c.if-is_noted_reopened.found.items ≡ before = ap Vec.items w.found-is in
-          let none : AreFoundBy k s p ws counts before n = λ opens a of_a.
-          absurd (both_ways (is_noted_reopened k s p ws counts n) (sym c.is_noted_reopened.ensures ∙ w.if-is_noted_reopened.false) opens) in
+          let none : AreFoundBy k s p ws watch before n = λ opens a of_a.
+          absurd (both_ways (is_noted_reopened k s watch p ws n) (sym c.is_noted_reopened.ensures ∙ w.if-is_noted_reopened.false) opens) in
           record {
             within = subst (λ xs. (a : ℕ) → has xs a ≡ true → a < applicants m) (sym is) so_far.within;
             keeps = λ a on. ap (λ xs. has xs a) is ∙ so_far.keeps a on;
@@ -62,11 +62,11 @@ returns-clause-adds c = λ d a reopened of_a.
     let p = c.args.program in
     let k = c.args.last in
     let ws = c.args.waiting.now.agents in
-    let counts = c.args.watch.now.better.items in
+    let watch = c.args.watch.now in
     let notes = c.couples-note-items.result.now in
-    let n = open_note k s c.args.watch.now p ws d c.requires.watch c.requires.program reopened in
+    let n = open_note k s watch p ws d c.requires.watch c.requires.program reopened in
     let place = index_of n.0 notes (subst (λ xs. In n.0 xs) (sym c.couples-note-items.ensures) n.1) in
     let is : n.0 ≡ get_or notes place.0 no_note = place.2 ∙ read_any notes place.0 n.0 no_note place.1 in
-    let found : AreFoundBy k s p ws counts c.loop-note.found.items n.0 =
-    subst (AreFoundBy k s p ws counts c.loop-note.found.items) (sym is) (c.loop-note.invariant.adds place.0 (omega (arith, place.1, c.loop-note-test.false))) in
+    let found : AreFoundBy k s p ws watch c.loop-note.found.items n.0 =
+    subst (AreFoundBy k s p ws watch c.loop-note.found.items) (sym is) (c.loop-note.invariant.adds place.0 (omega (arith, place.1, c.loop-note-test.false))) in
     found n.3 a (of_a ∙ ap Couple (sym n.2))

@@ -8,5 +8,5 @@ abbrev pub invariant-loop-note : goal.invariant-loop-note
 invariant-loop-note l = record {
   within : AreApplicantsOf l.assignment.market l.found.items;
   keeps : Keeps l.initial.found.items l.found.items;
-  adds : (j : ℕ) → j < l.note-index → AreFoundBy l.last l.assignment l.fn.program l.waiting.agents l.watch.better.items l.found.items (get_or l.note-items j no_note);
+  adds : (j : ℕ) → j < l.note-index → AreFoundBy l.last l.assignment l.fn.program l.waiting.agents l.watch l.found.items (get_or l.note-items j no_note);
 }

@@ -6,5 +6,5 @@ abbrev pub invariant-loop-applicant : goal.invariant-loop-applicant
 invariant-loop-applicant l = record {
   couples : l.watch.couples ≡ l.initial.watch.couples;
   singles : FollowsAll l.assignment l.initial.watch.singles.items l.watch.singles.items (take l.applicant-index l.displaced);
-  better : CountsAll l.assignment l.initial.watch.better.items l.watch.better.items (take l.applicant-index l.displaced);
+  better : CountsAll l.assignment l.initial.watch l.watch (take l.applicant-index l.displaced);
 }

@@ -6,5 +6,5 @@ abbrev pub invariant-loop-seat : goal.invariant-loop-seat
 invariant-loop-seat l = record {
   couples : l.watch.couples ≡ l.initial.watch.couples;
   singles : FollowsAll l.assignment l.initial.watch.singles.items l.watch.singles.items (map (λ s. s.0) (take l.seat-index l.sent));
-  better : CountsAll l.assignment l.initial.watch.better.items l.watch.better.items (map (λ s. s.0) (take l.seat-index l.sent));
+  better : CountsAll l.assignment l.initial.watch l.watch (map (λ s. s.0) (take l.seat-index l.sent));
 }

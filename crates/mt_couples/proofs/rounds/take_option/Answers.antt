@@ -83,7 +83,7 @@ follow_displaced-requires c = λ a on.
 -- the match after the move is watched
 watching : (s0 s1 : Assigned) (sent : Placement) (g : Agent) (k : ℕ) (w0 w1 w2 : Watch) (xs : List ℕ) → IsTaking s0.market s0.places g sent → s1 ≡ moved s0 sent → IsWatching k s0 w0
     → FollowsAll s1 w0.singles.items w1.singles.items (map (λ s. s.0) sent) → FollowsAll s1 w1.singles.items w2.singles.items xs
-    → CountsAll s1 w0.better.items w1.better.items (map (λ s. s.0) sent) → CountsAll s1 w1.better.items w2.better.items xs → xs ≡ displaced_by s0 sent
+    → CountsAll s1 w0 w1 (map (λ s. s.0) sent) → CountsAll s1 w1 w2 xs → xs ≡ displaced_by s0 sent
     → w2.couples.items ≡ w0.couples.items → IsWatching k s1 w2
 watching s0 s1 sent g k w0 w1 w2 xs taking after before first second count recount displaced couples =
     let first' : FollowsAll (moved s0 sent) w0.singles.items w1.singles.items (map (λ s. s.0) sent) =
@@ -91,15 +91,15 @@ watching s0 s1 sent g k w0 w1 w2 xs taking after before first second count recou
     let second' : FollowsAll (moved s0 sent) w1.singles.items w2.singles.items (displaced_by s0 sent) =
     subst (FollowsAll (moved s0 sent) w1.singles.items w2.singles.items) displaced
     (subst (λ (x : Assigned). FollowsAll x w1.singles.items w2.singles.items xs) after second) in
-    let count' : CountsAll (moved s0 sent) w0.better.items w1.better.items (map (λ s. s.0) sent) =
-    subst (λ (x : Assigned). CountsAll x w0.better.items w1.better.items (map (λ s. s.0) sent)) after count in
-    let recount' : CountsAll (moved s0 sent) w1.better.items w2.better.items (displaced_by s0 sent) =
-    subst (CountsAll (moved s0 sent) w1.better.items w2.better.items) displaced
-    (subst (λ (x : Assigned). CountsAll x w1.better.items w2.better.items xs) after recount) in
+    let count' : CountsAll (moved s0 sent) w0 w1 (map (λ s. s.0) sent) =
+    subst (λ (x : Assigned). CountsAll x w0 w1 (map (λ s. s.0) sent)) after count in
+    let recount' : CountsAll (moved s0 sent) w1 w2 (displaced_by s0 sent) =
+    subst (CountsAll (moved s0 sent) w1 w2) displaced
+    (subst (λ (x : Assigned). CountsAll x w1 w2 xs) after recount) in
     subst (λ (x : Assigned). IsWatching k x w2) (sym after) (record {
       watched = watched_after taking w0.singles.items w1.singles.items w2.singles.items before.watched first' second';
       named = subst (AreNamed s0.market (k + 1)) (sym couples) before.named;
-      counted = counted_after taking w0.better.items w1.better.items w2.better.items before.counted count' recount';
+      counted = counted_after taking w0 w1 w2 before.counted count' recount';
     })
 
 pub look_at_left-requires-clause-watch : goal.look_at_left-requires-clause-watch
