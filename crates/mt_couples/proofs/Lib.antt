@@ -4,6 +4,7 @@ pub mod JoinFacts
 pub mod MarketFacts
 pub mod MoveFacts
 pub mod MoveSteps
+pub mod NoteFacts
 pub mod OptionFacts
 pub mod PlaceFacts
 pub mod QuietFacts

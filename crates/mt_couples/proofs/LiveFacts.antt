@@ -1,12 +1,12 @@
 -- A single's better options by its live entries, which have its ranks.
-use Rattle.std.proofs.Common.{◌≡◌, ◌∙◌, ℕ, ◌+◌, ◌<◌, Bool, true, false, ◌&&◌, ◌||◌, ◌==◌, List, [], ◌∷◌, map, filter, take, length, get_or, Option, Some, None, is_some, unwrap_or, refl, ap, ap₂, sym, subst, inl, inr, arith, le-ltb, nat_lt, if◌then◌else◌}
+use Rattle.std.proofs.Common.{◌≡◌, ◌∙◌, ℕ, ◌+◌, ◌<◌, Bool, true, false, ◌&&◌, ◌||◌, ◌==◌, List, [], ◌∷◌, map, filter, take, length, get_or, Option, Some, None, is_some, refl, ap, ap₂, sym, subst, inl, inr, arith, le-ltb, nat_lt, if◌then◌else◌}
 use Rattle.std.specs.Option.{option_map}
 use Rattle.std.specs.List.{find, list_any}
 use Rattle.std.proofs.Math.Bool.{and-true, or-false}
-use Rattle.std.proofs.lemmas.Bool.{cases_Bool, both_ways, and_right, eqb-true, eq-eqb}
+use Rattle.std.proofs.lemmas.Bool.{cases_Bool, both_ways, and_right, eqb-true}
 use Rattle.mt_terms.specs.Lists.{has, until, count, above}
-use Rattle.mt_terms.specs.Market.{Market, applicants, list_of, live, live_market, program_of}
-use Rattle.mt_terms.specs.Matching.{Placement, place_of, is_program, is_same_place, at, better, holds, send, single_placement}
+use Rattle.mt_terms.specs.Market.{applicants, list_of, live, live_market, program_of}
+use Rattle.mt_terms.specs.Matching.{place_of, is_program, is_same_place, at, better, holds, send, single_placement}
 use Rattle.mt_terms.specs.Stability.{would_be_taken}
 use Rattle.mt_terms.specs.declared.numbers.Agent.TheVariants.{Single}
 use Rattle.mt_terms.proofs.BelowFacts.{map_below_at}
@@ -45,11 +45,11 @@ before_stop {X} test x (y ∷ ys) i = by_head (test y) refl (before_stop test x 
         let here : In x (y ∷ until test ys) = rw goes at i in
         elim here [ inl is ↦ ap test (sym is) ∙ goes | inr rest ↦ later rest ]
 
-find-map : {X Y : Type 0} (test : Y → Bool) (f : X → Y) (xs : List X) → find test (map f xs) ≡ option_map f (find (λ x. test (f x)) xs)
+pub find-map : {X Y : Type 0} (test : Y → Bool) (f : X → Y) (xs : List X) → find test (map f xs) ≡ option_map f (find (λ x. test (f x)) xs)
 find-map test f [] = refl
 find-map test f (x ∷ xs) = elim (cases_Bool (test (f x))) [ inl t ↦ rw t refl | inr t ↦ rw t (find-map test f xs) ]
 
-list_any-map : {X Y : Type 0} (test : Y → Bool) (f : X → Y) (xs : List X) → list_any test (map f xs) ≡ list_any (λ x. test (f x)) xs
+pub list_any-map : {X Y : Type 0} (test : Y → Bool) (f : X → Y) (xs : List X) → list_any test (map f xs) ≡ list_any (λ x. test (f x)) xs
 list_any-map test f [] = refl
 list_any-map test f (x ∷ xs) = ap (λ (b : Bool). test (f x) || b) (list_any-map test f xs)
 

@@ -1,35 +1,36 @@
 -- Who is found when programs that were left are looked at, and who is passed over.
-use Rattle.std.proofs.Common.{◌≡◌, ◌∙◌, ℕ, zero, suc, ◌+◌, ◌<◌, ◌≤◌, true, false, not, ◌&&◌, ◌||◌, ◌==◌, nat_le, List, [], ◌∷◌, ◌++◌, map, filter, drop, length, get_or, Option, Some, None, is_some, refl, ap, sym, subst, inl, inr, arith, Result, Ok, Err, OnOk}
-use Rattle.std.specs.List.{list_any, position}
+use Rattle.std.proofs.Common.{◌≡◌, ◌∙◌, ℕ, zero, suc, ◌+◌, ◌<◌, ◌≤◌, true, false, not, ◌&&◌, ◌||◌, ◌==◌, nat_le, List, [], ◌∷◌, ◌++◌, filter, drop, length, get_or, Option, Some, None, is_some, refl, ap, sym, subst, inl, inr, arith, Result, Ok, Err, OnOk}
+use Rattle.std.specs.List.{position}
 use Rattle.std.proofs.lemmas.List.{drop_more}
 use Rattle.std.proofs.lemmas.List.Quantifiers.{position-Some}
 use Rattle.std.proofs.lemmas.Bool.{cases_lt, and_parts, and_from, or_cases, or_left, or_right, eq-eqb, eqb-true, both_ways, false≢true, false_from_ne_true, not_from_false, not-true}
 use Rattle.std.proofs.lemmas.Bool.Decides.{nat_tests}
-use Rattle.std.proofs.Math.Bool.{or-false, and-true}
+use Rattle.std.proofs.Math.Bool.{or-false}
 use Rattle.mt_terms.specs.Lists.{has}
-use Rattle.mt_terms.specs.Market.{Market, applicants, agent_of, couple_of, list_of, members, program_of}
-use Rattle.mt_terms.specs.Matching.{Placement, place_of, is_program, is_same_place, at, better, holds, options, send, single_placement, couple_placement}
+use Rattle.mt_terms.specs.Market.{Market, Pair, applicants, agent_of, couple_of, members, program_of}
+use Rattle.mt_terms.specs.Matching.{Placement, is_program, at, better, holds, send, single_placement, couple_placement}
 use Rattle.mt_terms.specs.Rounds.{has_entered, is_on, joined}
 use Rattle.mt_terms.specs.Stability.{is_chosen, would_be_taken}
 use Rattle.mt_terms.specs.WellFormed.{IsWellFormed}
 use Rattle.mt_terms.specs.declared.numbers.Agent.{Agent}
 use Rattle.mt_terms.specs.declared.numbers.Agent.TheVariants.{Single, Couple}
-use Rattle.mt_match_laws.proofs.ListLemmas.{until-map}
 use Rattle.mt_match_laws.proofs.ChoiceLemmas.{choice_facts}
 use Rattle.mt_ranks.proofs.Positions.{has-position}
 use Rattle.mt_ranks.specs.Ranked.{rank_of}
-use Rattle.mt_round_laws.proofs.RoundsLists.{In, found, finds, each, has_in, in_has, of_image, of_until, same_until}
+use Rattle.mt_round_laws.proofs.RoundsLists.{In, found, finds, each, has_in, in_has, of_image}
 use Rattle.mt_round_laws.proofs.RoundsAgents.{member_of_agent, one_of_two}
-use Rattle.mt_couples.specs.Assigned.{Assigned, AreApplicantsOf}
-use Rattle.mt_couples.specs.Looking.{AddsCouples, AddsSingles, HaveReopened, IsWatching}
+use Rattle.mt_couples.specs.Assigned.{Assigned, pair_of, AreApplicantsOf}
+use Rattle.mt_couples.specs.Looking.{is_noted_reopened, AddsCouples, AddsSingles, HaveReopened, IsWatching}
 use Rattle.mt_couples.specs.Moves.{agents_of, names_one_of, opens, some_has}
-use Rattle.mt_couples.specs.Running.{is_reopened}
+use Rattle.mt_couples.specs.Running.{is_idle, is_reopened}
 use Rattle.mt_couples.specs.Waiting.{Waiting, with_agents}
-use Rattle.mt_couples.specs.Watching.{names, row_at, wanted, Covers}
+use Rattle.mt_couples.specs.Watching.{better_pairs, is_noted, names, notes_pair, opens_between, row_at, wanted, Covers}
+use Rattle.mt_couples.specs.declared.couple_list.Note.{Note}
 use Rattle.mt_couples.specs.declared.watch.Watch.{Watch}
 use Rattle.mt_terms.specs.Lists.{is_distinct}
 use Rattle.mt_terms.proofs.ListFacts.{same_position}
 use Rattle.mt_couples.proofs.LiveFacts.{better_single}
+use Rattle.mt_couples.proofs.NoteFacts.{any_between, better_couple, until_front}
 use Rattle.mt_couples.proofs.PlaceFacts.{has_at, has_read}
 use Rattle.mt_couples.proofs.WatchFacts.{has_end, has_parts, has_still, index_of}
 use Rattle.mt_couples.proofs.JoinFacts.{next_mapped}
@@ -75,23 +76,58 @@ open_single s p a o =
     (subst (λ x. has (wanted s a) x ≡ true) (sym same) (in_has q (wanted s a) w.1), subst (λ x. has (program_of m x).ranking a ≡ true) (sym same) listed)
 
 -- a couple's is a pair that names the program
-open_couple : (s : Assigned) (p c : ℕ) → IsOpen s p (Couple c) → list_any (names p) (couple_of s.market c).pairs ≡ true
+open_couple : (s : Assigned) (p c : ℕ) → IsOpen s p (Couple c)
+    → (pair : Pair) × In pair (better_pairs s c) × ((names p pair && would_be_taken s.market s.places (pair_of s c pair)) ≡ true)
 open_couple s p c o =
     let couple = couple_of s.market c in
-    let w = of_image (couple_placement couple.first couple.second) o.option couple.pairs (of_until (holds s.places) o.option (options s.market (Couple c)) o.is_better) in
+    let w = of_image (couple_placement couple.first couple.second) o.option (better_pairs s c) (subst (In o.option) (better_couple s c) o.is_better) in
     let named : (some_has (p ∷ []) w.0.0 || (some_has (p ∷ []) w.0.1 || false)) ≡ true = subst (λ x. names_one_of (p ∷ []) x ≡ true) (sym w.2) o.at_program in
-    finds (names p) w.0 couple.pairs w.1 (elim (or_cases (some_has (p ∷ []) w.0.0) (some_has (p ∷ []) w.0.1 || false) named) [
+    let at_p : names p w.0 ≡ true = elim (or_cases (some_has (p ∷ []) w.0.0) (some_has (p ∷ []) w.0.1 || false) named) [
       | inl first ↦ or_left (is_program p w.0.0) (is_program p w.0.1) (ap (is_program p) (of_one p w.0.0 first) ∙ eq-eqb p p refl)
       | inr second ↦ or_right (is_program p w.0.0) (is_program p w.0.1)
           (ap (is_program p) (of_one p w.0.1 (sym (or-false (some_has (p ∷ []) w.0.1)) ∙ second)) ∙ eq-eqb p p refl)
-    ])
+    ] in
+    (w.0, w.1, and_from _ _ at_p (subst (λ x. would_be_taken s.market s.places x ≡ true) (sym w.2) o.taken))
 
 below_next : (c k : ℕ) → nat_le c k ≡ true → c < k + 1
 below_next c k le = grind (arith, nat_tests, le)
 
+-- The note by which a couple is found that is reopened by an option at a program: of a pair there that stands no
+-- later than the option.
+pub open_note : (k : ℕ) (s : Assigned) (w : Watch) (p : ℕ) (ws : List Agent) (c : ℕ) → IsWatching k s w → p < length s.market.programs
+    → is_reopened k s (p ∷ []) ws (Couple c) ≡ true → (n : Note) × In n (row_at w.couples.items p) × (n.couple ≡ c) × (is_noted_reopened k s w p ws n ≡ true)
+open_note k s w p ws c watching known reopened =
+    let notes = row_at w.couples.items p in
+    let counts = w.better.items in
+    let parts = and_parts (nat_le c k && not (is_on ws (Couple c))) (opens s (p ∷ []) (Couple c)) reopened in
+    let entered : nat_le c k ≡ true = (and_parts (nat_le c k) (not (is_on ws (Couple c))) parts.0).0 in
+    let pair = open_couple s p c (open_at s p (Couple c) parts.1) in
+    let place = index_of pair.0 (better_pairs s c) pair.1 in
+    let i = place.0 in
+    let pairs = (couple_of s.market c).pairs in
+    let front = until_front (λ x. holds s.places (pair_of s c x)) pairs i pair.0 place.1 in
+    let at_p = and_parts (names p pair.0) (would_be_taken s.market s.places (pair_of s c pair.0)) pair.2 in
+    let noted : is_noted notes c i ≡ true = watching.named.each c (below_next c k entered) p i pair.0 known front.0 (place.2 ∙ front.1) at_p.0 in
+    let n = found (notes_pair c i) notes noted in
+    let is = and_parts (n.0.couple == c) (nat_le n.0.from i) n.2 in
+    let of_couple : n.0.couple ≡ c = eqb-true n.0.couple c is.0 in
+    let counted = watching.counted.each c (watching.named.within p c i noted) in
+    let opened : opens_between s c p n.0.from (get_or counts c 0) ≡ true =
+    any_between (λ x. names p x && would_be_taken s.market s.places (pair_of s c x)) pairs pair.0 i n.0.from (get_or counts c 0) (no_later n.0.from i is.1)
+    (omega (arith, counted, place.1)) front.0 (place.2 ∙ front.1) pair.2 in (
+      n.0,
+      n.1,
+      of_couple,
+      subst (λ d. (is_idle k ws (Couple d) && opens_between s d p n.0.from (get_or counts d 0)) ≡ true) (sym of_couple)
+          (and_from (is_idle k ws (Couple c)) (opens_between s c p n.0.from (get_or counts c 0)) parts.0 opened),
+    )
+  where
+    no_later : (a b : ℕ) → nat_le a b ≡ true → a ≤ b
+    no_later a b le = grind (arith, nat_tests, le)
+
 -- Whoever is reopened by an option at a program is found there.
 pub covers_one : (k : ℕ) (s : Assigned) (w : Watch) (p : ℕ) (ws : List Agent) (mid new : List ℕ) → IsWatching k s w → p < length s.market.programs
-    → AddsSingles k s p ws (row_at w.singles.items p) mid → ((a : ℕ) → has mid a ≡ true → has new a ≡ true) → AddsCouples k s p ws (row_at w.couples.items p) new → Covers k s (p ∷ []) ws new
+    → AddsSingles k s p ws (row_at w.singles.items p) mid → ((a : ℕ) → has mid a ≡ true → has new a ≡ true) → AddsCouples k s p ws new → Covers k s (p ∷ []) ws new
 covers_one k s w p ws mid new watching known singles keeps couples a within reopened = by_agent (agent_of s.market a) refl
   where
     by_agent : (g : Agent) → agent_of s.market a ≡ g → has new a ≡ true
@@ -105,11 +141,7 @@ covers_one k s w p ws mid new watching known singles keeps couples a within reop
         keeps a (singles rank.0 a (watching.watched.each a within p rank.0 wants rank.1) rank.1 reopened)
     by_agent (Couple c) is =
         let now : is_reopened k s (p ∷ []) ws (Couple c) ≡ true = subst (λ g. is_reopened k s (p ∷ []) ws g ≡ true) is reopened in
-        let parts = and_parts (nat_le c k && not (is_on ws (Couple c))) (opens s (p ∷ []) (Couple c)) now in
-        let entered : nat_le c k ≡ true = (and_parts (nat_le c k) (not (is_on ws (Couple c))) parts.0).0 in
-        let low : c < k + 1 = below_next c k entered in
-        let pairs = open_couple s p c (open_at s p (Couple c) parts.1) in
-        couples c a (watching.named.each c p low known pairs) now is
+        couples c a now is
 
 -- whoever is reopened by an option at some of these programs is so by one at one of them
 pub covers_all : (k : ℕ) (s : Assigned) (ps : List ℕ) (ws : List Agent) (xs : List ℕ) → ((p : ℕ) → has ps p ≡ true → Covers k s (p ∷ []) ws xs) → Covers k s ps ws xs
@@ -212,6 +244,10 @@ pub both_ok : {T X : Type 0} {A B C : Type 0} (r : Result T X) → OnOk r A → 
 both_ok (Ok x) a b f = f a b
 both_ok (Err e) a b f = tt
 
+-- what stands past the end of a list of notes
+abbrev pub no_note : Note
+no_note = record { couple = 0; from = 0 }
+
 -- Below, who stands at a rank of a program's list is found where it is reopened by an option there.
 module _ (k : ℕ) (s : Assigned) (p : ℕ) (ws : List Agent) where
   abbrev pub IsFoundAt : List ℕ → ℕ → Type 0
@@ -231,19 +267,17 @@ module _ (k : ℕ) (s : Assigned) (p : ℕ) (ws : List Agent) where
   pub nobody_at : (found : List ℕ) (r : ℕ) → length (program_of s.market p).ranking ≤ r → IsFoundAt found r
   nobody_at found r past a ranked reopened = (let w = (at_rank (program_of s.market p).ranking a r ranked).0 in absurd (omega arith))
 
-  -- the members of a couple are found where it is reopened
-  abbrev pub AreFoundOf : List ℕ → ℕ → Type 0
-  AreFoundOf found c = (a : ℕ) → is_reopened k s (p ∷ []) ws (Couple c) ≡ true → agent_of s.market a ≡ Couple c → has found a ≡ true
+  -- the members of a note's couple are found where that is reopened
+  abbrev pub AreFoundBy : Watch → List ℕ → Note → Type 0
+  AreFoundBy w found n = is_noted_reopened k s w p ws n ≡ true → (a : ℕ) → agent_of s.market a ≡ Couple n.couple → has found a ≡ true
 
-  pub found_both : (found : List ℕ) (c x y : ℕ) → x ≡ (couple_of s.market c).first → y ≡ (couple_of s.market c).second → AreFoundOf ((found ++ x ∷ []) ++ y ∷ []) c
-  found_both found c x y is_first is_second a reopened of_a =
+  pub found_both : (found : List ℕ) (c x y : ℕ) → x ≡ (couple_of s.market c).first → y ≡ (couple_of s.market c).second
+      → (a : ℕ) → agent_of s.market a ≡ Couple c → has ((found ++ x ∷ []) ++ y ∷ []) a ≡ true
+  found_both found c x y is_first is_second a of_a =
       elim (one_of_two (couple_of s.market c).first (couple_of s.market c).second a (subst (λ g. has (members s.market g) a ≡ true) of_a (member_of_agent s.market a))) [
         | inl first ↦ has_still (found ++ x ∷ []) (y ∷ []) a (subst (λ z. has (found ++ x ∷ []) z ≡ true) (is_first ∙ first) (has_end found x))
         | inr second ↦ subst (λ z. has ((found ++ x ∷ []) ++ y ∷ []) z ≡ true) (is_second ∙ second) (has_end (found ++ x ∷ []) y)
       ]
-
-  pub found_neither : (found : List ℕ) (c : ℕ) → is_reopened k s (p ∷ []) ws (Couple c) ≡ false → AreFoundOf found c
-  found_neither found c other a reopened of_a = absurd (both_ways (is_reopened k s (p ∷ []) ws (Couple c)) other reopened)
 
 -- applicants of a market, and one more
 pub within_more : (m : Market) (xs : List ℕ) (x : ℕ) → AreApplicantsOf m xs → x < applicants m → AreApplicantsOf m (xs ++ x ∷ [])

@@ -1,19 +1,22 @@
 -- What is found, and where, when programs that were left are looked at.
-use Rattle.std.specs.Prelude.{◌≡◌, ℕ, ◌+◌, ◌<◌, true, List, [], ◌∷◌, length, Some}
+use Rattle.std.specs.Prelude.{◌≡◌, ℕ, Bool, ◌&&◌, ◌+◌, ◌<◌, true, List, [], ◌∷◌, length, Some, slice_index_or}
 use Rattle.mt_terms.specs.Lists.{has}
 use Rattle.mt_terms.specs.Market.{Market, applicants, agent_of, program_of}
 use Rattle.mt_terms.specs.declared.numbers.Agent.{Agent}
 use Rattle.mt_terms.specs.declared.numbers.Agent.TheVariants.{Couple}
 use Rattle.mt_ranks.specs.Ranked.{rank_of}
 use Rattle.mt_couples.specs.Assigned.{Assigned}
-use Rattle.mt_couples.specs.Running.{is_reopened}
-use Rattle.mt_couples.specs.Watching.{AreNamed, AreWatched}
+use Rattle.mt_couples.specs.Running.{is_idle, is_reopened}
+use Rattle.mt_couples.specs.Watching.{opens_between, AreCounted, AreNamed, AreWatched}
+use Rattle.mt_couples.specs.declared.couple_list.Note.{Note}
 use Rattle.mt_couples.specs.declared.watch.Watch.{Watch}
 
--- once a couple has entered, the singles are watched, and the pairs of the couples up to it are noted
+-- once a couple has entered, the singles are watched, the pairs of the couples up to it are noted, and for each
+-- couple it is counted how many it wants more than what it has
 pub record IsWatching (k : ℕ) (s : Assigned) (w : Watch) : Type 0 where
   pub watched : AreWatched s w.singles.items
   pub named : AreNamed s.market (k + 1) w.couples.items
+  pub counted : AreCounted s w.better.items
 
 -- nobody is lost from a list
 abbrev pub Keeps : List ℕ → List ℕ → Type 0
@@ -24,10 +27,16 @@ abbrev pub AddsSingles : ℕ → Assigned → ℕ → List Agent → List ℕ �
 AddsSingles k s p waiting ranks found =
     (r a : ℕ) → has ranks r ≡ true → rank_of s.market p a ≡ Some r → is_reopened k s (p ∷ []) waiting (agent_of s.market a) ≡ true → has found a ≡ true
 
--- the members of a couple, out of these, are found that is reopened by an option at the program
-abbrev pub AddsCouples : ℕ → Assigned → ℕ → List Agent → List ℕ → List ℕ → Type 0
-AddsCouples k s p waiting couples found =
-    (c a : ℕ) → has couples c ≡ true → is_reopened k s (p ∷ []) waiting (Couple c) ≡ true → agent_of s.market a ≡ Couple c → has found a ≡ true
+-- whether the couple of a note at a program has entered, doesn't wait, and has a pair there that would be taken, of
+-- those from the noted one on that it wants more than what it has
+abbrev pub is_noted_reopened : ℕ → Assigned → Watch → ℕ → List Agent → Note → Bool
+is_noted_reopened k s w p waiting n =
+    is_idle k waiting (Couple n.couple) && opens_between s n.couple p n.from (slice_index_or w.better.items n.couple 0)
+
+-- the members of each couple are found that is reopened by an option at the program
+abbrev pub AddsCouples : ℕ → Assigned → ℕ → List Agent → List ℕ → Type 0
+AddsCouples k s p waiting found =
+    (c a : ℕ) → is_reopened k s (p ∷ []) waiting (Couple c) ≡ true → agent_of s.market a ≡ Couple c → has found a ≡ true
 
 -- these are the ranks of some applicants on a program's list
 pub record AreRanksOf (m : Market) (p : ℕ) (xs ranks : List ℕ) : Type 0 where

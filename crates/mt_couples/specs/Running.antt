@@ -31,9 +31,13 @@ IsQuietBut k s ps waiting =
     (g : Agent) → IsTrue (is_on (agents s.market) g) → IsTrue (has_entered k g) → IsFalse (is_on waiting g)
     → IsTrue (blocks s.market s.places g) → IsTrue (opens s ps g)
 
--- whether an agent has entered, doesn't wait, and has a better option at one of these programs that would be taken
+-- whether an agent has entered and doesn't wait, and whether it has a better option at one of these programs that
+-- would be taken besides
+abbrev pub is_idle : ℕ → List Agent → Agent → Bool
+is_idle k waiting g = has_entered k g && not (is_on waiting g)
+
 abbrev pub is_reopened : ℕ → Assigned → List ℕ → List Agent → Agent → Bool
-is_reopened k s ps waiting g = has_entered k g && not (is_on waiting g) && opens s ps g
+is_reopened k s ps waiting g = is_idle k waiting g && opens s ps g
 
 -- whether an agent is a couple, or doesn't block
 abbrev pub is_quiet_single : Assigned → Agent → Bool

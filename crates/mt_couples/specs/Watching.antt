@@ -1,13 +1,17 @@
 -- Where it is watched that an option may be opened.
-use Rattle.std.specs.Prelude.{◌≡◌, ℕ, ◌<◌, Bool, true, ◌||◌, ◌⊎◌, List, [], length, Option, Some, slice_index_or}
+use Rattle.std.specs.Prelude.{◌≡◌, ℕ, ◌<◌, ◌≤◌, Bool, true, ◌&&◌, ◌||◌, ◌==◌, nat_le, ◌⊎◌, List, [], length, Option, Some, slice_index_or, slice_range}
 use Rattle.std.specs.List.{list_any}
 use Rattle.mt_terms.specs.Lists.{has, until}
 use Rattle.mt_terms.specs.Market.{Market, Pair, applicants, agent_of, couple_of, list_of, live_market}
-use Rattle.mt_terms.specs.Matching.{at, is_program}
+use Rattle.mt_terms.specs.Matching.{at, holds, is_program}
+use Rattle.mt_terms.specs.Stability.{would_be_taken}
 use Rattle.mt_ranks.specs.Ranked.{rank_of, ranked_list}
 use Rattle.mt_ranks.specs.declared.entries.Live.{Live}
 use Rattle.mt_terms.specs.declared.numbers.Agent.{Agent}
-use Rattle.mt_couples.specs.Assigned.{Assigned}
+use Rattle.mt_terms.specs.declared.numbers.Agent.TheVariants.{Couple}
+use Rattle.mt_couples.specs.Assigned.{Assigned, pair_of}
+use Rattle.mt_couples.specs.declared.couple_list.Note.{Note}
+use Rattle.mt_couples.specs.declared.watch.Watch.{Watch}
 use Rattle.mt_couples.specs.Running.{is_reopened}
 
 -- the programs that an applicant's list has before its place
@@ -18,8 +22,12 @@ wanted s a = until (λ p. at s.places p a) (list_of s.market a)
 abbrev pub better_entries : Assigned → ℕ → List Live
 better_entries s a = until (λ (e : Live). at s.places e.program a) (ranked_list (live_market s.market) a)
 
--- the row of a program: the ranks that are watched there, or the couples that are noted there
-abbrev pub row_at : List (List ℕ) → ℕ → List ℕ
+-- the pairs that a couple's list has before its own
+abbrev pub better_pairs : Assigned → ℕ → List Pair
+better_pairs s c = until (λ pair. holds s.places (pair_of s c pair)) (couple_of s.market c).pairs
+
+-- the row of a program: the ranks that are watched there, or the notes of couples
+abbrev pub row_at : {X : Type 0} → List (List X) → ℕ → List X
 row_at rows p = slice_index_or rows p []
 
 -- nothing is lost from a row
@@ -55,27 +63,73 @@ pub record FollowsAll (s : Assigned) (old new : List (List ℕ)) (xs : List ℕ)
 abbrev pub names : ℕ → Pair → Bool
 names p pair = is_program p pair.0 || is_program p pair.1
 
--- the couples below a number are noted at each program that a pair of theirs names
-pub record AreNamed (m : Market) (number : ℕ) (rows : List (List ℕ)) : Type 0 where
+-- whether a couple has a pair at a program that would be taken, of those from one index on its list up to another
+abbrev pub opens_between : Assigned → ℕ → ℕ → ℕ → ℕ → Bool
+opens_between s c p from end =
+    list_any (λ pair. names p pair && would_be_taken s.market s.places (pair_of s c pair)) (slice_range (couple_of s.market c).pairs from end)
+
+-- whether a couple's pair at an index is noted: that one, or one before it
+abbrev pub notes_pair : ℕ → ℕ → Note → Bool
+notes_pair c i n = n.couple == c && nat_le n.from i
+
+abbrev pub is_noted : List Note → ℕ → ℕ → Bool
+is_noted notes c i = list_any (notes_pair c i) notes
+
+-- a couple's pair at an index is noted too
+abbrev pub AddsNote : List Note → List Note → ℕ → ℕ → Type 0
+AddsNote old new c from = (d i : ℕ) → is_noted new d i ≡ (is_noted old d i || (c == d && nat_le from i))
+
+-- no note is lost from a row
+abbrev pub KeepsNotes : List (List Note) → List (List Note) → Type 0
+KeepsNotes old new = (p c i : ℕ) → is_noted (row_at old p) c i ≡ true → is_noted (row_at new p) c i ≡ true
+
+-- each pair of a couple's list is noted at the programs that it names
+abbrev pub IsNamed : Market → List (List Note) → ℕ → Type 0
+IsNamed m rows c =
+    (p i : ℕ) (pair : Pair) → p < length m.programs → i < length (couple_of m c).pairs → pair ≡ slice_index_or (couple_of m c).pairs i pair
+    → names p pair ≡ true → is_noted (row_at rows p) c i ≡ true
+
+-- so are those of the couples below a number, and only couples of the market are noted
+pub record AreNamed (m : Market) (number : ℕ) (rows : List (List Note)) : Type 0 where
   pub one_each : length rows ≡ length m.programs
-  pub each : (c p : ℕ) → c < number → p < length m.programs → list_any (names p) (couple_of m c).pairs ≡ true → has (row_at rows p) c ≡ true
-  pub within : (p c : ℕ) → has (row_at rows p) c ≡ true → c < length m.couples
+  pub each : (c : ℕ) → c < number → IsNamed m rows c
+  pub within : (p c i : ℕ) → is_noted (row_at rows p) c i ≡ true → c < length m.couples
 
 -- for each program a row of nobody
-pub record AreEmpty (m : Market) (rows : List (List ℕ)) : Type 0 where
+pub record AreEmpty (m : Market) (rows : List (List Note)) : Type 0 where
   pub one_each : length rows ≡ length m.programs
   pub none : (p : ℕ) → row_at rows p ≡ []
 
--- a couple is noted too, at the program of a place
-pub record Notes (old new : List (List ℕ)) (place : Option ℕ) (c : ℕ) : Type 0 where
+-- a couple's pair at an index is noted too, at the program of a place
+pub record Notes (old new : List (List Note)) (place : Option ℕ) (c from : ℕ) : Type 0 where
   pub as_many : length new ≡ length old
-  pub keeps : KeepsRows old new
-  pub adds : (p : ℕ) → is_program p place ≡ true → p < length old → has (row_at new p) c ≡ true
-  pub only : (p d : ℕ) → has (row_at new p) d ≡ true → (has (row_at old p) d ≡ true) ⊎ (c ≡ d)
+  pub keeps : KeepsNotes old new
+  pub adds : (p i : ℕ) → is_program p place ≡ true → p < length old → from ≤ i → is_noted (row_at new p) c i ≡ true
+  pub only : (p d i : ℕ) → is_noted (row_at new p) d i ≡ true → (is_noted (row_at old p) d i ≡ true) ⊎ (c ≡ d)
 
--- couples of a market
-abbrev pub AreCouplesOf : Market → List ℕ → Type 0
-AreCouplesOf m cs = (c : ℕ) → has cs c ≡ true → c < length m.couples
+-- it is counted how many pairs a couple wants more than what it has, and so it is for each couple
+abbrev pub IsCounted : Assigned → List ℕ → ℕ → Type 0
+IsCounted s counts c = slice_index_or counts c 0 ≡ length (better_pairs s c)
+
+pub record AreCounted (s : Assigned) (counts : List ℕ) : Type 0 where
+  pub one_each : length counts ≡ length s.market.couples
+  pub each : (c : ℕ) → c < length s.market.couples → IsCounted s counts c
+
+-- it is counted again for a couple, for the couple of an applicant, and for the couples of several
+pub record CountsCouple (s : Assigned) (old new : List ℕ) (c : ℕ) : Type 0 where
+  pub as_many : length new ≡ length old
+  pub keeps : (d : ℕ) → IsCounted s old d → IsCounted s new d
+  pub counted : c < length old → IsCounted s new c
+
+pub record Counts (s : Assigned) (old new : Watch) (a : ℕ) : Type 0 where
+  pub as_many : length new.better.items ≡ length old.better.items
+  pub keeps : (c : ℕ) → IsCounted s old.better.items c → IsCounted s new.better.items c
+  pub counted : (c : ℕ) → agent_of s.market a ≡ Couple c → c < length old.better.items → IsCounted s new.better.items c
+
+pub record CountsAll (s : Assigned) (old new : Watch) (xs : List ℕ) : Type 0 where
+  pub as_many : length new.better.items ≡ length old.better.items
+  pub keeps : (c : ℕ) → IsCounted s old.better.items c → IsCounted s new.better.items c
+  pub counted : (a : ℕ) → has xs a ≡ true → (c : ℕ) → agent_of s.market a ≡ Couple c → c < length old.better.items → IsCounted s new.better.items c
 
 -- whoever is reopened is among these applicants
 abbrev pub Covers : ℕ → Assigned → List ℕ → List Agent → List ℕ → Type 0

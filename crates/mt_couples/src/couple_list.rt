@@ -1,51 +1,60 @@
-ghost use Rattle.std.specs.Prelude.{◌≡◌, ◌||◌, ◌==◌, ℕ, [], OnOk};
-ghost use Rattle.mt_terms.specs.Lists.{has};
+ghost use Rattle.std.specs.Prelude.{◌≡◌, [], OnOk};
+ghost use Rattle.mt_couples.specs.Watching.{AddsNote};
 
 use mt_terms::CoupleNo;
 use std::alloc::{AllocError, Global};
 use std::marker::Model;
 
-/// Couples in the order in which they were added.
+/// That a program is named by a pair of a couple's list.
+#[derive(Clone, Copy)]
+pub(crate) struct Note {
+    pub(crate) couple: CoupleNo,
+    /// Where the first such pair stands on the list, from 0.
+    pub(crate) from: usize,
+}
+
+/// The notes of one program, in the order in which the couples were added.
 #[derive(Drop)]
 pub(crate) struct CoupleList {
-    couples: Vec<CoupleNo>,
+    notes: Vec<Note>,
 }
 
 impl Model for CoupleList {
-    ghost use Rattle.std.specs.Prelude.{List, ℕ};
+    ghost use Rattle.std.specs.Prelude.{List};
+    ghost use Rattle.mt_couples.specs.declared.couple_list.Note.{Note};
 
-    ghost Value = { List ℕ };
+    ghost Value = { List Note };
 
-    ghost view = { λ l. l.couples.items };
+    ghost view = { λ l. l.notes.items };
 }
 
 impl CoupleList {
-    /// No couples.
+    /// No notes.
     pub(crate) fn new(alloc: Global) -> Self
         ensures { result ≡ [] }
     {
         CoupleList {
-            couples: Vec::new(alloc),
+            notes: Vec::new(alloc),
         }
     }
 
-    /// Adds a couple at the end, unless it is there already.
-    pub(crate) fn add(&mut self, couple: CoupleNo) -> Result<(), AllocError>
-        ensures { OnOk result ((c : ℕ) → has self.new c ≡ (has self.old c || couple == c)) }
+    /// Notes the couple's pair at an index, unless the last note is of an earlier one of that couple.
+    pub(crate) fn add(&mut self, couple: CoupleNo, from: usize) -> Result<(), AllocError>
+        ensures { OnOk result (AddsNote self.old self.new couple from) }
     {
-        if let Some(last) = self.couples.last() {
-            if *last == couple {
+        if let Some(last) = self.notes.last() {
+            if last.couple == couple && last.from <= from {
                 return Ok(());
             }
         }
-        self.couples.push(couple)?;
+        self.notes.push(Note { couple, from })?;
         Ok(())
     }
 
     /// All of them.
-    pub(crate) fn as_slice(&self) -> &[CoupleNo]
+    pub(crate) fn as_slice(&self) -> &[Note]
         ensures { result.now ≡ self.now }
     {
-        self.couples.as_slice()
+        self.notes.as_slice()
     }
 }

@@ -6,13 +6,14 @@ ghost use Rattle.mt_terms.specs.Rounds.{has_entered};
 ghost use Rattle.mt_terms.specs.WellFormed.{IsWellFormed};
 ghost use Rattle.mt_ranks.specs.Ranked.{rank_of};
 ghost use Rattle.mt_couples.specs.Assigned.{AreApplicantsOf, AreProgramsOf, IsAgentOf};
-ghost use Rattle.mt_couples.specs.Looking.{AddsCouples, AddsSingles, AreRanksOf, HaveReopened, IsWatching, Keeps};
+ghost use Rattle.mt_couples.specs.Looking.{is_noted_reopened, AddsCouples, AddsSingles, AreRanksOf, HaveReopened, IsWatching, Keeps};
 ghost use Rattle.mt_couples.specs.Moves.{blockers, reopened};
-ghost use Rattle.mt_couples.specs.Running.{is_reopened, IsQuietBut};
-ghost use Rattle.mt_couples.specs.Waiting.{IsListOf, Joins};
-ghost use Rattle.mt_couples.specs.Watching.{AreCouplesOf, Covers};
+ghost use Rattle.mt_couples.specs.Running.{is_idle, is_reopened, IsQuietBut};
+ghost use Rattle.mt_couples.specs.Waiting.{IsKnown, IsListOf, Joins};
+ghost use Rattle.mt_couples.specs.Watching.{AreCounted, Covers};
 
 use crate::assignment::Assignment;
+use crate::couple_list::Note;
 use crate::watch::Watch;
 use crate::work_list::WorkList;
 use mt_terms::{Agent, AppNo, CoupleNo, ProgNo};
@@ -28,6 +29,14 @@ pub(crate) fn has_entered(agent: &Agent, last: CoupleNo) -> bool
     }
 }
 
+/// Whether the agent has entered and doesn't wait.
+fn is_idle(agent: &Agent, last: CoupleNo, waiting: &WorkList) -> bool
+    requires { IsKnown waiting.now agent.now }
+    ensures { result ≡ is_idle last waiting.now.agents agent.now }
+{
+    has_entered(agent, last) && !waiting.waits(agent)
+}
+
 /// Whether the agent has entered, doesn't wait, and has a better option at one of these programs that would be
 /// taken.
 fn is_reopened(
@@ -41,7 +50,7 @@ fn is_reopened(
     requires waiting { IsListOf assignment.now.market waiting.now }
     ensures { result ≡ is_reopened last assignment.now left.now waiting.now.agents agent.now }
 {
-    has_entered(agent, last) && !waiting.waits(agent) && assignment.opens(agent, left)
+    is_idle(agent, last, waiting) && assignment.opens(agent, left)
 }
 
 /// Adds those applicants, of these ranks on a program's list, whose agents are reopened by an option there.
@@ -74,31 +83,47 @@ fn add_by_rank(
     Ok(())
 }
 
-/// Adds the members of those couples, out of these, that are reopened by an option at the program.
+/// Whether the couple of a note at the program has entered, doesn't wait, and has a better pair there that would be
+/// taken. Its pairs are gone through from the one that is noted, so none are where it has a better one.
+fn is_noted_reopened(
+    assignment: &Assignment<'_>,
+    watch: &Watch,
+    program: ProgNo,
+    note: &Note,
+    last: CoupleNo,
+    waiting: &WorkList,
+) -> bool
+    requires couple { note.now.couple < length assignment.now.market.couples }
+    requires counted { AreCounted assignment.now watch.now.better.items }
+    requires waiting { IsListOf assignment.now.market waiting.now }
+    ensures { result ≡ is_noted_reopened last assignment.now watch.now program waiting.now.agents note.now }
+{
+    let better = watch.better(note.couple);
+    note.from < better
+        && is_idle(&Agent::Couple(note.couple), last, waiting)
+        && assignment.opens_between(note.couple, program, note.from, better)
+}
+
+/// Adds the members of the couples that are reopened by an option at the program.
 fn add_members(
     assignment: &Assignment<'_>,
+    watch: &Watch,
     program: ProgNo,
-    couples: &[CoupleNo],
     last: CoupleNo,
     waiting: &WorkList,
     found: &mut Vec<AppNo>,
 ) -> Result<(), AllocError>
-    requires couples { AreCouplesOf assignment.now.market couples.now }
+    requires program { program < length assignment.now.market.programs }
+    requires watch { IsWatching last assignment.now watch.now }
     requires waiting { IsListOf assignment.now.market waiting.now }
     requires found { AreApplicantsOf assignment.now.market found.old.items }
     ensures found { OnOk result (AreApplicantsOf assignment.now.market found.new.items) }
     ensures keeps { OnOk result (Keeps found.old.items found.new.items) }
-    ensures adds { OnOk result (AddsCouples last assignment.now program waiting.now.agents couples.now found.new.items) }
+    ensures adds { OnOk result (AddsCouples last assignment.now program waiting.now.agents found.new.items) }
 {
-    for couple in couples {
-        if is_reopened(
-            assignment,
-            &Agent::Couple(*couple),
-            &[program],
-            last,
-            waiting,
-        ) {
-            let (first, second) = assignment.members(*couple);
+    for note in watch.couples(program) {
+        if is_noted_reopened(assignment, watch, program, note, last, waiting) {
+            let (first, second) = assignment.members(note.couple);
             found.push(first)?;
             found.push(second)?;
         }
@@ -132,14 +157,7 @@ fn add_reopened(
         waiting,
         found,
     )?;
-    add_members(
-        assignment,
-        program,
-        watch.couples(program),
-        last,
-        waiting,
-        found,
-    )
+    add_members(assignment, watch, program, last, waiting, found)
 }
 
 /// All applicants whose agents are reopened by an option at a program that was left.

@@ -1,13 +1,14 @@
-ghost use Rattle.std.specs.Prelude.{◌≡◌, ◌<◌, length, Contains, IsTrue, Some};
+ghost use Rattle.std.specs.Prelude.{◌≡◌, ◌<◌, ◌≤◌, length, Contains, IsTrue, Some};
 ghost use Rattle.std.specs.Option.{option_map};
 ghost use Rattle.mt_terms.specs.Lists.{has};
-ghost use Rattle.mt_terms.specs.Market.{applicants};
+ghost use Rattle.mt_terms.specs.Market.{applicants, couple_of};
 ghost use Rattle.mt_terms.specs.Matching.{at, single_placement};
 ghost use Rattle.mt_terms.specs.Stability.{blocks, would_be_taken};
 ghost use Rattle.mt_terms.specs.declared.numbers.Agent.TheVariants.{Single, Couple};
 ghost use Rattle.mt_couples.specs.Assigned.{chooses, front_of, has_post, pair_of, taken_by, AreSent, IsAgentOf, IsAssigned};
 ghost use Rattle.mt_ranks.specs.Ranked.{rank_of};
 ghost use Rattle.mt_couples.specs.Moves.{coming, leaving, opens, seated, some_has};
+ghost use Rattle.mt_couples.specs.Watching.{better_pairs, opens_between};
 
 use crate::assignment::Assignment;
 use mt_terms::{Agent, AppNo, CoupleNo, ProgNo};
@@ -166,17 +167,30 @@ impl<'a> Assignment<'a> {
         None
     }
 
+    /// The pairs that the couple wants more than what it has.
+    pub(crate) fn better_pairs(&self, couple: CoupleNo) -> &'a [Pair]
+        requires { couple < length self.now.market.couples }
+        ensures list { result.now ≡ better_pairs self.now couple }
+        ensures assigned { IsAssigned self.now }
+    {
+        let (first, second) = self.members(couple);
+        let own = (self.place(first), self.place(second));
+        let pairs = self.roster().couple_list(couple);
+        for (end, pair) in pairs.iter().enumerate() {
+            if own.0 == pair.0 && own.1 == pair.1 {
+                return &pairs[..end];
+            }
+        }
+        pairs
+    }
+
     /// The pair that the couple takes: the first on its list before its own that would be taken.
     pub(crate) fn first_pair(&self, couple: CoupleNo) -> Option<Pair>
         requires { couple < length self.now.market.couples }
         ensures { option_map (pair_of self.now couple) result ≡ taken_by self.now (Couple couple) }
     {
         let (first, second) = self.members(couple);
-        let own = (self.place(first), self.place(second));
-        for pair in self.roster().couple_list(couple) {
-            if own.0 == pair.0 && own.1 == pair.1 {
-                return None;
-            }
+        for pair in self.better_pairs(couple) {
             if self.would_be_taken(&[(first, pair.0), (second, pair.1)]) {
                 return Some(*pair);
             }
@@ -214,12 +228,33 @@ impl<'a> Assignment<'a> {
         ensures { result ≡ opens self.now programs.now (Couple couple) }
     {
         let (first, second) = self.members(couple);
-        let own = (self.place(first), self.place(second));
-        for pair in self.roster().couple_list(couple) {
-            if own.0 == pair.0 && own.1 == pair.1 {
-                return false;
-            }
+        for pair in self.better_pairs(couple) {
             if (is_one_of(pair.0, programs) || is_one_of(pair.1, programs))
+                && self.would_be_taken(&[(first, pair.0), (second, pair.1)])
+            {
+                return true;
+            }
+        }
+        false
+    }
+
+    /// Whether the couple has a pair at the program that would be taken, of those from one index on its list up to
+    /// another.
+    pub(crate) fn opens_between(
+        &self,
+        couple: CoupleNo,
+        program: ProgNo,
+        from: usize,
+        end: usize,
+    ) -> bool
+        requires couple { couple < length self.now.market.couples }
+        requires from { from ≤ end }
+        requires end { end ≤ length (couple_of self.now.market couple).pairs }
+        ensures { result ≡ opens_between self.now couple program from end }
+    {
+        let (first, second) = self.members(couple);
+        for pair in &self.roster().couple_list(couple)[from..end] {
+            if (pair.0 == Some(program) || pair.1 == Some(program))
                 && self.would_be_taken(&[(first, pair.0), (second, pair.1)])
             {
                 return true;

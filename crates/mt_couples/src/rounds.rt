@@ -7,7 +7,7 @@ ghost use Rattle.mt_terms.specs.Stability.{fits, stable};
 ghost use Rattle.mt_ranks.specs.Ranked.{ranked_of};
 ghost use Rattle.mt_couples.specs.Assigned.{AreApplicantsOf, AreProgramsOf, AreSent, IsAgentOf};
 ghost use Rattle.mt_couples.specs.Looking.{IsWatching};
-ghost use Rattle.mt_couples.specs.Watching.{FollowsAll};
+ghost use Rattle.mt_couples.specs.Watching.{CountsAll, FollowsAll};
 ghost use Rattle.mt_couples.specs.Running.{is_disquiet, is_quiet_single, singles_quiet, waiting_first, work_of, IsQuietBut, IsRunning};
 ghost use Rattle.mt_couples.specs.Waiting.{IsListOf, Joins, KeepsRoom};
 ghost use Rattle.mt_couples.specs.Moves.{agents_of, blockers, if_blocking, reopened, IsTaking};
@@ -172,6 +172,7 @@ fn follow_sent(
     requires { AreSent assignment.now.market sent.now }
     ensures couples { OnOk result (watch.new.couples ≡ watch.old.couples) }
     ensures singles { OnOk result (FollowsAll assignment.now watch.old.singles.items watch.new.singles.items (map (λ s. s.0) sent.now)) }
+    ensures better { OnOk result (CountsAll assignment.now watch.old watch.new (map (λ s. s.0) sent.now)) }
 {
     for seat in sent {
         watch.follow(assignment, seat.0)?;
@@ -188,6 +189,7 @@ fn follow_displaced(
     requires { AreApplicantsOf assignment.now.market displaced.now }
     ensures couples { OnOk result (watch.new.couples ≡ watch.old.couples) }
     ensures singles { OnOk result (FollowsAll assignment.now watch.old.singles.items watch.new.singles.items displaced.now) }
+    ensures better { OnOk result (CountsAll assignment.now watch.old watch.new displaced.now) }
 {
     for applicant in displaced {
         watch.follow(assignment, *applicant)?;

@@ -1,13 +1,12 @@
-ghost use Rattle.std.specs.Prelude.{◌≡◌, ◌+◌, ◌<◌, ℕ, length, IfOk, OnOk};
+ghost use Rattle.std.specs.Prelude.{◌≡◌, ◌+◌, ◌<◌, ℕ, length, slice_index_or, IfOk, OnOk};
 ghost use Rattle.mt_terms.specs.Market.{applicants};
-ghost use Rattle.mt_couples.specs.Assigned.{AreApplicantsOf};
-ghost use Rattle.mt_couples.specs.Watching.{row_at, AreEmpty, AreNamed, AreWatched, Follows, Notes, Watches};
+ghost use Rattle.mt_couples.specs.Watching.{better_pairs, row_at, AreCounted, AreEmpty, AreNamed, AreWatched, Counts, CountsCouple, Follows, Notes, Watches};
 
 use crate::assignment::Assignment;
-use crate::couple_list::CoupleList;
+use crate::couple_list::{CoupleList, Note};
 use crate::rank_set::RankSet;
 use mt_ranks::Live;
-use mt_terms::{AppNo, CoupleNo, ProgNo};
+use mt_terms::{Agent, AppNo, CoupleNo, ProgNo};
 use std::alloc::{AllocError, Global};
 
 /// Where to look for an option that is opened once somebody leaves a program: for each program the ranks of the
@@ -16,6 +15,8 @@ use std::alloc::{AllocError, Global};
 pub(crate) struct Watch {
     singles: Vec<RankSet>,
     couples: Vec<CoupleList>,
+    /// For each couple how many pairs it wants more than what it has.
+    better: Vec<usize>,
 }
 
 /// No ranks for each program.
@@ -41,6 +42,17 @@ fn no_couples(alloc: Global, assignment: &Assignment<'_>) -> Result<Vec<CoupleLi
     Ok(rows)
 }
 
+/// For each couple how many pairs it wants more than what it has.
+fn better_counts(alloc: Global, assignment: &Assignment<'_>) -> Result<Vec<usize>, AllocError>
+    ensures { IfOk result (λ v. AreCounted assignment.now v.items) }
+{
+    let mut counts = Vec::new(alloc);
+    for number in 0..assignment.roster().couples() {
+        counts.push(assignment.better_pairs(CoupleNo(number)).len())?;
+    }
+    Ok(counts)
+}
+
 /// Watches the rank of each of these entries at its program.
 fn watch_each(rows: &mut Vec<RankSet>, entries: &[Live]) -> Result<(), AllocError>
     ensures { OnOk result (Watches rows.old.items rows.new.items entries.now) }
@@ -55,19 +67,20 @@ fn watch_each(rows: &mut Vec<RankSet>, entries: &[Live]) -> Result<(), AllocErro
     Ok(())
 }
 
-/// Notes that a couple names the program of a place, if there is one.
+/// Notes that a couple's pair at an index names the program of a place, if there is one.
 fn note(
     rows: &mut Vec<CoupleList>,
     place: Option<ProgNo>,
     couple: CoupleNo,
+    from: usize,
 ) -> Result<(), AllocError>
-    ensures { OnOk result (Notes rows.old.items rows.new.items place couple) }
+    ensures { OnOk result (Notes rows.old.items rows.new.items place couple from) }
 {
     if let Some(program) = place {
         let program = program.index();
         if program < rows.len() {
             let row = &mut rows[program];
-            row.add(couple)?;
+            row.add(couple, from)?;
         }
     }
     Ok(())
@@ -78,6 +91,7 @@ impl Watch {
     pub(crate) fn new(alloc: Global, assignment: &Assignment<'_>) -> Result<Self, AllocError>
         ensures watched { IfOk result (λ w. AreWatched assignment.now w.singles.items) }
         ensures named { IfOk result (λ w. AreNamed assignment.now.market 0 w.couples.items) }
+        ensures counted { IfOk result (λ w. AreCounted assignment.now w.better.items) }
     {
         let mut singles = no_ranks(alloc, assignment)?;
         for number in 0..assignment.roster().applicants() {
@@ -86,6 +100,7 @@ impl Watch {
         Ok(Watch {
             singles,
             couples: no_couples(alloc, assignment)?,
+            better: better_counts(alloc, assignment)?,
         })
     }
 
@@ -99,8 +114,8 @@ impl Watch {
         }
     }
 
-    /// The couples that name a program.
-    pub(crate) fn couples(&self, program: ProgNo) -> &[CoupleNo]
+    /// The notes of the couples that name a program.
+    pub(crate) fn couples(&self, program: ProgNo) -> &[Note]
         ensures { result.now ≡ row_at self.now.couples.items program }
     {
         match self.couples.get(program.index()) {
@@ -109,7 +124,27 @@ impl Watch {
         }
     }
 
-    /// Watches an applicant that has another place now.
+    /// How many pairs the couple wants more than what it has.
+    pub(crate) fn better(&self, couple: CoupleNo) -> usize
+        ensures { result ≡ slice_index_or self.now.better.items couple 0 }
+    {
+        self.better.get(couple.index()).copied().unwrap_or(0)
+    }
+
+    /// Counts again how many pairs a couple wants more than what it has.
+    fn count(&mut self, assignment: &Assignment<'_>, couple: CoupleNo)
+        requires { couple < length assignment.now.market.couples }
+        ensures singles { self.new.singles ≡ self.old.singles }
+        ensures couples { self.new.couples ≡ self.old.couples }
+        ensures better { CountsCouple assignment.now self.old.better.items self.new.better.items couple }
+    {
+        let better = assignment.better_pairs(couple).len();
+        if couple.index() < self.better.len() {
+            self.better[couple.index()] = better;
+        }
+    }
+
+    /// Watches an applicant that has another place now, and counts again for its couple.
     pub(crate) fn follow(
         &mut self,
         assignment: &Assignment<'_>,
@@ -118,8 +153,13 @@ impl Watch {
         requires { applicant < applicants assignment.now.market }
         ensures couples { OnOk result (self.new.couples ≡ self.old.couples) }
         ensures singles { OnOk result (Follows assignment.now self.old.singles.items self.new.singles.items applicant) }
+        ensures better { OnOk result (Counts assignment.now self.old self.new applicant) }
     {
-        watch_each(&mut self.singles, assignment.better_live(applicant))
+        watch_each(&mut self.singles, assignment.better_live(applicant))?;
+        if let Agent::Couple(couple) = assignment.agent_of(applicant) {
+            self.count(assignment, couple);
+        }
+        Ok(())
     }
 
     /// Notes which programs the pairs of a couple name that enters.
@@ -132,10 +172,11 @@ impl Watch {
         requires named { AreNamed assignment.now.market couple self.old.couples.items }
         ensures singles { OnOk result (self.new.singles ≡ self.old.singles) }
         ensures named { OnOk result (AreNamed assignment.now.market (couple + 1) self.new.couples.items) }
+        ensures better { OnOk result (self.new.better ≡ self.old.better) }
     {
-        for pair in assignment.pairs(couple) {
-            note(&mut self.couples, pair.0, couple)?;
-            note(&mut self.couples, pair.1, couple)?;
+        for (from, pair) in assignment.pairs(couple).iter().enumerate() {
+            note(&mut self.couples, pair.0, couple, from)?;
+            note(&mut self.couples, pair.1, couple, from)?;
         }
         Ok(())
     }

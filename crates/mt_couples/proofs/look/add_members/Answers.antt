@@ -1,57 +1,72 @@
-use Rattle.std.proofs.Common.{◌≡◌, ◌∙◌, ◌++◌, ◌∷◌, ◌<◌, [], ℕ, List, Vec, true, false, ap, sym, subst}
+use Rattle.std.proofs.Common.{◌≡◌, ◌∙◌, ◌++◌, ◌∷◌, ◌+◌, ◌<◌, [], ℕ, List, Vec, true, get_or, ap, sym, subst, arith}
+use Rattle.std.proofs.lemmas.Bool.{both_ways}
 use Rattle.mt_terms.specs.Lists.{has}
 use Rattle.mt_terms.specs.Market.{applicants}
 use Rattle.mt_terms.specs.declared.numbers.Agent.TheVariants.{Couple}
-use Rattle.mt_couples.specs.Running.{is_reopened}
-use Rattle.mt_couples.proofs.PlaceFacts.{has_read}
-use Rattle.mt_couples.proofs.WatchFacts.{each_all, each_more, has_still}
-use Rattle.mt_couples.proofs.LookFacts.{found_both, found_neither, within_more, AreFoundOf}
+use Rattle.mt_couples.specs.Looking.{is_noted_reopened}
+use Rattle.mt_round_laws.proofs.RoundsLists.{In}
+use Rattle.mt_couples.proofs.NoteFacts.{each_next, note_within, read_any}
+use Rattle.mt_couples.proofs.WatchFacts.{has_still, index_of}
+use Rattle.mt_couples.proofs.LookFacts.{found_both, no_note, open_note, within_more, AreFoundBy}
 use Rattle.mt_couples.proofs.look.add_members.Goals as goal
-use Rattle.mt_couples.proofs.look.add_members.Goals.{then-is_reopened+in_ok-push+in_ok-push-2, else-is_reopened}
+use Rattle.mt_couples.proofs.look.add_members.Goals.{then-is_noted_reopened+in_ok-push+in_ok-push-2, else-is_noted_reopened}
 
-pub is_reopened-requires-clause-agent : goal.is_reopened-requires-clause-agent
-is_reopened-requires-clause-agent c =
-    c.requires.couples c.couple-item.result (has_read c.args.couples.now c.loop-couple.couple-index c.couple-item.result c.loop-couple-test.true c.couple-item.is)
+pub is_noted_reopened-requires-clause-couple : goal.is_noted_reopened-requires-clause-couple
+is_noted_reopened-requires-clause-couple c =
+    note_within c.args.assignment.now.market (c.args.last + 1) c.args.watch.now.couples.items c.args.program c.couples-note-items.result.now c.loop-note.note-index c.note-item.result
+    c.requires.watch.named c.couples-note-items.ensures c.loop-note-test.true c.note-item.is
 
-pub loop-couple-preserved : goal.loop-couple-preserved
-loop-couple-preserved c =
+pub loop-note-preserved : goal.loop-note-preserved
+loop-note-preserved c =
     let s = c.args.assignment.now in
     let m = s.market in
     let p = c.args.program in
     let k = c.args.last in
     let ws = c.args.waiting.now.agents in
-    let couples = c.args.couples.now in
-    let i = c.loop-couple.couple-index in
-    let d = c.couple-item.result in
-    let before = c.loop-couple.found.items in
-    let so_far = c.loop-couple.invariant in
-    let more = λ (found : List ℕ) (keeps : (a : ℕ) → has before a ≡ true → has found a ≡ true) (here : AreFoundOf k s p ws found d).
-    each_more (AreFoundOf k s p ws found) couples i d c.loop-couple-test.true c.couple-item.is (λ q on a reopened of_a. keeps a (so_far.adds q on a reopened of_a)) here in
-    elim c.if-is_reopened.branch [
-      | then-is_reopened+in_ok-push+in_ok-push-2 w ↦
+    let watch = c.args.watch.now in
+    let n = c.note-item.result in
+    let before = c.loop-note.found.items in
+    let so_far = c.loop-note.invariant in
+    let more = λ (found : List ℕ) (keeps : (a : ℕ) → has before a ≡ true → has found a ≡ true) (here : AreFoundBy k s p ws watch found n).
+    each_next (AreFoundBy k s p ws watch found) c.couples-note-items.result.now c.loop-note.note-index n no_note c.loop-note-test.true c.note-item.is
+    (λ j low opened a of_a. keeps a (so_far.adds j low opened a of_a)) here in
+    elim c.if-is_noted_reopened.branch [
+      | then-is_noted_reopened+in_ok-push+in_ok-push-2 w ↦
           let x = w.members-first.result.0 in
           let y = w.members-first.result.1 in
-          let is : c.if-is_reopened.found.items ≡ (before ++ x ∷ []) ++ y ∷ [] =
+          let is : c.if-is_noted_reopened.found.items ≡ (before ++ x ∷ []) ++ y ∷ [] =
           ap Vec.items w.found-is ∙ w.in_ok-push-2.ensures.items ∙ ap (λ xs. xs ++ y ∷ []) w.in_ok-push.ensures.items in
           let keeps = λ (a : ℕ) (on : has before a ≡ true). has_still (before ++ x ∷ []) (y ∷ []) a (has_still before (x ∷ []) a on) in
           record {
             within = subst (λ xs. (a : ℕ) → has xs a ≡ true → a < applicants m) (sym is)
                 (within_more m (before ++ x ∷ []) y (within_more m before x so_far.within w.members-first.ensures.first_within) w.members-first.ensures.second_within);
             keeps = λ a on. ap (λ xs. has xs a) is ∙ keeps a (so_far.keeps a on);
-            adds = λ q on a reopened of_a. ap (λ xs. has xs a) is
-                ∙ more ((before ++ x ∷ []) ++ y ∷ []) keeps (found_both k s p ws before d x y w.members-first.ensures.first w.members-first.ensures.second) q on a reopened of_a;
+            adds = λ j low opened a of_a. ap (λ xs. has xs a) is
+                ∙ more ((before ++ x ∷ []) ++ y ∷ []) keeps (λ opens. found_both k s p ws before n.couple x y w.members-first.ensures.first w.members-first.ensures.second) j low opened a of_a;
           }
-      | else-is_reopened w ↦
-          let is : c.if-is_reopened.found.items ≡ before = ap Vec.items w.found-is in
-          let other : is_reopened k s (p ∷ []) ws (Couple d) ≡ false = sym c.is_reopened.ensures ∙ w.if-is_reopened.false in
+      | else-is_noted_reopened w ↦
+          let is : c.if-is_noted_reopened.found.items ≡ before = ap Vec.items w.found-is in
+          let none : AreFoundBy k s p ws watch before n = λ opens a of_a.
+          absurd (both_ways (is_noted_reopened k s watch p ws n) (sym c.is_noted_reopened.ensures ∙ w.if-is_noted_reopened.false) opens) in
           record {
             within = subst (λ xs. (a : ℕ) → has xs a ≡ true → a < applicants m) (sym is) so_far.within;
             keeps = λ a on. ap (λ xs. has xs a) is ∙ so_far.keeps a on;
-            adds = λ q on a reopened of_a. ap (λ xs. has xs a) is ∙ more before (λ b there. there) (found_neither k s p ws before d other) q on a reopened of_a;
+            adds = λ j low opened a of_a. ap (λ xs. has xs a) is ∙ more before (λ b there. there) none j low opened a of_a;
           }
     ]
 
 pub returns-clause-adds : goal.returns-clause-adds
-returns-clause-adds c = λ d a on reopened of_a.
-    each_all (AreFoundOf c.args.last c.args.assignment.now c.args.program c.args.waiting.now.agents c.loop-couple.found.items) c.args.couples.now c.loop-couple.couple-index c.loop-couple-test.false
-    c.loop-couple.invariant.adds d on a reopened of_a
+returns-clause-adds c = λ d a reopened of_a.
+    let s = c.args.assignment.now in
+    let m = s.market in
+    let p = c.args.program in
+    let k = c.args.last in
+    let ws = c.args.waiting.now.agents in
+    let watch = c.args.watch.now in
+    let notes = c.couples-note-items.result.now in
+    let n = open_note k s watch p ws d c.requires.watch c.requires.program reopened in
+    let place = index_of n.0 notes (subst (λ xs. In n.0 xs) (sym c.couples-note-items.ensures) n.1) in
+    let is : n.0 ≡ get_or notes place.0 no_note = place.2 ∙ read_any notes place.0 n.0 no_note place.1 in
+    let found : AreFoundBy k s p ws watch c.loop-note.found.items n.0 =
+    subst (AreFoundBy k s p ws watch c.loop-note.found.items) (sym is) (c.loop-note.invariant.adds place.0 (omega (arith, place.1, c.loop-note-test.false))) in
+    found n.3 a (of_a ∙ ap Couple (sym n.2))

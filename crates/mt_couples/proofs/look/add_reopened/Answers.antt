@@ -1,5 +1,5 @@
 use Rattle.std.proofs.Common.{subst}
-use Rattle.mt_couples.specs.Looking.{AddsCouples, AddsSingles}
+use Rattle.mt_couples.specs.Looking.{AddsSingles}
 use Rattle.mt_couples.specs.Watching.{row_at}
 use Rattle.mt_couples.proofs.LookFacts.{both_ok, covers_one}
 use Rattle.mt_couples.proofs.look.add_reopened.Goals as goal
@@ -15,4 +15,4 @@ returns-clause-covers c =
     let new = c.add_members.new.found.items in
     let singles : AddsSingles k s p ws (row_at w.singles.items p) mid = subst (λ rs. AddsSingles k s p ws rs mid) c.singles.ensures c.in_ok-add_by_rank.ensures.adds in
     both_ok c.add_members.result c.add_members.ensures.keeps c.add_members.ensures.adds
-    (λ keeps adds. covers_one k s w p ws mid new c.requires.watch c.requires.program singles keeps (subst (λ cs. AddsCouples k s p ws cs new) c.couples.ensures adds))
+    (λ keeps adds. covers_one k s w p ws mid new c.requires.watch c.requires.program singles keeps adds)

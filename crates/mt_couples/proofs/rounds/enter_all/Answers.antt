@@ -6,7 +6,7 @@ use Rattle.mt_terms.specs.declared.numbers.Agent.TheVariants.{Couple}
 use Rattle.mt_round_laws.proofs.RoundsStage.{stage_is_stable_lem}
 use Rattle.mt_couples.specs.Waiting.{nobody, IsListOf}
 use Rattle.mt_couples.specs.Running.{singles_quiet, IsQuiet}
-use Rattle.mt_couples.specs.Watching.{AreWatched}
+use Rattle.mt_couples.specs.Watching.{AreCounted, AreWatched}
 use Rattle.mt_couples.proofs.QuietFacts.{quiet_at_first}
 use Rattle.mt_couples.proofs.JoinFacts.{joined_list, known_joins}
 use Rattle.mt_couples.specs.declared.rounds.CoupleEnd.TheVariants.{BudgetSpent}
@@ -59,6 +59,7 @@ loop-number-preserved g c =
           c.in_ok-left.ensures.within;
       watched = c.in_ok-left.ensures.watch.watched;
       named = c.in_ok-left.ensures.watch.named;
+      counted = c.in_ok-left.ensures.watch.counted;
     }
 
 pub returns-clause-entered : goal.returns-clause-entered
@@ -83,6 +84,7 @@ loop-number-init g c =
           (λ so. quiet_at_first m c.couples-couples.ensures.registration.well_formed places (sym (c.are_singles_quiet-quiet.ensures ∙ ap singles_quiet is) ∙ so));
       watched = c.in_ok-watch.ensures.watched;
       named = c.in_ok-watch.ensures.named;
+      counted = c.in_ok-watch.ensures.counted;
     }
 
 pub returns-then-couples-eq0-clause-stable : goal.returns-then-couples-eq0-clause-stable
@@ -99,4 +101,5 @@ pub settle-requires-clause-watch : goal.settle-requires-clause-watch
 settle-requires-clause-watch g c = record {
   watched = subst (AreWatched c.loop-number.assignment) (ap Vec.items (sym c.in_ok-enter.ensures.singles)) c.loop-number.invariant.watched;
   named = c.in_ok-enter.ensures.named;
+  counted = subst (AreCounted c.loop-number.assignment) (ap Vec.items (sym c.in_ok-enter.ensures.better)) c.loop-number.invariant.counted;
 }

@@ -1,4 +1,4 @@
-use Rattle.mt_couples.specs.Watching.{AreNamed, AreWatched}
+use Rattle.mt_couples.specs.Watching.{AreCounted, AreNamed, AreWatched}
 use Rattle.mt_couples.proofs.EnteringFacts.{IsEntering}
 use Rattle.mt_couples.proofs.rounds.enter_all.Given as goal
 
@@ -7,4 +7,5 @@ invariant-loop-number g l = record {
   entering : IsEntering l.fn.roster.market l.quiet l.fn.singles.places l.fn.budget l.number l.assignment l.waiting l.left;
   watched : AreWatched l.assignment l.watch.singles.items;
   named : AreNamed l.assignment.market l.number l.watch.couples.items;
+  counted : AreCounted l.assignment l.watch.better.items;
 }

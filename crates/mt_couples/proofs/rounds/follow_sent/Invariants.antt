@@ -1,9 +1,10 @@
 use Rattle.std.proofs.Common.{◌≡◌, map, take}
-use Rattle.mt_couples.specs.Watching.{FollowsAll}
+use Rattle.mt_couples.specs.Watching.{CountsAll, FollowsAll}
 use Rattle.mt_couples.proofs.rounds.follow_sent.Given as goal
 
 abbrev pub invariant-loop-seat : goal.invariant-loop-seat
 invariant-loop-seat l = record {
   couples : l.watch.couples ≡ l.initial.watch.couples;
   singles : FollowsAll l.assignment l.initial.watch.singles.items l.watch.singles.items (map (λ s. s.0) (take l.seat-index l.sent));
+  better : CountsAll l.assignment l.initial.watch l.watch (map (λ s. s.0) (take l.seat-index l.sent));
 }

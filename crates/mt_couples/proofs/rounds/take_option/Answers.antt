@@ -14,8 +14,9 @@ use Rattle.mt_terms.specs.WellFormed.{IsWellFormed}
 use Rattle.mt_couples.specs.Looking.{IsWatching}
 use Rattle.mt_terms.specs.Matching.{Placement}
 use Rattle.mt_couples.specs.declared.watch.Watch.{Watch}
-use Rattle.mt_couples.specs.Watching.{AreNamed, FollowsAll}
+use Rattle.mt_couples.specs.Watching.{AreNamed, CountsAll, FollowsAll}
 use Rattle.mt_couples.proofs.WatchFacts.{watched_after}
+use Rattle.mt_couples.proofs.NoteFacts.{counted_after}
 use Rattle.mt_couples.proofs.MoveFacts.{are_sent, displaced_within, waits_after}
 use Rattle.mt_couples.proofs.rounds.take_option.Goals as goal
 
@@ -81,23 +82,30 @@ follow_displaced-requires c = λ a on.
 
 -- the match after the move is watched
 watching : (s0 s1 : Assigned) (sent : Placement) (g : Agent) (k : ℕ) (w0 w1 w2 : Watch) (xs : List ℕ) → IsTaking s0.market s0.places g sent → s1 ≡ moved s0 sent → IsWatching k s0 w0
-    → FollowsAll s1 w0.singles.items w1.singles.items (map (λ s. s.0) sent) → FollowsAll s1 w1.singles.items w2.singles.items xs → xs ≡ displaced_by s0 sent
+    → FollowsAll s1 w0.singles.items w1.singles.items (map (λ s. s.0) sent) → FollowsAll s1 w1.singles.items w2.singles.items xs
+    → CountsAll s1 w0 w1 (map (λ s. s.0) sent) → CountsAll s1 w1 w2 xs → xs ≡ displaced_by s0 sent
     → w2.couples.items ≡ w0.couples.items → IsWatching k s1 w2
-watching s0 s1 sent g k w0 w1 w2 xs taking after before first second displaced couples =
+watching s0 s1 sent g k w0 w1 w2 xs taking after before first second count recount displaced couples =
     let first' : FollowsAll (moved s0 sent) w0.singles.items w1.singles.items (map (λ s. s.0) sent) =
     subst (λ (x : Assigned). FollowsAll x w0.singles.items w1.singles.items (map (λ s. s.0) sent)) after first in
     let second' : FollowsAll (moved s0 sent) w1.singles.items w2.singles.items (displaced_by s0 sent) =
     subst (FollowsAll (moved s0 sent) w1.singles.items w2.singles.items) displaced
     (subst (λ (x : Assigned). FollowsAll x w1.singles.items w2.singles.items xs) after second) in
+    let count' : CountsAll (moved s0 sent) w0 w1 (map (λ s. s.0) sent) =
+    subst (λ (x : Assigned). CountsAll x w0 w1 (map (λ s. s.0) sent)) after count in
+    let recount' : CountsAll (moved s0 sent) w1 w2 (displaced_by s0 sent) =
+    subst (CountsAll (moved s0 sent) w1 w2) displaced
+    (subst (λ (x : Assigned). CountsAll x w1 w2 xs) after recount) in
     subst (λ (x : Assigned). IsWatching k x w2) (sym after) (record {
       watched = watched_after taking w0.singles.items w1.singles.items w2.singles.items before.watched first' second';
       named = subst (AreNamed s0.market (k + 1)) (sym couples) before.named;
+      counted = counted_after taking w0 w1 w2 before.counted count' recount';
     })
 
 pub look_at_left-requires-clause-watch : goal.look_at_left-requires-clause-watch
 look_at_left-requires-clause-watch c =
     watching c.args.assignment.now c.move_to.new.self c.args.sent.now c.args.agent c.args.last c.args.watch.now c.follow_sent.new.watch c.follow_displaced.new.watch c.deref.result.now
-    c.requires.taking c.in_ok-moved.ensures.places c.requires.watch c.in_ok-follow_sent.ensures.singles c.in_ok-follow_displaced.ensures.singles
+    c.requires.taking c.in_ok-moved.ensures.places c.requires.watch c.in_ok-follow_sent.ensures.singles c.in_ok-follow_displaced.ensures.singles c.in_ok-follow_sent.ensures.better c.in_ok-follow_displaced.ensures.better
     (c.deref.ensures.value ∙ c.in_ok-moved.ensures.displaced) (ap Vec.items (c.in_ok-follow_displaced.ensures.couples ∙ c.in_ok-follow_sent.ensures.couples))
 
 pub returns : goal.returns
@@ -115,7 +123,7 @@ returns c =
     (c.deref-3.ensures.value ∙ c.in_ok-moved.ensures.left) in
     record {
       watch = watching c.args.assignment.now c.move_to.new.self c.args.sent.now c.args.agent c.args.last c.args.watch.now c.follow_sent.new.watch c.follow_displaced.new.watch c.deref.result.now
-          c.requires.taking c.in_ok-moved.ensures.places c.requires.watch c.in_ok-follow_sent.ensures.singles c.in_ok-follow_displaced.ensures.singles
+          c.requires.taking c.in_ok-moved.ensures.places c.requires.watch c.in_ok-follow_sent.ensures.singles c.in_ok-follow_displaced.ensures.singles c.in_ok-follow_sent.ensures.better c.in_ok-follow_displaced.ensures.better
           (c.deref.ensures.value ∙ c.in_ok-moved.ensures.displaced) (ap Vec.items (c.in_ok-follow_displaced.ensures.couples ∙ c.in_ok-follow_sent.ensures.couples));
       market = ap (λ (x : Assigned). x.market) after;
       room = all ∙ ap (λ (w : Waiting). with_agents c.args.waiting.now w.agents) (sym all);
