@@ -1,15 +1,15 @@
 -- A record as it is read, and the same whatever its list has in it.
-use Rattle.std.proofs.Common.{◌≡◌, ℕ, Bool, true, false, ◌&&◌, List, [], ◌∷◌, map, Option, Some, None, Result, Ok, Err, refl, subst, sym}
+use Rattle.std.proofs.Common.{◌≡◌, ℕ, Bool, true, false, not, ◌&&◌, ◌||◌, List, [], ◌∷◌, map, Option, Some, None, Result, Ok, Err, refl, subst, sym, arith, ◌∙◌}
 use Rattle.std.specs.Prelude.{if◌then◌else◌, codes, bytes_eq, option_map, ok_or}
 use Rattle.std.specs.List.{list_all}
 use Rattle.std.specs.Result.{result_ok}
 use Rattle.std.proofs.lemmas.Bool.{and_parts}
-use Rattle.mt_terms.specs.Registration.Ids.{Bytes, is_id, quota_of}
+use Rattle.mt_terms.specs.Registration.Ids.{Bytes, is_dash, is_id, quota_of}
 use Rattle.mt_terms.specs.Registration.Faults.{Charge, charge, charge_alone}
 use Rattle.mt_terms.specs.declared.codes.TheConstants.{BAD_ID, BAD_QUOTA}
-use Rattle.mt_terms.specs.Registration.Records.{Rules, Record, ProgramRecord, ApplicantRecord, CoupleRecord, WithdrawRecord, Kind, OfProgram, OfApplicant, OfCouple, kind_of, are_ids, is_pair, pair_of, two_by_two, record_of, record_by_kind, program_record, applicant_record, couple_by_pairs, couple_record, withdraw_by_kind, withdraw_record}
+use Rattle.mt_terms.specs.Registration.Records.{Rules, Record, ProgramRecord, ApplicantRecord, CoupleRecord, WithdrawRecord, Kind, OfProgram, OfApplicant, OfCouple, IdPair, kind_of, are_ids, is_pair, pair_of, two_by_two, record_of, record_by_kind, program_record, applicant_record, couple_by_pairs, couple_record, withdraw_by_kind, withdraw_record}
 use Rattle.mt_terms.specs.Registration.Rows.{ids_of, applicant_ids}
-use Rattle.mt_file_laws.specs.Faultless.{program_draft, applicant_draft, draft_by_kind, draft}
+use Rattle.mt_file_laws.specs.Faultless.{program_draft, applicant_draft, couple_draft, draft_by_kind, draft, is_allowed}
 use Rattle.mt_file_laws.proofs.NumberingFacts.{both}
 
 -- whether what a record registers are ids
@@ -19,26 +19,37 @@ registers_ids rules (ApplicantRecord id list) = are_ids rules (id ∷ [])
 registers_ids rules (CoupleRecord id a b pairs) = are_ids rules (id ∷ a ∷ b ∷ [])
 registers_ids rules (WithdrawRecord kind id) = true
 
--- whether the list of a program or of a single has ids alone
+-- whether a place is none or an id, and a pair one of two such places that is allowed
+abbrev pub is_none_or_id : Rules → Option Bytes → Bool
+is_none_or_id rules None = true
+is_none_or_id rules (Some id) = is_id rules.limits.id_bytes id
+
+abbrev pub is_id_pair : Rules → IdPair → Bool
+is_id_pair rules p = is_allowed rules.half_pairs p && (is_none_or_id rules p.0 && is_none_or_id rules p.1)
+
+-- whether the list of a program or of a single has ids alone, and that of a couple pairs of ids that are allowed
 abbrev pub lists_ids : Rules → Record → Bool
 lists_ids rules (ProgramRecord id quota list) = are_ids rules list
 lists_ids rules (ApplicantRecord id list) = are_ids rules list
-lists_ids rules _ = true
+lists_ids rules (CoupleRecord id a b pairs) = list_all (is_id_pair rules) pairs
+lists_ids rules (WithdrawRecord kind id) = true
 
--- a record that is read is the draft, and a draft registers ids and is read if its list has ids alone
+-- a record that is read is the draft, and its list has ids alone; a draft registers ids and is read if its list has ids alone
 pub record IsDraft (rules : Rules) (read : Result Record Charge) (drafted : Option Record) : Type 0 where
   pub drafts : (r : Record) → read ≡ Ok r → drafted ≡ Some r
+  pub lists : (r : Record) → read ≡ Ok r → lists_ids rules r ≡ true
   pub registers : (r : Record) → drafted ≡ Some r → registers_ids rules r ≡ true
   pub reads : (r : Record) → drafted ≡ Some r → lists_ids rules r ≡ true → read ≡ Ok r
 
 module _ (rules : Rules) where
   no_draft : (e : Charge) → IsDraft rules (Err e) None
-  no_draft e = record { drafts = λ r h. cc; registers = λ r h. cc; reads = λ r h l. cc }
+  no_draft e = record { drafts = λ r h. cc; lists = λ r h. cc; registers = λ r h. cc; reads = λ r h l. cc }
 
   -- a draft whose list has ids alone, or has another field
   listed : (q : Record) → registers_ids rules q ≡ true → lists_ids rules q ≡ true → IsDraft rules (Ok q) (Some q)
   listed q i l = record {
     drafts = λ r h. let s : q ≡ r = cc in cc;
+    lists = λ r h. let s : q ≡ r = cc in subst (λ (z : Record). lists_ids rules z ≡ true) s l;
     registers = λ r h. let s : q ≡ r = cc in subst (λ (z : Record). registers_ids rules z ≡ true) s i;
     reads = λ r h k. let s : q ≡ r = cc in cc;
   }
@@ -46,6 +57,7 @@ module _ (rules : Rules) where
   unlisted : (q : Record) (e : Charge) → registers_ids rules q ≡ true → lists_ids rules q ≡ false → IsDraft rules (Err e) (Some q)
   unlisted q e i l = record {
     drafts = λ r h. cc;
+    lists = λ r h. cc;
     registers = λ r h. let s : q ≡ r = cc in subst (λ (z : Record). registers_ids rules z ≡ true) s i;
     reads = λ r h k. let s : q ≡ r = cc in let t : lists_ids rules q ≡ true = subst (λ (z : Record). lists_ids rules z ≡ true) (sym s) k in absurd (cc (l, t));
   }
@@ -73,21 +85,60 @@ module _ (rules : Rules) where
       by true false i l = unlisted (ApplicantRecord id list) _ (both _ _ i refl) l
       by false c i l = no_draft _
 
-  couple_drafts : (fields : List Bytes) → IsDraft rules (couple_record rules fields) (result_ok (couple_record rules fields))
+  -- two fields are a pair where the places that they write are
+  dash_no_id : (field : Bytes) → is_dash field ≡ true → is_id rules.limits.id_bytes field ≡ false
+  dash_no_id field h = rw h (by _)
+    where
+      by : (b : Bool) → (b && not true) ≡ false
+      by b = grind arith
+
+  pair_is : (p : Bytes × Bytes) → is_pair rules p ≡ is_id_pair rules (pair_of p)
+  pair_is (x, y) = by (is_dash x) (is_dash y) (dash_no_id x) (dash_no_id y)
+    where
+      most : ℕ
+      most = rules.limits.id_bytes
+
+      neither_id : (h : Bool) → (h && false) ≡ ((h && false) && true)
+      neither_id h = grind arith
+
+      second_id : (i h : Bool) → (h && i) ≡ (h && true && (true && i))
+      second_id i h = grind arith
+
+      first_id : (i h : Bool) → ((i && false) || (h && ((i && true) || false))) ≡ ((h && true) && (i && true))
+      first_id i h = grind arith
+
+      both_ids : (i j h : Bool) → ((i && j) || (h && ((i && false) || false))) ≡ ((true || (h && true)) && (i && j))
+      both_ids i j h = grind arith
+
+      by : (d e : Bool) → (d ≡ true → is_id most x ≡ false) → (e ≡ true → is_id most y ≡ false)
+          → ((is_id most x && is_id most y) || (rules.half_pairs && ((is_id most x && e) || (d && is_id most y))))
+          ≡ is_id_pair rules (if d then None else Some x, if e then None else Some y)
+      by true true f g = rw (f refl, g refl) (neither_id rules.half_pairs)
+      by true false f g = rw (f refl) (second_id (is_id most y) rules.half_pairs)
+      by false true f g = rw (g refl) (first_id (is_id most x) rules.half_pairs)
+      by false false f g = both_ids (is_id most x) (is_id most y) rules.half_pairs
+
+  pairs_are : (ps : List (Bytes × Bytes)) → list_all (is_pair rules) ps ≡ list_all (is_id_pair rules) (map pair_of ps)
+  pairs_are [] = refl
+  pairs_are (p ∷ ps) = rw (pair_is p, pairs_are ps) refl
+
+  couple_drafts : (fields : List Bytes) → IsDraft rules (couple_record rules fields) (couple_draft rules fields)
   couple_drafts [] = no_draft _
   couple_drafts (id ∷ []) = no_draft _
   couple_drafts (id ∷ a ∷ []) = no_draft _
-  couple_drafts (id ∷ a ∷ b ∷ fields) = by (two_by_two fields)
+  couple_drafts (id ∷ a ∷ b ∷ fields) = by (two_by_two fields) (are_ids rules (id ∷ a ∷ b ∷ [])) refl
     where
-      tested : (pairs : List (Bytes × Bytes)) (ids all : Bool) → are_ids rules (id ∷ a ∷ b ∷ []) ≡ ids
-          → IsDraft rules (if ids && all then Ok (CoupleRecord id a b (map pair_of pairs)) else Err (charge_alone BAD_ID)) (result_ok (if ids && all then Ok (CoupleRecord id a b (map pair_of pairs)) else Err (charge_alone BAD_ID)))
-      tested pairs true true i = listed (CoupleRecord id a b (map pair_of pairs)) i refl
-      tested pairs true false i = no_draft _
-      tested pairs false all i = no_draft _
+      tested : (pairs : List (Bytes × Bytes)) (all : Bool) → are_ids rules (id ∷ a ∷ b ∷ []) ≡ true → list_all (is_pair rules) pairs ≡ all
+          → IsDraft rules (if all then Ok (CoupleRecord id a b (map pair_of pairs)) else Err (charge_alone BAD_ID)) (Some (CoupleRecord id a b (map pair_of pairs)))
+      tested pairs true i l = listed (CoupleRecord id a b (map pair_of pairs)) i (sym (pairs_are pairs) ∙ l)
+      tested pairs false i l = unlisted (CoupleRecord id a b (map pair_of pairs)) _ i (sym (pairs_are pairs) ∙ l)
 
-      by : (o : Option (List (Bytes × Bytes))) → IsDraft rules (couple_by_pairs rules id a b o) (result_ok (couple_by_pairs rules id a b o))
-      by None = no_draft _
-      by (Some pairs) = tested pairs (are_ids rules (id ∷ a ∷ b ∷ [])) (list_all (is_pair rules) pairs) refl
+      by : (o : Option (List (Bytes × Bytes))) (ids : Bool) → are_ids rules (id ∷ a ∷ b ∷ []) ≡ ids
+          → IsDraft rules (couple_by_pairs rules id a b o) (if ids then option_map (λ pairs. CoupleRecord id a b (map pair_of pairs)) o else None)
+      by None true i = no_draft _
+      by None false i = no_draft _
+      by (Some pairs) true i = rw i (tested pairs (list_all (is_pair rules) pairs) i refl)
+      by (Some pairs) false i = rw i (no_draft _)
 
   withdraw_drafts : (fields : List Bytes) → IsDraft rules (withdraw_record rules fields) (result_ok (withdraw_record rules fields))
   withdraw_drafts [] = no_draft _

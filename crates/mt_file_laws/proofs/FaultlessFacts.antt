@@ -19,7 +19,7 @@ use Rattle.mt_file_laws.proofs.NumberingFacts.{both}
 use Rattle.mt_file_laws.proofs.PassFacts.{kept_parts, contents_push}
 use Rattle.mt_file_laws.proofs.DraftFacts.{registers_ids, lists_ids, is_draft}
 use Rattle.mt_file_laws.proofs.ApartFacts.{lists_once, AreApart, none_apart, CanFollow, apart_more, can_follow, apart_front}
-use Rattle.mt_file_laws.proofs.KnownFacts.{is_known, second-none, AreFaultless, faultless_parts, faultless_join, all_lists_ids}
+use Rattle.mt_file_laws.proofs.KnownFacts.{is_known, allows_pairs, second-none, AreFaultless, faultless_parts, faultless_join, all_lists_ids, lists_allowed}
 
 -- the records of rows, by the record of the first of them
 record HasFirst (rules : Rules) (row : List Bytes) (rows : List (List Bytes)) (rs : List Record) : Type 0 where
@@ -35,6 +35,7 @@ record PassGives (rules : Rules) (before : List Record) (rows : List (List Bytes
   drafted : drafts rules rows ≡ Some records
   all : given ≡ before ++ records
   once : list_all lists_once records ≡ true
+  allowed : list_all (allows_pairs rules.half_pairs) records ≡ true
   apart : AreApart rules.limits given
 
 -- no conflict among a record and those before it
@@ -109,6 +110,7 @@ module _ (rules : Rules) where
         drafted = refl;
         all = ap contents (sym e) ∙ sym (append-nil (contents before));
         once = refl;
+        allowed = refl;
         apart = subst (λ (xs : List (Numbered Record)). AreApart rules.limits (contents xs)) e apart;
       }
   passed before (row ∷ rows) ns apart h =
@@ -129,6 +131,7 @@ module _ (rules : Rules) where
             drafted = rw (d, g.drafted) refl;
             all = g.all ∙ ap (λ (xs : List Record). xs ++ g.records) pushed ∙ append_assoc (contents before) (r ∷ []) g.records;
             once = both _ _ a.1 g.once;
+            allowed = both _ _ (lists_allowed rules r ((is_draft rules row.1).lists r p.0)) g.allowed;
             apart = g.apart;
           }
 
@@ -144,11 +147,11 @@ module _ (rules : Rules) where
   pub accepts : (rows : List (Numbered (List Bytes))) (m : Registered) → faultless_market rules (contents rows) ≡ Some m → market_under rules rows ≡ Ok m
   accepts rows m h = by (drafts rules (contents rows)) refl h
     where
-      tested : (rs : List Record) (b : Bool) → drafts rules (contents rows) ≡ Some rs → is_faultless rules.limits rs ≡ b → (if b then Some (registered rs) else None) ≡ Some m → market_under rules rows ≡ Ok m
+      tested : (rs : List Record) (b : Bool) → drafts rules (contents rows) ≡ Some rs → is_faultless rules rs ≡ b → (if b then Some (registered rs) else None) ≡ Some m → market_under rules rows ≡ Ok m
       tested rs false d e k = cc
       tested rs true d e k =
-          let are : AreFaultless rules.limits rs = faultless_parts rules.limits rs e in
-          let ids : list_all (lists_ids rules) rs ≡ true = all_lists_ids rules rs (drafts_register (contents rows) rs d) rs are.known in
+          let are : AreFaultless rules rs = faultless_parts rules rs e in
+          let ids : list_all (lists_ids rules) rs ≡ true = all_lists_ids rules rs (drafts_register (contents rows) rs d) rs are.known are.allowed in
           let p = passes [] rows rs d ids are.once are.apart in
           let known : list_all (is_known (contents p.0)) (contents p.0) ≡ true = ap (λ (xs : List Record). list_all (is_known xs) xs) p.2 ∙ are.known in
           let none : second_pass p.0 ≡ None = no_fault (second_pass p.0) (known_none p.0 ∙ known) in
@@ -157,9 +160,9 @@ module _ (rules : Rules) where
           ∙ ap (λ (xs : List Record). Ok (registered xs)) p.2
           ∙ cc
 
-      by : (o : Option (List Record)) → drafts rules (contents rows) ≡ o → option_and_then (λ rs. if is_faultless rules.limits rs then Some (registered rs) else None) o ≡ Some m → market_under rules rows ≡ Ok m
+      by : (o : Option (List Record)) → drafts rules (contents rows) ≡ o → option_and_then (λ rs. if is_faultless rules rs then Some (registered rs) else None) o ≡ Some m → market_under rules rows ≡ Ok m
       by None d k = cc
-      by (Some rs) d k = tested rs (is_faultless rules.limits rs) d refl k
+      by (Some rs) d k = tested rs (is_faultless rules rs) d refl k
 
   -- and of no others
   pub accepted : (rows : List (Numbered (List Bytes))) (m : Registered) → market_under rules rows ≡ Ok m → faultless_market rules (contents rows) ≡ Some m
@@ -170,7 +173,8 @@ module _ (rules : Rules) where
       second ns None s g k =
           let known : list_all (is_known (contents ns)) (contents ns) ≡ true = sym (known_none ns) ∙ ap is_none s in
           let once : list_all lists_once (contents ns) ≡ true = ap (list_all lists_once) g.all ∙ g.once in
-          let faultless : is_faultless rules.limits (contents ns) ≡ true = faultless_join rules.limits (contents ns) (record { apart = g.apart; known = known; once = once }) in
+          let allowed : list_all (allows_pairs rules.half_pairs) (contents ns) ≡ true = ap (list_all (allows_pairs rules.half_pairs)) g.all ∙ g.allowed in
+          let faultless : is_faultless rules (contents ns) ≡ true = faultless_join rules (contents ns) (record { apart = g.apart; known = known; once = once; allowed = allowed }) in
           let drafted : drafts rules (contents rows) ≡ Some (contents ns) = g.drafted ∙ ap Some (sym g.all) in
           let m_is : registered (contents ns) ≡ m = cc in
           rw (drafted, faultless) (ap Some m_is)

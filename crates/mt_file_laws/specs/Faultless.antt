@@ -1,12 +1,11 @@
 -- Which files are accepted: those of whose records, taken all together, none is at fault. (This project's own format.)
-use Rattle.std.specs.Prelude.{◌≡◌, ◌&&◌, Bool, true, not, List, [], ◌∷◌, Option, Some, None, option_map, option_and_then, codes, bytes_eq, if◌then◌else◌}
+use Rattle.std.specs.Prelude.{◌≡◌, ◌&&◌, ◌||◌, Bool, true, not, List, [], ◌∷◌, map, Option, Some, None, is_some, option_map, option_and_then, codes, bytes_eq, if◌then◌else◌}
 use Rattle.std.specs.List.{list_all}
 use Rattle.std.specs.Result.{result_ok}
-use Rattle.mt_terms.specs.declared.limits.Limits.{Limits}
 use Rattle.mt_terms.specs.Market.{Registered}
 use Rattle.mt_terms.specs.Registration.{market_under}
 use Rattle.mt_terms.specs.Registration.Ids.{Bytes, is_id, quota_of, has_id, all_differ}
-use Rattle.mt_terms.specs.Registration.Records.{Rules, Kind, OfProgram, OfApplicant, OfCouple, Record, ProgramRecord, ApplicantRecord, CoupleRecord, kind_of, couple_record, withdraw_record}
+use Rattle.mt_terms.specs.Registration.Records.{Rules, Kind, OfProgram, OfApplicant, OfCouple, Record, ProgramRecord, ApplicantRecord, CoupleRecord, IdPair, kind_of, are_ids, two_by_two, pair_of, withdraw_record}
 use Rattle.mt_terms.specs.Registration.Rows.{ids_of, withdrawn, applicant_ids}
 use Rattle.mt_terms.specs.Registration.Passes.{Numbered, contents, is_same_pair, are_too_many}
 use Rattle.mt_terms.specs.Registration.Numbering.{names_only, registered}
@@ -20,11 +19,17 @@ abbrev pub applicant_draft : Rules → List Bytes → Option Record
 applicant_draft rules (id ∷ list) = if is_id rules.limits.id_bytes id then Some (ApplicantRecord id list) else None
 applicant_draft rules [] = None
 
--- a record of a kind by the fields after its first, of which the list of a program or a single may have anything in it
+-- the record of a couple, in whose pairs anything may stand
+abbrev pub couple_draft : Rules → List Bytes → Option Record
+couple_draft rules (id ∷ a ∷ b ∷ fields) =
+    if are_ids rules (id ∷ a ∷ b ∷ []) then option_map (λ pairs. CoupleRecord id a b (map pair_of pairs)) (two_by_two fields) else None
+couple_draft rules _ = None
+
+-- a record of a kind by the fields after its first, whose list may have anything in it
 abbrev pub draft_by_kind : Rules → Option Kind → List Bytes → Option Record
 draft_by_kind rules (Some OfProgram) fields = program_draft rules fields
 draft_by_kind rules (Some OfApplicant) fields = applicant_draft rules fields
-draft_by_kind rules (Some OfCouple) fields = result_ok (couple_record rules fields)
+draft_by_kind rules (Some OfCouple) fields = couple_draft rules fields
 draft_by_kind rules None fields = None
 
 -- the same of all its fields
@@ -43,8 +48,8 @@ drafts rules (row ∷ rows) = option_and_then (λ r. option_map (λ rs. r ∷ rs
 abbrev pub stands_once : List Bytes → List Bytes → Bool
 stands_once ids list = list_all (has_id ids) list && all_differ bytes_eq list
 
--- whether the list of a program does, by all applicants; that of a single and that of a couple, by all programs. Each is true of
--- any other record
+-- whether the list of a program does, by all applicants; that of a single, by all programs; and whether the pairs of a couple
+-- stand, by all programs, and none twice. Each is true of any other record
 abbrev pub ranking_stands : List Bytes → Record → Bool
 ranking_stands applicants (ProgramRecord id quota list) = stands_once applicants list
 ranking_stands applicants _ = true
@@ -53,9 +58,17 @@ abbrev pub list_stands : List Bytes → Record → Bool
 list_stands programs (ApplicantRecord id list) = stands_once programs list
 list_stands programs _ = true
 
-abbrev pub pairs_stand : List Bytes → Record → Bool
-pairs_stand programs (CoupleRecord id a b pairs) = list_all (names_only programs) pairs && all_differ is_same_pair pairs
-pairs_stand programs _ = true
+-- whether a pair has a place for each member, or where half pairs are allowed for one of them
+abbrev pub is_allowed : Bool → IdPair → Bool
+is_allowed half_pairs pair = (is_some pair.0 && is_some pair.1) || (half_pairs && (is_some pair.0 || is_some pair.1))
+
+-- whether a pair does, and names none but these programs
+abbrev pub pair_stands : Bool → List Bytes → IdPair → Bool
+pair_stands half_pairs programs pair = is_allowed half_pairs pair && names_only programs pair
+
+abbrev pub pairs_stand : Bool → List Bytes → Record → Bool
+pairs_stand half_pairs programs (CoupleRecord id a b pairs) = list_all (pair_stands half_pairs programs) pairs && all_differ is_same_pair pairs
+pairs_stand half_pairs programs _ = true
 
 -- whether no id is registered twice
 abbrev pub ids_differ : List Record → Bool
@@ -68,14 +81,14 @@ withdrawals_stand rs =
     && stands_once (ids_of OfCouple rs) (withdrawn OfCouple rs)
 
 -- whether records have no fault among them
-abbrev pub is_faultless : Limits → List Record → Bool
-is_faultless limits rs =
+abbrev pub is_faultless : Rules → List Record → Bool
+is_faultless rules rs =
     ids_differ rs && withdrawals_stand rs && list_all (ranking_stands (applicant_ids rs)) rs && list_all (list_stands (ids_of OfProgram rs)) rs
-    && list_all (pairs_stand (ids_of OfProgram rs)) rs && not (are_too_many limits rs)
+    && list_all (pairs_stand rules.half_pairs (ids_of OfProgram rs)) rs && not (are_too_many rules.limits rs)
 
 -- the market of rows, if they have no fault
 abbrev pub faultless_market : Rules → List (List Bytes) → Option Registered
-faultless_market rules rows = option_and_then (λ rs. if is_faultless rules.limits rs then Some (registered rs) else None) (drafts rules rows)
+faultless_market rules rows = option_and_then (λ rs. if is_faultless rules rs then Some (registered rs) else None) (drafts rules rows)
 
 -- it is the market of the two passes
 abbrev pub PassesAgree : Type 0

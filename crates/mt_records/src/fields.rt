@@ -70,8 +70,8 @@ pub struct Pairs<'a> {
 }
 
 impl<'a> Pairs<'a> {
-    /// Some fields, two by two.
-    pub(crate) fn new(fields: Fields<'a>) -> Pairs<'a>
+    /// The pairs that some fields write, two by two: a last field that has no other is left out.
+    pub fn new(fields: Fields<'a>) -> Pairs<'a>
         ensures { pairs_left result ≡ map pair_of (by_pairs (fields_left fields.entry)) }
     {
         Pairs { fields }

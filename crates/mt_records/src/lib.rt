@@ -8,7 +8,7 @@ mod rules;
 
 pub use fields::Pairs;
 pub use record::{
-    Charge, Kind, Record, couple_record, kind_of, record_of, withdraw_record, withdraws,
+    Charge, Kind, Record, kind_of, names_are_ids, record_of, withdraw_record, withdraws,
 };
 pub use refusal::{Fault, Refusal};
 pub use rules::{Rules, rules_of};

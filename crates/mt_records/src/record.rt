@@ -168,8 +168,8 @@ fn applicant_record<'a>(rules: &Rules, fields: Fields<'a>) -> Result<Record<'a>,
     }
 }
 
-/// Whether a couple's own id and those of its members are ids.
-fn names_are_ids(rules: &Rules, id: &[u8], first: &[u8], second: &[u8]) -> bool
+/// Whether a couple's own id and those of its members are ids by the rules of a version.
+pub fn names_are_ids(rules: &Rules, id: &[u8], first: &[u8], second: &[u8]) -> bool
     ensures { result ≡ are_ids rules.now (id.now ∷ first.now ∷ second.now ∷ []) }
 {
     let most = rules.limits.id_bytes;
@@ -202,7 +202,7 @@ fn couple_by_pairs<'a>(
 }
 
 /// A couple by the fields after its first.
-pub fn couple_record<'a>(rules: &Rules, fields: Fields<'a>) -> Result<Record<'a>, Charge<'a>>
+fn couple_record<'a>(rules: &Rules, fields: Fields<'a>) -> Result<Record<'a>, Charge<'a>>
     ensures { read_seen result ≡ couple_record rules.now (fields_left fields.entry) }
 {
     let mut list = fields;

@@ -33,8 +33,8 @@ module _ (rs : List Record) (names : NameLists) (are : AreNames rs names) where
       }
 
   -- one of which is registered twice
-  pub ids_missing : (limits : Limits) (o : Option Registered) → MatchOption o (names_differ names ≡ false) (AreIdsOf names) → o ≡ None → is_faultless limits rs ≡ false
-  ids_missing limits o h is =
+  pub ids_missing : (rules : Rules) (o : Option Registered) → MatchOption o (names_differ names ≡ false) (AreIdsOf names) → o ≡ None → is_faultless rules rs ≡ false
+  ids_missing rules o h is =
       let twice : names_differ names ≡ false = subst (λ (x : Option Registered). MatchOption x (names_differ names ≡ false) (AreIdsOf names)) is h in
       let same : ids_differ rs ≡ false = sym names_are ∙ twice in
       rw same refl
@@ -48,18 +48,18 @@ drafts_missing rules rows o h is = let fault : HaveFault rules rows = subst (λ 
 
 -- Below, drafts are those of rows.
 module _ (rules : Rules) (rows : List (List Bytes)) (d : Drafts) (are : AreDraftsOf rules rows d) where
-  market_is : faultless_market rules (with_fields rows) ≡ (if is_faultless rules.limits (drafted d) then Some (registered (drafted d)) else None)
-  market_is = ap (option_and_then (λ (rs : List Record). if is_faultless rules.limits rs then Some (registered rs) else None)) are.records
+  market_is : faultless_market rules (with_fields rows) ≡ (if is_faultless rules (drafted d) then Some (registered (drafted d)) else None)
+  market_is = ap (option_and_then (λ (rs : List Record). if is_faultless rules rs then Some (registered rs) else None)) are.records
 
-  pub market_found : (o : Option Market) → IsMarketOf rules.limits (drafted d) o → o ≡ faultless_market rules (with_fields rows)
+  pub market_found : (o : Option Market) → IsMarketOf rules (drafted d) o → o ≡ faultless_market rules (with_fields rows)
   market_found None h =
-      let none : (if is_faultless rules.limits (drafted d) then Some (registered (drafted d)) else None) ≡ None = rw h refl in
+      let none : (if is_faultless rules (drafted d) then Some (registered (drafted d)) else None) ≡ None = rw h refl in
       sym (market_is ∙ none)
   market_found (Some m) h =
-      let some : (if is_faultless rules.limits (drafted d) then Some (registered (drafted d)) else None) ≡ Some (registered (drafted d)) = rw h.0 refl in
+      let some : (if is_faultless rules (drafted d) then Some (registered (drafted d)) else None) ≡ Some (registered (drafted d)) = rw h.0 refl in
       ap Some h.1 ∙ sym (market_is ∙ some)
 
-  pub accepts_drafts : AcceptsRegistrations rules (with_fields rows) → is_faultless rules.limits (drafted d) ≡ true → IsRegistration (registered (drafted d))
+  pub accepts_drafts : AcceptsRegistrations rules (with_fields rows) → is_faultless rules (drafted d) ≡ true → IsRegistration (registered (drafted d))
   accepts_drafts accepts h =
-      let some : (if is_faultless rules.limits (drafted d) then Some (registered (drafted d)) else None) ≡ Some (registered (drafted d)) = rw h refl in
+      let some : (if is_faultless rules (drafted d) then Some (registered (drafted d)) else None) ≡ Some (registered (drafted d)) = rw h refl in
       accepts (registered (drafted d)) (market_is ∙ some)

@@ -15,12 +15,12 @@ use Rattle.mt_file_laws.proofs.KnownFacts.{faultless_parts}
 use Rattle.mt_roster.specs.Drafts.{with_fields, has_too_many_names, HaveFault}
 
 -- too many of the first records are too many of all
-too_many : (limits : Limits) (front rest : List Record) → has_too_many_names limits front ≡ true → is_faultless limits (front ++ rest) ≡ false
-too_many limits front rest many =
+too_many : (rules : Rules) (front rest : List Record) → has_too_many_names rules.limits front ≡ true → is_faultless rules (front ++ rest) ≡ false
+too_many rules front rest many =
     not_true _
     (λ faultless.
-    let apart : AreApart limits front = apart_front limits front rest (faultless_parts limits (front ++ rest) faultless).apart in
-    let over : are_too_many limits front ≡ true = or_left _ _ many in
+    let apart : AreApart rules.limits front = apart_front rules.limits front rest (faultless_parts rules (front ++ rest) faultless).apart in
+    let over : are_too_many rules.limits front ≡ true = or_left _ _ many in
     cc (over, apart.few))
 
 module _ (rules : Rules) where
@@ -48,7 +48,7 @@ module _ (rules : Rules) where
 
   -- all rows have a fault where the first of them have too many records
   abbrev market : List Record → Option Registered
-  market rs = if is_faultless rules.limits rs then Some (registered rs) else None
+  market rs = if is_faultless rules rs then Some (registered rs) else None
 
   pub too_many_drafts : (all : List (List Bytes)) (front : List Record) (left : List (List Bytes)) → has_too_many_names rules.limits front ≡ true
       → GoesOn all front left → HaveFault rules all
@@ -56,4 +56,4 @@ module _ (rules : Rules) where
     where
       by : (o : Option (List Record)) → option_and_then market (option_map (λ rs. front ++ rs) o) ≡ None
       by None = refl
-      by (Some rest) = rw (too_many rules.limits front rest many) refl
+      by (Some rest) = rw (too_many rules front rest many) refl

@@ -32,7 +32,7 @@ entry_count-is (CoupleRecord id a b pairs ∷ rs) =
     )
 entry_count-is (WithdrawRecord kind id ∷ rs) = omega (arith, entry_count-is rs, sum_by-cons entries_of (WithdrawRecord kind id) rs)
 
-module _ (programs applicants : List Bytes) where
+module _ (half_pairs : Bool) (programs applicants : List Bytes) where
   rankings_stand : (rs : List Record) → list_all (ranking_stands applicants) rs ≡ list_all (stands_once applicants) (program_lists rs)
   rankings_stand [] = refl
   rankings_stand (ProgramRecord id quota list ∷ rs) = ap (λ (b : Bool). stands_once applicants list && b) (rankings_stand rs)
@@ -47,55 +47,55 @@ module _ (programs applicants : List Bytes) where
   applicants_stand (CoupleRecord id a b pairs ∷ rs) = applicants_stand rs
   applicants_stand (WithdrawRecord kind id ∷ rs) = applicants_stand rs
 
-  couples_stand : (rs : List Record) → list_all (pairs_stand programs) rs ≡ list_all (pairs_once programs) (couple_lists rs)
+  couples_stand : (rs : List Record) → list_all (pairs_stand half_pairs programs) rs ≡ list_all (pairs_once half_pairs programs) (couple_lists rs)
   couples_stand [] = refl
   couples_stand (ProgramRecord id quota list ∷ rs) = couples_stand rs
   couples_stand (ApplicantRecord id list ∷ rs) = couples_stand rs
-  couples_stand (CoupleRecord id a b pairs ∷ rs) = ap (λ (b : Bool). pairs_once programs pairs && b) (couples_stand rs)
+  couples_stand (CoupleRecord id a b pairs ∷ rs) = ap (λ (b : Bool). pairs_once half_pairs programs pairs && b) (couples_stand rs)
   couples_stand (WithdrawRecord kind id ∷ rs) = couples_stand rs
 
   -- the lists of all records stand where those of programs, of applicants and of couples do
-  pub lists_stand-is : (rs : List Record) → lists_stand programs applicants rs
-      ≡ (list_all (stands_once applicants) (program_lists rs) && list_all (stands_once programs) (applicant_lists rs) && list_all (pairs_once programs) (couple_lists rs))
+  pub lists_stand-is : (rs : List Record) → lists_stand half_pairs programs applicants rs
+      ≡ (list_all (stands_once applicants) (program_lists rs) && list_all (stands_once programs) (applicant_lists rs) && list_all (pairs_once half_pairs programs) (couple_lists rs))
   lists_stand-is rs = rw (rankings_stand rs, applicants_stand rs, couples_stand rs) refl
 
   pub record AllStand (rs : List Record) : Type 0 where
     pub rankings : list_all (stands_once applicants) (program_lists rs) ≡ true
     pub lists : list_all (stands_once programs) (applicant_lists rs) ≡ true
-    pub pairs : list_all (pairs_once programs) (couple_lists rs) ≡ true
+    pub pairs : list_all (pairs_once half_pairs programs) (couple_lists rs) ≡ true
 
-  pub all_stand : (rs : List Record) → lists_stand programs applicants rs ≡ true → AllStand rs
+  pub all_stand : (rs : List Record) → lists_stand half_pairs programs applicants rs ≡ true → AllStand rs
   all_stand rs h =
       let rankings = list_all (stands_once applicants) (program_lists rs) in
       let lists = list_all (stands_once programs) (applicant_lists rs) in
-      let parts = both (rankings && lists) (list_all (pairs_once programs) (couple_lists rs)) (sym (lists_stand-is rs) ∙ h) in
+      let parts = both (rankings && lists) (list_all (pairs_once half_pairs programs) (couple_lists rs)) (sym (lists_stand-is rs) ∙ h) in
       let first = both rankings lists parts.0 in
       record { rankings = first.0; lists = first.1; pairs = parts.1 }
 
 -- The lists of programs are read, then those of applicants, then those of couples, with room for so many entries at each step.
-module _ (r : Registered) (n : Numbers) (rs : List Record) (room one two three : ℕ) (ns ps qs : List (Option ℕ))
+module _ (half_pairs : Bool) (r : Registered) (n : Numbers) (rs : List Record) (room one two three : ℕ) (ns ps qs : List (Option ℕ))
     (ns_are : ns ≡ n.applicants.items) (ps_are : ps ≡ n.programs.items) (qs_are : qs ≡ n.programs.items) where
-  pub rankings_fail : ReadsLists r.applicants ns room one (program_lists rs) None → ReadsEntries r n room one rs None
+  pub rankings_fail : ReadsLists r.applicants ns room one (program_lists rs) None → ReadsEntries half_pairs r n room one rs None
   rankings_fail fails h =
-      let all = all_stand r.programs r.applicants rs h in
+      let all = all_stand half_pairs r.programs r.applicants rs h in
       omega (arith, fails all.rankings, entry_count-is rs)
 
   module _ (rankings : List (List ℕ)) (rankings_are : ReadsLists r.applicants ns room one (program_lists rs) (Some rankings)) where
-    pub lists_fail : ReadsLists r.programs ps one two (applicant_lists rs) None → ReadsEntries r n room two rs None
+    pub lists_fail : ReadsLists r.programs ps one two (applicant_lists rs) None → ReadsEntries half_pairs r n room two rs None
     lists_fail fails h =
-        let all = all_stand r.programs r.applicants rs h in
+        let all = all_stand half_pairs r.programs r.applicants rs h in
         omega (arith, rankings_are.1, fails all.lists, entry_count-is rs)
 
     module _ (lists : List (List ℕ)) (lists_are : ReadsLists r.programs ps one two (applicant_lists rs) (Some lists)) where
-      pub pairs_fail : ReadsAllPairs r.programs qs two three (couple_lists rs) None → ReadsEntries r n room three rs None
+      pub pairs_fail : ReadsAllPairs half_pairs r.programs qs two three (couple_lists rs) None → ReadsEntries half_pairs r n room three rs None
       pairs_fail fails h =
-          let all = all_stand r.programs r.applicants rs h in
+          let all = all_stand half_pairs r.programs r.applicants rs h in
           omega (arith, rankings_are.1, lists_are.1, fails all.pairs, entry_count-is rs)
 
-      pub all_read : (pairs : List (List Pair)) → ReadsAllPairs r.programs qs two three (couple_lists rs) (Some pairs)
-          → ReadsEntries r n room three rs (Some (record { rankings = rankings; lists = lists; pairs = pairs }))
+      pub all_read : (pairs : List (List Pair)) → ReadsAllPairs half_pairs r.programs qs two three (couple_lists rs) (Some pairs)
+          → ReadsEntries half_pairs r n room three rs (Some (record { rankings = rankings; lists = lists; pairs = pairs }))
       all_read pairs pairs_are = (
-        lists_stand-is r.programs r.applicants rs ∙ rw (rankings_are.0, lists_are.0, pairs_are.0) refl,
+        lists_stand-is half_pairs r.programs r.applicants rs ∙ rw (rankings_are.0, lists_are.0, pairs_are.0) refl,
         omega (arith, rankings_are.1, lists_are.1, pairs_are.1, entry_count-is rs),
         record {
           rankings = rankings_are.2 ∙ ap (λ (news : List (Option ℕ)). map (numbers_by r.applicants news) (program_lists rs)) ns_are;

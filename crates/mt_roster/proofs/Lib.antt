@@ -13,6 +13,7 @@ pub mod WithdrawalFacts
 pub mod MarketFacts
 pub mod AcceptedFacts
 pub mod CountFacts
+pub mod CoupleFacts
 pub mod RegisterFacts
 pub mod PassFacts
 pub mod UnknownFacts

@@ -9,10 +9,9 @@ use Rattle.std.proofs.lemmas.List.Filters.{sum_by-filter_both}
 use Rattle.mt_terms.specs.declared.limits.Limits.{Limits}
 use Rattle.mt_terms.specs.Market.{Pair}
 use Rattle.mt_terms.specs.Registration.Ids.{Bytes, has_id, number_of, all_differ}
-use Rattle.mt_terms.specs.Registration.Records.{Record, ProgramRecord, ApplicantRecord, CoupleRecord, WithdrawRecord, Kind, OfProgram, OfApplicant, OfCouple}
+use Rattle.mt_terms.specs.Registration.Records.{Rules, Record, ProgramRecord, ApplicantRecord, CoupleRecord, WithdrawRecord, Kind, OfProgram, OfApplicant, OfCouple}
 use Rattle.mt_terms.specs.Registration.Rows.{ids_of, applicant_ids, withdrawn, remaining, entries_of, entry_count}
-use Rattle.mt_terms.specs.Registration.Numbering.{names_only}
-use Rattle.mt_file_laws.specs.Faultless.{ids_differ, withdrawals_stand, ranking_stands, list_stands, pairs_stand, is_faultless}
+use Rattle.mt_file_laws.specs.Faultless.{ids_differ, withdrawals_stand, ranking_stands, list_stands, pair_stands, pairs_stand, is_faultless}
 use Rattle.mt_file_laws.specs.Staying.{stays_without, flagged, new_numbers, program_flags, applicant_flags}
 use Rattle.mt_file_laws.proofs.IdFacts.{not_true, differ_parts, same_id, neither, itself, or_left, or_right}
 use Rattle.mt_file_laws.proofs.NumberingFacts.{both}
@@ -30,6 +29,7 @@ use Rattle.mt_roster.specs.Reading.{number_by, numbers_by, pairs_by, lists_stand
 use Rattle.mt_roster.specs.Registered.{is_registered}
 use Rattle.mt_roster.specs.Registers.{AreBounded}
 use Rattle.mt_roster.specs.Withdrawals.{stays_after, Stand}
+use Rattle.mt_roster.proofs.PairSteps.{all_only}
 
 -- the place after the first
 next_place : {X : Type 0} → (x : X) (xs : List X) (k : ℕ) (d : X) → get_or (x ∷ xs) (1 + k) d ≡ get_or xs k d
@@ -118,12 +118,12 @@ module _ (stays : Record → Bool) where
           first true a l s e = e
           first false a l s e = refl
 
-  pub stand_parts : (programs applicants : List Bytes) (rs : List Record)
-      → lists_stand programs applicants rs ≡ (lists_stand programs applicants (leavers rs) && lists_stand programs applicants (filter stays rs))
-  stand_parts programs applicants rs =
-      rw (list_all-parts (ranking_stands applicants) rs, list_all-parts (list_stands programs) rs, list_all-parts (pairs_stand programs) rs)
+  pub stand_parts : (half_pairs : Bool) (programs applicants : List Bytes) (rs : List Record)
+      → lists_stand half_pairs programs applicants rs ≡ (lists_stand half_pairs programs applicants (leavers rs) && lists_stand half_pairs programs applicants (filter stays rs))
+  stand_parts half_pairs programs applicants rs =
+      rw (list_all-parts (ranking_stands applicants) rs, list_all-parts (list_stands programs) rs, list_all-parts (pairs_stand half_pairs programs) rs)
       (by (list_all (ranking_stands applicants) (leavers rs)) (list_all (ranking_stands applicants) (filter stays rs)) (list_all (list_stands programs) (leavers rs))
-      (list_all (list_stands programs) (filter stays rs)) (list_all (pairs_stand programs) (leavers rs)) (list_all (pairs_stand programs) (filter stays rs)))
+      (list_all (list_stands programs) (filter stays rs)) (list_all (pairs_stand half_pairs programs) (leavers rs)) (list_all (pairs_stand half_pairs programs) (filter stays rs)))
     where
       by : (a b c d e f : Bool) → ((a && b) && (c && d) && (e && f)) ≡ ((a && c && e) && (b && d && f))
       by a b c d e f = grind arith
@@ -132,11 +132,11 @@ module _ (stays : Record → Bool) where
   count_parts rs = sum_by-filter_both stays (λ r. not (stays r)) (λ r. refl) entries_of rs
 
 -- records have no fault among them where their ids differ, their withdrawals stand, and their lists fit
-pub faultless_by_steps : (limits : Limits) (rs : List Record) → has_too_many_names limits rs ≡ false
-    → is_faultless limits rs ≡ (ids_differ rs && withdrawals_stand rs && (lists_stand (ids_of OfProgram rs) (applicant_ids rs) rs && nat_le (entry_count rs) limits.entries))
-faultless_by_steps limits rs few =
-    by (ids_differ rs) (withdrawals_stand rs) (list_all (ranking_stands (applicant_ids rs)) rs) (list_all (list_stands (ids_of OfProgram rs)) rs) (list_all (pairs_stand (ids_of OfProgram rs)) rs)
-    (has_too_many_names limits rs) _ _ few (at_most (entry_count rs) limits.entries)
+pub faultless_by_steps : (rules : Rules) (rs : List Record) → has_too_many_names rules.limits rs ≡ false
+    → is_faultless rules rs ≡ (ids_differ rs && withdrawals_stand rs && (lists_stand rules.half_pairs (ids_of OfProgram rs) (applicant_ids rs) rs && nat_le (entry_count rs) rules.limits.entries))
+faultless_by_steps rules rs few =
+    by (ids_differ rs) (withdrawals_stand rs) (list_all (ranking_stands (applicant_ids rs)) rs) (list_all (list_stands (ids_of OfProgram rs)) rs) (list_all (pairs_stand rules.half_pairs (ids_of OfProgram rs)) rs)
+    (has_too_many_names rules.limits rs) _ _ few (at_most (entry_count rs) rules.limits.entries)
   where
     at_most : (n m : ℕ) → not (nat_lt m n) ≡ nat_le n m
     at_most n m = grind (arith, nat_tests)
@@ -164,14 +164,15 @@ module _ (flags : List Bool) (ids : List Bytes) (differ : all_differ bytes_eq id
   lists_stay (CoupleRecord id a b pairs ∷ rs) h = ap (λ (ls : List (List ℕ)). [] ∷ [] ∷ ls) (lists_stay rs h)
   lists_stay (WithdrawRecord kind id ∷ rs) h = lists_stay rs h
 
-  all_pairs_stay : (rs : List Record) → list_all (pairs_stand ids) rs ≡ true → map (pairs_by ids (new_numbers 0 flags)) (couple_lists rs) ≡ filter_map (pairs_in (flagged flags ids)) rs
-  all_pairs_stay [] h = refl
-  all_pairs_stay (ProgramRecord id quota list ∷ rs) h = all_pairs_stay rs h
-  all_pairs_stay (ApplicantRecord id list ∷ rs) h = all_pairs_stay rs h
-  all_pairs_stay (CoupleRecord id a b pairs ∷ rs) h =
-      let p = and_parts (pairs_stand ids (CoupleRecord id a b pairs)) _ h in
-      ap₂ (λ (l : List Pair) (ls : List (List Pair)). l ∷ ls) (sym (pairs_stay flags ids differ pairs (and_parts (list_all (names_only ids) pairs) _ p.0).0)) (all_pairs_stay rs p.1)
-  all_pairs_stay (WithdrawRecord kind id ∷ rs) h = all_pairs_stay rs h
+  all_pairs_stay : (half_pairs : Bool) (rs : List Record) → list_all (pairs_stand half_pairs ids) rs ≡ true → map (pairs_by ids (new_numbers 0 flags)) (couple_lists rs) ≡ filter_map (pairs_in (flagged flags ids)) rs
+  all_pairs_stay half_pairs [] h = refl
+  all_pairs_stay half_pairs (ProgramRecord id quota list ∷ rs) h = all_pairs_stay half_pairs rs h
+  all_pairs_stay half_pairs (ApplicantRecord id list ∷ rs) h = all_pairs_stay half_pairs rs h
+  all_pairs_stay half_pairs (CoupleRecord id a b pairs ∷ rs) h =
+      let p = and_parts (pairs_stand half_pairs ids (CoupleRecord id a b pairs)) _ h in
+      let only = all_only half_pairs ids pairs (and_parts (list_all (pair_stands half_pairs ids) pairs) _ p.0).0 in
+      ap₂ (λ (l : List Pair) (ls : List (List Pair)). l ∷ ls) (sym (pairs_stay flags ids differ pairs only)) (all_pairs_stay half_pairs rs p.1)
+  all_pairs_stay half_pairs (WithdrawRecord kind id ∷ rs) h = all_pairs_stay half_pairs rs h
 
   -- who stays is one of all, and has a new number
   flagged_listed : (bs : List Bool) (xs : List Bytes) (id : Bytes) → has_id (flagged bs xs) id ≡ true → has_id xs id ≡ true
@@ -228,22 +229,22 @@ few_ids limits rs bounded few =
     by limit n h l = let le : n ≤ limit = grind (arith, nat_tests) in omega arith
 
 -- Below, records have these ids.
-module _ (limits : Limits) (rs : List Record) (r : Registered) (are : AreIdsOfRecords rs r) where
+module _ (rules : Rules) (rs : List Record) (r : Registered) (are : AreIdsOfRecords rs r) where
   abbrev steps : Bool
-  steps = ids_differ rs && withdrawals_stand rs && (lists_stand (ids_of OfProgram rs) (applicant_ids rs) rs && nat_le (entry_count rs) limits.entries)
+  steps = ids_differ rs && withdrawals_stand rs && (lists_stand rules.half_pairs (ids_of OfProgram rs) (applicant_ids rs) rs && nat_le (entry_count rs) rules.limits.entries)
 
-  fit_is : fit limits r rs ≡ (lists_stand (ids_of OfProgram rs) (applicant_ids rs) rs && nat_le (entry_count rs) limits.entries)
-  fit_is = ap₂ (λ (ps xs : List Bytes). lists_stand ps xs rs && nat_le (entry_count rs) limits.entries) are.programs are.applicants
+  fit_is : fit rules r rs ≡ (lists_stand rules.half_pairs (ids_of OfProgram rs) (applicant_ids rs) rs && nat_le (entry_count rs) rules.limits.entries)
+  fit_is = ap₂ (λ (ps xs : List Bytes). lists_stand rules.half_pairs ps xs rs && nat_le (entry_count rs) rules.limits.entries) are.programs are.applicants
 
-  pub unfit : has_too_many_names limits rs ≡ false → fit limits r rs ≡ false → is_faultless limits rs ≡ false
-  unfit few h = faultless_by_steps limits rs few ∙ by (ids_differ rs && withdrawals_stand rs) _ (sym fit_is ∙ h)
+  pub unfit : has_too_many_names rules.limits rs ≡ false → fit rules r rs ≡ false → is_faultless rules rs ≡ false
+  unfit few h = faultless_by_steps rules rs few ∙ by (ids_differ rs && withdrawals_stand rs) _ (sym fit_is ∙ h)
     where
       by : (a b : Bool) → b ≡ false → (a && b) ≡ false
       by true b e = e
       by false b e = refl
 
-  pub not_standing : has_too_many_names limits rs ≡ false → withdrawals_stand rs ≡ false → is_faultless limits rs ≡ false
-  not_standing few h = faultless_by_steps limits rs few ∙ by (ids_differ rs) (withdrawals_stand rs) _ h
+  pub not_standing : has_too_many_names rules.limits rs ≡ false → withdrawals_stand rs ≡ false → is_faultless rules rs ≡ false
+  not_standing few h = faultless_by_steps rules rs few ∙ by (ids_differ rs) (withdrawals_stand rs) _ h
     where
       by : (a b c : Bool) → b ≡ false → (a && b && c) ≡ false
       by true b c e = rw e refl
@@ -283,16 +284,16 @@ module _ (limits : Limits) (rs : List Record) (r : Registered) (are : AreIdsOfRe
         ∙ members_stay applicant_stays (applicant_ids rs) stay_differ stay (ap (λ (ids : List Bytes). list_all (has_id ids) (applicant_ids stay)) (sym flagged_are) ∙ among)
         ∙ ap (λ (ids : List Bytes). filter_map (members_in ids) stay) (sym flagged_are)
 
-    module _ (fits : fit limits r rs ≡ true) where
-      fit_parts : (lists_stand (ids_of OfProgram rs) (applicant_ids rs) rs ≡ true) × (nat_le (entry_count rs) limits.entries ≡ true)
-      fit_parts = and_parts (lists_stand (ids_of OfProgram rs) (applicant_ids rs) rs) _ (sym fit_is ∙ fits)
+    module _ (fits : fit rules r rs ≡ true) where
+      fit_parts : (lists_stand rules.half_pairs (ids_of OfProgram rs) (applicant_ids rs) rs ≡ true) × (nat_le (entry_count rs) rules.limits.entries ≡ true)
+      fit_parts = and_parts (lists_stand rules.half_pairs (ids_of OfProgram rs) (applicant_ids rs) rs) _ (sym fit_is ∙ fits)
 
-      pub faultless : has_too_many_names limits rs ≡ false → is_faultless limits rs ≡ true
-      faultless few = faultless_by_steps limits rs few ∙ both _ _ (both _ _ are.differ stand.stand) (both _ _ fit_parts.0 fit_parts.1)
+      pub faultless : has_too_many_names rules.limits rs ≡ false → is_faultless rules rs ≡ true
+      faultless few = faultless_by_steps rules rs few ∙ both _ _ (both _ _ are.differ stand.stand) (both _ _ fit_parts.0 fit_parts.1)
 
       pub entries_are : (e : Entries) → AreRead r n stay e → AreEntries stay e
       entries_are e read =
-          let all : lists_stand (ids_of OfProgram rs) (applicant_ids rs) stay ≡ true = (and_parts (lists_stand (ids_of OfProgram rs) (applicant_ids rs) (leavers (stays_after w) rs)) _ (sym (stand_parts (stays_after w) (ids_of OfProgram rs) (applicant_ids rs) rs) ∙ fit_parts.0)).1 in
+          let all : lists_stand rules.half_pairs (ids_of OfProgram rs) (applicant_ids rs) stay ≡ true = (and_parts (lists_stand rules.half_pairs (ids_of OfProgram rs) (applicant_ids rs) (leavers (stays_after w) rs)) _ (sym (stand_parts (stays_after w) rules.half_pairs (ids_of OfProgram rs) (applicant_ids rs) rs) ∙ fit_parts.0)).1 in
           let p = and_parts (list_all (ranking_stands (applicant_ids rs)) stay && list_all (list_stands (ids_of OfProgram rs)) stay) _ all in
           let q = and_parts (list_all (ranking_stands (applicant_ids rs)) stay) _ p.0 in
           let programs : flagged program_stays (ids_of OfProgram rs) ≡ ids_of OfProgram stay = sym (program_ids_stay (stays_after w) rs) in
@@ -308,7 +309,7 @@ module _ (limits : Limits) (rs : List Record) (r : Registered) (are : AreIdsOfRe
                 ∙ ap (λ (ids : List Bytes). flat_map (lists_by ids) stay) programs;
             pairs = read.pairs
                 ∙ ap₂ (λ (ids : List Bytes) (news : List (Option ℕ)). map (pairs_by ids news) (couple_lists stay)) are.programs new.programs
-                ∙ all_pairs_stay program_stays (ids_of OfProgram rs) (programs_differ rs r are) stay p.1
+                ∙ all_pairs_stay program_stays (ids_of OfProgram rs) (programs_differ rs r are) rules.half_pairs stay p.1
                 ∙ ap (λ (ids : List Bytes). filter_map (pairs_in ids) stay) programs;
           }
 
@@ -326,65 +327,65 @@ stand_missing given records None e h is = ap (λ (xs : List Checked). withdrawal
 stand_missing given records (Some v) e h is = cc
 
 -- Below, what leaves is read, and then what stays.
-module _ (limits : Limits) (r : Registered) (w : Kinds) (n : Numbers) (rs : List Record) where
+module _ (rules : Rules) (r : Registered) (w : Kinds) (n : Numbers) (rs : List Record) where
   abbrev first : List Record
   first = leavers (stays_after w) rs
 
   abbrev second : List Record
   second = filter (stays_after w) rs
 
-  pub entries_found : (o : Option (Vec Checked Global × Entries)) (v : Vec Checked Global) (e : Entries) → GivesEntries limits r w n rs o → o ≡ Some (v, e)
-      → (fit limits r rs ≡ true) × (all_seen v.items ≡ second) × AreRead r n second e
-  entries_found o v e h is = subst (GivesEntries limits r w n rs) is h
+  pub entries_found : (o : Option (Vec Checked Global × Entries)) (v : Vec Checked Global) (e : Entries) → GivesEntries rules r w n rs o → o ≡ Some (v, e)
+      → (fit rules r rs ≡ true) × (all_seen v.items ≡ second) × AreRead r n second e
+  entries_found o v e h is = subst (GivesEntries rules r w n rs) is h
 
-  pub entries_missing : (o : Option (Vec Checked Global × Entries)) → GivesEntries limits r w n rs o → o ≡ None → fit limits r rs ≡ false
-  entries_missing o h is = subst (GivesEntries limits r w n rs) is h
+  pub entries_missing : (o : Option (Vec Checked Global × Entries)) → GivesEntries rules r w n rs o → o ≡ None → fit rules r rs ≡ false
+  entries_missing o h is = subst (GivesEntries rules r w n rs) is h
 
   record Fits : Type 0 where
-    first_stand : lists_stand r.programs r.applicants first ≡ true
-    second_stand : lists_stand r.programs r.applicants second ≡ true
-    within : entry_count second + entry_count first ≤ limits.entries
+    first_stand : lists_stand rules.half_pairs r.programs r.applicants first ≡ true
+    second_stand : lists_stand rules.half_pairs r.programs r.applicants second ≡ true
+    within : entry_count second + entry_count first ≤ rules.limits.entries
 
-  fits_join : Fits → fit limits r rs ≡ true
+  fits_join : Fits → fit rules r rs ≡ true
   fits_join are =
       let count : entry_count second + entry_count first ≡ entry_count rs = count_parts (stays_after w) rs in
-      both _ _ (stand_parts (stays_after w) r.programs r.applicants rs ∙ both _ _ are.first_stand are.second_stand) (by (entry_count rs) limits.entries (omega (arith, are.within)))
+      both _ _ (stand_parts (stays_after w) rules.half_pairs r.programs r.applicants rs ∙ both _ _ are.first_stand are.second_stand) (by (entry_count rs) rules.limits.entries (omega (arith, are.within)))
     where
       by : (k m : ℕ) → k ≤ m → nat_le k m ≡ true
       by k m h = grind (arith, nat_tests)
 
-  fits_parts : fit limits r rs ≡ true → Fits
+  fits_parts : fit rules r rs ≡ true → Fits
   fits_parts h =
-      let p : (lists_stand r.programs r.applicants rs ≡ true) × (nat_le (entry_count rs) limits.entries ≡ true) = and_parts (lists_stand r.programs r.applicants rs) _ h in
-      let q : (lists_stand r.programs r.applicants first ≡ true) × (lists_stand r.programs r.applicants second ≡ true) = and_parts (lists_stand r.programs r.applicants first) _ (sym (stand_parts (stays_after w) r.programs r.applicants rs) ∙ p.0) in
+      let p : (lists_stand rules.half_pairs r.programs r.applicants rs ≡ true) × (nat_le (entry_count rs) rules.limits.entries ≡ true) = and_parts (lists_stand rules.half_pairs r.programs r.applicants rs) _ h in
+      let q : (lists_stand rules.half_pairs r.programs r.applicants first ≡ true) × (lists_stand rules.half_pairs r.programs r.applicants second ≡ true) = and_parts (lists_stand rules.half_pairs r.programs r.applicants first) _ (sym (stand_parts (stays_after w) rules.half_pairs r.programs r.applicants rs) ∙ p.0) in
       let count : entry_count second + entry_count first ≡ entry_count rs = count_parts (stays_after w) rs in
-      let few : entry_count rs ≤ limits.entries = by (entry_count rs) limits.entries p.1 in
+      let few : entry_count rs ≤ rules.limits.entries = by (entry_count rs) rules.limits.entries p.1 in
       record { first_stand = q.0; second_stand = q.1; within = omega (arith, count, few) }
     where
       by : (k m : ℕ) → nat_le k m ≡ true → k ≤ m
       by k m h = grind (arith, nat_tests)
 
   pub both_read : (room left : ℕ) (o p : Option Entries) (e : Entries) (xs ys : List Record) → xs ≡ first → ys ≡ second
-      → ReadsEntries r n limits.entries room xs o → is_some o ≡ true → ReadsEntries r n room left ys p → p ≡ Some e
-      → (fit limits r rs ≡ true) × AreRead r n second e
+      → ReadsEntries rules.half_pairs r n rules.limits.entries room xs o → is_some o ≡ true → ReadsEntries rules.half_pairs r n room left ys p → p ≡ Some e
+      → (fit rules r rs ≡ true) × AreRead r n second e
   both_read room left None p e xs ys i j h some k is = cc
   both_read room left (Some d) p e xs ys i j h some k is =
-      let g : ReadsEntries r n limits.entries room first (Some d) = subst (λ (zs : List Record). ReadsEntries r n limits.entries room zs (Some d)) i h in
-      let l : ReadsEntries r n room left second p = subst (λ (zs : List Record). ReadsEntries r n room left zs p) j k in
-      let m : ReadsEntries r n room left second (Some e) = subst (ReadsEntries r n room left second) is l in
+      let g : ReadsEntries rules.half_pairs r n rules.limits.entries room first (Some d) = subst (λ (zs : List Record). ReadsEntries rules.half_pairs r n rules.limits.entries room zs (Some d)) i h in
+      let l : ReadsEntries rules.half_pairs r n room left second p = subst (λ (zs : List Record). ReadsEntries rules.half_pairs r n room left zs p) j k in
+      let m : ReadsEntries rules.half_pairs r n room left second (Some e) = subst (ReadsEntries rules.half_pairs r n room left second) is l in
       (fits_join (record { first_stand = g.0; second_stand = m.0; within = omega (arith, g.1, m.1) }), m.2)
 
-  pub first_fails : (room : ℕ) (o : Option Entries) (xs : List Record) → xs ≡ first → ReadsEntries r n limits.entries room xs o → is_some o ≡ false → fit limits r rs ≡ false
+  pub first_fails : (room : ℕ) (o : Option Entries) (xs : List Record) → xs ≡ first → ReadsEntries rules.half_pairs r n rules.limits.entries room xs o → is_some o ≡ false → fit rules r rs ≡ false
   first_fails room (Some d) xs i h none = cc
   first_fails room None xs i h none =
-      let g : ReadsEntries r n limits.entries room first None = subst (λ (zs : List Record). ReadsEntries r n limits.entries room zs None) i h in
-      not_true _ (λ t. let f : Fits = fits_parts t in let over : limits.entries < entry_count first = g f.first_stand in omega (arith, f.within, over))
+      let g : ReadsEntries rules.half_pairs r n rules.limits.entries room first None = subst (λ (zs : List Record). ReadsEntries rules.half_pairs r n rules.limits.entries room zs None) i h in
+      not_true _ (λ t. let f : Fits = fits_parts t in let over : rules.limits.entries < entry_count first = g f.first_stand in omega (arith, f.within, over))
 
   pub second_fails : (room left : ℕ) (o p : Option Entries) (xs ys : List Record) → xs ≡ first → ys ≡ second
-      → ReadsEntries r n limits.entries room xs o → is_some o ≡ true → ReadsEntries r n room left ys p → p ≡ None → fit limits r rs ≡ false
+      → ReadsEntries rules.half_pairs r n rules.limits.entries room xs o → is_some o ≡ true → ReadsEntries rules.half_pairs r n room left ys p → p ≡ None → fit rules r rs ≡ false
   second_fails room left None p xs ys i j h some k none = cc
   second_fails room left (Some d) p xs ys i j h some k none =
-      let g : ReadsEntries r n limits.entries room first (Some d) = subst (λ (zs : List Record). ReadsEntries r n limits.entries room zs (Some d)) i h in
-      let l : ReadsEntries r n room left second p = subst (λ (zs : List Record). ReadsEntries r n room left zs p) j k in
-      let m : ReadsEntries r n room left second None = subst (ReadsEntries r n room left second) none l in
+      let g : ReadsEntries rules.half_pairs r n rules.limits.entries room first (Some d) = subst (λ (zs : List Record). ReadsEntries rules.half_pairs r n rules.limits.entries room zs (Some d)) i h in
+      let l : ReadsEntries rules.half_pairs r n room left second p = subst (λ (zs : List Record). ReadsEntries rules.half_pairs r n room left zs p) j k in
+      let m : ReadsEntries rules.half_pairs r n room left second None = subst (ReadsEntries rules.half_pairs r n room left second) none l in
       not_true _ (λ t. let f : Fits = fits_parts t in let over : room < entry_count second = m f.second_stand in omega (arith, f.within, over, g.1))

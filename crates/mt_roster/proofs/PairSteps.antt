@@ -5,6 +5,7 @@ use Rattle.std.specs.List.{list_all, list_any}
 use Rattle.std.specs.Option.{option_eq}
 use Rattle.std.proofs.lemmas.Bool.Decides.{nat_tests}
 use Rattle.std.proofs.lemmas.List.{append_assoc}
+use Rattle.mt_file_laws.specs.Faultless.{is_allowed, pair_stands}
 use Rattle.mt_file_laws.specs.Staying.{new_pair}
 use Rattle.mt_file_laws.proofs.IdFacts.{number_below, same_number, same_id, is_same, not_true}
 use Rattle.mt_market.specs.FlatLists.{with_last}
@@ -23,30 +24,40 @@ place_within : (ids : List Bytes) (bound : ℕ) → bound ≡ length ids → (pl
 place_within ids bound is None h = tt
 place_within ids bound is (Some id) h = omega (arith, number_below ids id h)
 
--- A pair that was looked up: it names none but these programs.
-pub record IsFound (ids : List Bytes) (bound : ℕ) (p : IdPair) (q : Pair) : Type 0 where
-  pub only : names_only ids p ≡ true
+-- pairs that stand name none but these programs
+stands_only : (half_pairs : Bool) (ids : List Bytes) (p : IdPair) → pair_stands half_pairs ids p ≡ true → names_only ids p ≡ true
+stands_only half_pairs ids p h = (both (is_allowed half_pairs p) (names_only ids p) h).1
+
+pub all_only : (half_pairs : Bool) (ids : List Bytes) (ps : List IdPair) → list_all (pair_stands half_pairs ids) ps ≡ true → list_all (names_only ids) ps ≡ true
+all_only half_pairs ids [] h = refl
+all_only half_pairs ids (p ∷ ps) h =
+    let parts = both (pair_stands half_pairs ids p) (list_all (pair_stands half_pairs ids) ps) h in
+    rw (stands_only half_pairs ids p parts.0, all_only half_pairs ids ps parts.1) refl
+
+-- A pair that was looked up: it stands.
+pub record IsFound (half_pairs : Bool) (ids : List Bytes) (bound : ℕ) (p : IdPair) (q : Pair) : Type 0 where
+  pub stands : pair_stands half_pairs ids p ≡ true
   pub is : pair_by_number ids p ≡ q
   pub first : IfSome q.0 (λ n. n < bound)
   pub second : IfSome q.1 (λ n. n < bound)
 
-pub found_pair : (ids : List Bytes) (bound : ℕ) → bound ≡ length ids → (p : IdPair) (q : Pair) → Some q ≡ pair_in ids p → IsFound ids bound p q
-found_pair ids bound is p q h = by (names_only ids p) refl h
+pub found_pair : (half_pairs : Bool) (ids : List Bytes) (bound : ℕ) → bound ≡ length ids → (p : IdPair) (q : Pair) → Some q ≡ pair_in half_pairs ids p → IsFound half_pairs ids bound p q
+found_pair half_pairs ids bound is p q h = by (pair_stands half_pairs ids p) refl h
   where
-    by : (b : Bool) → names_only ids p ≡ b → Some q ≡ (if b then Some (pair_by_number ids p) else None) → IsFound ids bound p q
-    by true only e =
+    by : (b : Bool) → pair_stands half_pairs ids p ≡ b → Some q ≡ (if b then Some (pair_by_number ids p) else None) → IsFound half_pairs ids bound p q
+    by true stands e =
         let same : pair_by_number ids p ≡ q = cc in
-        let parts = both (is_none_or_in ids p.0) (is_none_or_in ids p.1) only in
+        let parts = both (is_none_or_in ids p.0) (is_none_or_in ids p.1) (stands_only half_pairs ids p stands) in
         record {
-          only = only;
+          stands = stands;
           is = same;
           first = rw (← same) (place_within ids bound is p.0 parts.0);
           second = rw (← same) (place_within ids bound is p.1 parts.1);
         }
-    by false only e = cc
+    by false stands e = cc
 
-pub missing_pair : (ids : List Bytes) (p : IdPair) → None ≡ pair_in ids p → names_only ids p ≡ false
-missing_pair ids p h = by (names_only ids p) h
+pub missing_pair : (half_pairs : Bool) (ids : List Bytes) (p : IdPair) → None ≡ pair_in half_pairs ids p → pair_stands half_pairs ids p ≡ false
+missing_pair half_pairs ids p h = by (pair_stands half_pairs ids p) h
   where
     by : (b : Bool) → None ≡ (if b then Some (pair_by_number ids p) else None) → b ≡ false
     by true e = cc
@@ -105,25 +116,26 @@ module _ (ids : List Bytes) where
   places_agree (Some x) None h k = refl
   places_agree (Some x) (Some y) h k = ids_agree x y h k
 
-  pairs_agree : (p q : IdPair) → names_only ids p ≡ true → names_only ids q ≡ true → is_same_numbers (pair_by_number ids p) (pair_by_number ids q) ≡ is_same_pair p q
-  pairs_agree p q h k =
-      let a = both (is_none_or_in ids p.0) (is_none_or_in ids p.1) h in
-      let b = both (is_none_or_in ids q.0) (is_none_or_in ids q.1) k in
+  pairs_agree : (half_pairs : Bool) (p q : IdPair) → pair_stands half_pairs ids p ≡ true → pair_stands half_pairs ids q ≡ true
+      → is_same_numbers (pair_by_number ids p) (pair_by_number ids q) ≡ is_same_pair p q
+  pairs_agree half_pairs p q h k =
+      let a = both (is_none_or_in ids p.0) (is_none_or_in ids p.1) (stands_only half_pairs ids p h) in
+      let b = both (is_none_or_in ids q.0) (is_none_or_in ids q.1) (stands_only half_pairs ids q k) in
       rw (places_agree p.0 q.0 a.0 b.0, places_agree p.1 q.1 a.1 b.1) refl
 
   -- all pairs of a list are read, of which one stands twice or none does
-  pub pairs_read : (numbers : List (Option ℕ)) (room left : ℕ) (list : List IdPair) (old new : List (List Pair)) (found : List Pair) (repeats : Bool)
-      → list_all (names_only ids) list ≡ true → left + 2 * length list ≡ room → new ≡ with_more old (pairs_by ids numbers list)
+  pub pairs_read : (half_pairs : Bool) (numbers : List (Option ℕ)) (room left : ℕ) (list : List IdPair) (old new : List (List Pair)) (found : List Pair) (repeats : Bool)
+      → list_all (pair_stands half_pairs ids) list ≡ true → left + 2 * length list ≡ room → new ≡ with_more old (pairs_by ids numbers list)
       → found ≡ map (pair_by_number ids) list → repeats ≡ not (all_differ is_same_numbers found)
-      → ReadsPairs ids numbers room left list old new (not repeats)
-  pairs_read numbers room left list old new found repeats only count rest by_number said =
+      → ReadsPairs half_pairs ids numbers room left list old new (not repeats)
+  pairs_read half_pairs numbers room left list old new found repeats stand count rest by_number said =
       let same : all_differ is_same_numbers found ≡ all_differ is_same_pair list =
-      ap (all_differ is_same_numbers) by_number ∙ differ_alike (pair_by_number ids) (names_only ids) is_same_pair is_same_numbers pairs_agree list only
+      ap (all_differ is_same_numbers) by_number ∙ differ_alike (pair_by_number ids) (pair_stands half_pairs ids) is_same_pair is_same_numbers (pairs_agree half_pairs) list stand
       in
       by repeats (all_differ is_same_pair list) refl (said ∙ ap not same)
     where
-      by : (r d : Bool) → all_differ is_same_pair list ≡ d → r ≡ not d → ReadsPairs ids numbers room left list old new (not r)
+      by : (r d : Bool) → all_differ is_same_pair list ≡ d → r ≡ not d → ReadsPairs half_pairs ids numbers room left list old new (not r)
       by true true e k = cc
-      by true false e k = λ once. let differ = (both (list_all (names_only ids) list) (all_differ is_same_pair list) once).1 in cc
-      by false true e k = (rw (only, e) refl, count, rest)
+      by true false e k = λ once. let differ = (both (list_all (pair_stands half_pairs ids) list) (all_differ is_same_pair list) once).1 in cc
+      by false true e k = (rw (stand, e) refl, count, rest)
       by false false e k = cc

@@ -3,7 +3,6 @@ use Rattle.std.specs.Prelude.{◌≡◌, ◌&&◌, Bool, true, false, nat_le, Li
 use Rattle.std.specs.Global.{Global}
 use Rattle.mt_file_laws.specs.Faultless.{is_faultless, faultless_market, ids_differ}
 use Rattle.mt_file_laws.specs.Staying.{new_numbers, program_flags, applicant_flags}
-use Rattle.mt_terms.specs.declared.limits.Limits.{Limits}
 use Rattle.mt_terms.specs.Market.{Registered as Market}
 use Rattle.mt_terms.specs.Registration.Ids.{Bytes}
 use Rattle.mt_terms.specs.Registration.Records.{Rules, Record, OfProgram, OfCouple}
@@ -39,20 +38,20 @@ pub record AreEntries (rs : List Record) (e : Entries) : Type 0 where
   pub lists : e.lists ≡ flat_map (lists_by (ids_of OfProgram rs)) rs
   pub pairs : e.pairs ≡ filter_map (pairs_in (ids_of OfProgram rs)) rs
 
--- whether the lists of all records stand, and have no more entries than this
-abbrev pub fit : Limits → Registered → List Record → Bool
-fit limits r rs = lists_stand r.programs r.applicants rs && nat_le (entry_count rs) limits.entries
+-- whether the lists of all records stand, and have no more entries than a version takes
+abbrev pub fit : Rules → Registered → List Record → Bool
+fit rules r rs = lists_stand rules.half_pairs r.programs r.applicants rs && nat_le (entry_count rs) rules.limits.entries
 
 -- The records that stay, and what their lists say by new numbers, where the lists of all fit.
-abbrev pub GivesEntries : Limits → Registered → Kinds → Numbers → List Record → Option (Vec Checked Global × Entries) → Type 0
-GivesEntries limits r w n rs None = fit limits r rs ≡ false
-GivesEntries limits r w n rs (Some found) =
-    (fit limits r rs ≡ true) × (all_seen found.0.items ≡ filter (stays_after w) rs) × AreRead r n (filter (stays_after w) rs) found.1
+abbrev pub GivesEntries : Rules → Registered → Kinds → Numbers → List Record → Option (Vec Checked Global × Entries) → Type 0
+GivesEntries rules r w n rs None = fit rules r rs ≡ false
+GivesEntries rules r w n rs (Some found) =
+    (fit rules r rs ≡ true) × (all_seen found.0.items ≡ filter (stays_after w) rs) × AreRead r n (filter (stays_after w) rs) found.1
 
 -- The market of these records, if they have no fault among them.
-abbrev pub IsMarketOf : Limits → List Record → Option Market → Type 0
-IsMarketOf limits rs None = is_faultless limits rs ≡ false
-IsMarketOf limits rs (Some m) = (is_faultless limits rs ≡ true) × (m ≡ registered rs)
+abbrev pub IsMarketOf : Rules → List Record → Option Market → Type 0
+IsMarketOf rules rs None = is_faultless rules rs ≡ false
+IsMarketOf rules rs (Some m) = (is_faultless rules rs ≡ true) × (m ≡ registered rs)
 
 -- What is accepted of these rows is a registration.
 abbrev pub AcceptsRegistrations : Rules → List (List Bytes) → Type 0

@@ -1,12 +1,13 @@
 -- What each table of a roster has from each record, by the ids of programs and of applicants.
-use Rattle.std.specs.Prelude.{ℕ, List, [], ◌∷◌, map, fold, Option, Some, None, option_map, filter_map, flat_map, if◌then◌else◌}
+use Rattle.std.specs.Prelude.{ℕ, Bool, List, [], ◌∷◌, map, fold, Option, Some, None, option_map, filter_map, flat_map, if◌then◌else◌}
 use Rattle.mt_lists.specs.Rows.{fields_left}
 use Rattle.mt_lists.specs.declared.row.Fields.{Fields}
 use Rattle.mt_market.specs.FlatLists.{with_last}
 use Rattle.mt_terms.specs.Market.{Pair, Partners, Registered}
 use Rattle.mt_terms.specs.Registration.Ids.{Bytes, number_of, numbers_of}
 use Rattle.mt_terms.specs.Registration.Records.{Record, ProgramRecord, ApplicantRecord, CoupleRecord, IdPair}
-use Rattle.mt_terms.specs.Registration.Numbering.{is_none_or_in, names_only, pair_by_number, pairs_by_number, names_of, market_by}
+use Rattle.mt_file_laws.specs.Faultless.{pair_stands}
+use Rattle.mt_terms.specs.Registration.Numbering.{is_none_or_in, pair_by_number, pairs_by_number, names_of, market_by}
 use Rattle.mt_records.specs.declared.record.Record.{Record as Checked}
 use Rattle.mt_records.specs.Records.{record_seen}
 
@@ -49,9 +50,9 @@ lists_seen lists = map list_seen lists
 abbrev pub place_in : List Bytes → Option Bytes → Option (Option ℕ)
 place_in programs place = if is_none_or_in programs place then Some (option_map (number_of programs) place) else None
 
--- a pair by numbers, if it names none but these programs
-abbrev pub pair_in : List Bytes → IdPair → Option Pair
-pair_in programs pair = if names_only programs pair then Some (pair_by_number programs pair) else None
+-- a pair by numbers, if it is allowed and names none but these programs
+abbrev pub pair_in : Bool → List Bytes → IdPair → Option Pair
+pair_in half_pairs programs pair = if pair_stands half_pairs programs pair then Some (pair_by_number programs pair) else None
 
 -- lists with more elements at the end of the last one
 abbrev pub with_more : {X : Type 0} → List (List X) → List X → List (List X)

@@ -2,14 +2,14 @@
 -- it is, if that has one.
 use Rattle.std.specs.Prelude.{◌≡◌, ℕ, ◌+◌, ◌*◌, ◌<◌, ◌&&◌, Bool, true, false, List, length, map, sum_by, slice_index_or, filter_map, Option, Some, None, is_some, unwrap_or}
 use Rattle.std.specs.List.{list_all}
-use Rattle.mt_file_laws.specs.Faultless.{stands_once, ranking_stands, list_stands, pairs_stand}
+use Rattle.mt_file_laws.specs.Faultless.{stands_once, ranking_stands, list_stands, pair_stands, pairs_stand}
 use Rattle.mt_file_laws.specs.Staying.{new_pair}
 use Rattle.mt_terms.specs.Market.{Pair}
 use Rattle.mt_terms.specs.Registration.Ids.{Bytes, has_id, number_of, all_differ}
 use Rattle.mt_terms.specs.Registration.Records.{Record, CoupleRecord, IdPair}
 use Rattle.mt_terms.specs.Registration.Rows.{entry_count}
 use Rattle.mt_terms.specs.Registration.Passes.{is_same_pair}
-use Rattle.mt_terms.specs.Registration.Numbering.{names_only, pair_by_number}
+use Rattle.mt_terms.specs.Registration.Numbering.{pair_by_number}
 use Rattle.mt_roster.specs.declared.numbering.Entries.{Entries}
 use Rattle.mt_roster.specs.declared.numbering.Numbers.{Numbers}
 use Rattle.mt_roster.specs.declared.registered.Registered.{Registered}
@@ -31,9 +31,9 @@ pairs_by ids numbers list = filter_map (λ p. new_pair numbers (pair_by_number i
 abbrev pub AreStampedBelow : ℕ → List ℕ → Type 0
 AreStampedBelow n stamps = (i : ℕ) → i < length stamps → slice_index_or stamps i 0 < n
 
--- whether a list of pairs names none but these programs, and has no pair twice
-abbrev pub pairs_once : List Bytes → List IdPair → Bool
-pairs_once ids pairs = list_all (names_only ids) pairs && all_differ is_same_pair pairs
+-- whether a list of pairs has none but those that are allowed and name none but these programs, and none of them twice
+abbrev pub pairs_once : Bool → List Bytes → List IdPair → Bool
+pairs_once half_pairs ids pairs = list_all (pair_stands half_pairs ids) pairs && all_differ is_same_pair pairs
 
 -- how many entries a list of pairs has: a pair is two
 abbrev pub pair_entries : List IdPair → ℕ
@@ -58,15 +58,16 @@ ReadsList ids numbers = ReadsOne (stands_once ids) length (numbers_by ids number
 abbrev pub ReadsLists : {X : Type 0} → List Bytes → List (Option X) → ℕ → ℕ → List (List Bytes) → Option (List (List X)) → Type 0
 ReadsLists ids numbers = ReadsAll (stands_once ids) length (numbers_by ids numbers)
 
-abbrev pub ReadsPairs : List Bytes → List (Option ℕ) → ℕ → ℕ → List IdPair → List (List Pair) → List (List Pair) → Bool → Type 0
-ReadsPairs ids numbers = ReadsOne (pairs_once ids) pair_entries (pairs_by ids numbers)
+abbrev pub ReadsPairs : Bool → List Bytes → List (Option ℕ) → ℕ → ℕ → List IdPair → List (List Pair) → List (List Pair) → Bool → Type 0
+ReadsPairs half_pairs ids numbers = ReadsOne (pairs_once half_pairs ids) pair_entries (pairs_by ids numbers)
 
-abbrev pub ReadsAllPairs : List Bytes → List (Option ℕ) → ℕ → ℕ → List (List IdPair) → Option (List (List Pair)) → Type 0
-ReadsAllPairs ids numbers = ReadsAll (pairs_once ids) pair_entries (pairs_by ids numbers)
+abbrev pub ReadsAllPairs : Bool → List Bytes → List (Option ℕ) → ℕ → ℕ → List (List IdPair) → Option (List (List Pair)) → Type 0
+ReadsAllPairs half_pairs ids numbers = ReadsAll (pairs_once half_pairs ids) pair_entries (pairs_by ids numbers)
 
 -- whether the lists of these records stand, by all programs and applicants
-abbrev pub lists_stand : List Bytes → List Bytes → List Record → Bool
-lists_stand programs applicants rs = list_all (ranking_stands applicants) rs && list_all (list_stands programs) rs && list_all (pairs_stand programs) rs
+abbrev pub lists_stand : Bool → List Bytes → List Bytes → List Record → Bool
+lists_stand half_pairs programs applicants rs =
+    list_all (ranking_stands applicants) rs && list_all (list_stands programs) rs && list_all (pairs_stand half_pairs programs) rs
 
 -- What the lists of these records say by new numbers.
 pub record AreRead (r : Registered) (n : Numbers) (rs : List Record) (e : Entries) : Type 0 where
@@ -74,9 +75,10 @@ pub record AreRead (r : Registered) (n : Numbers) (rs : List Record) (e : Entrie
   pub lists : e.lists ≡ map (numbers_by r.programs n.programs.items) (applicant_lists rs)
   pub pairs : e.pairs ≡ map (pairs_by r.programs n.programs.items) (couple_lists rs)
 
-abbrev pub ReadsEntries : Registered → Numbers → ℕ → ℕ → List Record → Option Entries → Type 0
-ReadsEntries r n room left rs (Some e) = (lists_stand r.programs r.applicants rs ≡ true) × (left + entry_count rs ≡ room) × AreRead r n rs e
-ReadsEntries r n room left rs None = lists_stand r.programs r.applicants rs ≡ true → room < entry_count rs
+abbrev pub ReadsEntries : Bool → Registered → Numbers → ℕ → ℕ → List Record → Option Entries → Type 0
+ReadsEntries half_pairs r n room left rs (Some e) =
+    (lists_stand half_pairs r.programs r.applicants rs ≡ true) × (left + entry_count rs ≡ room) × AreRead r n rs e
+ReadsEntries half_pairs r n room left rs None = lists_stand half_pairs r.programs r.applicants rs ≡ true → room < entry_count rs
 
 -- Each of these ids is registered, and has a new number.
 abbrev pub HaveNumbers : List Bytes → List (Option ℕ) → List Bytes → Type 0

@@ -2,12 +2,12 @@
 //! is an id, since those are.
 ghost use Rattle.std.specs.Prelude.{◌≡◌, option_map};
 ghost use Rattle.mt_lists.specs.Rows.{fields_left};
-ghost use Rattle.mt_file_laws.specs.Faultless.{program_draft, applicant_draft, draft};
+ghost use Rattle.mt_file_laws.specs.Faultless.{program_draft, applicant_draft, couple_draft, draft};
 ghost use Rattle.mt_records.specs.Records.{record_seen};
 
 use mt_ids::{is_id, quota_of};
 use mt_lists::Fields;
-use mt_records::{Kind, Record, Rules, couple_record, kind_of, withdraw_record, withdraws};
+use mt_records::{Kind, Pairs, Record, Rules, kind_of, names_are_ids, withdraw_record, withdraws};
 
 /// A program by the fields after its first, if nothing is at fault beside its list.
 fn program_draft<'a>(rules: &Rules, fields: Fields<'a>) -> Option<Record<'a>>
@@ -35,7 +35,29 @@ fn applicant_draft<'a>(rules: &Rules, fields: Fields<'a>) -> Option<Record<'a>>
     Some(Record::Applicant { id, list })
 }
 
-/// A record, if nothing is at fault beside the list of a program or an applicant.
+/// A couple by the fields after its first, if nothing is at fault beside its list, whose fields are two by two.
+fn couple_draft<'a>(rules: &Rules, fields: Fields<'a>) -> Option<Record<'a>>
+    ensures { option_map record_seen result ≡ couple_draft rules.now (fields_left fields.entry) }
+{
+    let mut list = fields;
+    let id = list.next()?;
+    let first = list.next()?;
+    let second = list.next()?;
+    if list.len() % 2 == 1 {
+        return None;
+    }
+    if !names_are_ids(rules, id, first, second) {
+        return None;
+    }
+    Some(Record::Couple {
+        id,
+        first,
+        second,
+        pairs: Pairs::new(list),
+    })
+}
+
+/// A record, if nothing is at fault beside its list.
 pub(crate) fn draft_of<'a>(rules: &Rules, fields: Fields<'a>) -> Option<Record<'a>>
     ensures { option_map record_seen result ≡ draft rules.now (fields_left fields.entry) }
 {
@@ -47,6 +69,6 @@ pub(crate) fn draft_of<'a>(rules: &Rules, fields: Fields<'a>) -> Option<Record<'
     match kind_of(word)? {
         Kind::Program => program_draft(rules, rest),
         Kind::Applicant => applicant_draft(rules, rest),
-        Kind::Couple => couple_record(rules, rest).ok(),
+        Kind::Couple => couple_draft(rules, rest),
     }
 }

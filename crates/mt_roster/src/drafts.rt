@@ -1,5 +1,5 @@
-//! The records of rows without a fault of their own. Whether one has a fault beside the others, or in the list of a
-//! program or a single, is not yet known.
+//! The records of rows without a fault of their own. Whether one has a fault beside the others, or in its list, is not
+//! yet known.
 ghost use Rattle.std.specs.Prelude.{◌≡◌, ◌++◌, [], ◌∷◌, IfOk, MatchOption, OnOk};
 ghost use Rattle.mt_lists.specs.Rows.{rows_left};
 ghost use Rattle.mt_records.specs.Records.{record_seen};

@@ -21,7 +21,7 @@ use crate::withdrawals::{applicant_numbers, leaving, program_numbers, staying, w
 use mt_lists::RowsIter;
 use mt_market::{Roster, Tables};
 use mt_records::{Record, Rules};
-use mt_terms::{AppNo, Limits};
+use mt_terms::AppNo;
 use std::alloc::{AllocError, Global};
 use std::thread::Threads;
 
@@ -74,7 +74,7 @@ fn with_entries(
 fn read_entries<'a, R: Threads + Sync>(
     rt: &R,
     alloc: Global,
-    limits: &Limits,
+    rules: &Rules,
     registered: &Registered<'_>,
     withdrawn: &Kinds<'_>,
     numbers: &Numbers,
@@ -82,15 +82,23 @@ fn read_entries<'a, R: Threads + Sync>(
 ) -> Result<Option<(Vec<Record<'a>>, Entries)>, AllocError>
     requires programs { length numbers.now.programs.items ≡ length registered.now.programs }
     requires applicants { length numbers.now.applicants.items ≡ length registered.now.applicants }
-    ensures { IfOk result (GivesEntries limits.now registered.now withdrawn.now numbers.now (all_seen records.entry.items)) }
+    ensures { IfOk result (GivesEntries rules.now registered.now withdrawn.now numbers.now (all_seen records.entry.items)) }
 {
-    let mut room = limits.entries;
+    let mut room = rules.limits.entries;
+    let half_pairs = rules.half_pairs;
     let leaving = leaving(alloc, withdrawn, &records)?;
-    if entries_of(rt, alloc, registered, numbers, &mut room, &leaving)?.is_none() {
+    if entries_of(
+        rt, alloc, registered, numbers, half_pairs, &mut room, &leaving,
+    )?
+    .is_none()
+    {
         return Ok(None);
     }
     let staying = staying(withdrawn, records);
-    let Some(entries) = entries_of(rt, alloc, registered, numbers, &mut room, &staying)? else {
+    let Some(entries) = entries_of(
+        rt, alloc, registered, numbers, half_pairs, &mut room, &staying,
+    )?
+    else {
         return Ok(None);
     };
     Ok(Some((staying, entries)))
@@ -100,22 +108,22 @@ fn read_entries<'a, R: Threads + Sync>(
 fn market_by<R: Threads + Sync>(
     rt: &R,
     alloc: Global,
-    limits: &Limits,
+    rules: &Rules,
     ids: &Registered<'_>,
     records: Vec<Record<'_>>,
 ) -> Result<Option<Roster>, AllocError>
-    requires limits { AreBounded limits.now }
+    requires limits { AreBounded rules.now.limits }
     requires ids { AreIdsOfRecords (all_seen records.items) ids.now }
-    requires few { has_too_many_names limits.now (all_seen records.items) ≡ false }
-    requires accepted { is_faultless limits.now (all_seen records.items) ≡ true → IsRegistration (registered (all_seen records.items)) }
-    ensures { IfOk result (IsMarketOf limits.now (all_seen records.entry.items)) }
+    requires few { has_too_many_names rules.now.limits (all_seen records.items) ≡ false }
+    requires accepted { is_faultless rules.now (all_seen records.items) ≡ true → IsRegistration (registered (all_seen records.items)) }
+    ensures { IfOk result (IsMarketOf rules.now (all_seen records.entry.items)) }
 {
     let Some(withdrawn) = withdrawn_by(alloc, ids, &records)? else {
         return Ok(None);
     };
     let numbers = numbers_of(alloc, &withdrawn, &records)?;
     let Some((records, entries)) = read_entries(
-        rt, alloc, limits, ids, &withdrawn, &numbers, records,
+        rt, alloc, rules, ids, &withdrawn, &numbers, records,
     )?
     else {
         return Ok(None);
@@ -129,18 +137,18 @@ fn market_by<R: Threads + Sync>(
 fn market_of_drafts<R: Threads + Sync>(
     rt: &R,
     alloc: Global,
-    limits: &Limits,
+    rules: &Rules,
     drafts: Drafts<'_>,
 ) -> Result<Option<Roster>, AllocError>
-    requires limits { AreBounded limits.now }
+    requires limits { AreBounded rules.now.limits }
     requires drafts { AreDrafts drafts }
-    requires few { has_too_many_names limits.now (drafted drafts) ≡ false }
-    requires accepted { is_faultless limits.now (drafted drafts) ≡ true → IsRegistration (registered (drafted drafts)) }
-    ensures { IfOk result (IsMarketOf limits.now (drafted drafts.entry)) }
+    requires few { has_too_many_names rules.now.limits (drafted drafts) ≡ false }
+    requires accepted { is_faultless rules.now (drafted drafts) ≡ true → IsRegistration (registered (drafted drafts)) }
+    ensures { IfOk result (IsMarketOf rules.now (drafted drafts.entry)) }
 {
     let Drafts { records, names } = drafts;
     match Registered::of(alloc, &names)? {
-        Some(ids) => market_by(rt, alloc, limits, &ids, records),
+        Some(ids) => market_by(rt, alloc, rules, &ids, records),
         None => Ok(None),
     }
 }
@@ -157,7 +165,7 @@ pub(crate) fn faultless_market<R: Threads + Sync>(
     ensures { IfOk result (λ found. found ≡ faultless_market rules.now (with_fields (rows_left rows.entry))) }
 {
     match drafts_of(alloc, rules, rows)? {
-        Some(drafts) => market_of_drafts(rt, alloc, &rules.limits, drafts),
+        Some(drafts) => market_of_drafts(rt, alloc, rules, drafts),
         None => Ok(None),
     }
 }

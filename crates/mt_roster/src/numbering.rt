@@ -5,6 +5,7 @@ ghost use Rattle.mt_lists.specs.Rows.{fields_left};
 ghost use Rattle.mt_terms.specs.Lists.{below};
 ghost use Rattle.mt_terms.specs.Market.{agent_from};
 ghost use Rattle.mt_terms.specs.Registration.Rows.{applicant_ids};
+ghost use Rattle.mt_file_laws.specs.Faultless.{is_allowed};
 ghost use Rattle.mt_file_laws.specs.Staying.{new_place, new_pair};
 ghost use Rattle.mt_records.specs.Fields.{pairs_left};
 ghost use Rattle.mt_roster.specs.Numbered.{all_seen, place_in, pair_in, quota_in, bare_couples, lists_seen, program_lists, applicant_lists, couple_lists};
@@ -139,14 +140,27 @@ fn place(programs: &IdTable<'_>, place: Option<&[u8]>) -> Option<Option<usize>>
     Some(Some(place))
 }
 
-/// A pair by numbers, if it names none but these programs.
+/// Whether a pair has a place for each member, or where half pairs are allowed for one of them.
+fn is_allowed(half_pairs: bool, first: Option<&[u8]>, second: Option<&[u8]>) -> bool
+    ensures { result ≡ is_allowed half_pairs (option_copied first.entry, option_copied second.entry) }
+{
+    let both = first.is_some() && second.is_some();
+    let one = first.is_some() || second.is_some();
+    both || (half_pairs && one)
+}
+
+/// A pair by numbers, if it is allowed and names none but these programs.
 fn pair(
     programs: &IdTable<'_>,
+    half_pairs: bool,
     first: Option<&[u8]>,
     second: Option<&[u8]>,
 ) -> Option<(Option<usize>, Option<usize>)>
-    ensures { result ≡ pair_in programs.now (option_copied first.entry, option_copied second.entry) }
+    ensures { result ≡ pair_in half_pairs programs.now (option_copied first.entry, option_copied second.entry) }
 {
+    if !is_allowed(half_pairs, first, second) {
+        return None;
+    }
     let first = place(programs, first)?;
     let second = place(programs, second)?;
     Some((first, second))
@@ -180,23 +194,24 @@ fn new_pair(
 }
 
 /// Adds the pairs of a couple's list by numbers, of those whose programs have one, to the last of these lists, and says
-/// that it did so, where they name none but these programs, none stands twice, and there is room for all entries: a pair
-/// is two. The pairs by their numbers among all programs are left in `found`.
+/// that it did so, where they are allowed and name none but these programs, none stands twice, and there is room for all
+/// entries: a pair is two. The pairs by their numbers among all programs are left in `found`.
 fn push_pairs(
     lists: &mut FlatLists<(Option<ProgNo>, Option<ProgNo>)>,
     programs: &IdTable<'_>,
     numbers: &[Option<ProgNo>],
+    half_pairs: bool,
     found: &mut Vec<(Option<usize>, Option<usize>)>,
     room: &mut u32,
     list: Pairs<'_>,
 ) -> Result<bool, AllocError>
     requires numbers { length numbers.now ≡ length programs.now }
     requires begun { 0 < length lists.old }
-    ensures { IfOk result (ReadsPairs programs.now numbers.now room.old room.new (pairs_left list.entry) lists.old lists.new) }
+    ensures { IfOk result (ReadsPairs half_pairs programs.now numbers.now room.old room.new (pairs_left list.entry) lists.old lists.new) }
 {
     found.clear();
     for (first, second) in list {
-        let Some((first, second)) = pair(programs, first, second) else {
+        let Some((first, second)) = pair(programs, half_pairs, first, second) else {
             return Ok(false);
         };
         if *room < 2 {
@@ -211,44 +226,48 @@ fn push_pairs(
     Ok(!has_duplicate(found))
 }
 
-/// These couples' lists of pairs by numbers, where each names none but these programs, none has a pair twice, and there
-/// is room for all entries.
+/// These couples' lists of pairs by numbers, where all pairs are allowed and name none but these programs, no list has a
+/// pair twice, and there is room for all entries.
 pub(crate) fn read_pairs(
     alloc: Global,
     programs: &IdTable<'_>,
     numbers: &[Option<ProgNo>],
+    half_pairs: bool,
     room: &mut u32,
     lists: &[Pairs<'_>],
 ) -> Result<Option<FlatLists<(Option<ProgNo>, Option<ProgNo>)>>, AllocError>
     requires { length numbers.now ≡ length programs.now }
-    ensures { IfOk result (ReadsAllPairs programs.now numbers.now room.old room.new (map pairs_left lists.now)) }
+    ensures { IfOk result (ReadsAllPairs half_pairs programs.now numbers.now room.old room.new (map pairs_left lists.now)) }
 {
     let mut read = FlatLists::new(alloc);
     let mut found = Vec::new(alloc);
     for list in lists {
         read.begin()?;
-        if !push_pairs(&mut read, programs, numbers, &mut found, room, *list)? {
+        if !push_pairs(
+            &mut read, programs, numbers, half_pairs, &mut found, room, *list,
+        )? {
             return Ok(None);
         }
     }
     Ok(Some(read))
 }
 
-/// The couples' lists of pairs by numbers, where each names programs alone, none has a pair twice, and there is room for
-/// all entries.
+/// The couples' lists of pairs by numbers, where all pairs are allowed and name programs alone, no list has a pair twice,
+/// and there is room for all entries.
 fn pairs<R: Threads + Sync>(
     rt: &R,
     alloc: Global,
     programs: &IdTable<'_>,
     numbers: &[Option<ProgNo>],
+    half_pairs: bool,
     room: &mut u32,
     records: &[Record<'_>],
 ) -> Result<Option<FlatLists<(Option<ProgNo>, Option<ProgNo>)>>, AllocError>
     requires { length numbers.now ≡ length programs.now }
-    ensures { IfOk result (ReadsAllPairs programs.now numbers.now room.old room.new (couple_lists (all_seen records.now))) }
+    ensures { IfOk result (ReadsAllPairs half_pairs programs.now numbers.now room.old room.new (couple_lists (all_seen records.now))) }
 {
     let lists = couple_lists(alloc, records)?;
-    pair_blocks::read_side_by_side(rt, alloc, programs, numbers, room, &lists)
+    pair_blocks::read_side_by_side(rt, alloc, programs, numbers, half_pairs, room, &lists)
 }
 
 /// The new numbers of programs and of applicants, by their numbers: none for what has none.
@@ -266,19 +285,20 @@ pub(crate) struct Entries {
     pub(crate) pairs: FlatLists<(Option<ProgNo>, Option<ProgNo>)>,
 }
 
-/// What the lists of records say by numbers, where each names none but these programs or applicants, none twice, and
-/// there is room for all entries.
+/// What the lists of records say by numbers, where each names none but these programs or applicants, none twice, all
+/// pairs are allowed, and there is room for all entries.
 pub(crate) fn entries_of<R: Threads + Sync>(
     rt: &R,
     alloc: Global,
     registered: &Registered<'_>,
     numbers: &Numbers,
+    half_pairs: bool,
     room: &mut u32,
     records: &[Record<'_>],
 ) -> Result<Option<Entries>, AllocError>
     requires programs { length numbers.now.programs.items ≡ length registered.now.programs }
     requires applicants { length numbers.now.applicants.items ≡ length registered.now.applicants }
-    ensures { IfOk result (ReadsEntries registered.now numbers.now room.old room.new (all_seen records.now)) }
+    ensures { IfOk result (ReadsEntries half_pairs registered.now numbers.now room.old room.new (all_seen records.now)) }
 {
     let applicants = &registered.applicants;
     let Some(rankings) = rankings(rt, alloc, applicants, &numbers.applicants, room, records)? else {
@@ -288,7 +308,16 @@ pub(crate) fn entries_of<R: Threads + Sync>(
     let Some(lists) = lists(rt, alloc, programs, &numbers.programs, room, records)? else {
         return Ok(None);
     };
-    let Some(pairs) = pairs(rt, alloc, programs, &numbers.programs, room, records)? else {
+    let Some(pairs) = pairs(
+        rt,
+        alloc,
+        programs,
+        &numbers.programs,
+        half_pairs,
+        room,
+        records,
+    )?
+    else {
         return Ok(None);
     };
     Ok(Some(Entries {

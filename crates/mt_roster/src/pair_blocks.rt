@@ -31,14 +31,15 @@ fn read_block(
     alloc: Global,
     programs: &IdTable<'_>,
     numbers: &[Option<ProgNo>],
+    half_pairs: bool,
     most: u32,
     lists: &[Pairs<'_>],
 ) -> Result<Option<Block<(Option<ProgNo>, Option<ProgNo>)>>, AllocError>
     requires { length numbers.now ≡ length programs.now }
-    ensures { IfOk result (IsBlock (ReadsAllPairs programs.now numbers.now) most (map pairs_left lists.now)) }
+    ensures { IfOk result (IsBlock (ReadsAllPairs half_pairs programs.now numbers.now) most (map pairs_left lists.now)) }
 {
     let mut room = most;
-    match read_pairs(alloc, programs, numbers, &mut room, lists)? {
+    match read_pairs(alloc, programs, numbers, half_pairs, &mut room, lists)? {
         Some(lists) => Ok(Some(Block {
             lists,
             entries: most - room,
@@ -53,13 +54,14 @@ fn read_blocks<R: Threads + Sync>(
     alloc: Global,
     programs: &IdTable<'_>,
     numbers: &[Option<ProgNo>],
+    half_pairs: bool,
     most: u32,
     lists: &[Pairs<'_>],
     size: usize,
 ) -> Result<Vec<Option<Block<(Option<ProgNo>, Option<ProgNo>)>>>, AllocError>
     requires numbers { length numbers.now ≡ length programs.now }
     requires size { 0 < size }
-    ensures { IfOk result (λ blocks. AreBlocks (ReadsAllPairs programs.now numbers.now) pairs_left most size lists.now blocks.items) }
+    ensures { IfOk result (λ blocks. AreBlocks (ReadsAllPairs half_pairs programs.now numbers.now) pairs_left most size lists.now blocks.items) }
 {
     lists
         .par_chunks(size)
@@ -70,31 +72,32 @@ fn read_blocks<R: Threads + Sync>(
                 AllocError,
             >
                 requires { length numbers.now ≡ length programs.now }
-                ensures { IfOk result (IsBlock (ReadsAllPairs programs.entry.now numbers.entry.now) most (map pairs_left block.entry.now)) }
-            { read_block(alloc, programs, numbers, most, block) },
+                ensures { IfOk result (IsBlock (ReadsAllPairs half_pairs programs.entry.now numbers.entry.now) most (map pairs_left block.entry.now)) }
+            { read_block(alloc, programs, numbers, half_pairs, most, block) },
         )
         .collect::<Result<Vec<Option<Block<(Option<ProgNo>, Option<ProgNo>)>>>, AllocError>>(
             rt, alloc,
         )?
 }
 
-/// These couples' lists of pairs by numbers, where each names none but these programs, none has a pair twice, and there
-/// is room for all entries. Many of them are read side by side.
+/// These couples' lists of pairs by numbers, where all pairs are allowed and name none but these programs, no list has a
+/// pair twice, and there is room for all entries. Many of them are read side by side.
 pub(crate) fn read_side_by_side<R: Threads + Sync>(
     rt: &R,
     alloc: Global,
     programs: &IdTable<'_>,
     numbers: &[Option<ProgNo>],
+    half_pairs: bool,
     room: &mut u32,
     lists: &[Pairs<'_>],
 ) -> Result<Option<FlatLists<(Option<ProgNo>, Option<ProgNo>)>>, AllocError>
     requires { length numbers.now ≡ length programs.now }
-    ensures { IfOk result (ReadsAllPairs programs.now numbers.now room.old room.new (map pairs_left lists.now)) }
+    ensures { IfOk result (ReadsAllPairs half_pairs programs.now numbers.now room.old room.new (map pairs_left lists.now)) }
 {
     let size = block_size(rt, lists.len(), are_long(lists));
     if lists.len() <= size {
-        return read_pairs(alloc, programs, numbers, room, lists);
+        return read_pairs(alloc, programs, numbers, half_pairs, room, lists);
     }
-    let blocks = read_blocks(rt, alloc, programs, numbers, *room, lists, size)?;
+    let blocks = read_blocks(rt, alloc, programs, numbers, half_pairs, *room, lists, size)?;
     join_blocks(alloc, &blocks, room)
 }

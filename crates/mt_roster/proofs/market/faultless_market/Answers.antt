@@ -10,29 +10,20 @@ use Rattle.mt_roster.specs.Registers.{AreBounded}
 use Rattle.mt_roster.proofs.AcceptedFacts.{drafts_found, drafts_missing, market_found, accepts_drafts}
 use Rattle.mt_roster.proofs.market.faultless_market.Goals as goal
 
-pub market_of_drafts-requires-clause-limits : goal.market_of_drafts-requires-clause-limits
-market_of_drafts-requires-clause-limits g c κs within = subst AreBounded (sym (ap (λ (r : Rules). r.limits) c.rules.view_is)) c.requires.limits
-
 pub market_of_drafts-requires-clause-drafts : goal.market_of_drafts-requires-clause-drafts
 market_of_drafts-requires-clause-drafts g c κs within = (drafts_found c.args.rules.now (rows_left c.args.rows) _ _ c.in_ok-drafts.ensures c.in-Some.is).are
 
 pub market_of_drafts-requires-clause-few : goal.market_of_drafts-requires-clause-few
-market_of_drafts-requires-clause-few g c κs within =
-    subst (λ (limits : Limits). has_too_many_names limits (drafted c.in-Some.drafts) ≡ false) (sym (ap (λ (r : Rules). r.limits) c.rules.view_is))
-    (drafts_found c.args.rules.now (rows_left c.args.rows) _ _ c.in_ok-drafts.ensures c.in-Some.is).few
+market_of_drafts-requires-clause-few g c κs within = (drafts_found c.args.rules.now (rows_left c.args.rows) _ _ c.in_ok-drafts.ensures c.in-Some.is).few
 
 pub market_of_drafts-requires-clause-accepted : goal.market_of_drafts-requires-clause-accepted
 market_of_drafts-requires-clause-accepted g c κs within =
-    λ faultless.
     accepts_drafts c.args.rules.now (rows_left c.args.rows) _ (drafts_found c.args.rules.now (rows_left c.args.rows) _ _ c.in_ok-drafts.ensures c.in-Some.is) c.requires.accepted
-    (subst (λ (limits : Limits). is_faultless limits (drafted c.in-Some.drafts) ≡ true) (ap (λ (r : Rules). r.limits) c.rules.view_is) faultless)
 
 pub returns-in-Some : goal.returns-in-Some
 returns-in-Some g c =
     IfOk-weaker c.market_of_drafts.result _ _
-    (λ found h.
-    market_found c.args.rules.now (rows_left c.args.rows) _ (drafts_found c.args.rules.now (rows_left c.args.rows) _ _ c.in_ok-drafts.ensures c.in-Some.is) found
-    (subst (λ (limits : Limits). IsMarketOf limits (drafted c.in-Some.drafts) found) (ap (λ (r : Rules). r.limits) c.rules.view_is) h))
+    (λ found h. market_found c.args.rules.now (rows_left c.args.rows) _ (drafts_found c.args.rules.now (rows_left c.args.rows) _ _ c.in_ok-drafts.ensures c.in-Some.is) found h)
     c.market_of_drafts.ensures
 
 pub returns-in-None : goal.returns-in-None

@@ -20,84 +20,84 @@ withdrawn_by-requires-clause-known g c =
 
 pub returns-in_default : goal.returns-in_default
 returns-in_default g c =
-    not_standing c.args.limits.now (all_seen c.args.records.items) _ c.requires.ids c.requires.few
+    not_standing c.args.rules.now (all_seen c.args.records.items) _ c.requires.ids c.requires.few
     (stand_missing _ _ _ c.deref.ensures.value c.in_ok-withdrawn.ensures c.in_default.is)
 
 pub numbers_of-requires-clause-programs : goal.numbers_of-requires-clause-programs
 numbers_of-requires-clause-programs g c =
-    subst (λ (xs : List Checked). length (ids_of OfProgram (all_seen xs)) < 2 ^ 31) (sym c.deref-2.ensures.value) (few_ids c.args.limits.now (all_seen c.args.records.items) c.requires.limits c.requires.few).0
+    subst (λ (xs : List Checked). length (ids_of OfProgram (all_seen xs)) < 2 ^ 31) (sym c.deref-2.ensures.value) (few_ids c.args.rules.now.limits (all_seen c.args.records.items) c.requires.limits c.requires.few).0
 
 pub numbers_of-requires-clause-applicants : goal.numbers_of-requires-clause-applicants
 numbers_of-requires-clause-applicants g c =
-    subst (λ (xs : List Checked). length (applicant_ids (all_seen xs)) < 2 ^ 31) (sym c.deref-2.ensures.value) (few_ids c.args.limits.now (all_seen c.args.records.items) c.requires.limits c.requires.few).1
+    subst (λ (xs : List Checked). length (applicant_ids (all_seen xs)) < 2 ^ 31) (sym c.deref-2.ensures.value) (few_ids c.args.rules.now.limits (all_seen c.args.records.items) c.requires.limits c.requires.few).1
 
 pub read_entries-requires-clause-programs : goal.read_entries-requires-clause-programs
 read_entries-requires-clause-programs g c κs within =
     let stand = stand_found _ _ _ _ c.deref.ensures.value c.in_ok-withdrawn.ensures c.in-Some.is in
     let new = subst (λ (xs : List Checked). AreNewNumbers c.in-Some.withdrawn (all_seen xs) c.in_ok-numbers.numbers) c.deref-2.ensures.value c.in_ok-numbers.ensures in
-    long_programs c.args.limits.now (all_seen c.args.records.items) _ c.requires.ids _ _ stand new
+    long_programs c.args.rules.now (all_seen c.args.records.items) _ c.requires.ids _ _ stand new
 
 pub read_entries-requires-clause-applicants : goal.read_entries-requires-clause-applicants
 read_entries-requires-clause-applicants g c κs within =
     let stand = stand_found _ _ _ _ c.deref.ensures.value c.in_ok-withdrawn.ensures c.in-Some.is in
     let new = subst (λ (xs : List Checked). AreNewNumbers c.in-Some.withdrawn (all_seen xs) c.in_ok-numbers.numbers) c.deref-2.ensures.value c.in_ok-numbers.ensures in
-    long_applicants c.args.limits.now (all_seen c.args.records.items) _ c.requires.ids _ _ stand new
+    long_applicants c.args.rules.now (all_seen c.args.records.items) _ c.requires.ids _ _ stand new
 
 pub returns-in_default-2 : goal.returns-in_default-2
 returns-in_default-2 g c =
-    unfit c.args.limits.now (all_seen c.args.records.items) _ c.requires.ids c.requires.few
-    (entries_missing c.args.limits.now _ _ _ (all_seen c.args.records.items) _ c.in_ok-records.ensures c.in_default-2.is)
+    unfit c.args.rules.now (all_seen c.args.records.items) _ c.requires.ids c.requires.few
+    (entries_missing c.args.rules.now _ _ _ (all_seen c.args.records.items) _ c.in_ok-records.ensures c.in_default-2.is)
 
 pub members-requires-clause-numbers : goal.members-requires-clause-numbers
 members-requires-clause-numbers g c =
     let stand = stand_found _ _ _ _ c.deref.ensures.value c.in_ok-withdrawn.ensures c.in-Some.is in
     let new = subst (λ (xs : List Checked). AreNewNumbers c.in-Some.withdrawn (all_seen xs) c.in_ok-numbers.numbers) c.deref-2.ensures.value c.in_ok-numbers.ensures in
-    ap length c.deref-3.ensures.value ∙ long_applicants c.args.limits.now (all_seen c.args.records.items) _ c.requires.ids _ _ stand new
+    ap length c.deref-3.ensures.value ∙ long_applicants c.args.rules.now (all_seen c.args.records.items) _ c.requires.ids _ _ stand new
 
 pub members-requires-clause-all : goal.members-requires-clause-all
 members-requires-clause-all g c =
     let rs = all_seen c.args.records.items in
     let stand = stand_found _ _ _ _ c.deref.ensures.value c.in_ok-withdrawn.ensures c.in-Some.is in
     let new = subst (λ (xs : List Checked). AreNewNumbers c.in-Some.withdrawn (all_seen xs) c.in_ok-numbers.numbers) c.deref-2.ensures.value c.in_ok-numbers.ensures in
-    let found = entries_found c.args.limits.now c.args.ids.now c.in-Some.withdrawn c.in_ok-numbers.numbers rs _ _ _ c.in_ok-records.ensures c.in-Some-2.is in
+    let found = entries_found c.args.rules.now c.args.ids.now c.in-Some.withdrawn c.in_ok-numbers.numbers rs _ _ _ c.in_ok-records.ensures c.in-Some-2.is in
     let seen : all_seen c.deref-4.result.now ≡ filter (stays_after c.in-Some.withdrawn) rs = ap all_seen c.deref-4.ensures.value ∙ found.1 in
-    rw (c.deref-3.ensures.value, seen) (have_numbers c.args.limits.now rs _ c.requires.ids _ _ stand new)
+    rw (c.deref-3.ensures.value, seen) (have_numbers c.args.rules.now rs _ c.requires.ids _ _ stand new)
 
 pub with_entries-requires-clause-market : goal.with_entries-requires-clause-market
 with_entries-requires-clause-market g c =
     let rs = all_seen c.args.records.items in
     let stand = stand_found _ _ _ _ c.deref.ensures.value c.in_ok-withdrawn.ensures c.in-Some.is in
     let new = subst (λ (xs : List Checked). AreNewNumbers c.in-Some.withdrawn (all_seen xs) c.in_ok-numbers.numbers) c.deref-2.ensures.value c.in_ok-numbers.ensures in
-    let found = entries_found c.args.limits.now c.args.ids.now c.in-Some.withdrawn c.in_ok-numbers.numbers rs _ _ _ c.in_ok-records.ensures c.in-Some-2.is in
+    let found = entries_found c.args.rules.now c.args.ids.now c.in-Some.withdrawn c.in_ok-numbers.numbers rs _ _ _ c.in_ok-records.ensures c.in-Some-2.is in
     let seen = ap all_seen c.deref-5.ensures.value ∙ found.1 ∙ remaining_are rs c.in-Some.withdrawn stand in
-    subst (λ (xs : List Record). IsRegistration (registered_by_all xs)) (sym seen) (c.requires.accepted (faultless c.args.limits.now rs _ c.requires.ids _ _ stand new found.0 c.requires.few))
+    subst (λ (xs : List Record). IsRegistration (registered_by_all xs)) (sym seen) (c.requires.accepted (faultless c.args.rules.now rs _ c.requires.ids _ _ stand new found.0 c.requires.few))
 
 pub with_entries-requires-clause-entries : goal.with_entries-requires-clause-entries
 with_entries-requires-clause-entries g c =
     let rs = all_seen c.args.records.items in
     let stand = stand_found _ _ _ _ c.deref.ensures.value c.in_ok-withdrawn.ensures c.in-Some.is in
     let new = subst (λ (xs : List Checked). AreNewNumbers c.in-Some.withdrawn (all_seen xs) c.in_ok-numbers.numbers) c.deref-2.ensures.value c.in_ok-numbers.ensures in
-    let found = entries_found c.args.limits.now c.args.ids.now c.in-Some.withdrawn c.in_ok-numbers.numbers rs _ _ _ c.in_ok-records.ensures c.in-Some-2.is in
+    let found = entries_found c.args.rules.now c.args.ids.now c.in-Some.withdrawn c.in_ok-numbers.numbers rs _ _ _ c.in_ok-records.ensures c.in-Some-2.is in
     let seen = ap all_seen c.deref-5.ensures.value ∙ found.1 in
-    subst (λ (xs : List Record). AreEntries xs c.in-Some-2.entries) (sym seen) (entries_are c.args.limits.now rs _ c.requires.ids _ _ stand new found.0 _ found.2)
+    subst (λ (xs : List Record). AreEntries xs c.in-Some-2.entries) (sym seen) (entries_are c.args.rules.now rs _ c.requires.ids _ _ stand new found.0 _ found.2)
 
 pub with_entries-requires-clause-members : goal.with_entries-requires-clause-members
 with_entries-requires-clause-members g c =
     let rs = all_seen c.args.records.items in
     let stand = stand_found _ _ _ _ c.deref.ensures.value c.in_ok-withdrawn.ensures c.in-Some.is in
     let new = subst (λ (xs : List Checked). AreNewNumbers c.in-Some.withdrawn (all_seen xs) c.in_ok-numbers.numbers) c.deref-2.ensures.value c.in_ok-numbers.ensures in
-    let found = entries_found c.args.limits.now c.args.ids.now c.in-Some.withdrawn c.in_ok-numbers.numbers rs _ _ _ c.in_ok-records.ensures c.in-Some-2.is in
+    let found = entries_found c.args.rules.now c.args.ids.now c.in-Some.withdrawn c.in_ok-numbers.numbers rs _ _ _ c.in_ok-records.ensures c.in-Some-2.is in
     let read : all_seen c.deref-4.result.now ≡ filter (stays_after c.in-Some.withdrawn) rs = ap all_seen c.deref-4.ensures.value ∙ found.1 in
     let seen : all_seen c.deref-5.result.now ≡ filter (stays_after c.in-Some.withdrawn) rs = ap all_seen c.deref-5.ensures.value ∙ found.1 in
     rw seen
     (c.in_ok-members.ensures ∙ ap₂ (λ (news : List (Option ℕ)) (xs : List Record). filter_map (members_by c.args.ids.now.applicants news) xs) c.deref-3.ensures.value read
-    ∙ members_are c.args.limits.now rs _ c.requires.ids _ _ stand new)
+    ∙ members_are c.args.rules.now rs _ c.requires.ids _ _ stand new)
 
 pub returns : goal.returns
 returns g c =
     let rs = all_seen c.args.records.items in
     let stand = stand_found _ _ _ _ c.deref.ensures.value c.in_ok-withdrawn.ensures c.in-Some.is in
     let new = subst (λ (xs : List Checked). AreNewNumbers c.in-Some.withdrawn (all_seen xs) c.in_ok-numbers.numbers) c.deref-2.ensures.value c.in_ok-numbers.ensures in
-    let found = entries_found c.args.limits.now c.args.ids.now c.in-Some.withdrawn c.in_ok-numbers.numbers rs _ _ _ c.in_ok-records.ensures c.in-Some-2.is in
+    let found = entries_found c.args.rules.now c.args.ids.now c.in-Some.withdrawn c.in_ok-numbers.numbers rs _ _ _ c.in_ok-records.ensures c.in-Some-2.is in
     let seen = ap all_seen c.deref-5.ensures.value ∙ found.1 ∙ remaining_are rs c.in-Some.withdrawn stand in
-    (faultless c.args.limits.now rs _ c.requires.ids _ _ stand new found.0 c.requires.few, c.in_ok-roster.ensures ∙ ap registered_by_all seen)
+    (faultless c.args.rules.now rs _ c.requires.ids _ _ stand new found.0 c.requires.few, c.in_ok-roster.ensures ∙ ap registered_by_all seen)

@@ -13,9 +13,9 @@ returns-then-not-branch c =
     let rest = map pairs_left (drop (c.loop-list.list-index + 1) lists) in
     let list = pairs_left c.list-item.result in
     let is : map pairs_left (drop c.loop-list.list-index lists) ≡ list ∷ rest = grind (arith, common_steps) in
-    read_no_more (pairs_once ids) pair_entries (pairs_by ids numbers) (map pairs_left lists) c.args.room.now c.loop-list.room c.loop-list.read
+    read_no_more (pairs_once c.args.half_pairs ids) pair_entries (pairs_by ids numbers) (map pairs_left lists) c.args.room.now c.loop-list.room c.loop-list.read
     (map pairs_left (drop c.loop-list.list-index lists)) c.loop-list.invariant list rest is
-    (subst (ReadsPairs ids numbers c.loop-list.room c.push_pairs.new.room list c.begin.new.self c.push_pairs.new.lists) c.if-not-branch.true c.in_ok-push_pairs.ensures)
+    (subst (ReadsPairs c.args.half_pairs ids numbers c.loop-list.room c.push_pairs.new.room list c.begin.new.self c.push_pairs.new.lists) c.if-not-branch.true c.in_ok-push_pairs.ensures)
 
 pub loop-list-preserved : goal.loop-list-preserved
 loop-list-preserved c =
@@ -25,7 +25,7 @@ loop-list-preserved c =
     let rest = map pairs_left (drop (c.loop-list.list-index + 1) lists) in
     let list = pairs_left c.list-item.result in
     let is : map pairs_left (drop c.loop-list.list-index lists) ≡ list ∷ rest = grind (arith, common_steps) in
-    let reads = subst (ReadsPairs ids numbers c.loop-list.room c.push_pairs.new.room list c.begin.new.self c.push_pairs.new.lists) c.if-not-branch.false c.in_ok-push_pairs.ensures in
-    read_one (pairs_once ids) pair_entries (pairs_by ids numbers) (map pairs_left lists) c.args.room.now c.loop-list.room c.loop-list.read
+    let reads = subst (ReadsPairs c.args.half_pairs ids numbers c.loop-list.room c.push_pairs.new.room list c.begin.new.self c.push_pairs.new.lists) c.if-not-branch.false c.in_ok-push_pairs.ensures in
+    read_one (pairs_once c.args.half_pairs ids) pair_entries (pairs_by ids numbers) (map pairs_left lists) c.args.room.now c.loop-list.room c.loop-list.read
     (map pairs_left (drop c.loop-list.list-index lists)) c.loop-list.invariant list rest is
     c.push_pairs.new.room c.begin.new.self c.push_pairs.new.lists c.in_ok-begin.ensures.ok reads

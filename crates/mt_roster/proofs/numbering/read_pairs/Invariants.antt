@@ -6,4 +6,4 @@ use Rattle.mt_roster.proofs.numbering.read_pairs.Given as goal
 
 abbrev pub invariant-loop-list : goal.invariant-loop-list
 invariant-loop-list l =
-    AreReadTo (pairs_once l.programs) pair_entries (pairs_by l.programs l.numbers) (map pairs_left l.lists) l.fn.room l.room l.read (map pairs_left (drop l.list-index l.lists))
+    AreReadTo (pairs_once l.half_pairs l.programs) pair_entries (pairs_by l.programs l.numbers) (map pairs_left l.lists) l.fn.room l.room l.read (map pairs_left (drop l.list-index l.lists))

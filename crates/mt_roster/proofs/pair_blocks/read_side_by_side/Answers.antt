@@ -16,6 +16,6 @@ returns g c =
     let left = c.join_blocks.new.room in
     IfOk-weaker c.join_blocks.result _ _
     (λ new joins.
-    lists_read pairs_left (pairs_once ids) pair_entries (pairs_by ids c.args.numbers.now) c.args.room.now lists (chunks_of size lists) c.in_ok-blocks.blocks.items left new
+    lists_read pairs_left (pairs_once c.args.half_pairs ids) pair_entries (pairs_by ids c.args.numbers.now) c.args.room.now lists (chunks_of size lists) c.in_ok-blocks.blocks.items left new
     c.in_ok-blocks.ensures (chunks_of-concat size lists c.block_size-size.ensures) (subst (λ bs. Joins c.args.room.now left bs new) c.deref.ensures.value joins))
     c.join_blocks.ensures
