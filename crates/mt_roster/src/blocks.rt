@@ -113,13 +113,14 @@ fn append<T: Copy + Drop>(to: &mut FlatLists<T>, lists: &FlatLists<T>) -> Result
     Ok(())
 }
 
-/// The lists of blocks one after another, where each has been read and there is room for all entries together.
+/// The lists of blocks one after another, where each has been read and there is room for all entries together. Each
+/// block is let go once its lists are joined.
 pub(crate) fn join_blocks<T: Copy + Drop>(
     alloc: Global,
-    blocks: &[Option<Block<T>>],
+    blocks: Vec<Option<Block<T>>>,
     room: &mut u32,
 ) -> Result<Option<FlatLists<T>>, AllocError>
-    ensures { IfOk result (Joins room.old room.new blocks.now) }
+    ensures { IfOk result (Joins room.old room.new blocks.items) }
 {
     let mut joined = FlatLists::new(alloc);
     for block in blocks {
@@ -153,5 +154,5 @@ pub(crate) fn read_side_by_side<R: Threads + Sync, T: Copy + Drop + Send + Sync>
         return read_lists(alloc, ids, numbers, room, lists);
     }
     let blocks = read_blocks(rt, alloc, ids, numbers, *room, lists, size)?;
-    join_blocks(alloc, &blocks, room)
+    join_blocks(alloc, blocks, room)
 }

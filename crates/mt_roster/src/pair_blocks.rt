@@ -99,5 +99,5 @@ pub(crate) fn read_side_by_side<R: Threads + Sync>(
         return read_pairs(alloc, programs, numbers, half_pairs, room, lists);
     }
     let blocks = read_blocks(rt, alloc, programs, numbers, half_pairs, *room, lists, size)?;
-    join_blocks(alloc, &blocks, room)
+    join_blocks(alloc, blocks, room)
 }

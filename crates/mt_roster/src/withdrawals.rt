@@ -2,6 +2,7 @@
 ghost use Rattle.std.specs.Prelude.{◌≡◌, ◌<◌, ◌+◌, ◌++◌, ◌∷◌, [], ◌^◌, false, length, filter, not, IfOk, OnOk, MatchOption, if◌then◌else◌};
 ghost use Rattle.mt_file_laws.specs.Faultless.{withdrawals_stand};
 ghost use Rattle.mt_file_laws.specs.Staying.{new_numbers, program_flags, applicant_flags};
+ghost use Rattle.mt_terms.specs.Registration.Ids.{has_id};
 ghost use Rattle.mt_terms.specs.Registration.Records.{OfProgram};
 ghost use Rattle.mt_terms.specs.Registration.Rows.{ids_of, applicant_ids};
 ghost use Rattle.mt_roster.specs.Numbered.{all_seen};
@@ -11,7 +12,7 @@ ghost use Rattle.mt_roster.specs.Withdrawals.{stays_after, Stand};
 
 use crate::register::Kinds;
 use crate::registered::Registered;
-use mt_ids::Seed;
+use mt_ids::{IdTable, Seed};
 use mt_records::Record;
 use mt_terms::{AppNo, ProgNo};
 use std::alloc::{AllocError, Global};
@@ -49,14 +50,21 @@ pub(crate) fn withdrawn_by<'a>(
     Ok(Some(withdrawn))
 }
 
+/// Whether an id is one of these. Where there are none, it isn't hashed.
+fn is_among(ids: &IdTable<'_>, id: &[u8]) -> bool
+    ensures { result ≡ has_id ids.now id.now }
+{
+    ids.len() > 0 && ids.contains(id)
+}
+
 /// Whether a record stays where these ids are withdrawn. A withdrawal itself doesn't.
 pub(crate) fn stays(withdrawn: &Kinds<'_>, one: &Record<'_>) -> bool
     ensures { result ≡ stays_after withdrawn.now (record_seen one.now) }
 {
     match one {
-        Record::Program { id, .. } => !withdrawn.programs.contains(*id),
-        Record::Applicant { id, .. } => !withdrawn.applicants.contains(*id),
-        Record::Couple { id, .. } => !withdrawn.couples.contains(*id),
+        Record::Program { id, .. } => !is_among(&withdrawn.programs, id),
+        Record::Applicant { id, .. } => !is_among(&withdrawn.applicants, id),
+        Record::Couple { id, .. } => !is_among(&withdrawn.couples, id),
         Record::Withdraw { .. } => false,
     }
 }

@@ -1,4 +1,4 @@
-use Rattle.std.proofs.Common.{subst, length}
+use Rattle.std.proofs.Common.{length}
 use Rattle.std.proofs.lemmas.Result.{IfOk-weaker}
 use Rattle.rayon.proofs.ToStd.{chunks_of-concat}
 use Rattle.rayon.specs.Lists.{chunks_of}
@@ -6,7 +6,6 @@ use Rattle.mt_file_laws.specs.Faultless.{stands_once}
 use Rattle.mt_terms.specs.Registration.Ids.{Bytes}
 use Rattle.mt_roster.specs.Numbered.{list_seen}
 use Rattle.mt_roster.specs.Reading.{numbers_by}
-use Rattle.mt_roster.specs.Blocks.{Joins}
 use Rattle.mt_roster.proofs.BlockFacts.{lists_read}
 use Rattle.mt_roster.proofs.blocks.read_side_by_side.Goals as goal
 
@@ -19,5 +18,5 @@ returns g c =
     IfOk-weaker c.join_blocks.result _ _
     (λ new joins.
     lists_read list_seen (stands_once ids) (length {A = Bytes}) (numbers_by ids c.args.numbers.now) c.args.room.now lists (chunks_of size lists) c.in_ok-blocks.blocks.items left new
-    c.in_ok-blocks.ensures (chunks_of-concat size lists c.block_size-size.ensures) (subst (λ bs. Joins c.args.room.now left bs new) c.deref.ensures.value joins))
+    c.in_ok-blocks.ensures (chunks_of-concat size lists c.block_size-size.ensures) joins)
     c.join_blocks.ensures

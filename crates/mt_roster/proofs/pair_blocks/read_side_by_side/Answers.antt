@@ -1,10 +1,8 @@
-use Rattle.std.proofs.Common.{subst}
 use Rattle.std.proofs.lemmas.Result.{IfOk-weaker}
 use Rattle.rayon.proofs.ToStd.{chunks_of-concat}
 use Rattle.rayon.specs.Lists.{chunks_of}
 use Rattle.mt_records.specs.Fields.{pairs_left}
 use Rattle.mt_roster.specs.Reading.{pairs_by, pairs_once, pair_entries}
-use Rattle.mt_roster.specs.Blocks.{Joins}
 use Rattle.mt_roster.proofs.BlockFacts.{lists_read}
 use Rattle.mt_roster.proofs.pair_blocks.read_side_by_side.Goals as goal
 
@@ -17,5 +15,5 @@ returns g c =
     IfOk-weaker c.join_blocks.result _ _
     (λ new joins.
     lists_read pairs_left (pairs_once c.args.half_pairs ids) pair_entries (pairs_by ids c.args.numbers.now) c.args.room.now lists (chunks_of size lists) c.in_ok-blocks.blocks.items left new
-    c.in_ok-blocks.ensures (chunks_of-concat size lists c.block_size-size.ensures) (subst (λ bs. Joins c.args.room.now left bs new) c.deref.ensures.value joins))
+    c.in_ok-blocks.ensures (chunks_of-concat size lists c.block_size-size.ensures) joins)
     c.join_blocks.ensures
