@@ -1,4 +1,4 @@
-ghost use Rattle.std.specs.Prelude.{◌≡◌, ◌+◌, ◌≤◌, map, length, IfOk};
+ghost use Rattle.std.specs.Prelude.{◌≡◌, ◌+◌, ◌≤◌, ◌/◌, map, length, IfOk, IsFalse};
 ghost use Rattle.mt_terms.specs.Best.{IsBest, proposals};
 ghost use Rattle.mt_terms.specs.Lists.{below};
 ghost use Rattle.mt_terms.specs.Market.{applicants};
@@ -14,8 +14,8 @@ use std::alloc::{AllocError, Global};
 use std::marker::Brand;
 use std::sync::Wait;
 use std::sync::ledger::Blank;
-use std::thread;
 use std::thread::Threads;
+use std::{hint, thread};
 
 /// Acts for the applicant until it is placed or out. Whom it displaces gets a ticket; where there is no memory for
 /// that, it goes on with that applicant.
@@ -55,7 +55,38 @@ fn act<K: HallName, R: Wait>(
     }
 }
 
-/// Acts on one ticket after another, until no deque gives one.
+/// The longest rest of a worker, in turns: a fraction of a millisecond.
+const LONGEST_REST: u32 = 1 << 15;
+
+/// After how many turns of its rest a worker lets another thread run.
+const YIELD_AFTER: u32 = 64;
+
+/// How long a worker rests that has rested so long the last time: twice as long where it had to wait for another one
+/// since, and half as long where it hadn't.
+fn next_rest(last: u32, waited: bool) -> u32
+    ensures bounded { last ≤ LONGEST_REST → result ≤ LONGEST_REST }
+    ensures falls { IsFalse waited → result ≡ last / 2 }
+{
+    if waited {
+        last.saturating_mul(2).saturating_add(1).min(LONGEST_REST)
+    } else {
+        last / 2
+    }
+}
+
+/// Lets so many turns pass.
+fn rest(turns: u32) {
+    for turn in 0..turns {
+        if turn % YIELD_AFTER == 0 {
+            thread::yield_now();
+        } else {
+            hint::spin_loop();
+        }
+    }
+}
+
+/// Acts on one ticket after another, until no deque gives one. Workers that wait for one another's locks are slower than
+/// one alone, so whoever had to wait rests before its next ticket. Worker 0 never does, so the work goes on.
 fn serve<K: HallName, R: Wait, G: Gate>(
     rt: &R,
     hall: &Hall<'_, K>,
@@ -64,13 +95,19 @@ fn serve<K: HallName, R: Wait, G: Gate>(
     seat: &mut Seat,
     pass: &mut Pass<K>,
 ) {
+    let mut turns = 0;
     for _ in rt.forever() {
         let Some(applicant) = next_ticket(seat, thieves) else {
             return;
         };
         gate.before(seat.number, applicant);
+        let waits = pass.waits();
         act(rt, hall, pass, seat, applicant);
         gate.after(seat.number, pass);
+        if seat.number > 0 {
+            turns = next_rest(turns, pass.waits() != waits);
+            rest(turns);
+        }
     }
 }
 

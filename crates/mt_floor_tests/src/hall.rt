@@ -213,6 +213,8 @@ fn wishes_in<K: HallName, R: Abort + Wait>(
     let (hall, mut passes) = Hall::<K>::open(alloc, ranks, 1, blank)?;
     expect_by_wishes(rt, &hall, &mut passes[0]);
     expect_pass(rt, ranks, &passes[0], 5, &[3, 2], &[2, 2, 1]);
+    // Whoever is alone finds each lock free.
+    assert_eq!(rt; passes[0].waits(), 0);
     let audit = hall.close(passes);
     expect_order(rt, &audit);
     expect_chain_end(rt, alloc, &audit.floor, ranks)

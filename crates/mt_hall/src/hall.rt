@@ -145,7 +145,7 @@ impl<'a, K: HallName> Hall<'a, K> {
         }
         let place = if standing { made - 1 } else { made };
         let program = entry_at(self.ranks, applicant, place).program;
-        let mut door = self.doors[program.index()].lock(rt);
+        let mut door = pass.lock(rt, &self.doors[program.index()]);
         if door.program() != program {
             return self.unknown(applicant);
         }

@@ -139,6 +139,7 @@ pub(crate) fn seat_passes<K: HallName>(
                 credits,
                 by_program,
                 by_applicant,
+                waits: 0,
             }),
             None => unreachable!(),
         }

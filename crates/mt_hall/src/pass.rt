@@ -7,7 +7,7 @@ use crate::till::Till;
 use mt_tally::{DeskShare, PassShare, enter};
 use mt_terms::{AppNo, ProgNo};
 use std::marker::Model;
-use std::sync::{Mutex, Wait};
+use std::sync::{Mutex, MutexGuard, Wait};
 
 /// What a worker carries: a credit for each proposal that it has made, and how many of them were to each program and
 /// for each applicant.
@@ -15,6 +15,8 @@ pub struct Pass<K: HallName> {
     pub(crate) credits: PassShare<K>,
     pub(crate) by_program: Vec<u32>,
     pub(crate) by_applicant: Vec<u32>,
+    // How often it waited for a lock. Nothing rests on it but how long a worker rests.
+    pub(crate) waits: u32,
 }
 
 impl<K: HallName> Model for Pass<K> {
@@ -51,6 +53,25 @@ impl<K: HallName> Pass<K> {
         self.by_applicant[applicant.index()]
     }
 
+    /// How often a lock that was wanted was another worker's just then: more often where workers are in each other's
+    /// way. It is about as many; no clause says how many.
+    pub fn waits(&self) -> u32 {
+        self.waits
+    }
+
+    /// Locks, and counts where another worker has the lock.
+    pub(crate) fn lock<'m, T, R: Wait>(&mut self, rt: &R, lock: &'m Mutex<T>) -> MutexGuard<'m, T>
+        ensures { self.new ≡ self.old }
+    {
+        match lock.try_lock() {
+            Some(guard) => guard,
+            None => {
+                self.waits = self.waits.wrapping_add(1);
+                lock.lock(rt)
+            }
+        }
+    }
+
     /// Takes one credit of a desk, and counts the proposal.
     pub(crate) fn count<R: Wait>(
         &mut self,
@@ -67,7 +88,7 @@ impl<K: HallName> Pass<K> {
         ensures pass { self.new ≡ one_more self.old program applicant }
     {
         {
-            let mut till = till.lock(rt);
+            let mut till = self.lock(rt, till);
             enter(&mut till.roll, desk, &mut self.credits);
         }
         self.by_program[program.index()] += 1;
