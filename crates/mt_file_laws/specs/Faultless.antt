@@ -48,8 +48,17 @@ drafts rules (row ∷ rows) = option_and_then (λ r. option_map (λ rs. r ∷ rs
 abbrev pub stands_once : List Bytes → List Bytes → Bool
 stands_once ids list = list_all (has_id ids) list && all_differ bytes_eq list
 
--- whether the list of a program does, by all applicants; that of a single, by all programs; and whether the pairs of a couple
--- stand, by all programs, and none twice. Each is true of any other record
+-- whether a pair is allowed: it has a place for each member, or where half pairs are allowed for one of them
+abbrev pub is_allowed : Bool → IdPair → Bool
+is_allowed half_pairs pair = (is_some pair.0 && is_some pair.1) || (half_pairs && (is_some pair.0 || is_some pair.1))
+
+-- whether it is, and names none but these programs
+abbrev pub pair_stands : Bool → List Bytes → IdPair → Bool
+pair_stands half_pairs programs pair = is_allowed half_pairs pair && names_only programs pair
+
+-- whether the list of a program names none but all applicants, and none twice; whether that of a single names none but all
+-- programs, and none twice; whether each pair of a couple stands by all programs, and none is there twice. Each is true of any
+-- other record
 abbrev pub ranking_stands : List Bytes → Record → Bool
 ranking_stands applicants (ProgramRecord id quota list) = stands_once applicants list
 ranking_stands applicants _ = true
@@ -57,14 +66,6 @@ ranking_stands applicants _ = true
 abbrev pub list_stands : List Bytes → Record → Bool
 list_stands programs (ApplicantRecord id list) = stands_once programs list
 list_stands programs _ = true
-
--- whether a pair has a place for each member, or where half pairs are allowed for one of them
-abbrev pub is_allowed : Bool → IdPair → Bool
-is_allowed half_pairs pair = (is_some pair.0 && is_some pair.1) || (half_pairs && (is_some pair.0 || is_some pair.1))
-
--- whether a pair does, and names none but these programs
-abbrev pub pair_stands : Bool → List Bytes → IdPair → Bool
-pair_stands half_pairs programs pair = is_allowed half_pairs pair && names_only programs pair
 
 abbrev pub pairs_stand : Bool → List Bytes → Record → Bool
 pairs_stand half_pairs programs (CoupleRecord id a b pairs) = list_all (pair_stands half_pairs programs) pairs && all_differ is_same_pair pairs

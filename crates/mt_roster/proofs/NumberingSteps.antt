@@ -1,12 +1,12 @@
 -- Lists held one after another, writes to lists, and ids that are looked up among those with numbers.
-use Rattle.std.proofs.Common.{◌≡◌, ◌≢◌, ◌==◌, set, take, drop, ℕ, zero, suc, ◌+◌, ◌<◌, Bool, true, false, not, ◌||◌, List, [], ◌∷◌, ◌++◌, map, length, get_or, position, Option, Some, None, refl, ap, sym, ◌∙◌, arith, cond, if◌then◌else◌, nat_lt}
-use Rattle.std.specs.Prelude.{bytes_eq, filter, is_some, IsSome, ◌&&◌}
+use Rattle.std.proofs.Common.{◌≡◌, ◌≢◌, ◌==◌, set, take, drop, ℕ, zero, suc, ◌<◌, Bool, true, false, List, [], ◌∷◌, ◌++◌, map, length, get_or, Option, refl, ap, sym, ◌∙◌, arith, cond, if◌then◌else◌}
+use Rattle.std.specs.Prelude.{filter, is_some, IsSome, ◌&&◌}
 use Rattle.std.specs.List.{list_all}
 use Rattle.std.proofs.lemmas.Bool.Decides.{nat_tests}
 use Rattle.std.proofs.lemmas.List.{append-nil, append_assoc, get_or-set_same, get_or-set_other, take_all, drop_all}
 use Rattle.std.proofs.lemmas.List.Folds.{list_all-append}
 use Rattle.mt_market.specs.FlatLists.{with_last}
-use Rattle.mt_terms.specs.Registration.Ids.{Bytes, has_id, number_of}
+use Rattle.mt_terms.specs.Registration.Ids.{Bytes, has_id}
 use Rattle.mt_terms.specs.Registration.Rows.{applicants_of, applicant_ids}
 use Rattle.mt_records.specs.declared.record.Record.{Record as Checked}
 use Rattle.mt_records.specs.Records.{record_seen}

@@ -56,13 +56,6 @@ found_pair half_pairs ids bound is p q h = by (pair_stands half_pairs ids p) ref
         }
     by false stands e = cc
 
-pub missing_pair : (half_pairs : Bool) (ids : List Bytes) (p : IdPair) → None ≡ pair_in half_pairs ids p → pair_stands half_pairs ids p ≡ false
-missing_pair half_pairs ids p h = by (pair_stands half_pairs ids p) h
-  where
-    by : (b : Bool) → None ≡ (if b then Some (pair_by_number ids p) else None) → b ≡ false
-    by true e = cc
-    by false e = refl
-
 -- a list of pairs by new numbers, one pair on, whose programs have numbers or not
 module _ (ids : List Bytes) (numbers : List (Option ℕ)) (left : List IdPair) (p : IdPair) (rest : List IdPair) (is : left ≡ p ∷ rest)
     (q : Pair) (at : pair_by_number ids p ≡ q) where

@@ -82,7 +82,8 @@ fn read_entries<'a, R: Threads + Sync>(
 ) -> Result<Option<(Vec<Record<'a>>, Entries)>, AllocError>
     requires programs { length numbers.now.programs.items ≡ length registered.now.programs }
     requires applicants { length numbers.now.applicants.items ≡ length registered.now.applicants }
-    ensures { IfOk result (GivesEntries rules.now registered.now withdrawn.now numbers.now (all_seen records.entry.items)) }
+    ensures { IfOk result (GivesEntries rules.now registered.now withdrawn.now numbers.now
+        (all_seen records.entry.items)) }
 {
     let mut room = rules.limits.entries;
     let half_pairs = rules.half_pairs;
@@ -115,7 +116,8 @@ fn market_by<R: Threads + Sync>(
     requires limits { AreBounded rules.now.limits }
     requires ids { AreIdsOfRecords (all_seen records.items) ids.now }
     requires few { has_too_many_names rules.now.limits (all_seen records.items) ≡ false }
-    requires accepted { is_faultless rules.now (all_seen records.items) ≡ true → IsRegistration (registered (all_seen records.items)) }
+    requires accepted { is_faultless rules.now (all_seen records.items) ≡ true
+        → IsRegistration (registered (all_seen records.items)) }
     ensures { IfOk result (IsMarketOf rules.now (all_seen records.entry.items)) }
 {
     let Some(withdrawn) = withdrawn_by(alloc, ids, &records)? else {

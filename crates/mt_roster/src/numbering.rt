@@ -194,8 +194,8 @@ fn new_pair(
 }
 
 /// Adds the pairs of a couple's list by numbers, of those whose programs have one, to the last of these lists, and says
-/// that it did so, where they are allowed and name none but these programs, none stands twice, and there is room for all
-/// entries: a pair is two. The pairs by their numbers among all programs are left in `found`.
+/// that it did so, where they are allowed and name none but these programs, none stands twice, and there is room for
+/// all entries: a pair is two. The pairs by their numbers among all programs are left in `found`.
 fn push_pairs(
     lists: &mut FlatLists<(Option<ProgNo>, Option<ProgNo>)>,
     programs: &IdTable<'_>,
@@ -207,7 +207,8 @@ fn push_pairs(
 ) -> Result<bool, AllocError>
     requires numbers { length numbers.now ≡ length programs.now }
     requires begun { 0 < length lists.old }
-    ensures { IfOk result (ReadsPairs half_pairs programs.now numbers.now room.old room.new (pairs_left list.entry) lists.old lists.new) }
+    ensures { IfOk result (ReadsPairs half_pairs programs.now numbers.now room.old room.new
+        (pairs_left list.entry) lists.old lists.new) }
 {
     found.clear();
     for (first, second) in list {
@@ -226,8 +227,8 @@ fn push_pairs(
     Ok(!has_duplicate(found))
 }
 
-/// These couples' lists of pairs by numbers, where all pairs are allowed and name none but these programs, no list has a
-/// pair twice, and there is room for all entries.
+/// These couples' lists of pairs by numbers, where all pairs are allowed and name none but these programs, no list has
+/// a pair twice, and there is room for all entries.
 pub(crate) fn read_pairs(
     alloc: Global,
     programs: &IdTable<'_>,
@@ -237,7 +238,8 @@ pub(crate) fn read_pairs(
     lists: &[Pairs<'_>],
 ) -> Result<Option<FlatLists<(Option<ProgNo>, Option<ProgNo>)>>, AllocError>
     requires { length numbers.now ≡ length programs.now }
-    ensures { IfOk result (ReadsAllPairs half_pairs programs.now numbers.now room.old room.new (map pairs_left lists.now)) }
+    ensures { IfOk result (ReadsAllPairs half_pairs programs.now numbers.now room.old room.new
+        (map pairs_left lists.now)) }
 {
     let mut read = FlatLists::new(alloc);
     let mut found = Vec::new(alloc);
@@ -252,8 +254,8 @@ pub(crate) fn read_pairs(
     Ok(Some(read))
 }
 
-/// The couples' lists of pairs by numbers, where all pairs are allowed and name programs alone, no list has a pair twice,
-/// and there is room for all entries.
+/// The couples' lists of pairs by numbers, where all pairs are allowed and name programs alone, no list has a pair
+/// twice, and there is room for all entries.
 fn pairs<R: Threads + Sync>(
     rt: &R,
     alloc: Global,
@@ -264,7 +266,8 @@ fn pairs<R: Threads + Sync>(
     records: &[Record<'_>],
 ) -> Result<Option<FlatLists<(Option<ProgNo>, Option<ProgNo>)>>, AllocError>
     requires { length numbers.now ≡ length programs.now }
-    ensures { IfOk result (ReadsAllPairs half_pairs programs.now numbers.now room.old room.new (couple_lists (all_seen records.now))) }
+    ensures { IfOk result (ReadsAllPairs half_pairs programs.now numbers.now room.old room.new
+        (couple_lists (all_seen records.now))) }
 {
     let lists = couple_lists(alloc, records)?;
     pair_blocks::read_side_by_side(rt, alloc, programs, numbers, half_pairs, room, &lists)
@@ -298,7 +301,8 @@ pub(crate) fn entries_of<R: Threads + Sync>(
 ) -> Result<Option<Entries>, AllocError>
     requires programs { length numbers.now.programs.items ≡ length registered.now.programs }
     requires applicants { length numbers.now.applicants.items ≡ length registered.now.applicants }
-    ensures { IfOk result (ReadsEntries half_pairs registered.now numbers.now room.old room.new (all_seen records.now)) }
+    ensures { IfOk result (ReadsEntries half_pairs registered.now numbers.now room.old room.new
+        (all_seen records.now)) }
 {
     let applicants = &registered.applicants;
     let Some(rankings) = rankings(rt, alloc, applicants, &numbers.applicants, room, records)? else {

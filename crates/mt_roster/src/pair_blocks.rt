@@ -36,7 +36,8 @@ fn read_block(
     lists: &[Pairs<'_>],
 ) -> Result<Option<Block<(Option<ProgNo>, Option<ProgNo>)>>, AllocError>
     requires { length numbers.now ≡ length programs.now }
-    ensures { IfOk result (IsBlock (ReadsAllPairs half_pairs programs.now numbers.now) most (map pairs_left lists.now)) }
+    ensures { IfOk result (IsBlock (ReadsAllPairs half_pairs programs.now numbers.now) most
+        (map pairs_left lists.now)) }
 {
     let mut room = most;
     match read_pairs(alloc, programs, numbers, half_pairs, &mut room, lists)? {
@@ -61,7 +62,8 @@ fn read_blocks<R: Threads + Sync>(
 ) -> Result<Vec<Option<Block<(Option<ProgNo>, Option<ProgNo>)>>>, AllocError>
     requires numbers { length numbers.now ≡ length programs.now }
     requires size { 0 < size }
-    ensures { IfOk result (λ blocks. AreBlocks (ReadsAllPairs half_pairs programs.now numbers.now) pairs_left most size lists.now blocks.items) }
+    ensures { IfOk result (λ blocks. AreBlocks (ReadsAllPairs half_pairs programs.now numbers.now) pairs_left
+        most size lists.now blocks.items) }
 {
     lists
         .par_chunks(size)
@@ -72,7 +74,8 @@ fn read_blocks<R: Threads + Sync>(
                 AllocError,
             >
                 requires { length numbers.now ≡ length programs.now }
-                ensures { IfOk result (IsBlock (ReadsAllPairs half_pairs programs.entry.now numbers.entry.now) most (map pairs_left block.entry.now)) }
+                ensures { IfOk result (IsBlock (ReadsAllPairs half_pairs programs.entry.now numbers.entry.now)
+                    most (map pairs_left block.entry.now)) }
             { read_block(alloc, programs, numbers, half_pairs, most, block) },
         )
         .collect::<Result<Vec<Option<Block<(Option<ProgNo>, Option<ProgNo>)>>>, AllocError>>(
@@ -80,8 +83,8 @@ fn read_blocks<R: Threads + Sync>(
         )?
 }
 
-/// These couples' lists of pairs by numbers, where all pairs are allowed and name none but these programs, no list has a
-/// pair twice, and there is room for all entries. Many of them are read side by side.
+/// These couples' lists of pairs by numbers, where all pairs are allowed and name none but these programs, no list has
+/// a pair twice, and there is room for all entries. Many of them are read side by side.
 pub(crate) fn read_side_by_side<R: Threads + Sync>(
     rt: &R,
     alloc: Global,
@@ -92,7 +95,8 @@ pub(crate) fn read_side_by_side<R: Threads + Sync>(
     lists: &[Pairs<'_>],
 ) -> Result<Option<FlatLists<(Option<ProgNo>, Option<ProgNo>)>>, AllocError>
     requires { length numbers.now ≡ length programs.now }
-    ensures { IfOk result (ReadsAllPairs half_pairs programs.now numbers.now room.old room.new (map pairs_left lists.now)) }
+    ensures { IfOk result (ReadsAllPairs half_pairs programs.now numbers.now room.old room.new
+        (map pairs_left lists.now)) }
 {
     let size = block_size(rt, lists.len(), are_long(lists));
     if lists.len() <= size {

@@ -1,12 +1,5 @@
-use Rattle.std.proofs.Common.{◌≡◌, ap, sym, subst, false, true}
 use Rattle.std.proofs.lemmas.Result.{IfOk-weaker}
 use Rattle.mt_lists.specs.Rows.{rows_left}
-use Rattle.mt_terms.specs.declared.limits.Limits.{Limits}
-use Rattle.mt_terms.specs.Registration.Records.{Rules}
-use Rattle.mt_file_laws.specs.Faultless.{is_faultless}
-use Rattle.mt_roster.specs.Drafts.{drafted, has_too_many_names}
-use Rattle.mt_roster.specs.Markets.{IsMarketOf}
-use Rattle.mt_roster.specs.Registers.{AreBounded}
 use Rattle.mt_roster.proofs.AcceptedFacts.{drafts_found, drafts_missing, market_found, accepts_drafts}
 use Rattle.mt_roster.proofs.market.faultless_market.Goals as goal
 

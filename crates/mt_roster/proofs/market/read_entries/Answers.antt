@@ -1,7 +1,6 @@
-use Rattle.std.proofs.Common.{◌≡◌, ◌∙◌, ℕ, Bool, List, Option, ap, subst, filter, not}
-use Rattle.mt_terms.specs.Registration.Records.{Rules, Record}
+use Rattle.std.proofs.Common.{◌∙◌, List, ap, subst, filter, not}
+use Rattle.mt_terms.specs.Registration.Records.{Rules}
 use Rattle.mt_records.specs.declared.record.Record.{Record as Checked}
-use Rattle.mt_roster.specs.declared.numbering.Entries.{Entries}
 use Rattle.mt_roster.specs.Numbered.{all_seen}
 use Rattle.mt_roster.specs.Reading.{ReadsEntries}
 use Rattle.mt_roster.specs.Withdrawals.{stays_after}
