@@ -11,7 +11,6 @@ pub mod QuietFacts
 pub mod RankFacts
 pub mod RanksFacts
 pub mod RoundFacts
-pub mod RowFacts
 pub mod SentFacts
 pub mod TableFacts
 pub mod WaitingFacts

@@ -31,7 +31,8 @@ use Rattle.mt_terms.specs.Lists.{is_distinct}
 use Rattle.mt_terms.proofs.ListFacts.{same_position}
 use Rattle.mt_couples.proofs.LiveFacts.{better_single}
 use Rattle.mt_couples.proofs.NoteFacts.{any_between, better_couple, until_front}
-use Rattle.mt_couples.proofs.PlaceFacts.{has_at, has_read}
+use Rattle.mt_couples.proofs.PlaceFacts.{has_read}
+use Rattle.mt_placed.proofs.OrderFacts.{has_at}
 use Rattle.mt_couples.proofs.WatchFacts.{has_end, has_parts, has_still, index_of}
 use Rattle.mt_couples.proofs.JoinFacts.{next_mapped}
 use Rattle.mt_couples.proofs.QuietFacts.{blocking, is_agent, looking_joins, looking_skips, IsLooking}

@@ -4,14 +4,10 @@ use Rattle.std.specs.Option.{option_eq}
 use Rattle.std.proofs.lemmas.Bool.{or_left, or_right, and_parts, not-true, both_ways, false_from_ne_true}
 use Rattle.std.proofs.lemmas.List.{take_more}
 use Rattle.mt_terms.specs.Lists.{has, count, until, is_distinct}
+use Rattle.mt_placed.proofs.OrderFacts.{has_at}
 use Rattle.mt_terms.specs.Matching.{Places, place_of, at, is_program}
 
--- what stands at a place of a list is on it
-pub has_at : (xs : List ℕ) (i d : ℕ) → i < length xs → IsTrue (has xs (get_or xs i d))
-has_at [] i d within = absurd (omega arith)
-has_at (x ∷ xs) zero d within = or_left _ _ (eq-eqb x x refl)
-has_at (x ∷ xs) (suc i) d within = or_right _ _ (has_at xs i d (omega arith))
-
+-- what is read at a place of a list is on it
 pub has_read : (xs : List ℕ) (i a : ℕ) → i < length xs → a ≡ get_or xs i a → IsTrue (has xs a)
 has_read xs i a within read = rw read (has_at xs i a within)
 
@@ -23,15 +19,6 @@ count_more {X} test xs i d within = ap (count test) (take_more xs i d within) �
     count_push : (ys : List X) (y : X) → count test (ys ++ y ∷ []) ≡ count test ys + (if test y then 1 else 0)
     count_push [] y = omega arith
     count_push (z ∷ ys) y = omega (arith, count_push ys y)
-
--- no more pass than there are
-pub count-le_length : {X : Type 0} (test : X → Bool) (xs : List X) → count test xs ≤ length xs
-count-le_length {X} test [] = omega arith
-count-le_length {X} test (x ∷ xs) = one_or_none (test x) (count-le_length test xs)
-  where
-    one_or_none : (b : Bool) → count test xs ≤ length xs → (if b then 1 else 0) + count test xs ≤ suc (length xs)
-    one_or_none true h = omega arith
-    one_or_none false h = omega arith
 
 pub has-drop : (xs : List ℕ) (i a : ℕ) → IsTrue (has (drop i xs) a) → IsTrue (has xs a)
 has-drop xs zero a on = on

@@ -9,8 +9,8 @@ ghost use Rattle.mt_couples.specs.Watching.{better_entries};
 ghost use Rattle.mt_couples.specs.Assigned.{ahead, assignment, displaced_from, rows_of, with_place, with_ranks, AreApplicantsOf, AreListed, IsAgentOf, IsAssigned};
 
 use crate::options::Pair;
-use crate::row::Row;
 use mt_market::Roster;
+use mt_placed::PlacedRanks;
 use mt_ranks::{Live, Ranks};
 use mt_terms::{Agent, AppNo, CoupleNo, Match, Places, ProgNo};
 use std::alloc::{AllocError, Global};
@@ -29,10 +29,10 @@ fn placed_row(
     places: &[Option<ProgNo>],
     program: ProgNo,
     ranking: &[AppNo],
-) -> Result<Row, AllocError>
+) -> Result<PlacedRanks, AllocError>
     ensures { IfOk result (λ row. row ≡ ranks_from 0 (at places.now program) ranking.now) }
 {
-    let mut row = Row::new(alloc);
+    let mut row = PlacedRanks::new(alloc);
     for (rank, applicant) in ranking.iter().enumerate() {
         if place_in(places, *applicant) == Some(program) {
             row.push(rank)?;
@@ -46,7 +46,7 @@ fn placed_rows(
     alloc: Global,
     roster: &Roster,
     places: &[Option<ProgNo>],
-) -> Result<Vec<Row>, AllocError>
+) -> Result<Vec<PlacedRanks>, AllocError>
     ensures rows { IfOk result (λ v. v.items ≡ rows_of roster.now.market places.now) }
     ensures roster { IsRegistration roster.now }
 {
@@ -77,7 +77,7 @@ pub(crate) struct Assignment<'a> {
     roster: &'a Roster,
     ranks: &'a Ranks<'a>,
     places: Vec<Option<ProgNo>>,
-    rows: Vec<Row>,
+    rows: Vec<PlacedRanks>,
 }
 
 impl<'a> Model for Assignment<'a> {

@@ -9,7 +9,6 @@ mod options;
 mod program_set;
 mod rank_set;
 mod rounds;
-mod row;
 mod watch;
 mod work_list;
 

@@ -4,7 +4,7 @@ use Rattle.mt_terms.specs.Lists.{count}
 use Rattle.std.proofs.lemmas.List.Sorted.{IsPartitionPoint-from_clause, IsPartitionedBy-ltb}
 use Rattle.std.proofs.lemmas.Map.Keys.{non_decreasing_from_sorted}
 use Rattle.mt_terms.proofs.ListFacts.{count_to_point}
-use Rattle.mt_couples.proofs.row.Row.count_below.Goals as goal
+use Rattle.mt_placed.proofs.placed.PlacedRanks.count_below.Goals as goal
 
 pub returns : goal.returns
 returns c =

@@ -9,11 +9,11 @@ use std::marker::Model;
 
 /// The ranks of those that are placed at a program, in rising order.
 #[derive(Drop)]
-pub(crate) struct Row {
+pub struct PlacedRanks {
     ranks: Vec<usize>,
 }
 
-impl Model for Row {
+impl Model for PlacedRanks {
     ghost use Rattle.std.specs.Prelude.{List, ℕ};
 
     ghost Value = { List ℕ };
@@ -21,18 +21,18 @@ impl Model for Row {
     ghost view = { λ r. r.ranks.items };
 }
 
-impl Row {
+impl PlacedRanks {
     /// Nobody's ranks.
-    pub(crate) fn new(alloc: Global) -> Self
+    pub fn new(alloc: Global) -> Self
         ensures { result ≡ [] }
     {
-        Row {
+        PlacedRanks {
             ranks: Vec::new(alloc),
         }
     }
 
     /// Adds a rank at the end.
-    pub(crate) fn push(&mut self, rank: usize) -> Result<(), AllocError>
+    pub fn push(&mut self, rank: usize) -> Result<(), AllocError>
         ensures { OnOk result (self.new ≡ self.old ++ rank ∷ []) }
     {
         self.ranks.push(rank)?;
@@ -40,7 +40,7 @@ impl Row {
     }
 
     /// How many ranks are below this one.
-    pub(crate) fn count_below(&self, rank: usize) -> usize
+    pub fn count_below(&self, rank: usize) -> usize
         requires { IsStrictlySortedBy nat_cmp self.now }
         ensures { result ≡ count (λ r. nat_lt r rank) self.now }
     {
@@ -48,7 +48,7 @@ impl Row {
     }
 
     /// Whether fewer than so many ranks are below this one.
-    pub(crate) fn has_fewer_below(&self, rank: usize, most: usize) -> bool
+    pub fn has_fewer_below(&self, rank: usize, most: usize) -> bool
         requires { IsStrictlySortedBy nat_cmp self.now }
         ensures { result ≡ nat_lt (count (λ r. nat_lt r rank) self.now) most }
     {
@@ -62,7 +62,7 @@ impl Row {
     }
 
     /// Puts a rank in its place.
-    pub(crate) fn insert(&mut self, rank: usize) -> Result<(), AllocError>
+    pub fn insert(&mut self, rank: usize) -> Result<(), AllocError>
         requires sorted { IsStrictlySortedBy nat_cmp self.old }
         requires absent { IsFalse (has self.old rank) }
         ensures ok { OnOk result (self.new ≡ insert_key nat_cmp self.old rank) }
@@ -74,7 +74,7 @@ impl Row {
     }
 
     /// Takes a rank out.
-    pub(crate) fn remove(&mut self, rank: usize)
+    pub fn remove(&mut self, rank: usize)
         requires sorted { IsStrictlySortedBy nat_cmp self.old }
         requires present { IsTrue (has self.old rank) }
         ensures { self.new ≡ filter (λ r. not (r == rank)) self.old }
@@ -84,7 +84,7 @@ impl Row {
     }
 
     /// All ranks but the first ones, so many of them.
-    pub(crate) fn beyond(&self, first: usize) -> &[usize]
+    pub fn beyond(&self, first: usize) -> &[usize]
         ensures { result.now ≡ drop first self.now }
     {
         self.ranks.get(first..).unwrap_or(&[])

@@ -1,5 +1,5 @@
--- Ranks in rising order.
-use Rattle.std.proofs.Common.{◌≡◌, ℕ, zero, suc, ◌+◌, ◌<◌, ◌≤◌, Bool, true, false, not, ◌||◌, ◌==◌, nat_lt, List, [], ◌∷◌, filter, length, get_or, nat_le, insert, remove, refl, ap, sym, ◌∙◌, inl, inr, arith, lt-ltb, le-ltb, le-leb, ltb-true}
+-- Numbers in rising order.
+use Rattle.std.proofs.Common.{IsTrue, if◌then◌else◌, ◌≡◌, ℕ, zero, suc, ◌+◌, ◌<◌, ◌≤◌, Bool, true, false, not, ◌||◌, ◌==◌, nat_lt, List, [], ◌∷◌, filter, length, get_or, nat_le, insert, remove, refl, ap, sym, ◌∙◌, inl, inr, arith, lt-ltb, le-ltb, le-leb, ltb-true}
 use Rattle.std.specs.List.{AllByRecursion}
 use Rattle.std.specs.List.Sorted.{IsStrictlySortedBy}
 use Rattle.std.specs.Ordering.{nat_cmp, match_ordering}
@@ -11,7 +11,21 @@ use Rattle.std.proofs.lemmas.Bool.{cases_lt, cases_eq, or_cases, or_parts, or_le
 use Rattle.std.proofs.lemmas.Cmp.{ranked}
 use Rattle.std.proofs.lemmas.Map.Keys.{sorted_head, sorted_tail}
 use Rattle.mt_terms.specs.Lists.{has, count}
-use Rattle.mt_couples.proofs.PlaceFacts.{has_at}
+
+-- what stands at a place of a list is on it
+pub has_at : (xs : List ℕ) (i d : ℕ) → i < length xs → IsTrue (has xs (get_or xs i d))
+has_at [] i d within = absurd (omega arith)
+has_at (x ∷ xs) zero d within = or_left _ _ (eq-eqb x x refl)
+has_at (x ∷ xs) (suc i) d within = or_right _ _ (has_at xs i d (omega arith))
+
+-- no more pass than there are
+pub count-le_length : {X : Type 0} (test : X → Bool) (xs : List X) → count test xs ≤ length xs
+count-le_length {X} test [] = omega arith
+count-le_length {X} test (x ∷ xs) = one_or_none (test x) (count-le_length test xs)
+  where
+    one_or_none : (b : Bool) → count test xs ≤ length xs → (if b then 1 else 0) + count test xs ≤ suc (length xs)
+    one_or_none true h = omega arith
+    one_or_none false h = omega arith
 
 -- a number is below all of a list
 abbrev pub IsBelowAll : ℕ → List ℕ → Type 0

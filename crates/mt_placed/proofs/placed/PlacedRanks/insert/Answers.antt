@@ -1,7 +1,6 @@
 use Rattle.std.proofs.Common.{◌∙◌, nat_lt, ap, ap₂, arith, insert, length}
-use Rattle.mt_couples.proofs.PlaceFacts.{count-le_length}
-use Rattle.mt_couples.proofs.RowFacts.{insert_at_place}
-use Rattle.mt_couples.proofs.row.Row.insert.Goals as goal
+use Rattle.mt_placed.proofs.OrderFacts.{count-le_length, insert_at_place}
+use Rattle.mt_placed.proofs.placed.PlacedRanks.insert.Goals as goal
 
 pub insert-requires : goal.insert-requires
 insert-requires c = omega (arith, c.count_below-place.ensures, count-le_length (λ r. nat_lt r c.args.rank) c.args.self.now, ap length c.self.view_is)

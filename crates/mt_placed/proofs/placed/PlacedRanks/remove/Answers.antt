@@ -1,6 +1,6 @@
 use Rattle.std.proofs.Common.{◌∙◌, ap, ap₂, arith, remove, length}
-use Rattle.mt_couples.proofs.RowFacts.{remove_at_place}
-use Rattle.mt_couples.proofs.row.Row.remove.Goals as goal
+use Rattle.mt_placed.proofs.OrderFacts.{remove_at_place}
+use Rattle.mt_placed.proofs.placed.PlacedRanks.remove.Goals as goal
 
 pub remove-requires : goal.remove-requires
 remove-requires c = omega (arith, c.count_below-place.ensures, (remove_at_place c.args.self.now c.args.rank c.requires.sorted c.requires.present).0, ap length c.self.view_is)

@@ -2,9 +2,8 @@ use Rattle.std.proofs.Common.{◌≡◌, ◌∙◌, ◌+◌, ◌-◌, ◌<◌, �
 use Rattle.std.proofs.lemmas.Bool.{ltb-false}
 use Rattle.std.proofs.lemmas.List.{get_or_read}
 use Rattle.mt_terms.specs.Lists.{count}
-use Rattle.mt_couples.proofs.PlaceFacts.{count-le_length}
-use Rattle.mt_couples.proofs.RowFacts.{fewer_at}
-use Rattle.mt_couples.proofs.row.Row.has_fewer_below.Goals as goal
+use Rattle.mt_placed.proofs.OrderFacts.{count-le_length, fewer_at}
+use Rattle.mt_placed.proofs.placed.PlacedRanks.has_fewer_below.Goals as goal
 
 pub returns-in-Some : goal.returns-in-Some
 returns-in-Some c =
