@@ -9,8 +9,8 @@ use std::marker::Model;
 #[derive(Clone, Copy)]
 pub(crate) struct Note {
     pub(crate) couple: CoupleNo,
-    /// Where the first such pair stands on the list, from 0.
-    pub(crate) from: usize,
+    /// Where the first such pair stands on the list, from 0, as far as 32 bits count.
+    pub(crate) from: u32,
 }
 
 /// The notes of one program, in the order in which the couples were added.
@@ -39,7 +39,7 @@ impl CoupleList {
     }
 
     /// Notes the couple's pair at an index, unless the last note is of an earlier one of that couple.
-    pub(crate) fn add(&mut self, couple: CoupleNo, from: usize) -> Result<(), AllocError>
+    pub(crate) fn add(&mut self, couple: CoupleNo, from: u32) -> Result<(), AllocError>
         ensures { OnOk result (AddsNote self.old self.new couple from) }
     {
         if let Some(last) = self.notes.last() {

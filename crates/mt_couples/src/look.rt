@@ -98,10 +98,11 @@ fn is_noted_reopened(
     requires waiting { IsListOf assignment.now.market waiting.now }
     ensures { result ≡ is_noted_reopened last assignment.now watch.now program waiting.now.agents note.now }
 {
+    let from = note.from as usize;
     let better = watch.better(note.couple);
-    note.from < better
+    from < better
         && is_idle(&Agent::Couple(note.couple), last, waiting)
-        && assignment.opens_between(note.couple, program, note.from, better)
+        && assignment.opens_between(note.couple, program, from, better)
 }
 
 /// Adds the members of the couples that are reopened by an option at the program.

@@ -1,4 +1,4 @@
-ghost use Rattle.std.specs.Prelude.{◌≡◌, ◌+◌, ◌<◌, ℕ, length, slice_index_or, IfOk, OnOk};
+ghost use Rattle.std.specs.Prelude.{◌≡◌, ◌+◌, ◌<◌, ℕ, length, min, slice_index_or, IfOk, OnOk};
 ghost use Rattle.mt_terms.specs.Market.{applicants};
 ghost use Rattle.mt_couples.specs.Watching.{better_pairs, row_at, AreCounted, AreEmpty, AreNamed, AreWatched, Counts, CountsCouple, Follows, Notes, Watches};
 
@@ -67,12 +67,19 @@ fn watch_each(rows: &mut Vec<RankSet>, entries: &[Live]) -> Result<(), AllocErro
     Ok(())
 }
 
+/// An index in 32 bits: the greatest number stands for all that are greater.
+fn short_index(index: usize) -> u32
+    ensures { result ≡ min index 4294967295 }
+{
+    index.min(u32::MAX as usize) as u32
+}
+
 /// Notes that a couple's pair at an index names the program of a place, if there is one.
 fn note(
     rows: &mut Vec<CoupleList>,
     place: Option<ProgNo>,
     couple: CoupleNo,
-    from: usize,
+    from: u32,
 ) -> Result<(), AllocError>
     ensures { OnOk result (Notes rows.old.items rows.new.items place couple from) }
 {
@@ -174,7 +181,8 @@ impl Watch {
         ensures named { OnOk result (AreNamed assignment.now.market (couple + 1) self.new.couples.items) }
         ensures better { OnOk result (self.new.better ≡ self.old.better) }
     {
-        for (from, pair) in assignment.pairs(couple).iter().enumerate() {
+        for (index, pair) in assignment.pairs(couple).iter().enumerate() {
+            let from = short_index(index);
             note(&mut self.couples, pair.0, couple, from)?;
             note(&mut self.couples, pair.1, couple, from)?;
         }

@@ -3,13 +3,13 @@ use Rattle.mt_terms.specs.Market.{Pair}
 use Rattle.mt_couples.specs.Watching.{is_noted, names, row_at, KeepsNotes}
 use Rattle.mt_couples.proofs.watch.Watch.enter.Given as goal
 
-abbrev pub invariant-loop-from : goal.invariant-loop-from
-invariant-loop-from l = record {
+abbrev pub invariant-loop-index : goal.invariant-loop-index
+invariant-loop-index l = record {
   singles : l.self.singles ≡ l.initial.self.singles;
   better : l.self.better ≡ l.initial.self.better;
   as_many : length l.self.couples.items ≡ length l.initial.self.couples.items;
   keeps : KeepsNotes l.initial.self.couples.items l.self.couples.items;
-  adds : (i : ℕ) → i < l.from → (p : ℕ) (pair : Pair) → p < length l.initial.self.couples.items → pair ≡ get_or l.pair-items i pair → names p pair ≡ true
+  adds : (i : ℕ) → i < l.index → (p : ℕ) (pair : Pair) → p < length l.initial.self.couples.items → pair ≡ get_or l.pair-items i pair → names p pair ≡ true
       → is_noted (row_at l.self.couples.items p) l.fn.couple i ≡ true;
   within : (p c i : ℕ) → is_noted (row_at l.self.couples.items p) c i ≡ true → c < length l.assignment.market.couples;
 }
