@@ -84,7 +84,7 @@ fn add_by_rank(
 }
 
 /// Whether the couple of a note at the program has entered, doesn't wait, and has a better pair there that would be
-/// taken. Its pairs are gone through from the one that is noted, so none are where it has a better one.
+/// taken. Its pairs are gone through from the one that is noted on, up to its own.
 fn is_noted_reopened(
     assignment: &Assignment<'_>,
     watch: &Watch,
