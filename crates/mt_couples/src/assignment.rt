@@ -47,7 +47,7 @@ fn placed_row(
     Ok(row)
 }
 
-/// The same for each program.
+/// The same for each program. Many programs are gone through side by side.
 fn placed_rows<R: Threads + Sync>(
     rt: &R,
     alloc: Global,
@@ -65,12 +65,8 @@ fn placed_rows<R: Threads + Sync>(
                 requires { number < length roster.now.market.programs }
                 ensures { IfOk result (λ row. row ≡ placed_ranks roster.entry.now.market places.entry.now number) }
             {
-                placed_row(
-                    alloc,
-                    places,
-                    ProgNo(number),
-                    roster.program_list(ProgNo(number)),
-                )
+                let program = ProgNo(number);
+                placed_row(alloc, places, program, roster.program_list(program))
             },
         )
         .collect::<Result<Vec<Row>, AllocError>>(rt, alloc)?
