@@ -2,7 +2,7 @@ ghost use Rattle.std.specs.Prelude.{◌≡◌, ◌++◌, ◌<◌, ℕ, Some, Non
 ghost use Rattle.mt_terms.specs.Registration.Accepted.{IsRegistration};
 ghost use Rattle.mt_terms.specs.Lists.{has};
 ghost use Rattle.mt_terms.specs.Market.{agent_of, applicants, couple_of, program_of};
-ghost use Rattle.mt_terms.specs.Matching.{at, place_of, ranks_from};
+ghost use Rattle.mt_terms.specs.Matching.{at, place_of, placed_ranks, ranks_from};
 ghost use Rattle.mt_ranks.specs.Ranked.{rank_of, ranked_of};
 ghost use Rattle.mt_terms.specs.Places.{ArePlaces};
 ghost use Rattle.mt_couples.specs.Watching.{better_entries};
@@ -13,8 +13,14 @@ use mt_market::Roster;
 use mt_placed::PlacedRanks;
 use mt_ranks::{Live, Ranks};
 use mt_terms::{Agent, AppNo, CoupleNo, Match, Places, ProgNo};
+use rayon::prelude::*;
 use std::alloc::{AllocError, Global};
 use std::marker::Model;
+use std::thread::Threads;
+
+/// From twice as many programs on, their lists are gone through side by side. That a thread pays for itself with so
+/// many is an estimate.
+const LEAST_PROGRAMS: usize = 128;
 
 /// Where the applicant is placed.
 fn place_in(places: &[Option<ProgNo>], applicant: AppNo) -> Option<ProgNo>
@@ -41,8 +47,9 @@ fn placed_row(
     Ok(row)
 }
 
-/// The same for each program.
-fn placed_rows(
+/// The same for each program. Many programs are gone through side by side.
+fn placed_rows<R: Threads + Sync>(
+    rt: &R,
     alloc: Global,
     roster: &Roster,
     places: &[Option<ProgNo>],
@@ -50,13 +57,19 @@ fn placed_rows(
     ensures rows { IfOk result (λ v. v.items ≡ rows_of roster.now.market places.now) }
     ensures roster { IsRegistration roster.now }
 {
-    let mut rows = Vec::new(alloc);
-    for number in 0..roster.programs() {
-        let program = ProgNo(number);
-        let ranking = roster.program_list(program);
-        rows.push(placed_row(alloc, places, program, ranking)?)?;
-    }
-    Ok(rows)
+    (0..roster.programs())
+        .into_par_iter()
+        .with_min_len(LEAST_PROGRAMS)
+        .map(
+            |number: u32| -> Result<Row, AllocError>
+                requires { number < length roster.now.market.programs }
+                ensures { IfOk result (λ row. row ≡ placed_ranks roster.entry.now.market places.entry.now number) }
+            {
+                let program = ProgNo(number);
+                placed_row(alloc, places, program, roster.program_list(program))
+            },
+        )
+        .collect::<Result<Vec<Row>, AllocError>>(rt, alloc)?
 }
 
 /// Adds the applicants that have these ranks on a program's list.
@@ -95,7 +108,8 @@ impl<'a> Model for Assignment<'a> {
 
 impl<'a> Assignment<'a> {
     /// The match beside its market.
-    pub(crate) fn new(
+    pub(crate) fn new<R: Threads + Sync>(
+        rt: &R,
         alloc: Global,
         roster: &'a Roster,
         ranks: &'a Ranks<'a>,
@@ -106,7 +120,7 @@ impl<'a> Assignment<'a> {
         requires listed { AreListed roster.now.market matched.places }
         ensures { IfOk result (λ s. s ≡ assignment roster.entry.now.market matched.places) }
     {
-        let rows = placed_rows(alloc, roster, matched.places.as_slice())?;
+        let rows = placed_rows(rt, alloc, roster, matched.places.as_slice())?;
         Ok(Assignment {
             roster,
             ranks,
