@@ -20,7 +20,7 @@ use std::thread::Threads;
 
 /// From twice as many programs on, their lists are gone through side by side. That a thread pays for itself with so
 /// many is an estimate.
-const LEAST_PROGRAMS: usize = 128;
+const LEAST_PROGRAMS: usize = 8;
 
 /// Where the applicant is placed.
 fn place_in(places: &[Option<ProgNo>], applicant: AppNo) -> Option<ProgNo>
@@ -61,7 +61,7 @@ fn placed_rows<R: Threads + Sync>(
         .into_par_iter()
         .with_min_len(LEAST_PROGRAMS)
         .map(
-            |number: u32| -> Result<Row, AllocError>
+            |number: u32| -> Result<PlacedRanks, AllocError>
                 requires { number < length roster.now.market.programs }
                 ensures { IfOk result (λ row. row ≡ placed_ranks roster.entry.now.market places.entry.now number) }
             {
@@ -69,7 +69,7 @@ fn placed_rows<R: Threads + Sync>(
                 placed_row(alloc, places, program, roster.program_list(program))
             },
         )
-        .collect::<Result<Vec<Row>, AllocError>>(rt, alloc)?
+        .collect::<Result<Vec<PlacedRanks>, AllocError>>(rt, alloc)?
 }
 
 /// Adds the applicants that have these ranks on a program's list.
