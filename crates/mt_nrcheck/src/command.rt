@@ -5,10 +5,10 @@ ghost use Rattle.mt_nrcheck.specs.CommandLine.{market_rule, match_rule, nrcheck}
 use clap::{Arg, Command};
 use std::alloc::{AllocError, Global};
 
-/// The version of the program, and the line of the toolchain that it was proved with.
+/// The version of the program, and the logic of the toolchain that it was proved with.
 const VERSION: &str = "\
 1.0.0
-Proved with rattle-kit-13f logic dac8208d650f15bf.";
+Proved with Rattle, logic dac8208d650f15bf.";
 
 const ABOUT: &str = "\
 Whether a residency match is stable by the rank order lists of a market,
