@@ -24,13 +24,13 @@ use Rattle.mt_couples.specs.Looking.{is_noted_reopened, AddsCouples, AddsSingles
 use Rattle.mt_couples.specs.Moves.{agents_of, names_one_of, opens, some_has}
 use Rattle.mt_couples.specs.Running.{is_idle, is_reopened}
 use Rattle.mt_couples.specs.Waiting.{Waiting, with_agents}
-use Rattle.mt_couples.specs.Watching.{better_pairs, is_noted, names, notes_pair, opens_between, row_at, wanted, Covers}
+use Rattle.mt_couples.specs.Watching.{better_pairs, end_of, is_before, is_noted, names, notes_pair, opens_between, row_at, wanted, Covers}
 use Rattle.mt_couples.specs.declared.couple_list.Note.{Note}
 use Rattle.mt_couples.specs.declared.watch.Watch.{Watch}
 use Rattle.mt_terms.specs.Lists.{is_distinct}
 use Rattle.mt_terms.proofs.ListFacts.{same_position}
 use Rattle.mt_couples.proofs.LiveFacts.{better_single}
-use Rattle.mt_couples.proofs.NoteFacts.{any_between, better_couple, until_front}
+use Rattle.mt_couples.proofs.NoteFacts.{any_between, before_end, better_couple, until_front}
 use Rattle.mt_couples.proofs.PlaceFacts.{has_read}
 use Rattle.mt_placed.proofs.OrderFacts.{has_at}
 use Rattle.mt_couples.proofs.WatchFacts.{has_end, has_parts, has_still, index_of}
@@ -110,17 +110,19 @@ open_note k s w p ws c watching known reopened =
     let at_p = and_parts (names p pair.0) (would_be_taken s.market s.places (pair_of s c pair.0)) pair.2 in
     let noted : is_noted notes c i ≡ true = watching.named.each c (below_next c k entered) p i pair.0 known front.0 (place.2 ∙ front.1) at_p.0 in
     let n = found (notes_pair c i) notes noted in
-    let is = and_parts (n.0.couple == c) (nat_le n.0.from i) n.2 in
+    let is = and_parts (n.0.couple == c) (nat_le n.0.from i && is_before i n.0.until) n.2 in
+    let between = and_parts (nat_le n.0.from i) (is_before i n.0.until) is.1 in
     let of_couple : n.0.couple ≡ c = eqb-true n.0.couple c is.0 in
-    let counted = watching.counted.each c (watching.named.within p c i noted) in
-    let opened : opens_between s c p n.0.from (get_or counts c 0) ≡ true =
-    any_between (λ x. names p x && would_be_taken s.market s.places (pair_of s c x)) pairs pair.0 i n.0.from (get_or counts c 0) (no_later n.0.from i is.1)
-    (omega (arith, counted, place.1)) front.0 (place.2 ∙ front.1) pair.2 in (
+    let counted = watching.counted.each c (watching.named.within p c (finds (λ (x : Note). x.couple == c) n.0 notes n.1 is.0)) in
+    let end = end_of n.0.until (get_or counts c 0) in
+    let opened : opens_between s c p n.0.from end ≡ true =
+    any_between (λ x. names p x && would_be_taken s.market s.places (pair_of s c x)) pairs pair.0 i n.0.from end (no_later n.0.from i between.0)
+    (before_end i n.0.until (get_or counts c 0) between.1 (omega (arith, counted, place.1))) front.0 (place.2 ∙ front.1) pair.2 in (
       n.0,
       n.1,
       of_couple,
-      subst (λ d. (is_idle k ws (Couple d) && opens_between s d p n.0.from (get_or counts d 0)) ≡ true) (sym of_couple)
-          (and_from (is_idle k ws (Couple c)) (opens_between s c p n.0.from (get_or counts c 0)) parts.0 opened),
+      subst (λ d. (is_idle k ws (Couple d) && opens_between s d p n.0.from (end_of n.0.until (get_or counts d 0))) ≡ true) (sym of_couple)
+          (and_from (is_idle k ws (Couple c)) (opens_between s c p n.0.from end) parts.0 opened),
     )
   where
     no_later : (a b : ℕ) → nat_le a b ≡ true → a ≤ b
@@ -247,7 +249,7 @@ both_ok (Err e) a b f = tt
 
 -- what stands past the end of a list of notes
 abbrev pub no_note : Note
-no_note = record { couple = 0; from = 0 }
+no_note = record { couple = 0; from = 0; until = 0 }
 
 -- Below, who stands at a rank of a program's list is found where it is reopened by an option there.
 module _ (k : ℕ) (s : Assigned) (p : ℕ) (ws : List Agent) where

@@ -7,7 +7,7 @@ use Rattle.mt_terms.specs.declared.numbers.Agent.TheVariants.{Couple}
 use Rattle.mt_ranks.specs.Ranked.{rank_of}
 use Rattle.mt_couples.specs.Assigned.{Assigned}
 use Rattle.mt_couples.specs.Running.{is_idle, is_reopened}
-use Rattle.mt_couples.specs.Watching.{opens_between, AreCounted, AreNamed, AreWatched}
+use Rattle.mt_couples.specs.Watching.{end_of, opens_between, AreCounted, AreNamed, AreWatched}
 use Rattle.mt_couples.specs.declared.couple_list.Note.{Note}
 use Rattle.mt_couples.specs.declared.watch.Watch.{Watch}
 
@@ -28,10 +28,10 @@ AddsSingles k s p waiting ranks found =
     (r a : ℕ) → has ranks r ≡ true → rank_of s.market p a ≡ Some r → is_reopened k s (p ∷ []) waiting (agent_of s.market a) ≡ true → has found a ≡ true
 
 -- whether the couple of a note at a program has entered, doesn't wait, and has a pair there that would be taken, of
--- those from the noted one on that it wants more than what it has
+-- those from the first noted one to the last that it wants more than what it has
 abbrev pub is_noted_reopened : ℕ → Assigned → Watch → ℕ → List Agent → Note → Bool
 is_noted_reopened k s w p waiting n =
-    is_idle k waiting (Couple n.couple) && opens_between s n.couple p n.from (slice_index_or w.better.items n.couple 0)
+    is_idle k waiting (Couple n.couple) && opens_between s n.couple p n.from (end_of n.until (slice_index_or w.better.items n.couple 0))
 
 -- the members of each couple are found that is reopened by an option at the program
 abbrev pub AddsCouples : ℕ → Assigned → ℕ → List Agent → List ℕ → Type 0

@@ -1,5 +1,5 @@
 -- Where it is watched that an option may be opened.
-use Rattle.std.specs.Prelude.{◌≡◌, ℕ, ◌<◌, ◌≤◌, Bool, true, ◌&&◌, ◌||◌, ◌==◌, nat_le, ◌⊎◌, List, [], length, Option, Some, slice_index_or, slice_range}
+use Rattle.std.specs.Prelude.{◌≡◌, ℕ, ◌<◌, ◌≤◌, Bool, true, ◌&&◌, ◌||◌, ◌==◌, nat_le, nat_lt, min, if◌then◌else◌, ◌⊎◌, List, [], length, Option, Some, slice_index_or, slice_range}
 use Rattle.std.specs.List.{list_any}
 use Rattle.mt_terms.specs.Lists.{has, until}
 use Rattle.mt_terms.specs.Market.{Market, Pair, applicants, agent_of, couple_of, list_of, live_market}
@@ -68,16 +68,34 @@ abbrev pub opens_between : Assigned → ℕ → ℕ → ℕ → ℕ → Bool
 opens_between s c p from end =
     list_any (λ pair. names p pair && would_be_taken s.market s.places (pair_of s c pair)) (slice_range (couple_of s.market c).pairs from end)
 
--- whether a couple's pair at an index is noted: that one, or one before it
+-- the greatest number that an index in 32 bits can be: as an index it stands for all that are greater, and as an end it
+-- is no bound
+abbrev pub greatest : ℕ
+greatest = 4294967295
+
+-- whether an index is before an end, and the end among so many
+abbrev pub is_before : ℕ → ℕ → Bool
+is_before i until = nat_lt i until || nat_le greatest until
+
+abbrev pub end_of : ℕ → ℕ → ℕ
+end_of until many = if nat_lt until greatest then min many until else many
+
+-- whether a couple's pair at an index is noted: that one, or one before it and one that isn't before it
 abbrev pub notes_pair : ℕ → ℕ → Note → Bool
-notes_pair c i n = n.couple == c && nat_le n.from i
+notes_pair c i n = n.couple == c && (nat_le n.from i && is_before i n.until)
 
 abbrev pub is_noted : List Note → ℕ → ℕ → Bool
 is_noted notes c i = list_any (notes_pair c i) notes
 
--- a couple's pair at an index is noted too
-abbrev pub AddsNote : List Note → List Note → ℕ → ℕ → Type 0
-AddsNote old new c from = (d i : ℕ) → is_noted new d i ≡ (is_noted old d i || (c == d && nat_le from i))
+-- whether a couple is noted
+abbrev pub has_couple : List Note → ℕ → Bool
+has_couple notes c = list_any (λ (n : Note). n.couple == c) notes
+
+-- a couple's pair at an index is noted too, and no other couple
+pub record AddsNote (old new : List Note) (c from : ℕ) : Type 0 where
+  pub keeps : (d i : ℕ) → is_noted old d i ≡ true → is_noted new d i ≡ true
+  pub adds : (i : ℕ) → min i greatest ≡ from → is_noted new c i ≡ true
+  pub only : (d : ℕ) → has_couple new d ≡ true → (has_couple old d ≡ true) ⊎ (c ≡ d)
 
 -- no note is lost from a row
 abbrev pub KeepsNotes : List (List Note) → List (List Note) → Type 0
@@ -93,7 +111,7 @@ IsNamed m rows c =
 pub record AreNamed (m : Market) (number : ℕ) (rows : List (List Note)) : Type 0 where
   pub one_each : length rows ≡ length m.programs
   pub each : (c : ℕ) → c < number → IsNamed m rows c
-  pub within : (p c i : ℕ) → is_noted (row_at rows p) c i ≡ true → c < length m.couples
+  pub within : (p c : ℕ) → has_couple (row_at rows p) c ≡ true → c < length m.couples
 
 -- for each program a row of nobody
 pub record AreEmpty (m : Market) (rows : List (List Note)) : Type 0 where
@@ -104,8 +122,8 @@ pub record AreEmpty (m : Market) (rows : List (List Note)) : Type 0 where
 pub record Notes (old new : List (List Note)) (place : Option ℕ) (c from : ℕ) : Type 0 where
   pub as_many : length new ≡ length old
   pub keeps : KeepsNotes old new
-  pub adds : (p i : ℕ) → is_program p place ≡ true → p < length old → from ≤ i → is_noted (row_at new p) c i ≡ true
-  pub only : (p d i : ℕ) → is_noted (row_at new p) d i ≡ true → (is_noted (row_at old p) d i ≡ true) ⊎ (c ≡ d)
+  pub adds : (p i : ℕ) → is_program p place ≡ true → p < length old → min i greatest ≡ from → is_noted (row_at new p) c i ≡ true
+  pub only : (p d : ℕ) → has_couple (row_at new p) d ≡ true → (has_couple (row_at old p) d ≡ true) ⊎ (c ≡ d)
 
 -- it is counted how many pairs a couple wants more than what it has, and so it is for each couple
 abbrev pub IsCounted : Assigned → List ℕ → ℕ → Type 0

@@ -1,16 +1,31 @@
 ghost use Rattle.std.specs.Prelude.{◌≡◌, [], OnOk};
-ghost use Rattle.mt_couples.specs.Watching.{AddsNote};
+ghost use Rattle.mt_couples.specs.Watching.{end_of, AddsNote};
 
 use mt_terms::CoupleNo;
 use std::alloc::{AllocError, Global};
 use std::marker::Model;
 
-/// That a program is named by a pair of a couple's list.
+/// That a program is named by pairs of a couple's list, which are counted from 0, as far as 32 bits count.
 #[derive(Clone, Copy)]
 pub(crate) struct Note {
     pub(crate) couple: CoupleNo,
-    /// Where the first such pair stands on the list, from 0, as far as 32 bits count.
+    /// Where the first such pair stands on the list.
     pub(crate) from: u32,
+    /// One past where the last one stands. The greatest number is no bound.
+    pub(crate) until: u32,
+}
+
+impl Note {
+    /// Where such pairs end, among so many.
+    pub(crate) fn end(&self, pairs: usize) -> usize
+        ensures { result ≡ end_of self.now.until pairs }
+    {
+        if self.until < u32::MAX {
+            pairs.min(self.until as usize)
+        } else {
+            pairs
+        }
+    }
 }
 
 /// The notes of one program, in the order in which the couples were added.
@@ -38,16 +53,22 @@ impl CoupleList {
         }
     }
 
-    /// Notes the couple's pair at an index, unless the last note is of an earlier one of that couple.
+    /// Notes the couple's pair at an index: in the last note, where that is of an earlier one of that couple.
     pub(crate) fn add(&mut self, couple: CoupleNo, from: u32) -> Result<(), AllocError>
         ensures { OnOk result (AddsNote self.old self.new couple from) }
     {
-        if let Some(last) = self.notes.last() {
+        let until = from.saturating_add(1);
+        if let Some(last) = self.notes.last_mut() {
             if last.couple == couple && last.from <= from {
+                last.until = last.until.max(until);
                 return Ok(());
             }
         }
-        self.notes.push(Note { couple, from })?;
+        self.notes.push(Note {
+            couple,
+            from,
+            until,
+        })?;
         Ok(())
     }
 

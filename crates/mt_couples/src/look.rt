@@ -84,7 +84,7 @@ fn add_by_rank(
 }
 
 /// Whether the couple of a note at the program has entered, doesn't wait, and has a better pair there that would be
-/// taken. Its pairs are gone through from the one that is noted on, up to its own.
+/// taken. Its pairs are gone through from the first one that is noted up to the last, or up to its own.
 fn is_noted_reopened(
     assignment: &Assignment<'_>,
     watch: &Watch,
@@ -99,10 +99,10 @@ fn is_noted_reopened(
     ensures { result ≡ is_noted_reopened last assignment.now watch.now program waiting.now.agents note.now }
 {
     let from = note.from as usize;
-    let better = watch.better(note.couple);
-    from < better
+    let end = note.end(watch.better(note.couple));
+    from < end
         && is_idle(&Agent::Couple(note.couple), last, waiting)
-        && assignment.opens_between(note.couple, program, from, better)
+        && assignment.opens_between(note.couple, program, from, end)
 }
 
 /// Adds the members of the couples that are reopened by an option at the program.
