@@ -1,7 +1,7 @@
 -- Where it is watched that an option may be opened.
-use Rattle.std.specs.Prelude.{◌≡◌, ℕ, ◌<◌, ◌≤◌, Bool, true, ◌&&◌, ◌||◌, ◌==◌, nat_le, nat_lt, min, if◌then◌else◌, ◌⊎◌, List, [], length, Option, Some, slice_index_or, slice_range}
+use Rattle.std.specs.Prelude.{◌≡◌, ℕ, ◌<◌, ◌≤◌, Bool, true, false, ◌&&◌, ◌||◌, ◌==◌, nat_le, nat_lt, min, if◌then◌else◌, ◌⊎◌, List, [], length, Option, Some, slice_index_or, slice_range}
 use Rattle.std.specs.List.{list_any}
-use Rattle.mt_terms.specs.Lists.{has, until}
+use Rattle.mt_terms.specs.Lists.{Set, has, until}
 use Rattle.mt_terms.specs.Market.{Market, Pair, applicants, agent_of, couple_of, list_of, live_market}
 use Rattle.mt_terms.specs.Matching.{at, holds, is_program}
 use Rattle.mt_terms.specs.Stability.{would_be_taken}
@@ -26,35 +26,49 @@ better_entries s a = until (λ (e : Live). at s.places e.program a) (ranked_list
 abbrev pub better_pairs : Assigned → ℕ → List Pair
 better_pairs s c = until (λ pair. holds s.places (pair_of s c pair)) (couple_of s.market c).pairs
 
--- the row of a program: the ranks that are watched there, or the notes of couples
-abbrev pub row_at : {X : Type 0} → List (List X) → ℕ → List X
+-- whether a rank is in a set, for which it is told of each rank
+abbrev pub is_in : List Bool → Set
+is_in told r = slice_index_or told r false
+
+-- a rank of a set, the first that isn't below a number
+pub record IsFirstFrom (ranks : Set) (number r : ℕ) : Type 0 where
+  pub not_below : number ≤ r
+  pub there : ranks r ≡ true
+  pub first : (q : ℕ) → number ≤ q → q < r → ranks q ≡ false
+
+-- the ranks that are watched at a program
+abbrev pub ranks_at : List (List Bool) → ℕ → Set
+ranks_at rows p = is_in (slice_index_or rows p [])
+
+-- the notes of couples at a program
+abbrev pub row_at : List (List Note) → ℕ → List Note
 row_at rows p = slice_index_or rows p []
 
 -- nothing is lost from a row
-abbrev pub KeepsRows : List (List ℕ) → List (List ℕ) → Type 0
-KeepsRows old new = (p x : ℕ) → has (row_at old p) x ≡ true → has (row_at new p) x ≡ true
+abbrev pub KeepsRows : List (List Bool) → List (List Bool) → Type 0
+KeepsRows old new = (p r : ℕ) → ranks_at old p r ≡ true → ranks_at new p r ≡ true
 
 -- an applicant is watched at each program that it wants more than what it has and that lists it
-abbrev pub IsWatched : Assigned → List (List ℕ) → ℕ → Type 0
-IsWatched s rows a = (p r : ℕ) → has (wanted s a) p ≡ true → rank_of s.market p a ≡ Some r → has (row_at rows p) r ≡ true
+abbrev pub IsWatched : Assigned → List (List Bool) → ℕ → Type 0
+IsWatched s rows a = (p r : ℕ) → has (wanted s a) p ≡ true → rank_of s.market p a ≡ Some r → ranks_at rows p r ≡ true
 
-pub record AreWatched (s : Assigned) (rows : List (List ℕ)) : Type 0 where
+pub record AreWatched (s : Assigned) (rows : List (List Bool)) : Type 0 where
   pub one_each : length rows ≡ length s.market.programs
   pub each : (a : ℕ) → a < applicants s.market → IsWatched s rows a
 
 -- each of these entries is watched too
-pub record Watches (old new : List (List ℕ)) (entries : List Live) : Type 0 where
+pub record Watches (old new : List (List Bool)) (entries : List Live) : Type 0 where
   pub as_many : length new ≡ length old
   pub keeps : KeepsRows old new
-  pub adds : (i : ℕ) (e : Live) → i < length entries → e ≡ slice_index_or entries i e → e.program < length old → has (row_at new e.program) e.rank ≡ true
+  pub adds : (i : ℕ) (e : Live) → i < length entries → e ≡ slice_index_or entries i e → e.program < length old → ranks_at new e.program e.rank ≡ true
 
 -- an applicant is watched too, and each of some
-pub record Follows (s : Assigned) (old new : List (List ℕ)) (a : ℕ) : Type 0 where
+pub record Follows (s : Assigned) (old new : List (List Bool)) (a : ℕ) : Type 0 where
   pub as_many : length new ≡ length old
   pub keeps : KeepsRows old new
   pub watched : length old ≡ length s.market.programs → IsWatched s new a
 
-pub record FollowsAll (s : Assigned) (old new : List (List ℕ)) (xs : List ℕ) : Type 0 where
+pub record FollowsAll (s : Assigned) (old new : List (List Bool)) (xs : List ℕ) : Type 0 where
   pub as_many : length new ≡ length old
   pub keeps : KeepsRows old new
   pub watched : length old ≡ length s.market.programs → (a : ℕ) → has xs a ≡ true → IsWatched s new a

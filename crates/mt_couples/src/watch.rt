@@ -1,6 +1,6 @@
 ghost use Rattle.std.specs.Prelude.{◌≡◌, ◌+◌, ◌<◌, ℕ, length, min, slice_index_or, IfOk, OnOk};
 ghost use Rattle.mt_terms.specs.Market.{applicants};
-ghost use Rattle.mt_couples.specs.Watching.{better_pairs, row_at, AreCounted, AreEmpty, AreNamed, AreWatched, Counts, CountsCouple, Follows, Notes, Watches};
+ghost use Rattle.mt_couples.specs.Watching.{better_pairs, is_in, ranks_at, row_at, AreCounted, AreEmpty, AreNamed, AreWatched, Counts, CountsCouple, Follows, Notes, Watches};
 
 use crate::assignment::Assignment;
 use crate::couple_list::{CoupleList, Note};
@@ -24,9 +24,8 @@ fn no_ranks(alloc: Global, assignment: &Assignment<'_>) -> Result<Vec<RankSet>, 
     ensures { IfOk result (λ v. length v.items ≡ length assignment.now.market.programs) }
 {
     let mut rows = Vec::new(alloc);
-    for number in 0..assignment.roster().programs() {
-        let ranking = assignment.ranking(ProgNo(number));
-        rows.push(RankSet::new(alloc, ranking.len())?)?;
+    for _ in 0..assignment.roster().programs() {
+        rows.push(RankSet::new(alloc))?;
     }
     Ok(rows)
 }
@@ -112,13 +111,11 @@ impl Watch {
     }
 
     /// The ranks that are watched at a program.
-    pub(crate) fn singles(&self, program: ProgNo) -> &[u32]
-        ensures { result.now ≡ row_at self.now.singles.items program }
+    pub(crate) fn singles(&self, program: ProgNo) -> &RankSet
+        requires { program < length self.now.singles.items }
+        ensures { is_in result.now ≡ ranks_at self.now.singles.items program }
     {
-        match self.singles.get(program.index()) {
-            Some(row) => row.as_slice(),
-            None => &[],
-        }
+        &self.singles[program.index()]
     }
 
     /// The notes of the couples that name a program.
