@@ -1,4 +1,4 @@
-ghost use Rattle.std.specs.Prelude.{◌≡◌, [], OnOk};
+ghost use Rattle.std.specs.Prelude.{◌≡◌, [], IfOk, IsFalse, IsTrue, OnOk};
 ghost use Rattle.mt_couples.specs.Watching.{end_of, AddsNote};
 
 use mt_terms::CoupleNo;
@@ -32,6 +32,8 @@ impl Note {
 #[derive(Drop)]
 pub(crate) struct CoupleList {
     notes: Vec<Note>,
+    /// The couple that was added last, so that no note is read where another one is added.
+    last: Option<CoupleNo>,
 }
 
 impl Model for CoupleList {
@@ -44,30 +46,43 @@ impl Model for CoupleList {
 }
 
 impl CoupleList {
-    /// No notes.
-    pub(crate) fn new(alloc: Global) -> Self
-        ensures { result ≡ [] }
+    /// No notes, with room for so many.
+    pub(crate) fn with_capacity(alloc: Global, notes: usize) -> Result<Self, AllocError>
+        ensures { IfOk result (λ l. l ≡ []) }
     {
-        CoupleList {
-            notes: Vec::new(alloc),
+        Ok(CoupleList {
+            notes: Vec::with_capacity(alloc, notes)?,
+            last: None,
+        })
+    }
+
+    /// Has the last note go on to the couple's pair at an index, where it is of an earlier pair of that couple. The
+    /// result is whether it is.
+    fn extend(&mut self, couple: CoupleNo, from: u32) -> bool
+        ensures added { IsTrue result → AddsNote self.old self.new couple from }
+        ensures same { IsFalse result → self.new ≡ self.old }
+    {
+        if let Some(last) = self.notes.last_mut() {
+            if last.couple == couple && last.from <= from {
+                last.until = last.until.max(from.saturating_add(1));
+                return true;
+            }
         }
+        false
     }
 
     /// Notes the couple's pair at an index: in the last note, where that is of an earlier one of that couple.
     pub(crate) fn add(&mut self, couple: CoupleNo, from: u32) -> Result<(), AllocError>
         ensures { OnOk result (AddsNote self.old self.new couple from) }
     {
-        let until = from.saturating_add(1);
-        if let Some(last) = self.notes.last_mut() {
-            if last.couple == couple && last.from <= from {
-                last.until = last.until.max(until);
-                return Ok(());
-            }
+        if self.last == Some(couple) && self.extend(couple, from) {
+            return Ok(());
         }
+        self.last = Some(couple);
         self.notes.push(Note {
             couple,
             from,
-            until,
+            until: from.saturating_add(1),
         })?;
         Ok(())
     }
