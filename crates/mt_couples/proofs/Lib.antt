@@ -1,4 +1,5 @@
 pub mod AskFacts
+pub mod BitFacts
 pub mod EnteringFacts
 pub mod JoinFacts
 pub mod MarketFacts

@@ -1,9 +1,9 @@
 -- A single's better options by its live entries, which have its ranks.
-use Rattle.std.proofs.Common.{◌≡◌, ◌∙◌, ℕ, ◌+◌, ◌<◌, Bool, true, false, ◌&&◌, ◌||◌, ◌==◌, List, [], ◌∷◌, map, filter, take, length, get_or, Option, Some, None, is_some, refl, ap, ap₂, sym, subst, inl, inr, arith, le-ltb, nat_lt, if◌then◌else◌}
+use Rattle.std.proofs.Common.{◌≡◌, ◌∙◌, ℕ, ◌+◌, ◌<◌, Bool, true, false, ◌&&◌, ◌||◌, ◌==◌, List, [], ◌∷◌, map, filter, take, length, get_or, Option, Some, None, is_some, unwrap_or, refl, ap, ap₂, sym, subst, inl, inr, arith, le-ltb, nat_lt, if◌then◌else◌}
 use Rattle.std.specs.Option.{option_map}
 use Rattle.std.specs.List.{find, list_any}
 use Rattle.std.proofs.Math.Bool.{and-true, or-false}
-use Rattle.std.proofs.lemmas.Bool.{cases_Bool, both_ways, and_right, eqb-true}
+use Rattle.std.proofs.lemmas.Bool.{cases_Bool, both_ways, and_parts, and_right, eqb-true}
 use Rattle.mt_terms.specs.Lists.{has, until, count, above}
 use Rattle.mt_terms.specs.Market.{applicants, list_of, live, live_market, program_of}
 use Rattle.mt_terms.specs.Matching.{place_of, is_program, is_same_place, at, better, holds, send, single_placement}
@@ -15,7 +15,7 @@ use Rattle.mt_match_laws.proofs.ListLemmas.{until-map}
 use Rattle.mt_ranks.specs.Ranked.{rank_of, ranked_entry}
 use Rattle.mt_ranks.specs.declared.entries.Live.{Live}
 use Rattle.mt_round_laws.proofs.RoundsFits.{listing_program}
-use Rattle.mt_round_laws.proofs.RoundsLists.{In, of_image, of_kept, same_until}
+use Rattle.mt_round_laws.proofs.RoundsLists.{In, found, of_image, of_kept, same_until}
 use Rattle.mt_couples.specs.Assigned.{Assigned, has_post, taken_by, AreSent, IsAssigned}
 use Rattle.mt_couples.specs.Moves.{names_one_of, opens}
 use Rattle.mt_couples.specs.Watching.{better_entries, wanted}
@@ -172,3 +172,14 @@ module _ (s : Assigned) (ok : IsAssigned s) (a : ℕ) (within : a < applicants s
       let on = subst (λ (es : List Live). In e es) (are ∙ entries_are) (in_read entries i e inside read) in
       let w = of_image (ranked_entry s.market a) e (filter lists_it (wanted s a)) on in
       subst (λ (x : Live). x.program < length s.market.programs) w.2 (listing_program s.market w.0 a (of_kept lists_it w.0 (wanted s a) w.1).1)
+
+  -- a program by whose option the single is reopened has a post for the single's rank there
+  pub post_for : (p r : ℕ) → rank_of s.market p a ≡ Some r → opens s (p ∷ []) (Single a) ≡ true → has_post s p r ≡ true
+  post_for p r ranked opened =
+      let o = found (λ (e : Live). has (p ∷ []) e.program && passes e) (better_entries s a) (opens_live (p ∷ []) ∙ opened) in
+      let parts = and_parts (has (p ∷ []) o.0.program) (passes o.0) o.2 in
+      let same : p ≡ o.0.program = eqb-true p o.0.program (sym (or-false (p == o.0.program)) ∙ parts.0) in
+      let on = subst (λ (es : List Live). In o.0 es) entries_are o.1 in
+      let w = of_image (ranked_entry s.market a) o.0 (filter lists_it (wanted s a)) on in
+      let rank : o.0.rank ≡ r = ap (λ (e : Live). e.rank) (sym w.2) ∙ ap (λ q. unwrap_or (rank_of s.market q a) 0) (ap (λ (e : Live). e.program) w.2 ∙ sym same) ∙ ap (λ v. unwrap_or v 0) ranked in
+      subst (λ x. has_post s p x ≡ true) rank (subst (λ q. has_post s q o.0.rank ≡ true) (sym same) parts.1)

@@ -1,12 +1,12 @@
 -- Who is found when programs that were left are looked at, and who is passed over.
-use Rattle.std.proofs.Common.{◌≡◌, ◌∙◌, ℕ, zero, suc, ◌+◌, ◌<◌, ◌≤◌, true, false, not, ◌&&◌, ◌||◌, ◌==◌, nat_le, List, [], ◌∷◌, ◌++◌, filter, drop, length, get_or, Option, Some, None, is_some, refl, ap, sym, subst, inl, inr, arith, Result, Ok, Err, OnOk}
+use Rattle.std.proofs.Common.{◌≡◌, ◌∙◌, ℕ, zero, suc, ◌+◌, ◌<◌, ◌≤◌, Bool, true, false, not, ◌&&◌, ◌||◌, ◌==◌, nat_le, nat_lt, List, [], ◌∷◌, ◌++◌, filter, take, drop, length, get_or, Option, Some, None, is_some, refl, ap, sym, subst, inl, inr, arith, Result, Ok, Err, OnOk}
 use Rattle.std.specs.List.{position}
 use Rattle.std.proofs.lemmas.List.{drop_more}
 use Rattle.std.proofs.lemmas.List.Quantifiers.{position-Some}
 use Rattle.std.proofs.lemmas.Bool.{cases_lt, and_parts, and_from, or_cases, or_left, or_right, eq-eqb, eqb-true, both_ways, false≢true, false_from_ne_true, not_from_false, not-true}
 use Rattle.std.proofs.lemmas.Bool.Decides.{nat_tests}
 use Rattle.std.proofs.Math.Bool.{or-false}
-use Rattle.mt_terms.specs.Lists.{has}
+use Rattle.mt_terms.specs.Lists.{Set, count, has}
 use Rattle.mt_terms.specs.Market.{Market, Pair, applicants, agent_of, couple_of, members, program_of}
 use Rattle.mt_terms.specs.Matching.{Placement, is_program, at, better, holds, send, single_placement, couple_placement}
 use Rattle.mt_terms.specs.Rounds.{has_entered, is_on, joined}
@@ -19,19 +19,20 @@ use Rattle.mt_ranks.proofs.Positions.{has-position}
 use Rattle.mt_ranks.specs.Ranked.{rank_of}
 use Rattle.mt_round_laws.proofs.RoundsLists.{In, found, finds, each, has_in, in_has, of_image}
 use Rattle.mt_round_laws.proofs.RoundsAgents.{member_of_agent, one_of_two}
-use Rattle.mt_couples.specs.Assigned.{Assigned, pair_of, AreApplicantsOf}
+use Rattle.mt_couples.specs.Assigned.{ahead, has_post, pair_of, Assigned, AreApplicantsOf, IsAssigned}
 use Rattle.mt_couples.specs.Looking.{is_noted_reopened, AddsCouples, AddsSingles, HaveReopened, IsWatching}
 use Rattle.mt_couples.specs.Moves.{agents_of, names_one_of, opens, some_has}
 use Rattle.mt_couples.specs.Running.{is_idle, is_reopened}
 use Rattle.mt_couples.specs.Waiting.{Waiting, with_agents}
-use Rattle.mt_couples.specs.Watching.{better_pairs, is_noted, names, notes_pair, opens_between, row_at, wanted, Covers}
+use Rattle.mt_couples.specs.Watching.{better_pairs, end_of, is_before, is_noted, names, notes_pair, opens_between, ranks_at, row_at, wanted, Covers, IsFirstFrom}
 use Rattle.mt_couples.specs.declared.couple_list.Note.{Note}
 use Rattle.mt_couples.specs.declared.watch.Watch.{Watch}
 use Rattle.mt_terms.specs.Lists.{is_distinct}
 use Rattle.mt_terms.proofs.ListFacts.{same_position}
-use Rattle.mt_couples.proofs.LiveFacts.{better_single}
-use Rattle.mt_couples.proofs.NoteFacts.{any_between, better_couple, until_front}
+use Rattle.mt_couples.proofs.LiveFacts.{better_single, post_for}
+use Rattle.mt_couples.proofs.NoteFacts.{any_between, before_end, better_couple, until_front}
 use Rattle.mt_couples.proofs.PlaceFacts.{has_read}
+use Rattle.mt_couples.proofs.RankFacts.{has_rank}
 use Rattle.mt_placed.proofs.OrderFacts.{has_at}
 use Rattle.mt_couples.proofs.WatchFacts.{has_end, has_parts, has_still, index_of}
 use Rattle.mt_couples.proofs.JoinFacts.{next_mapped}
@@ -110,17 +111,19 @@ open_note k s w p ws c watching known reopened =
     let at_p = and_parts (names p pair.0) (would_be_taken s.market s.places (pair_of s c pair.0)) pair.2 in
     let noted : is_noted notes c i ≡ true = watching.named.each c (below_next c k entered) p i pair.0 known front.0 (place.2 ∙ front.1) at_p.0 in
     let n = found (notes_pair c i) notes noted in
-    let is = and_parts (n.0.couple == c) (nat_le n.0.from i) n.2 in
+    let is = and_parts (n.0.couple == c) (nat_le n.0.from i && is_before i n.0.until) n.2 in
+    let between = and_parts (nat_le n.0.from i) (is_before i n.0.until) is.1 in
     let of_couple : n.0.couple ≡ c = eqb-true n.0.couple c is.0 in
-    let counted = watching.counted.each c (watching.named.within p c i noted) in
-    let opened : opens_between s c p n.0.from (get_or counts c 0) ≡ true =
-    any_between (λ x. names p x && would_be_taken s.market s.places (pair_of s c x)) pairs pair.0 i n.0.from (get_or counts c 0) (no_later n.0.from i is.1)
-    (omega (arith, counted, place.1)) front.0 (place.2 ∙ front.1) pair.2 in (
+    let counted = watching.counted.each c (watching.named.within p c (finds (λ (x : Note). x.couple == c) n.0 notes n.1 is.0)) in
+    let end = end_of n.0.until (get_or counts c 0) in
+    let opened : opens_between s c p n.0.from end ≡ true =
+    any_between (λ x. names p x && would_be_taken s.market s.places (pair_of s c x)) pairs pair.0 i n.0.from end (no_later n.0.from i between.0)
+    (before_end i n.0.until (get_or counts c 0) between.1 (omega (arith, counted, place.1))) front.0 (place.2 ∙ front.1) pair.2 in (
       n.0,
       n.1,
       of_couple,
-      subst (λ d. (is_idle k ws (Couple d) && opens_between s d p n.0.from (get_or counts d 0)) ≡ true) (sym of_couple)
-          (and_from (is_idle k ws (Couple c)) (opens_between s c p n.0.from (get_or counts c 0)) parts.0 opened),
+      subst (λ d. (is_idle k ws (Couple d) && opens_between s d p n.0.from (end_of n.0.until (get_or counts d 0))) ≡ true) (sym of_couple)
+          (and_from (is_idle k ws (Couple c)) (opens_between s c p n.0.from end) parts.0 opened),
     )
   where
     no_later : (a b : ℕ) → nat_le a b ≡ true → a ≤ b
@@ -128,7 +131,7 @@ open_note k s w p ws c watching known reopened =
 
 -- Whoever is reopened by an option at a program is found there.
 pub covers_one : (k : ℕ) (s : Assigned) (w : Watch) (p : ℕ) (ws : List Agent) (mid new : List ℕ) → IsWatching k s w → p < length s.market.programs
-    → AddsSingles k s p ws (row_at w.singles.items p) mid → ((a : ℕ) → has mid a ≡ true → has new a ≡ true) → AddsCouples k s p ws new → Covers k s (p ∷ []) ws new
+    → AddsSingles k s p ws (ranks_at w.singles.items p) mid → ((a : ℕ) → has mid a ≡ true → has new a ≡ true) → AddsCouples k s p ws new → Covers k s (p ∷ []) ws new
 covers_one k s w p ws mid new watching known singles keeps couples a within reopened = by_agent (agent_of s.market a) refl
   where
     by_agent : (g : Agent) → agent_of s.market a ≡ g → has new a ≡ true
@@ -139,7 +142,8 @@ covers_one k s w p ws mid new watching known singles keeps couples a within reop
         let o = open_single s p b (open_at s p (Single b) parts.1) in
         let wants : has (wanted s a) p ≡ true = subst (λ x. has (wanted s x) p ≡ true) here o.0 in
         let rank = rank_there (program_of s.market p).ranking a (subst (λ x. has (program_of s.market p).ranking x ≡ true) here o.1) in
-        keeps a (singles rank.0 a (watching.watched.each a within p rank.0 wants rank.1) rank.1 reopened)
+        let single : agent_of s.market a ≡ Single a = is ∙ ap Single here in
+        keeps a (singles rank.0 a (watching.watched.each a within p rank.0 wants rank.1) rank.1 single (subst (λ g. is_reopened k s (p ∷ []) ws g ≡ true) single reopened))
     by_agent (Couple c) is =
         let now : is_reopened k s (p ∷ []) ws (Couple c) ≡ true = subst (λ g. is_reopened k s (p ∷ []) ws g ≡ true) is reopened in
         couples c a now is
@@ -245,28 +249,59 @@ pub both_ok : {T X : Type 0} {A B C : Type 0} (r : Result T X) → OnOk r A → 
 both_ok (Ok x) a b f = f a b
 both_ok (Err e) a b f = tt
 
+-- where a program has no post for a rank, it has none for a later one
+pub later_closed : (s : Assigned) (p r q : ℕ) → r ≤ q → has_post s p r ≡ false → has_post s p q ≡ false
+later_closed s p r q later none = more (ahead s p r) (ahead s p q) (program_of s.market p).quota (counts (at s.places p) (program_of s.market p).ranking r q later) none
+  where
+    counts : (test : ℕ → Bool) (xs : List ℕ) (i j : ℕ) → i ≤ j → count test (take i xs) ≤ count test (take j xs)
+    counts test xs zero j low = omega arith
+    counts test [] (suc i) j low = omega arith
+    counts test (x ∷ xs) (suc i) zero low = absurd (omega arith)
+    counts test (x ∷ xs) (suc i) (suc j) low = (let later = counts test xs i j (omega arith) in omega arith)
+
+    more : (a b quota : ℕ) → a ≤ b → nat_lt a quota ≡ false → nat_lt b quota ≡ false
+    more a b quota le none = grind (arith, nat_tests, le, none)
+
 -- what stands past the end of a list of notes
 abbrev pub no_note : Note
-no_note = record { couple = 0; from = 0 }
+no_note = record { couple = 0; from = 0; until = 0 }
 
 -- Below, who stands at a rank of a program's list is found where it is reopened by an option there.
 module _ (k : ℕ) (s : Assigned) (p : ℕ) (ws : List Agent) where
   abbrev pub IsFoundAt : List ℕ → ℕ → Type 0
-  IsFoundAt found r = (a : ℕ) → rank_of s.market p a ≡ Some r → is_reopened k s (p ∷ []) ws (agent_of s.market a) ≡ true → has found a ≡ true
+  IsFoundAt found r = (a : ℕ) → rank_of s.market p a ≡ Some r → agent_of s.market a ≡ Single a → is_reopened k s (p ∷ []) ws (Single a) ≡ true → has found a ≡ true
 
   same_there : (r x a : ℕ) → r < length (program_of s.market p).ranking → x ≡ get_or (program_of s.market p).ranking r x → rank_of s.market p a ≡ Some r → x ≡ a
   same_there r x a within read ranked = read ∙ any_default (program_of s.market p).ranking r x 0 within ∙ (at_rank (program_of s.market p).ranking a r ranked).1
 
   pub found_at : (found : List ℕ) (r x : ℕ) → r < length (program_of s.market p).ranking → x ≡ get_or (program_of s.market p).ranking r x → IsFoundAt (found ++ x ∷ []) r
-  found_at found r x within read a ranked reopened = subst (λ y. has (found ++ x ∷ []) y ≡ true) (same_there r x a within read ranked) (has_end found x)
+  found_at found r x within read a ranked single reopened = subst (λ y. has (found ++ x ∷ []) y ≡ true) (same_there r x a within read ranked) (has_end found x)
 
   pub passed_at : (found : List ℕ) (r x : ℕ) → r < length (program_of s.market p).ranking → x ≡ get_or (program_of s.market p).ranking r x
       → is_reopened k s (p ∷ []) ws (agent_of s.market x) ≡ false → IsFoundAt found r
-  passed_at found r x within read other a ranked reopened =
-      absurd (both_ways (is_reopened k s (p ∷ []) ws (agent_of s.market a)) (subst (λ y. is_reopened k s (p ∷ []) ws (agent_of s.market y) ≡ false) (same_there r x a within read ranked) other) reopened)
+  passed_at found r x within read other a ranked single reopened =
+      let out = subst (λ y. is_reopened k s (p ∷ []) ws (agent_of s.market y) ≡ false) (same_there r x a within read ranked) other in
+      absurd (both_ways (is_reopened k s (p ∷ []) ws (Single a)) (subst (λ g. is_reopened k s (p ∷ []) ws g ≡ false) single out) reopened)
 
-  pub nobody_at : (found : List ℕ) (r : ℕ) → length (program_of s.market p).ranking ≤ r → IsFoundAt found r
-  nobody_at found r past a ranked reopened = (let w = (at_rank (program_of s.market p).ranking a r ranked).0 in absurd (omega arith))
+  -- what is found at each rank of a set below a number, and below one past its next rank
+  pub found_below : (ranks : Set) (found more : List ℕ) (number r : ℕ) → IsFirstFrom ranks number r → ((a : ℕ) → has found a ≡ true → has more a ≡ true)
+      → ((q : ℕ) → ranks q ≡ true → q < number → IsFoundAt found q) → IsFoundAt more r → (q : ℕ) → ranks q ≡ true → q < r + 1 → IsFoundAt more q
+  found_below ranks found more number r next keeps before here q on low = elim (cases_lt q number) [
+    | inl earlier ↦ (λ a ranked single reopened. keeps a (before q on earlier a ranked single reopened))
+    | inr later ↦ elim (cases_lt q r) [
+      | inl between ↦ absurd (both_ways (ranks q) (next.first q later between) on)
+      | inr past ↦ (let e : r ≡ q = omega arith in subst (IsFoundAt more) e here)
+    ]
+  ]
+
+  -- a single with a rank for which the program has no post isn't reopened by it
+  pub closed_at : (found : List ℕ) (r : ℕ) → IsAssigned s → has_post s p r ≡ false → IsFoundAt found r
+  closed_at found r ok none a ranked single reopened =
+      let parts = and_parts (has_entered k (Single a) && not (is_on ws (Single a))) (opens s (p ∷ []) (Single a)) reopened in
+      absurd (both_ways (has_post s p r) none (post_for s ok a (within_at a ranked) p r ranked parts.1))
+    where
+      within_at : (a : ℕ) → rank_of s.market p a ≡ Some r → a < applicants s.market
+      within_at a ranked = ok.well_formed.rankings_within p a (has_rank (program_of s.market p).ranking a r ranked)
 
   -- the members of a note's couple are found where that is reopened
   abbrev pub AreFoundBy : Watch → List ℕ → Note → Type 0

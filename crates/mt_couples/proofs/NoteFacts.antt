@@ -1,6 +1,6 @@
 -- Which pairs of couples are noted, and that it is counted how many a couple wants more than what it has.
-use Rattle.std.proofs.Common.{◌≡◌, ◌∙◌, ℕ, zero, suc, ◌+◌, ◌-◌, ◌<◌, ◌≤◌, Bool, true, false, ◌&&◌, ◌||◌, ◌==◌, nat_le, List, [], ◌∷◌, ◌++◌, map, take, drop, length, get_or, slice_range, refl, ap, ap₂, sym, subst, inl, inr, arith}
-use Rattle.std.proofs.lemmas.Bool.{and_from, cases_Bool, cases_lt, or_left, or_right, eq-eqb}
+use Rattle.std.proofs.Common.{◌≡◌, ◌∙◌, ℕ, zero, suc, ◌+◌, ◌-◌, ◌<◌, ◌≤◌, Bool, true, false, ◌&&◌, ◌||◌, ◌==◌, nat_le, List, [], ◌∷◌, ◌++◌, map, take, drop, length, get_or, slice_range, slice_set, min, max, ◌⊎◌, refl, ap, ap₂, sym, subst, inl, inr, arith}
+use Rattle.std.proofs.lemmas.Bool.{and_from, and_parts, cases_Bool, cases_lt, or_cases, or_left, or_right, eq-eqb, eqb-true, false≢true}
 use Rattle.std.proofs.lemmas.Bool.Decides.{nat_tests}
 use Rattle.std.proofs.lemmas.List.{get_or-drop, get_or-take, length-drop, length-take}
 use Rattle.std.proofs.lemmas.List.Folds.{list_any-append}
@@ -18,7 +18,7 @@ use Rattle.mt_round_laws.proofs.RoundsAgents.{IsAgent, agent_of_applicant, of_li
 use Rattle.mt_round_laws.proofs.RoundsMove.{IsMove, match_after, displaced_agents, is_displaced, untouched}
 use Rattle.mt_couples.specs.Assigned.{Assigned, pair_of}
 use Rattle.mt_couples.specs.Moves.{IsTaking}
-use Rattle.mt_couples.specs.Watching.{better_pairs, is_noted, notes_pair, row_at, AreCounted, AreNamed, CountsAll, IsCounted}
+use Rattle.mt_couples.specs.Watching.{better_pairs, end_of, greatest, has_couple, is_before, is_noted, notes_pair, row_at, AddsNote, AreCounted, AreNamed, CountsAll, IsCounted}
 use Rattle.mt_couples.specs.declared.couple_list.Note.{Note}
 use Rattle.mt_couples.specs.declared.watch.Watch.{Watch}
 use Rattle.mt_couples.proofs.MoveFacts.{is_move}
@@ -79,6 +79,14 @@ none_between_same test xs from end past =
     let none : end - from ≡ 0 = omega arith in
     ap (λ n. list_any test (take n (drop from xs))) none ∙ refl
 
+-- an index that is before an end, and within so many, is before the end among these
+pub before_end : (i until many : ℕ) → is_before i until ≡ true → i < many → i < end_of until many
+before_end i until many before within = grind (arith, nat_tests, before, within)
+
+-- which isn't after them
+pub end_within : (until many : ℕ) → end_of until many ≤ many
+end_within until many = grind (arith, nat_tests)
+
 -- a couple wants no more pairs than it lists
 pub counted_within : (s : Assigned) (counts : List ℕ) (c : ℕ) → AreCounted s counts → c < length s.market.couples → get_or counts c 0 ≤ length (couple_of s.market c).pairs
 counted_within s counts c counted known =
@@ -88,24 +96,78 @@ counted_within s counts c counted known =
 pub noted_more : (notes : List Note) (n : Note) (c i : ℕ) → is_noted (notes ++ n ∷ []) c i ≡ (is_noted notes c i || notes_pair c i n)
 noted_more notes n c i = list_any-append (notes_pair c i) notes (n ∷ []) ∙ ap (λ (b : Bool). is_noted notes c i || b) (or-false (notes_pair c i n))
 
--- which isn't needed where an earlier pair of the couple is noted
-pub noted_already : (notes : List Note) (n : Note) (c from : ℕ) → In n notes → n.couple ≡ c → n.from ≤ from
-    → (d i : ℕ) → is_noted notes d i ≡ (is_noted notes d i || (c == d && nat_le from i))
-noted_already notes n c from on is low d i = elim (cases_Bool (c == d && nat_le from i)) [
-  | inl this ↦
-      let passes : notes_pair d i n ≡ true = grind (arith, nat_tests, this, is, low) in
-      let there : is_noted notes d i ≡ true = finds (notes_pair d i) n notes on passes in
-      rw there refl
-  | inr other ↦ rw other (sym (or-false (is_noted notes d i)))
+pub note_added : (notes : List Note) (n : Note) → n.until ≡ min (n.from + 1) greatest → AddsNote notes (notes ++ n ∷ []) n.couple n.from
+note_added notes n ends = record {
+  keeps = λ d i on. noted_more notes n d i ∙ or_left (is_noted notes d i) (notes_pair d i n) on;
+  adds = λ i here.
+      noted_more notes n n.couple i
+      ∙ or_right (is_noted notes n.couple i) (notes_pair n.couple i n) (and_from _ _ (eq-eqb n.couple n.couple refl) (stands i here));
+  only = λ d on. elim (or_cases (has_couple notes d) (has_couple (n ∷ []) d) (sym (list_any-append (λ (x : Note). x.couple == d) notes (n ∷ [])) ∙ on)) [
+    | inl before ↦ inl before
+    | inr now ↦ inr (eqb-true n.couple d (sym (or-false (n.couple == d)) ∙ now))
+  ];
+}
+  where
+    stands : (i : ℕ) → min i greatest ≡ n.from → (nat_le n.from i && is_before i n.until) ≡ true
+    stands i here = grind (arith, nat_tests, here, ends)
+
+-- a note that takes the place of another
+any_set : {X : Type 0} (test : X → Bool) (xs : List X) (j : ℕ) (x new : X) → x ≡ get_or xs j x → (test x ≡ true → test new ≡ true) → list_any test xs ≡ true
+    → list_any test (slice_set xs j new) ≡ true
+any_set test [] j x new read goes on = absurd (false≢true on)
+any_set test (y ∷ ys) zero x new read goes on = elim (or_cases (test y) (list_any test ys) on) [
+  | inl here ↦ or_left (test new) _ (goes (ap test read ∙ here))
+  | inr later ↦ or_right (test new) _ later
 ]
+any_set test (y ∷ ys) (suc j) x new read goes on = elim (or_cases (test y) (list_any test ys) on) [
+  | inl here ↦ or_left (test y) _ here
+  | inr later ↦ or_right (test y) _ (any_set test ys j x new read goes later)
+]
+
+any_set_here : {X : Type 0} (test : X → Bool) (xs : List X) (j : ℕ) (new : X) → j < length xs → test new ≡ true → list_any test (slice_set xs j new) ≡ true
+any_set_here test [] j new within passes = absurd (omega arith)
+any_set_here test (y ∷ ys) zero new within passes = or_left (test new) _ passes
+any_set_here test (y ∷ ys) (suc j) new within passes = or_right (test y) _ (any_set_here test ys j new (omega arith) passes)
+
+any_set_only : {X : Type 0} (test : X → Bool) (xs : List X) (j : ℕ) (new : X) → list_any test (slice_set xs j new) ≡ true
+    → (list_any test xs ≡ true) ⊎ (test new ≡ true)
+any_set_only test [] j new on = inl on
+any_set_only test (y ∷ ys) zero new on = elim (or_cases (test new) (list_any test ys) on) [
+  | inl here ↦ inr here
+  | inr later ↦ inl (or_right (test y) _ later)
+]
+any_set_only test (y ∷ ys) (suc j) new on = elim (or_cases (test y) (list_any test (slice_set ys j new)) on) [
+  | inl here ↦ inl (or_left (test y) _ here)
+  | inr later ↦ elim (any_set_only test ys j new later) [
+    | inl there ↦ inl (or_right (test y) _ there)
+    | inr here ↦ inr here
+  ]
+]
+
+-- a note that goes on to a later pair of its couple
+pub note_extended : (notes : List Note) (j from : ℕ) (n new : Note) → j < length notes → n ≡ get_or notes j n → n.from ≤ from → new.couple ≡ n.couple → new.from ≡ n.from
+    → new.until ≡ max n.until (min (from + 1) greatest) → AddsNote notes (slice_set notes j new) n.couple from
+note_extended notes j from n new within read low couple same ends = record {
+  keeps = λ d i on. any_set (notes_pair d i) notes j n new read (stays d i) on;
+  adds = λ i here. any_set_here (notes_pair n.couple i) notes j new within (and_from _ _ (ap (λ c. c == n.couple) couple ∙ eq-eqb n.couple n.couple refl) (stands i here));
+  only = λ d on. elim (any_set_only (λ (x : Note). x.couple == d) notes j new on) [
+    | inl before ↦ inl before
+    | inr now ↦ inr (sym couple ∙ eqb-true new.couple d now)
+  ];
+}
+  where
+    stays : (d i : ℕ) → notes_pair d i n ≡ true → notes_pair d i new ≡ true
+    stays d i on = grind (arith, nat_tests, on, couple, same, ends)
+
+    stands : (i : ℕ) → min i greatest ≡ from → (nat_le new.from i && is_before i new.until) ≡ true
+    stands i here = grind (arith, nat_tests, here, low, same, ends)
 
 -- only couples of the market are noted
 pub note_within : (m : Market) (number : ℕ) (rows : List (List Note)) (p : ℕ) (notes : List Note) (i : ℕ) (n : Note) → AreNamed m number rows → notes ≡ row_at rows p → i < length notes
     → n ≡ get_or notes i n → n.couple < length m.couples
 note_within m number rows p notes i n named is within read =
-    let here : notes_pair n.couple n.from n ≡ true = and_from _ _ (eq-eqb n.couple n.couple refl) (grind (arith, nat_tests)) in
-    let noted : is_noted notes n.couple n.from ≡ true = finds (notes_pair n.couple n.from) n notes (in_read notes i n within read) here in
-    named.within p n.couple n.from (subst (λ xs. is_noted xs n.couple n.from ≡ true) is noted)
+    let noted : has_couple notes n.couple ≡ true = finds (λ (x : Note). x.couple == n.couple) n notes (in_read notes i n within read) (eq-eqb n.couple n.couple refl) in
+    named.within p n.couple (subst (λ xs. has_couple xs n.couple ≡ true) is noted)
 
 -- a couple's better options are the pairs that it wants more than what it has
 pub better_couple : (s : Assigned) (c : ℕ) → better s.market s.places (Couple c) ≡ map (pair_of s c) (better_pairs s c)

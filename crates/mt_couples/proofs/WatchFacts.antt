@@ -21,6 +21,7 @@ use Rattle.mt_round_laws.proofs.RoundsMove.{IsMove, match_after, displaced_agent
 use Rattle.mt_couples.specs.Assigned.{Assigned}
 use Rattle.mt_couples.specs.Moves.{IsTaking}
 use Rattle.mt_couples.specs.Watching.{better_entries, row_at, wanted, AreWatched, FollowsAll, IsWatched, KeepsRows, Watches}
+use Rattle.mt_couples.specs.declared.couple_list.Note.{Note}
 use Rattle.mt_couples.proofs.MoveFacts.{is_move}
 use Rattle.mt_couples.proofs.RankFacts.{has_rank}
 
@@ -136,14 +137,14 @@ wanted_entry s a p r within wants ranked =
     subst (λ (es : List Live). In (record { program = p; rank = r }) es) (sym is) (subst (λ (e : Live). In e (map (ranked_entry (live_market m) a) (until test (live m a)))) entry image)
 
 -- once its better entries are watched, an applicant is
-pub watched_now : (s : Assigned) → IsWellFormed s.market → (a : ℕ) → a < applicants s.market → (old new : List (List ℕ)) (entries : List Live) → entries ≡ better_entries s a
+pub watched_now : (s : Assigned) → IsWellFormed s.market → (a : ℕ) → a < applicants s.market → (old new : List (List Bool)) (entries : List Live) → entries ≡ better_entries s a
     → Watches old new entries → length old ≡ length s.market.programs → IsWatched s new a
 watched_now s wf a within old new entries is watches many p r wants ranked =
     let w = index_of (record { program = p; rank = r }) entries (subst (λ (es : List Live). In (record { program = p; rank = r }) es) (sym is) (wanted_entry s a p r within wants ranked)) in
     let known = wf.lists_within a p (in_has p (list_of s.market a) (of_until (λ q. at s.places q a) p (list_of s.market a) (has_in p (wanted s a) wants))) in
     watches.adds w.0 (record { program = p; rank = r }) w.1 w.2 (omega arith)
 
-pub watched_still : (s : Assigned) (a : ℕ) (old new : List (List ℕ)) → KeepsRows old new → IsWatched s old a → IsWatched s new a
+pub watched_still : (s : Assigned) (a : ℕ) (old new : List (List Bool)) → KeepsRows old new → IsWatched s old a → IsWatched s new a
 watched_still s a old new keeps is p r wants ranked = keeps p r (is p r wants ranked)
 
 -- Below, an agent takes an option: the applicants that have another place after that are watched, so all are.
@@ -154,7 +155,7 @@ module _ {m : Market} {old : Places} {g : Agent} {sent : Placement} (taking : Is
   abbrev after : Assigned
   after = record { market = m; places = match_after m old sent }
 
-  pub watched_after : (rows mid new : List (List ℕ)) → AreWatched before rows → FollowsAll after rows mid (map (λ s. s.0) sent)
+  pub watched_after : (rows mid new : List (List Bool)) → AreWatched before rows → FollowsAll after rows mid (map (λ s. s.0) sent)
       → FollowsAll after mid new (displaced m (send sent old) sent) → AreWatched after new
   watched_after rows mid new watched first second = record {
     one_each = second.as_many ∙ first.as_many ∙ watched.one_each;
@@ -203,7 +204,7 @@ module _ {m : Market} {old : Places} {g : Agent} {sent : Placement} (taking : Is
       ]
 
 -- rows of nobody, and one more
-pub none_more : (xs : List (List ℕ)) → ((p : ℕ) → row_at xs p ≡ []) → (p : ℕ) → row_at (xs ++ [] ∷ []) p ≡ []
+pub none_more : (xs : List (List Note)) → ((p : ℕ) → row_at xs p ≡ []) → (p : ℕ) → row_at (xs ++ [] ∷ []) p ≡ []
 none_more [] none zero = refl
 none_more [] none (suc p) = none p
 none_more (x ∷ xs) none zero = none 0

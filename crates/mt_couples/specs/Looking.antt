@@ -1,13 +1,13 @@
 -- What is found, and where, when programs that were left are looked at.
-use Rattle.std.specs.Prelude.{◌≡◌, ℕ, Bool, ◌&&◌, ◌+◌, ◌<◌, true, List, [], ◌∷◌, length, Some, slice_index_or}
-use Rattle.mt_terms.specs.Lists.{has}
+use Rattle.std.specs.Prelude.{◌≡◌, ℕ, Bool, ◌&&◌, ◌+◌, ◌<◌, true, false, List, [], ◌∷◌, length, Some, slice_index_or}
+use Rattle.mt_terms.specs.Lists.{Set, has}
 use Rattle.mt_terms.specs.Market.{Market, applicants, agent_of, program_of}
 use Rattle.mt_terms.specs.declared.numbers.Agent.{Agent}
-use Rattle.mt_terms.specs.declared.numbers.Agent.TheVariants.{Couple}
+use Rattle.mt_terms.specs.declared.numbers.Agent.TheVariants.{Single, Couple}
 use Rattle.mt_ranks.specs.Ranked.{rank_of}
-use Rattle.mt_couples.specs.Assigned.{Assigned}
+use Rattle.mt_couples.specs.Assigned.{has_post, Assigned}
 use Rattle.mt_couples.specs.Running.{is_idle, is_reopened}
-use Rattle.mt_couples.specs.Watching.{opens_between, AreCounted, AreNamed, AreWatched}
+use Rattle.mt_couples.specs.Watching.{end_of, opens_between, AreCounted, AreNamed, AreWatched, IsFirstFrom}
 use Rattle.mt_couples.specs.declared.couple_list.Note.{Note}
 use Rattle.mt_couples.specs.declared.watch.Watch.{Watch}
 
@@ -22,16 +22,25 @@ pub record IsWatching (k : ℕ) (s : Assigned) (w : Watch) : Type 0 where
 abbrev pub Keeps : List ℕ → List ℕ → Type 0
 Keeps old new = (a : ℕ) → has old a ≡ true → has new a ≡ true
 
--- who has one of these ranks on a program's list, and whose agent is reopened by an option there, is found
-abbrev pub AddsSingles : ℕ → Assigned → ℕ → List Agent → List ℕ → List ℕ → Type 0
+-- the first of some ranks on a program's list that isn't below a number
+pub record IsOpenFrom (s : Assigned) (p : ℕ) (ranks : Set) (number r : ℕ) : Type 0 where
+  pub first : IsFirstFrom ranks number r
+  pub within : r < length (program_of s.market p).ranking
+
+-- where a rank on a program's list is one of these, the program has no post for it
+abbrev pub IsClosed : Assigned → ℕ → Set → ℕ → Type 0
+IsClosed s p ranks r = ranks r ≡ true → r < length (program_of s.market p).ranking → has_post s p r ≡ false
+
+-- a single that has one of these ranks on a program's list, and that is reopened by an option there, is found
+abbrev pub AddsSingles : ℕ → Assigned → ℕ → List Agent → Set → List ℕ → Type 0
 AddsSingles k s p waiting ranks found =
-    (r a : ℕ) → has ranks r ≡ true → rank_of s.market p a ≡ Some r → is_reopened k s (p ∷ []) waiting (agent_of s.market a) ≡ true → has found a ≡ true
+    (r a : ℕ) → ranks r ≡ true → rank_of s.market p a ≡ Some r → agent_of s.market a ≡ Single a → is_reopened k s (p ∷ []) waiting (Single a) ≡ true → has found a ≡ true
 
 -- whether the couple of a note at a program has entered, doesn't wait, and has a pair there that would be taken, of
--- those from the noted one on that it wants more than what it has
+-- those from the first noted one to the last that it wants more than what it has
 abbrev pub is_noted_reopened : ℕ → Assigned → Watch → ℕ → List Agent → Note → Bool
 is_noted_reopened k s w p waiting n =
-    is_idle k waiting (Couple n.couple) && opens_between s n.couple p n.from (slice_index_or w.better.items n.couple 0)
+    is_idle k waiting (Couple n.couple) && opens_between s n.couple p n.from (end_of n.until (slice_index_or w.better.items n.couple 0))
 
 -- the members of each couple are found that is reopened by an option at the program
 abbrev pub AddsCouples : ℕ → Assigned → ℕ → List Agent → List ℕ → Type 0

@@ -1,6 +1,6 @@
 -- What an assignment's tables mean.
-use Rattle.std.specs.Prelude.{◌≡◌, ◌≤◌, ◌+◌, ℕ, true, false, List, slice_index_or}
-use Rattle.mt_terms.specs.Lists.{has}
+use Rattle.std.specs.Prelude.{◌≡◌, ◌≤◌, ◌+◌, ◌*◌, ℕ, Bool, List, length}
+use Rattle.mt_hold.specs.Flags.{flags}
 use Rattle.mt_terms.specs.Registration.Accepted.{IsRegistration}
 use Rattle.std.specs.VecDeque.{deque_capacity}
 use Rattle.mt_ranks.specs.Ranked.{ranked_of}
@@ -41,9 +41,9 @@ programs_in s = s.programs.items
 pub record AreInOrder (s : Programs) : Type 0 where
   pub sorted : IsStrictlySortedBy nat_cmp s.programs.items
 
-abbrev pub ranks_in : Ranks → List ℕ
-ranks_in s = s.ranks.items
+abbrev pub ranks_in : Ranks → List Bool
+ranks_in s = flags s.words.items (64 * length s.words.items)
 
--- A rank of which it is told that it is there is there.
-pub record AreTold (s : Ranks) : Type 0 where
-  pub told : (r : ℕ) → slice_index_or s.told.items r false ≡ true → has s.ranks.items r ≡ true
+-- So few words that each bit has a number of 32 bits.
+pub record AreFewWords (s : Ranks) : Type 0 where
+  pub few : length s.words.items ≤ 67108864

@@ -1,7 +1,7 @@
 -- Where it is watched that an option may be opened.
-use Rattle.std.specs.Prelude.{◌≡◌, ℕ, ◌<◌, ◌≤◌, Bool, true, ◌&&◌, ◌||◌, ◌==◌, nat_le, ◌⊎◌, List, [], length, Option, Some, slice_index_or, slice_range}
+use Rattle.std.specs.Prelude.{◌≡◌, ℕ, ◌<◌, ◌≤◌, Bool, true, false, ◌&&◌, ◌||◌, ◌==◌, nat_le, nat_lt, min, if◌then◌else◌, ◌⊎◌, List, [], length, Option, Some, slice_index_or, slice_range}
 use Rattle.std.specs.List.{list_any}
-use Rattle.mt_terms.specs.Lists.{has, until}
+use Rattle.mt_terms.specs.Lists.{Set, has, until}
 use Rattle.mt_terms.specs.Market.{Market, Pair, applicants, agent_of, couple_of, list_of, live_market}
 use Rattle.mt_terms.specs.Matching.{at, holds, is_program}
 use Rattle.mt_terms.specs.Stability.{would_be_taken}
@@ -26,35 +26,49 @@ better_entries s a = until (λ (e : Live). at s.places e.program a) (ranked_list
 abbrev pub better_pairs : Assigned → ℕ → List Pair
 better_pairs s c = until (λ pair. holds s.places (pair_of s c pair)) (couple_of s.market c).pairs
 
--- the row of a program: the ranks that are watched there, or the notes of couples
-abbrev pub row_at : {X : Type 0} → List (List X) → ℕ → List X
+-- whether a rank is in a set, for which it is told of each rank
+abbrev pub is_in : List Bool → Set
+is_in told r = slice_index_or told r false
+
+-- a rank of a set, the first that isn't below a number
+pub record IsFirstFrom (ranks : Set) (number r : ℕ) : Type 0 where
+  pub not_below : number ≤ r
+  pub there : ranks r ≡ true
+  pub first : (q : ℕ) → number ≤ q → q < r → ranks q ≡ false
+
+-- the ranks that are watched at a program
+abbrev pub ranks_at : List (List Bool) → ℕ → Set
+ranks_at rows p = is_in (slice_index_or rows p [])
+
+-- the notes of couples at a program
+abbrev pub row_at : List (List Note) → ℕ → List Note
 row_at rows p = slice_index_or rows p []
 
 -- nothing is lost from a row
-abbrev pub KeepsRows : List (List ℕ) → List (List ℕ) → Type 0
-KeepsRows old new = (p x : ℕ) → has (row_at old p) x ≡ true → has (row_at new p) x ≡ true
+abbrev pub KeepsRows : List (List Bool) → List (List Bool) → Type 0
+KeepsRows old new = (p r : ℕ) → ranks_at old p r ≡ true → ranks_at new p r ≡ true
 
 -- an applicant is watched at each program that it wants more than what it has and that lists it
-abbrev pub IsWatched : Assigned → List (List ℕ) → ℕ → Type 0
-IsWatched s rows a = (p r : ℕ) → has (wanted s a) p ≡ true → rank_of s.market p a ≡ Some r → has (row_at rows p) r ≡ true
+abbrev pub IsWatched : Assigned → List (List Bool) → ℕ → Type 0
+IsWatched s rows a = (p r : ℕ) → has (wanted s a) p ≡ true → rank_of s.market p a ≡ Some r → ranks_at rows p r ≡ true
 
-pub record AreWatched (s : Assigned) (rows : List (List ℕ)) : Type 0 where
+pub record AreWatched (s : Assigned) (rows : List (List Bool)) : Type 0 where
   pub one_each : length rows ≡ length s.market.programs
   pub each : (a : ℕ) → a < applicants s.market → IsWatched s rows a
 
 -- each of these entries is watched too
-pub record Watches (old new : List (List ℕ)) (entries : List Live) : Type 0 where
+pub record Watches (old new : List (List Bool)) (entries : List Live) : Type 0 where
   pub as_many : length new ≡ length old
   pub keeps : KeepsRows old new
-  pub adds : (i : ℕ) (e : Live) → i < length entries → e ≡ slice_index_or entries i e → e.program < length old → has (row_at new e.program) e.rank ≡ true
+  pub adds : (i : ℕ) (e : Live) → i < length entries → e ≡ slice_index_or entries i e → e.program < length old → ranks_at new e.program e.rank ≡ true
 
 -- an applicant is watched too, and each of some
-pub record Follows (s : Assigned) (old new : List (List ℕ)) (a : ℕ) : Type 0 where
+pub record Follows (s : Assigned) (old new : List (List Bool)) (a : ℕ) : Type 0 where
   pub as_many : length new ≡ length old
   pub keeps : KeepsRows old new
   pub watched : length old ≡ length s.market.programs → IsWatched s new a
 
-pub record FollowsAll (s : Assigned) (old new : List (List ℕ)) (xs : List ℕ) : Type 0 where
+pub record FollowsAll (s : Assigned) (old new : List (List Bool)) (xs : List ℕ) : Type 0 where
   pub as_many : length new ≡ length old
   pub keeps : KeepsRows old new
   pub watched : length old ≡ length s.market.programs → (a : ℕ) → has xs a ≡ true → IsWatched s new a
@@ -68,16 +82,34 @@ abbrev pub opens_between : Assigned → ℕ → ℕ → ℕ → ℕ → Bool
 opens_between s c p from end =
     list_any (λ pair. names p pair && would_be_taken s.market s.places (pair_of s c pair)) (slice_range (couple_of s.market c).pairs from end)
 
--- whether a couple's pair at an index is noted: that one, or one before it
+-- the greatest number that an index in 32 bits can be: as an index it stands for all that are greater, and as an end it
+-- is no bound
+abbrev pub greatest : ℕ
+greatest = 4294967295
+
+-- whether an index is before an end, and the end among so many
+abbrev pub is_before : ℕ → ℕ → Bool
+is_before i until = nat_lt i until || nat_le greatest until
+
+abbrev pub end_of : ℕ → ℕ → ℕ
+end_of until many = if nat_lt until greatest then min many until else many
+
+-- whether a couple's pair at an index is noted: that one, or one before it and one that isn't before it
 abbrev pub notes_pair : ℕ → ℕ → Note → Bool
-notes_pair c i n = n.couple == c && nat_le n.from i
+notes_pair c i n = n.couple == c && (nat_le n.from i && is_before i n.until)
 
 abbrev pub is_noted : List Note → ℕ → ℕ → Bool
 is_noted notes c i = list_any (notes_pair c i) notes
 
--- a couple's pair at an index is noted too
-abbrev pub AddsNote : List Note → List Note → ℕ → ℕ → Type 0
-AddsNote old new c from = (d i : ℕ) → is_noted new d i ≡ (is_noted old d i || (c == d && nat_le from i))
+-- whether a couple is noted
+abbrev pub has_couple : List Note → ℕ → Bool
+has_couple notes c = list_any (λ (n : Note). n.couple == c) notes
+
+-- a couple's pair at an index is noted too, and no other couple
+pub record AddsNote (old new : List Note) (c from : ℕ) : Type 0 where
+  pub keeps : (d i : ℕ) → is_noted old d i ≡ true → is_noted new d i ≡ true
+  pub adds : (i : ℕ) → min i greatest ≡ from → is_noted new c i ≡ true
+  pub only : (d : ℕ) → has_couple new d ≡ true → (has_couple old d ≡ true) ⊎ (c ≡ d)
 
 -- no note is lost from a row
 abbrev pub KeepsNotes : List (List Note) → List (List Note) → Type 0
@@ -93,7 +125,7 @@ IsNamed m rows c =
 pub record AreNamed (m : Market) (number : ℕ) (rows : List (List Note)) : Type 0 where
   pub one_each : length rows ≡ length m.programs
   pub each : (c : ℕ) → c < number → IsNamed m rows c
-  pub within : (p c i : ℕ) → is_noted (row_at rows p) c i ≡ true → c < length m.couples
+  pub within : (p c : ℕ) → has_couple (row_at rows p) c ≡ true → c < length m.couples
 
 -- for each program a row of nobody
 pub record AreEmpty (m : Market) (rows : List (List Note)) : Type 0 where
@@ -104,8 +136,8 @@ pub record AreEmpty (m : Market) (rows : List (List Note)) : Type 0 where
 pub record Notes (old new : List (List Note)) (place : Option ℕ) (c from : ℕ) : Type 0 where
   pub as_many : length new ≡ length old
   pub keeps : KeepsNotes old new
-  pub adds : (p i : ℕ) → is_program p place ≡ true → p < length old → from ≤ i → is_noted (row_at new p) c i ≡ true
-  pub only : (p d i : ℕ) → is_noted (row_at new p) d i ≡ true → (is_noted (row_at old p) d i ≡ true) ⊎ (c ≡ d)
+  pub adds : (p i : ℕ) → is_program p place ≡ true → p < length old → min i greatest ≡ from → is_noted (row_at new p) c i ≡ true
+  pub only : (p d : ℕ) → has_couple (row_at new p) d ≡ true → (has_couple (row_at old p) d ≡ true) ⊎ (c ≡ d)
 
 -- it is counted how many pairs a couple wants more than what it has, and so it is for each couple
 abbrev pub IsCounted : Assigned → List ℕ → ℕ → Type 0

@@ -203,6 +203,7 @@ impl<'a> Assignment<'a> {
         requires { program < length self.now.market.programs }
         ensures list { result.now ≡ (program_of self.now.market program).ranking }
         ensures within { AreApplicantsOf self.now.market result.now }
+        ensures assigned { IsAssigned self.now }
     {
         self.ranks.by_rank(program)
     }

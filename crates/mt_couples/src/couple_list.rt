@@ -1,22 +1,39 @@
-ghost use Rattle.std.specs.Prelude.{◌≡◌, [], OnOk};
-ghost use Rattle.mt_couples.specs.Watching.{AddsNote};
+ghost use Rattle.std.specs.Prelude.{◌≡◌, [], IfOk, IsFalse, IsTrue, OnOk};
+ghost use Rattle.mt_couples.specs.Watching.{end_of, AddsNote};
 
 use mt_terms::CoupleNo;
 use std::alloc::{AllocError, Global};
 use std::marker::Model;
 
-/// That a program is named by a pair of a couple's list.
+/// That a program is named by pairs of a couple's list, which are counted from 0, as far as 32 bits count.
 #[derive(Clone, Copy)]
 pub(crate) struct Note {
     pub(crate) couple: CoupleNo,
-    /// Where the first such pair stands on the list, from 0, as far as 32 bits count.
+    /// Where the first such pair stands on the list.
     pub(crate) from: u32,
+    /// One past where the last one stands. The greatest number is no bound.
+    pub(crate) until: u32,
+}
+
+impl Note {
+    /// Where such pairs end, among so many.
+    pub(crate) fn end(&self, pairs: usize) -> usize
+        ensures { result ≡ end_of self.now.until pairs }
+    {
+        if self.until < u32::MAX {
+            pairs.min(self.until as usize)
+        } else {
+            pairs
+        }
+    }
 }
 
 /// The notes of one program, in the order in which the couples were added.
 #[derive(Drop)]
 pub(crate) struct CoupleList {
     notes: Vec<Note>,
+    /// The couple that was added last, so that no note is read where another one is added.
+    last: Option<CoupleNo>,
 }
 
 impl Model for CoupleList {
@@ -29,25 +46,44 @@ impl Model for CoupleList {
 }
 
 impl CoupleList {
-    /// No notes.
-    pub(crate) fn new(alloc: Global) -> Self
-        ensures { result ≡ [] }
+    /// No notes, with room for so many.
+    pub(crate) fn with_capacity(alloc: Global, notes: usize) -> Result<Self, AllocError>
+        ensures { IfOk result (λ l. l ≡ []) }
     {
-        CoupleList {
-            notes: Vec::new(alloc),
-        }
+        Ok(CoupleList {
+            notes: Vec::with_capacity(alloc, notes)?,
+            last: None,
+        })
     }
 
-    /// Notes the couple's pair at an index, unless the last note is of an earlier one of that couple.
+    /// Has the last note go on to the couple's pair at an index, where it is of an earlier pair of that couple. The
+    /// result is whether it is.
+    fn extend(&mut self, couple: CoupleNo, from: u32) -> bool
+        ensures added { IsTrue result → AddsNote self.old self.new couple from }
+        ensures same { IsFalse result → self.new ≡ self.old }
+    {
+        if let Some(last) = self.notes.last_mut() {
+            if last.couple == couple && last.from <= from {
+                last.until = last.until.max(from.saturating_add(1));
+                return true;
+            }
+        }
+        false
+    }
+
+    /// Notes the couple's pair at an index: in the last note, where that is of an earlier one of that couple.
     pub(crate) fn add(&mut self, couple: CoupleNo, from: u32) -> Result<(), AllocError>
         ensures { OnOk result (AddsNote self.old self.new couple from) }
     {
-        if let Some(last) = self.notes.last() {
-            if last.couple == couple && last.from <= from {
-                return Ok(());
-            }
+        if self.last == Some(couple) && self.extend(couple, from) {
+            return Ok(());
         }
-        self.notes.push(Note { couple, from })?;
+        self.last = Some(couple);
+        self.notes.push(Note {
+            couple,
+            from,
+            until: from.saturating_add(1),
+        })?;
         Ok(())
     }
 

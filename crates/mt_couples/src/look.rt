@@ -1,4 +1,4 @@
-ghost use Rattle.std.specs.Prelude.{◌≡◌, ◌≤◌, ◌<◌, ℕ, length, slice_index, true, false, [], ◌∷◌, IfOk, OnOk};
+ghost use Rattle.std.specs.Prelude.{◌≡◌, ◌≤◌, ◌<◌, ℕ, length, slice_index, true, false, [], ◌∷◌, IfNone, IfOk, IfSome, OnOk};
 ghost use Rattle.std.specs.List.Sorted.{IsNonDecreasing};
 ghost use Rattle.mt_terms.specs.Lists.{has};
 ghost use Rattle.mt_terms.specs.Market.{applicants};
@@ -6,14 +6,15 @@ ghost use Rattle.mt_terms.specs.Rounds.{has_entered};
 ghost use Rattle.mt_terms.specs.WellFormed.{IsWellFormed};
 ghost use Rattle.mt_ranks.specs.Ranked.{rank_of};
 ghost use Rattle.mt_couples.specs.Assigned.{AreApplicantsOf, AreProgramsOf, IsAgentOf};
-ghost use Rattle.mt_couples.specs.Looking.{is_noted_reopened, AddsCouples, AddsSingles, AreRanksOf, HaveReopened, IsWatching, Keeps};
+ghost use Rattle.mt_couples.specs.Looking.{is_noted_reopened, AddsCouples, AddsSingles, AreRanksOf, HaveReopened, IsClosed, IsOpenFrom, IsWatching, Keeps};
 ghost use Rattle.mt_couples.specs.Moves.{blockers, reopened};
 ghost use Rattle.mt_couples.specs.Running.{is_idle, is_reopened, IsQuietBut};
 ghost use Rattle.mt_couples.specs.Waiting.{IsKnown, IsListOf, Joins};
-ghost use Rattle.mt_couples.specs.Watching.{AreCounted, Covers};
+ghost use Rattle.mt_couples.specs.Watching.{is_in, AreCounted, Covers};
 
 use crate::assignment::Assignment;
 use crate::couple_list::Note;
+use crate::rank_set::RankSet;
 use crate::watch::Watch;
 use crate::work_list::WorkList;
 use mt_terms::{Agent, AppNo, CoupleNo, ProgNo};
@@ -53,11 +54,32 @@ fn is_reopened(
     is_idle(agent, last, waiting) && assignment.opens(agent, left)
 }
 
-/// Adds those applicants, of these ranks on a program's list, whose agents are reopened by an option there.
+/// The first of these ranks on a program's list that isn't below a number, where the program has a post for it. It has
+/// none for a later rank where it has none for this one.
+fn first_with_post(
+    assignment: &Assignment<'_>,
+    program: ProgNo,
+    ranks: &RankSet,
+    number: usize,
+) -> Option<u32>
+    requires { program < length assignment.now.market.programs }
+    ensures some { IfSome result (IsOpenFrom assignment.now program (is_in ranks.now) number) }
+    ensures none { IfNone result ((r : ℕ) → number ≤ r → IsClosed assignment.now program (is_in ranks.now) r) }
+{
+    let rank = ranks.first_from(number)?;
+    let is_on_list = (rank as usize) < assignment.ranking(program).len();
+    if is_on_list && assignment.has_post(program, rank) {
+        Some(rank)
+    } else {
+        None
+    }
+}
+
+/// Adds those singles, of these ranks on a program's list, that are reopened by an option there.
 fn add_by_rank(
     assignment: &Assignment<'_>,
     program: ProgNo,
-    ranks: &[u32],
+    ranks: &RankSet,
     last: CoupleNo,
     waiting: &WorkList,
     found: &mut Vec<AppNo>,
@@ -67,24 +89,23 @@ fn add_by_rank(
     requires found { AreApplicantsOf assignment.now.market found.old.items }
     ensures found { OnOk result (AreApplicantsOf assignment.now.market found.new.items) }
     ensures keeps { OnOk result (Keeps found.old.items found.new.items) }
-    ensures adds { OnOk result (AddsSingles last assignment.now program waiting.now.agents ranks.now found.new.items) }
+    ensures adds { OnOk result (AddsSingles last assignment.now program waiting.now.agents (is_in ranks.now) found.new.items) }
 {
     let ranking = assignment.ranking(program);
-    for rank in ranks {
-        let place = *rank as usize;
-        if place < ranking.len() {
-            let applicant = ranking[place];
-            let agent = assignment.agent_of(applicant);
-            if is_reopened(assignment, &agent, &[program], last, waiting) {
-                found.push(applicant)?;
-            }
+    let mut next = 0;
+    while let Some(rank) = first_with_post(assignment, program, ranks, next) {
+        next = rank as usize + 1;
+        let applicant = ranking[rank as usize];
+        let agent = assignment.agent_of(applicant);
+        if is_reopened(assignment, &agent, &[program], last, waiting) {
+            found.push(applicant)?;
         }
     }
     Ok(())
 }
 
 /// Whether the couple of a note at the program has entered, doesn't wait, and has a better pair there that would be
-/// taken. Its pairs are gone through from the one that is noted on, up to its own.
+/// taken. Its pairs are gone through from the first one that is noted up to the last, or up to its own.
 fn is_noted_reopened(
     assignment: &Assignment<'_>,
     watch: &Watch,
@@ -99,10 +120,10 @@ fn is_noted_reopened(
     ensures { result ≡ is_noted_reopened last assignment.now watch.now program waiting.now.agents note.now }
 {
     let from = note.from as usize;
-    let better = watch.better(note.couple);
-    from < better
+    let end = note.end(watch.better(note.couple));
+    from < end
         && is_idle(&Agent::Couple(note.couple), last, waiting)
-        && assignment.opens_between(note.couple, program, from, better)
+        && assignment.opens_between(note.couple, program, from, end)
 }
 
 /// Adds the members of the couples that are reopened by an option at the program.

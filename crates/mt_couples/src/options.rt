@@ -107,7 +107,7 @@ impl<'a> Assignment<'a> {
     }
 
     /// Whether the program has a post for a rank, by those that are there.
-    fn has_post(&self, program: ProgNo, rank: u32) -> bool
+    pub(crate) fn has_post(&self, program: ProgNo, rank: u32) -> bool
         requires program { program < length self.now.market.programs }
         ensures post { result ≡ has_post self.now program rank }
         ensures assigned { IsAssigned self.now }

@@ -1,59 +1,72 @@
-ghost use Rattle.std.specs.Prelude.{◌≡◌, ◌||◌, ◌==◌, ℕ, [], IfOk, OnOk};
-ghost use Rattle.mt_terms.specs.Lists.{has};
+ghost use Rattle.std.specs.Prelude.{◌≡◌, ℕ, ◌≤◌, false, length, [], IfNone, IfSome, OnOk};
+ghost use Rattle.mt_terms.specs.Lists.{with_one};
+ghost use Rattle.mt_hold.specs.Flags.{flag};
+ghost use Rattle.mt_couples.specs.Watching.{is_in, IsFirstFrom};
 
 use std::alloc::{AllocError, Global};
 use std::marker::Model;
 
-/// A set of ranks on a list of some length, to which one is added at once.
+/// A set of ranks on a list.
 #[derive(Drop)]
 pub(crate) struct RankSet {
-    ranks: Vec<u32>,
-    /// Whether a rank of the list is among them.
-    told: Vec<bool>,
+    /// One bit for each rank, as far as one was added.
+    words: Vec<u64>,
 }
 
 impl Model for RankSet {
-    ghost use Rattle.std.specs.Prelude.{List, ℕ};
+    ghost use Rattle.std.specs.Prelude.{Bool, List};
 
-    ghost Value = { List ℕ };
+    ghost Value = { List Bool };
 
-    ghost use Rattle.mt_couples.specs.View.{ranks_in, AreTold};
+    ghost use Rattle.mt_couples.specs.View.{ranks_in, AreFewWords};
 
     ghost view = { ranks_in };
 
-    ghost invariant = { AreTold };
+    ghost invariant = { AreFewWords };
+}
+
+/// The first rank whose bit is set that isn't below a number.
+fn first_flag_from(words: &[u64], number: usize) -> Option<u32>
+    requires few { length words.now ≤ 67108864 }
+    ensures first { IfSome result (IsFirstFrom (flag words.now) number) }
+    ensures none { IfNone result ((r : ℕ) → number ≤ r → flag words.now r ≡ false) }
+{
+    let mut start = number;
+    let mut word = *words.get(start / 64)? >> (start % 64);
+    while word == 0 {
+        start = 64 * (start / 64 + 1);
+        word = *words.get(start / 64)?;
+    }
+    Some(start as u32 + word.trailing_zeros())
 }
 
 impl RankSet {
-    /// No ranks, of a list of this length.
-    pub(crate) fn new(alloc: Global, length: usize) -> Result<Self, AllocError>
-        ensures { IfOk result (λ s. s ≡ []) }
+    /// No ranks.
+    pub(crate) fn new(alloc: Global) -> Self
+        ensures { result ≡ [] }
     {
-        Ok(RankSet {
-            ranks: Vec::new(alloc),
-            told: Vec::from_elem(alloc, false, length)?,
-        })
+        RankSet {
+            words: Vec::new(alloc),
+        }
     }
 
     /// Adds a rank.
     pub(crate) fn insert(&mut self, rank: u32) -> Result<(), AllocError>
-        ensures { OnOk result ((r : ℕ) → has self.new r ≡ (has self.old r || rank == r)) }
+        ensures { OnOk result ((r : ℕ) → is_in self.new r ≡ with_one (is_in self.old) rank r) }
     {
-        let place = rank as usize;
-        if self.told.get(place).copied().unwrap_or(false) {
-            return Ok(());
+        let place = rank as usize / 64;
+        if self.words.len() <= place {
+            self.words.resize(place + 1, 0)?;
         }
-        self.ranks.push(rank)?;
-        if place < self.told.len() {
-            self.told[place] = true;
-        }
+        self.words[place] |= 1 << (rank % 64);
         Ok(())
     }
 
-    /// The ranks, in any order.
-    pub(crate) fn as_slice(&self) -> &[u32]
-        ensures { result.now ≡ self.now }
+    /// The first of the ranks that isn't below a number.
+    pub(crate) fn first_from(&self, number: usize) -> Option<u32>
+        ensures first { IfSome result (IsFirstFrom (is_in self.now) number) }
+        ensures none { IfNone result ((r : ℕ) → number ≤ r → is_in self.now r ≡ false) }
     {
-        self.ranks.as_slice()
+        first_flag_from(&self.words, number)
     }
 }

@@ -1,6 +1,6 @@
 ghost use Rattle.std.specs.Prelude.{◌≡◌, ◌+◌, ◌<◌, ℕ, length, min, slice_index_or, IfOk, OnOk};
 ghost use Rattle.mt_terms.specs.Market.{applicants};
-ghost use Rattle.mt_couples.specs.Watching.{better_pairs, row_at, AreCounted, AreEmpty, AreNamed, AreWatched, Counts, CountsCouple, Follows, Notes, Watches};
+ghost use Rattle.mt_couples.specs.Watching.{better_pairs, is_in, ranks_at, row_at, AreCounted, AreEmpty, AreNamed, AreWatched, Counts, CountsCouple, Follows, Notes, Watches};
 
 use crate::assignment::Assignment;
 use crate::couple_list::{CoupleList, Note};
@@ -24,20 +24,51 @@ fn no_ranks(alloc: Global, assignment: &Assignment<'_>) -> Result<Vec<RankSet>, 
     ensures { IfOk result (λ v. length v.items ≡ length assignment.now.market.programs) }
 {
     let mut rows = Vec::new(alloc);
-    for number in 0..assignment.roster().programs() {
-        let ranking = assignment.ranking(ProgNo(number));
-        rows.push(RankSet::new(alloc, ranking.len())?)?;
+    for _ in 0..assignment.roster().programs() {
+        rows.push(RankSet::new(alloc))?;
     }
     Ok(rows)
 }
 
-/// No couples for each program.
+/// Counts a pair at the program of a place, if there is one.
+fn count_place(counts: &mut Vec<usize>, place: Option<ProgNo>) {
+    if let Some(program) = place {
+        if program.index() < counts.len() {
+            let count = &mut counts[program.index()];
+            *count = count.saturating_add(1);
+        }
+    }
+}
+
+/// Counts the pairs of a couple at each program that they name.
+fn count_pairs(assignment: &Assignment<'_>, couple: CoupleNo, counts: &mut Vec<usize>)
+    requires { couple < length assignment.now.market.couples }
+{
+    for pair in assignment.pairs(couple) {
+        count_place(counts, pair.0);
+        count_place(counts, pair.1);
+    }
+}
+
+/// How many pairs of all couples name each program.
+fn pair_counts(alloc: Global, assignment: &Assignment<'_>) -> Result<Vec<usize>, AllocError> {
+    let roster = assignment.roster();
+    let mut counts = Vec::from_elem(alloc, 0usize, roster.programs() as usize)?;
+    for number in 0..roster.couples() {
+        count_pairs(assignment, CoupleNo(number), &mut counts);
+    }
+    Ok(counts)
+}
+
+/// No couples for each program, with room for a note of each pair that names it.
 fn no_couples(alloc: Global, assignment: &Assignment<'_>) -> Result<Vec<CoupleList>, AllocError>
     ensures { IfOk result (λ v. AreEmpty assignment.now.market v.items) }
 {
-    let mut rows = Vec::new(alloc);
-    for _ in 0..assignment.roster().programs() {
-        rows.push(CoupleList::new(alloc))?;
+    let counts = pair_counts(alloc, assignment)?;
+    let mut rows = Vec::with_capacity(alloc, counts.len())?;
+    for number in 0..assignment.roster().programs() {
+        let pairs = counts.get(number as usize).copied().unwrap_or(0);
+        rows.push(CoupleList::with_capacity(alloc, pairs)?)?;
     }
     Ok(rows)
 }
@@ -112,13 +143,11 @@ impl Watch {
     }
 
     /// The ranks that are watched at a program.
-    pub(crate) fn singles(&self, program: ProgNo) -> &[u32]
-        ensures { result.now ≡ row_at self.now.singles.items program }
+    pub(crate) fn singles(&self, program: ProgNo) -> &RankSet
+        requires { program < length self.now.singles.items }
+        ensures { is_in result.now ≡ ranks_at self.now.singles.items program }
     {
-        match self.singles.get(program.index()) {
-            Some(row) => row.as_slice(),
-            None => &[],
-        }
+        &self.singles[program.index()]
     }
 
     /// The notes of the couples that name a program.

@@ -1,5 +1,5 @@
 use Rattle.std.proofs.Common.{◌≡◌, length}
 use Rattle.mt_couples.proofs.watch.no_ranks.Given as goal
 
-abbrev pub invariant-loop-number : goal.invariant-loop-number
-invariant-loop-number l = length l.rows.items ≡ l.number
+abbrev pub invariant-loop : goal.invariant-loop
+invariant-loop l = length l.rows.items ≡ l.counter

@@ -1,6 +1,6 @@
 use Rattle.std.proofs.Common.{◌≡◌, ◌<◌, ℕ, true, length, get_or}
 use Rattle.mt_terms.specs.Market.{Pair}
-use Rattle.mt_couples.specs.Watching.{is_noted, names, row_at, KeepsNotes}
+use Rattle.mt_couples.specs.Watching.{has_couple, is_noted, names, row_at, KeepsNotes}
 use Rattle.mt_couples.proofs.watch.Watch.enter.Given as goal
 
 abbrev pub invariant-loop-index : goal.invariant-loop-index
@@ -11,5 +11,5 @@ invariant-loop-index l = record {
   keeps : KeepsNotes l.initial.self.couples.items l.self.couples.items;
   adds : (i : ℕ) → i < l.index → (p : ℕ) (pair : Pair) → p < length l.initial.self.couples.items → pair ≡ get_or l.pair-items i pair → names p pair ≡ true
       → is_noted (row_at l.self.couples.items p) l.fn.couple i ≡ true;
-  within : (p c i : ℕ) → is_noted (row_at l.self.couples.items p) c i ≡ true → c < length l.assignment.market.couples;
+  within : (p c : ℕ) → has_couple (row_at l.self.couples.items p) c ≡ true → c < length l.assignment.market.couples;
 }

@@ -1,7 +1,7 @@
 use Rattle.std.proofs.Common.{◌∙◌, ◌<◌, ap, sym, subst, inl, inr, arith}
 use Rattle.std.proofs.lemmas.Bool.{cases_eq, false≢true}
 use Rattle.mt_terms.specs.Market.{applicants}
-use Rattle.mt_couples.specs.Watching.{is_noted, IsWatched}
+use Rattle.mt_couples.specs.Watching.{has_couple, IsWatched}
 use Rattle.mt_couples.proofs.WatchFacts.{watched_now, watched_still}
 use Rattle.mt_couples.proofs.watch.Watch.new.Goals as goal
 
@@ -28,5 +28,5 @@ returns-clause-named c =
     record {
       one_each = none.one_each;
       each = λ d low. absurd (omega arith);
-      within = λ p d i on. absurd (false≢true (ap (λ notes. is_noted notes d i) (sym (none.none p)) ∙ on));
+      within = λ p d on. absurd (false≢true (ap (λ notes. has_couple notes d) (sym (none.none p)) ∙ on));
     }

@@ -1,0 +1,17 @@
+use Rattle.std.proofs.Common.{◌≡◌, ◌∙◌, ◌++◌, ◌∷◌, [], List, ap, subst, sym}
+use Rattle.mt_couples.specs.Watching.{AddsNote}
+use Rattle.mt_couples.specs.declared.couple_list.Note.{Note}
+use Rattle.mt_couples.proofs.NoteFacts.{note_added}
+use Rattle.mt_couples.proofs.couple_list.CoupleList.add.Goals as goal
+use Rattle.mt_couples.proofs.couple_list.CoupleList.add.Goals.{else-eq-via-then-eq+else-extend, else-eq-via-else-eq}
+
+pub returns : goal.returns
+returns c =
+    let new : Note = record { couple = c.args.couple; from = c.args.from; until = c.saturating_add.result } in
+    let kept : c.self-2.inside.notes.items ≡ c.args.self.now = c.self-2.view_is ∙ elim c.else-eq.branch [
+      | else-eq-via-then-eq+else-extend w ↦ w.self-is ∙ w.extend.ensures.same w.if-extend.false
+      | else-eq-via-else-eq w ↦ w.self-is
+    ] in
+    subst (λ xs. AddsNote c.args.self.now xs c.args.couple c.args.from) (sym c.in_ok-push.ensures.items)
+    (subst (λ xs. AddsNote c.args.self.now (xs ++ new ∷ []) c.args.couple c.args.from) (sym kept)
+    (note_added c.args.self.now new c.saturating_add.ensures))
