@@ -1,11 +1,10 @@
 -- Ranks are noted at the programs of entries, one after another.
-use Rattle.std.proofs.Common.{◌≡◌, ℕ, zero, suc, ◌+◌, ◌<◌, ◌≤◌, ◌⊎◌, List, [], ◌∷◌, ◌++◌, Some, None, cond, eqb, length, get_or, set, map, replicate, refl, sym, ap, ◌∙◌, inl, inr, arith}
-use Rattle.std.specs.List.{All}
+use Rattle.std.proofs.Common.{◌≡◌, ℕ, zero, suc, ◌+◌, ◌<◌, ◌≤◌, ◌⊎◌, List, [], ◌∷◌, ◌++◌, Some, eqb, length, get_or, set, map, replicate, sym, ap, ◌∙◌, inl, inr, arith}
 use Rattle.std.proofs.lemmas.Bool.{cases_Bool, cases_eq, cases_lt, eq-eqb, ne_eqb}
 use Rattle.std.proofs.lemmas.List.{get_or-set_same, get_or-set_other, length-set, get_or_read, get_or_past, get_or-replicate, length-replicate}
 use Rattle.std.proofs.lemmas.List.FromFn.{get_or-map-range_with_len, length-map-range_with_len}
 use Rattle.mt_terms.specs.Lists.{below}
-use Rattle.mt_terms.specs.Market.{Market, Program}
+use Rattle.mt_terms.specs.Market.{Market}
 use Rattle.mt_ranks.specs.Entries.{AscendFrom, entries_in, entries_from, own_entries, rank_among, rankings_of}
 use Rattle.mt_ranks.specs.Notes.{AreBefore, ProgramsWithin, note_of, rank_noted}
 use Rattle.mt_ranks.specs.Rows.{Filling, row_of}
