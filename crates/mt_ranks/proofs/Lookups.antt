@@ -36,12 +36,12 @@ programs_rise from (x ∷ xs) zero (suc j) d h le w = omega (arith, all_from (x.
 programs_rise from (x ∷ xs) (suc i) zero d h le w = absurd (omega arith)
 programs_rise from (x ∷ xs) (suc i) (suc j) d h le w = programs_rise (x.program + 1) xs i j d h.1 (omega arith) (omega arith)
 
-found : (from : ℕ) (xs : List Live) (p i : ℕ) (d : Live) → AscendFrom from xs → i < length xs → (get_or xs i d).program ≡ p → Some (get_or xs i d).rank ≡ rank_among xs p
+pub found : (from : ℕ) (xs : List Live) (p i : ℕ) (d : Live) → AscendFrom from xs → i < length xs → (get_or xs i d).program ≡ p → Some (get_or xs i d).rank ≡ rank_among xs p
 found from [] p i d h w e = absurd (omega arith)
 found from (x ∷ xs) p zero d h w e = rw (eq-eqb x.program p e) refl
 found from (x ∷ xs) p (suc i) d h w e = rw (ne_eqb x.program p (omega (arith, all_from (x.program + 1) xs i d h.1 (omega arith)))) (found (x.program + 1) xs p i d h.1 (omega arith) e)
 
-absent : (xs : List Live) (p : ℕ) → ((k : ℕ) (d : Live) → k < length xs → (get_or xs k d).program ≡ p → ⊥) → None ≡ rank_among xs p
+pub absent : (xs : List Live) (p : ℕ) → ((k : ℕ) (d : Live) → k < length xs → (get_or xs k d).program ≡ p → ⊥) → None ≡ rank_among xs p
 absent [] p h = refl
 absent (x ∷ xs) p h = rw (ne_eqb x.program p (h 0 x (omega arith))) (absent xs p (λ k d w. h (suc k) d (omega arith)))
 

@@ -29,14 +29,14 @@ sum-range xs a b = omega (arith, sum_by-take-le (λ x. x) (drop a xs) (b - a), s
 pub many_times : (m : Market) (times : List ℕ) → times ≡ all_times m → length times ≡ applicants m
 many_times m times are = ap length are ∙ length-map-range_with_len (times_listed (rankings_of m)) 0 (applicants m)
 
-pub block_within : (number first size count n : ℕ) → first ≡ number * 25000 → size ≡ min 25000 (count - number * 25000) → count ≡ n → number * 25000 < n → first + size ≤ n
+pub block_within : (number first size count n : ℕ) → first ≡ number * 12500 → size ≡ min 12500 (count - number * 12500) → count ≡ n → number * 12500 < n → first + size ≤ n
 block_within number first size count n from long all some = omega arith
 
 -- as many blocks as have an applicant
-pub has_block : (number blocks count n : ℕ) → blocks ≡ div_ceil count 25000 → count ≡ n → number * 25000 < n → number < blocks
+pub has_block : (number blocks count n : ℕ) → blocks ≡ div_ceil count 12500 → count ≡ n → number * 12500 < n → number < blocks
 has_block number blocks count n are all some = omega arith
 
-pub block_begins : (number blocks count n : ℕ) → blocks ≡ div_ceil count 25000 → count ≡ n → number < blocks → number * 25000 < n
+pub block_begins : (number blocks count n : ℕ) → blocks ≡ div_ceil count 12500 → count ≡ n → number < blocks → number * 12500 < n
 block_begins number blocks count n are all some = omega arith
 
 pub times_of_block : (m : Market) (times : List ℕ) (from size : ℕ) → times ≡ all_times m → from + size ≤ applicants m → ListedTimes m from size (slice_range times from (from + size))
@@ -70,7 +70,7 @@ part_made P low (suc n) (part ∷ made) each (suc k) w =
     (omega (arith, rest.0), subst (λ j. P j (part_of made k)) same rest.1)
 
 pub parts_by_threads : (m : Market) (start end n : ℕ) (ns : List ℕ) (made : List (Result Part AllocError)) (r : Result (Vec Part Global) AllocError)
-    → start ≡ 0 → end ≡ n → ((number : ℕ) → number * 25000 < applicants m → number < n) → ns ≡ nat_range start end
+    → start ≡ 0 → end ≡ n → ((number : ℕ) → number * 12500 < applicants m → number < n) → ns ≡ nat_range start end
     → AllZip (λ k (r : Result Part AllocError). IfOk r (IsPart m k)) ns made
     → MatchResult r (λ v. (vs : List Part) × (made ≡ map Ok vs) × (v.items ≡ vs)) (λ e. Contains made (Err e))
     → IfOk r (λ v. AreParts m v.items)
@@ -89,35 +89,35 @@ parts_by_threads m start end n ns made (Ok v) from to enough are each is =
 
 -- Below, an applicant is looked up in the part of its block.
 module _ (m : Market) (parts : List Part) (are : AreParts m parts) (a : ℕ) (within : a < applicants m) where
-  own_part : IsPart m (a / 25000) (part_of parts (a / 25000))
-  own_part = are.each (a / 25000) (omega arith)
+  own_part : IsPart m (a / 12500) (part_of parts (a / 12500))
+  own_part = are.each (a / 12500) (omega arith)
 
-  in_block : a % 25000 < block_size (a / 25000) (applicants m)
+  in_block : a % 12500 < block_size (a / 12500) (applicants m)
   in_block = omega arith
 
-  own_place : (a / 25000) * 25000 + a % 25000 ≡ a
+  own_place : (a / 12500) * 12500 + a % 12500 ≡ a
   own_place = omega arith
 
   pub row_found : row_among parts a ≡ own_entries m a
   row_found =
-      ap (λ rows. get_or rows (a % 25000) []) own_part.rows
-      ∙ get_or-map-range_with_len (λ k. own_entries m ((a / 25000) * 25000 + k)) 0 (block_size (a / 25000) (applicants m)) (a % 25000) (a % 25000) [] in_block (omega arith)
+      ap (λ rows. get_or rows (a % 12500) []) own_part.rows
+      ∙ get_or-map-range_with_len (λ k. own_entries m ((a / 12500) * 12500 + k)) 0 (block_size (a / 12500) (applicants m)) (a % 12500) (a % 12500) [] in_block (omega arith)
       ∙ ap (own_entries m) own_place
 
   pub live_found : live_among parts a ≡ entries_among (own_entries m a) (list_of m a)
   live_found =
-      let rows = (part_of parts (a / 25000)).rows in
-      ap (λ lists. get_or lists (a % 25000) []) own_part.lists
-      ∙ get_or-map-range_with_len (λ k. entries_among (row_of rows k) (list_of m ((a / 25000) * 25000 + k))) 0 (block_size (a / 25000) (applicants m)) (a % 25000) (a % 25000) [] in_block (omega arith)
-      ∙ ap (λ b. entries_among (row_of rows (a % 25000)) (list_of m b)) own_place
+      let rows = (part_of parts (a / 12500)).rows in
+      ap (λ lists. get_or lists (a % 12500) []) own_part.lists
+      ∙ get_or-map-range_with_len (λ k. entries_among (row_of rows k) (list_of m ((a / 12500) * 12500 + k))) 0 (block_size (a / 12500) (applicants m)) (a % 12500) (a % 12500) [] in_block (omega arith)
+      ∙ ap (λ b. entries_among (row_of rows (a % 12500)) (list_of m b)) own_place
       ∙ ap (λ es. entries_among es (list_of m a)) row_found
 
   pub applicant_held : HaveApplicant parts a
   applicant_held =
-      let rows = (part_of parts (a / 25000)).rows in
-      let size = block_size (a / 25000) (applicants m) in
+      let rows = (part_of parts (a / 12500)).rows in
+      let size = block_size (a / 12500) (applicants m) in
       record {
-        part = are.enough (a / 25000) (omega arith);
-        list = omega (arith, in_block, ap length own_part.lists, length-map-range_with_len (λ k. entries_among (row_of rows k) (list_of m ((a / 25000) * 25000 + k))) 0 size);
-        row = omega (arith, in_block, ap length own_part.rows, length-map-range_with_len (λ k. own_entries m ((a / 25000) * 25000 + k)) 0 size);
+        part = are.enough (a / 12500) (omega arith);
+        list = omega (arith, in_block, ap length own_part.lists, length-map-range_with_len (λ k. entries_among (row_of rows k) (list_of m ((a / 12500) * 12500 + k))) 0 size);
+        row = omega (arith, in_block, ap length own_part.rows, length-map-range_with_len (λ k. own_entries m ((a / 12500) * 12500 + k)) 0 size);
       }

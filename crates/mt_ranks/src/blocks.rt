@@ -4,7 +4,7 @@ use mt_terms::AppNo;
 
 /// How many applicants a block of the tables has, but for the last one. The tables of a block are made by a
 /// thread of its own, which goes through the lists of all programs: with smaller blocks there is more of that.
-pub(crate) const BLOCK: usize = 25000;
+pub(crate) const BLOCK: usize = 12500;
 
 /// A block of applicants: so many of them, from a number on.
 #[derive(Clone, Copy, Debug)]

@@ -1,6 +1,9 @@
-ghost use Rattle.std.specs.Prelude.{◌≡◌, ◌++◌, ◌∷◌, [], OnOk};
+ghost use Rattle.std.specs.Prelude.{◌≡◌, ℕ, ◌+◌, ◌<◌, ◌++◌, ◌∷◌, [], length, IsTrue, OnOk};
 ghost use Rattle.mt_ranks.specs.Entries.{AscendFrom, rank_among, entries_among};
+ghost use Rattle.mt_ranks.specs.Notes.{AreBefore, ProgramsWithin};
+ghost use Rattle.mt_terms.specs.Lists.{has};
 
+use crate::notes::{Note, note_ranks, noted_at};
 use mt_market::FlatLists;
 use mt_terms::ProgNo;
 use std::alloc::AllocError;
@@ -24,18 +27,27 @@ pub(crate) fn rank_at(entries: &[Live], program: ProgNo) -> Option<u32>
     }
 }
 
-/// Adds, as a list of its own, the entries of those programs on an applicant's list that list it too.
+/// Adds, as a list of its own, the entries of those programs on an applicant's list that list it too. They are noted
+/// in a turn of their own.
 pub(crate) fn push_live(
     lists: &mut FlatLists<Live>,
+    notes: &mut [Note],
+    turn: u32,
     list: &[ProgNo],
     entries: &[Live],
 ) -> Result<(), AllocError>
-    requires { AscendFrom 0 entries.now }
-    ensures { OnOk result (lists.new ≡ lists.old ++ entries_among entries.now list.now ∷ []) }
+    requires ascend { AscendFrom 0 entries.now }
+    requires entries { ProgramsWithin (length notes.old) entries.now }
+    requires list { (p : ℕ) → IsTrue (has list.now p) → p < length notes.old }
+    requires earlier { AreBefore turn notes.old }
+    ensures listed { OnOk result (lists.new ≡ lists.old ++ entries_among entries.now list.now ∷ []) }
+    ensures len { length notes.new ≡ length notes.old }
+    ensures before { AreBefore (turn + 1) notes.new }
 {
+    note_ranks(notes, turn, entries);
     lists.begin()?;
     for program in list {
-        if let Some(rank) = rank_at(entries, *program) {
+        if let Some(rank) = noted_at(notes, turn, *program) {
             lists.push(Live {
                 program: *program,
                 rank,

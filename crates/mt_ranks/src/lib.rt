@@ -4,6 +4,7 @@
 
 mod blocks;
 mod entries;
+mod notes;
 mod rows;
 mod tables;
 mod transpose;

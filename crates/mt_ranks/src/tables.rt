@@ -3,11 +3,13 @@ ghost use Rattle.mt_terms.specs.Lists.{has};
 ghost use Rattle.mt_terms.specs.Market.{applicants, program_of};
 ghost use Rattle.mt_ranks.specs.Entries.{AscendFrom, all_times};
 ghost use Rattle.mt_ranks.specs.Ranked.{IsRank, IsEntry, IsRanked, is_single_agent, rank_of, ranked_list, ranked_of, ranking_of};
+ghost use Rattle.mt_ranks.specs.Notes.{ProgramsWithin};
 ghost use Rattle.mt_ranks.specs.Parts.{live_among, row_among, AreParts, HaveApplicant, IsPart};
 ghost use Rattle.mt_ranks.specs.Rows.{listed_rows, row_of};
 
 use crate::blocks::{BLOCK, Block};
 use crate::entries::{Live, push_live, rank_at};
+use crate::notes::Note;
 use crate::rows::Rows;
 use crate::transpose::{listed, of_block, transpose};
 use mt_market::{FlatLists, Roster};
@@ -64,13 +66,22 @@ fn live_lists(
     requires block { block.first + block.size ≤ applicants roster.now.market }
     requires rows { length rows.now.lists ≡ block.size }
     requires ascend { (k : ℕ) → AscendFrom 0 (row_of rows.now k) }
+    requires within { (k : ℕ) → ProgramsWithin (length roster.now.market.programs) (row_of rows.now k) }
     ensures { IfOk result (λ lists. lists ≡ listed_rows roster.now.market block.first block.size rows.now) }
 {
     roster.is_of_a_file();
     let mut lists = FlatLists::new(alloc);
+    let mut notes = Vec::from_elem(alloc, Note { turn: 0, rank: 0 }, roster.programs() as usize)?;
     for place in 0..block.size {
         let applicant = AppNo((block.first + place) as u32);
-        push_live(&mut lists, roster.single_list(applicant), rows.row(place))?;
+        let turn = place as u32 + 1;
+        push_live(
+            &mut lists,
+            &mut notes,
+            turn,
+            roster.single_list(applicant),
+            rows.row(place),
+        )?;
     }
     Ok(lists)
 }

@@ -11,6 +11,9 @@ use mt_market::Roster;
 use mt_terms::{AppNo, Match, ProgNo};
 use std::alloc::{AllocError, Global};
 
+/// As many bytes as the line of an applicant or a program takes at most where ids are short.
+const LINE_LEN: usize = 32;
+
 /// Adds a comma and a number.
 fn push_number(text: &mut Vec<u8>, number: u64) -> Result<(), AllocError>
     ensures ok { OnOk result (text.new.items ≡ text.old.items ++ codes "," ++ decimal number) }
@@ -194,6 +197,12 @@ fn push_totals(
     push_numbers(text, applicants, unmatched, positions, unfilled)
 }
 
+/// How much room a text is given at once, for its lines of applicants and programs. A longer one takes more as it
+/// grows.
+fn likely_len(roster: &Roster) -> usize {
+    (roster.applicants() as usize + roster.programs() as usize) * LINE_LEN
+}
+
 /// The text of a match: every applicant with its place, every program with how many are placed there and how
 /// many proposals of singles it received, and the totals. There is one place for each applicant, each of
 /// them a program of the roster, and one number of proposals for each program.
@@ -208,7 +217,8 @@ pub fn published(
     ensures { IfOk result (λ v. v.items ≡ published_text roster.now.market roster.now.names matched.now.places received.now) }
 {
     let counts = filled_counts(alloc, roster.programs() as usize, matched.places.as_slice())?;
-    let mut text = Vec::from_slice(alloc, b"match,1,published\n")?;
+    let mut text = Vec::with_capacity(alloc, likely_len(roster))?;
+    text.extend_from_slice(b"match,1,published\n")?;
     push_applicants(&mut text, roster, matched)?;
     push_programs(&mut text, roster, matched, &counts, received)?;
     push_totals(&mut text, roster, matched, &counts)?;

@@ -66,6 +66,12 @@ module _ (m : Market) (places : Places) (a : ℕ) where
       ∙ passes_at (λ q. holds places (single_placement a q)) (λ q. would_be_taken m places (single_placement a q)) (list_of m a) 0 k within none
       (subst (λ (q : ℕ). IsFalse (holds places (single_placement a q))) read other) (subst (λ (q : ℕ). IsTrue (would_be_taken m places (single_placement a q))) read taken)
 
+  pub no_program_more : (k p : ℕ) → p ≡ get_or (list_of m a) k 0 → NoProgramYet k → IsFalse (holds places (single_placement a p)) → IsFalse (would_be_taken m places (single_placement a p))
+      → NoProgramYet (k + 1)
+  no_program_more k p read none other refused =
+      below_more (λ j. IsFalse (holds places (single_placement a (get_or (list_of m a) j 0))) × IsFalse (would_be_taken m places (single_placement a (get_or (list_of m a) j 0)))) k none
+      (subst (λ (q : ℕ). IsFalse (holds places (single_placement a q))) read other, subst (λ (q : ℕ). IsFalse (would_be_taken m places (single_placement a q))) read refused)
+
   pub at_no_program : NoProgramYet (length (list_of m a)) → position (would_be_taken m places) (better m places (Single a)) ≡ None
   at_no_program none =
       position_mapped (holds places) (would_be_taken m places) (single_placement a) (list_of m a)

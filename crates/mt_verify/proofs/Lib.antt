@@ -1,4 +1,6 @@
 pub mod BlockingFacts
+pub mod EntryFacts
+pub mod FewerFacts
 pub mod FindFacts
 pub mod MarketFacts
 pub mod OptionFacts

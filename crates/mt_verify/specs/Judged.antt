@@ -1,10 +1,10 @@
 -- A match beside the market that it is judged by, and what the verdict asks of the two.
-use Rattle.std.specs.Prelude.{ℕ, ◌<◌, Bool, List, length, take, Option, IsFalse}
+use Rattle.std.specs.Prelude.{ℕ, ◌<◌, Bool, List, length, nat_lt, take, Option, IsFalse}
 use Rattle.std.specs.List.{find, position}
 use Rattle.std.specs.Option.{option_map}
 use Rattle.mt_terms.specs.Lists.{below, count, has}
 use Rattle.mt_terms.specs.Market.{Market, Pair, agents, applicants, program_of}
-use Rattle.mt_terms.specs.Matching.{Places, at, better, couple_placement, place_of, send, single_placement}
+use Rattle.mt_terms.specs.Matching.{Places, at, better, couple_placement, place_of, send}
 use Rattle.mt_terms.specs.Stability.{blocks, is_chosen, is_listed, would_be_taken}
 use Rattle.mt_terms.specs.Registration.Accepted.{is_none_or_below}
 use Rattle.mt_terms.specs.Verdict.{is_over, is_unlisted}
@@ -49,10 +49,6 @@ first_blocker j = option_map (blocker j.market j.places) (first_blocking j)
 abbrev pub first_taken : Judged → Agent → Option ℕ
 first_taken j g = position (would_be_taken j.market j.places) (better j.market j.places g)
 
--- whether a program would take a single
-abbrev pub takes_single : Judged → ℕ → ℕ → Bool
-takes_single j a p = would_be_taken j.market j.places (single_placement a p)
-
 -- whether a pair's programs would take both members
 abbrev pub takes_pair : Judged → ℕ → ℕ → Pair → Bool
 takes_pair j a b pair = would_be_taken j.market j.places (couple_placement a b pair)
@@ -76,6 +72,10 @@ front j p rank = take rank (program_of j.market p).ranking
 abbrev pub count_above : Judged → ℕ → ℕ → ℕ
 count_above j p rank = count (at j.places p) (front j p rank)
 
--- the same, with an applicant moved to a place
+-- whether these are fewer than its quota
+abbrev pub has_post : Judged → ℕ → ℕ → Bool
+has_post j p rank = nat_lt (count_above j p rank) (program_of j.market p).quota
+
+-- how many stand above it, with an applicant moved to a place
 abbrev pub count_above_moved : Judged → ℕ → ℕ → ℕ → Option ℕ → ℕ
 count_above_moved j p rank a place = count (at_moved j.places a place p) (front j p rank)

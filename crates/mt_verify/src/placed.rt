@@ -4,15 +4,12 @@ ghost use Rattle.mt_terms.specs.Registration.Accepted.{IsRegistration};
 ghost use Rattle.mt_terms.specs.Lists.{count};
 ghost use Rattle.mt_verify.specs.Listed.{HoldRanks, HoldsRanksAt};
 
+use crate::verifier::LEAST_APPLICANTS;
 use mt_market::Roster;
 use mt_terms::{Match, ProgNo};
 use rayon::prelude::*;
 use std::alloc::{AllocError, Global};
 use std::thread::Threads;
-
-/// From twice as many programs on, their lists are gone through side by side. That a thread pays for itself with
-/// some hundreds of them is an estimate.
-const LEAST_PROGRAMS: usize = 256;
 
 /// Where those that are placed at the program stand on its list, in rising order.
 fn placed_at(
@@ -34,6 +31,14 @@ fn placed_at(
     Ok(ranks)
 }
 
+/// How many programs pay for a thread that goes through their lists: as many as there are for so many applicants
+/// as do. With few programs the lists are long.
+fn least_programs(roster: &Roster) -> usize {
+    let programs = roster.programs() as usize;
+    let applicants = roster.applicants() as usize;
+    LEAST_APPLICANTS * programs / applicants.max(1)
+}
+
 /// For each program the ranks of those that are placed there, in rising order.
 pub(crate) fn placed_by_program<R: Threads + Sync>(
     rt: &R,
@@ -46,7 +51,7 @@ pub(crate) fn placed_by_program<R: Threads + Sync>(
 {
     (0..roster.programs())
         .into_par_iter()
-        .with_min_len(LEAST_PROGRAMS)
+        .with_min_len(least_programs(roster))
         .map(
             |number: u32| -> Result<Vec<u32>, AllocError>
                 requires { number < length roster.now.market.programs }
@@ -62,4 +67,18 @@ pub(crate) fn count_below(ranks: &[u32], rank: u32) -> usize
     ensures { result ≡ count (λ r. nat_lt r rank) ranks.now }
 {
     ranks.partition_point(|placed| *placed < rank)
+}
+
+/// Whether fewer of these rising ranks than a number are below a rank.
+pub(crate) fn are_fewer_below(ranks: &[u32], rank: u32, number: u32) -> bool
+    requires { IsNonDecreasing ranks.now }
+    ensures { result ≡ nat_lt (count (λ r. nat_lt r rank) ranks.now) number }
+{
+    if number == 0 {
+        return false;
+    }
+    match ranks.get(number as usize - 1) {
+        Some(last) => rank <= *last,
+        None => true,
+    }
 }

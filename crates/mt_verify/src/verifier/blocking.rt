@@ -17,12 +17,17 @@ impl Verifier<'_> {
         ensures { result ≡ first_taken (judged self.now) (Single applicant) }
     {
         let place = self.matched.place(applicant);
+        let live = self.ranks.live(applicant);
+        let mut next = 0;
         for (option, program) in self.roster.single_list(applicant).iter().enumerate() {
             if place == Some(*program) {
                 return None;
             }
-            if self.takes_single(applicant, *program) {
-                return Some(option as u32);
+            if next < live.len() && live[next].program == *program {
+                if self.has_post(*program, live[next].rank) {
+                    return Some(option as u32);
+                }
+                next += 1;
             }
         }
         None

@@ -2,10 +2,10 @@ ghost use Rattle.std.specs.Prelude.{◌≡◌, ◌≢◌, ◌<◌, length, IsTru
 ghost use Rattle.mt_terms.specs.Registration.Accepted.{is_pair_below};
 ghost use Rattle.mt_terms.specs.Lists.{has};
 ghost use Rattle.mt_terms.specs.Market.{applicants};
-ghost use Rattle.mt_verify.specs.Judged.{count_above, count_above_moved, front, is_known, takes_member, takes_pair, takes_single};
+ghost use Rattle.mt_verify.specs.Judged.{count_above, count_above_moved, front, has_post, is_known, takes_member, takes_pair};
 ghost use Rattle.mt_verify.specs.View.{judged};
 
-use crate::placed::count_below;
+use crate::placed::{are_fewer_below, count_below};
 use crate::verifier::Verifier;
 use mt_terms::{AppNo, ProgNo};
 
@@ -51,16 +51,12 @@ impl Verifier<'_> {
         there - usize::from(leaves) + usize::from(comes)
     }
 
-    /// Whether the program would choose the single, from those there and the single.
-    pub(super) fn takes_single(&self, applicant: AppNo, program: ProgNo) -> bool
-        requires applicant { applicant < applicants (judged self.now).market }
-        requires program { program < length (judged self.now).market.programs }
-        ensures { result ≡ takes_single (judged self.now) applicant program }
+    /// Whether fewer of those placed at the program than its quota stand above a rank on its list.
+    pub(super) fn has_post(&self, program: ProgNo, rank: u32) -> bool
+        requires { program < length (judged self.now).market.programs }
+        ensures { result ≡ has_post (judged self.now) program rank }
     {
-        match self.rank(program, applicant) {
-            Some(rank) => self.count_above(program, rank) < self.roster.quota(program) as usize,
-            None => false,
-        }
+        are_fewer_below(self.placed_at(program), rank, self.roster.quota(program))
     }
 
     /// Whether the member's place is none, or its program would choose it, with the member and its partner

@@ -12,7 +12,7 @@ collect-requires-clause-ready g c κs within =
     let are = c.as_slice-times.ensures.value ∙ c.in_ok-times.ensures.times in
     let few : sum times < 2 ^ 64 = subst (λ xs. sum xs < 2 ^ 64) (sym c.as_slice-times.ensures.value) c.in_ok-times.ensures.few in
     let blocks = c.div_ceil-blocks.result in
-    let inside = nat_range-All (λ k. k * 25000 < applicants m) 0 blocks (λ k low high. block_begins k blocks (length times) (applicants m) c.div_ceil-blocks.ensures (many_times m times are) high) in
+    let inside = nat_range-All (λ k. k * 12500 < applicants m) 0 blocks (λ k low high. block_begins k blocks (length times) (applicants m) c.div_ceil-blocks.ensures (many_times m times are) high) in
     rw (c.map.ensures.base, c.map.ensures.f, c.with_min_len.ensures.base, c.into_par_iter.ensures.0, c.into_par_iter.ensures.1)
     (λ k d lt. ((inside k d lt, are, few), λ y made. tt))
 

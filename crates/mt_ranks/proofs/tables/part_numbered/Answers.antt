@@ -1,11 +1,14 @@
-use Rattle.std.proofs.Common.{◌≡◌, ◌+◌, ℕ, List, ap, map, length, ◌∙◌, arith}
+use Rattle.std.proofs.Common.{◌≡◌, ◌+◌, ℕ, List, ap, map, length, subst, ◌∙◌, arith}
+use Rattle.std.proofs.lemmas.List.{length-map}
 use Rattle.std.proofs.lemmas.List.FromFn.{length-map-range_with_len}
 use Rattle.mt_terms.specs.Lists.{below}
-use Rattle.mt_terms.specs.Market.{applicants}
+use Rattle.mt_terms.specs.Market.{Program, applicants}
 use Rattle.mt_ranks.specs.Entries.{own_entries}
 use Rattle.mt_ranks.specs.Parts.{block_size}
-use Rattle.mt_ranks.specs.Rows.{listed_rows}
+use Rattle.mt_ranks.specs.Notes.{ProgramsWithin}
+use Rattle.mt_ranks.specs.Rows.{listed_rows, row_of}
 use Rattle.mt_ranks.specs.declared.entries.Live.{Live}
+use Rattle.mt_ranks.proofs.NoteFacts.{row_within}
 use Rattle.mt_ranks.proofs.PartsFacts.{sum-range, many_times, block_within, times_of_block, block_ascends}
 use Rattle.mt_ranks.proofs.tables.part_numbered.Goals as goal
 
@@ -44,6 +47,12 @@ pub live_lists-requires-clause-ascend : goal.live_lists-requires-clause-ascend
 live_lists-requires-clause-ascend c k =
     let block = c.numbered-block.result in
     block_ascends c.args.roster.now.market c.in_ok-rows.rows block.first block.size k c.is_of_a_file.ensures.well_formed c.in_ok-rows.ensures
+
+pub live_lists-requires-clause-within : goal.live_lists-requires-clause-within
+live_lists-requires-clause-within c k =
+    let m = c.args.roster.now.market in
+    let block = c.numbered-block.result in
+    subst (λ n. ProgramsWithin n (row_of c.in_ok-rows.rows k)) (length-map m.programs Program.ranking) (row_within m c.in_ok-rows.rows block.first block.size k c.in_ok-rows.ensures)
 
 pub returns : goal.returns
 returns c =
