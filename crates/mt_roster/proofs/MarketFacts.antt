@@ -5,7 +5,9 @@ use Rattle.std.specs.Prelude.{filter, filter_map, flat_map, bytes_eq, is_some, u
 use Rattle.std.specs.List.{list_all}
 use Rattle.std.proofs.lemmas.Bool.{and_parts}
 use Rattle.std.proofs.lemmas.Bool.Decides.{nat_tests}
+use Rattle.std.proofs.lemmas.List.{length-map}
 use Rattle.std.proofs.lemmas.List.Filters.{sum_by-filter_both}
+use Rattle.std.proofs.lemmas.List.Sums.{length-filter, count_by-le-length}
 use Rattle.mt_terms.specs.declared.limits.Limits.{Limits}
 use Rattle.mt_terms.specs.Market.{Pair}
 use Rattle.mt_terms.specs.Registration.Ids.{Bytes, has_id, number_of, all_differ}
@@ -16,14 +18,17 @@ use Rattle.mt_file_laws.specs.Staying.{stays_without, flagged, new_numbers, prog
 use Rattle.mt_file_laws.proofs.IdFacts.{not_true, differ_parts, same_id, neither, itself, or_left, or_right}
 use Rattle.mt_file_laws.proofs.NumberingFacts.{both}
 use Rattle.mt_file_laws.proofs.StayingFacts.{remaining_is, program_ids_stay, applicant_ids_stay, length-program_flags, length-applicant_flags, length-new_numbers, new_number, numbers_stay, pairs_stay}
+use Rattle.mt_roster.specs.declared.market.Unnamed.{Unnamed}
+use Rattle.mt_roster.specs.declared.names.NameLists.{NameLists}
 use Rattle.mt_roster.specs.declared.numbering.Entries.{Entries}
 use Rattle.mt_roster.specs.declared.numbering.Numbers.{Numbers}
 use Rattle.mt_records.specs.declared.record.Record.{Record as Checked}
 use Rattle.mt_roster.specs.declared.register.Kinds.{Kinds}
 use Rattle.mt_roster.specs.declared.registered.Registered.{Registered}
 use Rattle.mt_roster.specs.Drafts.{has_too_many_names}
-use Rattle.mt_roster.specs.Entries.{single_flags}
-use Rattle.mt_roster.specs.Markets.{AreNewNumbers, AreIdsOfRecords, AreEntries, GivesEntries, fit}
+use Rattle.mt_records.specs.Records.{record_seen}
+use Rattle.mt_roster.specs.Entries.{single_flags, AreNames}
+use Rattle.mt_roster.specs.Markets.{AreNewNumbers, AreIdsOfRecords, AreEntries, AreUnnamed, GivesEntries, Stays, fit}
 use Rattle.mt_roster.specs.Numbered.{all_seen, program_lists, applicant_lists, couple_lists, ranking_in, lists_by, members_in, pairs_in}
 use Rattle.mt_roster.specs.Reading.{number_by, numbers_by, pairs_by, lists_stand, members_by, HaveNumbers, AreRead, ReadsEntries}
 use Rattle.mt_roster.specs.Registered.{is_registered}
@@ -215,6 +220,29 @@ remaining_are rs w stand = by w.programs w.applicants w.couples (stand.withdrawn
   where
     by : (p a c : List Bytes) → p ≡ withdrawn OfProgram rs → a ≡ withdrawn OfApplicant rs → c ≡ withdrawn OfCouple rs → filter (stays_without p a c) rs ≡ remaining rs
     by p a c e f g = rw (e, f, g) (remaining_is rs)
+
+-- a filter that leaves nothing out
+all_kept : {X : Type 0} (p : X → Bool) (xs : List X) → length (filter p xs) ≡ length xs → filter p xs ≡ xs
+all_kept p [] h = refl
+all_kept p (x ∷ xs) h = by (p x) (all_kept p xs) h
+  where
+    by : (b : Bool) → (length (filter p xs) ≡ length xs → filter p xs ≡ xs) → length (cond b (x ∷ filter p xs) (filter p xs)) ≡ length (x ∷ xs)
+        → cond b (x ∷ filter p xs) (filter p xs) ≡ x ∷ xs
+    by true rest same = ap (λ ys. x ∷ ys) (rest (omega (arith, same)))
+    by false rest less = absurd (omega (arith, less, length-filter p xs, count_by-le-length p xs))
+
+-- the names of all records are those of the records that stay, where all stay
+pub names_stay : (records : List Checked) (count : ℕ) (staying : List Checked) (names : NameLists) → count ≡ length records
+    → all_seen staying ≡ remaining (all_seen records) → AreNames (all_seen records) names → length staying ≡ count → AreNames (all_seen staying) names
+names_stay records count staying names counted stay are all =
+    let long : length (remaining (all_seen records)) ≡ length (all_seen records) =
+    sym (ap length stay) ∙ length-map staying record_seen ∙ all ∙ counted ∙ sym (length-map records record_seen) in
+    subst (λ (rs : List Record). AreNames rs names) (sym (stay ∙ all_kept _ (all_seen records) long)) are
+
+-- what the steps found of the records that stay
+pub stays_found : (rules : Rules) (rs : List Record) (o : Option Unnamed) (u : Unnamed) → Stays rules rs o → o ≡ Some u
+    → (is_faultless rules rs ≡ true) × (all_seen u.records.items ≡ remaining rs) × AreUnnamed (all_seen u.records.items) u
+stays_found rules rs o u h is = subst (Stays rules rs) is h
 
 -- records that are few have few ids
 pub few_ids : (limits : Limits) (rs : List Record) → AreBounded limits → has_too_many_names limits rs ≡ false → (length (ids_of OfProgram rs) < 2 ^ 31) × (length (applicant_ids rs) < 2 ^ 31)

@@ -6,16 +6,17 @@ use Rattle.mt_file_laws.specs.Staying.{new_numbers, program_flags, applicant_fla
 use Rattle.mt_terms.specs.Market.{Registered as Market}
 use Rattle.mt_terms.specs.Registration.Ids.{Bytes}
 use Rattle.mt_terms.specs.Registration.Records.{Rules, Record, OfProgram, OfCouple}
-use Rattle.mt_terms.specs.Registration.Rows.{ids_of, applicant_ids, entry_count}
+use Rattle.mt_terms.specs.Registration.Rows.{ids_of, applicant_ids, entry_count, remaining}
 use Rattle.mt_terms.specs.Registration.Numbering.{registered}
 use Rattle.mt_terms.specs.Registration.Accepted.{IsRegistration}
+use Rattle.mt_roster.specs.declared.market.Unnamed.{Unnamed}
 use Rattle.mt_roster.specs.declared.numbering.Entries.{Entries}
 use Rattle.mt_roster.specs.declared.numbering.Numbers.{Numbers}
 use Rattle.mt_records.specs.declared.record.Record.{Record as Checked}
 use Rattle.mt_roster.specs.declared.register.Kinds.{Kinds}
 use Rattle.mt_roster.specs.declared.registered.Registered.{Registered}
 use Rattle.mt_roster.specs.Entries.{single_flags}
-use Rattle.mt_roster.specs.Numbered.{all_seen, ranking_in, lists_by, pairs_in}
+use Rattle.mt_roster.specs.Numbered.{all_seen, members_in, ranking_in, lists_by, pairs_in}
 use Rattle.mt_roster.specs.Reading.{AreRead, lists_stand}
 use Rattle.mt_roster.specs.Withdrawals.{stays_after}
 
@@ -37,6 +38,17 @@ pub record AreEntries (rs : List Record) (e : Entries) : Type 0 where
   pub rankings : e.rankings ≡ filter_map (ranking_in (applicant_ids rs)) rs
   pub lists : e.lists ≡ flat_map (lists_by (ids_of OfProgram rs)) rs
   pub pairs : e.pairs ≡ filter_map (pairs_in (ids_of OfProgram rs)) rs
+
+-- What these records say by the numbers of their own programs and applicants, members included.
+pub record AreUnnamed (rs : List Record) (u : Unnamed) : Type 0 where
+  pub entries : AreEntries rs u.entries
+  pub members : u.members.items ≡ filter_map (members_in (applicant_ids rs)) rs
+
+-- What stays of these records, if they have no fault among them.
+abbrev pub Stays : Rules → List Record → Option Unnamed → Type 0
+Stays rules rs None = is_faultless rules rs ≡ false
+Stays rules rs (Some u) =
+    (is_faultless rules rs ≡ true) × (all_seen u.records.items ≡ remaining rs) × AreUnnamed (all_seen u.records.items) u
 
 -- whether the lists of all records stand, and have no more entries than a version takes
 abbrev pub fit : Rules → Registered → List Record → Bool

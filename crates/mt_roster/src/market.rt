@@ -8,12 +8,13 @@ ghost use Rattle.mt_terms.specs.Registration.Numbering.{registered};
 ghost use Rattle.mt_terms.specs.Registration.Records.{OfProgram};
 ghost use Rattle.mt_terms.specs.Registration.Rows.{ids_of, applicant_ids};
 ghost use Rattle.mt_roster.specs.Drafts.{drafted, has_too_many_names, with_fields, AreDrafts};
-ghost use Rattle.mt_roster.specs.Markets.{AcceptsRegistrations, AreEntries, AreIdsOfRecords, AreNewNumbers, GivesEntries, IsMarketOf};
+ghost use Rattle.mt_roster.specs.Entries.{AreNames};
+ghost use Rattle.mt_roster.specs.Markets.{AcceptsRegistrations, AreIdsOfRecords, AreNewNumbers, AreUnnamed, GivesEntries, IsMarketOf, Stays};
 ghost use Rattle.mt_roster.specs.Numbered.{all_seen, members_in, registered_by_all};
 ghost use Rattle.mt_roster.specs.Registers.{AreBounded};
 
 use crate::drafts::{Drafts, drafts_of};
-use crate::names::names_of;
+use crate::names::{NameLists, names_of};
 use crate::numbering::{Entries, Numbers, agents, entries_of, members, quotas};
 use crate::register::Kinds;
 use crate::registered::Registered;
@@ -24,6 +25,14 @@ use mt_records::{Record, Rules};
 use mt_terms::AppNo;
 use std::alloc::{AllocError, Global};
 use std::thread::Threads;
+
+/// A market without its ids: the records that stay, what their lists say by numbers, and their couples' members.
+#[derive(Drop)]
+struct Unnamed<'a> {
+    records: Vec<Record<'a>>,
+    entries: Entries,
+    members: Vec<(AppNo, AppNo)>,
+}
 
 /// The new numbers of programs and applicants where these ids are withdrawn.
 fn numbers_of(
@@ -41,20 +50,19 @@ fn numbers_of(
     })
 }
 
-/// The market of records none of which is withdrawn, by what their lists say and by their couples' members.
-fn with_entries(
-    alloc: Global,
-    records: &[Record<'_>],
-    entries: Entries,
-    members: Vec<(AppNo, AppNo)>,
-) -> Result<Roster, AllocError>
-    requires market { IsRegistration (registered_by_all (all_seen records.now)) }
-    requires entries { AreEntries (all_seen records.now) entries }
-    requires members { members.items ≡ filter_map (members_in (applicant_ids (all_seen records.now))) (all_seen records.now) }
-    ensures { IfOk result (λ roster. roster ≡ registered_by_all (all_seen records.now)) }
+/// The market of records none of which is withdrawn, by their ids.
+fn with_names(alloc: Global, unnamed: Unnamed<'_>, names: NameLists) -> Result<Roster, AllocError>
+    requires market { IsRegistration (registered_by_all (all_seen unnamed.records.items)) }
+    requires unnamed { AreUnnamed (all_seen unnamed.records.items) unnamed }
+    requires names { AreNames (all_seen unnamed.records.items) names }
+    ensures { IfOk result (λ roster. roster ≡ registered_by_all (all_seen unnamed.entry.records.items)) }
 {
-    let names = names_of(alloc, records)?;
-    let quotas = quotas(alloc, records)?;
+    let Unnamed {
+        records,
+        entries,
+        members,
+    } = unnamed;
+    let quotas = quotas(alloc, &records)?;
     let agents = agents(alloc, names.applicants.len(), &members)?;
     Ok(Roster::new(Tables {
         quotas,
@@ -105,20 +113,18 @@ fn read_entries<'a, R: Threads + Sync>(
     Ok(Some((staying, entries)))
 }
 
-/// The market of records by their ids, none of which is registered twice, if they have no fault among them.
-fn market_by<R: Threads + Sync>(
+/// What stays of records, by their ids, none of which is registered twice, if they have no fault among them.
+fn unnamed_by<'a, R: Threads + Sync>(
     rt: &R,
     alloc: Global,
     rules: &Rules,
     ids: &Registered<'_>,
-    records: Vec<Record<'_>>,
-) -> Result<Option<Roster>, AllocError>
+    records: Vec<Record<'a>>,
+) -> Result<Option<Unnamed<'a>>, AllocError>
     requires limits { AreBounded rules.now.limits }
     requires ids { AreIdsOfRecords (all_seen records.items) ids.now }
     requires few { has_too_many_names rules.now.limits (all_seen records.items) ≡ false }
-    requires accepted { is_faultless rules.now (all_seen records.items) ≡ true
-        → IsRegistration (registered (all_seen records.items)) }
-    ensures { IfOk result (IsMarketOf rules.now (all_seen records.entry.items)) }
+    ensures { IfOk result (Stays rules.now (all_seen records.entry.items)) }
 {
     let Some(withdrawn) = withdrawn_by(alloc, ids, &records)? else {
         return Ok(None);
@@ -131,8 +137,47 @@ fn market_by<R: Threads + Sync>(
         return Ok(None);
     };
     let members = members(alloc, &ids.applicants, &numbers.applicants, &records)?;
-    let roster = with_entries(alloc, &records, entries, members)?;
-    Ok(Some(roster))
+    Ok(Some(Unnamed {
+        records,
+        entries,
+        members,
+    }))
+}
+
+/// What stays of records with these ids, if they have no fault among them.
+fn unnamed_of<'a, R: Threads + Sync>(
+    rt: &R,
+    alloc: Global,
+    rules: &Rules,
+    names: &NameLists,
+    records: Vec<Record<'a>>,
+) -> Result<Option<Unnamed<'a>>, AllocError>
+    requires limits { AreBounded rules.now.limits }
+    requires names { AreNames (all_seen records.items) names.now }
+    requires few { has_too_many_names rules.now.limits (all_seen records.items) ≡ false }
+    ensures { IfOk result (Stays rules.now (all_seen records.entry.items)) }
+{
+    match Registered::of(alloc, names)? {
+        Some(ids) => unnamed_by(rt, alloc, rules, &ids, records),
+        None => Ok(None),
+    }
+}
+
+/// The names of the records that stay of so many: where all stay, those of all.
+fn names_left(
+    alloc: Global,
+    names: NameLists,
+    count: usize,
+    staying: &[Record<'_>],
+) -> Result<NameLists, AllocError>
+    requires { length staying.now ≡ count → AreNames (all_seen staying.now) names }
+    ensures { IfOk result (AreNames (all_seen staying.now)) }
+{
+    if staying.len() == count {
+        Ok(names)
+    } else {
+        names_of(alloc, staying)
+    }
 }
 
 /// The market of drafts, if they have no fault among them.
@@ -149,10 +194,13 @@ fn market_of_drafts<R: Threads + Sync>(
     ensures { IfOk result (IsMarketOf rules.now (drafted drafts.entry)) }
 {
     let Drafts { records, names } = drafts;
-    match Registered::of(alloc, &names)? {
-        Some(ids) => market_by(rt, alloc, rules, &ids, records),
-        None => Ok(None),
-    }
+    let count = records.len();
+    let Some(unnamed) = unnamed_of(rt, alloc, rules, &names, records)? else {
+        return Ok(None);
+    };
+    let names = names_left(alloc, names, count, &unnamed.records)?;
+    let roster = with_names(alloc, unnamed, names)?;
+    Ok(Some(roster))
 }
 
 /// The market of rows, if they have no fault.

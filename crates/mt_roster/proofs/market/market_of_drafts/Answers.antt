@@ -1,9 +1,22 @@
+use Rattle.std.proofs.Common.{◌∙◌, List, ap, sym, subst}
+use Rattle.mt_terms.specs.Registration.Records.{Record}
+use Rattle.mt_terms.specs.Registration.Accepted.{IsRegistration}
 use Rattle.mt_roster.specs.Drafts.{drafted}
-use Rattle.mt_roster.proofs.AcceptedFacts.{ids_found, ids_missing}
+use Rattle.mt_roster.specs.Numbered.{all_seen, registered_by_all}
+use Rattle.mt_roster.proofs.MarketFacts.{names_stay, stays_found}
 use Rattle.mt_roster.proofs.market.market_of_drafts.Goals as goal
 
-pub market_by-requires-clause-ids : goal.market_by-requires-clause-ids
-market_by-requires-clause-ids g c κs within = ids_found (drafted c.args.drafts) _ c.requires.drafts.names _ _ c.in_ok-ids.ensures c.in-Some.is
+pub names_left-requires : goal.names_left-requires
+names_left-requires g c =
+    let found = stays_found c.args.rules.now (drafted c.args.drafts) _ _ c.in_ok-unnamed.ensures c.in-Some.is in
+    names_stay c.args.drafts.records.items _ _ _ (c.len-count.ensures ∙ c.args.drafts.records.ok.0) (ap all_seen c.deref.ensures.value ∙ found.1) c.requires.drafts.names
 
-pub returns-in-None : goal.returns-in-None
-returns-in-None g c = ids_missing (drafted c.args.drafts) _ c.requires.drafts.names c.args.rules.now _ c.in_ok-ids.ensures c.in-None.is
+pub with_names-requires-clause-market : goal.with_names-requires-clause-market
+with_names-requires-clause-market g c =
+    let found = stays_found c.args.rules.now (drafted c.args.drafts) _ _ c.in_ok-unnamed.ensures c.in-Some.is in
+    subst (λ (xs : List Record). IsRegistration (registered_by_all xs)) (sym found.1) (c.requires.accepted found.0)
+
+pub returns : goal.returns
+returns g c =
+    let found = stays_found c.args.rules.now (drafted c.args.drafts) _ _ c.in_ok-unnamed.ensures c.in-Some.is in
+    (found.0, c.in_ok-roster.ensures ∙ ap registered_by_all found.1)

@@ -2,14 +2,13 @@ use Rattle.std.proofs.Common.{◌≡◌, ◌<◌, ◌^◌, ◌∙◌, ap, ap₂,
 use Rattle.mt_terms.specs.Registration.Ids.{has_id}
 use Rattle.mt_terms.specs.Registration.Records.{Record, OfProgram}
 use Rattle.mt_terms.specs.Registration.Rows.{ids_of, applicant_ids}
-use Rattle.mt_terms.specs.Registration.Accepted.{IsRegistration}
 use Rattle.mt_records.specs.declared.record.Record.{Record as Checked}
-use Rattle.mt_roster.specs.Markets.{AreNewNumbers, AreEntries}
-use Rattle.mt_roster.specs.Numbered.{all_seen, registered_by_all}
+use Rattle.mt_roster.specs.Markets.{AreNewNumbers}
+use Rattle.mt_roster.specs.Numbered.{all_seen}
 use Rattle.mt_roster.specs.Reading.{members_by}
 use Rattle.mt_roster.specs.Withdrawals.{stays_after}
 use Rattle.mt_roster.proofs.MarketFacts.{length-singles, knows_ids, few_ids, unfit, not_standing, long_programs, long_applicants, have_numbers, members_are, remaining_are, faultless, entries_are, stand_found, stand_missing, entries_found, entries_missing}
-use Rattle.mt_roster.proofs.market.market_by.Goals as goal
+use Rattle.mt_roster.proofs.market.unnamed_by.Goals as goal
 
 pub withdrawn_by-requires-clause-long : goal.withdrawn_by-requires-clause-long
 withdrawn_by-requires-clause-long g c = length-singles (all_seen c.args.records.items) _ c.requires.ids
@@ -63,41 +62,18 @@ members-requires-clause-all g c =
     let seen : all_seen c.deref-4.result.now ≡ filter (stays_after c.in-Some.withdrawn) rs = ap all_seen c.deref-4.ensures.value ∙ found.1 in
     rw (c.deref-3.ensures.value, seen) (have_numbers c.args.rules.now rs _ c.requires.ids _ _ stand new)
 
-pub with_entries-requires-clause-market : goal.with_entries-requires-clause-market
-with_entries-requires-clause-market g c =
-    let rs = all_seen c.args.records.items in
-    let stand = stand_found _ _ _ _ c.deref.ensures.value c.in_ok-withdrawn.ensures c.in-Some.is in
-    let new = subst (λ (xs : List Checked). AreNewNumbers c.in-Some.withdrawn (all_seen xs) c.in_ok-numbers.numbers) c.deref-2.ensures.value c.in_ok-numbers.ensures in
-    let found = entries_found c.args.rules.now c.args.ids.now c.in-Some.withdrawn c.in_ok-numbers.numbers rs _ _ _ c.in_ok-records.ensures c.in-Some-2.is in
-    let seen = ap all_seen c.deref-5.ensures.value ∙ found.1 ∙ remaining_are rs c.in-Some.withdrawn stand in
-    subst (λ (xs : List Record). IsRegistration (registered_by_all xs)) (sym seen) (c.requires.accepted (faultless c.args.rules.now rs _ c.requires.ids _ _ stand new found.0 c.requires.few))
-
-pub with_entries-requires-clause-entries : goal.with_entries-requires-clause-entries
-with_entries-requires-clause-entries g c =
-    let rs = all_seen c.args.records.items in
-    let stand = stand_found _ _ _ _ c.deref.ensures.value c.in_ok-withdrawn.ensures c.in-Some.is in
-    let new = subst (λ (xs : List Checked). AreNewNumbers c.in-Some.withdrawn (all_seen xs) c.in_ok-numbers.numbers) c.deref-2.ensures.value c.in_ok-numbers.ensures in
-    let found = entries_found c.args.rules.now c.args.ids.now c.in-Some.withdrawn c.in_ok-numbers.numbers rs _ _ _ c.in_ok-records.ensures c.in-Some-2.is in
-    let seen = ap all_seen c.deref-5.ensures.value ∙ found.1 in
-    subst (λ (xs : List Record). AreEntries xs c.in-Some-2.entries) (sym seen) (entries_are c.args.rules.now rs _ c.requires.ids _ _ stand new found.0 _ found.2)
-
-pub with_entries-requires-clause-members : goal.with_entries-requires-clause-members
-with_entries-requires-clause-members g c =
-    let rs = all_seen c.args.records.items in
-    let stand = stand_found _ _ _ _ c.deref.ensures.value c.in_ok-withdrawn.ensures c.in-Some.is in
-    let new = subst (λ (xs : List Checked). AreNewNumbers c.in-Some.withdrawn (all_seen xs) c.in_ok-numbers.numbers) c.deref-2.ensures.value c.in_ok-numbers.ensures in
-    let found = entries_found c.args.rules.now c.args.ids.now c.in-Some.withdrawn c.in_ok-numbers.numbers rs _ _ _ c.in_ok-records.ensures c.in-Some-2.is in
-    let read : all_seen c.deref-4.result.now ≡ filter (stays_after c.in-Some.withdrawn) rs = ap all_seen c.deref-4.ensures.value ∙ found.1 in
-    let seen : all_seen c.deref-5.result.now ≡ filter (stays_after c.in-Some.withdrawn) rs = ap all_seen c.deref-5.ensures.value ∙ found.1 in
-    rw seen
-    (c.in_ok-members.ensures ∙ ap₂ (λ (news : List (Option ℕ)) (xs : List Record). filter_map (members_by c.args.ids.now.applicants news) xs) c.deref-3.ensures.value read
-    ∙ members_are c.args.rules.now rs _ c.requires.ids _ _ stand new)
-
 pub returns : goal.returns
 returns g c =
     let rs = all_seen c.args.records.items in
     let stand = stand_found _ _ _ _ c.deref.ensures.value c.in_ok-withdrawn.ensures c.in-Some.is in
     let new = subst (λ (xs : List Checked). AreNewNumbers c.in-Some.withdrawn (all_seen xs) c.in_ok-numbers.numbers) c.deref-2.ensures.value c.in_ok-numbers.ensures in
     let found = entries_found c.args.rules.now c.args.ids.now c.in-Some.withdrawn c.in_ok-numbers.numbers rs _ _ _ c.in_ok-records.ensures c.in-Some-2.is in
-    let seen = ap all_seen c.deref-5.ensures.value ∙ found.1 ∙ remaining_are rs c.in-Some.withdrawn stand in
-    (faultless c.args.rules.now rs _ c.requires.ids _ _ stand new found.0 c.requires.few, c.in_ok-roster.ensures ∙ ap registered_by_all seen)
+    let read : all_seen c.deref-4.result.now ≡ filter (stays_after c.in-Some.withdrawn) rs = ap all_seen c.deref-4.ensures.value ∙ found.1 in
+    let members =
+    c.in_ok-members.ensures ∙ ap₂ (λ (news : List (Option ℕ)) (xs : List Record). filter_map (members_by c.args.ids.now.applicants news) xs) c.deref-3.ensures.value read
+    ∙ members_are c.args.rules.now rs _ c.requires.ids _ _ stand new in
+    let entries = entries_are c.args.rules.now rs _ c.requires.ids _ _ stand new found.0 _ found.2 in (
+      faultless c.args.rules.now rs _ c.requires.ids _ _ stand new found.0 c.requires.few,
+      found.1 ∙ remaining_are rs c.in-Some.withdrawn stand,
+      rw found.1 (record { entries = entries; members = members }),
+    )
