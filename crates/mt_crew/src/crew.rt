@@ -1,4 +1,4 @@
-ghost use Rattle.std.specs.Prelude.{◌≡◌, ◌+◌, ◌≤◌, ◌/◌, map, length, IfOk, IsFalse};
+ghost use Rattle.std.specs.Prelude.{◌≡◌, ◌+◌, ◌*◌, ◌≤◌, ◌/◌, map, min, length, IfOk, IsFalse, IsTrue};
 ghost use Rattle.mt_terms.specs.Best.{IsBest, proposals};
 ghost use Rattle.mt_terms.specs.Lists.{below};
 ghost use Rattle.mt_terms.specs.Market.{applicants};
@@ -65,6 +65,7 @@ const YIELD_AFTER: u32 = 64;
 /// since, and half as long where it hadn't.
 fn next_rest(last: u32, waited: bool) -> u32
     ensures bounded { last ≤ LONGEST_REST → result ≤ LONGEST_REST }
+    ensures grows { IsTrue waited → result ≡ min (2 * last + 1) LONGEST_REST }
     ensures falls { IsFalse waited → result ≡ last / 2 }
 {
     if waited {
@@ -158,7 +159,8 @@ fn work_in<K: HallName + Send + Sync, R: Threads + Wait + Sync, G: Gate + Sync>(
 }
 
 /// The best match of the singles, made by so many workers, and the proposals on the way to it. Worker 0 works on the
-/// calling thread, so one worker starts no thread. Its one error is that there isn't enough memory.
+/// calling thread, so one worker starts no thread; it takes locks all the same, which `work_alone` doesn't. Its one
+/// error is that there isn't enough memory.
 pub fn work<R: Threads + Wait + Sync, G: Gate + Sync>(
     rt: &R,
     alloc: Global,

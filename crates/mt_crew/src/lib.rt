@@ -9,4 +9,4 @@ mod singles;
 
 pub use crew::work;
 pub use gate::{Gate, Open};
-pub use singles::Singles;
+pub use singles::{Singles, work_alone};

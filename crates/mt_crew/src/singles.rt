@@ -47,3 +47,15 @@ pub(crate) fn singles_of(
     let proposals = all_received(alloc, floor, ranks)?;
     Ok(Singles { matched, proposals })
 }
+
+/// The best match of the singles, made by the calling thread alone, and the proposals on the way to it: what `work`
+/// answers with any number of workers. It opens no hall, takes no lock and passes no gate, so for one worker it is the
+/// cheaper call. Its one error is that there isn't enough memory.
+pub fn work_alone(alloc: Global, ranks: &Ranks) -> Result<Singles, AllocError>
+    ensures best { IfOk result (λ s. IsBest ranks.now.market s.matched.places) }
+    ensures proposals { IfOk result (λ s. s.proposals.items
+        ≡ map (proposals ranks.now.market s.matched.places) (below (length ranks.now.market.programs))) }
+{
+    let mut floor = Floor::open(alloc, ranks)?;
+    singles_of(alloc, &mut floor, ranks)
+}

@@ -3,7 +3,7 @@ ghost use Rattle.mt_terms.specs.Best.{IsBest, proposals};
 ghost use Rattle.mt_terms.specs.Lists.{below};
 ghost use Rattle.mt_ranks.specs.Ranked.{ranked_of};
 
-use mt_crew::{Open, Singles, work};
+use mt_crew::{Open, Singles, work, work_alone};
 use mt_ranks::Ranks;
 use mt_roster::Roster;
 use std::alloc::{AllocError, Global};
@@ -25,6 +25,11 @@ pub(crate) fn match_singles<T: Threads + Wait + Sync>(
         ≡ map (proposals roster.now.market s.matched.places) (below (length roster.now.market.programs))) }
 {
     roster.is_of_a_file();
-    let singles = work(rt, alloc, ranks, workers, &Open)?;
+    let made = if workers == 1 {
+        work_alone(alloc, ranks)
+    } else {
+        work(rt, alloc, ranks, workers, &Open)
+    };
+    let singles = made?;
     Ok(singles)
 }

@@ -2,7 +2,7 @@
 ghost use Rattle.std.specs.Prelude.{◌≡◌, ◌+◌, ◌≤◌};
 ghost use Rattle.mt_terms.specs.Market.{applicants};
 
-use mt_crew::{Open, work};
+use mt_crew::{Open, Singles, work, work_alone};
 use mt_hall::{Hall, HallName};
 use mt_ranks::Ranks;
 use mt_samples::markets::{CHAIN, SampleError, roster_of};
@@ -68,6 +68,12 @@ pub(crate) fn closes<T: Threads + Sync>(rt: &T, alloc: Global) -> Result<bool, S
     closes_in::<Brand>(alloc, &ranks, blank)
 }
 
+// Whether the chain's best match was found, and the proposals on the way to it.
+fn is_chain(singles: &Singles) -> bool {
+    let is_count = singles.proposals.as_slice() == [3, 2].as_slice();
+    is_end_of_chain(singles.matched.places.as_slice()) && is_count
+}
+
 /// Whether so many workers end in the best match.
 pub(crate) fn works<T: Threads + Wait + Sync>(
     rt: &T,
@@ -79,6 +85,13 @@ pub(crate) fn works<T: Threads + Wait + Sync>(
     let roster = roster_of(rt, alloc, CHAIN)?;
     let ranks = Ranks::build(rt, alloc, &roster)?;
     let singles = work(rt, alloc, &ranks, workers, &Open)?;
-    let is_count = singles.proposals.as_slice() == [3, 2].as_slice();
-    Ok(is_end_of_chain(singles.matched.places.as_slice()) && is_count)
+    Ok(is_chain(&singles))
+}
+
+/// Whether one thread without locks ends in the best match.
+pub(crate) fn works_alone<T: Threads + Sync>(rt: &T, alloc: Global) -> Result<bool, SampleError> {
+    let roster = roster_of(rt, alloc, CHAIN)?;
+    let ranks = Ranks::build(rt, alloc, &roster)?;
+    let singles = work_alone(alloc, &ranks)?;
+    Ok(is_chain(&singles))
 }

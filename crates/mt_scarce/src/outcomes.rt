@@ -1,7 +1,7 @@
 //! Which calls there are, and what became of one.
 ghost use Rattle.std.specs.Prelude.{◌≤◌};
 
-use crate::floors::{closes, deals, finishes, works};
+use crate::floors::{closes, deals, finishes, works, works_alone};
 use crate::lists::{asks, holds, ranks, reads, registers, splits};
 use crate::runs::{enters, judges, publishes, runs};
 use mt_samples::markets::{CHAIN, CHAIN_TEXT, SampleError, TWO_COUPLES, TWO_COUPLES_TEXT};
@@ -22,6 +22,7 @@ pub(crate) enum Call {
     Deals,
     Closes,
     Works,
+    WorksAlone,
     Enters,
     Judges,
     Publishes,
@@ -29,7 +30,7 @@ pub(crate) enum Call {
     RunsCouples,
 }
 
-pub(crate) const CALLS: [Call; 15] = [
+pub(crate) const CALLS: [Call; 16] = [
     Call::Reads,
     Call::Splits,
     Call::Asks,
@@ -40,6 +41,7 @@ pub(crate) const CALLS: [Call; 15] = [
     Call::Deals,
     Call::Closes,
     Call::Works,
+    Call::WorksAlone,
     Call::Enters,
     Call::Judges,
     Call::Publishes,
@@ -74,6 +76,7 @@ pub(crate) fn outcome_of<T: Threads + Wait + Sync>(
         Call::Deals => deals(alloc),
         Call::Closes => closes(rt, alloc),
         Call::Works => works(rt, alloc, workers),
+        Call::WorksAlone => works_alone(rt, alloc),
         Call::Enters => enters(rt, alloc),
         Call::Judges => judges(rt, alloc),
         Call::Publishes => publishes(rt, alloc),
