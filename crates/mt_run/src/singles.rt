@@ -10,6 +10,25 @@ use std::alloc::{AllocError, Global};
 use std::sync::Wait;
 use std::thread::Threads;
 
+/// What so many workers make of the rank tables. One worker has no need of locks.
+fn made_by<T: Threads + Wait + Sync>(
+    rt: &T,
+    alloc: Global,
+    ranks: &Ranks,
+    workers: u32,
+) -> Result<Singles, AllocError>
+    requires { (1 ≤ workers) × (workers ≤ 64) }
+    ensures best { IfOk result (λ s. IsBest ranks.now.market s.matched.places) }
+    ensures proposals { IfOk result (λ s. s.proposals.items
+        ≡ map (proposals ranks.now.market s.matched.places) (below (length ranks.now.market.programs))) }
+{
+    if workers == 1 {
+        work_alone(alloc, ranks)
+    } else {
+        work(rt, alloc, ranks, workers, &Open)
+    }
+}
+
 /// The best match of the singles, couples' members unplaced, and the proposals on the way to it.
 pub(crate) fn match_singles<T: Threads + Wait + Sync>(
     rt: &T,
@@ -25,11 +44,6 @@ pub(crate) fn match_singles<T: Threads + Wait + Sync>(
         ≡ map (proposals roster.now.market s.matched.places) (below (length roster.now.market.programs))) }
 {
     roster.is_of_a_file();
-    let made = if workers == 1 {
-        work_alone(alloc, ranks)
-    } else {
-        work(rt, alloc, ranks, workers, &Open)
-    };
-    let singles = made?;
+    let singles = made_by(rt, alloc, ranks, workers)?;
     Ok(singles)
 }
