@@ -1,10 +1,11 @@
 -- A proposal that is due can be made.
-use Rattle.std.proofs.Common.{◌≡◌, ◌==◌, ℕ, zero, suc, List, [], ◌∷◌, map, get_or, sym, ◌-◌, ◌<◌, ◌≤◌, length, Bool, true, false, cond, Option, Some, None, IsTrue, IsFalse, slice_get, refl, ap, ◌∙◌, arith, subst}
+use Rattle.std.proofs.Common.{◌≡◌, ◌==◌, ℕ, zero, suc, List, [], ◌∷◌, map, get_or, sym, ◌-◌, ◌<◌, ◌≤◌, length, Bool, true, false, cond, Option, Some, None, IsTrue, IsFalse, slice_get, take, ne_eqb, refl, ap, ◌∙◌, arith, subst}
+use Rattle.std.proofs.lemmas.Bool.Decides.{nat_tests}
 use Rattle.std.specs.Option.{option_map, unwrap_or}
 use Rattle.mt_terms.specs.Lists.{has}
 use Rattle.mt_terms.specs.Market.{Market, applicants, program_of, list_of, live}
 use Rattle.mt_terms.specs.Floor.{Floor, IsRecorded, next_entry, last_tried}
-use Rattle.mt_floor_laws.proofs.FloorLists.{has-get, has-take_before}
+use Rattle.mt_floor_laws.proofs.FloorLists.{has-get, has-take-suc, has-take_before}
 use Rattle.mt_floor_laws.proofs.FloorEvents.{IsNext, next_facts, within_get, get_some}
 use Rattle.mt_terms.proofs.LiveFacts.{live_parts, live_distinct}
 use Rattle.mt_floor_laws.proofs.FloorBest.{applicant_from_live}
@@ -89,6 +90,21 @@ last_on_live m f a p e = by_test (f.made a == 0) e
         none_some : None ≡ Some p → ⊥
         none_some k = cc
     by_test false h = has-get (live m a) (f.made a - 1) p h
+
+-- the program that an applicant proposed to last is one of those that it proposed to
+pub last_is_tried : (m : Market) (f : Floor) (a p : ℕ) → last_tried m f a ≡ Some p → IsTrue (has (take (f.made a) (live m a)) p)
+last_is_tried m f a p e = by_made (f.made a) e
+  where
+    by_made : (n : ℕ) → cond (n == 0) None (slice_get (live m a) (n - 1)) ≡ Some p → IsTrue (has (take n (live m a)) p)
+    by_made zero h = absurd (none_some h)
+      where
+        none_some : None ≡ Some p → ⊥
+        none_some k = cc
+    by_made (suc k) h =
+        let less : suc k - 1 ≡ k = omega arith in
+        let some : cond (suc k == 0) None (slice_get (live m a) (suc k - 1)) ≡ slice_get (live m a) (suc k - 1) = rw (ne_eqb (suc k) 0 (omega arith)) refl in
+        let last : slice_get (live m a) k ≡ Some p = ap (slice_get (live m a)) (sym less) ∙ sym some ∙ h in
+        grind (arith, nat_tests, has-take-suc (live m a) k p p last)
 
 -- the same of the last entry
 pub last_entry_facts : (r : Ranked) → IsRanked r → (f : Floor) (a : ℕ) (entry : Live)

@@ -81,6 +81,16 @@ impl Floor {
         self.holds[program.index()].holds(rank)
     }
 
+    /// Whether the program holds the rank, from which it has received a proposal.
+    pub(crate) fn keeps(&self, program: ProgNo, rank: u32) -> bool
+        requires program { program < length self.now.holds }
+        requires on_list { rank < ranks (hold_of self.now program) }
+        requires received { IsTrue (has_received (hold_of self.now program) rank) }
+        ensures { result ≡ held (hold_of self.now program) rank }
+    {
+        self.holds[program.index()].keeps(rank)
+    }
+
     /// The applicant proposes to the program, on whose list it has this rank.
     pub(crate) fn enter(&mut self, applicant: AppNo, program: ProgNo, rank: u32) -> Taken
         requires made { applicant < length self.old.made }

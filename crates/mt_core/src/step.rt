@@ -62,19 +62,37 @@ pub(crate) fn is_held(floor: &Floor, ranks: &Ranks, applicant: AppNo) -> bool
     }
 }
 
+/// Whether the program that the applicant proposed to last still holds it, on a floor whose programs have received the
+/// proposals that were made.
+fn is_still_held(floor: &Floor, ranks: &Ranks, applicant: AppNo) -> bool
+    requires opened { IsOpenedWith ranks.now.market floor.now }
+    requires recorded { IsRecorded ranks.now.market (floor_of ranks.now.market floor.now) }
+    requires ranked { IsRanked ranks.now }
+    requires applicant { applicant < applicants ranks.now.market }
+    ensures { let m = ranks.now.market in let f = floor_of m floor.now in
+        result ≡ is_held_by m f applicant (last_tried m f applicant) }
+{
+    match last_tried(floor, ranks, applicant) {
+        Some(entry) => floor.keeps(entry.program, entry.rank),
+        None => false,
+    }
+}
+
 /// Whether the applicant believes that it stands where it isn't held.
 fn is_dropped(floor: &Floor, ranks: &Ranks, applicant: AppNo) -> bool
     requires opened { IsOpenedWith ranks.now.market floor.now }
+    requires recorded { IsRecorded ranks.now.market (floor_of ranks.now.market floor.now) }
     requires ranked { IsRanked ranks.now }
     requires applicant { applicant < applicants ranks.now.market }
     ensures { result ≡ is_due_on ranks.now.market floor.now (Event.Notice applicant) }
 {
-    floor.stands(applicant) && !is_held(floor, ranks, applicant)
+    floor.stands(applicant) && !is_still_held(floor, ranks, applicant)
 }
 
 /// The applicant learns that it is held no longer, where that is so.
 pub(crate) fn notice(floor: &mut Floor, ranks: &Ranks, applicant: AppNo) -> Reply
     requires opened { IsOpenedWith ranks.now.market floor.old }
+    requires recorded { IsRecorded ranks.now.market (floor_of ranks.now.market floor.old) }
     requires ranked { IsRanked ranks.now }
     requires applicant { applicant < applicants ranks.now.market }
     ensures floor { IsAfter ranks.now.market floor.old floor.new (Event.Notice applicant) }

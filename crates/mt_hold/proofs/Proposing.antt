@@ -13,9 +13,11 @@ use Rattle.mt_hold.proofs.Bits.{length-flags, get_or-flags}
 pub on_list : (a : Inside) (h : Holding) (rank : ℕ) → holding_of a ≡ h → rank < ranks h → rank < a.list_len
 on_list a h rank view low = omega (arith, ap ranks view, length-flags a.received.items a.list_len)
 
+pub flag_is : (a : Inside) (h : Holding) (rank : ℕ) → holding_of a ≡ h → rank < ranks h → flag a.received.items rank ≡ has_received h rank
+flag_is a h rank view low = sym (get_or-flags a.received.items a.list_len rank (on_list a h rank view low)) ∙ ap (λ v. has_received v rank) view
+
 pub not_flagged : (a : Inside) (h : Holding) (rank : ℕ) → holding_of a ≡ h → rank < ranks h → has_received h rank ≡ false → flag a.received.items rank ≡ false
-not_flagged a h rank view low out =
-    sym (get_or-flags a.received.items a.list_len rank (on_list a h rank view low)) ∙ ap (λ v. has_received v rank) view ∙ out
+not_flagged a h rank view low out = flag_is a h rank view low ∙ out
 
 -- the vector holds the words that were written through its slice
 pub words_written : (v : Vec ℕ Global) (before new : List ℕ) → length before ≡ vec_len v → length new ≡ length before → (with_items v new).items ≡ new

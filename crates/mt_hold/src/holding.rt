@@ -26,10 +26,10 @@ pub struct Hold {
     quota: u32,
     list_len: u32,
     count: u32,
-    // One bit for each rank, and one more at least: whether a proposal came from there.
-    received: Vec<u64>,
     // The held ranks are the received ones below it.
     end: u32,
+    // One bit for each rank, and one more at least: whether a proposal came from there.
+    received: Vec<u64>,
 }
 
 impl Model for Hold {
@@ -58,8 +58,8 @@ impl Hold {
             quota,
             list_len,
             count: 0,
-            received,
             end: list_len,
+            received,
         })
     }
 
@@ -86,6 +86,15 @@ impl Hold {
         ensures { result ≡ held self.now rank }
     {
         rank < self.end && is_flagged(self.received.as_slice(), rank)
+    }
+
+    /// Whether the rank, from which a proposal was received, is held.
+    pub fn keeps(&self, rank: u32) -> bool
+        requires on_list { rank < ranks self.now }
+        requires received { IsTrue (has_received self.now rank) }
+        ensures { result ≡ held self.now rank }
+    {
+        rank < self.end
     }
 
     /// Whether a proposal from the rank was received.

@@ -6,7 +6,7 @@ pub returns-then-stands : goal.returns-then-stands
 returns-then-stands c =
     let m = c.args.ranks.now.market in
     let stands = standing_of m c.args.floor.now c.args.applicant ∙ sym c.stands.ensures ∙ c.if-stands.true in
-    rw stands (ap not c.is_held.ensures)
+    rw stands (ap not c.is_still_held.ensures)
 
 pub returns-else-stands : goal.returns-else-stands
 returns-else-stands c =
