@@ -231,6 +231,7 @@ fn whoever_is_displaced_is_told(rt: HostRuntime) -> Result<(), Fail> {
 
 // How often a worker asks for a door, and how often another thread holds it.
 const ASKS: u32 = 1_000_000;
+
 const HOLDS: u32 = 10_000;
 
 // How often the thread that holds the door gives way before it leaves it.
