@@ -4,16 +4,15 @@ ghost use Rattle.mt_terms.specs.Market.{applicants};
 ghost use Rattle.mt_core.specs.Floors.{IsOpenedWith};
 
 use crate::floor::{expect_chain_end, expect_finished};
-use mt_hall::{Answer, Audit, Door, Hall, HallName, Pass};
+use mt_hall::{Answer, Audit, Hall, HallName, Pass};
 use mt_ranks::Ranks;
 use mt_samples::markets::{BETWEEN, CHAIN, roster_of};
 use mt_terms::{AppNo, ProgNo};
 use std::alloc::{AllocError, Global};
 use std::marker::Brand;
 use std::process::Abort;
-use std::sync::atomic::{AtomicBool, Ordering};
+use std::sync::Wait;
 use std::sync::ledger::Blank;
-use std::sync::{Mutex, Wait};
 use std::test::Fail;
 use std::thread;
 use std::thread::Threads;
@@ -227,81 +226,6 @@ fn whoever_is_displaced_is_told(rt: HostRuntime) -> Result<(), Fail> {
     let ranks = Ranks::build(&rt, rt.alloc(), &roster)?;
     let blank = blank_for(&ranks, 1);
     Ok(wishes_in::<Brand, _>(&rt, rt.alloc(), &ranks, blank)?)
-}
-
-// How often a worker asks for a door, and how often another thread holds it.
-const ASKS: u32 = 1_000_000;
-
-const HOLDS: u32 = 10_000;
-
-// How often the thread that holds the door gives way before it leaves it.
-const TURNS: u32 = 100;
-
-// Asks for the applicant's door again and again, until another thread had it.
-fn ask<K: HallName, R: Wait>(
-    rt: &R,
-    hall: &Hall<'_, K>,
-    pass: &mut Pass<K>,
-    applicant: AppNo,
-    ended: &AtomicBool,
-) {
-    for _ in 0..ASKS {
-        hall.advance(rt, applicant, pass);
-        if pass.waits() > 0 {
-            break;
-        }
-        thread::yield_now();
-    }
-    ended.store(true, Ordering::SeqCst);
-}
-
-// Takes the door and leaves it again and again, until the other thread has ended.
-fn hold<K: HallName, R: Wait>(rt: &R, door: &Mutex<Door<K>>, ended: &AtomicBool) {
-    for _ in 0..HOLDS {
-        if ended.load(Ordering::SeqCst) {
-            return;
-        }
-        let held = door.lock(rt);
-        for _ in 0..TURNS {
-            thread::yield_now();
-        }
-        drop(held);
-    }
-}
-
-// One thread asks for the first program's door, and another one holds it nearly all the time.
-fn waits_in<K: HallName + Send + Sync, R: Abort + Threads + Wait + Sync>(
-    rt: &R,
-    alloc: Global,
-    ranks: &Ranks,
-    blank: Blank,
-) -> Result<(), AllocError>
-    requires ranks { ranks.now ≡ K.ranked }
-    requires name { blank.name ≡ K.name }
-    requires parts { (blank.parts ≡ K.parts) × (K.parts ≡ applicants K.ranked.market + 1) }
-{
-    let (hall, mut passes) = Hall::<K>::open(alloc, ranks, 1, blank)?;
-    assert!(rt; ranks.programs() == 2);
-    let flag = AtomicBool::new(false);
-    let (lent, ended, pass) = (&hall, &flag, &mut passes[0]);
-    thread::scope(thread::scope_env(), rt, |scope| {
-        let begun = scope.spawn(move || ask(rt, lent, pass, AppNo(2), ended));
-        assert!(rt; begun.is_ok());
-        hold(rt, lent.door(ProgNo(0)), ended);
-    });
-    assert!(rt; passes[0].waits() > 0);
-    let audit = hall.close(passes);
-    expect_order(rt, &audit);
-    Ok(())
-}
-
-// The third applicant of the chain asks for the first program's door.
-#[test]
-fn whoever_waits_for_a_door_counts_it(rt: HostRuntime) -> Result<(), Fail> {
-    let roster = roster_of(&rt, rt.alloc(), CHAIN)?;
-    let ranks = Ranks::build(&rt, rt.alloc(), &roster)?;
-    let blank = blank_for(&ranks, 1);
-    Ok(waits_in::<Brand, _>(&rt, rt.alloc(), &ranks, blank)?)
 }
 
 // Advances each applicant once, and says whether anything came of it.
