@@ -5,7 +5,7 @@ ghost use Rattle.mt_terms.specs.Market.{applicants};
 use mt_crew::{Gate, Open, Singles, work, work_alone};
 use mt_hall::{Answer, Hall, HallName, Pass};
 use mt_ranks::Ranks;
-use mt_samples::markets::{BETWEEN, CHAIN, CROSSED, roster_of};
+use mt_samples::markets::{CHAIN, CROSSED, roster_of};
 use mt_terms::{AppNo, ProgNo};
 use std::alloc::{AllocError, Global};
 use std::marker::Brand;
@@ -162,6 +162,19 @@ fn expect_in_time<R: Abort + Threads + Wait + Sync>(
     Ok(())
 }
 
+// One thread without locks comes to the same.
+fn expect_alone(
+    rt: &impl Abort,
+    alloc: Global,
+    ranks: &Ranks,
+    places: &[Option<ProgNo>],
+    proposals: &[u32],
+) -> Result<(), AllocError> {
+    let singles = work_alone(alloc, ranks)?;
+    expect_singles(rt, &singles, places, proposals);
+    Ok(())
+}
+
 fn expect_from_all<R: Abort + Threads + Wait + Sync>(
     rt: &R,
     alloc: Global,
@@ -171,6 +184,7 @@ fn expect_from_all<R: Abort + Threads + Wait + Sync>(
 ) -> Result<(), Fail> {
     let roster = roster_of(rt, alloc, file)?;
     let ranks = Ranks::build(rt, alloc, &roster)?;
+    expect_alone(rt, alloc, &ranks, places, proposals)?;
     expect_in_time(rt, alloc, &ranks, 1, places, proposals)?;
     expect_in_time(rt, alloc, &ranks, 2, places, proposals)?;
     expect_in_time(rt, alloc, &ranks, 8, places, proposals)?;
@@ -197,38 +211,6 @@ fn nothing_is_left_after_the_workers(rt: HostRuntime) -> Result<(), Fail> {
         &[Some(ProgNo(0)), None, Some(ProgNo(0))],
         &[3],
     )
-}
-
-// What one thread makes without locks is what one worker makes and what four make.
-fn expect_alone<R: Abort + Threads + Wait + Sync>(
-    rt: &R,
-    alloc: Global,
-    file: &[u8],
-    places: &[Option<ProgNo>],
-    proposals: &[u32],
-) -> Result<(), Fail> {
-    let roster = roster_of(rt, alloc, file)?;
-    let ranks = Ranks::build(rt, alloc, &roster)?;
-    expect_singles(rt, &work_alone(alloc, &ranks)?, places, proposals);
-    expect_singles(rt, &work(rt, alloc, &ranks, 1, &Open)?, places, proposals);
-    expect_singles(rt, &work(rt, alloc, &ranks, 4, &Open)?, places, proposals);
-    Ok(())
-}
-
-// In the last market the single takes a post, and the couple's members stay unplaced.
-#[test]
-fn one_thread_needs_no_locks(rt: HostRuntime) -> Result<(), Fail> {
-    let alloc = rt.alloc();
-    let chain_end = [Some(ProgNo(1)), Some(ProgNo(0)), None];
-    expect_alone(&rt, alloc, CHAIN, &chain_end, &[3, 2])?;
-    expect_alone(
-        &rt,
-        alloc,
-        TWO_POSTS,
-        &[Some(ProgNo(0)), None, Some(ProgNo(0))],
-        &[3],
-    )?;
-    expect_alone(&rt, alloc, BETWEEN, &[Some(ProgNo(0)), None, None], &[1])
 }
 
 // A gate at which workers give way, some times that differ from ticket to ticket.
