@@ -1,5 +1,4 @@
 pub mod AskFacts
-pub mod BitFacts
 pub mod EnteringFacts
 pub mod JoinFacts
 pub mod MarketFacts
@@ -14,7 +13,6 @@ pub mod RanksFacts
 pub mod RoundFacts
 pub mod SentFacts
 pub mod TableFacts
-pub mod WaitingFacts
 pub mod RefusedFacts
 pub mod WatchFacts
 pub mod LiveFacts

@@ -19,12 +19,13 @@ use Rattle.mt_ranks.proofs.Positions.{has-position}
 use Rattle.mt_ranks.specs.Ranked.{rank_of}
 use Rattle.mt_round_laws.proofs.RoundsLists.{In, found, finds, each, has_in, in_has, of_image}
 use Rattle.mt_round_laws.proofs.RoundsAgents.{member_of_agent, one_of_two}
+use Rattle.mt_sets.specs.Members.{IsFirstFrom}
+use Rattle.mt_sets.specs.Waiting.{with_agents, Waiting}
 use Rattle.mt_couples.specs.Assigned.{ahead, has_post, pair_of, Assigned, AreApplicantsOf, IsAssigned}
 use Rattle.mt_couples.specs.Looking.{is_noted_reopened, AddsCouples, AddsSingles, HaveReopened, IsWatching}
 use Rattle.mt_couples.specs.Moves.{agents_of, names_one_of, opens, some_has}
 use Rattle.mt_couples.specs.Running.{is_idle, is_reopened}
-use Rattle.mt_couples.specs.Waiting.{Waiting, with_agents}
-use Rattle.mt_couples.specs.Watching.{better_pairs, end_of, is_before, is_noted, names, notes_pair, opens_between, ranks_at, row_at, wanted, Covers, IsFirstFrom}
+use Rattle.mt_couples.specs.Watching.{better_pairs, end_of, is_before, is_noted, names, notes_pair, opens_between, ranks_at, row_at, wanted, Covers}
 use Rattle.mt_couples.specs.declared.couple_list.Note.{Note}
 use Rattle.mt_couples.specs.declared.watch.Watch.{Watch}
 use Rattle.mt_terms.specs.Lists.{is_distinct}

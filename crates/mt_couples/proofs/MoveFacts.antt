@@ -20,9 +20,10 @@ use Rattle.mt_round_laws.proofs.RoundsPlaces.{at_none}
 use Rattle.mt_round_laws.proofs.RoundsAgents.{agent_of_applicant, agent_from_list, of_list, on_list, same_agent, member_of_agent, apart, option_movers, option_entry, option_member, option_there, option_elsewhere}
 use Rattle.mt_round_laws.proofs.RoundsFits.{listing_program, fitting_facts}
 use Rattle.mt_round_laws.proofs.RoundsMove.{IsMove, of_displaced, displaced_agents, match_after, is_displaced, displaced_agent, goes_out, mover_stays, stays_in, was_before}
+use Rattle.mt_sets.specs.Waiting.{with_agents, Waiting}
 use Rattle.mt_couples.specs.Assigned.{AreSent, AreSentToLists}
 use Rattle.mt_couples.specs.Moves.{is_left_by_movers, is_kept_at, all_members, IsTaking}
-use Rattle.mt_couples.specs.Waiting.{Waiting, with_agents, Joins}
+use Rattle.mt_couples.specs.Waiting.{Joins}
 use Rattle.mt_couples.proofs.SentFacts.{in_list}
 use Rattle.mt_couples.proofs.JoinFacts.{all_joined-append}
 use Rattle.mt_placed.proofs.OrderFacts.{below_rest}

@@ -5,9 +5,10 @@ use Rattle.mt_terms.specs.Market.{Market, applicants, agent_of, program_of}
 use Rattle.mt_terms.specs.declared.numbers.Agent.{Agent}
 use Rattle.mt_terms.specs.declared.numbers.Agent.TheVariants.{Single, Couple}
 use Rattle.mt_ranks.specs.Ranked.{rank_of}
+use Rattle.mt_sets.specs.Members.{IsFirstFrom}
 use Rattle.mt_couples.specs.Assigned.{has_post, Assigned}
 use Rattle.mt_couples.specs.Running.{is_idle, is_reopened}
-use Rattle.mt_couples.specs.Watching.{end_of, opens_between, AreCounted, AreNamed, AreWatched, IsFirstFrom}
+use Rattle.mt_couples.specs.Watching.{end_of, opens_between, AreCounted, AreNamed, AreWatched}
 use Rattle.mt_couples.specs.declared.couple_list.Note.{Note}
 use Rattle.mt_couples.specs.declared.watch.Watch.{Watch}
 

@@ -1,5 +1,5 @@
 -- What a move of an agent changes, in parts.
-use Rattle.std.specs.Prelude.{◌≡◌, ℕ, Bool, false, not, ◌&&◌, ◌||◌, List, [], ◌∷◌, Option, Some, None, map, Contains, IsTrue, if◌then◌else◌}
+use Rattle.std.specs.Prelude.{ℕ, Bool, false, not, ◌&&◌, List, [], ◌∷◌, Option, Some, None, map, Contains, IsTrue, if◌then◌else◌}
 use Rattle.std.specs.List.{list_any, flat_map}
 use Rattle.mt_terms.specs.Lists.{has, count}
 use Rattle.mt_terms.specs.Market.{Market, program_of, agent_of, members, agents}
@@ -38,10 +38,6 @@ all_members m xs = flat_map (λ a. members m (agent_of m a)) xs
 -- the match with the agents of these applicants unplaced
 abbrev pub without_agents : Assigned → List ℕ → Assigned
 without_agents s xs = with_places s (unplaced (all_members s.market xs) s.places)
-
--- an ordered set adds the programs that pass
-abbrev pub Adds : List ℕ → List ℕ → (ℕ → Bool) → Type 0
-Adds old new test = (p : ℕ) → has new p ≡ (has old p || test p)
 
 -- whether one of those that are sent leaves a program
 abbrev pub movers_leave : Assigned → Placement → ℕ → Bool

@@ -1,5 +1,5 @@
 -- What is asked of a match and of a work list between two rounds.
-use Rattle.std.specs.Prelude.{ℕ, Bool, true, not, ◌&&◌, List, ◌∷◌, IsTrue, IsFalse}
+use Rattle.std.specs.Prelude.{ℕ, Bool, true, not, ◌&&◌, List, IsTrue, IsFalse}
 use Rattle.std.specs.List.{list_all}
 use Rattle.mt_terms.specs.Lists.{below}
 use Rattle.mt_terms.specs.Market.{agent_of, agents, applicants}
@@ -8,17 +8,14 @@ use Rattle.mt_terms.specs.WellFormed.{IsWellFormed}
 use Rattle.mt_terms.specs.Rounds.{Work, has_entered, is_on, IsFittingState}
 use Rattle.mt_terms.specs.declared.numbers.Agent.{Agent}
 use Rattle.mt_terms.specs.declared.numbers.Agent.TheVariants.{Single, Couple}
+use Rattle.mt_sets.specs.Waiting.{Waiting}
 use Rattle.mt_couples.specs.Assigned.{Assigned}
 use Rattle.mt_couples.specs.Moves.{opens}
-use Rattle.mt_couples.specs.Waiting.{Waiting, with_agents, IsListOf}
+use Rattle.mt_couples.specs.Waiting.{IsListOf}
 
 -- the state of a match and a work list
 abbrev pub work_of : Assigned → Waiting → Work
 work_of s w = record { places = s.places; waiting = w.agents }
-
--- an agent waits before all others
-abbrev pub waiting_first : Agent → Waiting → Waiting
-waiting_first g w = with_agents w (g ∷ w.agents)
 
 -- Once couple k has entered, no agent blocks that has entered and doesn't wait.
 abbrev pub IsQuiet : ℕ → Assigned → List Agent → Type 0

@@ -1,30 +1,9 @@
--- A work list of agents, and how many applicants and couples there are.
-use Rattle.std.specs.Prelude.{◌≡◌, ℕ, ◌+◌, ◌<◌, Bool, false, List, [], length, slice_index_or, IsTrue}
-use Rattle.std.specs.List.{IsDistinct}
+-- What a work list is to a market, and how it changes.
+use Rattle.std.specs.Prelude.{◌≡◌, List, length}
 use Rattle.mt_terms.specs.Market.{Market, applicants}
-use Rattle.mt_terms.specs.Rounds.{is_on, is_same_agent, all_joined}
+use Rattle.mt_terms.specs.Rounds.{all_joined}
 use Rattle.mt_terms.specs.declared.numbers.Agent.{Agent}
-use Rattle.mt_terms.specs.declared.numbers.Agent.TheVariants.{Single, Couple}
-
-pub record Waiting : Type 0 where
-  pub applicants : ℕ
-  pub couples : ℕ
-  pub agents : List Agent
-
--- the list with other agents on it, and the one of nobody
-abbrev pub with_agents : Waiting → List Agent → Waiting
-with_agents w gs = record w { agents = gs }
-
-abbrev pub nobody : ℕ → ℕ → Waiting
-nobody applicants couples = record { applicants = applicants; couples = couples; agents = [] }
-
--- an agent has a number within these
-abbrev pub IsWithin : ℕ → ℕ → Agent → Type 0
-IsWithin applicants couples (Single a) = a < applicants
-IsWithin applicants couples (Couple c) = c < couples
-
-abbrev pub IsKnown : Waiting → Agent → Type 0
-IsKnown w g = IsWithin w.applicants w.couples g
+use Rattle.mt_sets.specs.Waiting.{Waiting, with_agents}
 
 -- a list of agents of a market has room for all of them
 pub record IsListOf (m : Market) (w : Waiting) : Type 0 where
@@ -38,15 +17,3 @@ KeepsRoom old new = new ≡ with_agents old new.agents
 -- these agents join, one after another
 abbrev pub Joins : Waiting → Waiting → List Agent → Type 0
 Joins old new gs = new ≡ with_agents old (all_joined old.agents gs)
-
--- where it is told whether an agent waits: singles are before couples
-abbrev pub place_for : ℕ → Agent → ℕ
-place_for applicants (Single a) = a
-place_for applicants (Couple c) = applicants + c
-
--- Of so many applicants and couples each agent waits once at most, and it is told whether it waits.
-pub record IsTold (applicants couples : ℕ) (agents : List Agent) (waits : List Bool) : Type 0 where
-  pub once : IsDistinct is_same_agent agents
-  pub known : (g : Agent) → IsTrue (is_on agents g) → IsWithin applicants couples g
-  pub told : (g : Agent) → IsWithin applicants couples g → slice_index_or waits (place_for applicants g) false ≡ is_on agents g
-  pub places : length waits ≡ applicants + couples

@@ -1,5 +1,5 @@
 -- Where it is watched that an option may be opened.
-use Rattle.std.specs.Prelude.{◌≡◌, ℕ, ◌<◌, ◌≤◌, Bool, true, false, ◌&&◌, ◌||◌, ◌==◌, nat_le, nat_lt, min, if◌then◌else◌, ◌⊎◌, List, [], length, Option, Some, slice_index_or, slice_range}
+use Rattle.std.specs.Prelude.{◌≡◌, ℕ, ◌<◌, Bool, true, ◌&&◌, ◌||◌, ◌==◌, nat_le, nat_lt, min, if◌then◌else◌, ◌⊎◌, List, [], length, Option, Some, slice_index_or, slice_range}
 use Rattle.std.specs.List.{list_any}
 use Rattle.mt_terms.specs.Lists.{Set, has, until}
 use Rattle.mt_terms.specs.Market.{Market, Pair, applicants, agent_of, couple_of, list_of, live_market}
@@ -9,6 +9,7 @@ use Rattle.mt_ranks.specs.Ranked.{rank_of, ranked_list}
 use Rattle.mt_ranks.specs.declared.entries.Live.{Live}
 use Rattle.mt_terms.specs.declared.numbers.Agent.{Agent}
 use Rattle.mt_terms.specs.declared.numbers.Agent.TheVariants.{Couple}
+use Rattle.mt_sets.specs.Members.{is_in}
 use Rattle.mt_couples.specs.Assigned.{Assigned, pair_of}
 use Rattle.mt_couples.specs.declared.couple_list.Note.{Note}
 use Rattle.mt_couples.specs.declared.watch.Watch.{Watch}
@@ -25,16 +26,6 @@ better_entries s a = until (λ (e : Live). at s.places e.program a) (ranked_list
 -- the pairs that a couple's list has before its own
 abbrev pub better_pairs : Assigned → ℕ → List Pair
 better_pairs s c = until (λ pair. holds s.places (pair_of s c pair)) (couple_of s.market c).pairs
-
--- whether a rank is in a set, for which it is told of each rank
-abbrev pub is_in : List Bool → Set
-is_in told r = slice_index_or told r false
-
--- a rank of a set, the first that isn't below a number
-pub record IsFirstFrom (ranks : Set) (number r : ℕ) : Type 0 where
-  pub not_below : number ≤ r
-  pub there : ranks r ≡ true
-  pub first : (q : ℕ) → number ≤ q → q < r → ranks q ≡ false
 
 -- the ranks that are watched at a program
 abbrev pub ranks_at : List (List Bool) → ℕ → Set

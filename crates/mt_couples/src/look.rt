@@ -5,18 +5,19 @@ ghost use Rattle.mt_terms.specs.Market.{applicants};
 ghost use Rattle.mt_terms.specs.Rounds.{has_entered};
 ghost use Rattle.mt_terms.specs.WellFormed.{IsWellFormed};
 ghost use Rattle.mt_ranks.specs.Ranked.{rank_of};
+ghost use Rattle.mt_sets.specs.Members.{is_in};
+ghost use Rattle.mt_sets.specs.Waiting.{IsKnown};
 ghost use Rattle.mt_couples.specs.Assigned.{AreApplicantsOf, AreProgramsOf, IsAgentOf};
 ghost use Rattle.mt_couples.specs.Looking.{is_noted_reopened, AddsCouples, AddsSingles, AreRanksOf, HaveReopened, IsClosed, IsOpenFrom, IsWatching, Keeps};
 ghost use Rattle.mt_couples.specs.Moves.{blockers, reopened};
 ghost use Rattle.mt_couples.specs.Running.{is_idle, is_reopened, IsQuietBut};
-ghost use Rattle.mt_couples.specs.Waiting.{IsKnown, IsListOf, Joins};
-ghost use Rattle.mt_couples.specs.Watching.{is_in, AreCounted, Covers};
+ghost use Rattle.mt_couples.specs.Waiting.{IsListOf, Joins};
+ghost use Rattle.mt_couples.specs.Watching.{AreCounted, Covers};
 
 use crate::assignment::Assignment;
 use crate::couple_list::Note;
-use crate::rank_set::RankSet;
 use crate::watch::Watch;
-use crate::work_list::WorkList;
+use mt_sets::{RankSet, WorkList};
 use mt_terms::{Agent, AppNo, CoupleNo, ProgNo};
 use std::alloc::{AllocError, Global};
 

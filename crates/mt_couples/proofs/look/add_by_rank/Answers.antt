@@ -2,8 +2,8 @@ use Rattle.std.proofs.Common.{◌≡◌, ◌∙◌, ◌++◌, ◌∷◌, ◌<◌
 use Rattle.std.proofs.lemmas.Bool.{cases_lt}
 use Rattle.mt_terms.specs.Lists.{has}
 use Rattle.mt_terms.specs.Market.{agent_of, applicants, program_of}
+use Rattle.mt_sets.specs.Members.{is_in}
 use Rattle.mt_couples.specs.Running.{is_reopened}
-use Rattle.mt_couples.specs.Watching.{is_in}
 use Rattle.mt_couples.proofs.MarketFacts.{read_within}
 use Rattle.mt_couples.proofs.WatchFacts.{has_still}
 use Rattle.mt_couples.proofs.LookFacts.{at_rank, closed_at, found_at, found_below, passed_at, within_more}

@@ -1,7 +1,7 @@
 use Rattle.std.proofs.Common.{◌≡◌, ◌-◌, ◌<◌, ℕ, true, length}
+use Rattle.mt_sets.specs.Members.{is_in}
 use Rattle.mt_couples.specs.Assigned.{AreApplicantsOf}
 use Rattle.mt_couples.specs.Looking.{Keeps}
-use Rattle.mt_couples.specs.Watching.{is_in}
 use Rattle.mt_couples.proofs.LookFacts.{IsFoundAt}
 use Rattle.mt_couples.proofs.look.add_by_rank.Given as goal
 

@@ -3,9 +3,9 @@ use Rattle.std.proofs.lemmas.Bool.{cases_lt, or_left}
 use Rattle.mt_terms.specs.Market.{agent_of, applicants}
 use Rattle.mt_terms.specs.Rounds.{all_joined, is_on, joined}
 use Rattle.mt_round_laws.proofs.RoundsKeep.{on_joined}
+use Rattle.mt_sets.specs.Waiting.{with_agents, Waiting}
 use Rattle.mt_couples.specs.Moves.{agents_of, blockers}
 use Rattle.mt_couples.specs.Running.{is_reopened}
-use Rattle.mt_couples.specs.Waiting.{Waiting, with_agents}
 use Rattle.mt_couples.proofs.QuietFacts.{blocking}
 use Rattle.mt_couples.proofs.WatchFacts.{drop_past}
 use Rattle.mt_couples.proofs.LookFacts.{none_between, passes_joined, passes_skipped, passing, Rest}

@@ -4,7 +4,8 @@ use Rattle.mt_terms.specs.Stability.{fits}
 use Rattle.mt_terms.specs.Rounds.{settled}
 use Rattle.mt_terms.specs.declared.numbers.Agent.TheVariants.{Couple}
 use Rattle.mt_round_laws.proofs.RoundsStage.{stage_is_stable_lem}
-use Rattle.mt_couples.specs.Waiting.{nobody, IsListOf}
+use Rattle.mt_sets.specs.Waiting.{nobody}
+use Rattle.mt_couples.specs.Waiting.{IsListOf}
 use Rattle.mt_couples.specs.Running.{singles_quiet, IsQuiet}
 use Rattle.mt_couples.specs.Watching.{AreCounted, AreWatched}
 use Rattle.mt_couples.proofs.QuietFacts.{quiet_at_first}

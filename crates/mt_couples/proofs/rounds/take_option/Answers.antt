@@ -4,9 +4,10 @@ use Rattle.mt_terms.specs.Market.{applicants}
 use Rattle.mt_terms.specs.Rounds.{all_joined}
 use Rattle.mt_terms.specs.declared.numbers.Agent.{Agent}
 use Rattle.mt_round_laws.proofs.RoundsLists.{has_in, of_kept, of_below}
+use Rattle.mt_sets.specs.Waiting.{with_agents, Waiting}
 use Rattle.mt_couples.specs.Assigned.{Assigned, AreSent}
 use Rattle.mt_couples.specs.Moves.{agents_of, displaced_by, if_blocking, moved, reopened, IsTaking}
-use Rattle.mt_couples.specs.Waiting.{Waiting, with_agents, IsListOf, Joins}
+use Rattle.mt_couples.specs.Waiting.{IsListOf, Joins}
 use Rattle.mt_couples.specs.Running.{work_of, IsQuietBut}
 use Rattle.mt_couples.proofs.JoinFacts.{joined_list, rest_list}
 use Rattle.mt_couples.proofs.QuietFacts.{quiet_but_left}

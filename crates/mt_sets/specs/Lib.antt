@@ -1,0 +1,3 @@
+pub mod Members
+pub mod View
+pub mod Waiting
