@@ -19,7 +19,7 @@ use Rattle.mt_ranks.proofs.Positions.{has-position}
 use Rattle.mt_ranks.specs.Ranked.{rank_of}
 use Rattle.mt_round_laws.proofs.RoundsLists.{In, found, finds, each, has_in, in_has, of_image}
 use Rattle.mt_round_laws.proofs.RoundsAgents.{member_of_agent, one_of_two}
-use Rattle.mt_sets.specs.Members.{IsFirstFrom}
+use Rattle.mt_bits.specs.Members.{IsFirstFrom}
 use Rattle.mt_sets.specs.Waiting.{with_agents, Waiting}
 use Rattle.mt_couples.specs.Assigned.{ahead, has_post, pair_of, Assigned, AreApplicantsOf, IsAssigned}
 use Rattle.mt_couples.specs.Looking.{is_noted_reopened, AddsCouples, AddsSingles, HaveReopened, IsWatching}

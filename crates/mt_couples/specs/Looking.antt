@@ -5,7 +5,7 @@ use Rattle.mt_terms.specs.Market.{Market, applicants, agent_of, program_of}
 use Rattle.mt_terms.specs.declared.numbers.Agent.{Agent}
 use Rattle.mt_terms.specs.declared.numbers.Agent.TheVariants.{Single, Couple}
 use Rattle.mt_ranks.specs.Ranked.{rank_of}
-use Rattle.mt_sets.specs.Members.{IsFirstFrom}
+use Rattle.mt_bits.specs.Members.{IsFirstFrom}
 use Rattle.mt_couples.specs.Assigned.{has_post, Assigned}
 use Rattle.mt_couples.specs.Running.{is_idle, is_reopened}
 use Rattle.mt_couples.specs.Watching.{end_of, opens_between, AreCounted, AreNamed, AreWatched}

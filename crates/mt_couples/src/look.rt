@@ -5,7 +5,7 @@ ghost use Rattle.mt_terms.specs.Market.{applicants};
 ghost use Rattle.mt_terms.specs.Rounds.{has_entered};
 ghost use Rattle.mt_terms.specs.WellFormed.{IsWellFormed};
 ghost use Rattle.mt_ranks.specs.Ranked.{rank_of};
-ghost use Rattle.mt_sets.specs.Members.{is_in};
+ghost use Rattle.mt_bits.specs.Members.{is_in};
 ghost use Rattle.mt_sets.specs.Waiting.{IsKnown};
 ghost use Rattle.mt_couples.specs.Assigned.{AreApplicantsOf, AreProgramsOf, IsAgentOf};
 ghost use Rattle.mt_couples.specs.Looking.{is_noted_reopened, AddsCouples, AddsSingles, AreRanksOf, HaveReopened, IsClosed, IsOpenFrom, IsWatching, Keeps};
@@ -17,7 +17,8 @@ ghost use Rattle.mt_couples.specs.Watching.{AreCounted, Covers};
 use crate::assignment::Assignment;
 use crate::couple_list::Note;
 use crate::watch::Watch;
-use mt_sets::{RankSet, WorkList};
+use mt_bits::RankSet;
+use mt_sets::WorkList;
 use mt_terms::{Agent, AppNo, CoupleNo, ProgNo};
 use std::alloc::{AllocError, Global};
 

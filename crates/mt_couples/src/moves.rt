@@ -2,7 +2,7 @@ ghost use Rattle.std.specs.Prelude.{◌≡◌, ◌<◌, IfOk, OnOk};
 ghost use Rattle.mt_terms.specs.Market.{applicants};
 ghost use Rattle.mt_terms.specs.declared.numbers.Agent.{Agent};
 ghost use Rattle.mt_terms.specs.Rounds.{displaced, programs_sent_to};
-ghost use Rattle.mt_sets.specs.Members.{Adds};
+ghost use Rattle.mt_sets.specs.Programs.{Adds};
 ghost use Rattle.mt_couples.specs.Assigned.{AreApplicantsOf, AreProgramsOf, AreSent, AreSentToLists};
 ghost use Rattle.mt_couples.specs.Moves.{any_kept, displaced_by, is_kept, left_by, moved, movers_leave, seated, without_agents, IsTaking};
 

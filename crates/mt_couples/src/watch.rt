@@ -1,12 +1,12 @@
 ghost use Rattle.std.specs.Prelude.{◌≡◌, ◌+◌, ◌<◌, ℕ, length, min, slice_index_or, IfOk, OnOk};
 ghost use Rattle.mt_terms.specs.Market.{applicants};
-ghost use Rattle.mt_sets.specs.Members.{is_in};
+ghost use Rattle.mt_bits.specs.Members.{is_in};
 ghost use Rattle.mt_couples.specs.Watching.{better_pairs, ranks_at, row_at, AreCounted, AreEmpty, AreNamed, AreWatched, Counts, CountsCouple, Follows, Notes, Watches};
 
 use crate::assignment::Assignment;
 use crate::couple_list::{CoupleList, Note};
+use mt_bits::RankSet;
 use mt_ranks::Live;
-use mt_sets::RankSet;
 use mt_terms::{Agent, AppNo, CoupleNo, ProgNo};
 use std::alloc::{AllocError, Global};
 

@@ -1,9 +1,10 @@
 -- How many members of a set stand below a number.
 use Rattle.std.proofs.Common.{◌≡◌, ℕ, zero, suc, ◌+◌, ◌<◌, ◌≤◌, Bool, true, false, cond, refl, inl, inr, arith, add-one}
-use Rattle.std.proofs.lemmas.Bool.{cases_eq, eq-eqb}
+use Rattle.std.proofs.lemmas.Bool.{cases_eq}
 use Rattle.mt_terms.specs.Lists.{Set, with_one, count_below}
 use Rattle.mt_terms.proofs.Totals.{count_below-same}
 use Rattle.mt_terms.proofs.ListFacts.{with_one-other}
+use Rattle.mt_bits.proofs.Flags.{with_one_same}
 
 pub count_suc : (s : Set) (k : ℕ) → count_below s (k + 1) ≡ cond (s k) 1 0 + count_below s k
 count_suc s k = rw add-one refl
@@ -42,9 +43,6 @@ count_flat s a (suc b) h none =
       | inl e ↦ rw e refl
       | inr ne ↦ rw (none b (omega arith) (omega arith)) (omega (arith, count_flat s a b (omega arith) (λ k l m. none k l (omega arith))))
     ]
-
-pub with_one_same : (s : Set) (r : ℕ) → with_one s r r ≡ true
-with_one_same s r = rw (eq-eqb r r refl) refl
 
 -- one member more counts above it, and not at it or below
 pub count-with_one_below : (s : Set) (r k : ℕ) → k ≤ r → count_below (with_one s r) k ≡ count_below s k

@@ -8,7 +8,8 @@ use Rattle.mt_hold.specs.Ends.{IsEnd, IsLastBelow}
 use Rattle.mt_hold.specs.Settled.{IsSettled}
 use Rattle.mt_hold.specs.declared.holding.Taken.{Taken}
 use Rattle.mt_hold.specs.declared.holding.Taken.TheVariants.{Kept, KeptInstead, Refused}
-use Rattle.mt_hold.proofs.Counting.{count_in, count_flat, count-le, count_past, with_one_same, count-with_one_below, count-with_one_above}
+use Rattle.mt_bits.proofs.Flags.{with_one_same}
+use Rattle.mt_hold.proofs.Counting.{count_in, count_flat, count-le, count_past, count-with_one_below, count-with_one_above}
 use Rattle.mt_hold.proofs.Chosen.{chosen}
 
 -- who is chosen comes before the end, and nobody else does

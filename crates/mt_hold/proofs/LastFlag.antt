@@ -6,7 +6,7 @@ use Rattle.std.proofs.lemmas.Bool.Decides.{nat_tests}
 use Rattle.std.proofs.lemmas.Nat.{shr_high, one_shl}
 use Rattle.std.proofs.lemmas.Nat.Bits.{bit_at_and, bit_at_ones, bit_at_ones_above, bit_at_above, bit_at-lt, bit_at-zero}
 use Rattle.mt_terms.specs.Lists.{count_below}
-use Rattle.mt_hold.specs.Flags.{flag}
+use Rattle.mt_bits.specs.Flags.{flag}
 use Rattle.mt_hold.specs.Ends.{IsLastBelow}
 use Rattle.mt_hold.proofs.Counting.{count_flat}
 

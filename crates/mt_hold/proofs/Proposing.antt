@@ -4,11 +4,11 @@ use Rattle.std.specs.Vec.{with_items}
 use Rattle.std.proofs.lemmas.List.{with_items_is}
 use mathlib.Core.Path.{fun_ext}
 use Rattle.mt_terms.specs.Lists.{with_one}
-use Rattle.mt_hold.specs.Flags.{flag}
+use Rattle.mt_bits.specs.Flags.{flag}
 use Rattle.mt_hold.specs.Holding.{Holding, ranks, has_received}
 use Rattle.mt_hold.specs.Inside.{holding_of}
 use Rattle.mt_hold.specs.declared.holding.Hold.TheInside.{Inside}
-use Rattle.mt_hold.proofs.Bits.{length-flags, get_or-flags}
+use Rattle.mt_bits.proofs.Flags.{get_or-flags, length-flags}
 
 pub on_list : (a : Inside) (h : Holding) (rank : ℕ) → holding_of a ≡ h → rank < ranks h → rank < a.list_len
 on_list a h rank view low = omega (arith, ap ranks view, length-flags a.received.items a.list_len)

@@ -1,7 +1,7 @@
 -- How a holding is kept: its bits, and where what it holds ends.
 use Rattle.std.specs.Prelude.{◌≡◌, ◌*◌, ◌<◌, length}
 use Rattle.mt_terms.specs.Lists.{count_below}
-use Rattle.mt_hold.specs.Flags.{flag, flags}
+use Rattle.mt_bits.specs.Flags.{flag, flags}
 use Rattle.mt_hold.specs.Holding.{Holding}
 use Rattle.mt_hold.specs.Ends.{IsEnd}
 use Rattle.mt_hold.specs.declared.holding.Hold.TheInside.{Inside}

@@ -1,5 +1,4 @@
 pub mod Ends
-pub mod Flags
 pub mod Holding
 pub mod Inside
 pub mod Laws

@@ -1,6 +1,6 @@
 ghost use Rattle.std.specs.Prelude.{◌≡◌, ◌↔◌, ◌<◌, ◌/◌, ℕ, IfOk, IsTrue, IsFalse, length};
 ghost use Rattle.mt_terms.specs.Lists.{with_one, count_below};
-ghost use Rattle.mt_hold.specs.Flags.{flag};
+ghost use Rattle.mt_bits.specs.Flags.{flag};
 ghost use Rattle.mt_hold.specs.Ends.{IsLastBelow};
 ghost use Rattle.mt_hold.specs.Settled.{IsSettled};
 

@@ -1,2 +1,1 @@
-pub mod BitFacts
 pub mod WaitingFacts

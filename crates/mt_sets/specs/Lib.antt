@@ -1,3 +1,3 @@
-pub mod Members
+pub mod Programs
 pub mod View
 pub mod Waiting

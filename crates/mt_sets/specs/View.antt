@@ -1,11 +1,9 @@
 -- What the fields of the sets mean.
-use Rattle.std.specs.Prelude.{◌≤◌, ◌+◌, ◌*◌, ℕ, Bool, List, length}
+use Rattle.std.specs.Prelude.{◌≤◌, ◌+◌, ℕ, List}
 use Rattle.std.specs.VecDeque.{deque_capacity}
 use Rattle.std.specs.List.Sorted.{IsStrictlySortedBy}
 use Rattle.std.specs.Ordering.{nat_cmp}
-use Rattle.mt_hold.specs.Flags.{flags}
 use Rattle.mt_sets.specs.Waiting.{Waiting, IsTold}
-use Rattle.mt_sets.specs.declared.rank_set.RankSet.TheInside.{Inside as Ranks}
 use Rattle.mt_sets.specs.declared.program_set.ProgramSet.TheInside.{Inside as Programs}
 use Rattle.mt_sets.specs.declared.work_list.WorkList.TheInside.{Inside as Queue}
 
@@ -23,10 +21,3 @@ programs_in s = s.programs.items
 -- They are in order of their numbers, each once.
 pub record AreInOrder (s : Programs) : Type 0 where
   pub sorted : IsStrictlySortedBy nat_cmp s.programs.items
-
-abbrev pub ranks_in : Ranks → List Bool
-ranks_in s = flags s.words.items (64 * length s.words.items)
-
--- So few words that each bit has a number of 32 bits.
-pub record AreFewWords (s : Ranks) : Type 0 where
-  pub few : length s.words.items ≤ 67108864

@@ -1,10 +1,8 @@
-//! Sets that change while couples enter: of ranks, of programs, and of the agents that wait.
+//! Sets that change while couples enter: of programs, and of the agents that wait.
 #![tactic(auto)]
 
 mod program_set;
-mod rank_set;
 mod work_list;
 
 pub use program_set::ProgramSet;
-pub use rank_set::RankSet;
 pub use work_list::WorkList;

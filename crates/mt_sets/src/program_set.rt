@@ -1,7 +1,7 @@
 ghost use Rattle.std.specs.Prelude.{◌≡◌, ◌==◌, [], OnOk};
 ghost use Rattle.std.specs.List.Sorted.{IsStrictlySortedBy};
 ghost use Rattle.std.specs.Ordering.{nat_cmp};
-ghost use Rattle.mt_sets.specs.Members.{Adds};
+ghost use Rattle.mt_sets.specs.Programs.{Adds};
 
 use mt_terms::ProgNo;
 use std::alloc::{AllocError, Global};

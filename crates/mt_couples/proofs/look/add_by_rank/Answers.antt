@@ -1,8 +1,8 @@
-use Rattle.std.proofs.Common.{◌≡◌, ◌∙◌, ◌++◌, ◌∷◌, ◌<◌, [], ℕ, List, true, false, length, get_or, ap, sym, subst, inl, inr, arith}
+use Rattle.std.proofs.Common.{◌≡◌, ◌∙◌, ◌++◌, ◌∷◌, ◌<◌, [], ℕ, true, false, length, get_or, ap, sym, subst, inl, inr, arith}
 use Rattle.std.proofs.lemmas.Bool.{cases_lt}
 use Rattle.mt_terms.specs.Lists.{has}
 use Rattle.mt_terms.specs.Market.{agent_of, applicants, program_of}
-use Rattle.mt_sets.specs.Members.{is_in}
+use Rattle.mt_bits.specs.Members.{is_in}
 use Rattle.mt_couples.specs.Running.{is_reopened}
 use Rattle.mt_couples.proofs.MarketFacts.{read_within}
 use Rattle.mt_couples.proofs.WatchFacts.{has_still}

@@ -1,5 +1,5 @@
 use Rattle.std.proofs.Common.{◌≡◌, ◌-◌, ◌<◌, ℕ, true, length}
-use Rattle.mt_sets.specs.Members.{is_in}
+use Rattle.mt_bits.specs.Members.{is_in}
 use Rattle.mt_couples.specs.Assigned.{AreApplicantsOf}
 use Rattle.mt_couples.specs.Looking.{Keeps}
 use Rattle.mt_couples.proofs.LookFacts.{IsFoundAt}

@@ -1,6 +1,6 @@
 use Rattle.std.proofs.Common.{◌∙◌, ◌≤◌, ap, sym, inl, inr, arith, length}
 use Rattle.std.proofs.lemmas.Bool.{both_ways, cases_lt}
-use Rattle.mt_sets.specs.Members.{is_in}
+use Rattle.mt_bits.specs.Members.{is_in}
 use Rattle.mt_couples.proofs.LookFacts.{later_closed}
 use Rattle.mt_couples.proofs.look.first_with_post.Goals as goal
 use Rattle.mt_couples.proofs.look.first_with_post.Goals.{else-is_on_list-via-then-is_on_list+else-has_post, else-is_on_list-via-else-is_on_list}

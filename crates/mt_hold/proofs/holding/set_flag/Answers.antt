@@ -1,4 +1,4 @@
-use Rattle.mt_hold.proofs.Bits.{flag-marked}
+use Rattle.mt_bits.proofs.Flags.{flag-marked}
 use Rattle.mt_hold.proofs.holding.set_flag.Goals as goal
 
 pub returns : goal.returns

@@ -1,5 +1,5 @@
 use Rattle.std.proofs.Common.{arith}
-use Rattle.mt_hold.specs.Flags.{flag}
+use Rattle.mt_bits.specs.Flags.{flag}
 use Rattle.mt_hold.proofs.Counting.{count_past}
 use Rattle.mt_hold.proofs.holding.settle.Goals as goal
 

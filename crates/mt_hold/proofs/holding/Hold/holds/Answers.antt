@@ -1,6 +1,6 @@
 use Rattle.std.proofs.Common.{arith, ap, refl, ◌∙◌, length}
 use Rattle.std.proofs.lemmas.Bool.{lt-ltb, le-ltb}
-use Rattle.mt_hold.specs.Flags.{flag}
+use Rattle.mt_bits.specs.Flags.{flag}
 use Rattle.mt_hold.proofs.Bits.{held-flags}
 use Rattle.mt_hold.proofs.Ends.{chosen-ended}
 use Rattle.mt_hold.proofs.holding.Hold.holds.Goals as goal

@@ -1,5 +1,5 @@
 use Rattle.std.proofs.Common.{◌≡◌, true, false, ltb, ◌&&◌, Bool, refl, ◌∙◌}
-use Rattle.mt_hold.specs.Flags.{flag}
+use Rattle.mt_bits.specs.Flags.{flag}
 use Rattle.mt_hold.proofs.Bits.{held-flags}
 use Rattle.mt_hold.proofs.Ends.{chosen-ended}
 use Rattle.mt_hold.proofs.Proposing.{flag_is}

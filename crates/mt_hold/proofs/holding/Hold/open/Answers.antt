@@ -2,8 +2,9 @@ use Rattle.std.proofs.Common.{ℕ, ap, sym, ◌∙◌, ◌+◌, ◌/◌, arith, 
 use Rattle.std.proofs.lemmas.List.{length-replicate}
 use Rattle.mt_terms.specs.Lists.{count_below}
 use Rattle.mt_hold.specs.Holding.{Holding}
-use Rattle.mt_hold.specs.Flags.{flag, flags}
-use Rattle.mt_hold.proofs.Bits.{count-zeros, flags-zeros}
+use Rattle.mt_bits.specs.Flags.{flag, flags}
+use Rattle.mt_bits.proofs.Flags.{flags-zeros}
+use Rattle.mt_hold.proofs.Bits.{count-zeros}
 use Rattle.mt_hold.proofs.Ends.{IsEnd-empty}
 use Rattle.mt_hold.proofs.holding.Hold.open.Goals as goal
 

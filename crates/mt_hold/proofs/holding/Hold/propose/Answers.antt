@@ -1,14 +1,15 @@
 use Rattle.std.proofs.Common.{◌≡◌, ◌+◌, ◌<◌, ◌↔◌, true, false, ap, sym, subst, ◌∙◌, arith, length}
 use Rattle.std.specs.Vec.{with_items}
 use Rattle.mt_terms.specs.Lists.{with_one, count_below}
-use Rattle.mt_hold.specs.Flags.{flag}
+use Rattle.mt_bits.specs.Flags.{flag}
 use Rattle.mt_hold.specs.Holding.{Holding}
 use Rattle.mt_hold.specs.Ends.{IsEnd}
 use Rattle.mt_hold.specs.Settled.{IsSettled}
 use Rattle.mt_hold.specs.declared.holding.Taken.TheVariants.{KeptInstead, Refused}
-use Rattle.mt_hold.proofs.Counting.{count-with_one_above, count_missing, with_one_same}
+use Rattle.mt_bits.proofs.Flags.{flags-with_one, with_one_same}
+use Rattle.mt_hold.proofs.Counting.{count-with_one_above, count_missing}
 use Rattle.mt_hold.proofs.Chosen.{chosen}
-use Rattle.mt_hold.proofs.Bits.{flags-with_one, held-flags}
+use Rattle.mt_hold.proofs.Bits.{held-flags}
 use Rattle.mt_hold.proofs.Ends.{settled_end, refused_exactly, dropped_exactly}
 use Rattle.mt_hold.proofs.Proposing.{on_list, not_flagged, words_written, flags_written}
 use Rattle.mt_hold.proofs.holding.Hold.propose.Goals as goal

@@ -1,7 +1,7 @@
 use Rattle.std.proofs.Common.{arith, ap, sym, ◌∙◌, length}
 use Rattle.mt_hold.specs.Holding.{ranks}
-use Rattle.mt_hold.specs.Flags.{flag}
-use Rattle.mt_hold.proofs.Bits.{length-flags, get_or-flags}
+use Rattle.mt_bits.specs.Flags.{flag}
+use Rattle.mt_bits.proofs.Flags.{get_or-flags, length-flags}
 use Rattle.mt_hold.proofs.holding.Hold.received.Goals as goal
 
 pub is_flagged-requires : goal.is_flagged-requires

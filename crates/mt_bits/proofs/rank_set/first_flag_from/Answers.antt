@@ -2,9 +2,9 @@ use Rattle.std.proofs.Common.{◌≡◌, ◌<◌, ◌≤◌, ◌+◌, ◌*◌, �
 use Rattle.std.specs.Prelude.{IfNone}
 use Rattle.std.proofs.lemmas.Bool.{cases_lt, ltb-false}
 use Rattle.std.proofs.lemmas.List.{get_or_read}
-use Rattle.mt_hold.specs.Flags.{flag}
-use Rattle.mt_sets.proofs.BitFacts.{first_in_word, none_after, none_past, word_after}
-use Rattle.mt_sets.proofs.rank_set.first_flag_from.Goals as goal
+use Rattle.mt_bits.specs.Flags.{flag}
+use Rattle.mt_bits.proofs.BitFacts.{first_in_word, none_after, none_past, word_after}
+use Rattle.mt_bits.proofs.rank_set.first_flag_from.Goals as goal
 
 pub loop-word-preserved : goal.loop-word-preserved
 loop-word-preserved c =

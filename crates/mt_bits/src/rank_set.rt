@@ -1,7 +1,7 @@
 ghost use Rattle.std.specs.Prelude.{◌≡◌, ℕ, ◌≤◌, false, length, [], IfNone, IfSome, OnOk};
 ghost use Rattle.mt_terms.specs.Lists.{with_one};
-ghost use Rattle.mt_hold.specs.Flags.{flag};
-ghost use Rattle.mt_sets.specs.Members.{is_in, IsFirstFrom};
+ghost use Rattle.mt_bits.specs.Flags.{flag};
+ghost use Rattle.mt_bits.specs.Members.{is_in, IsFirstFrom};
 
 use std::alloc::{AllocError, Global};
 use std::marker::Model;
@@ -18,7 +18,7 @@ impl Model for RankSet {
 
     ghost Value = { List Bool };
 
-    ghost use Rattle.mt_sets.specs.View.{ranks_in, AreFewWords};
+    ghost use Rattle.mt_bits.specs.View.{ranks_in, AreFewWords};
 
     ghost view = { ranks_in };
 

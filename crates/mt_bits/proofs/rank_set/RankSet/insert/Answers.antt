@@ -1,12 +1,12 @@
 use Rattle.std.proofs.Common.{◌≡◌, ◌∙◌, ◌*◌, ◌+◌, ◌%◌, ◌^◌, ◌<◌, ◌/◌, ℕ, bit_or, length, get_or, slice_set, ap, sym, subst, arith}
 use Rattle.std.proofs.lemmas.List.{get_or_default}
-use Rattle.mt_hold.specs.Flags.{flag, flags}
+use Rattle.mt_bits.specs.Flags.{flag, flags}
 use Rattle.mt_terms.specs.Lists.{with_one}
-use Rattle.mt_sets.specs.Members.{is_in}
-use Rattle.mt_sets.specs.declared.rank_set.RankSet.TheInside.{Inside}
-use Rattle.mt_sets.proofs.BitFacts.{flags_grown, told_more}
-use Rattle.mt_sets.proofs.rank_set.RankSet.insert.Goals as goal
-use Rattle.mt_sets.proofs.rank_set.RankSet.insert.Goals.{then-len-place+in_ok-resize, else-len-place}
+use Rattle.mt_bits.specs.Members.{is_in}
+use Rattle.mt_bits.specs.declared.rank_set.RankSet.TheInside.{Inside}
+use Rattle.mt_bits.proofs.BitFacts.{flags_grown, told_more}
+use Rattle.mt_bits.proofs.rank_set.RankSet.insert.Goals as goal
+use Rattle.mt_bits.proofs.rank_set.RankSet.insert.Goals.{then-len-place+in_ok-resize, else-len-place}
 
 pub returns : goal.returns
 returns c = λ r.

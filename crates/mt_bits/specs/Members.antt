@@ -1,6 +1,6 @@
--- What is in a set of numbers, and what is added to it.
-use Rattle.std.specs.Prelude.{◌≡◌, ℕ, ◌<◌, ◌≤◌, Bool, true, false, ◌||◌, List, slice_index_or}
-use Rattle.mt_terms.specs.Lists.{Set, has}
+-- What is in a set of ranks.
+use Rattle.std.specs.Prelude.{◌≡◌, ℕ, ◌<◌, ◌≤◌, Bool, true, false, List, slice_index_or}
+use Rattle.mt_terms.specs.Lists.{Set}
 
 -- whether a rank is in a set, for which it is told of each rank
 abbrev pub is_in : List Bool → Set
@@ -11,7 +11,3 @@ pub record IsFirstFrom (ranks : Set) (number r : ℕ) : Type 0 where
   pub not_below : number ≤ r
   pub there : ranks r ≡ true
   pub first : (q : ℕ) → number ≤ q → q < r → ranks q ≡ false
-
--- an ordered set adds the programs that pass
-abbrev pub Adds : List ℕ → List ℕ → (ℕ → Bool) → Type 0
-Adds old new test = (p : ℕ) → has new p ≡ (has old p || test p)

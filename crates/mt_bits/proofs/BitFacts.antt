@@ -7,10 +7,10 @@ use Rattle.std.proofs.lemmas.Bool.{cases_lt}
 use Rattle.std.proofs.lemmas.List.{get_or_past, take_all}
 use Rattle.std.proofs.lemmas.Nat.{pow-add}
 use Rattle.std.proofs.lemmas.Nat.Bits.{bit_at-trailing_zeros, bit_at-zero, bit_at_above}
-use Rattle.mt_hold.specs.Flags.{flag, flags}
-use Rattle.mt_hold.proofs.Bits.{flag-marked, get_or-flags, length-flags, marked}
+use Rattle.mt_bits.specs.Flags.{flag, flags}
+use Rattle.mt_bits.proofs.Flags.{flag-marked, get_or-flags, length-flags, marked}
 use Rattle.mt_terms.specs.Lists.{with_one}
-use Rattle.mt_sets.specs.Members.{is_in, IsFirstFrom}
+use Rattle.mt_bits.specs.Members.{is_in, IsFirstFrom}
 
 -- past the words no bit is set
 pub none_past : (words : List ℕ) (r : ℕ) → length words ≤ r / 64 → flag words r ≡ false

@@ -1,6 +1,6 @@
 use Rattle.std.proofs.Common.{◌-◌, ◌/◌, length}
-use Rattle.mt_sets.proofs.BitFacts.{IsWordFrom}
-use Rattle.mt_sets.proofs.rank_set.first_flag_from.Given as goal
+use Rattle.mt_bits.proofs.BitFacts.{IsWordFrom}
+use Rattle.mt_bits.proofs.rank_set.first_flag_from.Given as goal
 
 abbrev pub invariant-loop-word : goal.invariant-loop-word
 invariant-loop-word l = IsWordFrom l.words l.number l.start l.word

@@ -1,9 +1,9 @@
 use Rattle.std.proofs.Common.{◌≡◌, ◌≤◌, ℕ, false, subst}
 use Rattle.std.specs.Prelude.{IfNone, IfSome}
-use Rattle.mt_hold.specs.Flags.{flag}
-use Rattle.mt_sets.specs.Members.{is_in, IsFirstFrom}
-use Rattle.mt_sets.proofs.BitFacts.{none_told, some_told}
-use Rattle.mt_sets.proofs.rank_set.RankSet.first_from.Goals as goal
+use Rattle.mt_bits.specs.Flags.{flag}
+use Rattle.mt_bits.specs.Members.{is_in, IsFirstFrom}
+use Rattle.mt_bits.proofs.BitFacts.{none_told, some_told}
+use Rattle.mt_bits.proofs.rank_set.RankSet.first_from.Goals as goal
 
 pub returns-clause-first : goal.returns-clause-first
 returns-clause-first c =

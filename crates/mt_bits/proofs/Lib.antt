@@ -1,0 +1,2 @@
+pub mod BitFacts
+pub mod Flags

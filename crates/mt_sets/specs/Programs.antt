@@ -1,0 +1,7 @@
+-- What is added to a set of programs.
+use Rattle.std.specs.Prelude.{◌≡◌, ℕ, Bool, ◌||◌, List}
+use Rattle.mt_terms.specs.Lists.{has}
+
+-- an ordered set adds the programs that pass
+abbrev pub Adds : List ℕ → List ℕ → (ℕ → Bool) → Type 0
+Adds old new test = (p : ℕ) → has new p ≡ (has old p || test p)
