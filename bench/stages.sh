@@ -1,7 +1,8 @@
 #!/usr/bin/env bash
 # Times the layers of a match on one file, by the program in bench/stages.
 #
-#   bench/stages.sh build                          builds the program in the scratch folder
+#   bench/stages.sh build                          builds the program in the scratch folder, proving nothing
+#   bench/stages.sh build checks                   the same with the checks at run time that a proof makes needless
 #   bench/stages.sh prove PART                     proves and builds a part of it: roster, which ends there, or workers,
 #                                                  which goes on to `finish` and the layers of `crew`
 #   bench/stages.sh FILE [LAST [BUDGET [RUNS]]]    runs what was built last on a file: RUNS times (3), to the layer
@@ -15,9 +16,11 @@
 # $BENCH_SCRATCH, or nrmatch-bench in the folder for temporary files.
 #
 # `build` proves nothing. `rt try` compiles without optimising, so its LLVM module is compiled a second time here, at
-# the level of a proved build. The checks at run time that `rt try` puts in stay, which a proved build has none of:
-# `roster` takes about half as long again with them. `prove` takes some minutes where the layers are proved in this
-# checkout, and a quarter of an hour from nothing.
+# the level of a proved build. `rt try` puts checks in that a proved build has none of, and with them the couples' stage
+# takes half as long again, and more: so they are taken out of the module, as in a proved build, where the compiler may
+# take for granted what they look for. `build checks` leaves them in. Without them a program does anything at all where
+# one would have stopped it, so what isn't tried with them isn't measured without. `prove` takes some minutes where the
+# layers are proved in this checkout, and a quarter of an hour from nothing.
 set -eu
 top=$(cd "$(dirname "${BASH_SOURCE[0]}")/.." && pwd)
 scratch=${BENCH_SCRATCH:-${TMPDIR:-/tmp}/nrmatch-bench}
@@ -67,6 +70,16 @@ copy_crates() {
     echo "mt_stages: $libraries" >> "$repo/crates.txt"
 }
 
+# The module as it is, or without the checks: the calls that they end in, each before an `unreachable`, are left out.
+module() {
+    "$1/bin/clang" -x ir "$scratch/module.bc" -S -emit-llvm -Xclang -disable-llvm-passes -O3 -o - |
+        if [ "$2" = checks ]; then
+            cat
+        else
+            sed -e '/call void @"rattle-llvm-checks::Unreachable"/d' -e '/call void @llvm.trap()/d'
+        fi
+}
+
 build() {
     local from log=$scratch/build.log tools libraries
     from=$(dirname "$(dirname "$(readlink -f "$(command -v rt)")")")
@@ -82,8 +95,9 @@ build() {
         cat "$log" >&2
         exit 1
     fi
+    module "$tools" "${1:-}" > "$scratch/module.ll"
     "$tools/bin/clang" --target=x86_64-unknown-linux-gnu --sysroot="$tools" --no-default-config -march=x86-64-v2 \
-        -ffunction-sections -fdata-sections -fPIE -O3 -c -x ir "$scratch/module.bc" -o "$scratch/stages.o"
+        -ffunction-sections -fdata-sections -fPIE -O3 -c -x ir "$scratch/module.ll" -o "$scratch/stages.o"
     "$from/bin/rattle-link" --target x86_64-unknown-linux-gnu --toolchain "$tools" -o "$program" "$scratch/stages.o" \
         "$from/c/libos_c.a" "$from/c/liblibc_c.a" 2>> "$log"
     echo "built $program"
@@ -127,7 +141,7 @@ measure() {
 
 case ${1:-} in
     '' | -h | --help) sed -n '2,/^set/{/^#/s/^# \{0,1\}//p}' "${BASH_SOURCE[0]}" ;;
-    build) build ;;
+    build) build "${2:-}" ;;
     prove) prove "${2:-}" ;;
     *)
         [ -x "$program" ] || build >&2
