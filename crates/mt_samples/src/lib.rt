@@ -5,3 +5,4 @@ pub mod devices;
 pub mod markets;
 pub mod places;
 pub mod singles;
+pub mod tables;

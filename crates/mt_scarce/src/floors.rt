@@ -7,6 +7,7 @@ use mt_hall::{Hall, HallName};
 use mt_ranks::Ranks;
 use mt_samples::markets::{CHAIN, SampleError, roster_of};
 use mt_samples::singles::singles;
+use mt_samples::tables::with_ranks;
 use mt_tally::{deal, settle, take_desk, take_pass};
 use mt_terms::ProgNo;
 use std::alloc::Global;
@@ -22,10 +23,10 @@ fn is_end_of_chain(places: &[Option<ProgNo>]) -> bool {
 
 /// Whether a floor ends in the best match.
 pub(crate) fn finishes<T: Threads + Sync>(rt: &T, alloc: Global) -> Result<bool, SampleError> {
-    let roster = roster_of(rt, alloc, CHAIN)?;
-    let ranks = Ranks::build(rt, alloc, &roster)?;
-    let matched = singles(alloc, &roster, &ranks)?;
-    Ok(is_end_of_chain(matched.places.as_slice()))
+    with_ranks(rt, alloc, CHAIN, |roster, ranks| {
+        let matched = singles(alloc, roster, ranks)?;
+        Ok(is_end_of_chain(matched.places.as_slice()))
+    })
 }
 
 // A share of a desk and one of a pass are dealt, and come back.
@@ -90,8 +91,7 @@ pub(crate) fn works<T: Threads + Wait + Sync>(
 
 /// Whether one thread without locks ends in the best match.
 pub(crate) fn works_alone<T: Threads + Sync>(rt: &T, alloc: Global) -> Result<bool, SampleError> {
-    let roster = roster_of(rt, alloc, CHAIN)?;
-    let ranks = Ranks::build(rt, alloc, &roster)?;
-    let singles = work_alone(alloc, &ranks)?;
-    Ok(is_chain(&singles))
+    with_ranks(rt, alloc, CHAIN, |_, ranks| {
+        Ok(is_chain(&work_alone(alloc, ranks)?))
+    })
 }

@@ -5,6 +5,7 @@ use mt_hold::Hold;
 use mt_lists::{ListFault, ReadEnd, Tap, read_all, records};
 use mt_ranks::Ranks;
 use mt_samples::markets::{CHAIN, SampleError, roster_of};
+use mt_samples::tables::with_ranks;
 use mt_terms::{AppNo, LIMITS, ProgNo};
 use std::alloc::{AllocError, Global};
 use std::thread::Threads;
@@ -74,12 +75,15 @@ pub(crate) fn registers<T: Threads + Sync>(rt: &T, alloc: Global) -> Result<bool
     )
 }
 
+// Whether rank tables are those of the chain.
+fn are_of_chain(ranks: &Ranks) -> bool {
+    if ranks.applicants() != 3 || ranks.programs() != 2 {
+        return false;
+    }
+    ranks.live(AppNo(0)).len() == 2 && ranks.rank(ProgNo(0), AppNo(0)) == Some(2)
+}
+
 /// Whether the rank tables of a roster are made.
 pub(crate) fn ranks<T: Threads + Sync>(rt: &T, alloc: Global) -> Result<bool, SampleError> {
-    let roster = roster_of(rt, alloc, CHAIN)?;
-    let ranks = Ranks::build(rt, alloc, &roster)?;
-    if ranks.applicants() != 3 || ranks.programs() != 2 {
-        return Ok(false);
-    }
-    Ok(ranks.live(AppNo(0)).len() == 2 && ranks.rank(ProgNo(0), AppNo(0)) == Some(2))
+    with_ranks(rt, alloc, CHAIN, |_, ranks| Ok(are_of_chain(ranks)))
 }
