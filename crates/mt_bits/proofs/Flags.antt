@@ -1,10 +1,11 @@
 -- Flags in words of bits.
-use Rattle.std.proofs.Common.{◌≡◌, ◌⊎◌, ◌≢◌, ℕ, zero, suc, ◌*◌, ◌/◌, ◌%◌, ◌^◌, ◌<◌, true, false, List, length, get_or, set, replicate, w64, bit_or, refl, sym, ◌∙◌, inl, inr, arith}
-use Rattle.std.proofs.lemmas.Bool.{cases_eq, eq-eqb}
+use Rattle.std.proofs.Common.{◌≡◌, ◌⊎◌, ◌≢◌, ℕ, zero, suc, ◌*◌, ◌/◌, ◌%◌, ◌^◌, ◌<◌, true, false, List, length, get_or, set, replicate, w64, bit_and, bit_or, refl, sym, ◌∙◌, inl, inr, arith}
+use Rattle.std.specs.Int.{bit_not}
+use Rattle.std.proofs.lemmas.Bool.{cases_eq, eq-eqb, ne_eqb}
 use Rattle.std.proofs.lemmas.List.{get_or-set_same, get_or-set_other, length-set, same_lists, get_or_default, length-replicate, get_or-replicate}
 use Rattle.std.proofs.lemmas.List.FromFn.{length-map-range_with_len, get_or-map-range_with_len}
-use Rattle.std.proofs.lemmas.Nat.Bits.{bit_at-zero, bit_at_set_same, bit_at_set_other}
-use Rattle.mt_terms.specs.Lists.{Set, with_one}
+use Rattle.std.proofs.lemmas.Nat.Bits.{bit_at-zero, bit_at_clear_same, bit_at_clear_other, bit_at_set_same, bit_at_set_other}
+use Rattle.mt_terms.specs.Lists.{Set, with_one, without}
 use Rattle.mt_bits.specs.Flags.{flag, flags}
 use Rattle.mt_terms.proofs.ListFacts.{with_one-other}
 
@@ -28,6 +29,24 @@ flag-marked words rank h other =
         rw (same, get_or-set_same words (rank / 64) (bit_or (get_or words (rank / 64) 0) (1 * 2 ^ (rank % 64) % 2 ^ 64)) 0 h, bit_at_set_other w64 (get_or words (rank / 64) 0) (rank % 64) (omega arith) (other % 64) differ) refl
     unmarked other ne (inr differ) =
         rw (get_or-set_other words (rank / 64) (other / 64) (bit_or (get_or words (rank / 64) 0) (1 * 2 ^ (rank % 64) % 2 ^ 64)) 0 differ) refl
+
+-- one bit less
+abbrev pub cleared : List ℕ → ℕ → List ℕ
+cleared words rank = set words (rank / 64) (bit_and (get_or words (rank / 64) 0) (bit_not w64 (1 * 2 ^ (rank % 64) % 2 ^ 64)))
+
+pub flag-cleared : (words : List ℕ) (rank : ℕ) → rank / 64 < length words → (other : ℕ) → flag (cleared words rank) other ≡ without (flag words) rank other
+flag-cleared words rank h other =
+    elim (cases_eq other rank) [
+      | inl e ↦ rw (e, eq-eqb rank rank refl, get_or-set_same words (rank / 64) (bit_and (get_or words (rank / 64) 0) (bit_not w64 (1 * 2 ^ (rank % 64) % 2 ^ 64))) 0 h, bit_at_clear_same w64 (get_or words (rank / 64) 0) (rank % 64) (omega arith)) refl
+      | inr ne ↦ rw (ne_eqb other rank ne) (uncleared other ne (cases_eq (other / 64) (rank / 64)))
+    ]
+  where
+    uncleared : (other : ℕ) → other ≢ rank → (other / 64 ≡ rank / 64) ⊎ (other / 64 ≢ rank / 64) → flag (cleared words rank) other ≡ flag words other
+    uncleared other ne (inl same) =
+        let differ : other % 64 ≢ rank % 64 = omega arith in
+        rw (same, get_or-set_same words (rank / 64) (bit_and (get_or words (rank / 64) 0) (bit_not w64 (1 * 2 ^ (rank % 64) % 2 ^ 64))) 0 h, bit_at_clear_other w64 (get_or words (rank / 64) 0) (rank % 64) (omega arith) (other % 64) (omega arith) differ) refl
+    uncleared other ne (inr differ) =
+        rw (get_or-set_other words (rank / 64) (other / 64) (bit_and (get_or words (rank / 64) 0) (bit_not w64 (1 * 2 ^ (rank % 64) % 2 ^ 64))) 0 differ) refl
 
 pub length-flags : (words : List ℕ) (n : ℕ) → length (flags words n) ≡ n
 length-flags words n = length-map-range_with_len (flag words) 0 n

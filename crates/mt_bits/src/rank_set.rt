@@ -1,5 +1,5 @@
 ghost use Rattle.std.specs.Prelude.{◌≡◌, ℕ, ◌≤◌, false, length, [], IfNone, IfSome, OnOk};
-ghost use Rattle.mt_terms.specs.Lists.{with_one};
+ghost use Rattle.mt_terms.specs.Lists.{with_one, without};
 ghost use Rattle.mt_bits.specs.Flags.{flag};
 ghost use Rattle.mt_bits.specs.Members.{is_in, IsFirstFrom};
 
@@ -60,6 +60,16 @@ impl RankSet {
         }
         self.words[place] |= 1 << (rank % 64);
         Ok(())
+    }
+
+    /// Takes a rank out, if it is there.
+    pub fn remove(&mut self, rank: u32)
+        ensures { (r : ℕ) → is_in self.new r ≡ without (is_in self.old) rank r }
+    {
+        let place = rank as usize / 64;
+        if place < self.words.len() {
+            self.words[place] &= !(1 << (rank % 64));
+        }
     }
 
     /// The first of the ranks that isn't below a number.
