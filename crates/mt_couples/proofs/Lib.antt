@@ -1,10 +1,12 @@
 pub mod AskFacts
 pub mod EnteringFacts
+pub mod EntryFacts
 pub mod JoinFacts
 pub mod MarketFacts
 pub mod MoveFacts
 pub mod MoveSteps
 pub mod NoteFacts
+pub mod OneFacts
 pub mod OptionFacts
 pub mod PlaceFacts
 pub mod QuietFacts

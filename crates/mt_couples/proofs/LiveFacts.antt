@@ -99,7 +99,7 @@ module _ (s : Assigned) (ok : IsAssigned s) (a : ℕ) (within : a < applicants s
   abbrev takes_it : ℕ → Bool
   takes_it q = would_be_taken s.market s.places (single_placement a q)
 
-  entries_are : better_entries s a ≡ map (ranked_entry s.market a) (filter lists_it (wanted s a))
+  pub entries_are : better_entries s a ≡ map (ranked_entry s.market a) (filter lists_it (wanted s a))
   entries_are =
       let m = s.market in
       let lists : list_of (live_market m) a ≡ live m a = map_below_at (live m) (applicants m) a [] within in

@@ -1,5 +1,5 @@
 -- Who is found when programs that were left are looked at, and who is passed over.
-use Rattle.std.proofs.Common.{◌≡◌, ◌∙◌, ℕ, zero, suc, ◌+◌, ◌<◌, ◌≤◌, Bool, true, false, not, ◌&&◌, ◌||◌, ◌==◌, nat_le, nat_lt, List, [], ◌∷◌, ◌++◌, filter, take, drop, length, get_or, Option, Some, None, is_some, refl, ap, sym, subst, inl, inr, arith, Result, Ok, Err, OnOk}
+use Rattle.std.proofs.Common.{◌≡◌, ◌∙◌, ℕ, zero, suc, ◌+◌, ◌<◌, ◌≤◌, Bool, true, false, not, ◌&&◌, ◌||◌, ◌==◌, nat_le, nat_lt, List, [], ◌∷◌, ◌++◌, filter, take, drop, length, get_or, Option, Some, None, refl, ap, sym, subst, inl, inr, arith, Result, Ok, Err, OnOk}
 use Rattle.std.specs.List.{position}
 use Rattle.std.proofs.lemmas.List.{drop_more}
 use Rattle.std.proofs.lemmas.List.Quantifiers.{position-Some}
@@ -15,7 +15,6 @@ use Rattle.mt_terms.specs.WellFormed.{IsWellFormed}
 use Rattle.mt_terms.specs.declared.numbers.Agent.{Agent}
 use Rattle.mt_terms.specs.declared.numbers.Agent.TheVariants.{Single, Couple}
 use Rattle.mt_match_laws.proofs.ChoiceLemmas.{choice_facts}
-use Rattle.mt_ranks.proofs.Positions.{has-position}
 use Rattle.mt_ranks.specs.Ranked.{rank_of}
 use Rattle.mt_round_laws.proofs.RoundsLists.{In, found, finds, each, has_in, in_has, of_image}
 use Rattle.mt_round_laws.proofs.RoundsAgents.{member_of_agent, one_of_two}
@@ -33,7 +32,7 @@ use Rattle.mt_terms.proofs.ListFacts.{same_position}
 use Rattle.mt_couples.proofs.LiveFacts.{better_single, post_for}
 use Rattle.mt_couples.proofs.NoteFacts.{any_between, before_end, better_couple, until_front}
 use Rattle.mt_couples.proofs.PlaceFacts.{has_read}
-use Rattle.mt_couples.proofs.RankFacts.{has_rank}
+use Rattle.mt_couples.proofs.RankFacts.{has_rank, rank_there}
 use Rattle.mt_placed.proofs.OrderFacts.{has_at}
 use Rattle.mt_couples.proofs.WatchFacts.{has_end, has_parts, has_still, index_of}
 use Rattle.mt_couples.proofs.JoinFacts.{next_mapped}
@@ -44,29 +43,21 @@ of_one : (p : ℕ) (v : Option ℕ) → some_has (p ∷ []) v ≡ true → v ≡
 of_one p None h = absurd (false≢true h)
 of_one p (Some q) h = ap Some (sym (eqb-true p q (sym (or-false (p == q)) ∙ h)))
 
--- the rank of who is on a list
-rank_there : (xs : List ℕ) (a : ℕ) → has xs a ≡ true → (r : ℕ) × (position (λ x. x == a) xs ≡ Some r)
-rank_there xs a on = by (position (λ x. x == a) xs) refl (sym (has-position xs a) ∙ on)
-  where
-    by : (o : Option ℕ) → position (λ x. x == a) xs ≡ o → is_some o ≡ true → (r : ℕ) × (position (λ x. x == a) xs ≡ Some r)
-    by None is h = absurd (false≢true h)
-    by (Some r) is h = (r, is)
-
 -- A better option of an agent, at a program, that would be taken.
-record IsOpen (s : Assigned) (p : ℕ) (g : Agent) : Type 0 where
+pub record IsOpen (s : Assigned) (p : ℕ) (g : Agent) : Type 0 where
   option : Placement
   is_better : In option (better s.market s.places g)
   at_program : names_one_of (p ∷ []) option ≡ true
   taken : would_be_taken s.market s.places option ≡ true
 
-open_at : (s : Assigned) (p : ℕ) (g : Agent) → opens s (p ∷ []) g ≡ true → IsOpen s p g
+pub open_at : (s : Assigned) (p : ℕ) (g : Agent) → opens s (p ∷ []) g ≡ true → IsOpen s p g
 open_at s p g h =
     let o = found (λ o. names_one_of (p ∷ []) o && would_be_taken s.market s.places o) (better s.market s.places g) h in
     let parts = and_parts (names_one_of (p ∷ []) o.0) (would_be_taken s.market s.places o.0) o.2 in
     record { option = o.0; is_better = o.1; at_program = parts.0; taken = parts.1 }
 
 -- a single's is a program that it wants more than what it has, and that lists it
-open_single : (s : Assigned) (p a : ℕ) → IsOpen s p (Single a) → (has (wanted s a) p ≡ true) × (has (program_of s.market p).ranking a ≡ true)
+pub open_single : (s : Assigned) (p a : ℕ) → IsOpen s p (Single a) → (has (wanted s a) p ≡ true) × (has (program_of s.market p).ranking a ≡ true)
 open_single s p a o =
     let m = s.market in
     let w = of_image (single_placement a) o.option (wanted s a) (subst (λ (xs : List Placement). In o.option xs) (better_single s a) o.is_better) in
@@ -144,7 +135,7 @@ covers_one k s w p ws mid new watching known singles keeps couples a within reop
         let wants : has (wanted s a) p ≡ true = subst (λ x. has (wanted s x) p ≡ true) here o.0 in
         let rank = rank_there (program_of s.market p).ranking a (subst (λ x. has (program_of s.market p).ranking x ≡ true) here o.1) in
         let single : agent_of s.market a ≡ Single a = is ∙ ap Single here in
-        keeps a (singles rank.0 a (watching.watched.each a within p rank.0 wants rank.1) rank.1 single (subst (λ g. is_reopened k s (p ∷ []) ws g ≡ true) single reopened))
+        keeps a (singles rank.0 a (watching.watched.each a within p rank.0 known rank.1 ∙ wants) rank.1 single (subst (λ g. is_reopened k s (p ∷ []) ws g ≡ true) single reopened))
     by_agent (Couple c) is =
         let now : is_reopened k s (p ∷ []) ws (Couple c) ≡ true = subst (λ g. is_reopened k s (p ∷ []) ws g ≡ true) is reopened in
         couples c a now is

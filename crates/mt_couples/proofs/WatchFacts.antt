@@ -1,27 +1,23 @@
--- Who is watched where, and that nobody is lost.
-use Rattle.std.proofs.Common.{◌≡◌, ◌∙◌, ℕ, zero, suc, ◌+◌, ◌<◌, ◌≤◌, Bool, true, false, ◌||◌, ◌==◌, List, [], ◌∷◌, ◌++◌, map, filter, take, drop, length, get_or, Some, unwrap_or, refl, ap, sym, subst, inl, inr, ◌⊎◌, arith, Result, Ok, Err, OnOk}
+-- Who is watched where, once an agent has moved.
+use Rattle.std.proofs.Common.{◌≡◌, ◌∙◌, ℕ, zero, suc, ◌+◌, ◌<◌, ◌≤◌, Bool, true, false, ◌||◌, ◌==◌, List, [], ◌∷◌, ◌++◌, map, take, drop, length, get_or, refl, ap, sym, subst, inl, inr, ◌⊎◌, arith, Result, Ok, Err, OnOk}
 use Rattle.std.proofs.lemmas.List.{take_more, take_all, drop_more}
 use Rattle.std.proofs.lemmas.List.Folds.{list_any-append}
-use Rattle.std.proofs.lemmas.Bool.{cases_Bool, or_cases, or_left, or_right, eq-eqb, eqb-true, both_ways, false≢true}
+use Rattle.std.proofs.lemmas.Bool.{cases_Bool, or_cases, or_parts, or_left, or_right, eq-eqb, eqb-true, both_ways, false≢true, false_from_ne_true}
 use Rattle.std.proofs.Math.Bool.{or-false}
 use Rattle.mt_terms.specs.Lists.{has, until}
-use Rattle.mt_terms.specs.Market.{Market, applicants, agent_of, couple_of, list_of, live, live_market, members, program_of}
+use Rattle.mt_terms.specs.Market.{Market, applicants, agent_of, couple_of, list_of, members, program_of}
 use Rattle.mt_terms.specs.Matching.{Places, Placement, place_of, is_program, at, send}
 use Rattle.mt_terms.specs.Rounds.{displaced, is_same_agent}
-use Rattle.mt_terms.specs.WellFormed.{IsWellFormed}
 use Rattle.mt_terms.specs.declared.numbers.Agent.{Agent}
 use Rattle.mt_terms.specs.declared.numbers.Agent.TheVariants.{Single, Couple}
-use Rattle.mt_terms.proofs.BelowFacts.{map_below_at}
-use Rattle.mt_match_laws.proofs.ListLemmas.{until-map}
-use Rattle.mt_ranks.specs.Ranked.{rank_of, ranked_entry}
-use Rattle.mt_ranks.specs.declared.entries.Live.{Live}
-use Rattle.mt_round_laws.proofs.RoundsLists.{In, has_in, in_has, in_image, of_image, of_until}
+use Rattle.mt_round_laws.proofs.RoundsLists.{In, has_in, in_has, of_image, of_until}
 use Rattle.mt_round_laws.proofs.RoundsAgents.{IsAgent, agent_of_applicant, couple_number, member_of_agent, of_list, one_of_two, option_movers, same_agent}
 use Rattle.mt_round_laws.proofs.RoundsMove.{IsMove, match_after, displaced_agents, is_displaced, untouched}
 use Rattle.mt_couples.specs.Assigned.{Assigned}
 use Rattle.mt_couples.specs.Moves.{IsTaking}
-use Rattle.mt_couples.specs.Watching.{better_entries, row_at, wanted, AreWatched, FollowsAll, IsWatched, KeepsRows, Watches}
+use Rattle.mt_couples.specs.Watching.{row_at, wanted, AreWatched, Counts, CountsAll, Follows, FollowsAll, IsWatched, IsWithinList, KeepsOthers}
 use Rattle.mt_couples.specs.declared.couple_list.Note.{Note}
+use Rattle.mt_couples.specs.declared.watch.Watch.{Watch}
 use Rattle.mt_couples.proofs.MoveFacts.{is_move}
 use Rattle.mt_couples.proofs.RankFacts.{has_rank}
 
@@ -100,54 +96,69 @@ going_all {X} test xs i past so_far =
     append_none [] = refl
     append_none (y ∷ ys) = ap (λ zs. y ∷ zs) (append_none ys)
 
--- what stands before the first that passes, and is kept by a filter, stands there in what is kept
-in_until_kept : {X : Type 0} (test keep : X → Bool) (x : X) (xs : List X) → In x (until test xs) → keep x ≡ true → In x (until test (filter keep xs))
-in_until_kept {X} test keep x [] i kept = absurd i
-in_until_kept {X} test keep x (y ∷ ys) i kept = by_place (test y) (keep y) refl refl (in_until_kept test keep x ys)
-  where
-    by_place : (t k : Bool) → test y ≡ t → keep y ≡ k → (In x (until test ys) → keep x ≡ true → In x (until test (filter keep ys))) → In x (until test (filter keep (y ∷ ys)))
-    by_place true k stops keeps later = absurd (rw stops at i)
-    by_place false true goes stays later =
-        let here : In x (y ∷ until test ys) = rw goes at i in
-        rw (stays, goes) (elim here [ inl is ↦ inl is | inr rest ↦ inr (later rest kept) ])
-    by_place false false goes out later =
-        let here : In x (y ∷ until test ys) = rw goes at i in
-        rw out (elim here [ inl is ↦ absurd (both_ways (keep x) (ap keep (sym is) ∙ out) kept) | inr rest ↦ later rest kept ])
-
 -- the place of an element
 pub index_of : {X : Type 0} (x : X) (xs : List X) → In x xs → (i : ℕ) × (i < length xs) × (x ≡ get_or xs i x)
 index_of x [] i = absurd i
 index_of x (y ∷ ys) (inl is) = (0, omega arith, sym is)
 index_of x (y ∷ ys) (inr i) = let w = index_of x ys i in (suc w.0, omega (arith, w.1), w.2)
 
--- an entry for each program that an applicant wants more than what it has and that lists it
-wanted_entry : (s : Assigned) (a p r : ℕ) → a < applicants s.market → has (wanted s a) p ≡ true → rank_of s.market p a ≡ Some r
-    → In (record { program = p; rank = r }) (better_entries s a)
-wanted_entry s a p r within wants ranked =
-    let m = s.market in
-    let test : ℕ → Bool = λ q. at s.places q a in
-    let listed : has (program_of m p).ranking a ≡ true = has_rank (program_of m p).ranking a r ranked in
-    let kept = in_until_kept test (λ q. has (program_of m q).ranking a) p (list_of m a) (has_in p (wanted s a) wants) listed in
-    let lists : list_of (live_market m) a ≡ live m a = map_below_at (live m) (applicants m) a [] within in
-    let image : In (ranked_entry (live_market m) a p) (map (ranked_entry (live_market m) a) (until test (live m a))) = in_image (ranked_entry (live_market m) a) p (until test (live m a)) kept in
-    let is : better_entries s a ≡ map (ranked_entry (live_market m) a) (until test (live m a)) =
-    ap (λ ps. until (λ (e : Live). at s.places e.program a) (map (ranked_entry (live_market m) a) ps)) lists
-    ∙ until-map (λ (e : Live). at s.places e.program a) (ranked_entry (live_market m) a) (live m a) in
-    let entry : ranked_entry (live_market m) a p ≡ (record { program = p; rank = r }) = ap (λ o. record { program = p; rank = unwrap_or o 0 }) ranked in
-    subst (λ (es : List Live). In (record { program = p; rank = r }) es) (sym is) (subst (λ (e : Live). In e (map (ranked_entry (live_market m) a) (until test (live m a)))) entry image)
+-- an applicant is watched at programs of its list alone
+pub watched_within : (s : Assigned) (rows : List (List Bool)) (a : ℕ) → IsWatched s rows a → IsWithinList s.market rows a
+watched_within s rows a is p r known ranked here =
+    in_has p (list_of s.market a) (of_until (λ q. at s.places q a) p (list_of s.market a) (has_in p (wanted s a) (sym (is p r known ranked) ∙ here)))
 
--- once its better entries are watched, an applicant is
-pub watched_now : (s : Assigned) → IsWellFormed s.market → (a : ℕ) → a < applicants s.market → (old new : List (List Bool)) (entries : List Live) → entries ≡ better_entries s a
-    → Watches old new entries → length old ≡ length s.market.programs → IsWatched s new a
-watched_now s wf a within old new entries is watches many p r wants ranked =
-    let w = index_of (record { program = p; rank = r }) entries (subst (λ (es : List Live). In (record { program = p; rank = r }) es) (sym is) (wanted_entry s a p r within wants ranked)) in
-    let known = wf.lists_within a p (in_has p (list_of s.market a) (of_until (λ q. at s.places q a) p (list_of s.market a) (has_in p (wanted s a) wants))) in
-    watches.adds w.0 (record { program = p; rank = r }) w.1 w.2 (omega arith)
+pub within_still : (m : Market) (old new : List (List Bool)) (xs : List ℕ) (a : ℕ) → KeepsOthers m old new xs → has xs a ≡ false → IsWithinList m old a → IsWithinList m new a
+within_still m old new xs a keeps other is p r known ranked here = is p r known ranked (sym (keeps a p r other known ranked) ∙ here)
 
-pub watched_still : (s : Assigned) (a : ℕ) (old new : List (List Bool)) → KeepsRows old new → IsWatched s old a → IsWatched s new a
-watched_still s a old new keeps is p r wants ranked = keeps p r (is p r wants ranked)
+pub watched_still : (s : Assigned) (old new : List (List Bool)) (xs : List ℕ) (a : ℕ) → KeepsOthers s.market old new xs → has xs a ≡ false → IsWatched s old a → IsWatched s new a
+watched_still s old new xs a keeps other is p r known ranked = keeps a p r other known ranked ∙ is p r known ranked
 
--- Below, an agent takes an option: the applicants that have another place after that are watched, so all are.
+-- some are watched anew, and one more
+pub follows_more : (s : Assigned) (old mid new : List (List Bool)) (xs : List ℕ) (x : ℕ) → FollowsAll s old mid xs → Follows s mid new x → FollowsAll s old new (xs ++ x ∷ [])
+follows_more s old mid new xs x first second = record {
+  as_many = second.as_many ∙ first.as_many;
+  others = λ many b p r other known ranked.
+      let parts = or_parts (has xs b) (has (x ∷ []) b) (sym (list_any-append (λ z. z == b) xs (x ∷ [])) ∙ other) in
+      second.others (first.as_many ∙ many) b p r parts.1 known ranked ∙ first.others many b p r parts.0 known ranked;
+  watched = λ many inside a on.
+      let before : has xs a ≡ true → IsWatched s mid a = first.watched many (λ b there. inside b (has_still xs (x ∷ []) b there)) a in
+      let inside_mid : IsWithinList s.market mid a = elim (cases_Bool (has xs a)) [
+        | inl there ↦ watched_within s mid a (before there)
+        | inr other ↦ within_still s.market old mid xs a (first.others many) other (inside a on)
+      ] in
+      elim (cases_Bool (has (x ∷ []) a)) [
+        | inl now ↦ subst (IsWatched s new) (eqb-true x a (sym (or-false (x == a)) ∙ now))
+            (second.watched (first.as_many ∙ many) (subst (IsWithinList s.market mid) (sym (eqb-true x a (sym (or-false (x == a)) ∙ now))) inside_mid))
+        | inr other ↦ watched_still s mid new (x ∷ []) a (second.others (first.as_many ∙ many)) other (before (was a on other))
+      ];
+}
+  where
+    was : (a : ℕ) → has (xs ++ x ∷ []) a ≡ true → has (x ∷ []) a ≡ false → has xs a ≡ true
+    was a on other = elim (or_cases (has xs a) (has (x ∷ []) a) (sym (list_any-append (λ z. z == a) xs (x ∷ [])) ∙ on)) [
+      | inl earlier ↦ earlier
+      | inr now ↦ absurd (both_ways (has (x ∷ []) a) other now)
+    ]
+
+pub follows_none : (s : Assigned) (rows : List (List Bool)) → FollowsAll s rows rows []
+follows_none s rows = record {
+  as_many = refl;
+  others = λ many b p r other known ranked. refl;
+  watched = λ many inside a on. absurd (false≢true on);
+}
+
+-- couples are counted again for some, and for one more
+pub counts_more : (s : Assigned) (old mid new : Watch) (xs : List ℕ) (x : ℕ) → CountsAll s old mid xs → Counts s mid new x → CountsAll s old new (xs ++ x ∷ [])
+counts_more s old mid new xs x first second = record {
+  as_many = second.as_many ∙ first.as_many;
+  keeps = λ c is. second.keeps c (first.keeps c is);
+  counted = λ a on c of_a low. elim (has_parts xs x a on) [
+    | inl earlier ↦ second.keeps c (first.counted a earlier c of_a low)
+    | inr here ↦ second.counted c (ap (agent_of s.market) here ∙ of_a) (omega (arith, first.as_many, low))
+  ];
+}
+
+-- Below, an agent takes an option: the applicants that have another place after that are watched anew, so all are
+-- watched by where they are.
 module _ {m : Market} {old : Places} {g : Agent} {sent : Placement} (taking : IsTaking m old g sent) where
   abbrev before : Assigned
   before = record { market = m; places = old }
@@ -159,23 +170,37 @@ module _ {m : Market} {old : Places} {g : Agent} {sent : Placement} (taking : Is
       → FollowsAll after mid new (displaced m (send sent old) sent) → AreWatched after new
   watched_after rows mid new watched first second = record {
     one_each = second.as_many ∙ first.as_many ∙ watched.one_each;
-    each = λ a within. by_agent a within (agent_of m a) refl;
+    each = λ a within. elim (cases_Bool (has gone a)) [
+      | inl out ↦ second.watched many (λ b there. inside_mid b) a out
+      | inr stay ↦ watched_still after mid new gone a (second.others many) stay (elim (cases_Bool (has movers a)) [
+        | inl moves ↦ first.watched watched.one_each (λ b there. inside b) a moves
+        | inr other ↦ watched_still after rows mid movers a (first.others watched.one_each) other (λ p r known ranked.
+            watched.each a within p r known ranked ∙ ap (λ ps. has ps p) (same_wish a within stay other))
+      ])
+    ];
   }
     where
       mv : IsMove m old g sent
       mv = is_move taking
 
-      stays : (a : ℕ) → a < applicants m → place_of (match_after m old sent) a ≡ place_of old a → IsWatched after new a
-      stays a within same p r wants ranked =
-          let wanted_before : has (wanted before a) p ≡ true = ap (λ v. has (until (λ q. is_program q v) (list_of m a)) p) (sym same) ∙ wants in
-          second.keeps p r (first.keeps p r (watched.each a within p r wanted_before ranked))
+      gone : List ℕ
+      gone = displaced m (send sent old) sent
 
-      goes : (a : ℕ) → has (displaced m (send sent old) sent) a ≡ true → IsWatched after new a
-      goes a on = second.watched (first.as_many ∙ watched.one_each) a on
+      movers : List ℕ
+      movers = map (λ s. s.0) sent
 
-      moves : (a : ℕ) → has (members m g) a ≡ true → IsWatched after new a
-      moves a member p r wants ranked =
-          second.keeps p r (first.watched watched.one_each a (ap (λ xs. has xs a) (option_movers m g sent mv.option) ∙ member) p r wants ranked)
+      many : length mid ≡ length m.programs
+      many = first.as_many ∙ watched.one_each
+
+      inside : (a : ℕ) → IsWithinList m rows a
+      inside a p r known ranked here =
+          watched_within before rows a (watched.each a (mv.well_formed.rankings_within p a (has_rank (program_of m p).ranking a r ranked))) p r known ranked here
+
+      inside_mid : (a : ℕ) → IsWithinList m mid a
+      inside_mid a = elim (cases_Bool (has movers a)) [
+        | inl moves ↦ watched_within after mid a (first.watched watched.one_each (λ b there. inside b) a moves)
+        | inr other ↦ within_still m rows mid movers a (first.others watched.one_each) other (inside a)
+      ]
 
       no_list : (a c : ℕ) → a < applicants m → agent_of m a ≡ Couple c → list_of m a ≡ []
       no_list a c within of_a =
@@ -185,23 +210,25 @@ module _ {m : Market} {old : Places} {g : Agent} {sent : Placement} (taking : Is
             | inr is_second ↦ ap (list_of m) (sym is_second) ∙ (mv.well_formed.second_member c known).no_list
           ]
 
-      is_out : (a : ℕ) → a < applicants m → (h : Agent) → agent_of m a ≡ h → (z : ℕ) × In z (displaced m (send sent old) sent) × (agent_of m z ≡ h) → IsWatched after new a
-      is_out a within (Single b) of_a z =
-          let here : b ≡ a = eqb-true b a (sym (or-false (b == a)) ∙ subst (λ x. has (members m x) a ≡ true) of_a (member_of_agent m a)) in
-          let there : b ≡ z.0 = eqb-true b z.0 (sym (or-false (b == z.0)) ∙ subst (λ x. has (members m x) z.0 ≡ true) z.2 (member_of_agent m z.0)) in
-          goes a (in_has a _ (subst (λ x. In x (displaced m (send sent old) sent)) (sym there ∙ here) z.1))
-      is_out a within (Couple c) of_a z = λ p r wants ranked.
-          absurd (false≢true (ap (λ ps. has (until (λ q. is_program q (place_of (match_after m old sent) a)) ps) p) (sym (no_list a c within of_a)) ∙ wants))
-
-      by_agent : (a : ℕ) → a < applicants m → (h : Agent) → agent_of m a ≡ h → IsWatched after new a
-      by_agent a within h is = elim (cases_Bool (is_displaced m old sent h)) [
-        | inl out ↦ is_out a within h is (of_image (agent_of m) h (displaced m (send sent old) sent) (of_list h (displaced_agents m old sent) out))
-        | inr stay ↦ elim (cases_Bool (is_same_agent h g)) [
-          | inl same ↦ moves a (subst (λ x. has (members m x) a ≡ true) (is ∙ same_agent h g same) (member_of_agent m a))
-          | inr other ↦ stays a within (untouched mv h (subst (IsAgent m) is (agent_of_applicant m mv.well_formed a within)) stay other a
-              (subst (λ x. has (members m x) a ≡ true) is (member_of_agent m a)))
-        ]
-      ]
+      -- who isn't displaced and isn't sent anywhere wants what it wanted
+      same_wish : (a : ℕ) → a < applicants m → has gone a ≡ false → has movers a ≡ false → wanted before a ≡ wanted after a
+      same_wish a within stay other = by_agent (agent_of m a) refl
+        where
+          by_agent : (h : Agent) → agent_of m a ≡ h → wanted before a ≡ wanted after a
+          by_agent (Couple c) of_a =
+              let none = no_list a c within of_a in
+              ap (until (λ q. is_program q (place_of old a))) none ∙ sym (ap (until (λ q. is_program q (place_of (match_after m old sent) a))) none)
+          by_agent (Single b) of_a =
+              let own : has (members m (Single b)) a ≡ true = subst (λ x. has (members m x) a ≡ true) of_a (member_of_agent m a) in
+              let here : b ≡ a = eqb-true b a (sym (or-false (b == a)) ∙ own) in
+              let unmoved : is_displaced m old sent (Single b) ≡ false = false_from_ne_true _ (λ out.
+                  let z = of_image (agent_of m) (Single b) gone (of_list (Single b) (displaced_agents m old sent) out) in
+                  let there : b ≡ z.0 = eqb-true b z.0 (sym (or-false (b == z.0)) ∙ subst (λ x. has (members m x) z.0 ≡ true) z.2 (member_of_agent m z.0)) in
+                  both_ways (has gone a) stay (in_has a gone (subst (λ x. In x gone) (sym there ∙ here) z.1))) in
+              let another : is_same_agent (Single b) g ≡ false = false_from_ne_true _ (λ same.
+                  both_ways (has movers a) other (ap (λ xs. has xs a) (option_movers m g sent mv.option) ∙ subst (λ x. has (members m x) a ≡ true) (same_agent (Single b) g same) own)) in
+              let same = untouched mv (Single b) (subst (IsAgent m) of_a (agent_of_applicant m mv.well_formed a within)) unmoved another a own in
+              ap (λ v. until (λ q. is_program q v) (list_of m a)) (sym same)
 
 -- rows of nobody, and one more
 pub none_more : (xs : List (List Note)) → ((p : ℕ) → row_at xs p ≡ []) → (p : ℕ) → row_at (xs ++ [] ∷ []) p ≡ []

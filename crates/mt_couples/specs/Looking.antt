@@ -23,10 +23,11 @@ pub record IsWatching (k : ℕ) (s : Assigned) (w : Watch) : Type 0 where
 abbrev pub Keeps : List ℕ → List ℕ → Type 0
 Keeps old new = (a : ℕ) → has old a ≡ true → has new a ≡ true
 
--- the first of some ranks on a program's list that isn't below a number
+-- the first of some ranks on a program's list that isn't below a number, where the program has a post for it
 pub record IsOpenFrom (s : Assigned) (p : ℕ) (ranks : Set) (number r : ℕ) : Type 0 where
   pub first : IsFirstFrom ranks number r
   pub within : r < length (program_of s.market p).ranking
+  pub has_post : has_post s p r ≡ true
 
 -- where a rank on a program's list is one of these, the program has no post for it
 abbrev pub IsClosed : Assigned → ℕ → Set → ℕ → Type 0

@@ -5,7 +5,7 @@ ghost use Rattle.mt_terms.specs.Market.{agent_of, applicants, couple_of, program
 ghost use Rattle.mt_terms.specs.Matching.{at, place_of, placed_ranks, ranks_from};
 ghost use Rattle.mt_ranks.specs.Ranked.{rank_of, ranked_of};
 ghost use Rattle.mt_terms.specs.Places.{ArePlaces};
-ghost use Rattle.mt_couples.specs.Watching.{better_entries};
+ghost use Rattle.mt_couples.specs.Watching.{better_entries, other_entries};
 ghost use Rattle.mt_couples.specs.Assigned.{ahead, assignment, displaced_from, rows_of, with_place, with_ranks, AreApplicantsOf, AreListed, IsAgentOf, IsAssigned};
 
 use crate::options::Pair;
@@ -182,20 +182,30 @@ impl<'a> Assignment<'a> {
         self.roster.couple_list(couple)
     }
 
-    /// The live entries of the single that are better than what it has, with its rank on each.
-    pub(crate) fn better_live(&self, single: AppNo) -> &'a [Live]
+    /// The live entries of the single, with its rank on each: those that are better than what it has, and the others.
+    pub(crate) fn live_parts(&self, single: AppNo) -> (&'a [Live], &'a [Live])
         requires { single < applicants self.now.market }
-        ensures list { result.now ≡ better_entries self.now single }
+        ensures better { result.0.now ≡ better_entries self.now single }
+        ensures others { result.1.now ≡ other_entries self.now single }
         ensures assigned { IsAssigned self.now }
     {
         let live = self.ranks.live(single);
         let place = self.place(single);
         for (end, entry) in live.iter().enumerate() {
             if place == Some(entry.program) {
-                return &live[..end];
+                return live.split_at(end);
             }
         }
-        live
+        (live, &[])
+    }
+
+    /// The live entries of the single that are better than what it has, with its rank on each.
+    pub(crate) fn better_live(&self, single: AppNo) -> &'a [Live]
+        requires { single < applicants self.now.market }
+        ensures list { result.now ≡ better_entries self.now single }
+        ensures assigned { IsAssigned self.now }
+    {
+        self.live_parts(single).0
     }
 
     /// The applicants that the program lists, the most wanted first.

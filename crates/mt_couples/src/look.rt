@@ -1,4 +1,4 @@
-ghost use Rattle.std.specs.Prelude.{◌≡◌, ◌≤◌, ◌<◌, ℕ, length, slice_index, true, false, [], ◌∷◌, IfNone, IfOk, IfSome, OnOk};
+ghost use Rattle.std.specs.Prelude.{◌≡◌, ◌≤◌, ◌<◌, ℕ, length, true, [], ◌∷◌, IfNone, IfOk, IfSome, IsFalse, IsTrue, OnOk};
 ghost use Rattle.std.specs.List.Sorted.{IsNonDecreasing};
 ghost use Rattle.mt_terms.specs.Lists.{has};
 ghost use Rattle.mt_terms.specs.Market.{applicants};
@@ -261,9 +261,44 @@ fn join_reopened(
     }
 }
 
-/// Puts those agents of the lists of the programs that were left on the work list that have entered and block
-/// now, where whoever has entered and doesn't wait blocks by an option at such a program alone.
-pub(crate) fn look_at_opened(
+/// Puts those agents of a program's list on the work list that have entered and block now, where whoever has entered
+/// and doesn't wait blocks by an option there alone, and no couple does: so they are singles that want the program more
+/// than what they have, at the ranks that are watched there. Where a couple does, nothing is done, and the result is
+/// false.
+fn look_at_one(
+    alloc: Global,
+    assignment: &Assignment<'_>,
+    watch: &Watch,
+    program: ProgNo,
+    last: CoupleNo,
+    waiting: &mut WorkList,
+) -> Result<bool, AllocError>
+    requires market { IsWellFormed assignment.now.market }
+    requires program { program < length assignment.now.market.programs }
+    requires watch { IsWatching last assignment.now watch.now }
+    requires waiting { IsListOf assignment.now.market waiting.old }
+    requires quiet { IsQuietBut last assignment.now (program ∷ []) waiting.old.agents }
+    ensures done { IfOk result (λ done. IsTrue done → Joins waiting.old waiting.new (blockers assignment.now last program)) }
+    ensures not_done { IfOk result (λ done. IsFalse done → waiting.new ≡ waiting.old) }
+{
+    let mut members = Vec::new(alloc);
+    add_members(assignment, watch, program, last, waiting, &mut members)?;
+    if !members.is_empty() {
+        return Ok(false);
+    }
+    let ranking = assignment.ranking(program);
+    let ranks = watch.singles(program);
+    let mut next = 0;
+    while let Some(rank) = first_with_post(assignment, program, ranks, next) {
+        next = rank as usize + 1;
+        waiting.join(Agent::Single(ranking[rank as usize]));
+    }
+    Ok(true)
+}
+
+/// Puts those agents of the lists of the programs that were left on the work list that have entered and block now: all
+/// that are reopened at any of them are found first.
+fn look_at_several(
     alloc: Global,
     assignment: &Assignment<'_>,
     watch: &Watch,
@@ -284,4 +319,29 @@ pub(crate) fn look_at_opened(
         join_reopened(assignment, *program, &ranks, left, last, waiting);
     }
     Ok(())
+}
+
+/// Puts those agents of the lists of the programs that were left on the work list that have entered and block
+/// now, where whoever has entered and doesn't wait blocks by an option at such a program alone.
+pub(crate) fn look_at_opened(
+    alloc: Global,
+    assignment: &Assignment<'_>,
+    watch: &Watch,
+    left: &[ProgNo],
+    last: CoupleNo,
+    waiting: &mut WorkList,
+) -> Result<(), AllocError>
+    requires market { IsWellFormed assignment.now.market }
+    requires programs { AreProgramsOf assignment.now.market left.now }
+    requires watch { IsWatching last assignment.now watch.now }
+    requires waiting { IsListOf assignment.now.market waiting.old }
+    requires quiet { IsQuietBut last assignment.now left.now waiting.old.agents }
+    ensures { OnOk result (Joins waiting.old waiting.new (reopened assignment.now last left.now)) }
+{
+    if left.len() == 1 {
+        if look_at_one(alloc, assignment, watch, left[0], last, waiting)? {
+            return Ok(());
+        }
+    }
+    look_at_several(alloc, assignment, watch, left, last, waiting)
 }

@@ -1,7 +1,7 @@
-ghost use Rattle.std.specs.Prelude.{◌≡◌, ◌+◌, ◌<◌, ℕ, length, min, slice_index_or, IfOk, OnOk};
+ghost use Rattle.std.specs.Prelude.{◌≡◌, ◌+◌, ◌<◌, length, min, slice_index_or, IfOk, OnOk};
 ghost use Rattle.mt_terms.specs.Market.{applicants};
 ghost use Rattle.mt_bits.specs.Members.{is_in};
-ghost use Rattle.mt_couples.specs.Watching.{better_pairs, ranks_at, row_at, AreCounted, AreEmpty, AreNamed, AreWatched, Counts, CountsCouple, Follows, Notes, Watches};
+ghost use Rattle.mt_couples.specs.Watching.{better_pairs, ranks_at, row_at, AreCounted, AreEmpty, AreNamed, AreUnwatched, AreWatched, Counts, CountsCouple, Follows, Notes, Unwatches, Watches};
 
 use crate::assignment::Assignment;
 use crate::couple_list::{CoupleList, Note};
@@ -11,7 +11,7 @@ use mt_terms::{Agent, AppNo, CoupleNo, ProgNo};
 use std::alloc::{AllocError, Global};
 
 /// Where to look for an option that is opened once somebody leaves a program: for each program the ranks of the
-/// singles that may want it more than what they have, and the couples that have entered and name it in a pair.
+/// singles that want it more than what they have, and the couples that have entered and name it in a pair.
 #[derive(Drop)]
 pub(crate) struct Watch {
     singles: Vec<RankSet>,
@@ -22,7 +22,7 @@ pub(crate) struct Watch {
 
 /// No ranks for each program.
 fn no_ranks(alloc: Global, assignment: &Assignment<'_>) -> Result<Vec<RankSet>, AllocError>
-    ensures { IfOk result (λ v. length v.items ≡ length assignment.now.market.programs) }
+    ensures { IfOk result (λ v. AreUnwatched assignment.now.market v.items) }
 {
     let mut rows = Vec::new(alloc);
     for _ in 0..assignment.roster().programs() {
@@ -97,6 +97,19 @@ fn watch_each(rows: &mut Vec<RankSet>, entries: &[Live]) -> Result<(), AllocErro
         }
     }
     Ok(())
+}
+
+/// Watches none of these entries' ranks any more.
+fn unwatch_each(rows: &mut Vec<RankSet>, entries: &[Live])
+    ensures { Unwatches rows.old.items rows.new.items entries.now }
+{
+    for entry in entries {
+        let program = entry.program.index();
+        if program < rows.len() {
+            let row = &mut rows[program];
+            row.remove(entry.rank);
+        }
+    }
 }
 
 /// An index in 32 bits: the greatest number stands for all that are greater.
@@ -181,7 +194,7 @@ impl Watch {
         }
     }
 
-    /// Watches an applicant that has another place now, and counts again for its couple.
+    /// Watches an applicant by the place that it has now, and counts again for its couple.
     pub(crate) fn follow(
         &mut self,
         assignment: &Assignment<'_>,
@@ -192,7 +205,9 @@ impl Watch {
         ensures singles { OnOk result (Follows assignment.now self.old.singles.items self.new.singles.items applicant) }
         ensures better { OnOk result (Counts assignment.now self.old self.new applicant) }
     {
-        watch_each(&mut self.singles, assignment.better_live(applicant))?;
+        let (better, rest) = assignment.live_parts(applicant);
+        unwatch_each(&mut self.singles, rest);
+        watch_each(&mut self.singles, better)?;
         if let Agent::Couple(couple) = assignment.agent_of(applicant) {
             self.count(assignment, couple);
         }

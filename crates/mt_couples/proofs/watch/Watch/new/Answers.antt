@@ -1,8 +1,11 @@
-use Rattle.std.proofs.Common.{◌∙◌, ◌<◌, ap, sym, subst, inl, inr, arith}
-use Rattle.std.proofs.lemmas.Bool.{cases_eq, false≢true}
+use Rattle.std.proofs.Common.{◌∙◌, ◌∷◌, ◌<◌, ◌≡◌, ◌≢◌, ◌==◌, ℕ, [], false, ap, sym, subst, inl, inr, arith}
+use Rattle.std.proofs.lemmas.Bool.{cases_eq, false≢true, ne_eqb}
+use Rattle.std.proofs.Math.Bool.{or-false}
+use Rattle.mt_terms.specs.Lists.{has}
 use Rattle.mt_terms.specs.Market.{applicants}
 use Rattle.mt_couples.specs.Watching.{has_couple, IsWatched}
-use Rattle.mt_couples.proofs.WatchFacts.{watched_now, watched_still}
+use Rattle.mt_couples.proofs.EntryFacts.{first_watched, others_as_before}
+use Rattle.mt_couples.proofs.WatchFacts.{watched_still}
 use Rattle.mt_couples.proofs.watch.Watch.new.Goals as goal
 
 pub loop-number-preserved : goal.loop-number-preserved
@@ -14,12 +17,18 @@ loop-number-preserved c =
     let so_far = c.loop-number.invariant in
     let watches = c.in_ok-watch_each.ensures in
     let n_in : n < applicants s.market = omega (arith, c.applicants-number-end.ensures.count, ap applicants c.roster.ensures.market) in
+    let ok = c.better_live.ensures.assigned in
+    let list = c.better_live.ensures.list in
+    let keeps = others_as_before s ok n n_in old new c.better_live.result.now list watches so_far.one_each in
+    let other : (a : ℕ) → a ≢ n → has (n ∷ []) a ≡ false = λ a ne. or-false (n == a) ∙ ne_eqb n a (λ e. ne (sym e)) in
     record {
       one_each = watches.as_many ∙ so_far.one_each;
       each = λ a low. elim (cases_eq a n) [
-        | inl is ↦ subst (IsWatched s new) (sym is) (watched_now s c.better_live.ensures.assigned.well_formed n n_in old new c.better_live.result.now c.better_live.ensures.list watches so_far.one_each)
-        | inr other ↦ watched_still s a old new watches.keeps (so_far.each a (omega arith))
+        | inl is ↦ subst (IsWatched s new) (sym is)
+            (first_watched s ok n n_in old new c.better_live.result.now list watches so_far.one_each (λ p r. so_far.later n p r (omega arith)))
+        | inr ne ↦ watched_still s old new (n ∷ []) a keeps (other a ne) (so_far.each a (omega arith))
       ];
+      later = λ a p r low known ranked. keeps a p r (other a (omega arith)) known ranked ∙ so_far.later a p r (omega arith) known ranked;
     }
 
 pub returns-clause-named : goal.returns-clause-named

@@ -2,7 +2,7 @@ use Rattle.std.proofs.Common.{◌≡◌, ◌++◌, take, drop}
 use Rattle.mt_terms.specs.Lists.{until}
 use Rattle.mt_terms.specs.Matching.{at}
 use Rattle.mt_ranks.specs.declared.entries.Live.{Live}
-use Rattle.mt_couples.proofs.assignment.Assignment.better_live.Given as goal
+use Rattle.mt_couples.proofs.assignment.Assignment.live_parts.Given as goal
 
 abbrev pub invariant-loop-end : goal.invariant-loop-end
 invariant-loop-end l =

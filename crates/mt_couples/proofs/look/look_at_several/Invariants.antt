@@ -3,7 +3,7 @@ use Rattle.mt_terms.specs.Rounds.{is_on}
 use Rattle.mt_terms.specs.declared.numbers.Agent.{Agent}
 use Rattle.mt_couples.specs.Moves.{reopened}
 use Rattle.mt_couples.proofs.QuietFacts.{IsLooking}
-use Rattle.mt_couples.proofs.look.look_at_opened.Given as goal
+use Rattle.mt_couples.proofs.look.look_at_several.Given as goal
 
 abbrev pub invariant-loop-program : goal.invariant-loop-program
 invariant-loop-program l = record {

@@ -1,0 +1,6 @@
+use Rattle.std.proofs.Common.{take}
+use Rattle.mt_couples.specs.Watching.{Unwatches}
+use Rattle.mt_couples.proofs.watch.unwatch_each.Given as goal
+
+abbrev pub invariant-loop-entry : goal.invariant-loop-entry
+invariant-loop-entry l = Unwatches l.initial.rows.items l.rows.items (take l.entry-index l.entries)
