@@ -8,14 +8,11 @@ pub mod MoveSteps
 pub mod NoteFacts
 pub mod OneFacts
 pub mod OptionFacts
-pub mod PlaceFacts
 pub mod QuietFacts
 pub mod RankFacts
-pub mod RanksFacts
 pub mod RoundFacts
 pub mod SentFacts
 pub mod TableFacts
-pub mod RefusedFacts
 pub mod WatchFacts
 pub mod LiveFacts
 pub mod LookFacts

@@ -24,14 +24,17 @@ use Rattle.mt_couples.specs.Assigned.{ahead, has_post, pair_of, Assigned, AreApp
 use Rattle.mt_couples.specs.Looking.{is_noted_reopened, AddsCouples, AddsSingles, HaveReopened, IsWatching}
 use Rattle.mt_couples.specs.Moves.{agents_of, names_one_of, opens, some_has}
 use Rattle.mt_couples.specs.Running.{is_idle, is_reopened}
-use Rattle.mt_couples.specs.Watching.{better_pairs, end_of, is_before, is_noted, names, notes_pair, opens_between, ranks_at, row_at, wanted, Covers}
-use Rattle.mt_couples.specs.declared.couple_list.Note.{Note}
+use Rattle.mt_sets.specs.Notes.{end_of, is_before, is_noted, notes_pair}
+use Rattle.mt_couples.specs.Watching.{better_pairs, names, opens_between, ranks_at, row_at, wanted, Covers}
+use Rattle.mt_sets.specs.declared.couple_list.Note.{Note}
 use Rattle.mt_couples.specs.declared.watch.Watch.{Watch}
 use Rattle.mt_terms.specs.Lists.{is_distinct}
 use Rattle.mt_terms.proofs.ListFacts.{same_position}
 use Rattle.mt_couples.proofs.LiveFacts.{better_single, post_for}
-use Rattle.mt_couples.proofs.NoteFacts.{any_between, before_end, better_couple, until_front}
-use Rattle.mt_couples.proofs.PlaceFacts.{has_read}
+use Rattle.mt_sets.proofs.FrontFacts.{until_front}
+use Rattle.mt_sets.proofs.NoteFacts.{before_end}
+use Rattle.mt_couples.proofs.NoteFacts.{any_between, better_couple}
+use Rattle.mt_placed.proofs.PlaceFacts.{has_read}
 use Rattle.mt_couples.proofs.RankFacts.{has_rank, rank_there}
 use Rattle.mt_placed.proofs.OrderFacts.{has_at}
 use Rattle.mt_couples.proofs.WatchFacts.{has_end, has_parts, has_still, index_of}

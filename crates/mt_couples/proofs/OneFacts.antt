@@ -24,7 +24,7 @@ use Rattle.mt_couples.specs.Watching.{better_entries, ranks_at, wanted, AreWatch
 use Rattle.mt_couples.proofs.EntryFacts.{entry_in, entry_wanted}
 use Rattle.mt_couples.proofs.LiveFacts.{opens_live, post_for}
 use Rattle.mt_couples.proofs.LookFacts.{any_default, open_at, open_single, passes_joined, passes_skipped, passing, rank_at_place, reopened_before, Rest}
-use Rattle.mt_couples.proofs.PlaceFacts.{has_read}
+use Rattle.mt_placed.proofs.PlaceFacts.{has_read}
 
 -- a single that wants a program more than what it has, where that has a post for it, has an option there
 pub opens_there : (s : Assigned) → IsAssigned s → (a p r : ℕ) → a < applicants s.market → has (wanted s a) p ≡ true → rank_of s.market p a ≡ Some r

@@ -9,7 +9,7 @@ use Rattle.mt_match_laws.proofs.TakenLemmas.{at-slice_set_same, at-slice_set_oth
 use Rattle.mt_round_laws.proofs.RoundsLists.{In, in_has, in_image}
 use Rattle.mt_round_laws.proofs.RoundsPlaces.{movers, send_there, at_some}
 use Rattle.mt_couples.specs.Assigned.{AreSent}
-use Rattle.mt_couples.proofs.PlaceFacts.{count_more}
+use Rattle.mt_placed.proofs.PlaceFacts.{count_more}
 
 -- one for a test that passes
 abbrev pub one : Bool → ℕ

@@ -23,7 +23,7 @@ use Rattle.mt_couples.specs.View.{assigned_of, AreTables}
 use Rattle.mt_couples.specs.declared.assignment.Assignment.TheInside.{Inside}
 use Rattle.mt_couples.proofs.MarketFacts.{ranked_ranking}
 use Rattle.mt_couples.proofs.RankFacts.{has_no_rank}
-use Rattle.mt_couples.proofs.RanksFacts.{same_ranks, ranks_with, ranks_without, ranks_sorted, has_own_rank, has_no_own_rank}
+use Rattle.mt_placed.proofs.RanksFacts.{same_ranks, ranks_with, ranks_without, ranks_sorted, has_own_rank, has_no_own_rank}
 
 -- the rows are those of a match
 abbrev pub AreRows : Market → Places → List (List ℕ) → Type 0

@@ -16,7 +16,7 @@ use Rattle.mt_round_laws.proofs.RoundsMove.{IsMove, match_after, displaced_agent
 use Rattle.mt_couples.specs.Assigned.{Assigned}
 use Rattle.mt_couples.specs.Moves.{IsTaking}
 use Rattle.mt_couples.specs.Watching.{row_at, wanted, AreWatched, Counts, CountsAll, Follows, FollowsAll, IsWatched, IsWithinList, KeepsOthers}
-use Rattle.mt_couples.specs.declared.couple_list.Note.{Note}
+use Rattle.mt_sets.specs.declared.couple_list.Note.{Note}
 use Rattle.mt_couples.specs.declared.watch.Watch.{Watch}
 use Rattle.mt_couples.proofs.MoveFacts.{is_move}
 use Rattle.mt_couples.proofs.RankFacts.{has_rank}
@@ -222,11 +222,11 @@ module _ {m : Market} {old : Places} {g : Agent} {sent : Placement} (taking : Is
               let own : has (members m (Single b)) a ≡ true = subst (λ x. has (members m x) a ≡ true) of_a (member_of_agent m a) in
               let here : b ≡ a = eqb-true b a (sym (or-false (b == a)) ∙ own) in
               let unmoved : is_displaced m old sent (Single b) ≡ false = false_from_ne_true _ (λ out.
-                  let z = of_image (agent_of m) (Single b) gone (of_list (Single b) (displaced_agents m old sent) out) in
-                  let there : b ≡ z.0 = eqb-true b z.0 (sym (or-false (b == z.0)) ∙ subst (λ x. has (members m x) z.0 ≡ true) z.2 (member_of_agent m z.0)) in
-                  both_ways (has gone a) stay (in_has a gone (subst (λ x. In x gone) (sym there ∙ here) z.1))) in
+              let z = of_image (agent_of m) (Single b) gone (of_list (Single b) (displaced_agents m old sent) out) in
+              let there : b ≡ z.0 = eqb-true b z.0 (sym (or-false (b == z.0)) ∙ subst (λ x. has (members m x) z.0 ≡ true) z.2 (member_of_agent m z.0)) in
+              both_ways (has gone a) stay (in_has a gone (subst (λ x. In x gone) (sym there ∙ here) z.1))) in
               let another : is_same_agent (Single b) g ≡ false = false_from_ne_true _ (λ same.
-                  both_ways (has movers a) other (ap (λ xs. has xs a) (option_movers m g sent mv.option) ∙ subst (λ x. has (members m x) a ≡ true) (same_agent (Single b) g same) own)) in
+              both_ways (has movers a) other (ap (λ xs. has xs a) (option_movers m g sent mv.option) ∙ subst (λ x. has (members m x) a ≡ true) (same_agent (Single b) g same) own)) in
               let same = untouched mv (Single b) (subst (IsAgent m) of_a (agent_of_applicant m mv.well_formed a within)) unmoved another a own in
               ap (λ v. until (λ q. is_program q v) (list_of m a)) (sym same)
 

@@ -1,7 +1,7 @@
 -- A market with a match of it.
-use Rattle.std.specs.Prelude.{◌≡◌, ℕ, true, Some, Contains, ◌<◌, ◌≤◌, Bool, ◌&&◌, not, List, map, filter, take, length, Option, slice_index, slice_set, IsTrue, nat_lt}
-use Rattle.mt_terms.specs.Lists.{Set, has, is_distinct, count, below}
-use Rattle.mt_terms.specs.Market.{Market, Program, applicants, program_of, couple_of}
+use Rattle.std.specs.Prelude.{◌≡◌, ℕ, true, Some, Contains, ◌<◌, ◌≤◌, Bool, List, map, filter, take, length, Option, slice_index, slice_set, IsTrue, nat_lt}
+use Rattle.mt_terms.specs.Lists.{has, is_distinct, count, below}
+use Rattle.mt_terms.specs.Market.{Market, applicants, program_of, couple_of}
 use Rattle.mt_terms.specs.Places.{ArePlaces}
 use Rattle.mt_terms.specs.Choice.{choice}
 use Rattle.mt_terms.specs.WellFormed.{IsWellFormed}
@@ -73,10 +73,6 @@ pub record IsAssigned (s : Assigned) : Type 0 where
   pub well_formed : IsWellFormed s.market
   pub are_places : ArePlaces s.market s.places
   pub listed : AreListed s.market s.places
-
--- whether a program refuses an applicant of a set: one that it doesn't choose from the set
-abbrev pub is_refused : Program → Set → Set
-is_refused p set a = set a && not (choice p set a)
 
 -- What is asked of where applicants are sent: two applicants of the market at most, each once.
 pub record AreSent (m : Market) (sent : Placement) : Type 0 where

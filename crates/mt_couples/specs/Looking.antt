@@ -8,8 +8,9 @@ use Rattle.mt_ranks.specs.Ranked.{rank_of}
 use Rattle.mt_bits.specs.Members.{IsFirstFrom}
 use Rattle.mt_couples.specs.Assigned.{has_post, Assigned}
 use Rattle.mt_couples.specs.Running.{is_idle, is_reopened}
-use Rattle.mt_couples.specs.Watching.{end_of, opens_between, AreCounted, AreNamed, AreWatched}
-use Rattle.mt_couples.specs.declared.couple_list.Note.{Note}
+use Rattle.mt_sets.specs.Notes.{end_of}
+use Rattle.mt_couples.specs.Watching.{opens_between, AreCounted, AreNamed, AreWatched}
+use Rattle.mt_sets.specs.declared.couple_list.Note.{Note}
 use Rattle.mt_couples.specs.declared.watch.Watch.{Watch}
 
 -- once a couple has entered, the singles are watched, the pairs of the couples up to it are noted, and for each

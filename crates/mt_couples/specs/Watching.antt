@@ -1,5 +1,5 @@
 -- Where it is watched that an option may be opened.
-use Rattle.std.specs.Prelude.{◌≡◌, ℕ, ◌<◌, Bool, true, false, not, ◌&&◌, ◌||◌, ◌==◌, nat_le, nat_lt, min, if◌then◌else◌, ◌⊎◌, List, [], ◌∷◌, drop, length, Option, Some, slice_index_or, slice_range}
+use Rattle.std.specs.Prelude.{◌≡◌, ℕ, ◌<◌, Bool, true, false, not, ◌&&◌, ◌||◌, ◌==◌, min, ◌⊎◌, List, [], ◌∷◌, drop, length, Option, Some, slice_index_or, slice_range}
 use Rattle.std.specs.List.{list_any}
 use Rattle.mt_terms.specs.Lists.{Set, has, until}
 use Rattle.mt_terms.specs.Market.{Market, Pair, applicants, agent_of, couple_of, list_of, live_market}
@@ -11,7 +11,8 @@ use Rattle.mt_terms.specs.declared.numbers.Agent.{Agent}
 use Rattle.mt_terms.specs.declared.numbers.Agent.TheVariants.{Couple}
 use Rattle.mt_bits.specs.Members.{is_in}
 use Rattle.mt_couples.specs.Assigned.{Assigned, pair_of}
-use Rattle.mt_couples.specs.declared.couple_list.Note.{Note}
+use Rattle.mt_sets.specs.Notes.{greatest, has_couple, is_noted}
+use Rattle.mt_sets.specs.declared.couple_list.Note.{Note}
 use Rattle.mt_couples.specs.declared.watch.Watch.{Watch}
 use Rattle.mt_couples.specs.Running.{is_reopened}
 
@@ -92,35 +93,6 @@ names p pair = is_program p pair.0 || is_program p pair.1
 abbrev pub opens_between : Assigned → ℕ → ℕ → ℕ → ℕ → Bool
 opens_between s c p from end =
     list_any (λ pair. names p pair && would_be_taken s.market s.places (pair_of s c pair)) (slice_range (couple_of s.market c).pairs from end)
-
--- the greatest number that an index in 32 bits can be: as an index it stands for all that are greater, and as an end it
--- is no bound
-abbrev pub greatest : ℕ
-greatest = 4294967295
-
--- whether an index is before an end, and the end among so many
-abbrev pub is_before : ℕ → ℕ → Bool
-is_before i until = nat_lt i until || nat_le greatest until
-
-abbrev pub end_of : ℕ → ℕ → ℕ
-end_of until many = if nat_lt until greatest then min many until else many
-
--- whether a couple's pair at an index is noted: that one, or one before it and one that isn't before it
-abbrev pub notes_pair : ℕ → ℕ → Note → Bool
-notes_pair c i n = n.couple == c && (nat_le n.from i && is_before i n.until)
-
-abbrev pub is_noted : List Note → ℕ → ℕ → Bool
-is_noted notes c i = list_any (notes_pair c i) notes
-
--- whether a couple is noted
-abbrev pub has_couple : List Note → ℕ → Bool
-has_couple notes c = list_any (λ (n : Note). n.couple == c) notes
-
--- a couple's pair at an index is noted too, and no other couple
-pub record AddsNote (old new : List Note) (c from : ℕ) : Type 0 where
-  pub keeps : (d i : ℕ) → is_noted old d i ≡ true → is_noted new d i ≡ true
-  pub adds : (i : ℕ) → min i greatest ≡ from → is_noted new c i ≡ true
-  pub only : (d : ℕ) → has_couple new d ≡ true → (has_couple old d ≡ true) ⊎ (c ≡ d)
 
 -- no note is lost from a row
 abbrev pub KeepsNotes : List (List Note) → List (List Note) → Type 0

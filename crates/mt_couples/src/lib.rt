@@ -2,7 +2,6 @@
 #![tactic(auto)]
 
 mod assignment;
-mod couple_list;
 mod look;
 mod moves;
 mod options;

@@ -15,10 +15,9 @@ ghost use Rattle.mt_couples.specs.Waiting.{IsListOf, Joins};
 ghost use Rattle.mt_couples.specs.Watching.{AreCounted, Covers};
 
 use crate::assignment::Assignment;
-use crate::couple_list::Note;
 use crate::watch::Watch;
 use mt_bits::RankSet;
-use mt_sets::WorkList;
+use mt_sets::{Note, WorkList};
 use mt_terms::{Agent, AppNo, CoupleNo, ProgNo};
 use std::alloc::{AllocError, Global};
 

@@ -3,7 +3,7 @@ ghost use Rattle.std.specs.Option.{option_map};
 ghost use Rattle.mt_terms.specs.Lists.{has};
 ghost use Rattle.mt_terms.specs.Market.{applicants, couple_of};
 ghost use Rattle.mt_terms.specs.Matching.{at, single_placement};
-ghost use Rattle.mt_terms.specs.Stability.{blocks, would_be_taken};
+ghost use Rattle.mt_terms.specs.Stability.{would_be_taken};
 ghost use Rattle.mt_terms.specs.declared.numbers.Agent.TheVariants.{Single, Couple};
 ghost use Rattle.mt_couples.specs.Assigned.{chooses, front_of, has_post, pair_of, taken_by, AreSent, IsAgentOf, IsAssigned};
 ghost use Rattle.mt_ranks.specs.Ranked.{rank_of};
@@ -184,29 +184,20 @@ impl<'a> Assignment<'a> {
         pairs
     }
 
-    /// The pair that the couple takes: the first on its list before its own that would be taken.
-    pub(crate) fn first_pair(&self, couple: CoupleNo) -> Option<Pair>
-        requires { couple < length self.now.market.couples }
+    /// The pair that the couple takes: the first that would be taken of those on its list before its own, which are
+    /// so many.
+    pub(crate) fn first_pair(&self, couple: CoupleNo, better: usize) -> Option<Pair>
+        requires couple { couple < length self.now.market.couples }
+        requires better { better ≡ length (better_pairs self.now couple) }
         ensures { option_map (pair_of self.now couple) result ≡ taken_by self.now (Couple couple) }
     {
         let (first, second) = self.members(couple);
-        for pair in self.better_pairs(couple) {
+        for pair in &self.roster().couple_list(couple)[..better] {
             if self.would_be_taken(&[(first, pair.0), (second, pair.1)]) {
                 return Some(*pair);
             }
         }
         None
-    }
-
-    /// Whether the agent has a better option that would be taken.
-    pub(crate) fn blocks(&self, agent: &Agent) -> bool
-        requires { IsAgentOf self.now.market agent.now }
-        ensures { result ≡ blocks self.now.market self.now.places agent.now }
-    {
-        match agent {
-            Agent::Single(applicant) => self.first_program(*applicant).is_some(),
-            Agent::Couple(couple) => self.first_pair(*couple).is_some(),
-        }
     }
 
     /// Whether the single has a better program, out of these, that would take it.

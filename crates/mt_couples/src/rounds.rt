@@ -8,7 +8,7 @@ ghost use Rattle.mt_ranks.specs.Ranked.{ranked_of};
 ghost use Rattle.mt_sets.specs.Waiting.{waiting_first};
 ghost use Rattle.mt_couples.specs.Assigned.{AreApplicantsOf, AreProgramsOf, AreSent, IsAgentOf};
 ghost use Rattle.mt_couples.specs.Looking.{IsWatching};
-ghost use Rattle.mt_couples.specs.Watching.{CountsAll, FollowsAll};
+ghost use Rattle.mt_couples.specs.Watching.{AreCounted, CountsAll, FollowsAll};
 ghost use Rattle.mt_couples.specs.Running.{is_disquiet, is_quiet_single, singles_quiet, work_of, IsQuietBut, IsRunning};
 ghost use Rattle.mt_couples.specs.Waiting.{IsListOf, Joins, KeepsRoom};
 ghost use Rattle.mt_couples.specs.Moves.{agents_of, blockers, if_blocking, reopened, IsTaking};
@@ -71,25 +71,33 @@ fn join_displaced(assignment: &Assignment<'_>, displaced: &[AppNo], waiting: &mu
 }
 
 /// Puts the agent that moved on the work list, where it has a better option still.
-fn look_at_mover(assignment: &Assignment<'_>, agent: Agent, waiting: &mut WorkList)
+fn look_at_mover(assignment: &Assignment<'_>, watch: &Watch, agent: Agent, waiting: &mut WorkList)
     requires agent { IsAgentOf assignment.now.market agent }
+    requires counted { AreCounted assignment.now watch.now.better.items }
     requires waiting { IsListOf assignment.now.market waiting.old }
     ensures { Joins waiting.old waiting.new (if_blocking assignment.now agent) }
 {
-    if assignment.blocks(&agent) {
+    if watch.blocks(assignment, &agent) {
         waiting.join(agent);
     }
 }
 
 /// Puts those agents of a program's list on the work list that have entered and block now.
-fn look_at(assignment: &Assignment<'_>, program: ProgNo, last: CoupleNo, waiting: &mut WorkList)
+fn look_at(
+    assignment: &Assignment<'_>,
+    watch: &Watch,
+    program: ProgNo,
+    last: CoupleNo,
+    waiting: &mut WorkList,
+)
     requires program { program < length assignment.now.market.programs }
+    requires counted { AreCounted assignment.now watch.now.better.items }
     requires waiting { IsListOf assignment.now.market waiting.old }
     ensures { Joins waiting.old waiting.new (blockers assignment.now last program) }
 {
     for applicant in assignment.ranking(program) {
         let agent = assignment.agent_of(*applicant);
-        if has_entered(&agent, last) && assignment.blocks(&agent) {
+        if has_entered(&agent, last) && watch.blocks(assignment, &agent) {
             waiting.join(agent);
         }
     }
@@ -98,16 +106,18 @@ fn look_at(assignment: &Assignment<'_>, program: ProgNo, last: CoupleNo, waiting
 /// The same for several programs.
 fn look_at_each(
     assignment: &Assignment<'_>,
+    watch: &Watch,
     left: &[ProgNo],
     last: CoupleNo,
     waiting: &mut WorkList,
 )
+    requires counted { AreCounted assignment.now watch.now.better.items }
     requires programs { AreProgramsOf assignment.now.market left.now }
     requires waiting { IsListOf assignment.now.market waiting.old }
     ensures { Joins waiting.old waiting.new (reopened assignment.now last left.now) }
 {
     for program in left {
-        look_at(assignment, *program, last, waiting);
+        look_at(assignment, watch, *program, last, waiting);
     }
 }
 
@@ -117,7 +127,7 @@ fn is_quiet_single(assignment: &Assignment<'_>, agent: &Agent) -> bool
     ensures { result ≡ is_quiet_single assignment.now agent.now }
 {
     match agent {
-        Agent::Single(_) => !assignment.blocks(agent),
+        Agent::Single(single) => assignment.first_program(*single).is_none(),
         Agent::Couple(_) => true,
     }
 }
@@ -160,7 +170,7 @@ fn look_at_left(
     if quiet {
         return look_at_opened(alloc, assignment, watch, left, last, waiting);
     }
-    look_at_each(assignment, left, last, waiting);
+    look_at_each(assignment, watch, left, last, waiting);
     Ok(())
 }
 
@@ -223,7 +233,7 @@ fn take_option(
     follow_sent(assignment, watch, sent)?;
     follow_displaced(assignment, watch, &moved.displaced)?;
     join_displaced(assignment, &moved.displaced, waiting);
-    look_at_mover(assignment, agent, waiting);
+    look_at_mover(assignment, watch, agent, waiting);
     look_at_left(alloc, assignment, watch, &moved.left, last, quiet, waiting)?;
     Ok(())
 }
@@ -255,7 +265,7 @@ fn round(
             take_option(alloc, assignment, watch, waiting, last, quiet, agent, &sent)
         }
         Agent::Couple(couple) => {
-            let Some(pair) = assignment.first_pair(*couple) else {
+            let Some(pair) = assignment.first_pair(*couple, watch.better(*couple)) else {
                 return Ok(());
             };
             let (first, second) = assignment.members(*couple);

@@ -1,12 +1,15 @@
 ghost use Rattle.std.specs.Prelude.{◌≡◌, ◌+◌, ◌<◌, length, min, slice_index_or, IfOk, OnOk};
 ghost use Rattle.mt_terms.specs.Market.{applicants};
+ghost use Rattle.mt_terms.specs.Stability.{blocks};
 ghost use Rattle.mt_bits.specs.Members.{is_in};
+ghost use Rattle.mt_sets.specs.Notes.{greatest};
+ghost use Rattle.mt_couples.specs.Assigned.{IsAgentOf};
 ghost use Rattle.mt_couples.specs.Watching.{better_pairs, ranks_at, row_at, AreCounted, AreEmpty, AreNamed, AreUnwatched, AreWatched, Counts, CountsCouple, Follows, Notes, Unwatches, Watches};
 
 use crate::assignment::Assignment;
-use crate::couple_list::{CoupleList, Note};
 use mt_bits::RankSet;
 use mt_ranks::Live;
+use mt_sets::{CoupleList, Note};
 use mt_terms::{Agent, AppNo, CoupleNo, ProgNo};
 use std::alloc::{AllocError, Global};
 
@@ -112,11 +115,11 @@ fn unwatch_each(rows: &mut Vec<RankSet>, entries: &[Live])
     }
 }
 
-/// An index in 32 bits: the greatest number stands for all that are greater.
-fn short_index(index: usize) -> u32
-    ensures { result ≡ min index 4294967295 }
+/// An index in 16 bits: the greatest number stands for all that are greater.
+fn short_index(index: usize) -> u16
+    ensures { result ≡ min index greatest }
 {
-    index.min(u32::MAX as usize) as u32
+    index.min(u16::MAX as usize) as u16
 }
 
 /// Notes that a couple's pair at an index names the program of a place, if there is one.
@@ -124,7 +127,7 @@ fn note(
     rows: &mut Vec<CoupleList>,
     place: Option<ProgNo>,
     couple: CoupleNo,
-    from: u32,
+    from: u16,
 ) -> Result<(), AllocError>
     ensures { OnOk result (Notes rows.old.items rows.new.items place couple from) }
 {
@@ -179,6 +182,20 @@ impl Watch {
         ensures { result ≡ slice_index_or self.now.better.items couple 0 }
     {
         self.better.get(couple.index()).copied().unwrap_or(0)
+    }
+
+    /// Whether the agent has a better option that would be taken.
+    pub(crate) fn blocks(&self, assignment: &Assignment<'_>, agent: &Agent) -> bool
+        requires agent { IsAgentOf assignment.now.market agent.now }
+        requires counted { AreCounted assignment.now self.now.better.items }
+        ensures { result ≡ blocks assignment.now.market assignment.now.places agent.now }
+    {
+        match agent {
+            Agent::Single(single) => assignment.first_program(*single).is_some(),
+            Agent::Couple(couple) => assignment
+                .first_pair(*couple, self.better(*couple))
+                .is_some(),
+        }
     }
 
     /// Counts again how many pairs a couple wants more than what it has.

@@ -1,1 +1,4 @@
 pub mod OrderFacts
+pub mod PlaceFacts
+pub mod RanksFacts
+pub mod RefusedFacts

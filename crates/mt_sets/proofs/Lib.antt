@@ -1,1 +1,3 @@
+pub mod FrontFacts
+pub mod NoteFacts
 pub mod WaitingFacts

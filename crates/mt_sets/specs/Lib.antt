@@ -1,3 +1,4 @@
+pub mod Notes
 pub mod Programs
 pub mod View
 pub mod Waiting

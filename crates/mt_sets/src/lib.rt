@@ -1,8 +1,10 @@
-//! Sets that change while couples enter: of programs, and of the agents that wait.
+//! What changes while couples enter: sets of programs, the agents that wait, and notes of couples.
 #![tactic(auto)]
 
+mod couple_list;
 mod program_set;
 mod work_list;
 
+pub use couple_list::{CoupleList, Note};
 pub use program_set::ProgramSet;
 pub use work_list::WorkList;

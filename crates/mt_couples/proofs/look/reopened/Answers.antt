@@ -1,6 +1,6 @@
 use Rattle.std.proofs.Common.{◌∷◌, []}
 use Rattle.mt_couples.specs.Watching.{Covers}
-use Rattle.mt_couples.proofs.PlaceFacts.{has_read}
+use Rattle.mt_placed.proofs.PlaceFacts.{has_read}
 use Rattle.mt_couples.proofs.WatchFacts.{each_all}
 use Rattle.mt_couples.proofs.LookFacts.{covers_all}
 use Rattle.mt_couples.proofs.look.reopened.Goals as goal

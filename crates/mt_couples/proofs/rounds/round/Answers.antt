@@ -8,8 +8,12 @@ use Rattle.mt_couples.proofs.rounds.round.Goals as goal
 pub first_program-requires : goal.first_program-requires
 first_program-requires c = subst (IsAgentOf c.args.assignment.now.market) c.in-Single.is (front_within c.requires.running)
 
-pub first_pair-requires : goal.first_pair-requires
-first_pair-requires c = subst (IsAgentOf c.args.assignment.now.market) c.in-Couple.is (front_within c.requires.running)
+pub first_pair-requires-clause-couple : goal.first_pair-requires-clause-couple
+first_pair-requires-clause-couple c = subst (IsAgentOf c.args.assignment.now.market) c.in-Couple.is (front_within c.requires.running)
+
+pub first_pair-requires-clause-better : goal.first_pair-requires-clause-better
+first_pair-requires-clause-better c =
+    c.better.ensures ∙ c.requires.watch.counted.each c.in-Couple.couple (subst (IsAgentOf c.args.assignment.now.market) c.in-Couple.is (front_within c.requires.running))
 
 pub take_option-requires-clause-taking : goal.take_option-requires-clause-taking
 take_option-requires-clause-taking c =

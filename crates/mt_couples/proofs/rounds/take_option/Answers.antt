@@ -130,3 +130,9 @@ returns c =
       room = all ∙ ap (λ (w : Waiting). with_agents c.args.waiting.now w.agents) (sym all);
       work = ap₂ (λ (x : Assigned) (w : Waiting). work_of x w) after all;
     }
+
+pub look_at_mover-requires-clause-counted : goal.look_at_mover-requires-clause-counted
+look_at_mover-requires-clause-counted c =
+    (watching c.args.assignment.now c.move_to.new.self c.args.sent.now c.args.agent c.args.last c.args.watch.now c.follow_sent.new.watch c.follow_displaced.new.watch c.deref.result.now
+    c.requires.taking c.in_ok-moved.ensures.places c.requires.watch c.in_ok-follow_sent.ensures.singles c.in_ok-follow_displaced.ensures.singles c.in_ok-follow_sent.ensures.better c.in_ok-follow_displaced.ensures.better
+    (c.deref.ensures.value ∙ c.in_ok-moved.ensures.displaced) (ap Vec.items (c.in_ok-follow_displaced.ensures.couples ∙ c.in_ok-follow_sent.ensures.couples))).counted

@@ -6,7 +6,7 @@ use Rattle.mt_ranks.specs.declared.entries.Live.{Live}
 use Rattle.mt_ranks.specs.Ranked.{Ranked, ranked_list, ranked_of}
 use Rattle.mt_couples.specs.Assigned.{Assigned}
 use Rattle.mt_couples.specs.Watching.{better_entries}
-use Rattle.mt_couples.proofs.PlaceFacts.{at_read}
+use Rattle.mt_placed.proofs.PlaceFacts.{at_read}
 use Rattle.mt_couples.proofs.MarketFacts.{ranked_applicants}
 use Rattle.mt_couples.proofs.WatchFacts.{drop_past, going_all, going_more, going_stops}
 use Rattle.mt_couples.proofs.assignment.Assignment.live_parts.Goals as goal

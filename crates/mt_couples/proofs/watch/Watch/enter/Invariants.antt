@@ -1,6 +1,7 @@
 use Rattle.std.proofs.Common.{◌≡◌, ◌<◌, ℕ, true, length, get_or}
 use Rattle.mt_terms.specs.Market.{Pair}
-use Rattle.mt_couples.specs.Watching.{has_couple, is_noted, names, row_at, KeepsNotes}
+use Rattle.mt_sets.specs.Notes.{has_couple, is_noted}
+use Rattle.mt_couples.specs.Watching.{names, row_at, KeepsNotes}
 use Rattle.mt_couples.proofs.watch.Watch.enter.Given as goal
 
 abbrev pub invariant-loop-index : goal.invariant-loop-index

@@ -3,7 +3,8 @@ use Rattle.std.proofs.lemmas.Bool.{cases_eq, false≢true, ne_eqb}
 use Rattle.std.proofs.Math.Bool.{or-false}
 use Rattle.mt_terms.specs.Lists.{has}
 use Rattle.mt_terms.specs.Market.{applicants}
-use Rattle.mt_couples.specs.Watching.{has_couple, IsWatched}
+use Rattle.mt_sets.specs.Notes.{has_couple}
+use Rattle.mt_couples.specs.Watching.{IsWatched}
 use Rattle.mt_couples.proofs.EntryFacts.{first_watched, others_as_before}
 use Rattle.mt_couples.proofs.WatchFacts.{watched_still}
 use Rattle.mt_couples.proofs.watch.Watch.new.Goals as goal

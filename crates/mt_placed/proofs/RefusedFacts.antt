@@ -2,8 +2,12 @@
 use Rattle.std.proofs.Common.{◌≡◌, ℕ, ◌+◌, ◌<◌, not, ◌&&◌, nat_lt, List, take, length, get_or, IsTrue, refl, ap, sym, ◌∙◌, if◌then◌else◌}
 use Rattle.mt_terms.specs.Lists.{Set, count, above, is_distinct}
 use Rattle.mt_terms.specs.Market.{Program}
-use Rattle.mt_couples.specs.Assigned.{is_refused}
-use Rattle.mt_couples.proofs.PlaceFacts.{has_read, until_at, count_more}
+use Rattle.mt_terms.specs.Choice.{choice}
+use Rattle.mt_placed.proofs.PlaceFacts.{has_read, until_at, count_more}
+
+-- whether a program refuses an applicant of a set: one that it doesn't choose from the set
+abbrev pub is_refused : Program → Set → Set
+is_refused p set a = set a && not (choice p set a)
 
 abbrev pub program_with : ℕ → List ℕ → Program
 program_with quota list = record { quota = quota; ranking = list }

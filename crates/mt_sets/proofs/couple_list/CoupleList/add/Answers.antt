@@ -1,9 +1,9 @@
 use Rattle.std.proofs.Common.{◌≡◌, ◌∙◌, ◌++◌, ◌∷◌, [], subst, sym}
-use Rattle.mt_couples.specs.Watching.{AddsNote}
-use Rattle.mt_couples.specs.declared.couple_list.Note.{Note}
-use Rattle.mt_couples.proofs.NoteFacts.{note_added}
-use Rattle.mt_couples.proofs.couple_list.CoupleList.add.Goals as goal
-use Rattle.mt_couples.proofs.couple_list.CoupleList.add.Goals.{else-eq-via-then-eq+else-extend, else-eq-via-else-eq}
+use Rattle.mt_sets.specs.Notes.{AddsNote}
+use Rattle.mt_sets.specs.declared.couple_list.Note.{Note}
+use Rattle.mt_sets.proofs.NoteFacts.{note_added}
+use Rattle.mt_sets.proofs.couple_list.CoupleList.add.Goals as goal
+use Rattle.mt_sets.proofs.couple_list.CoupleList.add.Goals.{else-eq-via-then-eq+else-extend, else-eq-via-else-eq}
 
 pub returns : goal.returns
 returns c =

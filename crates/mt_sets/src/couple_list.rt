@@ -1,26 +1,26 @@
 ghost use Rattle.std.specs.Prelude.{◌≡◌, [], IfOk, IsFalse, IsTrue, OnOk};
-ghost use Rattle.mt_couples.specs.Watching.{end_of, AddsNote};
+ghost use Rattle.mt_sets.specs.Notes.{end_of, AddsNote};
 
 use mt_terms::CoupleNo;
 use std::alloc::{AllocError, Global};
 use std::marker::Model;
 
-/// That a program is named by pairs of a couple's list, which are counted from 0, as far as 32 bits count.
+/// That a program is named by pairs of a couple's list, which are counted from 0, as far as 16 bits count.
 #[derive(Clone, Copy)]
-pub(crate) struct Note {
-    pub(crate) couple: CoupleNo,
+pub struct Note {
+    pub couple: CoupleNo,
     /// Where the first such pair stands on the list.
-    pub(crate) from: u32,
+    pub from: u16,
     /// One past where the last one stands. The greatest number is no bound.
-    pub(crate) until: u32,
+    pub until: u16,
 }
 
 impl Note {
     /// Where such pairs end, among so many.
-    pub(crate) fn end(&self, pairs: usize) -> usize
+    pub fn end(&self, pairs: usize) -> usize
         ensures { result ≡ end_of self.now.until pairs }
     {
-        if self.until < u32::MAX {
+        if self.until < u16::MAX {
             pairs.min(self.until as usize)
         } else {
             pairs
@@ -30,7 +30,7 @@ impl Note {
 
 /// The notes of one program, in the order in which the couples were added.
 #[derive(Drop)]
-pub(crate) struct CoupleList {
+pub struct CoupleList {
     notes: Vec<Note>,
     /// The couple that was added last, so that no note is read where another one is added.
     last: Option<CoupleNo>,
@@ -38,7 +38,7 @@ pub(crate) struct CoupleList {
 
 impl Model for CoupleList {
     ghost use Rattle.std.specs.Prelude.{List};
-    ghost use Rattle.mt_couples.specs.declared.couple_list.Note.{Note};
+    ghost use Rattle.mt_sets.specs.declared.couple_list.Note.{Note};
 
     ghost Value = { List Note };
 
@@ -47,7 +47,7 @@ impl Model for CoupleList {
 
 impl CoupleList {
     /// No notes, with room for so many.
-    pub(crate) fn with_capacity(alloc: Global, notes: usize) -> Result<Self, AllocError>
+    pub fn with_capacity(alloc: Global, notes: usize) -> Result<Self, AllocError>
         ensures { IfOk result (λ l. l ≡ []) }
     {
         Ok(CoupleList {
@@ -58,7 +58,7 @@ impl CoupleList {
 
     /// Has the last note go on to the couple's pair at an index, where it is of an earlier pair of that couple. The
     /// result is whether it is.
-    fn extend(&mut self, couple: CoupleNo, from: u32) -> bool
+    fn extend(&mut self, couple: CoupleNo, from: u16) -> bool
         ensures added { IsTrue result → AddsNote self.old self.new couple from }
         ensures same { IsFalse result → self.new ≡ self.old }
     {
@@ -72,7 +72,7 @@ impl CoupleList {
     }
 
     /// Notes the couple's pair at an index: in the last note, where that is of an earlier one of that couple.
-    pub(crate) fn add(&mut self, couple: CoupleNo, from: u32) -> Result<(), AllocError>
+    pub fn add(&mut self, couple: CoupleNo, from: u16) -> Result<(), AllocError>
         ensures { OnOk result (AddsNote self.old self.new couple from) }
     {
         if self.last == Some(couple) && self.extend(couple, from) {
@@ -88,7 +88,7 @@ impl CoupleList {
     }
 
     /// All of them.
-    pub(crate) fn as_slice(&self) -> &[Note]
+    pub fn as_slice(&self) -> &[Note]
         ensures { result.now ≡ self.now }
     {
         self.notes.as_slice()

@@ -7,9 +7,8 @@ use Rattle.std.proofs.lemmas.Bool.{cases_Bool, cases_lt, and_parts, or_cases, or
 use Rattle.std.proofs.lemmas.List.{drop_all, get_or_default}
 use Rattle.mt_terms.specs.Lists.{Set, has, count, is_distinct}
 use Rattle.mt_terms.specs.Matching.{ranks_from}
-use Rattle.mt_couples.specs.Assigned.{is_refused}
 use Rattle.mt_placed.proofs.OrderFacts.{has_at, IsBelowAll, all_above, filter_same}
-use Rattle.mt_couples.proofs.RefusedFacts.{program_with, refused_is, count_is}
+use Rattle.mt_placed.proofs.RefusedFacts.{is_refused, program_with, refused_is, count_is}
 
 -- what a rank of a set is
 pub record IsRankOf (i : ℕ) (set : Set) (xs : List ℕ) (r : ℕ) : Type 0 where

@@ -4,20 +4,20 @@ use Rattle.mt_terms.specs.Matching.{single_placement, couple_placement, better}
 use Rattle.mt_terms.specs.Stability.{would_be_taken, blocks}
 use Rattle.mt_terms.specs.declared.numbers.Agent.TheVariants.{Single, Couple}
 use Rattle.mt_couples.proofs.OptionFacts.{is_some-find, is_some-option_map}
-use Rattle.mt_couples.proofs.assignment.Assignment.blocks.Goals as goal
+use Rattle.mt_couples.proofs.watch.Watch.blocks.Goals as goal
 
 pub returns-in-Single : goal.returns-in-Single
 returns-in-Single c =
-    let m = c.args.self.now.market in
-    let places = c.args.self.now.places in
-    c.is_some.ensures ∙ is_some-option_map (single_placement c.in-Single.applicant) c.first_program.result ∙ ap is_some c.first_program.ensures
-    ∙ sym (is_some-find (would_be_taken m places) (better m places (Single c.in-Single.applicant)))
+    let m = c.args.assignment.now.market in
+    let places = c.args.assignment.now.places in
+    c.is_some.ensures ∙ is_some-option_map (single_placement c.in-Single.single) c.first_program.result ∙ ap is_some c.first_program.ensures
+    ∙ sym (is_some-find (would_be_taken m places) (better m places (Single c.in-Single.single)))
     ∙ ap (blocks m places) (sym c.in-Single.is)
 
 pub returns-in-Couple : goal.returns-in-Couple
 returns-in-Couple c =
-    let m = c.args.self.now.market in
-    let places = c.args.self.now.places in
+    let m = c.args.assignment.now.market in
+    let places = c.args.assignment.now.places in
     let couple = couple_of m c.in-Couple.couple in
     c.is_some-in-Couple.ensures ∙ is_some-option_map (couple_placement couple.first couple.second) c.first_pair.result ∙ ap is_some c.first_pair.ensures
     ∙ sym (is_some-find (would_be_taken m places) (better m places (Couple c.in-Couple.couple)))

@@ -3,12 +3,12 @@ use Rattle.std.specs.Prelude.{IsSome}
 use Rattle.std.specs.Vec.{vec_len}
 use Rattle.std.proofs.lemmas.Bool.{eqb-true}
 use Rattle.std.proofs.lemmas.List.{set-get_or}
-use Rattle.mt_couples.specs.Watching.{AddsNote}
-use Rattle.mt_couples.specs.declared.couple_list.Note.{Note}
-use Rattle.mt_couples.specs.declared.couple_list.CoupleList.TheInside.{Inside}
-use Rattle.mt_couples.proofs.NoteFacts.{note_extended}
-use Rattle.mt_couples.proofs.couple_list.CoupleList.extend.Goals as goal
-use Rattle.mt_couples.proofs.couple_list.CoupleList.extend.Goals.{in-Some+else-eq, else-eq-via-then-eq+else-last-from, else-eq-via-else-eq, in_default}
+use Rattle.mt_sets.specs.Notes.{AddsNote}
+use Rattle.mt_sets.specs.declared.couple_list.Note.{Note}
+use Rattle.mt_sets.specs.declared.couple_list.CoupleList.TheInside.{Inside}
+use Rattle.mt_sets.proofs.NoteFacts.{note_extended}
+use Rattle.mt_sets.proofs.couple_list.CoupleList.extend.Goals as goal
+use Rattle.mt_sets.proofs.couple_list.CoupleList.extend.Goals.{in-Some+else-eq, else-eq-via-then-eq+else-last-from, else-eq-via-else-eq, in_default}
 
 pub returns-then-last-from-clause-added : goal.returns-then-last-from-clause-added
 returns-then-last-from-clause-added c = λ yes.
