@@ -8,6 +8,7 @@ use std::marker::Model;
 /// That a program is named by pairs of a couple's list, which are counted from 0, as far as 16 bits count.
 #[derive(Clone, Copy)]
 pub struct Note {
+    /// Whose pairs they are.
     pub couple: CoupleNo,
     /// Where the first such pair stands on the list.
     pub from: u16,
@@ -46,7 +47,7 @@ impl Model for CoupleList {
 }
 
 impl CoupleList {
-    /// No notes, with room for so many.
+    /// No notes, with room for so many. The error is want of memory.
     pub fn with_capacity(alloc: Global, notes: usize) -> Result<Self, AllocError>
         ensures { IfOk result (λ l. l ≡ []) }
     {
@@ -71,7 +72,8 @@ impl CoupleList {
         false
     }
 
-    /// Notes the couple's pair at an index: in the last note, where that is of an earlier one of that couple.
+    /// Notes the couple's pair at an index: in the last note, where that is of an earlier one of that couple. The error is
+    /// want of memory, and nothing is said of the list then.
     pub fn add(&mut self, couple: CoupleNo, from: u16) -> Result<(), AllocError>
         ensures { OnOk result (AddsNote self.old self.new couple from) }
     {
