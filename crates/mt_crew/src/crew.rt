@@ -55,11 +55,14 @@ fn act<K: HallName, R: Wait>(
     }
 }
 
-/// The longest rest of a worker, in turns: a fraction of a millisecond.
-const LONGEST_REST: u32 = 1 << 15;
+/// The longest rest of a worker, in turns: some milliseconds.
+const LONGEST_REST: u32 = 1 << 18;
 
 /// After how many turns of its rest a worker lets another thread run.
 const YIELD_AFTER: u32 = 64;
+
+/// After how many turns of its rest a worker looks whether there are tickets left.
+const LOOK_AFTER: u32 = 1 << 11;
 
 /// How long a worker rests that has rested so long the last time: twice as long where it had to wait for another one
 /// since, and half as long where it hadn't.
@@ -75,9 +78,17 @@ fn next_rest(last: u32, waited: bool) -> u32
     }
 }
 
-/// Lets so many turns pass.
-fn rest(turns: u32) {
+/// Whether no deque has a ticket just now.
+fn are_empty(thieves: &[Stealer<AppNo>]) -> bool {
+    thieves.iter().all(|thief| thief.is_empty())
+}
+
+/// Lets so many turns pass, or fewer where no deque has a ticket any more.
+fn rest(turns: u32, thieves: &[Stealer<AppNo>]) {
     for turn in 0..turns {
+        if turn % LOOK_AFTER == LOOK_AFTER - 1 && are_empty(thieves) {
+            return;
+        }
         if turn % YIELD_AFTER == 0 {
             thread::yield_now();
         } else {
@@ -107,7 +118,7 @@ fn serve<K: HallName, R: Wait, G: Gate>(
         gate.after(seat.number, pass);
         if seat.number > 0 {
             turns = next_rest(turns, pass.waits() != waits);
-            rest(turns);
+            rest(turns, thieves);
         }
     }
 }
