@@ -2,7 +2,7 @@ ghost use Rattle.std.specs.Prelude.{◌≡◌, ◌<◌, ◌≤◌, ◌+◌, ◌^
 ghost use Rattle.mt_terms.specs.Registration.Ids.{has_id, all_differ};
 ghost use Rattle.mt_ids.specs.Keys.{AreBytes, four_from, head_of};
 
-use crate::seed::Seed;
+use crate::seed::{Seed, add_field};
 use indexmap::IndexSet;
 use mt_market::FlatLists;
 use std::alloc::{AllocError, Global};
@@ -98,7 +98,7 @@ fn four(bytes: &[u8], at: usize) -> u64
 fn seed_of(names: &FlatLists<u8>) -> Seed {
     let mut digest = DefaultHasher::new();
     for number in 0..names.len() {
-        digest.write(names.list(number));
+        add_field(&mut digest, names.list(number));
     }
     Seed::of(&digest)
 }

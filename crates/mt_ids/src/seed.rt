@@ -30,9 +30,15 @@ impl BuildHasher for Seed {
     }
 }
 
+/// Adds a field to a digest, with its length: so the same bytes, parted in another way, give another digest.
+pub fn add_field(digest: &mut DefaultHasher, field: &[u8]) {
+    digest.write_usize(field.len());
+    digest.write(field);
+}
+
 /// Adds fields to a digest.
 pub fn add_fields(digest: &mut DefaultHasher, fields: Fields<'_>) {
     for field in fields {
-        digest.write(field);
+        add_field(digest, field);
     }
 }

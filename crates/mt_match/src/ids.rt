@@ -3,17 +3,17 @@ ghost use Rattle.mt_terms.specs.Registration.Accepted.{IsRegistration};
 ghost use Rattle.mt_terms.specs.Registration.Ids.{has_id};
 ghost use Rattle.mt_match.specs.Told.{place_named};
 
-use mt_ids::{IdTable, Seed, is_dash};
+use mt_ids::{IdTable, Seed, add_field, is_dash};
 use mt_market::Roster;
 use mt_terms::{AppNo, ProgNo};
 use std::alloc::{AllocError, Global};
-use std::hash::{DefaultHasher, Hasher};
+use std::hash::DefaultHasher;
 
 /// The seed of a table of the programs' ids.
 fn programs_seed(roster: &Roster) -> Seed {
     let mut digest = DefaultHasher::new();
     for number in 0..roster.programs() {
-        digest.write(roster.program_id(ProgNo(number)));
+        add_field(&mut digest, roster.program_id(ProgNo(number)));
     }
     Seed::of(&digest)
 }
@@ -22,7 +22,7 @@ fn programs_seed(roster: &Roster) -> Seed {
 fn applicants_seed(roster: &Roster) -> Seed {
     let mut digest = DefaultHasher::new();
     for number in 0..roster.applicants() {
-        digest.write(roster.applicant_id(AppNo(number)));
+        add_field(&mut digest, roster.applicant_id(AppNo(number)));
     }
     Seed::of(&digest)
 }

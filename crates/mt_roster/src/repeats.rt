@@ -8,11 +8,11 @@ ghost use Rattle.mt_terms.specs.Registration.Passes.{is_same_pair};
 ghost use Rattle.mt_records.specs.Fields.{pairs_left};
 
 use indexmap::IndexSet;
-use mt_ids::{IdTable, Seed, add_fields};
+use mt_ids::{IdTable, Seed, add_field, add_fields};
 use mt_lists::Fields;
 use mt_records::Pairs;
 use std::alloc::{AllocError, Global};
-use std::hash::{DefaultHasher, Hasher};
+use std::hash::DefaultHasher;
 use std::marker::Model;
 
 /// Whether an id stands twice in a list.
@@ -69,8 +69,8 @@ impl<'a> PairTable<'a> {
 fn seed_of(pairs: Pairs<'_>) -> Seed {
     let mut digest = DefaultHasher::new();
     for (first, second) in pairs {
-        digest.write(first.unwrap_or(b"-"));
-        digest.write(second.unwrap_or(b"-"));
+        add_field(&mut digest, first.unwrap_or(b"-"));
+        add_field(&mut digest, second.unwrap_or(b"-"));
     }
     Seed::of(&digest)
 }

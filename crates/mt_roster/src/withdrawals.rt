@@ -12,18 +12,18 @@ ghost use Rattle.mt_roster.specs.Withdrawals.{stays_after, Stand};
 
 use crate::register::Kinds;
 use crate::registered::Registered;
-use mt_ids::{IdTable, Seed};
+use mt_ids::{IdTable, Seed, add_field};
 use mt_records::Record;
 use mt_terms::{AppNo, ProgNo};
 use std::alloc::{AllocError, Global};
-use std::hash::{DefaultHasher, Hasher};
+use std::hash::DefaultHasher;
 
 /// The seed of tables of what these records withdraw.
 fn seed_of(records: &[Record<'_>]) -> Seed {
     let mut digest = DefaultHasher::new();
     for one in records {
         if let Record::Withdraw { id, .. } = one {
-            digest.write(id);
+            add_field(&mut digest, id);
         }
     }
     Seed::of(&digest)
