@@ -1,5 +1,5 @@
 //! What records say by the numbers of their programs and applicants.
-ghost use Rattle.std.specs.Prelude.{◌≡◌, ◌<◌, ◌≤◌, ◌^◌, ◌+◌, [], map, filter_map, length, All, IfOk, IfSome, slice_set};
+ghost use Rattle.std.specs.Prelude.{◌≡◌, ◌<◌, ◌≤◌, ◌^◌, ◌+◌, [], map, filter_map, length, All, IfOk, IfSome, OnOk, slice_set};
 ghost use Rattle.std.specs.Option.{option_copied};
 ghost use Rattle.mt_lists.specs.Rows.{fields_left};
 ghost use Rattle.mt_terms.specs.Lists.{below};
@@ -37,25 +37,38 @@ pub(crate) fn quotas(alloc: Global, records: &[Record<'_>]) -> Result<Vec<u32>, 
     Ok(quotas)
 }
 
+/// A stamp that no id has: the one after the last, or the first, once all are taken away.
+fn next_stamp(alloc: Global, stamps: &mut Vec<u8>, last: u8) -> Result<u8, AllocError>
+    requires { AreStampedBelow (last + 1) stamps.old.items }
+    ensures len { OnOk result (length stamps.new.items ≡ length stamps.old.items) }
+    ensures fresh { IfOk result (λ stamp. AreStampedBelow stamp stamps.new.items) }
+{
+    if last < u8::MAX {
+        return Ok(last + 1);
+    }
+    *stamps = vec![in alloc; 0; stamps.len()]?;
+    Ok(1)
+}
+
 /// Adds the numbers of a list's ids, of those that have one, to the last of these lists, and says that it did so, where
-/// each is one of these ids, none stands twice, and there is room for so many entries. A stamp is the number of lists
-/// when an id was last met.
+/// each is one of these ids, none stands twice, and there is room for so many entries. An id that is met gets the list's
+/// stamp, which no id has before.
 fn push_list<T: Copy + Drop>(
     lists: &mut FlatLists<T>,
     ids: &IdTable<'_>,
     numbers: &[Option<T>],
-    stamps: &mut [usize],
+    stamps: &mut [u8],
+    stamp: u8,
     room: &mut u32,
     list: Fields<'_>,
 ) -> Result<bool, AllocError>
     requires numbers { length numbers.now ≡ length ids.now }
     requires stamps { length stamps.old ≡ length ids.now }
-    requires fresh { AreStampedBelow (length lists.old) stamps.old }
+    requires fresh { AreStampedBelow stamp stamps.old }
     requires begun { 0 < length lists.old }
-    ensures stamps { AreStampedBelow (length lists.old + 1) stamps.new }
+    ensures stamps { AreStampedBelow (stamp + 1) stamps.new }
     ensures reads { IfOk result (λ found. ReadsList ids.now numbers.now room.old room.new (fields_left list.entry) lists.old lists.new found) }
 {
-    let stamp = lists.len();
     for id in list {
         let Some(place) = ids.number(id) else {
             return Ok(false);
@@ -84,11 +97,13 @@ pub(crate) fn read_lists<T: Copy + Drop>(
     ensures { IfOk result (ReadsLists ids.now numbers.now room.old room.new (lists_seen lists.now)) }
 {
     let mut read = FlatLists::new(alloc);
-    let mut stamps = vec![in alloc; 0; ids.len()]?;
+    let mut stamps: Vec<u8> = vec![in alloc; 0; ids.len()]?;
+    let mut stamp = 0;
     for list in lists {
         read.begin()?;
         if let Some(fields) = list {
-            if !push_list(&mut read, ids, numbers, &mut stamps, room, *fields)? {
+            stamp = next_stamp(alloc, &mut stamps, stamp)?;
+            if !push_list(&mut read, ids, numbers, &mut stamps, stamp, room, *fields)? {
                 return Ok(None);
             }
         }

@@ -8,7 +8,7 @@ use Rattle.mt_roster.proofs.numbering.push_list.Given as goal
 
 abbrev pub invariant-loop-id : goal.invariant-loop-id
 invariant-loop-id g l = record {
-  stamped : AreStampedBelow (length l.fn.lists + 1) l.stamps;
+  stamped : AreStampedBelow (l.stamp + 1) l.stamps;
   count : length l.lists ≡ length l.fn.lists;
   room : l.room + length (fields_left l.fn.list) ≡ l.fn.room + length (fields_left l.id-iterator);
   stands : stands_from l.ids l.stamp l.stamps (fields_left l.id-iterator) ≡ stands_once l.ids (fields_left l.fn.list);

@@ -1,13 +1,12 @@
 use Rattle.std.proofs.Common.{◌≡◌, ◌+◌, [], ◌∷◌, ap, subst, refl, ◌∙◌, arith, drop, length}
 use Rattle.std.proofs.lemmas.Grind.{common_steps}
-use Rattle.std.proofs.lemmas.List.{length-append}
 use Rattle.mt_file_laws.specs.Faultless.{stands_once}
 use Rattle.mt_lists.specs.Rows.{fields_left}
 use Rattle.mt_roster.specs.Numbered.{lists_seen}
 use Rattle.mt_roster.specs.Reading.{numbers_by, ReadsList}
 use Rattle.mt_roster.proofs.NumberingSteps.{take_whole}
-use Rattle.mt_roster.proofs.ReadingSteps.{read_one, one_more}
-use Rattle.mt_roster.proofs.numbering.read_lists.Goals.{in-Some+in_ok-push_list+else-not-branch, in_default}
+use Rattle.mt_roster.proofs.ReadingSteps.{read_one}
+use Rattle.mt_roster.proofs.numbering.read_lists.Goals.{in-Some+in_ok-stamp+in_ok-push_list+else-not-branch, in_default}
 use Rattle.mt_roster.proofs.numbering.read_lists.Goals as goal
 
 pub loop-list-preserved : goal.loop-list-preserved
@@ -20,29 +19,26 @@ loop-list-preserved g c =
     let stamps = c.loop-list.stamps.items in
     let inv = c.loop-list.invariant in
     elim c.match-list.branch [
-      | in-Some+in_ok-push_list+else-not-branch w ↦
+      | in-Some+in_ok-stamp+in_ok-push_list+else-not-branch w ↦
           let list = fields_left w.in-Some.fields in
           let is : left ≡ list ∷ rest = grind (arith, common_steps) in
-          let same : length w.push_list.new.stamps ≡ length stamps = w.push_list.auto.stamps ∙ ap length w.deref_mut.ensures.value in
-          let whole = take_whole w.push_list.new.stamps stamps c.loop-list.stamps.len same c.loop-list.stamps.ok.0 in
+          let stamped = w.next_stamp.new.stamps.items in
+          let same : length w.push_list.new.stamps ≡ length stamped = w.push_list.auto.stamps ∙ ap length w.deref_mut.ensures.value in
+          let whole = take_whole w.push_list.new.stamps stamped w.next_stamp.new.stamps.len same w.next_stamp.new.stamps.ok.0 in
           let reads = subst (ReadsList ids numbers c.loop-list.room w.push_list.new.room list c.begin.new.self w.push_list.new.lists) w.if-not-branch.false w.in_ok-push_list.ensures.reads in
-          let long = one_more (stands_once ids) length (numbers_by ids numbers) all c.args.room.now c.loop-list.room c.loop-list.read left inv.lists list rest is
-          w.push_list.new.room c.begin.new.self w.push_list.new.lists c.in_ok-begin.ensures.ok reads in
-          rw (w.room-is, w.read-is, w.stamps-is, whole)
+          rw (w.room-is, w.read-is, w.stamps-is, w.stamp-is, whole)
           (record {
-            long = same ∙ inv.long;
-            stamped = λ i l. omega (arith, w.push_list.ensures.stamps i l, long, ap length c.in_ok-begin.ensures.ok, length-append c.loop-list.read ([] ∷ []));
+            long = same ∙ w.in_ok-stamp.ensures.len ∙ inv.long;
+            stamped = w.push_list.ensures.stamps;
             lists = read_one (stands_once ids) length (numbers_by ids numbers) all c.args.room.now c.loop-list.room c.loop-list.read left inv.lists list rest is
                 w.push_list.new.room c.begin.new.self w.push_list.new.lists c.in_ok-begin.ensures.ok reads;
           })
       | in_default w ↦
           let is : left ≡ [] ∷ rest = grind (arith, common_steps) in
-          let long = one_more (stands_once ids) length (numbers_by ids numbers) all c.args.room.now c.loop-list.room c.loop-list.read left inv.lists [] rest is
-          c.loop-list.room c.begin.new.self c.begin.new.self c.in_ok-begin.ensures.ok (refl, omega arith, refl) in
-          rw (w.room-is, w.read-is, w.stamps-is)
+          rw (w.room-is, w.read-is, w.stamps-is, w.stamp-is)
           (record {
             long = inv.long;
-            stamped = λ i l. omega (arith, inv.stamped i l, long);
+            stamped = inv.stamped;
             lists = read_one (stands_once ids) length (numbers_by ids numbers) all c.args.room.now c.loop-list.room c.loop-list.read left inv.lists [] rest is
                 c.loop-list.room c.begin.new.self c.begin.new.self c.in_ok-begin.ensures.ok (refl, omega arith, refl);
           })

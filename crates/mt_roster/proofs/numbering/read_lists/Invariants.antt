@@ -8,6 +8,6 @@ use Rattle.mt_roster.proofs.numbering.read_lists.Given as goal
 abbrev pub invariant-loop-list : goal.invariant-loop-list
 invariant-loop-list g l = record {
   long : length l.stamps.items ≡ length l.ids;
-  stamped : AreStampedBelow (length l.read + 1) l.stamps.items;
+  stamped : AreStampedBelow (l.stamp + 1) l.stamps.items;
   lists : AreReadTo (stands_once l.ids) length (numbers_by l.ids l.numbers) (lists_seen l.lists) l.fn.room l.room l.read (lists_seen (drop l.list-index l.lists));
 }
