@@ -8,6 +8,8 @@ mod reading;
 #[cfg(test)]
 mod registration;
 #[cfg(test)]
+mod seeds;
+#[cfg(test)]
 mod text;
 #[cfg(test)]
 mod writing;

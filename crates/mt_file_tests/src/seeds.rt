@@ -1,0 +1,24 @@
+//! Seeds of tables: nobody sees them, but what is hashed by them depends on all that a table will hold.
+use mt_ids::{Seed, add_field};
+use std::hash::{BuildHasher, DefaultHasher, Hasher};
+use std::test::Fail;
+
+// What a table of two ids makes of a number.
+fn hashed(first: &[u8], second: &[u8]) -> u64 {
+    let mut digest = DefaultHasher::new();
+    add_field(&mut digest, first);
+    add_field(&mut digest, second);
+    let mut hasher = Seed::of(&digest).build_hasher();
+    hasher.write_u64(1);
+    hasher.finish()
+}
+
+// The same ids give the same seed; other ones, or the same bytes parted otherwise, another.
+#[test]
+fn bytes_parted_otherwise_give_another_seed(rt: HostRuntime) -> Result<(), Fail> {
+    let seen = hashed(b"ab", b"c");
+    assert_eq!(&rt; seen, hashed(b"ab", b"c"));
+    assert!(&rt; seen != hashed(b"ab", b"d"));
+    assert!(&rt; seen != hashed(b"a", b"bc"));
+    Ok(())
+}
