@@ -2,7 +2,7 @@
 use Rattle.std.proofs.Common.{◌≡◌, ◌<◌, ◌+◌, ℕ, Bool, true, false, ◌&&◌, List, [], ◌∷◌, ◌++◌, length, map, get_or, Option, Some, None, refl, ap, sym, ◌∙◌, arith}
 use Rattle.std.specs.Prelude.{sum_by}
 use Rattle.std.specs.List.{list_all}
-use Rattle.std.proofs.lemmas.List.{get_or_default, append_assoc, append-nil, length-append}
+use Rattle.std.proofs.lemmas.List.{get_or_default, append_assoc, append-nil}
 use Rattle.std.proofs.lemmas.List.Sums.{sum_by-cons}
 use Rattle.mt_market.specs.FlatLists.{with_last}
 use Rattle.mt_terms.specs.Registration.Ids.{Bytes, number_of}
@@ -56,9 +56,6 @@ module _ {L X : Type 0} (stands : L → Bool) (count : L → ℕ) (read : L → 
     module _ (room' : ℕ) (begun new : List (List X)) (begins : begun ≡ lists ++ [] ∷ []) (reads : ReadsOne stands count read room room' list begun new true) where
       last : new ≡ lists ++ read list ∷ []
       last = reads.2 ∙ ap (λ (l : List (List X)). with_more l (read list)) begins ∙ with_more-begun lists (read list)
-
-      pub one_more : length new ≡ length lists + 1
-      one_more = omega (arith, ap length last, length-append lists (read list ∷ []))
 
       pub read_one : AreReadTo stands count read all most room' new rest
       read_one = record {
