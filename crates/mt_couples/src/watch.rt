@@ -34,45 +34,13 @@ fn no_ranks(alloc: Global, assignment: &Assignment<'_>) -> Result<Vec<RankSet>, 
     Ok(rows)
 }
 
-/// Counts a pair at the program of a place, if there is one.
-fn count_place(counts: &mut Vec<usize>, place: Option<ProgNo>) {
-    if let Some(program) = place {
-        if program.index() < counts.len() {
-            let count = &mut counts[program.index()];
-            *count = count.saturating_add(1);
-        }
-    }
-}
-
-/// Counts the pairs of a couple at each program that they name.
-fn count_pairs(assignment: &Assignment<'_>, couple: CoupleNo, counts: &mut Vec<usize>)
-    requires { couple < length assignment.now.market.couples }
-{
-    for pair in assignment.pairs(couple) {
-        count_place(counts, pair.0);
-        count_place(counts, pair.1);
-    }
-}
-
-/// How many pairs of all couples name each program.
-fn pair_counts(alloc: Global, assignment: &Assignment<'_>) -> Result<Vec<usize>, AllocError> {
-    let roster = assignment.roster();
-    let mut counts = Vec::from_elem(alloc, 0usize, roster.programs() as usize)?;
-    for number in 0..roster.couples() {
-        count_pairs(assignment, CoupleNo(number), &mut counts);
-    }
-    Ok(counts)
-}
-
-/// No couples for each program, with room for a note of each pair that names it.
+/// No couples for each program.
 fn no_couples(alloc: Global, assignment: &Assignment<'_>) -> Result<Vec<CoupleList>, AllocError>
     ensures { IfOk result (λ v. AreEmpty assignment.now.market v.items) }
 {
-    let counts = pair_counts(alloc, assignment)?;
-    let mut rows = Vec::with_capacity(alloc, counts.len())?;
-    for number in 0..assignment.roster().programs() {
-        let pairs = counts.get(number as usize).copied().unwrap_or(0);
-        rows.push(CoupleList::with_capacity(alloc, pairs)?)?;
+    let mut rows = Vec::new(alloc);
+    for _ in 0..assignment.roster().programs() {
+        rows.push(CoupleList::new(alloc))?;
     }
     Ok(rows)
 }

@@ -5,6 +5,9 @@ use mt_terms::CoupleNo;
 use std::alloc::{AllocError, Global};
 use std::marker::Model;
 
+/// For how many notes there is room with the first one.
+const FIRST_ROOM: usize = 32;
+
 /// That a program is named by pairs of a couple's list, which are counted from 0, as far as 16 bits count.
 #[derive(Clone, Copy)]
 pub struct Note {
@@ -47,14 +50,14 @@ impl Model for CoupleList {
 }
 
 impl CoupleList {
-    /// No notes, with room for so many. The error is want of memory.
-    pub fn with_capacity(alloc: Global, notes: usize) -> Result<Self, AllocError>
-        ensures { IfOk result (λ l. l ≡ []) }
+    /// No notes.
+    pub fn new(alloc: Global) -> Self
+        ensures { result ≡ [] }
     {
-        Ok(CoupleList {
-            notes: Vec::with_capacity(alloc, notes)?,
+        CoupleList {
+            notes: Vec::new(alloc),
             last: None,
-        })
+        }
     }
 
     /// Has the last note go on to the couple's pair at an index, where it is of an earlier pair of that couple. The
@@ -79,6 +82,9 @@ impl CoupleList {
     {
         if self.last == Some(couple) && self.extend(couple, from) {
             return Ok(());
+        }
+        if self.notes.is_empty() {
+            self.notes.reserve(FIRST_ROOM)?;
         }
         self.last = Some(couple);
         self.notes.push(Note {
