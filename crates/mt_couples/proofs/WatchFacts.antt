@@ -87,6 +87,11 @@ drop_past [] (suc n) h = refl
 drop_past (x ∷ xs) zero h = absurd (omega arith)
 drop_past (x ∷ xs) (suc n) h = drop_past xs n (omega arith)
 
+-- nothing passes, so nothing is cut off
+pub until_never : {X : Type 0} (test : X → Bool) (xs : List X) → ((x : X) → test x ≡ false) → until test xs ≡ xs
+until_never test [] never = refl
+until_never test (x ∷ xs) never = rw (never x) (ap (λ ys. x ∷ ys) (until_never test xs never))
+
 -- none did
 pub going_all : {X : Type 0} (test : X → Bool) (xs : List X) (i : ℕ) → length xs ≤ i → take i xs ++ until test (drop i xs) ≡ until test xs → xs ≡ until test xs
 going_all {X} test xs i past so_far =

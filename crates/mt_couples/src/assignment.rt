@@ -190,9 +190,11 @@ impl<'a> Assignment<'a> {
         ensures assigned { IsAssigned self.now }
     {
         let live = self.ranks.live(single);
-        let place = self.place(single);
+        let Some(place) = self.place(single) else {
+            return (live, &[]);
+        };
         for (end, entry) in live.iter().enumerate() {
-            if place == Some(entry.program) {
+            if place == entry.program {
                 return live.split_at(end);
             }
         }

@@ -1,14 +1,13 @@
-use Rattle.std.proofs.Common.{◌≡◌, ◌∙◌, ℕ, List, drop, length, ap, sym, refl, arith}
+use Rattle.std.proofs.Common.{◌≡◌, ◌∙◌, ℕ, Bool, false, List, Option, Some, None, ◌==◌, drop, length, ap, sym, refl, arith}
 use Rattle.mt_terms.specs.Lists.{until}
 use Rattle.mt_terms.specs.Market.{Market, applicants, live_market}
-use Rattle.mt_terms.specs.Matching.{at}
+use Rattle.mt_terms.specs.Matching.{at, is_program, place_of, Places}
 use Rattle.mt_ranks.specs.declared.entries.Live.{Live}
 use Rattle.mt_ranks.specs.Ranked.{Ranked, ranked_list, ranked_of}
 use Rattle.mt_couples.specs.Assigned.{Assigned}
 use Rattle.mt_couples.specs.Watching.{better_entries}
-use Rattle.mt_placed.proofs.PlaceFacts.{at_read}
 use Rattle.mt_couples.proofs.MarketFacts.{ranked_applicants}
-use Rattle.mt_couples.proofs.WatchFacts.{drop_past, going_all, going_more, going_stops}
+use Rattle.mt_couples.proofs.WatchFacts.{drop_past, going_all, going_more, going_stops, until_never}
 use Rattle.mt_couples.proofs.assignment.Assignment.live_parts.Goals as goal
 
 pub live-live-requires : goal.live-live-requires
@@ -20,13 +19,17 @@ seen : (r : Ranked) (m : Market) (t s : Assigned) (a : ℕ) (live : List Live) �
 seen r m t s a live read one inside is =
     read ∙ ap (λ (x : Ranked). ranked_list x.market a) one ∙ ap (λ (n : Market). ranked_list (live_market n) a) (sym inside) ∙ ap (λ (x : Assigned). ranked_list (live_market x.market) a) is
 
+-- whether an applicant is at a program, where its place was read
+at_place : (places : Places) (p a q : ℕ) (place : Option ℕ) (b : Bool) → place ≡ place_of places a → place ≡ Some q → b ≡ (q == p) → at places p a ≡ b
+at_place places p a q place b read is told = ap (is_program p) (sym read ∙ is) ∙ sym told
+
 pub returns-then-eq-clause-better : goal.returns-then-eq-clause-better
 returns-then-eq-clause-better c =
     let s = c.args.self.now in
     let a = c.args.single in
     let test = λ (e : Live). at s.places e.program a in
     let e = c.index-live-end.result in
-    let passes = at_read s.places e.program a c.place-place.result c.eq.result c.place-place.ensures c.eq.ensures ∙ c.if-eq.true in
+    let passes = at_place s.places e.program a c.in-Some.place c.place.result c.eq.result c.place.ensures c.in-Some.is c.eq.ensures ∙ c.if-eq.true in
     c.split_at.ensures.front ∙ going_stops test c.live-live.result.now c.loop-end.end e c.loop-end-test.true c.index-live-end.is c.loop-end.invariant passes
     ∙ ap (until test) (seen c.self.inside.ranks.now c.self.inside.roster.now.market _ s a c.live-live.result.now c.live-live.ensures.list c.self.invariant.one_market refl c.self.view_is)
 
@@ -64,5 +67,26 @@ loop-end-preserved c =
     let a = c.args.single in
     let test = λ (e : Live). at s.places e.program a in
     let e = c.index-live-end.result in
-    let fails = at_read s.places e.program a c.place-place.result c.eq.result c.place-place.ensures c.eq.ensures ∙ c.if-eq.false in
+    let fails = at_place s.places e.program a c.in-Some.place c.place.result c.eq.result c.place.ensures c.in-Some.is c.eq.ensures ∙ c.if-eq.false in
     going_more test c.live-live.result.now c.loop-end.end e c.loop-end-test.true c.index-live-end.is c.loop-end.invariant fails
+
+-- whoever has nothing wants all that it lists
+pub returns-in_default-clause-better : goal.returns-in_default-clause-better
+returns-in_default-clause-better c =
+    let s = c.args.self.now in
+    let a = c.args.single in
+    let test = λ (e : Live). at s.places e.program a in
+    let nowhere : (e : Live) → test e ≡ false = λ e. ap (is_program e.program) (sym c.place.ensures ∙ c.in_default.is) in
+    let live : c.live-live.result.now ≡ ranked_list (live_market s.market) a =
+    seen c.self.inside.ranks.now c.self.inside.roster.now.market _ s a c.live-live.result.now c.live-live.ensures.list c.self.invariant.one_market refl c.self.view_is in
+    live ∙ sym (until_never test (ranked_list (live_market s.market) a) nowhere)
+
+pub returns-in_default-clause-others : goal.returns-in_default-clause-others
+returns-in_default-clause-others c =
+    let s = c.args.self.now in
+    let a = c.args.single in
+    let all = ranked_list (live_market s.market) a in
+    let live : c.live-live.result.now ≡ all =
+    seen c.self.inside.ranks.now c.self.inside.roster.now.market _ s a c.live-live.result.now c.live-live.ensures.list c.self.invariant.one_market refl c.self.view_is in
+    let many : length all ≡ length (better_entries s a) = ap length (sym live ∙ returns-in_default-clause-better c) in
+    sym (drop_past all (length (better_entries s a)) (omega (arith, many)))
