@@ -14,6 +14,7 @@ mod whole;
 
 pub use checked::Checked;
 pub use finding::Finding;
-pub use refusal::{RefusalLine, refused};
+pub use mt_report::RefusalLine;
+pub use refusal::refused;
 pub use source::Source;
 pub use whole::check;

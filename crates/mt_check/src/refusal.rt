@@ -1,57 +1,12 @@
-ghost use Rattle.std.specs.Prelude.{◌≡◌, ◌+◌, ◌≤◌, ◌++◌, [], length, IsTrue};
-ghost use Rattle.mt_terms.specs.Text.{id_text, name_among};
+ghost use Rattle.std.specs.Prelude.{◌≡◌, ◌≤◌, length, IsTrue};
+ghost use Rattle.mt_terms.specs.Text.{name_among};
 ghost use Rattle.mt_check.specs.Text.{is_code_of, refusals, refused_line, source_word};
 
 use crate::source::Source;
 use itoa::Buffer;
 use mt_match::codes as of_match;
+use mt_report::{RefusalLine, id_or_dash};
 use mt_terms::codes;
-use std::marker::Model;
-
-/// The line of a refusal, without memory of its own.
-#[derive(Debug, Drop)]
-pub struct RefusalLine {
-    bytes: [u8; 160],
-    len: usize,
-}
-
-impl Model for RefusalLine {
-    ghost use Rattle.std.specs.Prelude.{ℕ, List, take, ◌≤◌};
-
-    ghost Value = { List ℕ };
-
-    ghost view = { λ l. take l.len l.bytes };
-
-    ghost invariant = { λ l. l.len ≤ 160 };
-}
-
-impl RefusalLine {
-    /// The bytes of the line, its line feed included.
-    pub fn as_bytes(&self) -> &[u8]
-        ensures { result.now ≡ self.now }
-    {
-        &self.bytes[..self.len]
-    }
-
-    fn new() -> Self
-        ensures { result ≡ [] }
-    {
-        RefusalLine {
-            bytes: [0; 160],
-            len: 0,
-        }
-    }
-
-    /// Adds bytes at the end.
-    fn push(&mut self, text: &[u8])
-        requires { length self.old + length text.now ≤ 160 }
-        ensures { self.new ≡ self.old ++ text.now }
-    {
-        let end = self.len + text.len();
-        self.bytes[self.len..end].copy_from_slice(text);
-        self.len = end;
-    }
-}
 
 /// The name of a refusal's code.
 fn code_name(source: Source, code: u16) -> &'static [u8]
@@ -94,14 +49,6 @@ fn source_word(source: Source) -> &'static [u8]
         Source::Market => b"market",
         Source::Match => b"match",
     }
-}
-
-/// An id, or `-` where it is absent.
-fn id_or_dash(id: &[u8]) -> &[u8]
-    ensures text { result.now ≡ id_text id.now }
-    ensures short { length id.now ≤ 64 → length result.now ≤ 64 }
-{
-    if id.is_empty() { b"-" } else { id }
 }
 
 /// The one line of a refusal: its code and name, the file, the number of the record at fault there, 0 where there is

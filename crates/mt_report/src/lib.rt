@@ -1,12 +1,14 @@
 //! The text of a match, the line of a refusal, and how either is written.
 #![tactic(auto)]
 
+mod counts;
 mod drain;
 mod refusal;
 mod text;
 mod writing;
 
+pub use counts::{filled_counts, filled_total, position_count, unmatched_count};
 pub use drain::Drain;
-pub use refusal::{RefusalLine, refused};
+pub use refusal::{RefusalLine, id_or_dash, refused};
 pub use text::published;
 pub use writing::{Wrote, put_all};

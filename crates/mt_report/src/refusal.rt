@@ -5,10 +5,10 @@ use itoa::Buffer;
 use mt_terms::codes;
 use std::marker::Model;
 
-/// The line of a refusal, without memory of its own.
+/// The line of a refusal, of at most 160 bytes, without memory of its own.
 #[derive(Debug, Drop)]
 pub struct RefusalLine {
-    bytes: [u8; 128],
+    bytes: [u8; 160],
     len: usize,
 }
 
@@ -19,7 +19,7 @@ impl Model for RefusalLine {
 
     ghost view = { λ l. take l.len l.bytes };
 
-    ghost invariant = { λ l. l.len ≤ 128 };
+    ghost invariant = { λ l. l.len ≤ 160 };
 }
 
 impl RefusalLine {
@@ -30,18 +30,19 @@ impl RefusalLine {
         &self.bytes[..self.len]
     }
 
-    fn new() -> Self
+    /// A line with nothing on it.
+    pub fn new() -> Self
         ensures { result ≡ [] }
     {
         RefusalLine {
-            bytes: [0; 128],
+            bytes: [0; 160],
             len: 0,
         }
     }
 
-    /// Adds bytes at the end.
-    fn push(&mut self, text: &[u8])
-        requires { length self.old + length text.now ≤ 128 }
+    /// Adds bytes at the end, for which there is room.
+    pub fn push(&mut self, text: &[u8])
+        requires { length self.old + length text.now ≤ 160 }
         ensures { self.new ≡ self.old ++ text.now }
     {
         let end = self.len + text.len();
@@ -78,7 +79,7 @@ fn code_name(code: u16) -> &'static [u8]
 }
 
 /// An id, or `-` where it is absent.
-fn id_or_dash(id: &[u8]) -> &[u8]
+pub fn id_or_dash(id: &[u8]) -> &[u8]
     ensures text { result.now ≡ id_text id.now }
     ensures short { length id.now ≤ 64 → length result.now ≤ 64 }
 {

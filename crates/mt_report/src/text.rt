@@ -1,11 +1,9 @@
-ghost use Rattle.std.specs.Prelude.{◌≡◌, ℕ, ◌+◌, ◌*◌, ◌<◌, ◌≤◌, ◌^◌, ◌++◌, [], ◌∷◌, map, length, codes, decimal, None, slice_index, IfOk, IsTrue, OnOk};
-ghost use Rattle.std.specs.List.{flat_map};
-ghost use Rattle.mt_terms.specs.Lists.{below, total_below};
-ghost use Rattle.mt_terms.specs.Market.{applicants, program_of};
-ghost use Rattle.mt_terms.specs.Matching.{at, filled, filled_counts, place_of};
-ghost use Rattle.mt_terms.specs.Text.{applicant_lines, counts_line, place_line, place_text, positions, program_lines, published as published_text, sums_line, totals_line, unmatched};
+ghost use Rattle.std.specs.Prelude.{◌≡◌, ◌+◌, ◌*◌, ◌<◌, ◌++◌, length, codes, decimal, None, IfOk, OnOk};
+ghost use Rattle.mt_terms.specs.Matching.{filled_counts, place_of};
+ghost use Rattle.mt_terms.specs.Text.{applicant_lines, counts_line, place_line, place_text, program_lines, published as published_text, sums_line, totals_line};
 ghost use Rattle.mt_terms.specs.Places.{ArePlaces};
 
+use crate::counts::{filled_counts, filled_total, position_count, unmatched_count};
 use itoa::Buffer;
 use mt_market::Roster;
 use mt_terms::{AppNo, Match, ProgNo};
@@ -102,62 +100,6 @@ fn push_programs(
         )?;
     }
     Ok(())
-}
-
-/// How many applicants are placed at each program.
-fn filled_counts(
-    alloc: Global,
-    programs: usize,
-    places: &[Option<ProgNo>],
-) -> Result<Vec<u32>, AllocError>
-    requires within { (a p : ℕ) → IsTrue (at places.now p a) → p < programs }
-    requires few { length places.now < 2 ^ 32 }
-    ensures { IfOk result (λ v. v.items ≡ map (filled places.now) (below programs)) }
-{
-    let mut counts = vec![in alloc; 0u32; programs]?;
-    for place in places {
-        if let Some(program) = place {
-            counts[program.index()] += 1;
-        }
-    }
-    Ok(counts)
-}
-
-/// How many applicants have no place.
-fn unmatched_count(places: &[Option<ProgNo>]) -> u32
-    requires { length places.now < 2 ^ 32 }
-    ensures { result ≡ unmatched places.now }
-{
-    let mut count = 0;
-    for place in places {
-        if place.is_none() {
-            count += 1;
-        }
-    }
-    count
-}
-
-/// How many posts there are.
-fn position_count(roster: &Roster) -> u64
-    ensures { result ≡ positions roster.now.market }
-{
-    let mut count = 0;
-    for number in 0..roster.programs() {
-        count += u64::from(roster.quota(ProgNo(number)));
-    }
-    count
-}
-
-/// The sum of the programs' counts.
-fn filled_total(counts: &[u32]) -> u64
-    requires { length counts.now < 2 ^ 32 }
-    ensures { result ≡ total_below (slice_index counts.now) (length counts.now) }
-{
-    let mut total = 0;
-    for count in counts {
-        total += u64::from(*count);
-    }
-    total
 }
 
 /// Adds the line of these totals.

@@ -5,8 +5,8 @@ use Rattle.std.proofs.lemmas.List.{get_or_read_under, length-set, take_all}
 use Rattle.mt_terms.specs.Matching.{at, is_program, filled}
 use Rattle.mt_terms.proofs.ListFacts.{count-le-length}
 use Rattle.mt_report.proofs.CountFacts.{read_place, AreCounts-placed, AreCounts-unplaced, counts_of_all}
-use Rattle.mt_report.proofs.text.filled_counts.Goals as goal
-use Rattle.mt_report.proofs.text.filled_counts.Goals.{in-Some, in_default}
+use Rattle.mt_report.proofs.counts.filled_counts.Goals as goal
+use Rattle.mt_report.proofs.counts.filled_counts.Goals.{in-Some, in_default}
 
 pub index_mut-requires : goal.index_mut-requires
 index_mut-requires c =

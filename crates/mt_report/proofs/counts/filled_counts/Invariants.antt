@@ -1,6 +1,6 @@
 use Rattle.std.proofs.Common.{◌≡◌, ℕ, ◌<◌, get_or, take, length}
 use Rattle.mt_terms.specs.Matching.{filled}
-use Rattle.mt_report.proofs.text.filled_counts.Given as goal
+use Rattle.mt_report.proofs.counts.filled_counts.Given as goal
 
 -- each program's count over the places so far
 abbrev pub invariant-loop-place : goal.invariant-loop-place

@@ -1,7 +1,7 @@
 use Rattle.std.proofs.Common.{◌≡◌, ◌≤◌, ◌*◌, ◌^◌}
 use Rattle.std.specs.Prelude.{slice_index}
 use Rattle.mt_terms.specs.Lists.{total_below}
-use Rattle.mt_report.proofs.text.filled_total.Given as goal
+use Rattle.mt_report.proofs.counts.filled_total.Given as goal
 
 abbrev pub invariant-loop-count : goal.invariant-loop-count
 invariant-loop-count l = record {

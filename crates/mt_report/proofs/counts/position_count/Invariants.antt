@@ -1,7 +1,7 @@
 use Rattle.std.proofs.Common.{◌≡◌, ◌≤◌, ◌*◌, ◌^◌}
 use Rattle.mt_terms.specs.Lists.{total_below}
 use Rattle.mt_terms.specs.Market.{Program, program_of}
-use Rattle.mt_report.proofs.text.position_count.Given as goal
+use Rattle.mt_report.proofs.counts.position_count.Given as goal
 
 abbrev pub invariant-loop-number : goal.invariant-loop-number
 invariant-loop-number l = record {

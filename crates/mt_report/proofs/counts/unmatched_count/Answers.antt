@@ -2,8 +2,8 @@ use Rattle.std.proofs.Common.{◌≡◌, ◌∙◌, None, not, arith, ap, sym, g
 use Rattle.mt_terms.specs.Text.{unmatched}
 use Rattle.std.specs.Prelude.{is_some, if◌then◌else◌}
 use Rattle.mt_report.proofs.CountFacts.{read_place, unmatched_more, unmatched-le}
-use Rattle.mt_report.proofs.text.unmatched_count.Goals as goal
-use Rattle.mt_report.proofs.text.unmatched_count.Goals.{then-is_none, else-is_none}
+use Rattle.mt_report.proofs.counts.unmatched_count.Goals as goal
+use Rattle.mt_report.proofs.counts.unmatched_count.Goals.{then-is_none, else-is_none}
 
 pub overflow_add-count : goal.overflow_add-count
 overflow_add-count c = omega (arith, c.loop-place.invariant, unmatched-le c.args.places.now c.loop-place.place-index, c.requires)
