@@ -1,1 +1,2 @@
 pub mod FieldFacts
+pub mod KindFacts

@@ -1,3 +1,5 @@
 pub mod Fields
 pub mod Records
 pub mod Refusals
+pub mod Kinds
+pub mod Limits

@@ -1,12 +1,16 @@
-//! One record taken apart by itself, by the rules of its version, or its first fault.
+//! One record taken apart by itself, by the rules of its version, or its first fault; and ids of each kind.
 #![tactic(auto)]
 
 mod fields;
+mod kinds;
+mod limits;
 mod record;
 mod refusal;
 mod rules;
 
 pub use fields::Pairs;
+pub use kinds::Kinds;
+pub use limits::are_over;
 pub use record::{
     Charge, Kind, Record, kind_of, names_are_ids, record_of, withdraw_record, withdraws,
 };

@@ -12,8 +12,8 @@ use Rattle.mt_terms.specs.Market.{Registered}
 use Rattle.mt_terms.specs.declared.codes.TheConstants.{NO_VERSION}
 use Rattle.mt_file_laws.specs.Faultless.{faultless_market}
 use Rattle.mt_file_laws.proofs.FaultlessFacts.{accepts, accepted}
-use Rattle.mt_roster.specs.Registers.{AreBounded}
-use Rattle.mt_roster.specs.Drafts.{with_fields}
+use Rattle.mt_records.specs.Limits.{AreBounded}
+use Rattle.mt_numbering.specs.Drafts.{with_fields}
 
 -- rows by their numbers, of which the first has no field, and of which it has one
 pub skip_empty : (n : ℕ) (row : List Bytes) (rows : List (List Bytes)) → length row ≡ 0 → numbered_from n (row ∷ rows) ≡ numbered_from (n + 1) rows

@@ -1,12 +1,2 @@
-pub mod Drafts
-pub mod Numbered
-pub mod Entries
-pub mod Registered
-pub mod Registers
-pub mod Withdrawals
-pub mod Reading
-pub mod Blocks
-pub mod Markets
-pub mod Passes
 pub mod Faults
 pub mod Read

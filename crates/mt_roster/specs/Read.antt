@@ -9,10 +9,10 @@ use Rattle.mt_terms.specs.Registration.Passes.{numbered_from}
 use Rattle.mt_records.specs.declared.refusal.Refusal.{Refusal}
 use Rattle.mt_lists.specs.Rows.{rows_left}
 use Rattle.mt_roster.specs.declared.reading.Body.{Body}
-use Rattle.mt_roster.specs.Drafts.{with_fields}
-use Rattle.mt_roster.specs.Markets.{AcceptsRegistrations}
+use Rattle.mt_numbering.specs.Drafts.{with_fields}
+use Rattle.mt_numbering.specs.Markets.{AcceptsRegistrations}
 use Rattle.mt_records.specs.Refusals.{Refuses}
-use Rattle.mt_roster.specs.Registers.{AreBounded}
+use Rattle.mt_records.specs.Limits.{AreBounded}
 
 -- a value as itself
 abbrev pub same : {X : Type 0} → X → X

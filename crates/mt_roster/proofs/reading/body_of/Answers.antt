@@ -1,10 +1,10 @@
 use Rattle.std.proofs.Common.{◌≡◌, ◌+◌, length, ap, sym, arith, ◌∙◌, Some}
+use Rattle.std.proofs.lemmas.Bool.{eqb-false}
 use Rattle.mt_lists.specs.Rows.{rows_left}
 use Rattle.mt_terms.specs.Registration.{market_of, market_of_numbered, market_under}
 use Rattle.mt_terms.specs.Registration.Passes.{numbered_from}
 use Rattle.mt_terms.specs.Registration.Records.{rules_of}
 use Rattle.mt_file_laws.proofs.PassFacts.{accepted_is_registration_lem}
-use Rattle.mt_roster.proofs.PassFacts.{is_positive}
 use Rattle.mt_roster.proofs.ReadFacts.{bounded, market_at, market_is}
 use Rattle.mt_roster.proofs.reading.body_of.Goals as goal
 
@@ -15,7 +15,7 @@ market c =
     c.loop-row.invariant.market
     ∙ ap (λ rows. market_of_numbered (numbered_from (c.loop-row.number + 1) rows)) c.in-Some.ensures.steps
     ∙ market_at (c.loop-row.number + 1) c.in-Some.row (rows_left c.next.new.self) c.in-Some-rules_of.rules
-    (is_positive (length c.in-Some.row) (sym c.is_empty.ensures ∙ c.if-not-is_empty.true)) named
+    (eqb-false (length c.in-Some.row) 0 (sym c.is_empty.ensures ∙ c.if-not-is_empty.true)) named
 
 pub returns-in-Some-rules_of : goal.returns-in-Some-rules_of
 returns-in-Some-rules_of c =

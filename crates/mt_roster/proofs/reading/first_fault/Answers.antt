@@ -3,7 +3,7 @@ use Rattle.std.specs.Prelude.{option_map}
 use Rattle.mt_lists.specs.Rows.{rows_left}
 use Rattle.mt_terms.specs.Registration.Numbering.{registered}
 use Rattle.mt_records.specs.Refusals.{fault_seen}
-use Rattle.mt_roster.specs.Registers.{contents_seen, records_seen}
+use Rattle.mt_passes.specs.Registers.{contents_seen, records_seen}
 use Rattle.mt_roster.proofs.ReadFacts.{market_by, no_market}
 use Rattle.mt_roster.proofs.reading.first_fault.Goals as goal
 

@@ -1,0 +1,90 @@
+-- What the reading of lists gives, of which each entry is looked up among all ids, and gets the new number of the id that
+-- it is, if that has one.
+use Rattle.std.specs.Prelude.{◌≡◌, ℕ, ◌+◌, ◌*◌, ◌<◌, ◌&&◌, Bool, true, false, List, length, map, sum_by, slice_index_or, filter_map, Option, Some, None, is_some, unwrap_or}
+use Rattle.std.specs.List.{list_all}
+use Rattle.mt_file_laws.specs.Faultless.{stands_once, ranking_stands, list_stands, pair_stands, pairs_stand}
+use Rattle.mt_file_laws.specs.Staying.{new_pair}
+use Rattle.mt_terms.specs.Market.{Pair}
+use Rattle.mt_terms.specs.Registration.Ids.{Bytes, has_id, number_of, all_differ}
+use Rattle.mt_terms.specs.Registration.Records.{Record, CoupleRecord, IdPair}
+use Rattle.mt_terms.specs.Registration.Rows.{entry_count}
+use Rattle.mt_terms.specs.Registration.Passes.{is_same_pair}
+use Rattle.mt_terms.specs.Registration.Numbering.{pair_by_number}
+use Rattle.mt_numbering.specs.declared.numbering.Entries.{Entries}
+use Rattle.mt_numbering.specs.declared.numbering.Numbers.{Numbers}
+use Rattle.mt_numbering.specs.declared.registered.Registered.{Registered}
+use Rattle.mt_numbering.specs.Numbered.{with_more, program_lists, applicant_lists, couple_lists}
+
+-- the new number of an id, if it has one
+abbrev pub number_by : {X : Type 0} → List Bytes → List (Option X) → Bytes → Option X
+number_by ids numbers id = slice_index_or numbers (number_of ids id) None
+
+-- the new numbers of a list's ids, of those that have one
+abbrev pub numbers_by : {X : Type 0} → List Bytes → List (Option X) → List Bytes → List X
+numbers_by ids numbers list = filter_map (number_by ids numbers) list
+
+-- the pairs of a list by new numbers, of those whose programs have one
+abbrev pub pairs_by : List Bytes → List (Option ℕ) → List IdPair → List Pair
+pairs_by ids numbers list = filter_map (λ p. new_pair numbers (pair_by_number ids p)) list
+
+-- Each stamp is less than this.
+abbrev pub AreStampedBelow : ℕ → List ℕ → Type 0
+AreStampedBelow n stamps = (i : ℕ) → i < length stamps → slice_index_or stamps i 0 < n
+
+-- whether a list of pairs has none but those that are allowed and name none but these programs, and none of them twice
+abbrev pub pairs_once : Bool → List Bytes → List IdPair → Bool
+pairs_once half_pairs ids pairs = list_all (pair_stands half_pairs ids) pairs && all_differ is_same_pair pairs
+
+-- how many entries a list of pairs has: a pair is two
+abbrev pub pair_entries : List IdPair → ℕ
+pair_entries pairs = 2 * length pairs
+
+-- After a list was read, where it stands and there was room for its entries; or it doesn't stand, or there wasn't room.
+abbrev pub ReadsOne : {L X : Type 0} → (L → Bool) → (L → ℕ) → (L → List X) → ℕ → ℕ → L → List (List X) → List (List X) → Bool → Type 0
+ReadsOne stands count read room left list old new true =
+    (stands list ≡ true) × (left + count list ≡ room) × (new ≡ with_more old (read list))
+ReadsOne stands count read room left list old new false = stands list ≡ true → room < count list
+
+-- The same of all lists.
+abbrev pub ReadsAll : {L X : Type 0} → (L → Bool) → (L → ℕ) → (L → List X) → ℕ → ℕ → List L → Option (List (List X)) → Type 0
+ReadsAll stands count read room left lists (Some new) =
+    (list_all stands lists ≡ true) × (left + sum_by count lists ≡ room) × (new ≡ map read lists)
+ReadsAll stands count read room left lists None = list_all stands lists ≡ true → room < sum_by count lists
+
+-- Lists of ids, and lists of pairs, are read so.
+abbrev pub ReadsList : {X : Type 0} → List Bytes → List (Option X) → ℕ → ℕ → List Bytes → List (List X) → List (List X) → Bool → Type 0
+ReadsList ids numbers = ReadsOne (stands_once ids) length (numbers_by ids numbers)
+
+abbrev pub ReadsLists : {X : Type 0} → List Bytes → List (Option X) → ℕ → ℕ → List (List Bytes) → Option (List (List X)) → Type 0
+ReadsLists ids numbers = ReadsAll (stands_once ids) length (numbers_by ids numbers)
+
+abbrev pub ReadsPairs : Bool → List Bytes → List (Option ℕ) → ℕ → ℕ → List IdPair → List (List Pair) → List (List Pair) → Bool → Type 0
+ReadsPairs half_pairs ids numbers = ReadsOne (pairs_once half_pairs ids) pair_entries (pairs_by ids numbers)
+
+abbrev pub ReadsAllPairs : Bool → List Bytes → List (Option ℕ) → ℕ → ℕ → List (List IdPair) → Option (List (List Pair)) → Type 0
+ReadsAllPairs half_pairs ids numbers = ReadsAll (pairs_once half_pairs ids) pair_entries (pairs_by ids numbers)
+
+-- whether the lists of these records stand, by all programs and applicants
+abbrev pub lists_stand : Bool → List Bytes → List Bytes → List Record → Bool
+lists_stand half_pairs programs applicants rs =
+    list_all (ranking_stands applicants) rs && list_all (list_stands programs) rs && list_all (pairs_stand half_pairs programs) rs
+
+-- What the lists of these records say by new numbers.
+pub record AreRead (r : Registered) (n : Numbers) (rs : List Record) (e : Entries) : Type 0 where
+  pub rankings : e.rankings ≡ map (numbers_by r.applicants n.applicants.items) (program_lists rs)
+  pub lists : e.lists ≡ map (numbers_by r.programs n.programs.items) (applicant_lists rs)
+  pub pairs : e.pairs ≡ map (pairs_by r.programs n.programs.items) (couple_lists rs)
+
+abbrev pub ReadsEntries : Bool → Registered → Numbers → ℕ → ℕ → List Record → Option Entries → Type 0
+ReadsEntries half_pairs r n room left rs (Some e) =
+    (lists_stand half_pairs r.programs r.applicants rs ≡ true) × (left + entry_count rs ≡ room) × AreRead r n rs e
+ReadsEntries half_pairs r n room left rs None = lists_stand half_pairs r.programs r.applicants rs ≡ true → room < entry_count rs
+
+-- Each of these ids is registered, and has a new number.
+abbrev pub HaveNumbers : List Bytes → List (Option ℕ) → List Bytes → Type 0
+HaveNumbers ids numbers list = list_all (λ id. has_id ids id && is_some (number_by ids numbers id)) list ≡ true
+
+-- a couple's members by new numbers
+abbrev pub members_by : List Bytes → List (Option ℕ) → Record → Option (ℕ × ℕ)
+members_by ids numbers (CoupleRecord id a b pairs) = Some (unwrap_or (number_by ids numbers a) 0, unwrap_or (number_by ids numbers b) 0)
+members_by ids numbers _ = None

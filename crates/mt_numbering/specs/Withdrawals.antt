@@ -1,0 +1,17 @@
+-- What records withdraw, and who stays.
+use Rattle.std.specs.Prelude.{◌≡◌, Bool, true, List}
+use Rattle.mt_file_laws.specs.Faultless.{withdrawals_stand}
+use Rattle.mt_file_laws.specs.Staying.{stays_without}
+use Rattle.mt_terms.specs.Registration.Records.{Kind, Record}
+use Rattle.mt_terms.specs.Registration.Rows.{withdrawn}
+use Rattle.mt_records.specs.declared.kinds.Kinds.{Kinds}
+use Rattle.mt_records.specs.Kinds.{ids_in}
+
+-- whether a record stays where these ids are withdrawn
+abbrev pub stays_after : Kinds → Record → Bool
+stays_after w r = stays_without w.programs w.applicants w.couples r
+
+-- Each id that the records withdraw is registered, none is withdrawn twice, and they are these.
+pub record Stand (rs : List Record) (w : Kinds) : Type 0 where
+  pub stand : withdrawals_stand rs ≡ true
+  pub withdrawn : (kind : Kind) → ids_in w kind ≡ withdrawn kind rs

@@ -1,0 +1,5 @@
+pub mod RepeatFacts
+pub mod CountFacts
+pub mod RegisterFacts
+pub mod PassFacts
+pub mod UnknownFacts

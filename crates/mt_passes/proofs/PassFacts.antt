@@ -1,0 +1,82 @@
+-- What is known of a record that the first pass takes.
+use Rattle.std.proofs.Common.{◌≡◌, ℕ, ◌+◌, ◌≤◌, false, nat_lt, List, [], ◌∷◌, ◌++◌, length, refl, ap, sym, ◌∙◌, None, Result, Ok, Err, arith, subst}
+use Rattle.std.proofs.lemmas.Bool.Decides.{nat_tests}
+use Rattle.mt_file_laws.proofs.IdFacts.{neither}
+use Rattle.mt_file_laws.proofs.PassFacts.{kept_parts}
+use Rattle.mt_terms.specs.Registration.Ids.{Bytes}
+use Rattle.mt_records.specs.declared.refusal.Refusal.{Refusal}
+use Rattle.mt_records.specs.declared.refusal.Refusal.TheVariants as refusals
+use Rattle.mt_passes.specs.declared.register.Register.{Register}
+use Rattle.mt_records.specs.Limits.{AreBounded}
+use Rattle.mt_passes.specs.Registers.{withdraws_twice, AreFew, IsRegister}
+use Rattle.mt_passes.specs.Passes.{Reads, ReadsRow, GivesRegister}
+use Rattle.mt_records.specs.Refusals.{Refuses}
+use Rattle.mt_terms.specs.Registration.Faults.{Charge, Fault}
+use Rattle.mt_terms.specs.Registration.Records.{Rules, Record, ProgramRecord, ApplicantRecord, CoupleRecord, WithdrawRecord, OfProgram, OfCouple, record_of}
+use Rattle.mt_terms.specs.Registration.Rows.{ids_of, applicant_ids, entry_count}
+use Rattle.mt_terms.specs.Registration.Passes.{registered_before, says_twice, are_too_many, first_conflict, next_record, and_then, unless, at_record, numbered_from, Numbered}
+
+-- a record that doesn't first_conflict with those before it
+pub record IsAccepted (rules : Rules) (before : List Record) (r : Record) : Type 0 where
+  pub new : registered_before before r ≡ None
+  pub once : says_twice before r ≡ false
+  pub few : are_too_many rules.limits (before ++ r ∷ []) ≡ false
+
+pub is_accepted : (rules : Rules) (before : List Record) (row : List Bytes) (n : ℕ) (r : Record)
+    → at_record n (next_record rules before row) ≡ Ok r → IsAccepted rules before r
+is_accepted rules before row n r h = by (record_of rules row) h
+  where
+    beside : (q : Record) (o : Result Record Charge) → o ≡ unless (first_conflict rules before q) q → at_record n o ≡ Ok r → IsAccepted rules before r
+    beside q (Ok p) e k =
+        let s : p ≡ r = cc in
+        let t : (q ≡ r) × (registered_before before q ≡ None) × (says_twice before q ≡ false) × (are_too_many rules.limits (before ++ q ∷ []) ≡ false) = kept_parts _ _ _ _ _ q r (sym e ∙ ap Ok s) in
+        subst (λ (z : Record). IsAccepted rules before z) t.0 (record { new = t.1; once = t.2; few = t.3 })
+    beside q (Err c) e k = cc
+
+    by : (o : Result Record Charge) → at_record n (and_then o (λ q. unless (first_conflict rules before q) q)) ≡ Ok r → IsAccepted rules before r
+    by (Ok q) k = beside q _ refl k
+    by (Err c) k = cc
+
+not_above : (limit most n : ℕ) → limit ≤ most → nat_lt limit n ≡ false → n ≤ most
+not_above limit most n h k = grind (arith, nat_tests)
+
+-- what says nothing twice withdraws nothing twice
+pub once_said : (before : List Record) (r : Record) → says_twice before r ≡ false → withdraws_twice before r ≡ false
+once_said before (ProgramRecord id quota list) h = refl
+once_said before (ApplicantRecord id list) h = refl
+once_said before (CoupleRecord id a b pairs) h = refl
+once_said before (WithdrawRecord kind id) h = h
+
+-- the records with one with which they are not too many
+pub few_more : (rules : Rules) (before : List Record) (r : Record) → AreBounded rules.limits → are_too_many rules.limits (before ++ r ∷ []) ≡ false → AreFew (before ++ r ∷ [])
+few_more rules before r bound few =
+    let p = neither _ (nat_lt rules.limits.entries (entry_count (before ++ r ∷ []))) few in
+    let q = neither _ (nat_lt rules.limits.couples (length (ids_of OfCouple (before ++ r ∷ [])))) p.0 in
+    let t = neither (nat_lt rules.limits.applicants (length (applicant_ids (before ++ r ∷ [])))) (nat_lt rules.limits.programs (length (ids_of OfProgram (before ++ r ∷ [])))) q.0 in
+    record {
+      programs = not_above _ _ _ bound.programs t.1;
+      couples = not_above _ _ _ bound.couples q.1;
+      applicants = not_above _ _ _ bound.applicants t.0;
+      entries = not_above _ _ _ bound.entries p.1;
+    }
+
+-- a row is read, where it has a field
+pub reads_row : {Y : Type 0} (rules : Rules) (old new : Register) (n : ℕ) (row : List Bytes) (result : Result Y Refusal)
+    → (length row ≡ 0 → ⊥) → Reads rules old new (n, row) result → ReadsRow rules old new n row result
+reads_row rules old new n [] result some r = absurd (some refl)
+reads_row rules old new n (word ∷ fields) (Ok y) some r = (r.0, λ rest. r.1 (numbered_from (n + 1) rest))
+reads_row rules old new n (word ∷ fields) (Err (refusals.Fault f)) some r = λ rest. r (numbered_from (n + 1) rest)
+reads_row rules old new n (word ∷ fields) (Err refusals.Memory) some r = λ rest. tt
+
+-- and passed over, where it has none
+pub skips_row : {Y : Type 0} (rules : Rules) (old : Register) (n : ℕ) (row : List Bytes) (y : Y) → length row ≡ 0 → IsRegister old → ReadsRow rules old old n row (Ok y)
+skips_row rules old n [] y none r = (r, λ rest. refl)
+skips_row rules old n (word ∷ fields) y none r = absurd (omega (arith, none))
+
+-- the pass ends where a row is refused
+pub pass_ends : (e : Refusal) (here whole : Result (List (Numbered Record)) Fault) → Refuses e here → here ≡ whole → Refuses e whole
+pass_ends (refusals.Fault f) here whole r h = sym h ∙ r
+pass_ends refusals.Memory here whole r h = tt
+
+pub refused : (result : Result Register Refusal) (e : Refusal) (whole : Result (List (Numbered Record)) Fault) → result ≡ Err e → Refuses e whole → GivesRegister result whole
+refused result e whole h r = rw h r

@@ -1,0 +1,100 @@
+ghost use Rattle.std.specs.Prelude.{◌+◌, ◌<◌, ◌^◌, [], length};
+ghost use Rattle.mt_lists.specs.Rows.{fields_left, rows_left};
+ghost use Rattle.mt_terms.specs.Registration.Passes.{at_record, next_record, first_pass, numbered_from};
+ghost use Rattle.mt_records.specs.Records.{record_seen};
+ghost use Rattle.mt_records.specs.Refusals.{Gives};
+ghost use Rattle.mt_records.specs.Limits.{AreBounded};
+ghost use Rattle.mt_passes.specs.Registers.{contents_seen, IsRegister};
+ghost use Rattle.mt_passes.specs.Passes.{Reads, ReadsRow, GivesRegister};
+
+use crate::register::Register;
+use mt_ids::{Seed, add_fields};
+use mt_lists::{Fields, Row, RowsIter};
+use mt_records::{Record, Refusal, Rules, record_of};
+use std::alloc::Global;
+use std::hash::DefaultHasher;
+
+/// The record of a row that follows those of a register, or its first fault.
+fn next_record<'a>(
+    alloc: Global,
+    rules: &Rules,
+    register: &Register<'a>,
+    number: u64,
+    fields: Fields<'a>,
+) -> Result<Record<'a>, Refusal<'a>>
+    requires { IsRegister register.now }
+    ensures { Gives record_seen result (at_record number (next_record rules.now (contents_seen register.now) (fields_left fields.entry))) }
+{
+    let next = match record_of(rules, fields) {
+        Ok(next) => next,
+        Err(charge) => return Err(Refusal::Fault(charge.at(number))),
+    };
+    match register.first_conflict(alloc, rules, &next)? {
+        Some(charge) => Err(Refusal::Fault(charge.at(number))),
+        None => Ok(next),
+    }
+}
+
+/// Adds the record of a row to a register.
+fn read_fields<'a>(
+    alloc: Global,
+    rules: &Rules,
+    register: &mut Register<'a>,
+    number: u64,
+    fields: Fields<'a>,
+) -> Result<(), Refusal<'a>>
+    requires limits { AreBounded rules.now.limits }
+    requires register { IsRegister register.old }
+    ensures { Reads rules.now register.old register.new (number, fields_left fields.entry) result }
+{
+    let next = next_record(alloc, rules, register, number, fields)?;
+    register.push(number, next)?;
+    Ok(())
+}
+
+/// Adds the record of a row to a register, if the row has a field.
+fn read_row<'a>(
+    alloc: Global,
+    rules: &Rules,
+    register: &mut Register<'a>,
+    number: u64,
+    row: Row<'a>,
+) -> Result<(), Refusal<'a>>
+    requires limits { AreBounded rules.now.limits }
+    requires register { IsRegister register.old }
+    ensures { ReadsRow rules.now register.old register.new number row.entry result }
+{
+    if row.is_empty() {
+        return Ok(());
+    }
+    read_fields(alloc, rules, register, number, row.fields())
+}
+
+/// The seed of tables of what these rows register and withdraw.
+fn seed_of(rows: RowsIter<'_>) -> Seed {
+    let mut digest = DefaultHasher::new();
+    for row in rows {
+        add_fields(&mut digest, row.fields());
+    }
+    Seed::of(&digest)
+}
+
+/// The records of these rows, of which the first has this number, or their first fault.
+pub fn first_pass<'a>(
+    alloc: Global,
+    rules: &Rules,
+    rows: RowsIter<'a>,
+    first: u64,
+) -> Result<Register<'a>, Refusal<'a>>
+    requires limits { AreBounded rules.now.limits }
+    requires few { first + length (rows_left rows) < 2 ^ 64 }
+    ensures { GivesRegister result (first_pass rules.now [] (numbered_from first (rows_left rows.entry))) }
+{
+    let mut register = Register::new(alloc, seed_of(rows));
+    let mut number = first;
+    for row in rows {
+        read_row(alloc, rules, &mut register, number, row)?;
+        number += 1;
+    }
+    Ok(register)
+}

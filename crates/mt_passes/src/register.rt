@@ -1,0 +1,190 @@
+ghost use Rattle.std.specs.Prelude.{◌≡◌, ◌+◌, false, nat_lt, ◌++◌, [], ◌∷◌, option_map, None, OnOk, IfOk};
+ghost use Rattle.std.specs.Option.{option_copied};
+ghost use Rattle.mt_terms.specs.Registration.Passes.{first_in, registered_before, says_twice, are_too_many, first_conflict};
+ghost use Rattle.mt_records.specs.Records.{record_seen, charge_seen};
+ghost use Rattle.mt_passes.specs.Registers.{records_seen, contents_seen, withdraws_twice, AreFew, IsRegister, AddsRecord};
+
+use crate::repeats::{has_repeat, has_repeated_pair};
+use mt_ids::{IdTable, Seed};
+use mt_records::{Charge, Kind, Kinds, Record, Rules, are_over};
+use mt_terms::Limits;
+use mt_terms::codes::{DUPLICATE_ENTRY, DUPLICATE_ID, TOO_MANY};
+use std::alloc::{AllocError, Global};
+
+/// A record with its number in the file.
+#[derive(Debug, Drop)]
+pub(crate) struct Numbered<'a> {
+    pub(crate) row: u64,
+    pub(crate) record: Record<'a>,
+}
+
+/// The records that were read, with what they register and what they withdraw.
+#[derive(Drop)]
+pub struct Register<'a> {
+    pub(crate) records: Vec<Numbered<'a>>,
+    /// The own ids of the records.
+    pub(crate) registered: Kinds<'a>,
+    /// The applicants, members of couples included.
+    pub(crate) applicants: IdTable<'a>,
+    /// The ids of the rows that are withdrawn.
+    pub(crate) withdrawn: Kinds<'a>,
+    /// How many entries the lists have in all.
+    pub(crate) entries: u64,
+}
+
+impl<'a> Register<'a> {
+    /// No records. The tables of their ids will hash by this seed.
+    pub(crate) fn new(alloc: Global, seed: Seed) -> Self
+        ensures register { IsRegister result }
+        ensures records { records_seen result ≡ [] }
+    {
+        Register {
+            records: Vec::new(alloc),
+            registered: Kinds::new(alloc, seed),
+            applicants: IdTable::new(alloc, seed),
+            withdrawn: Kinds::new(alloc, seed),
+            entries: 0,
+        }
+    }
+
+    /// The first id of a record, in the order own, first member, second member, that is registered already.
+    pub(crate) fn registered_before(&self, record: &Record<'a>) -> Option<&'a [u8]>
+        requires { IsRegister self.now }
+        ensures { option_copied result ≡ registered_before (contents_seen self.now) (record_seen record.now) }
+    {
+        match record {
+            Record::Program { id, .. } => found(&self.registered.programs, id),
+            Record::Applicant { id, .. } => found(&self.applicants, id),
+            Record::Couple {
+                id,
+                first,
+                second,
+                ..
+            } => {
+                if self.registered.couples.contains(id) {
+                    Some(id)
+                } else if self.applicants.contains(first) {
+                    Some(first)
+                } else if second == first || self.applicants.contains(second) {
+                    Some(second)
+                } else {
+                    None
+                }
+            }
+            Record::Withdraw { .. } => None,
+        }
+    }
+
+    /// Whether an id or a pair stands twice in a record's list, or what it withdraws was withdrawn before.
+    fn says_twice(&self, alloc: Global, record: &Record<'a>) -> Result<bool, AllocError>
+        requires { IsRegister self.now }
+        ensures { IfOk result (λ twice. twice ≡ says_twice (contents_seen self.now) (record_seen record.now)) }
+    {
+        match record {
+            Record::Program { list, .. } => has_repeat(alloc, *list),
+            Record::Applicant { list, .. } => has_repeat(alloc, *list),
+            Record::Couple { pairs, .. } => has_repeated_pair(alloc, *pairs),
+            Record::Withdraw { kind, id } => Ok(self.withdrawn.of(*kind).contains(id)),
+        }
+    }
+
+    /// Whether the records with this one are more than a version takes.
+    pub(crate) fn are_too_many(&self, limits: &Limits, record: &Record<'a>) -> bool
+        requires { IsRegister self.now }
+        ensures { result ≡ are_too_many limits.now (contents_seen self.now ++ record_seen record.now ∷ []) }
+    {
+        let applicants = self.applicants.len() + record.applicant_count();
+        let programs = self.registered.programs.len() + record.program_count();
+        let couples = self.registered.couples.len() + record.couple_count();
+        are_over(limits, applicants, programs, couples)
+            || adds_too_many(limits, self.entries, record.entry_count())
+    }
+
+    /// The first fault of a record beside those before it.
+    pub(crate) fn first_conflict(
+        &self,
+        alloc: Global,
+        rules: &Rules,
+        record: &Record<'a>,
+    ) -> Result<Option<Charge<'a>>, AllocError>
+        requires { IsRegister self.now }
+        ensures { IfOk result (λ charge. option_map charge_seen charge ≡ first_conflict rules.now (contents_seen self.now) (record_seen record.now)) }
+    {
+        if let Some(id) = self.registered_before(record) {
+            return Ok(Some(Charge {
+                code: DUPLICATE_ID,
+                id,
+            }));
+        }
+        let id = record.id();
+        if self.says_twice(alloc, record)? {
+            return Ok(Some(Charge {
+                code: DUPLICATE_ENTRY,
+                id,
+            }));
+        }
+        if self.are_too_many(&rules.limits, record) {
+            return Ok(Some(Charge { code: TOO_MANY, id }));
+        }
+        Ok(None)
+    }
+}
+
+impl<'a> Register<'a> {
+    /// Adds what a record registers, or what it withdraws.
+    fn push_ids(&mut self, record: &Record<'a>) -> Result<(), AllocError>
+        requires register { IsRegister self.old }
+        requires new { registered_before (contents_seen self.old) (record_seen record.now) ≡ None }
+        requires once { withdraws_twice (contents_seen self.old) (record_seen record.now) ≡ false }
+        ensures { OnOk result (AddsRecord self.old self.new (record_seen record.now)) }
+    {
+        match record {
+            Record::Program { id, .. } => self.registered.push(Kind::Program, id)?,
+            Record::Applicant { id, .. } => {
+                self.registered.push(Kind::Applicant, id)?;
+                self.applicants.push(id)?;
+            }
+            Record::Couple {
+                id,
+                first,
+                second,
+                ..
+            } => {
+                self.registered.push(Kind::Couple, id)?;
+                self.applicants.push(first)?;
+                self.applicants.push(second)?;
+            }
+            Record::Withdraw { kind, id } => self.withdrawn.push(*kind, id)?,
+        }
+        Ok(())
+    }
+
+    /// Adds a record of which no id is registered, that withdraws nothing again, and with which there are not too many.
+    pub(crate) fn push(&mut self, row: u64, next: Record<'a>) -> Result<(), AllocError>
+        requires register { IsRegister self.old }
+        requires new { registered_before (contents_seen self.old) (record_seen next) ≡ None }
+        requires once { withdraws_twice (contents_seen self.old) (record_seen next) ≡ false }
+        requires few { AreFew (contents_seen self.old ++ record_seen next ∷ []) }
+        ensures register { OnOk result (IsRegister self.new) }
+        ensures records { OnOk result (records_seen self.new ≡ records_seen self.old ++ (row, record_seen next.entry) ∷ []) }
+    {
+        self.push_ids(&next)?;
+        self.entries += next.entry_count();
+        self.records.push(Numbered { row, record: next })?;
+        Ok(())
+    }
+}
+
+/// The id, if it is one of these.
+fn found<'a>(ids: &IdTable<'_>, id: &'a [u8]) -> Option<&'a [u8]>
+    ensures { option_copied result ≡ first_in ids.now (id.now ∷ []) }
+{
+    if ids.contains(id) { Some(id) } else { None }
+}
+
+/// Whether so many entries and these are more than the limits allow.
+pub(crate) fn adds_too_many(limits: &Limits, entries: u64, more: u64) -> bool
+    ensures { result ≡ nat_lt limits.now.entries (entries + more) }
+{
+    entries.saturating_add(more) > u64::from(limits.entries)
+}

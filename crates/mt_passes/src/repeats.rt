@@ -1,0 +1,88 @@
+ghost use Rattle.std.specs.Prelude.{◌≡◌, ◌++◌, [], ◌∷◌, not, bytes_eq, OnErr, IfOk, if◌then◌else◌};
+ghost use Rattle.std.specs.List.{list_any};
+ghost use Rattle.std.specs.Option.{option_copied};
+ghost use Rattle.mt_lists.specs.Rows.{fields_left};
+ghost use Rattle.mt_terms.specs.Registration.Ids.{all_differ};
+ghost use Rattle.mt_terms.specs.Registration.Passes.{is_same_pair};
+ghost use Rattle.mt_records.specs.Fields.{pairs_left};
+
+use indexmap::IndexSet;
+use mt_ids::{IdTable, Seed, add_field, add_fields};
+use mt_lists::Fields;
+use mt_records::Pairs;
+use std::alloc::{AllocError, Global};
+use std::hash::DefaultHasher;
+use std::marker::Model;
+
+/// Whether an id stands twice in a list.
+pub(crate) fn has_repeat(alloc: Global, list: Fields<'_>) -> Result<bool, AllocError>
+    ensures { IfOk result (λ repeats. repeats ≡ not (all_differ bytes_eq (fields_left list.entry))) }
+{
+    let mut digest = DefaultHasher::new();
+    add_fields(&mut digest, list);
+    let mut seen = IdTable::with_capacity(alloc, list.len(), Seed::of(&digest))?;
+    for id in list {
+        if !seen.add(id)? {
+            return Ok(true);
+        }
+    }
+    Ok(false)
+}
+
+/// Pairs in the order in which they came, each of them once.
+#[derive(Drop)]
+struct PairTable<'a> {
+    pairs: IndexSet<(Option<&'a [u8]>, Option<&'a [u8]>), Seed>,
+}
+
+impl<'a> Model for PairTable<'a> {
+    ghost use Rattle.std.specs.Prelude.{List, ℕ, Option, map};
+    ghost use Rattle.std.specs.Option.{option_copied};
+
+    ghost Value = { List (Option (List ℕ) × Option (List ℕ)) };
+
+    ghost view = { λ table. map (λ p. (option_copied p.0, option_copied p.1)) table.pairs.keys };
+}
+
+impl<'a> PairTable<'a> {
+    /// No pairs, with room for some.
+    fn with_capacity(alloc: Global, capacity: usize, seed: Seed) -> Result<Self, AllocError>
+        ensures { IfOk result (λ table. table ≡ []) }
+    {
+        Ok(PairTable {
+            pairs: IndexSet::with_capacity_and_hasher(alloc, capacity, seed)?,
+        })
+    }
+
+    /// Adds a pair at the end, and says that it did so, where it is none of them.
+    fn add(&mut self, pair: (Option<&'a [u8]>, Option<&'a [u8]>)) -> Result<bool, AllocError>
+        ensures added { IfOk result (λ added. added ≡ not (list_any (is_same_pair (option_copied pair.entry.0, option_copied pair.entry.1)) self.old)) }
+        ensures pairs { IfOk result (λ _. self.new ≡ (if list_any (is_same_pair (option_copied pair.entry.0, option_copied pair.entry.1)) self.old then self.old else self.old ++ (option_copied pair.entry.0, option_copied pair.entry.1) ∷ [])) }
+        ensures err { OnErr result (self.new ≡ self.old) }
+    {
+        Ok(self.pairs.insert(pair)?)
+    }
+}
+
+/// The seed of a table of these pairs.
+fn seed_of(pairs: Pairs<'_>) -> Seed {
+    let mut digest = DefaultHasher::new();
+    for (first, second) in pairs {
+        add_field(&mut digest, first.unwrap_or(b"-"));
+        add_field(&mut digest, second.unwrap_or(b"-"));
+    }
+    Seed::of(&digest)
+}
+
+/// Whether a pair stands twice in a couple's list.
+pub(crate) fn has_repeated_pair(alloc: Global, pairs: Pairs<'_>) -> Result<bool, AllocError>
+    ensures { IfOk result (λ repeats. repeats ≡ not (all_differ is_same_pair (pairs_left pairs.entry))) }
+{
+    let mut seen = PairTable::with_capacity(alloc, pairs.len(), seed_of(pairs))?;
+    for pair in pairs {
+        if !seen.add(pair)? {
+            return Ok(true);
+        }
+    }
+    Ok(false)
+}

@@ -1,0 +1,68 @@
+ghost use Rattle.std.specs.Prelude.{◌≡◌, option_map};
+ghost use Rattle.std.specs.Option.{option_copied};
+ghost use Rattle.mt_terms.specs.Registration.Faults.{charge};
+ghost use Rattle.mt_terms.specs.Registration.Passes.{second_pass, unknown_id};
+ghost use Rattle.mt_records.specs.Records.{charge_seen, record_seen};
+ghost use Rattle.mt_records.specs.Refusals.{fault_seen};
+ghost use Rattle.mt_passes.specs.Registers.{records_seen, contents_seen, IsRegister};
+
+use crate::register::Register;
+use crate::unknown::{first_unknown, first_unknown_of_pairs};
+use mt_records::{Charge, Fault, Record};
+use mt_terms::codes::{NOT_REGISTERED, UNKNOWN_APPLICANT, UNKNOWN_PROGRAM};
+
+/// A fault with this code at an id, if there is one.
+fn charge_of<'a>(code: u16, id: Option<&'a [u8]>) -> Option<Charge<'a>>
+    ensures { option_map charge_seen result ≡ option_map (charge code) (option_copied id.entry) }
+{
+    let id = id?;
+    Some(Charge { code, id })
+}
+
+impl<'a> Register<'a> {
+    /// The first id that a record names and that no record registers.
+    fn unknown_id(&self, record: &Record<'a>) -> Option<Charge<'a>>
+        requires { IsRegister self.now }
+        ensures { option_map charge_seen result ≡ unknown_id (contents_seen self.now) (record_seen record.now) }
+    {
+        match record {
+            Record::Program { list, .. } => {
+                charge_of(UNKNOWN_APPLICANT, first_unknown(&self.applicants, *list))
+            }
+            Record::Applicant { list, .. } => {
+                charge_of(
+                    UNKNOWN_PROGRAM,
+                    first_unknown(&self.registered.programs, *list),
+                )
+            }
+            Record::Couple { pairs, .. } => charge_of(
+                UNKNOWN_PROGRAM,
+                first_unknown_of_pairs(&self.registered.programs, *pairs),
+            ),
+            Record::Withdraw { kind, id } => {
+                if self.registered.of(*kind).contains(id) {
+                    None
+                } else {
+                    Some(Charge {
+                        code: NOT_REGISTERED,
+                        id,
+                    })
+                }
+            }
+        }
+    }
+
+    /// The first fault of the second pass: the first record that names an unknown id.
+    pub fn second_pass(&self) -> Option<Fault<'a>>
+        requires { IsRegister self.now }
+        ensures { option_map fault_seen result ≡ second_pass (records_seen self.now) }
+    {
+        for i in 0..self.records.len() {
+            let numbered = &self.records[i];
+            if let Some(charge) = self.unknown_id(&numbered.record) {
+                return Some(charge.at(numbered.row));
+            }
+        }
+        None
+    }
+}

@@ -1,0 +1,22 @@
+-- Ids of each kind.
+use Rattle.std.specs.Prelude.{◌≡◌, List, [], ◌∷◌, ◌++◌}
+use Rattle.mt_terms.specs.Registration.Ids.{Bytes}
+use Rattle.mt_terms.specs.Registration.Records as model
+use Rattle.mt_records.specs.declared.kinds.Kinds.{Kinds}
+
+-- the ids of a kind
+abbrev pub ids_in : Kinds → model.Kind → List Bytes
+ids_in k model.OfProgram = k.programs
+ids_in k model.OfApplicant = k.applicants
+ids_in k model.OfCouple = k.couples
+
+-- the ids of a kind that an id under a kind adds
+abbrev pub under : model.Kind → Bytes → model.Kind → List Bytes
+under model.OfProgram id model.OfProgram = id ∷ []
+under model.OfApplicant id model.OfApplicant = id ∷ []
+under model.OfCouple id model.OfCouple = id ∷ []
+under _ id _ = []
+
+-- Ids of each kind get one more, of a kind, at the end.
+abbrev pub AddsId : Kinds → Kinds → model.Kind → Bytes → Type 0
+AddsId old new kind id = (k : model.Kind) → ids_in new k ≡ ids_in old k ++ under kind id k

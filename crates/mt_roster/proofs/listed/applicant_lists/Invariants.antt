@@ -1,6 +1,0 @@
-use Rattle.std.proofs.Common.{◌≡◌, ◌++◌, drop}
-use Rattle.mt_roster.specs.Numbered.{all_seen, lists_seen, applicant_lists}
-use Rattle.mt_roster.proofs.listed.applicant_lists.Given as goal
-
-abbrev pub invariant-loop-one : goal.invariant-loop-one
-invariant-loop-one l = lists_seen l.lists.items ++ applicant_lists (all_seen (drop l.one-index l.records)) ≡ applicant_lists (all_seen l.records)
