@@ -1,10 +1,7 @@
--- What threads answer that ask at each number below one, and what they make for each.
-use Rattle.std.proofs.Common.{◌≡◌, ℕ, ◌<◌, ◌-◌, Bool, true, false, not, List, [], ◌∷◌, length, get_or, map, Option, is_some, refl, ap, ap₂, sym, subst, ◌∙◌, inl, inr, arith}
+-- What threads answer that ask at each number below one.
+use Rattle.std.proofs.Common.{◌≡◌, ℕ, ◌<◌, ◌-◌, Bool, true, false, not, List, [], ◌∷◌, length, get_or, Option, is_some, refl, ap, sym, subst, ◌∙◌, inl, inr, arith}
 use Rattle.std.specs.Borrow.{Bor}
-use Rattle.std.specs.Global.{Global}
-use Rattle.std.specs.List.{AllZip, Contains, find, list_all, range_with_len, slice_get}
-use Rattle.std.specs.Prelude.{Result, Ok, Err, IfOk, MatchResult, Vec}
-use Rattle.std.specs.declared.alloc.AllocError.{AllocError}
+use Rattle.std.specs.List.{AllZip, find, list_all, range_with_len, slice_get}
 use Rattle.std.proofs.lemmas.Bool.{cases_Bool}
 use Rattle.rayon.proofs.ToStd.{answers-by_ref, filter_by_mask-find, nat_range-All}
 use Rattle.rayon.specs.Lists.{filter_by_mask}
@@ -35,20 +32,3 @@ none_found_by_threads test pass opposite start end n xs answers r from to are ea
     is ∙ filter_by_mask-find test xs answers (answers-by_ref test xs answers each)
     ∙ ap (find test) (are ∙ ap (λ a. range_with_len a (end - start)) from ∙ ap (range_with_len 0) whole) in
     ap (λ o. not (is_some o)) found ∙ none_found test pass opposite (below n)
-
--- They make a list for each number below n.
-all_made : (f : ℕ → List ℕ) (ns : List ℕ) (xs : List (List ℕ)) → AllZip (λ k (r : Result (List ℕ) AllocError). IfOk r (λ x. x ≡ f k)) ns (map Ok xs) → xs ≡ map f ns
-all_made f [] [] made = refl
-all_made f [] (x ∷ xs) made = absurd made
-all_made f (n ∷ ns) [] made = absurd made
-all_made f (n ∷ ns) (x ∷ xs) made = ap₂ (λ y ys. y ∷ ys) made.0 (all_made f ns xs made.1)
-
-pub made_by_threads : (f : ℕ → List ℕ) (start end n : ℕ) (ns : List ℕ) (made : List (Result (List ℕ) AllocError)) (r : Result (Vec (List ℕ) Global) AllocError) → start ≡ 0 → end ≡ n
-    → ns ≡ nat_range start end → AllZip (λ k (r : Result (List ℕ) AllocError). IfOk r (λ x. x ≡ f k)) ns made
-    → MatchResult r (λ v. (xs : List (List ℕ)) × (made ≡ map Ok xs) × (v.items ≡ xs)) (λ e. Contains made (Err e))
-    → IfOk r (λ v. v.items ≡ map f (below n))
-made_by_threads f start end n ns made (Err e) from to are each is = tt
-made_by_threads f start end n ns made (Ok v) from to are each is =
-    let whole : end - start ≡ n = omega arith in
-    let each_made = subst (λ l. AllZip (λ k (r : Result (List ℕ) AllocError). IfOk r (λ x. x ≡ f k)) ns l) is.1 each in
-    is.2 ∙ all_made f ns is.0 each_made ∙ ap (map f) (are ∙ ap (λ a. range_with_len a (end - start)) from ∙ ap (range_with_len 0) whole)

@@ -1,8 +1,8 @@
-ghost use Rattle.std.specs.Prelude.{◌≡◌, ◌++◌, ◌<◌, ℕ, Some, None, length, slice_index, IfOk, IsTrue, OnOk, nat_lt};
+ghost use Rattle.std.specs.Prelude.{◌≡◌, ◌++◌, ◌<◌, ℕ, Some, None, [], length, replicate, slice_index, IfOk, IsTrue, OnOk, nat_lt};
 ghost use Rattle.mt_terms.specs.Registration.Accepted.{IsRegistration};
 ghost use Rattle.mt_terms.specs.Lists.{has};
 ghost use Rattle.mt_terms.specs.Market.{agent_of, applicants, couple_of, program_of};
-ghost use Rattle.mt_terms.specs.Matching.{at, place_of, placed_ranks, ranks_from};
+ghost use Rattle.mt_terms.specs.Matching.{place_of};
 ghost use Rattle.mt_ranks.specs.Ranked.{rank_of, ranked_of};
 ghost use Rattle.mt_terms.specs.Places.{ArePlaces};
 ghost use Rattle.mt_couples.specs.Watching.{better_entries, other_entries};
@@ -13,14 +13,8 @@ use mt_market::Roster;
 use mt_placed::PlacedRanks;
 use mt_ranks::{Live, Ranks};
 use mt_terms::{Agent, AppNo, CoupleNo, Match, Places, ProgNo};
-use rayon::prelude::*;
 use std::alloc::{AllocError, Global};
 use std::marker::Model;
-use std::thread::Threads;
-
-/// From twice as many programs on, their lists are gone through side by side. That a thread pays for itself with so
-/// many is an estimate.
-const LEAST_PROGRAMS: usize = 8;
 
 /// Where the applicant is placed.
 fn place_in(places: &[Option<ProgNo>], applicant: AppNo) -> Option<ProgNo>
@@ -29,47 +23,43 @@ fn place_in(places: &[Option<ProgNo>], applicant: AppNo) -> Option<ProgNo>
     places.get(applicant.index()).copied().flatten()
 }
 
-/// The ranks of those on a program's list that are placed there.
-fn placed_row(
-    alloc: Global,
-    places: &[Option<ProgNo>],
-    program: ProgNo,
-    ranking: &[AppNo],
-) -> Result<PlacedRanks, AllocError>
-    ensures { IfOk result (λ row. row ≡ ranks_from 0 (at places.now program) ranking.now) }
+/// Nobody's ranks for each of so many programs.
+fn empty_rows(alloc: Global, programs: u32) -> Result<Vec<PlacedRanks>, AllocError>
+    ensures { IfOk result (λ v. v.items ≡ replicate programs []) }
 {
-    let mut row = PlacedRanks::new(alloc);
-    for (rank, applicant) in ranking.iter().enumerate() {
-        if place_in(places, *applicant) == Some(program) {
-            row.push(rank)?;
-        }
+    let mut rows = Vec::new(alloc);
+    for _ in 0..programs {
+        rows.push(PlacedRanks::new(alloc))?;
     }
-    Ok(row)
+    Ok(rows)
 }
 
-/// The same for each program. Many programs are gone through side by side.
-fn placed_rows<R: Threads + Sync>(
-    rt: &R,
+/// For each program the ranks of those that are placed there. Each applicant is asked where it is, and no program's list
+/// is gone through.
+fn placed_rows(
     alloc: Global,
     roster: &Roster,
+    ranks: &Ranks<'_>,
     places: &[Option<ProgNo>],
 ) -> Result<Vec<PlacedRanks>, AllocError>
+    requires ranks { ranks.now ≡ ranked_of roster.now.market }
+    requires places { ArePlaces roster.now.market places.now }
     ensures rows { IfOk result (λ v. v.items ≡ rows_of roster.now.market places.now) }
     ensures roster { IsRegistration roster.now }
 {
-    (0..roster.programs())
-        .into_par_iter()
-        .with_min_len(LEAST_PROGRAMS)
-        .map(
-            |number: u32| -> Result<PlacedRanks, AllocError>
-                requires { number < length roster.now.market.programs }
-                ensures { IfOk result (λ row. row ≡ placed_ranks roster.entry.now.market places.entry.now number) }
-            {
-                let program = ProgNo(number);
-                placed_row(alloc, places, program, roster.program_list(program))
-            },
-        )
-        .collect::<Result<Vec<PlacedRanks>, AllocError>>(rt, alloc)?
+    let mut rows = empty_rows(alloc, roster.programs())?;
+    for number in 0..roster.applicants() {
+        let applicant = AppNo(number);
+        if let Some(program) = place_in(places, applicant) {
+            if let Some(rank) = ranks.rank(program, applicant) {
+                rows[program.index()].push(rank as usize)?;
+            }
+        }
+    }
+    for row in rows.iter_mut() {
+        row.sort();
+    }
+    Ok(rows)
 }
 
 /// Adds the applicants that have these ranks on a program's list.
@@ -108,8 +98,7 @@ impl<'a> Model for Assignment<'a> {
 
 impl<'a> Assignment<'a> {
     /// The match beside its market.
-    pub(crate) fn new<R: Threads + Sync>(
-        rt: &R,
+    pub(crate) fn new(
         alloc: Global,
         roster: &'a Roster,
         ranks: &'a Ranks<'a>,
@@ -120,7 +109,7 @@ impl<'a> Assignment<'a> {
         requires listed { AreListed roster.now.market matched.places }
         ensures { IfOk result (λ s. s ≡ assignment roster.entry.now.market matched.places) }
     {
-        let rows = placed_rows(rt, alloc, roster, matched.places.as_slice())?;
+        let rows = placed_rows(alloc, roster, ranks, matched.places.as_slice())?;
         Ok(Assignment {
             roster,
             ranks,

@@ -334,7 +334,7 @@ pub fn enter_all<R: Threads + Sync>(
             rounds: 0,
         });
     }
-    let mut assignment = Assignment::new(rt, alloc, roster, ranks, singles)?;
+    let mut assignment = Assignment::new(alloc, roster, ranks, singles)?;
     let mut watch = Watch::new(alloc, &assignment)?;
     let mut waiting = WorkList::new(alloc, roster.applicants(), couples)?;
     let quiet = are_singles_quiet(rt, &assignment);

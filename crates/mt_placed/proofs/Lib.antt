@@ -2,3 +2,4 @@ pub mod OrderFacts
 pub mod PlaceFacts
 pub mod RanksFacts
 pub mod RefusedFacts
+pub mod SortFacts

@@ -1,5 +1,5 @@
 ghost use Rattle.std.specs.Prelude.{◌≡◌, ◌++◌, ◌∷◌, not, ◌==◌, [], nat_lt, drop, filter, IsTrue, IsFalse, OnOk, OnErr};
-ghost use Rattle.std.specs.List.Sorted.{IsStrictlySortedBy};
+ghost use Rattle.std.specs.List.Sorted.{IsNonDecreasing, IsPermutation, IsStrictlySortedBy};
 ghost use Rattle.std.specs.Ordering.{nat_cmp};
 ghost use Rattle.std.specs.BTreeSet.{insert_key};
 ghost use Rattle.mt_terms.specs.Lists.{count, has};
@@ -37,6 +37,14 @@ impl PlacedRanks {
     {
         self.ranks.push(rank)?;
         Ok(())
+    }
+
+    /// Puts the ranks in rising order.
+    pub fn sort(&mut self)
+        ensures permutation { IsPermutation self.old self.new }
+        ensures sorted { IsNonDecreasing self.new }
+    {
+        self.ranks.sort_unstable();
     }
 
     /// How many ranks are below this one.

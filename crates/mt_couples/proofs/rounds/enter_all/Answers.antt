@@ -16,10 +16,10 @@ use Rattle.mt_couples.proofs.EnteringFacts.{entering_first, next_waits, entering
 use Rattle.mt_couples.proofs.rounds.enter_all.Goals as goal
 
 pub new-requires-clause-places : goal.new-requires-clause-places
-new-requires-clause-places g c κs within = places_of_fitting c.args.roster.now.market c.args.singles.places c.couples-couples.ensures.registration.well_formed c.requires.fits
+new-requires-clause-places g c = places_of_fitting c.args.roster.now.market c.args.singles.places c.couples-couples.ensures.registration.well_formed c.requires.fits
 
 pub new-requires-clause-listed : goal.new-requires-clause-listed
-new-requires-clause-listed g c κs within = listed_of_fitting c.args.roster.now.market c.args.singles.places c.couples-couples.ensures.registration.well_formed c.requires.fits
+new-requires-clause-listed g c = listed_of_fitting c.args.roster.now.market c.args.singles.places c.couples-couples.ensures.registration.well_formed c.requires.fits
 
 pub settle-requires-clause-running : goal.settle-requires-clause-running
 settle-requires-clause-running g c =
