@@ -34,6 +34,21 @@ fn empty_rows(alloc: Global, programs: u32) -> Result<Vec<PlacedRanks>, AllocErr
     Ok(rows)
 }
 
+/// The applicant's rank on a program's list. A single that is placed there has it among its live entries, mostly near the
+/// front; where they don't have it, it is looked up.
+fn placed_rank(ranks: &Ranks<'_>, program: ProgNo, applicant: AppNo) -> Option<u32>
+    requires program { program < length ranks.now.market.programs }
+    requires applicant { applicant < applicants ranks.now.market }
+    ensures { result ≡ rank_of ranks.now.market program applicant }
+{
+    for entry in ranks.live(applicant) {
+        if entry.program == program {
+            return Some(entry.rank);
+        }
+    }
+    ranks.rank(program, applicant)
+}
+
 /// For each program the ranks of those that are placed there. Each applicant is asked where it is, and no program's list
 /// is gone through.
 fn placed_rows(
@@ -51,7 +66,7 @@ fn placed_rows(
     for number in 0..roster.applicants() {
         let applicant = AppNo(number);
         if let Some(program) = place_in(places, applicant) {
-            if let Some(rank) = ranks.rank(program, applicant) {
+            if let Some(rank) = placed_rank(ranks, program, applicant) {
                 rows[program.index()].push(rank as usize)?;
             }
         }

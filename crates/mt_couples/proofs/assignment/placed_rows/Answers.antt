@@ -6,20 +6,20 @@ use Rattle.std.proofs.lemmas.List.{take_all, take_at}
 use Rattle.mt_couples.proofs.MarketFacts.{ranked_applicants, ranked_programs, ranked_ranking}
 use Rattle.mt_couples.proofs.PlacedFacts.{HavePlaced, nobody_placed, placed_within, nowhere, unlisted, listed, sorted_row, sorted_more, all_sorted}
 use Rattle.mt_couples.proofs.assignment.placed_rows.Goals as goal
-use Rattle.mt_couples.proofs.assignment.placed_rows.Goals.{in-Some+in-Some-rank+in_ok-push, in-Some+in_default-rank, in_default}
+use Rattle.mt_couples.proofs.assignment.placed_rows.Goals.{in-Some+in-Some-placed_rank+in_ok-push, in-Some+in_default-placed_rank, in_default}
 
 pub loop-number-init : goal.loop-number-init
 loop-number-init c =
     nobody_placed c.args.roster.now.market c.args.places.now c.in_ok-rows.rows.items (c.in_ok-rows.ensures ∙ ap (λ n. replicate n []) c.programs.ensures.count)
 
-pub rank-requires-clause-program : goal.rank-requires-clause-program
-rank-requires-clause-program c =
+pub placed_rank-requires-clause-program : goal.placed_rank-requires-clause-program
+placed_rank-requires-clause-program c =
     let m = c.args.roster.now.market in
     let known = placed_within m c.args.places.now c.loop-number.number c.in-Some.program c.requires.places c.in-Some.ensures in
     omega (arith, known, ranked_programs c.args.ranks.now m c.requires.ranks)
 
-pub rank-requires-clause-applicant : goal.rank-requires-clause-applicant
-rank-requires-clause-applicant c =
+pub placed_rank-requires-clause-applicant : goal.placed_rank-requires-clause-applicant
+placed_rank-requires-clause-applicant c =
     omega (arith, c.applicants-number-end.ensures.count, ranked_applicants c.args.ranks.now c.args.roster.now.market c.requires.ranks)
 
 pub loop-number-preserved : goal.loop-number-preserved
@@ -32,16 +32,16 @@ loop-number-preserved c =
     let so_far = c.loop-number.invariant in
     let at_rank = λ (p : ℕ). ap (position (λ x. x == i)) (ranked_ranking c.args.ranks.now m p c.requires.ranks) in
     elim c.match-place_in.branch [
-      | in-Some+in-Some-rank+in_ok-push w ↦
+      | in-Some+in-Some-placed_rank+in_ok-push w ↦
           let p = w.in-Some.program in
           let once = c.programs.ensures.registration.well_formed.rankings_distinct p in
           let known = placed_within m places i p c.requires.places w.in-Some.ensures in
           subst (λ (v : Vec (List ℕ) Global). HavePlaced m (take (i + 1) places) v.items) (sym w.rows-is)
-          (listed m places i i_in rows p w.in-Some-rank.rank w.index.result w.index_mut.result.now w.push.new.self once known w.in-Some.ensures (w.in-Some-rank.ensures.position ∙ at_rank p)
+          (listed m places i i_in rows p w.in-Some-placed_rank.rank w.index.result w.index_mut.result.now w.push.new.self once known w.in-Some.ensures (w.in-Some-placed_rank.ensures ∙ at_rank p)
           w.index.ensures w.index_mut.ensures.value w.in_ok-push.ensures so_far)
-      | in-Some+in_default-rank w ↦
+      | in-Some+in_default-placed_rank w ↦
           subst (λ (v : Vec (List ℕ) Global). HavePlaced m (take (i + 1) places) v.items) (sym w.rows-is)
-          (unlisted m places i i_in rows w.in-Some.program w.in-Some.ensures (w.in_default-rank.ensures.position ∙ at_rank w.in-Some.program) so_far)
+          (unlisted m places i i_in rows w.in-Some.program w.in-Some.ensures (w.in_default-placed_rank.ensures ∙ at_rank w.in-Some.program) so_far)
       | in_default w ↦
           subst (λ (v : Vec (List ℕ) Global). HavePlaced m (take (i + 1) places) v.items) (sym w.rows-is)
           (nowhere m places i i_in rows w.in_default.ensures so_far)
