@@ -6,9 +6,10 @@ ghost use Rattle.mt_ranks.specs.Ranked.{ranked_of};
 use crate::plain::{plain_rank, plain_verdict};
 use mt_ranks::Ranks;
 use mt_roster::Roster;
-use mt_samples::markets::{BETWEEN, CHAIN, CROSSED, HALF_PAIR, THREE_COUPLES, roster_of};
+use mt_samples::markets::{BETWEEN, CHAIN, CROSSED, HALF_PAIR, THREE_COUPLES};
 use mt_samples::places::are_places;
 use mt_samples::singles::singles;
+use mt_samples::tables::with_ranks;
 use mt_terms::{AppNo, Match, Places, ProgNo};
 use mt_verify::verify;
 use std::alloc::{AllocError, Global};
@@ -89,21 +90,38 @@ fn places_by_number(
     Ok(places)
 }
 
+fn expect_small_on<R: Abort + Threads + Sync>(
+    rt: &R,
+    alloc: Global,
+    roster: &Roster,
+    ranks: &Ranks,
+    matches: u32,
+) -> Result<(), AllocError>
+    requires { ranks.now ≡ ranked_of roster.now.market }
+{
+    expect_tables(rt, roster, ranks);
+    expect_ranks(rt, roster, ranks);
+    for number in 0..matches {
+        let places = places_by_number(alloc, roster, number)?;
+        expect_plain_verdict(rt, alloc, roster, ranks, places)?;
+    }
+    Ok(())
+}
+
 fn expect_small<R: Abort + Threads + Sync>(
     rt: &R,
     alloc: Global,
     file: &[u8],
     matches: u32,
 ) -> Result<(), Fail> {
-    let roster = roster_of(rt, alloc, file)?;
-    let ranks = Ranks::build(rt, alloc, &roster)?;
-    expect_tables(rt, &roster, &ranks);
-    expect_ranks(rt, &roster, &ranks);
-    for number in 0..matches {
-        let places = places_by_number(alloc, &roster, number)?;
-        expect_plain_verdict(rt, alloc, &roster, &ranks, places)?;
-    }
-    Ok(())
+    Ok(with_ranks(
+        rt,
+        alloc,
+        file,
+        |roster: &Roster, ranks: &Ranks<'_>| -> Result<(), AllocError>
+            requires { ranks.now ≡ ranked_of roster.now.market }
+        { expect_small_on(rt, alloc, roster, ranks, matches) },
+    )?)
 }
 
 // Of the last market, with 117,649 matches, each of the first 7,000.
@@ -129,20 +147,35 @@ fn with_last(
 }
 
 // Nobody placed; the best match of the singles; and that with the last applicant at the last program.
-fn expect_large<R: Abort + Threads + Sync>(rt: &R, alloc: Global, file: &[u8]) -> Result<(), Fail> {
-    let roster = roster_of(rt, alloc, file)?;
-    let ranks = Ranks::build(rt, alloc, &roster)?;
-    expect_tables(rt, &roster, &ranks);
-    expect_ranks(rt, &roster, &ranks);
-    let none = places_by_number(alloc, &roster, 0)?;
-    expect_plain_verdict(rt, alloc, &roster, &ranks, none)?;
-    let best = singles(alloc, &roster, &ranks)?;
+fn expect_large_on<R: Abort + Threads + Sync>(
+    rt: &R,
+    alloc: Global,
+    roster: &Roster,
+    ranks: &Ranks,
+) -> Result<(), AllocError>
+    requires { ranks.now ≡ ranked_of roster.now.market }
+{
+    expect_tables(rt, roster, ranks);
+    expect_ranks(rt, roster, ranks);
+    let none = places_by_number(alloc, roster, 0)?;
+    expect_plain_verdict(rt, alloc, roster, ranks, none)?;
+    let best = singles(alloc, roster, ranks)?;
     let places = best.places.into_vec();
     let last_program = ProgNo(roster.programs().saturating_sub(1));
     let changed = with_last(alloc, places.as_slice(), Some(last_program))?;
-    expect_plain_verdict(rt, alloc, &roster, &ranks, changed)?;
-    expect_plain_verdict(rt, alloc, &roster, &ranks, places)?;
-    Ok(())
+    expect_plain_verdict(rt, alloc, roster, ranks, changed)?;
+    expect_plain_verdict(rt, alloc, roster, ranks, places)
+}
+
+fn expect_large<R: Abort + Threads + Sync>(rt: &R, alloc: Global, file: &[u8]) -> Result<(), Fail> {
+    Ok(with_ranks(
+        rt,
+        alloc,
+        file,
+        |roster: &Roster, ranks: &Ranks<'_>| -> Result<(), AllocError>
+            requires { ranks.now ≡ ranked_of roster.now.market }
+        { expect_large_on(rt, alloc, roster, ranks) },
+    )?)
 }
 
 // Program p lists the applicants whose number is p or p + 1, but for a multiple of the programs' count, from the last

@@ -1,11 +1,14 @@
 //! Matches given by hand, and the finding against each, worked out from the rules beside it. A match is written as the
 //! places of the applicants in order of registration, `-` for none; a finding by ids, with the position from 0 of the
 //! option that would be taken.
+ghost use Rattle.std.specs.Prelude.{◌≡◌};
+ghost use Rattle.mt_ranks.specs.Ranked.{ranked_of};
+
 use crate::plain::plain_verdict;
 use mt_ranks::Ranks;
 use mt_roster::Roster;
-use mt_samples::markets::roster_of;
 use mt_samples::places::are_places;
+use mt_samples::tables::with_ranks;
 use mt_terms::{Agent, Blocker, Match, Places, ProgNo};
 use mt_verify::{Verdict, verify};
 use std::alloc::{AllocError, Global};
@@ -117,7 +120,7 @@ fn places_of(
 }
 
 // A verdict as a text: an agent that blocks with its number and its option.
-fn shown(alloc: Global, verdict: &Verdict) -> Result<String, Fail> {
+fn shown(alloc: Global, verdict: &Verdict) -> Result<String, AllocError> {
     let text = match verdict {
         Verdict::Stable => format!(in alloc; "stable")?,
         Verdict::Unlisted(applicant) => format!(in alloc; "unlisted {}", applicant.0)?,
@@ -130,23 +133,41 @@ fn shown(alloc: Global, verdict: &Verdict) -> Result<String, Fail> {
     Ok(text)
 }
 
-// What the verifier says of a match, by the market of a file.
+// What the verifier says of a match.
+fn finding_on<R: Abort + Threads + Sync>(
+    rt: &R,
+    alloc: Global,
+    roster: &Roster,
+    ranks: &Ranks,
+    match_text: &str,
+) -> Result<String, AllocError>
+    requires { ranks.now ≡ ranked_of roster.now.market }
+{
+    let places = places_of(alloc, roster, match_text)?;
+    assert!(rt; are_places(roster, places.as_slice()));
+    let matched = Match {
+        places: Places::new(places),
+    };
+    let verdict = verify(rt, alloc, roster, ranks, &matched)?;
+    assert_eq!(rt; verdict, plain_verdict(roster, &matched));
+    shown(alloc, &verdict)
+}
+
+// The same by the market of a file.
 fn finding<R: Abort + Threads + Sync>(
     rt: &R,
     alloc: Global,
     file: &str,
     match_text: &str,
 ) -> Result<String, Fail> {
-    let roster = roster_of(rt, alloc, file.as_bytes())?;
-    let ranks = Ranks::build(rt, alloc, &roster)?;
-    let places = places_of(alloc, &roster, match_text)?;
-    assert!(rt; are_places(&roster, places.as_slice()));
-    let matched = Match {
-        places: Places::new(places),
-    };
-    let verdict = verify(rt, alloc, &roster, &ranks, &matched)?;
-    assert_eq!(rt; verdict, plain_verdict(&roster, &matched));
-    shown(alloc, &verdict)
+    Ok(with_ranks(
+        rt,
+        alloc,
+        file.as_bytes(),
+        |roster: &Roster, ranks: &Ranks<'_>| -> Result<String, AllocError>
+            requires { ranks.now ≡ ranked_of roster.now.market }
+        { finding_on(rt, alloc, roster, ranks, match_text) },
+    )?)
 }
 
 // Each match of a file gets this finding.
