@@ -4,13 +4,14 @@ ghost use Rattle.mt_terms.specs.Market.{applicants};
 
 use mt_crew::{Open, Singles, work, work_alone};
 use mt_hall::{Hall, HallName};
+use mt_market::Roster;
 use mt_ranks::Ranks;
-use mt_samples::markets::{CHAIN, SampleError, roster_of};
+use mt_samples::markets::{CHAIN, SampleError};
 use mt_samples::singles::singles;
 use mt_samples::tables::with_ranks;
 use mt_tally::{deal, settle, take_desk, take_pass};
 use mt_terms::ProgNo;
-use std::alloc::Global;
+use std::alloc::{AllocError, Global};
 use std::marker::Brand;
 use std::sync::Wait;
 use std::sync::ledger::{Blank, Ledger};
@@ -50,7 +51,7 @@ pub(crate) fn deals(alloc: Global) -> Result<bool, SampleError> {
 }
 
 // A hall is opened for two workers, and closed again.
-fn closes_in<K: HallName>(alloc: Global, ranks: &Ranks, blank: Blank) -> Result<bool, SampleError>
+fn closes_in<K: HallName>(alloc: Global, ranks: &Ranks, blank: Blank) -> Result<bool, AllocError>
     requires ranks { ranks.now ≡ K.ranked }
     requires name { blank.name ≡ K.name }
     requires parts { (blank.parts ≡ K.parts) × (K.parts ≡ applicants K.ranked.market + 2) }
@@ -61,12 +62,14 @@ fn closes_in<K: HallName>(alloc: Global, ranks: &Ranks, blank: Blank) -> Result<
     Ok(is_pair && audit.agrees && audit.astray.is_none())
 }
 
+fn closes_on(alloc: Global, ranks: &Ranks) -> Result<bool, AllocError> {
+    let blank = Blank::new(ranks.applicants() as u64 + 2);
+    closes_in::<Brand>(alloc, ranks, blank)
+}
+
 /// Whether a hall in which nothing happens agrees with its floor.
 pub(crate) fn closes<T: Threads + Sync>(rt: &T, alloc: Global) -> Result<bool, SampleError> {
-    let roster = roster_of(rt, alloc, CHAIN)?;
-    let ranks = Ranks::build(rt, alloc, &roster)?;
-    let blank = Blank::new(ranks.applicants() as u64 + 2);
-    closes_in::<Brand>(alloc, &ranks, blank)
+    with_ranks(rt, alloc, CHAIN, |_, ranks| closes_on(alloc, ranks))
 }
 
 // Whether the chain's best match was found, and the proposals on the way to it.
@@ -83,10 +86,14 @@ pub(crate) fn works<T: Threads + Wait + Sync>(
 ) -> Result<bool, SampleError>
     requires { (1 ≤ workers) × (workers ≤ 64) }
 {
-    let roster = roster_of(rt, alloc, CHAIN)?;
-    let ranks = Ranks::build(rt, alloc, &roster)?;
-    let singles = work(rt, alloc, &ranks, workers, &Open)?;
-    Ok(is_chain(&singles))
+    with_ranks(
+        rt,
+        alloc,
+        CHAIN,
+        |_: &Roster, ranks: &Ranks<'_>| -> Result<bool, AllocError>
+            requires { (1 ≤ workers) × (workers ≤ 64) }
+        { Ok(is_chain(&work(rt, alloc, ranks, workers, &Open)?)) },
+    )
 }
 
 /// Whether one thread without locks ends in the best match.

@@ -1,7 +1,0 @@
-use Rattle.mt_scarce.proofs.floors.closes.Given as goal
-
-abbrev pub ghosts-closes_in-K-HallName : goal.ghosts-closes_in-K-HallName
-ghosts-closes_in-K-HallName g a = record { ranked = a.ranks.now }
-
-abbrev pub ghosts-closes_in-K-Ledger : goal.ghosts-closes_in-K-Ledger
-ghosts-closes_in-K-Ledger g a = record { name = a.blank.name; parts = a.blank.parts }
