@@ -5,7 +5,8 @@ ghost use Rattle.mt_terms.specs.Market.{applicants};
 use mt_crew::{Gate, Open, Singles, work, work_alone};
 use mt_hall::{Answer, Hall, HallName, Pass};
 use mt_ranks::Ranks;
-use mt_samples::markets::{CHAIN, CROSSED, roster_of};
+use mt_samples::markets::{CHAIN, CROSSED};
+use mt_samples::tables::with_ranks;
 use mt_terms::{AppNo, ProgNo};
 use std::alloc::{AllocError, Global};
 use std::marker::Brand;
@@ -129,19 +130,19 @@ fn expect_singles(
 // One of two workers waits with its first ticket until the other one has one, so both propose.
 #[test]
 fn two_at_the_gate(rt: HostRuntime) -> Result<(), Fail> {
-    let roster = roster_of(&rt, rt.alloc(), CHAIN)?;
-    let ranks = Ranks::build(&rt, rt.alloc(), &roster)?;
-    let gate = open_watch(rt.alloc(), 2, true)?;
-    let singles = work(&rt, rt.alloc(), &ranks, 2, &gate)?;
-    assert_eq!(&rt; gate.missed.load(Ordering::SeqCst), 0);
-    assert!(&rt; gate.all_proposed());
-    expect_singles(
-        &rt,
-        &singles,
-        &[Some(ProgNo(1)), Some(ProgNo(0)), None],
-        &[3, 2],
-    );
-    Ok(())
+    Ok(with_ranks(&rt, rt.alloc(), CHAIN, |_, ranks| {
+        let gate = open_watch(rt.alloc(), 2, true)?;
+        let singles = work(&rt, rt.alloc(), ranks, 2, &gate)?;
+        assert_eq!(&rt; gate.missed.load(Ordering::SeqCst), 0);
+        assert!(&rt; gate.all_proposed());
+        expect_singles(
+            &rt,
+            &singles,
+            &[Some(ProgNo(1)), Some(ProgNo(0)), None],
+            &[3, 2],
+        );
+        Ok(())
+    })?)
 }
 
 // The workers' passes have all the proposals: nothing was left to be finished after they were closed.
@@ -175,6 +176,21 @@ fn expect_alone(
     Ok(())
 }
 
+// One thread, and several numbers of workers, come to the same.
+fn expect_from_all_on<R: Abort + Threads + Wait + Sync>(
+    rt: &R,
+    alloc: Global,
+    ranks: &Ranks,
+    places: &[Option<ProgNo>],
+    proposals: &[u32],
+) -> Result<(), AllocError> {
+    expect_alone(rt, alloc, ranks, places, proposals)?;
+    expect_in_time(rt, alloc, ranks, 1, places, proposals)?;
+    expect_in_time(rt, alloc, ranks, 2, places, proposals)?;
+    expect_in_time(rt, alloc, ranks, 8, places, proposals)?;
+    expect_in_time(rt, alloc, ranks, 64, places, proposals)
+}
+
 fn expect_from_all<R: Abort + Threads + Wait + Sync>(
     rt: &R,
     alloc: Global,
@@ -182,14 +198,9 @@ fn expect_from_all<R: Abort + Threads + Wait + Sync>(
     places: &[Option<ProgNo>],
     proposals: &[u32],
 ) -> Result<(), Fail> {
-    let roster = roster_of(rt, alloc, file)?;
-    let ranks = Ranks::build(rt, alloc, &roster)?;
-    expect_alone(rt, alloc, &ranks, places, proposals)?;
-    expect_in_time(rt, alloc, &ranks, 1, places, proposals)?;
-    expect_in_time(rt, alloc, &ranks, 2, places, proposals)?;
-    expect_in_time(rt, alloc, &ranks, 8, places, proposals)?;
-    expect_in_time(rt, alloc, &ranks, 64, places, proposals)?;
-    Ok(())
+    Ok(with_ranks(rt, alloc, file, |_, ranks| {
+        expect_from_all_on(rt, alloc, ranks, places, proposals)
+    })?)
 }
 
 #[test]
@@ -294,9 +305,9 @@ fn expect_same<R: Abort + Threads + Wait + Sync>(
 #[test]
 fn unrest_at_the_gate_changes_nothing(rt: HostRuntime) -> Result<(), Fail> {
     let file = hundred(rt.alloc())?;
-    let roster = roster_of(&rt, rt.alloc(), file.as_bytes())?;
-    let ranks = Ranks::build(&rt, rt.alloc(), &roster)?;
-    Ok(expect_same(&rt, rt.alloc(), &ranks, 1000)?)
+    Ok(with_ranks(&rt, rt.alloc(), file.as_bytes(), |_, ranks| {
+        expect_same(&rt, rt.alloc(), ranks, 1000)
+    })?)
 }
 
 // Whether a thread has done its part, looked at for some time.
@@ -375,10 +386,18 @@ fn two_doors_in<K: HallName + Send + Sync, R: Abort + Threads + Wait + Sync>(
     Ok(())
 }
 
+fn two_doors_on<R: Abort + Threads + Wait + Sync>(
+    rt: &R,
+    alloc: Global,
+    ranks: &Ranks,
+) -> Result<(), AllocError> {
+    let blank = Blank::new(ranks.applicants() as u64 + 2);
+    two_doors_in::<Brand, _>(rt, alloc, ranks, blank)
+}
+
 #[test]
 fn two_doors(rt: HostRuntime) -> Result<(), Fail> {
-    let roster = roster_of(&rt, rt.alloc(), CROSSED)?;
-    let ranks = Ranks::build(&rt, rt.alloc(), &roster)?;
-    let blank = Blank::new(ranks.applicants() as u64 + 2);
-    Ok(two_doors_in::<Brand, _>(&rt, rt.alloc(), &ranks, blank)?)
+    Ok(with_ranks(&rt, rt.alloc(), CROSSED, |_, ranks| {
+        two_doors_on(&rt, rt.alloc(), ranks)
+    })?)
 }

@@ -4,7 +4,8 @@ ghost use Rattle.mt_core.specs.Floors.{floor_of, IsOpenedWith};
 
 use mt_core::{Event, Floor, Reply, apply, finish, made, quiet, received, result, run};
 use mt_ranks::Ranks;
-use mt_samples::markets::{BETWEEN, CHAIN, roster_of};
+use mt_samples::markets::{BETWEEN, CHAIN};
+use mt_samples::tables::with_ranks;
 use mt_terms::{AppNo, ProgNo};
 use std::alloc::{AllocError, Global};
 use std::process::Abort;
@@ -133,9 +134,9 @@ fn each_event_gets_its_reply(rt: HostRuntime) -> Result<(), Fail> {
         Reply::Noticed,
         Reply::NotDue,
     ];
-    let roster = roster_of(&rt, rt.alloc(), CHAIN)?;
-    let ranks = Ranks::build(&rt, rt.alloc(), &roster)?;
-    Ok(expect_chain(&rt, rt.alloc(), &ranks, &BY_WISHES, &replies)?)
+    Ok(with_ranks(&rt, rt.alloc(), CHAIN, |_, ranks| {
+        expect_chain(&rt, rt.alloc(), ranks, &BY_WISHES, &replies)
+    })?)
 }
 
 #[test]
@@ -148,9 +149,9 @@ fn the_last_applicant_may_be_first(rt: HostRuntime) -> Result<(), Fail> {
         Reply::KeptInstead(AppNo(2)),
         Reply::Noticed,
     ];
-    let roster = roster_of(&rt, rt.alloc(), CHAIN)?;
-    let ranks = Ranks::build(&rt, rt.alloc(), &roster)?;
-    Ok(expect_chain(&rt, rt.alloc(), &ranks, &FROM_THE_LAST, &replies)?)
+    Ok(with_ranks(&rt, rt.alloc(), CHAIN, |_, ranks| {
+        expect_chain(&rt, rt.alloc(), ranks, &FROM_THE_LAST, &replies)
+    })?)
 }
 
 // Makes the events on a floor on which some are due, and expects so many of them to have been due.
@@ -206,10 +207,10 @@ fn expect_run(
 
 #[test]
 fn runs_count_the_events_that_were_due(rt: HostRuntime) -> Result<(), Fail> {
-    let roster = roster_of(&rt, rt.alloc(), CHAIN)?;
-    let ranks = Ranks::build(&rt, rt.alloc(), &roster)?;
-    expect_run(&rt, rt.alloc(), &ranks, &BY_WISHES, 8)?;
-    Ok(expect_run(&rt, rt.alloc(), &ranks, &FROM_THE_LAST, 6)?)
+    Ok(with_ranks(&rt, rt.alloc(), CHAIN, |_, ranks| {
+        expect_run(&rt, rt.alloc(), ranks, &BY_WISHES, 8)?;
+        expect_run(&rt, rt.alloc(), ranks, &FROM_THE_LAST, 6)
+    })?)
 }
 
 // From this floor finish makes so many proposals.
@@ -230,21 +231,21 @@ pub(crate) fn expect_finished(
 
 #[test]
 fn the_chain_takes_five_proposals(rt: HostRuntime) -> Result<(), Fail> {
-    let roster = roster_of(&rt, rt.alloc(), CHAIN)?;
-    let ranks = Ranks::build(&rt, rt.alloc(), &roster)?;
-    let mut floor = Floor::open(rt.alloc(), &ranks)?;
-    Ok(expect_finished(&rt, rt.alloc(), &mut floor, &ranks, 5)?)
+    Ok(with_ranks(&rt, rt.alloc(), CHAIN, |_, ranks| {
+        let mut floor = Floor::open(rt.alloc(), ranks)?;
+        expect_finished(&rt, rt.alloc(), &mut floor, ranks, 5)
+    })?)
 }
 
 // After the first five events one proposal is to come: a1 has displaced a2 at P2, so a2 proposes to P1 and displaces
 // a3 there, which wants no other program.
 #[test]
 fn finish_goes_on_from_any_floor(rt: HostRuntime) -> Result<(), Fail> {
-    let roster = roster_of(&rt, rt.alloc(), CHAIN)?;
-    let ranks = Ranks::build(&rt, rt.alloc(), &roster)?;
-    let mut floor = Floor::open(rt.alloc(), &ranks)?;
-    expect_due(&rt, &mut floor, &ranks, &BY_WISHES[..5], 5);
-    Ok(expect_finished(&rt, rt.alloc(), &mut floor, &ranks, 1)?)
+    Ok(with_ranks(&rt, rt.alloc(), CHAIN, |_, ranks| {
+        let mut floor = Floor::open(rt.alloc(), ranks)?;
+        expect_due(&rt, &mut floor, ranks, &BY_WISHES[..5], 5);
+        expect_finished(&rt, rt.alloc(), &mut floor, ranks, 1)
+    })?)
 }
 
 // None of the events is due.
@@ -270,11 +271,11 @@ fn expect_no_single(rt: &impl Abort, floor: &mut Floor, ranks: &Ranks)
 
 #[test]
 fn only_singles_have_events(rt: HostRuntime) -> Result<(), Fail> {
-    let roster = roster_of(&rt, rt.alloc(), BETWEEN)?;
-    let ranks = Ranks::build(&rt, rt.alloc(), &roster)?;
-    let mut floor = Floor::open(rt.alloc(), &ranks)?;
-    expect_no_single(&rt, &mut floor, &ranks);
-    Ok(())
+    Ok(with_ranks(&rt, rt.alloc(), BETWEEN, |_, ranks| {
+        let mut floor = Floor::open(rt.alloc(), ranks)?;
+        expect_no_single(&rt, &mut floor, ranks);
+        Ok(())
+    })?)
 }
 
 // Where a1 stands at P1 and is held, it has nothing to propose or to learn; nobody else stands.
@@ -300,9 +301,9 @@ fn expect_waiting(rt: &impl Abort, floor: &mut Floor, ranks: &Ranks)
 
 #[test]
 fn events_wait_until_they_are_due(rt: HostRuntime) -> Result<(), Fail> {
-    let roster = roster_of(&rt, rt.alloc(), CHAIN)?;
-    let ranks = Ranks::build(&rt, rt.alloc(), &roster)?;
-    let mut floor = Floor::open(rt.alloc(), &ranks)?;
-    expect_waiting(&rt, &mut floor, &ranks);
-    Ok(())
+    Ok(with_ranks(&rt, rt.alloc(), CHAIN, |_, ranks| {
+        let mut floor = Floor::open(rt.alloc(), ranks)?;
+        expect_waiting(&rt, &mut floor, ranks);
+        Ok(())
+    })?)
 }

@@ -6,7 +6,8 @@ ghost use Rattle.mt_core.specs.Floors.{IsOpenedWith};
 use crate::floor::{expect_chain_end, expect_finished};
 use mt_hall::{Answer, Audit, Hall, HallName, Pass};
 use mt_ranks::Ranks;
-use mt_samples::markets::{BETWEEN, CHAIN, roster_of};
+use mt_samples::markets::{BETWEEN, CHAIN};
+use mt_samples::tables::with_ranks;
 use mt_terms::{AppNo, ProgNo};
 use std::alloc::{AllocError, Global};
 use std::marker::Brand;
@@ -163,12 +164,16 @@ fn table_in<K: HallName, R: Abort + Wait>(
     expect_chain_end(rt, alloc, &audit.floor, ranks)
 }
 
+fn table_on<R: Abort + Wait>(rt: &R, alloc: Global, ranks: &Ranks) -> Result<(), AllocError> {
+    let blank = blank_for(ranks, 2);
+    table_in::<Brand, _>(rt, alloc, ranks, blank)
+}
+
 #[test]
 fn each_call_gets_its_answer(rt: HostRuntime) -> Result<(), Fail> {
-    let roster = roster_of(&rt, rt.alloc(), CHAIN)?;
-    let ranks = Ranks::build(&rt, rt.alloc(), &roster)?;
-    let blank = blank_for(&ranks, 2);
-    Ok(table_in::<Brand, _>(&rt, rt.alloc(), &ranks, blank)?)
+    Ok(with_ranks(&rt, rt.alloc(), CHAIN, |_, ranks| {
+        table_on(&rt, rt.alloc(), ranks)
+    })?)
 }
 
 fn instead_of(to: u32, other: u32) -> Answer {
@@ -220,12 +225,16 @@ fn wishes_in<K: HallName, R: Abort + Wait>(
     expect_chain_end(rt, alloc, &audit.floor, ranks)
 }
 
+fn wishes_on<R: Abort + Wait>(rt: &R, alloc: Global, ranks: &Ranks) -> Result<(), AllocError> {
+    let blank = blank_for(ranks, 1);
+    wishes_in::<Brand, _>(rt, alloc, ranks, blank)
+}
+
 #[test]
 fn whoever_is_displaced_is_told(rt: HostRuntime) -> Result<(), Fail> {
-    let roster = roster_of(&rt, rt.alloc(), CHAIN)?;
-    let ranks = Ranks::build(&rt, rt.alloc(), &roster)?;
-    let blank = blank_for(&ranks, 1);
-    Ok(wishes_in::<Brand, _>(&rt, rt.alloc(), &ranks, blank)?)
+    Ok(with_ranks(&rt, rt.alloc(), CHAIN, |_, ranks| {
+        wishes_on(&rt, rt.alloc(), ranks)
+    })?)
 }
 
 // Advances each applicant once, and says whether anything came of it.
@@ -296,15 +305,23 @@ fn threads_in<K: HallName + Send + Sync, R: Abort + Threads + Wait + Sync>(
     expect_chain_end(rt, alloc, &audit.floor, ranks)
 }
 
+fn threads_on<R: Abort + Threads + Wait + Sync>(
+    rt: &R,
+    alloc: Global,
+    ranks: &Ranks,
+) -> Result<(), AllocError> {
+    let blank = blank_for(ranks, 2);
+    threads_in::<Brand, _>(rt, alloc, ranks, blank)
+}
+
 #[test]
 fn two_threads_end_at_the_same_floor(rt: HostRuntime) -> Result<(), Fail> {
-    let roster = roster_of(&rt, rt.alloc(), CHAIN)?;
-    let ranks = Ranks::build(&rt, rt.alloc(), &roster)?;
-    for _ in 0..50 {
-        let blank = blank_for(&ranks, 2);
-        threads_in::<Brand, _>(&rt, rt.alloc(), &ranks, blank)?;
-    }
-    Ok(())
+    Ok(with_ranks(&rt, rt.alloc(), CHAIN, |_, ranks| {
+        for _ in 0..50 {
+            threads_on(&rt, rt.alloc(), ranks)?;
+        }
+        Ok(())
+    })?)
 }
 
 fn finished_in<K: HallName, R: Abort + Wait>(
@@ -329,13 +346,17 @@ fn finished_in<K: HallName, R: Abort + Wait>(
     expect_finished(rt, alloc, &mut audit.floor, ranks, 4)
 }
 
+fn finished_on<R: Abort + Wait>(rt: &R, alloc: Global, ranks: &Ranks) -> Result<(), AllocError> {
+    let blank = blank_for(ranks, 1);
+    finished_in::<Brand, _>(rt, alloc, ranks, blank)
+}
+
 // One of the chain's five proposals was made behind the locks.
 #[test]
 fn what_is_left_is_finished_on_the_floor(rt: HostRuntime) -> Result<(), Fail> {
-    let roster = roster_of(&rt, rt.alloc(), CHAIN)?;
-    let ranks = Ranks::build(&rt, rt.alloc(), &roster)?;
-    let blank = blank_for(&ranks, 1);
-    Ok(finished_in::<Brand, _>(&rt, rt.alloc(), &ranks, blank)?)
+    Ok(with_ranks(&rt, rt.alloc(), CHAIN, |_, ranks| {
+        finished_on(&rt, rt.alloc(), ranks)
+    })?)
 }
 
 fn strangers_in<K: HallName, R: Abort + Wait>(
@@ -369,14 +390,14 @@ fn expect_strangers<R: Abort + Wait>(
 
 #[test]
 fn numbers_past_the_end_are_strangers(rt: HostRuntime) -> Result<(), Fail> {
-    let roster = roster_of(&rt, rt.alloc(), CHAIN)?;
-    let ranks = Ranks::build(&rt, rt.alloc(), &roster)?;
-    Ok(expect_strangers(&rt, rt.alloc(), &ranks, [3, u32::MAX])?)
+    Ok(with_ranks(&rt, rt.alloc(), CHAIN, |_, ranks| {
+        expect_strangers(&rt, rt.alloc(), ranks, [3, u32::MAX])
+    })?)
 }
 
 #[test]
 fn members_are_strangers(rt: HostRuntime) -> Result<(), Fail> {
-    let roster = roster_of(&rt, rt.alloc(), BETWEEN)?;
-    let ranks = Ranks::build(&rt, rt.alloc(), &roster)?;
-    Ok(expect_strangers(&rt, rt.alloc(), &ranks, [1, 2])?)
+    Ok(with_ranks(&rt, rt.alloc(), BETWEEN, |_, ranks| {
+        expect_strangers(&rt, rt.alloc(), ranks, [1, 2])
+    })?)
 }

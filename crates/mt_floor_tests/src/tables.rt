@@ -2,7 +2,8 @@
 ghost use Rattle.std.specs.Prelude.{◌<◌, length};
 
 use mt_ranks::{Live, Ranks};
-use mt_samples::markets::{BETWEEN, roster_of};
+use mt_samples::markets::BETWEEN;
+use mt_samples::tables::with_ranks;
 use mt_terms::{AppNo, ProgNo};
 use std::alloc::{AllocError, Global};
 use std::process::Abort;
@@ -90,11 +91,11 @@ fn expect_tables<R: Abort + Threads + Sync>(
     file: &[u8],
     expected: &Expected<'_>,
 ) -> Result<(), Fail> {
-    let roster = roster_of(rt, alloc, file)?;
-    let tables = Ranks::build(rt, alloc, &roster)?;
-    expect_programs(rt, alloc, &tables, expected)?;
-    expect_applicants(rt, &tables, expected);
-    Ok(())
+    Ok(with_ranks(rt, alloc, file, |_, tables| {
+        expect_programs(rt, alloc, tables, expected)?;
+        expect_applicants(rt, tables, expected);
+        Ok(())
+    })?)
 }
 
 // a wants R, Q and P. R and P list it, as the second and as the third; Q doesn't, so the live list is R and P.

@@ -1,4 +1,4 @@
-use Rattle.mt_floor_tests.proofs.hall.each_call_gets_its_answer.Given as goal
+use Rattle.mt_floor_tests.proofs.hall.table_on.Given as goal
 
 abbrev pub ghosts-table_in-K-HallName : goal.ghosts-table_in-K-HallName
 ghosts-table_in-K-HallName g a = record { ranked = a.ranks.now }

@@ -1,4 +1,4 @@
-use Rattle.mt_floor_tests.proofs.hall.whoever_is_displaced_is_told.Given as goal
+use Rattle.mt_floor_tests.proofs.hall.wishes_on.Given as goal
 
 abbrev pub ghosts-wishes_in-K-HallName : goal.ghosts-wishes_in-K-HallName
 ghosts-wishes_in-K-HallName g a = record { ranked = a.ranks.now }

@@ -1,4 +1,4 @@
-use Rattle.mt_floor_tests.proofs.crew.two_doors.Given as goal
+use Rattle.mt_floor_tests.proofs.crew.two_doors_on.Given as goal
 
 abbrev pub ghosts-two_doors_in-K-HallName : goal.ghosts-two_doors_in-K-HallName
 ghosts-two_doors_in-K-HallName g a = record { ranked = a.ranks.now }

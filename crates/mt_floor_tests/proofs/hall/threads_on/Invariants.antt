@@ -1,4 +1,4 @@
-use Rattle.mt_floor_tests.proofs.hall.two_threads_end_at_the_same_floor.Given as goal
+use Rattle.mt_floor_tests.proofs.hall.threads_on.Given as goal
 
 abbrev pub ghosts-threads_in-K-HallName : goal.ghosts-threads_in-K-HallName
 ghosts-threads_in-K-HallName g a = record { ranked = a.ranks.now }

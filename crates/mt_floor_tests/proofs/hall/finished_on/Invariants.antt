@@ -1,4 +1,4 @@
-use Rattle.mt_floor_tests.proofs.hall.what_is_left_is_finished_on_the_floor.Given as goal
+use Rattle.mt_floor_tests.proofs.hall.finished_on.Given as goal
 
 abbrev pub ghosts-finished_in-K-HallName : goal.ghosts-finished_in-K-HallName
 ghosts-finished_in-K-HallName g a = record { ranked = a.ranks.now }
