@@ -1,4 +1,4 @@
-use Rattle.std.proofs.Common.{◌≡◌, ◌∙◌, ℕ, Bool, false, List, Option, Some, None, ◌==◌, drop, length, ap, sym, refl, arith}
+use Rattle.std.proofs.Common.{◌≡◌, ◌∙◌, ℕ, Bool, false, List, Option, Some, ◌==◌, drop, length, ap, sym, refl, arith}
 use Rattle.mt_terms.specs.Lists.{until}
 use Rattle.mt_terms.specs.Market.{Market, applicants, live_market}
 use Rattle.mt_terms.specs.Matching.{at, is_program, place_of, Places}
