@@ -1,5 +1,5 @@
 -- What a finding says, and that what it names is there.
-use Rattle.std.proofs.Common.{◌≡◌, ◌∙◌, ℕ, ◌≤◌, Bool, List, length, Option, None, Some, refl, sym, ap, subst, arith}
+use Rattle.std.proofs.Common.{◌≡◌, ℕ, ◌≤◌, Bool, List, length, Option, None, Some, refl, sym, ap, subst, arith}
 use Rattle.std.specs.Prelude.{◌↔◌, ◌==◌, IsTrue, slice_index_or}
 use Rattle.mt_terms.specs.Market.{Market, Registered, applicants}
 use Rattle.mt_terms.specs.declared.numbers.Agent.{Agent}
