@@ -8,7 +8,6 @@ pub mod MoveSteps
 pub mod NoteFacts
 pub mod OneFacts
 pub mod OptionFacts
-pub mod PlacedFacts
 pub mod QuietFacts
 pub mod RankFacts
 pub mod RoundFacts

@@ -3,3 +3,4 @@ pub mod PlaceFacts
 pub mod RanksFacts
 pub mod RefusedFacts
 pub mod SortFacts
+pub mod PlacedFacts

@@ -4,7 +4,8 @@ use Rattle.std.specs.Prelude.{Vec}
 use Rattle.std.specs.Global.{Global}
 use Rattle.std.proofs.lemmas.List.{take_all, take_at}
 use Rattle.mt_couples.proofs.MarketFacts.{ranked_applicants, ranked_programs, ranked_ranking}
-use Rattle.mt_couples.proofs.PlacedFacts.{HavePlaced, nobody_placed, placed_within, nowhere, unlisted, listed, sorted_row, sorted_more, all_sorted}
+use Rattle.mt_couples.proofs.RankFacts.{has_no_rank}
+use Rattle.mt_placed.proofs.PlacedFacts.{HavePlaced, nobody_placed, placed_within, nowhere, unlisted, listed, sorted_row, sorted_more, all_sorted}
 use Rattle.mt_couples.proofs.assignment.placed_rows.Goals as goal
 use Rattle.mt_couples.proofs.assignment.placed_rows.Goals.{in-Some+in-Some-placed_rank+in_ok-push, in-Some+in_default-placed_rank, in_default}
 
@@ -41,7 +42,8 @@ loop-number-preserved c =
           w.index.ensures w.index_mut.ensures.value w.in_ok-push.ensures so_far)
       | in-Some+in_default-placed_rank w ↦
           subst (λ (v : Vec (List ℕ) Global). HavePlaced m (take (i + 1) places) v.items) (sym w.rows-is)
-          (unlisted m places i i_in rows w.in-Some.program w.in-Some.ensures (w.in_default-placed_rank.ensures ∙ at_rank w.in-Some.program) so_far)
+          (unlisted m places i i_in rows w.in-Some.program w.in-Some.ensures
+          (has_no_rank _ i (sym (w.in_default-placed_rank.ensures ∙ at_rank w.in-Some.program))) so_far)
       | in_default w ↦
           subst (λ (v : Vec (List ℕ) Global). HavePlaced m (take (i + 1) places) v.items) (sym w.rows-is)
           (nowhere m places i i_in rows w.in_default.ensures so_far)

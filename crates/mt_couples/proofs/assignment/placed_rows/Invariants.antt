@@ -1,6 +1,6 @@
 use Rattle.std.proofs.Common.{◌<◌, ℕ, [], get_or, take}
 use Rattle.std.specs.List.Sorted.{IsNonDecreasing}
-use Rattle.mt_couples.proofs.PlacedFacts.{HavePlaced}
+use Rattle.mt_placed.proofs.PlacedFacts.{HavePlaced}
 use Rattle.mt_couples.proofs.assignment.placed_rows.Given as goal
 
 abbrev pub invariant-loop-number : goal.invariant-loop-number

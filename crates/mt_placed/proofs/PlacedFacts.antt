@@ -14,7 +14,6 @@ use Rattle.mt_terms.specs.Market.{Market, program_of}
 use Rattle.mt_terms.specs.Matching.{Places, place_of, is_program, at, ranks_from, placed_ranks}
 use Rattle.mt_terms.specs.Places.{ArePlaces}
 use Rattle.mt_terms.proofs.BelowFacts.{length-map_below, map_below_at}
-use Rattle.mt_couples.proofs.RankFacts.{has_no_rank}
 use Rattle.mt_placed.proofs.RanksFacts.{same_ranks, ranks_with, ranks_sorted, has_no_own_rank}
 use Rattle.mt_placed.proofs.SortFacts.{sorted_is, permutation_with_one}
 
@@ -100,13 +99,13 @@ module _ (m : Market) (places : Places) (i : ℕ) (i_in : i < length places) whe
   nowhere rows place have = same_placed m (take i places) (take (i + 1) places) rows have (λ p. elsewhere p (ap (is_program p) (sym place)))
 
   -- nor does one that the program doesn't list
-  pub unlisted : (rows : List (List ℕ)) (p : ℕ) → Some p ≡ place_of places i → None ≡ position (λ x. x == i) (program_of m p).ranking → HavePlaced m (take i places) rows
+  pub unlisted : (rows : List (List ℕ)) (p : ℕ) → Some p ≡ place_of places i → has (program_of m p).ranking i ≡ false → HavePlaced m (take i places) rows
       → HavePlaced m (take (i + 1) places) rows
   unlisted rows p place off have =
       same_placed m (take i places) (take (i + 1) places) rows have (λ q. elim (cases_eq q p) [
         | inl is ↦
             same_ranks (at (take i places) q) (at (take (i + 1) places) q) i (others q) 0 (program_of m q).ranking
-            (ap (λ r. has (program_of m r).ranking i) is ∙ has_no_rank _ i (sym off))
+            (ap (λ r. has (program_of m r).ranking i) is ∙ off)
         | inr other ↦ elsewhere q (off_others p q place other)
       ])
 
