@@ -23,7 +23,8 @@ module _ (rules : Rules) (all : List Bytes) (id a b : Bytes) (list : List Bytes)
       by true = refl
       by false = refl
 
-  pub even_list : length list % 2 ≡ 0 → are_ids rules (id ∷ a ∷ b ∷ []) ≡ true → (pairs : List IdPair) → pairs ≡ map pair_of (by_pairs list)
-      → Some (CoupleRecord id a b pairs) ≡ couple_draft rules all
-  even_list even names pairs are =
-      ap (λ (ps : List IdPair). Some (CoupleRecord id a b ps)) are ∙ sym (draft_is (Some (by_pairs list)) ((two_by_two-by_pairs list).0 even) ∙ rw names refl)
+  pub even_list : length list % 2 ≡ 0 → are_ids rules (id ∷ a ∷ b ∷ []) ≡ true → (members : Bytes × Bytes) (pairs : List IdPair) → members ≡ (a, b) → pairs ≡ map pair_of (by_pairs list)
+      → Some (CoupleRecord id members.0 members.1 pairs) ≡ couple_draft rules all
+  even_list even names members pairs both are =
+      ap (λ (ps : List IdPair). Some (CoupleRecord id members.0 members.1 ps)) are ∙ ap (λ (m : Bytes × Bytes). Some (CoupleRecord id m.0 m.1 (map pair_of (by_pairs list)))) both
+      ∙ sym (draft_is (Some (by_pairs list)) ((two_by_two-by_pairs list).0 even) ∙ rw names refl)

@@ -98,7 +98,7 @@ is_withdrawal _ = false
 pub no_withdrawal : (r : Checked) → ((kind : checked.Kind) (id : Bor Bytes) → r ≡ variants.Withdraw kind id → ⊥) → is_withdrawal (record_seen r) ≡ false
 no_withdrawal (variants.Program id quota list) h = refl
 no_withdrawal (variants.Applicant id list) h = refl
-no_withdrawal (variants.Couple id a b pairs) h = refl
+no_withdrawal (variants.Couple id fields) h = refl
 no_withdrawal (variants.Withdraw kind id) h = absurd (h kind id refl)
 
 withdraws_none : (r : Record) (kind : Kind) → is_withdrawal r ≡ false → option_to_list (withdrawn_id kind r) ≡ []

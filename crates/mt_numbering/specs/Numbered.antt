@@ -1,5 +1,6 @@
 -- What each table of a roster has from each record, by the ids of programs and of applicants.
 use Rattle.std.specs.Prelude.{ℕ, Bool, List, [], ◌∷◌, map, fold, Option, Some, None, option_map, filter_map, flat_map, if◌then◌else◌}
+use Rattle.std.specs.Borrow.{Bor}
 use Rattle.mt_lists.specs.Rows.{fields_left}
 use Rattle.mt_lists.specs.declared.row.Fields.{Fields}
 use Rattle.mt_market.specs.FlatLists.{with_last}
@@ -39,11 +40,11 @@ couple_lists records = filter_map list_of records
     list_of _ = None
 
 -- lists of records, of which a couple's members have none, as those of the definition
-abbrev pub list_seen : Option Fields → List Bytes
+abbrev pub list_seen : Option (Bor Fields) → List Bytes
 list_seen None = []
-list_seen (Some list) = fields_left list
+list_seen (Some list) = fields_left list.now
 
-abbrev pub lists_seen : List (Option Fields) → List (List Bytes)
+abbrev pub lists_seen : List (Option (Bor Fields)) → List (List Bytes)
 lists_seen lists = map list_seen lists
 
 -- where a pair sends a member, by number, if it names none but these programs

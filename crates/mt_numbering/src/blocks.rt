@@ -27,7 +27,7 @@ pub(crate) struct Block<T> {
 }
 
 /// Whether lists have so many entries that they are worth threads.
-fn are_long(lists: &[Option<Fields<'_>>]) -> bool {
+fn are_long(lists: &[Option<&Fields<'_>>]) -> bool {
     let mut entries: usize = 0;
     for list in lists {
         if let Some(fields) = list {
@@ -62,7 +62,7 @@ fn read_block<T: Copy + Drop>(
     ids: &IdTable<'_>,
     numbers: &[Option<T>],
     most: u32,
-    lists: &[Option<Fields<'_>>],
+    lists: &[Option<&Fields<'_>>],
 ) -> Result<Option<Block<T>>, AllocError>
     requires { length numbers.now ≡ length ids.now }
     ensures { IfOk result (IsBlock (ReadsLists ids.now numbers.now) most (lists_seen lists.now)) }
@@ -84,7 +84,7 @@ fn read_blocks<R: Threads + Sync, T: Copy + Drop + Send + Sync>(
     ids: &IdTable<'_>,
     numbers: &[Option<T>],
     most: u32,
-    lists: &[Option<Fields<'_>>],
+    lists: &[Option<&Fields<'_>>],
     size: usize,
 ) -> Result<Vec<Option<Block<T>>>, AllocError>
     requires numbers { length numbers.now ≡ length ids.now }
@@ -95,7 +95,7 @@ fn read_blocks<R: Threads + Sync, T: Copy + Drop + Send + Sync>(
         .par_chunks(size)
         .with_min_len(1)
         .map(
-            |block: &[Option<Fields<'_>>]| -> Result<Option<Block<T>>, AllocError>
+            |block: &[Option<&Fields<'_>>]| -> Result<Option<Block<T>>, AllocError>
                 requires { length numbers.now ≡ length ids.now }
                 ensures { IfOk result (IsBlock (ReadsLists ids.entry.now numbers.entry.now) most (lists_seen block.entry.now)) }
             { read_block(alloc, ids, numbers, most, block) },
@@ -144,7 +144,7 @@ pub(crate) fn read_side_by_side<R: Threads + Sync, T: Copy + Drop + Send + Sync>
     ids: &IdTable<'_>,
     numbers: &[Option<T>],
     room: &mut u32,
-    lists: &[Option<Fields<'_>>],
+    lists: &[Option<&Fields<'_>>],
 ) -> Result<Option<FlatLists<T>>, AllocError>
     requires { length numbers.now ≡ length ids.now }
     ensures { IfOk result (ReadsLists ids.now numbers.now room.old room.new (lists_seen lists.now)) }

@@ -7,7 +7,7 @@ ghost use Rattle.mt_records.specs.Records.{record_seen};
 
 use mt_ids::{is_id, quota_of};
 use mt_lists::Fields;
-use mt_records::{Kind, Pairs, Record, Rules, kind_of, names_are_ids, withdraw_record, withdraws};
+use mt_records::{CoupleFields, Kind, Record, Rules, kind_of, names_are_ids, withdraw_record, withdraws};
 
 /// A program by the fields after its first, if nothing is at fault beside its list.
 fn program_draft<'a>(rules: &Rules, fields: Fields<'a>) -> Option<Record<'a>>
@@ -20,7 +20,7 @@ fn program_draft<'a>(rules: &Rules, fields: Fields<'a>) -> Option<Record<'a>>
         return None;
     }
     let quota = quota_of(quota)?;
-    Some(Record::Program { id, quota, list })
+    Some(Record::Program { quota, id, list })
 }
 
 /// An applicant by the fields after its first, if nothing is at fault beside its list.
@@ -41,6 +41,7 @@ fn couple_draft<'a>(rules: &Rules, fields: Fields<'a>) -> Option<Record<'a>>
 {
     let mut list = fields;
     let id = list.next()?;
+    let fields = CoupleFields::new(list);
     let first = list.next()?;
     let second = list.next()?;
     if list.len() % 2 == 1 {
@@ -49,12 +50,7 @@ fn couple_draft<'a>(rules: &Rules, fields: Fields<'a>) -> Option<Record<'a>>
     if !names_are_ids(rules, id, first, second) {
         return None;
     }
-    Some(Record::Couple {
-        id,
-        first,
-        second,
-        pairs: Pairs::new(list),
-    })
+    Some(Record::Couple { id, fields })
 }
 
 /// A record, if nothing is at fault beside its list.

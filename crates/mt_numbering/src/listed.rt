@@ -1,4 +1,4 @@
-//! The lists of records, one after another.
+//! The lists of records, one after another. Those of programs and applicants stay where they are.
 ghost use Rattle.std.specs.Prelude.{◌≡◌, map, IfOk};
 ghost use Rattle.mt_records.specs.Fields.{pairs_left};
 ghost use Rattle.mt_numbering.specs.Numbered.{all_seen, lists_seen, program_lists, applicant_lists, couple_lists};
@@ -8,32 +8,32 @@ use mt_records::{Pairs, Record};
 use std::alloc::{AllocError, Global};
 
 /// The lists of programs.
-pub(crate) fn program_lists<'a>(
+pub(crate) fn program_lists<'r, 'a>(
     alloc: Global,
-    records: &[Record<'a>],
-) -> Result<Vec<Option<Fields<'a>>>, AllocError>
+    records: &'r [Record<'a>],
+) -> Result<Vec<Option<&'r Fields<'a>>>, AllocError>
     ensures { IfOk result (λ lists. lists_seen lists.items ≡ program_lists (all_seen records.now)) }
 {
     let mut lists = Vec::new(alloc);
     for one in records {
         if let Record::Program { list, .. } = one {
-            lists.push(Some(*list))?;
+            lists.push(Some(list))?;
         }
     }
     Ok(lists)
 }
 
 /// The lists of applicants: a couple's two members have none.
-pub(crate) fn applicant_lists<'a>(
+pub(crate) fn applicant_lists<'r, 'a>(
     alloc: Global,
-    records: &[Record<'a>],
-) -> Result<Vec<Option<Fields<'a>>>, AllocError>
+    records: &'r [Record<'a>],
+) -> Result<Vec<Option<&'r Fields<'a>>>, AllocError>
     ensures { IfOk result (λ lists. lists_seen lists.items ≡ applicant_lists (all_seen records.now)) }
 {
     let mut lists = Vec::new(alloc);
     for one in records {
         match one {
-            Record::Applicant { list, .. } => lists.push(Some(*list))?,
+            Record::Applicant { list, .. } => lists.push(Some(list))?,
             Record::Couple { .. } => {
                 lists.push(None)?;
                 lists.push(None)?;
@@ -53,8 +53,8 @@ pub(crate) fn couple_lists<'a>(
 {
     let mut lists = Vec::new(alloc);
     for one in records {
-        if let Record::Couple { pairs, .. } = one {
-            lists.push(*pairs)?;
+        if let Record::Couple { fields, .. } = one {
+            lists.push(fields.pairs())?;
         }
     }
     Ok(lists)

@@ -42,15 +42,11 @@ impl NameLists {
                 self.applicants.push_list(*id)?;
                 self.singles.push(true)?;
             }
-            Record::Couple {
-                id,
-                first,
-                second,
-                ..
-            } => {
+            Record::Couple { id, fields } => {
+                let (first, second) = fields.members();
                 self.couples.push_list(*id)?;
-                self.applicants.push_list(*first)?;
-                self.applicants.push_list(*second)?;
+                self.applicants.push_list(first)?;
+                self.applicants.push_list(second)?;
                 self.singles.push(false)?;
                 self.singles.push(false)?;
             }

@@ -91,7 +91,7 @@ pub(crate) fn read_lists<T: Copy + Drop>(
     ids: &IdTable<'_>,
     numbers: &[Option<T>],
     room: &mut u32,
-    lists: &[Option<Fields<'_>>],
+    lists: &[Option<&Fields<'_>>],
 ) -> Result<Option<FlatLists<T>>, AllocError>
     requires { length numbers.now ≡ length ids.now }
     ensures { IfOk result (ReadsLists ids.now numbers.now room.old room.new (lists_seen lists.now)) }
@@ -103,7 +103,7 @@ pub(crate) fn read_lists<T: Copy + Drop>(
         read.begin()?;
         if let Some(fields) = list {
             stamp = next_stamp(alloc, &mut stamps, stamp)?;
-            if !push_list(&mut read, ids, numbers, &mut stamps, stamp, room, *fields)? {
+            if !push_list(&mut read, ids, numbers, &mut stamps, stamp, room, **fields)? {
                 return Ok(None);
             }
         }
@@ -367,9 +367,10 @@ pub(crate) fn members(
 {
     let mut members = Vec::new(alloc);
     for one in records {
-        if let Record::Couple { first, second, .. } = one {
-            let first = number(applicants, numbers, *first).unwrap();
-            let second = number(applicants, numbers, *second).unwrap();
+        if let Record::Couple { fields, .. } = one {
+            let (first, second) = fields.members();
+            let first = number(applicants, numbers, first).unwrap();
+            let second = number(applicants, numbers, second).unwrap();
             members.push((first, second))?;
         }
     }

@@ -55,12 +55,8 @@ impl<'a> Register<'a> {
         match record {
             Record::Program { id, .. } => found(&self.registered.programs, id),
             Record::Applicant { id, .. } => found(&self.applicants, id),
-            Record::Couple {
-                id,
-                first,
-                second,
-                ..
-            } => {
+            Record::Couple { id, fields } => {
+                let (first, second) = fields.members();
                 if self.registered.couples.contains(id) {
                     Some(id)
                 } else if self.applicants.contains(first) {
@@ -83,7 +79,7 @@ impl<'a> Register<'a> {
         match record {
             Record::Program { list, .. } => has_repeat(alloc, *list),
             Record::Applicant { list, .. } => has_repeat(alloc, *list),
-            Record::Couple { pairs, .. } => has_repeated_pair(alloc, *pairs),
+            Record::Couple { fields, .. } => has_repeated_pair(alloc, fields.pairs()),
             Record::Withdraw { kind, id } => Ok(self.withdrawn.of(*kind).contains(id)),
         }
     }
@@ -144,12 +140,8 @@ impl<'a> Register<'a> {
                 self.registered.push(Kind::Applicant, id)?;
                 self.applicants.push(id)?;
             }
-            Record::Couple {
-                id,
-                first,
-                second,
-                ..
-            } => {
+            Record::Couple { id, fields } => {
+                let (first, second) = fields.members();
                 self.registered.push(Kind::Couple, id)?;
                 self.applicants.push(first)?;
                 self.applicants.push(second)?;

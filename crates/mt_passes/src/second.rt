@@ -35,9 +35,9 @@ impl<'a> Register<'a> {
                     first_unknown(&self.registered.programs, *list),
                 )
             }
-            Record::Couple { pairs, .. } => charge_of(
+            Record::Couple { fields, .. } => charge_of(
                 UNKNOWN_PROGRAM,
-                first_unknown_of_pairs(&self.registered.programs, *pairs),
+                first_unknown_of_pairs(&self.registered.programs, fields.pairs()),
             ),
             Record::Withdraw { kind, id } => {
                 if self.registered.of(*kind).contains(id) {

@@ -3,7 +3,7 @@ use Rattle.std.specs.Prelude.{Result, Ok, Err}
 use Rattle.mt_lists.specs.Rows.{fields_left}
 use Rattle.mt_terms.specs.Registration.Faults as faults
 use Rattle.mt_terms.specs.Registration.Records as model
-use Rattle.mt_records.specs.Fields.{pairs_left}
+use Rattle.mt_records.specs.Fields.{members_in, pairs_after}
 use Rattle.mt_records.specs.declared.record.Kind.{Kind}
 use Rattle.mt_records.specs.declared.record.Kind.TheVariants as kinds
 use Rattle.mt_records.specs.declared.record.Record.{Record}
@@ -16,9 +16,9 @@ kind_seen kinds.Applicant = model.OfApplicant
 kind_seen kinds.Couple = model.OfCouple
 
 abbrev pub record_seen : Record → model.Record
-record_seen (records.Program id quota list) = model.ProgramRecord id.now quota (fields_left list)
+record_seen (records.Program quota id list) = model.ProgramRecord id.now quota (fields_left list)
 record_seen (records.Applicant id list) = model.ApplicantRecord id.now (fields_left list)
-record_seen (records.Couple id first second pairs) = model.CoupleRecord id.now first.now second.now (pairs_left pairs)
+record_seen (records.Couple id couple) = model.CoupleRecord id.now (members_in couple).0 (members_in couple).1 (pairs_after couple)
 record_seen (records.Withdraw kind id) = model.WithdrawRecord (kind_seen kind) id.now
 
 abbrev pub charge_seen : Charge → faults.Charge

@@ -1,9 +1,9 @@
-ghost use Rattle.std.specs.Prelude.{◌≡◌, ◌*◌, ◌∷◌, [], length, map, MatchOption};
+ghost use Rattle.std.specs.Prelude.{◌≡◌, ◌*◌, ◌∷◌, [], drop, length, map, MatchOption};
 ghost use Rattle.std.specs.Option.{option_copied};
 ghost use Rattle.std.specs.List.{list_all};
 ghost use Rattle.mt_lists.specs.Rows.{fields_left};
 ghost use Rattle.mt_terms.specs.Registration.Records.{are_ids, is_pair, pair_of};
-ghost use Rattle.mt_records.specs.Fields.{by_pairs, pairs_left};
+ghost use Rattle.mt_records.specs.Fields.{by_pairs, first_two, members_in, pairs_after, pairs_left};
 
 use crate::rules::Rules;
 use mt_ids::{is_dash, is_id};
@@ -105,5 +105,41 @@ impl<'a> Iterator for Pairs<'a> {
     fn next(&mut self) -> Option<(Option<&'a [u8]>, Option<&'a [u8]>)> {
         let (first, second) = next_two(&mut self.fields)?;
         Some((place_of(first), place_of(second)))
+    }
+}
+
+/// What a couple's record writes after its id: its two members, and the pairs of its list.
+#[derive(Clone, Copy, Debug)]
+pub struct CoupleFields<'a> {
+    fields: Fields<'a>,
+}
+
+impl<'a> CoupleFields<'a> {
+    /// The fields of a couple's record after its id.
+    pub fn new(fields: Fields<'a>) -> CoupleFields<'a>
+        ensures members { members_in result ≡ first_two (by_pairs (fields_left fields.entry)) }
+        ensures pairs { pairs_after result ≡ map pair_of (drop 1 (by_pairs (fields_left fields.entry))) }
+    {
+        CoupleFields { fields }
+    }
+
+    /// The ids of the couple's members, which are empty where the record has none.
+    pub fn members(&self) -> (&'a [u8], &'a [u8])
+        ensures { (result.0.now, result.1.now) ≡ members_in self.now }
+    {
+        let mut fields = self.fields;
+        match next_two(&mut fields) {
+            Some(members) => members,
+            None => (&[], &[]),
+        }
+    }
+
+    /// The pairs of the couple's list.
+    pub fn pairs(&self) -> Pairs<'a>
+        ensures { pairs_left result ≡ pairs_after self.now }
+    {
+        let mut fields = self.fields;
+        next_two(&mut fields);
+        Pairs::new(fields)
     }
 }

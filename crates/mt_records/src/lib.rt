@@ -8,7 +8,7 @@ mod record;
 mod refusal;
 mod rules;
 
-pub use fields::Pairs;
+pub use fields::{CoupleFields, Pairs};
 pub use kinds::Kinds;
 pub use limits::are_over;
 pub use record::{

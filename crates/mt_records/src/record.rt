@@ -1,12 +1,13 @@
-ghost use Rattle.std.specs.Prelude.{◌≡◌, ◌&&◌, [], ◌∷◌, codes, bytes_eq, length, option_map, option_to_list};
+ghost use Rattle.std.specs.Prelude.{◌≡◌, ◌&&◌, [], ◌∷◌, codes, bytes_eq, length, map, option_map, option_to_list};
 ghost use Rattle.mt_lists.specs.Rows.{fields_left};
 ghost use Rattle.mt_terms.specs.Registration.Faults.{charge_alone};
-ghost use Rattle.mt_terms.specs.Registration.Records.{kind_of, are_ids, two_by_two, program_record, applicant_record, couple_by_pairs, couple_record, withdraw_record, record_of};
+ghost use Rattle.mt_terms.specs.Registration.Records.{kind_of, are_ids, pair_of, two_by_two, program_record, applicant_record, couple_by_pairs, couple_record, withdraw_record, record_of};
 ghost use Rattle.mt_terms.specs.Registration.Records.{OfProgram, OfCouple};
 ghost use Rattle.mt_terms.specs.Registration.Rows.{id_of, own_id, applicants_of, entries_of};
+ghost use Rattle.mt_records.specs.Fields.{by_pairs, members_in, pairs_after};
 ghost use Rattle.mt_records.specs.Records.{kind_seen, record_seen, charge_seen, read_seen};
 
-use crate::fields::{Pairs, are_ids, are_pairs};
+use crate::fields::{CoupleFields, are_ids, are_pairs};
 use crate::rules::Rules;
 use mt_ids::{is_id, quota_of};
 use mt_lists::Fields;
@@ -20,12 +21,13 @@ pub enum Kind {
     Couple,
 }
 
-/// A record taken apart. Its ids lie in the row.
+/// A record taken apart. Its ids lie in the row. There is one for each row of a file, so a couple's members are found
+/// among its fields where they are asked for: a variant with both ids would make each record larger by half.
 #[derive(Clone, Copy, Debug)]
 pub enum Record<'a> {
     Program {
-        id: &'a [u8],
         quota: u32,
+        id: &'a [u8],
         list: Fields<'a>,
     },
     Applicant {
@@ -34,9 +36,7 @@ pub enum Record<'a> {
     },
     Couple {
         id: &'a [u8],
-        first: &'a [u8],
-        second: &'a [u8],
-        pairs: Pairs<'a>,
+        fields: CoupleFields<'a>,
     },
     Withdraw {
         kind: Kind,
@@ -95,7 +95,7 @@ impl<'a> Record<'a> {
         match self {
             Record::Program { list, .. } => list.len() as u64,
             Record::Applicant { list, .. } => list.len() as u64,
-            Record::Couple { pairs, .. } => pairs.entries() as u64,
+            Record::Couple { fields, .. } => fields.pairs().entries() as u64,
             Record::Withdraw { .. } => 0,
         }
     }
@@ -145,7 +145,7 @@ fn program_record<'a>(rules: &Rules, fields: Fields<'a>) -> Result<Record<'a>, C
         return Err(charge_alone(BAD_ID));
     }
     match quota_of(quota) {
-        Some(quota) => Ok(Record::Program { id, quota, list }),
+        Some(quota) => Ok(Record::Program { quota, id, list }),
         None => Err(Charge {
             code: BAD_QUOTA,
             id,
@@ -176,26 +176,23 @@ pub fn names_are_ids(rules: &Rules, id: &[u8], first: &[u8], second: &[u8]) -> b
     is_id(most, id) && is_id(most, first) && is_id(most, second)
 }
 
-/// A couple by its names and the fields of its list.
+/// A couple by its id, its members and the fields of its list.
 fn couple_by_pairs<'a>(
     rules: &Rules,
     id: &'a [u8],
-    first: &'a [u8],
-    second: &'a [u8],
+    fields: CoupleFields<'a>,
     list: Fields<'a>,
 ) -> Result<Record<'a>, Charge<'a>>
-    ensures { read_seen result ≡ couple_by_pairs rules.now id.now first.now second.now (two_by_two (fields_left list.entry)) }
+    requires { pairs_after fields ≡ map pair_of (by_pairs (fields_left list)) }
+    ensures { read_seen result ≡ couple_by_pairs rules.now id.now (members_in fields.entry).0 (members_in fields.entry).1
+        (two_by_two (fields_left list.entry)) }
 {
     if list.len() % 2 == 1 {
         return Err(charge_alone(FIELD_COUNT));
     }
+    let (first, second) = fields.members();
     if names_are_ids(rules, id, first, second) && are_pairs(rules, list) {
-        Ok(Record::Couple {
-            id,
-            first,
-            second,
-            pairs: Pairs::new(list),
-        })
+        Ok(Record::Couple { id, fields })
     } else {
         Err(charge_alone(BAD_ID))
     }
@@ -209,13 +206,11 @@ fn couple_record<'a>(rules: &Rules, fields: Fields<'a>) -> Result<Record<'a>, Ch
     let Some(id) = list.next() else {
         return Err(charge_alone(FIELD_COUNT));
     };
-    let Some(first) = list.next() else {
+    let fields = CoupleFields::new(list);
+    if list.next().is_none() || list.next().is_none() {
         return Err(charge_alone(FIELD_COUNT));
-    };
-    let Some(second) = list.next() else {
-        return Err(charge_alone(FIELD_COUNT));
-    };
-    couple_by_pairs(rules, id, first, second, list)
+    }
+    couple_by_pairs(rules, id, fields, list)
 }
 
 /// A withdrawal by the fields after its first.

@@ -1,4 +1,4 @@
-use Rattle.std.proofs.Common.{◌≡◌, ap, ◌∙◌, refl, ℕ, List, map, Option}
+use Rattle.std.proofs.Common.{◌≡◌, ap, ◌∙◌, refl, ℕ, List, map, Option, Bor}
 use Rattle.rayon.specs.Lists.{chunks_of, chunks_size, chunks_slice, min_len_base}
 use Rattle.mt_lists.specs.declared.row.Fields.{Fields}
 use Rattle.mt_terms.specs.Registration.Ids.{Bytes}
@@ -10,7 +10,7 @@ use Rattle.mt_numbering.proofs.BlockFacts.{blocks_by_threads, same_blocks}
 use Rattle.mt_numbering.proofs.blocks.read_blocks.Goals as goal
 
 -- what is known of a block of lists
-abbrev IsOfLists : {X : Type 0} → List Bytes → List (Option X) → ℕ → List (Option Fields) → Option (Block X) → Type 0
+abbrev IsOfLists : {X : Type 0} → List Bytes → List (Option X) → ℕ → List (Option (Bor Fields)) → Option (Block X) → Type 0
 IsOfLists ids numbers most lists block = IsBlock (ReadsLists ids numbers) most (map list_seen lists) block
 
 pub returns : goal.returns

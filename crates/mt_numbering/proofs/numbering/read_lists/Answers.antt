@@ -20,7 +20,7 @@ loop-list-preserved g c =
     let inv = c.loop-list.invariant in
     elim c.match-list.branch [
       | in-Some+in_ok-stamp+in_ok-push_list+else-not-branch w ↦
-          let list = fields_left w.in-Some.fields in
+          let list = fields_left w.in-Some.fields.now in
           let is : left ≡ list ∷ rest = grind (arith, common_steps) in
           let stamped = w.next_stamp.new.stamps.items in
           let same : length w.push_list.new.stamps ≡ length stamped = w.push_list.auto.stamps ∙ ap length w.deref_mut.ensures.value in
