@@ -137,22 +137,23 @@ pub(crate) fn join_blocks<T: Copy + Drop>(
 }
 
 /// These lists by numbers, where each names none but these ids, none twice, and there is room for all entries. Many of
-/// them are read side by side.
+/// them are read side by side, and let go before they are joined.
 pub(crate) fn read_side_by_side<R: Threads + Sync, T: Copy + Drop + Send + Sync>(
     rt: &R,
     alloc: Global,
     ids: &IdTable<'_>,
     numbers: &[Option<T>],
     room: &mut u32,
-    lists: &[Option<&Fields<'_>>],
+    lists: Vec<Option<&Fields<'_>>>,
 ) -> Result<Option<FlatLists<T>>, AllocError>
     requires { length numbers.now ≡ length ids.now }
-    ensures { IfOk result (ReadsLists ids.now numbers.now room.old room.new (lists_seen lists.now)) }
+    ensures { IfOk result (ReadsLists ids.now numbers.now room.old room.new (lists_seen lists.entry.items)) }
 {
-    let size = block_size(rt, lists.len(), are_long(lists));
+    let size = block_size(rt, lists.len(), are_long(&lists));
     if lists.len() <= size {
-        return read_lists(alloc, ids, numbers, room, lists);
+        return read_lists(alloc, ids, numbers, room, &lists);
     }
-    let blocks = read_blocks(rt, alloc, ids, numbers, *room, lists, size)?;
+    let blocks = read_blocks(rt, alloc, ids, numbers, *room, &lists, size)?;
+    drop(lists);
     join_blocks(alloc, blocks, room)
 }

@@ -124,7 +124,7 @@ fn rankings<R: Threads + Sync>(
     ensures { IfOk result (ReadsLists applicants.now numbers.now room.old room.new (program_lists (all_seen records.now))) }
 {
     let lists = program_lists(alloc, records)?;
-    read_side_by_side(rt, alloc, applicants, numbers, room, &lists)
+    read_side_by_side(rt, alloc, applicants, numbers, room, lists)
 }
 
 /// The applicants' lists by numbers, where each names programs alone, none twice, and there is room for all entries. A
@@ -141,7 +141,7 @@ fn lists<R: Threads + Sync>(
     ensures { IfOk result (ReadsLists programs.now numbers.now room.old room.new (applicant_lists (all_seen records.now))) }
 {
     let lists = applicant_lists(alloc, records)?;
-    read_side_by_side(rt, alloc, programs, numbers, room, &lists)
+    read_side_by_side(rt, alloc, programs, numbers, room, lists)
 }
 
 /// Where a pair sends a member, by number, if it names none but these programs.
