@@ -1,4 +1,4 @@
-use Rattle.std.proofs.Common.{◌≡◌, Bool, [], ◌∷◌, sym, arith, ◌∙◌, ap, Ok, Err}
+use Rattle.std.proofs.Common.{◌≡◌, [], ◌∷◌, sym, arith, ◌∙◌, ap, Ok, Err}
 use Rattle.mt_lists.specs.Rows.{fields_left}
 use Rattle.mt_terms.specs.Registration.Ids.{Bytes}
 use Rattle.mt_terms.specs.Registration.Records.{CoupleRecord, are_ids}
