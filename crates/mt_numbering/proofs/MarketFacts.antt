@@ -1,6 +1,6 @@
 -- The steps from records to their market: what is registered, what stands among those that stay and those that leave,
 -- and the lists of those that stay by their own numbers.
-use Rattle.std.proofs.Common.{◌≡◌, ℕ, suc, ◌+◌, ◌<◌, ◌≤◌, ◌^◌, Bool, true, false, not, ◌&&◌, ◌||◌, nat_lt, nat_le, List, [], ◌∷◌, map, length, get_or, Option, Some, None, Vec, Global, refl, ap, ap₂, sym, subst, ◌∙◌, arith, cond, if◌then◌else◌}
+use Rattle.std.proofs.Common.{◌≡◌, ℕ, suc, ◌+◌, ◌<◌, ◌≤◌, ◌^◌, Bool, true, false, not, ◌&&◌, ◌||◌, nat_lt, nat_le, List, [], ◌∷◌, map, length, get_or, Option, Some, None, refl, ap, ap₂, sym, subst, ◌∙◌, arith, cond, if◌then◌else◌}
 use Rattle.std.specs.Prelude.{filter, filter_map, flat_map, bytes_eq, is_some, unwrap_or, MatchOption}
 use Rattle.std.specs.List.{list_all}
 use Rattle.std.proofs.lemmas.Bool.{and_parts}
@@ -28,9 +28,9 @@ use Rattle.mt_numbering.specs.declared.registered.Registered.{Registered}
 use Rattle.mt_numbering.specs.Drafts.{has_too_many_names}
 use Rattle.mt_records.specs.Records.{record_seen}
 use Rattle.mt_numbering.specs.Entries.{single_flags, AreNames}
-use Rattle.mt_numbering.specs.Markets.{AreNewNumbers, AreIdsOfRecords, AreEntries, AreUnnamed, GivesEntries, Stays, fit}
+use Rattle.mt_numbering.specs.Markets.{AreNewNumbers, AreIdsOfRecords, AreEntries, AreUnnamed, GivesUnnamed, Stays, fit}
 use Rattle.mt_numbering.specs.Numbered.{all_seen, program_lists, applicant_lists, couple_lists, ranking_in, lists_by, members_in, pairs_in}
-use Rattle.mt_numbering.specs.Reading.{number_by, numbers_by, pairs_by, lists_stand, members_by, HaveNumbers, AreRead, ReadsEntries}
+use Rattle.mt_numbering.specs.Reading.{number_by, numbers_by, pairs_by, lists_stand, members_by, HaveNumbers, AreRead, ReadsEntries, ReadsUnnamed}
 use Rattle.mt_numbering.specs.Registered.{is_registered}
 use Rattle.mt_records.specs.Limits.{AreBounded}
 use Rattle.mt_numbering.specs.Withdrawals.{stays_after, Stand}
@@ -341,6 +341,15 @@ module _ (rules : Rules) (rs : List Record) (r : Registered) (are : AreIdsOfReco
                 ∙ ap (λ (ids : List Bytes). filter_map (pairs_in ids) stay) programs;
           }
 
+    -- what stays of the records, if they have no fault among them
+    pub stays_by : has_too_many_names rules.limits rs ≡ false → (o : Option Unnamed) → GivesUnnamed rules r w n rs o → Stays rules rs o
+    stays_by few None gives = unfit few gives
+    stays_by few (Some u) gives = (
+      faultless gives.0 few,
+      gives.1 ∙ remaining_are rs w stand,
+      subst (λ (zs : List Record). AreUnnamed zs u) (sym gives.1) (record { entries = entries_are gives.0 u.entries gives.2; members = gives.3 ∙ members_are }),
+    )
+
 -- what the steps found
 pub stand_found : (given records : List Checked) (o : Option Kinds) (w : Kinds) → given ≡ records
     → MatchOption o (withdrawals_stand (all_seen given) ≡ false) (Stand (all_seen given)) → o ≡ Some w → Stand (all_seen records) w
@@ -361,13 +370,6 @@ module _ (rules : Rules) (r : Registered) (w : Kinds) (n : Numbers) (rs : List R
 
   abbrev second : List Record
   second = filter (stays_after w) rs
-
-  pub entries_found : (o : Option (Vec Checked Global × Entries)) (v : Vec Checked Global) (e : Entries) → GivesEntries rules r w n rs o → o ≡ Some (v, e)
-      → (fit rules r rs ≡ true) × (all_seen v.items ≡ second) × AreRead r n second e
-  entries_found o v e h is = subst (GivesEntries rules r w n rs) is h
-
-  pub entries_missing : (o : Option (Vec Checked Global × Entries)) → GivesEntries rules r w n rs o → o ≡ None → fit rules r rs ≡ false
-  entries_missing o h is = subst (GivesEntries rules r w n rs) is h
 
   record Fits : Type 0 where
     first_stand : lists_stand rules.half_pairs r.programs r.applicants first ≡ true
@@ -417,3 +419,10 @@ module _ (rules : Rules) (r : Registered) (w : Kinds) (n : Numbers) (rs : List R
       let l : ReadsEntries rules.half_pairs r n room left second p = subst (λ (zs : List Record). ReadsEntries rules.half_pairs r n room left zs p) j k in
       let m : ReadsEntries rules.half_pairs r n room left second None = subst (ReadsEntries rules.half_pairs r n room left second) none l in
       not_true _ (λ t. let f : Fits = fits_parts t in let over : room < entry_count second = m f.second_stand in omega (arith, f.within, over, g.1))
+
+  pub both_given : (room left : ℕ) (o : Option Entries) (q : Option Unnamed) (xs ys : List Record) → xs ≡ first → ys ≡ second
+      → ReadsEntries rules.half_pairs r n rules.limits.entries room xs o → is_some o ≡ true → ReadsUnnamed rules.half_pairs r n room left ys q → GivesUnnamed rules r w n rs q
+  both_given room left o None xs ys i j h some k = second_fails room left o None xs ys i j h some k refl
+  both_given room left o (Some u) xs ys i j h some k =
+      let read = both_read room left o (Some u.entries) u.entries xs ys i j h some k.0 refl in
+      (read.0, k.1 ∙ j, read.1, k.2 ∙ ap (filter_map (members_by r.applicants n.applicants.items)) j)

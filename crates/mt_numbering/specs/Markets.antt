@@ -1,6 +1,5 @@
 -- What is known of records by the steps to their market.
-use Rattle.std.specs.Prelude.{◌≡◌, ◌&&◌, Bool, true, false, nat_le, List, Vec, filter, filter_map, flat_map, Option, Some, None}
-use Rattle.std.specs.Global.{Global}
+use Rattle.std.specs.Prelude.{◌≡◌, ◌&&◌, Bool, true, false, nat_le, List, filter, filter_map, flat_map, Option, Some, None}
 use Rattle.mt_file_laws.specs.Faultless.{is_faultless, faultless_market, ids_differ}
 use Rattle.mt_file_laws.specs.Staying.{new_numbers, program_flags, applicant_flags}
 use Rattle.mt_terms.specs.Market.{Registered as Market}
@@ -12,12 +11,11 @@ use Rattle.mt_terms.specs.Registration.Accepted.{IsRegistration}
 use Rattle.mt_numbering.specs.declared.market.Unnamed.{Unnamed}
 use Rattle.mt_numbering.specs.declared.numbering.Entries.{Entries}
 use Rattle.mt_numbering.specs.declared.numbering.Numbers.{Numbers}
-use Rattle.mt_records.specs.declared.record.Record.{Record as Checked}
 use Rattle.mt_records.specs.declared.kinds.Kinds.{Kinds}
 use Rattle.mt_numbering.specs.declared.registered.Registered.{Registered}
 use Rattle.mt_numbering.specs.Entries.{single_flags}
 use Rattle.mt_numbering.specs.Numbered.{all_seen, members_in, ranking_in, lists_by, pairs_in}
-use Rattle.mt_numbering.specs.Reading.{AreRead, lists_stand}
+use Rattle.mt_numbering.specs.Reading.{AreRead, lists_stand, members_by}
 use Rattle.mt_numbering.specs.Withdrawals.{stays_after}
 
 -- The new numbers are those among the records that stay.
@@ -54,11 +52,12 @@ Stays rules rs (Some u) =
 abbrev pub fit : Rules → Registered → List Record → Bool
 fit rules r rs = lists_stand rules.half_pairs r.programs r.applicants rs && nat_le (entry_count rs) rules.limits.entries
 
--- The records that stay, and what their lists say by new numbers, where the lists of all fit.
-abbrev pub GivesEntries : Rules → Registered → Kinds → Numbers → List Record → Option (Vec Checked Global × Entries) → Type 0
-GivesEntries rules r w n rs None = fit rules r rs ≡ false
-GivesEntries rules r w n rs (Some found) =
-    (fit rules r rs ≡ true) × (all_seen found.0.items ≡ filter (stays_after w) rs) × AreRead r n (filter (stays_after w) rs) found.1
+-- The records that stay, what their lists say by new numbers, and their couples' members, where the lists of all fit.
+abbrev pub GivesUnnamed : Rules → Registered → Kinds → Numbers → List Record → Option Unnamed → Type 0
+GivesUnnamed rules r w n rs None = fit rules r rs ≡ false
+GivesUnnamed rules r w n rs (Some u) =
+    (fit rules r rs ≡ true) × (all_seen u.records.items ≡ filter (stays_after w) rs) × AreRead r n (filter (stays_after w) rs) u.entries
+    × (u.members.items ≡ filter_map (members_by r.applicants n.applicants.items) (filter (stays_after w) rs))
 
 -- The market of these records, if they have no fault among them.
 abbrev pub IsMarketOf : Rules → List Record → Option Market → Type 0

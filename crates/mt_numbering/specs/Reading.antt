@@ -10,10 +10,11 @@ use Rattle.mt_terms.specs.Registration.Records.{Record, CoupleRecord, IdPair}
 use Rattle.mt_terms.specs.Registration.Rows.{entry_count}
 use Rattle.mt_terms.specs.Registration.Passes.{is_same_pair}
 use Rattle.mt_terms.specs.Registration.Numbering.{pair_by_number}
+use Rattle.mt_numbering.specs.declared.market.Unnamed.{Unnamed}
 use Rattle.mt_numbering.specs.declared.numbering.Entries.{Entries}
 use Rattle.mt_numbering.specs.declared.numbering.Numbers.{Numbers}
 use Rattle.mt_numbering.specs.declared.registered.Registered.{Registered}
-use Rattle.mt_numbering.specs.Numbered.{with_more, program_lists, applicant_lists, couple_lists}
+use Rattle.mt_numbering.specs.Numbered.{all_seen, with_more, program_lists, applicant_lists, couple_lists}
 
 -- the new number of an id, if it has one
 abbrev pub number_by : {X : Type 0} → List Bytes → List (Option X) → Bytes → Option X
@@ -75,6 +76,25 @@ pub record AreRead (r : Registered) (n : Numbers) (rs : List Record) (e : Entrie
   pub lists : e.lists ≡ map (numbers_by r.programs n.programs.items) (applicant_lists rs)
   pub pairs : e.pairs ≡ map (pairs_by r.programs n.programs.items) (couple_lists rs)
 
+-- whether the lists of applicants and of couples stand, by all programs, and how many entries they have
+abbrev pub others_stand : Bool → List Bytes → List Record → Bool
+others_stand half_pairs programs rs =
+    list_all (stands_once programs) (applicant_lists rs) && list_all (pairs_once half_pairs programs) (couple_lists rs)
+
+abbrev pub other_entries : List Record → ℕ
+other_entries rs = sum_by length (applicant_lists rs) + sum_by pair_entries (couple_lists rs)
+
+-- What these lists say by new numbers, beside those of the programs.
+pub record AreReadBeside (programs : List Bytes) (numbers : List (Option ℕ)) (rs : List Record) (rankings_are : List (List ℕ)) (e : Entries) : Type 0 where
+  pub rankings : e.rankings ≡ rankings_are
+  pub lists : e.lists ≡ map (numbers_by programs numbers) (applicant_lists rs)
+  pub pairs : e.pairs ≡ map (pairs_by programs numbers) (couple_lists rs)
+
+abbrev pub ReadsOthers : Bool → List Bytes → List (Option ℕ) → ℕ → ℕ → List Record → List (List ℕ) → Option Entries → Type 0
+ReadsOthers half_pairs programs numbers room left rs rankings (Some e) =
+    (others_stand half_pairs programs rs ≡ true) × (left + other_entries rs ≡ room) × AreReadBeside programs numbers rs rankings e
+ReadsOthers half_pairs programs numbers room left rs rankings None = others_stand half_pairs programs rs ≡ true → room < other_entries rs
+
 abbrev pub ReadsEntries : Bool → Registered → Numbers → ℕ → ℕ → List Record → Option Entries → Type 0
 ReadsEntries half_pairs r n room left rs (Some e) =
     (lists_stand half_pairs r.programs r.applicants rs ≡ true) × (left + entry_count rs ≡ room) × AreRead r n rs e
@@ -88,3 +108,10 @@ HaveNumbers ids numbers list = list_all (λ id. has_id ids id && is_some (number
 abbrev pub members_by : List Bytes → List (Option ℕ) → Record → Option (ℕ × ℕ)
 members_by ids numbers (CoupleRecord id a b pairs) = Some (unwrap_or (number_by ids numbers a) 0, unwrap_or (number_by ids numbers b) 0)
 members_by ids numbers _ = None
+
+-- What the lists of these records say by new numbers, and their couples' members.
+abbrev pub ReadsUnnamed : Bool → Registered → Numbers → ℕ → ℕ → List Record → Option Unnamed → Type 0
+ReadsUnnamed half_pairs r n room left rs (Some u) =
+    ReadsEntries half_pairs r n room left rs (Some u.entries) × (all_seen u.records.items ≡ rs)
+    × (u.members.items ≡ filter_map (members_by r.applicants n.applicants.items) rs)
+ReadsUnnamed half_pairs r n room left rs None = ReadsEntries half_pairs r n room left rs None

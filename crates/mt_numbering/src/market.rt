@@ -1,6 +1,6 @@
 //! The market of rows without a fault: all records are taken apart, all ids numbered, each entry looked up once, and by
 //! then it is known whether any record has a fault. Which one, and what it is, the passes over the records tell.
-ghost use Rattle.std.specs.Prelude.{◌≡◌, ◌<◌, ◌^◌, true, false, length, filter_map, IfOk};
+ghost use Rattle.std.specs.Prelude.{◌≡◌, ◌<◌, ◌^◌, true, false, length, filter, filter_map, IfOk};
 ghost use Rattle.mt_lists.specs.Rows.{rows_left};
 ghost use Rattle.mt_file_laws.specs.Faultless.{faultless_market, is_faultless};
 ghost use Rattle.mt_terms.specs.Registration.Accepted.{IsRegistration};
@@ -9,13 +9,17 @@ ghost use Rattle.mt_terms.specs.Registration.Records.{OfProgram};
 ghost use Rattle.mt_terms.specs.Registration.Rows.{ids_of, applicant_ids};
 ghost use Rattle.mt_numbering.specs.Drafts.{drafted, has_too_many_names, with_fields, AreDrafts};
 ghost use Rattle.mt_numbering.specs.Entries.{AreNames};
-ghost use Rattle.mt_numbering.specs.Markets.{AcceptsRegistrations, AreIdsOfRecords, AreNewNumbers, AreUnnamed, GivesEntries, IsMarketOf, Stays};
+ghost use Rattle.mt_numbering.specs.Markets.{AcceptsRegistrations, AreIdsOfRecords, AreNewNumbers, AreUnnamed, GivesUnnamed, IsMarketOf, Stays};
 ghost use Rattle.mt_numbering.specs.Numbered.{all_seen, members_in, registered_by_all};
+ghost use Rattle.mt_numbering.specs.Reading.{HaveNumbers, ReadsUnnamed};
+ghost use Rattle.mt_numbering.specs.Withdrawals.{stays_after};
 ghost use Rattle.mt_records.specs.Limits.{AreBounded};
 
 use crate::drafts::{Drafts, drafts_of};
 use crate::names::{NameLists, names_of};
-use crate::numbering::{Entries, Numbers, agents, entries_of, members, quotas};
+use crate::numbering::{
+    Entries, Numbers, agents, entries_of, members, other_entries, quotas, rankings,
+};
 use crate::registered::Registered;
 use crate::withdrawals::{applicant_numbers, leaving, program_numbers, staying, withdrawn_by};
 use mt_lists::RowsIter;
@@ -76,40 +80,93 @@ fn with_names(alloc: Global, unnamed: Unnamed<'_>, names: NameLists) -> Result<R
     }))
 }
 
-/// The records that stay where these ids are withdrawn, and what their lists say by new numbers, where the lists of all
-/// records stand and have no more entries than a version takes.
-fn read_entries<'a, R: Threads + Sync>(
+/// What the lists of records say by new numbers, and their couples' members, where each list names none but these ids,
+/// none twice, and there is room for all entries. The ids of applicants are looked up first and let go then: their
+/// table is one of the largest, and the lists of applicants name programs alone.
+fn read_unnamed<'a, R: Threads + Sync>(
+    rt: &R,
+    alloc: Global,
+    registered: Registered<'_>,
+    numbers: &Numbers,
+    half_pairs: bool,
+    room: &mut u32,
+    records: Vec<Record<'a>>,
+) -> Result<Option<Unnamed<'a>>, AllocError>
+    requires programs { length numbers.now.programs.items ≡ length registered.programs }
+    requires applicants { length numbers.now.applicants.items ≡ length registered.applicants }
+    requires members { HaveNumbers registered.applicants numbers.now.applicants.items (applicant_ids (all_seen records.items)) }
+    ensures { IfOk result (ReadsUnnamed half_pairs registered.entry numbers.now room.old room.new
+        (all_seen records.entry.items)) }
+{
+    let Registered {
+        programs,
+        applicants,
+        ..
+    } = registered;
+    let members = members(alloc, &applicants, &numbers.applicants, &records)?;
+    let Some(rankings) = rankings(rt, alloc, &applicants, &numbers.applicants, room, &records)?
+    else {
+        return Ok(None);
+    };
+    drop(applicants);
+    let Some(entries) = other_entries(
+        rt,
+        alloc,
+        &programs,
+        &numbers.programs,
+        half_pairs,
+        room,
+        rankings,
+        &records,
+    )?
+    else {
+        return Ok(None);
+    };
+    Ok(Some(Unnamed {
+        records,
+        entries,
+        members,
+    }))
+}
+
+/// The records that stay where these ids are withdrawn, what their lists say by new numbers, and their couples'
+/// members, where the lists of all records stand and have no more entries than a version takes.
+fn staying_unnamed<'a, R: Threads + Sync>(
     rt: &R,
     alloc: Global,
     rules: &Rules,
-    registered: &Registered<'_>,
+    registered: Registered<'_>,
     withdrawn: &Kinds<'_>,
     numbers: &Numbers,
     records: Vec<Record<'a>>,
-) -> Result<Option<(Vec<Record<'a>>, Entries)>, AllocError>
-    requires programs { length numbers.now.programs.items ≡ length registered.now.programs }
-    requires applicants { length numbers.now.applicants.items ≡ length registered.now.applicants }
-    ensures { IfOk result (GivesEntries rules.now registered.now withdrawn.now numbers.now
+) -> Result<Option<Unnamed<'a>>, AllocError>
+    requires programs { length numbers.now.programs.items ≡ length registered.programs }
+    requires applicants { length numbers.now.applicants.items ≡ length registered.applicants }
+    requires members { HaveNumbers registered.applicants numbers.now.applicants.items
+        (applicant_ids (filter (stays_after withdrawn.now) (all_seen records.items))) }
+    ensures { IfOk result (GivesUnnamed rules.now registered.entry withdrawn.now numbers.now
         (all_seen records.entry.items)) }
 {
     let mut room = rules.limits.entries;
     let half_pairs = rules.half_pairs;
     let leaving = leaving(alloc, withdrawn, &records)?;
     if entries_of(
-        rt, alloc, registered, numbers, half_pairs, &mut room, &leaving,
+        rt,
+        alloc,
+        &registered,
+        numbers,
+        half_pairs,
+        &mut room,
+        &leaving,
     )?
     .is_none()
     {
         return Ok(None);
     }
     let staying = staying(withdrawn, records);
-    let Some(entries) = entries_of(
-        rt, alloc, registered, numbers, half_pairs, &mut room, &staying,
-    )?
-    else {
-        return Ok(None);
-    };
-    Ok(Some((staying, entries)))
+    read_unnamed(
+        rt, alloc, registered, numbers, half_pairs, &mut room, staying,
+    )
 }
 
 /// What stays of records, by their ids, none of which is registered twice, if they have no fault among them.
@@ -117,30 +174,19 @@ fn unnamed_by<'a, R: Threads + Sync>(
     rt: &R,
     alloc: Global,
     rules: &Rules,
-    ids: &Registered<'_>,
+    ids: Registered<'_>,
     records: Vec<Record<'a>>,
 ) -> Result<Option<Unnamed<'a>>, AllocError>
     requires limits { AreBounded rules.now.limits }
-    requires ids { AreIdsOfRecords (all_seen records.items) ids.now }
+    requires ids { AreIdsOfRecords (all_seen records.items) ids }
     requires few { has_too_many_names rules.now.limits (all_seen records.items) ≡ false }
     ensures { IfOk result (Stays rules.now (all_seen records.entry.items)) }
 {
-    let Some(withdrawn) = withdrawn_by(alloc, ids, &records)? else {
+    let Some(withdrawn) = withdrawn_by(alloc, &ids, &records)? else {
         return Ok(None);
     };
     let numbers = numbers_of(alloc, &withdrawn, &records)?;
-    let Some((records, entries)) = read_entries(
-        rt, alloc, rules, ids, &withdrawn, &numbers, records,
-    )?
-    else {
-        return Ok(None);
-    };
-    let members = members(alloc, &ids.applicants, &numbers.applicants, &records)?;
-    Ok(Some(Unnamed {
-        records,
-        entries,
-        members,
-    }))
+    staying_unnamed(rt, alloc, rules, ids, &withdrawn, &numbers, records)
 }
 
 /// What stays of records with these ids, if they have no fault among them.
@@ -157,7 +203,7 @@ fn unnamed_of<'a, R: Threads + Sync>(
     ensures { IfOk result (Stays rules.now (all_seen records.entry.items)) }
 {
     match Registered::of(alloc, names)? {
-        Some(ids) => unnamed_by(rt, alloc, rules, &ids, records),
+        Some(ids) => unnamed_by(rt, alloc, rules, ids, records),
         None => Ok(None),
     }
 }

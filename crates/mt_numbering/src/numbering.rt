@@ -9,7 +9,7 @@ ghost use Rattle.mt_file_laws.specs.Faultless.{is_allowed};
 ghost use Rattle.mt_file_laws.specs.Staying.{new_place, new_pair};
 ghost use Rattle.mt_records.specs.Fields.{pairs_left};
 ghost use Rattle.mt_numbering.specs.Numbered.{all_seen, place_in, pair_in, quota_in, bare_couples, lists_seen, program_lists, applicant_lists, couple_lists};
-ghost use Rattle.mt_numbering.specs.Reading.{AreStampedBelow, ReadsList, ReadsLists, ReadsPairs, ReadsAllPairs, ReadsEntries, number_by, members_by, HaveNumbers};
+ghost use Rattle.mt_numbering.specs.Reading.{AreStampedBelow, ReadsList, ReadsLists, ReadsPairs, ReadsAllPairs, ReadsEntries, ReadsOthers, number_by, members_by, HaveNumbers};
 
 use crate::blocks::read_side_by_side;
 use crate::duplicates::has_duplicate;
@@ -112,7 +112,7 @@ pub(crate) fn read_lists<T: Copy + Drop>(
 }
 
 /// The programs' lists by numbers, where each names applicants alone, none twice, and there is room for all entries.
-fn rankings<R: Threads + Sync>(
+pub(crate) fn rankings<R: Threads + Sync>(
     rt: &R,
     alloc: Global,
     applicants: &IdTable<'_>,
@@ -303,6 +303,35 @@ pub(crate) struct Entries {
     pub(crate) pairs: FlatLists<(Option<ProgNo>, Option<ProgNo>)>,
 }
 
+/// What the lists of records say by numbers, once those of programs are read: where those of applicants name none but
+/// these programs, none twice, all pairs are allowed and name none but these, and there is room for all entries.
+pub(crate) fn other_entries<R: Threads + Sync>(
+    rt: &R,
+    alloc: Global,
+    programs: &IdTable<'_>,
+    numbers: &[Option<ProgNo>],
+    half_pairs: bool,
+    room: &mut u32,
+    rankings: FlatLists<AppNo>,
+    records: &[Record<'_>],
+) -> Result<Option<Entries>, AllocError>
+    requires { length numbers.now ≡ length programs.now }
+    ensures { IfOk result (ReadsOthers half_pairs programs.now numbers.now room.old room.new
+        (all_seen records.now) rankings) }
+{
+    let Some(lists) = lists(rt, alloc, programs, numbers, room, records)? else {
+        return Ok(None);
+    };
+    let Some(pairs) = pairs(rt, alloc, programs, numbers, half_pairs, room, records)? else {
+        return Ok(None);
+    };
+    Ok(Some(Entries {
+        rankings,
+        lists,
+        pairs,
+    }))
+}
+
 /// What the lists of records say by numbers, where each names none but these programs or applicants, none twice, all
 /// pairs are allowed, and there is room for all entries.
 pub(crate) fn entries_of<R: Threads + Sync>(
@@ -323,27 +352,16 @@ pub(crate) fn entries_of<R: Threads + Sync>(
     let Some(rankings) = rankings(rt, alloc, applicants, &numbers.applicants, room, records)? else {
         return Ok(None);
     };
-    let programs = &registered.programs;
-    let Some(lists) = lists(rt, alloc, programs, &numbers.programs, room, records)? else {
-        return Ok(None);
-    };
-    let Some(pairs) = pairs(
+    other_entries(
         rt,
         alloc,
-        programs,
+        &registered.programs,
         &numbers.programs,
         half_pairs,
         room,
-        records,
-    )?
-    else {
-        return Ok(None);
-    };
-    Ok(Some(Entries {
         rankings,
-        lists,
-        pairs,
-    }))
+        records,
+    )
 }
 
 /// The new number of an id, if it is one of these and has one.
