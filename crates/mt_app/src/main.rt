@@ -6,6 +6,8 @@ ghost use Rattle.mt_app.specs.Program.{IsExitFor, IsRun, IsTold};
 ghost use Rattle.mt_args.specs.CommandLine.{texts_of};
 ghost use Rattle.mt_terms.specs.Text.{is_known_code, refused as refused_text};
 ghost use Rattle.mt_report.specs.Drains.{contents_of, failures_of};
+ghost use Rattle.mt_lists.specs.Tap.{bytes_left, reads_of};
+ghost use Rattle.mt_run.specs.Answer.{most_bytes};
 ghost use Rattle.mt_run.specs.Status.{status_of};
 
 use mt_args::{AskEnd, Asked, asked};
@@ -39,6 +41,22 @@ fn words_of(rt: &HostRuntime) -> io::Result<Vec<String>> {
     Ok(words)
 }
 
+/// Runs the match of what the tap gives, and gives the exit status.
+fn run_tap<T: Threads + Wait + Sync, R: Read, W: Write>(
+    rt: &T,
+    alloc: Global,
+    tap: &mut Tap<R>,
+    drain: &mut Drain<W>,
+    options: Options,
+) -> u8
+    requires reads { reads_of tap.old + most_bytes < u64.MAX }
+    requires failures { failures_of drain.old + 1 < 2 ^ 64 }
+    requires workers { (1 ≤ options.workers) × (options.workers ≤ 64) }
+    ensures { IsRun (bytes_left R.remaining tap.old) options.budget (contents_of W.contents drain.old) (contents_of W.contents drain.new) result }
+{
+    run(rt, alloc, tap, drain, options).status()
+}
+
 /// Runs the match of what the reader gives, and gives the exit status.
 fn run_match<T: Threads + Wait + Sync, R: Read + Drop, W: Write>(
     rt: &T,
@@ -51,7 +69,8 @@ fn run_match<T: Threads + Wait + Sync, R: Read + Drop, W: Write>(
     requires workers { (1 ≤ options.workers) × (options.workers ≤ 64) }
     ensures { IsRun (R.remaining reader) options.budget (contents_of W.contents drain.old) (contents_of W.contents drain.new) result }
 {
-    run(rt, alloc, &mut Tap::new(reader), drain, options).status()
+    let mut tap = Tap::new(reader);
+    run_tap(rt, alloc, &mut tap, drain, options)
 }
 
 /// Writes the refusal of a run that can't begin, and gives the exit status.

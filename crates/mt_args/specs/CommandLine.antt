@@ -45,11 +45,13 @@ budget_rule = record (new_rule (codes "budget")) {
   defaults = codes "1000000" ∷ [];
 }
 
--- the command, whose words begin after the program's name; `--help`, `-h`, `--version` and `-V` are added by `clap`
+-- the command without its arguments, whose words begin after the program's name; `--help`, `-h`, `--version` and `-V` are
+-- added by `clap`
+abbrev pub plain : App
+plain = on_top (λ s. record s { no_binary_name = true; has_version = true }) (new_app (codes "nrmatch"))
+
 abbrev pub nrmatch : App
-nrmatch = with_rule (with_rule (with_rule
-    (on_top (λ s. record s { no_binary_name = true; has_version = true }) (new_app (codes "nrmatch")))
-    file_rule) workers_rule) budget_rule
+nrmatch = with_rule (with_rule (with_rule plain file_rule) workers_rule) budget_rule
 
 -- ---- what the words ask for
 

@@ -3,6 +3,7 @@
 use mt_args::{AskEnd, Asked, asked};
 use mt_terms::Options;
 use std::alloc::{AllocError, Global};
+use std::process::Abort;
 use std::test::Fail;
 
 fn owned(alloc: Global, words: &[&str]) -> Result<Vec<String>, AllocError> {
@@ -19,6 +20,23 @@ fn ask(alloc: Global, words: &[&str]) -> Result<Result<Asked, AskEnd>, AllocErro
     Ok(asked(alloc, owned.as_slice()))
 }
 
+// Whether this is the file that is wanted.
+fn is_file(file: &Option<String>, wanted: Option<&str>) -> bool {
+    match (file, wanted) {
+        (Some(path), Some(name)) => path.as_str() == name,
+        (None, None) => true,
+        _ => false,
+    }
+}
+
+// Whether a run of this file with these options is asked for.
+fn is_run(asked: &Asked, wanted: Option<&str>, wanted_options: Options) -> bool {
+    match asked {
+        Asked::Run { file, options } => is_file(file, wanted) && *options == wanted_options,
+        _ => false,
+    }
+}
+
 // Whether the words ask for a run of this file with these options.
 fn asks_for(
     alloc: Global,
@@ -27,21 +45,10 @@ fn asks_for(
     options: Options,
 ) -> Result<bool, AllocError> {
     let answer = ask(alloc, words)?;
-    let Ok(
-        Asked::Run {
-            file,
-            options: asked,
-        },
-    ) = &answer
-    else {
-        return Ok(false);
-    };
-    let is_file = match (file, wanted) {
-        (Some(path), Some(name)) => path.as_str() == name,
-        (None, None) => true,
-        _ => false,
-    };
-    Ok(is_file && *asked == options)
+    match &answer {
+        Ok(asked) => Ok(is_run(asked, wanted, options)),
+        Err(_) => Ok(false),
+    }
 }
 
 // Whether the words are refused, with a complaint that has this text.
@@ -72,33 +79,38 @@ fn is_version(alloc: Global, words: &[&str]) -> Result<bool, AllocError> {
     }
 }
 
+fn expect_run(
+    rt: &impl Abort,
+    alloc: Global,
+    words: &[&str],
+    wanted: Option<&str>,
+    options: Options,
+) -> Result<(), AllocError> {
+    assert!(rt; asks_for(alloc, words, wanted, options)?, "{words:?}");
+    Ok(())
+}
+
 #[test]
 fn words_give_the_file_and_the_options(rt: HostRuntime) -> Result<(), Fail> {
     let usual = Options {
         workers: 4,
         budget: 1_000_000,
     };
-    assert!(rt; asks_for(rt.alloc(), &[], None, usual)?);
+    expect_run(&rt, rt.alloc(), &[], None, usual)?;
     let most = Options {
         workers: 64,
         budget: 4_294_967_295,
     };
     let words = ["--workers", "64", "--budget", "4294967295", "f"];
-    assert!(rt; asks_for(rt.alloc(), &words, Some("f"), most)?);
+    expect_run(&rt, rt.alloc(), &words, Some("f"), most)?;
     let least = Options {
         workers: 1,
         budget: 1,
     };
-    assert!(rt;
-        asks_for(
-            rt.alloc(),
-            &["f", "--workers=1", "--budget=+01"],
-            Some("f"),
-            least
-        )?
-    );
+    let words = ["f", "--workers=1", "--budget=+01"];
+    expect_run(&rt, rt.alloc(), &words, Some("f"), least)?;
     // After two hyphens each word is a file.
-    assert!(rt; asks_for(rt.alloc(), &["--", "--help"], Some("--help"), usual)?);
+    expect_run(&rt, rt.alloc(), &["--", "--help"], Some("--help"), usual)?;
     Ok(())
 }
 
@@ -142,6 +154,16 @@ fn words_that_ask_for_the_version(rt: HostRuntime) -> Result<(), Fail> {
     Ok(())
 }
 
+fn expect_complaint(
+    rt: &impl Abort,
+    alloc: Global,
+    words: &[&str],
+    text: &str,
+) -> Result<(), AllocError> {
+    assert!(rt; is_refused(alloc, words, text)?, "{words:?}");
+    Ok(())
+}
+
 #[test]
 fn usage_says_what_is_wrong(rt: HostRuntime) -> Result<(), Fail> {
     let range = "\
@@ -149,7 +171,7 @@ error: invalid value '65' for '--workers <N>': 65 is not in 1..=64
 
 For more information, try '--help'.
 ";
-    assert!(rt; is_refused(rt.alloc(), &["--workers", "65"], range)?);
+    expect_complaint(&rt, rt.alloc(), &["--workers", "65"], range)?;
     let unknown = "\
 error: unexpected argument 'g' found
 
@@ -157,6 +179,6 @@ Usage: nrmatch [OPTIONS] [FILE]
 
 For more information, try '--help'.
 ";
-    assert!(rt; is_refused(rt.alloc(), &["f", "g"], unknown)?);
+    expect_complaint(&rt, rt.alloc(), &["f", "g"], unknown)?;
     Ok(())
 }

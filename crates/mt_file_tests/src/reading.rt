@@ -46,19 +46,23 @@ fn spreadsheet_rows(rt: HostRuntime) -> Result<(), Fail> {
     Ok(())
 }
 
+fn expect_no_row(rt: &impl Abort, alloc: Global, input: &[u8]) -> Result<(), ListFault> {
+    assert!(rt; records(alloc, input)?.iter().next().is_none());
+    Ok(())
+}
+
+fn expect_two_marks(rt: &impl Abort, alloc: Global, input: &[u8]) {
+    let twice = records(alloc, input);
+    assert!(rt; matches!(twice, Err(ListFault::TwoMarks)));
+}
+
 #[test]
 fn quotes_and_marks(rt: HostRuntime) -> Result<(), Fail> {
     let rows = records(rt.alloc(), b"match,1\napplicant,\"a\"\"1\"\n")?;
     expect_rows(&rt, &rows, &[&[b"match", b"1"], &[b"applicant", b"a\"1"]]);
-    let twice = records(rt.alloc(), b"\xEF\xBB\xBF\xEF\xBB\xBFmatch,1\n");
-    assert!(rt; matches!(twice, Err(ListFault::TwoMarks)));
-    assert!(rt;
-        records(rt.alloc(), b"\xEF\xBB\xBF")?
-            .iter()
-            .next()
-            .is_none()
-    );
-    assert!(rt; records(rt.alloc(), b"")?.iter().next().is_none());
+    expect_two_marks(&rt, rt.alloc(), b"\xEF\xBB\xBF\xEF\xBB\xBFmatch,1\n");
+    expect_no_row(&rt, rt.alloc(), b"\xEF\xBB\xBF")?;
+    expect_no_row(&rt, rt.alloc(), b"")?;
     Ok(())
 }
 
@@ -78,17 +82,21 @@ fn interrupted_read_fails(rt: HostRuntime) -> Result<(), Fail> {
     Ok(())
 }
 
-// Each read that fails ends the call, and isn't made again, though the reader would go on.
+// A read that fails ends the call, and isn't made again, though the reader would go on.
+fn expect_last_read(rt: &impl Abort, alloc: Global, at: u32, failure: ErrorKind) {
+    let mut source = Pieces::new(b"0123456789", 3, at, failure);
+    let mut tap = Tap::new(&mut source);
+    let result = read_all(alloc, &mut tap, 10);
+    assert!(rt; matches!(result, Err(ReadEnd::Fault)));
+    assert_eq!(rt; (tap.reads(), tap.failures()), (u64::from(at), 1));
+    assert_eq!(rt; source.calls, at);
+}
+
 #[test]
 fn a_read_that_fails_is_the_last(rt: HostRuntime) {
     for failure in [ErrorKind::Interrupted, ErrorKind::Other] {
         for at in 1..=5u32 {
-            let mut source = Pieces::new(b"0123456789", 3, at, failure);
-            let mut tap = Tap::new(&mut source);
-            let result = read_all(rt.alloc(), &mut tap, 10);
-            assert!(rt; matches!(result, Err(ReadEnd::Fault)));
-            assert_eq!(rt; (tap.reads(), tap.failures()), (u64::from(at), 1));
-            assert_eq!(rt; source.calls, at);
+            expect_last_read(&rt, rt.alloc(), at, failure);
         }
     }
 }
@@ -146,15 +154,35 @@ fn joined(alloc: Global, row: &Row<'_>) -> Result<Vec<u8>, AllocError> {
     Ok(joined)
 }
 
-// A row of three fields, of which the second is empty.
-fn expect_three_fields(rt: &impl Abort, alloc: Global, row: &Row<'_>) -> Result<(), Fail> {
-    assert!(rt; !row.is_empty());
-    assert_eq!(rt; row.fields().len(), 3);
+fn expect_joined(rt: &impl Abort, alloc: Global, row: &Row<'_>) -> Result<(), AllocError> {
     assert_eq!(rt; joined(alloc, row)?.as_slice(), b"abc".as_slice());
+    Ok(())
+}
+
+// Two fields are taken from the row, and the third is left.
+fn expect_third_left(rt: &impl Abort, row: &Row<'_>) {
     let mut left = row.fields();
     assert!(rt; left.next() == Some(b"a".as_slice()));
     assert!(rt; left.next() == Some(b"".as_slice()));
     assert_eq!(rt; left.len(), 1);
+}
+
+// A row of three fields, of which the second is empty.
+fn expect_three_fields(rt: &impl Abort, alloc: Global, row: &Row<'_>) -> Result<(), AllocError> {
+    assert!(rt; !row.is_empty());
+    assert_eq!(rt; row.fields().len(), 3);
+    expect_joined(rt, alloc, row)?;
+    expect_third_left(rt, row);
+    Ok(())
+}
+
+fn expect_one_row(rt: &impl Abort, alloc: Global, rows: &Rows<'_>) -> Result<(), AllocError> {
+    let mut left = rows.iter();
+    let Some(row) = left.next() else {
+        panic!(rt; "no row");
+    };
+    expect_three_fields(rt, alloc, &row)?;
+    assert!(rt; left.next().is_none());
     Ok(())
 }
 
@@ -163,12 +191,7 @@ fn expect_three_fields(rt: &impl Abort, alloc: Global, row: &Row<'_>) -> Result<
 fn fields_of_a_row(rt: HostRuntime) -> Result<(), Fail> {
     for text in [b"a,,bc,,\n".as_slice(), b"\"a\",,bc,,\n".as_slice()] {
         let rows = records(rt.alloc(), text)?;
-        let mut left = rows.iter();
-        let Some(row) = left.next() else {
-            panic!(&rt; "no row");
-        };
-        expect_three_fields(&rt, rt.alloc(), &row)?;
-        assert!(rt; left.next().is_none());
+        expect_one_row(&rt, rt.alloc(), &rows)?;
     }
     Ok(())
 }

@@ -8,7 +8,7 @@ mod markets;
 mod withdrawals;
 
 use mt_lists::{ListFault, records};
-use mt_roster::{Roster, RosterError, roster};
+use mt_roster::{Roster, RosterError, RosterFault, roster};
 use mt_terms::{Agent, AppNo, CoupleNo, ProgNo};
 use std::alloc::Global;
 use std::process::Abort;
@@ -50,6 +50,21 @@ fn add_program(
     Ok(())
 }
 
+/// Adds ` single NUMBER`, or ` couple NUMBER` for a member of a couple.
+fn add_agent(alloc: Global, text: &mut Vec<u8>, agent: Agent) -> Result<(), Fail> {
+    match agent {
+        Agent::Single(number) => {
+            text.extend_from_slice(b" single")?;
+            add_number(alloc, text, number.0)?;
+        }
+        Agent::Couple(number) => {
+            text.extend_from_slice(b" couple")?;
+            add_number(alloc, text, number.0)?;
+        }
+    }
+    Ok(())
+}
+
 /// Adds an applicant's line: `applicant ID single NUMBER: PROGRAMS`, or `applicant ID couple NUMBER:` for a member.
 fn add_applicant(
     alloc: Global,
@@ -61,16 +76,7 @@ fn add_applicant(
 {
     text.extend_from_slice(b"applicant ")?;
     text.extend_from_slice(roster.applicant_id(applicant))?;
-    match roster.agent_of(applicant) {
-        Agent::Single(number) => {
-            text.extend_from_slice(b" single")?;
-            add_number(alloc, text, number.0)?;
-        }
-        Agent::Couple(number) => {
-            text.extend_from_slice(b" couple")?;
-            add_number(alloc, text, number.0)?;
-        }
-    }
+    add_agent(alloc, text, roster.agent_of(applicant))?;
     text.extend_from_slice(b":")?;
     for program in roster.single_list(applicant) {
         add_number(alloc, text, program.0)?;
@@ -123,30 +129,44 @@ fn shows(alloc: Global, roster: &Roster, market: &str) -> Result<bool, Fail> {
     Ok(shown(alloc, roster)?.as_slice() == market.as_bytes())
 }
 
+/// The market of a file that is accepted.
+fn accepted<R: Threads + Sync>(rt: &R, alloc: Global, file: &str) -> Result<Roster, Fail> {
+    let rows = records(alloc, file.as_bytes())?;
+    Ok(roster(rt, alloc, &rows)?)
+}
+
 /// Whether a file is accepted, and its market is the one of this text.
 fn gives<R: Threads + Sync>(rt: &R, alloc: Global, file: &str, market: &str) -> Result<bool, Fail> {
-    let rows = records(alloc, file.as_bytes())?;
-    let roster = roster(rt, alloc, &rows)?;
+    let roster = accepted(rt, alloc, file)?;
     shows(alloc, &roster, market)
 }
 
 /// A fault's code, the number of its record, and its id.
 type Fault<'a> = (u16, u64, &'a str);
 
+/// Whether a refusal is for this fault.
+fn is_for(refusal: &RosterFault, (code, row, id): Fault<'_>) -> bool {
+    refusal.code == code && refusal.row == row && refusal.id.as_bytes() == id.as_bytes()
+}
+
+/// Whether an answer is a refusal for this fault.
+fn is_refusal(answer: &Result<Roster, RosterError>, fault: Fault<'_>) -> bool {
+    match answer {
+        Err(RosterError::Fault(refusal)) => is_for(refusal, fault),
+        Err(RosterError::Memory) | Ok(_) => false,
+    }
+}
+
 /// Whether a file is refused for this fault.
 fn is_refused<R: Threads + Sync>(
     rt: &R,
     alloc: Global,
     file: &str,
-    (code, row, id): Fault<'_>,
+    fault: Fault<'_>,
 ) -> Result<bool, ListFault> {
     let rows = records(alloc, file.as_bytes())?;
-    match roster(rt, alloc, &rows) {
-        Err(RosterError::Fault(fault)) => Ok(
-            fault.code == code && fault.row == row && fault.id.as_bytes() == id.as_bytes(),
-        ),
-        Err(RosterError::Memory) | Ok(_) => Ok(false),
-    }
+    let answer = roster(rt, alloc, &rows);
+    Ok(is_refusal(&answer, fault))
 }
 
 /// Each of these files is refused for its fault.

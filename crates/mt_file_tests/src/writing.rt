@@ -4,19 +4,25 @@ use mt_report::{Drain, put_all};
 use mt_samples::devices::{Faltering, Narrow};
 use mt_samples::markets::CROSSED_TEXT as TEXT;
 use std::alloc::Global;
+use std::io::Write;
 use std::process::Abort;
 use std::test::Fail;
+
+// Writes the text, of which so many bytes are written, and counts a failure where it isn't written whole.
+fn expect_put<W: Write>(rt: &impl Abort, writer: &mut W, written: u64, whole: bool) {
+    let mut drain = Drain::new(writer);
+    let wrote = put_all(&mut drain, TEXT);
+    assert_eq!(rt; wrote.written, written);
+    assert_eq!(rt; wrote.whole, whole);
+    assert_eq!(rt; drain.failures(), u64::from(!whole));
+}
 
 // Writes the text, of which the writer has to take the first bytes alone, and none after it failed. Only a text
 // that was taken whole is flushed, once.
 fn expect_written(rt: &impl Abort, narrow: Narrow, first: usize, whole: bool) {
     assert!(rt; first <= TEXT.len());
     let mut writer = narrow;
-    let mut drain = Drain::new(&mut writer);
-    let wrote = put_all(&mut drain, TEXT);
-    assert_eq!(rt; wrote.written, first as u64);
-    assert_eq!(rt; wrote.whole, whole);
-    assert_eq!(rt; drain.failures(), u64::from(!whole));
+    expect_put(rt, &mut writer, first as u64, whole);
     assert_eq!(rt; writer.taken.as_slice(), &TEXT[..first]);
     assert_eq!(rt; writer.flushes, u32::from(first == TEXT.len()));
 }
@@ -115,10 +121,7 @@ fn expect_asked(
 ) {
     assert!(rt; taken <= TEXT.len());
     let mut writer = faltering;
-    let mut drain = Drain::new(&mut writer);
-    let wrote = put_all(&mut drain, TEXT);
-    assert_eq!(rt; drain.failures(), u64::from(!whole));
-    assert_eq!(rt; (wrote.written, wrote.whole), (taken as u64, whole));
+    expect_put(rt, &mut writer, taken as u64, whole);
     assert_eq!(rt; (writer.writes, writer.flushes), (writes, flushes));
     assert_eq!(rt; writer.taken.as_slice(), &TEXT[..taken]);
 }

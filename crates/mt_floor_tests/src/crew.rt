@@ -3,7 +3,7 @@ ghost use Rattle.std.specs.Prelude.{◌≡◌, ◌+◌, ◌≤◌};
 ghost use Rattle.mt_terms.specs.Market.{applicants};
 
 use mt_crew::{Gate, Open, Singles, work, work_alone};
-use mt_hall::{Answer, Hall, HallName, Pass};
+use mt_hall::{Answer, Door, Hall, HallName, Pass};
 use mt_ranks::Ranks;
 use mt_samples::markets::{CHAIN, CROSSED};
 use mt_samples::tables::with_ranks;
@@ -11,12 +11,12 @@ use mt_terms::{AppNo, ProgNo};
 use std::alloc::{AllocError, Global};
 use std::marker::Brand;
 use std::process::Abort;
-use std::sync::Wait;
 use std::sync::atomic::{AtomicU64, Ordering};
 use std::sync::ledger::Blank;
+use std::sync::{Mutex, Wait};
 use std::test::Fail;
 use std::thread;
-use std::thread::Threads;
+use std::thread::{Scope, Threads};
 
 // Two posts and three applicants, the last of whom takes the second one's place.
 const TWO_POSTS: &[u8] = b"match,1\n\
@@ -127,25 +127,59 @@ fn expect_singles(
     assert_eq!(rt; singles.proposals.as_slice(), proposals);
 }
 
+fn expect_met(rt: &impl Abort, gate: &Watch) {
+    assert_eq!(rt; gate.missed.load(Ordering::SeqCst), 0);
+    assert!(rt; gate.all_proposed());
+}
+
+fn expect_chain_at<R: Abort + Threads + Wait + Sync>(
+    rt: &R,
+    alloc: Global,
+    ranks: &Ranks,
+    gate: &Watch,
+) -> Result<(), AllocError> {
+    let singles = work(rt, alloc, ranks, 2, gate)?;
+    expect_met(rt, gate);
+    let places = [Some(ProgNo(1)), Some(ProgNo(0)), None];
+    expect_singles(rt, &singles, &places, &[3, 2]);
+    Ok(())
+}
+
+fn expect_two_at_the_gate<R: Abort + Threads + Wait + Sync>(
+    rt: &R,
+    alloc: Global,
+    ranks: &Ranks,
+) -> Result<(), AllocError> {
+    let gate = open_watch(alloc, 2, true)?;
+    expect_chain_at(rt, alloc, ranks, &gate)
+}
+
 // One of two workers waits with its first ticket until the other one has one, so both propose.
 #[test]
 fn two_at_the_gate(rt: HostRuntime) -> Result<(), Fail> {
     Ok(with_ranks(&rt, rt.alloc(), CHAIN, |_, ranks| {
-        let gate = open_watch(rt.alloc(), 2, true)?;
-        let singles = work(&rt, rt.alloc(), ranks, 2, &gate)?;
-        assert_eq!(&rt; gate.missed.load(Ordering::SeqCst), 0);
-        assert!(&rt; gate.all_proposed());
-        expect_singles(
-            &rt,
-            &singles,
-            &[Some(ProgNo(1)), Some(ProgNo(0)), None],
-            &[3, 2],
-        );
-        Ok(())
+        expect_two_at_the_gate(&rt, rt.alloc(), ranks)
     })?)
 }
 
 // The workers' passes have all the proposals: nothing was left to be finished after they were closed.
+fn expect_in_time_at<R: Abort + Threads + Wait + Sync>(
+    rt: &R,
+    alloc: Global,
+    ranks: &Ranks,
+    gate: &Watch,
+    workers: u32,
+    places: &[Option<ProgNo>],
+    proposals: &[u32],
+) -> Result<(), AllocError>
+    requires { (1 ≤ workers) × (workers ≤ 64) }
+{
+    let singles = work(rt, alloc, ranks, workers, gate)?;
+    expect_singles(rt, &singles, places, proposals);
+    assert_eq!(rt; gate.proposals(), total(&singles.proposals));
+    Ok(())
+}
+
 fn expect_in_time<R: Abort + Threads + Wait + Sync>(
     rt: &R,
     alloc: Global,
@@ -157,10 +191,7 @@ fn expect_in_time<R: Abort + Threads + Wait + Sync>(
     requires { (1 ≤ workers) × (workers ≤ 64) }
 {
     let gate = open_watch(alloc, workers, false)?;
-    let singles = work(rt, alloc, ranks, workers, &gate)?;
-    expect_singles(rt, &singles, places, proposals);
-    assert_eq!(rt; gate.proposals(), total(&singles.proposals));
-    Ok(())
+    expect_in_time_at(rt, alloc, ranks, &gate, workers, places, proposals)
 }
 
 // One thread without locks comes to the same.
@@ -254,6 +285,40 @@ impl Gate for Unrest {
     }
 }
 
+fn push_numbered(
+    alloc: Global,
+    file: &mut String,
+    before: &str,
+    number: u32,
+    after: &str,
+) -> Result<(), AllocError> {
+    let text = format!(in alloc; "{before}{number}{after}")?;
+    file.push_str(&text)
+}
+
+fn push_program(
+    alloc: Global,
+    file: &mut String,
+    program: u32,
+    step: u32,
+) -> Result<(), AllocError> {
+    push_numbered(alloc, file, "program,p", program, ",5")?;
+    for place in 0..100u32 {
+        let applicant = place.saturating_mul(step).saturating_add(program) % 100;
+        push_numbered(alloc, file, ",a", applicant, "")?;
+    }
+    file.push_str("\n")
+}
+
+fn push_applicant(alloc: Global, file: &mut String, applicant: u32) -> Result<(), AllocError> {
+    push_numbered(alloc, file, "applicant,a", applicant, "")?;
+    for place in 0..10u32 {
+        let program = applicant.saturating_mul(7).saturating_add(place * 3) % 10;
+        push_numbered(alloc, file, ",p", program, "")?;
+    }
+    file.push_str("\n")
+}
+
 // Ten programs of five posts, each of which wants a hundred applicants in an order of its own, and each of these wants
 // all programs.
 fn hundred(alloc: Global) -> Result<String, AllocError> {
@@ -261,20 +326,10 @@ fn hundred(alloc: Global) -> Result<String, AllocError> {
     file.push_str("match,1\n")?;
     let steps: [u32; 10] = [1, 3, 7, 9, 11, 13, 17, 19, 21, 23];
     for program in 0..10u32 {
-        file.push_str(&format!(in alloc; "program,p{program},5")?)?;
-        for place in 0..100u32 {
-            let applicant = (place * steps[program as usize] + program) % 100;
-            file.push_str(&format!(in alloc; ",a{applicant}")?)?;
-        }
-        file.push_str("\n")?;
+        push_program(alloc, &mut file, program, steps[program as usize])?;
     }
     for applicant in 0..100u32 {
-        file.push_str(&format!(in alloc; "applicant,a{applicant}")?)?;
-        for place in 0..10u32 {
-            let program = (applicant * 7 + place * 3) % 10;
-            file.push_str(&format!(in alloc; ",p{program}")?)?;
-        }
-        file.push_str("\n")?;
+        push_applicant(alloc, &mut file, applicant)?;
     }
     Ok(file)
 }
@@ -338,7 +393,46 @@ fn advance_once<K: HallName, R: Abort + Wait>(
     done.store(1, Ordering::SeqCst);
 }
 
+// Advances the applicant once, on a thread of its own.
+fn begin<'s, E, K: HallName + Send + Sync, R: Abort + Wait + Sync>(
+    rt: &'s R,
+    scope: &Scope<'s, E>,
+    hall: &'s Hall<'_, K>,
+    pass: &'s mut Pass<K>,
+    applicant: u32,
+    done: &'s AtomicU64,
+) {
+    let begun = scope.spawn(move || advance_once(rt, hall, pass, applicant, done));
+    assert!(rt; begun.is_ok());
+}
+
+fn give_way() {
+    for _ in 0..1000 {
+        thread::yield_now();
+    }
+}
+
 // While the first program's door is held, nothing happens at it, and the second program's door is free.
+fn expect_first_waits<K: HallName + Send + Sync, R: Abort + Threads + Wait + Sync>(
+    rt: &R,
+    hall: &Hall<'_, K>,
+    door: &Mutex<Door<K>>,
+    first: &mut Pass<K>,
+    second: &mut Pass<K>,
+    first_done: &AtomicU64,
+    second_done: &AtomicU64,
+) {
+    thread::scope(thread::scope_env(), rt, |scope| {
+        let held = door.lock(rt);
+        begin(rt, scope, hall, first, 0, first_done);
+        give_way();
+        begin(rt, scope, hall, second, 1, second_done);
+        assert!(rt; is_done(second_done));
+        assert_eq!(rt; first_done.load(Ordering::SeqCst), 0);
+        drop(held);
+    });
+}
+
 fn expect_two_doors<K: HallName + Send + Sync, R: Abort + Threads + Wait + Sync>(
     rt: &R,
     hall: &Hall<'_, K>,
@@ -348,24 +442,11 @@ fn expect_two_doors<K: HallName + Send + Sync, R: Abort + Threads + Wait + Sync>
 )
     requires { ranks.now ≡ K.ranked }
 {
-    let (at_first, at_second) = (AtomicU64::new(0), AtomicU64::new(0));
-    let (first_done, second_done) = (&at_first, &at_second);
     assert!(rt; ranks.programs() == 2);
+    let (first_done, second_done) = (AtomicU64::new(0), AtomicU64::new(0));
     let door = hall.door(ProgNo(0));
-    thread::scope(thread::scope_env(), rt, |scope| {
-        let held = door.lock(rt);
-        let begun = scope.spawn(move || advance_once(rt, hall, first, 0, first_done));
-        assert!(rt; begun.is_ok());
-        for _ in 0..1000 {
-            thread::yield_now();
-        }
-        let begun = scope.spawn(move || advance_once(rt, hall, second, 1, second_done));
-        assert!(rt; begun.is_ok());
-        assert!(rt; is_done(second_done));
-        assert_eq!(rt; first_done.load(Ordering::SeqCst), 0);
-        drop(held);
-    });
-    assert_eq!(rt; at_first.load(Ordering::SeqCst), 1);
+    expect_first_waits(rt, hall, door, first, second, &first_done, &second_done);
+    assert_eq!(rt; first_done.load(Ordering::SeqCst), 1);
 }
 
 fn two_doors_in<K: HallName + Send + Sync, R: Abort + Threads + Wait + Sync>(

@@ -4,7 +4,7 @@ ghost use Rattle.mt_terms.specs.Market.{applicants};
 ghost use Rattle.mt_core.specs.Floors.{IsOpenedWith};
 
 use crate::floor::{expect_chain_end, expect_finished};
-use mt_hall::{Answer, Audit, Hall, HallName, Pass};
+use mt_hall::{Answer, Audit, Door, Hall, HallName, Pass};
 use mt_ranks::Ranks;
 use mt_samples::markets::{BETWEEN, CHAIN};
 use mt_samples::tables::with_ranks;
@@ -12,8 +12,8 @@ use mt_terms::{AppNo, ProgNo};
 use std::alloc::{AllocError, Global};
 use std::marker::Brand;
 use std::process::Abort;
-use std::sync::Wait;
 use std::sync::ledger::Blank;
+use std::sync::{Mutex, Wait};
 use std::test::Fail;
 use std::thread;
 use std::thread::Threads;
@@ -48,6 +48,24 @@ fn expect_stranger<K: HallName, R: Abort + Wait>(
     expect_answer(rt, hall, pass, applicant, Answer::Stranger);
 }
 
+fn expect_proposed<K: HallName>(rt: &impl Abort, ranks: &Ranks, pass: &Pass<K>, to: &[u32])
+    requires { ranks.now ≡ K.ranked }
+{
+    assert_eq!(rt; ranks.programs() as usize, to.len());
+    for program in 0..ranks.programs() {
+        assert_eq!(rt; pass.proposed(ProgNo(program)), to[program as usize]);
+    }
+}
+
+fn expect_proposed_for<K: HallName>(rt: &impl Abort, ranks: &Ranks, pass: &Pass<K>, by: &[u32])
+    requires { ranks.now ≡ K.ranked }
+{
+    assert_eq!(rt; ranks.applicants() as usize, by.len());
+    for applicant in 0..ranks.applicants() {
+        assert_eq!(rt; pass.proposed_for(AppNo(applicant)), by[applicant as usize]);
+    }
+}
+
 // So many proposals were made with the pass: to each program, and for each applicant.
 fn expect_pass<K: HallName>(
     rt: &impl Abort,
@@ -60,14 +78,8 @@ fn expect_pass<K: HallName>(
     requires { ranks.now ≡ K.ranked }
 {
     assert_eq!(rt; pass.proposals(), proposals);
-    assert_eq!(rt; ranks.programs() as usize, to.len());
-    for program in 0..ranks.programs() {
-        assert_eq!(rt; pass.proposed(ProgNo(program)), to[program as usize]);
-    }
-    assert_eq!(rt; ranks.applicants() as usize, by.len());
-    for applicant in 0..ranks.applicants() {
-        assert_eq!(rt; pass.proposed_for(AppNo(applicant)), by[applicant as usize]);
-    }
+    expect_proposed(rt, ranks, pass, to);
+    expect_proposed_for(rt, ranks, pass, by);
 }
 
 // Every desk is in its place, and the passes' counts add up to the floor's.
@@ -129,6 +141,17 @@ fn expect_table<K: HallName, R: Abort + Wait>(
     expect_pass(rt, ranks, b, 3, &[2, 1], &[2, 1, 0]);
 }
 
+fn expect_door<K: HallName, R: Abort + Wait>(
+    rt: &R,
+    door: &Mutex<Door<K>>,
+    program: ProgNo,
+    received: u32,
+) {
+    let locked = door.lock(rt);
+    assert_eq!(rt; locked.program(), program);
+    assert_eq!(rt; locked.received(), received);
+}
+
 // Each lock of a door has that program's, which has received so many proposals.
 fn expect_doors<K: HallName, R: Abort + Wait>(
     rt: &R,
@@ -140,9 +163,9 @@ fn expect_doors<K: HallName, R: Abort + Wait>(
 {
     assert_eq!(rt; ranks.programs() as usize, received.len());
     for program in 0..ranks.programs() {
-        let door = hall.door(ProgNo(program)).lock(rt);
-        assert_eq!(rt; door.program(), ProgNo(program));
-        assert_eq!(rt; door.received(), received[program as usize]);
+        let wanted = received[program as usize];
+        let program = ProgNo(program);
+        expect_door(rt, hall.door(program), program, wanted);
     }
 }
 
@@ -205,6 +228,20 @@ fn expect_by_wishes<K: HallName, R: Abort + Wait>(rt: &R, hall: &Hall<'_, K>, pa
     expect_rest(rt, hall, pass);
 }
 
+fn expect_wishes<K: HallName, R: Abort + Wait>(
+    rt: &R,
+    hall: &Hall<'_, K>,
+    ranks: &Ranks,
+    pass: &mut Pass<K>,
+)
+    requires { ranks.now ≡ K.ranked }
+{
+    expect_by_wishes(rt, hall, pass);
+    expect_pass(rt, ranks, pass, 5, &[3, 2], &[2, 2, 1]);
+    // Whoever is alone finds each lock free.
+    assert_eq!(rt; pass.waits(), 0);
+}
+
 fn wishes_in<K: HallName, R: Abort + Wait>(
     rt: &R,
     alloc: Global,
@@ -216,10 +253,7 @@ fn wishes_in<K: HallName, R: Abort + Wait>(
     requires parts { (blank.parts ≡ K.parts) × (K.parts ≡ applicants K.ranked.market + 1) }
 {
     let (hall, mut passes) = Hall::<K>::open(alloc, ranks, 1, blank)?;
-    expect_by_wishes(rt, &hall, &mut passes[0]);
-    expect_pass(rt, ranks, &passes[0], 5, &[3, 2], &[2, 2, 1]);
-    // Whoever is alone finds each lock free.
-    assert_eq!(rt; passes[0].waits(), 0);
+    expect_wishes(rt, &hall, ranks, &mut passes[0]);
     let audit = hall.close(passes);
     expect_order(rt, &audit);
     expect_chain_end(rt, alloc, &audit.floor, ranks)

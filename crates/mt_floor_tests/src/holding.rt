@@ -6,6 +6,10 @@ use mt_hold::{Hold, Taken};
 use std::process::Abort;
 use std::test::Fail;
 
+fn expect_taken(rt: &impl Abort, rank: u32, taken: Taken, reply: Taken) {
+    assert_eq!(rt; taken, reply, "rank {rank}");
+}
+
 // Makes a proposal that wasn't made yet, and expects this reply.
 fn expect_reply(rt: &impl Abort, hold: &mut Hold, list_len: u32, rank: u32, reply: Taken)
     requires { ranks hold.old ≡ list_len }
@@ -13,7 +17,7 @@ fn expect_reply(rt: &impl Abort, hold: &mut Hold, list_len: u32, rank: u32, repl
 {
     assert!(rt; rank < list_len);
     assert!(rt; !hold.received(rank));
-    assert_eq!(rt; hold.propose(rank), reply, "rank {rank}");
+    expect_taken(rt, rank, hold.propose(rank), reply);
     assert!(rt; hold.received(rank));
 }
 

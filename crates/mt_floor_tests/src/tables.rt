@@ -1,5 +1,5 @@
 //! The rank tables of two markets, by all readers.
-ghost use Rattle.std.specs.Prelude.{◌<◌, length};
+ghost use Rattle.std.specs.Prelude.{◌≡◌, ◌<◌, length};
 
 use mt_ranks::{Live, Ranks};
 use mt_samples::markets::BETWEEN;
@@ -41,23 +41,45 @@ fn expect_ranking(rt: &impl Abort, ranking: &[AppNo], expected: &[u32]) {
     }
 }
 
+fn expect_count(rt: &impl Abort, count: u32, wanted: usize)
+    ensures { count ≡ wanted }
+{
+    assert_eq!(rt; count as usize, wanted);
+}
+
+fn expect_program(
+    rt: &impl Abort,
+    alloc: Global,
+    tables: &Ranks,
+    program: ProgNo,
+    quota: u32,
+    ranking: &[u32],
+    ranks: &[Option<u32>],
+) -> Result<(), AllocError>
+    requires { program < length tables.now.market.programs }
+{
+    assert_eq!(rt; tables.quota(program), quota);
+    expect_ranking(rt, tables.by_rank(program), ranking);
+    let found = ranks_at(alloc, tables, program)?;
+    assert_eq!(rt; found.as_slice(), ranks);
+    Ok(())
+}
+
 fn expect_programs(
     rt: &impl Abort,
     alloc: Global,
     tables: &Ranks,
     expected: &Expected<'_>,
 ) -> Result<(), AllocError> {
-    let programs = tables.programs() as usize;
-    assert_eq!(rt; programs, expected.quotas.len());
-    assert_eq!(rt; programs, expected.rankings.len());
-    assert_eq!(rt; programs, expected.ranks.len());
-    for program in 0..tables.programs() {
+    let programs = tables.programs();
+    expect_count(rt, programs, expected.quotas.len());
+    expect_count(rt, programs, expected.rankings.len());
+    expect_count(rt, programs, expected.ranks.len());
+    for program in 0..programs {
         let number = program as usize;
-        let program = ProgNo(program);
-        assert_eq!(rt; tables.quota(program), expected.quotas[number]);
-        expect_ranking(rt, tables.by_rank(program), expected.rankings[number]);
-        let ranks = ranks_at(alloc, tables, program)?;
-        assert_eq!(rt; ranks.as_slice(), expected.ranks[number]);
+        let quota = expected.quotas[number];
+        let (ranking, ranks) = (expected.rankings[number], expected.ranks[number]);
+        expect_program(rt, alloc, tables, ProgNo(program), quota, ranking, ranks)?;
     }
     Ok(())
 }
@@ -70,19 +92,23 @@ fn expect_live(rt: &impl Abort, live: &[Live], expected: &[(u32, u32)]) {
     }
 }
 
+fn expect_nobody_past_the_end(rt: &impl Abort, tables: &Ranks) {
+    for past_the_end in [tables.applicants(), u32::MAX] {
+        assert!(rt; !tables.is_single(AppNo(past_the_end)));
+    }
+}
+
 fn expect_applicants(rt: &impl Abort, tables: &Ranks, expected: &Expected<'_>) {
-    let applicants = tables.applicants() as usize;
-    assert_eq!(rt; applicants, expected.live.len());
-    assert_eq!(rt; applicants, expected.singles.len());
-    for applicant in 0..tables.applicants() {
+    let applicants = tables.applicants();
+    expect_count(rt, applicants, expected.live.len());
+    expect_count(rt, applicants, expected.singles.len());
+    for applicant in 0..applicants {
         let number = applicant as usize;
         let applicant = AppNo(applicant);
         expect_live(rt, tables.live(applicant), expected.live[number]);
         assert_eq!(rt; tables.is_single(applicant), expected.singles[number]);
     }
-    for past_the_end in [tables.applicants(), u32::MAX] {
-        assert!(rt; !tables.is_single(AppNo(past_the_end)));
-    }
+    expect_nobody_past_the_end(rt, tables);
 }
 
 fn expect_tables<R: Abort + Threads + Sync>(

@@ -4,7 +4,7 @@ ghost use Rattle.std.specs.Prelude.{◌≡◌};
 ghost use Rattle.mt_ranks.specs.Ranked.{ranked_of};
 
 use crate::plain::{plain_rank, plain_verdict};
-use mt_ranks::Ranks;
+use mt_ranks::{Live, Ranks};
 use mt_roster::Roster;
 use mt_samples::markets::{BETWEEN, CHAIN, CROSSED, HALF_PAIR, THREE_COUPLES};
 use mt_samples::places::are_places;
@@ -17,22 +17,30 @@ use std::process::Abort;
 use std::test::Fail;
 use std::thread::Threads;
 
-// The live list of each applicant is of those programs on its list that list it too, each with the plain rank.
+fn expect_entry(rt: &impl Abort, live: Option<&Live>, program: ProgNo, rank: u32) {
+    let entry = live.expect(rt, "a live entry");
+    assert_eq!(rt; (entry.program.0, entry.rank), (program.0, rank));
+}
+
+// The live list is of those programs on the applicant's list that list it too, each with the plain rank.
+fn expect_live(rt: &impl Abort, roster: &Roster, live: &[Live], applicant: AppNo) {
+    let mut live = live.iter();
+    if applicant.0 < roster.applicants() {
+        for program in roster.single_list(applicant) {
+            if let Some(rank) = plain_rank(roster, *program, applicant) {
+                expect_entry(rt, live.next(), *program, rank);
+            }
+        }
+    }
+    assert!(rt; live.next().is_none());
+}
+
 fn expect_tables(rt: &impl Abort, roster: &Roster, ranks: &Ranks) {
     assert_eq!(rt; ranks.applicants(), roster.applicants());
     assert_eq!(rt; ranks.programs(), roster.programs());
     for number in 0..ranks.applicants() {
         let applicant = AppNo(number);
-        let mut live = ranks.live(applicant).iter();
-        if number < roster.applicants() {
-            for program in roster.single_list(applicant) {
-                if let Some(rank) = plain_rank(roster, *program, applicant) {
-                    let entry = live.next().expect(rt, "a live entry");
-                    assert_eq!(rt; (entry.program.0, entry.rank), (program.0, rank));
-                }
-            }
-        }
-        assert!(rt; live.next().is_none());
+        expect_live(rt, roster, ranks.live(applicant), applicant);
     }
 }
 
@@ -178,30 +186,75 @@ fn expect_large<R: Abort + Threads + Sync>(rt: &R, alloc: Global, file: &[u8]) -
     )?)
 }
 
+fn push_numbered(
+    alloc: Global,
+    file: &mut String,
+    before: &str,
+    number: u32,
+    after: &str,
+) -> Result<(), AllocError> {
+    let text = format!(in alloc; "{before}{number}{after}")?;
+    file.push_str(&text)
+}
+
+fn push_program(
+    alloc: Global,
+    file: &mut String,
+    program: u32,
+    posts: u32,
+) -> Result<(), AllocError> {
+    let line = format!(in alloc; "program,p{program},{posts}")?;
+    file.push_str(&line)
+}
+
+// Those whose number is the program's or one more, but for a multiple of the programs' count, from the last ones down.
+fn push_every_so_many(
+    alloc: Global,
+    file: &mut String,
+    applicants: u32,
+    programs: u32,
+    program: u32,
+) -> Result<(), AllocError> {
+    let count = programs.max(1);
+    let rounds = (applicants / count).saturating_add(1);
+    for back in 0..rounds {
+        let own = (rounds - 1 - back)
+            .saturating_mul(count)
+            .saturating_add(program);
+        for applicant in own..own.saturating_add(2).min(applicants) {
+            push_numbered(alloc, file, ",a", applicant, "")?;
+        }
+    }
+    Ok(())
+}
+
+// The second of the three programs doesn't list the applicant.
+fn push_wishes(
+    alloc: Global,
+    file: &mut String,
+    programs: u32,
+    applicant: u32,
+) -> Result<(), AllocError> {
+    let count = programs.max(1);
+    let own = applicant % count;
+    let before = applicant.saturating_add(count - 1) % count;
+    let other = applicant.saturating_add(5) % count;
+    let line = format!(in alloc; "applicant,a{applicant},p{before},p{other},p{own}\n")?;
+    file.push_str(&line)
+}
+
 // Program p lists the applicants whose number is p or p + 1, but for a multiple of the programs' count, from the last
 // ones down, and has posts for half of them. Of an applicant's three programs the second doesn't list it.
 fn many_programs(alloc: Global, applicants: u32, programs: u32) -> Result<String, AllocError> {
-    let count = programs.max(1);
-    let rounds = (applicants / count).saturating_add(1);
     let mut file = String::new(alloc);
     file.push_str("match,2\n")?;
     for program in 0..programs {
-        file.push_str(&format!(in alloc; "program,p{program},{}", applicants / count)?)?;
-        for back in 0..rounds {
-            let own = (rounds - 1 - back)
-                .saturating_mul(count)
-                .saturating_add(program);
-            for applicant in own..own.saturating_add(2).min(applicants) {
-                file.push_str(&format!(in alloc; ",a{applicant}")?)?;
-            }
-        }
+        push_program(alloc, &mut file, program, applicants / programs.max(1))?;
+        push_every_so_many(alloc, &mut file, applicants, programs, program)?;
         file.push_str("\n")?;
     }
     for applicant in 0..applicants {
-        let own = applicant % count;
-        let before = applicant.saturating_add(count - 1) % count;
-        let other = applicant.saturating_add(5) % count;
-        file.push_str(&format!(in alloc; "applicant,a{applicant},p{before},p{other},p{own}\n")?)?;
+        push_wishes(alloc, &mut file, programs, applicant)?;
     }
     Ok(file)
 }
@@ -213,35 +266,44 @@ fn more_applicants_than_a_block(rt: HostRuntime) -> Result<(), Fail> {
     expect_large(&rt, rt.alloc(), file.as_bytes())
 }
 
-// A program with 1,100 posts lists 2,200 applicants, more than one thread judges, and wants the last one most.
-#[test]
-fn one_program_for_all(rt: HostRuntime) -> Result<(), Fail> {
-    let alloc = rt.alloc();
+// A program with 1,100 posts lists 2,200 applicants, and wants the last one most.
+fn one_program(alloc: Global) -> Result<String, AllocError> {
     let mut file = String::new(alloc);
     file.push_str("match,1\nprogram,P,1100")?;
     for back in 0..2_200u32 {
-        file.push_str(&format!(in alloc; ",a{}", 2_199 - back)?)?;
+        push_numbered(alloc, &mut file, ",a", 2_199 - back, "")?;
     }
     file.push_str("\n")?;
     for applicant in 0..2_200u32 {
-        file.push_str(&format!(in alloc; "applicant,a{applicant},P\n")?)?;
+        push_numbered(alloc, &mut file, "applicant,a", applicant, ",P\n")?;
     }
-    expect_large(&rt, alloc, file.as_bytes())
+    Ok(file)
+}
+
+// More applicants than one thread judges.
+#[test]
+fn one_program_for_all(rt: HostRuntime) -> Result<(), Fail> {
+    let file = one_program(rt.alloc())?;
+    expect_large(&rt, rt.alloc(), file.as_bytes())
 }
 
 // Behind two couples 3,000 singles want the two posts of x.
-#[test]
-fn couples_before_many_singles(rt: HostRuntime) -> Result<(), Fail> {
-    let alloc = rt.alloc();
+fn couples_and_many_singles(alloc: Global) -> Result<String, AllocError> {
     let mut file = String::new(alloc);
     file.push_str("match,1\nprogram,x,2,c,e1,d")?;
     for single in 1..3_001u32 {
-        file.push_str(&format!(in alloc; ",s{single}")?)?;
+        push_numbered(alloc, &mut file, ",s", single, "")?;
     }
     file.push_str("\nprogram,z,1,e2\n")?;
     for single in 1..3_001u32 {
-        file.push_str(&format!(in alloc; "applicant,s{single},x\n")?)?;
+        push_numbered(alloc, &mut file, "applicant,s", single, ",x\n")?;
     }
     file.push_str("couple,D,c,d,x,x\ncouple,E,e1,e2,x,z\n")?;
-    expect_large(&rt, alloc, file.as_bytes())
+    Ok(file)
+}
+
+#[test]
+fn couples_before_many_singles(rt: HostRuntime) -> Result<(), Fail> {
+    let file = couples_and_many_singles(rt.alloc())?;
+    expect_large(&rt, rt.alloc(), file.as_bytes())
 }

@@ -44,13 +44,36 @@ fn expect_half_a_pair(rt: &impl Abort, ended: &Entered) {
     assert_eq!(rt; ended.rounds, 4);
 }
 
+fn expect_within<R: Abort + Threads + Sync>(
+    rt: &R,
+    alloc: Global,
+    roster: &Roster,
+    budget: u32,
+) -> Result<(), CoupleEnd> {
+    let ended = entered(rt, alloc, roster, budget)?;
+    expect_half_a_pair(rt, &ended);
+    Ok(())
+}
+
+fn expect_spent<R: Abort + Threads + Sync>(rt: &R, alloc: Global, roster: &Roster, budget: u32) {
+    let spent = entered(rt, alloc, roster, budget);
+    assert!(rt; matches!(spent, Err(CoupleEnd::BudgetSpent)));
+}
+
+fn expect_four_rounds<R: Abort + Threads + Sync>(
+    rt: &R,
+    alloc: Global,
+    roster: &Roster,
+) -> Result<(), Fail> {
+    expect_within(rt, alloc, roster, 1_000_000)?;
+    expect_within(rt, alloc, roster, 4)?;
+    expect_spent(rt, alloc, roster, 3);
+    Ok(())
+}
+
 // The couple takes x and y, s takes y and drives it out, the couple takes x alone, and s isn't taken there.
 #[test]
 fn a_couple_takes_half_a_pair_in_four_rounds(rt: HostRuntime) -> Result<(), Fail> {
     let roster = roster_of(&rt, rt.alloc(), HALF_PAIR)?;
-    expect_half_a_pair(&rt, &entered(&rt, rt.alloc(), &roster, 1_000_000)?);
-    expect_half_a_pair(&rt, &entered(&rt, rt.alloc(), &roster, 4)?);
-    let spent = entered(&rt, rt.alloc(), &roster, 3);
-    assert!(rt; matches!(spent, Err(CoupleEnd::BudgetSpent)));
-    Ok(())
+    expect_four_rounds(&rt, rt.alloc(), &roster)
 }

@@ -170,6 +170,18 @@ fn finding<R: Abort + Threads + Sync>(
     )?)
 }
 
+fn expect_finding<R: Abort + Threads + Sync>(
+    rt: &R,
+    alloc: Global,
+    file: &str,
+    places: &str,
+    wanted: &str,
+) -> Result<(), Fail> {
+    let found = finding(rt, alloc, file, places)?;
+    assert_eq!(rt; found.as_str(), wanted, "{file}{places}");
+    Ok(())
+}
+
 // Each match of a file gets this finding.
 fn expect_findings<R: Abort + Threads + Sync>(
     rt: &R,
@@ -177,8 +189,7 @@ fn expect_findings<R: Abort + Threads + Sync>(
     matches: &[(&str, &str, &str)],
 ) -> Result<(), Fail> {
     for (file, places, wanted) in matches {
-        let found = finding(rt, alloc, file, places)?;
-        assert_eq!(rt; found.as_str(), *wanted, "{file}{places}");
+        expect_finding(rt, alloc, file, places, wanted)?;
     }
     Ok(())
 }
@@ -267,6 +278,16 @@ fn couples_that_block_once_they_are_taken_out(rt: HostRuntime) -> Result<(), Fai
     expect_findings(&rt, rt.alloc(), COUPLES_THAT_BLOCK_ONCE_THEY_ARE_TAKEN_OUT)
 }
 
+fn expect_unstable<R: Abort + Threads + Sync>(
+    rt: &R,
+    alloc: Global,
+    places: &str,
+) -> Result<(), Fail> {
+    let found = finding(rt, alloc, UNSTABLE, places)?;
+    assert_ne!(rt; found.as_str(), "stable", "{places}");
+    Ok(())
+}
+
 // All 27 ways to place three applicants at two programs.
 #[test]
 fn a_market_without_a_stable_match(rt: HostRuntime) -> Result<(), Fail> {
@@ -274,8 +295,7 @@ fn a_market_without_a_stable_match(rt: HostRuntime) -> Result<(), Fail> {
         for a in ["-", "x", "y"] {
             for b in ["-", "x", "y"] {
                 let places = format!(in rt.alloc(); "{s} {a} {b}")?;
-                let found = finding(&rt, rt.alloc(), UNSTABLE, &places)?;
-                assert_ne!(rt; found.as_str(), "stable", "{places}");
+                expect_unstable(&rt, rt.alloc(), &places)?;
             }
         }
     }

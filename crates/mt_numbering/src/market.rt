@@ -12,7 +12,7 @@ ghost use Rattle.mt_numbering.specs.Entries.{AreNames};
 ghost use Rattle.mt_numbering.specs.Markets.{AcceptsRegistrations, AreIdsOfRecords, AreNewNumbers, AreUnnamed, GivesUnnamed, IsMarketOf, Stays};
 ghost use Rattle.mt_numbering.specs.Numbered.{all_seen, members_in, registered_by_all};
 ghost use Rattle.mt_numbering.specs.Reading.{HaveNumbers, ReadsUnnamed};
-ghost use Rattle.mt_numbering.specs.Withdrawals.{stays_after};
+ghost use Rattle.mt_numbering.specs.Withdrawals.{stays_after, Stand};
 ghost use Rattle.mt_records.specs.Limits.{AreBounded};
 
 use crate::drafts::{Drafts, drafts_of};
@@ -81,38 +81,34 @@ fn with_names(alloc: Global, unnamed: Unnamed<'_>, names: NameLists) -> Result<R
 }
 
 /// What the lists of records say by new numbers, and their couples' members, where each list names none but these ids,
-/// none twice, and there is room for all entries. The ids of applicants are looked up first and let go then: their
-/// table is one of the largest, and the lists of applicants name programs alone.
+/// none twice, and there is room for all entries. The ids of applicants are looked up first and let go then, since the
+/// lists of applicants name programs alone.
 fn read_unnamed<'a, R: Threads + Sync>(
     rt: &R,
     alloc: Global,
-    registered: Registered<'_>,
+    registered: &mut Registered<'_>,
     numbers: &Numbers,
     half_pairs: bool,
     room: &mut u32,
     records: Vec<Record<'a>>,
 ) -> Result<Option<Unnamed<'a>>, AllocError>
-    requires programs { length numbers.now.programs.items ≡ length registered.programs }
-    requires applicants { length numbers.now.applicants.items ≡ length registered.applicants }
-    requires members { HaveNumbers registered.applicants numbers.now.applicants.items (applicant_ids (all_seen records.items)) }
-    ensures { IfOk result (ReadsUnnamed half_pairs registered.entry numbers.now room.old room.new
+    requires programs { length numbers.now.programs.items ≡ length registered.old.programs }
+    requires applicants { length numbers.now.applicants.items ≡ length registered.old.applicants }
+    requires members { HaveNumbers registered.old.applicants numbers.now.applicants.items (applicant_ids (all_seen records.items)) }
+    ensures { IfOk result (ReadsUnnamed half_pairs registered.old numbers.now room.old room.new
         (all_seen records.entry.items)) }
 {
-    let Registered {
-        programs,
-        applicants,
-        ..
-    } = registered;
-    let members = members(alloc, &applicants, &numbers.applicants, &records)?;
-    let Some(rankings) = rankings(rt, alloc, &applicants, &numbers.applicants, room, &records)?
+    let applicants = &registered.applicants;
+    let members = members(alloc, applicants, &numbers.applicants, &records)?;
+    let Some(rankings) = rankings(rt, alloc, applicants, &numbers.applicants, room, &records)?
     else {
         return Ok(None);
     };
-    drop(applicants);
+    registered.let_applicants_go(alloc);
     let Some(entries) = other_entries(
         rt,
         alloc,
-        &programs,
+        &registered.programs,
         &numbers.programs,
         half_pairs,
         room,
@@ -135,29 +131,23 @@ fn staying_unnamed<'a, R: Threads + Sync>(
     rt: &R,
     alloc: Global,
     rules: &Rules,
-    registered: Registered<'_>,
+    registered: &mut Registered<'_>,
     withdrawn: &Kinds<'_>,
     numbers: &Numbers,
     records: Vec<Record<'a>>,
 ) -> Result<Option<Unnamed<'a>>, AllocError>
-    requires programs { length numbers.now.programs.items ≡ length registered.programs }
-    requires applicants { length numbers.now.applicants.items ≡ length registered.applicants }
-    requires members { HaveNumbers registered.applicants numbers.now.applicants.items
+    requires programs { length numbers.now.programs.items ≡ length registered.old.programs }
+    requires applicants { length numbers.now.applicants.items ≡ length registered.old.applicants }
+    requires members { HaveNumbers registered.old.applicants numbers.now.applicants.items
         (applicant_ids (filter (stays_after withdrawn.now) (all_seen records.items))) }
-    ensures { IfOk result (GivesUnnamed rules.now registered.entry withdrawn.now numbers.now
+    ensures { IfOk result (GivesUnnamed rules.now registered.old withdrawn.now numbers.now
         (all_seen records.entry.items)) }
 {
     let mut room = rules.limits.entries;
     let half_pairs = rules.half_pairs;
     let leaving = leaving(alloc, withdrawn, &records)?;
     if entries_of(
-        rt,
-        alloc,
-        &registered,
-        numbers,
-        half_pairs,
-        &mut room,
-        &leaving,
+        rt, alloc, registered, numbers, half_pairs, &mut room, &leaving,
     )?
     .is_none()
     {
@@ -169,24 +159,42 @@ fn staying_unnamed<'a, R: Threads + Sync>(
     )
 }
 
+/// What stays of records, by their ids, where these are withdrawn, if they have no fault among them.
+fn unnamed_without<'a, R: Threads + Sync>(
+    rt: &R,
+    alloc: Global,
+    rules: &Rules,
+    ids: &mut Registered<'_>,
+    withdrawn: &Kinds<'_>,
+    records: Vec<Record<'a>>,
+) -> Result<Option<Unnamed<'a>>, AllocError>
+    requires limits { AreBounded rules.now.limits }
+    requires ids { AreIdsOfRecords (all_seen records.items) ids.old }
+    requires few { has_too_many_names rules.now.limits (all_seen records.items) ≡ false }
+    requires stand { Stand (all_seen records.items) withdrawn.now }
+    ensures { IfOk result (Stays rules.now (all_seen records.entry.items)) }
+{
+    let numbers = numbers_of(alloc, withdrawn, &records)?;
+    staying_unnamed(rt, alloc, rules, ids, withdrawn, &numbers, records)
+}
+
 /// What stays of records, by their ids, none of which is registered twice, if they have no fault among them.
 fn unnamed_by<'a, R: Threads + Sync>(
     rt: &R,
     alloc: Global,
     rules: &Rules,
-    ids: Registered<'_>,
+    ids: &mut Registered<'_>,
     records: Vec<Record<'a>>,
 ) -> Result<Option<Unnamed<'a>>, AllocError>
     requires limits { AreBounded rules.now.limits }
-    requires ids { AreIdsOfRecords (all_seen records.items) ids }
+    requires ids { AreIdsOfRecords (all_seen records.items) ids.old }
     requires few { has_too_many_names rules.now.limits (all_seen records.items) ≡ false }
     ensures { IfOk result (Stays rules.now (all_seen records.entry.items)) }
 {
-    let Some(withdrawn) = withdrawn_by(alloc, &ids, &records)? else {
-        return Ok(None);
-    };
-    let numbers = numbers_of(alloc, &withdrawn, &records)?;
-    staying_unnamed(rt, alloc, rules, ids, &withdrawn, &numbers, records)
+    match withdrawn_by(alloc, ids, &records)? {
+        Some(withdrawn) => unnamed_without(rt, alloc, rules, ids, &withdrawn, records),
+        None => Ok(None),
+    }
 }
 
 /// What stays of records with these ids, if they have no fault among them.
@@ -203,7 +211,7 @@ fn unnamed_of<'a, R: Threads + Sync>(
     ensures { IfOk result (Stays rules.now (all_seen records.entry.items)) }
 {
     match Registered::of(alloc, names)? {
-        Some(ids) => unnamed_by(rt, alloc, rules, ids, records),
+        Some(mut ids) => unnamed_by(rt, alloc, rules, &mut ids, records),
         None => Ok(None),
     }
 }

@@ -3,9 +3,11 @@ ghost use Rattle.mt_records.specs.Records.{kind_seen};
 ghost use Rattle.mt_numbering.specs.Registered.{names_differ, is_registered, AreIdsOf};
 
 use crate::names::NameLists;
-use mt_ids::IdTable;
+use mt_ids::{IdTable, Seed};
 use mt_records::Kind;
 use std::alloc::{AllocError, Global};
+use std::hash::DefaultHasher;
+use std::mem::replace;
 
 /// The ids of records by number, where none is registered twice, and for each applicant whether it is a single.
 #[derive(Drop)]
@@ -37,6 +39,14 @@ impl<'a> Registered<'a> {
             couples,
             singles: &names.singles,
         }))
+    }
+
+    /// Lets the applicants' table go, which is one of the largest. The programs' stays.
+    pub(crate) fn let_applicants_go(&mut self, alloc: Global)
+        ensures programs { self.new.programs ≡ self.old.programs }
+    {
+        let none = IdTable::new(alloc, Seed::of(&DefaultHasher::new()));
+        drop(replace(&mut self.applicants, none));
     }
 
     /// Whether a program, a single or a couple has this id.

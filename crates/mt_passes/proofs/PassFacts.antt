@@ -78,5 +78,6 @@ pub pass_ends : (e : Refusal) (here whole : Result (List (Numbered Record)) Faul
 pass_ends (refusals.Fault f) here whole r h = sym h ∙ r
 pass_ends refusals.Memory here whole r h = tt
 
-pub refused : (result : Result Register Refusal) (e : Refusal) (whole : Result (List (Numbered Record)) Fault) → result ≡ Err e → Refuses e whole → GivesRegister result whole
-refused result e whole h r = rw h r
+pub refused : {Y : Type 0} (new : Register) (result : Result Y Refusal) (e : Refusal) (whole : Result (List (Numbered Record)) Fault) → result ≡ Err e → Refuses e whole
+    → GivesRegister new result whole
+refused new result e whole h r = rw h r

@@ -22,7 +22,7 @@ ReadsRow rules old new n row (Ok _) =
     × ((rest : List (List Bytes)) → first_pass rules (records_seen old) (numbered_from n (row ∷ rest)) ≡ first_pass rules (records_seen new) (numbered_from (n + 1) rest))
 ReadsRow rules old new n row (Err e) = (rest : List (List Bytes)) → Refuses e (first_pass rules (records_seen old) (numbered_from n (row ∷ rest)))
 
--- What the whole pass gives.
-abbrev pub GivesRegister : Result Register Refusal → Result (List (Numbered model.Record)) faults.Fault → Type 0
-GivesRegister (Ok register) defined = IsRegister register × (defined ≡ Ok (records_seen register))
-GivesRegister (Err e) defined = Refuses e defined
+-- What the whole pass gives, with the register after it.
+abbrev pub GivesRegister : {Y : Type 0} → Register → Result Y Refusal → Result (List (Numbered model.Record)) faults.Fault → Type 0
+GivesRegister new (Ok _) defined = IsRegister new × (defined ≡ Ok (records_seen new))
+GivesRegister new (Err e) defined = Refuses e defined

@@ -1,18 +1,16 @@
-ghost use Rattle.std.specs.Prelude.{◌+◌, ◌<◌, ◌^◌, [], length};
+ghost use Rattle.std.specs.Prelude.{◌≡◌, ◌+◌, ◌<◌, ◌^◌, [], length};
 ghost use Rattle.mt_lists.specs.Rows.{fields_left, rows_left};
 ghost use Rattle.mt_terms.specs.Registration.Passes.{at_record, next_record, first_pass, numbered_from};
 ghost use Rattle.mt_records.specs.Records.{record_seen};
 ghost use Rattle.mt_records.specs.Refusals.{Gives};
 ghost use Rattle.mt_records.specs.Limits.{AreBounded};
-ghost use Rattle.mt_passes.specs.Registers.{contents_seen, IsRegister};
+ghost use Rattle.mt_passes.specs.Registers.{contents_seen, records_seen, IsRegister};
 ghost use Rattle.mt_passes.specs.Passes.{Reads, ReadsRow, GivesRegister};
 
 use crate::register::Register;
-use mt_ids::{Seed, add_fields};
 use mt_lists::{Fields, Row, RowsIter};
 use mt_records::{Record, Refusal, Rules, record_of};
 use std::alloc::Global;
-use std::hash::DefaultHasher;
 
 /// The record of a row that follows those of a register, or its first fault.
 fn next_record<'a>(
@@ -70,31 +68,25 @@ fn read_row<'a>(
     read_fields(alloc, rules, register, number, row.fields())
 }
 
-/// The seed of tables of what these rows register and withdraw.
-fn seed_of(rows: RowsIter<'_>) -> Seed {
-    let mut digest = DefaultHasher::new();
-    for row in rows {
-        add_fields(&mut digest, row.fields());
-    }
-    Seed::of(&digest)
-}
-
-/// The records of these rows, of which the first has this number, or their first fault.
+/// Adds the records of these rows to a register that has none, of which the first has this number, or gives their first
+/// fault. Nothing is said of the register then.
 pub fn first_pass<'a>(
     alloc: Global,
     rules: &Rules,
+    register: &mut Register<'a>,
     rows: RowsIter<'a>,
     first: u64,
-) -> Result<Register<'a>, Refusal<'a>>
+) -> Result<(), Refusal<'a>>
     requires limits { AreBounded rules.now.limits }
     requires few { first + length (rows_left rows) < 2 ^ 64 }
-    ensures { GivesRegister result (first_pass rules.now [] (numbered_from first (rows_left rows.entry))) }
+    requires register { IsRegister register.old }
+    requires none { records_seen register.old ≡ [] }
+    ensures { GivesRegister register.new result (first_pass rules.now [] (numbered_from first (rows_left rows.entry))) }
 {
-    let mut register = Register::new(alloc, seed_of(rows));
     let mut number = first;
     for row in rows {
-        read_row(alloc, rules, &mut register, number, row)?;
+        read_row(alloc, rules, register, number, row)?;
         number += 1;
     }
-    Ok(register)
+    Ok(())
 }

@@ -5,17 +5,28 @@ ghost use Rattle.mt_records.specs.Records.{record_seen, charge_seen};
 ghost use Rattle.mt_passes.specs.Registers.{records_seen, contents_seen, withdraws_twice, AreFew, IsRegister, AddsRecord};
 
 use crate::repeats::{has_repeat, has_repeated_pair};
-use mt_ids::{IdTable, Seed};
+use mt_ids::{IdTable, Seed, add_fields};
+use mt_lists::RowsIter;
 use mt_records::{Charge, Kind, Kinds, Record, Rules, are_over};
 use mt_terms::Limits;
 use mt_terms::codes::{DUPLICATE_ENTRY, DUPLICATE_ID, TOO_MANY};
 use std::alloc::{AllocError, Global};
+use std::hash::DefaultHasher;
 
 /// A record with its number in the file.
 #[derive(Debug, Drop)]
 pub(crate) struct Numbered<'a> {
     pub(crate) row: u64,
     pub(crate) record: Record<'a>,
+}
+
+/// The seed of tables of what these rows register and withdraw.
+fn seed_of(rows: RowsIter<'_>) -> Seed {
+    let mut digest = DefaultHasher::new();
+    for row in rows {
+        add_fields(&mut digest, row.fields());
+    }
+    Seed::of(&digest)
 }
 
 /// The records that were read, with what they register and what they withdraw.
@@ -33,11 +44,12 @@ pub struct Register<'a> {
 }
 
 impl<'a> Register<'a> {
-    /// No records. The tables of their ids will hash by this seed.
-    pub(crate) fn new(alloc: Global, seed: Seed) -> Self
+    /// No records, where those of these rows will come: the tables of their ids hash by a seed that these give.
+    pub fn new(alloc: Global, rows: RowsIter<'_>) -> Self
         ensures register { IsRegister result }
         ensures records { records_seen result ≡ [] }
     {
+        let seed = seed_of(rows);
         Register {
             records: Vec::new(alloc),
             registered: Kinds::new(alloc, seed),

@@ -3,6 +3,7 @@
 use mt_args::{AskEnd, Asked, asked};
 use mt_hold::Hold;
 use mt_lists::{ListFault, ReadEnd, Tap, read_all, records};
+use mt_market::Roster;
 use mt_ranks::Ranks;
 use mt_samples::markets::{CHAIN, SampleError, roster_of};
 use mt_samples::tables::with_ranks;
@@ -62,17 +63,20 @@ pub(crate) fn holds(alloc: Global) -> Result<bool, SampleError> {
     Ok(hold.count() == 0 && !hold.received(99))
 }
 
+// Whether a roster is that of the chain.
+fn is_of_chain(roster: &Roster) -> bool {
+    if roster.applicants() != 3 || roster.programs() != 2 {
+        return false;
+    }
+    roster.program_list(ProgNo(0)).len() == 3
+        && roster.single_list(AppNo(2)).len() == 1
+        && roster.applicant_id(AppNo(1)) == b"a2".as_slice()
+}
+
 /// Whether a file is registered.
 pub(crate) fn registers<T: Threads + Sync>(rt: &T, alloc: Global) -> Result<bool, SampleError> {
     let roster = roster_of(rt, alloc, CHAIN)?;
-    if roster.applicants() != 3 || roster.programs() != 2 {
-        return Ok(false);
-    }
-    Ok(
-        roster.program_list(ProgNo(0)).len() == 3
-            && roster.single_list(AppNo(2)).len() == 1
-            && roster.applicant_id(AppNo(1)) == b"a2".as_slice(),
-    )
+    Ok(is_of_chain(&roster))
 }
 
 // Whether rank tables are those of the chain.

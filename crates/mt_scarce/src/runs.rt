@@ -94,18 +94,23 @@ pub(crate) fn judges<T: Threads + Sync>(rt: &T, alloc: Global) -> Result<bool, S
     )
 }
 
-/// Whether a match has its text.
-pub(crate) fn publishes<T: Threads + Sync>(rt: &T, alloc: Global) -> Result<bool, SampleError> {
-    let roster = roster_of(rt, alloc, CHAIN)?;
+// Whether the chain's best match has its text.
+fn publishes_on(alloc: Global, roster: &Roster) -> Result<bool, AllocError> {
     let places = [Some(ProgNo(1)), Some(ProgNo(0)), None];
-    if !are_places(&roster, &places) || roster.programs() != 2 {
+    if !are_places(roster, &places) || roster.programs() != 2 {
         return Ok(false);
     }
     let matched = Match {
         places: Places::new(places.to_vec(alloc)?),
     };
-    let text = published(alloc, &roster, &matched, &[3, 2])?;
+    let text = published(alloc, roster, &matched, &[3, 2])?;
     Ok(text.as_slice() == CHAIN_TEXT)
+}
+
+/// Whether a match has its text.
+pub(crate) fn publishes<T: Threads + Sync>(rt: &T, alloc: Global) -> Result<bool, SampleError> {
+    let roster = roster_of(rt, alloc, CHAIN)?;
+    Ok(publishes_on(alloc, &roster)?)
 }
 
 /// A writer with room for a small text.

@@ -1,6 +1,9 @@
 //! Withdrawn rows: what is left has its numbers as if they had never been in the file.
 use crate::registration::{Fault, expect_refused, gives};
+use std::alloc::Global;
+use std::process::Abort;
 use std::test::Fail;
+use std::thread::Threads;
 
 // Without P1 only P2 is left: it is program 0.
 #[test]
@@ -49,10 +52,22 @@ fn pairs_of_withdrawn_program_leave_the_list(rt: HostRuntime) -> Result<(), Fail
     Ok(())
 }
 
+// With one id in all three name spaces, and a row of this kind withdrawn, a file has this market.
+fn expect_without<R: Abort + Threads + Sync>(
+    rt: &R,
+    alloc: Global,
+    kind: &str,
+    market: &str,
+) -> Result<(), Fail> {
+    let rows = "program,i,1,j,i\nprogram,j,1,i\napplicant,i,j,i\napplicant,j,i\ncouple,i,k,l,j,i\n";
+    let file = format!(in alloc; "match,2\n{rows}withdraw,{kind},i\n")?;
+    assert!(rt; gives(rt, alloc, &file, market)?, "{kind}");
+    Ok(())
+}
+
 // One id is withdrawn in each of the three name spaces, and only there.
 #[test]
 fn one_id_withdrawn_in_each_name_space(rt: HostRuntime) -> Result<(), Fail> {
-    let rows = "program,i,1,j,i\nprogram,j,1,i\napplicant,i,j,i\napplicant,j,i\ncouple,i,k,l,j,i\n";
     for (kind, market) in [
         (
             "program",
@@ -67,8 +82,7 @@ fn one_id_withdrawn_in_each_name_space(rt: HostRuntime) -> Result<(), Fail> {
             "program i 1: 1 0\nprogram j 1: 0\napplicant i single 0: 1 0\napplicant j single 1: 0\n",
         ),
     ] {
-        let file = format!(in rt.alloc(); "match,2\n{rows}withdraw,{kind},i\n")?;
-        assert!(rt; gives(&rt, rt.alloc(), &file, market)?, "{kind}");
+        expect_without(&rt, rt.alloc(), kind, market)?;
     }
     Ok(())
 }

@@ -1,8 +1,9 @@
 use Rattle.std.proofs.Common.{ℕ, List, Option, Some, None, refl, ◌∙◌, ap, ap₂, subst, length, filter_map}
+use Rattle.mt_terms.specs.Registration.Ids.{Bytes}
 use Rattle.mt_terms.specs.Registration.Records.{Record}
 use Rattle.mt_records.specs.declared.record.Record.{Record as Checked}
 use Rattle.mt_numbering.specs.Numbered.{all_seen, program_lists}
-use Rattle.mt_numbering.specs.Reading.{ReadsLists, members_by}
+use Rattle.mt_numbering.specs.Reading.{ReadsLists, ReadsOthers, members_by}
 use Rattle.mt_numbering.proofs.EntryFacts.{rankings_fail, read_beside}
 use Rattle.mt_numbering.proofs.market.read_unnamed.Goals as goal
 
@@ -14,7 +15,7 @@ members-requires-clause-all g c = rw (c.deref.ensures.value, c.deref-2.ensures.v
 
 pub returns-in_default : goal.returns-in_default
 returns-in_default g c =
-    let r = c.args.registered in
+    let r = c.args.registered.now in
     let news = c.deref-3.result.now in
     let room = c.rankings.new.room in
     let fails = subst (ReadsLists {X = ℕ} r.applicants news c.args.room.now room (program_lists (all_seen c.deref-4.result.now))) c.in_default.is c.in_ok-rankings.ensures in
@@ -23,19 +24,23 @@ returns-in_default g c =
 
 pub returns-in_default-2 : goal.returns-in_default-2
 returns-in_default-2 g c =
-    read_beside c.args.half_pairs c.args.registered c.args.numbers.now (all_seen c.args.records.items) _ _ c.args.room.now c.rankings.new.room c.other_entries.new.room _ _ c.in-Some.rankings _ _ None
+    read_beside c.args.half_pairs c.args.registered.now c.args.numbers.now (all_seen c.args.records.items) _ _ c.args.room.now c.rankings.new.room c.other_entries.new.room _ _ c.in-Some.rankings _ _ None
     c.deref-3.ensures.value c.deref-5.ensures.value (ap all_seen c.deref-4.ensures.value) (ap all_seen c.deref-6.ensures.value) c.in-Some.is c.in_default-2.is
-    c.in_ok-rankings.ensures c.in_ok-entries.ensures
+    c.in_ok-rankings.ensures
+    (subst (λ (programs : List Bytes). ReadsOthers c.args.half_pairs programs c.deref-5.result.now c.rankings.new.room c.other_entries.new.room (all_seen c.deref-6.result.now) c.in-Some.rankings c.in_ok-entries.field-0)
+    c.let_applicants_go.ensures.programs c.in_ok-entries.ensures)
 
 pub returns : goal.returns
 returns g c =
     let read =
-    read_beside c.args.half_pairs c.args.registered c.args.numbers.now (all_seen c.args.records.items) _ _ c.args.room.now c.rankings.new.room c.other_entries.new.room _ _ c.in-Some.rankings _ _ (Some c.in-Some-2.entries)
+    read_beside c.args.half_pairs c.args.registered.now c.args.numbers.now (all_seen c.args.records.items) _ _ c.args.room.now c.rankings.new.room c.other_entries.new.room _ _ c.in-Some.rankings _ _ (Some c.in-Some-2.entries)
     c.deref-3.ensures.value c.deref-5.ensures.value (ap all_seen c.deref-4.ensures.value) (ap all_seen c.deref-6.ensures.value) c.in-Some.is c.in-Some-2.is
-    c.in_ok-rankings.ensures c.in_ok-entries.ensures
+    c.in_ok-rankings.ensures
+    (subst (λ (programs : List Bytes). ReadsOthers c.args.half_pairs programs c.deref-5.result.now c.rankings.new.room c.other_entries.new.room (all_seen c.deref-6.result.now) c.in-Some.rankings c.in_ok-entries.field-0)
+    c.let_applicants_go.ensures.programs c.in_ok-entries.ensures)
     in
     let members =
     c.in_ok-members.ensures
-    ∙ ap₂ (λ (news : List (Option ℕ)) (xs : List Record). filter_map (members_by c.args.registered.applicants news) xs) c.deref.ensures.value (ap all_seen c.deref-2.ensures.value)
+    ∙ ap₂ (λ (news : List (Option ℕ)) (xs : List Record). filter_map (members_by c.args.registered.now.applicants news) xs) c.deref.ensures.value (ap all_seen c.deref-2.ensures.value)
     in
     (read, refl, members)

@@ -12,8 +12,8 @@ pub returns-then-is_none : goal.returns-then-is_none
 returns-then-is_none g c =
     let leave = λ (xs : List Checked). filter (λ r. not (stays_after c.args.withdrawn.now r)) (all_seen xs) in
     let leaving = ap all_seen c.deref-2.ensures.value ∙ c.in_ok-leaving.ensures ∙ ap leave c.deref.ensures.value in
-    let left = λ (q : Rules). ReadsEntries q.half_pairs c.args.registered c.args.numbers.now q.limits.entries c.entries_of.new.room (all_seen c.deref-2.result.now) c.in_ok-entries_of.field-0 in
-    first_fails c.args.rules.now c.args.registered c.args.withdrawn.now c.args.numbers.now (all_seen c.args.records.items) _ _ _
+    let left = λ (q : Rules). ReadsEntries q.half_pairs c.args.registered.now c.args.numbers.now q.limits.entries c.entries_of.new.room (all_seen c.deref-2.result.now) c.in_ok-entries_of.field-0 in
+    first_fails c.args.rules.now c.args.registered.now c.args.withdrawn.now c.args.numbers.now (all_seen c.args.records.items) _ _ _
     leaving (subst left c.rules.view_is c.in_ok-entries_of.ensures) (c.is_none.ensures ∙ ap not c.if-is_none.true)
 
 pub read_unnamed-requires-clause-members : goal.read_unnamed-requires-clause-members
@@ -23,11 +23,11 @@ pub returns : goal.returns
 returns g c =
     let leave = λ (xs : List Checked). filter (λ r. not (stays_after c.args.withdrawn.now r)) (all_seen xs) in
     let leaving = ap all_seen c.deref-2.ensures.value ∙ c.in_ok-leaving.ensures ∙ ap leave c.deref.ensures.value in
-    let left = λ (q : Rules). ReadsEntries q.half_pairs c.args.registered c.args.numbers.now q.limits.entries c.entries_of.new.room (all_seen c.deref-2.result.now) c.in_ok-entries_of.field-0 in
+    let left = λ (q : Rules). ReadsEntries q.half_pairs c.args.registered.now c.args.numbers.now q.limits.entries c.entries_of.new.room (all_seen c.deref-2.result.now) c.in_ok-entries_of.field-0 in
     IfOk-weaker c.read_unnamed.result _ _
     (λ o reads.
-    let stayed = λ (q : Rules). ReadsUnnamed q.half_pairs c.args.registered c.args.numbers.now c.entries_of.new.room c.read_unnamed.new.room (all_seen c.staying-staying.result.items) o in
-    both_given c.args.rules.now c.args.registered c.args.withdrawn.now c.args.numbers.now (all_seen c.args.records.items) _ _ _ o _ _
+    let stayed = λ (q : Rules). ReadsUnnamed q.half_pairs c.args.registered.now c.args.numbers.now c.entries_of.new.room c.read_unnamed.new.room (all_seen c.staying-staying.result.items) o in
+    both_given c.args.rules.now c.args.registered.now c.args.withdrawn.now c.args.numbers.now (all_seen c.args.records.items) _ _ _ o _ _
     leaving c.staying-staying.ensures (subst left c.rules.view_is c.in_ok-entries_of.ensures) (c.is_none.ensures ∙ ap not c.if-is_none.false)
     (subst stayed c.rules.view_is reads))
     c.read_unnamed.ensures

@@ -1,12 +1,9 @@
-use Rattle.std.proofs.Common.{◌<◌, ◌^◌, ◌∙◌, ap, sym, subst, List, length}
-use Rattle.std.proofs.lemmas.Result.{IfOk-weaker}
+use Rattle.std.proofs.Common.{◌∙◌, ap, sym, List}
 use Rattle.mt_terms.specs.Registration.Ids.{has_id}
-use Rattle.mt_terms.specs.Registration.Records.{OfProgram}
-use Rattle.mt_terms.specs.Registration.Rows.{ids_of, applicant_ids}
+use Rattle.mt_terms.specs.Registration.Rows.{ids_of}
 use Rattle.mt_records.specs.declared.record.Record.{Record as Checked}
-use Rattle.mt_numbering.specs.Markets.{AreNewNumbers}
 use Rattle.mt_numbering.specs.Numbered.{all_seen}
-use Rattle.mt_numbering.proofs.MarketFacts.{length-singles, knows_ids, few_ids, not_standing, long_programs, long_applicants, have_numbers, stand_found, stand_missing, stays_by}
+use Rattle.mt_numbering.proofs.MarketFacts.{length-singles, knows_ids, not_standing, stand_found, stand_missing}
 use Rattle.mt_numbering.proofs.market.unnamed_by.Goals as goal
 
 pub withdrawn_by-requires-clause-long : goal.withdrawn_by-requires-clause-long
@@ -16,39 +13,10 @@ pub withdrawn_by-requires-clause-known : goal.withdrawn_by-requires-clause-known
 withdrawn_by-requires-clause-known g c =
     λ kind id. knows_ids (all_seen c.args.records.items) _ c.requires.ids kind id ∙ ap (λ (xs : List Checked). has_id (ids_of kind (all_seen xs)) id) (sym c.deref.ensures.value)
 
-pub returns-in_default : goal.returns-in_default
-returns-in_default g c =
-    not_standing c.args.rules.now (all_seen c.args.records.items) _ c.requires.ids c.requires.few
-    (stand_missing _ _ _ c.deref.ensures.value c.in_ok-withdrawn.ensures c.in_default.is)
-
-pub numbers_of-requires-clause-programs : goal.numbers_of-requires-clause-programs
-numbers_of-requires-clause-programs g c =
-    subst (λ (xs : List Checked). length (ids_of OfProgram (all_seen xs)) < 2 ^ 31) (sym c.deref-2.ensures.value) (few_ids c.args.rules.now.limits (all_seen c.args.records.items) c.requires.limits c.requires.few).0
-
-pub numbers_of-requires-clause-applicants : goal.numbers_of-requires-clause-applicants
-numbers_of-requires-clause-applicants g c =
-    subst (λ (xs : List Checked). length (applicant_ids (all_seen xs)) < 2 ^ 31) (sym c.deref-2.ensures.value) (few_ids c.args.rules.now.limits (all_seen c.args.records.items) c.requires.limits c.requires.few).1
-
-pub staying_unnamed-requires-clause-programs : goal.staying_unnamed-requires-clause-programs
-staying_unnamed-requires-clause-programs g c κs within =
-    let stand = stand_found _ _ _ _ c.deref.ensures.value c.in_ok-withdrawn.ensures c.in-Some.is in
-    let new = subst (λ (xs : List Checked). AreNewNumbers c.in-Some.withdrawn (all_seen xs) c.in_ok-numbers.numbers) c.deref-2.ensures.value c.in_ok-numbers.ensures in
-    long_programs c.args.rules.now (all_seen c.args.records.items) _ c.requires.ids _ _ stand new
-
-pub staying_unnamed-requires-clause-applicants : goal.staying_unnamed-requires-clause-applicants
-staying_unnamed-requires-clause-applicants g c κs within =
-    let stand = stand_found _ _ _ _ c.deref.ensures.value c.in_ok-withdrawn.ensures c.in-Some.is in
-    let new = subst (λ (xs : List Checked). AreNewNumbers c.in-Some.withdrawn (all_seen xs) c.in_ok-numbers.numbers) c.deref-2.ensures.value c.in_ok-numbers.ensures in
-    long_applicants c.args.rules.now (all_seen c.args.records.items) _ c.requires.ids _ _ stand new
-
-pub staying_unnamed-requires-clause-members : goal.staying_unnamed-requires-clause-members
-staying_unnamed-requires-clause-members g c κs within =
-    let stand = stand_found _ _ _ _ c.deref.ensures.value c.in_ok-withdrawn.ensures c.in-Some.is in
-    let new = subst (λ (xs : List Checked). AreNewNumbers c.in-Some.withdrawn (all_seen xs) c.in_ok-numbers.numbers) c.deref-2.ensures.value c.in_ok-numbers.ensures in
-    have_numbers c.args.rules.now (all_seen c.args.records.items) _ c.requires.ids _ _ stand new
+pub unnamed_without-requires-clause-stand : goal.unnamed_without-requires-clause-stand
+unnamed_without-requires-clause-stand g c κs within = stand_found _ _ _ _ c.deref.ensures.value c.in_ok-withdrawn.ensures c.in-Some.is
 
 pub returns : goal.returns
 returns g c =
-    let stand = stand_found _ _ _ _ c.deref.ensures.value c.in_ok-withdrawn.ensures c.in-Some.is in
-    let new = subst (λ (xs : List Checked). AreNewNumbers c.in-Some.withdrawn (all_seen xs) c.in_ok-numbers.numbers) c.deref-2.ensures.value c.in_ok-numbers.ensures in
-    IfOk-weaker c.staying_unnamed.result _ _ (stays_by c.args.rules.now (all_seen c.args.records.items) _ c.requires.ids _ _ stand new c.requires.few) c.staying_unnamed.ensures
+    not_standing c.args.rules.now (all_seen c.args.records.items) _ c.requires.ids c.requires.few
+    (stand_missing _ _ _ c.deref.ensures.value c.in_ok-withdrawn.ensures c.in-None.is)
