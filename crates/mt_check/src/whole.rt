@@ -179,6 +179,32 @@ fn judge_match<T: Threads + Sync, S: Read>(
     }
 }
 
+/// The answer to a market and to the match that a reader gives, or the refusal of the match.
+fn answer_by<T: Threads + Sync, S: Read>(
+    rt: &T,
+    alloc: Global,
+    tap: &mut Tap<S>,
+    roster: &Roster,
+) -> Result<Found, Refused>
+    requires { reads_of tap.old + most_bytes < u64.MAX }
+    ensures found { IfOk result (λ found. LeftIs (bytes_left S.remaining tap.old)
+        (λ bytes. told_answer roster.now (told_in roster.now bytes)) (answer_seen found)) }
+    ensures code { IfOk result (λ found. found.code ≤ 1) }
+    ensures source { IfErr result (λ e. e.source ≡ Source.Match) }
+    ensures refused { IfErr result (λ e. IsRefusalOf Source.Match (bytes_left S.remaining tap.old) (told_in roster.now) e.refusal) }
+    ensures fault { (end_code result ≡ READ_FAULT) ↔ (read_failures_of tap.old < read_failures_of tap.new) }
+    ensures reads { RisesAtMost (most_bytes + 1) (reads_of tap.old) (reads_of tap.new) }
+    ensures failures { RisesAtMost 1 (read_failures_of tap.old) (read_failures_of tap.new) }
+{
+    match judge_match(rt, alloc, tap, roster) {
+        Ok(found) => Ok(found),
+        Err(refusal) => Err(Refused {
+            source: Source::Match,
+            refusal,
+        }),
+    }
+}
+
 /// The answer to a market and a match that two readers give. The match is read once the market stands.
 fn answer<T: Threads + Sync, R: Read, S: Read>(
     rt: &T,
@@ -199,19 +225,10 @@ fn answer<T: Threads + Sync, R: Read, S: Read>(
     ensures match_reads { RisesAtMost (most_bytes + 1) (reads_of told.old) (reads_of told.new) }
     ensures match_failures { RisesAtMost 1 (read_failures_of told.old) (read_failures_of told.new) }
 {
-    let roster = match read_market(rt, alloc, market) {
-        Ok(roster) => roster,
-        Err(refusal) => {
-            return Err(Refused {
-                source: Source::Market,
-                refusal,
-            });
-        }
-    };
-    match judge_match(rt, alloc, told, &roster) {
-        Ok(found) => Ok(found),
+    match read_market(rt, alloc, market) {
+        Ok(roster) => answer_by(rt, alloc, told, &roster),
         Err(refusal) => Err(Refused {
-            source: Source::Match,
+            source: Source::Market,
             refusal,
         }),
     }
