@@ -95,7 +95,7 @@ pub(crate) fn judges<T: Threads + Sync>(rt: &T, alloc: Global) -> Result<bool, S
 }
 
 // Whether the chain's best match has its text.
-fn publishes_on(alloc: Global, roster: &Roster) -> Result<bool, AllocError> {
+fn publishes_on(alloc: Global, roster: &Roster) -> Result<bool, SampleError> {
     let places = [Some(ProgNo(1)), Some(ProgNo(0)), None];
     if !are_places(roster, &places) || roster.programs() != 2 {
         return Ok(false);
@@ -110,7 +110,7 @@ fn publishes_on(alloc: Global, roster: &Roster) -> Result<bool, AllocError> {
 /// Whether a match has its text.
 pub(crate) fn publishes<T: Threads + Sync>(rt: &T, alloc: Global) -> Result<bool, SampleError> {
     let roster = roster_of(rt, alloc, CHAIN)?;
-    Ok(publishes_on(alloc, &roster)?)
+    publishes_on(alloc, &roster)
 }
 
 /// A writer with room for a small text.
