@@ -16,11 +16,21 @@ use std::marker::Model;
 /// How far deferred acceptance has come (Gale and Shapley 1962; McVitie and Wilson 1971): how many programs of
 /// its live list each applicant has proposed to, whether it believes that it stands at the last of them, and what
 /// each program holds. A floor belongs to the rank tables that it was opened with.
-#[derive(Debug, Drop)]
+#[derive(Debug)]
 pub struct Floor {
     made: Vec<u32>,
     standing: Vec<bool>,
     holds: Vec<Hold>,
+}
+
+impl Drop for Floor {
+    fn drop(self) {
+        let Floor {
+            made: _,
+            standing: _,
+            holds: _,
+        } = self;
+    }
 }
 
 impl Model for Floor {

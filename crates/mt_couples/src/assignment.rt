@@ -90,12 +90,17 @@ fn add_ranked(ranking: &[AppNo], ranks: &[usize], out: &mut Vec<AppNo>) -> Resul
 
 /// A match beside the market that it is of: where each applicant is placed, and for each program the ranks of
 /// those that are placed there.
-#[derive(Drop)]
 pub(crate) struct Assignment<'a> {
     roster: &'a Roster,
     ranks: &'a Ranks<'a>,
     places: Vec<Option<ProgNo>>,
     rows: Vec<PlacedRanks>,
+}
+
+impl Drop for Assignment<'_> {
+    fn drop(self) {
+        let Assignment { roster: _, ranks: _, places: _, rows: _ } = self;
+    }
 }
 
 impl<'a> Model for Assignment<'a> {
@@ -137,8 +142,9 @@ impl<'a> Assignment<'a> {
     pub(crate) fn into_match(self) -> Match
         ensures { result.places ≡ self.entry.places }
     {
+        let Assignment { roster: _, ranks: _, places, rows: _ } = self;
         Match {
-            places: Places::new(self.places),
+            places: Places::new(places),
         }
     }
 

@@ -15,12 +15,17 @@ use std::alloc::{AllocError, Global};
 
 /// Where to look for an option that is opened once somebody leaves a program: for each program the ranks of the
 /// singles that want it more than what they have, and the couples that have entered and name it in a pair.
-#[derive(Drop)]
 pub(crate) struct Watch {
     singles: Vec<RankSet>,
     couples: Vec<CoupleList>,
     /// For each couple how many pairs it wants more than what it has.
     better: Vec<usize>,
+}
+
+impl Drop for Watch {
+    fn drop(self) {
+        let Watch { singles: _, couples: _, better: _ } = self;
+    }
 }
 
 /// No ranks for each program.

@@ -104,9 +104,14 @@ fn seed_of(names: &FlatLists<u8>) -> Seed {
 }
 
 /// Ids in the order in which they came, each of them once. The number of an id is its place, from 0.
-#[derive(Drop)]
 pub struct IdTable<'a> {
     ids: IndexSet<Key<'a>, Seed>,
+}
+
+impl Drop for IdTable<'_> {
+    fn drop(self) {
+        let IdTable { ids: _ } = self;
+    }
 }
 
 impl<'a> Model for IdTable<'a> {

@@ -10,9 +10,15 @@ use std::marker::Model;
 
 /// The fields of a record that `csv` has read, without the empty ones at its end. Their bytes lie in one block, and the
 /// places where they end in another.
-#[derive(Debug, Drop)]
+#[derive(Debug)]
 pub(crate) struct ReadRow {
     record: ByteRecord,
+}
+
+impl Drop for ReadRow {
+    fn drop(self) {
+        let ReadRow { record: _ } = self;
+    }
 }
 
 impl Model for ReadRow {

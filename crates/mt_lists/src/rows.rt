@@ -8,9 +8,15 @@ use std::marker::Model;
 
 /// The rows of an input: the lines of a text that has no quote, which are cut as they are lent, or else the rows that
 /// `csv` has read.
-#[derive(Debug, Drop)]
+#[derive(Debug)]
 pub struct Rows<'t> {
     source: RowsSource<'t>,
+}
+
+impl Drop for Rows<'_> {
+    fn drop(self) {
+        let Rows { source: _ } = self;
+    }
 }
 
 // Where the rows lie.

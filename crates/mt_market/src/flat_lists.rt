@@ -25,10 +25,16 @@ fn piece<'a, T>(items: &'a [T], ends: &[usize], number: usize) -> &'a [T]
 }
 
 /// Lists held one after another in one vector, each known by where it ends.
-#[derive(Debug, Drop)]
+#[derive(Debug)]
 pub struct FlatLists<T> {
     items: Vec<T>,
     ends: Vec<usize>,
+}
+
+impl<T: Drop> Drop for FlatLists<T> {
+    fn drop(self) {
+        let FlatLists { items: _, ends: _ } = self;
+    }
 }
 
 impl<T> Model for FlatLists<T> {

@@ -10,7 +10,7 @@ use std::marker::Model;
 
 /// What a market is made of, by number: programs with quotas and rank order lists, singles with theirs, couples with
 /// their members and lists of pairs, and the ids of all.
-#[derive(Debug, Drop)]
+#[derive(Debug)]
 pub struct Tables {
     /// The posts of each program.
     pub quotas: Vec<u32>,
@@ -30,6 +30,22 @@ pub struct Tables {
     pub applicant_ids: FlatLists<u8>,
     /// The ids of the couples.
     pub couple_ids: FlatLists<u8>,
+}
+
+impl Drop for Tables {
+    fn drop(self) {
+        let Tables {
+            quotas: _,
+            rankings: _,
+            lists: _,
+            agents: _,
+            members: _,
+            pairs: _,
+            program_ids: _,
+            applicant_ids: _,
+            couple_ids: _,
+        } = self;
+    }
 }
 
 /// A market with its ids: programs with quotas and rank order lists, singles with theirs, and couples with

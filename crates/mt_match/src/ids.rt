@@ -58,7 +58,6 @@ fn applicants(alloc: Global, roster: &Roster) -> Result<IdTable<'_>, AllocError>
 }
 
 /// A market with its ids, by which its programs and applicants are found.
-#[derive(Drop)]
 pub(crate) struct Ids<'a> {
     roster: &'a Roster,
     programs: IdTable<'a>,
@@ -66,6 +65,16 @@ pub(crate) struct Ids<'a> {
     pub ghost of_a_file: { IsRegistration roster.now },
     pub ghost of_programs: { programs ≡ roster.now.names.programs },
     pub ghost of_applicants: { applicants ≡ roster.now.names.applicants },
+}
+
+impl Drop for Ids<'_> {
+    fn drop(self) {
+        let Ids {
+            roster: _,
+            programs: _,
+            applicants: _,
+        } = self;
+    }
 }
 
 impl<'a> Ids<'a> {

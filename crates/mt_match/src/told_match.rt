@@ -38,10 +38,19 @@ pub struct Counted {
 }
 
 /// What the records of a match tell: a place for each applicant of a market, and the counts.
-#[derive(Debug, Drop)]
+#[derive(Debug)]
 pub struct ToldMatch {
     matched: Match,
     counts: Vec<Counted>,
+}
+
+impl Drop for ToldMatch {
+    fn drop(self) {
+        let ToldMatch {
+            matched: _,
+            counts: _,
+        } = self;
+    }
 }
 
 impl Model for ToldMatch {

@@ -289,10 +289,18 @@ fn pairs<R: Threads + Sync>(
 }
 
 /// The new numbers of programs and of applicants, by their numbers: none for what has none.
-#[derive(Drop)]
 pub(crate) struct Numbers {
     pub(crate) programs: Vec<Option<ProgNo>>,
     pub(crate) applicants: Vec<Option<AppNo>>,
+}
+
+impl Drop for Numbers {
+    fn drop(self) {
+        let Numbers {
+            programs: _,
+            applicants: _,
+        } = self;
+    }
 }
 
 /// What the lists of records say by numbers.

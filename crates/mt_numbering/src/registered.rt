@@ -10,12 +10,22 @@ use std::hash::DefaultHasher;
 use std::mem::replace;
 
 /// The ids of records by number, where none is registered twice, and for each applicant whether it is a single.
-#[derive(Drop)]
 pub(crate) struct Registered<'a> {
     pub(crate) programs: IdTable<'a>,
     pub(crate) applicants: IdTable<'a>,
     pub(crate) couples: IdTable<'a>,
     singles: &'a [bool],
+}
+
+impl Drop for Registered<'_> {
+    fn drop(self) {
+        let Registered {
+            programs: _,
+            applicants: _,
+            couples: _,
+            singles: _,
+        } = self;
+    }
 }
 
 impl<'a> Registered<'a> {

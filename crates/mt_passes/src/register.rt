@@ -30,7 +30,6 @@ fn seed_of(rows: RowsIter<'_>) -> Seed {
 }
 
 /// The records that were read, with what they register and what they withdraw.
-#[derive(Drop)]
 pub struct Register<'a> {
     pub(crate) records: Vec<Numbered<'a>>,
     /// The own ids of the records.
@@ -41,6 +40,18 @@ pub struct Register<'a> {
     pub(crate) withdrawn: Kinds<'a>,
     /// How many entries the lists have in all.
     pub(crate) entries: u64,
+}
+
+impl Drop for Register<'_> {
+    fn drop(self) {
+        let Register {
+            records: _,
+            registered: _,
+            applicants: _,
+            withdrawn: _,
+            entries: _,
+        } = self;
+    }
 }
 
 impl<'a> Register<'a> {

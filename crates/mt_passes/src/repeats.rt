@@ -30,9 +30,14 @@ pub(crate) fn has_repeat(alloc: Global, list: Fields<'_>) -> Result<bool, AllocE
 }
 
 /// Pairs in the order in which they came, each of them once.
-#[derive(Drop)]
 struct PairTable<'a> {
     pairs: IndexSet<(Option<&'a [u8]>, Option<&'a [u8]>), Seed>,
+}
+
+impl Drop for PairTable<'_> {
+    fn drop(self) {
+        let PairTable { pairs: _ } = self;
+    }
 }
 
 impl<'a> Model for PairTable<'a> {

@@ -8,11 +8,21 @@ use std::marker::Model;
 
 /// Lists of entries that grow side by side, one after another in one vector, each within the room that it
 /// was given.
-#[derive(Debug, Drop)]
+#[derive(Debug)]
 pub(crate) struct Rows {
     items: Vec<Live>,
     starts: Vec<usize>,
     ends: Vec<usize>,
+}
+
+impl Drop for Rows {
+    fn drop(self) {
+        let Rows {
+            items: _,
+            starts: _,
+            ends: _,
+        } = self;
+    }
 }
 
 impl Model for Rows {

@@ -8,11 +8,20 @@ use mt_ids::{IdTable, Seed};
 use std::alloc::{AllocError, Global};
 
 /// Ids of each kind.
-#[derive(Drop)]
 pub struct Kinds<'a> {
     pub programs: IdTable<'a>,
     pub applicants: IdTable<'a>,
     pub couples: IdTable<'a>,
+}
+
+impl Drop for Kinds<'_> {
+    fn drop(self) {
+        let Kinds {
+            programs: _,
+            applicants: _,
+            couples: _,
+        } = self;
+    }
 }
 
 impl<'a> Kinds<'a> {

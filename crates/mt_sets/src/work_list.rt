@@ -9,13 +9,18 @@ use std::marker::Model;
 
 /// The agents that are to be looked at, first in first out, each at most once. Room for every agent of a
 /// market is taken at the start, so joining takes no memory.
-#[derive(Drop)]
 pub struct WorkList {
     applicants: u32,
     couples: u32,
     queue: VecDeque<Agent>,
     /// Whether an agent waits: the applicants by number, and then the couples by number.
     waits: Vec<bool>,
+}
+
+impl Drop for WorkList {
+    fn drop(self) {
+        let WorkList { applicants: _, couples: _, queue: _, waits: _ } = self;
+    }
 }
 
 impl Model for WorkList {
