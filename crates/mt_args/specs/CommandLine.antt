@@ -50,6 +50,7 @@ budget_rule = record (new_rule (codes "budget")) {
 abbrev pub plain : App
 plain = on_top (λ s. record s { no_binary_name = true; has_version = true }) (new_app (codes "nrmatch"))
 
+-- the command: FILE, `--workers` and `--budget`
 abbrev pub nrmatch : App
 nrmatch = with_rule (with_rule (with_rule plain file_rule) workers_rule) budget_rule
 

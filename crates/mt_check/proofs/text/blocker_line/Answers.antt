@@ -1,3 +1,5 @@
+use Rattle.std.proofs.Common.{arith}
+use Rattle.std.proofs.lemmas.Grind.{common_steps}
 use Rattle.std.proofs.Common.{◌∙◌}
 use Rattle.std.proofs.lemmas.Result.{IfOk-weaker}
 use Rattle.mt_check.proofs.OptionFacts.{couple_line, program_below, programs_below}
@@ -26,3 +28,6 @@ returns-in-Couple c =
     c.index-couple_list-option.result c.index-couple_list-option-in-Couple.result c.as_slice-word.ensures c.as_slice-in-Couple.ensures c.couple_id-id.ensures c.place_id-first.ensures
     c.place_id-second.ensures)
     c.check_line-in-Couple.ensures
+
+pub returns-in-Single : goal.returns-in-Single
+returns-in-Single c = grind (arith, common_steps)

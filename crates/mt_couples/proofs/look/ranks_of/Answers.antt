@@ -1,4 +1,5 @@
-use Rattle.std.proofs.Common.{◌≡◌, ◌∙◌, ◌==◌, ℕ, Some, true, sym}
+use Rattle.std.proofs.lemmas.Grind.{common_steps}
+use Rattle.std.proofs.Common.{arith, ◌≡◌, ◌∙◌, ◌==◌, ℕ, Some, true, sym}
 use Rattle.std.proofs.lemmas.List.Sorted.{IsNonDecreasingBy-from_sort, list_any-IsPermutation}
 use Rattle.mt_terms.specs.Lists.{has}
 use Rattle.mt_ranks.specs.Ranked.{rank_of}
@@ -24,3 +25,6 @@ returns-clause-ranks c =
 
 pub returns-clause-sorted : goal.returns-clause-sorted
 returns-clause-sorted c = IsNonDecreasingBy-from_sort (λ x. x) c.sort_unstable.new.self.items c.sort_unstable.ensures.sorted
+
+pub loop-applicant-preserved : goal.loop-applicant-preserved
+loop-applicant-preserved c = grind (arith, common_steps)

@@ -1,4 +1,5 @@
-use Rattle.std.proofs.Common.{◌∷◌, []}
+use Rattle.std.proofs.lemmas.Grind.{common_steps}
+use Rattle.std.proofs.Common.{arith, ◌∷◌, []}
 use Rattle.mt_couples.specs.Watching.{Covers}
 use Rattle.mt_placed.proofs.PlaceFacts.{has_read}
 use Rattle.mt_couples.proofs.WatchFacts.{each_all}
@@ -14,3 +15,6 @@ returns-clause-covers c =
     let found = c.loop-program.found.items in
     covers_all c.args.last c.args.assignment.now c.args.left.now c.args.waiting.now.agents found
     (each_all (λ p. Covers c.args.last c.args.assignment.now (p ∷ []) c.args.waiting.now.agents found) c.args.left.now c.loop-program.program-index c.loop-program-test.false c.loop-program.invariant.covers)
+
+pub loop-program-preserved : goal.loop-program-preserved
+loop-program-preserved c = grind (arith, common_steps)

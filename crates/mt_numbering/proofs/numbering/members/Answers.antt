@@ -1,4 +1,5 @@
-use Rattle.std.proofs.Common.{◌∙◌, ap}
+use Rattle.std.proofs.lemmas.Grind.{common_steps}
+use Rattle.std.proofs.Common.{arith, ◌∙◌, ap}
 use Rattle.std.specs.Prelude.{◌&&◌, is_some}
 use Rattle.mt_terms.specs.Registration.Ids.{Bytes, has_id}
 use Rattle.mt_terms.specs.Registration.Rows.{applicants_of}
@@ -28,3 +29,9 @@ unwrap-second-requires c =
     both.0 both.1 c.loop-one-test.true c.one-item.is (ap (λ (r : Checked). applicants_of (record_seen r)) c.in-Couple.is) c.requires.all
     in
     found_number ids numbers both.1 c.number-in-Couple.result (c.number-in-Couple.ensures ∙ ap (λ (m : Bytes × Bytes). number_by ids numbers m.1) c.members.ensures) pass.1
+
+pub loop-one-preserved : goal.loop-one-preserved
+loop-one-preserved c = grind (arith, common_steps)
+
+pub returns : goal.returns
+returns c = grind (arith, common_steps)

@@ -43,3 +43,15 @@ loop-list-preserved g c =
                 c.loop-list.room c.begin.new.self c.begin.new.self c.in_ok-begin.ensures.ok (refl, omega arith, refl);
           })
     ]
+
+pub loop-list-init : goal.loop-list-init
+loop-list-init g c = grind (arith, common_steps)
+
+pub returns : goal.returns
+returns g c = grind (arith, common_steps)
+
+pub returns-then-not-branch : goal.returns-then-not-branch
+returns-then-not-branch g c = grind (arith, common_steps)
+
+pub push_list-requires-clause-begun : goal.push_list-requires-clause-begun
+push_list-requires-clause-begun g c = grind (arith, common_steps)

@@ -1,4 +1,5 @@
-use Rattle.std.proofs.Common.{◌≡◌, ◌<◌, ◌==◌, ℕ, Bool, true, false, not, IsTrue, refl, sym, ap, ◌∙◌, subst}
+use Rattle.std.proofs.lemmas.Grind.{common_steps}
+use Rattle.std.proofs.Common.{arith, ◌≡◌, ◌<◌, ◌==◌, ℕ, Bool, true, false, not, IsTrue, refl, sym, ap, ◌∙◌, subst}
 use Rattle.std.proofs.lemmas.Bool.{eqb-true, false≢true, true≢false}
 use Rattle.mt_terms.specs.Lists.{has}
 use Rattle.mt_terms.specs.Market.{applicants, live}
@@ -79,3 +80,6 @@ returns-clause-tells g c =
       subst (λ (r : Ranked). IsTrue (has (live r.market c.args.applicant) p)) c.args.self.now.its_ranks (has-get _ c.if-standing.place p c.entry_at-program.ensures.program),
       subst (λ a. AllAboveExcluded m a p) who (subst (AllAboveExcluded m _) there c.in-NotDue.ensures.excluded),
     )
+
+pub returns-then-made-entries : goal.returns-then-made-entries
+returns-then-made-entries g c = grind (arith, common_steps)

@@ -1,3 +1,4 @@
+use Rattle.std.proofs.lemmas.Grind.{common_steps}
 use Rattle.std.proofs.Common.{◌≡◌, length, ap, ◌∙◌, arith}
 use Rattle.mt_terms.specs.Market.{applicants, live}
 use Rattle.mt_terms.proofs.BelowFacts.{length-map_below}
@@ -10,3 +11,9 @@ deal-requires-clause-parts g c =
     let number : length c.deref.result.now ≡ applicants g.K.HallName.ranked.market =
     ap length (c.deref.ensures.value ∙ c.in_ok-credits.ensures.each) ∙ length-map_below (λ a. length (live m a)) (applicants m) ∙ ap (λ (r : Ranked). applicants r.market) c.requires.ranks in
     (c.requires.parts.0, omega (arith, c.requires.parts.1, number))
+
+pub returns-in-Ok-deal : goal.returns-in-Ok-deal
+returns-in-Ok-deal g c = grind (arith, common_steps)
+
+pub seat-requires : goal.seat-requires
+seat-requires g c = grind (arith, common_steps)

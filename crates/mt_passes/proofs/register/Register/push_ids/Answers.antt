@@ -1,4 +1,5 @@
-use Rattle.std.proofs.Common.{sym, ◌∙◌, ap}
+use Rattle.std.proofs.lemmas.Grind.{common_steps}
+use Rattle.std.proofs.Common.{arith, sym, ◌∙◌, ap}
 use Rattle.mt_lists.specs.Rows.{fields_left}
 use Rattle.mt_terms.specs.Registration.Records.{OfApplicant}
 use Rattle.mt_terms.specs.Registration.Passes.{registered_before}
@@ -12,3 +13,6 @@ pub push-requires-in-Applicant : goal.push-requires-in-Applicant
 push-requires-in-Applicant c =
     ap (λ ids. has_id ids c.in-Applicant.id.now) (c.requires.register.registered OfApplicant)
     ∙ new_single (contents_seen c.args.self.now) c.in-Applicant.id.now (fields_left c.in-Applicant.list) (ap (λ r. registered_before (contents_seen c.args.self.now) (record_seen r)) (sym c.in-Applicant.is) ∙ c.requires.new)
+
+pub returns-in_ok-push-in-Couple-3 : goal.returns-in_ok-push-in-Couple-3
+returns-in_ok-push-in-Couple-3 c = grind (arith, common_steps)

@@ -1,3 +1,4 @@
+use Rattle.std.proofs.lemmas.Grind.{common_steps}
 use Rattle.std.proofs.Common.{length, None, IsTrue, IsFalse, sym, ap, ◌∙◌, arith}
 use Rattle.mt_terms.specs.Market.{couple_of}
 use Rattle.mt_terms.specs.Matching.{place_of, holds, couple_placement}
@@ -60,3 +61,6 @@ returns c =
     let self = c.args.self.now in
     sym (at_no_pair self.roster.now.market self.matched.now.places c.args.couple
     (λ j less. c.loop-option.invariant j (omega (arith, ap length c.couple_list-pair-items.ensures))))
+
+pub takes_pair-requires : goal.takes_pair-requires
+takes_pair-requires c = grind (arith, common_steps)
