@@ -8,21 +8,11 @@ use std::marker::Model;
 
 /// Lists of entries that grow side by side, one after another in one vector, each within the room that it
 /// was given.
-#[derive(Debug)]
+#[derive(Debug, Drop)]
 pub(crate) struct Rows {
     items: Vec<Live>,
     starts: Vec<usize>,
     ends: Vec<usize>,
-}
-
-impl Drop for Rows {
-    fn drop(self) {
-        let Rows {
-            items: _,
-            starts: _,
-            ends: _,
-        } = self;
-    }
 }
 
 impl Model for Rows {
