@@ -1,15 +1,14 @@
 -- Ranks that are kept as bits, in words of 64.
-use Rattle.std.proofs.Common.{◌≡◌, ◌≢◌, ◌∙◌, ℕ, zero, suc, ◌+◌, ◌-◌, ◌*◌, ◌/◌, ◌%◌, ◌^◌, ◌<◌, ◌≤◌, ◌==◌, Bool, ◌||◌, ◌&&◌, not, false, List, [], ◌∷◌, ◌++◌, take, length, get_or, replicate, Option, Some, None, w64, refl, ap, sym, subst, inl, inr, arith}
+use Rattle.std.proofs.Common.{◌≡◌, ◌≢◌, ◌∙◌, ℕ, zero, suc, ◌+◌, ◌-◌, ◌*◌, ◌/◌, ◌%◌, ◌^◌, ◌<◌, ◌≤◌, ◌==◌, false, List, [], ◌∷◌, ◌++◌, take, length, get_or, replicate, Option, Some, None, w64, refl, ap, sym, subst, inl, inr, arith}
 use Rattle.std.specs.Prelude.{IfNone, IfSome}
 use Rattle.std.specs.Int.{bit_at, trailing_zeros}
 use Rattle.std.proofs.Math.Nat.{div-div-eq-div-mul, div-le_self}
-use Rattle.std.proofs.lemmas.Bool.{cases_eq, cases_lt, eq-eqb, ne_eqb}
+use Rattle.std.proofs.lemmas.Bool.{cases_lt}
 use Rattle.std.proofs.lemmas.List.{get_or_past, take_all}
 use Rattle.std.proofs.lemmas.Nat.{pow-add}
 use Rattle.std.proofs.lemmas.Nat.Bits.{bit_at-trailing_zeros, bit_at-zero, bit_at_above}
 use Rattle.mt_bits.specs.Flags.{flag, flags}
-use Rattle.mt_bits.proofs.Flags.{cleared, flag-cleared, flag-marked, get_or-flags, length-flags, marked}
-use Rattle.mt_terms.specs.Lists.{with_one, without}
+use Rattle.mt_bits.proofs.Flags.{get_or-flags, length-flags}
 use Rattle.mt_bits.specs.Members.{is_in, IsFirstFrom}
 
 -- past the words no bit is set
@@ -135,25 +134,3 @@ pub none_told : (words : List ℕ) (number : ℕ) (o : Option ℕ) → IfNone o 
     → IfNone o ((r : ℕ) → number ≤ r → is_in (flags words (64 * length words)) r ≡ false)
 none_told words number None h = λ r low. in_flags words r ∙ h r low
 none_told words number (Some r) h = tt
-
--- words that may be filled up with zeros, and one bit more
-pub told_more : (words grown : List ℕ) (rank : ℕ) → ((r : ℕ) → flag grown r ≡ flag words r) → rank / 64 < length grown
-    → (r : ℕ) → is_in (flags (marked grown rank) (64 * length (marked grown rank))) r ≡ with_one (is_in (flags words (64 * length words))) rank r
-told_more words grown rank same within r =
-    in_flags (marked grown rank) r ∙ flag-marked grown rank within r
-    ∙ ap (λ (b : Bool). (r == rank) || b) (same r ∙ sym (in_flags words r))
-
--- words with one bit less, and where its word isn't there
-pub told_less : (words : List ℕ) (rank : ℕ) → rank / 64 < length words
-    → (r : ℕ) → is_in (flags (cleared words rank) (64 * length (cleared words rank))) r ≡ without (is_in (flags words (64 * length words))) rank r
-told_less words rank within r =
-    in_flags (cleared words rank) r ∙ flag-cleared words rank within r
-    ∙ ap (λ (b : Bool). not (r == rank) && b) (sym (in_flags words r))
-
-pub told_none : (words : List ℕ) (rank : ℕ) → length words ≤ rank / 64
-    → (r : ℕ) → is_in (flags words (64 * length words)) r ≡ without (is_in (flags words (64 * length words))) rank r
-told_none words rank past r = elim (cases_eq r rank) [
-  | inl e ↦ (let none : is_in (flags words (64 * length words)) r ≡ false = in_flags words r ∙ none_past words r (omega (arith, e, past)) in
-      rw (none, eq-eqb r rank e) refl)
-  | inr ne ↦ rw (ne_eqb r rank ne) refl
-]

@@ -1,2 +1,3 @@
 pub mod BitFacts
 pub mod Flags
+pub mod TableFacts

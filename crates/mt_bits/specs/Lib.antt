@@ -1,3 +1,4 @@
 pub mod Flags
 pub mod Members
+pub mod Tables
 pub mod View

@@ -7,7 +7,6 @@ pub mod MoveFacts
 pub mod MoveSteps
 pub mod NoteFacts
 pub mod OneFacts
-pub mod OptionFacts
 pub mod QuietFacts
 pub mod RankFacts
 pub mod RoundFacts

@@ -19,7 +19,7 @@ use Rattle.mt_round_laws.proofs.RoundsLists.{In, found, of_image, of_kept, same_
 use Rattle.mt_couples.specs.Assigned.{Assigned, has_post, taken_by, AreSent, IsAssigned}
 use Rattle.mt_couples.specs.Moves.{names_one_of, opens}
 use Rattle.mt_couples.specs.Watching.{better_entries, wanted}
-use Rattle.mt_couples.proofs.OptionFacts.{is_some-find, is_some-option_map}
+use Rattle.mt_sets.proofs.ListFacts.{is_some-find, is_some-option_map}
 use Rattle.mt_couples.proofs.RankFacts.{has_rank, has_no_rank}
 use Rattle.mt_couples.proofs.SentFacts.{comes, leaves, count_sent, in_read, sent_there}
 

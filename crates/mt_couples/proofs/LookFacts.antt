@@ -92,9 +92,9 @@ below_next c k le = grind (arith, nat_tests, le)
 -- The note by which a couple is found that is reopened by an option at a program: of a pair there that stands no
 -- later than the option.
 pub open_note : (k : ℕ) (s : Assigned) (w : Watch) (p : ℕ) (ws : List Agent) (c : ℕ) → IsWatching k s w → p < length s.market.programs
-    → is_reopened k s (p ∷ []) ws (Couple c) ≡ true → (n : Note) × In n (row_at w.couples.items p) × (n.couple ≡ c) × (is_noted_reopened k s w p ws n ≡ true)
+    → is_reopened k s (p ∷ []) ws (Couple c) ≡ true → (n : Note) × In n (row_at w.couples p) × (n.couple ≡ c) × (is_noted_reopened k s w p ws n ≡ true)
 open_note k s w p ws c watching known reopened =
-    let notes = row_at w.couples.items p in
+    let notes = row_at w.couples p in
     let counts = w.better.items in
     let parts = and_parts (nat_le c k && not (is_on ws (Couple c))) (opens s (p ∷ []) (Couple c)) reopened in
     let entered : nat_le c k ≡ true = (and_parts (nat_le c k) (not (is_on ws (Couple c))) parts.0).0 in
@@ -126,7 +126,7 @@ open_note k s w p ws c watching known reopened =
 
 -- Whoever is reopened by an option at a program is found there.
 pub covers_one : (k : ℕ) (s : Assigned) (w : Watch) (p : ℕ) (ws : List Agent) (mid new : List ℕ) → IsWatching k s w → p < length s.market.programs
-    → AddsSingles k s p ws (ranks_at w.singles.items p) mid → ((a : ℕ) → has mid a ≡ true → has new a ≡ true) → AddsCouples k s p ws new → Covers k s (p ∷ []) ws new
+    → AddsSingles k s p ws (ranks_at w.singles p) mid → ((a : ℕ) → has mid a ≡ true → has new a ≡ true) → AddsCouples k s p ws new → Covers k s (p ∷ []) ws new
 covers_one k s w p ws mid new watching known singles keeps couples a within reopened = by_agent (agent_of s.market a) refl
   where
     by_agent : (g : Agent) → agent_of s.market a ≡ g → has new a ≡ true

@@ -1,30 +1,34 @@
 -- Who joins where one program was left and no couple is reopened by it: the singles at the ranks that are watched there.
-use Rattle.std.proofs.Common.{◌≡◌, ◌∙◌, ℕ, ◌+◌, ◌-◌, ◌<◌, ◌≤◌, Bool, true, false, not, ◌&&◌, ◌==◌, List, [], ◌∷◌, length, get_or, Some, refl, ap, ap₂, sym, subst, inl, inr, arith, vec_len, Vec}
+use Rattle.std.proofs.Common.{◌≡◌, ◌∙◌, ℕ, ◌+◌, ◌-◌, ◌<◌, ◌≤◌, Bool, true, false, not, ◌&&◌, ◌==◌, List, [], ◌∷◌, length, get_or, Option, Some, None, is_some, refl, ap, ap₂, sym, subst, inl, inr, arith, vec_len, Vec}
+use Rattle.std.specs.List.{list_all}
+use Rattle.std.specs.Prelude.{IfNone, IfSome}
 use Rattle.std.proofs.Math.Bool.{or-false}
-use Rattle.std.proofs.lemmas.Bool.{cases_Bool, and_parts, and_from, or_left, both_ways, eq-eqb, eqb-true, false≢true, false_from_ne_true, not_from_false}
+use Rattle.std.proofs.lemmas.Bool.{cases_Bool, and_parts, and_from, or_left, both_ways, eq-eqb, eqb-true, false≢true, false_from_ne_true, not_from_false, not-true}
 use Rattle.std.proofs.lemmas.List.{nil_from_length}
-use Rattle.mt_terms.specs.Lists.{has, until}
+use Rattle.mt_terms.specs.Lists.{below, has, until}
 use Rattle.mt_terms.specs.Market.{Market, applicants, agent_of, couple_of, list_of, members, program_of}
-use Rattle.mt_terms.specs.Matching.{at}
+use Rattle.mt_terms.specs.Matching.{Placement, at, better, single_placement}
+use Rattle.mt_terms.specs.Stability.{would_be_taken}
 use Rattle.mt_terms.specs.Rounds.{has_entered, is_on, joined}
 use Rattle.mt_terms.specs.WellFormed.{IsWellFormed}
 use Rattle.mt_terms.specs.declared.numbers.Agent.{Agent}
 use Rattle.mt_terms.specs.declared.numbers.Agent.TheVariants.{Single, Couple}
 use Rattle.mt_ranks.specs.Ranked.{rank_of}
 use Rattle.mt_ranks.specs.declared.entries.Live.{Live}
-use Rattle.mt_round_laws.proofs.RoundsLists.{finds}
+use Rattle.mt_round_laws.proofs.RoundsLists.{In, all_pass, each, found, finds, has_in, in_below, in_has, of_below, of_image, of_until}
 use Rattle.mt_round_laws.proofs.RoundsAgents.{IsAgent, agent_of_applicant, couple_number, member_of_agent, one_of_two}
 use Rattle.mt_sets.specs.Waiting.{with_agents, Waiting}
 use Rattle.mt_placed.proofs.OrderFacts.{has_at}
 use Rattle.mt_couples.specs.Assigned.{has_post, Assigned, IsAssigned}
-use Rattle.mt_couples.specs.Looking.{AddsCouples, IsClosed, IsOpenFrom}
-use Rattle.mt_couples.specs.Moves.{blockers, opens}
-use Rattle.mt_couples.specs.Running.{is_reopened}
+use Rattle.mt_couples.specs.Looking.{has_wanted_post, AddsCouples, IsClosed, IsOpenFrom}
+use Rattle.mt_couples.specs.Moves.{blockers, names_one_of, opens}
+use Rattle.mt_couples.specs.Running.{is_quiet_single, is_reopened, singles_quiet}
 use Rattle.mt_couples.specs.Watching.{better_entries, ranks_at, wanted, AreWatched}
 use Rattle.mt_couples.proofs.EntryFacts.{entry_in, entry_wanted}
-use Rattle.mt_couples.proofs.LiveFacts.{opens_live, post_for}
-use Rattle.mt_couples.proofs.LookFacts.{any_default, open_at, open_single, passes_joined, passes_skipped, passing, rank_at_place, reopened_before, Rest}
+use Rattle.mt_couples.proofs.LiveFacts.{better_single, opens_live, post_for}
+use Rattle.mt_couples.proofs.LookFacts.{any_default, at_rank, open_at, open_single, passes_joined, passes_skipped, passing, rank_at_place, reopened_before, Rest}
 use Rattle.mt_placed.proofs.PlaceFacts.{has_read}
+use Rattle.mt_couples.proofs.RankFacts.{rank_there}
 
 -- a single that wants a program more than what it has, where that has a post for it, has an option there
 pub opens_there : (s : Assigned) → IsAssigned s → (a p r : ℕ) → a < applicants s.market → has (wanted s a) p ≡ true → rank_of s.market p a ≡ Some r
@@ -39,6 +43,46 @@ opens_there s ok a p r within wants ranked post =
 -- an applicant that is an agent by itself
 single_itself : (m : Market) (a b : ℕ) → agent_of m a ≡ Single b → agent_of m a ≡ Single a
 single_itself m a b is = is ∙ ap Single (eqb-true b a (sym (or-false (b == a)) ∙ subst (λ g. has (members m g) a ≡ true) is (member_of_agent m a)))
+
+-- whether a program has a post for somebody who is watched there, by the first of them that it has one for
+pub wanted_post_is : (s : Assigned) (rows : List (List Bool)) (p : ℕ) (o : Option ℕ) → IfSome o (IsOpenFrom s p (ranks_at rows p) 0)
+    → IfNone o ((r : ℕ) → 0 ≤ r → IsClosed s p (ranks_at rows p) r) → is_some o ≡ has_wanted_post s rows p
+wanted_post_is s rows p (Some r) opened none =
+    sym (finds (λ x. ranks_at rows p x && has_post s p x) r (below (length (program_of s.market p).ranking)) (in_below r _ opened.within) (and_from _ _ opened.first.there opened.has_post))
+wanted_post_is s rows p None opened none = sym (false_from_ne_true _ (λ h.
+    let w = found (λ x. ranks_at rows p x && has_post s p x) (below (length (program_of s.market p).ranking)) h in
+    let parts = and_parts (ranks_at rows p w.0) (has_post s p w.0) w.2 in
+    both_ways (has_post s p w.0) (none w.0 (omega arith) parts.0 (of_below w.0 _ w.1)) parts.1))
+
+-- where no program has one, no single blocks
+pub quiet_by_posts : (s : Assigned) → IsAssigned s → (rows : List (List Bool)) → AreWatched s rows
+    → list_all (λ p. not (has_wanted_post s rows p)) (below (length s.market.programs)) ≡ true → singles_quiet s ≡ true
+quiet_by_posts s ok rows watched none =
+    all_pass (λ a. is_quiet_single s (agent_of s.market a)) (below (applicants s.market)) (λ a on. by_agent a (of_below a _ on) (agent_of s.market a) refl)
+  where
+    taken : Placement → Bool
+    taken o = would_be_taken s.market s.places o
+
+    single : (a : ℕ) → a < applicants s.market → is_quiet_single s (Single a) ≡ true
+    single a within = ap not (false_from_ne_true _ (λ blocks_it.
+        let o = found taken (better s.market s.places (Single a)) blocks_it in
+        let w = of_image (single_placement a) o.0 (wanted s a) (subst (λ (xs : List Placement). In o.0 xs) (better_single s a) o.1) in
+        let q = w.0 in
+        let named : names_one_of (q ∷ []) o.0 ≡ true = subst (λ x. names_one_of (q ∷ []) x ≡ true) w.2 (or_left _ false (or_left (q == q) false (eq-eqb q q refl))) in
+        let opened : opens s (q ∷ []) (Single a) ≡ true = finds (λ x. names_one_of (q ∷ []) x && taken x) o.0 (better s.market s.places (Single a)) o.1 (and_from _ _ named o.2) in
+        let lists = open_single s q a (open_at s q (Single a) opened) in
+        let xs = (program_of s.market q).ranking in
+        let rank = rank_there xs a lists.1 in
+        let known : q < length s.market.programs =
+        ok.well_formed.lists_within a q (in_has q (list_of s.market a) (of_until (λ p. at s.places p a) q (list_of s.market a) (has_in q (wanted s a) lists.0))) in
+        let there : ranks_at rows q rank.0 ≡ true = watched.each a within q rank.0 known rank.1 ∙ lists.0 in
+        let post = post_for s ok a within q rank.0 rank.1 opened in
+        let some = finds (λ r. ranks_at rows q r && has_post s q r) rank.0 (below (length xs)) (in_below rank.0 (length xs) (at_rank xs a rank.0 rank.1).0) (and_from _ _ there post) in
+        both_ways (has_wanted_post s rows q) (not-true _ (each (λ p. not (has_wanted_post s rows p)) q (below (length s.market.programs)) none (in_below q _ known))) some))
+
+    by_agent : (a : ℕ) → a < applicants s.market → (g : Agent) → agent_of s.market a ≡ g → is_quiet_single s g ≡ true
+    by_agent a within (Single b) is = subst (λ g. is_quiet_single s g ≡ true) (sym (single_itself s.market a b is) ∙ is) (single a within)
+    by_agent a within (Couple c) is = refl
 
 -- whoever wants a program is a single: a couple's members have no lists
 pub wants_single : (s : Assigned) → IsWellFormed s.market → (a p : ℕ) → a < applicants s.market → has (wanted s a) p ≡ true → agent_of s.market a ≡ Single a

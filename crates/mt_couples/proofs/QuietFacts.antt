@@ -1,7 +1,6 @@
 -- Who blocks between two rounds, and where that was opened.
 use Rattle.std.proofs.Common.{◌≡◌, ℕ, ◌+◌, ◌<◌, Bool, true, false, not, ◌&&◌, ◌||◌, ◌==◌, nat_lt, List, [], ◌∷◌, ◌++◌, map, filter, length, Option, Some, None, refl, ap, sym, ◌∙◌, inl, inr, arith, subst, if◌then◌else◌}
-use Rattle.std.specs.List.{list_all}
-use Rattle.std.proofs.lemmas.Bool.{cases_Bool, cases_eq, and_parts, and_from, or_parts, or_from, or_left, both_ways, false_from_ne_true, not-true, not_from_false}
+use Rattle.std.proofs.lemmas.Bool.{cases_Bool, and_parts, and_from, or_parts, or_from, or_left, both_ways, not-true, not_from_false}
 use Rattle.std.proofs.lemmas.Bool.Decides.{nat_tests}
 use Rattle.mt_terms.specs.Lists.{has, below}
 use Rattle.mt_terms.specs.Market.{Market, applicants, agent_of, agents}
@@ -11,7 +10,7 @@ use Rattle.mt_terms.specs.WellFormed.{IsWellFormed}
 use Rattle.mt_terms.specs.Rounds.{is_same_agent, is_on, Work, has_entered, joined, all_joined, first_taken, move_of, displaced, is_left, left_programs, rechecked, after_taking, round_of}
 use Rattle.mt_terms.specs.declared.numbers.Agent.{Agent}
 use Rattle.mt_terms.specs.declared.numbers.Agent.TheVariants.{Single, Couple}
-use Rattle.mt_round_laws.proofs.RoundsLists.{found, finds, each, all_pass, in_has, in_kept, in_below, of_below}
+use Rattle.mt_round_laws.proofs.RoundsLists.{found, finds, each, in_has, in_kept, in_below}
 use Rattle.mt_round_laws.proofs.RoundsAgents.{same_agent, on_list, of_list, agent_from_list, agent_of_applicant, agent_on_list}
 use Rattle.mt_round_laws.proofs.RoundsSets.{has_head}
 use Rattle.mt_round_laws.proofs.RoundsMove.{match_after}
@@ -23,15 +22,6 @@ use Rattle.mt_couples.specs.Running.{is_quiet_single, is_reopened, singles_quiet
 use Rattle.mt_couples.specs.Waiting.{Joins}
 use Rattle.mt_couples.proofs.JoinFacts.{AreJoining, joining_more, joining_some}
 use Rattle.mt_couples.proofs.MoveFacts.{is_move, left_within}
-
--- a test of all numbers below one
-pub more_pass : (p : ℕ → Bool) (i : ℕ) → list_all p (below i) ≡ true → p i ≡ true → list_all p (below (i + 1)) ≡ true
-more_pass p i all here = all_pass p (below (i + 1)) (λ a on.
-    let l = of_below a (i + 1) on in
-    elim (cases_eq a i) [ inl e ↦ subst (λ x. p x ≡ true) (sym e) here | inr other ↦ each p a (below i) all (in_below a i (omega arith)) ])
-
-pub one_fails : (p : ℕ → Bool) (i n : ℕ) → i < n → p i ≡ false → list_all p (below n) ≡ false
-one_fails p i n within fails = false_from_ne_true _ (λ all. both_ways (p i) fails (each p i (below n) all (in_below i n within)))
 
 -- the entered agents that block
 abbrev pub blocking : ℕ → Assigned → Agent → Bool

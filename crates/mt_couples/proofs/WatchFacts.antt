@@ -1,6 +1,6 @@
 -- Who is watched where, once an agent has moved.
-use Rattle.std.proofs.Common.{◌≡◌, ◌∙◌, ℕ, zero, suc, ◌+◌, ◌<◌, ◌≤◌, Bool, true, false, ◌||◌, ◌==◌, List, [], ◌∷◌, ◌++◌, map, take, drop, length, get_or, refl, ap, sym, subst, inl, inr, ◌⊎◌, arith, Result, Ok, Err, OnOk}
-use Rattle.std.proofs.lemmas.List.{take_more, take_all, drop_more}
+use Rattle.std.proofs.Common.{◌≡◌, ◌∙◌, ℕ, zero, suc, ◌+◌, ◌<◌, ◌≤◌, Bool, true, false, ◌||◌, ◌==◌, List, [], ◌∷◌, ◌++◌, map, take, length, get_or, replicate, refl, ap, sym, subst, inl, inr, ◌⊎◌, arith, Result, Ok, Err, OnOk}
+use Rattle.std.proofs.lemmas.List.{take_more, take_all}
 use Rattle.std.proofs.lemmas.List.Folds.{list_any-append}
 use Rattle.std.proofs.lemmas.Bool.{cases_Bool, or_cases, or_parts, or_left, or_right, eq-eqb, eqb-true, both_ways, false≢true, false_from_ne_true}
 use Rattle.std.proofs.Math.Bool.{or-false}
@@ -16,7 +16,6 @@ use Rattle.mt_round_laws.proofs.RoundsMove.{IsMove, match_after, displaced_agent
 use Rattle.mt_couples.specs.Assigned.{Assigned}
 use Rattle.mt_couples.specs.Moves.{IsTaking}
 use Rattle.mt_couples.specs.Watching.{row_at, wanted, AreWatched, Counts, CountsAll, Follows, FollowsAll, IsWatched, IsWithinList, KeepsOthers}
-use Rattle.mt_sets.specs.declared.couple_list.Note.{Note}
 use Rattle.mt_couples.specs.declared.watch.Watch.{Watch}
 use Rattle.mt_couples.proofs.MoveFacts.{is_move}
 use Rattle.mt_couples.proofs.RankFacts.{has_rank}
@@ -51,55 +50,6 @@ has_parts xs x y on = elim (or_cases (has xs y) (has (x ∷ []) y) (sym (list_an
   | inl earlier ↦ inl earlier
   | inr now ↦ inr (eqb-true x y (sym (or-false (x == y)) ∙ now))
 ]
-
--- Below, a list is gone through up to the first element that passes.
--- so far none does
-pub going_more : {X : Type 0} (test : X → Bool) (xs : List X) (i : ℕ) (x : X) → i < length xs → x ≡ get_or xs i x → take i xs ++ until test (drop i xs) ≡ until test xs
-    → test x ≡ false → take (i + 1) xs ++ until test (drop (i + 1) xs) ≡ until test xs
-going_more {X} test xs i x within read so_far fails =
-    ap (λ ys. ys ++ until test (drop (i + 1) xs)) (take_more xs i x within) ∙ append_three (take i xs) (get_or xs i x) (until test (drop (i + 1) xs))
-    ∙ ap (λ ys. take i xs ++ ys) (sym (ap (until test) (drop_more xs i x within) ∙ passed (get_or xs i x) (ap test (sym read) ∙ fails)))
-    ∙ so_far
-  where
-    append_three : (ys : List X) (b : X) (cs : List X) → (ys ++ b ∷ []) ++ cs ≡ ys ++ (b ∷ cs)
-    append_three [] b cs = refl
-    append_three (y ∷ ys) b cs = ap (λ zs. y ∷ zs) (append_three ys b cs)
-
-    passed : (y : X) → test y ≡ false → until test (y ∷ drop (i + 1) xs) ≡ y ∷ until test (drop (i + 1) xs)
-    passed y fails = rw fails refl
-
--- this one does
-pub going_stops : {X : Type 0} (test : X → Bool) (xs : List X) (i : ℕ) (x : X) → i < length xs → x ≡ get_or xs i x → take i xs ++ until test (drop i xs) ≡ until test xs
-    → test x ≡ true → take i xs ≡ until test xs
-going_stops {X} test xs i x within read so_far passes =
-    sym (append_none (take i xs)) ∙ ap (λ ys. take i xs ++ ys) (sym (ap (until test) (drop_more xs i x within) ∙ stopped (get_or xs i x) (ap test (sym read) ∙ passes))) ∙ so_far
-  where
-    append_none : (ys : List X) → ys ++ [] ≡ ys
-    append_none [] = refl
-    append_none (y ∷ ys) = ap (λ zs. y ∷ zs) (append_none ys)
-
-    stopped : (y : X) → test y ≡ true → until test (y ∷ drop (i + 1) xs) ≡ []
-    stopped y passes = rw passes refl
-
-pub drop_past : {X : Type 0} (xs : List X) (n : ℕ) → length xs ≤ n → drop n xs ≡ []
-drop_past [] zero h = refl
-drop_past [] (suc n) h = refl
-drop_past (x ∷ xs) zero h = absurd (omega arith)
-drop_past (x ∷ xs) (suc n) h = drop_past xs n (omega arith)
-
--- nothing passes, so nothing is cut off
-pub until_never : {X : Type 0} (test : X → Bool) (xs : List X) → ((x : X) → test x ≡ false) → until test xs ≡ xs
-until_never test [] never = refl
-until_never test (x ∷ xs) never = rw (never x) (ap (λ ys. x ∷ ys) (until_never test xs never))
-
--- none did
-pub going_all : {X : Type 0} (test : X → Bool) (xs : List X) (i : ℕ) → length xs ≤ i → take i xs ++ until test (drop i xs) ≡ until test xs → xs ≡ until test xs
-going_all {X} test xs i past so_far =
-    sym (append_none xs) ∙ sym (ap (λ ys. ys ++ []) (take_all i xs past)) ∙ ap (λ ys. take i xs ++ ys) (sym (ap (until test) (drop_past xs i past))) ∙ so_far
-  where
-    append_none : (ys : List X) → ys ++ [] ≡ ys
-    append_none [] = refl
-    append_none (y ∷ ys) = ap (λ zs. y ∷ zs) (append_none ys)
 
 -- the place of an element
 pub index_of : {X : Type 0} (x : X) (xs : List X) → In x xs → (i : ℕ) × (i < length xs) × (x ≡ get_or xs i x)
@@ -235,12 +185,11 @@ module _ {m : Market} {old : Places} {g : Agent} {sent : Placement} (taking : Is
               let same = untouched mv (Single b) (subst (IsAgent m) of_a (agent_of_applicant m mv.well_formed a within)) unmoved another a own in
               ap (λ v. until (λ q. is_program q v) (list_of m a)) (sym same)
 
--- rows of nobody, and one more
-pub none_more : (xs : List (List Note)) → ((p : ℕ) → row_at xs p ≡ []) → (p : ℕ) → row_at (xs ++ [] ∷ []) p ≡ []
-none_more [] none zero = refl
-none_more [] none (suc p) = none p
-none_more (x ∷ xs) none zero = none 0
-none_more (x ∷ xs) none (suc p) = none_more xs (λ q. none (suc q)) p
+-- no notes for each program
+pub none_at : (n p : ℕ) → row_at (replicate n []) p ≡ []
+none_at zero p = refl
+none_at (suc n) zero = refl
+none_at (suc n) (suc p) = none_at n p
 
 -- what holds once both hold, in a result
 pub if_ok : {T X : Type 0} {A C : Type 0} (r : Result T X) → OnOk r A → (A → C) → OnOk r C

@@ -1,6 +1,7 @@
 -- What is found, and where, when programs that were left are looked at.
 use Rattle.std.specs.Prelude.{◌≡◌, ℕ, Bool, ◌&&◌, ◌+◌, ◌<◌, true, false, List, [], ◌∷◌, length, Some, slice_index_or}
-use Rattle.mt_terms.specs.Lists.{Set, has}
+use Rattle.std.specs.List.{list_any}
+use Rattle.mt_terms.specs.Lists.{Set, below, has}
 use Rattle.mt_terms.specs.Market.{Market, applicants, agent_of, program_of}
 use Rattle.mt_terms.specs.declared.numbers.Agent.{Agent}
 use Rattle.mt_terms.specs.declared.numbers.Agent.TheVariants.{Single, Couple}
@@ -9,15 +10,15 @@ use Rattle.mt_bits.specs.Members.{IsFirstFrom}
 use Rattle.mt_couples.specs.Assigned.{has_post, Assigned}
 use Rattle.mt_couples.specs.Running.{is_idle, is_reopened}
 use Rattle.mt_sets.specs.Notes.{end_of}
-use Rattle.mt_couples.specs.Watching.{opens_between, AreCounted, AreNamed, AreWatched}
+use Rattle.mt_couples.specs.Watching.{opens_between, ranks_at, AreCounted, AreNamed, AreWatched}
 use Rattle.mt_sets.specs.declared.couple_list.Note.{Note}
 use Rattle.mt_couples.specs.declared.watch.Watch.{Watch}
 
 -- once a couple has entered, the singles are watched, the pairs of the couples up to it are noted, and for each
 -- couple it is counted how many it wants more than what it has
 pub record IsWatching (k : ℕ) (s : Assigned) (w : Watch) : Type 0 where
-  pub watched : AreWatched s w.singles.items
-  pub named : AreNamed s.market (k + 1) w.couples.items
+  pub watched : AreWatched s w.singles
+  pub named : AreNamed s.market (k + 1) w.couples
   pub counted : AreCounted s w.better.items
 
 -- nobody is lost from a list
@@ -33,6 +34,10 @@ pub record IsOpenFrom (s : Assigned) (p : ℕ) (ranks : Set) (number r : ℕ) : 
 -- where a rank on a program's list is one of these, the program has no post for it
 abbrev pub IsClosed : Assigned → ℕ → Set → ℕ → Type 0
 IsClosed s p ranks r = ranks r ≡ true → r < length (program_of s.market p).ranking → has_post s p r ≡ false
+
+-- whether a program has a post for one of the ranks that are watched there
+abbrev pub has_wanted_post : Assigned → List (List Bool) → ℕ → Bool
+has_wanted_post s rows p = list_any (λ r. ranks_at rows p r && has_post s p r) (below (length (program_of s.market p).ranking))
 
 -- a single that has one of these ranks on a program's list, and that is reopened by an option there, is found
 abbrev pub AddsSingles : ℕ → Assigned → ℕ → List Agent → Set → List ℕ → Type 0

@@ -41,10 +41,6 @@ abbrev pub is_quiet_single : Assigned → Agent → Bool
 is_quiet_single s (Single a) = not (blocks s.market s.places (Single a))
 is_quiet_single s (Couple c) = true
 
--- whether an applicant is a single that blocks
-abbrev pub is_disquiet : Assigned → ℕ → Bool
-is_disquiet s a = not (is_quiet_single s (agent_of s.market a))
-
 -- whether no single blocks
 abbrev pub singles_quiet : Assigned → Bool
 singles_quiet s = list_all (λ a. is_quiet_single s (agent_of s.market a)) (below (applicants s.market))

@@ -110,11 +110,6 @@ pub record AreNamed (m : Market) (number : ℕ) (rows : List (List Note)) : Type
   pub each : (c : ℕ) → c < number → IsNamed m rows c
   pub within : (p c : ℕ) → has_couple (row_at rows p) c ≡ true → c < length m.couples
 
--- for each program a row of nobody
-pub record AreEmpty (m : Market) (rows : List (List Note)) : Type 0 where
-  pub one_each : length rows ≡ length m.programs
-  pub none : (p : ℕ) → row_at rows p ≡ []
-
 -- a couple's pair at an index is noted too, at the program of a place
 pub record Notes (old new : List (List Note)) (place : Option ℕ) (c from : ℕ) : Type 0 where
   pub as_many : length new ≡ length old

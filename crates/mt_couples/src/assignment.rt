@@ -1,14 +1,16 @@
-ghost use Rattle.std.specs.Prelude.{◌≡◌, ◌++◌, ◌<◌, ℕ, Some, None, [], length, replicate, slice_index, IfOk, IsTrue, OnOk, nat_lt};
+ghost use Rattle.std.specs.Prelude.{◌≡◌, ◌++◌, ◌<◌, ℕ, Some, None, [], length, slice_index, IfOk, IsTrue, OnOk, nat_lt};
 ghost use Rattle.mt_terms.specs.Registration.Accepted.{IsRegistration};
 ghost use Rattle.mt_terms.specs.Lists.{has};
 ghost use Rattle.mt_terms.specs.Market.{agent_of, applicants, couple_of, program_of};
 ghost use Rattle.mt_terms.specs.Matching.{place_of};
 ghost use Rattle.mt_ranks.specs.Ranked.{rank_of, ranked_of};
 ghost use Rattle.mt_terms.specs.Places.{ArePlaces};
-ghost use Rattle.mt_couples.specs.Watching.{better_entries, other_entries};
+ghost use Rattle.mt_couples.specs.Watching.{better_entries, other_entries, AreUnwatched};
+ghost use Rattle.mt_placed.specs.Ranks.{HavePlaced};
 ghost use Rattle.mt_couples.specs.Assigned.{ahead, assignment, displaced_from, rows_of, with_place, with_ranks, AreApplicantsOf, AreListed, IsAgentOf, IsAssigned};
 
 use crate::options::Pair;
+use mt_bits::RankTable;
 use mt_market::Roster;
 use mt_placed::PlacedRanks;
 use mt_ranks::{Live, Ranks};
@@ -23,15 +25,20 @@ fn place_in(places: &[Option<ProgNo>], applicant: AppNo) -> Option<ProgNo>
     places.get(applicant.index()).copied().flatten()
 }
 
-/// Nobody's ranks for each of so many programs.
-fn empty_rows(alloc: Global, programs: u32) -> Result<Vec<PlacedRanks>, AllocError>
-    ensures { IfOk result (λ v. v.items ≡ replicate programs []) }
+/// No ranks on each program's list.
+pub(crate) fn no_ranks(alloc: Global, roster: &Roster) -> Result<RankTable, AllocError>
+    ensures { IfOk result (λ t. AreUnwatched roster.now.market t) }
 {
-    let mut rows = Vec::new(alloc);
-    for _ in 0..programs {
-        rows.push(PlacedRanks::new(alloc))?;
+    let mut table = RankTable::new(alloc);
+    for number in 0..roster.programs() {
+        table.push_list(roster.program_list(ProgNo(number)).len())?;
     }
-    Ok(rows)
+    Ok(table)
+}
+
+/// How many may be at a program with this quota and so long a list in the midst of a round: two come before others go.
+fn most_placed(quota: u32, listed: usize) -> usize {
+    listed.min((quota as usize).saturating_add(2))
 }
 
 /// The applicant's rank on a program's list. A single that is placed there has it among its live entries, mostly near the
@@ -49,8 +56,31 @@ fn placed_rank(ranks: &Ranks<'_>, program: ProgNo, applicant: AppNo) -> Option<u
     ranks.rank(program, applicant)
 }
 
-/// For each program the ranks of those that are placed there. Each applicant is asked where it is, and no program's list
-/// is gone through.
+/// For each program the ranks of those that are placed there, as a set. Each applicant is asked where it is, and no
+/// program's list is gone through.
+fn placed_ranks(
+    alloc: Global,
+    roster: &Roster,
+    ranks: &Ranks<'_>,
+    places: &[Option<ProgNo>],
+) -> Result<RankTable, AllocError>
+    requires ranks { ranks.now ≡ ranked_of roster.now.market }
+    requires places { ArePlaces roster.now.market places.now }
+    ensures { IfOk result (λ t. HavePlaced roster.now.market places.now t) }
+{
+    let mut table = no_ranks(alloc, roster)?;
+    for number in 0..roster.applicants() {
+        let applicant = AppNo(number);
+        if let Some(program) = place_in(places, applicant) {
+            if let Some(rank) = placed_rank(ranks, program, applicant) {
+                table.insert(program.index(), rank)?;
+            }
+        }
+    }
+    Ok(table)
+}
+
+/// For each program the ranks of those that are placed there, in rising order.
 fn placed_rows(
     alloc: Global,
     roster: &Roster,
@@ -62,17 +92,13 @@ fn placed_rows(
     ensures rows { IfOk result (λ v. v.items ≡ rows_of roster.now.market places.now) }
     ensures roster { IsRegistration roster.now }
 {
-    let mut rows = empty_rows(alloc, roster.programs())?;
-    for number in 0..roster.applicants() {
-        let applicant = AppNo(number);
-        if let Some(program) = place_in(places, applicant) {
-            if let Some(rank) = placed_rank(ranks, program, applicant) {
-                rows[program.index()].push(rank as usize)?;
-            }
-        }
-    }
-    for row in rows.iter_mut() {
-        row.sort();
+    let programs = roster.programs();
+    let table = placed_ranks(alloc, roster, ranks, places)?;
+    let mut rows = Vec::with_capacity(alloc, programs as usize)?;
+    for number in 0..programs {
+        let program = ProgNo(number);
+        let room = most_placed(roster.quota(program), roster.program_list(program).len());
+        rows.push(PlacedRanks::of_row(alloc, &table.row(program.index()), room)?)?;
     }
     Ok(rows)
 }
@@ -99,7 +125,12 @@ pub(crate) struct Assignment<'a> {
 
 impl Drop for Assignment<'_> {
     fn drop(self) {
-        let Assignment { roster: _, ranks: _, places: _, rows: _ } = self;
+        let Assignment {
+            roster: _,
+            ranks: _,
+            places: _,
+            rows: _,
+        } = self;
     }
 }
 
@@ -142,7 +173,12 @@ impl<'a> Assignment<'a> {
     pub(crate) fn into_match(self) -> Match
         ensures { result.places ≡ self.entry.places }
     {
-        let Assignment { roster: _, ranks: _, places, rows: _ } = self;
+        let Assignment {
+            roster: _,
+            ranks: _,
+            places,
+            rows: _,
+        } = self;
         Match {
             places: Places::new(places),
         }

@@ -8,15 +8,15 @@ ghost use Rattle.mt_ranks.specs.Ranked.{rank_of};
 ghost use Rattle.mt_bits.specs.Members.{is_in};
 ghost use Rattle.mt_sets.specs.Waiting.{IsKnown};
 ghost use Rattle.mt_couples.specs.Assigned.{AreApplicantsOf, AreProgramsOf, IsAgentOf};
-ghost use Rattle.mt_couples.specs.Looking.{is_noted_reopened, AddsCouples, AddsSingles, AreRanksOf, HaveReopened, IsClosed, IsOpenFrom, IsWatching, Keeps};
+ghost use Rattle.mt_couples.specs.Looking.{has_wanted_post, is_noted_reopened, AddsCouples, AddsSingles, AreRanksOf, HaveReopened, IsClosed, IsOpenFrom, IsWatching, Keeps};
 ghost use Rattle.mt_couples.specs.Moves.{blockers, reopened};
 ghost use Rattle.mt_couples.specs.Running.{is_idle, is_reopened, IsQuietBut};
 ghost use Rattle.mt_couples.specs.Waiting.{IsListOf, Joins};
-ghost use Rattle.mt_couples.specs.Watching.{AreCounted, Covers};
+ghost use Rattle.mt_couples.specs.Watching.{AreCounted, AreWatched, Covers};
 
 use crate::assignment::Assignment;
 use crate::watch::Watch;
-use mt_bits::RankSet;
+use mt_bits::RankRow;
 use mt_sets::{Note, WorkList};
 use mt_terms::{Agent, AppNo, CoupleNo, ProgNo};
 use std::alloc::{AllocError, Global};
@@ -60,7 +60,7 @@ fn is_reopened(
 fn first_with_post(
     assignment: &Assignment<'_>,
     program: ProgNo,
-    ranks: &RankSet,
+    ranks: &RankRow<'_>,
     number: usize,
 ) -> Option<u32>
     requires { program < length assignment.now.market.programs }
@@ -76,11 +76,20 @@ fn first_with_post(
     }
 }
 
+/// Whether the program has a post for a single that wants it more than what it has.
+pub(crate) fn has_wanted_post(assignment: &Assignment<'_>, watch: &Watch, program: ProgNo) -> bool
+    requires program { program < length assignment.now.market.programs }
+    requires watched { AreWatched assignment.now watch.now.singles }
+    ensures { result ≡ has_wanted_post assignment.now watch.now.singles program }
+{
+    first_with_post(assignment, program, &watch.singles(program), 0).is_some()
+}
+
 /// Adds those singles, of these ranks on a program's list, that are reopened by an option there.
 fn add_by_rank(
     assignment: &Assignment<'_>,
     program: ProgNo,
-    ranks: &RankSet,
+    ranks: &RankRow<'_>,
     last: CoupleNo,
     waiting: &WorkList,
     found: &mut Vec<AppNo>,
@@ -175,7 +184,7 @@ fn add_reopened(
     add_by_rank(
         assignment,
         program,
-        watch.singles(program),
+        &watch.singles(program),
         last,
         waiting,
         found,
@@ -288,7 +297,7 @@ fn look_at_one(
     let ranking = assignment.ranking(program);
     let ranks = watch.singles(program);
     let mut next = 0;
-    while let Some(rank) = first_with_post(assignment, program, ranks, next) {
+    while let Some(rank) = first_with_post(assignment, program, &ranks, next) {
         next = rank as usize + 1;
         waiting.join(Agent::Single(ranking[rank as usize]));
     }

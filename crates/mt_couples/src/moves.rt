@@ -21,7 +21,10 @@ pub(crate) struct Moved {
 
 impl Drop for Moved {
     fn drop(self) {
-        let Moved { displaced: _, left: _ } = self;
+        let Moved {
+            displaced: _,
+            left: _,
+        } = self;
     }
 }
 

@@ -7,14 +7,14 @@ ghost use Rattle.mt_terms.specs.Stability.{fits, stable};
 ghost use Rattle.mt_ranks.specs.Ranked.{ranked_of};
 ghost use Rattle.mt_sets.specs.Waiting.{waiting_first};
 ghost use Rattle.mt_couples.specs.Assigned.{AreApplicantsOf, AreProgramsOf, AreSent, IsAgentOf};
-ghost use Rattle.mt_couples.specs.Looking.{IsWatching};
-ghost use Rattle.mt_couples.specs.Watching.{AreCounted, CountsAll, FollowsAll};
-ghost use Rattle.mt_couples.specs.Running.{is_disquiet, is_quiet_single, singles_quiet, work_of, IsQuietBut, IsRunning};
+ghost use Rattle.mt_couples.specs.Looking.{has_wanted_post, IsWatching};
+ghost use Rattle.mt_couples.specs.Watching.{AreCounted, AreWatched, CountsAll, FollowsAll};
+ghost use Rattle.mt_couples.specs.Running.{singles_quiet, work_of, IsQuietBut, IsRunning};
 ghost use Rattle.mt_couples.specs.Waiting.{IsListOf, Joins, KeepsRoom};
 ghost use Rattle.mt_couples.specs.Moves.{agents_of, blockers, if_blocking, reopened, IsTaking};
 
 use crate::assignment::Assignment;
-use crate::look::{has_entered, look_at_opened};
+use crate::look::{has_entered, has_wanted_post, look_at_opened};
 use crate::watch::Watch;
 use mt_market::Roster;
 use mt_ranks::Ranks;
@@ -25,9 +25,9 @@ use std::alloc::{AllocError, Global};
 use std::thread::Threads;
 use thiserror::Error;
 
-/// From twice as many applicants on, it is asked side by side whether they are quiet. That a thread pays for itself
-/// with so many is an estimate.
-const LEAST_APPLICANTS: usize = 1024;
+/// From twice as many programs on, it is asked side by side whether they have a post for somebody who wants them more.
+/// With fewer that takes less time than the start of a thread.
+const LEAST_PROGRAMS: usize = 8192;
 
 /// Why the couples' stage did not end with a match.
 #[derive(Clone, Copy, Debug, PartialEq, Eq, Error)]
@@ -121,32 +121,22 @@ fn look_at_each(
     }
 }
 
-/// Whether the agent is a couple, or doesn't block.
-fn is_quiet_single(assignment: &Assignment<'_>, agent: &Agent) -> bool
-    requires { IsAgentOf assignment.now.market agent.now }
-    ensures { result ≡ is_quiet_single assignment.now agent.now }
+/// Whether no single blocks: no program has a post for one that is watched there.
+fn are_singles_quiet<R: Threads + Sync>(rt: &R, assignment: &Assignment<'_>, watch: &Watch) -> bool
+    requires { AreWatched assignment.now watch.now.singles }
+    ensures { IsTrue result → IsTrue (singles_quiet assignment.now) }
 {
-    match agent {
-        Agent::Single(single) => assignment.first_program(*single).is_none(),
-        Agent::Couple(_) => true,
-    }
-}
-
-/// Whether no single blocks.
-fn are_singles_quiet<R: Threads + Sync>(rt: &R, assignment: &Assignment<'_>) -> bool
-    ensures { result ≡ singles_quiet assignment.now }
-{
-    let disquiet = (0..assignment.roster().applicants())
+    let wanted = (0..assignment.roster().programs())
         .into_par_iter()
-        .with_min_len(LEAST_APPLICANTS)
+        .with_min_len(LEAST_PROGRAMS)
         .find_first(
             rt,
             |number: &u32| -> bool
-                requires { number.now < applicants assignment.now.market }
-                ensures { result ≡ is_disquiet assignment.entry.now number.now }
-            { !is_quiet_single(assignment, &assignment.agent_of(AppNo(*number))) },
+                requires { (number.now < length assignment.now.market.programs) × AreWatched assignment.now watch.now.singles }
+                ensures { result ≡ has_wanted_post assignment.entry.now watch.entry.now.singles number.now }
+            { has_wanted_post(assignment, watch, ProgNo(*number)) },
         );
-    disquiet.is_none()
+    wanted.is_none()
 }
 
 /// Puts those agents of the lists of the programs that were left on the work list that have entered and block
@@ -182,7 +172,7 @@ fn follow_sent(
 ) -> Result<(), AllocError>
     requires { AreSent assignment.now.market sent.now }
     ensures couples { OnOk result (watch.new.couples ≡ watch.old.couples) }
-    ensures singles { OnOk result (FollowsAll assignment.now watch.old.singles.items watch.new.singles.items (map (λ s. s.0) sent.now)) }
+    ensures singles { OnOk result (FollowsAll assignment.now watch.old.singles watch.new.singles (map (λ s. s.0) sent.now)) }
     ensures better { OnOk result (CountsAll assignment.now watch.old watch.new (map (λ s. s.0) sent.now)) }
 {
     for seat in sent {
@@ -199,7 +189,7 @@ fn follow_displaced(
 ) -> Result<(), AllocError>
     requires { AreApplicantsOf assignment.now.market displaced.now }
     ensures couples { OnOk result (watch.new.couples ≡ watch.old.couples) }
-    ensures singles { OnOk result (FollowsAll assignment.now watch.old.singles.items watch.new.singles.items displaced.now) }
+    ensures singles { OnOk result (FollowsAll assignment.now watch.old.singles watch.new.singles displaced.now) }
     ensures better { OnOk result (CountsAll assignment.now watch.old watch.new displaced.now) }
 {
     for applicant in displaced {
@@ -337,7 +327,7 @@ pub fn enter_all<R: Threads + Sync>(
     let mut assignment = Assignment::new(alloc, roster, ranks, singles)?;
     let mut watch = Watch::new(alloc, &assignment)?;
     let mut waiting = WorkList::new(alloc, roster.applicants(), couples)?;
-    let quiet = are_singles_quiet(rt, &assignment);
+    let quiet = are_singles_quiet(rt, &assignment, &watch);
     let mut left = budget;
     for number in 0..couples {
         let couple = CoupleNo(number);

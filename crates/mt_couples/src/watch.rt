@@ -4,50 +4,32 @@ ghost use Rattle.mt_terms.specs.Stability.{blocks};
 ghost use Rattle.mt_bits.specs.Members.{is_in};
 ghost use Rattle.mt_sets.specs.Notes.{greatest};
 ghost use Rattle.mt_couples.specs.Assigned.{IsAgentOf};
-ghost use Rattle.mt_couples.specs.Watching.{better_pairs, ranks_at, row_at, AreCounted, AreEmpty, AreNamed, AreUnwatched, AreWatched, Counts, CountsCouple, Follows, Notes, Unwatches, Watches};
+ghost use Rattle.mt_couples.specs.Watching.{better_pairs, ranks_at, row_at, AreCounted, AreNamed, AreWatched, Counts, CountsCouple, Follows, Notes, Unwatches, Watches};
 
-use crate::assignment::Assignment;
-use mt_bits::RankSet;
+use crate::assignment::{Assignment, no_ranks};
+use mt_bits::{RankRow, RankTable};
 use mt_ranks::Live;
-use mt_sets::{CoupleList, Note};
+use mt_sets::{CoupleLists, Note};
 use mt_terms::{Agent, AppNo, CoupleNo, ProgNo};
 use std::alloc::{AllocError, Global};
 
 /// Where to look for an option that is opened once somebody leaves a program: for each program the ranks of the
 /// singles that want it more than what they have, and the couples that have entered and name it in a pair.
 pub(crate) struct Watch {
-    singles: Vec<RankSet>,
-    couples: Vec<CoupleList>,
+    singles: RankTable,
+    couples: CoupleLists,
     /// For each couple how many pairs it wants more than what it has.
     better: Vec<usize>,
 }
 
 impl Drop for Watch {
     fn drop(self) {
-        let Watch { singles: _, couples: _, better: _ } = self;
+        let Watch {
+            singles: _,
+            couples: _,
+            better: _,
+        } = self;
     }
-}
-
-/// No ranks for each program.
-fn no_ranks(alloc: Global, assignment: &Assignment<'_>) -> Result<Vec<RankSet>, AllocError>
-    ensures { IfOk result (λ v. AreUnwatched assignment.now.market v.items) }
-{
-    let mut rows = Vec::new(alloc);
-    for _ in 0..assignment.roster().programs() {
-        rows.push(RankSet::new(alloc))?;
-    }
-    Ok(rows)
-}
-
-/// No couples for each program.
-fn no_couples(alloc: Global, assignment: &Assignment<'_>) -> Result<Vec<CoupleList>, AllocError>
-    ensures { IfOk result (λ v. AreEmpty assignment.now.market v.items) }
-{
-    let mut rows = Vec::new(alloc);
-    for _ in 0..assignment.roster().programs() {
-        rows.push(CoupleList::new(alloc))?;
-    }
-    Ok(rows)
 }
 
 /// For each couple how many pairs it wants more than what it has.
@@ -62,28 +44,26 @@ fn better_counts(alloc: Global, assignment: &Assignment<'_>) -> Result<Vec<usize
 }
 
 /// Watches the rank of each of these entries at its program.
-fn watch_each(rows: &mut Vec<RankSet>, entries: &[Live]) -> Result<(), AllocError>
-    ensures { OnOk result (Watches rows.old.items rows.new.items entries.now) }
+fn watch_each(table: &mut RankTable, entries: &[Live]) -> Result<(), AllocError>
+    ensures { OnOk result (Watches table.old table.new entries.now) }
 {
     for entry in entries {
         let program = entry.program.index();
-        if program < rows.len() {
-            let row = &mut rows[program];
-            row.insert(entry.rank)?;
+        if program < table.len() {
+            table.insert(program, entry.rank)?;
         }
     }
     Ok(())
 }
 
 /// Watches none of these entries' ranks any more.
-fn unwatch_each(rows: &mut Vec<RankSet>, entries: &[Live])
-    ensures { Unwatches rows.old.items rows.new.items entries.now }
+fn unwatch_each(table: &mut RankTable, entries: &[Live])
+    ensures { Unwatches table.old table.new entries.now }
 {
     for entry in entries {
         let program = entry.program.index();
-        if program < rows.len() {
-            let row = &mut rows[program];
-            row.remove(entry.rank);
+        if program < table.len() {
+            table.remove(program, entry.rank);
         }
     }
 }
@@ -97,18 +77,17 @@ fn short_index(index: usize) -> u16
 
 /// Notes that a couple's pair at an index names the program of a place, if there is one.
 fn note(
-    rows: &mut Vec<CoupleList>,
+    rows: &mut CoupleLists,
     place: Option<ProgNo>,
     couple: CoupleNo,
     from: u16,
 ) -> Result<(), AllocError>
-    ensures { OnOk result (Notes rows.old.items rows.new.items place couple from) }
+    ensures { OnOk result (Notes rows.old rows.new place couple from) }
 {
     if let Some(program) = place {
         let program = program.index();
         if program < rows.len() {
-            let row = &mut rows[program];
-            row.add(couple, from)?;
+            rows.add(program, couple, from)?;
         }
     }
     Ok(())
@@ -117,36 +96,38 @@ fn note(
 impl Watch {
     /// Each single is watched at the programs that it wants more than what it has. No couple has entered.
     pub(crate) fn new(alloc: Global, assignment: &Assignment<'_>) -> Result<Self, AllocError>
-        ensures watched { IfOk result (λ w. AreWatched assignment.now w.singles.items) }
-        ensures named { IfOk result (λ w. AreNamed assignment.now.market 0 w.couples.items) }
+        ensures watched { IfOk result (λ w. AreWatched assignment.now w.singles) }
+        ensures named { IfOk result (λ w. AreNamed assignment.now.market 0 w.couples) }
         ensures counted { IfOk result (λ w. AreCounted assignment.now w.better.items) }
     {
-        let mut singles = no_ranks(alloc, assignment)?;
-        for number in 0..assignment.roster().applicants() {
+        let roster = assignment.roster();
+        let mut singles = no_ranks(alloc, roster)?;
+        for number in 0..roster.applicants() {
             watch_each(&mut singles, assignment.better_live(AppNo(number)))?;
         }
         Ok(Watch {
             singles,
-            couples: no_couples(alloc, assignment)?,
+            couples: CoupleLists::new(alloc, roster.programs())?,
             better: better_counts(alloc, assignment)?,
         })
     }
 
     /// The ranks that are watched at a program.
-    pub(crate) fn singles(&self, program: ProgNo) -> &RankSet
-        requires { program < length self.now.singles.items }
-        ensures { is_in result.now ≡ ranks_at self.now.singles.items program }
+    pub(crate) fn singles(&self, program: ProgNo) -> RankRow<'_>
+        requires { program < length self.now.singles }
+        ensures { is_in result ≡ ranks_at self.now.singles program }
     {
-        &self.singles[program.index()]
+        self.singles.row(program.index())
     }
 
     /// The notes of the couples that name a program.
     pub(crate) fn couples(&self, program: ProgNo) -> &[Note]
-        ensures { result.now ≡ row_at self.now.couples.items program }
+        ensures { result.now ≡ row_at self.now.couples program }
     {
-        match self.couples.get(program.index()) {
-            Some(row) => row.as_slice(),
-            None => &[],
+        if program.index() < self.couples.len() {
+            self.couples.row(program.index())
+        } else {
+            &[]
         }
     }
 
@@ -192,7 +173,7 @@ impl Watch {
     ) -> Result<(), AllocError>
         requires { applicant < applicants assignment.now.market }
         ensures couples { OnOk result (self.new.couples ≡ self.old.couples) }
-        ensures singles { OnOk result (Follows assignment.now self.old.singles.items self.new.singles.items applicant) }
+        ensures singles { OnOk result (Follows assignment.now self.old.singles self.new.singles applicant) }
         ensures better { OnOk result (Counts assignment.now self.old self.new applicant) }
     {
         let (better, rest) = assignment.live_parts(applicant);
@@ -211,9 +192,9 @@ impl Watch {
         couple: CoupleNo,
     ) -> Result<(), AllocError>
         requires couple { couple < length assignment.now.market.couples }
-        requires named { AreNamed assignment.now.market couple self.old.couples.items }
+        requires named { AreNamed assignment.now.market couple self.old.couples }
         ensures singles { OnOk result (self.new.singles ≡ self.old.singles) }
-        ensures named { OnOk result (AreNamed assignment.now.market (couple + 1) self.new.couples.items) }
+        ensures named { OnOk result (AreNamed assignment.now.market (couple + 1) self.new.couples) }
         ensures better { OnOk result (self.new.better ≡ self.old.better) }
     {
         for (index, pair) in assignment.pairs(couple).iter().enumerate() {

@@ -1,6 +1,6 @@
 pub mod OrderFacts
 pub mod PlaceFacts
+pub mod PlacedFacts
 pub mod RanksFacts
 pub mod RefusedFacts
-pub mod SortFacts
-pub mod PlacedFacts
+pub mod RowFacts

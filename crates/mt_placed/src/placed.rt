@@ -1,9 +1,11 @@
-ghost use Rattle.std.specs.Prelude.{◌≡◌, ◌++◌, ◌∷◌, not, ◌==◌, [], nat_lt, drop, filter, IsTrue, IsFalse, OnOk, OnErr};
-ghost use Rattle.std.specs.List.Sorted.{IsNonDecreasing, IsPermutation, IsStrictlySortedBy};
+ghost use Rattle.std.specs.Prelude.{◌≡◌, not, ◌==◌, nat_lt, drop, filter, IfOk, IsTrue, IsFalse, OnOk, OnErr};
+ghost use Rattle.std.specs.List.Sorted.{IsStrictlySortedBy};
 ghost use Rattle.std.specs.Ordering.{nat_cmp};
 ghost use Rattle.std.specs.BTreeSet.{insert_key};
 ghost use Rattle.mt_terms.specs.Lists.{count, has};
+ghost use Rattle.mt_placed.specs.Ranks.{HasRanks};
 
+use mt_bits::RankRow;
 use std::alloc::{AllocError, Global};
 use std::marker::Model;
 
@@ -22,29 +24,17 @@ impl Model for PlacedRanks {
 }
 
 impl PlacedRanks {
-    /// Nobody's ranks.
-    pub fn new(alloc: Global) -> Self
-        ensures { result ≡ [] }
+    /// The ranks of a row, with room for so many. The error is want of memory.
+    pub fn of_row(alloc: Global, row: &RankRow<'_>, room: usize) -> Result<Self, AllocError>
+        ensures { IfOk result (HasRanks row.now) }
     {
-        PlacedRanks {
-            ranks: Vec::new(alloc),
+        let mut ranks = Vec::with_capacity(alloc, room)?;
+        let mut next = 0;
+        while let Some(rank) = row.first_from(next) {
+            ranks.push(rank as usize)?;
+            next = rank as usize + 1;
         }
-    }
-
-    /// Adds a rank at the end.
-    pub fn push(&mut self, rank: usize) -> Result<(), AllocError>
-        ensures { OnOk result (self.new ≡ self.old ++ rank ∷ []) }
-    {
-        self.ranks.push(rank)?;
-        Ok(())
-    }
-
-    /// Puts the ranks in rising order.
-    pub fn sort(&mut self)
-        ensures permutation { IsPermutation self.old self.new }
-        ensures sorted { IsNonDecreasing self.new }
-    {
-        self.ranks.sort_unstable();
+        Ok(PlacedRanks { ranks })
     }
 
     /// How many ranks are below this one.

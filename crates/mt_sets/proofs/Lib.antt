@@ -1,3 +1,4 @@
 pub mod FrontFacts
+pub mod ListFacts
 pub mod NoteFacts
 pub mod WaitingFacts

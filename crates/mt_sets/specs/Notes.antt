@@ -1,5 +1,5 @@
 -- Which pairs of couples are noted.
-use Rattle.std.specs.Prelude.{◌≡◌, ℕ, Bool, true, ◌&&◌, ◌||◌, ◌==◌, nat_le, nat_lt, min, if◌then◌else◌, ◌⊎◌, List}
+use Rattle.std.specs.Prelude.{◌≡◌, ℕ, Bool, true, ◌&&◌, ◌||◌, ◌==◌, nat_le, nat_lt, min, if◌then◌else◌, ◌⊎◌, List, [], slice_index_or, slice_set}
 use Rattle.std.specs.List.{list_any}
 use Rattle.mt_sets.specs.declared.couple_list.Note.{Note}
 
@@ -31,3 +31,9 @@ pub record AddsNote (old new : List Note) (c from : ℕ) : Type 0 where
   pub keeps : (d i : ℕ) → is_noted old d i ≡ true → is_noted new d i ≡ true
   pub adds : (i : ℕ) → min i greatest ≡ from → is_noted new c i ≡ true
   pub only : (d : ℕ) → has_couple new d ≡ true → (has_couple old d ≡ true) ⊎ (c ≡ d)
+
+-- so it is at a program, and the other programs' notes are as they were
+pub record AddsNoteAt (old new : List (List Note)) (p c from : ℕ) : Type 0 where
+  pub row : List Note
+  pub is : new ≡ slice_set old p row
+  pub adds : AddsNote (slice_index_or old p []) row c from

@@ -1,12 +1,10 @@
-ghost use Rattle.std.specs.Prelude.{◌≡◌, [], IfOk, IsFalse, IsTrue, OnOk};
-ghost use Rattle.mt_sets.specs.Notes.{end_of, AddsNote};
+ghost use Rattle.std.specs.Prelude.{◌≡◌, ◌<◌, [], length, replicate, slice_index_or, IfOk, IsFalse, IsTrue, OnOk};
+ghost use Rattle.mt_sets.specs.Notes.{end_of, AddsNoteAt};
 
+use mt_rows::Rows;
 use mt_terms::CoupleNo;
 use std::alloc::{AllocError, Global};
 use std::marker::Model;
-
-/// For how many notes there is room with the first one.
-const FIRST_ROOM: usize = 32;
 
 /// That a program is named by pairs of a couple's list, which are counted from 0, as far as 16 bits count.
 #[derive(Clone, Copy)]
@@ -32,73 +30,99 @@ impl Note {
     }
 }
 
-/// The notes of one program, in the order in which the couples were added.
-#[derive(Drop)]
-pub struct CoupleList {
-    notes: Vec<Note>,
-    /// The couple that was added last, so that no note is read where another one is added.
-    last: Option<CoupleNo>,
+/// The notes of each program, in the order in which the couples were added.
+pub struct CoupleLists {
+    notes: Rows<Note>,
 }
 
-impl Model for CoupleList {
+impl Drop for CoupleLists {
+    fn drop(self) {
+        let CoupleLists { notes: _ } = self;
+    }
+}
+
+impl Model for CoupleLists {
     ghost use Rattle.std.specs.Prelude.{List};
     ghost use Rattle.mt_sets.specs.declared.couple_list.Note.{Note};
 
-    ghost Value = { List Note };
+    ghost Value = { List (List Note) };
 
-    ghost view = { λ l. l.notes.items };
+    ghost view = { λ l. l.notes };
 }
 
-impl CoupleList {
-    /// No notes.
-    pub fn new(alloc: Global) -> Self
-        ensures { result ≡ [] }
+impl CoupleLists {
+    /// No notes for each of so many programs. The error is want of memory.
+    pub fn new(alloc: Global, programs: u32) -> Result<Self, AllocError>
+        ensures { IfOk result (λ l. l ≡ replicate programs []) }
     {
-        CoupleList {
-            notes: Vec::new(alloc),
-            last: None,
+        let mut notes = Rows::new(alloc);
+        for _ in 0..programs {
+            let nothing = Note {
+                couple: CoupleNo(0),
+                from: 0,
+                until: 0,
+            };
+            notes.push_row(0, nothing)?;
         }
+        Ok(CoupleLists { notes })
     }
 
-    /// Has the last note go on to the couple's pair at an index, where it is of an earlier pair of that couple. The
-    /// result is whether it is.
-    fn extend(&mut self, couple: CoupleNo, from: u16) -> bool
-        ensures added { IsTrue result → AddsNote self.old self.new couple from }
+    /// How many programs there are.
+    #[inline]
+    pub fn len(&self) -> usize
+        ensures { result ≡ length self.now }
+    {
+        self.notes.len()
+    }
+
+    /// The notes of a program.
+    #[inline]
+    pub fn row(&self, program: usize) -> &[Note]
+        requires { program < length self.now }
+        ensures { result.now ≡ slice_index_or self.now program [] }
+    {
+        self.notes.row(program)
+    }
+
+    /// Has the last note of a program go on to the couple's pair at an index, where it is of an earlier pair of that
+    /// couple. The result is whether it is.
+    fn extend(&mut self, program: usize, couple: CoupleNo, from: u16) -> bool
+        requires { program < length self.old }
+        ensures added { IsTrue result → AddsNoteAt self.old self.new program couple from }
         ensures same { IsFalse result → self.new ≡ self.old }
     {
-        if let Some(last) = self.notes.last_mut() {
-            if last.couple == couple && last.from <= from {
-                last.until = last.until.max(from.saturating_add(1));
-                return true;
-            }
+        let row = self.notes.row(program);
+        let Some(last) = row.last() else {
+            return false;
+        };
+        if last.couple != couple || last.from > from {
+            return false;
         }
-        false
+        let longer = Note {
+            couple,
+            from: last.from,
+            until: last.until.max(from.saturating_add(1)),
+        };
+        let place = row.len() - 1;
+        self.notes.set(program, place, longer);
+        true
     }
 
-    /// Notes the couple's pair at an index: in the last note, where that is of an earlier one of that couple. The error is
-    /// want of memory, and nothing is said of the list then.
-    pub fn add(&mut self, couple: CoupleNo, from: u16) -> Result<(), AllocError>
-        ensures { OnOk result (AddsNote self.old self.new couple from) }
+    /// Notes the couple's pair at an index at a program: in the last note, where that is of an earlier one of that
+    /// couple. The error is want of memory, and nothing is said of the notes then.
+    #[inline]
+    pub fn add(&mut self, program: usize, couple: CoupleNo, from: u16) -> Result<(), AllocError>
+        requires { program < length self.old }
+        ensures { OnOk result (AddsNoteAt self.old self.new program couple from) }
     {
-        if self.last == Some(couple) && self.extend(couple, from) {
+        if self.extend(program, couple, from) {
             return Ok(());
         }
-        if self.notes.is_empty() {
-            self.notes.reserve(FIRST_ROOM)?;
-        }
-        self.last = Some(couple);
-        self.notes.push(Note {
+        let note = Note {
             couple,
             from,
             until: from.saturating_add(1),
-        })?;
-        Ok(())
-    }
-
-    /// All of them.
-    pub fn as_slice(&self) -> &[Note]
-        ensures { result.now ≡ self.now }
-    {
-        self.notes.as_slice()
+        };
+        self.notes.push(program, note)
     }
 }

@@ -5,6 +5,6 @@ mod couple_list;
 mod program_set;
 mod work_list;
 
-pub use couple_list::{CoupleList, Note};
+pub use couple_list::{CoupleLists, Note};
 pub use program_set::ProgramSet;
 pub use work_list::WorkList;

@@ -19,7 +19,12 @@ pub struct WorkList {
 
 impl Drop for WorkList {
     fn drop(self) {
-        let WorkList { applicants: _, couples: _, queue: _, waits: _ } = self;
+        let WorkList {
+            applicants: _,
+            couples: _,
+            queue: _,
+            waits: _,
+        } = self;
     }
 }
 

@@ -13,6 +13,6 @@ returns-clause-covers c =
     let ws = c.args.waiting.now.agents in
     let mid = c.add_by_rank.new.found.items in
     let new = c.add_members.new.found.items in
-    let singles : AddsSingles k s p ws (ranks_at w.singles.items p) mid = subst (λ rs. AddsSingles k s p ws rs mid) c.singles.ensures c.in_ok-add_by_rank.ensures.adds in
+    let singles : AddsSingles k s p ws (ranks_at w.singles p) mid = subst (λ rs. AddsSingles k s p ws rs mid) c.singles.ensures c.in_ok-add_by_rank.ensures.adds in
     both_ok c.add_members.result c.add_members.ensures.keeps c.add_members.ensures.adds
     (λ keeps adds. covers_one k s w p ws mid new c.requires.watch c.requires.program singles keeps adds)

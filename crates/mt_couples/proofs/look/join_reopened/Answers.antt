@@ -7,7 +7,7 @@ use Rattle.mt_sets.specs.Waiting.{with_agents, Waiting}
 use Rattle.mt_couples.specs.Moves.{agents_of, blockers}
 use Rattle.mt_couples.specs.Running.{is_reopened}
 use Rattle.mt_couples.proofs.QuietFacts.{blocking}
-use Rattle.mt_couples.proofs.WatchFacts.{drop_past}
+use Rattle.mt_sets.proofs.ListFacts.{drop_past}
 use Rattle.mt_couples.proofs.LookFacts.{none_between, passes_joined, passes_skipped, passing, Rest}
 use Rattle.mt_couples.proofs.MarketFacts.{read_within}
 use Rattle.mt_placed.proofs.OrderFacts.{has_at}

@@ -9,7 +9,7 @@ use Rattle.mt_couples.specs.Looking.{IsClosed, IsOpenFrom}
 use Rattle.mt_couples.specs.Moves.{agents_of, blockers}
 use Rattle.mt_couples.proofs.JoinFacts.{joining_list}
 use Rattle.mt_couples.proofs.QuietFacts.{blocking}
-use Rattle.mt_couples.proofs.WatchFacts.{drop_past}
+use Rattle.mt_sets.proofs.ListFacts.{drop_past}
 use Rattle.mt_couples.proofs.LookFacts.{Rest}
 use Rattle.mt_couples.proofs.MarketFacts.{read_within}
 use Rattle.mt_couples.proofs.OneFacts.{no_couples, passes_last, passes_next}
@@ -33,7 +33,7 @@ loop-rank-preserved c =
     let s = c.args.assignment.now in
     let k = c.args.last in
     let p = c.args.program in
-    let rows = c.args.watch.now.singles.items in
+    let rows = c.args.watch.now.singles in
     let xs = c.ranking-ranking.result.now in
     let is_list = c.ranking-ranking.ensures.list in
     let ok = c.ranking-ranking.ensures.assigned in
@@ -64,7 +64,7 @@ returns-clause-done c = λ done.
     let s = c.args.assignment.now in
     let k = c.args.last in
     let p = c.args.program in
-    let rows = c.args.watch.now.singles.items in
+    let rows = c.args.watch.now.singles in
     let xs = c.ranking-ranking.result.now in
     let is_list = c.ranking-ranking.ensures.list in
     let ok = c.ranking-ranking.ensures.assigned in

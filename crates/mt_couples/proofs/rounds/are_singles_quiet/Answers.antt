@@ -1,28 +1,28 @@
-use Rattle.std.proofs.Common.{◌∙◌, ◌<◌, ◌≡◌, Bool, true, false, not, is_some, ap, sym, refl}
+use Rattle.std.proofs.Common.{◌∙◌, ◌<◌, not, length, ap, sym}
+use Rattle.std.proofs.Math.Bool.{not-not}
 use Rattle.rayon.specs.Lists.{range_start, range_end}
-use Rattle.mt_terms.specs.Market.{agent_of, applicants}
-use Rattle.mt_couples.specs.Running.{is_disquiet, is_quiet_single}
+use Rattle.mt_terms.specs.Market.{Market}
+use Rattle.mt_couples.specs.Looking.{has_wanted_post}
+use Rattle.mt_couples.specs.Watching.{AreWatched}
 use Rattle.mt_couples.proofs.AskFacts.{asked_below, none_found_by_threads}
+use Rattle.mt_couples.proofs.OneFacts.{quiet_by_posts}
 use Rattle.mt_couples.proofs.rounds.are_singles_quiet.Goals as goal
 
--- a test and its opposite
-not_swapped : (a b : Bool) → a ≡ not b → b ≡ not a
-not_swapped a true is = ap not (sym is)
-not_swapped a false is = ap not (sym is)
-
-pub find_first-disquiet-requires-clause-items : goal.find_first-disquiet-requires-clause-items
-find_first-disquiet-requires-clause-items g c κs within =
+pub find_first-wanted-requires-clause-items : goal.find_first-wanted-requires-clause-items
+find_first-wanted-requires-clause-items g c κs within =
+    let s = c.args.assignment.now in
     let range = c.with_min_len.result.base in
-    let many = applicants c.args.assignment.now.market in
-    asked_below (λ a. a < many) range.start range.end many (ap range_start c.with_min_len.ensures.base ∙ c.into_par_iter.ensures.0)
-    (ap range_end c.with_min_len.ensures.base ∙ c.into_par_iter.ensures.1 ∙ c.applicants.ensures.count ∙ ap applicants c.roster.ensures.market) (λ a a_in. a_in)
+    let many = length s.market.programs in
+    asked_below (λ p. (p < many) × AreWatched s c.args.watch.now.singles) range.start range.end many (ap range_start c.with_min_len.ensures.base ∙ c.into_par_iter.ensures.0)
+    (ap range_end c.with_min_len.ensures.base ∙ c.into_par_iter.ensures.1 ∙ c.programs.ensures.count ∙ ap (λ (m : Market). length m.programs) c.roster.ensures.market) (λ p known. (known, c.requires))
 
 pub returns : goal.returns
-returns g c =
+returns g c = λ quiet.
     let s = c.args.assignment.now in
-    let found = c.find_first-disquiet.ensures in
+    let rows = c.args.watch.now.singles in
+    let found = c.find_first-wanted.ensures in
     let range = c.with_min_len.result.base in
-    not_swapped (is_some c.find_first-disquiet.result) c.is_none.result c.is_none.ensures
-    ∙ none_found_by_threads (is_disquiet s) (λ a. is_quiet_single s (agent_of s.market a)) (λ a. refl) range.start range.end (applicants s.market) found.0 found.1 c.find_first-disquiet.result
+    let none = none_found_by_threads (has_wanted_post s rows) (λ p. not (has_wanted_post s rows p)) (λ p. sym (not-not (has_wanted_post s rows p))) range.start range.end (length s.market.programs) found.0 found.1 c.find_first-wanted.result
     (ap range_start c.with_min_len.ensures.base ∙ c.into_par_iter.ensures.0)
-    (ap range_end c.with_min_len.ensures.base ∙ c.into_par_iter.ensures.1 ∙ c.applicants.ensures.count ∙ ap applicants c.roster.ensures.market) found.2 found.3 found.4
+    (ap range_end c.with_min_len.ensures.base ∙ c.into_par_iter.ensures.1 ∙ c.programs.ensures.count ∙ ap (λ (m : Market). length m.programs) c.roster.ensures.market) found.2 found.3 found.4 in
+    quiet_by_posts s c.roster.ensures.assigned rows c.requires (sym none ∙ ap not c.is_none.ensures ∙ not-not c.is_none.result ∙ quiet)

@@ -82,7 +82,7 @@ loop-number-init g c =
     record {
       entering = entering_first m c.are_singles_quiet-quiet.result places c.args.budget c.in_ok-assignment.assignment c.in_ok-waiting.waiting is c.requires.fits
           (c.in_ok-waiting.ensures ∙ ap₂ nobody c.applicants.ensures.count c.couples-couples.ensures.count)
-          (λ so. quiet_at_first m c.couples-couples.ensures.registration.well_formed places (sym (c.are_singles_quiet-quiet.ensures ∙ ap singles_quiet is) ∙ so));
+          (λ so. quiet_at_first m c.couples-couples.ensures.registration.well_formed places (sym (ap singles_quiet is) ∙ c.are_singles_quiet-quiet.ensures so));
       watched = c.in_ok-watch.ensures.watched;
       named = c.in_ok-watch.ensures.named;
       counted = c.in_ok-watch.ensures.counted;
@@ -100,7 +100,7 @@ enter-requires-clause-couple g c =
 
 pub settle-requires-clause-watch : goal.settle-requires-clause-watch
 settle-requires-clause-watch g c = record {
-  watched = subst (AreWatched c.loop-number.assignment) (ap Vec.items (sym c.in_ok-enter.ensures.singles)) c.loop-number.invariant.watched;
+  watched = subst (AreWatched c.loop-number.assignment) (sym c.in_ok-enter.ensures.singles) c.loop-number.invariant.watched;
   named = c.in_ok-enter.ensures.named;
   counted = subst (AreCounted c.loop-number.assignment) (ap Vec.items (sym c.in_ok-enter.ensures.better)) c.loop-number.invariant.counted;
 }

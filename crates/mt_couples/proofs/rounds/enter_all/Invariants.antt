@@ -5,7 +5,7 @@ use Rattle.mt_couples.proofs.rounds.enter_all.Given as goal
 abbrev pub invariant-loop-number : goal.invariant-loop-number
 invariant-loop-number g l = record {
   entering : IsEntering l.fn.roster.market l.quiet l.fn.singles.places l.fn.budget l.number l.assignment l.waiting l.left;
-  watched : AreWatched l.assignment l.watch.singles.items;
-  named : AreNamed l.assignment.market l.number l.watch.couples.items;
+  watched : AreWatched l.assignment l.watch.singles;
+  named : AreNamed l.assignment.market l.number l.watch.couples;
   counted : AreCounted l.assignment l.watch.better.items;
 }

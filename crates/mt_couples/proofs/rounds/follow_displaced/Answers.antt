@@ -22,7 +22,7 @@ loop-applicant-preserved c =
     let more : take i xs ++ x ∷ [] ≡ take (i + 1) xs = ap (λ y. take i xs ++ y ∷ []) c.applicant-item.is ∙ sym (take_more xs i x c.loop-applicant-test.true) in
     record {
       couples = c.in_ok-follow.ensures.couples ∙ so_far.couples;
-      singles = subst (FollowsAll s old.singles.items new.singles.items) more
-          (follows_more s old.singles.items mid.singles.items new.singles.items (take i xs) x so_far.singles c.in_ok-follow.ensures.singles);
+      singles = subst (FollowsAll s old.singles new.singles) more
+          (follows_more s old.singles mid.singles new.singles (take i xs) x so_far.singles c.in_ok-follow.ensures.singles);
       better = subst (CountsAll s old new) more (counts_more s old mid new (take i xs) x so_far.better c.in_ok-follow.ensures.better);
     }

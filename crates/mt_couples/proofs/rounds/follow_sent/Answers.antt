@@ -23,7 +23,7 @@ loop-seat-preserved c =
     ap (λ y. front ++ y.0 ∷ []) c.seat-item.is ∙ sym (ap (map (λ y. y.0)) (take_more xs i x c.loop-seat-test.true) ∙ map-append (λ y. y.0) (take i xs) _) in
     record {
       couples = c.in_ok-follow.ensures.couples ∙ so_far.couples;
-      singles = subst (FollowsAll s old.singles.items new.singles.items) more
-          (follows_more s old.singles.items mid.singles.items new.singles.items front x.0 so_far.singles c.in_ok-follow.ensures.singles);
+      singles = subst (FollowsAll s old.singles new.singles) more
+          (follows_more s old.singles mid.singles new.singles front x.0 so_far.singles c.in_ok-follow.ensures.singles);
       better = subst (CountsAll s old new) more (counts_more s old mid new front x.0 so_far.better c.in_ok-follow.ensures.better);
     }

@@ -5,6 +5,6 @@ use Rattle.mt_couples.proofs.rounds.follow_sent.Given as goal
 abbrev pub invariant-loop-seat : goal.invariant-loop-seat
 invariant-loop-seat l = record {
   couples : l.watch.couples ≡ l.initial.watch.couples;
-  singles : FollowsAll l.assignment l.initial.watch.singles.items l.watch.singles.items (map (λ s. s.0) (take l.seat-index l.sent));
+  singles : FollowsAll l.assignment l.initial.watch.singles l.watch.singles (map (λ s. s.0) (take l.seat-index l.sent));
   better : CountsAll l.assignment l.initial.watch l.watch (map (λ s. s.0) (take l.seat-index l.sent));
 }

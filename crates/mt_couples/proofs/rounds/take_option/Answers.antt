@@ -1,4 +1,4 @@
-use Rattle.std.proofs.Common.{◌≡◌, ◌∙◌, ◌∷◌, length, ℕ, ◌+◌, map, ap, ap₂, sym, arith, List, Vec, subst}
+use Rattle.std.proofs.Common.{◌≡◌, ◌∙◌, ◌∷◌, length, ℕ, ◌+◌, map, ap, ap₂, sym, arith, List, subst}
 use Rattle.mt_terms.specs.Lists.{has, below}
 use Rattle.mt_terms.specs.Market.{applicants}
 use Rattle.mt_terms.specs.Rounds.{all_joined}
@@ -83,22 +83,22 @@ follow_displaced-requires c = λ a on.
 
 -- the match after the move is watched
 watching : (s0 s1 : Assigned) (sent : Placement) (g : Agent) (k : ℕ) (w0 w1 w2 : Watch) (xs : List ℕ) → IsTaking s0.market s0.places g sent → s1 ≡ moved s0 sent → IsWatching k s0 w0
-    → FollowsAll s1 w0.singles.items w1.singles.items (map (λ s. s.0) sent) → FollowsAll s1 w1.singles.items w2.singles.items xs
+    → FollowsAll s1 w0.singles w1.singles (map (λ s. s.0) sent) → FollowsAll s1 w1.singles w2.singles xs
     → CountsAll s1 w0 w1 (map (λ s. s.0) sent) → CountsAll s1 w1 w2 xs → xs ≡ displaced_by s0 sent
-    → w2.couples.items ≡ w0.couples.items → IsWatching k s1 w2
+    → w2.couples ≡ w0.couples → IsWatching k s1 w2
 watching s0 s1 sent g k w0 w1 w2 xs taking after before first second count recount displaced couples =
-    let first' : FollowsAll (moved s0 sent) w0.singles.items w1.singles.items (map (λ s. s.0) sent) =
-    subst (λ (x : Assigned). FollowsAll x w0.singles.items w1.singles.items (map (λ s. s.0) sent)) after first in
-    let second' : FollowsAll (moved s0 sent) w1.singles.items w2.singles.items (displaced_by s0 sent) =
-    subst (FollowsAll (moved s0 sent) w1.singles.items w2.singles.items) displaced
-    (subst (λ (x : Assigned). FollowsAll x w1.singles.items w2.singles.items xs) after second) in
+    let first' : FollowsAll (moved s0 sent) w0.singles w1.singles (map (λ s. s.0) sent) =
+    subst (λ (x : Assigned). FollowsAll x w0.singles w1.singles (map (λ s. s.0) sent)) after first in
+    let second' : FollowsAll (moved s0 sent) w1.singles w2.singles (displaced_by s0 sent) =
+    subst (FollowsAll (moved s0 sent) w1.singles w2.singles) displaced
+    (subst (λ (x : Assigned). FollowsAll x w1.singles w2.singles xs) after second) in
     let count' : CountsAll (moved s0 sent) w0 w1 (map (λ s. s.0) sent) =
     subst (λ (x : Assigned). CountsAll x w0 w1 (map (λ s. s.0) sent)) after count in
     let recount' : CountsAll (moved s0 sent) w1 w2 (displaced_by s0 sent) =
     subst (CountsAll (moved s0 sent) w1 w2) displaced
     (subst (λ (x : Assigned). CountsAll x w1 w2 xs) after recount) in
     subst (λ (x : Assigned). IsWatching k x w2) (sym after) (record {
-      watched = watched_after taking w0.singles.items w1.singles.items w2.singles.items before.watched first' second';
+      watched = watched_after taking w0.singles w1.singles w2.singles before.watched first' second';
       named = subst (AreNamed s0.market (k + 1)) (sym couples) before.named;
       counted = counted_after taking w0 w1 w2 before.counted count' recount';
     })
@@ -107,7 +107,7 @@ pub look_at_left-requires-clause-watch : goal.look_at_left-requires-clause-watch
 look_at_left-requires-clause-watch c =
     watching c.args.assignment.now c.move_to.new.self c.args.sent.now c.args.agent c.args.last c.args.watch.now c.follow_sent.new.watch c.follow_displaced.new.watch c.deref.result.now
     c.requires.taking c.in_ok-moved.ensures.places c.requires.watch c.in_ok-follow_sent.ensures.singles c.in_ok-follow_displaced.ensures.singles c.in_ok-follow_sent.ensures.better c.in_ok-follow_displaced.ensures.better
-    (c.deref.ensures.value ∙ c.in_ok-moved.ensures.displaced) (ap Vec.items (c.in_ok-follow_displaced.ensures.couples ∙ c.in_ok-follow_sent.ensures.couples))
+    (c.deref.ensures.value ∙ c.in_ok-moved.ensures.displaced) (c.in_ok-follow_displaced.ensures.couples ∙ c.in_ok-follow_sent.ensures.couples)
 
 pub returns : goal.returns
 returns c =
@@ -125,7 +125,7 @@ returns c =
     record {
       watch = watching c.args.assignment.now c.move_to.new.self c.args.sent.now c.args.agent c.args.last c.args.watch.now c.follow_sent.new.watch c.follow_displaced.new.watch c.deref.result.now
           c.requires.taking c.in_ok-moved.ensures.places c.requires.watch c.in_ok-follow_sent.ensures.singles c.in_ok-follow_displaced.ensures.singles c.in_ok-follow_sent.ensures.better c.in_ok-follow_displaced.ensures.better
-          (c.deref.ensures.value ∙ c.in_ok-moved.ensures.displaced) (ap Vec.items (c.in_ok-follow_displaced.ensures.couples ∙ c.in_ok-follow_sent.ensures.couples));
+          (c.deref.ensures.value ∙ c.in_ok-moved.ensures.displaced) (c.in_ok-follow_displaced.ensures.couples ∙ c.in_ok-follow_sent.ensures.couples);
       market = ap (λ (x : Assigned). x.market) after;
       room = all ∙ ap (λ (w : Waiting). with_agents c.args.waiting.now w.agents) (sym all);
       work = ap₂ (λ (x : Assigned) (w : Waiting). work_of x w) after all;
@@ -135,4 +135,4 @@ pub look_at_mover-requires-clause-counted : goal.look_at_mover-requires-clause-c
 look_at_mover-requires-clause-counted c =
     (watching c.args.assignment.now c.move_to.new.self c.args.sent.now c.args.agent c.args.last c.args.watch.now c.follow_sent.new.watch c.follow_displaced.new.watch c.deref.result.now
     c.requires.taking c.in_ok-moved.ensures.places c.requires.watch c.in_ok-follow_sent.ensures.singles c.in_ok-follow_displaced.ensures.singles c.in_ok-follow_sent.ensures.better c.in_ok-follow_displaced.ensures.better
-    (c.deref.ensures.value ∙ c.in_ok-moved.ensures.displaced) (ap Vec.items (c.in_ok-follow_displaced.ensures.couples ∙ c.in_ok-follow_sent.ensures.couples))).counted
+    (c.deref.ensures.value ∙ c.in_ok-moved.ensures.displaced) (c.in_ok-follow_displaced.ensures.couples ∙ c.in_ok-follow_sent.ensures.couples)).counted

@@ -3,4 +3,4 @@ use Rattle.mt_couples.specs.Watching.{Unwatches}
 use Rattle.mt_couples.proofs.watch.unwatch_each.Given as goal
 
 abbrev pub invariant-loop-entry : goal.invariant-loop-entry
-invariant-loop-entry l = Unwatches l.initial.rows.items l.rows.items (take l.entry-index l.entries)
+invariant-loop-entry l = Unwatches l.initial.table l.table (take l.entry-index l.entries)

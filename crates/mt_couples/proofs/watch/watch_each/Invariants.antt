@@ -3,4 +3,4 @@ use Rattle.mt_couples.specs.Watching.{Watches}
 use Rattle.mt_couples.proofs.watch.watch_each.Given as goal
 
 abbrev pub invariant-loop-entry : goal.invariant-loop-entry
-invariant-loop-entry l = Watches l.initial.rows.items l.rows.items (take l.entry-index l.entries)
+invariant-loop-entry l = Watches l.initial.table l.table (take l.entry-index l.entries)

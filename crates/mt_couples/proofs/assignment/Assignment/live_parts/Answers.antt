@@ -7,7 +7,7 @@ use Rattle.mt_ranks.specs.Ranked.{Ranked, ranked_list, ranked_of}
 use Rattle.mt_couples.specs.Assigned.{Assigned}
 use Rattle.mt_couples.specs.Watching.{better_entries}
 use Rattle.mt_couples.proofs.MarketFacts.{ranked_applicants}
-use Rattle.mt_couples.proofs.WatchFacts.{drop_past, going_all, going_more, going_stops, until_never}
+use Rattle.mt_sets.proofs.ListFacts.{drop_past, going_all, going_more, going_stops, until_never}
 use Rattle.mt_couples.proofs.assignment.Assignment.live_parts.Goals as goal
 
 pub live-live-requires : goal.live-live-requires

@@ -1,4 +1,4 @@
-use Rattle.std.proofs.Common.{Vec, ap, subst, sym}
+use Rattle.std.proofs.Common.{subst, sym}
 use Rattle.mt_couples.specs.Watching.{Follows}
 use Rattle.mt_couples.proofs.EntryFacts.{follows}
 use Rattle.mt_couples.proofs.watch.Watch.follow.Goals as goal
@@ -6,14 +6,14 @@ use Rattle.mt_couples.proofs.watch.Watch.follow.Goals as goal
 pub returns-in-Couple-clause-singles : goal.returns-in-Couple-clause-singles
 returns-in-Couple-clause-singles c =
     let s = c.args.assignment.now in
-    let old = c.args.self.now.singles.items in
+    let old = c.args.self.now.singles in
     let parts = c.live_parts.ensures in
-    subst (λ rows. Follows s old rows c.args.applicant) (sym (ap Vec.items c.count.ensures.singles))
-    (follows s parts.assigned c.args.applicant c.requires old c.unwatch_each.new.rows.items c.watch_each.new.rows.items _ _ parts.others parts.better c.unwatch_each.ensures c.in_ok-watch_each.ensures)
+    subst (λ rows. Follows s old rows c.args.applicant) (sym c.count.ensures.singles)
+    (follows s parts.assigned c.args.applicant c.requires old c.unwatch_each.new.table c.watch_each.new.table _ _ parts.others parts.better c.unwatch_each.ensures c.in_ok-watch_each.ensures)
 
 pub returns-in_default-clause-singles : goal.returns-in_default-clause-singles
 returns-in_default-clause-singles c =
     let s = c.args.assignment.now in
-    let old = c.args.self.now.singles.items in
+    let old = c.args.self.now.singles in
     let parts = c.live_parts.ensures in
-    follows s parts.assigned c.args.applicant c.requires old c.unwatch_each.new.rows.items c.watch_each.new.rows.items _ _ parts.others parts.better c.unwatch_each.ensures c.in_ok-watch_each.ensures
+    follows s parts.assigned c.args.applicant c.requires old c.unwatch_each.new.table c.watch_each.new.table _ _ parts.others parts.better c.unwatch_each.ensures c.in_ok-watch_each.ensures

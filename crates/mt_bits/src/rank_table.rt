@@ -1,0 +1,161 @@
+ghost use Rattle.std.specs.Prelude.{◌≡◌, ℕ, ◌≤◌, ◌<◌, false, length, [], slice_index_or, IfNone, IfSome, OnOk};
+ghost use Rattle.mt_bits.specs.Flags.{flag};
+ghost use Rattle.mt_bits.specs.Members.{is_in, IsFirstFrom};
+ghost use Rattle.mt_bits.specs.Tables.{AddsList, AddsRank, AreFew, HaveSameFlags, TakesRank};
+
+use mt_rows::Rows;
+use std::alloc::{AllocError, Global};
+use std::marker::Model;
+
+/// With so many words each bit has a number of 32 bits.
+const MOST_WORDS: usize = 67_108_864;
+
+/// The first rank whose bit is set that isn't below a number.
+fn first_flag_from(words: &[u64], number: usize) -> Option<u32>
+    requires few { length words.now ≤ 67108864 }
+    ensures first { IfSome result (IsFirstFrom (flag words.now) number) }
+    ensures none { IfNone result ((r : ℕ) → number ≤ r → flag words.now r ≡ false) }
+{
+    let mut start = number;
+    let mut word = *words.get(start / 64)? >> (start % 64);
+    while word == 0 {
+        start = 64 * (start / 64 + 1);
+        word = *words.get(start / 64)?;
+    }
+    Some(start as u32 + word.trailing_zeros())
+}
+
+/// Fills a row of words up with zeros, as far as to a place.
+#[cold]
+fn fill(rows: &mut Rows<u64>, list: usize, place: usize) -> Result<(), AllocError>
+    requires list { list < length rows.old }
+    requires place { place < 67108864 }
+    requires few { AreFew rows.old }
+    ensures few { AreFew rows.new }
+    ensures same { HaveSameFlags rows.old rows.new }
+    ensures long { OnOk result (place < length (slice_index_or rows.new list [])) }
+{
+    while rows.row(list).len() <= place {
+        rows.push(list, 0)?;
+    }
+    Ok(())
+}
+
+/// The ranks on one list that are in a set.
+#[derive(Drop)]
+pub struct RankRow<'a> {
+    /// One bit for each rank, as far as one was added.
+    words: &'a [u64],
+}
+
+impl<'a> Model for RankRow<'a> {
+    ghost use Rattle.std.specs.Prelude.{Bool, List};
+
+    ghost Value = { List Bool };
+
+    ghost use Rattle.mt_bits.specs.View.{ranks_in, AreFewWords};
+
+    ghost view = { ranks_in };
+
+    ghost invariant = { AreFewWords };
+}
+
+impl<'a> RankRow<'a> {
+    /// The first of the ranks that isn't below a number.
+    pub fn first_from(&self, number: usize) -> Option<u32>
+        ensures first { IfSome result (IsFirstFrom (is_in self.now) number) }
+        ensures none { IfNone result ((r : ℕ) → number ≤ r → is_in self.now r ≡ false) }
+    {
+        first_flag_from(self.words, number)
+    }
+}
+
+/// A set of ranks for each of several lists.
+pub struct RankTable {
+    rows: Rows<u64>,
+}
+
+impl Drop for RankTable {
+    fn drop(self) {
+        let RankTable { rows: _ } = self;
+    }
+}
+
+impl Model for RankTable {
+    ghost use Rattle.std.specs.Prelude.{Bool, List};
+
+    ghost Value = { List (List Bool) };
+
+    ghost use Rattle.mt_bits.specs.View.{table_in, AreFewRows};
+
+    ghost view = { table_in };
+
+    ghost invariant = { AreFewRows };
+}
+
+impl RankTable {
+    /// No lists.
+    pub fn new(alloc: Global) -> Self
+        ensures { result ≡ [] }
+    {
+        RankTable {
+            rows: Rows::new(alloc),
+        }
+    }
+
+    /// How many lists there are.
+    #[inline]
+    pub fn len(&self) -> usize
+        ensures { result ≡ length self.now }
+    {
+        self.rows.len()
+    }
+
+    /// Adds a list of so many ranks, none of which is in the set. The error is want of memory.
+    pub fn push_list(&mut self, size: usize) -> Result<(), AllocError>
+        ensures { OnOk result (AddsList self.old self.new) }
+    {
+        let words = MOST_WORDS.min(size / 64 + 1);
+        self.rows.push_row(words, 0)
+    }
+
+    /// The ranks on a list that are in the set.
+    #[inline]
+    pub fn row(&self, list: usize) -> RankRow<'_>
+        requires { list < length self.now }
+        ensures { result ≡ slice_index_or self.now list [] }
+    {
+        RankRow {
+            words: self.rows.row(list),
+        }
+    }
+
+    /// Adds a rank on a list. The error is want of memory, and nothing is said of the set then.
+    #[inline(always)]
+    pub fn insert(&mut self, list: usize, rank: u32) -> Result<(), AllocError>
+        requires { list < length self.old }
+        ensures { OnOk result (AddsRank self.old self.new list rank) }
+    {
+        let place = rank as usize / 64;
+        if self.rows.row(list).len() <= place {
+            fill(&mut self.rows, list, place)?;
+        }
+        let word = self.rows.row(list)[place];
+        self.rows.set(list, place, word | 1 << (rank % 64));
+        Ok(())
+    }
+
+    /// Takes a rank on a list out, if it is there.
+    #[inline(always)]
+    pub fn remove(&mut self, list: usize, rank: u32)
+        requires { list < length self.old }
+        ensures { TakesRank self.old self.new list rank }
+    {
+        let place = rank as usize / 64;
+        let row = self.rows.row(list);
+        if place < row.len() {
+            let word = row[place];
+            self.rows.set(list, place, word & !(1 << (rank % 64)));
+        }
+    }
+}

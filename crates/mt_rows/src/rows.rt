@@ -1,0 +1,149 @@
+ghost use Rattle.std.specs.Prelude.{◌≡◌, ◌<◌, ◌++◌, [], ◌∷◌, length, replicate, slice_index_or, slice_set, IfOk, OnErr, OnOk};
+ghost use Rattle.mt_rows.specs.Rows.{row_in, span_at, AreSpans, Extends, IsMoved, IsSpan};
+
+use std::alloc::{AllocError, Global};
+use std::marker::Model;
+
+/// For how many more elements a row has room at least once it was moved.
+const LEAST_ROOM: usize = 32;
+
+/// Where a row begins and ends in the vector, and where its room ends.
+#[derive(Clone, Copy, Debug)]
+struct Span {
+    start: usize,
+    end: usize,
+    limit: usize,
+}
+
+/// Rows that grow side by side in one vector, each within room of its own. A row without room is moved to the end of
+/// the vector, and has room for as many elements again there.
+pub struct Rows<T> {
+    items: Vec<T>,
+    spans: Vec<Span>,
+}
+
+impl<T: Drop> Drop for Rows<T> {
+    fn drop(self) {
+        let Rows { items: _, spans: _ } = self;
+    }
+}
+
+impl<T> Model for Rows<T> {
+    ghost use Rattle.std.specs.Prelude.{List, length, map};
+
+    ghost Value = { List (List T) };
+
+    ghost use Rattle.mt_rows.specs.Rows.{row_in, AreSpans};
+
+    ghost view = { λ r. map (row_in r.items.items) r.spans.items };
+
+    ghost invariant = { λ r. AreSpans (length r.items.items) r.spans.items };
+}
+
+/// The row of a span.
+#[inline]
+fn row_of<'a, T>(items: &'a [T], spans: &[Span], number: usize) -> &'a [T]
+    requires spans { AreSpans (length items.now) spans.now }
+    requires within { number < length spans.now }
+    ensures { result.now ≡ row_in items.now (span_at spans.now number) }
+{
+    let span = spans[number];
+    &items[span.start..span.end]
+}
+
+/// Copies a row to the end of the vector, with one element more and room for as many again. The error is want of
+/// memory.
+fn moved<T: Copy>(items: &mut Vec<T>, span: Span, item: T) -> Result<Span, AllocError>
+    requires { IsSpan (length items.old.items) span }
+    ensures keeps { Extends items.old.items items.new.items }
+    ensures moved { IfOk result (λ w. IsMoved items.old.items items.new.items span item w) }
+{
+    let start = items.len();
+    items.extend_from_within(span.start..span.end)?;
+    items.push(item)?;
+    let end = items.len();
+    items.resize(end.saturating_add(LEAST_ROOM.max(end - start)), item)?;
+    Ok(Span {
+        start,
+        end,
+        limit: items.len(),
+    })
+}
+
+impl<T> Rows<T> {
+    /// No rows.
+    pub fn new(alloc: Global) -> Self
+        ensures { result ≡ [] }
+    {
+        Rows {
+            items: Vec::new(alloc),
+            spans: Vec::new(alloc),
+        }
+    }
+
+    /// How many rows there are.
+    #[inline]
+    pub fn len(&self) -> usize
+        ensures { result ≡ length self.now }
+    {
+        self.spans.len()
+    }
+
+    /// The row with this number, from 0.
+    #[inline]
+    pub fn row(&self, number: usize) -> &[T]
+        requires { number < length self.now }
+        ensures { result.now ≡ slice_index_or self.now number [] }
+    {
+        row_of(&self.items, &self.spans, number)
+    }
+}
+
+impl<T: Copy> Rows<T> {
+    /// Adds a row of so many copies of an element. The error is want of memory, and the rows are as they were then.
+    pub fn push_row(&mut self, count: usize, item: T) -> Result<(), AllocError>
+        ensures err { OnErr result (self.new ≡ self.old) }
+        ensures ok { OnOk result (self.new ≡ self.old ++ replicate count item ∷ []) }
+    {
+        let start = self.items.len();
+        let Some(end) = start.checked_add(count) else {
+            return Err(AllocError);
+        };
+        self.items.resize(end, item)?;
+        self.spans.push(Span {
+            start,
+            end,
+            limit: end,
+        })?;
+        Ok(())
+    }
+
+    /// Adds an element at the end of a row. The error is want of memory, and the rows are as they were then.
+    #[inline]
+    pub fn push(&mut self, number: usize, item: T) -> Result<(), AllocError>
+        requires { number < length self.old }
+        ensures err { OnErr result (self.new ≡ self.old) }
+        ensures ok { OnOk result (self.new ≡ slice_set self.old number (slice_index_or self.old number [] ++ item ∷ [])) }
+    {
+        let mut span = self.spans[number];
+        if span.end < span.limit {
+            self.items[span.end] = item;
+            span.end += 1;
+        } else {
+            span = moved(&mut self.items, span, item)?;
+        }
+        self.spans[number] = span;
+        Ok(())
+    }
+
+    /// Writes an element of a row.
+    #[inline]
+    pub fn set(&mut self, number: usize, index: usize, item: T)
+        requires row { number < length self.old }
+        requires index { index < length (slice_index_or self.old number []) }
+        ensures { self.new ≡ slice_set self.old number (slice_set (slice_index_or self.old number []) index item) }
+    {
+        let span = self.spans[number];
+        self.items[span.start + index] = item;
+    }
+}
