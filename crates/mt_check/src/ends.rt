@@ -2,14 +2,14 @@ use crate::source::Source;
 use mt_terms::Refusal;
 
 /// A finding: 0 for a stable match, 1 for any other; and its line.
-#[derive(Debug, Drop)]
+#[derive(Drop)]
 pub(crate) struct Found {
     pub(crate) code: u16,
     pub(crate) text: Vec<u8>,
 }
 
 /// A refusal, and the file that is refused.
-#[derive(Debug, Drop)]
+#[derive(Drop)]
 pub(crate) struct Refused {
     pub(crate) source: Source,
     pub(crate) refusal: Refusal,

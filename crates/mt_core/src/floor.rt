@@ -16,7 +16,6 @@ use std::marker::Model;
 /// How far deferred acceptance has come (Gale and Shapley 1962; McVitie and Wilson 1971): how many programs of
 /// its live list each applicant has proposed to, whether it believes that it stands at the last of them, and what
 /// each program holds. A floor belongs to the rank tables that it was opened with.
-#[derive(Debug)]
 pub struct Floor {
     made: Vec<u32>,
     standing: Vec<bool>,

@@ -21,7 +21,7 @@ pub enum Taken {
 /// What a program holds of the proposals that it received, by the ranks of the applicants on its list: the
 /// rank is the position from 0, so a lower one is wanted more. As in deferred acceptance (Gale and Shapley 1962),
 /// it holds the best of all that it has received, as many as its quota.
-#[derive(Debug, Drop)]
+#[derive(Drop)]
 pub struct Hold {
     quota: u32,
     list_len: u32,

@@ -7,7 +7,7 @@ ghost use Rattle.mt_lists.specs.Records.{rows_of, without_trailing_empty};
 use memchr::{memchr, memchr2};
 
 /// A text with no double quote, whose rows are its lines.
-#[derive(Clone, Copy, Debug)]
+#[derive(Clone, Copy)]
 pub(crate) struct Lines<'t> {
     text: &'t [u8],
     pub ghost unquoted: { list_any is_quote text.now ≡ false },
@@ -95,7 +95,7 @@ fn commas(line: &[u8]) -> usize
 }
 
 /// The fields of a line in turn.
-#[derive(Clone, Copy, Debug)]
+#[derive(Clone, Copy)]
 pub(crate) struct LineFields<'t> {
     rest: Option<&'t [u8]>,
 }

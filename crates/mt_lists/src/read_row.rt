@@ -10,7 +10,6 @@ use std::marker::Model;
 
 /// The fields of a record that `csv` has read, without the empty ones at its end. Their bytes lie in one block, and the
 /// places where they end in another.
-#[derive(Debug)]
 pub(crate) struct ReadRow {
     record: ByteRecord,
 }
@@ -84,7 +83,7 @@ fn is_empty_at(raw: &ByteRecord, i: usize) -> bool
 }
 
 /// The fields of a record in turn.
-#[derive(Clone, Copy, Debug)]
+#[derive(Clone, Copy)]
 pub(crate) struct ReadFields<'r> {
     row: &'r ReadRow,
     at: usize,

@@ -6,13 +6,13 @@ use crate::read_row::{ReadFields, ReadRow};
 use std::marker::Model;
 
 /// A row: its fields in order, without the empty ones at its end. It is as small as a reference and a length.
-#[derive(Debug, Drop)]
+#[derive(Drop)]
 pub struct Row<'r> {
     source: RowSource<'r>,
 }
 
 // Where the fields of a row lie: in a line that has lost the commas at its end, or in a record that `csv` has read.
-#[derive(Clone, Copy, Debug)]
+#[derive(Clone, Copy)]
 pub(crate) enum RowSource<'r> {
     Line(&'r [u8]),
     Read(&'r ReadRow),
@@ -61,13 +61,13 @@ impl<'r> Row<'r> {
 }
 
 /// The fields of a row in turn.
-#[derive(Clone, Copy, Debug)]
+#[derive(Clone, Copy)]
 pub struct Fields<'r> {
     source: FieldsSource<'r>,
 }
 
 // Where the fields come from.
-#[derive(Clone, Copy, Debug)]
+#[derive(Clone, Copy)]
 pub(crate) enum FieldsSource<'r> {
     Line(LineFields<'r>),
     Read(ReadFields<'r>),

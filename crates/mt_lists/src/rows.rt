@@ -8,7 +8,6 @@ use std::marker::Model;
 
 /// The rows of an input: the lines of a text that has no quote, which are cut as they are lent, or else the rows that
 /// `csv` has read.
-#[derive(Debug)]
 pub struct Rows<'t> {
     source: RowsSource<'t>,
 }
@@ -20,7 +19,7 @@ impl Drop for Rows<'_> {
 }
 
 // Where the rows lie.
-#[derive(Debug, Drop)]
+#[derive(Drop)]
 pub(crate) enum RowsSource<'t> {
     Lines(Lines<'t>),
     Read(Vec<ReadRow>),
@@ -63,13 +62,13 @@ impl<'t> Rows<'t> {
 }
 
 /// The rows of an input in turn.
-#[derive(Clone, Copy, Debug)]
+#[derive(Clone, Copy)]
 pub struct RowsIter<'r> {
     rest: RowsRest<'r>,
 }
 
 // The rows that have yet to come.
-#[derive(Clone, Copy, Debug)]
+#[derive(Clone, Copy)]
 pub(crate) enum RowsRest<'r> {
     Lines(Lines<'r>),
     Read(&'r [ReadRow]),

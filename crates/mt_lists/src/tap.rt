@@ -9,7 +9,7 @@ use thiserror::Error;
 pub struct SourceFault;
 
 /// A reader, with a count of its reads and a count of those that failed.
-#[derive(Debug, Drop)]
+#[derive(Drop)]
 pub struct Tap<R> {
     reader: R,
     reads: u64,

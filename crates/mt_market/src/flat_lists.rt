@@ -25,7 +25,6 @@ fn piece<'a, T>(items: &'a [T], ends: &[usize], number: usize) -> &'a [T]
 }
 
 /// Lists held one after another in one vector, each known by where it ends.
-#[derive(Debug)]
 pub struct FlatLists<T> {
     items: Vec<T>,
     ends: Vec<usize>,

@@ -10,7 +10,6 @@ use std::marker::Model;
 
 /// What a market is made of, by number: programs with quotas and rank order lists, singles with theirs, couples with
 /// their members and lists of pairs, and the ids of all.
-#[derive(Debug)]
 pub struct Tables {
     /// The posts of each program.
     pub quotas: Vec<u32>,
@@ -50,7 +49,7 @@ impl Drop for Tables {
 
 /// A market with its ids: programs with quotas and rank order lists, singles with theirs, and couples with
 /// lists of pairs. Numbers are dense, by order of registration from 0. It is the market of a file that was accepted.
-#[derive(Debug, Drop)]
+#[derive(Drop)]
 pub struct Roster {
     tables: Tables,
 }

@@ -28,7 +28,7 @@ impl From<AllocError> for MatchError {
 }
 
 /// A fault of a record: its code, and the id at fault as it may be told, which is empty where there is none.
-#[derive(Clone, Copy, Debug)]
+#[derive(Clone, Copy)]
 pub(crate) struct Charge<'a> {
     code: u16,
     id: &'a [u8],

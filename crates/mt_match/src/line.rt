@@ -12,7 +12,7 @@ use mt_lists::Fields;
 use mt_terms::{AppNo, ProgNo};
 
 /// What a record of a match tells.
-#[derive(Clone, Copy, Debug)]
+#[derive(Clone, Copy)]
 pub(crate) enum Line {
     /// That a match follows.
     Head,

@@ -10,7 +10,7 @@ use clap::{ArgMatches, Error};
 use std::alloc::{AllocError, Global};
 
 /// What the words of a command line ask for.
-#[derive(Debug, Drop)]
+#[derive(Drop)]
 pub(crate) enum Request {
     /// A check of the match in one file by the market in another, by their paths.
     Check {

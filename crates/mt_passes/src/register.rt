@@ -14,7 +14,7 @@ use std::alloc::{AllocError, Global};
 use std::hash::DefaultHasher;
 
 /// A record with its number in the file.
-#[derive(Debug, Drop)]
+#[derive(Drop)]
 pub(crate) struct Numbered<'a> {
     pub(crate) row: u64,
     pub(crate) record: Record<'a>,

@@ -7,7 +7,7 @@ use mt_terms::AppNo;
 pub(crate) const BLOCK: usize = 12500;
 
 /// A block of applicants: so many of them, from a number on.
-#[derive(Clone, Copy, Debug)]
+#[derive(Clone, Copy)]
 pub(crate) struct Block {
     pub(crate) first: usize,
     pub(crate) size: usize,

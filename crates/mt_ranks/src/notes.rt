@@ -6,7 +6,7 @@ use crate::entries::Live;
 use mt_terms::ProgNo;
 
 /// A rank that was noted at a program, and in which turn, from 1. It holds in that turn alone.
-#[derive(Clone, Copy, Debug)]
+#[derive(Clone, Copy)]
 pub(crate) struct Note {
     pub(crate) turn: u32,
     pub(crate) rank: u32,

@@ -8,7 +8,7 @@ use std::marker::Model;
 
 /// Lists of entries that grow side by side, one after another in one vector, each within the room that it
 /// was given.
-#[derive(Debug, Drop)]
+#[derive(Drop)]
 pub(crate) struct Rows {
     items: Vec<Live>,
     starts: Vec<usize>,

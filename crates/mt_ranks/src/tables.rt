@@ -20,7 +20,7 @@ use std::marker::Model;
 use std::thread::Threads;
 
 /// The tables of a block of applicants: its live lists with ranks, and all its ranks on the programs' lists.
-#[derive(Debug, Drop)]
+#[derive(Drop)]
 struct Part {
     rows: Rows,
     lists: FlatLists<Live>,
@@ -28,7 +28,7 @@ struct Part {
 
 /// The rank tables of a market, beside its roster, which keeps the programs' lists: live lists with ranks, and
 /// every rank on the programs' lists. They show the singles' market with live lists alone, and who is a single.
-#[derive(Debug, Drop)]
+#[derive(Drop)]
 pub struct Ranks<'m> {
     roster: &'m Roster,
     parts: Vec<Part>,

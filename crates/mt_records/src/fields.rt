@@ -64,7 +64,7 @@ fn place_of<'a>(field: &'a [u8]) -> Option<&'a [u8]>
 }
 
 /// The pairs of a couple's list in turn: the program of each member, or none.
-#[derive(Clone, Copy, Debug)]
+#[derive(Clone, Copy)]
 pub struct Pairs<'a> {
     fields: Fields<'a>,
 }
@@ -109,7 +109,7 @@ impl<'a> Iterator for Pairs<'a> {
 }
 
 /// What a couple's record writes after its id: its two members, and the pairs of its list.
-#[derive(Clone, Copy, Debug)]
+#[derive(Clone, Copy)]
 pub struct CoupleFields<'a> {
     fields: Fields<'a>,
 }

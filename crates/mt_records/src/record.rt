@@ -14,7 +14,7 @@ use mt_lists::Fields;
 use mt_terms::codes::{BAD_ID, BAD_QUOTA, FIELD_COUNT, UNKNOWN_KIND};
 
 /// What is registered under an id of its own.
-#[derive(Clone, Copy, Debug, PartialEq, Eq)]
+#[derive(Clone, Copy, PartialEq, Eq)]
 pub enum Kind {
     Program,
     Applicant,
@@ -23,7 +23,7 @@ pub enum Kind {
 
 /// A record taken apart. Its ids lie in the row. There is one for each row of a file, so a couple's members are found
 /// among its fields where they are asked for: a variant with both ids would make each record larger by half.
-#[derive(Clone, Copy, Debug)]
+#[derive(Clone, Copy)]
 pub enum Record<'a> {
     Program {
         quota: u32,
@@ -102,7 +102,7 @@ impl<'a> Record<'a> {
 }
 
 /// A fault of a record: its code and the id at fault, which is empty where there is none.
-#[derive(Clone, Copy, Debug)]
+#[derive(Clone, Copy)]
 pub struct Charge<'a> {
     pub code: u16,
     pub id: &'a [u8],

@@ -9,7 +9,7 @@ use std::alloc::AllocError;
 
 /// The fault of a file: its code, the number of the record at fault, and the id at fault, which is empty where there
 /// is none.
-#[derive(Clone, Copy, Debug)]
+#[derive(Clone, Copy)]
 pub struct Fault<'a> {
     pub code: u16,
     pub row: u64,
@@ -17,7 +17,7 @@ pub struct Fault<'a> {
 }
 
 /// Why a file has no market, or none yet.
-#[derive(Debug, Drop)]
+#[derive(Drop)]
 pub enum Refusal<'a> {
     Fault(Fault<'a>),
     Memory,

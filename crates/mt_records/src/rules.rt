@@ -7,7 +7,7 @@ use mt_terms::{LIMITS, LIMITS_2, Limits};
 use std::marker::Model;
 
 /// What a version of the format allows.
-#[derive(Clone, Copy, Debug)]
+#[derive(Clone, Copy)]
 pub struct Rules {
     pub limits: Limits,
     /// Whether rows may be withdrawn.

@@ -6,7 +6,7 @@ use mt_terms::codes;
 use std::marker::Model;
 
 /// The line of a refusal, of at most 160 bytes, without memory of its own.
-#[derive(Debug, Drop)]
+#[derive(Drop)]
 pub struct RefusalLine {
     bytes: [u8; 160],
     len: usize,
