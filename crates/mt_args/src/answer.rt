@@ -2,7 +2,7 @@ use mt_terms::Options;
 use thiserror::Error;
 
 /// What the words of a command line ask for.
-#[derive(Debug, Drop, PartialEq, Eq)]
+#[derive(Drop)]
 pub enum Asked {
     /// A run of the match.
     Run {
@@ -18,7 +18,7 @@ pub enum Asked {
 }
 
 /// Why the words of a command line are no command.
-#[derive(Debug, Drop, PartialEq, Eq, Error)]
+#[derive(Debug, Drop, Error)]
 pub enum AskEnd {
     /// The words break the usage. The text says how, and goes to the standard error.
     #[error("{0}")]

@@ -4,7 +4,7 @@ ghost use Rattle.mt_check.specs.Answer.{finding_code};
 use mt_terms::Verdict;
 
 /// What there is to say of a match that is told: that it is stable and its counts fit it, or the first finding.
-#[derive(Clone, Copy, Debug, PartialEq, Eq)]
+#[derive(Clone, Copy)]
 pub enum Finding {
     /// What the verifier says of the places; where it is that they are stable, the counts fit them too.
     Of(Verdict),

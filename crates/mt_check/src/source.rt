@@ -1,5 +1,5 @@
 /// Which of the two files something is said of.
-#[derive(Clone, Copy, Debug, PartialEq, Eq)]
+#[derive(Clone, Copy)]
 pub enum Source {
     /// The market: programs, applicants and couples with their lists.
     Market,

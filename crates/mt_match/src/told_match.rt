@@ -4,7 +4,7 @@ use mt_terms::{Match, ProgNo};
 use std::marker::Model;
 
 /// What a record of a match says besides places.
-#[derive(Clone, Copy, PartialEq, Eq)]
+#[derive(Clone, Copy)]
 pub enum Count {
     /// A program with its quota, and how many are placed there.
     Program {
@@ -29,7 +29,7 @@ pub enum Count {
 }
 
 /// What a record of a match says besides places, with the number of the record.
-#[derive(Clone, Copy, PartialEq, Eq)]
+#[derive(Clone, Copy)]
 pub struct Counted {
     /// The number of the record, from 1.
     pub row: u64,

@@ -10,7 +10,7 @@ use std::alloc::AllocError;
 
 /// An entry of a live list: a program that lists the applicant, and the applicant's rank there, its position
 /// from 0 on the program's list.
-#[derive(Clone, Copy, PartialEq, Eq)]
+#[derive(Clone, Copy)]
 pub struct Live {
     pub program: ProgNo,
     pub rank: u32,

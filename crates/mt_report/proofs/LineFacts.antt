@@ -14,3 +14,9 @@ pub totals_pieces : (text applicants unmatched positions unfilled : List ℕ)
     → (((((((((text ++ codes "totals") ++ codes ",") ++ applicants) ++ codes ",") ++ unmatched) ++ codes ",") ++ positions) ++ codes ",") ++ unfilled) ++ codes "\n"
     ≡ text ++ line (codes "totals" ∷ applicants ∷ unmatched ∷ positions ∷ unfilled ∷ [])
 totals_pieces text applicants unmatched positions unfilled = simp append_assoc
+
+-- the pieces of a program's line
+pub program_pieces : (text id quota filled received : List ℕ)
+    → ((((((((text ++ codes "program,") ++ id) ++ codes ",") ++ quota) ++ codes ",") ++ filled) ++ codes ",") ++ received) ++ codes "\n"
+    ≡ text ++ line (codes "program" ∷ id ∷ quota ∷ filled ∷ received ∷ [])
+program_pieces text id quota filled received = simp append_assoc
