@@ -125,14 +125,13 @@ impl<T: Copy> Rows<T> {
         ensures err { OnErr result (self.new ≡ self.old) }
         ensures ok { OnOk result (self.new ≡ slice_set self.old number (slice_index_or self.old number [] ++ item ∷ [])) }
     {
-        let mut span = self.spans[number];
+        let span = self.spans[number];
         if span.end < span.limit {
             self.items[span.end] = item;
-            span.end += 1;
+            self.spans[number].end = span.end + 1;
         } else {
-            span = moved(&mut self.items, span, item)?;
+            self.spans[number] = moved(&mut self.items, span, item)?;
         }
-        self.spans[number] = span;
         Ok(())
     }
 
