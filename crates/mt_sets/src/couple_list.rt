@@ -33,21 +33,28 @@ impl Note {
 /// The notes of each program, in the order in which the couples were added.
 pub struct CoupleLists {
     notes: Rows<Note>,
+    /// For each program whose pair was noted there last, so that no note is read where another couple's is added.
+    latest: Vec<CoupleNo>,
 }
 
 impl Drop for CoupleLists {
     fn drop(self) {
-        let CoupleLists { notes: _ } = self;
+        let CoupleLists {
+            notes: _,
+            latest: _,
+        } = self;
     }
 }
 
 impl Model for CoupleLists {
-    ghost use Rattle.std.specs.Prelude.{List};
+    ghost use Rattle.std.specs.Prelude.{◌≡◌, List, length};
     ghost use Rattle.mt_sets.specs.declared.couple_list.Note.{Note};
 
     ghost Value = { List (List Note) };
 
     ghost view = { λ l. l.notes };
+
+    ghost invariant = { λ l. length l.latest.items ≡ length l.notes };
 }
 
 impl CoupleLists {
@@ -64,7 +71,8 @@ impl CoupleLists {
             };
             notes.push_row(0, nothing)?;
         }
-        Ok(CoupleLists { notes })
+        let latest = Vec::from_elem(alloc, CoupleNo(0), programs as usize)?;
+        Ok(CoupleLists { notes, latest })
     }
 
     /// How many programs there are.
@@ -115,9 +123,10 @@ impl CoupleLists {
         requires { program < length self.old }
         ensures { OnOk result (AddsNoteAt self.old self.new program couple from) }
     {
-        if self.extend(program, couple, from) {
+        if self.latest[program] == couple && self.extend(program, couple, from) {
             return Ok(());
         }
+        self.latest[program] = couple;
         let note = Note {
             couple,
             from,
