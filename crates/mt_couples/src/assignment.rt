@@ -1,11 +1,12 @@
-ghost use Rattle.std.specs.Prelude.{◌≡◌, ◌++◌, ◌<◌, ℕ, Some, None, [], length, slice_index, IfOk, IsTrue, OnOk, nat_lt};
+ghost use Rattle.std.specs.Prelude.{◌≡◌, ◌++◌, ◌<◌, ℕ, Some, None, [], length, slice_index, IfOk, IfSome, IsTrue, OnOk, nat_lt};
 ghost use Rattle.mt_terms.specs.Registration.Accepted.{IsRegistration};
-ghost use Rattle.mt_terms.specs.Lists.{has};
+ghost use Rattle.mt_terms.specs.Lists.{has, until};
 ghost use Rattle.mt_terms.specs.Market.{agent_of, applicants, couple_of, program_of};
-ghost use Rattle.mt_terms.specs.Matching.{place_of};
-ghost use Rattle.mt_ranks.specs.Ranked.{rank_of, ranked_of};
+ghost use Rattle.mt_terms.specs.Matching.{is_program, place_of};
+ghost use Rattle.mt_ranks.specs.Ranked.{rank_of, ranked_list, ranked_of};
+ghost use Rattle.mt_ranks.specs.declared.entries.Live.{Live};
 ghost use Rattle.mt_terms.specs.Places.{ArePlaces};
-ghost use Rattle.mt_couples.specs.Watching.{better_entries, other_entries, AreUnwatched};
+ghost use Rattle.mt_couples.specs.Watching.{better_entries, other_entries, AreUnwatched, AreWatched, Watches};
 ghost use Rattle.mt_placed.specs.Ranks.{HavePlaced};
 ghost use Rattle.mt_couples.specs.Assigned.{ahead, assignment, displaced_from, rows_of, with_place, with_ranks, AreApplicantsOf, AreListed, IsAgentOf, IsAssigned};
 
@@ -41,38 +42,73 @@ fn most_placed(quota: u32, listed: usize) -> usize {
     listed.min((quota as usize).saturating_add(2))
 }
 
-/// The applicant's rank on a program's list. A single that is placed there has it among its live entries, mostly near the
-/// front; where they don't have it, it is looked up.
-fn placed_rank(ranks: &Ranks<'_>, program: ProgNo, applicant: AppNo) -> Option<u32>
-    requires program { program < length ranks.now.market.programs }
-    requires applicant { applicant < applicants ranks.now.market }
-    ensures { result ≡ rank_of ranks.now.market program applicant }
+/// Watches the applicant at the programs of its live list before its place, or at all where that isn't on it. The result
+/// is its rank at its place, where that was found on the way.
+fn watch_wanted(
+    ranks: &Ranks<'_>,
+    applicant: AppNo,
+    place: Option<ProgNo>,
+    watched: &mut RankTable,
+) -> Result<Option<u32>, AllocError>
+    requires { applicant < applicants ranks.now.market }
+    ensures watched { OnOk result (Watches watched.old watched.new (until (λ (e : Live). is_program e.program place) (ranked_list ranks.now.market applicant))) }
+    ensures found { IfOk result (λ o. IfSome o (λ r. (p : ℕ) → place ≡ Some p → rank_of ranks.now.market p applicant ≡ Some r)) }
 {
     for entry in ranks.live(applicant) {
-        if entry.program == program {
-            return Some(entry.rank);
+        if place == Some(entry.program) {
+            return Ok(Some(entry.rank));
+        }
+        let program = entry.program.index();
+        if program < watched.len() {
+            watched.insert(program, entry.rank)?;
         }
     }
-    ranks.rank(program, applicant)
+    Ok(None)
 }
 
-/// For each program the ranks of those that are placed there, as a set. Each applicant is asked where it is, and no
-/// program's list is gone through.
+/// The applicant's rank on a program's list, which may have been found before. A single that is placed there has it
+/// among its live entries, mostly near the front; where they don't have it, it is looked up.
+fn placed_rank(
+    ranks: &Ranks<'_>,
+    program: ProgNo,
+    applicant: AppNo,
+    found: Option<u32>,
+) -> Option<u32>
+    requires program { program < length ranks.now.market.programs }
+    requires applicant { applicant < applicants ranks.now.market }
+    requires found { IfSome found (λ r. rank_of ranks.now.market program applicant ≡ Some r) }
+    ensures { result ≡ rank_of ranks.now.market program applicant }
+{
+    match found {
+        Some(rank) => Some(rank),
+        None => ranks.rank(program, applicant),
+    }
+}
+
+/// For each program the ranks of those that are placed there, as a set; and the singles are watched at the programs that
+/// they want more than what they have. Each applicant is asked where it is, and its live list is gone through once up to
+/// there; no program's list is.
 fn placed_ranks(
     alloc: Global,
     roster: &Roster,
     ranks: &Ranks<'_>,
     places: &[Option<ProgNo>],
+    watched: &mut RankTable,
 ) -> Result<RankTable, AllocError>
     requires ranks { ranks.now ≡ ranked_of roster.now.market }
     requires places { ArePlaces roster.now.market places.now }
-    ensures { IfOk result (λ t. HavePlaced roster.now.market places.now t) }
+    requires listed { AreListed roster.now.market places.now }
+    requires unwatched { AreUnwatched roster.now.market watched.old }
+    ensures placed { IfOk result (λ t. HavePlaced roster.now.market places.now t) }
+    ensures watched { OnOk result (AreWatched (assignment roster.now.market places.now) watched.new) }
 {
     let mut table = no_ranks(alloc, roster)?;
     for number in 0..roster.applicants() {
         let applicant = AppNo(number);
-        if let Some(program) = place_in(places, applicant) {
-            if let Some(rank) = placed_rank(ranks, program, applicant) {
+        let place = place_in(places, applicant);
+        let found = watch_wanted(ranks, applicant, place, watched)?;
+        if let Some(program) = &place {
+            if let Some(rank) = placed_rank(ranks, *program, applicant, found) {
                 table.insert(program.index(), rank)?;
             }
         }
@@ -80,20 +116,24 @@ fn placed_ranks(
     Ok(table)
 }
 
-/// For each program the ranks of those that are placed there, in rising order.
+/// For each program the ranks of those that are placed there, in rising order; and the singles are watched.
 fn placed_rows(
     alloc: Global,
     roster: &Roster,
     ranks: &Ranks<'_>,
     places: &[Option<ProgNo>],
+    watched: &mut RankTable,
 ) -> Result<Vec<PlacedRanks>, AllocError>
     requires ranks { ranks.now ≡ ranked_of roster.now.market }
     requires places { ArePlaces roster.now.market places.now }
+    requires listed { AreListed roster.now.market places.now }
+    requires unwatched { AreUnwatched roster.now.market watched.old }
     ensures rows { IfOk result (λ v. v.items ≡ rows_of roster.now.market places.now) }
+    ensures watched { OnOk result (AreWatched (assignment roster.now.market places.now) watched.new) }
     ensures roster { IsRegistration roster.now }
 {
     let programs = roster.programs();
-    let table = placed_ranks(alloc, roster, ranks, places)?;
+    let table = placed_ranks(alloc, roster, ranks, places, watched)?;
     let mut rows = Vec::with_capacity(alloc, programs as usize)?;
     for number in 0..programs {
         let program = ProgNo(number);
@@ -148,19 +188,22 @@ impl<'a> Model for Assignment<'a> {
 }
 
 impl<'a> Assignment<'a> {
-    /// The match beside its market.
+    /// The match beside its market; and the singles are watched at the programs that they want more than what they have.
     pub(crate) fn new(
         alloc: Global,
         roster: &'a Roster,
         ranks: &'a Ranks<'a>,
         matched: Match,
+        watched: &mut RankTable,
     ) -> Result<Self, AllocError>
         requires ranks { ranks.now ≡ ranked_of roster.now.market }
         requires places { ArePlaces roster.now.market matched.places }
         requires listed { AreListed roster.now.market matched.places }
-        ensures { IfOk result (λ s. s ≡ assignment roster.entry.now.market matched.places) }
+        requires unwatched { AreUnwatched roster.now.market watched.old }
+        ensures assignment { IfOk result (λ s. s ≡ assignment roster.entry.now.market matched.places) }
+        ensures watched { OnOk result (AreWatched (assignment roster.entry.now.market matched.places) watched.new) }
     {
-        let rows = placed_rows(alloc, roster, ranks, matched.places.as_slice())?;
+        let rows = placed_rows(alloc, roster, ranks, matched.places.as_slice(), watched)?;
         Ok(Assignment {
             roster,
             ranks,

@@ -13,7 +13,7 @@ ghost use Rattle.mt_couples.specs.Running.{singles_quiet, work_of, IsQuietBut, I
 ghost use Rattle.mt_couples.specs.Waiting.{IsListOf, Joins, KeepsRoom};
 ghost use Rattle.mt_couples.specs.Moves.{agents_of, blockers, if_blocking, reopened, IsTaking};
 
-use crate::assignment::Assignment;
+use crate::assignment::{Assignment, no_ranks};
 use crate::look::{has_entered, has_wanted_post, look_at_opened};
 use crate::watch::Watch;
 use mt_market::Roster;
@@ -324,8 +324,9 @@ pub fn enter_all<R: Threads + Sync>(
             rounds: 0,
         });
     }
-    let mut assignment = Assignment::new(alloc, roster, ranks, singles)?;
-    let mut watch = Watch::new(alloc, &assignment)?;
+    let mut watched = no_ranks(alloc, roster)?;
+    let mut assignment = Assignment::new(alloc, roster, ranks, singles, &mut watched)?;
+    let mut watch = Watch::new(alloc, &assignment, watched)?;
     let mut waiting = WorkList::new(alloc, roster.applicants(), couples)?;
     let quiet = are_singles_quiet(rt, &assignment, &watch);
     let mut left = budget;

@@ -6,7 +6,7 @@ ghost use Rattle.mt_sets.specs.Notes.{greatest};
 ghost use Rattle.mt_couples.specs.Assigned.{IsAgentOf};
 ghost use Rattle.mt_couples.specs.Watching.{better_pairs, ranks_at, row_at, AreCounted, AreNamed, AreWatched, Counts, CountsCouple, Follows, Notes, Unwatches, Watches};
 
-use crate::assignment::{Assignment, no_ranks};
+use crate::assignment::Assignment;
 use mt_bits::{RankRow, RankTable};
 use mt_ranks::Live;
 use mt_sets::{CoupleLists, Note};
@@ -95,19 +95,19 @@ fn note(
 
 impl Watch {
     /// Each single is watched at the programs that it wants more than what it has. No couple has entered.
-    pub(crate) fn new(alloc: Global, assignment: &Assignment<'_>) -> Result<Self, AllocError>
+    pub(crate) fn new(
+        alloc: Global,
+        assignment: &Assignment<'_>,
+        singles: RankTable,
+    ) -> Result<Self, AllocError>
+        requires { AreWatched assignment.now singles }
         ensures watched { IfOk result (λ w. AreWatched assignment.now w.singles) }
         ensures named { IfOk result (λ w. AreNamed assignment.now.market 0 w.couples) }
         ensures counted { IfOk result (λ w. AreCounted assignment.now w.better.items) }
     {
-        let roster = assignment.roster();
-        let mut singles = no_ranks(alloc, roster)?;
-        for number in 0..roster.applicants() {
-            watch_each(&mut singles, assignment.better_live(AppNo(number)))?;
-        }
         Ok(Watch {
             singles,
-            couples: CoupleLists::new(alloc, roster.programs())?,
+            couples: CoupleLists::new(alloc, assignment.roster().programs())?,
             better: better_counts(alloc, assignment)?,
         })
     }

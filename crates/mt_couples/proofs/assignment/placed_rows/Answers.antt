@@ -15,5 +15,5 @@ loop-number-preserved c =
     let known : p < length m.programs = omega (arith, c.programs-programs.ensures.count) in
     let row = c.in_ok-of_row.field-0 in
     let ranks = subst (λ n. HasRanks (told_of table n) row) c.index.ensures (subst (λ told. HasRanks told row) c.row.ensures c.in_ok-of_row.ensures) in
-    c.in_ok-push.ensures.items ∙ ap₂ (λ rows r. rows ++ r ∷ []) c.loop-number.invariant (row_is m places table p row c.in_ok-table.ensures known ranks)
+    c.in_ok-push.ensures.items ∙ ap₂ (λ rows r. rows ++ r ∷ []) c.loop-number.invariant (row_is m places table p row c.in_ok-table.ensures.placed known ranks)
     ∙ sym (map-below_more (placed_ranks m places) p)

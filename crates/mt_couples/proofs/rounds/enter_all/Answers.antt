@@ -78,7 +78,7 @@ pub loop-number-init : goal.loop-number-init
 loop-number-init g c =
     let m = c.args.roster.now.market in
     let places = c.args.singles.places in
-    let is = c.in_ok-assignment.ensures in
+    let is = c.in_ok-assignment.ensures.assignment in
     record {
       entering = entering_first m c.are_singles_quiet-quiet.result places c.args.budget c.in_ok-assignment.assignment c.in_ok-waiting.waiting is c.requires.fits
           (c.in_ok-waiting.ensures ∙ ap₂ nobody c.applicants.ensures.count c.couples-couples.ensures.count)
