@@ -23,11 +23,11 @@ returns-in_err-push-clause-err g c =
 pub invariant_of-self-2 : goal.invariant_of-self-2
 invariant_of-self-2 g c =
     let xs = c.self.inside.items.items in
-    let w : Span = record { start = c.len-start.result; end = c.in-Some.end; limit = c.in-Some.end } in
+    let w : Span = record { start = c.in_ok-first.first; end = c.in_ok-last.last; limit = c.in_ok-last.last } in
     let size : length c.resize.new.self.items ≡ c.in-Some.end = omega (arith, c.in_ok-resize.ensures.len) in
     rw c.in_ok-push.ensures.items
-    (spans_more (length xs) (length c.resize.new.self.items) c.self.inside.spans.items w c.self.invariant (omega arith)
-    (record { ordered = omega (arith, c.in-Some.ensures); roomy = omega arith; within = omega (arith, size) }))
+    (spans_more (length xs) (length c.resize.new.self.items) c.self.inside.spans.items w c.self.invariant (omega (arith, c.in_ok-first.ensures.ok))
+    (record { ordered = omega (arith, c.in-Some.ensures, c.in_ok-first.ensures.ok, c.in_ok-last.ensures.ok); roomy = omega arith; within = omega (arith, size, c.in_ok-last.ensures.ok) }))
 
 pub returns-clause-ok : goal.returns-clause-ok
 returns-clause-ok g c =
@@ -40,10 +40,10 @@ returns-clause-ok g c =
     let all : take c.in-Some.end xs ≡ xs = take_all c.in-Some.end xs (omega arith) in
     let items_are : c.resize.new.self.items ≡ xs ++ new =
     rw (← all, ← many) c.in_ok-resize.ensures.items in
-    let w : Span = record { start = c.len-start.result; end = c.in-Some.end; limit = c.in-Some.end } in
+    let w : Span = record { start = c.in_ok-first.first; end = c.in_ok-last.last; limit = c.in_ok-last.last } in
     rw (items_are, c.in_ok-push.ensures.items)
     (map_push (row_in (xs ++ new)) spans w
     ∙ ap₂ (λ rows row. rows ++ row ∷ [])
     (rows_kept xs (xs ++ new) spans (λ j h. let is = c.self.invariant.each j h in
     range_append xs new (span_at spans j).start (span_at spans j).end is.ordered (let a = is.roomy in let b = is.within in omega arith)) ∙ c.self.view_is)
-    (range_last xs new w.start w.end start (omega (arith, length-append xs new, length-replicate c.args.count c.args.item))))
+    (range_last xs new w.start w.end (c.in_ok-first.ensures.ok ∙ start) (c.in_ok-last.ensures.ok ∙ omega (arith, length-append xs new, length-replicate c.args.count c.args.item))))
