@@ -85,6 +85,21 @@ fn placed_rank(
     }
 }
 
+/// The applicant's rank on a program's list. A single that moves has it among its live entries, which were gone through
+/// a moment ago, mostly near the front; where they don't have it, it is looked up.
+fn live_rank(ranks: &Ranks<'_>, program: ProgNo, applicant: AppNo) -> Option<u32>
+    requires program { program < length ranks.now.market.programs }
+    requires applicant { applicant < applicants ranks.now.market }
+    ensures position { result ≡ rank_of ranks.now.market program applicant }
+{
+    for entry in ranks.live(applicant) {
+        if entry.program == program {
+            return Some(entry.rank);
+        }
+    }
+    ranks.rank(program, applicant)
+}
+
 /// For each program the ranks of those that are placed there, as a set; and the singles are watched at the programs that
 /// they want more than what they have. Each applicant is asked where it is, and its live list is gone through once up to
 /// there; no program's list is.
@@ -331,6 +346,19 @@ impl<'a> Assignment<'a> {
         }
     }
 
+    /// The same of an applicant that moves, which has it among its live entries if it is a single.
+    pub(crate) fn live_rank(&self, program: ProgNo, applicant: AppNo) -> Option<u32>
+        requires { applicant < applicants self.now.market }
+        ensures position { result ≡ rank_of self.now.market program applicant }
+        ensures assigned { IsAssigned self.now }
+    {
+        if program.0 < self.ranks.programs() {
+            live_rank(self.ranks, program, applicant)
+        } else {
+            None
+        }
+    }
+
     /// Whether fewer than so many of those at the program have a rank below this one.
     pub(crate) fn has_fewer_ahead(&self, program: ProgNo, rank: u32, most: usize) -> bool
         requires { program < length self.now.market.programs }
@@ -348,7 +376,7 @@ impl<'a> Assignment<'a> {
         ensures unplaced { place_of self.new.places applicant ≡ None }
     {
         if let Some(program) = place_in(&self.places, applicant) {
-            if let Some(rank) = self.ranks.rank(program, applicant) {
+            if let Some(rank) = live_rank(self.ranks, program, applicant) {
                 let row = &mut self.rows[program.index()];
                 row.remove(rank as usize);
             }
@@ -364,7 +392,7 @@ impl<'a> Assignment<'a> {
         requires unplaced { place_of self.old.places applicant ≡ None }
         ensures { OnOk result (self.new ≡ with_place self.old applicant (Some program)) }
     {
-        if let Some(rank) = self.ranks.rank(program, applicant) {
+        if let Some(rank) = live_rank(self.ranks, program, applicant) {
             let row = &mut self.rows[program.index()];
             row.insert(rank as usize)?;
         }

@@ -9,8 +9,8 @@ use Rattle.mt_couples.proofs.TableFacts.{applicant_known, program_known, row_ind
 use Rattle.mt_couples.proofs.assignment.Assignment.put.Goals as goal
 use Rattle.mt_couples.proofs.assignment.Assignment.put.Goals.{in-Some+in_ok-insert, in_default}
 
-pub rank-requires-clause-applicant : goal.rank-requires-clause-applicant
-rank-requires-clause-applicant c =
+pub live_rank-requires-clause-applicant : goal.live_rank-requires-clause-applicant
+live_rank-requires-clause-applicant c =
     let t = c.self.inside in
     omega (arith, ranked_applicants t.ranks.now t.roster.now.market c.self.invariant.one_market, applicant_known t _ c.args.applicant c.self.view_is c.requires.applicant)
 
@@ -51,7 +51,7 @@ invariant_of-self-2 c =
     (λ q is.
     subst (λ n. has (program_of t.roster.now.market n).ranking a ≡ true) (eqb-true p q is)
     (ap (λ (s : Assigned). has (program_of s.market p).ranking a) c.self.view_is ∙ c.requires.listed)) in
-    elim c.match-rank.branch [
+    elim c.match-live_rank.branch [
       | in-Some+in_ok-insert w ↦
           tables_after _ _ c.index-2.result a (Some p) w.self-inside-is c.index-2.ensures h.is_registration h.one_market h.are_places h.listed a_in there listed
           (rows_on t h a a_known p w.index.result w.in-Some.rank w.index_mut-row.result.now w.insert.new.self w.index.ensures p_known place
