@@ -159,12 +159,12 @@ fn placed_rows(
 }
 
 /// Adds the applicants that have these ranks on a program's list.
-fn add_ranked(ranking: &[AppNo], ranks: &[usize], out: &mut Vec<AppNo>) -> Result<(), AllocError>
+fn add_ranked(ranking: &[AppNo], ranks: &[u32], out: &mut Vec<AppNo>) -> Result<(), AllocError>
     requires { (i : ℕ) → i < length ranks.now → slice_index ranks.now i < length ranking.now }
     ensures { OnOk result (out.new.items ≡ out.old.items ++ with_ranks ranking.now ranks.now) }
 {
     for rank in ranks {
-        out.push(ranking[*rank])?;
+        out.push(ranking[*rank as usize])?;
     }
     Ok(())
 }
@@ -366,7 +366,7 @@ impl<'a> Assignment<'a> {
         ensures assigned { IsAssigned self.now }
     {
         let row = &self.rows[program.index()];
-        row.has_fewer_below(rank as usize, most)
+        row.has_fewer_below(rank, most)
     }
 
     /// Unplaces the applicant.
@@ -378,7 +378,7 @@ impl<'a> Assignment<'a> {
         if let Some(program) = place_in(&self.places, applicant) {
             if let Some(rank) = live_rank(self.ranks, program, applicant) {
                 let row = &mut self.rows[program.index()];
-                row.remove(rank as usize);
+                row.remove(rank);
             }
         }
         self.places[applicant.index()] = None;
@@ -394,7 +394,7 @@ impl<'a> Assignment<'a> {
     {
         if let Some(rank) = live_rank(self.ranks, program, applicant) {
             let row = &mut self.rows[program.index()];
-            row.insert(rank as usize)?;
+            row.insert(rank)?;
         }
         self.places[applicant.index()] = Some(program);
         Ok(())

@@ -12,7 +12,7 @@ use std::marker::Model;
 /// The ranks of those that are placed at a program, in rising order.
 #[derive(Drop)]
 pub struct PlacedRanks {
-    ranks: Vec<usize>,
+    ranks: Vec<u32>,
 }
 
 impl Model for PlacedRanks {
@@ -31,14 +31,14 @@ impl PlacedRanks {
         let mut ranks = Vec::with_capacity(alloc, room)?;
         let mut next = 0;
         while let Some(rank) = row.first_from(next) {
-            ranks.push(rank as usize)?;
+            ranks.push(rank)?;
             next = rank as usize + 1;
         }
         Ok(PlacedRanks { ranks })
     }
 
     /// How many ranks are below this one.
-    pub fn count_below(&self, rank: usize) -> usize
+    pub fn count_below(&self, rank: u32) -> usize
         requires { IsStrictlySortedBy nat_cmp self.now }
         ensures { result ≡ count (λ r. nat_lt r rank) self.now }
     {
@@ -46,7 +46,7 @@ impl PlacedRanks {
     }
 
     /// Whether fewer than so many ranks are below this one.
-    pub fn has_fewer_below(&self, rank: usize, most: usize) -> bool
+    pub fn has_fewer_below(&self, rank: u32, most: usize) -> bool
         requires { IsStrictlySortedBy nat_cmp self.now }
         ensures { result ≡ nat_lt (count (λ r. nat_lt r rank) self.now) most }
     {
@@ -60,7 +60,7 @@ impl PlacedRanks {
     }
 
     /// Puts a rank in its place.
-    pub fn insert(&mut self, rank: usize) -> Result<(), AllocError>
+    pub fn insert(&mut self, rank: u32) -> Result<(), AllocError>
         requires sorted { IsStrictlySortedBy nat_cmp self.old }
         requires absent { IsFalse (has self.old rank) }
         ensures ok { OnOk result (self.new ≡ insert_key nat_cmp self.old rank) }
@@ -72,7 +72,7 @@ impl PlacedRanks {
     }
 
     /// Takes a rank out.
-    pub fn remove(&mut self, rank: usize)
+    pub fn remove(&mut self, rank: u32)
         requires sorted { IsStrictlySortedBy nat_cmp self.old }
         requires present { IsTrue (has self.old rank) }
         ensures { self.new ≡ filter (λ r. not (r == rank)) self.old }
@@ -82,7 +82,7 @@ impl PlacedRanks {
     }
 
     /// All ranks but the first ones, so many of them.
-    pub fn beyond(&self, first: usize) -> &[usize]
+    pub fn beyond(&self, first: usize) -> &[u32]
         ensures { result.now ≡ drop first self.now }
     {
         self.ranks.get(first..).unwrap_or(&[])
