@@ -1,4 +1,5 @@
-ghost use Rattle.std.specs.Prelude.{◌≡◌, ◌++◌, ◌<◌, ℕ, Some, None, [], length, slice_index, IfOk, IfSome, IsTrue, OnOk, nat_lt};
+ghost use Rattle.std.specs.Prelude.{◌≡◌, ◌++◌, ◌<◌, ℕ, Some, None, [], is_some, length, slice_index, IfOk, IfSome, IsTrue, OnOk, nat_lt};
+ghost use Rattle.std.specs.List.{list_any};
 ghost use Rattle.mt_terms.specs.Registration.Accepted.{IsRegistration};
 ghost use Rattle.mt_terms.specs.Lists.{has, until};
 ghost use Rattle.mt_terms.specs.Market.{agent_of, applicants, couple_of, program_of};
@@ -52,6 +53,7 @@ fn watch_wanted(
 ) -> Result<Option<u32>, AllocError>
     requires { applicant < applicants ranks.now.market }
     ensures watched { OnOk result (Watches watched.old watched.new (until (λ (e : Live). is_program e.program place) (ranked_list ranks.now.market applicant))) }
+    ensures is_found { IfOk result (λ o. is_some o ≡ list_any (λ (e : Live). is_program e.program place) (ranked_list ranks.now.market applicant)) }
     ensures found { IfOk result (λ o. IfSome o (λ r. (p : ℕ) → place ≡ Some p → rank_of ranks.now.market p applicant ≡ Some r)) }
 {
     for entry in ranks.live(applicant) {
