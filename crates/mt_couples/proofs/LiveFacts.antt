@@ -21,7 +21,8 @@ use Rattle.mt_couples.specs.Moves.{names_one_of, opens}
 use Rattle.mt_couples.specs.Watching.{better_entries, wanted}
 use Rattle.mt_sets.proofs.ListFacts.{is_some-find, is_some-option_map}
 use Rattle.mt_couples.proofs.RankFacts.{has_rank, has_no_rank}
-use Rattle.mt_couples.proofs.SentFacts.{comes, leaves, count_sent, in_read, sent_there}
+use Rattle.mt_round_laws.proofs.SentCounts.{comes, leaves, count_sent, in_read}
+use Rattle.mt_couples.proofs.SentFacts.{sent_there}
 
 -- where what stops is kept, a filter keeps what stands before it
 until-filter : {X : Type 0} (test keep : X → Bool) (xs : List X) → ((x : X) → test x ≡ true → keep x ≡ true) → until test (filter keep xs) ≡ filter keep (until test xs)

@@ -24,7 +24,7 @@ use Rattle.mt_sets.specs.Waiting.{with_agents, Waiting}
 use Rattle.mt_couples.specs.Assigned.{AreSent, AreSentToLists}
 use Rattle.mt_couples.specs.Moves.{is_left_by_movers, is_kept_at, all_members, IsTaking}
 use Rattle.mt_couples.specs.Waiting.{Joins}
-use Rattle.mt_couples.proofs.SentFacts.{in_list}
+use Rattle.mt_round_laws.proofs.SentCounts.{in_list}
 use Rattle.mt_couples.proofs.JoinFacts.{all_joined-append}
 use Rattle.mt_placed.proofs.OrderFacts.{below_rest}
 

@@ -21,7 +21,7 @@ use Rattle.mt_sets.specs.declared.couple_list.Note.{Note}
 use Rattle.mt_sets.proofs.FrontFacts.{until_within}
 use Rattle.mt_couples.specs.declared.watch.Watch.{Watch}
 use Rattle.mt_couples.proofs.MoveFacts.{is_move}
-use Rattle.mt_couples.proofs.SentFacts.{in_read}
+use Rattle.mt_round_laws.proofs.SentCounts.{in_read}
 
 -- what passes at a place is found between one before it and one after it
 pub any_between : {X : Type 0} (test : X → Bool) (xs : List X) (x : X) (i from end : ℕ) → from ≤ i → i < end → i < length xs → x ≡ get_or xs i x → test x ≡ true

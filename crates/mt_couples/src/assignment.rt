@@ -348,19 +348,6 @@ impl<'a> Assignment<'a> {
         }
     }
 
-    /// The same of an applicant that moves, which has it among its live entries if it is a single.
-    pub(crate) fn live_rank(&self, program: ProgNo, applicant: AppNo) -> Option<u32>
-        requires { applicant < applicants self.now.market }
-        ensures position { result ≡ rank_of self.now.market program applicant }
-        ensures assigned { IsAssigned self.now }
-    {
-        if program.0 < self.ranks.programs() {
-            live_rank(self.ranks, program, applicant)
-        } else {
-            None
-        }
-    }
-
     /// Whether fewer than so many of those at the program have a rank below this one.
     pub(crate) fn has_fewer_ahead(&self, program: ProgNo, rank: u32, most: usize) -> bool
         requires { program < length self.now.market.programs }

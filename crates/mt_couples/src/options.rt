@@ -133,7 +133,7 @@ impl<'a> Assignment<'a> {
         requires there { IsTrue (at self.now.places program applicant) }
         ensures { result ≡ chooses self.now program applicant }
     {
-        match self.live_rank(program, applicant) {
+        match self.rank(program, applicant) {
             Some(rank) => self.has_post(program, rank),
             None => false,
         }

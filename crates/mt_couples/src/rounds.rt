@@ -52,7 +52,7 @@ impl From<AllocError> for CoupleEnd {
 }
 
 /// The match once every couple has entered.
-#[derive(Debug, Drop)]
+#[derive(Drop)]
 pub struct Entered {
     pub matched: Match,
     /// How many rounds it took, over all couples.

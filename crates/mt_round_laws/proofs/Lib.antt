@@ -8,3 +8,4 @@ pub mod RoundsPlaces
 pub mod RoundsRoom
 pub mod RoundsSets
 pub mod RoundsStage
+pub mod SentCounts

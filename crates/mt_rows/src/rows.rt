@@ -9,7 +9,7 @@ const LEAST_ROOM: usize = 32;
 
 /// Where a row begins and ends in the vector, and where its room ends. In 32 bits, so that more of them are in a line of
 /// the cache.
-#[derive(Clone, Copy, Debug)]
+#[derive(Clone, Copy)]
 struct Span {
     start: u32,
     end: u32,

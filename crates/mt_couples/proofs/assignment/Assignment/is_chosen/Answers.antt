@@ -6,7 +6,8 @@ use Rattle.mt_round_laws.proofs.RoundsLists.{in_has, in_image}
 use Rattle.mt_round_laws.proofs.RoundsPlaces.{movers}
 use Rattle.mt_couples.proofs.RankFacts.{has_rank, has_no_rank}
 use Rattle.mt_terms.proofs.ListFacts.{until_position}
-use Rattle.mt_couples.proofs.SentFacts.{in_list, sent_there}
+use Rattle.mt_round_laws.proofs.SentCounts.{in_list}
+use Rattle.mt_couples.proofs.SentFacts.{sent_there}
 use Rattle.mt_couples.proofs.assignment.Assignment.is_chosen.Goals as goal
 
 pub rank-requires : goal.rank-requires

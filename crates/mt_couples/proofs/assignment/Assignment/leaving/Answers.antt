@@ -4,7 +4,8 @@ use Rattle.mt_terms.specs.Lists.{has}
 use Rattle.mt_terms.specs.Market.{program_of}
 use Rattle.mt_terms.specs.Matching.{at}
 use Rattle.mt_placed.proofs.PlaceFacts.{at_read}
-use Rattle.mt_couples.proofs.SentFacts.{leaves, sent_within, seat_more}
+use Rattle.mt_round_laws.proofs.SentCounts.{leaves}
+use Rattle.mt_couples.proofs.SentFacts.{sent_within, seat_more}
 use Rattle.mt_couples.proofs.assignment.Assignment.leaving.Goals as goal
 use Rattle.mt_couples.proofs.assignment.Assignment.leaving.Goals.{then-eq+then-is_ahead, else-eq, else-eq-via-then-eq+else-is_ahead, else-eq-via-else-eq}
 

@@ -1,7 +1,7 @@
 use Rattle.std.proofs.Common.{◌≡◌, take}
 use Rattle.mt_terms.specs.Lists.{count}
 use Rattle.mt_terms.specs.Market.{program_of}
-use Rattle.mt_couples.proofs.SentFacts.{leaves}
+use Rattle.mt_round_laws.proofs.SentCounts.{leaves}
 use Rattle.mt_couples.proofs.assignment.Assignment.leaving.Given as goal
 
 abbrev pub invariant-loop-seat : goal.invariant-loop-seat
