@@ -1,6 +1,7 @@
 -- The couples on their way into a match, one after another.
 use Rattle.std.proofs.Common.{◌≡◌, ℕ, suc, ◌+◌, ◌-◌, ◌<◌, ◌≤◌, Bool, true, false, List, [], ◌∷◌, length, Some, None, IsTrue, ap, sym, ◌∙◌, inl, inr, arith, subst, option_map, option_and_then}
 use Rattle.std.specs.List.{range_with_len}
+use Rattle.std.proofs.lemmas.Bool.Decides.{nat_tests}
 use Rattle.mt_terms.specs.Lists.{below}
 use Rattle.mt_terms.specs.Market.{Market, applicants, agents}
 use Rattle.mt_terms.specs.Matching.{Places}
@@ -13,7 +14,7 @@ use Rattle.mt_round_laws.proofs.RoundsLists.{In}
 use Rattle.mt_round_laws.proofs.RoundsAgents.{on_list, of_list, agent_on_list, couple_members}
 use Rattle.mt_sets.specs.Waiting.{nobody, Waiting}
 use Rattle.mt_couples.specs.Assigned.{assignment, Assigned}
-use Rattle.mt_couples.specs.Running.{IsQuiet, IsRunning}
+use Rattle.mt_couples.specs.Running.{is_idle, IsQuiet, IsRunning}
 use Rattle.mt_couples.specs.Waiting.{IsListOf}
 use Rattle.mt_couples.proofs.QuietFacts.{before_it, entered_before, entered_by}
 
@@ -65,6 +66,13 @@ next_waits m wf quiet k now waiting same within fit is_quiet list waits =
     of_it : (g : Agent) → In g (Couple k ∷ []) → is_on (agents m) g ≡ true
     of_it g (inl is) = subst (λ x. is_on (agents m) x ≡ true) is (on_list (Couple k) (agents m) (agent_on_list m (Couple k) (couple_members m wf k within)))
     of_it g (inr none) = absurd none
+
+-- who doesn't wait then has entered before, and once nobody waits whoever has entered doesn't
+pub idle_before : (c number : ℕ) → is_idle number (Couple number ∷ []) (Couple c) ≡ true → c < number
+idle_before c number idle = grind (arith, nat_tests, idle)
+
+pub entered_idle : (c number : ℕ) (ws : List Agent) → ws ≡ [] → c < number + 1 → is_idle number ws (Couple c) ≡ true
+entered_idle c number ws nobody low = subst (λ gs. is_idle number gs (Couple c) ≡ true) (sym nobody) (grind (arith, nat_tests, low))
 
 -- the next couple, out of those from its number on
 next_couple : (m : Market) (number left : ℕ) (places : Places) → number < length m.couples

@@ -1,10 +1,12 @@
 -- Agents that join a work list one after another.
-use Rattle.std.proofs.Common.{◌≡◌, ◌∙◌, ℕ, ◌+◌, ◌<◌, List, [], ◌∷◌, ◌++◌, map, drop, length, get_or, refl, ap, sym, arith}
+use Rattle.std.proofs.Common.{◌≡◌, ◌∙◌, ℕ, ◌+◌, ◌<◌, true, List, [], ◌∷◌, ◌++◌, map, drop, length, get_or, refl, ap, sym, arith}
+use Rattle.std.proofs.lemmas.Bool.{or_left, or_right}
 use Rattle.std.proofs.lemmas.List.{drop_more}
 use Rattle.mt_terms.specs.Market.{Market}
-use Rattle.mt_terms.specs.Rounds.{joined, all_joined}
+use Rattle.mt_terms.specs.Rounds.{is_on, joined, all_joined}
 use Rattle.mt_terms.specs.declared.numbers.Agent.{Agent}
 use Rattle.mt_terms.specs.declared.numbers.Agent.TheVariants.{Single, Couple}
+use Rattle.mt_round_laws.proofs.RoundsKeep.{on_all_joined}
 use Rattle.mt_sets.specs.Waiting.{with_agents, IsKnown, Waiting}
 use Rattle.mt_couples.specs.Assigned.{IsAgentOf}
 use Rattle.mt_couples.specs.Waiting.{IsListOf, Joins}
@@ -31,6 +33,13 @@ joined_list m old new gs list is = record {
 
 pub rest_list : (m : Market) (w : Waiting) (gs : List Agent) → IsListOf m (with_agents w gs) → IsListOf m w
 rest_list m w gs list = record { applicants_are = list.applicants_are; couples_are = list.couples_are }
+
+-- who waited before waits still, and so does who joined
+pub joins_keeps : (old new : Waiting) (gs : List Agent) (h : Agent) → Joins old new gs → is_on old.agents h ≡ true → is_on new.agents h ≡ true
+joins_keeps old new gs h is on = ap (λ (w : Waiting). is_on w.agents h) is ∙ on_all_joined old.agents gs h ∙ or_left (is_on old.agents h) (is_on gs h) on
+
+pub joins_adds : (old new : Waiting) (gs : List Agent) (h : Agent) → Joins old new gs → is_on gs h ≡ true → is_on new.agents h ≡ true
+joins_adds old new gs h is on = ap (λ (w : Waiting). is_on w.agents h) is ∙ on_all_joined old.agents gs h ∙ or_right (is_on old.agents h) (is_on gs h) on
 
 -- an agent of the market is known to a list for it
 pub known_to : (m : Market) (w : Waiting) (g : Agent) → IsListOf m w → IsAgentOf m g → IsKnown w g

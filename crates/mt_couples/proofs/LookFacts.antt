@@ -16,7 +16,7 @@ use Rattle.mt_terms.specs.declared.numbers.Agent.{Agent}
 use Rattle.mt_terms.specs.declared.numbers.Agent.TheVariants.{Single, Couple}
 use Rattle.mt_match_laws.proofs.ChoiceLemmas.{choice_facts}
 use Rattle.mt_ranks.specs.Ranked.{rank_of}
-use Rattle.mt_round_laws.proofs.RoundsLists.{In, found, finds, each, has_in, in_has, of_image}
+use Rattle.mt_round_laws.proofs.RoundsLists.{In, found, finds, each, has_in, in_has, of_image, of_until}
 use Rattle.mt_round_laws.proofs.RoundsAgents.{member_of_agent, one_of_two}
 use Rattle.mt_bits.specs.Members.{IsFirstFrom}
 use Rattle.mt_sets.specs.Waiting.{with_agents, Waiting}
@@ -33,7 +33,7 @@ use Rattle.mt_terms.proofs.ListFacts.{same_position}
 use Rattle.mt_couples.proofs.LiveFacts.{better_single, post_for}
 use Rattle.mt_sets.proofs.FrontFacts.{until_front}
 use Rattle.mt_sets.proofs.NoteFacts.{before_end}
-use Rattle.mt_couples.proofs.NoteFacts.{any_between, better_couple}
+use Rattle.mt_couples.proofs.NoteFacts.{any_between, better_couple, couple_with_pair}
 use Rattle.mt_placed.proofs.PlaceFacts.{has_read}
 use Rattle.mt_couples.proofs.RankFacts.{has_rank, rank_there}
 use Rattle.mt_placed.proofs.OrderFacts.{has_at}
@@ -86,30 +86,27 @@ open_couple s p c o =
     ] in
     (w.0, w.1, and_from _ _ at_p (subst (λ x. would_be_taken s.market s.places x ≡ true) (sym w.2) o.taken))
 
-below_next : (c k : ℕ) → nat_le c k ≡ true → c < k + 1
-below_next c k le = grind (arith, nat_tests, le)
-
 -- The note by which a couple is found that is reopened by an option at a program: of a pair there that stands no
 -- later than the option.
-pub open_note : (k : ℕ) (s : Assigned) (w : Watch) (p : ℕ) (ws : List Agent) (c : ℕ) → IsWatching k s w → p < length s.market.programs
-    → is_reopened k s (p ∷ []) ws (Couple c) ≡ true → (n : Note) × In n (row_at w.couples p) × (n.couple ≡ c) × (is_noted_reopened k s w p ws n ≡ true)
+pub open_note : (k : ℕ) (s : Assigned) (w : Watch) (p : ℕ) (ws : List Agent) (c : ℕ) → IsWatching k s ws w → p < length s.market.programs
+    → is_reopened k s (p ∷ []) ws (Couple c) ≡ true → (n : Note) × In n (row_at w.couples.rows p) × (n.couple ≡ c) × (is_noted_reopened k s w p ws n ≡ true)
 open_note k s w p ws c watching known reopened =
-    let notes = row_at w.couples p in
+    let notes = row_at w.couples.rows p in
     let counts = w.better.items in
     let parts = and_parts (nat_le c k && not (is_on ws (Couple c))) (opens s (p ∷ []) (Couple c)) reopened in
-    let entered : nat_le c k ≡ true = (and_parts (nat_le c k) (not (is_on ws (Couple c))) parts.0).0 in
     let pair = open_couple s p c (open_at s p (Couple c) parts.1) in
     let place = index_of pair.0 (better_pairs s c) pair.1 in
     let i = place.0 in
     let pairs = (couple_of s.market c).pairs in
     let front = until_front (λ x. holds s.places (pair_of s c x)) pairs i pair.0 place.1 in
     let at_p = and_parts (names p pair.0) (would_be_taken s.market s.places (pair_of s c pair.0)) pair.2 in
-    let noted : is_noted notes c i ≡ true = watching.named.each c (below_next c k entered) p i pair.0 known front.0 (place.2 ∙ front.1) at_p.0 in
+    let counted = watching.counted.each c (couple_with_pair s.market c pair.0 (of_until (λ x. holds s.places (pair_of s c x)) pair.0 pairs pair.1)) in
+    let noted : is_noted notes c i ≡ true =
+    watching.named.each c p i pair.0 known (omega (arith, watching.noted c parts.0, counted, place.1)) front.0 (place.2 ∙ front.1) at_p.0 in
     let n = found (notes_pair c i) notes noted in
     let is = and_parts (n.0.couple == c) (nat_le n.0.from i && is_before i n.0.until) n.2 in
     let between = and_parts (nat_le n.0.from i) (is_before i n.0.until) is.1 in
     let of_couple : n.0.couple ≡ c = eqb-true n.0.couple c is.0 in
-    let counted = watching.counted.each c (watching.named.within p c (finds (λ (x : Note). x.couple == c) n.0 notes n.1 is.0)) in
     let end = end_of n.0.until (get_or counts c 0) in
     let opened : opens_between s c p n.0.from end ≡ true =
     any_between (λ x. names p x && would_be_taken s.market s.places (pair_of s c x)) pairs pair.0 i n.0.from end (no_later n.0.from i between.0)
@@ -125,7 +122,7 @@ open_note k s w p ws c watching known reopened =
     no_later a b le = grind (arith, nat_tests, le)
 
 -- Whoever is reopened by an option at a program is found there.
-pub covers_one : (k : ℕ) (s : Assigned) (w : Watch) (p : ℕ) (ws : List Agent) (mid new : List ℕ) → IsWatching k s w → p < length s.market.programs
+pub covers_one : (k : ℕ) (s : Assigned) (w : Watch) (p : ℕ) (ws : List Agent) (mid new : List ℕ) → IsWatching k s ws w → p < length s.market.programs
     → AddsSingles k s p ws (ranks_at w.singles p) mid → ((a : ℕ) → has mid a ≡ true → has new a ≡ true) → AddsCouples k s p ws new → Covers k s (p ∷ []) ws new
 covers_one k s w p ws mid new watching known singles keeps couples a within reopened = by_agent (agent_of s.market a) refl
   where

@@ -1,5 +1,5 @@
 -- What is found, and where, when programs that were left are looked at.
-use Rattle.std.specs.Prelude.{◌≡◌, ℕ, Bool, ◌&&◌, ◌+◌, ◌<◌, true, false, List, [], ◌∷◌, length, Some, slice_index_or}
+use Rattle.std.specs.Prelude.{◌≡◌, ℕ, Bool, ◌&&◌, ◌<◌, true, false, List, [], ◌∷◌, length, Some, slice_index_or}
 use Rattle.std.specs.List.{list_any}
 use Rattle.mt_terms.specs.Lists.{Set, below, has}
 use Rattle.mt_terms.specs.Market.{Market, applicants, agent_of, program_of}
@@ -10,16 +10,21 @@ use Rattle.mt_bits.specs.Members.{IsFirstFrom}
 use Rattle.mt_couples.specs.Assigned.{has_post, Assigned}
 use Rattle.mt_couples.specs.Running.{is_idle, is_reopened}
 use Rattle.mt_sets.specs.Notes.{end_of}
-use Rattle.mt_couples.specs.Watching.{opens_between, ranks_at, AreCounted, AreNamed, AreWatched}
+use Rattle.mt_couples.specs.Watching.{opens_between, ranks_at, AreCounted, AreNamed, AreWatched, IsNoted}
 use Rattle.mt_sets.specs.declared.couple_list.Note.{Note}
 use Rattle.mt_couples.specs.declared.watch.Watch.{Watch}
 
--- once a couple has entered, the singles are watched, the pairs of the couples up to it are noted, and for each
+-- whoever has entered and doesn't wait has all pairs noted that it wants more than what it has
+abbrev pub AreNoted : ℕ → List Agent → Watch → Type 0
+AreNoted k waiting w = (c : ℕ) → is_idle k waiting (Couple c) ≡ true → IsNoted w c
+
+-- once a couple has entered, the singles are watched, the pairs of the couples are noted that don't wait, and for each
 -- couple it is counted how many it wants more than what it has
-pub record IsWatching (k : ℕ) (s : Assigned) (w : Watch) : Type 0 where
+pub record IsWatching (k : ℕ) (s : Assigned) (waiting : List Agent) (w : Watch) : Type 0 where
   pub watched : AreWatched s w.singles
-  pub named : AreNamed s.market (k + 1) w.couples
+  pub named : AreNamed s.market w.couples
   pub counted : AreCounted s w.better.items
+  pub noted : AreNoted k waiting w
 
 -- nobody is lost from a list
 abbrev pub Keeps : List ℕ → List ℕ → Type 0

@@ -1,5 +1,5 @@
 -- Where it is watched that an option may be opened.
-use Rattle.std.specs.Prelude.{◌≡◌, ℕ, ◌<◌, Bool, true, false, not, ◌&&◌, ◌||◌, ◌==◌, min, ◌⊎◌, List, [], ◌∷◌, drop, length, Option, Some, slice_index_or, slice_range}
+use Rattle.std.specs.Prelude.{◌≡◌, ℕ, ◌<◌, ◌≤◌, Bool, true, false, not, ◌&&◌, ◌||◌, ◌==◌, min, ◌⊎◌, List, [], ◌∷◌, drop, length, Option, Some, slice_index_or, slice_range}
 use Rattle.std.specs.List.{list_any}
 use Rattle.mt_terms.specs.Lists.{Set, has, until}
 use Rattle.mt_terms.specs.Market.{Market, Pair, applicants, agent_of, couple_of, list_of, live_market}
@@ -13,6 +13,7 @@ use Rattle.mt_bits.specs.Members.{is_in}
 use Rattle.mt_couples.specs.Assigned.{Assigned, pair_of}
 use Rattle.mt_sets.specs.Notes.{greatest, has_couple, is_noted}
 use Rattle.mt_sets.specs.declared.couple_list.Note.{Note}
+use Rattle.mt_couples.specs.declared.watch.Noted.{Noted}
 use Rattle.mt_couples.specs.declared.watch.Watch.{Watch}
 use Rattle.mt_couples.specs.Running.{is_reopened}
 
@@ -98,23 +99,31 @@ opens_between s c p from end =
 abbrev pub KeepsNotes : List (List Note) → List (List Note) → Type 0
 KeepsNotes old new = (p c i : ℕ) → is_noted (row_at old p) c i ≡ true → is_noted (row_at new p) c i ≡ true
 
--- each pair of a couple's list is noted at the programs that it names
-abbrev pub IsNamed : Market → List (List Note) → ℕ → Type 0
-IsNamed m rows c =
-    (p i : ℕ) (pair : Pair) → p < length m.programs → i < length (couple_of m c).pairs → pair ≡ slice_index_or (couple_of m c).pairs i pair
-    → names p pair ≡ true → is_noted (row_at rows p) c i ≡ true
+-- those pairs of a couple's list are noted at the programs that they name of which it is told so
+abbrev pub IsNamed : Market → Noted → ℕ → Type 0
+IsNamed m n c =
+    (p i : ℕ) (pair : Pair) → p < length m.programs → i < slice_index_or n.counts.items c 0 → i < length (couple_of m c).pairs
+    → pair ≡ slice_index_or (couple_of m c).pairs i pair → names p pair ≡ true → is_noted (row_at n.rows p) c i ≡ true
 
--- so are those of the couples below a number, and only couples of the market are noted
-pub record AreNamed (m : Market) (number : ℕ) (rows : List (List Note)) : Type 0 where
-  pub one_each : length rows ≡ length m.programs
-  pub each : (c : ℕ) → c < number → IsNamed m rows c
-  pub within : (p c : ℕ) → has_couple (row_at rows p) c ≡ true → c < length m.couples
+-- so it is for each couple, and only couples of the market are noted
+pub record AreNamed (m : Market) (n : Noted) : Type 0 where
+  pub one_each : length n.rows ≡ length m.programs
+  pub counts : length n.counts.items ≡ length m.couples
+  pub each : (c : ℕ) → IsNamed m n c
+  pub within : (p c : ℕ) → has_couple (row_at n.rows p) c ≡ true → c < length m.couples
 
 -- a couple's pair at an index is noted too, at the program of a place
 pub record Notes (old new : List (List Note)) (place : Option ℕ) (c from : ℕ) : Type 0 where
   pub as_many : length new ≡ length old
   pub keeps : KeepsNotes old new
   pub adds : (p i : ℕ) → is_program p place ≡ true → p < length old → min i greatest ≡ from → is_noted (row_at new p) c i ≡ true
+  pub only : (p d : ℕ) → has_couple (row_at new p) d ≡ true → (has_couple (row_at old p) d ≡ true) ⊎ (c ≡ d)
+
+-- a couple's pairs from one index on up to another are noted too, at the programs that they name
+pub record NotesPairs (old new : List (List Note)) (c : ℕ) (pairs : List Pair) (start end : ℕ) : Type 0 where
+  pub as_many : length new ≡ length old
+  pub keeps : KeepsNotes old new
+  pub adds : (p i : ℕ) (pair : Pair) → p < length old → start ≤ i → i < end → pair ≡ slice_index_or pairs i pair → names p pair ≡ true → is_noted (row_at new p) c i ≡ true
   pub only : (p d : ℕ) → has_couple (row_at new p) d ≡ true → (has_couple (row_at old p) d ≡ true) ⊎ (c ≡ d)
 
 -- it is counted how many pairs a couple wants more than what it has, and so it is for each couple
@@ -140,6 +149,20 @@ pub record CountsAll (s : Assigned) (old new : Watch) (xs : List ℕ) : Type 0 w
   pub as_many : length new.better.items ≡ length old.better.items
   pub keeps : (c : ℕ) → IsCounted s old.better.items c → IsCounted s new.better.items c
   pub counted : (a : ℕ) → has xs a ≡ true → (c : ℕ) → agent_of s.market a ≡ Couple c → c < length old.better.items → IsCounted s new.better.items c
+
+-- all pairs are noted that a couple wants more than what it has
+abbrev pub IsNoted : Watch → ℕ → Type 0
+IsNoted w c = slice_index_or w.better.items c 0 ≤ slice_index_or w.couples.counts.items c 0
+
+-- they are noted for a couple, and of no couple fewer pairs than before
+pub record NotesCouple (old new : Watch) (c : ℕ) : Type 0 where
+  pub noted : IsNoted new c
+  pub keeps : (d : ℕ) → slice_index_or old.couples.counts.items d 0 ≤ slice_index_or new.couples.counts.items d 0
+
+-- so it is where the agent is a couple
+pub record NotesAgent (old new : Watch) (g : Agent) : Type 0 where
+  pub noted : (c : ℕ) → g ≡ Couple c → IsNoted new c
+  pub keeps : (d : ℕ) → slice_index_or old.couples.counts.items d 0 ≤ slice_index_or new.couples.counts.items d 0
 
 -- whoever is reopened is among these applicants
 abbrev pub Covers : ℕ → Assigned → List ℕ → List Agent → List ℕ → Type 0

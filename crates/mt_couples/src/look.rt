@@ -146,7 +146,7 @@ fn add_members(
     found: &mut Vec<AppNo>,
 ) -> Result<(), AllocError>
     requires program { program < length assignment.now.market.programs }
-    requires watch { IsWatching last assignment.now watch.now }
+    requires watch { IsWatching last assignment.now waiting.now.agents watch.now }
     requires waiting { IsListOf assignment.now.market waiting.now }
     requires found { AreApplicantsOf assignment.now.market found.old.items }
     ensures found { OnOk result (AreApplicantsOf assignment.now.market found.new.items) }
@@ -174,7 +174,7 @@ fn add_reopened(
 ) -> Result<(), AllocError>
     requires market { IsWellFormed assignment.now.market }
     requires program { program < length assignment.now.market.programs }
-    requires watch { IsWatching last assignment.now watch.now }
+    requires watch { IsWatching last assignment.now waiting.now.agents watch.now }
     requires waiting { IsListOf assignment.now.market waiting.now }
     requires found { AreApplicantsOf assignment.now.market found.old.items }
     ensures found { OnOk result (AreApplicantsOf assignment.now.market found.new.items) }
@@ -203,7 +203,7 @@ fn reopened(
 ) -> Result<Vec<AppNo>, AllocError>
     requires market { IsWellFormed assignment.now.market }
     requires programs { AreProgramsOf assignment.now.market left.now }
-    requires watch { IsWatching last assignment.now watch.now }
+    requires watch { IsWatching last assignment.now waiting.now.agents watch.now }
     requires waiting { IsListOf assignment.now.market waiting.now }
     ensures found { IfOk result (λ v. AreApplicantsOf assignment.now.market v.items) }
     ensures covers { IfOk result (λ v. Covers last assignment.now left.now waiting.now.agents v.items) }
@@ -283,7 +283,7 @@ fn look_at_one(
 ) -> Result<bool, AllocError>
     requires market { IsWellFormed assignment.now.market }
     requires program { program < length assignment.now.market.programs }
-    requires watch { IsWatching last assignment.now watch.now }
+    requires watch { IsWatching last assignment.now waiting.old.agents watch.now }
     requires waiting { IsListOf assignment.now.market waiting.old }
     requires quiet { IsQuietBut last assignment.now (program ∷ []) waiting.old.agents }
     ensures done { IfOk result (λ done. IsTrue done → Joins waiting.old waiting.new (blockers assignment.now last program)) }
@@ -316,7 +316,7 @@ fn look_at_several(
 ) -> Result<(), AllocError>
     requires market { IsWellFormed assignment.now.market }
     requires programs { AreProgramsOf assignment.now.market left.now }
-    requires watch { IsWatching last assignment.now watch.now }
+    requires watch { IsWatching last assignment.now waiting.old.agents watch.now }
     requires waiting { IsListOf assignment.now.market waiting.old }
     requires quiet { IsQuietBut last assignment.now left.now waiting.old.agents }
     ensures { OnOk result (Joins waiting.old waiting.new (reopened assignment.now last left.now)) }
@@ -341,7 +341,7 @@ pub(crate) fn look_at_opened(
 ) -> Result<(), AllocError>
     requires market { IsWellFormed assignment.now.market }
     requires programs { AreProgramsOf assignment.now.market left.now }
-    requires watch { IsWatching last assignment.now watch.now }
+    requires watch { IsWatching last assignment.now waiting.old.agents watch.now }
     requires waiting { IsListOf assignment.now.market waiting.old }
     requires quiet { IsQuietBut last assignment.now left.now waiting.old.agents }
     ensures { OnOk result (Joins waiting.old waiting.new (reopened assignment.now last left.now)) }

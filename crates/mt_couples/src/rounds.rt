@@ -8,7 +8,7 @@ ghost use Rattle.mt_ranks.specs.Ranked.{ranked_of};
 ghost use Rattle.mt_sets.specs.Waiting.{waiting_first};
 ghost use Rattle.mt_couples.specs.Assigned.{AreApplicantsOf, AreProgramsOf, AreSent, IsAgentOf};
 ghost use Rattle.mt_couples.specs.Looking.{has_wanted_post, IsWatching};
-ghost use Rattle.mt_couples.specs.Watching.{AreCounted, AreWatched, CountsAll, FollowsAll};
+ghost use Rattle.mt_couples.specs.Watching.{AreCounted, AreNamed, AreWatched, CountsAll, FollowsAll, NotesAgent};
 ghost use Rattle.mt_couples.specs.Running.{singles_quiet, work_of, IsQuietBut, IsRunning};
 ghost use Rattle.mt_couples.specs.Waiting.{IsListOf, Joins, KeepsRoom};
 ghost use Rattle.mt_couples.specs.Moves.{agents_of, blockers, if_blocking, reopened, IsTaking};
@@ -152,7 +152,7 @@ fn look_at_left(
 ) -> Result<(), AllocError>
     requires market { IsWellFormed assignment.now.market }
     requires programs { AreProgramsOf assignment.now.market left.now }
-    requires watch { IsWatching last assignment.now watch.now }
+    requires watch { IsWatching last assignment.now waiting.old.agents watch.now }
     requires waiting { IsListOf assignment.now.market waiting.old }
     requires quiet { IsTrue quiet → IsQuietBut last assignment.now left.now waiting.old.agents }
     ensures { OnOk result (Joins waiting.old waiting.new (reopened assignment.now last left.now)) }
@@ -198,6 +198,26 @@ fn follow_displaced(
     Ok(())
 }
 
+/// Notes the pairs that the agent that moved wants more than what it has, where it is a couple.
+fn note_mover(
+    assignment: &Assignment<'_>,
+    watch: &mut Watch,
+    agent: &Agent,
+) -> Result<(), AllocError>
+    requires agent { IsAgentOf assignment.now.market agent.now }
+    requires counted { AreCounted assignment.now watch.old.better.items }
+    requires named { AreNamed assignment.now.market watch.old.couples }
+    ensures singles { OnOk result (watch.new.singles ≡ watch.old.singles) }
+    ensures better { OnOk result (watch.new.better ≡ watch.old.better) }
+    ensures named { OnOk result (AreNamed assignment.now.market watch.new.couples) }
+    ensures noted { OnOk result (NotesAgent watch.old watch.new agent.now) }
+{
+    match agent {
+        Agent::Single(_) => Ok(()),
+        Agent::Couple(couple) => watch.note_better(assignment, *couple),
+    }
+}
+
 /// Moves the agent to an option that would be taken, and puts on the work list who is to be looked at then:
 /// the displaced agents, the agent itself where it blocks now, and for each program that was left the agents
 /// of its list that block now.
@@ -212,9 +232,9 @@ fn take_option(
     sent: &[(AppNo, Option<ProgNo>)],
 ) -> Result<(), AllocError>
     requires taking { IsTaking assignment.old.market assignment.old.places agent sent.now }
-    requires watch { IsWatching last assignment.old watch.old }
+    requires watch { IsWatching last assignment.old (agent ∷ waiting.old.agents) watch.old }
     requires running { IsRunning last quiet assignment.old (waiting_first agent waiting.old) }
-    ensures watch { OnOk result (IsWatching last assignment.new watch.new) }
+    ensures watch { OnOk result (IsWatching last assignment.new waiting.new.agents watch.new) }
     ensures market { OnOk result (assignment.new.market ≡ assignment.old.market) }
     ensures room { OnOk result (KeepsRoom waiting.old waiting.new) }
     ensures work { OnOk result (work_of assignment.new waiting.new ≡ after_taking assignment.old.market last assignment.old.places agent waiting.old.agents (Some sent.now)) }
@@ -222,6 +242,7 @@ fn take_option(
     let moved = assignment.move_to(alloc, sent)?;
     follow_sent(assignment, watch, sent)?;
     follow_displaced(assignment, watch, &moved.displaced)?;
+    note_mover(assignment, watch, &agent)?;
     join_displaced(assignment, &moved.displaced, waiting);
     look_at_mover(assignment, watch, agent, waiting);
     look_at_left(alloc, assignment, watch, &moved.left, last, quiet, waiting)?;
@@ -240,8 +261,8 @@ fn round(
     agent: Agent,
 ) -> Result<(), AllocError>
     requires running { IsRunning last quiet assignment.old (waiting_first agent waiting.old) }
-    requires watch { IsWatching last assignment.old watch.old }
-    ensures watch { OnOk result (IsWatching last assignment.new watch.new) }
+    requires watch { IsWatching last assignment.old (agent ∷ waiting.old.agents) watch.old }
+    ensures watch { OnOk result (IsWatching last assignment.new waiting.new.agents watch.new) }
     ensures market { OnOk result (assignment.new.market ≡ assignment.old.market) }
     ensures room { OnOk result (KeepsRoom waiting.old waiting.new) }
     ensures work { OnOk result (work_of assignment.new waiting.new ≡ round_of assignment.old.market last assignment.old.places (agent ∷ waiting.old.agents)) }
@@ -256,7 +277,7 @@ fn round(
         }
         Agent::Couple(couple) => {
             let Some(pair) = assignment.first_pair(*couple, watch.better(*couple)) else {
-                return Ok(());
+                return watch.note_better(assignment, *couple);
             };
             let (first, second) = assignment.members(*couple);
             let sent = [(first, pair.0), (second, pair.1)];
@@ -276,8 +297,8 @@ fn settle(
     budget: u32,
 ) -> Result<u32, CoupleEnd>
     requires running { IsRunning last quiet assignment.old waiting.old }
-    requires watch { IsWatching last assignment.old watch.old }
-    ensures watch { OnOk result (IsWatching last assignment.new watch.new) }
+    requires watch { IsWatching last assignment.old waiting.old.agents watch.old }
+    ensures watch { OnOk result (IsWatching last assignment.new waiting.new.agents watch.new) }
     ensures settled { IfOk result (λ left. settled assignment.old.market last budget assignment.old.places waiting.old.agents ≡ Some (assignment.new.places, left)) }
     ensures spent { IsErrOf result CoupleEnd.BudgetSpent → settled assignment.old.market last budget assignment.old.places waiting.old.agents ≡ None }
     ensures within { IfOk result (λ left. left ≤ budget) }
@@ -333,7 +354,6 @@ pub fn enter_all<R: Threads + Sync>(
     for number in 0..couples {
         let couple = CoupleNo(number);
         waiting.join(Agent::Couple(couple));
-        watch.enter(&assignment, couple)?;
         left = settle(
             alloc,
             &mut assignment,

@@ -1,23 +1,37 @@
-ghost use Rattle.std.specs.Prelude.{◌≡◌, ◌+◌, ◌<◌, length, min, slice_index_or, IfOk, OnOk};
+ghost use Rattle.std.specs.Prelude.{◌≡◌, ◌<◌, ◌≤◌, length, min, slice_index_or, IfOk, OnOk};
 ghost use Rattle.mt_terms.specs.Market.{applicants};
 ghost use Rattle.mt_terms.specs.Stability.{blocks};
 ghost use Rattle.mt_bits.specs.Members.{is_in};
 ghost use Rattle.mt_sets.specs.Notes.{greatest};
 ghost use Rattle.mt_couples.specs.Assigned.{IsAgentOf};
-ghost use Rattle.mt_couples.specs.Watching.{better_pairs, ranks_at, row_at, AreCounted, AreNamed, AreWatched, Counts, CountsCouple, Follows, Notes, Unwatches, Watches};
+ghost use Rattle.mt_couples.specs.Watching.{better_pairs, ranks_at, row_at, AreCounted, AreNamed, AreWatched, Counts, CountsCouple, Follows, Notes, NotesCouple, NotesPairs, Unwatches, Watches};
 
 use crate::assignment::Assignment;
+use crate::options::Pair;
 use mt_bits::{RankRow, RankTable};
 use mt_ranks::Live;
 use mt_sets::{CoupleLists, Note};
 use mt_terms::{Agent, AppNo, CoupleNo, ProgNo};
 use std::alloc::{AllocError, Global};
 
+/// Which programs the pairs of couples name, as far as they are noted.
+pub(crate) struct Noted {
+    rows: CoupleLists,
+    /// For each couple how many of its pairs are noted, from the first on.
+    counts: Vec<usize>,
+}
+
+impl Drop for Noted {
+    fn drop(self) {
+        let Noted { rows: _, counts: _ } = self;
+    }
+}
+
 /// Where to look for an option that is opened once somebody leaves a program: for each program the ranks of the
-/// singles that want it more than what they have, and the couples that have entered and name it in a pair.
+/// singles that want it more than what they have, and the couples that have a noted pair there.
 pub(crate) struct Watch {
     singles: RankTable,
-    couples: CoupleLists,
+    couples: Noted,
     /// For each couple how many pairs it wants more than what it has.
     better: Vec<usize>,
 }
@@ -93,6 +107,26 @@ fn note(
     Ok(())
 }
 
+/// Notes the pairs of a couple's list from one index on, up to another.
+fn note_pairs(
+    rows: &mut CoupleLists,
+    couple: CoupleNo,
+    pairs: &[Pair],
+    start: usize,
+    end: usize,
+) -> Result<(), AllocError>
+    requires { end ≤ length pairs.now }
+    ensures { OnOk result (NotesPairs rows.old rows.new couple pairs.now start end) }
+{
+    for index in start..end {
+        let pair = pairs[index];
+        let from = short_index(index);
+        note(rows, pair.0, couple, from)?;
+        note(rows, pair.1, couple, from)?;
+    }
+    Ok(())
+}
+
 impl Watch {
     /// Each single is watched at the programs that it wants more than what it has. No couple has entered.
     pub(crate) fn new(
@@ -102,12 +136,17 @@ impl Watch {
     ) -> Result<Self, AllocError>
         requires { AreWatched assignment.now singles }
         ensures watched { IfOk result (λ w. AreWatched assignment.now w.singles) }
-        ensures named { IfOk result (λ w. AreNamed assignment.now.market 0 w.couples) }
+        ensures named { IfOk result (λ w. AreNamed assignment.now.market w.couples) }
         ensures counted { IfOk result (λ w. AreCounted assignment.now w.better.items) }
     {
+        let roster = assignment.roster();
+        let couples = Noted {
+            rows: CoupleLists::new(alloc, roster.programs())?,
+            counts: Vec::from_elem(alloc, 0usize, roster.couples() as usize)?,
+        };
         Ok(Watch {
             singles,
-            couples: CoupleLists::new(alloc, assignment.roster().programs())?,
+            couples,
             better: better_counts(alloc, assignment)?,
         })
     }
@@ -122,10 +161,10 @@ impl Watch {
 
     /// The notes of the couples that name a program.
     pub(crate) fn couples(&self, program: ProgNo) -> &[Note]
-        ensures { result.now ≡ row_at self.now.couples program }
+        ensures { result.now ≡ row_at self.now.couples.rows program }
     {
-        if program.index() < self.couples.len() {
-            self.couples.row(program.index())
+        if program.index() < self.couples.rows.len() {
+            self.couples.rows.row(program.index())
         } else {
             &[]
         }
@@ -185,23 +224,25 @@ impl Watch {
         Ok(())
     }
 
-    /// Notes which programs the pairs of a couple name that enters.
-    pub(crate) fn enter(
+    /// Notes the pairs that a couple wants more than what it has, as far as they aren't noted.
+    pub(crate) fn note_better(
         &mut self,
         assignment: &Assignment<'_>,
         couple: CoupleNo,
     ) -> Result<(), AllocError>
         requires couple { couple < length assignment.now.market.couples }
-        requires named { AreNamed assignment.now.market couple self.old.couples }
+        requires counted { AreCounted assignment.now self.old.better.items }
+        requires named { AreNamed assignment.now.market self.old.couples }
         ensures singles { OnOk result (self.new.singles ≡ self.old.singles) }
-        ensures named { OnOk result (AreNamed assignment.now.market (couple + 1) self.new.couples) }
         ensures better { OnOk result (self.new.better ≡ self.old.better) }
+        ensures named { OnOk result (AreNamed assignment.now.market self.new.couples) }
+        ensures noted { OnOk result (NotesCouple self.old self.new couple) }
     {
-        for (index, pair) in assignment.pairs(couple).iter().enumerate() {
-            let from = short_index(index);
-            note(&mut self.couples, pair.0, couple, from)?;
-            note(&mut self.couples, pair.1, couple, from)?;
-        }
+        let start = self.couples.counts[couple.index()];
+        let end = self.better(couple);
+        let pairs = assignment.pairs(couple);
+        note_pairs(&mut self.couples.rows, couple, pairs, start, end)?;
+        self.couples.counts[couple.index()] = start.max(end);
         Ok(())
     }
 }

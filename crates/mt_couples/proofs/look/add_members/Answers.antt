@@ -1,4 +1,4 @@
-use Rattle.std.proofs.Common.{◌≡◌, ◌∙◌, ◌++◌, ◌∷◌, ◌+◌, ◌<◌, [], ℕ, List, Vec, true, get_or, ap, sym, subst, arith}
+use Rattle.std.proofs.Common.{◌≡◌, ◌∙◌, ◌++◌, ◌∷◌, ◌<◌, [], ℕ, List, Vec, true, get_or, ap, sym, subst, arith}
 use Rattle.std.proofs.lemmas.Bool.{both_ways}
 use Rattle.mt_terms.specs.Lists.{has}
 use Rattle.mt_terms.specs.Market.{applicants}
@@ -14,7 +14,7 @@ use Rattle.mt_couples.proofs.look.add_members.Goals.{then-is_noted_reopened+in_o
 
 pub is_noted_reopened-requires-clause-couple : goal.is_noted_reopened-requires-clause-couple
 is_noted_reopened-requires-clause-couple c =
-    note_within c.args.assignment.now.market (c.args.last + 1) c.args.watch.now.couples c.args.program c.couples-note-items.result.now c.loop-note.note-index c.note-item.result
+    note_within c.args.assignment.now.market c.args.watch.now.couples c.args.program c.couples-note-items.result.now c.loop-note.note-index c.note-item.result
     c.requires.watch.named c.couples-note-items.ensures c.loop-note-test.true c.note-item.is
 
 pub loop-note-preserved : goal.loop-note-preserved

@@ -1,5 +1,4 @@
-use Rattle.std.proofs.Common.{◌≡◌, ◌∙◌, ◌∷◌, ◌-◌, [], true, Result, Some, Err, IsErrAnd, Vec, length, sym, ap, ap₂, subst, arith}
-use Rattle.mt_terms.specs.Market.{Market}
+use Rattle.std.proofs.Common.{◌≡◌, ◌∙◌, ◌∷◌, ◌-◌, [], true, Result, Some, Err, IsErrAnd, sym, ap, ap₂, subst, arith}
 use Rattle.mt_terms.specs.Stability.{fits}
 use Rattle.mt_terms.specs.Rounds.{settled}
 use Rattle.mt_terms.specs.declared.numbers.Agent.TheVariants.{Couple}
@@ -7,12 +6,12 @@ use Rattle.mt_round_laws.proofs.RoundsStage.{stage_is_stable_lem}
 use Rattle.mt_sets.specs.Waiting.{nobody}
 use Rattle.mt_couples.specs.Waiting.{IsListOf}
 use Rattle.mt_couples.specs.Running.{singles_quiet, IsQuiet}
-use Rattle.mt_couples.specs.Watching.{AreCounted, AreWatched}
+use Rattle.mt_couples.specs.Looking.{AreNoted}
 use Rattle.mt_couples.proofs.QuietFacts.{quiet_at_first}
 use Rattle.mt_couples.proofs.JoinFacts.{joined_list, known_joins}
 use Rattle.mt_couples.specs.declared.rounds.CoupleEnd.TheVariants.{BudgetSpent}
 use Rattle.mt_couples.proofs.RoundFacts.{listed_of_fitting, places_of_fitting}
-use Rattle.mt_couples.proofs.EnteringFacts.{entering_first, next_waits, entering_more, entering_spent, entering_all, none_enters}
+use Rattle.mt_couples.proofs.EnteringFacts.{entered_idle, entering_first, idle_before, next_waits, entering_more, entering_spent, entering_all, none_enters}
 use Rattle.mt_couples.proofs.rounds.enter_all.Goals as goal
 
 pub new-requires-clause-places : goal.new-requires-clause-places
@@ -61,6 +60,7 @@ loop-number-preserved g c =
       watched = c.in_ok-left.ensures.watch.watched;
       named = c.in_ok-left.ensures.watch.named;
       counted = c.in_ok-left.ensures.watch.counted;
+      noted = λ d low. c.in_ok-left.ensures.watch.noted d (entered_idle d c.loop-number.number c.settle.new.waiting.agents c.in_ok-left.ensures.empty low);
     }
 
 pub returns-clause-entered : goal.returns-clause-entered
@@ -86,6 +86,7 @@ loop-number-init g c =
       watched = c.in_ok-watch.ensures.watched;
       named = c.in_ok-watch.ensures.named;
       counted = c.in_ok-watch.ensures.counted;
+      noted = λ d low. absurd (omega arith);
     }
 
 pub returns-then-couples-eq0-clause-stable : goal.returns-then-couples-eq0-clause-stable
@@ -94,13 +95,13 @@ returns-then-couples-eq0-clause-stable g c = λ best.
     stage_is_stable_lem c.args.roster.now.market c.couples-couples.ensures.registration.well_formed places best c.args.budget (places, 0)
     (none_enters c.args.roster.now.market places c.args.budget (sym c.couples-couples.ensures.count ∙ c.if-couples-eq0.true))
 
-pub enter-requires-clause-couple : goal.enter-requires-clause-couple
-enter-requires-clause-couple g c =
-    omega (arith, c.couples-couples.ensures.count, ap (λ (x : Market). length x.couples) c.loop-number.invariant.entering.market)
-
 pub settle-requires-clause-watch : goal.settle-requires-clause-watch
-settle-requires-clause-watch g c = record {
-  watched = subst (AreWatched c.loop-number.assignment) (sym c.in_ok-enter.ensures.singles) c.loop-number.invariant.watched;
-  named = c.in_ok-enter.ensures.named;
-  counted = subst (AreCounted c.loop-number.assignment) (ap Vec.items (sym c.in_ok-enter.ensures.better)) c.loop-number.invariant.counted;
-}
+settle-requires-clause-watch g c =
+    let number = c.loop-number.number in
+    let joins = known_joins c.loop-number.waiting c.join.new.self number c.loop-number.invariant.entering.nobody_waits c.join.ensures in
+    record {
+      watched = c.loop-number.invariant.watched;
+      named = c.loop-number.invariant.named;
+      counted = c.loop-number.invariant.counted;
+      noted = subst (λ gs. AreNoted number gs c.loop-number.watch) (sym joins.1) (λ d idle. c.loop-number.invariant.noted d (idle_before d number idle));
+    }

@@ -1,4 +1,5 @@
-use Rattle.mt_couples.specs.Watching.{AreCounted, AreNamed, AreWatched}
+use Rattle.std.proofs.Common.{◌<◌, ℕ}
+use Rattle.mt_couples.specs.Watching.{AreCounted, AreNamed, AreWatched, IsNoted}
 use Rattle.mt_couples.proofs.EnteringFacts.{IsEntering}
 use Rattle.mt_couples.proofs.rounds.enter_all.Given as goal
 
@@ -6,6 +7,7 @@ abbrev pub invariant-loop-number : goal.invariant-loop-number
 invariant-loop-number g l = record {
   entering : IsEntering l.fn.roster.market l.quiet l.fn.singles.places l.fn.budget l.number l.assignment l.waiting l.left;
   watched : AreWatched l.assignment l.watch.singles;
-  named : AreNamed l.assignment.market l.number l.watch.couples;
+  named : AreNamed l.assignment.market l.watch.couples;
   counted : AreCounted l.assignment l.watch.better.items;
+  noted : (c : ℕ) → c < l.number → IsNoted l.watch c;
 }

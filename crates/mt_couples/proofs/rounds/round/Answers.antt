@@ -26,3 +26,6 @@ take_option-requires-in-Couple-clause-taking c =
     front_takes c.requires.running (couple_placement c.members-first.result.0 c.members-first.result.1 pair)
     (ap (first_taken c.args.assignment.now.market c.args.assignment.now.places) c.in-Couple.is ∙ sym c.in-Some-first_pair.ensures
     ∙ ap₂ (λ a b. Some (couple_placement a b pair)) (sym c.members-first.ensures.first) (sym c.members-first.ensures.second))
+
+pub note_better-requires-clause-couple : goal.note_better-requires-clause-couple
+note_better-requires-clause-couple c = subst (IsAgentOf c.args.assignment.now.market) c.in-Couple.is (front_within c.requires.running)

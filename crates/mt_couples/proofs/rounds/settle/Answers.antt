@@ -1,3 +1,6 @@
+use Rattle.std.proofs.Common.{subst}
+use Rattle.mt_sets.specs.Waiting.{Waiting}
+use Rattle.mt_couples.specs.Looking.{IsWatching}
 use Rattle.mt_couples.proofs.RoundFacts.{settling_more}
 use Rattle.mt_couples.proofs.rounds.settle.Goals as goal
 
@@ -8,3 +11,7 @@ loop-agent-preserved c = record {
       c.loop-agent.left c.in-Some.agent c.loop-agent.invariant.settling c.in-Some.ensures.taken c.if-left-eq0.false c.in_ok-round.ensures.market c.in_ok-round.ensures.room c.in_ok-round.ensures.work;
   watch = c.in_ok-round.ensures.watch;
 }
+
+pub round-requires-clause-watch : goal.round-requires-clause-watch
+round-requires-clause-watch c =
+    subst (λ (w : Waiting). IsWatching c.args.last c.loop-agent.assignment w.agents c.loop-agent.watch) c.in-Some.ensures.taken c.loop-agent.invariant.watch

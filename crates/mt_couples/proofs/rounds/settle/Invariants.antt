@@ -5,7 +5,7 @@ use Rattle.mt_couples.proofs.rounds.settle.Given as goal
 abbrev pub invariant-loop-agent : goal.invariant-loop-agent
 invariant-loop-agent l = record {
   settling : IsSettling l.last l.quiet l.initial.left l.initial.assignment l.assignment l.initial.waiting l.waiting l.left;
-  watch : IsWatching l.last l.assignment l.watch;
+  watch : IsWatching l.last l.assignment l.waiting.agents l.watch;
 }
 
 abbrev pub decreases-loop-agent : goal.decreases-loop-agent

@@ -1,23 +1,25 @@
-use Rattle.std.proofs.Common.{◌≡◌, ◌∙◌, ◌∷◌, length, ℕ, ◌+◌, map, ap, ap₂, sym, arith, List, subst}
+use Rattle.std.proofs.Common.{◌≡◌, ◌≤◌, ◌∙◌, ◌∷◌, length, get_or, ℕ, true, map, ap, ap₂, sym, arith, List, Vec, Global, subst}
 use Rattle.mt_terms.specs.Lists.{has, below}
 use Rattle.mt_terms.specs.Market.{applicants}
-use Rattle.mt_terms.specs.Rounds.{all_joined}
+use Rattle.mt_terms.specs.Rounds.{all_joined, is_on}
 use Rattle.mt_terms.specs.declared.numbers.Agent.{Agent}
 use Rattle.mt_round_laws.proofs.RoundsLists.{has_in, of_kept, of_below}
 use Rattle.mt_sets.specs.Waiting.{with_agents, Waiting}
-use Rattle.mt_couples.specs.Assigned.{Assigned, AreSent}
+use Rattle.mt_couples.specs.Assigned.{Assigned, AreSent, IsAgentOf}
 use Rattle.mt_couples.specs.Moves.{agents_of, displaced_by, if_blocking, moved, reopened, IsTaking}
 use Rattle.mt_couples.specs.Waiting.{IsListOf, Joins}
 use Rattle.mt_couples.specs.Running.{work_of, IsQuietBut}
-use Rattle.mt_couples.proofs.JoinFacts.{joined_list, rest_list}
+use Rattle.mt_couples.proofs.JoinFacts.{joined_list, joins_adds, joins_keeps, rest_list}
 use Rattle.mt_couples.proofs.QuietFacts.{quiet_but_left}
 use Rattle.mt_terms.specs.WellFormed.{IsWellFormed}
 use Rattle.mt_couples.specs.Looking.{IsWatching}
 use Rattle.mt_terms.specs.Matching.{Placement}
+use Rattle.mt_couples.specs.declared.watch.Noted.{Noted}
 use Rattle.mt_couples.specs.declared.watch.Watch.{Watch}
-use Rattle.mt_couples.specs.Watching.{AreNamed, CountsAll, FollowsAll}
+use Rattle.mt_couples.specs.Watching.{AreCounted, AreNamed, AreWatched, CountsAll, FollowsAll, NotesAgent}
 use Rattle.mt_couples.proofs.WatchFacts.{watched_after}
-use Rattle.mt_couples.proofs.NoteFacts.{counted_after}
+use Rattle.mt_couples.proofs.NoteFacts.{counted_after, noted_after}
+use Rattle.mt_couples.proofs.RoundFacts.{front_within}
 use Rattle.mt_couples.proofs.MoveFacts.{are_sent, displaced_within, waits_after}
 use Rattle.mt_couples.proofs.rounds.take_option.Goals as goal
 
@@ -81,33 +83,73 @@ follow_displaced-requires c = λ a on.
     let is = c.deref.ensures.value ∙ c.in_ok-moved.ensures.displaced in
     omega (arith, ap (λ (x : Assigned). applicants x.market) c.in_ok-moved.ensures.places, displaced_within c.requires.taking a (ap (λ xs. has xs a) (sym is) ∙ on))
 
--- the match after the move is watched
-watching : (s0 s1 : Assigned) (sent : Placement) (g : Agent) (k : ℕ) (w0 w1 w2 : Watch) (xs : List ℕ) → IsTaking s0.market s0.places g sent → s1 ≡ moved s0 sent → IsWatching k s0 w0
-    → FollowsAll s1 w0.singles w1.singles (map (λ s. s.0) sent) → FollowsAll s1 w1.singles w2.singles xs
-    → CountsAll s1 w0 w1 (map (λ s. s.0) sent) → CountsAll s1 w1 w2 xs → xs ≡ displaced_by s0 sent
-    → w2.couples ≡ w0.couples → IsWatching k s1 w2
-watching s0 s1 sent g k w0 w1 w2 xs taking after before first second count recount displaced couples =
-    let first' : FollowsAll (moved s0 sent) w0.singles w1.singles (map (λ s. s.0) sent) =
-    subst (λ (x : Assigned). FollowsAll x w0.singles w1.singles (map (λ s. s.0) sent)) after first in
-    let second' : FollowsAll (moved s0 sent) w1.singles w2.singles (displaced_by s0 sent) =
-    subst (FollowsAll (moved s0 sent) w1.singles w2.singles) displaced
-    (subst (λ (x : Assigned). FollowsAll x w1.singles w2.singles xs) after second) in
+-- it is counted again after the move
+counting : (s0 s1 : Assigned) (sent : Placement) (g : Agent) (w0 w1 w2 : Watch) (xs : List ℕ) → IsTaking s0.market s0.places g sent → s1 ≡ moved s0 sent → AreCounted s0 w0.better.items
+    → CountsAll s1 w0 w1 (map (λ s. s.0) sent) → CountsAll s1 w1 w2 xs → xs ≡ displaced_by s0 sent → AreCounted s1 w2.better.items
+counting s0 s1 sent g w0 w1 w2 xs taking after counted count recount displaced =
     let count' : CountsAll (moved s0 sent) w0 w1 (map (λ s. s.0) sent) =
     subst (λ (x : Assigned). CountsAll x w0 w1 (map (λ s. s.0) sent)) after count in
     let recount' : CountsAll (moved s0 sent) w1 w2 (displaced_by s0 sent) =
     subst (CountsAll (moved s0 sent) w1 w2) displaced
     (subst (λ (x : Assigned). CountsAll x w1 w2 xs) after recount) in
-    subst (λ (x : Assigned). IsWatching k x w2) (sym after) (record {
-      watched = watched_after taking w0.singles w1.singles w2.singles before.watched first' second';
-      named = subst (AreNamed s0.market (k + 1)) (sym couples) before.named;
-      counted = counted_after taking w0 w1 w2 before.counted count' recount';
-    })
+    subst (λ (x : Assigned). AreCounted x w2.better.items) (sym after) (counted_after taking w0 w1 w2 counted count' recount')
+
+-- the match after the move is watched
+watching : (s0 s1 : Assigned) (sent : Placement) (g : Agent) (k : ℕ) (ws now : List Agent) (w0 w1 w2 w3 : Watch) (xs : List ℕ) → IsTaking s0.market s0.places g sent → s1 ≡ moved s0 sent
+    → IsWatching k s0 (g ∷ ws) w0 → FollowsAll s1 w0.singles w1.singles (map (λ s. s.0) sent) → FollowsAll s1 w1.singles w2.singles xs → CountsAll s1 w0 w1 (map (λ s. s.0) sent) → CountsAll s1 w1 w2 xs
+    → xs ≡ displaced_by s0 sent → w2.couples ≡ w0.couples → w3.singles ≡ w2.singles → w3.better ≡ w2.better → AreNamed s1.market w3.couples → NotesAgent w2 w3 g
+    → ((h : Agent) → is_on ws h ≡ true → is_on now h ≡ true) → ((h : Agent) → is_on (agents_of s0 (displaced_by s0 sent)) h ≡ true → is_on now h ≡ true) → IsWatching k s1 now w3
+watching s0 s1 sent g k ws now w0 w1 w2 w3 xs taking after before first second count recount displaced couples singles better named notes stay_on come_on =
+    let first' : FollowsAll (moved s0 sent) w0.singles w1.singles (map (λ s. s.0) sent) =
+    subst (λ (x : Assigned). FollowsAll x w0.singles w1.singles (map (λ s. s.0) sent)) after first in
+    let second' : FollowsAll (moved s0 sent) w1.singles w2.singles (displaced_by s0 sent) =
+    subst (FollowsAll (moved s0 sent) w1.singles w2.singles) displaced
+    (subst (λ (x : Assigned). FollowsAll x w1.singles w2.singles xs) after second) in
+    let counted : AreCounted s1 w3.better.items =
+    subst (λ (v : Vec ℕ Global). AreCounted s1 v.items) (sym better) (counting s0 s1 sent g w0 w1 w2 xs taking after before.counted count recount displaced) in
+    record {
+      watched = subst (AreWatched s1) (sym singles)
+          (subst (λ (x : Assigned). AreWatched x w2.singles) (sym after) (watched_after taking w0.singles w1.singles w2.singles before.watched first' second'));
+      named = named;
+      counted = counted;
+      noted = noted_after taking k ws now w0 w3 before.counted (subst (λ (x : Assigned). AreCounted x w3.better.items) after counted) before.noted notes.noted
+          (λ c. subst (λ (n : Noted). get_or n.counts.items c 0 ≤ get_or w3.couples.counts.items c 0) couples (notes.keeps c)) stay_on come_on;
+    }
+
+pub note_mover-requires-clause-agent : goal.note_mover-requires-clause-agent
+note_mover-requires-clause-agent c = subst (λ (x : Assigned). IsAgentOf x.market c.args.agent) (sym c.in_ok-moved.ensures.places) (front_within c.requires.running)
+
+pub note_mover-requires-clause-named : goal.note_mover-requires-clause-named
+note_mover-requires-clause-named c =
+    subst (λ (x : Assigned). AreNamed x.market c.follow_displaced.new.watch.couples) (sym c.in_ok-moved.ensures.places)
+    (subst (AreNamed c.args.assignment.now.market) (sym (c.in_ok-follow_displaced.ensures.couples ∙ c.in_ok-follow_sent.ensures.couples)) c.requires.watch.named)
+
+pub note_mover-requires-clause-counted : goal.note_mover-requires-clause-counted
+note_mover-requires-clause-counted c =
+    counting c.args.assignment.now c.move_to.new.self c.args.sent.now c.args.agent c.args.watch.now c.follow_sent.new.watch c.follow_displaced.new.watch c.deref.result.now
+    c.requires.taking c.in_ok-moved.ensures.places c.requires.watch.counted c.in_ok-follow_sent.ensures.better c.in_ok-follow_displaced.ensures.better
+    (c.deref.ensures.value ∙ c.in_ok-moved.ensures.displaced)
+
+-- the agents of who is displaced join
+displaced_join : (s0 s1 : Assigned) (sent : Placement) (old new : Waiting) (xs : List ℕ) → s1 ≡ moved s0 sent → xs ≡ displaced_by s0 sent → Joins old new (agents_of s1 xs)
+    → Joins old new (agents_of s0 (displaced_by s0 sent))
+displaced_join s0 s1 sent old new xs after displaced joins = joins ∙ ap₂ (λ (x : Assigned) ys. with_agents old (all_joined old.agents (agents_of x ys))) after displaced
 
 pub look_at_left-requires-clause-watch : goal.look_at_left-requires-clause-watch
 look_at_left-requires-clause-watch c =
-    watching c.args.assignment.now c.move_to.new.self c.args.sent.now c.args.agent c.args.last c.args.watch.now c.follow_sent.new.watch c.follow_displaced.new.watch c.deref.result.now
-    c.requires.taking c.in_ok-moved.ensures.places c.requires.watch c.in_ok-follow_sent.ensures.singles c.in_ok-follow_displaced.ensures.singles c.in_ok-follow_sent.ensures.better c.in_ok-follow_displaced.ensures.better
-    (c.deref.ensures.value ∙ c.in_ok-moved.ensures.displaced) (c.in_ok-follow_displaced.ensures.couples ∙ c.in_ok-follow_sent.ensures.couples)
+    let s0 = c.args.assignment.now in
+    let s1 = c.move_to.new.self in
+    let old = c.args.waiting.now in
+    let mid = c.join_displaced.new.waiting in
+    let itself = if_blocking s1 c.args.agent in
+    let out = agents_of s0 (displaced_by s0 c.args.sent.now) in
+    let first = displaced_join s0 s1 c.args.sent.now old mid c.deref-2.result.now c.in_ok-moved.ensures.places (c.deref-2.ensures.value ∙ c.in_ok-moved.ensures.displaced) c.join_displaced.ensures in
+    watching s0 s1 c.args.sent.now c.args.agent c.args.last old.agents c.look_at_mover.new.waiting.agents c.args.watch.now c.follow_sent.new.watch c.follow_displaced.new.watch c.note_mover.new.watch
+    c.deref.result.now c.requires.taking c.in_ok-moved.ensures.places c.requires.watch c.in_ok-follow_sent.ensures.singles c.in_ok-follow_displaced.ensures.singles c.in_ok-follow_sent.ensures.better
+    c.in_ok-follow_displaced.ensures.better (c.deref.ensures.value ∙ c.in_ok-moved.ensures.displaced) (c.in_ok-follow_displaced.ensures.couples ∙ c.in_ok-follow_sent.ensures.couples)
+    c.in_ok-note_mover.ensures.singles c.in_ok-note_mover.ensures.better c.in_ok-note_mover.ensures.named c.in_ok-note_mover.ensures.noted
+    (λ h on. joins_keeps mid c.look_at_mover.new.waiting itself h c.look_at_mover.ensures (joins_keeps old mid out h first on))
+    (λ h on. joins_keeps mid c.look_at_mover.new.waiting itself h c.look_at_mover.ensures (joins_adds old mid out h first on))
 
 pub returns : goal.returns
 returns c =
@@ -122,10 +164,18 @@ returns c =
     c.in_ok-look_at_left.ensures ∙ ap (λ (x : Assigned). joins c.look_at_mover.new.waiting (reopened x c.args.last c.deref-3.result.now)) after in
     let all = waits_after c.requires.taking c.args.last c.args.waiting.now c.join_displaced.new.waiting c.look_at_mover.new.waiting c.look_at_left.new.waiting c.deref-3.result.now first second third
     (c.deref-3.ensures.value ∙ c.in_ok-moved.ensures.left) in
+    let out = agents_of s0 (displaced_by s0 c.args.sent.now) in
+    let itself = if_blocking (moved s0 c.args.sent.now) c.args.agent in
+    let again = reopened (moved s0 c.args.sent.now) c.args.last c.deref-3.result.now in
+    let goes_on = λ (h : Agent) (on : is_on c.join_displaced.new.waiting.agents h ≡ true).
+    joins_keeps c.look_at_mover.new.waiting c.look_at_left.new.waiting again h third (joins_keeps c.join_displaced.new.waiting c.look_at_mover.new.waiting itself h second on) in
     record {
-      watch = watching c.args.assignment.now c.move_to.new.self c.args.sent.now c.args.agent c.args.last c.args.watch.now c.follow_sent.new.watch c.follow_displaced.new.watch c.deref.result.now
-          c.requires.taking c.in_ok-moved.ensures.places c.requires.watch c.in_ok-follow_sent.ensures.singles c.in_ok-follow_displaced.ensures.singles c.in_ok-follow_sent.ensures.better c.in_ok-follow_displaced.ensures.better
-          (c.deref.ensures.value ∙ c.in_ok-moved.ensures.displaced) (c.in_ok-follow_displaced.ensures.couples ∙ c.in_ok-follow_sent.ensures.couples);
+      watch = watching s0 c.move_to.new.self c.args.sent.now c.args.agent c.args.last c.args.waiting.now.agents c.look_at_left.new.waiting.agents c.args.watch.now c.follow_sent.new.watch
+          c.follow_displaced.new.watch c.note_mover.new.watch c.deref.result.now c.requires.taking after c.requires.watch c.in_ok-follow_sent.ensures.singles c.in_ok-follow_displaced.ensures.singles
+          c.in_ok-follow_sent.ensures.better c.in_ok-follow_displaced.ensures.better (c.deref.ensures.value ∙ c.in_ok-moved.ensures.displaced)
+          (c.in_ok-follow_displaced.ensures.couples ∙ c.in_ok-follow_sent.ensures.couples) c.in_ok-note_mover.ensures.singles c.in_ok-note_mover.ensures.better c.in_ok-note_mover.ensures.named
+          c.in_ok-note_mover.ensures.noted (λ h on. goes_on h (joins_keeps c.args.waiting.now c.join_displaced.new.waiting out h first on))
+          (λ h on. goes_on h (joins_adds c.args.waiting.now c.join_displaced.new.waiting out h first on));
       market = ap (λ (x : Assigned). x.market) after;
       room = all ∙ ap (λ (w : Waiting). with_agents c.args.waiting.now w.agents) (sym all);
       work = ap₂ (λ (x : Assigned) (w : Waiting). work_of x w) after all;
@@ -133,6 +183,7 @@ returns c =
 
 pub look_at_mover-requires-clause-counted : goal.look_at_mover-requires-clause-counted
 look_at_mover-requires-clause-counted c =
-    (watching c.args.assignment.now c.move_to.new.self c.args.sent.now c.args.agent c.args.last c.args.watch.now c.follow_sent.new.watch c.follow_displaced.new.watch c.deref.result.now
-    c.requires.taking c.in_ok-moved.ensures.places c.requires.watch c.in_ok-follow_sent.ensures.singles c.in_ok-follow_displaced.ensures.singles c.in_ok-follow_sent.ensures.better c.in_ok-follow_displaced.ensures.better
-    (c.deref.ensures.value ∙ c.in_ok-moved.ensures.displaced) (c.in_ok-follow_displaced.ensures.couples ∙ c.in_ok-follow_sent.ensures.couples)).counted
+    subst (λ (v : Vec ℕ Global). AreCounted c.move_to.new.self v.items) (sym c.in_ok-note_mover.ensures.better)
+    (counting c.args.assignment.now c.move_to.new.self c.args.sent.now c.args.agent c.args.watch.now c.follow_sent.new.watch c.follow_displaced.new.watch c.deref.result.now
+    c.requires.taking c.in_ok-moved.ensures.places c.requires.watch.counted c.in_ok-follow_sent.ensures.better c.in_ok-follow_displaced.ensures.better
+    (c.deref.ensures.value ∙ c.in_ok-moved.ensures.displaced))
