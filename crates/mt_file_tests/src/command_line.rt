@@ -1,5 +1,6 @@
 //! The words after the name of the program, and what they ask for.
 
+use crate::expect::holds_for;
 use mt_args::{AskEnd, Asked, asked};
 use mt_terms::Options;
 use std::alloc::{AllocError, Global};
@@ -86,7 +87,7 @@ fn expect_run(
     wanted: Option<&str>,
     options: Options,
 ) -> Result<(), AllocError> {
-    assert!(rt; asks_for(alloc, words, wanted, options)?, "{words:?}");
+    holds_for(rt, asks_for(alloc, words, wanted, options)?, &words);
     Ok(())
 }
 
@@ -133,7 +134,7 @@ const NOT_TAKEN: &[&[&str]] = &[
 #[test]
 fn words_that_are_not_taken(rt: HostRuntime) -> Result<(), Fail> {
     for words in NOT_TAKEN {
-        assert!(rt; is_usage(rt.alloc(), words)?, "{words:?}");
+        holds_for(&rt, is_usage(rt.alloc(), words)?, &words);
     }
     Ok(())
 }
@@ -160,7 +161,7 @@ fn expect_complaint(
     words: &[&str],
     text: &str,
 ) -> Result<(), AllocError> {
-    assert!(rt; is_refused(alloc, words, text)?, "{words:?}");
+    holds_for(rt, is_refused(alloc, words, text)?, &words);
     Ok(())
 }
 

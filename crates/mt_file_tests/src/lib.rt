@@ -4,6 +4,8 @@
 #[cfg(test)]
 mod command_line;
 #[cfg(test)]
+mod expect;
+#[cfg(test)]
 mod reading;
 #[cfg(test)]
 mod registration;

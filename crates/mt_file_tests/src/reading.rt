@@ -1,5 +1,6 @@
 //! Bytes to records: reads that fail, limits, and the rows of a file as a spreadsheet writes it.
 
+use crate::expect::{holds_for, same};
 use mt_lists::{ListFault, ReadEnd, Row, Rows, SourceFault, Tap, laws, read_all, records};
 use mt_samples::devices::{Endless, Pieces};
 use std::alloc::{AllocError, Global};
@@ -22,10 +23,10 @@ fn expect_rows(rt: &impl Abort, rows: &Rows<'_>, expected: &[&[&[u8]]]) {
     let mut number = 0;
     for row in rows.iter() {
         assert!(rt; number < expected.len());
-        assert!(rt; has_fields(&row, expected[number]), "row {number}");
+        holds_for(rt, has_fields(&row, expected[number]), &number);
         number += 1;
     }
-    assert_eq!(rt; number, expected.len());
+    same(rt, &number, &expected.len());
 }
 
 #[test]
@@ -75,9 +76,9 @@ fn interrupted_read_fails(rt: HostRuntime) -> Result<(), Fail> {
     let first = tap.read(&mut buf);
     let second = tap.read(&mut buf);
     let counted = (tap.reads(), tap.failures());
-    assert_eq!(rt; (first, second), (Err(SourceFault), Ok(2)));
-    assert_eq!(rt; counted, (2, 1));
-    assert_eq!(rt; source.calls, 2);
+    same(&rt, &(first, second), &(Err(SourceFault), Ok(2)));
+    same(&rt, &counted, &(2, 1));
+    same(&rt, &source.calls, &2);
     assert!(rt; buf.starts_with(b"ab"));
     Ok(())
 }
@@ -88,8 +89,8 @@ fn expect_last_read(rt: &impl Abort, alloc: Global, at: u32, failure: ErrorKind)
     let mut tap = Tap::new(&mut source);
     let result = read_all(alloc, &mut tap, 10);
     assert!(rt; matches!(result, Err(ReadEnd::Fault)));
-    assert_eq!(rt; (tap.reads(), tap.failures()), (u64::from(at), 1));
-    assert_eq!(rt; source.calls, at);
+    same(rt, &(tap.reads(), tap.failures()), &(u64::from(at), 1));
+    same(rt, &source.calls, &at);
 }
 
 #[test]
@@ -107,8 +108,8 @@ fn a_read_fills_the_buffer(rt: HostRuntime) -> Result<(), Fail> {
     let mut source = Pieces::new(b"0123456789", 100, 0, ErrorKind::Other);
     let mut tap = Tap::new(&mut source);
     let mut buf = [0u8; 8];
-    assert_eq!(rt; tap.read(&mut buf), Ok(8));
-    assert_eq!(rt; (source.calls, source.longest), (1, 8));
+    same(&rt, &tap.read(&mut buf), &Ok(8));
+    same(&rt, &(source.calls, source.longest), &(1, 8));
     assert!(rt; buf == *b"01234567");
     Ok(())
 }
@@ -117,8 +118,8 @@ fn a_read_fills_the_buffer(rt: HostRuntime) -> Result<(), Fail> {
 fn expect_limit(rt: &impl Abort, alloc: Global, size: usize) -> Result<(), ReadEnd> {
     let text = b"0123456789".as_slice();
     let mut tap = Tap::new(Pieces::new(text, size, 0, ErrorKind::Other));
-    assert_eq!(rt; read_all(alloc, &mut tap, 10)?.as_slice(), text);
-    assert_eq!(rt; tap.failures(), 0);
+    same(rt, &read_all(alloc, &mut tap, 10)?.as_slice(), &text);
+    same(rt, &tap.failures(), &0);
     let mut tap = Tap::new(Pieces::new(text, size, 0, ErrorKind::Other));
     let result = read_all(alloc, &mut tap, 9);
     assert!(rt; matches!(result, Err(ReadEnd::TooLarge)));
@@ -138,10 +139,10 @@ fn an_input_without_end_and_one_without_a_byte(rt: HostRuntime) -> Result<(), Fa
     let mut endless = Tap::new(Endless { size: 1 });
     let result = read_all(rt.alloc(), &mut endless, 5);
     assert!(rt; matches!(result, Err(ReadEnd::TooLarge)));
-    assert_eq!(rt; endless.reads(), 6);
+    same(&rt, &endless.reads(), &6);
     let mut empty = Tap::new(b"".as_slice());
     assert!(rt; read_all(rt.alloc(), &mut empty, 0)?.is_empty());
-    assert_eq!(rt; empty.reads(), 1);
+    same(&rt, &empty.reads(), &1);
     Ok(())
 }
 
@@ -155,7 +156,7 @@ fn joined(alloc: Global, row: &Row<'_>) -> Result<Vec<u8>, AllocError> {
 }
 
 fn expect_joined(rt: &impl Abort, alloc: Global, row: &Row<'_>) -> Result<(), AllocError> {
-    assert_eq!(rt; joined(alloc, row)?.as_slice(), b"abc".as_slice());
+    same(rt, &joined(alloc, row)?.as_slice(), &b"abc".as_slice());
     Ok(())
 }
 
@@ -164,13 +165,13 @@ fn expect_third_left(rt: &impl Abort, row: &Row<'_>) {
     let mut left = row.fields();
     assert!(rt; left.next() == Some(b"a".as_slice()));
     assert!(rt; left.next() == Some(b"".as_slice()));
-    assert_eq!(rt; left.len(), 1);
+    same(rt, &left.len(), &1);
 }
 
 // A row of three fields, of which the second is empty.
 fn expect_three_fields(rt: &impl Abort, alloc: Global, row: &Row<'_>) -> Result<(), AllocError> {
     assert!(rt; !row.is_empty());
-    assert_eq!(rt; row.fields().len(), 3);
+    same(rt, &row.fields().len(), &3);
     expect_joined(rt, alloc, row)?;
     expect_third_left(rt, row);
     Ok(())

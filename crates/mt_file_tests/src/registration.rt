@@ -7,6 +7,7 @@ mod limits;
 mod markets;
 mod withdrawals;
 
+use crate::expect::holds_for;
 use mt_lists::{ListFault, records};
 use mt_roster::{Roster, RosterError, RosterFault, roster};
 use mt_terms::{Agent, AppNo, CoupleNo, ProgNo};
@@ -176,7 +177,7 @@ fn expect_refused<R: Abort + Threads + Sync>(
     files: &[(&str, Fault<'_>)],
 ) -> Result<(), Fail> {
     for (file, fault) in files {
-        assert!(rt; is_refused(rt, alloc, file, *fault)?, "{file}");
+        holds_for(rt, is_refused(rt, alloc, file, *fault)?, &file);
     }
     Ok(())
 }

@@ -1,4 +1,5 @@
 //! Seeds of tables: nobody sees them, but what is hashed by them depends on all that a table will hold.
+use crate::expect::same;
 use mt_ids::{Seed, add_field};
 use std::hash::{BuildHasher, DefaultHasher, Hasher};
 use std::test::Fail;
@@ -17,7 +18,7 @@ fn hashed(first: &[u8], second: &[u8]) -> u64 {
 #[test]
 fn bytes_parted_otherwise_give_another_seed(rt: HostRuntime) -> Result<(), Fail> {
     let seen = hashed(b"ab", b"c");
-    assert_eq!(&rt; seen, hashed(b"ab", b"c"));
+    same(&rt, &seen, &hashed(b"ab", b"c"));
     assert!(&rt; seen != hashed(b"ab", b"d"));
     assert!(&rt; seen != hashed(b"a", b"bc"));
     Ok(())

@@ -3,6 +3,7 @@
 ghost use Rattle.std.specs.Prelude.{◌≡◌, length};
 ghost use Rattle.mt_terms.specs.Places.{ArePlaces};
 
+use crate::expect::same;
 use mt_report::{published, refused};
 use mt_roster::Roster;
 use mt_samples::markets::{CHAIN, CHAIN_TEXT, roster_of};
@@ -37,9 +38,9 @@ fn expect_text(
     expected: &[u8],
 ) -> Result<(), Fail> {
     assert!(rt; are_places(roster, places));
-    assert_eq!(rt; proposals.len(), roster.programs() as usize);
+    assert!(rt; proposals.len() == roster.programs() as usize);
     let text = text_of(alloc, roster, places, proposals)?;
-    assert_eq!(rt; text.as_slice(), expected);
+    same(rt, &text.as_slice(), &expected);
     Ok(())
 }
 
@@ -57,9 +58,10 @@ fn a_match_as_a_text(rt: HostRuntime) -> Result<(), Fail> {
 fn expect_line(rt: &impl Abort, code: u16, row: u64, id: &str, line: &str) {
     assert!(rt; matches!(code, 10..=22 | 30 | 31 | 41));
     assert!(rt; id.len() <= 64);
-    assert_eq!(rt;
-        refused(code, row, id.as_bytes()).as_bytes(),
-        line.as_bytes()
+    same(
+        rt,
+        &refused(code, row, id.as_bytes()).as_bytes(),
+        &line.as_bytes(),
     );
 }
 
@@ -101,11 +103,11 @@ fn longest_lines(rt: HostRuntime) {
     let id = "abcdefghijklmnopqrstuvwxyz012345ABCDEFGHIJKLMNOPQRSTUVWXYZ._:-67";
     let longest =
         "match,1,refused,20,UnknownApplicant,33554432,abcdefghijklmnopqrstuvwxyz012345ABCDEFGHIJKLMNOPQRSTUVWXYZ._:-67\n";
-    assert_eq!(rt; longest.len(), 110);
+    same(&rt, &longest.len(), &110);
     expect_line(&rt, 20, 33_554_432, id, longest);
     let of_version_1 =
         "match,1,refused,20,UnknownApplicant,33554432,abcdefghijklmnopqrstuvwxyz012345\n";
-    assert_eq!(rt; of_version_1.len(), 78);
+    same(&rt, &of_version_1.len(), &78);
     expect_line(
         &rt,
         20,

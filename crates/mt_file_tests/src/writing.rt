@@ -1,5 +1,6 @@
 //! Texts into writers that take little at a time, fail, or take nothing.
 
+use crate::expect::same;
 use mt_report::{Drain, put_all};
 use mt_samples::devices::{Faltering, Narrow};
 use mt_samples::markets::CROSSED_TEXT as TEXT;
@@ -12,9 +13,9 @@ use std::test::Fail;
 fn expect_put<W: Write>(rt: &impl Abort, writer: &mut W, written: u64, whole: bool) {
     let mut drain = Drain::new(writer);
     let wrote = put_all(&mut drain, TEXT);
-    assert_eq!(rt; wrote.written, written);
-    assert_eq!(rt; wrote.whole, whole);
-    assert_eq!(rt; drain.failures(), u64::from(!whole));
+    same(rt, &wrote.written, &written);
+    same(rt, &wrote.whole, &whole);
+    same(rt, &drain.failures(), &u64::from(!whole));
 }
 
 // Writes the text, of which the writer has to take the first bytes alone, and none after it failed. Only a text
@@ -23,13 +24,13 @@ fn expect_written(rt: &impl Abort, narrow: Narrow, first: usize, whole: bool) {
     assert!(rt; first <= TEXT.len());
     let mut writer = narrow;
     expect_put(rt, &mut writer, first as u64, whole);
-    assert_eq!(rt; writer.taken.as_slice(), &TEXT[..first]);
-    assert_eq!(rt; writer.flushes, u32::from(first == TEXT.len()));
+    same(rt, &writer.taken.as_slice(), &&TEXT[..first]);
+    same(rt, &writer.flushes, &u32::from(first == TEXT.len()));
 }
 
 #[test]
 fn a_writer_that_stops_in_the_text(rt: HostRuntime) {
-    assert_eq!(rt; TEXT.len(), 99);
+    assert!(rt; TEXT.len() == 99);
     for at_once in [1, 7, 100] {
         for fails in [false, true] {
             for room in 0..99 {
@@ -69,17 +70,23 @@ fn a_writer_that_takes_the_whole_text(rt: HostRuntime) {
 fn expect_two_texts(rt: &impl Abort, writer: &mut Narrow) {
     let mut drain = Drain::new(writer);
     let nothing = put_all(&mut drain, b"");
-    assert_eq!(rt;
-        (nothing.written, nothing.whole, drain.failures()),
-        (0, true, 0)
+    same(
+        rt,
+        &(nothing.written, nothing.whole, drain.failures()),
+        &(0, true, 0),
     );
     let some = put_all(&mut drain, TEXT);
-    assert_eq!(rt;
-        (some.written, some.whole, drain.failures()),
-        (10, false, 1)
+    same(
+        rt,
+        &(some.written, some.whole, drain.failures()),
+        &(10, false, 1),
     );
     let none = put_all(&mut drain, TEXT);
-    assert_eq!(rt; (none.written, none.whole, drain.failures()), (0, false, 2));
+    same(
+        rt,
+        &(none.written, none.whole, drain.failures()),
+        &(0, false, 2),
+    );
 }
 
 #[test]
@@ -93,8 +100,8 @@ fn two_texts_through_one_drain(rt: HostRuntime) {
         taken: Vec::new(rt.alloc()),
     };
     expect_two_texts(&rt, &mut writer);
-    assert_eq!(rt; writer.taken.as_slice(), b"match,1,pu".as_slice());
-    assert_eq!(rt; writer.flushes, 1);
+    same(&rt, &writer.taken.as_slice(), &b"match,1,pu".as_slice());
+    same(&rt, &writer.flushes, &1);
 }
 
 // A writer that takes seven bytes at a time, and falters once.
@@ -122,8 +129,8 @@ fn expect_asked(
     assert!(rt; taken <= TEXT.len());
     let mut writer = faltering;
     expect_put(rt, &mut writer, taken as u64, whole);
-    assert_eq!(rt; (writer.writes, writer.flushes), (writes, flushes));
-    assert_eq!(rt; writer.taken.as_slice(), &TEXT[..taken]);
+    same(rt, &(writer.writes, writer.flushes), &(writes, flushes));
+    same(rt, &writer.taken.as_slice(), &&TEXT[..taken]);
 }
 
 // The text has 99 bytes, so fifteen writes take it.
@@ -155,8 +162,8 @@ fn a_long_text_is_offered_whole(rt: HostRuntime) -> Result<(), Fail> {
     };
     let mut drain = Drain::new(&mut writer);
     let wrote = put_all(&mut drain, &text);
-    assert_eq!(rt; (wrote.written, wrote.whole), (1 << 20, true));
-    assert_eq!(rt; (writer.writes, writer.flushes), (1, 1));
+    same(&rt, &(wrote.written, wrote.whole), &(1 << 20, true));
+    same(&rt, &(writer.writes, writer.flushes), &(1, 1));
     assert!(rt; writer.taken == text);
     Ok(())
 }

@@ -2,6 +2,7 @@
 ghost use Rattle.std.specs.Prelude.{◌≡◌, ◌+◌, ◌≤◌};
 ghost use Rattle.mt_terms.specs.Market.{applicants};
 
+use crate::expect::same;
 use mt_crew::{Gate, Open, Singles, work, work_alone};
 use mt_hall::{Answer, Door, Hall, HallName, Pass};
 use mt_ranks::Ranks;
@@ -123,12 +124,12 @@ fn expect_singles(
     places: &[Option<ProgNo>],
     proposals: &[u32],
 ) {
-    assert_eq!(rt; singles.matched.places.as_slice(), places);
-    assert_eq!(rt; singles.proposals.as_slice(), proposals);
+    same(rt, &singles.matched.places.as_slice(), &places);
+    same(rt, &singles.proposals.as_slice(), &proposals);
 }
 
 fn expect_met(rt: &impl Abort, gate: &Watch) {
-    assert_eq!(rt; gate.missed.load(Ordering::SeqCst), 0);
+    same(rt, &gate.missed.load(Ordering::SeqCst), &0);
     assert!(rt; gate.all_proposed());
 }
 
@@ -176,7 +177,7 @@ fn expect_in_time_at<R: Abort + Threads + Wait + Sync>(
 {
     let singles = work(rt, alloc, ranks, workers, gate)?;
     expect_singles(rt, &singles, places, proposals);
-    assert_eq!(rt; gate.proposals(), total(&singles.proposals));
+    same(rt, &gate.proposals(), &total(&singles.proposals));
     Ok(())
 }
 
@@ -389,7 +390,7 @@ fn advance_once<K: HallName, R: Abort + Wait>(
         kept: true,
         displaced: None,
     };
-    assert_eq!(rt; hall.advance(rt, AppNo(applicant), pass), kept);
+    same(rt, &hall.advance(rt, AppNo(applicant), pass), &kept);
     done.store(1, Ordering::SeqCst);
 }
 
@@ -428,7 +429,7 @@ fn expect_first_waits<K: HallName + Send + Sync, R: Abort + Threads + Wait + Syn
         give_way();
         begin(rt, scope, hall, second, 1, second_done);
         assert!(rt; is_done(second_done));
-        assert_eq!(rt; first_done.load(Ordering::SeqCst), 0);
+        same(rt, &first_done.load(Ordering::SeqCst), &0);
         drop(held);
     });
 }
@@ -446,7 +447,7 @@ fn expect_two_doors<K: HallName + Send + Sync, R: Abort + Threads + Wait + Sync>
     let (first_done, second_done) = (AtomicU64::new(0), AtomicU64::new(0));
     let door = hall.door(ProgNo(0));
     expect_first_waits(rt, hall, door, first, second, &first_done, &second_done);
-    assert_eq!(rt; first_done.load(Ordering::SeqCst), 1);
+    same(rt, &first_done.load(Ordering::SeqCst), &1);
 }
 
 fn two_doors_in<K: HallName + Send + Sync, R: Abort + Threads + Wait + Sync>(

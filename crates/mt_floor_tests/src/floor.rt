@@ -2,6 +2,7 @@
 ghost use Rattle.mt_terms.specs.Floor.{IsRecorded};
 ghost use Rattle.mt_core.specs.Floors.{floor_of, IsOpenedWith};
 
+use crate::expect::{same, same_for};
 use mt_core::{Event, Floor, Reply, apply, finish, made, quiet, received, result, run};
 use mt_ranks::Ranks;
 use mt_samples::markets::{BETWEEN, CHAIN};
@@ -48,18 +49,26 @@ const OF_NO_SINGLE: [Event; 7] = [
 fn expect_made(rt: &impl Abort, floor: &Floor, ranks: &Ranks, wanted: &[u32])
     requires { IsOpenedWith ranks.now.market floor.now }
 {
-    assert_eq!(rt; ranks.applicants() as usize, wanted.len());
+    assert!(rt; ranks.applicants() as usize == wanted.len());
     for applicant in 0..ranks.applicants() {
-        assert_eq!(rt; made(floor, AppNo(applicant)), wanted[applicant as usize]);
+        same(
+            rt,
+            &made(floor, AppNo(applicant)),
+            &wanted[applicant as usize],
+        );
     }
 }
 
 fn expect_received(rt: &impl Abort, floor: &Floor, ranks: &Ranks, wanted: &[u32])
     requires { IsOpenedWith ranks.now.market floor.now }
 {
-    assert_eq!(rt; ranks.programs() as usize, wanted.len());
+    assert!(rt; ranks.programs() as usize == wanted.len());
     for program in 0..ranks.programs() {
-        assert_eq!(rt; received(floor, ProgNo(program)), wanted[program as usize]);
+        same(
+            rt,
+            &received(floor, ProgNo(program)),
+            &wanted[program as usize],
+        );
     }
 }
 
@@ -77,7 +86,7 @@ pub(crate) fn expect_chain_end(
     assert!(rt; quiet(floor, ranks));
     let matched = result(alloc, floor, ranks)?;
     let places = [Some(ProgNo(1)), Some(ProgNo(0)), None];
-    assert_eq!(rt; matched.places.as_slice(), places.as_slice());
+    same(rt, &matched.places.as_slice(), &places.as_slice());
     Ok(())
 }
 
@@ -87,7 +96,7 @@ fn expect_reply(rt: &impl Abort, floor: &mut Floor, ranks: &Ranks, event: Event,
     ensures opened { IsOpenedWith ranks.now.market floor.new }
     ensures recorded { IsRecorded ranks.now.market (floor_of ranks.now.market floor.new) }
 {
-    assert_eq!(rt; apply(floor, ranks, event), reply, "at {event:?}");
+    same_for(rt, &apply(floor, ranks, event), &reply, &event);
 }
 
 fn expect_replies(
@@ -102,7 +111,7 @@ fn expect_replies(
     ensures opened { IsOpenedWith ranks.now.market floor.new }
     ensures recorded { IsRecorded ranks.now.market (floor_of ranks.now.market floor.new) }
 {
-    assert_eq!(rt; events.len(), replies.len());
+    assert!(rt; events.len() == replies.len());
     for number in 0..events.len() {
         expect_reply(rt, floor, ranks, events[number], replies[number]);
     }
@@ -162,7 +171,7 @@ fn expect_due(rt: &impl Abort, floor: &mut Floor, ranks: &Ranks, events: &[Event
     ensures recorded { IsRecorded ranks.now.market (floor_of ranks.now.market floor.new) }
 {
     assert!(rt; !quiet(floor, ranks));
-    assert_eq!(rt; run(floor, ranks, events), due);
+    same(rt, &run(floor, ranks, events), &due);
 }
 
 // None of the events is due any more, and there is nothing to finish.
@@ -172,8 +181,8 @@ fn expect_none_due(rt: &impl Abort, floor: &mut Floor, ranks: &Ranks, events: &[
     ensures opened { IsOpenedWith ranks.now.market floor.new }
     ensures recorded { IsRecorded ranks.now.market (floor_of ranks.now.market floor.new) }
 {
-    assert_eq!(rt; run(floor, ranks, events), 0);
-    assert_eq!(rt; finish(floor, ranks), 0);
+    same(rt, &run(floor, ranks, events), &0);
+    same(rt, &finish(floor, ranks), &0);
 }
 
 // So many of the events are due, the floor ends as it must, and then none is due any more.
@@ -225,7 +234,7 @@ pub(crate) fn expect_finished(
     requires recorded { IsRecorded ranks.now.market (floor_of ranks.now.market floor.old) }
 {
     assert!(rt; !quiet(floor, ranks));
-    assert_eq!(rt; finish(floor, ranks), proposals);
+    same(rt, &finish(floor, ranks), &proposals);
     expect_chain_end(rt, alloc, floor, ranks)
 }
 

@@ -3,6 +3,7 @@ ghost use Rattle.std.specs.Prelude.{◌≡◌, ◌+◌, length};
 ghost use Rattle.mt_terms.specs.Market.{applicants};
 ghost use Rattle.mt_core.specs.Floors.{IsOpenedWith};
 
+use crate::expect::{same, same_for};
 use crate::floor::{expect_chain_end, expect_finished};
 use mt_hall::{Answer, Audit, Door, Hall, HallName, Pass};
 use mt_ranks::Ranks;
@@ -32,10 +33,11 @@ fn expect_answer<K: HallName, R: Abort + Wait>(
     applicant: u32,
     answer: Answer,
 ) {
-    assert_eq!(rt;
-        hall.advance(rt, AppNo(applicant), pass),
-        answer,
-        "of {applicant}"
+    same_for(
+        rt,
+        &hall.advance(rt, AppNo(applicant), pass),
+        &answer,
+        &applicant,
     );
 }
 
@@ -51,18 +53,22 @@ fn expect_stranger<K: HallName, R: Abort + Wait>(
 fn expect_proposed<K: HallName>(rt: &impl Abort, ranks: &Ranks, pass: &Pass<K>, to: &[u32])
     requires { ranks.now ≡ K.ranked }
 {
-    assert_eq!(rt; ranks.programs() as usize, to.len());
+    assert!(rt; ranks.programs() as usize == to.len());
     for program in 0..ranks.programs() {
-        assert_eq!(rt; pass.proposed(ProgNo(program)), to[program as usize]);
+        same(rt, &pass.proposed(ProgNo(program)), &to[program as usize]);
     }
 }
 
 fn expect_proposed_for<K: HallName>(rt: &impl Abort, ranks: &Ranks, pass: &Pass<K>, by: &[u32])
     requires { ranks.now ≡ K.ranked }
 {
-    assert_eq!(rt; ranks.applicants() as usize, by.len());
+    assert!(rt; ranks.applicants() as usize == by.len());
     for applicant in 0..ranks.applicants() {
-        assert_eq!(rt; pass.proposed_for(AppNo(applicant)), by[applicant as usize]);
+        same(
+            rt,
+            &pass.proposed_for(AppNo(applicant)),
+            &by[applicant as usize],
+        );
     }
 }
 
@@ -77,14 +83,14 @@ fn expect_pass<K: HallName>(
 )
     requires { ranks.now ≡ K.ranked }
 {
-    assert_eq!(rt; pass.proposals(), proposals);
+    same(rt, &pass.proposals(), &proposals);
     expect_proposed(rt, ranks, pass, to);
     expect_proposed_for(rt, ranks, pass, by);
 }
 
 // Every desk is in its place, and the passes' counts add up to the floor's.
 fn expect_order(rt: &impl Abort, audit: &Audit) {
-    assert_eq!(rt; audit.astray, None);
+    same(rt, &audit.astray, &None);
     assert!(rt; audit.agrees);
 }
 
@@ -148,8 +154,8 @@ fn expect_door<K: HallName, R: Abort + Wait>(
     received: u32,
 ) {
     let locked = door.lock(rt);
-    assert_eq!(rt; locked.program(), program);
-    assert_eq!(rt; locked.received(), received);
+    same(rt, &locked.program(), &program);
+    same(rt, &locked.received(), &received);
 }
 
 // Each lock of a door has that program's, which has received so many proposals.
@@ -161,7 +167,7 @@ fn expect_doors<K: HallName, R: Abort + Wait>(
 )
     requires { ranks.now ≡ K.ranked }
 {
-    assert_eq!(rt; ranks.programs() as usize, received.len());
+    assert!(rt; ranks.programs() as usize == received.len());
     for program in 0..ranks.programs() {
         let wanted = received[program as usize];
         let program = ProgNo(program);
@@ -239,7 +245,7 @@ fn expect_wishes<K: HallName, R: Abort + Wait>(
     expect_by_wishes(rt, hall, pass);
     expect_pass(rt, ranks, pass, 5, &[3, 2], &[2, 2, 1]);
     // Whoever is alone finds each lock free.
-    assert_eq!(rt; pass.waits(), 0);
+    same(rt, &pass.waits(), &0);
 }
 
 fn wishes_in<K: HallName, R: Abort + Wait>(
@@ -330,9 +336,10 @@ fn threads_in<K: HallName + Send + Sync, R: Abort + Threads + Wait + Sync>(
 {
     let (hall, mut passes) = Hall::<K>::open(alloc, ranks, 2, blank)?;
     work_all(rt, &hall, &mut passes, ranks.applicants());
-    assert_eq!(rt;
-        passes[0].proposals() as u128 + passes[1].proposals() as u128,
-        5
+    same(
+        rt,
+        &(passes[0].proposals() as u128 + passes[1].proposals() as u128),
+        &5,
     );
     let audit = hall.close(passes);
     expect_order(rt, &audit);

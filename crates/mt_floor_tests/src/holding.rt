@@ -2,12 +2,13 @@
 ghost use Rattle.std.specs.Prelude.{◌≡◌};
 ghost use Rattle.mt_hold.specs.Holding.{ranks};
 
+use crate::expect::{same, same_for};
 use mt_hold::{Hold, Taken};
 use std::process::Abort;
 use std::test::Fail;
 
 fn expect_taken(rt: &impl Abort, rank: u32, taken: Taken, reply: Taken) {
-    assert_eq!(rt; taken, reply, "rank {rank}");
+    same_for(rt, &taken, &reply, &rank);
 }
 
 // Makes a proposal that wasn't made yet, and expects this reply.
@@ -25,8 +26,8 @@ fn expect_reply(rt: &impl Abort, hold: &mut Hold, list_len: u32, rank: u32, repl
 fn expect_held(rt: &impl Abort, hold: &Hold, held: [bool; 3])
     requires { ranks hold.now ≡ 3 }
 {
-    assert_eq!(rt; hold.count(), 3);
-    assert_eq!(rt; [hold.holds(0), hold.holds(1), hold.holds(2)], held);
+    same(rt, &hold.count(), &3);
+    same(rt, &[hold.holds(0), hold.holds(1), hold.holds(2)], &held);
 }
 
 #[test]

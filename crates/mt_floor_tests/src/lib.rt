@@ -4,6 +4,8 @@
 #[cfg(test)]
 mod crew;
 #[cfg(test)]
+mod expect;
+#[cfg(test)]
 mod floor;
 #[cfg(test)]
 mod hall;

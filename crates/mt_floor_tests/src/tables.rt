@@ -1,6 +1,7 @@
 //! The rank tables of two markets, by all readers.
 ghost use Rattle.std.specs.Prelude.{◌≡◌, ◌<◌, length};
 
+use crate::expect::same;
 use mt_ranks::{Live, Ranks};
 use mt_samples::markets::BETWEEN;
 use mt_samples::tables::with_ranks;
@@ -34,17 +35,17 @@ fn ranks_at(alloc: Global, tables: &Ranks, program: ProgNo) -> Result<Vec<Option
 }
 
 fn expect_ranking(rt: &impl Abort, ranking: &[AppNo], expected: &[u32]) {
-    assert_eq!(rt; ranking.len(), expected.len());
+    assert!(rt; ranking.len() == expected.len());
     for rank in 0..ranking.len() {
         let applicant = ranking[rank];
-        assert_eq!(rt; applicant.0, expected[rank]);
+        same(rt, &applicant.0, &expected[rank]);
     }
 }
 
 fn expect_count(rt: &impl Abort, count: u32, wanted: usize)
     ensures { count ≡ wanted }
 {
-    assert_eq!(rt; count as usize, wanted);
+    assert!(rt; count as usize == wanted);
 }
 
 fn expect_program(
@@ -58,10 +59,10 @@ fn expect_program(
 ) -> Result<(), AllocError>
     requires { program < length tables.now.market.programs }
 {
-    assert_eq!(rt; tables.quota(program), quota);
+    same(rt, &tables.quota(program), &quota);
     expect_ranking(rt, tables.by_rank(program), ranking);
     let found = ranks_at(alloc, tables, program)?;
-    assert_eq!(rt; found.as_slice(), ranks);
+    same(rt, &found.as_slice(), &ranks);
     Ok(())
 }
 
@@ -85,10 +86,10 @@ fn expect_programs(
 }
 
 fn expect_live(rt: &impl Abort, live: &[Live], expected: &[(u32, u32)]) {
-    assert_eq!(rt; live.len(), expected.len());
+    assert!(rt; live.len() == expected.len());
     for number in 0..live.len() {
         let entry = live[number];
-        assert_eq!(rt; (entry.program.0, entry.rank), expected[number]);
+        same(rt, &(entry.program.0, entry.rank), &expected[number]);
     }
 }
 
@@ -106,7 +107,7 @@ fn expect_applicants(rt: &impl Abort, tables: &Ranks, expected: &Expected<'_>) {
         let number = applicant as usize;
         let applicant = AppNo(applicant);
         expect_live(rt, tables.live(applicant), expected.live[number]);
-        assert_eq!(rt; tables.is_single(applicant), expected.singles[number]);
+        same(rt, &tables.is_single(applicant), &expected.singles[number]);
     }
     expect_nobody_past_the_end(rt, tables);
 }

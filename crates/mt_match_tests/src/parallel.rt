@@ -3,6 +3,7 @@
 ghost use Rattle.std.specs.Prelude.{◌≡◌};
 ghost use Rattle.mt_ranks.specs.Ranked.{ranked_of};
 
+use crate::expect::same;
 use crate::plain::{plain_rank, plain_verdict};
 use mt_ranks::{Live, Ranks};
 use mt_roster::Roster;
@@ -19,7 +20,7 @@ use std::thread::Threads;
 
 fn expect_entry(rt: &impl Abort, live: Option<&Live>, program: ProgNo, rank: u32) {
     let entry = live.expect(rt, "a live entry");
-    assert_eq!(rt; (entry.program.0, entry.rank), (program.0, rank));
+    same(rt, &(entry.program.0, entry.rank), &(program.0, rank));
 }
 
 // The live list is of those programs on the applicant's list that list it too, each with the plain rank.
@@ -36,8 +37,8 @@ fn expect_live(rt: &impl Abort, roster: &Roster, live: &[Live], applicant: AppNo
 }
 
 fn expect_tables(rt: &impl Abort, roster: &Roster, ranks: &Ranks) {
-    assert_eq!(rt; ranks.applicants(), roster.applicants());
-    assert_eq!(rt; ranks.programs(), roster.programs());
+    same(rt, &ranks.applicants(), &roster.applicants());
+    same(rt, &ranks.programs(), &roster.programs());
     for number in 0..ranks.applicants() {
         let applicant = AppNo(number);
         expect_live(rt, roster, ranks.live(applicant), applicant);
@@ -51,7 +52,7 @@ fn expect_ranks(rt: &impl Abort, roster: &Roster, ranks: &Ranks) {
             if ranks.programs() > 0 {
                 let program = ProgNo(number.saturating_add(step) % ranks.programs());
                 let rank = plain_rank(roster, program, AppNo(number));
-                assert_eq!(rt; ranks.rank(program, AppNo(number)), rank);
+                same(rt, &ranks.rank(program, AppNo(number)), &rank);
             }
         }
     }
@@ -70,9 +71,10 @@ fn expect_plain_verdict<R: Abort + Threads + Sync>(
     let matched = Match {
         places: Places::new(places),
     };
-    assert_eq!(rt;
-        verify(rt, alloc, roster, ranks, &matched)?,
-        plain_verdict(roster, &matched)
+    same(
+        rt,
+        &verify(rt, alloc, roster, ranks, &matched)?,
+        &plain_verdict(roster, &matched),
     );
     Ok(())
 }

@@ -2,6 +2,7 @@
 ghost use Rattle.std.specs.Prelude.{◌≡◌};
 ghost use Rattle.mt_ranks.specs.Ranked.{ranked_of};
 
+use crate::expect::same;
 use mt_couples::{CoupleEnd, Entered, enter_all};
 use mt_ranks::Ranks;
 use mt_roster::Roster;
@@ -40,8 +41,8 @@ fn entered<R: Threads + Sync>(
 // s, a and b are the applicants 0, 1 and 2, x and y the programs 0 and 1.
 fn expect_half_a_pair(rt: &impl Abort, ended: &Entered) {
     let places = [Some(ProgNo(1)), Some(ProgNo(0)), None];
-    assert_eq!(rt; ended.matched.places.as_slice(), places.as_slice());
-    assert_eq!(rt; ended.rounds, 4);
+    same(rt, &ended.matched.places.as_slice(), &places.as_slice());
+    same(rt, &ended.rounds, &4);
 }
 
 fn expect_within<R: Abort + Threads + Sync>(

@@ -4,6 +4,7 @@
 ghost use Rattle.std.specs.Prelude.{◌≡◌};
 ghost use Rattle.mt_ranks.specs.Ranked.{ranked_of};
 
+use crate::expect::{same, same_for};
 use crate::plain::plain_verdict;
 use mt_ranks::Ranks;
 use mt_roster::Roster;
@@ -149,7 +150,7 @@ fn finding_on<R: Abort + Threads + Sync>(
         places: Places::new(places),
     };
     let verdict = verify(rt, alloc, roster, ranks, &matched)?;
-    assert_eq!(rt; verdict, plain_verdict(roster, &matched));
+    same(rt, &verdict, &plain_verdict(roster, &matched));
     shown(alloc, &verdict)
 }
 
@@ -178,7 +179,7 @@ fn expect_finding<R: Abort + Threads + Sync>(
     wanted: &str,
 ) -> Result<(), Fail> {
     let found = finding(rt, alloc, file, places)?;
-    assert_eq!(rt; found.as_str(), wanted, "{file}{places}");
+    same_for(rt, &found.as_str(), &wanted, &(file, places));
     Ok(())
 }
 

@@ -1,6 +1,7 @@
 //! Whole runs: one for each exit, the same text for all workers and pieces, and devices that fail.
 ghost use Rattle.std.specs.Prelude.{◌≤◌};
 
+use crate::expect::{same, same_for};
 use mt_lists::Tap;
 use mt_report::Drain;
 use mt_run::{Ended, Options, run};
@@ -57,16 +58,16 @@ fn expect_end<R: Read + Drop>(
     let mut tap = Tap::new(reader);
     let mut drain = Drain::new(&mut writer);
     let ended = run(rt, rt.alloc(), &mut tap, &mut drain, options);
-    assert_eq!(rt; drain.failures(), 0);
-    assert_eq!(rt; writer.taken.as_slice(), text, "{options:?}");
-    assert_eq!(rt; writer.flushes, 1);
+    same(rt, &drain.failures(), &0);
+    same_for(rt, &writer.taken.as_slice(), &text, &options);
+    same(rt, &writer.flushes, &1);
     let wanted = Ended {
         code,
         written: text.len() as u64,
         whole: true,
     };
-    assert_eq!(rt; ended, wanted, "{options:?}");
-    assert_eq!(rt; status_of(rt, &ended), status);
+    same_for(rt, &ended, &wanted, &options);
+    same(rt, &status_of(rt, &ended), &status);
 }
 
 // Expects a run into this writer to write only these bytes of a text, and to end with this code.
@@ -81,15 +82,15 @@ fn expect_cut(
     let mut tap = Tap::new(input);
     let mut drain = Drain::new(&mut writer);
     let ended = run(rt, rt.alloc(), &mut tap, &mut drain, USUAL);
-    assert_eq!(rt; drain.failures(), 1);
-    assert_eq!(rt; writer.taken.as_slice(), taken);
+    same(rt, &drain.failures(), &1);
+    same(rt, &writer.taken.as_slice(), &taken);
     let wanted = Ended {
         code,
         written: taken.len() as u64,
         whole: false,
     };
-    assert_eq!(rt; ended, wanted);
-    assert_eq!(rt; status_of(rt, &ended), 5);
+    same(rt, &ended, &wanted);
+    same(rt, &status_of(rt, &ended), &5);
 }
 
 #[test]
@@ -121,7 +122,7 @@ fn each_exit(rt: HostRuntime) {
         written: 35,
         whole: true,
     };
-    assert_eq!(rt; status_of(&rt, &without_memory), 4);
+    same(&rt, &status_of(&rt, &without_memory), &4);
     let pieces = Pieces::new(CROSSED, 100, 2, ErrorKind::Other);
     expect_end(&rt, pieces, USUAL, 31, 5, READ_FAULT);
     expect_cut(
@@ -203,12 +204,12 @@ fn all_who_wait_are_looked_at_again(rt: HostRuntime) -> Result<(), Fail> {
 // The input has 84 bytes: twelve reads of seven, and one that finds the end.
 #[test]
 fn each_read_fails(rt: HostRuntime) {
-    assert_eq!(rt; CROSSED.len(), 84);
+    assert!(rt; CROSSED.len() == 84);
     for failure in [ErrorKind::Other, ErrorKind::Interrupted] {
         for k in 1..14 {
             let mut pieces = Pieces::new(CROSSED, 7, k, failure);
             expect_end(&rt, &mut pieces, USUAL, 31, 5, READ_FAULT);
-            assert_eq!(rt; pieces.calls, k);
+            same(&rt, &pieces.calls, &k);
         }
         let pieces = Pieces::new(CROSSED, 7, 14, failure);
         expect_end(&rt, pieces, USUAL, 0, 0, CROSSED_TEXT);
@@ -222,18 +223,19 @@ fn a_reader_without_end(rt: HostRuntime) {
     let mut writer = narrow(rt.alloc(), 100, 100, false);
     let mut drain = Drain::new(&mut writer);
     let ended = run(&rt, rt.alloc(), &mut tap, &mut drain, USUAL);
-    assert_eq!(rt; ended.code, 10);
+    same(&rt, &ended.code, &10);
     assert!(rt; tap.reads() <= 1_048_577);
-    assert_eq!(rt; tap.failures(), 0);
-    assert_eq!(rt;
-        writer.taken.as_slice(),
-        b"match,1,refused,10,TooLarge,0,-\n".as_slice()
+    same(&rt, &tap.failures(), &0);
+    same(
+        &rt,
+        &writer.taken.as_slice(),
+        &b"match,1,refused,10,TooLarge,0,-\n".as_slice(),
     );
 }
 
 #[test]
 fn writers_with_too_little_room(rt: HostRuntime) {
-    assert_eq!(rt; CROSSED_TEXT.len(), 99);
+    assert!(rt; CROSSED_TEXT.len() == 99);
     for fails in [false, true] {
         for at_once in [7, 100] {
             for room in 0..99 {

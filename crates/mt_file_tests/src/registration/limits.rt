@@ -1,4 +1,5 @@
 //! The limits of the two versions.
+use crate::expect::holds_for;
 use crate::registration::{Fault, accepted, expect_refused, gives, is_refused};
 use mt_roster::Roster;
 use std::alloc::Global;
@@ -18,7 +19,7 @@ fn expect_single<R: Abort + Threads + Sync>(
     id: &str,
 ) -> Result<(), Fail> {
     let market = format!(in alloc; "applicant {id} single 0:\n")?;
-    assert!(rt; gives(rt, alloc, file, &market)?, "{file}");
+    holds_for(rt, gives(rt, alloc, file, &market)?, &file);
     Ok(())
 }
 
@@ -118,7 +119,7 @@ fn expect_longer_refused<R: Abort + Threads + Sync>(
     fault: Fault<'_>,
 ) -> Result<(), Fail> {
     let longer = format!(in alloc; "{file}{last}\n")?;
-    assert!(rt; is_refused(rt, alloc, &longer, fault)?, "{last}");
+    holds_for(rt, is_refused(rt, alloc, &longer, fault)?, &last);
     Ok(())
 }
 

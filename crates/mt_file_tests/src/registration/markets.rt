@@ -1,4 +1,5 @@
 //! Accepted files. Numbers go by order of registration from 0, for programs, applicants and couples each.
+use crate::expect::holds_for;
 use crate::registration::gives;
 use mt_model::laws;
 use std::test::Fail;
@@ -6,7 +7,7 @@ use std::test::Fail;
 #[test]
 fn an_empty_market(rt: HostRuntime) -> Result<(), Fail> {
     for file in ["match,1", "match,1\n", "match,2\n", ",\n\nmatch,1,,\n,,,\n"] {
-        assert!(rt; gives(&rt, rt.alloc(), file, "")?, "{file}");
+        holds_for(&rt, gives(&rt, rt.alloc(), file, "")?, &file);
     }
     laws::fault_ids();
     Ok(())
@@ -25,7 +26,7 @@ fn two_programs_and_two_applicants(rt: HostRuntime) -> Result<(), Fail> {
         "match,2\nprogram,P1,1,a2,a1\nprogram,P2,1,a1,a2\napplicant,a1,P1,P2\napplicant,a2,P2,P1\n",
         "\u{FEFF}match,1,,\r\n\"program\",P1,1,\"a2\",a1\r\n\r\nprogram,P2,01,a1,a2,\r\n,,,\r\napplicant,a1,P1,P2\r\napplicant,\"a2\",P2,P1",
     ] {
-        assert!(rt; gives(&rt, rt.alloc(), file, CROSSED)?, "{file}");
+        holds_for(&rt, gives(&rt, rt.alloc(), file, CROSSED)?, &file);
     }
     Ok(())
 }

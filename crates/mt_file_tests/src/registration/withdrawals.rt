@@ -1,4 +1,5 @@
 //! Withdrawn rows: what is left has its numbers as if they had never been in the file.
+use crate::expect::holds_for;
 use crate::registration::{Fault, expect_refused, gives};
 use std::alloc::Global;
 use std::process::Abort;
@@ -13,7 +14,7 @@ fn withdrawn_program_leaves_all_lists(rt: HostRuntime) -> Result<(), Fail> {
         "match,2\nprogram,P1,1,a2,a1\nprogram,P2,1,a1,a2\napplicant,a1,P1,P2\napplicant,a2,P2,P1\nwithdraw,program,P1\n",
         "match,2\nwithdraw,program,P1\nprogram,P1,1,a2,a1\nprogram,P2,1,a1,a2\napplicant,a1,P1,P2\napplicant,a2,P2,P1\n",
     ] {
-        assert!(rt; gives(&rt, rt.alloc(), file, market)?, "{file}");
+        holds_for(&rt, gives(&rt, rt.alloc(), file, market)?, &file);
     }
     Ok(())
 }
@@ -61,7 +62,7 @@ fn expect_without<R: Abort + Threads + Sync>(
 ) -> Result<(), Fail> {
     let rows = "program,i,1,j,i\nprogram,j,1,i\napplicant,i,j,i\napplicant,j,i\ncouple,i,k,l,j,i\n";
     let file = format!(in alloc; "match,2\n{rows}withdraw,{kind},i\n")?;
-    assert!(rt; gives(rt, alloc, &file, market)?, "{kind}");
+    holds_for(rt, gives(rt, alloc, &file, market)?, &kind);
     Ok(())
 }
 

@@ -1,0 +1,19 @@
+//! Comparisons. They are made here, and not in each test, where what a failure tells makes a proof ten seconds longer.
+
+use std::fmt::Debug;
+use std::process::Abort;
+
+// That what was found is what was wanted.
+pub(crate) fn same<T: PartialEq + Debug>(rt: &impl Abort, found: &T, wanted: &T) {
+    assert_eq!(rt; found, wanted);
+}
+
+// The same, of something.
+pub(crate) fn same_for<T: PartialEq + Debug, W: Debug>(
+    rt: &impl Abort,
+    found: &T,
+    wanted: &T,
+    of: &W,
+) {
+    assert_eq!(rt; found, wanted, "of {of:?}");
+}
