@@ -99,7 +99,7 @@ opens_between s c p from end =
 abbrev pub KeepsNotes : List (List Note) → List (List Note) → Type 0
 KeepsNotes old new = (p c i : ℕ) → is_noted (row_at old p) c i ≡ true → is_noted (row_at new p) c i ≡ true
 
--- those pairs of a couple's list are noted at the programs that they name of which it is told so
+-- the first pairs of a couple's list, so many as its count says, are noted at the programs that they name
 abbrev pub IsNamed : Market → Noted → ℕ → Type 0
 IsNamed m n c =
     (p i : ℕ) (pair : Pair) → p < length m.programs → i < slice_index_or n.counts.items c 0 → i < length (couple_of m c).pairs
@@ -154,12 +154,12 @@ pub record CountsAll (s : Assigned) (old new : Watch) (xs : List ℕ) : Type 0 w
 abbrev pub IsNoted : Watch → ℕ → Type 0
 IsNoted w c = slice_index_or w.better.items c 0 ≤ slice_index_or w.couples.counts.items c 0
 
--- they are noted for a couple, and of no couple fewer pairs than before
+-- so they are for a couple now, and of no couple are fewer pairs noted than before
 pub record NotesCouple (old new : Watch) (c : ℕ) : Type 0 where
   pub noted : IsNoted new c
   pub keeps : (d : ℕ) → slice_index_or old.couples.counts.items d 0 ≤ slice_index_or new.couples.counts.items d 0
 
--- so it is where the agent is a couple
+-- so they are where an agent is a couple, and the same of the others
 pub record NotesAgent (old new : Watch) (g : Agent) : Type 0 where
   pub noted : (c : ℕ) → g ≡ Couple c → IsNoted new c
   pub keeps : (d : ℕ) → slice_index_or old.couples.counts.items d 0 ≤ slice_index_or new.couples.counts.items d 0

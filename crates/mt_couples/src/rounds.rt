@@ -198,7 +198,7 @@ fn follow_displaced(
     Ok(())
 }
 
-/// Notes the pairs that the agent that moved wants more than what it has, where it is a couple.
+/// Notes the pairs that the agent which moved wants more than what it has, where it is a couple.
 fn note_mover(
     assignment: &Assignment<'_>,
     watch: &mut Watch,
