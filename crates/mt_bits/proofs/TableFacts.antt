@@ -77,6 +77,13 @@ turned a b = elim (cases_eq a b) [
   | inr ne ↦ ne_eqb a b ne ∙ sym (ne_eqb b a (λ e. ne (sym e)))
 ]
 
+-- a bit more, after others that change nothing
+pub rank_after : (old mid new : List (List ℕ)) (k rank : ℕ) → HaveSameFlags old mid → AddsRank (map told_by mid) (map told_by new) k rank → AddsRank (map told_by old) (map told_by new) k rank
+rank_after old mid new k rank filled adds = record {
+  as_many = adds.as_many ∙ length-map mid told_by ∙ filled.as_many ∙ sym (length-map old told_by);
+  now = λ j r. adds.now j r ∙ ap (λ (b : Bool). (k == j && rank == r) || b) (told_at mid j r ∙ filled.same j r ∙ sym (told_at old j r));
+}
+
 -- a bit more
 pub rank_more : (old rows : List (List ℕ)) (k rank : ℕ) → HaveSameFlags old rows → k < length rows → rank / 64 < length (words_of rows k)
     → AddsRank (map told_by old) (map told_by (set rows k (marked (words_of rows k) rank))) k rank

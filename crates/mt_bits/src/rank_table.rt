@@ -1,7 +1,7 @@
-ghost use Rattle.std.specs.Prelude.{◌≡◌, ℕ, ◌≤◌, ◌<◌, false, length, [], slice_index_or, IfNone, IfSome, OnOk};
+ghost use Rattle.std.specs.Prelude.{◌≡◌, ℕ, ◌≤◌, ◌<◌, ◌/◌, false, length, map, [], slice_index_or, IfNone, IfSome, OnOk};
 ghost use Rattle.mt_bits.specs.Flags.{flag};
 ghost use Rattle.mt_bits.specs.Members.{is_in, IsFirstFrom};
-ghost use Rattle.mt_bits.specs.Tables.{AddsList, AddsRank, AreFew, HaveSameFlags, TakesRank};
+ghost use Rattle.mt_bits.specs.Tables.{told_by, words_of, AddsList, AddsRank, AreFew, HaveSameFlags, TakesRank};
 
 use mt_rows::Rows;
 use std::alloc::{AllocError, Global};
@@ -38,6 +38,33 @@ fn fill(rows: &mut Rows<u64>, list: usize, place: usize) -> Result<(), AllocErro
     while rows.row(list).len() <= place {
         rows.push(list, 0)?;
     }
+    Ok(())
+}
+
+/// Sets the bit of a rank whose word is there.
+#[inline(always)]
+fn mark(rows: &mut Rows<u64>, list: usize, rank: u32)
+    requires list { list < length rows.old }
+    requires place { rank / 64 < length (words_of rows.old list) }
+    requires few { AreFew rows.old }
+    ensures few { AreFew rows.new }
+    ensures marked { AddsRank (map told_by rows.old) (map told_by rows.new) list rank }
+{
+    let place = rank as usize / 64;
+    let word = rows.row(list)[place];
+    rows.set(list, place, word | 1 << (rank % 64));
+}
+
+/// Sets the bit of a rank whose word isn't there. The error is want of memory, and nothing is said of the bits then.
+#[cold]
+fn insert_beyond(rows: &mut Rows<u64>, list: usize, rank: u32) -> Result<(), AllocError>
+    requires list { list < length rows.old }
+    requires few { AreFew rows.old }
+    ensures few { AreFew rows.new }
+    ensures marked { OnOk result (AddsRank (map told_by rows.old) (map told_by rows.new) list rank) }
+{
+    fill(rows, list, rank as usize / 64)?;
+    mark(rows, list, rank);
     Ok(())
 }
 
@@ -137,11 +164,10 @@ impl RankTable {
         ensures { OnOk result (AddsRank self.old self.new list rank) }
     {
         let place = rank as usize / 64;
-        if self.rows.row(list).len() <= place {
-            fill(&mut self.rows, list, place)?;
+        if place >= self.rows.row(list).len() {
+            return insert_beyond(&mut self.rows, list, rank);
         }
-        let word = self.rows.row(list)[place];
-        self.rows.set(list, place, word | 1 << (rank % 64));
+        mark(&mut self.rows, list, rank);
         Ok(())
     }
 
