@@ -154,8 +154,11 @@ module _ (m : Market) (places : Places) where
       let leading : IsTrue (leads_blocker m places a) = (found_below (leads_blocker m places) (applicants m) a found).1 in
       ap (option_map (blocker m places)) (by_leader ∙ ap (option_map (agent_of m)) found) ∙ sym (rw leading refl)
 
+  pub no_blocking : find (leads_blocker m places) (below (applicants m)) ≡ None → find (blocks m places) (agents m) ≡ None
+  no_blocking none = by_leader ∙ ap (option_map (agent_of m)) none
+
   pub no_leader : find (leads_blocker m places) (below (applicants m)) ≡ None → option_map (blocker m places) (find (blocks m places) (agents m)) ≡ None
-  no_leader none = ap (option_map (blocker m places)) (by_leader ∙ ap (option_map (agent_of m)) none)
+  no_leader none = ap (option_map (blocker m places)) (no_blocking none)
 
   -- the agent that an applicant leads blocks where there is one to tell
   pub leads_blocker-is_some : (a : ℕ) → is_some (blocker_led_by m places a) ≡ leads_blocker m places a

@@ -5,7 +5,7 @@ use Rattle.std.specs.Option.{is_some}
 use Rattle.std.proofs.lemmas.List.{drop_more, get_or_read}
 use Rattle.std.proofs.lemmas.Bool.{both_ways}
 use Rattle.mt_terms.specs.Lists.{count, has}
-use Rattle.mt_terms.specs.Market.{Market, program_of, list_of, live, live_market}
+use Rattle.mt_terms.specs.Market.{Market, program_of, list_of}
 use Rattle.mt_terms.specs.Matching.{Places, at, single_placement}
 use Rattle.mt_terms.specs.Stability.{would_be_taken}
 use Rattle.mt_terms.proofs.LiveFacts.{list_of-live_market}

@@ -50,6 +50,20 @@ pub asked_below : (P : ℕ → Type 0) (start end n : ℕ) → start ≡ 0 → e
 asked_below P start end n from to each k d within p read =
     subst P (sym read) (nat_range-All P start end (λ i low high. each i (omega arith)) k d within)
 
+-- where none passes one of two tests, none passes the one, and none the other
+pub find_neither : {X : Type 0} (one other : X → Bool) (xs : List X) → find (λ x. one x || other x) xs ≡ None → (find one xs ≡ None) × (find other xs ≡ None)
+find_neither one other [] none = (refl, refl)
+find_neither one other (x ∷ xs) none = elim (cases_Bool (one x)) [
+  | inl first ↦ absurd (some_found x (rw first at none))
+  | inr not_first ↦ elim (cases_Bool (other x)) [
+    | inl second ↦ absurd (some_found x (rw (not_first, second) at none))
+    | inr neither ↦ (let rest = find_neither one other xs (rw (not_first, neither) at none) in (rw not_first rest.0, rw neither rest.1))
+  ]
+]
+  where
+    some_found : {X : Type 0} (x : X) → Some x ≡ None → ⊥
+    some_found x is = cc
+
 -- and they find the first that passes
 pub found_by_threads : (test : Set) (start end n : ℕ) (xs : List ℕ) (answers : List Bool) (r : Option ℕ) → start ≡ 0 → end ≡ n → xs ≡ nat_range start end
     → AllZip (λ x b. (p : Bor ℕ) × (p.now ≡ x) × (b ≡ test p.now)) xs answers → r ≡ slice_get (filter_by_mask xs answers) 0 → r ≡ find test (below n)

@@ -1,11 +1,12 @@
-ghost use Rattle.std.specs.Prelude.{◌≡◌, ◌<◌, length, IfOk, is_some, position};
+ghost use Rattle.std.specs.Prelude.{◌≡◌, ◌<◌, ◌||◌, length, IfOk, IsTrue, None, is_some, position};
 ghost use Rattle.mt_terms.specs.Registration.Accepted.{IsRegistration};
 ghost use Rattle.mt_terms.specs.Market.{applicants};
 ghost use Rattle.mt_terms.specs.Matching.{placed_ranks};
 ghost use Rattle.mt_terms.specs.Places.{ArePlaces};
 ghost use Rattle.mt_terms.specs.Verdict.{is_over, is_unlisted, verdict_of};
 ghost use Rattle.mt_ranks.specs.Ranked.{rank_of, ranked_of};
-ghost use Rattle.mt_verify.specs.Judged.{AreAllowed, first_over, first_unlisted, is_listed_at, is_place_listed};
+ghost use Rattle.mt_verify.specs.Blocking.{leads_blocker};
+ghost use Rattle.mt_verify.specs.Judged.{AreAllowed, first_blocking, first_over, first_unlisted, is_listed_at, is_place_listed};
 ghost use Rattle.mt_verify.specs.Listed.{HoldRanks, is_off_own_list};
 
 mod blocking;
@@ -134,6 +135,26 @@ impl<'a> Verifier<'a> {
         Some(AppNo(unlisted))
     }
 
+    /// Whether nothing is found at any applicant: each one's place is allowed, and none leads an agent that blocks. Where
+    /// it is so, which is where the match is stable, threads are started once for both.
+    fn has_no_finding<R: Threads + Sync>(&self, rt: &R) -> bool
+        ensures unlisted { IsTrue result → first_unlisted (judged self.now) ≡ None }
+        ensures blocking { IsTrue result → first_blocking (judged self.now) ≡ None }
+    {
+        let found = (0..self.roster.applicants())
+            .into_par_iter()
+            .with_min_len(LEAST_APPLICANTS)
+            .find_first(
+                rt,
+                |number: &u32| -> bool
+                    requires { number.now < applicants (judged self.now).market }
+                    ensures { let j = judged self.entry.now in
+                        result ≡ (is_unlisted j.market j.places number.now || leads_blocker j.market j.places number.now) }
+                { self.is_unlisted(AppNo(*number)) || self.leads_blocker(AppNo(*number)) },
+            );
+        found.is_none()
+    }
+
     /// The ranks of those that are placed at the program, in rising order.
     fn placed_at(&self, program: ProgNo) -> &[u32]
         requires { program < length (judged self.now).market.programs }
@@ -168,6 +189,12 @@ impl<'a> Verifier<'a> {
     pub(crate) fn verdict<R: Threads + Sync>(&self, rt: &R) -> Verdict
         ensures { let j = judged self.now in result ≡ verdict_of j.market j.places }
     {
+        if self.has_no_finding(rt) {
+            return match self.first_over() {
+                Some(program) => Verdict::Over(program),
+                None => Verdict::Stable,
+            };
+        }
         if let Some(applicant) = self.first_unlisted(rt) {
             return Verdict::Unlisted(applicant);
         }

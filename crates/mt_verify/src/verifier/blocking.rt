@@ -79,7 +79,7 @@ impl Verifier<'_> {
     }
 
     /// Whether the applicant leads an agent that blocks.
-    fn leads_blocker(&self, applicant: AppNo) -> bool
+    pub(super) fn leads_blocker(&self, applicant: AppNo) -> bool
         requires { applicant < applicants (judged self.now).market }
         ensures { let j = judged self.now in result ≡ leads_blocker j.market j.places applicant }
     {

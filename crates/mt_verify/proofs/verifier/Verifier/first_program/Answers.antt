@@ -1,17 +1,11 @@
-use Rattle.std.proofs.Common.{◌≡◌, ◌==◌, length, get_or, IsTrue, IsFalse, sym, ap, subst, ◌∙◌, ◌+◌, ◌<◌, arith, eq-eqb}
+use Rattle.std.proofs.Common.{◌≡◌, ◌==◌, length, get_or, IsTrue, IsFalse, sym, ap, ◌∙◌, ◌<◌, arith, eq-eqb}
 use Rattle.std.proofs.lemmas.List.Folds.{list_any_at}
 use Rattle.std.proofs.lemmas.Bool.{eqb-true, both_ways, false_from_ne_true}
-use Rattle.std.proofs.lemmas.List.{get_or_read}
 use Rattle.mt_terms.specs.Lists.{has}
 use Rattle.mt_terms.specs.Market.{list_of, program_of}
-use Rattle.mt_terms.specs.Stability.{would_be_taken}
-use Rattle.mt_ranks.specs.Ranked.{IsEntry}
-use Rattle.mt_ranks.specs.declared.entries.Live.{Live}
-use Rattle.mt_verify.specs.Judged.{has_post}
-use Rattle.mt_verify.specs.View.{judged}
 use Rattle.mt_terms.specs.Matching.{holds, single_placement}
 use Rattle.mt_verify.proofs.BlockingFacts.{element_read, holds_program, at_own_program, at_taken_program, at_no_program, no_program_more}
-use Rattle.mt_verify.proofs.EntryFacts.{AreLeft, all_left, entry_taken, entry_listed, entry_within, entry_program, left_listed, left_unlisted, unlisted_not_taken}
+use Rattle.mt_verify.proofs.EntryFacts.{all_left, entry_taken, entry_listed, entry_within, entry_program, left_listed, left_unlisted, unlisted_not_taken}
 use Rattle.mt_verify.proofs.MarketFacts.{few_listed, ranked_applicants}
 use Rattle.mt_verify.proofs.verifier.Verifier.first_program.Goals as goal
 use Rattle.mt_verify.proofs.verifier.Verifier.first_program.Goals.{then-next-live+then-eq-2+else-has_post, else-next-live, else-next-live-via-then-next-live+else-eq-2, else-next-live-via-else-next-live}
