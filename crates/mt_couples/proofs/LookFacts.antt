@@ -25,7 +25,9 @@ use Rattle.mt_couples.specs.Looking.{is_noted_reopened, AddsCouples, AddsSingles
 use Rattle.mt_couples.specs.Moves.{agents_of, names_one_of, opens, some_has}
 use Rattle.mt_couples.specs.Running.{is_idle, is_reopened}
 use Rattle.mt_sets.specs.Notes.{end_of, is_before, is_noted, notes_pair}
-use Rattle.mt_couples.specs.Watching.{better_pairs, names, opens_between, ranks_at, row_at, wanted, Covers}
+use Rattle.mt_couples.specs.Watching.{better_pairs, opens_between, ranks_at, wanted, Covers}
+use Rattle.mt_sets.specs.Named.{names, row_at}
+use Rattle.mt_sets.proofs.NamedFacts.{any_between}
 use Rattle.mt_sets.specs.declared.couple_list.Note.{Note}
 use Rattle.mt_couples.specs.declared.watch.Watch.{Watch}
 use Rattle.mt_terms.specs.Lists.{is_distinct}
@@ -33,11 +35,12 @@ use Rattle.mt_terms.proofs.ListFacts.{same_position}
 use Rattle.mt_couples.proofs.LiveFacts.{better_single, post_for}
 use Rattle.mt_sets.proofs.FrontFacts.{until_front}
 use Rattle.mt_sets.proofs.NoteFacts.{before_end}
-use Rattle.mt_couples.proofs.NoteFacts.{any_between, better_couple, couple_with_pair}
+use Rattle.mt_couples.proofs.NoteFacts.{better_couple, couple_with_pair}
 use Rattle.mt_placed.proofs.PlaceFacts.{has_read}
 use Rattle.mt_couples.proofs.RankFacts.{has_rank, rank_there}
 use Rattle.mt_placed.proofs.OrderFacts.{has_at}
-use Rattle.mt_couples.proofs.WatchFacts.{has_end, has_parts, has_still, index_of}
+use Rattle.mt_sets.proofs.GrowingFacts.{has_end, has_parts, has_still}
+use Rattle.mt_couples.proofs.WatchFacts.{index_of}
 use Rattle.mt_couples.proofs.JoinFacts.{next_mapped}
 use Rattle.mt_couples.proofs.QuietFacts.{blocking, is_agent, looking_joins, looking_skips, IsLooking}
 

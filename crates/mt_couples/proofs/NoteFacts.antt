@@ -1,121 +1,30 @@
 -- Whose pairs are noted, and that it is counted how many a couple wants more than what it has.
-use Rattle.std.proofs.Common.{◌≡◌, ◌∙◌, ℕ, ◌+◌, ◌-◌, ◌<◌, ◌≤◌, Bool, true, false, not, ◌&&◌, ◌==◌, nat_le, List, Vec, Global, ◌∷◌, map, drop, length, get_or, slice_range, slice_set, min, max, refl, ap, ap₂, sym, subst, inl, inr, arith}
-use Rattle.std.proofs.lemmas.Bool.{and_from, and_parts, both_ways, cases_Bool, cases_eq, cases_lt, eq-eqb, false_from_ne_true, not-true, or_cases, not_from_false, or_from, or_left, or_parts, or_right}
-use Rattle.std.proofs.lemmas.List.{get_or-drop, get_or-take, get_or_default, get_or_past, get_or-set_other, get_or-set_same, length-set, length-drop, length-take}
-use Rattle.std.specs.List.{list_any}
+use Rattle.std.proofs.Common.{◌≡◌, ◌∙◌, ℕ, ◌<◌, ◌≤◌, true, false, not, ◌&&◌, ◌==◌, nat_le, List, Vec, Global, ◌∷◌, map, length, get_or, refl, ap, ap₂, sym, subst, inl, inr, arith}
+use Rattle.std.proofs.lemmas.Bool.{and_from, and_parts, both_ways, cases_Bool, cases_lt, eq-eqb, false_from_ne_true, not-true, not_from_false, or_from, or_left, or_parts, or_right}
+use Rattle.std.proofs.lemmas.List.{get_or_past}
 use Rattle.mt_terms.specs.Lists.{has, until}
 use Rattle.mt_terms.specs.Market.{Market, Pair, Partners, agent_of, couple_of, members}
-use Rattle.mt_terms.specs.Matching.{Places, Placement, better, holds, is_program, is_same_place, place_of, send}
+use Rattle.mt_terms.specs.Matching.{Places, Placement, better, holds, is_same_place, place_of, send}
 use Rattle.mt_terms.specs.Rounds.{displaced, is_on, is_same_agent}
 use Rattle.mt_terms.specs.declared.numbers.Agent.{Agent}
 use Rattle.mt_terms.specs.declared.numbers.Agent.TheVariants.{Couple}
 use Rattle.mt_match_laws.proofs.ListLemmas.{until-map}
-use Rattle.mt_round_laws.proofs.RoundsLists.{In, finds, in_has, of_image}
+use Rattle.mt_round_laws.proofs.RoundsLists.{In, in_has, of_image}
 use Rattle.mt_round_laws.proofs.RoundsAgents.{IsAgent, agent_of_applicant, of_list, option_movers, same_agent}
 use Rattle.mt_round_laws.proofs.RoundsMove.{IsMove, match_after, displaced_agents, is_displaced, untouched}
 use Rattle.mt_couples.specs.Assigned.{Assigned, pair_of}
 use Rattle.mt_couples.specs.Looking.{AreNoted}
 use Rattle.mt_couples.specs.Moves.{IsTaking}
-use Rattle.mt_couples.specs.Watching.{better_pairs, names, row_at, AreCounted, AreNamed, CountsAll, IsCounted, IsNoted, Notes, NotesPairs}
-use Rattle.mt_sets.specs.Notes.{greatest, has_couple, is_noted}
-use Rattle.mt_sets.specs.declared.couple_list.Note.{Note}
+use Rattle.mt_couples.specs.Watching.{better_pairs, AreCounted, CountsAll, IsCounted, IsNoted}
+use Rattle.mt_sets.specs.Named.{noted_count}
 use Rattle.mt_sets.proofs.FrontFacts.{until_within}
-use Rattle.mt_couples.specs.declared.watch.Noted.{Noted}
 use Rattle.mt_couples.specs.declared.watch.Watch.{Watch}
 use Rattle.mt_couples.proofs.MoveFacts.{is_move}
-use Rattle.mt_round_laws.proofs.SentCounts.{in_read}
-
--- what passes at a place is found between one before it and one after it
-pub any_between : {X : Type 0} (test : X → Bool) (xs : List X) (x : X) (i from end : ℕ) → from ≤ i → i < end → i < length xs → x ≡ get_or xs i x → test x ≡ true
-    → list_any test (slice_range xs from end) ≡ true
-any_between test xs x i from end low high within read passes =
-    let ys = slice_range xs from end in
-    let j = i - from in
-    let back : from + j ≡ i = omega arith in
-    let at : get_or ys j x ≡ get_or xs i x = get_or-take (end - from) (drop from xs) j x (omega arith) ∙ get_or-drop from xs j x ∙ ap (λ n. get_or xs n x) back in
-    let inside : j < length ys = omega (arith, length-take (end - from) (drop from xs), length-drop from xs) in
-    finds test x ys (in_read ys j x inside (read ∙ sym at)) passes
 
 -- a couple wants no more pairs than it lists
 pub counted_within : (s : Assigned) (counts : List ℕ) (c : ℕ) → AreCounted s counts → c < length s.market.couples → get_or counts c 0 ≤ length (couple_of s.market c).pairs
 counted_within s counts c counted known =
     omega (arith, counted.each c known, until_within (λ pair. holds s.places (pair_of s c pair)) (couple_of s.market c).pairs)
-
--- only couples of the market are noted
-pub note_within : (m : Market) (noted : Noted) (p : ℕ) (notes : List Note) (i : ℕ) (n : Note) → AreNamed m noted → notes ≡ row_at noted.rows p → i < length notes
-    → n ≡ get_or notes i n → n.couple < length m.couples
-note_within m noted p notes i n named is within read =
-    let on : has_couple notes n.couple ≡ true = finds (λ (x : Note). x.couple == n.couple) n notes (in_read notes i n within read) (eq-eqb n.couple n.couple refl) in
-    named.within p n.couple (subst (λ xs. has_couple xs n.couple ≡ true) is on)
-
--- no pairs are noted yet, one more is, and all are
-pub pairs_noted_first : (rows : List (List Note)) (c : ℕ) (pairs : List Pair) (start : ℕ) → NotesPairs rows rows c pairs start start
-pairs_noted_first rows c pairs start = record {
-  as_many = refl;
-  keeps = λ p d i on. on;
-  adds = λ p i pair known low high. absurd (omega arith);
-  only = λ p d on. inl on;
-}
-
-pub pairs_noted_more : (old mid first second : List (List Note)) (c : ℕ) (pairs : List Pair) (start index from : ℕ) (x : Pair) → NotesPairs old mid c pairs start index
-    → index < length pairs → x ≡ get_or pairs index x → from ≡ min index greatest → Notes mid first x.0 c from → Notes first second x.1 c from → NotesPairs old second c pairs start (index + 1)
-pairs_noted_more old mid first second c pairs start index from x so_far within read is one two = record {
-  as_many = two.as_many ∙ one.as_many ∙ so_far.as_many;
-  keeps = λ p d i on. two.keeps p d i (one.keeps p d i (so_far.keeps p d i on));
-  adds = λ p i pair known low high at_pair named. elim (cases_lt i index) [
-    | inl earlier ↦ two.keeps p c i (one.keeps p c i (so_far.adds p i pair known low earlier at_pair named))
-    | inr here ↦
-        let e : i ≡ index = omega arith in
-        let same : pair ≡ x = at_pair ∙ ap (λ j. get_or pairs j pair) e ∙ get_or_default pairs index pair x within ∙ sym read in
-        let now : names p x ≡ true = subst (λ y. names p y ≡ true) same named in
-        let place : min i greatest ≡ from = ap (λ j. min j greatest) e ∙ sym is in
-        elim (or_cases (is_program p x.0) (is_program p x.1) now) [
-          | inl by_first ↦ two.keeps p c i (one.adds p i by_first (omega (arith, so_far.as_many)) place)
-          | inr by_second ↦ two.adds p i by_second (omega (arith, one.as_many, so_far.as_many)) place
-        ]
-  ];
-  only = λ p d on. elim (two.only p d on) [
-    | inr now ↦ inr now
-    | inl before ↦ elim (one.only p d before) [
-      | inr now ↦ inr now
-      | inl earlier ↦ so_far.only p d earlier
-    ]
-  ];
-}
-
-pub pairs_noted : (old new : List (List Note)) (c : ℕ) (pairs : List Pair) (start index end : ℕ) → end ≤ index → NotesPairs old new c pairs start index → NotesPairs old new c pairs start end
-pairs_noted old new c pairs start index end past all = record {
-  as_many = all.as_many;
-  keeps = all.keeps;
-  adds = λ p i pair known low high. all.adds p i pair known low (omega arith);
-  only = all.only;
-}
-
--- so many pairs of a couple are noted then
-pub named_more : (m : Market) (old new : Noted) (c start end : ℕ) → AreNamed m old → c < length m.couples → start ≡ get_or old.counts.items c 0
-    → NotesPairs old.rows new.rows c (couple_of m c).pairs start end → new.counts.items ≡ slice_set old.counts.items c (max start end) → AreNamed m new
-named_more m old new c start end named known counted notes counts = record {
-  one_each = notes.as_many ∙ named.one_each;
-  counts = ap length counts ∙ length-set old.counts.items c (max start end) ∙ named.counts;
-  each = λ d p i pair within low in_list read at_p. elim (cases_eq d c) [
-    | inl same ↦
-        let here : get_or new.counts.items d 0 ≡ max start end =
-        ap (λ j. get_or new.counts.items j 0) same ∙ ap (λ xs. get_or xs c 0) counts ∙ get_or-set_same old.counts.items c (max start end) 0 (omega (arith, named.counts)) in
-        let read' : pair ≡ get_or (couple_of m c).pairs i pair = read ∙ ap (λ j. get_or (couple_of m j).pairs i pair) same in
-        subst (λ j. is_noted (row_at new.rows p) j i ≡ true) (sym same) (elim (cases_lt i start) [
-          | inl before ↦
-              notes.keeps p c i (named.each c p i pair within (omega (arith, counted)) (omega (arith, ap (λ j. length (couple_of m j).pairs) same)) read' at_p)
-          | inr later ↦ notes.adds p i pair (omega (arith, named.one_each)) later (omega (arith, here)) read' at_p
-        ])
-    | inr other ↦
-        let same : get_or new.counts.items d 0 ≡ get_or old.counts.items d 0 = ap (λ xs. get_or xs d 0) counts ∙ get_or-set_other old.counts.items c d (max start end) 0 other in
-        notes.keeps p d i (named.each d p i pair within (omega (arith, same)) in_list read at_p)
-  ];
-  within = λ p d on. elim (notes.only p d on) [
-    | inl before ↦ named.within p d before
-    | inr same ↦ subst (λ j. j < length m.couples) same known
-  ];
-}
 
 -- who has a pair on its list is a couple of the market
 pub couple_with_pair : (m : Market) (c : ℕ) (x : Pair) → In x (couple_of m c).pairs → c < length m.couples
@@ -133,7 +42,7 @@ noted_still k old now w grows noted c idle =
     noted c (and_from _ _ parts.0 (not_from_false _ off))
 
 pub noted_more : (k : ℕ) (ws : List Agent) (w next : Watch) → next.better ≡ w.better
-    → ((c : ℕ) → get_or w.couples.counts.items c 0 ≤ get_or next.couples.counts.items c 0) → AreNoted k ws w → AreNoted k ws next
+    → ((c : ℕ) → noted_count w.couples c ≤ noted_count next.couples c) → AreNoted k ws w → AreNoted k ws next
 noted_more k ws w next better keeps noted c idle =
     let same : get_or next.better.items c 0 ≡ get_or w.better.items c 0 = ap (λ (v : Vec ℕ Global). get_or v.items c 0) better in
     omega (arith, same, keeps c, noted c idle)
@@ -209,7 +118,7 @@ module _ {m : Market} {old : Places} {g : Agent} {sent : Placement} (taking : Is
   -- who has all better pairs noted has so after that, if it doesn't wait: the agent by what is noted now, and others
   -- since they want the same pairs as before
   pub noted_after : (k : ℕ) (ws now : List Agent) (w next : Watch) → AreCounted before w.better.items → AreCounted after next.better.items → AreNoted k (g ∷ ws) w
-      → ((c : ℕ) → g ≡ Couple c → IsNoted next c) → ((c : ℕ) → get_or w.couples.counts.items c 0 ≤ get_or next.couples.counts.items c 0)
+      → ((c : ℕ) → g ≡ Couple c → IsNoted next c) → ((c : ℕ) → noted_count w.couples c ≤ noted_count next.couples c)
       → ((h : Agent) → is_on ws h ≡ true → is_on now h ≡ true) → ((h : Agent) → is_on (displaced_agents m old sent) h ≡ true → is_on now h ≡ true) → AreNoted k now next
   noted_after k ws now w next counted recounted noted own keeps stay_on come_on = noted_without k g now next own (λ c idle.
       let parts = and_parts (nat_le c k) (not (is_on (g ∷ now) (Couple c))) idle in

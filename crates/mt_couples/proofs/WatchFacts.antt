@@ -1,8 +1,7 @@
 -- Who is watched where, once an agent has moved.
-use Rattle.std.proofs.Common.{◌≡◌, ◌∙◌, ℕ, zero, suc, ◌+◌, ◌<◌, ◌≤◌, Bool, true, false, ◌||◌, ◌==◌, List, [], ◌∷◌, ◌++◌, map, take, length, get_or, replicate, refl, ap, sym, subst, inl, inr, ◌⊎◌, arith, Result, Ok, Err, OnOk}
-use Rattle.std.proofs.lemmas.List.{take_more, take_all}
+use Rattle.std.proofs.Common.{◌≡◌, ◌∙◌, ℕ, suc, ◌<◌, Bool, true, false, ◌==◌, List, [], ◌∷◌, ◌++◌, map, length, get_or, refl, ap, sym, subst, inl, inr, arith, Result, Ok, Err, OnOk}
 use Rattle.std.proofs.lemmas.List.Folds.{list_any-append}
-use Rattle.std.proofs.lemmas.Bool.{cases_Bool, or_cases, or_parts, or_left, or_right, eq-eqb, eqb-true, both_ways, false≢true, false_from_ne_true}
+use Rattle.std.proofs.lemmas.Bool.{cases_Bool, or_cases, or_parts, eqb-true, both_ways, false≢true, false_from_ne_true}
 use Rattle.std.proofs.Math.Bool.{or-false}
 use Rattle.mt_terms.specs.Lists.{has, until}
 use Rattle.mt_terms.specs.Market.{Market, applicants, agent_of, couple_of, list_of, members, program_of}
@@ -15,41 +14,11 @@ use Rattle.mt_round_laws.proofs.RoundsAgents.{IsAgent, agent_of_applicant, coupl
 use Rattle.mt_round_laws.proofs.RoundsMove.{IsMove, match_after, displaced_agents, is_displaced, untouched}
 use Rattle.mt_couples.specs.Assigned.{Assigned}
 use Rattle.mt_couples.specs.Moves.{IsTaking}
-use Rattle.mt_couples.specs.Watching.{row_at, wanted, AreWatched, Counts, CountsAll, Follows, FollowsAll, IsWatched, IsWithinList, KeepsOthers}
+use Rattle.mt_couples.specs.Watching.{wanted, AreWatched, Counts, CountsAll, Follows, FollowsAll, IsWatched, IsWithinList, KeepsOthers}
 use Rattle.mt_couples.specs.declared.watch.Watch.{Watch}
 use Rattle.mt_couples.proofs.MoveFacts.{is_move}
+use Rattle.mt_sets.proofs.GrowingFacts.{has_parts, has_still}
 use Rattle.mt_couples.proofs.RankFacts.{has_rank}
-
--- What holds of each number of a list's front holds of those of a longer front, and of all.
-pub each_more : (P : ℕ → Type 0) (xs : List ℕ) (i x : ℕ) → i < length xs → x ≡ get_or xs i x → ((y : ℕ) → has (take i xs) y ≡ true → P y) → P x
-    → (y : ℕ) → has (take (i + 1) xs) y ≡ true → P y
-each_more P xs i x within read before here y on =
-    let split : has (take (i + 1) xs) y ≡ (has (take i xs) y || has (x ∷ []) y) =
-    ap (λ ys. has ys y) (take_more xs i x within) ∙ list_any-append (λ z. z == y) (take i xs) (get_or xs i x ∷ []) ∙ ap (λ z. has (take i xs) y || has (z ∷ []) y) (sym read) in
-    elim (or_cases (has (take i xs) y) (has (x ∷ []) y) (sym split ∙ on)) [
-      | inl earlier ↦ before y earlier
-      | inr now ↦ subst P (eqb-true x y (sym (or-false (x == y)) ∙ now)) here
-    ]
-
-pub each_all : (P : ℕ → Type 0) (xs : List ℕ) (i : ℕ) → length xs ≤ i → ((y : ℕ) → has (take i xs) y ≡ true → P y) → (y : ℕ) → has xs y ≡ true → P y
-each_all P xs i past all y on = all y (ap (λ ys. has ys y) (take_all i xs past) ∙ on)
-
-pub each_none : (P : ℕ → Type 0) (xs : List ℕ) → (y : ℕ) → has (take 0 xs) y ≡ true → P y
-each_none P [] y on = absurd (false≢true on)
-each_none P (x ∷ xs) y on = absurd (false≢true on)
-
--- a number more at the end of a list
-pub has_end : (xs : List ℕ) (x : ℕ) → has (xs ++ x ∷ []) x ≡ true
-has_end xs x = list_any-append (λ y. y == x) xs (x ∷ []) ∙ or_right (has xs x) _ (or_left (x == x) false (eq-eqb x x refl))
-
-pub has_still : (xs ys : List ℕ) (y : ℕ) → has xs y ≡ true → has (xs ++ ys) y ≡ true
-has_still xs ys y on = list_any-append (λ z. z == y) xs ys ∙ or_left (has xs y) (has ys y) on
-
-pub has_parts : (xs : List ℕ) (x y : ℕ) → has (xs ++ x ∷ []) y ≡ true → (has xs y ≡ true) ⊎ (x ≡ y)
-has_parts xs x y on = elim (or_cases (has xs y) (has (x ∷ []) y) (sym (list_any-append (λ z. z == y) xs (x ∷ [])) ∙ on)) [
-  | inl earlier ↦ inl earlier
-  | inr now ↦ inr (eqb-true x y (sym (or-false (x == y)) ∙ now))
-]
 
 -- the place of an element
 pub index_of : {X : Type 0} (x : X) (xs : List X) → In x xs → (i : ℕ) × (i < length xs) × (x ≡ get_or xs i x)
@@ -184,12 +153,6 @@ module _ {m : Market} {old : Places} {g : Agent} {sent : Placement} (taking : Is
               both_ways (has movers a) other (ap (λ xs. has xs a) (option_movers m g sent mv.option) ∙ subst (λ x. has (members m x) a ≡ true) (same_agent (Single b) g same) own)) in
               let same = untouched mv (Single b) (subst (IsAgent m) of_a (agent_of_applicant m mv.well_formed a within)) unmoved another a own in
               ap (λ v. until (λ q. is_program q v) (list_of m a)) (sym same)
-
--- no notes for each program
-pub none_at : (n p : ℕ) → row_at (replicate n []) p ≡ []
-none_at zero p = refl
-none_at (suc n) zero = refl
-none_at (suc n) (suc p) = none_at n p
 
 -- what holds once both hold, in a result
 pub if_ok : {T X : Type 0} {A C : Type 0} (r : Result T X) → OnOk r A → (A → C) → OnOk r C

@@ -1,11 +1,11 @@
 -- A market with a match of it.
 use Rattle.std.specs.Prelude.{◌≡◌, ℕ, true, Some, Contains, ◌<◌, ◌≤◌, Bool, List, map, filter, take, length, Option, slice_index, slice_set, IsTrue, nat_lt}
-use Rattle.mt_terms.specs.Lists.{has, is_distinct, count, below}
+use Rattle.mt_terms.specs.Lists.{has, is_distinct, count}
 use Rattle.mt_terms.specs.Market.{Market, applicants, program_of, couple_of}
 use Rattle.mt_terms.specs.Places.{ArePlaces}
 use Rattle.mt_terms.specs.Choice.{choice}
 use Rattle.mt_terms.specs.WellFormed.{IsWellFormed}
-use Rattle.mt_terms.specs.Matching.{Places, Placement, at, placed_ranks, couple_placement}
+use Rattle.mt_terms.specs.Matching.{Places, Placement, at, couple_placement}
 use Rattle.mt_terms.specs.Rounds.{displaced_at, first_taken}
 use Rattle.mt_terms.specs.declared.numbers.Agent.{Agent}
 use Rattle.mt_terms.specs.declared.numbers.Agent.TheVariants.{Single, Couple}
@@ -23,10 +23,6 @@ with_place s a place = with_places s (slice_set s.places a place)
 
 abbrev pub assignment : Market → Places → Assigned
 assignment m places = record { market = m; places = places }
-
--- for each program the ranks of those on its list that are placed there
-abbrev pub rows_of : Market → Places → List (List ℕ)
-rows_of m places = map (placed_ranks m places) (below (length m.programs))
 
 -- those that have these ranks on a list
 abbrev pub with_ranks : List ℕ → List ℕ → List ℕ

@@ -10,7 +10,8 @@ use Rattle.mt_bits.specs.Members.{IsFirstFrom}
 use Rattle.mt_couples.specs.Assigned.{has_post, Assigned}
 use Rattle.mt_couples.specs.Running.{is_idle, is_reopened}
 use Rattle.mt_sets.specs.Notes.{end_of}
-use Rattle.mt_couples.specs.Watching.{opens_between, ranks_at, AreCounted, AreNamed, AreWatched, IsNoted}
+use Rattle.mt_sets.specs.Named.{AreNamed}
+use Rattle.mt_couples.specs.Watching.{opens_between, ranks_at, AreCounted, AreWatched, IsNoted}
 use Rattle.mt_sets.specs.declared.couple_list.Note.{Note}
 use Rattle.mt_couples.specs.declared.watch.Watch.{Watch}
 

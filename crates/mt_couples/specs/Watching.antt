@@ -1,9 +1,9 @@
 -- Where it is watched that an option may be opened.
-use Rattle.std.specs.Prelude.{◌≡◌, ℕ, ◌<◌, ◌≤◌, Bool, true, false, not, ◌&&◌, ◌||◌, ◌==◌, min, ◌⊎◌, List, [], ◌∷◌, drop, length, Option, Some, slice_index_or, slice_range}
+use Rattle.std.specs.Prelude.{◌≡◌, ℕ, ◌<◌, ◌≤◌, Bool, true, false, not, ◌&&◌, ◌||◌, ◌==◌, List, [], ◌∷◌, drop, length, Some, slice_index_or, slice_range}
 use Rattle.std.specs.List.{list_any}
 use Rattle.mt_terms.specs.Lists.{Set, has, until}
 use Rattle.mt_terms.specs.Market.{Market, Pair, applicants, agent_of, couple_of, list_of, live_market}
-use Rattle.mt_terms.specs.Matching.{at, holds, is_program}
+use Rattle.mt_terms.specs.Matching.{at, holds}
 use Rattle.mt_terms.specs.Stability.{would_be_taken}
 use Rattle.mt_ranks.specs.Ranked.{rank_of, ranked_list}
 use Rattle.mt_ranks.specs.declared.entries.Live.{Live}
@@ -11,9 +11,7 @@ use Rattle.mt_terms.specs.declared.numbers.Agent.{Agent}
 use Rattle.mt_terms.specs.declared.numbers.Agent.TheVariants.{Couple}
 use Rattle.mt_bits.specs.Members.{is_in}
 use Rattle.mt_couples.specs.Assigned.{Assigned, pair_of}
-use Rattle.mt_sets.specs.Notes.{greatest, has_couple, is_noted}
-use Rattle.mt_sets.specs.declared.couple_list.Note.{Note}
-use Rattle.mt_couples.specs.declared.watch.Noted.{Noted}
+use Rattle.mt_sets.specs.Named.{names, noted_count}
 use Rattle.mt_couples.specs.declared.watch.Watch.{Watch}
 use Rattle.mt_couples.specs.Running.{is_reopened}
 
@@ -36,10 +34,6 @@ better_pairs s c = until (λ pair. holds s.places (pair_of s c pair)) (couple_of
 -- the ranks that are watched at a program
 abbrev pub ranks_at : List (List Bool) → ℕ → Set
 ranks_at rows p = is_in (slice_index_or rows p [])
-
--- the notes of couples at a program
-abbrev pub row_at : List (List Note) → ℕ → List Note
-row_at rows p = slice_index_or rows p []
 
 -- whether one of these entries is that of a rank at a program
 abbrev pub is_entry : List Live → ℕ → ℕ → Bool
@@ -86,45 +80,10 @@ pub record FollowsAll (s : Assigned) (old new : List (List Bool)) (xs : List ℕ
   pub others : length old ≡ length s.market.programs → KeepsOthers s.market old new xs
   pub watched : length old ≡ length s.market.programs → ((a : ℕ) → has xs a ≡ true → IsWithinList s.market old a) → (a : ℕ) → has xs a ≡ true → IsWatched s new a
 
--- whether a pair names a program
-abbrev pub names : ℕ → Pair → Bool
-names p pair = is_program p pair.0 || is_program p pair.1
-
 -- whether a couple has a pair at a program that would be taken, of those from one index on its list up to another
 abbrev pub opens_between : Assigned → ℕ → ℕ → ℕ → ℕ → Bool
 opens_between s c p from end =
     list_any (λ pair. names p pair && would_be_taken s.market s.places (pair_of s c pair)) (slice_range (couple_of s.market c).pairs from end)
-
--- no note is lost from a row
-abbrev pub KeepsNotes : List (List Note) → List (List Note) → Type 0
-KeepsNotes old new = (p c i : ℕ) → is_noted (row_at old p) c i ≡ true → is_noted (row_at new p) c i ≡ true
-
--- the first pairs of a couple's list, so many as its count says, are noted at the programs that they name
-abbrev pub IsNamed : Market → Noted → ℕ → Type 0
-IsNamed m n c =
-    (p i : ℕ) (pair : Pair) → p < length m.programs → i < slice_index_or n.counts.items c 0 → i < length (couple_of m c).pairs
-    → pair ≡ slice_index_or (couple_of m c).pairs i pair → names p pair ≡ true → is_noted (row_at n.rows p) c i ≡ true
-
--- so it is for each couple, and only couples of the market are noted
-pub record AreNamed (m : Market) (n : Noted) : Type 0 where
-  pub one_each : length n.rows ≡ length m.programs
-  pub counts : length n.counts.items ≡ length m.couples
-  pub each : (c : ℕ) → IsNamed m n c
-  pub within : (p c : ℕ) → has_couple (row_at n.rows p) c ≡ true → c < length m.couples
-
--- a couple's pair at an index is noted too, at the program of a place
-pub record Notes (old new : List (List Note)) (place : Option ℕ) (c from : ℕ) : Type 0 where
-  pub as_many : length new ≡ length old
-  pub keeps : KeepsNotes old new
-  pub adds : (p i : ℕ) → is_program p place ≡ true → p < length old → min i greatest ≡ from → is_noted (row_at new p) c i ≡ true
-  pub only : (p d : ℕ) → has_couple (row_at new p) d ≡ true → (has_couple (row_at old p) d ≡ true) ⊎ (c ≡ d)
-
--- a couple's pairs from one index on up to another are noted too, at the programs that they name
-pub record NotesPairs (old new : List (List Note)) (c : ℕ) (pairs : List Pair) (start end : ℕ) : Type 0 where
-  pub as_many : length new ≡ length old
-  pub keeps : KeepsNotes old new
-  pub adds : (p i : ℕ) (pair : Pair) → p < length old → start ≤ i → i < end → pair ≡ slice_index_or pairs i pair → names p pair ≡ true → is_noted (row_at new p) c i ≡ true
-  pub only : (p d : ℕ) → has_couple (row_at new p) d ≡ true → (has_couple (row_at old p) d ≡ true) ⊎ (c ≡ d)
 
 -- it is counted how many pairs a couple wants more than what it has, and so it is for each couple
 abbrev pub IsCounted : Assigned → List ℕ → ℕ → Type 0
@@ -152,17 +111,17 @@ pub record CountsAll (s : Assigned) (old new : Watch) (xs : List ℕ) : Type 0 w
 
 -- all pairs are noted that a couple wants more than what it has
 abbrev pub IsNoted : Watch → ℕ → Type 0
-IsNoted w c = slice_index_or w.better.items c 0 ≤ slice_index_or w.couples.counts.items c 0
+IsNoted w c = slice_index_or w.better.items c 0 ≤ noted_count w.couples c
 
 -- so they are for a couple now, and of no couple are fewer pairs noted than before
 pub record NotesCouple (old new : Watch) (c : ℕ) : Type 0 where
   pub noted : IsNoted new c
-  pub keeps : (d : ℕ) → slice_index_or old.couples.counts.items d 0 ≤ slice_index_or new.couples.counts.items d 0
+  pub keeps : (d : ℕ) → noted_count old.couples d ≤ noted_count new.couples d
 
 -- so they are where an agent is a couple, and the same of the others
 pub record NotesAgent (old new : Watch) (g : Agent) : Type 0 where
   pub noted : (c : ℕ) → g ≡ Couple c → IsNoted new c
-  pub keeps : (d : ℕ) → slice_index_or old.couples.counts.items d 0 ≤ slice_index_or new.couples.counts.items d 0
+  pub keeps : (d : ℕ) → noted_count old.couples d ≤ noted_count new.couples d
 
 -- whoever is reopened is among these applicants
 abbrev pub Covers : ℕ → Assigned → List ℕ → List Agent → List ℕ → Type 0

@@ -11,10 +11,8 @@ ghost use Rattle.mt_couples.specs.Moves.{coming, leaving, opens, seated, some_ha
 ghost use Rattle.mt_couples.specs.Watching.{better_pairs, opens_between};
 
 use crate::assignment::Assignment;
+use mt_sets::Pair;
 use mt_terms::{Agent, AppNo, CoupleNo, ProgNo};
-
-/// A pair of a couple's list: a place for each member, where none is a member that stays unplaced.
-pub(crate) type Pair = (Option<ProgNo>, Option<ProgNo>);
 
 /// Whether the program is one of these, which are few.
 fn has_program(programs: &[ProgNo], program: ProgNo) -> bool

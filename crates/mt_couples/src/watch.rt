@@ -1,37 +1,23 @@
-ghost use Rattle.std.specs.Prelude.{◌≡◌, ◌<◌, ◌≤◌, length, min, slice_index_or, IfOk, OnOk};
+ghost use Rattle.std.specs.Prelude.{◌≡◌, ◌<◌, length, slice_index_or, IfOk, OnOk};
 ghost use Rattle.mt_terms.specs.Market.{applicants};
 ghost use Rattle.mt_terms.specs.Stability.{blocks};
 ghost use Rattle.mt_bits.specs.Members.{is_in};
-ghost use Rattle.mt_sets.specs.Notes.{greatest};
+ghost use Rattle.mt_sets.specs.Named.{row_at, AreNamed};
 ghost use Rattle.mt_couples.specs.Assigned.{IsAgentOf};
-ghost use Rattle.mt_couples.specs.Watching.{better_pairs, ranks_at, row_at, AreCounted, AreNamed, AreWatched, Counts, CountsCouple, Follows, Notes, NotesCouple, NotesPairs, Unwatches, Watches};
+ghost use Rattle.mt_couples.specs.Watching.{better_pairs, ranks_at, AreCounted, AreWatched, Counts, CountsCouple, Follows, NotesCouple, Unwatches, Watches};
 
 use crate::assignment::Assignment;
-use crate::options::Pair;
 use mt_bits::{RankRow, RankTable};
 use mt_ranks::Live;
-use mt_sets::{CoupleLists, Note};
+use mt_sets::{Note, NotedPairs};
 use mt_terms::{Agent, AppNo, CoupleNo, ProgNo};
 use std::alloc::{AllocError, Global};
-
-/// Which programs the pairs of couples name, as far as they are noted.
-pub(crate) struct Noted {
-    rows: CoupleLists,
-    /// For each couple how many of its pairs are noted, from the first on.
-    counts: Vec<usize>,
-}
-
-impl Drop for Noted {
-    fn drop(self) {
-        let Noted { rows: _, counts: _ } = self;
-    }
-}
 
 /// Where to look for an option that is opened once somebody leaves a program: for each program the ranks of the
 /// singles that want it more than what they have, and the couples that have a noted pair there.
 pub(crate) struct Watch {
     singles: RankTable,
-    couples: Noted,
+    couples: NotedPairs,
     /// For each couple how many pairs it wants more than what it has.
     better: Vec<usize>,
 }
@@ -82,51 +68,6 @@ fn unwatch_each(table: &mut RankTable, entries: &[Live])
     }
 }
 
-/// An index in 16 bits: the greatest number stands for all that are greater.
-fn short_index(index: usize) -> u16
-    ensures { result ≡ min index greatest }
-{
-    index.min(u16::MAX as usize) as u16
-}
-
-/// Notes that a couple's pair at an index names the program of a place, if there is one.
-fn note(
-    rows: &mut CoupleLists,
-    place: Option<ProgNo>,
-    couple: CoupleNo,
-    from: u16,
-) -> Result<(), AllocError>
-    ensures { OnOk result (Notes rows.old rows.new place couple from) }
-{
-    if let Some(program) = place {
-        let program = program.index();
-        if program < rows.len() {
-            rows.add(program, couple, from)?;
-        }
-    }
-    Ok(())
-}
-
-/// Notes the pairs of a couple's list from one index on, up to another.
-fn note_pairs(
-    rows: &mut CoupleLists,
-    couple: CoupleNo,
-    pairs: &[Pair],
-    start: usize,
-    end: usize,
-) -> Result<(), AllocError>
-    requires { end ≤ length pairs.now }
-    ensures { OnOk result (NotesPairs rows.old rows.new couple pairs.now start end) }
-{
-    for index in start..end {
-        let pair = pairs[index];
-        let from = short_index(index);
-        note(rows, pair.0, couple, from)?;
-        note(rows, pair.1, couple, from)?;
-    }
-    Ok(())
-}
-
 impl Watch {
     /// Each single is watched at the programs that it wants more than what it has. No couple has entered.
     pub(crate) fn new(
@@ -140,13 +81,9 @@ impl Watch {
         ensures counted { IfOk result (λ w. AreCounted assignment.now w.better.items) }
     {
         let roster = assignment.roster();
-        let couples = Noted {
-            rows: CoupleLists::new(alloc, roster.programs())?,
-            counts: Vec::from_elem(alloc, 0usize, roster.couples() as usize)?,
-        };
         Ok(Watch {
             singles,
-            couples,
+            couples: NotedPairs::new(alloc, roster.programs(), roster.couples())?,
             better: better_counts(alloc, assignment)?,
         })
     }
@@ -163,11 +100,7 @@ impl Watch {
     pub(crate) fn couples(&self, program: ProgNo) -> &[Note]
         ensures { result.now ≡ row_at self.now.couples.rows program }
     {
-        if program.index() < self.couples.rows.len() {
-            self.couples.rows.row(program.index())
-        } else {
-            &[]
-        }
+        self.couples.row(program)
     }
 
     /// How many pairs the couple wants more than what it has.
@@ -238,11 +171,8 @@ impl Watch {
         ensures named { OnOk result (AreNamed assignment.now.market self.new.couples) }
         ensures noted { OnOk result (NotesCouple self.old self.new couple) }
     {
-        let start = self.couples.counts[couple.index()];
         let end = self.better(couple);
-        let pairs = assignment.pairs(couple);
-        note_pairs(&mut self.couples.rows, couple, pairs, start, end)?;
-        self.couples.counts[couple.index()] = start.max(end);
-        Ok(())
+        self.couples
+            .note_up_to(couple, assignment.pairs(couple), end)
     }
 }

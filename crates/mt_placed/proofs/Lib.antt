@@ -1,3 +1,4 @@
+pub mod MatchRows
 pub mod OrderFacts
 pub mod PlaceFacts
 pub mod PlacedFacts

@@ -1,3 +1,4 @@
+pub mod Named
 pub mod Notes
 pub mod Programs
 pub mod View

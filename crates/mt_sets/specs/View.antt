@@ -3,7 +3,9 @@ use Rattle.std.specs.Prelude.{◌≤◌, ◌+◌, ℕ, List}
 use Rattle.std.specs.VecDeque.{deque_capacity}
 use Rattle.std.specs.List.Sorted.{IsStrictlySortedBy}
 use Rattle.std.specs.Ordering.{nat_cmp}
+use Rattle.mt_sets.specs.Named.{Noted}
 use Rattle.mt_sets.specs.Waiting.{Waiting, IsTold}
+use Rattle.mt_sets.specs.declared.noted_pairs.NotedPairs.TheInside.{Inside as Pairs}
 use Rattle.mt_sets.specs.declared.program_set.ProgramSet.TheInside.{Inside as Programs}
 use Rattle.mt_sets.specs.declared.work_list.WorkList.TheInside.{Inside as Queue}
 
@@ -21,3 +23,6 @@ programs_in s = s.programs.items
 -- They are in order of their numbers, each once.
 pub record AreInOrder (s : Programs) : Type 0 where
   pub sorted : IsStrictlySortedBy nat_cmp s.programs.items
+
+abbrev pub noted_in : Pairs → Noted
+noted_in n = record { rows = n.rows; counts = n.counts.items }

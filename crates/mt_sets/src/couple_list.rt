@@ -31,7 +31,7 @@ impl Note {
 }
 
 /// The notes of each program, in the order in which the couples were added.
-pub struct CoupleLists {
+pub(crate) struct CoupleLists {
     notes: Rows<Note>,
     /// For each program whose pair was noted there last, so that no note is read where another couple's is added.
     latest: Vec<CoupleNo>,
@@ -59,7 +59,7 @@ impl Model for CoupleLists {
 
 impl CoupleLists {
     /// No notes for each of so many programs. The error is want of memory.
-    pub fn new(alloc: Global, programs: u32) -> Result<Self, AllocError>
+    pub(crate) fn new(alloc: Global, programs: u32) -> Result<Self, AllocError>
         ensures { IfOk result (λ l. l ≡ replicate programs []) }
     {
         let mut notes = Rows::new(alloc);
@@ -77,7 +77,7 @@ impl CoupleLists {
 
     /// How many programs there are.
     #[inline]
-    pub fn len(&self) -> usize
+    pub(crate) fn len(&self) -> usize
         ensures { result ≡ length self.now }
     {
         self.notes.len()
@@ -85,7 +85,7 @@ impl CoupleLists {
 
     /// The notes of a program.
     #[inline]
-    pub fn row(&self, program: usize) -> &[Note]
+    pub(crate) fn row(&self, program: usize) -> &[Note]
         requires { program < length self.now }
         ensures { result.now ≡ slice_index_or self.now program [] }
     {
@@ -119,7 +119,12 @@ impl CoupleLists {
     /// Notes the couple's pair at an index at a program: in the last note, where that is of an earlier one of that
     /// couple. The error is want of memory, and nothing is said of the notes then.
     #[inline]
-    pub fn add(&mut self, program: usize, couple: CoupleNo, from: u16) -> Result<(), AllocError>
+    pub(crate) fn add(
+        &mut self,
+        program: usize,
+        couple: CoupleNo,
+        from: u16,
+    ) -> Result<(), AllocError>
         requires { program < length self.old }
         ensures { OnOk result (AddsNoteAt self.old self.new program couple from) }
     {

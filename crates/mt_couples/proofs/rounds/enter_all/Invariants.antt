@@ -1,5 +1,6 @@
 use Rattle.std.proofs.Common.{◌<◌, ℕ}
-use Rattle.mt_couples.specs.Watching.{AreCounted, AreNamed, AreWatched, IsNoted}
+use Rattle.mt_sets.specs.Named.{AreNamed}
+use Rattle.mt_couples.specs.Watching.{AreCounted, AreWatched, IsNoted}
 use Rattle.mt_couples.proofs.EnteringFacts.{IsEntering}
 use Rattle.mt_couples.proofs.rounds.enter_all.Given as goal
 

@@ -1,4 +1,4 @@
-use Rattle.std.proofs.Common.{◌≡◌, ◌≤◌, ◌∙◌, ◌∷◌, length, get_or, ℕ, true, map, ap, ap₂, sym, arith, List, Vec, Global, subst}
+use Rattle.std.proofs.Common.{◌≡◌, ◌≤◌, ◌∙◌, ◌∷◌, length, ℕ, true, map, ap, ap₂, sym, arith, List, Vec, Global, subst}
 use Rattle.mt_terms.specs.Lists.{has, below}
 use Rattle.mt_terms.specs.Market.{applicants}
 use Rattle.mt_terms.specs.Rounds.{all_joined, is_on}
@@ -14,9 +14,9 @@ use Rattle.mt_couples.proofs.QuietFacts.{quiet_but_left}
 use Rattle.mt_terms.specs.WellFormed.{IsWellFormed}
 use Rattle.mt_couples.specs.Looking.{IsWatching}
 use Rattle.mt_terms.specs.Matching.{Placement}
-use Rattle.mt_couples.specs.declared.watch.Noted.{Noted}
+use Rattle.mt_sets.specs.Named.{noted_count, AreNamed, Noted}
 use Rattle.mt_couples.specs.declared.watch.Watch.{Watch}
-use Rattle.mt_couples.specs.Watching.{AreCounted, AreNamed, AreWatched, CountsAll, FollowsAll, NotesAgent}
+use Rattle.mt_couples.specs.Watching.{AreCounted, AreWatched, CountsAll, FollowsAll, NotesAgent}
 use Rattle.mt_couples.proofs.WatchFacts.{watched_after}
 use Rattle.mt_couples.proofs.NoteFacts.{counted_after, noted_after}
 use Rattle.mt_couples.proofs.RoundFacts.{front_within}
@@ -113,7 +113,7 @@ watching s0 s1 sent g k ws now w0 w1 w2 w3 xs taking after before first second c
       named = named;
       counted = counted;
       noted = noted_after taking k ws now w0 w3 before.counted (subst (λ (x : Assigned). AreCounted x w3.better.items) after counted) before.noted notes.noted
-          (λ c. subst (λ (n : Noted). get_or n.counts.items c 0 ≤ get_or w3.couples.counts.items c 0) couples (notes.keeps c)) stay_on come_on;
+          (λ c. subst (λ (n : Noted). noted_count n c ≤ noted_count w3.couples c) couples (notes.keeps c)) stay_on come_on;
     }
 
 pub note_mover-requires-clause-agent : goal.note_mover-requires-clause-agent

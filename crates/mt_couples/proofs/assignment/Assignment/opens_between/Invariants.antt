@@ -2,7 +2,8 @@ use Rattle.std.proofs.Common.{◌≡◌, ◌&&◌, drop}
 use Rattle.std.specs.List.{list_any}
 use Rattle.mt_terms.specs.Stability.{would_be_taken}
 use Rattle.mt_couples.specs.Assigned.{pair_of}
-use Rattle.mt_couples.specs.Watching.{names, opens_between}
+use Rattle.mt_sets.specs.Named.{names}
+use Rattle.mt_couples.specs.Watching.{opens_between}
 use Rattle.mt_couples.proofs.assignment.Assignment.opens_between.Given as goal
 
 abbrev pub invariant-loop-pair : goal.invariant-loop-pair

@@ -1,6 +1,6 @@
 use Rattle.std.proofs.Common.{arith}
-use Rattle.mt_couples.proofs.NoteFacts.{pairs_noted, pairs_noted_first, pairs_noted_more}
-use Rattle.mt_couples.proofs.watch.note_pairs.Goals as goal
+use Rattle.mt_sets.proofs.NamedFacts.{pairs_noted, pairs_noted_first, pairs_noted_more}
+use Rattle.mt_sets.proofs.noted_pairs.note_pairs.Goals as goal
 
 pub loop-index-init : goal.loop-index-init
 loop-index-init c = pairs_noted_first c.args.rows.now c.args.couple c.args.pairs.now c.args.start
