@@ -18,7 +18,8 @@
 # `build` proves nothing. `rt try` compiles without optimising, so its LLVM module is compiled a second time here, at
 # the level of a proved build. `rt try` puts checks in that a proved build has none of, and with them the couples' stage
 # takes half as long again, and more: so they are taken out of the module, as in a proved build, where the compiler may
-# take for granted what they look for. `build checks` leaves them in. Without them a program does anything at all where
+# take for granted what they look for. `build checks` leaves them in. The hints on inlining that the sources give, which
+# `rt try` leaves out, are written in (bench/hints.py): without them the couples' stage takes up to twice its time. Without them a program does anything at all where
 # one would have stopped it, so what isn't tried with them isn't measured without. `prove` takes some minutes where the
 # layers are proved in this checkout, and a quarter of an hour from nothing.
 set -eu
@@ -70,13 +71,18 @@ copy_crates() {
     echo "mt_stages: $libraries" >> "$repo/crates.txt"
 }
 
-# The module as it is, or without the checks: the calls that they end in, each before an `unreachable`, are left out.
+# The module with the sources' hints on inlining, as it is, or without the checks: the calls that they end in, each before
+# an `unreachable`, are left out, and what a function has for a sanitizer, for a debugger and for probes of its stack.
 module() {
     "$1/bin/clang" -x ir "$scratch/module.bc" -S -emit-llvm -Xclang -disable-llvm-passes -O3 -o - |
+        python3 "$top/bench/hints.py" "$top/crates" |
         if [ "$2" = checks ]; then
             cat
         else
-            sed -e '/call void @"rattle-llvm-checks::Unreachable"/d' -e '/call void @llvm.trap()/d'
+            sed -e '/call void @"rattle-llvm-checks::Unreachable"/d' -e '/call void @llvm.trap()/d' \
+                -e '/^attributes/s/sanitize_address //' -e '/^attributes/s/"frame-pointer"="all"/"frame-pointer"="none"/' \
+                -e '/^attributes/s/"probe-stack"="[^"]*" //' -e '/^attributes/s/"stack-probe-size"="[^"]*" //' \
+                -e '/^attributes/s/"target-cpu"="x86-64"/"target-cpu"="x86-64-v2"/'
         fi
 }
 
