@@ -1,12 +1,12 @@
 -- Which pairs of couples' lists are noted once more are noted.
-use Rattle.std.proofs.Common.{◌≡◌, ◌∙◌, ℕ, zero, suc, ◌+◌, ◌-◌, ◌<◌, ◌≤◌, Bool, true, ◌==◌, List, [], ◌∷◌, drop, length, get_or, slice_range, min, max, replicate, refl, ap, sym, subst, inl, inr, arith}
-use Rattle.std.proofs.lemmas.Bool.{cases_eq, cases_lt, eq-eqb, false≢true, or_cases, or_left, or_right}
-use Rattle.std.proofs.lemmas.List.{get_or-drop, get_or-take, get_or_default, get_or-set_other, get_or-set_same, length-set, length-drop, length-replicate, length-take}
+use Rattle.std.proofs.Common.{◌≡◌, ◌∙◌, ℕ, zero, suc, ◌+◌, ◌-◌, ◌<◌, ◌≤◌, Bool, true, ◌==◌, List, [], ◌∷◌, drop, length, get_or, slice_range, min, replicate, refl, ap, sym, subst, inl, inr, arith}
+use Rattle.std.proofs.lemmas.Bool.{cases_lt, eq-eqb, false≢true, or_cases, or_left, or_right}
+use Rattle.std.proofs.lemmas.List.{get_or-drop, get_or-take, get_or_default, length-drop, length-replicate, length-take}
 use Rattle.std.specs.List.{list_any}
-use Rattle.mt_terms.specs.Market.{Market, Pair, couple_of}
+use Rattle.mt_terms.specs.Market.{Market, Pair}
 use Rattle.mt_terms.specs.Matching.{is_program}
-use Rattle.mt_sets.specs.Named.{names, noted_count, nothing_noted, row_at, AreNamed, Noted, Notes, NotesPairs, NotesUpTo}
-use Rattle.mt_sets.specs.Notes.{greatest, has_couple, is_noted}
+use Rattle.mt_sets.specs.Named.{names, noted_count, nothing_noted, row_at, AreNamed, Noted, Notes, NotesPairs}
+use Rattle.mt_sets.specs.Notes.{greatest, has_couple}
 use Rattle.mt_sets.specs.declared.couple_list.Note.{Note}
 
 -- what passes at a place is found
@@ -75,47 +75,6 @@ pairs_noted old new c pairs start index end past all = record {
   adds = λ p i pair known low high. all.adds p i pair known low (omega arith);
   only = all.only;
 }
-
--- so many pairs of a couple are noted then
-pub named_more : (m : Market) (old new : Noted) (c end : ℕ) → AreNamed m old → c < length m.couples → NotesUpTo old new c (couple_of m c).pairs end → AreNamed m new
-named_more m old new c end named known notes = record {
-  one_each = notes.rows.as_many ∙ named.one_each;
-  counts = ap length notes.counts ∙ length-set old.counts c most ∙ named.counts;
-  each = λ d p i pair within low in_list read at_p. elim (cases_eq d c) [
-    | inl same ↦
-        let here : get_or new.counts d 0 ≡ most =
-        ap (λ j. get_or new.counts j 0) same ∙ ap (λ xs. get_or xs c 0) notes.counts ∙ get_or-set_same old.counts c most 0 (omega (arith, named.counts)) in
-        let read' : pair ≡ get_or (couple_of m c).pairs i pair = read ∙ ap (λ j. get_or (couple_of m j).pairs i pair) same in
-        subst (λ j. is_noted (row_at new.rows p) j i ≡ true) (sym same) (elim (cases_lt i (noted_count old c)) [
-          | inl before ↦ notes.rows.keeps p c i (named.each c p i pair within before (omega (arith, ap (λ j. length (couple_of m j).pairs) same)) read' at_p)
-          | inr later ↦ notes.rows.adds p i pair (omega (arith, named.one_each)) later (omega (arith, here)) read' at_p
-        ])
-    | inr other ↦
-        let same : get_or new.counts d 0 ≡ get_or old.counts d 0 = ap (λ xs. get_or xs d 0) notes.counts ∙ get_or-set_other old.counts c d most 0 other in
-        notes.rows.keeps p d i (named.each d p i pair within (omega (arith, same)) in_list read at_p)
-  ];
-  within = λ p d on. elim (notes.rows.only p d on) [
-    | inl before ↦ named.within p d before
-    | inr same ↦ subst (λ j. j < length m.couples) same known
-  ];
-}
-  where
-    most : ℕ
-    most = max (noted_count old c) end
-
--- and of no couple fewer than before, where the couple's count is one of these
-pub counts_grow : (old new : Noted) (c end : ℕ) (pairs : List Pair) → NotesUpTo old new c pairs end → c < length old.counts
-    → (end ≤ noted_count new c) × ((d : ℕ) → noted_count old d ≤ noted_count new d)
-counts_grow old new c end pairs notes known = (
-  omega (arith, now),
-  λ d. elim (cases_eq d c) [
-    | inl same ↦ omega (arith, now, ap (noted_count old) same, ap (noted_count new) same)
-    | inr other ↦ omega (arith, ap (λ xs. get_or xs d 0) notes.counts ∙ get_or-set_other old.counts c d (max (noted_count old c) end) 0 other)
-  ],
-)
-  where
-    now : noted_count new c ≡ max (noted_count old c) end
-    now = ap (λ xs. get_or xs c 0) notes.counts ∙ get_or-set_same old.counts c (max (noted_count old c) end) 0 known
 
 -- nothing is noted
 pub named_first : (m : Market) (n : Noted) (programs couples : ℕ) → n ≡ nothing_noted programs couples → programs ≡ length m.programs → couples ≡ length m.couples → AreNamed m n
