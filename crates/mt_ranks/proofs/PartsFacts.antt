@@ -1,11 +1,11 @@
 -- Rank tables in parts, each of a block of applicants.
-use Rattle.std.proofs.Common.{◌≡◌, ℕ, zero, suc, ◌+◌, ◌-◌, ◌*◌, ◌/◌, ◌%◌, ◌<◌, ◌≤◌, List, [], ◌∷◌, map, length, get_or, min, sum, drop, slice_range, sym, ap, subst, ◌∙◌, inl, inr, arith}
+use Rattle.std.proofs.Common.{◌≡◌, ℕ, zero, suc, ◌+◌, ◌-◌, ◌*◌, ◌<◌, ◌≤◌, ◌^◌, List, [], ◌∷◌, map, length, get_or, min, sum, drop, slice_range, sym, ap, subst, ◌∙◌, inl, inr, arith}
 use Rattle.std.specs.Global.{Global}
-use Rattle.std.specs.Int.{div_ceil}
 use Rattle.std.specs.List.{AllZip, Contains, range_with_len}
 use Rattle.std.specs.Prelude.{Result, Ok, Err, IfOk, MatchResult, Vec}
 use Rattle.std.specs.declared.alloc.AllocError.{AllocError}
 use Rattle.std.proofs.lemmas.Bool.{cases_lt}
+use Rattle.std.proofs.lemmas.Bool.Decides.{nat_tests}
 use Rattle.std.proofs.lemmas.List.{get_or_past, get_or-take, get_or-drop}
 use Rattle.std.proofs.lemmas.List.FromFn.{get_or-map-range_with_len, length-map-range_with_len, fill_by_all}
 use Rattle.std.proofs.lemmas.List.Sums.{sum_by-take-le, sum_by-take-drop}
@@ -14,7 +14,7 @@ use Rattle.mt_terms.specs.Lists.{below}
 use Rattle.mt_terms.specs.Market.{Market, applicants, list_of}
 use Rattle.mt_terms.specs.WellFormed.{IsWellFormed}
 use Rattle.mt_ranks.specs.Entries.{own_entries, rankings_of, entries_among, times_listed, all_times, ListedTimes, AscendFrom}
-use Rattle.mt_ranks.specs.Parts.{block_size, part_of, live_among, row_among, IsPart, AreParts, HaveApplicant}
+use Rattle.mt_ranks.specs.Parts.{block_first, block_size, block_of, place_of, part_of, live_among, row_among, IsPart, AreParts, HaveApplicant}
 use Rattle.mt_ranks.specs.Rows.{Filling, row_of}
 use Rattle.mt_ranks.specs.declared.entries.Live.{Live}
 use Rattle.mt_ranks.specs.declared.tables.Part.{Part}
@@ -29,15 +29,8 @@ sum-range xs a b = omega (arith, sum_by-take-le (λ x. x) (drop a xs) (b - a), s
 pub many_times : (m : Market) (times : List ℕ) → times ≡ all_times m → length times ≡ applicants m
 many_times m times are = ap length are ∙ length-map-range_with_len (times_listed (rankings_of m)) 0 (applicants m)
 
-pub block_within : (number first size count n : ℕ) → first ≡ number * 12500 → size ≡ min 12500 (count - number * 12500) → count ≡ n → number * 12500 < n → first + size ≤ n
-block_within number first size count n from long all some = omega arith
-
--- as many blocks as have an applicant
-pub has_block : (number blocks count n : ℕ) → blocks ≡ div_ceil count 12500 → count ≡ n → number * 12500 < n → number < blocks
-has_block number blocks count n are all some = omega arith
-
-pub block_begins : (number blocks count n : ℕ) → blocks ≡ div_ceil count 12500 → count ≡ n → number < blocks → number * 12500 < n
-block_begins number blocks count n are all some = omega arith
+pub block_within : (size number first long count n : ℕ) → first ≡ min (number * size) count → long ≡ min size (count - first) → count ≡ n → first + long ≤ n
+block_within size number first long count n from some all = omega arith
 
 pub times_of_block : (m : Market) (times : List ℕ) (from size : ℕ) → times ≡ all_times m → from + size ≤ applicants m → ListedTimes m from size (slice_range times from (from + size))
 times_of_block m times from size are within =
@@ -69,55 +62,73 @@ part_made P low (suc n) (part ∷ made) each (suc k) w =
     let rest = part_made P (low + 1) n made each.1 k (omega arith) in
     (omega (arith, rest.0), subst (λ j. P j (part_of made k)) same rest.1)
 
-pub parts_by_threads : (m : Market) (start end n : ℕ) (ns : List ℕ) (made : List (Result Part AllocError)) (r : Result (Vec Part Global) AllocError)
-    → start ≡ 0 → end ≡ n → ((number : ℕ) → number * 12500 < applicants m → number < n) → ns ≡ nat_range start end
-    → AllZip (λ k (r : Result Part AllocError). IfOk r (IsPart m k)) ns made
+pub parts_by_threads : (m : Market) (size start end n : ℕ) (ns : List ℕ) (made : List (Result Part AllocError)) (r : Result (Vec Part Global) AllocError)
+    → start ≡ 0 → end ≡ n → n ≡ 4 → ns ≡ nat_range start end
+    → AllZip (λ k (r : Result Part AllocError). IfOk r (IsPart m size k)) ns made
     → MatchResult r (λ v. (vs : List Part) × (made ≡ map Ok vs) × (v.items ≡ vs)) (λ e. Contains made (Err e))
-    → IfOk r (λ v. AreParts m v.items)
-parts_by_threads m start end n ns made (Err e) from to enough are each is = tt
-parts_by_threads m start end n ns made (Ok v) from to enough are each is =
-    let Made : List ℕ → List (Result Part AllocError) → Type 0 = λ ks rs. AllZip (λ k (r : Result Part AllocError). IfOk r (IsPart m k)) ks rs in
+    → IfOk r (λ v. AreParts m size v.items)
+parts_by_threads m size start end n ns made (Err e) from to enough are each is = tt
+parts_by_threads m size start end n ns made (Ok v) from to enough are each is =
+    let Made : List ℕ → List (Result Part AllocError) → Type 0 = λ ks rs. AllZip (λ k (r : Result Part AllocError). IfOk r (IsPart m size k)) ks rs in
     let whole : end - start ≡ n = omega arith in
     let range : ns ≡ range_with_len 0 n = are ∙ ap (λ a. range_with_len a (end - start)) from ∙ ap (range_with_len 0) whole in
     let all : Made (range_with_len 0 n) (map Ok v.items) = subst (λ rs. Made (range_with_len 0 n) rs) (is.1 ∙ ap (map Ok) (sym is.2)) (subst (λ ks. Made ks made) range each) in
     record {
-      enough = λ number h. (part_made (IsPart m) 0 n v.items all number (enough number h)).0;
+      enough = λ number h. (part_made (IsPart m size) 0 n v.items all number (omega (arith, h, enough))).0;
       each = λ number h.
           let same : 0 + number ≡ number = omega arith in
-          subst (λ j. IsPart m j (part_of v.items number)) same (part_made (IsPart m) 0 n v.items all number (enough number h)).1;
+          subst (λ j. IsPart m size j (part_of v.items number)) same (part_made (IsPart m size) 0 n v.items all number (omega (arith, h, enough))).1;
     }
 
+-- An applicant's block is one of the four, begins at the applicant or before it, and ends after it.
+pub block_below : (size a : ℕ) → block_of size a < 4
+block_below size a = grind (arith, nat_tests)
+
+pub block_before : (size a : ℕ) → block_of size a * size ≤ a
+block_before size a = grind (arith, nat_tests)
+
+block_after : (size a n : ℕ) → n ≤ size * 4 → a < n → a < block_of size a * size + size
+block_after size a n enough within = grind (arith, nat_tests)
+
 -- Below, an applicant is looked up in the part of its block.
-module _ (m : Market) (parts : List Part) (are : AreParts m parts) (a : ℕ) (within : a < applicants m) where
-  own_part : IsPart m (a / 12500) (part_of parts (a / 12500))
-  own_part = are.each (a / 12500) (omega arith)
+module _ (m : Market) (size : ℕ) (parts : List Part) (are : AreParts m size parts) (a : ℕ) (enough : applicants m ≤ size * 4) (within : a < applicants m) where
+  own_part : IsPart m size (block_of size a) (part_of parts (block_of size a))
+  own_part = are.each (block_of size a) (block_below size a)
 
-  in_block : a % 12500 < block_size (a / 12500) (applicants m)
-  in_block = omega arith
+  own_first : block_first size (block_of size a) (applicants m) ≡ block_of size a * size
+  own_first = omega (arith, block_before size a)
 
-  own_place : (a / 12500) * 12500 + a % 12500 ≡ a
-  own_place = omega arith
+  in_block : place_of size a < block_size size (block_of size a) (applicants m)
+  in_block = omega (arith, own_first, block_before size a, block_after size a (applicants m) enough within)
 
-  pub row_found : row_among parts a ≡ own_entries m a
+  own_place : block_first size (block_of size a) (applicants m) + place_of size a ≡ a
+  own_place = omega (arith, own_first, block_before size a)
+
+  pub row_found : row_among size parts a ≡ own_entries m a
   row_found =
-      ap (λ rows. get_or rows (a % 12500) []) own_part.rows
-      ∙ get_or-map-range_with_len (λ k. own_entries m ((a / 12500) * 12500 + k)) 0 (block_size (a / 12500) (applicants m)) (a % 12500) (a % 12500) [] in_block (omega arith)
+      let number = block_of size a in
+      ap (λ rows. get_or rows (place_of size a) []) own_part.rows
+      ∙ get_or-map-range_with_len (λ k. own_entries m (block_first size number (applicants m) + k)) 0 (block_size size number (applicants m)) (place_of size a) (place_of size a) [] in_block (omega arith)
       ∙ ap (own_entries m) own_place
 
-  pub live_found : live_among parts a ≡ entries_among (own_entries m a) (list_of m a)
+  pub live_found : live_among size parts a ≡ entries_among (own_entries m a) (list_of m a)
   live_found =
-      let rows = (part_of parts (a / 12500)).rows in
-      ap (λ lists. get_or lists (a % 12500) []) own_part.lists
-      ∙ get_or-map-range_with_len (λ k. entries_among (row_of rows k) (list_of m ((a / 12500) * 12500 + k))) 0 (block_size (a / 12500) (applicants m)) (a % 12500) (a % 12500) [] in_block (omega arith)
-      ∙ ap (λ b. entries_among (row_of rows (a % 12500)) (list_of m b)) own_place
+      let number = block_of size a in
+      let rows = (part_of parts number).rows in
+      ap (λ lists. get_or lists (place_of size a) []) own_part.lists
+      ∙ get_or-map-range_with_len (λ k. entries_among (row_of rows k) (list_of m (block_first size number (applicants m) + k))) 0 (block_size size number (applicants m)) (place_of size a) (place_of size a) [] in_block (omega arith)
+      ∙ ap (λ b. entries_among (row_of rows (place_of size a)) (list_of m b)) own_place
       ∙ ap (λ es. entries_among es (list_of m a)) row_found
 
-  pub applicant_held : HaveApplicant parts a
-  applicant_held =
-      let rows = (part_of parts (a / 12500)).rows in
-      let size = block_size (a / 12500) (applicants m) in
+  pub applicant_held : size < 2 ^ 32 → HaveApplicant size parts a
+  applicant_held small =
+      let number = block_of size a in
+      let first = block_first size number (applicants m) in
+      let rows = (part_of parts number).rows in
       record {
-        part = are.enough (a / 12500) (omega arith);
-        list = omega (arith, in_block, ap length own_part.lists, length-map-range_with_len (λ k. entries_among (row_of rows k) (list_of m ((a / 12500) * 12500 + k))) 0 size);
-        row = omega (arith, in_block, ap length own_part.rows, length-map-range_with_len (λ k. own_entries m ((a / 12500) * 12500 + k)) 0 size);
+        small = small;
+        part = are.enough number (block_below size a);
+        within = block_before size a;
+        list = omega (arith, in_block, ap length own_part.lists, length-map-range_with_len (λ k. entries_among (row_of rows k) (list_of m (first + k))) 0 (block_size size number (applicants m)));
+        row = omega (arith, in_block, ap length own_part.rows, length-map-range_with_len (λ k. own_entries m (first + k)) 0 (block_size size number (applicants m)));
       }

@@ -20,7 +20,7 @@ count_in t = applicants t.roster.now.market
 abbrev pub market_in : Inside → Market
 market_in t = record {
   programs = t.roster.now.market.programs;
-  lists = map (λ a. programs_in (live_among t.parts.items a)) (below (count_in t));
+  lists = map (λ a. programs_in (live_among t.size t.parts.items a)) (below (count_in t));
   couples = [];
 }
 
@@ -30,7 +30,7 @@ ranked_in t = record { market = market_in t; singles = single_flags t.roster.now
 -- The tables fit: each applicant is in its part, its row has its places on the programs' lists, and its live list
 -- has ranks.
 pub record AreTables (t : Inside) : Type 0 where
-  pub have : (a : ℕ) → a < count_in t → HaveApplicant t.parts.items a
-  pub rows : (a : ℕ) → a < count_in t → row_among t.parts.items a ≡ own_entries (market_in t) a
-  pub live_ranks : (a : ℕ) → a < count_in t → live_among t.parts.items a ≡ ranked_list (market_in t) a
+  pub have : (a : ℕ) → a < count_in t → HaveApplicant t.size t.parts.items a
+  pub rows : (a : ℕ) → a < count_in t → row_among t.size t.parts.items a ≡ own_entries (market_in t) a
+  pub live_ranks : (a : ℕ) → a < count_in t → live_among t.size t.parts.items a ≡ ranked_list (market_in t) a
   pub ranked : IsRanked (ranked_in t)

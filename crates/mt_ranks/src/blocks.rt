@@ -1,10 +1,36 @@
-ghost use Rattle.std.specs.Prelude.{◌≡◌, ◌≢◌, ◌+◌, ◌-◌, ◌*◌, ◌<◌, ℕ, None, min, IfSome};
+ghost use Rattle.std.specs.Prelude.{◌≡◌, ◌≢◌, ◌+◌, ◌-◌, ◌*◌, ◌<◌, ◌≤◌, ◌^◌, ℕ, None, min, IfSome};
+ghost use Rattle.mt_ranks.specs.Parts.{block_of};
 
 use mt_terms::AppNo;
 
-/// How many applicants a block of the tables has, but for the last one. The tables of a block are made by a
-/// thread of its own, which goes through the lists of all programs: with smaller blocks there is more of that.
-pub(crate) const BLOCK: usize = 12500;
+/// In how many blocks the applicants are taken. The tables of a block are made by a thread of its own, which goes
+/// through the lists of all programs: with more blocks there is more of that.
+pub(crate) const BLOCKS: usize = 4;
+
+/// How many applicants a block has, of so many, but for the last blocks.
+pub(crate) fn block_size(applicants: usize) -> usize
+    ensures enough { applicants ≤ result * BLOCKS }
+    ensures few { result ≤ applicants }
+{
+    applicants.div_ceil(BLOCKS)
+}
+
+/// The number of the block, from 0, that has an applicant, in blocks of this size.
+#[inline]
+pub(crate) fn block_of(size: usize, applicant: usize) -> usize
+    requires { size < 2 ^ 32 }
+    ensures { result ≡ block_of size applicant }
+{
+    if applicant < size {
+        0
+    } else if applicant < size * 2 {
+        1
+    } else if applicant < size * 3 {
+        2
+    } else {
+        3
+    }
+}
 
 /// A block of applicants: so many of them, from a number on.
 #[derive(Clone, Copy)]
@@ -14,25 +40,25 @@ pub(crate) struct Block {
 }
 
 impl Block {
-    /// The block with this number, from 0, of so many applicants.
-    pub(crate) fn numbered(number: usize, applicants: usize) -> Block
-        requires { number * BLOCK < applicants }
-        ensures first { result.first ≡ number * BLOCK }
-        ensures size { result.size ≡ min BLOCK (applicants - number * BLOCK) }
+    /// The block with this number, from 0, of so many applicants in blocks of this size.
+    pub(crate) fn numbered(number: usize, size: usize, applicants: usize) -> Block
+        ensures first { result.first ≡ min (number * size) applicants }
+        ensures size { result.size ≡ min size (applicants - result.first) }
     {
-        let first = number * BLOCK;
+        let first = number.saturating_mul(size).min(applicants);
         Block {
             first,
-            size: BLOCK.min(applicants - first),
+            size: size.min(applicants - first),
         }
     }
 
     /// The applicant's place in the block, from 0, where the block has it.
     pub(crate) fn place(self, applicant: AppNo) -> Option<usize>
+        requires { self.first + self.size ≤ 2 ^ 64 }
         ensures inside { IfSome result (λ k. (k < self.size) × (self.first + k ≡ applicant)) }
         ensures outside { result ≡ None → (k : ℕ) → k < self.size → self.first + k ≢ applicant }
     {
-        let place = applicant.index().checked_sub(self.first)?;
+        let place = applicant.index().wrapping_sub(self.first);
         if place < self.size { Some(place) } else { None }
     }
 }

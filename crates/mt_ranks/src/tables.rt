@@ -1,4 +1,4 @@
-ghost use Rattle.std.specs.Prelude.{◌≡◌, ℕ, ◌+◌, ◌*◌, ◌<◌, ◌≤◌, false, [], All, length, is_some, slice_index_or, sum, ◌^◌, IfOk, IfSome};
+ghost use Rattle.std.specs.Prelude.{◌≡◌, ℕ, ◌+◌, ◌<◌, ◌≤◌, false, [], All, length, is_some, slice_index_or, sum, ◌^◌, IfOk, IfSome};
 ghost use Rattle.mt_terms.specs.Lists.{has};
 ghost use Rattle.mt_terms.specs.Market.{applicants, program_of};
 ghost use Rattle.mt_ranks.specs.Entries.{AscendFrom, all_times};
@@ -7,7 +7,7 @@ ghost use Rattle.mt_ranks.specs.Notes.{ProgramsWithin};
 ghost use Rattle.mt_ranks.specs.Parts.{live_among, row_among, AreParts, HaveApplicant, IsPart};
 ghost use Rattle.mt_ranks.specs.Rows.{listed_rows, row_of};
 
-use crate::blocks::{BLOCK, Block};
+use crate::blocks::{BLOCKS, Block, block_of, block_size};
 use crate::entries::{Live, push_live, rank_at};
 use crate::notes::Note;
 use crate::rows::Rows;
@@ -18,6 +18,9 @@ use rayon::prelude::*;
 use std::alloc::{AllocError, Global};
 use std::marker::Model;
 use std::thread::Threads;
+
+/// From how many entries on programs' lists on the blocks are made side by side.
+const FEWEST: usize = 8192;
 
 /// The tables of a block of applicants: its live lists with ranks, and all its ranks on the programs' lists.
 #[derive(Drop)]
@@ -31,6 +34,7 @@ struct Part {
 #[derive(Drop)]
 pub struct Ranks<'m> {
     roster: &'m Roster,
+    size: usize,
     parts: Vec<Part>,
 }
 
@@ -86,65 +90,77 @@ fn live_lists(
     Ok(lists)
 }
 
-/// The tables of the block of applicants with this number, where the programs list each applicant so often.
+/// The tables of the block of applicants with this number, in blocks of this size, where the programs list each
+/// applicant so often.
 fn part_numbered(
     alloc: Global,
     roster: &Roster,
     times: &[usize],
+    size: usize,
     number: usize,
 ) -> Result<Part, AllocError>
-    requires number { number * BLOCK < applicants roster.now.market }
     requires times { times.now ≡ all_times roster.now.market }
     requires few { sum times.now < 2 ^ 64 }
-    ensures { IfOk result (IsPart roster.now.market number) }
+    ensures { IfOk result (IsPart roster.now.market size number) }
 {
     roster.is_of_a_file();
-    let block = Block::numbered(number, times.len());
+    let block = Block::numbered(number, size, times.len());
     let rows = transpose(alloc, roster, block, of_block(times, block))?;
     let lists = live_lists(alloc, roster, block, &rows)?;
     Ok(Part { rows, lists })
 }
 
-/// The tables of all blocks, made side by side.
+/// How many blocks a thread makes at least, where programs list the applicants so often: all of them where these are few
+/// entries.
+fn least_blocks(times: &[usize]) -> usize {
+    let mut entries: usize = 0;
+    for count in times {
+        entries = entries.saturating_add(*count);
+    }
+    if entries < FEWEST { BLOCKS } else { 1 }
+}
+
+/// The tables of all blocks of this size, made side by side.
 fn all_parts<R: Threads + Sync>(
     rt: &R,
     alloc: Global,
     roster: &Roster,
+    size: usize,
 ) -> Result<Vec<Part>, AllocError>
-    ensures { IfOk result (λ v. AreParts roster.now.market v.items) }
+    ensures { IfOk result (λ v. AreParts roster.now.market size v.items) }
 {
     let times = listed(alloc, roster)?;
     let times = times.as_slice();
-    let blocks = times.len().div_ceil(BLOCK);
-    (0..blocks)
+    (0..BLOCKS)
         .into_par_iter()
-        .with_min_len(1)
+        .with_min_len(least_blocks(times))
         .map(
             |number: usize| -> Result<Part, AllocError>
-                requires { (number * BLOCK < applicants roster.now.market)
-                    × (times.now ≡ all_times roster.now.market) × (sum times.now < 2 ^ 64) }
-                ensures { IfOk result (IsPart roster.entry.now.market number) }
-            { part_numbered(alloc, roster, times, number) },
+                requires { (times.now ≡ all_times roster.now.market) × (sum times.now < 2 ^ 64) }
+                ensures { IfOk result (IsPart roster.entry.now.market size number) }
+            { part_numbered(alloc, roster, times, size, number) },
         )
         .collect::<Result<Vec<Part>, AllocError>>(rt, alloc)?
 }
 
-/// The live list of an applicant, among the tables of all blocks.
-fn live_among(parts: &[Part], applicant: AppNo) -> &[Live]
-    requires { HaveApplicant parts.now applicant }
-    ensures { result.now ≡ live_among parts.now applicant }
+/// The live list of an applicant, among the tables of all blocks of this size.
+fn live_among(size: usize, parts: &[Part], applicant: AppNo) -> &[Live]
+    requires { HaveApplicant size parts.now applicant }
+    ensures { result.now ≡ live_among size parts.now applicant }
 {
     let index = applicant.index();
-    parts[index / BLOCK].lists.list(index % BLOCK)
+    let block = block_of(size, index);
+    parts[block].lists.list(index - block * size)
 }
 
-/// The row of an applicant, among the tables of all blocks.
-fn row_among(parts: &[Part], applicant: AppNo) -> &[Live]
-    requires { HaveApplicant parts.now applicant }
-    ensures { result.now ≡ row_among parts.now applicant }
+/// The row of an applicant, among the tables of all blocks of this size.
+fn row_among(size: usize, parts: &[Part], applicant: AppNo) -> &[Live]
+    requires { HaveApplicant size parts.now applicant }
+    ensures { result.now ≡ row_among size parts.now applicant }
 {
     let index = applicant.index();
-    parts[index / BLOCK].rows.row(index % BLOCK)
+    let block = block_of(size, index);
+    parts[block].rows.row(index - block * size)
 }
 
 impl<'m> Ranks<'m> {
@@ -157,8 +173,13 @@ impl<'m> Ranks<'m> {
         ensures { IfOk result (λ ranks. ranks ≡ ranked_of roster.now.market) }
     {
         roster.is_of_a_file();
-        let parts = all_parts(rt, alloc, roster)?;
-        Ok(Ranks { roster, parts })
+        let size = block_size(roster.applicants() as usize);
+        let parts = all_parts(rt, alloc, roster, size)?;
+        Ok(Ranks {
+            roster,
+            size,
+            parts,
+        })
     }
 
     /// How many applicants there are, members of couples included.
@@ -201,7 +222,7 @@ impl<'m> Ranks<'m> {
         ensures entries { All (IsEntry self.now.market applicant) result.now }
         ensures member { slice_index_or self.now.singles applicant false ≡ false → result.now ≡ [] }
     {
-        live_among(&self.parts, applicant)
+        live_among(self.size, &self.parts, applicant)
     }
 
     /// The applicants that the program lists, by their ranks: the most wanted first.
@@ -220,6 +241,6 @@ impl<'m> Ranks<'m> {
         ensures listed { is_some result ≡ has (ranking_of self.now.market program) applicant }
         ensures found { IfSome result (IsRank (ranking_of self.now.market program) applicant) }
     {
-        rank_at(row_among(&self.parts, applicant), program)
+        rank_at(row_among(self.size, &self.parts, applicant), program)
     }
 }

@@ -1,5 +1,6 @@
 ghost use Rattle.std.specs.Prelude.{◌≡◌, ℕ, ◌+◌, ◌<◌, ◌≤◌, ◌^◌, length, map, slice_range, sum, IfOk, IsTrue};
 ghost use Rattle.mt_terms.specs.Lists.{has, below};
+ghost use Rattle.mt_terms.specs.Market.{applicants};
 ghost use Rattle.mt_ranks.specs.Entries.{all_times, own_entries, CanBeCounted, IsCounted, ListedTimes};
 ghost use Rattle.mt_ranks.specs.Rows.{HasRoomFor, IsEnteredFor};
 
@@ -45,6 +46,7 @@ pub(crate) fn of_block(numbers: &[usize], block: Block) -> &[usize]
 /// Adds to the rows of those applicants of a block that a program lists their ranks there.
 fn add_ranking(rows: &mut Rows, block: Block, program: ProgNo, ranking: &[AppNo])
     requires size { length rows.old.lists ≡ block.size }
+    requires block { block.first + block.size ≤ 2 ^ 64 }
     requires room { HasRoomFor block.first rows.old ranking.now }
     requires short { length ranking.now < 2 ^ 32 }
     ensures sizes { rows.new.sizes ≡ rows.old.sizes }
@@ -73,6 +75,7 @@ pub(crate) fn transpose(
     sizes: &[usize],
 ) -> Result<Rows, AllocError>
     requires sizes { ListedTimes roster.now.market block.first block.size sizes.now }
+    requires block { block.first + block.size ≤ applicants roster.now.market }
     requires few { sum sizes.now < 2 ^ 64 }
     ensures { let m = roster.now.market in
         IfOk result (λ v. v.lists ≡ map (λ k. own_entries m (block.first + k)) (below block.size)) }

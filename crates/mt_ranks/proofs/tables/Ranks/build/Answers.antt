@@ -1,10 +1,16 @@
 use Rattle.std.proofs.Common.{refl}
-use Rattle.mt_ranks.proofs.TablesSeen.{made_tables, made_seen}
+use Rattle.mt_ranks.proofs.TablesSeen.{tables_made, made_tables, made_seen}
 use Rattle.mt_ranks.proofs.tables.Ranks.build.Goals as goal
 
 pub invariant_of-result : goal.invariant_of-result
 invariant_of-result g c =
-    made_tables c.args.roster.now.market _ (record { roster = refl; parts = c.in_ok-parts.ensures }) c.is_of_a_file.ensures.well_formed c.is_of_a_file.ensures.few_applicants c.is_of_a_file.ensures.few_programs
+    let size = c.block_size-size in
+    made_tables c.args.roster.now.market _
+    (tables_made c.args.roster.now.market _ c.applicants.result refl c.applicants.ensures.count c.is_of_a_file.ensures.few_applicants size.ensures.enough size.ensures.few c.in_ok-parts.ensures)
+    c.is_of_a_file.ensures.well_formed c.is_of_a_file.ensures.few_applicants c.is_of_a_file.ensures.few_programs
 
 pub returns : goal.returns
-returns g c = made_seen c.args.roster.now.market (record { roster = c.args.roster; parts = c.in_ok-parts.parts }) (record { roster = refl; parts = c.in_ok-parts.ensures })
+returns g c =
+    let size = c.block_size-size in
+    made_seen c.args.roster.now.market (record { roster = c.args.roster; size = size.result; parts = c.in_ok-parts.parts })
+    (tables_made c.args.roster.now.market _ c.applicants.result refl c.applicants.ensures.count c.is_of_a_file.ensures.few_applicants size.ensures.enough size.ensures.few c.in_ok-parts.ensures)

@@ -9,7 +9,7 @@ pub live_among-requires : goal.live_among-requires
 live_among-requires c = rw c.deref.ensures.value (has_applicant c.self.inside c.args.self.now c.args.applicant c.self.invariant c.self.view_is c.requires)
 
 list : (c : goal.After-live_among) → c.live_among.result.now ≡ map (ranked_entry c.args.self.now.market c.args.applicant) (list_of c.args.self.now.market c.args.applicant)
-list c = c.live_among.ensures ∙ ap (λ parts. live_among parts c.args.applicant) c.deref.ensures.value ∙ live_list c.self.inside c.args.self.now c.args.applicant c.self.invariant c.self.view_is c.requires
+list c = c.live_among.ensures ∙ ap (λ parts. live_among c.self.inside.size parts c.args.applicant) c.deref.ensures.value ∙ live_list c.self.inside c.args.self.now c.args.applicant c.self.invariant c.self.view_is c.requires
 
 pub returns-clause-list : goal.returns-clause-list
 returns-clause-list c = list c

@@ -16,7 +16,7 @@ rank_at-requires c = rw (c.row_among.ensures, c.deref.ensures.value) (row_ascend
 
 answer : (c : goal.After-rank_at) → c.rank_at.result ≡ position (λ x. x == c.args.applicant) (program_of c.args.self.now.market c.args.program).ranking
 answer c =
-    c.rank_at.ensures ∙ ap (λ row. rank_among row c.args.program) (c.row_among.ensures ∙ ap (λ parts. row_among parts c.args.applicant) c.deref.ensures.value)
+    c.rank_at.ensures ∙ ap (λ row. rank_among row c.args.program) (c.row_among.ensures ∙ ap (λ parts. row_among c.self.inside.size parts c.args.applicant) c.deref.ensures.value)
     ∙ rank_in_row c.self.inside c.args.self.now c.args.applicant c.args.program c.self.invariant c.self.view_is c.requires.applicant
 
 pub returns-clause-position : goal.returns-clause-position
