@@ -4,8 +4,6 @@
 
 ghost use Rattle.std.specs.Prelude.{◌≤◌};
 
-mod floors;
-mod lists;
 mod outcomes;
 mod runs;
 

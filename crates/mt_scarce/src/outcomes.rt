@@ -1,9 +1,11 @@
 //! Which calls there are, and what became of one.
 ghost use Rattle.std.specs.Prelude.{◌≤◌};
 
-use crate::floors::{closes, deals, finishes, works, works_alone};
-use crate::lists::{asks, holds, ranks, reads, registers, splits};
-use crate::runs::{enters, judges, publishes, runs};
+use crate::runs::runs;
+use mt_calls::{
+    asks, closes, deals, enters, finishes, holds, judges, publishes, ranks, reads, registers,
+    splits, works, works_alone,
+};
 use mt_samples::markets::{CHAIN, CHAIN_TEXT, SampleError, TWO_COUPLES, TWO_COUPLES_TEXT};
 use std::alloc::Global;
 use std::sync::Wait;

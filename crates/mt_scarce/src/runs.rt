@@ -1,117 +1,18 @@
-//! The couples' rounds, the judge, the text, and whole runs.
-ghost use Rattle.std.specs.Prelude.{◌≡◌, ◌≤◌};
-ghost use Rattle.mt_ranks.specs.Ranked.{ranked_of};
+//! Whole runs.
+ghost use Rattle.std.specs.Prelude.{◌≤◌};
 
-use mt_couples::{CoupleEnd, enter_all};
 use mt_lists::Tap;
-use mt_market::Roster;
-use mt_ranks::Ranks;
-use mt_report::{Drain, published};
+use mt_report::Drain;
 use mt_run::{Options, run};
-use mt_samples::markets::{CHAIN, CHAIN_TEXT, SampleError, TWO_COUPLES, roster_of};
-use mt_samples::places::are_places;
-use mt_samples::singles::singles;
-use mt_samples::tables::with_ranks;
+use mt_samples::markets::SampleError;
 use mt_terms::codes::OUT_OF_MEMORY;
-use mt_terms::{Agent, AppNo, Blocker, Match, Places, ProgNo};
-use mt_verify::{Verdict, verify};
-use std::alloc::{AllocError, Global};
+use std::alloc::Global;
 use std::io::{self, Write};
 use std::sync::Wait;
 use std::thread::Threads;
 
 /// What a run writes when memory is refused.
 const OUT_OF_MEMORY_LINE: &[u8] = b"match,1,refused,30,OutOfMemory,0,-\n";
-
-fn enters_on<T: Threads + Sync>(
-    rt: &T,
-    alloc: Global,
-    roster: &Roster,
-    ranks: &Ranks,
-) -> Result<bool, AllocError>
-    requires { ranks.now ≡ ranked_of roster.now.market }
-{
-    let singles = singles(alloc, roster, ranks)?;
-    match enter_all(rt, alloc, roster, ranks, singles, 5) {
-        Ok(entered) => {
-            let places = [
-                Some(ProgNo(0)),
-                None,
-                None,
-                Some(ProgNo(0)),
-                Some(ProgNo(1)),
-            ];
-            Ok(entered.matched.places.as_slice() == places.as_slice() && entered.rounds == 5)
-        }
-        Err(CoupleEnd::BudgetSpent) => Ok(false),
-        Err(CoupleEnd::Memory) => Err(AllocError),
-    }
-}
-
-/// Whether the couples end where they should, in five rounds.
-pub(crate) fn enters<T: Threads + Sync>(rt: &T, alloc: Global) -> Result<bool, SampleError> {
-    with_ranks(
-        rt,
-        alloc,
-        TWO_COUPLES,
-        |roster: &Roster, ranks: &Ranks<'_>| -> Result<bool, AllocError>
-            requires { ranks.now ≡ ranked_of roster.now.market }
-        { enters_on(rt, alloc, roster, ranks) },
-    )
-}
-
-fn judges_on<T: Threads + Sync>(
-    rt: &T,
-    alloc: Global,
-    roster: &Roster,
-    ranks: &Ranks,
-) -> Result<bool, AllocError>
-    requires { ranks.now ≡ ranked_of roster.now.market }
-{
-    let places = [Some(ProgNo(0)), Some(ProgNo(1)), None];
-    if !are_places(roster, &places) {
-        return Ok(false);
-    }
-    let matched = Match {
-        places: Places::new(places.to_vec(alloc)?),
-    };
-    let blocking = Verdict::Blocks(Blocker {
-        agent: Agent::Single(AppNo(2)),
-        option: 0,
-    });
-    Ok(verify(rt, alloc, roster, ranks, &matched)? == blocking)
-}
-
-/// Whether the judge finds who blocks: a3, whom P1 wants more than a1.
-pub(crate) fn judges<T: Threads + Sync>(rt: &T, alloc: Global) -> Result<bool, SampleError> {
-    with_ranks(
-        rt,
-        alloc,
-        CHAIN,
-        |roster: &Roster, ranks: &Ranks<'_>| -> Result<bool, AllocError>
-            requires { ranks.now ≡ ranked_of roster.now.market }
-        { judges_on(rt, alloc, roster, ranks) },
-    )
-}
-
-// Whether the chain's best match has its text.
-fn publishes_on(alloc: Global, roster: &Roster) -> Result<bool, SampleError> {
-    let places = [Some(ProgNo(1)), Some(ProgNo(0)), None];
-    if !are_places(roster, &places) || roster.programs() != 2 {
-        return Ok(false);
-    }
-    let matched = Match {
-        places: Places::new(places.to_vec(alloc)?),
-    };
-    let text = published(alloc, roster, &matched, &[3, 2])?;
-    Ok(text.as_slice() == CHAIN_TEXT)
-}
-
-/// Whether a match has its text.
-pub(crate) fn publishes<T: Threads + Sync>(rt: &T, alloc: Global) -> Result<bool, SampleError> {
-    let roster = roster_of(rt, alloc, CHAIN)?;
-    publishes_on(alloc, &roster)
-}
 
 /// A writer with room for a small text.
 #[derive(Drop)]

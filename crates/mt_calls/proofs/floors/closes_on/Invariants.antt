@@ -1,4 +1,4 @@
-use Rattle.mt_scarce.proofs.floors.closes_on.Given as goal
+use Rattle.mt_calls.proofs.floors.closes_on.Given as goal
 
 abbrev pub ghosts-closes_in-K-HallName : goal.ghosts-closes_in-K-HallName
 ghosts-closes_in-K-HallName a = record { ranked = a.ranks.now }

@@ -23,7 +23,7 @@ fn is_end_of_chain(places: &[Option<ProgNo>]) -> bool {
 }
 
 /// Whether a floor ends in the best match.
-pub(crate) fn finishes<T: Threads + Sync>(rt: &T, alloc: Global) -> Result<bool, SampleError> {
+pub fn finishes<T: Threads + Sync>(rt: &T, alloc: Global) -> Result<bool, SampleError> {
     with_ranks(rt, alloc, CHAIN, |roster, ranks| {
         let matched = singles(alloc, roster, ranks)?;
         Ok(is_end_of_chain(matched.places.as_slice()))
@@ -46,7 +46,7 @@ fn deals_in<K: Ledger>(alloc: Global, blank: Blank) -> Result<bool, SampleError>
 }
 
 /// Whether credits that are dealt come back.
-pub(crate) fn deals(alloc: Global) -> Result<bool, SampleError> {
+pub fn deals(alloc: Global) -> Result<bool, SampleError> {
     deals_in::<Brand>(alloc, Blank::new(2))
 }
 
@@ -68,7 +68,7 @@ fn closes_on(alloc: Global, ranks: &Ranks) -> Result<bool, AllocError> {
 }
 
 /// Whether a hall in which nothing happens agrees with its floor.
-pub(crate) fn closes<T: Threads + Sync>(rt: &T, alloc: Global) -> Result<bool, SampleError> {
+pub fn closes<T: Threads + Sync>(rt: &T, alloc: Global) -> Result<bool, SampleError> {
     with_ranks(rt, alloc, CHAIN, |_, ranks| closes_on(alloc, ranks))
 }
 
@@ -79,7 +79,7 @@ fn is_chain(singles: &Singles) -> bool {
 }
 
 /// Whether so many workers end in the best match.
-pub(crate) fn works<T: Threads + Wait + Sync>(
+pub fn works<T: Threads + Wait + Sync>(
     rt: &T,
     alloc: Global,
     workers: u32,
@@ -97,7 +97,7 @@ pub(crate) fn works<T: Threads + Wait + Sync>(
 }
 
 /// Whether one thread without locks ends in the best match.
-pub(crate) fn works_alone<T: Threads + Sync>(rt: &T, alloc: Global) -> Result<bool, SampleError> {
+pub fn works_alone<T: Threads + Sync>(rt: &T, alloc: Global) -> Result<bool, SampleError> {
     with_ranks(rt, alloc, CHAIN, |_, ranks| {
         Ok(is_chain(&work_alone(alloc, ranks)?))
     })

@@ -12,7 +12,7 @@ use std::alloc::{AllocError, Global};
 use std::thread::Threads;
 
 /// Whether the bytes of a file are read.
-pub(crate) fn reads(alloc: Global) -> Result<bool, SampleError> {
+pub fn reads(alloc: Global) -> Result<bool, SampleError> {
     match read_all(alloc, &mut Tap::new(CHAIN), LIMITS.bytes) {
         Ok(bytes) => Ok(bytes.as_slice() == CHAIN),
         Err(ReadEnd::Memory) => Err(SampleError::Memory),
@@ -21,7 +21,7 @@ pub(crate) fn reads(alloc: Global) -> Result<bool, SampleError> {
 }
 
 /// Whether a file with a quote has these rows.
-pub(crate) fn splits(alloc: Global) -> Result<bool, SampleError> {
+pub fn splits(alloc: Global) -> Result<bool, SampleError> {
     match records(alloc, b"match,1\n\"program\",P,0\n") {
         Ok(rows) => {
             let mut left = rows.iter();
@@ -46,7 +46,7 @@ fn words(alloc: Global) -> Result<Vec<String>, AllocError> {
 }
 
 /// Whether the words are taken.
-pub(crate) fn asks(alloc: Global) -> Result<bool, SampleError> {
+pub fn asks(alloc: Global) -> Result<bool, SampleError> {
     let words = words(alloc)?;
     match asked(alloc, words.as_slice()) {
         Ok(Asked::Run { file, options }) => {
@@ -58,7 +58,7 @@ pub(crate) fn asks(alloc: Global) -> Result<bool, SampleError> {
 }
 
 /// Whether a holding that was opened has received nothing.
-pub(crate) fn holds(alloc: Global) -> Result<bool, SampleError> {
+pub fn holds(alloc: Global) -> Result<bool, SampleError> {
     let hold = Hold::open(alloc, 2, 100)?;
     Ok(hold.count() == 0 && !hold.received(99))
 }
@@ -74,7 +74,7 @@ fn is_of_chain(roster: &Roster) -> bool {
 }
 
 /// Whether a file is registered.
-pub(crate) fn registers<T: Threads + Sync>(rt: &T, alloc: Global) -> Result<bool, SampleError> {
+pub fn registers<T: Threads + Sync>(rt: &T, alloc: Global) -> Result<bool, SampleError> {
     let roster = roster_of(rt, alloc, CHAIN)?;
     Ok(is_of_chain(&roster))
 }
@@ -88,6 +88,6 @@ fn are_of_chain(ranks: &Ranks) -> bool {
 }
 
 /// Whether the rank tables of a roster are made.
-pub(crate) fn ranks<T: Threads + Sync>(rt: &T, alloc: Global) -> Result<bool, SampleError> {
+pub fn ranks<T: Threads + Sync>(rt: &T, alloc: Global) -> Result<bool, SampleError> {
     with_ranks(rt, alloc, CHAIN, |_, ranks| Ok(are_of_chain(ranks)))
 }

@@ -1,0 +1,10 @@
+//! Calls that may want memory, for tests: each says whether it answered what it should.
+#![tactic(auto)]
+
+mod floors;
+mod lists;
+mod stages;
+
+pub use floors::{closes, deals, finishes, works, works_alone};
+pub use lists::{asks, holds, ranks, reads, registers, splits};
+pub use stages::{enters, judges, publishes};
