@@ -109,3 +109,45 @@ settle-requires-clause-watch g c =
 
 pub join-requires : goal.join-requires
 join-requires c = grind (arith, common_steps)
+
+pub returns-clause-fits : goal.returns-clause-fits
+returns-clause-fits c = grind (arith, common_steps)
+
+pub returns-clause-spent : goal.returns-clause-spent
+returns-clause-spent c = grind (arith, common_steps)
+
+pub new-requires-clause-ranks : goal.new-requires-clause-ranks
+new-requires-clause-ranks c = grind (arith, common_steps)
+
+pub new-requires-2 : goal.new-requires-2
+new-requires-2 c = grind (arith, common_steps)
+
+pub new-requires-3 : goal.new-requires-3
+new-requires-3 c = grind (arith, common_steps)
+
+pub no_ranks-requires : goal.no_ranks-requires
+no_ranks-requires c = grind (arith, common_steps)
+
+pub returns-then-couples-eq0-clause-fits : goal.returns-then-couples-eq0-clause-fits
+returns-then-couples-eq0-clause-fits c = grind (arith, common_steps)
+
+pub returns-then-couples-eq0-clause-spent : goal.returns-then-couples-eq0-clause-spent
+returns-then-couples-eq0-clause-spent c = grind (arith, common_steps)
+
+pub returns-then-couples-eq0-clause-entered : goal.returns-then-couples-eq0-clause-entered
+returns-then-couples-eq0-clause-entered c = grind (arith, common_steps)
+
+pub returns-in_err-watch : goal.returns-in_err-watch
+returns-in_err-watch c = grind (arith, common_steps)
+
+pub returns-in_err-watched : goal.returns-in_err-watched
+returns-in_err-watched c = grind (arith, common_steps)
+
+pub returns-in_err-waiting : goal.returns-in_err-waiting
+returns-in_err-waiting c = grind (arith, common_steps)
+
+pub returns-in_err-assignment : goal.returns-in_err-assignment
+returns-in_err-assignment c = grind (arith, common_steps)
+
+pub are_singles_quiet-quiet-requires-after_bounds : goal.are_singles_quiet-quiet-requires-after_bounds
+are_singles_quiet-quiet-requires-after_bounds c = grind (arith, common_steps)
