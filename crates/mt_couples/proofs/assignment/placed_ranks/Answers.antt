@@ -94,27 +94,3 @@ insert-requires c = grind (arith, common_steps)
 
 pub returns-clause-placed : goal.returns-clause-placed
 returns-clause-placed c = grind (arith, common_steps)
-
-pub returns-clause-watched : goal.returns-clause-watched
-returns-clause-watched c = grind (arith, common_steps)
-
-pub placed_rank-requires-clause-found : goal.placed_rank-requires-clause-found
-placed_rank-requires-clause-found c = grind (arith, common_steps)
-
-pub returns-in_err-table-clause-placed : goal.returns-in_err-table-clause-placed
-returns-in_err-table-clause-placed c = grind (arith, common_steps)
-
-pub returns-in_err-found-clause-placed : goal.returns-in_err-found-clause-placed
-returns-in_err-found-clause-placed c = grind (arith, common_steps)
-
-pub returns-in_err-table-clause-watched : goal.returns-in_err-table-clause-watched
-returns-in_err-table-clause-watched c = grind (arith, common_steps)
-
-pub index-requires : goal.index-requires
-index-requires c = grind (arith, common_steps)
-
-pub no_ranks-requires : goal.no_ranks-requires
-no_ranks-requires c = grind (arith, common_steps)
-
-pub returns-in_err-insert : goal.returns-in_err-insert
-returns-in_err-insert c = grind (arith, common_steps)

@@ -1,5 +1,4 @@
 use Rattle.std.proofs.lemmas.Grind.{common_steps}
-use borrow.Author.Rules.{rules}
 use Rattle.std.proofs.Common.{◌∙◌, ◌<◌, ◌++◌, ◌∷◌, [], length, arith, ap₂, sym, subst}
 use Rattle.mt_terms.specs.Matching.{placed_ranks}
 use Rattle.mt_terms.proofs.BelowFacts.{map-below_more}

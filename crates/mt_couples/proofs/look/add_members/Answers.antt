@@ -76,27 +76,3 @@ returns-clause-adds c = λ d a reopened of_a.
 
 pub members-first-requires : goal.members-first-requires
 members-first-requires c = grind (arith, common_steps)
-
-pub returns-clause-found : goal.returns-clause-found
-returns-clause-found c = grind (arith, common_steps)
-
-pub returns-clause-keeps : goal.returns-clause-keeps
-returns-clause-keeps c = grind (arith, common_steps)
-
-pub returns-in_err-push-clause-adds : goal.returns-in_err-push-clause-adds
-returns-in_err-push-clause-adds c = grind (arith, common_steps)
-
-pub returns-in_err-push-clause-found : goal.returns-in_err-push-clause-found
-returns-in_err-push-clause-found c = grind (arith, common_steps)
-
-pub returns-in_err-push-clause-keeps : goal.returns-in_err-push-clause-keeps
-returns-in_err-push-clause-keeps c = grind (arith, common_steps)
-
-pub loop-note-init : goal.loop-note-init
-loop-note-init c = grind (arith, common_steps)
-
-pub couples-note-items-requires : goal.couples-note-items-requires
-couples-note-items-requires c = grind (arith, common_steps)
-
-pub returns-in_err-push-2-clause-adds : goal.returns-in_err-push-2-clause-adds
-returns-in_err-push-2-clause-adds c = grind (arith, common_steps)

@@ -33,24 +33,3 @@ note_better-requires-clause-couple c = subst (IsAgentOf c.args.assignment.now.ma
 
 pub members-first-requires : goal.members-first-requires
 members-first-requires c = grind (arith, common_steps)
-
-pub returns-in-Some-clause-room : goal.returns-in-Some-clause-room
-returns-in-Some-clause-room c = grind (arith, common_steps)
-
-pub returns-in-Some-clause-work : goal.returns-in-Some-clause-work
-returns-in-Some-clause-work c = grind (arith, common_steps)
-
-pub returns-in-Some-clause-watch : goal.returns-in-Some-clause-watch
-returns-in-Some-clause-watch c = grind (arith, common_steps)
-
-pub returns-in-Some-clause-market : goal.returns-in-Some-clause-market
-returns-in-Some-clause-market c = grind (arith, common_steps)
-
-pub returns-in_default-clause-room : goal.returns-in_default-clause-room
-returns-in_default-clause-room c = grind (arith, common_steps)
-
-pub returns-in_default-clause-work : goal.returns-in_default-clause-work
-returns-in_default-clause-work c = grind (arith, common_steps)
-
-pub better-requires : goal.better-requires
-better-requires c = grind (arith, common_steps)

@@ -64,21 +64,3 @@ invariant_of-self-2 c =
 
 pub invariant_of-self : goal.invariant_of-self
 invariant_of-self c = grind (arith, common_steps)
-
-pub live_rank-requires-clause-program : goal.live_rank-requires-clause-program
-live_rank-requires-clause-program c = grind (arith, common_steps)
-
-pub returns : goal.returns
-returns c = grind (arith, common_steps)
-
-pub index-requires : goal.index-requires
-index-requires c = grind (arith, common_steps)
-
-pub index-requires-2 : goal.index-requires-2
-index-requires-2 c = grind (arith, common_steps)
-
-pub index_mut-requires : goal.index_mut-requires
-index_mut-requires c = grind (arith, common_steps)
-
-pub returns-in_err-insert : goal.returns-in_err-insert
-returns-in_err-insert c = grind (arith, common_steps)
