@@ -1,3 +1,4 @@
+use Rattle.std.proofs.lemmas.Grind.{common_steps}
 use Rattle.std.proofs.Common.{◌≡◌, ◌<◌, ◌≤◌, ◌+◌, ◌*◌, ◌/◌, ℕ, false, length, get_or, sym, subst, inl, inr, arith, ltb-true}
 use Rattle.std.specs.Prelude.{IfNone}
 use Rattle.std.proofs.lemmas.Bool.{cases_lt, ltb-false}
@@ -33,3 +34,6 @@ overflow_add-result c =
 
 pub returns-clause-first : goal.returns-clause-first
 returns-clause-first c = (first_in_word c.args.words.now c.args.number c.loop-word.start c.loop-word.word c.loop-word.invariant c.loop-word-test.false).0
+
+pub returns-in_err-word-clause-none : goal.returns-in_err-word-clause-none
+returns-in_err-word-clause-none c = grind (arith, common_steps)

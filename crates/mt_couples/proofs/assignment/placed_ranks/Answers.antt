@@ -1,3 +1,4 @@
+use Rattle.std.proofs.lemmas.Grind.{common_steps}
 use Rattle.std.proofs.Common.{◌≡◌, ◌≢◌, ◌<◌, ◌∙◌, ◌+◌, ◌∷◌, [], ◌==◌, ℕ, false, take, length, arith, ap, sym, subst, inl, inr}
 use Rattle.std.specs.List.{position}
 use Rattle.std.proofs.lemmas.Bool.{cases_eq, ne_eqb}
@@ -87,3 +88,9 @@ loop-number-preserved c =
       ];
       later = λ a p r low known ranked. keeps a p r (other a (omega arith)) known ranked ∙ so_far.later a p r (omega arith) known ranked;
     }
+
+pub insert-requires : goal.insert-requires
+insert-requires c = grind (arith, common_steps)
+
+pub returns-clause-placed : goal.returns-clause-placed
+returns-clause-placed c = grind (arith, common_steps)

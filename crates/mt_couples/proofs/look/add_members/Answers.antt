@@ -1,3 +1,4 @@
+use Rattle.std.proofs.lemmas.Grind.{common_steps}
 use Rattle.std.proofs.Common.{◌≡◌, ◌∙◌, ◌++◌, ◌∷◌, ◌<◌, [], ℕ, List, Vec, true, get_or, ap, sym, subst, arith}
 use Rattle.std.proofs.lemmas.Bool.{both_ways}
 use Rattle.mt_terms.specs.Lists.{has}
@@ -72,3 +73,6 @@ returns-clause-adds c = λ d a reopened of_a.
     let found : AreFoundBy k s p ws watch c.loop-note.found.items n.0 =
     subst (AreFoundBy k s p ws watch c.loop-note.found.items) (sym is) (c.loop-note.invariant.adds place.0 (omega (arith, place.1, c.loop-note-test.false))) in
     found n.3 a (of_a ∙ ap Couple (sym n.2))
+
+pub members-first-requires : goal.members-first-requires
+members-first-requires c = grind (arith, common_steps)

@@ -1,3 +1,4 @@
+use Rattle.std.proofs.lemmas.Grind.{common_steps}
 use Rattle.std.proofs.Common.{arith}
 use Rattle.mt_placed.proofs.PlaceFacts.{has_read}
 use Rattle.mt_couples.proofs.look.look_at_opened.Goals as goal
@@ -5,3 +6,9 @@ use Rattle.mt_couples.proofs.look.look_at_opened.Goals as goal
 pub look_at_one-requires-clause-program : goal.look_at_one-requires-clause-program
 look_at_one-requires-clause-program c =
     c.requires.programs c.index-left-0.result (has_read c.args.left.now 0 c.index-left-0.result (omega (arith, c.if-left-eq1.true)) c.index-left-0.is)
+
+pub look_at_one-requires-clause-quiet : goal.look_at_one-requires-clause-quiet
+look_at_one-requires-clause-quiet c = grind (arith, common_steps)
+
+pub returns-then-branch : goal.returns-then-branch
+returns-then-branch c = grind (arith, common_steps)

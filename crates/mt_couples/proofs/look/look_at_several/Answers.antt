@@ -1,4 +1,5 @@
-use Rattle.std.proofs.Common.{◌≡◌, ◌∙◌, ◌++◌, ◌+◌, drop, ap, sym, subst}
+use Rattle.std.proofs.lemmas.Grind.{common_steps}
+use Rattle.std.proofs.Common.{◌≡◌, ◌∙◌, ◌++◌, ◌+◌, drop, ap, sym, subst, arith}
 use Rattle.std.proofs.lemmas.Bool.{or_left}
 use Rattle.std.proofs.lemmas.List.{drop_more}
 use Rattle.mt_terms.specs.Lists.{has}
@@ -51,3 +52,6 @@ loop-program-preserved c =
       grows = λ g on. ap (λ (w : Waiting). is_on w.agents g) c.join_reopened.ensures ∙ on_all_joined now.agents (blockers s k p) g
           ∙ or_left (is_on now.agents g) _ (c.loop-program.invariant.grows g on);
     }
+
+pub returns : goal.returns
+returns c = grind (arith, common_steps)

@@ -1,3 +1,4 @@
+use Rattle.std.proofs.lemmas.Grind.{common_steps}
 use Rattle.std.proofs.Common.{◌≡◌, ◌∙◌, ◌∷◌, ◌-◌, [], true, Result, Some, Err, IsErrAnd, sym, ap, ap₂, subst, arith}
 use Rattle.mt_terms.specs.Stability.{fits}
 use Rattle.mt_terms.specs.Rounds.{settled}
@@ -105,3 +106,6 @@ settle-requires-clause-watch g c =
       counted = c.loop-number.invariant.counted;
       noted = subst (λ gs. AreNoted number gs c.loop-number.watch) (sym joins.1) (λ d idle. c.loop-number.invariant.noted d (idle_before d number idle));
     }
+
+pub join-requires : goal.join-requires
+join-requires c = grind (arith, common_steps)

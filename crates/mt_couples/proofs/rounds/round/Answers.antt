@@ -1,4 +1,5 @@
-use Rattle.std.proofs.Common.{◌∙◌, Some, sym, ap, ap₂, subst}
+use Rattle.std.proofs.lemmas.Grind.{common_steps}
+use Rattle.std.proofs.Common.{◌∙◌, Some, sym, ap, ap₂, subst, arith}
 use Rattle.mt_terms.specs.Matching.{single_placement, couple_placement}
 use Rattle.mt_terms.specs.Rounds.{first_taken}
 use Rattle.mt_couples.specs.Assigned.{IsAgentOf}
@@ -29,3 +30,6 @@ take_option-requires-in-Couple-clause-taking c =
 
 pub note_better-requires-clause-couple : goal.note_better-requires-clause-couple
 note_better-requires-clause-couple c = subst (IsAgentOf c.args.assignment.now.market) c.in-Couple.is (front_within c.requires.running)
+
+pub members-first-requires : goal.members-first-requires
+members-first-requires c = grind (arith, common_steps)

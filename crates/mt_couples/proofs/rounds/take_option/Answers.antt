@@ -1,3 +1,4 @@
+use Rattle.std.proofs.lemmas.Grind.{common_steps}
 use Rattle.std.proofs.Common.{◌≡◌, ◌≤◌, ◌∙◌, ◌∷◌, length, ℕ, true, map, ap, ap₂, sym, arith, List, Vec, Global, subst}
 use Rattle.mt_terms.specs.Lists.{has, below}
 use Rattle.mt_terms.specs.Market.{applicants}
@@ -187,3 +188,30 @@ look_at_mover-requires-clause-counted c =
     (counting c.args.assignment.now c.move_to.new.self c.args.sent.now c.args.agent c.args.watch.now c.follow_sent.new.watch c.follow_displaced.new.watch c.deref.result.now
     c.requires.taking c.in_ok-moved.ensures.places c.requires.watch.counted c.in_ok-follow_sent.ensures.better c.in_ok-follow_displaced.ensures.better
     (c.deref.ensures.value ∙ c.in_ok-moved.ensures.displaced))
+
+pub returns-in_err-moved-clause-room : goal.returns-in_err-moved-clause-room
+returns-in_err-moved-clause-room c = grind (arith, common_steps)
+
+pub returns-in_err-moved-clause-work : goal.returns-in_err-moved-clause-work
+returns-in_err-moved-clause-work c = grind (arith, common_steps)
+
+pub returns-in_err-moved-clause-watch : goal.returns-in_err-moved-clause-watch
+returns-in_err-moved-clause-watch c = grind (arith, common_steps)
+
+pub returns-in_err-moved-clause-market : goal.returns-in_err-moved-clause-market
+returns-in_err-moved-clause-market c = grind (arith, common_steps)
+
+pub move_to-requires : goal.move_to-requires
+move_to-requires c = grind (arith, common_steps)
+
+pub returns-in_err-note_mover : goal.returns-in_err-note_mover
+returns-in_err-note_mover c = grind (arith, common_steps)
+
+pub returns-in_err-follow_sent : goal.returns-in_err-follow_sent
+returns-in_err-follow_sent c = grind (arith, common_steps)
+
+pub returns-in_err-look_at_left : goal.returns-in_err-look_at_left
+returns-in_err-look_at_left c = grind (arith, common_steps)
+
+pub returns-in_err-follow_displaced : goal.returns-in_err-follow_displaced
+returns-in_err-follow_displaced c = grind (arith, common_steps)

@@ -1,3 +1,4 @@
+use Rattle.std.proofs.lemmas.Grind.{common_steps}
 use Rattle.std.proofs.Common.{◌≡◌, ◌/◌, ◌<◌, ◌≤◌, ℕ, List, length, map, set, ap, subst, sym, arith}
 use Rattle.std.proofs.lemmas.List.{length-map}
 use Rattle.mt_bits.specs.Tables.{told_by, words_of, TakesRank}
@@ -21,3 +22,12 @@ returns-else-place-row c =
     let rows = c.self.inside.rows in
     let past : length (words_of rows c.args.list) ≤ c.args.rank / 64 = omega (arith, ap length c.row-row.ensures, c.if-place-row.false) in
     subst (λ told. TakesRank told told c.args.list c.args.rank) c.self.view_is (rank_none rows c.args.list c.args.rank past)
+
+pub invariant_of-self : goal.invariant_of-self
+invariant_of-self c = grind (arith, common_steps)
+
+pub row-row-requires : goal.row-row-requires
+row-row-requires c = grind (arith, common_steps)
+
+pub set-requires-clause-row : goal.set-requires-clause-row
+set-requires-clause-row c = grind (arith, common_steps)

@@ -1,4 +1,5 @@
-use Rattle.std.proofs.Common.{◌∙◌, ◌&&◌, Bool, ap, sym}
+use Rattle.std.proofs.lemmas.Grind.{common_steps}
+use Rattle.std.proofs.Common.{◌∙◌, ◌&&◌, Bool, ap, sym, arith}
 use Rattle.std.specs.List.{list_any}
 use Rattle.mt_terms.specs.Matching.{Placement}
 use Rattle.mt_terms.specs.Stability.{would_be_taken}
@@ -17,3 +18,12 @@ loop-pair-init c =
     ap (list_any (λ pair. passes (pair_of s d pair))) c.better_pairs-pair-items.ensures.list
     ∙ sym (list_any-map passes (pair_of s d) (better_pairs s d))
     ∙ ap (list_any passes) (sym (better_couple s d))
+
+pub loop-pair-preserved : goal.loop-pair-preserved
+loop-pair-preserved c = grind (arith, common_steps)
+
+pub returns : goal.returns
+returns c = grind (arith, common_steps)
+
+pub returns-then-would_be_taken : goal.returns-then-would_be_taken
+returns-then-would_be_taken c = grind (arith, common_steps)

@@ -1,4 +1,5 @@
-use Rattle.std.proofs.Common.{◌≡◌, ◌∙◌, length, take, ap, sym}
+use Rattle.std.proofs.lemmas.Grind.{common_steps}
+use Rattle.std.proofs.Common.{◌≡◌, ◌∙◌, length, take, ap, sym, arith}
 use Rattle.std.specs.List.{find}
 use Rattle.std.specs.Option.{option_map}
 use Rattle.mt_terms.specs.Market.{couple_of}
@@ -30,3 +31,12 @@ loop-pair-init c =
 
 pub slice_bounds-pair-items-end : goal.slice_bounds-pair-items-end
 slice_bounds-pair-items-end c = c.requires.better ∙ sym (ap length (front c))
+
+pub loop-pair-preserved : goal.loop-pair-preserved
+loop-pair-preserved c = grind (arith, common_steps)
+
+pub returns : goal.returns
+returns c = grind (arith, common_steps)
+
+pub returns-then-would_be_taken : goal.returns-then-would_be_taken
+returns-then-would_be_taken c = grind (arith, common_steps)

@@ -1,4 +1,5 @@
-use Rattle.std.proofs.Common.{◌∙◌, ap}
+use Rattle.std.proofs.lemmas.Grind.{common_steps}
+use Rattle.std.proofs.Common.{◌∙◌, ap, arith}
 use Rattle.std.specs.List.{find}
 use Rattle.std.specs.Option.{option_map}
 use Rattle.mt_terms.specs.Matching.{single_placement}
@@ -19,3 +20,12 @@ has_post-requires c = record {
   program = entry_known c.args.self.now c.better_live-entry-items.ensures.assigned c.args.single c.requires c.better_live-entry-items.result.now c.loop-entry.entry-index c.entry-item.result
       c.better_live-entry-items.ensures.list c.loop-entry-test.true c.entry-item.is;
 }
+
+pub loop-entry-preserved : goal.loop-entry-preserved
+loop-entry-preserved c = grind (arith, common_steps)
+
+pub returns : goal.returns
+returns c = grind (arith, common_steps)
+
+pub returns-then-has_post : goal.returns-then-has_post
+returns-then-has_post c = grind (arith, common_steps)

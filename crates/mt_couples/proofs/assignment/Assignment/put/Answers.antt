@@ -1,3 +1,4 @@
+use Rattle.std.proofs.lemmas.Grind.{common_steps}
 use Rattle.std.proofs.Common.{◌≡◌, ◌<◌, ◌∙◌, ℕ, true, Some, None, length, arith, ap, sym, subst}
 use Rattle.std.proofs.lemmas.Bool.{eqb-true}
 use Rattle.mt_terms.specs.Lists.{has}
@@ -60,3 +61,6 @@ invariant_of-self-2 c =
           tables_after _ _ c.index-2.result a (Some p) w.self-inside-is c.index-2.ensures h.is_registration h.one_market h.are_places h.listed a_in there listed
           (rows_on_unlisted t h a a_known p place (ranked_at t h p a None w.in_default.ensures.position))
     ]
+
+pub invariant_of-self : goal.invariant_of-self
+invariant_of-self c = grind (arith, common_steps)

@@ -1,9 +1,9 @@
-use Rattle.std.proofs.Common.{◌≡◌, ◌∙◌, ◌+◌, ◌-◌, ◌++◌, ◌∷◌, [], length, length-append, replicate, take, ap, ap₂, arith}
+use Rattle.std.proofs.Common.{◌≡◌, ◌∙◌, ◌+◌, ◌-◌, ◌++◌, ◌∷◌, [], length, length-append, replicate, take, ap, ap₂, subst, sym, arith}
 use Rattle.std.specs.Vec.{vec_len}
 use Rattle.std.proofs.lemmas.List.{length-replicate, map_push, take_all}
-use Rattle.mt_rows.specs.Rows.{row_in, span_at}
+use Rattle.mt_rows.specs.Rows.{row_in, span_at, AreSpans}
 use Rattle.mt_rows.specs.declared.rows.Span.{Span}
-use Rattle.mt_rows.proofs.RowFacts.{on_err, range_append, range_last, rows_kept, spans_more}
+use Rattle.mt_rows.proofs.RowFacts.{on_err, range_append, range_last, rows_kept, spans_grown, spans_more}
 use Rattle.mt_rows.proofs.rows.Rows.push_row.Goals as goal
 
 pub returns-in_err-push-clause-err : goal.returns-in_err-push-clause-err
@@ -19,6 +19,14 @@ returns-in_err-push-clause-err g c =
     ap (λ ys. row_in ys (span_at spans j)) items_are
     ∙ range_append xs new (span_at spans j).start (span_at spans j).end is.ordered (let a = is.roomy in let b = is.within in omega arith))
     ∙ c.self.view_is))
+
+pub invariant_of-self : goal.invariant_of-self
+invariant_of-self g c = subst (λ ys. AreSpans (length ys) c.self.inside.spans.items) (sym c.in_err-resize.ensures.items) c.self.invariant
+
+pub invariant_of-self-in_err-push : goal.invariant_of-self-in_err-push
+invariant_of-self-in_err-push g c =
+    rw c.in_err-push.ensures.items
+    (spans_grown (length c.self.inside.items.items) (length c.resize.new.self.items) c.self.inside.spans.items c.self.invariant (omega (arith, c.in_ok-resize.ensures.len, c.in-Some.ensures)))
 
 pub invariant_of-self-2 : goal.invariant_of-self-2
 invariant_of-self-2 g c =

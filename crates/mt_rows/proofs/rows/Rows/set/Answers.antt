@@ -1,10 +1,47 @@
-use Rattle.std.proofs.Common.{◌≡◌, ◌∙◌, ◌+◌, ◌-◌, ◌<◌, [], length, get_or, set, map, ap, sym, arith}
+use Rattle.std.proofs.Common.{◌≡◌, ◌∙◌, ℕ, ◌+◌, ◌-◌, ◌<◌, ◌≤◌, List, [], length, get_or, set, map, ap, sym, arith}
 use Rattle.std.proofs.lemmas.List.{get_or_read, set-get_or}
 use Rattle.std.proofs.lemmas.List.Edits.{length-between}
-use Rattle.mt_rows.specs.Rows.{row_in, span_at}
+use Rattle.mt_rows.specs.Rows.{row_in, span_at, AreSpans}
 use Rattle.mt_rows.specs.declared.rows.Span.{Span}
 use Rattle.mt_rows.proofs.RowFacts.{clear_of, range_set_here, range_set_other, row_at, row_count, rows_changed}
 use Rattle.mt_rows.proofs.rows.Rows.set.Goals as goal
+
+-- an index within the row of a span that was read
+low : {X : Type 0} → (xs : List X) (spans : List Span) (rows : List (List X)) (k i : ℕ) (w : Span) → map (row_in xs) spans ≡ rows → k < length rows → AreSpans (length xs) spans → w ≡ get_or spans k w
+    → i < length (get_or rows k []) → w.start + i < w.end
+low xs spans rows k i w are within each is inside =
+    let many : k < length spans = omega (arith, row_count xs spans rows are) in
+    let read : w ≡ span_at spans k = get_or_read spans k w many is _ in
+    let here = each.each k many in
+    omega (arith, ap length (sym (ap (λ (rs : List (List _)). get_or rs k []) are) ∙ row_at xs spans k many), length-between xs (span_at spans k).start (span_at spans k).end (omega (arith, here.roomy, here.within)), ap Span.start read, ap Span.end read)
+
+ends : {X : Type 0} → (xs : List X) (spans : List Span) (rows : List (List X)) (k : ℕ) (w : Span) → map (row_in xs) spans ≡ rows → k < length rows → AreSpans (length xs) spans → w ≡ get_or spans k w → w.end ≤ length xs
+ends xs spans rows k w are within each is =
+    let many : k < length spans = omega (arith, row_count xs spans rows are) in
+    let read : w ≡ span_at spans k = get_or_read spans k w many is _ in
+    let here = each.each k many in
+    omega (arith, here.roomy, here.within, ap Span.end read)
+
+pub index-span-requires : goal.index-span-requires
+index-span-requires g c = omega (arith, row_count c.self.inside.items.items c.self.inside.spans.items c.args.self.now c.self.view_is)
+
+pub overflow_add-span : goal.overflow_add-span
+overflow_add-span g c =
+    let xs = c.self.inside.items.items in
+    let spans = c.self.inside.spans.items in
+    let w = c.index-span.result.now in
+    let a = low xs spans c.args.self.now c.args.number c.args.index w c.self.view_is c.requires.row c.self.invariant c.index-span.ensures c.requires.index in
+    let b = ends xs spans c.args.self.now c.args.number w c.self.view_is c.requires.row c.self.invariant c.index-span.ensures in
+    omega (arith, a, b)
+
+pub index_mut-requires : goal.index_mut-requires
+index_mut-requires g c =
+    let xs = c.self.inside.items.items in
+    let spans = c.self.inside.spans.items in
+    let w = c.index-span.result.now in
+    let a = low xs spans c.args.self.now c.args.number c.args.index w c.self.view_is c.requires.row c.self.invariant c.index-span.ensures c.requires.index in
+    let b = ends xs spans c.args.self.now c.args.number w c.self.view_is c.requires.row c.self.invariant c.index-span.ensures in
+    omega (arith, a, b)
 
 pub returns : goal.returns
 returns g c =

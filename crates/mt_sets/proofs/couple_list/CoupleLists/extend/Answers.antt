@@ -1,3 +1,4 @@
+use Rattle.std.proofs.lemmas.Grind.{common_steps}
 use Rattle.std.proofs.Common.{◌≡◌, ◌∙◌, ◌<◌, ◌-◌, Bool, true, false, not, List, [], length, get_or, slice_set, max, refl, ap, ap₂, subst, sym, arith, ltb-true}
 use Rattle.std.proofs.lemmas.Bool.{eqb-true}
 use Rattle.mt_sets.specs.Notes.{AddsNote}
@@ -28,3 +29,24 @@ returns-clause-added c = λ yes.
       adds = subst (λ d. AddsNote (get_or c.args.self.now p []) (slice_set row j new) d c.args.from) same
           (subst (λ r. AddsNote r (slice_set row j new) last.couple c.args.from) (c.row-row.ensures ∙ ap (λ (rows : List (List Note)). get_or rows p []) c.self.view_is) extended);
     }
+
+pub returns-clause-same : goal.returns-clause-same
+returns-clause-same c = grind (arith, common_steps)
+
+pub set-requires-clause-row : goal.set-requires-clause-row
+set-requires-clause-row c = grind (arith, common_steps)
+
+pub set-requires-clause-index : goal.set-requires-clause-index
+set-requires-clause-index c = grind (arith, common_steps)
+
+pub returns-then-ne-clause-same : goal.returns-then-ne-clause-same
+returns-then-ne-clause-same c = grind (arith, common_steps)
+
+pub returns-then-ne-clause-added : goal.returns-then-ne-clause-added
+returns-then-ne-clause-added c = grind (arith, common_steps)
+
+pub row-row-requires : goal.row-row-requires
+row-row-requires c = grind (arith, common_steps)
+
+pub invariant_of-self : goal.invariant_of-self
+invariant_of-self c = grind (arith, common_steps)
