@@ -89,3 +89,21 @@ returns-clause-reads g c =
       omega (arith, c.loop-id.invariant.room, ap length none),
       sym (ap (λ (list : List Bytes). with_more c.loop-id.lists (numbers_by c.args.ids.now c.args.numbers.now list)) none) ∙ c.loop-id.invariant.rest,
     )
+
+pub bounds-numbers-place-in-Some-numbers-place : goal.bounds-numbers-place-in-Some-numbers-place
+bounds-numbers-place-in-Some-numbers-place g c = grind arith
+
+pub bounds-numbers-place : goal.bounds-numbers-place
+bounds-numbers-place g c = grind arith
+
+pub bounds : goal.bounds
+bounds g c = grind arith
+
+pub bounds-stamps-place-in-loop-id : goal.bounds-stamps-place-in-loop-id
+bounds-stamps-place-in-loop-id g c = grind arith
+
+pub bounds-stamps-place : goal.bounds-stamps-place
+bounds-stamps-place g c = grind arith
+
+pub offset_bounds-numbers-place : goal.offset_bounds-numbers-place
+offset_bounds-numbers-place g c = grind arith
