@@ -1,4 +1,5 @@
-use Rattle.std.proofs.Common.{◌≡◌, [], ◌++◌, ◌∙◌}
+use Rattle.std.proofs.Common.{◌≡◌, [], ◌++◌, ◌∙◌, arith}
+use Rattle.std.proofs.lemmas.Grind.{elements}
 use Rattle.std.specs.Prelude.{codes, decimal}
 use Rattle.mt_terms.specs.Text.{name_among, refusals, id_text}
 use Rattle.mt_report.proofs.LineFacts.{refusal_pieces}
@@ -10,3 +11,18 @@ returns c =
     ≡ (((((((([] ++ codes "match,1,refused,") ++ decimal c.args.code) ++ codes ",") ++ name_among refusals c.args.code) ++ codes ",") ++ decimal c.args.row) ++ codes ",")
     ++ id_text c.args.id.now) ++ codes "\n" = cc in
     pushed ∙ refusal_pieces (decimal c.args.code) (name_among refusals c.args.code) (decimal c.args.row) (id_text c.args.id.now)
+
+pub push-requires-9 : goal.push-requires-9
+push-requires-9 c = grind (arith, elements)
+
+pub push-requires-8 : goal.push-requires-8
+push-requires-8 c = grind (arith, elements)
+
+pub push-requires-7 : goal.push-requires-7
+push-requires-7 c = grind (arith, elements)
+
+pub push-requires-5 : goal.push-requires-5
+push-requires-5 c = grind (arith, elements)
+
+pub push-requires-6 : goal.push-requires-6
+push-requires-6 c = grind (arith, elements)
