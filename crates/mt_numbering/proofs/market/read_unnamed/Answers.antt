@@ -47,3 +47,6 @@ returns g c =
 
 pub other_entries-requires-after_bounds : goal.other_entries-requires-after_bounds
 other_entries-requires-after_bounds g c = grind arith
+
+pub rankings-requires-after_bounds : goal.rankings-requires-after_bounds
+rankings-requires-after_bounds g c = omega arith

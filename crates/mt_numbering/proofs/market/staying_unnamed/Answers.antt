@@ -37,3 +37,9 @@ read_unnamed-requires-clause-applicants g c = omega arith
 
 pub read_unnamed-requires-clause-programs : goal.read_unnamed-requires-clause-programs
 read_unnamed-requires-clause-programs g c = omega arith
+
+pub entries_of-requires-clause-programs : goal.entries_of-requires-clause-programs
+entries_of-requires-clause-programs g c = omega arith
+
+pub entries_of-requires-clause-applicants : goal.entries_of-requires-clause-applicants
+entries_of-requires-clause-applicants g c = omega arith
