@@ -1,15 +1,23 @@
-use Rattle.std.proofs.Common.{◌≡◌, [], ◌++◌, ◌∙◌, arith}
+use Rattle.std.proofs.Common.{◌≡◌, ℕ, List, [], ◌++◌, ◌∙◌, refl, arith}
 use Rattle.std.proofs.lemmas.Grind.{elements}
 use Rattle.std.specs.Prelude.{codes, decimal}
 use Rattle.mt_terms.specs.Text.{name_among, refusals, id_text}
 use Rattle.mt_report.proofs.LineFacts.{refusal_pieces}
 use Rattle.mt_report.proofs.refusal.refused.Goals as goal
 
+-- a piece more
+pushes : {old new bytes text piece : List ℕ} → new ≡ old ++ bytes → bytes ≡ piece → old ≡ text → new ≡ text ++ piece
+pushes p q r = cc
+
 pub returns : goal.returns
 returns c =
     let pushed : c.push-9.new.self
     ≡ (((((((([] ++ codes "match,1,refused,") ++ decimal c.args.code) ++ codes ",") ++ name_among refusals c.args.code) ++ codes ",") ++ decimal c.args.row) ++ codes ",")
-    ++ id_text c.args.id.now) ++ codes "\n" = cc in
+    ++ id_text c.args.id.now) ++ codes "\n" =
+    pushes c.push-9.ensures refl (pushes c.push-8.ensures c.id_or_dash.ensures.text (pushes c.push-7.ensures refl
+    (pushes c.push-6.ensures (c.as_bytes-2.ensures.value ∙ c.format-2.ensures.text) (pushes c.push-5.ensures refl
+    (pushes c.push-4.ensures c.code_name.ensures.name (pushes c.push-3.ensures refl
+    (pushes c.push-2.ensures (c.as_bytes.ensures.value ∙ c.format.ensures.text) (pushes c.push.ensures refl c.new-line.ensures)))))))) in
     pushed ∙ refusal_pieces (decimal c.args.code) (name_among refusals c.args.code) (decimal c.args.row) (id_text c.args.id.now)
 
 pub push-requires-9 : goal.push-requires-9
