@@ -11,3 +11,9 @@ returns c =
 
 pub applicant_id-id-requires : goal.applicant_id-id-requires
 applicant_id-id-requires c = grind arith
+
+pub overflow_cast-missing : goal.overflow_cast-missing
+overflow_cast-missing c = grind arith
+
+pub returns-in-Some : goal.returns-in-Some
+returns-in-Some c = grind arith
