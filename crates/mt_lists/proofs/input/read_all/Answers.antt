@@ -40,3 +40,15 @@ slice_bounds-extend_from_slice-end-in-loop-came g c = grind (arith, elements)
 
 pub loop-came-smaller : goal.loop-came-smaller
 loop-came-smaller g c = grind (arith, elements)
+
+pub returns-in-Err-clause-too_large : goal.returns-in-Err-clause-too_large
+returns-in-Err-clause-too_large g c = grind arith
+
+pub returns-then-came-eq0-clause-too_large : goal.returns-then-came-eq0-clause-too_large
+returns-then-came-eq0-clause-too_large g c = grind arith
+
+pub loop-came-init : goal.loop-came-init
+loop-came-init g c = grind arith
+
+pub slice_bounds-read-end-in-loop-came : goal.slice_bounds-read-end-in-loop-came
+slice_bounds-read-end-in-loop-came g c = grind (arith, elements)
