@@ -34,3 +34,6 @@ push-requires-5 c = grind (arith, elements)
 
 pub push-requires-6 : goal.push-requires-6
 push-requires-6 c = grind (arith, elements)
+
+pub push-requires-4 : goal.push-requires-4
+push-requires-4 c = grind (arith, elements)

@@ -12,3 +12,12 @@ push_programs-requires-clause-received c = omega arith
 
 pub push_totals-requires-clause-counts : goal.push_totals-requires-clause-counts
 push_totals-requires-clause-counts c = grind arith
+
+pub filled_counts-requires-clause-within : goal.filled_counts-requires-clause-within
+filled_counts-requires-clause-within c = grind arith
+
+pub push_applicants-requires : goal.push_applicants-requires
+push_applicants-requires c = grind arith
+
+pub push_programs-requires-clause-counts : goal.push_programs-requires-clause-counts
+push_programs-requires-clause-counts c = grind arith
