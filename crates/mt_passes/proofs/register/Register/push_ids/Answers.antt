@@ -25,3 +25,6 @@ returns-in_ok-push-in-Withdraw c = grind (arith, common_steps)
 
 pub returns-in_ok-push-in-Applicant-2 : goal.returns-in_ok-push-in-Applicant-2
 returns-in_ok-push-in-Applicant-2 c = grind (arith, common_steps)
+
+pub returns-in_ok-push-in-Program : goal.returns-in_ok-push-in-Program
+returns-in_ok-push-in-Program c = grind (arith, common_steps)
