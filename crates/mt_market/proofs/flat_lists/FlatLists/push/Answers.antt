@@ -25,3 +25,6 @@ overflow_sub-last g c = grind (arith, common_steps)
 
 pub index_mut-requires : goal.index_mut-requires
 index_mut-requires g c = grind (arith, common_steps)
+
+pub invariant_of-self : goal.invariant_of-self
+invariant_of-self g c = grind arith
