@@ -1,4 +1,4 @@
-use Rattle.std.proofs.Common.{◌≡◌, ◌∙◌, ◌++◌, ◌∷◌, [], true, rules, inr}
+use Rattle.std.proofs.Common.{◌≡◌, ◌∙◌, ◌++◌, ◌∷◌, [], true, rules, inr, arith}
 use Rattle.std.specs.Result.{is_ok}
 use Rattle.csv.specs.Records.{fields_of}
 use Rattle.mt_lists.specs.Records.{without_trailing_empty}
@@ -36,3 +36,6 @@ loop-rows-preserved c =
 pub returns-clause-rows : goal.returns-clause-rows
 returns-clause-rows c =
     no_row_more c.args.text.now c.loop-rows.reader c.read_record.new.reader c.loop-rows.rows.items _ c.loop-rows.invariant (rw c.if-branch.false at c.in_ok-read_record.ensures.reads)
+
+pub returns-in_err-map_err-clause-memory : goal.returns-in_err-map_err-clause-memory
+returns-in_err-map_err-clause-memory c = grind arith

@@ -1,4 +1,5 @@
-use Rattle.std.proofs.Common.{sym, ◌∙◌, ap, length}
+use Rattle.std.proofs.Common.{sym, ◌∙◌, ap, length, arith}
+use Rattle.std.proofs.lemmas.Grind.{elements}
 use Rattle.mt_lists.specs.Rows.{fields_left}
 use Rattle.mt_match.specs.View.{line_seen, market_of}
 use Rattle.mt_match.proofs.ReadingFacts.{line_fits_into}
@@ -8,3 +9,6 @@ pub add-requires : goal.add-requires
 add-requires c =
     line_fits_into (market_of c.args.ids.now) c.args.ids.now.of_a_file c.deref.result.now (fields_left c.args.fields) c.in-Ok.line (length c.args.so_far.now.places.items)
     (sym c.line_of.ensures ∙ ap line_seen c.in-Ok.is) c.requires
+
+pub returns-in_ok-add-in-Ok-clause-places : goal.returns-in_ok-add-in-Ok-clause-places
+returns-in_ok-add-in-Ok-clause-places c = grind (arith, elements)

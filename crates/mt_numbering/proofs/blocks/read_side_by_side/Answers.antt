@@ -1,4 +1,4 @@
-use Rattle.std.proofs.Common.{List, Option, Bor, length, subst}
+use Rattle.std.proofs.Common.{List, Option, Bor, length, subst, arith}
 use Rattle.std.proofs.lemmas.Result.{IfOk-weaker}
 use Rattle.rayon.proofs.ToStd.{chunks_of-concat}
 use Rattle.rayon.specs.Lists.{chunks_of}
@@ -25,3 +25,9 @@ returns g c =
     lists_read list_seen (stands_once ids) (length {A = Bytes}) (numbers_by ids c.args.numbers.now) c.args.room.now lists (chunks_of size lists) c.in_ok-blocks.blocks.items left new
     blocks (chunks_of-concat size lists c.block_size-size.ensures) joins)
     c.join_blocks.ensures
+
+pub read_blocks-requires-clause-numbers : goal.read_blocks-requires-clause-numbers
+read_blocks-requires-clause-numbers g c = grind arith
+
+pub returns-then-len-size : goal.returns-then-len-size
+returns-then-len-size g c = search arith

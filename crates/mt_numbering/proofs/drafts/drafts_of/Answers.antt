@@ -1,4 +1,4 @@
-use Rattle.std.proofs.Common.{sym, ap, ◌∙◌}
+use Rattle.std.proofs.Common.{sym, ap, ◌∙◌, arith}
 use Rattle.std.specs.Prelude.{option_map}
 use Rattle.std.proofs.lemmas.Bool.{eqb-false}
 use Rattle.mt_lists.specs.Rows.{fields_left, rows_left}
@@ -23,3 +23,6 @@ loop-row-preserved-else-are_too_many c = record {
       (fields_left c.fields.result) (record_seen c.in-Some-draft_of.next) c.in-Some.ensures.steps (eqb-false _ 0 (sym c.is_empty.ensures ∙ c.if-not-is_empty.true)) c.fields.ensures
       (sym c.draft_of.ensures ∙ ap (option_map record_seen) c.in-Some-draft_of.is) c.in_ok-push.ensures.records c.loop-row.invariant.goes_on;
 }
+
+pub returns-in_default : goal.returns-in_default
+returns-in_default c = search arith

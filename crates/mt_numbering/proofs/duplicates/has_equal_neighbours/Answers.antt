@@ -1,4 +1,5 @@
 use Rattle.std.proofs.Common.{not, sym, ap, ◌∙◌, arith}
+use Rattle.std.proofs.lemmas.Grind.{elements}
 use Rattle.mt_numbering.proofs.NeighbourFacts.{same_before, differ_in_order}
 use Rattle.mt_numbering.proofs.duplicates.has_equal_neighbours.Goals as goal
 
@@ -13,3 +14,6 @@ returns g c =
     ap not
     (sym (differ_in_order g.met.T.Ord.total g.T.PartialEq.eq g.met.T.Ord.matches_eq c.args.items.now c.requires
     (λ k d l. c.loop-i.invariant k d (omega arith))))
+
+pub loop-i-preserved : goal.loop-i-preserved
+loop-i-preserved g c = grind (arith, elements)

@@ -1,4 +1,4 @@
-use Rattle.std.proofs.Common.{◌∙◌, List, ap, sym, subst}
+use Rattle.std.proofs.Common.{◌∙◌, List, ap, sym, subst, arith}
 use Rattle.mt_terms.specs.Registration.Records.{Record}
 use Rattle.mt_terms.specs.Registration.Accepted.{IsRegistration}
 use Rattle.mt_numbering.specs.Drafts.{drafted}
@@ -20,3 +20,6 @@ pub returns : goal.returns
 returns g c =
     let found = stays_found c.args.rules.now (drafted c.args.drafts) _ _ c.in_ok-unnamed.ensures c.in-Some.is in
     (found.0, c.in_ok-roster.ensures ∙ ap registered_by_all found.1)
+
+pub with_names-requires-clause-unnamed : goal.with_names-requires-clause-unnamed
+with_names-requires-clause-unnamed g c = grind arith

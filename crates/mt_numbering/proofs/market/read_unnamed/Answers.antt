@@ -1,4 +1,4 @@
-use Rattle.std.proofs.Common.{ℕ, List, Option, Some, None, refl, ◌∙◌, ap, ap₂, subst, length, filter_map}
+use Rattle.std.proofs.Common.{ℕ, List, Option, Some, None, refl, ◌∙◌, ap, ap₂, subst, length, filter_map, arith}
 use Rattle.mt_terms.specs.Registration.Ids.{Bytes}
 use Rattle.mt_terms.specs.Registration.Records.{Record}
 use Rattle.mt_records.specs.declared.record.Record.{Record as Checked}
@@ -44,3 +44,9 @@ returns g c =
     ∙ ap₂ (λ (news : List (Option ℕ)) (xs : List Record). filter_map (members_by c.args.registered.now.applicants news) xs) c.deref.ensures.value (ap all_seen c.deref-2.ensures.value)
     in
     (read, refl, members)
+
+pub other_entries-requires-after_bounds : goal.other_entries-requires-after_bounds
+other_entries-requires-after_bounds g c = grind arith
+
+pub rankings-requires-after_bounds : goal.rankings-requires-after_bounds
+rankings-requires-after_bounds g c = omega arith

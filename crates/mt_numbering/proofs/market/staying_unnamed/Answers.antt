@@ -1,4 +1,4 @@
-use Rattle.std.proofs.Common.{◌∙◌, List, ap, subst, filter, not}
+use Rattle.std.proofs.Common.{◌∙◌, List, ap, subst, filter, not, arith}
 use Rattle.std.proofs.lemmas.Result.{IfOk-weaker}
 use Rattle.mt_terms.specs.Registration.Records.{Rules}
 use Rattle.mt_records.specs.declared.record.Record.{Record as Checked}
@@ -31,3 +31,15 @@ returns g c =
     leaving c.staying-staying.ensures (subst left c.rules.view_is c.in_ok-entries_of.ensures) (c.is_none.ensures ∙ ap not c.if-is_none.false)
     (subst stayed c.rules.view_is reads))
     c.read_unnamed.ensures
+
+pub read_unnamed-requires-clause-applicants : goal.read_unnamed-requires-clause-applicants
+read_unnamed-requires-clause-applicants g c = omega arith
+
+pub read_unnamed-requires-clause-programs : goal.read_unnamed-requires-clause-programs
+read_unnamed-requires-clause-programs g c = omega arith
+
+pub entries_of-requires-clause-programs : goal.entries_of-requires-clause-programs
+entries_of-requires-clause-programs g c = omega arith
+
+pub entries_of-requires-clause-applicants : goal.entries_of-requires-clause-applicants
+entries_of-requires-clause-applicants g c = omega arith

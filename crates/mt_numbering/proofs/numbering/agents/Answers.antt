@@ -1,4 +1,5 @@
 use Rattle.std.proofs.Common.{◌<◌, ◌-◌, ap, length, arith, drop}
+use Rattle.std.proofs.lemmas.Grind.{common_steps}
 use Rattle.mt_terms.proofs.BelowFacts.{length-map_below}
 use Rattle.mt_terms.specs.Market.{agent_from}
 use Rattle.mt_numbering.specs.Numbered.{bare_couples}
@@ -21,3 +22,6 @@ pub loop-number-preserved : goal.loop-number-preserved
 loop-number-preserved c =
     agents_down c.args.members.now c.loop-number.number c.args.count _ _ c.loop-number.agents.items c.deref_mut.result.now c.join.new.agents _
     c.loop-number-test.true c.loop-number.auto.number c.requires.within c.loop-number.invariant c.deref_mut.ensures.value c.join.ensures c.loop-number.agents.ok.0
+
+pub loop-number-init : goal.loop-number-init
+loop-number-init c = grind (arith, common_steps)

@@ -1,4 +1,4 @@
-use Rattle.std.proofs.Common.{◌≡◌, ◌<◌, length, List, [], refl, ap, sym, ◌∙◌, arith}
+use Rattle.std.proofs.Common.{◌≡◌, ◌<◌, length, List, [], Bool, false, true, refl, ap, sym, ◌∙◌, arith}
 use Rattle.mt_lists.specs.Rows.{fields_left}
 use Rattle.mt_file_laws.proofs.IdFacts.{number_below}
 use Rattle.mt_terms.specs.Registration.Ids.{Bytes}
@@ -10,6 +10,10 @@ use Rattle.mt_numbering.proofs.ReadingSteps.{numbers_by-some, numbers_by-none}
 use Rattle.mt_numbering.proofs.StampFacts.{below_more, set_below, stands_from, stands_from-once, stands_from-missing, stands_from-again, stands_from-new}
 use Rattle.mt_numbering.proofs.numbering.push_list.Goals.{then-room-eq0-via-then-room-eq0, then-room-eq0-via-else-room-eq0+then-stamps-place}
 use Rattle.mt_numbering.proofs.numbering.push_list.Goals as goal
+
+-- `cc` reads all that is known at its place: here it is little
+contradicted : {A : Type 0} {a b : Bool} → a ≡ false → a ≡ b → b ≡ true → A
+contradicted p q r = cc
 
 pub loop-id-init : goal.loop-id-init
 loop-id-init g c =
@@ -28,7 +32,7 @@ returns-in_default-clause-stamps g c = c.loop-id.invariant.stamped
 pub returns-in_default-clause-reads : goal.returns-in_default-clause-reads
 returns-in_default-clause-reads g c h =
     let missing = stands_from-missing c.args.ids.now c.args.stamp c.loop-id.stamps _ c.in-Some.id.now _ c.in-Some.ensures.steps (missing_id c.args.ids.now c.in-Some.id.now c.in_default.ensures) in
-    cc (missing, c.loop-id.invariant.stands, h)
+    contradicted missing c.loop-id.invariant.stands h
 
 pub returns-then-room-eq0-clause-stamps : goal.returns-then-room-eq0-clause-stamps
 returns-then-room-eq0-clause-stamps g c = c.loop-id.invariant.stamped
@@ -39,7 +43,7 @@ returns-then-room-eq0-clause-reads g c h = elim c.then-room-eq0.branch [
   | then-room-eq0-via-else-room-eq0+then-stamps-place w ↦
       let at = found_id c.args.ids.now c.in-Some.id.now c.in-Some-number.place c.in-Some-number.ensures in
       let again = stands_from-again c.args.ids.now c.args.stamp c.loop-id.stamps _ c.in-Some.id.now _ c.in-Some.ensures.steps c.in-Some-number.place at.1 w.if-stamps-place.true in
-      cc (again, c.loop-id.invariant.stands, h)
+      contradicted again c.loop-id.invariant.stands h
 ]
 
 pub push-requires : goal.push-requires
@@ -89,3 +93,21 @@ returns-clause-reads g c =
       omega (arith, c.loop-id.invariant.room, ap length none),
       sym (ap (λ (list : List Bytes). with_more c.loop-id.lists (numbers_by c.args.ids.now c.args.numbers.now list)) none) ∙ c.loop-id.invariant.rest,
     )
+
+pub bounds-numbers-place-in-Some-numbers-place : goal.bounds-numbers-place-in-Some-numbers-place
+bounds-numbers-place-in-Some-numbers-place g c = grind arith
+
+pub bounds-numbers-place : goal.bounds-numbers-place
+bounds-numbers-place g c = grind arith
+
+pub bounds : goal.bounds
+bounds g c = grind arith
+
+pub bounds-stamps-place-in-loop-id : goal.bounds-stamps-place-in-loop-id
+bounds-stamps-place-in-loop-id g c = grind arith
+
+pub bounds-stamps-place : goal.bounds-stamps-place
+bounds-stamps-place g c = grind arith
+
+pub offset_bounds-numbers-place : goal.offset_bounds-numbers-place
+offset_bounds-numbers-place g c = grind arith

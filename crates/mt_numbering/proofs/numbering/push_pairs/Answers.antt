@@ -78,3 +78,6 @@ returns c =
     (sym (ap (λ (l : List IdPair). with_more c.loop-first.lists (pairs_by ids numbers l)) none) ∙ c.loop-first.invariant.rest)
     (sym (append-nil found) ∙ sym (ap (λ (l : List IdPair). found ++ map (pair_by_number ids) l) none) ∙ c.loop-first.invariant.numbered)
     (c.has_duplicate.ensures ∙ ap (λ (l : List Pair). not (all_differ is_same_numbers l)) c.deref_mut.ensures.value)
+
+pub returns-in_default : goal.returns-in_default
+returns-in_default c = grind arith

@@ -55,3 +55,12 @@ returns-then-not-branch g c = grind (arith, common_steps)
 
 pub push_list-requires-clause-begun : goal.push_list-requires-clause-begun
 push_list-requires-clause-begun g c = grind (arith, common_steps)
+
+pub next_stamp-requires : goal.next_stamp-requires
+next_stamp-requires g c = grind arith
+
+pub push_list-requires-clause-numbers : goal.push_list-requires-clause-numbers
+push_list-requires-clause-numbers g c = omega arith
+
+pub push_list-requires-clause-fresh : goal.push_list-requires-clause-fresh
+push_list-requires-clause-fresh g c = grind arith

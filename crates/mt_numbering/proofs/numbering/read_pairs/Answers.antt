@@ -1,5 +1,5 @@
 use Rattle.std.proofs.Common.{◌≡◌, ◌+◌, ◌∷◌, arith, drop, map, subst}
-use Rattle.std.proofs.lemmas.Grind.{common_steps}
+use Rattle.std.proofs.lemmas.Grind.{common_steps, elements}
 use Rattle.mt_records.specs.Fields.{pairs_left}
 use Rattle.mt_numbering.specs.Reading.{pairs_by, pairs_once, pair_entries, ReadsPairs}
 use Rattle.mt_numbering.proofs.ReadingSteps.{read_no_more, read_one}
@@ -29,3 +29,9 @@ loop-list-preserved c =
     read_one (pairs_once c.args.half_pairs ids) pair_entries (pairs_by ids numbers) (map pairs_left lists) c.args.room.now c.loop-list.room c.loop-list.read
     (map pairs_left (drop c.loop-list.list-index lists)) c.loop-list.invariant list rest is
     c.push_pairs.new.room c.begin.new.self c.push_pairs.new.lists c.in_ok-begin.ensures.ok reads
+
+pub returns : goal.returns
+returns c = grind (arith, common_steps)
+
+pub push_pairs-requires-clause-begun : goal.push_pairs-requires-clause-begun
+push_pairs-requires-clause-begun c = grind (arith, elements)

@@ -1,4 +1,5 @@
 use Rattle.std.proofs.Common.{◌≡◌, ◌<◌, Some, None, refl, arith, ap, sym, ◌∙◌, take, get_or, length-take}
+use Rattle.std.proofs.lemmas.Grind.{elements}
 use Rattle.std.specs.Prelude.{IsTrue}
 use Rattle.std.proofs.lemmas.Bool.Decides.{nat_tests}
 use Rattle.std.proofs.lemmas.List.{get_or_read_under, length-set, take_all}
@@ -57,3 +58,6 @@ returns c =
     let whole : take c.loop-place.place-index c.args.places.now ≡ c.args.places.now = take_all c.loop-place.place-index c.args.places.now c.loop-place-test.false in
     counts_of_all c.args.places.now c.args.programs c.loop-place.counts.items c.loop-place.invariant.programs
     (λ p h. c.loop-place.invariant.counts p h ∙ ap (λ places. filled places p) whole)
+
+pub loop-place-init : goal.loop-place-init
+loop-place-init c = grind (arith, elements)

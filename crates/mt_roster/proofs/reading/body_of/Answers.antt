@@ -27,3 +27,6 @@ returns-in-Some-rules_of c =
       market = market c;
       accepted = λ m h. accepted_is_registration_lem c.args.rows.now m (market c ∙ market_is c.in-Some-rules_of.rules (c.loop-row.number + 1 + 1) (rows_left c.next.new.self) m h);
     }
+
+pub returns-in-None : goal.returns-in-None
+returns-in-None c = grind arith

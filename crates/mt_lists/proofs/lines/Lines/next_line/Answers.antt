@@ -1,4 +1,5 @@
 use Rattle.std.proofs.Common.{arith}
+use Rattle.std.proofs.lemmas.Grind.{common_steps}
 use Rattle.mt_lists.proofs.LineFacts.{first_line, last_line}
 use Rattle.mt_lists.proofs.lines.Lines.next_line.Goals as goal
 
@@ -12,3 +13,9 @@ pub returns-in-None : goal.returns-in-None
 returns-in-None c =
     rw (c.split_at-in-None.ensures.front, c.split_at-in-None.ensures.back)
     (last_line c.args.self.text.now c.requires c.args.self.unquoted (λ k lt. c.in-None.ensures k (omega arith) lt))
+
+pub invariant_of-result : goal.invariant_of-result
+invariant_of-result c = grind (arith, common_steps)
+
+pub invariant_of-result-in-None : goal.invariant_of-result-in-None
+invariant_of-result-in-None c = grind (arith, common_steps)

@@ -1,4 +1,5 @@
 use Rattle.std.proofs.Common.{◌≡◌, suc, ◌+◌, ◌-◌, arith, ap, ◌∙◌, length, length-append}
+use Rattle.std.proofs.lemmas.Grind.{common_steps}
 use Rattle.mt_market.specs.FlatLists.{with_last}
 use Rattle.mt_market.proofs.FlatListsFacts.{AreEnds-last, pieces-push, length-pieces}
 use Rattle.mt_market.proofs.flat_lists.FlatLists.push.Goals as goal
@@ -18,3 +19,12 @@ returns-clause-ok g c =
     let e : c.len.result ≡ length c.self.inside.items.items + 1 = omega (arith, ap length c.in_ok-push.ensures.items, length-append c.self.inside.items.items) in
     rw (e, c.in_ok-push.ensures.items)
     (pieces-push 0 c.self.inside.ends.items c.self.inside.items.items c.args.item (c.len-last.result - 1) c.self.invariant n ∙ ap (λ ls. with_last ls c.args.item) c.self.view_is)
+
+pub overflow_sub-last : goal.overflow_sub-last
+overflow_sub-last g c = grind (arith, common_steps)
+
+pub index_mut-requires : goal.index_mut-requires
+index_mut-requires g c = grind (arith, common_steps)
+
+pub invariant_of-self : goal.invariant_of-self
+invariant_of-self g c = grind arith

@@ -1,4 +1,5 @@
-use Rattle.std.proofs.Common.{◌∙◌, ap, sym, subst}
+use Rattle.std.proofs.Common.{◌∙◌, ap, sym, subst, arith}
+use Rattle.std.proofs.lemmas.Grind.{common_steps}
 use Rattle.std.proofs.lemmas.List.{map-append}
 use Rattle.mt_records.specs.Records.{record_seen}
 use Rattle.mt_numbering.specs.Numbered.{all_seen}
@@ -13,3 +14,6 @@ returns-clause-drafts c =
     record {
       names = subst (λ rs. AreNames rs c.push.new.self) (sym same) (names_more c.args.self.now.names c.push.new.self (drafted c.args.self.now) (record_seen c.args.next) c.requires.names c.in_ok-push.ensures);
     }
+
+pub returns-clause-records : goal.returns-clause-records
+returns-clause-records c = grind (arith, common_steps)

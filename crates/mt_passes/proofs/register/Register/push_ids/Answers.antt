@@ -1,5 +1,5 @@
-use Rattle.std.proofs.lemmas.Grind.{common_steps}
 use Rattle.std.proofs.Common.{arith, sym, ◌∙◌, ap}
+use Rattle.std.proofs.lemmas.Grind.{common_steps}
 use Rattle.mt_lists.specs.Rows.{fields_left}
 use Rattle.mt_terms.specs.Registration.Records.{OfApplicant}
 use Rattle.mt_terms.specs.Registration.Passes.{registered_before}
@@ -16,3 +16,15 @@ push-requires-in-Applicant c =
 
 pub returns-in_ok-push-in-Couple-3 : goal.returns-in_ok-push-in-Couple-3
 returns-in_ok-push-in-Couple-3 c = grind (arith, common_steps)
+
+pub push-requires-in-Couple-3 : goal.push-requires-in-Couple-3
+push-requires-in-Couple-3 c = grind (arith, common_steps)
+
+pub returns-in_ok-push-in-Withdraw : goal.returns-in_ok-push-in-Withdraw
+returns-in_ok-push-in-Withdraw c = grind (arith, common_steps)
+
+pub returns-in_ok-push-in-Applicant-2 : goal.returns-in_ok-push-in-Applicant-2
+returns-in_ok-push-in-Applicant-2 c = grind (arith, common_steps)
+
+pub returns-in_ok-push-in-Program : goal.returns-in_ok-push-in-Program
+returns-in_ok-push-in-Program c = grind (arith, common_steps)
