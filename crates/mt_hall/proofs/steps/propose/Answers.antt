@@ -87,9 +87,9 @@ meet-reply-requires-clause-rank g c =
     let m = g.K.HallName.ranked.market in
     let same : c.entry_at-entry.result.program ≡ c.args.door.now.program =
     same_some _ _ (sym c.entry_at-entry.ensures.program
-        ∙ ap (λ (r : Ranked). slice_get (live r.market c.desk.inside.applicant) c.desk.inside.made) c.requires.ranks
-        ∙ ap (λ (d : DeskView). slice_get (live m d.applicant) d.made) c.desk.view_is
-        ∙ at_made m c.args.desk.now c.args.door.now c.requires.free c.requires.due) in
+    ∙ ap (λ (r : Ranked). slice_get (live r.market c.desk.inside.applicant) c.desk.inside.made) c.requires.ranks
+    ∙ ap (λ (d : DeskView). slice_get (live m d.applicant) d.made) c.desk.view_is
+    ∙ at_made m c.args.desk.now c.args.door.now c.requires.free c.requires.due) in
     subst (λ (p : ℕ). IsRank (ranking_of m p) c.desk.inside.applicant c.entry_at-entry.result.rank) same
     (subst (λ (r : Ranked). IsRank (ranking_of r.market c.entry_at-entry.result.program) c.desk.inside.applicant c.entry_at-entry.result.rank) c.requires.ranks c.entry_at-entry.ensures.rank)
 
@@ -103,9 +103,9 @@ returns-clause-pass g c =
     let m = g.K.HallName.ranked.market in
     let same : c.entry_at-entry.result.program ≡ c.args.door.now.program =
     same_some _ _ (sym c.entry_at-entry.ensures.program
-        ∙ ap (λ (r : Ranked). slice_get (live r.market c.desk.inside.applicant) c.desk.inside.made) c.requires.ranks
-        ∙ ap (λ (d : DeskView). slice_get (live m d.applicant) d.made) c.desk.view_is
-        ∙ at_made m c.args.desk.now c.args.door.now c.requires.free c.requires.due) in
+    ∙ ap (λ (r : Ranked). slice_get (live r.market c.desk.inside.applicant) c.desk.inside.made) c.requires.ranks
+    ∙ ap (λ (d : DeskView). slice_get (live m d.applicant) d.made) c.desk.view_is
+    ∙ at_made m c.args.desk.now c.args.door.now c.requires.free c.requires.due) in
     c.count.ensures.pass ∙ ap₂ (λ p a. one_more c.args.pass.now p a) same (ap (λ (d : DeskView). d.applicant) c.desk.view_is)
 
 pub returns-clause-reply : goal.returns-clause-reply
