@@ -17,3 +17,33 @@ returns-in-Ok-clause-answers g c =
       refusal = λ large. absurd (omega arith);
       answer = λ m r. c.in-Ok.ensures.found;
     }
+
+pub returns-in-Ok-clause-market_reads : goal.returns-in-Ok-clause-market_reads
+returns-in-Ok-clause-market_reads g c = c.answer.ensures.market_reads
+
+pub returns-in-Ok-clause-market_failures : goal.returns-in-Ok-clause-market_failures
+returns-in-Ok-clause-market_failures g c = c.answer.ensures.market_failures
+
+pub returns-in-Ok-clause-match_reads : goal.returns-in-Ok-clause-match_reads
+returns-in-Ok-clause-match_reads g c = c.answer.ensures.match_reads
+
+pub returns-in-Ok-clause-match_failures : goal.returns-in-Ok-clause-match_failures
+returns-in-Ok-clause-match_failures g c = c.answer.ensures.match_failures
+
+pub returns-in-Ok-clause-fault : goal.returns-in-Ok-clause-fault
+returns-in-Ok-clause-fault g c = c.in-Ok.ensures.fault
+
+pub returns-in-Err-clause-market_reads : goal.returns-in-Err-clause-market_reads
+returns-in-Err-clause-market_reads g c = c.answer.ensures.market_reads
+
+pub returns-in-Err-clause-market_failures : goal.returns-in-Err-clause-market_failures
+returns-in-Err-clause-market_failures g c = c.answer.ensures.market_failures
+
+pub returns-in-Err-clause-match_reads : goal.returns-in-Err-clause-match_reads
+returns-in-Err-clause-match_reads g c = c.answer.ensures.match_reads
+
+pub returns-in-Err-clause-match_failures : goal.returns-in-Err-clause-match_failures
+returns-in-Err-clause-match_failures g c = c.answer.ensures.match_failures
+
+pub returns-in-Err-clause-fault : goal.returns-in-Err-clause-fault
+returns-in-Err-clause-fault g c = c.in-Err.ensures.fault

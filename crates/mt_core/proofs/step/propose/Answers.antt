@@ -1,11 +1,21 @@
-use Rattle.std.proofs.Common.{sym, ap, ◌∙◌, arith}
+use Rattle.std.proofs.Common.{◌≡◌, ℕ, List, sym, ap, ◌∙◌, subst, arith}
 use Rattle.mt_terms.specs.Market.{program_of}
 use Rattle.mt_terms.specs.Floor as model
-use Rattle.mt_core.specs.Floors.{floor_of, hold_of}
-use Rattle.mt_core.proofs.FloorTables.{made_of, received_by_rank, entered_floor}
+use Rattle.mt_terms.specs.declared.events.Reply.TheVariants.{NotDue}
+use Rattle.mt_hold.specs.declared.holding.Taken.{Taken}
+use Rattle.mt_hold.specs.declared.holding.Taken.TheVariants as taken
+use Rattle.mt_core.specs.Floors.{IsOpenedWith, Tables, floor_of, hold_of}
+use Rattle.mt_core.specs.Replies.{reply_from}
+use Rattle.mt_core.proofs.FloorTables.{made_of, received_by_rank, entered_floor, entered_opened}
 use Rattle.mt_core.proofs.NextFacts.{next_entry_facts}
 use Rattle.mt_core.proofs.ReplyFacts.{reply_is, displaced_is, held_within, may_receive}
 use Rattle.mt_core.proofs.step.propose.Goals as goal
+
+-- what became of a proposal is never that it isn't due
+reply_differs : (ranking : List ℕ) (t : Taken) → reply_from ranking t ≡ NotDue → ⊥
+reply_differs ranking taken.Kept e = cc
+reply_differs ranking (taken.KeptInstead rank) e = cc
+reply_differs ranking taken.Refused e = cc
 
 pub enter-taken-requires-clause-program : goal.enter-taken-requires-clause-program
 enter-taken-requires-clause-program c =
@@ -75,3 +85,15 @@ returns-clause-displaced c b p on out =
     c.reply_at.ensures
     ∙ displaced_is r.market t a entry.program entry.rank c.enter-taken.result c.requires.opened facts.1.can (record { refused = c.enter-taken.ensures.refused; dropped = c.enter-taken.ensures.dropped }) b p on
     (ap (λ f. model.held r.market f p b) (sym now) ∙ out)
+
+pub returns-clause-not_due : goal.returns-clause-not_due
+returns-clause-not_due c e = absurd (reply_differs (program_of c.args.ranks.now.market c.in-Some.entry.program).ranking c.enter-taken.result (sym c.reply_at.ensures ∙ e))
+
+pub returns-clause-opened : goal.returns-clause-opened
+returns-clause-opened c =
+    let r = c.args.ranks.now in
+    let t = c.args.floor.now in
+    let entry = c.in-Some.entry in
+    let facts = next_entry_facts r c.requires.ranked (floor_of r.market t) c.requires.recorded c.args.applicant entry (sym c.next_entry.ensures ∙ c.in-Some.is) in
+    subst (λ (x : Tables). IsOpenedWith r.market x) (sym c.enter-taken.ensures.tables)
+    (entered_opened r.market t c.args.applicant entry.program entry.rank (omega (arith, facts.1.can.program, c.requires.opened.holds)) c.requires.opened)

@@ -61,3 +61,27 @@ returns-clause-recorded c =
     let shows = c.loop-place.invariant.shows ∙ ap (λ k. with_desk m (floor_of m c.args.self.now) c.args.applicant k ((floor_of m t).standing c.args.applicant)) all in
     let is = ap (floor_of m) c.set_standing.ensures ∙ with_desk_standing m t (floor_of m c.args.self.now) c.args.applicant c.args.made _ c.args.standing c.loop-place.invariant.opened c.requires.applicant shows in
     subst (λ (x : Floor). IsRecorded m x) (sym is) (with_desk_recorded m (floor_of m c.args.self.now) c.args.applicant c.args.made c.args.standing c.requires.recorded c.requires.desk)
+
+pub enter-requires-clause-made : goal.enter-requires-clause-made
+enter-requires-clause-made c = omega (arith, c.requires.applicant, c.loop-place.invariant.opened.made)
+
+pub enter-requires-clause-standing : goal.enter-requires-clause-standing
+enter-requires-clause-standing c = omega (arith, c.requires.applicant, c.loop-place.invariant.opened.standing)
+
+pub enter-requires-clause-program : goal.enter-requires-clause-program
+enter-requires-clause-program c =
+    let r = c.args.ranks.now in
+    let a = c.args.applicant in
+    let entry = c.index-live-place.result in
+    let low : c.loop-place.place < length (live r.market a) = omega (arith, c.loop-place-test.true, c.requires.desk.within) in
+    let facts = entry_there r c.applicants.ensures.ranked a c.loop-place.place entry entry low (c.index-live-place.is ∙ ap (λ xs. get_or xs c.loop-place.place entry) c.live.ensures.list) in
+    omega (arith, facts.1.program, c.loop-place.invariant.opened.holds)
+
+pub enter-requires-clause-on_list : goal.enter-requires-clause-on_list
+enter-requires-clause-on_list c =
+    let r = c.args.ranks.now in
+    let a = c.args.applicant in
+    let entry = c.index-live-place.result in
+    let low : c.loop-place.place < length (live r.market a) = omega (arith, c.loop-place-test.true, c.requires.desk.within) in
+    let facts = entry_there r c.applicants.ensures.ranked a c.loop-place.place entry entry low (c.index-live-place.is ∙ ap (λ xs. get_or xs c.loop-place.place entry) c.live.ensures.list) in
+    omega (arith, facts.1.is_rank.within, c.loop-place.invariant.opened.lists entry.program)

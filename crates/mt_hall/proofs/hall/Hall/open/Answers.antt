@@ -17,3 +17,12 @@ returns-in-Ok-deal g c = grind (arith, common_steps)
 
 pub seat-requires : goal.seat-requires
 seat-requires g c = grind (arith, common_steps)
+
+pub seat_passes-requires-clause-shares : goal.seat_passes-requires-clause-shares
+seat_passes-requires-clause-shares g c = grind (arith, common_steps)
+
+pub seat_passes-requires-clause-one_each : goal.seat_passes-requires-clause-one_each
+seat_passes-requires-clause-one_each g c = grind (arith, common_steps)
+
+pub seat_passes-requires-clause-room : goal.seat_passes-requires-clause-room
+seat_passes-requires-clause-room g c = grind (arith, common_steps)
