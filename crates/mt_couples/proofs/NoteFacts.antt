@@ -33,14 +33,8 @@ couple_with_pair m c x on = elim (cases_lt c (length m.couples)) [
   | inr past ↦ absurd (subst (λ (k : Partners). In x k.pairs) (get_or_past m.couples c _ past) on)
 ]
 
--- Whoever has entered and doesn't wait has its better pairs noted: so it is where more wait, where more is noted, and
--- where an agent that has its better pairs noted waits no more.
-pub noted_still : (k : ℕ) (old now : List Agent) (w : Watch) → ((h : Agent) → is_on old h ≡ true → is_on now h ≡ true) → AreNoted k old w → AreNoted k now w
-noted_still k old now w grows noted c idle =
-    let parts = and_parts (nat_le c k) (not (is_on now (Couple c))) idle in
-    let off : is_on old (Couple c) ≡ false = false_from_ne_true _ (λ on. both_ways (is_on now (Couple c)) (not-true _ parts.1) (grows (Couple c) on)) in
-    noted c (and_from _ _ parts.0 (not_from_false _ off))
-
+-- Whoever has entered and doesn't wait has its better pairs noted: so it is where more is noted, and where
+-- an agent that has its better pairs noted waits no more.
 pub noted_more : (k : ℕ) (ws : List Agent) (w next : Watch) → next.better ≡ w.better
     → ((c : ℕ) → noted_count w.couples c ≤ noted_count next.couples c) → AreNoted k ws w → AreNoted k ws next
 noted_more k ws w next better keeps noted c idle =

@@ -1,7 +1,7 @@
 -- Who is watched where, once an agent has moved.
 use Rattle.std.proofs.Common.{◌≡◌, ◌∙◌, ℕ, suc, ◌<◌, Bool, true, false, ◌==◌, List, [], ◌∷◌, ◌++◌, map, length, get_or, refl, ap, sym, subst, inl, inr, arith, Result, Ok, Err, OnOk}
 use Rattle.std.proofs.lemmas.List.Folds.{list_any-append}
-use Rattle.std.proofs.lemmas.Bool.{cases_Bool, or_cases, or_parts, eqb-true, both_ways, false≢true, false_from_ne_true}
+use Rattle.std.proofs.lemmas.Bool.{cases_Bool, or_cases, or_parts, eqb-true, both_ways, false_from_ne_true}
 use Rattle.std.proofs.Math.Bool.{or-false}
 use Rattle.mt_terms.specs.Lists.{has, until}
 use Rattle.mt_terms.specs.Market.{Market, applicants, agent_of, couple_of, list_of, members, program_of}
@@ -62,13 +62,6 @@ follows_more s old mid new xs x first second = record {
       | inl earlier ↦ earlier
       | inr now ↦ absurd (both_ways (has (x ∷ []) a) other now)
     ]
-
-pub follows_none : (s : Assigned) (rows : List (List Bool)) → FollowsAll s rows rows []
-follows_none s rows = record {
-  as_many = refl;
-  others = λ many b p r other known ranked. refl;
-  watched = λ many inside a on. absurd (false≢true on);
-}
 
 -- couples are counted again for some, and for one more
 pub counts_more : (s : Assigned) (old mid new : Watch) (xs : List ℕ) (x : ℕ) → CountsAll s old mid xs → Counts s mid new x → CountsAll s old new (xs ++ x ∷ [])

@@ -22,9 +22,6 @@ IsNoted notes turn es i p = (((note_of notes p).turn < turn) × NotMet es i p) �
 abbrev pub AreNoted : List Note → ℕ → List Live → ℕ → Type 0
 AreNoted notes turn es i = (p : ℕ) → p < length notes → IsNoted notes turn es i p
 
-pub noted_none : (notes : List Note) (turn : ℕ) (es : List Live) → AreBefore turn notes → AreNoted notes turn es 0
-noted_none notes turn es before p w = inl (before p w, λ k d lt. absurd (omega arith))
-
 pub noted_more : (notes : List Note) (turn : ℕ) (es : List Live) (i : ℕ) (e : Live) → AreNoted notes turn es i → AscendFrom 0 es → i < length es → e ≡ get_or es i e → e.program < length notes
     → AreNoted (set notes e.program (record { turn = turn; rank = e.rank })) turn es (i + 1)
 noted_more notes turn es i e inv up h at within p w =
@@ -62,9 +59,6 @@ noted_ranks notes turn es i p inv past w = noted_all notes turn es i p (inv p w)
 noted_before : (notes : List Note) (turn : ℕ) (es : List Live) (i p : ℕ) → IsNoted notes turn es i p → (note_of notes p).turn < turn + 1
 noted_before notes turn es i p (inl earlier) = omega (arith, earlier.0)
 noted_before notes turn es i p (inr now) = omega (arith, now.0)
-
-pub next_turn : (notes : List Note) (turn : ℕ) (es : List Live) (i : ℕ) → AreNoted notes turn es i → AreBefore (turn + 1) notes
-next_turn notes turn es i inv p w = noted_before notes turn es i p (inv p w)
 
 -- Below, the entries are an applicant's on programs' lists.
 here_within : (p rank n : ℕ) (xs : List ℕ) (a : ℕ) (rest : List Live) → p < n → ProgramsWithin n rest → ProgramsWithin n (entries_in p rank xs a ++ rest)

@@ -1,4 +1,3 @@
-use Rattle.std.proofs.lemmas.Grind.{common_steps}
 use Rattle.std.proofs.Common.{◌≡◌, ◌∙◌, ◌∷◌, ◌+◌, ◌<◌, ◌≤◌, [], ℕ, drop, filter, get_or, length, ap, sym, subst, arith}
 use Rattle.std.proofs.lemmas.Bool.{or_left}
 use Rattle.mt_terms.specs.Market.{applicants, program_of}
@@ -83,36 +82,3 @@ returns-clause-done c = λ done.
     let at_end = passes_last k s p ok c.requires.program rows c.requires.watch.watched start couples now next next_in so_far.grows closed looking in
     ap (λ ys. with_agents now (all_joined now.agents (filter (blocking k s) (agents_of s ys)))) (sym (drop_past list (length list) (omega arith)))
     ∙ at_end.joining
-
-pub returns-clause-not_done : goal.returns-clause-not_done
-returns-clause-not_done c = grind (arith, common_steps)
-
-pub add_members-requires-clause-watch : goal.add_members-requires-clause-watch
-add_members-requires-clause-watch c = grind (arith, common_steps)
-
-pub add_members-requires-clause-found : goal.add_members-requires-clause-found
-add_members-requires-clause-found c = grind (arith, common_steps)
-
-pub add_members-requires-clause-program : goal.add_members-requires-clause-program
-add_members-requires-clause-program c = grind (arith, common_steps)
-
-pub add_members-requires-clause-waiting : goal.add_members-requires-clause-waiting
-add_members-requires-clause-waiting c = grind (arith, common_steps)
-
-pub loop-rank-init : goal.loop-rank-init
-loop-rank-init c = grind (arith, common_steps)
-
-pub overflow_add-next : goal.overflow_add-next
-overflow_add-next c = grind (arith, common_steps)
-
-pub returns-then-not-is_empty-clause-done : goal.returns-then-not-is_empty-clause-done
-returns-then-not-is_empty-clause-done c = grind (arith, common_steps)
-
-pub returns-then-not-is_empty-clause-not_done : goal.returns-then-not-is_empty-clause-not_done
-returns-then-not-is_empty-clause-not_done c = grind (arith, common_steps)
-
-pub returns-in_err-add_members-clause-done : goal.returns-in_err-add_members-clause-done
-returns-in_err-add_members-clause-done c = grind (arith, common_steps)
-
-pub returns-in_err-add_members-clause-not_done : goal.returns-in_err-add_members-clause-not_done
-returns-in_err-add_members-clause-not_done c = grind (arith, common_steps)
