@@ -56,10 +56,6 @@ noted_all notes turn es i p (inr now) past = rw (eq-eqb (note_of notes p).turn t
 pub noted_ranks : (notes : List Note) (turn : ℕ) (es : List Live) (i p : ℕ) → AreNoted notes turn es i → length es ≤ i → p < length notes → rank_noted notes turn p ≡ rank_among es p
 noted_ranks notes turn es i p inv past w = noted_all notes turn es i p (inv p w) past
 
-noted_before : (notes : List Note) (turn : ℕ) (es : List Live) (i p : ℕ) → IsNoted notes turn es i p → (note_of notes p).turn < turn + 1
-noted_before notes turn es i p (inl earlier) = omega (arith, earlier.0)
-noted_before notes turn es i p (inr now) = omega (arith, now.0)
-
 -- Below, the entries are an applicant's on programs' lists.
 here_within : (p rank n : ℕ) (xs : List ℕ) (a : ℕ) (rest : List Live) → p < n → ProgramsWithin n rest → ProgramsWithin n (entries_in p rank xs a ++ rest)
 here_within p rank n [] a rest h w = w
