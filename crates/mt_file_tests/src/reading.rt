@@ -29,28 +29,32 @@ fn expect_rows(rt: &impl Abort, rows: &Rows<'_>, expected: &[&[&[u8]]]) {
     same(rt, &number, &expected.len());
 }
 
-#[test]
-fn spreadsheet_rows(rt: HostRuntime) -> Result<(), Fail> {
-    let input =
-        b"\xEF\xBB\xBFmatch,1,,\r\n\"program\",P1,1,\"a2\",a1\r\n\r\nprogram,P2,01,a1,a2,\r\n,,,\r\napplicant,a1,P1,P2\r\napplicant,\"a2\",P2,P1";
-    let rows = records(rt.alloc(), input)?;
-    let expected: [&[&[u8]]; 6] = [
-        &[b"match", b"1"],
-        &[b"program", b"P1", b"1", b"a2", b"a1"],
-        &[b"program", b"P2", b"01", b"a1", b"a2"],
-        &[],
-        &[b"applicant", b"a1", b"P1", b"P2"],
-        &[b"applicant", b"a2", b"P2", b"P1"],
-    ];
-    expect_rows(&rt, &rows, &expected);
-    laws::worked_inputs();
-    Ok(())
-}
-
-fn expect_no_row(rt: &impl Abort, alloc: Global, input: &[u8]) -> Result<(), ListFault> {
-    assert!(rt; records(alloc, input)?.iter().next().is_none());
-    Ok(())
-}
+// Inputs, and the fields of their rows.
+const ROWS: &[(&[u8], &[&[&[u8]]])] = &[
+    (
+        b"\xEF\xBB\xBFmatch,1,,\r\n\"program\",P1,1,\"a2\",a1\r\n\r\nprogram,P2,01,a1,a2,\r\n,,,\r\napplicant,a1,P1,P2\r\napplicant,\"a2\",P2,P1",
+        &[
+            &[b"match", b"1"],
+            &[b"program", b"P1", b"1", b"a2", b"a1"],
+            &[b"program", b"P2", b"01", b"a1", b"a2"],
+            &[],
+            &[b"applicant", b"a1", b"P1", b"P2"],
+            &[b"applicant", b"a2", b"P2", b"P1"],
+        ],
+    ),
+    (
+        b"match,1\napplicant,\"a\"\"1\"\n",
+        &[&[b"match", b"1"], &[b"applicant", b"a\"1"]],
+    ),
+    (b"\xEF\xBB\xBF", &[]),
+    (b"", &[]),
+    // Lines end in a line feed, a carriage return or both; a line with no byte is no row, and one of commas is an empty
+    // row.
+    (
+        b"\r\na,b\rc\n\n,,,\r\n;\r\rd",
+        &[&[b"a", b"b"], &[b"c"], &[], &[b";"], &[b"d"]],
+    ),
+];
 
 fn expect_two_marks(rt: &impl Abort, alloc: Global, input: &[u8]) {
     let twice = records(alloc, input);
@@ -58,12 +62,13 @@ fn expect_two_marks(rt: &impl Abort, alloc: Global, input: &[u8]) {
 }
 
 #[test]
-fn quotes_and_marks(rt: HostRuntime) -> Result<(), Fail> {
-    let rows = records(rt.alloc(), b"match,1\napplicant,\"a\"\"1\"\n")?;
-    expect_rows(&rt, &rows, &[&[b"match", b"1"], &[b"applicant", b"a\"1"]]);
+fn spreadsheet_rows(rt: HostRuntime) -> Result<(), Fail> {
+    for (input, expected) in ROWS {
+        let rows = records(rt.alloc(), input)?;
+        expect_rows(&rt, &rows, expected);
+    }
     expect_two_marks(&rt, rt.alloc(), b"\xEF\xBB\xBF\xEF\xBB\xBFmatch,1\n");
-    expect_no_row(&rt, rt.alloc(), b"\xEF\xBB\xBF")?;
-    expect_no_row(&rt, rt.alloc(), b"")?;
+    laws::worked_inputs();
     Ok(())
 }
 
@@ -155,25 +160,15 @@ fn joined(alloc: Global, row: &Row<'_>) -> Result<Vec<u8>, AllocError> {
     Ok(joined)
 }
 
-fn expect_joined(rt: &impl Abort, alloc: Global, row: &Row<'_>) -> Result<(), AllocError> {
+// A row of three fields, of which the second is empty. Two are taken from it, and the third is left.
+fn expect_three_fields(rt: &impl Abort, alloc: Global, row: &Row<'_>) -> Result<(), AllocError> {
+    assert!(rt; !row.is_empty());
+    same(rt, &row.fields().len(), &3);
     same(rt, &joined(alloc, row)?.as_slice(), &b"abc".as_slice());
-    Ok(())
-}
-
-// Two fields are taken from the row, and the third is left.
-fn expect_third_left(rt: &impl Abort, row: &Row<'_>) {
     let mut left = row.fields();
     assert!(rt; left.next() == Some(b"a".as_slice()));
     assert!(rt; left.next() == Some(b"".as_slice()));
     same(rt, &left.len(), &1);
-}
-
-// A row of three fields, of which the second is empty.
-fn expect_three_fields(rt: &impl Abort, alloc: Global, row: &Row<'_>) -> Result<(), AllocError> {
-    assert!(rt; !row.is_empty());
-    same(rt, &row.fields().len(), &3);
-    expect_joined(rt, alloc, row)?;
-    expect_third_left(rt, row);
     Ok(())
 }
 
@@ -194,13 +189,5 @@ fn fields_of_a_row(rt: HostRuntime) -> Result<(), Fail> {
         let rows = records(rt.alloc(), text)?;
         expect_one_row(&rt, rt.alloc(), &rows)?;
     }
-    Ok(())
-}
-
-// Lines end in a line feed, a carriage return or both; a line with no byte is no row, and one of commas is an empty row.
-#[test]
-fn ends_of_lines(rt: HostRuntime) -> Result<(), Fail> {
-    let rows = records(rt.alloc(), b"\r\na,b\rc\n\n,,,\r\n;\r\rd")?;
-    expect_rows(&rt, &rows, &[&[b"a", b"b"], &[b"c"], &[], &[b";"], &[b"d"]]);
     Ok(())
 }

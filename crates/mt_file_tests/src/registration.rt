@@ -7,12 +7,10 @@ mod limits;
 mod markets;
 mod withdrawals;
 
-use crate::expect::holds_for;
 use mt_lists::{ListFault, records};
-use mt_roster::{Roster, RosterError, RosterFault, roster};
+use mt_roster::{Roster, RosterError, roster};
 use mt_terms::{Agent, AppNo, CoupleNo, ProgNo};
 use std::alloc::Global;
-use std::process::Abort;
 use std::test::Fail;
 use std::thread::Threads;
 
@@ -51,21 +49,6 @@ fn add_program(
     Ok(())
 }
 
-/// Adds ` single NUMBER`, or ` couple NUMBER` for a member of a couple.
-fn add_agent(alloc: Global, text: &mut Vec<u8>, agent: Agent) -> Result<(), Fail> {
-    match agent {
-        Agent::Single(number) => {
-            text.extend_from_slice(b" single")?;
-            add_number(alloc, text, number.0)?;
-        }
-        Agent::Couple(number) => {
-            text.extend_from_slice(b" couple")?;
-            add_number(alloc, text, number.0)?;
-        }
-    }
-    Ok(())
-}
-
 /// Adds an applicant's line: `applicant ID single NUMBER: PROGRAMS`, or `applicant ID couple NUMBER:` for a member.
 fn add_applicant(
     alloc: Global,
@@ -77,7 +60,12 @@ fn add_applicant(
 {
     text.extend_from_slice(b"applicant ")?;
     text.extend_from_slice(roster.applicant_id(applicant))?;
-    add_agent(alloc, text, roster.agent_of(applicant))?;
+    let (kind, number) = match roster.agent_of(applicant) {
+        Agent::Single(single) => (" single", single.0),
+        Agent::Couple(couple) => (" couple", couple.0),
+    };
+    text.extend_from_slice(kind.as_bytes())?;
+    add_number(alloc, text, number)?;
     text.extend_from_slice(b":")?;
     for program in roster.single_list(applicant) {
         add_number(alloc, text, program.0)?;
@@ -110,8 +98,8 @@ fn add_couple(
     Ok(())
 }
 
-/// A roster as a text, by all its readers: a line for each program, applicant and couple, by number.
-fn shown(alloc: Global, roster: &Roster) -> Result<Vec<u8>, Fail> {
+/// Whether a roster is the one of this text: by all its readers, a line for each program, applicant and couple, by number.
+fn shows(alloc: Global, roster: &Roster, market: &str) -> Result<bool, Fail> {
     let mut text = Vec::new(alloc);
     for number in 0..roster.programs() {
         add_program(alloc, &mut text, roster, ProgNo(number))?;
@@ -122,12 +110,7 @@ fn shown(alloc: Global, roster: &Roster) -> Result<Vec<u8>, Fail> {
     for number in 0..roster.couples() {
         add_couple(alloc, &mut text, roster, CoupleNo(number))?;
     }
-    Ok(text)
-}
-
-/// Whether a roster is the one of this text.
-fn shows(alloc: Global, roster: &Roster, market: &str) -> Result<bool, Fail> {
-    Ok(shown(alloc, roster)?.as_slice() == market.as_bytes())
+    Ok(text.as_slice() == market.as_bytes())
 }
 
 /// The market of a file that is accepted.
@@ -145,15 +128,12 @@ fn gives<R: Threads + Sync>(rt: &R, alloc: Global, file: &str, market: &str) -> 
 /// A fault's code, the number of its record, and its id.
 type Fault<'a> = (u16, u64, &'a str);
 
-/// Whether a refusal is for this fault.
-fn is_for(refusal: &RosterFault, (code, row, id): Fault<'_>) -> bool {
-    refusal.code == code && refusal.row == row && refusal.id.as_bytes() == id.as_bytes()
-}
-
 /// Whether an answer is a refusal for this fault.
-fn is_refusal(answer: &Result<Roster, RosterError>, fault: Fault<'_>) -> bool {
+fn is_refusal(answer: &Result<Roster, RosterError>, (code, row, id): Fault<'_>) -> bool {
     match answer {
-        Err(RosterError::Fault(refusal)) => is_for(refusal, fault),
+        Err(RosterError::Fault(refusal)) => {
+            refusal.code == code && refusal.row == row && refusal.id.as_bytes() == id.as_bytes()
+        }
         Err(RosterError::Memory) | Ok(_) => false,
     }
 }
@@ -168,16 +148,4 @@ fn is_refused<R: Threads + Sync>(
     let rows = records(alloc, file.as_bytes())?;
     let answer = roster(rt, alloc, &rows);
     Ok(is_refusal(&answer, fault))
-}
-
-/// Each of these files is refused for its fault.
-fn expect_refused<R: Abort + Threads + Sync>(
-    rt: &R,
-    alloc: Global,
-    files: &[(&str, Fault<'_>)],
-) -> Result<(), Fail> {
-    for (file, fault) in files {
-        holds_for(rt, is_refused(rt, alloc, file, *fault)?, &file);
-    }
-    Ok(())
 }

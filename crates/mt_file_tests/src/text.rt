@@ -29,24 +29,14 @@ fn text_of(
     published(alloc, roster, &matched, proposals)
 }
 
-fn expect_text(
-    rt: &impl Abort,
-    alloc: Global,
-    roster: &Roster,
-    places: &[Option<ProgNo>],
-    proposals: &[u32],
-    expected: &[u8],
-) -> Result<(), Fail> {
-    assert!(rt; are_places(roster, places));
-    assert!(rt; proposals.len() == roster.programs() as usize);
-    let text = text_of(alloc, roster, places, proposals)?;
-    same(rt, &text.as_slice(), &expected);
-    Ok(())
-}
-
 fn expect_chain_text(rt: &impl Abort, alloc: Global, roster: &Roster) -> Result<(), Fail> {
     let places = [Some(ProgNo(1)), Some(ProgNo(0)), None];
-    expect_text(rt, alloc, roster, &places, &[3, 2], CHAIN_TEXT)
+    let proposals = [3, 2];
+    assert!(rt; are_places(roster, &places));
+    assert!(rt; proposals.len() == roster.programs() as usize);
+    let text = text_of(alloc, roster, &places, &proposals)?;
+    same(rt, &text.as_slice(), &CHAIN_TEXT);
+    Ok(())
 }
 
 #[test]
@@ -64,6 +54,17 @@ fn expect_line(rt: &impl Abort, code: u16, row: u64, id: &str, line: &str) {
         &line.as_bytes(),
     );
 }
+
+const ID_64: &str = "abcdefghijklmnopqrstuvwxyz012345ABCDEFGHIJKLMNOPQRSTUVWXYZ._:-67";
+
+const ID_32: &str = "abcdefghijklmnopqrstuvwxyz012345";
+
+// The longest line of an input, and that of one in version 1.
+const LONGEST: &str =
+    "match,1,refused,20,UnknownApplicant,33554432,abcdefghijklmnopqrstuvwxyz012345ABCDEFGHIJKLMNOPQRSTUVWXYZ._:-67\n";
+
+const LONGEST_OF_VERSION_1: &str =
+    "match,1,refused,20,UnknownApplicant,33554432,abcdefghijklmnopqrstuvwxyz012345\n";
 
 // A code, the number of a record, an id, and the line of that refusal.
 const LINES: &[(u16, u64, &str, &str)] = &[
@@ -88,6 +89,15 @@ const LINES: &[(u16, u64, &str, &str)] = &[
     (30, 0, "", "match,1,refused,30,OutOfMemory,0,-\n"),
     (31, 0, "", "match,1,refused,31,ReadFault,0,-\n"),
     (41, 0, "", "match,1,refused,41,BudgetSpent,0,-\n"),
+    // With ids of 64 and of 32 bytes, and the largest number of a record that an input has; and with any number.
+    (20, 33_554_432, ID_64, LONGEST),
+    (20, 33_554_432, ID_32, LONGEST_OF_VERSION_1),
+    (
+        20,
+        u64::MAX,
+        ID_64,
+        "match,1,refused,20,UnknownApplicant,18446744073709551615,abcdefghijklmnopqrstuvwxyz012345ABCDEFGHIJKLMNOPQRSTUVWXYZ._:-67\n",
+    ),
 ];
 
 #[test]
@@ -95,27 +105,6 @@ fn each_code_has_its_line(rt: HostRuntime) {
     for (code, row, id, line) in LINES {
         expect_line(&rt, *code, *row, id, line);
     }
-}
-
-// With ids of 32 and of 64 bytes, and the largest number of a record that an input has; and with any number.
-#[test]
-fn longest_lines(rt: HostRuntime) {
-    let id = "abcdefghijklmnopqrstuvwxyz012345ABCDEFGHIJKLMNOPQRSTUVWXYZ._:-67";
-    let longest =
-        "match,1,refused,20,UnknownApplicant,33554432,abcdefghijklmnopqrstuvwxyz012345ABCDEFGHIJKLMNOPQRSTUVWXYZ._:-67\n";
-    same(&rt, &longest.len(), &110);
-    expect_line(&rt, 20, 33_554_432, id, longest);
-    let of_version_1 =
-        "match,1,refused,20,UnknownApplicant,33554432,abcdefghijklmnopqrstuvwxyz012345\n";
-    same(&rt, &of_version_1.len(), &78);
-    expect_line(
-        &rt,
-        20,
-        33_554_432,
-        "abcdefghijklmnopqrstuvwxyz012345",
-        of_version_1,
-    );
-    let widest =
-        "match,1,refused,20,UnknownApplicant,18446744073709551615,abcdefghijklmnopqrstuvwxyz012345ABCDEFGHIJKLMNOPQRSTUVWXYZ._:-67\n";
-    expect_line(&rt, 20, u64::MAX, id, widest);
+    same(&rt, &LONGEST.len(), &110);
+    same(&rt, &LONGEST_OF_VERSION_1.len(), &78);
 }

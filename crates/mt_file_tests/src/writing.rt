@@ -28,78 +28,61 @@ fn expect_written(rt: &impl Abort, narrow: Narrow, first: usize, whole: bool) {
     same(rt, &writer.flushes, &u32::from(first == TEXT.len()));
 }
 
+fn narrow(alloc: Global, at_once: usize, room: usize, fails: bool, flush_fails: bool) -> Narrow {
+    Narrow {
+        at_once,
+        room,
+        fails,
+        flush_fails,
+        flushes: 0,
+        taken: Vec::new(alloc),
+    }
+}
+
+// Writers that stop in the text, and then writers that take it whole.
 #[test]
-fn a_writer_that_stops_in_the_text(rt: HostRuntime) {
+fn writers_with_some_room(rt: HostRuntime) {
     assert!(rt; TEXT.len() == 99);
     for at_once in [1, 7, 100] {
         for fails in [false, true] {
             for room in 0..99 {
-                let narrow = Narrow {
-                    at_once,
-                    room,
-                    fails,
-                    flush_fails: false,
-                    flushes: 0,
-                    taken: Vec::new(rt.alloc()),
-                };
-                expect_written(&rt, narrow, room, false);
+                let writer = narrow(rt.alloc(), at_once, room, fails, false);
+                expect_written(&rt, writer, room, false);
             }
         }
     }
-}
-
-#[test]
-fn a_writer_that_takes_the_whole_text(rt: HostRuntime) {
     for at_once in [1, 7, 98, 99, 100] {
         for flush_fails in [false, true] {
-            let narrow = Narrow {
-                at_once,
-                room: 99,
-                fails: true,
-                flush_fails,
-                flushes: 0,
-                taken: Vec::new(rt.alloc()),
-            };
-            expect_written(&rt, narrow, 99, !flush_fails);
+            let writer = narrow(rt.alloc(), at_once, 99, true, flush_fails);
+            expect_written(&rt, writer, 99, !flush_fails);
         }
     }
 }
 
-// Nothing is to be written, so the writer isn't asked and is flushed once. A second text through the same drain
+// Nothing is to be written at first, so the writer isn't asked and is flushed once. A second text through the same drain
 // fails, and the drain counts that.
-fn expect_two_texts(rt: &impl Abort, writer: &mut Narrow) {
-    let mut drain = Drain::new(writer);
+#[test]
+fn two_texts_through_one_drain(rt: HostRuntime) {
+    let mut writer = narrow(rt.alloc(), 100, 10, false, false);
+    let mut drain = Drain::new(&mut writer);
     let nothing = put_all(&mut drain, b"");
     same(
-        rt,
+        &rt,
         &(nothing.written, nothing.whole, drain.failures()),
         &(0, true, 0),
     );
     let some = put_all(&mut drain, TEXT);
     same(
-        rt,
+        &rt,
         &(some.written, some.whole, drain.failures()),
         &(10, false, 1),
     );
     let none = put_all(&mut drain, TEXT);
     same(
-        rt,
+        &rt,
         &(none.written, none.whole, drain.failures()),
         &(0, false, 2),
     );
-}
-
-#[test]
-fn two_texts_through_one_drain(rt: HostRuntime) {
-    let mut writer = Narrow {
-        at_once: 100,
-        room: 10,
-        fails: false,
-        flush_fails: false,
-        flushes: 0,
-        taken: Vec::new(rt.alloc()),
-    };
-    expect_two_texts(&rt, &mut writer);
     same(&rt, &writer.taken.as_slice(), &b"match,1,pu".as_slice());
     same(&rt, &writer.flushes, &1);
 }

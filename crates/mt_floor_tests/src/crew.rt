@@ -62,9 +62,12 @@ fn open_watch(alloc: Global, workers: u32, meet: bool) -> Result<Watch, AllocErr
 
 impl Watch {
     fn all_came(&self) -> bool {
-        self.seats
-            .iter()
-            .all(|seen| seen.tickets.load(Ordering::SeqCst) > 0)
+        for seen in self.seats.iter() {
+            if seen.tickets.load(Ordering::SeqCst) == 0 {
+                return false;
+            }
+        }
+        true
     }
 
     fn await_all(&self) {
@@ -87,9 +90,12 @@ impl Watch {
     }
 
     fn all_proposed(&self) -> bool {
-        self.seats
-            .iter()
-            .all(|seen| seen.proposals.load(Ordering::SeqCst) > 0)
+        for seen in self.seats.iter() {
+            if seen.proposals.load(Ordering::SeqCst) == 0 {
+                return false;
+            }
+        }
+        true
     }
 }
 
@@ -128,43 +134,9 @@ fn expect_singles(
     same(rt, &singles.proposals.as_slice(), &proposals);
 }
 
-fn expect_met(rt: &impl Abort, gate: &Watch) {
-    same(rt, &gate.missed.load(Ordering::SeqCst), &0);
-    assert!(rt; gate.all_proposed());
-}
-
-fn expect_chain_at<R: Abort + Threads + Wait + Sync>(
-    rt: &R,
-    alloc: Global,
-    ranks: &Ranks,
-    gate: &Watch,
-) -> Result<(), AllocError> {
-    let singles = work(rt, alloc, ranks, 2, gate)?;
-    expect_met(rt, gate);
-    let places = [Some(ProgNo(1)), Some(ProgNo(0)), None];
-    expect_singles(rt, &singles, &places, &[3, 2]);
-    Ok(())
-}
-
-fn expect_two_at_the_gate<R: Abort + Threads + Wait + Sync>(
-    rt: &R,
-    alloc: Global,
-    ranks: &Ranks,
-) -> Result<(), AllocError> {
-    let gate = open_watch(alloc, 2, true)?;
-    expect_chain_at(rt, alloc, ranks, &gate)
-}
-
-// One of two workers waits with its first ticket until the other one has one, so both propose.
-#[test]
-fn two_at_the_gate(rt: HostRuntime) -> Result<(), Fail> {
-    Ok(with_ranks(&rt, rt.alloc(), CHAIN, |_, ranks| {
-        expect_two_at_the_gate(&rt, rt.alloc(), ranks)
-    })?)
-}
-
-// The workers' passes have all the proposals: nothing was left to be finished after they were closed.
-fn expect_in_time_at<R: Abort + Threads + Wait + Sync>(
+// The workers' passes have all the proposals: nothing was left to be finished after they were closed. Where the workers
+// were to meet they met, and each of them proposed.
+fn expect_at<R: Abort + Threads + Wait + Sync>(
     rt: &R,
     alloc: Global,
     ranks: &Ranks,
@@ -178,6 +150,8 @@ fn expect_in_time_at<R: Abort + Threads + Wait + Sync>(
     let singles = work(rt, alloc, ranks, workers, gate)?;
     expect_singles(rt, &singles, places, proposals);
     same(rt, &gate.proposals(), &total(&singles.proposals));
+    same(rt, &gate.missed.load(Ordering::SeqCst), &0);
+    assert!(rt; !gate.meet || gate.all_proposed());
     Ok(())
 }
 
@@ -186,13 +160,25 @@ fn expect_in_time<R: Abort + Threads + Wait + Sync>(
     alloc: Global,
     ranks: &Ranks,
     workers: u32,
+    meet: bool,
     places: &[Option<ProgNo>],
     proposals: &[u32],
 ) -> Result<(), AllocError>
     requires { (1 ≤ workers) × (workers ≤ 64) }
 {
-    let gate = open_watch(alloc, workers, false)?;
-    expect_in_time_at(rt, alloc, ranks, &gate, workers, places, proposals)
+    let gate = open_watch(alloc, workers, meet)?;
+    expect_at(rt, alloc, ranks, &gate, workers, places, proposals)
+}
+
+// The rejection chain ends with a1 at P2, a2 at P1 and a3 nowhere.
+const CHAIN_END: [Option<ProgNo>; 3] = [Some(ProgNo(1)), Some(ProgNo(0)), None];
+
+// One of two workers waits with its first ticket until the other one has one, so both propose.
+#[test]
+fn two_at_the_gate(rt: HostRuntime) -> Result<(), Fail> {
+    Ok(with_ranks(&rt, rt.alloc(), CHAIN, |_, ranks| {
+        expect_in_time(&rt, rt.alloc(), ranks, 2, true, &CHAIN_END, &[3, 2])
+    })?)
 }
 
 // One thread without locks comes to the same.
@@ -217,10 +203,10 @@ fn expect_from_all_on<R: Abort + Threads + Wait + Sync>(
     proposals: &[u32],
 ) -> Result<(), AllocError> {
     expect_alone(rt, alloc, ranks, places, proposals)?;
-    expect_in_time(rt, alloc, ranks, 1, places, proposals)?;
-    expect_in_time(rt, alloc, ranks, 2, places, proposals)?;
-    expect_in_time(rt, alloc, ranks, 8, places, proposals)?;
-    expect_in_time(rt, alloc, ranks, 64, places, proposals)
+    expect_in_time(rt, alloc, ranks, 1, false, places, proposals)?;
+    expect_in_time(rt, alloc, ranks, 2, false, places, proposals)?;
+    expect_in_time(rt, alloc, ranks, 8, false, places, proposals)?;
+    expect_in_time(rt, alloc, ranks, 64, false, places, proposals)
 }
 
 fn expect_from_all<R: Abort + Threads + Wait + Sync>(
@@ -245,8 +231,7 @@ fn nothing_is_left_after_the_workers(rt: HostRuntime) -> Result<(), Fail> {
         &[Some(ProgNo(0)), Some(ProgNo(1))],
         &[1, 1],
     )?;
-    let chain_end = [Some(ProgNo(1)), Some(ProgNo(0)), None];
-    expect_from_all(&rt, alloc, CHAIN, &chain_end, &[3, 2])?;
+    expect_from_all(&rt, alloc, CHAIN, &CHAIN_END, &[3, 2])?;
     expect_from_all(
         &rt,
         alloc,
@@ -377,23 +362,6 @@ fn is_done(flag: &AtomicU64) -> bool {
     false
 }
 
-fn advance_once<K: HallName, R: Abort + Wait>(
-    rt: &R,
-    hall: &Hall<'_, K>,
-    pass: &mut Pass<K>,
-    applicant: u32,
-    done: &AtomicU64,
-) {
-    let to = ProgNo(applicant);
-    let kept = Answer::Moved {
-        to,
-        kept: true,
-        displaced: None,
-    };
-    same(rt, &hall.advance(rt, AppNo(applicant), pass), &kept);
-    done.store(1, Ordering::SeqCst);
-}
-
 // Advances the applicant once, on a thread of its own.
 fn begin<'s, E, K: HallName + Send + Sync, R: Abort + Wait + Sync>(
     rt: &'s R,
@@ -403,7 +371,15 @@ fn begin<'s, E, K: HallName + Send + Sync, R: Abort + Wait + Sync>(
     applicant: u32,
     done: &'s AtomicU64,
 ) {
-    let begun = scope.spawn(move || advance_once(rt, hall, pass, applicant, done));
+    let begun = scope.spawn(move || {
+        let kept = Answer::Moved {
+            to: ProgNo(applicant),
+            kept: true,
+            displaced: None,
+        };
+        same(rt, &hall.advance(rt, AppNo(applicant), pass), &kept);
+        done.store(1, Ordering::SeqCst);
+    });
     assert!(rt; begun.is_ok());
 }
 

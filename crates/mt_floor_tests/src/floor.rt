@@ -130,39 +130,6 @@ fn expect_chain(
     expect_chain_end(rt, alloc, &floor, ranks)
 }
 
-#[test]
-fn each_event_gets_its_reply(rt: HostRuntime) -> Result<(), Fail> {
-    let replies = [
-        Reply::Kept,
-        Reply::Kept,
-        Reply::KeptInstead(AppNo(0)),
-        Reply::Noticed,
-        Reply::KeptInstead(AppNo(1)),
-        Reply::Noticed,
-        Reply::KeptInstead(AppNo(2)),
-        Reply::Noticed,
-        Reply::NotDue,
-    ];
-    Ok(with_ranks(&rt, rt.alloc(), CHAIN, |_, ranks| {
-        expect_chain(&rt, rt.alloc(), ranks, &BY_WISHES, &replies)
-    })?)
-}
-
-#[test]
-fn the_last_applicant_may_be_first(rt: HostRuntime) -> Result<(), Fail> {
-    let replies = [
-        Reply::Kept,
-        Reply::Refused,
-        Reply::Kept,
-        Reply::Refused,
-        Reply::KeptInstead(AppNo(2)),
-        Reply::Noticed,
-    ];
-    Ok(with_ranks(&rt, rt.alloc(), CHAIN, |_, ranks| {
-        expect_chain(&rt, rt.alloc(), ranks, &FROM_THE_LAST, &replies)
-    })?)
-}
-
 // Makes the events on a floor on which some are due, and expects so many of them to have been due.
 fn expect_due(rt: &impl Abort, floor: &mut Floor, ranks: &Ranks, events: &[Event], due: u64)
     requires opened { IsOpenedWith ranks.now.market floor.old }
@@ -174,18 +141,7 @@ fn expect_due(rt: &impl Abort, floor: &mut Floor, ranks: &Ranks, events: &[Event
     same(rt, &run(floor, ranks, events), &due);
 }
 
-// None of the events is due any more, and there is nothing to finish.
-fn expect_none_due(rt: &impl Abort, floor: &mut Floor, ranks: &Ranks, events: &[Event])
-    requires opened { IsOpenedWith ranks.now.market floor.old }
-    requires recorded { IsRecorded ranks.now.market (floor_of ranks.now.market floor.old) }
-    ensures opened { IsOpenedWith ranks.now.market floor.new }
-    ensures recorded { IsRecorded ranks.now.market (floor_of ranks.now.market floor.new) }
-{
-    same(rt, &run(floor, ranks, events), &0);
-    same(rt, &finish(floor, ranks), &0);
-}
-
-// So many of the events are due, the floor ends as it must, and then none is due any more.
+// So many of the events are due, the floor ends as it must, and then none is due any more, and there is nothing to finish.
 fn expect_end(
     rt: &impl Abort,
     alloc: Global,
@@ -199,7 +155,8 @@ fn expect_end(
 {
     expect_due(rt, floor, ranks, events, due);
     expect_chain_end(rt, alloc, floor, ranks)?;
-    expect_none_due(rt, floor, ranks, events);
+    same(rt, &run(floor, ranks, events), &0);
+    same(rt, &finish(floor, ranks), &0);
     expect_chain_end(rt, alloc, floor, ranks)
 }
 
@@ -214,10 +171,40 @@ fn expect_run(
     expect_end(rt, alloc, &mut floor, ranks, events, due)
 }
 
+const REPLIES_BY_WISHES: [Reply; 9] = [
+    Reply::Kept,
+    Reply::Kept,
+    Reply::KeptInstead(AppNo(0)),
+    Reply::Noticed,
+    Reply::KeptInstead(AppNo(1)),
+    Reply::Noticed,
+    Reply::KeptInstead(AppNo(2)),
+    Reply::Noticed,
+    Reply::NotDue,
+];
+
+const REPLIES_FROM_THE_LAST: [Reply; 6] = [
+    Reply::Kept,
+    Reply::Refused,
+    Reply::Kept,
+    Reply::Refused,
+    Reply::KeptInstead(AppNo(2)),
+    Reply::Noticed,
+];
+
+// Each event gets its reply, and runs count the events that were due.
 #[test]
-fn runs_count_the_events_that_were_due(rt: HostRuntime) -> Result<(), Fail> {
+fn two_orders_of_events(rt: HostRuntime) -> Result<(), Fail> {
     Ok(with_ranks(&rt, rt.alloc(), CHAIN, |_, ranks| {
+        expect_chain(&rt, rt.alloc(), ranks, &BY_WISHES, &REPLIES_BY_WISHES)?;
         expect_run(&rt, rt.alloc(), ranks, &BY_WISHES, 8)?;
+        expect_chain(
+            &rt,
+            rt.alloc(),
+            ranks,
+            &FROM_THE_LAST,
+            &REPLIES_FROM_THE_LAST,
+        )?;
         expect_run(&rt, rt.alloc(), ranks, &FROM_THE_LAST, 6)
     })?)
 }
@@ -238,22 +225,26 @@ pub(crate) fn expect_finished(
     expect_chain_end(rt, alloc, floor, ranks)
 }
 
-#[test]
-fn the_chain_takes_five_proposals(rt: HostRuntime) -> Result<(), Fail> {
-    Ok(with_ranks(&rt, rt.alloc(), CHAIN, |_, ranks| {
-        let mut floor = Floor::open(rt.alloc(), ranks)?;
-        expect_finished(&rt, rt.alloc(), &mut floor, ranks, 5)
-    })?)
+// After so many events, which are all due, finish makes so many proposals.
+fn expect_finished_after(
+    rt: &impl Abort,
+    alloc: Global,
+    ranks: &Ranks,
+    events: &[Event],
+    proposals: u64,
+) -> Result<(), AllocError> {
+    let mut floor = Floor::open(alloc, ranks)?;
+    expect_due(rt, &mut floor, ranks, events, events.len() as u64);
+    expect_finished(rt, alloc, &mut floor, ranks, proposals)
 }
 
 // After the first five events one proposal is to come: a1 has displaced a2 at P2, so a2 proposes to P1 and displaces
 // a3 there, which wants no other program.
 #[test]
-fn finish_goes_on_from_any_floor(rt: HostRuntime) -> Result<(), Fail> {
+fn the_chain_takes_five_proposals(rt: HostRuntime) -> Result<(), Fail> {
     Ok(with_ranks(&rt, rt.alloc(), CHAIN, |_, ranks| {
-        let mut floor = Floor::open(rt.alloc(), ranks)?;
-        expect_due(&rt, &mut floor, ranks, &BY_WISHES[..5], 5);
-        expect_finished(&rt, rt.alloc(), &mut floor, ranks, 1)
+        expect_finished_after(&rt, rt.alloc(), ranks, &[], 5)?;
+        expect_finished_after(&rt, rt.alloc(), ranks, &BY_WISHES[..5], 1)
     })?)
 }
 

@@ -1,10 +1,12 @@
 //! The floor behind locks: the answer to each call, and what two threads make of it.
 ghost use Rattle.std.specs.Prelude.{◌≡◌, ◌+◌, length};
 ghost use Rattle.mt_terms.specs.Market.{applicants};
-ghost use Rattle.mt_core.specs.Floors.{IsOpenedWith};
+ghost use Rattle.mt_terms.specs.Floor.{IsRecorded};
+ghost use Rattle.mt_core.specs.Floors.{floor_of, IsOpenedWith};
 
 use crate::expect::{same, same_for};
 use crate::floor::{expect_chain_end, expect_finished};
+use mt_core::Floor;
 use mt_hall::{Answer, Audit, Door, Hall, HallName, Pass};
 use mt_ranks::Ranks;
 use mt_samples::markets::{BETWEEN, CHAIN};
@@ -26,49 +28,51 @@ fn blank_for(ranks: &Ranks, workers: u32) -> Blank
     Blank::new(ranks.applicants() as u64 + workers as u64)
 }
 
-fn expect_answer<K: HallName, R: Abort + Wait>(
-    rt: &R,
-    hall: &Hall<'_, K>,
-    pass: &mut Pass<K>,
-    applicant: u32,
-    answer: Answer,
-) {
-    same_for(
-        rt,
-        &hall.advance(rt, AppNo(applicant), pass),
-        &answer,
-        &applicant,
-    );
+// An answer, by the numbers of programs and applicants.
+#[derive(Clone, Copy)]
+enum Said {
+    Held(u32),
+    // Held by the program, which displaced an applicant for it.
+    HeldInstead(u32, u32),
+    Refused(u32),
+    Told(u32),
+    At(u32),
+    Out,
+    Stranger,
 }
 
-fn expect_stranger<K: HallName, R: Abort + Wait>(
-    rt: &R,
-    hall: &Hall<'_, K>,
-    pass: &mut Pass<K>,
-    applicant: u32,
-) {
-    expect_answer(rt, hall, pass, applicant, Answer::Stranger);
-}
-
-fn expect_proposed<K: HallName>(rt: &impl Abort, ranks: &Ranks, pass: &Pass<K>, to: &[u32])
-    requires { ranks.now ≡ K.ranked }
-{
-    assert!(rt; ranks.programs() as usize == to.len());
-    for program in 0..ranks.programs() {
-        same(rt, &pass.proposed(ProgNo(program)), &to[program as usize]);
+fn answer_of(said: Said) -> Answer {
+    let (to, kept, displaced) = match said {
+        Said::Held(to) => (to, true, None),
+        Said::HeldInstead(to, other) => (to, true, Some(AppNo(other))),
+        Said::Refused(to) => (to, false, None),
+        Said::Told(by) => return Answer::Told { by: ProgNo(by) },
+        Said::At(place) => {
+            return Answer::At {
+                place: ProgNo(place),
+            };
+        }
+        Said::Out => return Answer::Out,
+        Said::Stranger => return Answer::Stranger,
+    };
+    Answer::Moved {
+        to: ProgNo(to),
+        kept,
+        displaced,
     }
 }
 
-fn expect_proposed_for<K: HallName>(rt: &impl Abort, ranks: &Ranks, pass: &Pass<K>, by: &[u32])
-    requires { ranks.now ≡ K.ranked }
-{
-    assert!(rt; ranks.applicants() as usize == by.len());
-    for applicant in 0..ranks.applicants() {
-        same(
-            rt,
-            &pass.proposed_for(AppNo(applicant)),
-            &by[applicant as usize],
-        );
+// Advances applicants one after another with the pass, and expects these answers.
+fn expect_answers<K: HallName, R: Abort + Wait>(
+    rt: &R,
+    hall: &Hall<'_, K>,
+    pass: &mut Pass<K>,
+    of: &str,
+    answers: &[(u32, Said)],
+) {
+    for (applicant, said) in answers {
+        let answer = hall.advance(rt, AppNo(*applicant), pass);
+        same_for(rt, &answer, &answer_of(*said), &(of, *applicant));
     }
 }
 
@@ -77,15 +81,32 @@ fn expect_pass<K: HallName>(
     rt: &impl Abort,
     ranks: &Ranks,
     pass: &Pass<K>,
+    of: &str,
     proposals: u64,
     to: &[u32],
     by: &[u32],
 )
     requires { ranks.now ≡ K.ranked }
 {
-    same(rt, &pass.proposals(), &proposals);
-    expect_proposed(rt, ranks, pass, to);
-    expect_proposed_for(rt, ranks, pass, by);
+    same_for(rt, &pass.proposals(), &proposals, &of);
+    assert!(rt; ranks.programs() as usize == to.len());
+    for program in 0..ranks.programs() {
+        same_for(
+            rt,
+            &pass.proposed(ProgNo(program)),
+            &to[program as usize],
+            &(of, program),
+        );
+    }
+    assert!(rt; ranks.applicants() as usize == by.len());
+    for applicant in 0..ranks.applicants() {
+        same_for(
+            rt,
+            &pass.proposed_for(AppNo(applicant)),
+            &by[applicant as usize],
+            &(of, applicant),
+        );
+    }
 }
 
 // Every desk is in its place, and the passes' counts add up to the floor's.
@@ -94,6 +115,14 @@ fn expect_order(rt: &impl Abort, audit: &Audit) {
     assert!(rt; audit.agrees);
 }
 
+// After the chain everybody is placed or out.
+const REST: &[(u32, Said)] = &[
+    (2, Said::Out),
+    (0, Said::At(1)),
+    (1, Said::At(0)),
+    (3, Said::Stranger),
+];
+
 // The rejection chain: a3 and then a1 and a2 are refused, and a3 learns last that it is out.
 fn expect_chain<K: HallName, R: Abort + Wait>(
     rt: &R,
@@ -101,32 +130,19 @@ fn expect_chain<K: HallName, R: Abort + Wait>(
     a: &mut Pass<K>,
     b: &mut Pass<K>,
 ) {
-    let moved = |to: u32, kept: bool| -> Answer {
-        Answer::Moved {
-            to: ProgNo(to),
-            kept,
-            displaced: None,
-        }
-    };
-    expect_answer(rt, hall, a, 2, moved(0, true));
-    expect_answer(rt, hall, b, 0, moved(0, false));
-    expect_answer(rt, hall, b, 0, moved(1, true));
-    expect_answer(rt, hall, a, 1, moved(1, false));
-    let instead = Answer::Moved {
-        to: ProgNo(0),
-        kept: true,
-        displaced: Some(AppNo(2)),
-    };
-    expect_answer(rt, hall, b, 1, instead);
-    expect_answer(rt, hall, a, 2, Answer::Told { by: ProgNo(0) });
-}
-
-// After the chain everybody is placed or out.
-fn expect_rest<K: HallName, R: Abort + Wait>(rt: &R, hall: &Hall<'_, K>, pass: &mut Pass<K>) {
-    expect_answer(rt, hall, pass, 2, Answer::Out);
-    expect_answer(rt, hall, pass, 0, Answer::At { place: ProgNo(1) });
-    expect_answer(rt, hall, pass, 1, Answer::At { place: ProgNo(0) });
-    expect_stranger(rt, hall, pass, 3);
+    expect_answers(rt, hall, a, "a", &[(2, Said::Held(0))]);
+    expect_answers(
+        rt,
+        hall,
+        b,
+        "b",
+        &[(0, Said::Refused(0)), (0, Said::Held(1))],
+    );
+    expect_answers(rt, hall, a, "a", &[(1, Said::Refused(1))]);
+    expect_answers(rt, hall, b, "b", &[(1, Said::HeldInstead(0, 2))]);
+    expect_answers(rt, hall, a, "a", &[(2, Said::Told(0))]);
+    expect_answers(rt, hall, a, "a", REST);
+    expect_answers(rt, hall, b, "b", REST);
 }
 
 fn expect_table<K: HallName, R: Abort + Wait>(
@@ -141,10 +157,8 @@ fn expect_table<K: HallName, R: Abort + Wait>(
     let (first, second) = passes.split_at_mut(1);
     let (a, b) = (&mut first[0], &mut second[0]);
     expect_chain(rt, hall, a, b);
-    expect_rest(rt, hall, a);
-    expect_rest(rt, hall, b);
-    expect_pass(rt, ranks, a, 2, &[1, 1], &[0, 1, 1]);
-    expect_pass(rt, ranks, b, 3, &[2, 1], &[2, 1, 0]);
+    expect_pass(rt, ranks, a, "a", 2, &[1, 1], &[0, 1, 1]);
+    expect_pass(rt, ranks, b, "b", 3, &[2, 1], &[2, 1, 0]);
 }
 
 fn expect_door<K: HallName, R: Abort + Wait>(
@@ -205,76 +219,152 @@ fn each_call_gets_its_answer(rt: HostRuntime) -> Result<(), Fail> {
     })?)
 }
 
-fn instead_of(to: u32, other: u32) -> Answer {
-    Answer::Moved {
-        to: ProgNo(to),
-        kept: true,
-        displaced: Some(AppNo(other)),
-    }
+// What one thread does in a hall of its own.
+#[derive(Drop)]
+struct Alone<'a> {
+    what: &'a str,
+    file: &'a [u8],
+    // The applicants that it advances, and their answers.
+    answers: &'a [(u32, Said)],
+    // How many proposals its pass has then: in all, to each program, and for each applicant.
+    proposals: u64,
+    to: &'a [u32],
+    by: &'a [u32],
+    // How many of the chain's five proposals are left to be finished on the floor, where that is the market.
+    left: Option<u64>,
 }
 
-// Each applicant's first wish first: whoever is displaced then has to be told, and nobody else is in that call.
-fn expect_by_wishes<K: HallName, R: Abort + Wait>(rt: &R, hall: &Hall<'_, K>, pass: &mut Pass<K>) {
-    let kept = |to: u32| -> Answer {
-        Answer::Moved {
-            to: ProgNo(to),
-            kept: true,
-            displaced: None,
-        }
-    };
-    expect_answer(rt, hall, pass, 0, kept(0));
-    expect_answer(rt, hall, pass, 1, kept(1));
-    expect_answer(rt, hall, pass, 2, instead_of(0, 0));
-    expect_answer(rt, hall, pass, 1, Answer::At { place: ProgNo(1) });
-    expect_answer(rt, hall, pass, 0, Answer::Told { by: ProgNo(0) });
-    expect_answer(rt, hall, pass, 0, instead_of(1, 1));
-    expect_answer(rt, hall, pass, 1, Answer::Told { by: ProgNo(1) });
-    expect_answer(rt, hall, pass, 1, instead_of(0, 2));
-    expect_answer(rt, hall, pass, 2, Answer::Told { by: ProgNo(0) });
-    expect_rest(rt, hall, pass);
-}
+const ALONE: &[Alone<'static>] = &[
+    // Whoever is displaced has to be told, and nobody else is in that call.
+    Alone {
+        what: "each applicant's first wish first",
+        file: CHAIN,
+        answers: &[
+            (0, Said::Held(0)),
+            (1, Said::Held(1)),
+            (2, Said::HeldInstead(0, 0)),
+            (1, Said::At(1)),
+            (0, Said::Told(0)),
+            (0, Said::HeldInstead(1, 1)),
+            (1, Said::Told(1)),
+            (1, Said::HeldInstead(0, 2)),
+            (2, Said::Told(0)),
+            (2, Said::Out),
+            (0, Said::At(1)),
+            (1, Said::At(0)),
+            (3, Said::Stranger),
+        ],
+        proposals: 5,
+        to: &[3, 2],
+        by: &[2, 2, 1],
+        left: Some(0),
+    },
+    Alone {
+        what: "one of the chain's five proposals",
+        file: CHAIN,
+        answers: &[(2, Said::Held(0))],
+        proposals: 1,
+        to: &[1, 0],
+        by: &[0, 0, 1],
+        left: Some(4),
+    },
+    Alone {
+        what: "numbers past the end",
+        file: CHAIN,
+        answers: &[(3, Said::Stranger), (u32::MAX, Said::Stranger)],
+        proposals: 0,
+        to: &[0, 0],
+        by: &[0, 0, 0],
+        left: Some(5),
+    },
+    Alone {
+        what: "members",
+        file: BETWEEN,
+        answers: &[(1, Said::Stranger), (2, Said::Stranger)],
+        proposals: 0,
+        to: &[0],
+        by: &[0, 0, 0],
+        left: None,
+    },
+];
 
-fn expect_wishes<K: HallName, R: Abort + Wait>(
+fn expect_alone<K: HallName, R: Abort + Wait>(
     rt: &R,
     hall: &Hall<'_, K>,
     ranks: &Ranks,
     pass: &mut Pass<K>,
+    alone: &Alone<'_>,
 )
     requires { ranks.now ≡ K.ranked }
 {
-    expect_by_wishes(rt, hall, pass);
-    expect_pass(rt, ranks, pass, 5, &[3, 2], &[2, 2, 1]);
+    expect_answers(rt, hall, pass, alone.what, alone.answers);
+    expect_pass(
+        rt,
+        ranks,
+        pass,
+        alone.what,
+        alone.proposals,
+        alone.to,
+        alone.by,
+    );
     // Whoever is alone finds each lock free.
     same(rt, &pass.waits(), &0);
 }
 
-fn wishes_in<K: HallName, R: Abort + Wait>(
+// So many of the chain's proposals are left, where it is the chain's floor.
+fn expect_left(
+    rt: &impl Abort,
+    alloc: Global,
+    floor: &mut Floor,
+    ranks: &Ranks,
+    left: Option<u64>,
+) -> Result<(), AllocError>
+    requires opened { IsOpenedWith ranks.now.market floor.old }
+    requires recorded { IsRecorded ranks.now.market (floor_of ranks.now.market floor.old) }
+{
+    match left {
+        None => Ok(()),
+        Some(0) => expect_chain_end(rt, alloc, floor, ranks),
+        Some(left) => expect_finished(rt, alloc, floor, ranks, left),
+    }
+}
+
+fn alone_in<K: HallName, R: Abort + Wait>(
     rt: &R,
     alloc: Global,
     ranks: &Ranks,
     blank: Blank,
+    alone: &Alone<'_>,
 ) -> Result<(), AllocError>
     requires ranks { ranks.now ≡ K.ranked }
     requires name { blank.name ≡ K.name }
     requires parts { (blank.parts ≡ K.parts) × (K.parts ≡ applicants K.ranked.market + 1) }
 {
     let (hall, mut passes) = Hall::<K>::open(alloc, ranks, 1, blank)?;
-    expect_wishes(rt, &hall, ranks, &mut passes[0]);
-    let audit = hall.close(passes);
+    expect_alone(rt, &hall, ranks, &mut passes[0], alone);
+    let mut audit = hall.close(passes);
     expect_order(rt, &audit);
-    expect_chain_end(rt, alloc, &audit.floor, ranks)
+    expect_left(rt, alloc, &mut audit.floor, ranks, alone.left)
 }
 
-fn wishes_on<R: Abort + Wait>(rt: &R, alloc: Global, ranks: &Ranks) -> Result<(), AllocError> {
+fn alone_on<R: Abort + Wait>(
+    rt: &R,
+    alloc: Global,
+    ranks: &Ranks,
+    alone: &Alone<'_>,
+) -> Result<(), AllocError> {
     let blank = blank_for(ranks, 1);
-    wishes_in::<Brand, _>(rt, alloc, ranks, blank)
+    alone_in::<Brand, _>(rt, alloc, ranks, blank, alone)
 }
 
 #[test]
-fn whoever_is_displaced_is_told(rt: HostRuntime) -> Result<(), Fail> {
-    Ok(with_ranks(&rt, rt.alloc(), CHAIN, |_, ranks| {
-        wishes_on(&rt, rt.alloc(), ranks)
-    })?)
+fn one_thread_alone(rt: HostRuntime) -> Result<(), Fail> {
+    for alone in ALONE {
+        with_ranks(&rt, rt.alloc(), alone.file, |_, ranks| {
+            alone_on(&rt, rt.alloc(), ranks, alone)
+        })?;
+    }
+    Ok(())
 }
 
 // Advances each applicant once, and says whether anything came of it.
@@ -362,83 +452,5 @@ fn two_threads_end_at_the_same_floor(rt: HostRuntime) -> Result<(), Fail> {
             threads_on(&rt, rt.alloc(), ranks)?;
         }
         Ok(())
-    })?)
-}
-
-fn finished_in<K: HallName, R: Abort + Wait>(
-    rt: &R,
-    alloc: Global,
-    ranks: &Ranks,
-    blank: Blank,
-) -> Result<(), AllocError>
-    requires ranks { ranks.now ≡ K.ranked }
-    requires name { blank.name ≡ K.name }
-    requires parts { (blank.parts ≡ K.parts) × (K.parts ≡ applicants K.ranked.market + 1) }
-{
-    let (hall, mut passes) = Hall::<K>::open(alloc, ranks, 1, blank)?;
-    let kept = Answer::Moved {
-        to: ProgNo(0),
-        kept: true,
-        displaced: None,
-    };
-    expect_answer(rt, &hall, &mut passes[0], 2, kept);
-    let mut audit = hall.close(passes);
-    expect_order(rt, &audit);
-    expect_finished(rt, alloc, &mut audit.floor, ranks, 4)
-}
-
-fn finished_on<R: Abort + Wait>(rt: &R, alloc: Global, ranks: &Ranks) -> Result<(), AllocError> {
-    let blank = blank_for(ranks, 1);
-    finished_in::<Brand, _>(rt, alloc, ranks, blank)
-}
-
-// One of the chain's five proposals was made behind the locks.
-#[test]
-fn what_is_left_is_finished_on_the_floor(rt: HostRuntime) -> Result<(), Fail> {
-    Ok(with_ranks(&rt, rt.alloc(), CHAIN, |_, ranks| {
-        finished_on(&rt, rt.alloc(), ranks)
-    })?)
-}
-
-fn strangers_in<K: HallName, R: Abort + Wait>(
-    rt: &R,
-    alloc: Global,
-    ranks: &Ranks,
-    blank: Blank,
-    strangers: [u32; 2],
-) -> Result<(), AllocError>
-    requires ranks { ranks.now ≡ K.ranked }
-    requires name { blank.name ≡ K.name }
-    requires parts { (blank.parts ≡ K.parts) × (K.parts ≡ applicants K.ranked.market + 1) }
-{
-    let (hall, mut passes) = Hall::<K>::open(alloc, ranks, 1, blank)?;
-    expect_stranger(rt, &hall, &mut passes[0], strangers[0]);
-    expect_stranger(rt, &hall, &mut passes[0], strangers[1]);
-    let audit = hall.close(passes);
-    expect_order(rt, &audit);
-    Ok(())
-}
-
-fn expect_strangers<R: Abort + Wait>(
-    rt: &R,
-    alloc: Global,
-    ranks: &Ranks,
-    strangers: [u32; 2],
-) -> Result<(), AllocError> {
-    let blank = blank_for(ranks, 1);
-    strangers_in::<Brand, _>(rt, alloc, ranks, blank, strangers)
-}
-
-#[test]
-fn numbers_past_the_end_are_strangers(rt: HostRuntime) -> Result<(), Fail> {
-    Ok(with_ranks(&rt, rt.alloc(), CHAIN, |_, ranks| {
-        expect_strangers(&rt, rt.alloc(), ranks, [3, u32::MAX])
-    })?)
-}
-
-#[test]
-fn members_are_strangers(rt: HostRuntime) -> Result<(), Fail> {
-    Ok(with_ranks(&rt, rt.alloc(), BETWEEN, |_, ranks| {
-        expect_strangers(&rt, rt.alloc(), ranks, [1, 2])
     })?)
 }

@@ -7,10 +7,6 @@ use mt_hold::{Hold, Taken};
 use std::process::Abort;
 use std::test::Fail;
 
-fn expect_taken(rt: &impl Abort, rank: u32, taken: Taken, reply: Taken) {
-    same_for(rt, &taken, &reply, &rank);
-}
-
 // Makes a proposal that wasn't made yet, and expects this reply.
 fn expect_reply(rt: &impl Abort, hold: &mut Hold, list_len: u32, rank: u32, reply: Taken)
     requires { ranks hold.old ≡ list_len }
@@ -18,35 +14,30 @@ fn expect_reply(rt: &impl Abort, hold: &mut Hold, list_len: u32, rank: u32, repl
 {
     assert!(rt; rank < list_len);
     assert!(rt; !hold.received(rank));
-    expect_taken(rt, rank, hold.propose(rank), reply);
+    same_for(rt, &hold.propose(rank), &reply, &rank);
     assert!(rt; hold.received(rank));
 }
 
-// What is held of the three ranks of a list, once all have proposed.
-fn expect_held(rt: &impl Abort, hold: &Hold, held: [bool; 3])
-    requires { ranks hold.now ≡ 3 }
-{
-    same(rt, &hold.count(), &3);
-    same(rt, &[hold.holds(0), hold.holds(1), hold.holds(2)], &held);
-}
-
+// Of two posts and three ranks the first two are held in the end: a better rank displaces the last, and a worse one is
+// refused.
 #[test]
-fn a_better_rank_displaces_the_last(rt: HostRuntime) -> Result<(), Fail> {
-    let mut hold = Hold::open(rt.alloc(), 2, 3)?;
-    expect_reply(&rt, &mut hold, 3, 1, Taken::Kept);
-    expect_reply(&rt, &mut hold, 3, 2, Taken::Kept);
-    expect_reply(&rt, &mut hold, 3, 0, Taken::KeptInstead(2));
-    expect_held(&rt, &hold, [true, true, false]);
-    Ok(())
-}
-
-#[test]
-fn a_worse_rank_is_refused(rt: HostRuntime) -> Result<(), Fail> {
-    let mut hold = Hold::open(rt.alloc(), 2, 3)?;
-    expect_reply(&rt, &mut hold, 3, 0, Taken::Kept);
-    expect_reply(&rt, &mut hold, 3, 1, Taken::Kept);
-    expect_reply(&rt, &mut hold, 3, 2, Taken::Refused);
-    expect_held(&rt, &hold, [true, true, false]);
+fn the_best_ranks_are_held(rt: HostRuntime) -> Result<(), Fail> {
+    for [first, second, third] in [
+        [
+            (1, Taken::Kept),
+            (2, Taken::Kept),
+            (0, Taken::KeptInstead(2)),
+        ],
+        [(0, Taken::Kept), (1, Taken::Kept), (2, Taken::Refused)],
+    ] {
+        let mut hold = Hold::open(rt.alloc(), 2, 3)?;
+        expect_reply(&rt, &mut hold, 3, first.0, first.1);
+        expect_reply(&rt, &mut hold, 3, second.0, second.1);
+        expect_reply(&rt, &mut hold, 3, third.0, third.1);
+        same(&rt, &hold.count(), &3);
+        let held = [hold.holds(0), hold.holds(1), hold.holds(2)];
+        same(&rt, &held, &[true, true, false]);
+    }
     Ok(())
 }
 

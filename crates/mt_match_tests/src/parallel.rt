@@ -3,7 +3,7 @@
 ghost use Rattle.std.specs.Prelude.{◌≡◌};
 ghost use Rattle.mt_ranks.specs.Ranked.{ranked_of};
 
-use crate::expect::same;
+use crate::expect::same_for;
 use crate::plain::{plain_rank, plain_verdict};
 use mt_ranks::{Live, Ranks};
 use mt_roster::Roster;
@@ -18,41 +18,32 @@ use std::process::Abort;
 use std::test::Fail;
 use std::thread::Threads;
 
-fn expect_entry(rt: &impl Abort, live: Option<&Live>, program: ProgNo, rank: u32) {
-    let entry = live.expect(rt, "a live entry");
-    same(rt, &(entry.program.0, entry.rank), &(program.0, rank));
-}
-
 // The live list is of those programs on the applicant's list that list it too, each with the plain rank.
-fn expect_live(rt: &impl Abort, roster: &Roster, live: &[Live], applicant: AppNo) {
+fn expect_live(rt: &impl Abort, of: &str, roster: &Roster, live: &[Live], applicant: AppNo) {
     let mut live = live.iter();
     if applicant.0 < roster.applicants() {
         for program in roster.single_list(applicant) {
             if let Some(rank) = plain_rank(roster, *program, applicant) {
-                expect_entry(rt, live.next(), *program, rank);
+                let entry = live.next().expect(rt, "a live entry");
+                same_for(rt, &(entry.program.0, entry.rank), &(program.0, rank), &of);
             }
         }
     }
     assert!(rt; live.next().is_none());
 }
 
-fn expect_tables(rt: &impl Abort, roster: &Roster, ranks: &Ranks) {
-    same(rt, &ranks.applicants(), &roster.applicants());
-    same(rt, &ranks.programs(), &roster.programs());
+// The live lists, and some ranks of each applicant: at two programs from a number on.
+fn expect_tables(rt: &impl Abort, of: &str, roster: &Roster, ranks: &Ranks) {
+    same_for(rt, &ranks.applicants(), &roster.applicants(), &of);
+    same_for(rt, &ranks.programs(), &roster.programs(), &of);
     for number in 0..ranks.applicants() {
         let applicant = AppNo(number);
-        expect_live(rt, roster, ranks.live(applicant), applicant);
-    }
-}
-
-// Some ranks of each applicant: at two programs from a number on.
-fn expect_ranks(rt: &impl Abort, roster: &Roster, ranks: &Ranks) {
-    for number in 0..ranks.applicants() {
+        expect_live(rt, of, roster, ranks.live(applicant), applicant);
         for step in 0..2u32 {
             if ranks.programs() > 0 {
                 let program = ProgNo(number.saturating_add(step) % ranks.programs());
-                let rank = plain_rank(roster, program, AppNo(number));
-                same(rt, &ranks.rank(program, AppNo(number)), &rank);
+                let rank = plain_rank(roster, program, applicant);
+                same_for(rt, &ranks.rank(program, applicant), &rank, &of);
             }
         }
     }
@@ -61,6 +52,7 @@ fn expect_ranks(rt: &impl Abort, roster: &Roster, ranks: &Ranks) {
 fn expect_plain_verdict<R: Abort + Threads + Sync>(
     rt: &R,
     alloc: Global,
+    of: &str,
     roster: &Roster,
     ranks: &Ranks,
     places: Vec<Option<ProgNo>>,
@@ -71,10 +63,11 @@ fn expect_plain_verdict<R: Abort + Threads + Sync>(
     let matched = Match {
         places: Places::new(places),
     };
-    same(
+    same_for(
         rt,
         &verify(rt, alloc, roster, ranks, &matched)?,
         &plain_verdict(roster, &matched),
+        &of,
     );
     Ok(())
 }
@@ -100,50 +93,6 @@ fn places_by_number(
     Ok(places)
 }
 
-fn expect_small_on<R: Abort + Threads + Sync>(
-    rt: &R,
-    alloc: Global,
-    roster: &Roster,
-    ranks: &Ranks,
-    matches: u32,
-) -> Result<(), AllocError>
-    requires { ranks.now ≡ ranked_of roster.now.market }
-{
-    expect_tables(rt, roster, ranks);
-    expect_ranks(rt, roster, ranks);
-    for number in 0..matches {
-        let places = places_by_number(alloc, roster, number)?;
-        expect_plain_verdict(rt, alloc, roster, ranks, places)?;
-    }
-    Ok(())
-}
-
-fn expect_small<R: Abort + Threads + Sync>(
-    rt: &R,
-    alloc: Global,
-    file: &[u8],
-    matches: u32,
-) -> Result<(), Fail> {
-    Ok(with_ranks(
-        rt,
-        alloc,
-        file,
-        |roster: &Roster, ranks: &Ranks<'_>| -> Result<(), AllocError>
-            requires { ranks.now ≡ ranked_of roster.now.market }
-        { expect_small_on(rt, alloc, roster, ranks, matches) },
-    )?)
-}
-
-// Of the last market, with 117,649 matches, each of the first 7,000.
-#[test]
-fn small_markets_with_all_their_matches(rt: HostRuntime) -> Result<(), Fail> {
-    expect_small(&rt, rt.alloc(), CROSSED, 9)?;
-    expect_small(&rt, rt.alloc(), CHAIN, 27)?;
-    expect_small(&rt, rt.alloc(), BETWEEN, 8)?;
-    expect_small(&rt, rt.alloc(), HALF_PAIR, 27)?;
-    expect_small(&rt, rt.alloc(), THREE_COUPLES, 7_000)
-}
-
 // With the last place changed.
 fn with_last(
     alloc: Global,
@@ -156,36 +105,64 @@ fn with_last(
     Ok(changed)
 }
 
-// Nobody placed; the best match of the singles; and that with the last applicant at the last program.
-fn expect_large_on<R: Abort + Threads + Sync>(
+// The first matches by number, of which the first one places nobody; the best match of the singles; and that with the
+// last applicant at the last program.
+fn expect_plain_on<R: Abort + Threads + Sync>(
     rt: &R,
     alloc: Global,
+    of: &str,
     roster: &Roster,
     ranks: &Ranks,
+    matches: u32,
 ) -> Result<(), AllocError>
     requires { ranks.now ≡ ranked_of roster.now.market }
 {
-    expect_tables(rt, roster, ranks);
-    expect_ranks(rt, roster, ranks);
-    let none = places_by_number(alloc, roster, 0)?;
-    expect_plain_verdict(rt, alloc, roster, ranks, none)?;
+    expect_tables(rt, of, roster, ranks);
+    for number in 0..matches {
+        let places = places_by_number(alloc, roster, number)?;
+        expect_plain_verdict(rt, alloc, of, roster, ranks, places)?;
+    }
     let best = singles(alloc, roster, ranks)?;
     let places = best.places.into_vec();
     let last_program = ProgNo(roster.programs().saturating_sub(1));
     let changed = with_last(alloc, places.as_slice(), Some(last_program))?;
-    expect_plain_verdict(rt, alloc, roster, ranks, changed)?;
-    expect_plain_verdict(rt, alloc, roster, ranks, places)
+    expect_plain_verdict(rt, alloc, of, roster, ranks, changed)?;
+    expect_plain_verdict(rt, alloc, of, roster, ranks, places)
 }
 
-fn expect_large<R: Abort + Threads + Sync>(rt: &R, alloc: Global, file: &[u8]) -> Result<(), Fail> {
+fn expect_plain<R: Abort + Threads + Sync>(
+    rt: &R,
+    alloc: Global,
+    of: &str,
+    file: &[u8],
+    matches: u32,
+) -> Result<(), Fail> {
     Ok(with_ranks(
         rt,
         alloc,
         file,
         |roster: &Roster, ranks: &Ranks<'_>| -> Result<(), AllocError>
             requires { ranks.now ≡ ranked_of roster.now.market }
-        { expect_large_on(rt, alloc, roster, ranks) },
+        { expect_plain_on(rt, alloc, of, roster, ranks, matches) },
     )?)
+}
+
+// Markets, and how many matches they have.
+const SMALL: &[(&str, &[u8], u32)] = &[
+    ("two programs and two applicants", CROSSED, 9),
+    ("the rejection chain", CHAIN, 27),
+    ("a single between two members", BETWEEN, 8),
+    ("half a pair", HALF_PAIR, 27),
+    // Of 117,649 matches each of the first 7,000.
+    ("three couples", THREE_COUPLES, 7_000),
+];
+
+#[test]
+fn small_markets_with_all_their_matches(rt: HostRuntime) -> Result<(), Fail> {
+    for (of, file, matches) in SMALL {
+        expect_plain(&rt, rt.alloc(), of, file, *matches)?;
+    }
+    Ok(())
 }
 
 fn push_numbered(
@@ -197,16 +174,6 @@ fn push_numbered(
 ) -> Result<(), AllocError> {
     let text = format!(in alloc; "{before}{number}{after}")?;
     file.push_str(&text)
-}
-
-fn push_program(
-    alloc: Global,
-    file: &mut String,
-    program: u32,
-    posts: u32,
-) -> Result<(), AllocError> {
-    let line = format!(in alloc; "program,p{program},{posts}")?;
-    file.push_str(&line)
 }
 
 // Those whose number is the program's or one more, but for a multiple of the programs' count, from the last ones down.
@@ -251,7 +218,8 @@ fn many_programs(alloc: Global, applicants: u32, programs: u32) -> Result<String
     let mut file = String::new(alloc);
     file.push_str("match,2\n")?;
     for program in 0..programs {
-        push_program(alloc, &mut file, program, applicants / programs.max(1))?;
+        push_numbered(alloc, &mut file, "program,p", program, "")?;
+        push_numbered(alloc, &mut file, ",", applicants / programs.max(1), "")?;
         push_every_so_many(alloc, &mut file, applicants, programs, program)?;
         file.push_str("\n")?;
     }
@@ -259,13 +227,6 @@ fn many_programs(alloc: Global, applicants: u32, programs: u32) -> Result<String
         push_wishes(alloc, &mut file, programs, applicant)?;
     }
     Ok(file)
-}
-
-// More applicants than a block of the tables has, and more programs than one thread goes through.
-#[test]
-fn more_applicants_than_a_block(rt: HostRuntime) -> Result<(), Fail> {
-    let file = many_programs(rt.alloc(), 25_011, 530)?;
-    expect_large(&rt, rt.alloc(), file.as_bytes())
 }
 
 // A program with 1,100 posts lists 2,200 applicants, and wants the last one most.
@@ -280,13 +241,6 @@ fn one_program(alloc: Global) -> Result<String, AllocError> {
         push_numbered(alloc, &mut file, "applicant,a", applicant, ",P\n")?;
     }
     Ok(file)
-}
-
-// More applicants than one thread judges.
-#[test]
-fn one_program_for_all(rt: HostRuntime) -> Result<(), Fail> {
-    let file = one_program(rt.alloc())?;
-    expect_large(&rt, rt.alloc(), file.as_bytes())
 }
 
 // Behind two couples 3,000 singles want the two posts of x.
@@ -304,8 +258,24 @@ fn couples_and_many_singles(alloc: Global) -> Result<String, AllocError> {
     Ok(file)
 }
 
+// A large market, with few of its matches.
+fn expect_large<R: Abort + Threads + Sync>(
+    rt: &R,
+    alloc: Global,
+    of: &str,
+    file: String,
+) -> Result<(), Fail> {
+    expect_plain(rt, alloc, of, file.as_bytes(), 1)
+}
+
 #[test]
-fn couples_before_many_singles(rt: HostRuntime) -> Result<(), Fail> {
-    let file = couples_and_many_singles(rt.alloc())?;
-    expect_large(&rt, rt.alloc(), file.as_bytes())
+fn large_markets(rt: HostRuntime) -> Result<(), Fail> {
+    let alloc = rt.alloc();
+    // More applicants than a block of the tables has, and more programs than one thread goes through.
+    let file = many_programs(alloc, 25_011, 530)?;
+    expect_large(&rt, alloc, "many programs", file)?;
+    // More applicants than one thread judges.
+    expect_large(&rt, alloc, "one program for all", one_program(alloc)?)?;
+    let file = couples_and_many_singles(alloc)?;
+    expect_large(&rt, alloc, "couples before many singles", file)
 }

@@ -39,12 +39,6 @@ fn entered<R: Threads + Sync>(
 }
 
 // s, a and b are the applicants 0, 1 and 2, x and y the programs 0 and 1.
-fn expect_half_a_pair(rt: &impl Abort, ended: &Entered) {
-    let places = [Some(ProgNo(1)), Some(ProgNo(0)), None];
-    same(rt, &ended.matched.places.as_slice(), &places.as_slice());
-    same(rt, &ended.rounds, &4);
-}
-
 fn expect_within<R: Abort + Threads + Sync>(
     rt: &R,
     alloc: Global,
@@ -52,7 +46,9 @@ fn expect_within<R: Abort + Threads + Sync>(
     budget: u32,
 ) -> Result<(), CoupleEnd> {
     let ended = entered(rt, alloc, roster, budget)?;
-    expect_half_a_pair(rt, &ended);
+    let places = [Some(ProgNo(1)), Some(ProgNo(0)), None];
+    same(rt, &ended.matched.places.as_slice(), &places.as_slice());
+    same(rt, &ended.rounds, &4);
     Ok(())
 }
 

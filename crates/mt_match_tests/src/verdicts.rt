@@ -171,30 +171,6 @@ fn finding<R: Abort + Threads + Sync>(
     )?)
 }
 
-fn expect_finding<R: Abort + Threads + Sync>(
-    rt: &R,
-    alloc: Global,
-    file: &str,
-    places: &str,
-    wanted: &str,
-) -> Result<(), Fail> {
-    let found = finding(rt, alloc, file, places)?;
-    same_for(rt, &found.as_str(), &wanted, &(file, places));
-    Ok(())
-}
-
-// Each match of a file gets this finding.
-fn expect_findings<R: Abort + Threads + Sync>(
-    rt: &R,
-    alloc: Global,
-    matches: &[(&str, &str, &str)],
-) -> Result<(), Fail> {
-    for (file, places, wanted) in matches {
-        expect_finding(rt, alloc, file, places, wanted)?;
-    }
-    Ok(())
-}
-
 const PLACES_THAT_ARE_NOT_ALLOWED: &[(&str, &str, &str)] = &[
     (NO_PAIR, "- x -", "unlisted 1"),
     (NO_PAIR, "- - x", "unlisted 1"),
@@ -212,11 +188,6 @@ const PLACES_THAT_ARE_NOT_ALLOWED: &[(&str, &str, &str)] = &[
     (ELSEWHERE, "y - -", "stable"),
 ];
 
-#[test]
-fn places_that_are_not_allowed(rt: HostRuntime) -> Result<(), Fail> {
-    expect_findings(&rt, rt.alloc(), PLACES_THAT_ARE_NOT_ALLOWED)
-}
-
 const PROGRAMS_OVER_THEIR_QUOTAS: &[(&str, &str, &str)] = &[
     (BETWEEN, "x x x", "over 0"),
     (BETWEEN, "x - -", "stable"),
@@ -231,11 +202,6 @@ const PROGRAMS_OVER_THEIR_QUOTAS: &[(&str, &str, &str)] = &[
     (THREE_KINDS, "x - - y", "unlisted 0"),
     (THREE_KINDS, "y x - -", "stable"),
 ];
-
-#[test]
-fn programs_over_their_quotas(rt: HostRuntime) -> Result<(), Fail> {
-    expect_findings(&rt, rt.alloc(), PROGRAMS_OVER_THEIR_QUOTAS)
-}
 
 const AGENTS_THAT_BLOCK: &[(&str, &str, &str)] = &[
     (SINGLES, "x -", "single 1 by 1"),
@@ -255,11 +221,6 @@ const AGENTS_THAT_BLOCK: &[(&str, &str, &str)] = &[
     (BEHIND, "- - z", "stable"),
 ];
 
-#[test]
-fn agents_that_block(rt: HostRuntime) -> Result<(), Fail> {
-    expect_findings(&rt, rt.alloc(), AGENTS_THAT_BLOCK)
-}
-
 const COUPLES_THAT_BLOCK_ONCE_THEY_ARE_TAKEN_OUT: &[(&str, &str, &str)] = &[
     (BOTH, "x - -", "couple 0 by 0"),
     (BOTH, "- x x", "stable"),
@@ -275,30 +236,33 @@ const COUPLES_THAT_BLOCK_ONCE_THEY_ARE_TAKEN_OUT: &[(&str, &str, &str)] = &[
 ];
 
 #[test]
-fn couples_that_block_once_they_are_taken_out(rt: HostRuntime) -> Result<(), Fail> {
-    expect_findings(&rt, rt.alloc(), COUPLES_THAT_BLOCK_ONCE_THEY_ARE_TAKEN_OUT)
-}
-
-fn expect_unstable<R: Abort + Threads + Sync>(
-    rt: &R,
-    alloc: Global,
-    places: &str,
-) -> Result<(), Fail> {
-    let found = finding(rt, alloc, UNSTABLE, places)?;
-    assert_ne!(rt; found.as_str(), "stable", "{places}");
+fn each_match_gets_its_finding(rt: HostRuntime) -> Result<(), Fail> {
+    for matches in [
+        PLACES_THAT_ARE_NOT_ALLOWED,
+        PROGRAMS_OVER_THEIR_QUOTAS,
+        AGENTS_THAT_BLOCK,
+        COUPLES_THAT_BLOCK_ONCE_THEY_ARE_TAKEN_OUT,
+    ] {
+        for (file, places, wanted) in matches {
+            let found = finding(&rt, rt.alloc(), file, places)?;
+            same_for(&rt, &found.as_str(), wanted, &(*file, *places));
+        }
+    }
     Ok(())
 }
 
 // All 27 ways to place three applicants at two programs.
+const ALL_PLACES: &[&str] = &[
+    "- - -", "- - x", "- - y", "- x -", "- x x", "- x y", "- y -", "- y x", "- y y", "x - -",
+    "x - x", "x - y", "x x -", "x x x", "x x y", "x y -", "x y x", "x y y", "y - -", "y - x",
+    "y - y", "y x -", "y x x", "y x y", "y y -", "y y x", "y y y",
+];
+
 #[test]
 fn a_market_without_a_stable_match(rt: HostRuntime) -> Result<(), Fail> {
-    for s in ["-", "x", "y"] {
-        for a in ["-", "x", "y"] {
-            for b in ["-", "x", "y"] {
-                let places = format!(in rt.alloc(); "{s} {a} {b}")?;
-                expect_unstable(&rt, rt.alloc(), &places)?;
-            }
-        }
+    for places in ALL_PLACES {
+        let found = finding(&rt, rt.alloc(), UNSTABLE, places)?;
+        same_for(&rt, &(found.as_str() == "stable"), &false, places);
     }
     Ok(())
 }

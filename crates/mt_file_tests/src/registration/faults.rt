@@ -1,5 +1,6 @@
 //! Refused files: of each the code, the record and the id of the first fault.
-use crate::registration::{Fault, expect_refused};
+use crate::expect::holds_for;
+use crate::registration::{Fault, is_refused, limits, withdrawals};
 use std::test::Fail;
 
 const NO_VERSION: &[(&str, Fault<'static>)] = &[
@@ -17,11 +18,6 @@ const NO_VERSION: &[(&str, Fault<'static>)] = &[
     ("match,3\npost,P,1\nprogram,P\n", (12, 1, "")),
 ];
 
-#[test]
-fn no_version(rt: HostRuntime) -> Result<(), Fail> {
-    expect_refused(&rt, rt.alloc(), NO_VERSION)
-}
-
 const UNKNOWN_KIND: &[(&str, Fault<'static>)] = &[
     ("match,1\npost,P,1\n", (13, 2, "")),
     ("match,1\nmatch,1\n", (13, 2, "")),
@@ -31,11 +27,6 @@ const UNKNOWN_KIND: &[(&str, Fault<'static>)] = &[
     // A fault of an earlier record is told first.
     ("match,1\napplicant,b!\npost,P,1\n", (15, 2, "")),
 ];
-
-#[test]
-fn unknown_kind(rt: HostRuntime) -> Result<(), Fail> {
-    expect_refused(&rt, rt.alloc(), UNKNOWN_KIND)
-}
 
 const FIELD_COUNT: &[(&str, Fault<'static>)] = &[
     ("match,1\nprogram\n", (14, 2, "")),
@@ -52,11 +43,6 @@ const FIELD_COUNT: &[(&str, Fault<'static>)] = &[
     // A fault of an earlier record is told first, whatever its code.
     ("match,1\nprogram,P,1,a,a\ncouple,c,a,b,x\n", (18, 2, "P")),
 ];
-
-#[test]
-fn field_count(rt: HostRuntime) -> Result<(), Fail> {
-    expect_refused(&rt, rt.alloc(), FIELD_COUNT)
-}
 
 const BAD_ID: &[(&str, Fault<'static>)] = &[
     ("match,1\napplicant,\"a\"\"1\"\n", (15, 2, "")),
@@ -84,11 +70,6 @@ const BAD_ID: &[(&str, Fault<'static>)] = &[
     ("match,1\nprogram,P,x\napplicant,b!\n", (16, 2, "P")),
 ];
 
-#[test]
-fn bad_id(rt: HostRuntime) -> Result<(), Fail> {
-    expect_refused(&rt, rt.alloc(), BAD_ID)
-}
-
 const BAD_QUOTA: &[(&str, Fault<'static>)] = &[
     ("match,1\nprogram,P,10000\n", (16, 2, "P")),
     ("match,1\nprogram,P,00001\n", (16, 2, "P")),
@@ -103,11 +84,6 @@ const BAD_QUOTA: &[(&str, Fault<'static>)] = &[
         (17, 3, "a"),
     ),
 ];
-
-#[test]
-fn bad_quota(rt: HostRuntime) -> Result<(), Fail> {
-    expect_refused(&rt, rt.alloc(), BAD_QUOTA)
-}
 
 const DUPLICATE_ID: &[(&str, Fault<'static>)] = &[
     (
@@ -129,11 +105,6 @@ const DUPLICATE_ID: &[(&str, Fault<'static>)] = &[
     ("match,1\napplicant,a,P,P\napplicant,a\n", (18, 2, "a")),
 ];
 
-#[test]
-fn duplicate_id(rt: HostRuntime) -> Result<(), Fail> {
-    expect_refused(&rt, rt.alloc(), DUPLICATE_ID)
-}
-
 const DUPLICATE_ENTRY: &[(&str, Fault<'static>)] = &[
     ("match,1\nprogram,P,1,a,a\n", (18, 2, "P")),
     ("match,1\nprogram,P,1,a,b,a\n", (18, 2, "P")),
@@ -151,11 +122,6 @@ const DUPLICATE_ENTRY: &[(&str, Fault<'static>)] = &[
     ("match,1\ncouple,c,a,b,x,x,x,y,y,x\n", (21, 2, "x")),
 ];
 
-#[test]
-fn duplicate_entry(rt: HostRuntime) -> Result<(), Fail> {
-    expect_refused(&rt, rt.alloc(), DUPLICATE_ENTRY)
-}
-
 const UNKNOWN_APPLICANT: &[(&str, Fault<'static>)] = &[
     ("match,1\nprogram,P,1,z\n", (20, 2, "z")),
     ("match,1\nprogram,P,1,a,z,y\napplicant,a\n", (20, 2, "z")),
@@ -166,11 +132,6 @@ const UNKNOWN_APPLICANT: &[(&str, Fault<'static>)] = &[
     ("match,1\napplicant,a,Q\nprogram,P,1,z\n", (21, 2, "Q")),
     ("match,1\nprogram,P,1,z\napplicant,a,Q\n", (20, 2, "z")),
 ];
-
-#[test]
-fn unknown_applicant(rt: HostRuntime) -> Result<(), Fail> {
-    expect_refused(&rt, rt.alloc(), UNKNOWN_APPLICANT)
-}
 
 const UNKNOWN_PROGRAM: &[(&str, Fault<'static>)] = &[
     ("match,1\napplicant,a,Q\nprogram,P,1,b\n", (21, 2, "Q")),
@@ -187,6 +148,7 @@ const UNKNOWN_PROGRAM: &[(&str, Fault<'static>)] = &[
     ),
     // An earlier record's fault.
     ("match,1\nprogram,P,1,c\napplicant,a,Q\n", (20, 2, "c")),
+    // Cut in the last record, which has no end.
     (
         "match,1\nprogram,P1,1,a2,a1\nprogram,P2,1,a1,a2\napplicant,a1,P1,P2\napplicant,a2,P2,P",
         (21, 5, "P"),
@@ -194,7 +156,25 @@ const UNKNOWN_PROGRAM: &[(&str, Fault<'static>)] = &[
 ];
 
 // The last file is cut in its last record, which has no end.
+
 #[test]
-fn unknown_program(rt: HostRuntime) -> Result<(), Fail> {
-    expect_refused(&rt, rt.alloc(), UNKNOWN_PROGRAM)
+fn files_that_are_refused(rt: HostRuntime) -> Result<(), Fail> {
+    for files in [
+        NO_VERSION,
+        UNKNOWN_KIND,
+        FIELD_COUNT,
+        BAD_ID,
+        BAD_QUOTA,
+        DUPLICATE_ID,
+        DUPLICATE_ENTRY,
+        UNKNOWN_APPLICANT,
+        UNKNOWN_PROGRAM,
+        limits::REFUSED,
+        withdrawals::REFUSED,
+    ] {
+        for (file, fault) in files {
+            holds_for(&rt, is_refused(&rt, rt.alloc(), file, *fault)?, file);
+        }
+    }
+    Ok(())
 }

@@ -1,87 +1,59 @@
 //! The limits of the two versions.
 use crate::expect::holds_for;
-use crate::registration::{Fault, accepted, expect_refused, gives, is_refused};
+use crate::registration::{Fault, accepted, is_refused};
 use mt_roster::Roster;
 use std::alloc::Global;
-use std::process::Abort;
 use std::test::Fail;
 use std::thread::Threads;
 
-const BYTES_32: &str = "abcdefghijklmnopqrstuvwxyz012345";
+// Ids of 32 bytes, and of 64 in version 2.
+pub(crate) const ACCEPTED: &[(&str, &str)] = &[
+    (
+        "match,1\napplicant,abcdefghijklmnopqrstuvwxyz012345\n",
+        "applicant abcdefghijklmnopqrstuvwxyz012345 single 0:\n",
+    ),
+    (
+        "match,2\napplicant,abcdefghijklmnopqrstuvwxyz012345\n",
+        "applicant abcdefghijklmnopqrstuvwxyz012345 single 0:\n",
+    ),
+    (
+        "match,2\napplicant,abcdefghijklmnopqrstuvwxyz012345abcdefghijklmnopqrstuvwxyz01234.\n",
+        "applicant abcdefghijklmnopqrstuvwxyz012345abcdefghijklmnopqrstuvwxyz01234. single 0:\n",
+    ),
+];
 
-const BYTES_64: &str = "abcdefghijklmnopqrstuvwxyz012345abcdefghijklmnopqrstuvwxyz01234.";
-
-// An applicant of this id is accepted.
-fn expect_single<R: Abort + Threads + Sync>(
-    rt: &R,
-    alloc: Global,
-    file: &str,
-    id: &str,
-) -> Result<(), Fail> {
-    let market = format!(in alloc; "applicant {id} single 0:\n")?;
-    holds_for(rt, gives(rt, alloc, file, &market)?, &file);
-    Ok(())
-}
-
-// An applicant of this id is refused where the file has it already.
-fn expect_second_refused<R: Abort + Threads + Sync>(
-    rt: &R,
-    alloc: Global,
-    file: &str,
-    id: &str,
-) -> Result<(), Fail> {
-    let twice = format!(in alloc; "{file}applicant,{id}\n")?;
-    expect_refused(rt, alloc, &[(&twice, (17, 3, id))])
-}
-
-// An applicant of this id is accepted once, and not twice.
-fn expect_once<R: Abort + Threads + Sync>(
-    rt: &R,
-    alloc: Global,
-    version: u32,
-    id: &str,
-) -> Result<(), Fail> {
-    let file = format!(in alloc; "match,{version}\napplicant,{id}\n")?;
-    expect_single(rt, alloc, &file, id)?;
-    expect_second_refused(rt, alloc, &file, id)
-}
-
-// An applicant whose id is made of these two parts is refused, for the id.
-fn expect_bad_id<R: Abort + Threads + Sync>(
-    rt: &R,
-    alloc: Global,
-    version: u32,
-    id: &str,
-    more: &str,
-) -> Result<(), Fail> {
-    let file = format!(in alloc; "match,{version}\napplicant,{id}{more}\n")?;
-    expect_refused(rt, alloc, &[(&file, (15, 2, ""))])
-}
-
-#[test]
-fn ids_of_each_version(rt: HostRuntime) -> Result<(), Fail> {
-    for (version, id) in [(1, BYTES_32), (2, BYTES_32), (2, BYTES_64)] {
-        expect_once(&rt, rt.alloc(), version, id)?;
-    }
-    for (version, id, more) in [(1, BYTES_32, "6"), (2, BYTES_64, "6"), (1, BYTES_64, "")] {
-        expect_bad_id(&rt, rt.alloc(), version, id, more)?;
-    }
-    Ok(())
-}
-
-// Adds a line for each number from 1 to a count: the words before the number, the number, and those after it.
-fn add_lines(
-    alloc: Global,
-    file: &mut String,
-    before: &str,
-    count: u32,
-    after: &str,
-) -> Result<(), Fail> {
-    for number in 1..=count {
-        file.push_str(&format!(in alloc; "{before}{number}{after}\n")?)?;
-    }
-    Ok(())
-}
+pub(crate) const REFUSED: &[(&str, Fault<'static>)] = &[
+    // The same ids twice.
+    (
+        "match,1\napplicant,abcdefghijklmnopqrstuvwxyz012345\napplicant,abcdefghijklmnopqrstuvwxyz012345\n",
+        (17, 3, "abcdefghijklmnopqrstuvwxyz012345"),
+    ),
+    (
+        "match,2\napplicant,abcdefghijklmnopqrstuvwxyz012345\napplicant,abcdefghijklmnopqrstuvwxyz012345\n",
+        (17, 3, "abcdefghijklmnopqrstuvwxyz012345"),
+    ),
+    (
+        "match,2\napplicant,abcdefghijklmnopqrstuvwxyz012345abcdefghijklmnopqrstuvwxyz01234.\napplicant,abcdefghijklmnopqrstuvwxyz012345abcdefghijklmnopqrstuvwxyz01234.\n",
+        (
+            17,
+            3,
+            "abcdefghijklmnopqrstuvwxyz012345abcdefghijklmnopqrstuvwxyz01234.",
+        ),
+    ),
+    // Ids of one byte more, and of 64 in version 1.
+    (
+        "match,1\napplicant,abcdefghijklmnopqrstuvwxyz0123456\n",
+        (15, 2, ""),
+    ),
+    (
+        "match,2\napplicant,abcdefghijklmnopqrstuvwxyz012345abcdefghijklmnopqrstuvwxyz01234.6\n",
+        (15, 2, ""),
+    ),
+    (
+        "match,1\napplicant,abcdefghijklmnopqrstuvwxyz012345abcdefghijklmnopqrstuvwxyz01234.\n",
+        (15, 2, ""),
+    ),
+];
 
 // Whether a market has so many programs, applicants and couples.
 fn has(roster: &Roster, programs: u32, applicants: u32, couples: u32) -> bool {
@@ -102,50 +74,41 @@ fn has_sizes<R: Threads + Sync>(
     Ok(has(&roster, programs, applicants, couples))
 }
 
-// A file of so many programs.
-fn many_programs(alloc: Global, head: &str, count: u32) -> Result<String, Fail> {
+// A file of the most programs, with this line behind them.
+fn most_programs(alloc: Global, head: &str, last: &str) -> Result<String, Fail> {
     let mut file = String::new(alloc);
     file.push_str(head)?;
-    add_lines(alloc, &mut file, "program,p", count, ",0")?;
+    for number in 1..=20_000 {
+        file.push_str(&format!(in alloc; "program,p{number},0\n")?)?;
+    }
+    file.push_str(last)?;
     Ok(file)
 }
 
-// A file is refused for this fault with one line more.
-fn expect_longer_refused<R: Abort + Threads + Sync>(
-    rt: &R,
-    alloc: Global,
-    file: &str,
-    last: &str,
-    fault: Fault<'_>,
-) -> Result<(), Fail> {
-    let longer = format!(in alloc; "{file}{last}\n")?;
-    holds_for(rt, is_refused(rt, alloc, &longer, fault)?, &last);
-    Ok(())
-}
+// Heads of files, lines behind the most programs, and the faults of these.
+const BEHIND_PROGRAMS: &[(&str, &str, Fault<'static>)] = &[
+    ("match,1\n", "program,p20001,0\n", (19, 20_002, "p20001")),
+    ("match,1\n", "program,q,1,a,a\n", (18, 20_002, "q")),
+    ("match,1\n", "program,p9,1\n", (17, 20_002, "p9")),
+    ("match,1\n", "program,q,x\n", (16, 20_002, "q")),
+    ("match,1\n", "applicant,a,q\n", (21, 20_002, "q")),
+    // A withdrawn program counts.
+    (
+        "match,2\nwithdraw,program,p1\n",
+        "program,p20001,0\n",
+        (19, 20_003, "p20001"),
+    ),
+];
 
 // A program more than 20,000 is told with its record and id, but not before what comes earlier in the order of codes.
 #[test]
 fn one_program_too_many(rt: HostRuntime) -> Result<(), Fail> {
-    let file = many_programs(rt.alloc(), "match,1\n", 20_000)?;
+    let file = most_programs(rt.alloc(), "match,1\n", "")?;
     assert!(rt; has_sizes(&rt, rt.alloc(), &file, 20_000, 0, 0)?);
-    for (last, fault) in [
-        ("program,p20001,0", (19, 20_002, "p20001")),
-        ("program,q,1,a,a", (18, 20_002, "q")),
-        ("program,p9,1", (17, 20_002, "p9")),
-        ("program,q,x", (16, 20_002, "q")),
-        ("applicant,a,q", (21, 20_002, "q")),
-    ] {
-        expect_longer_refused(&rt, rt.alloc(), &file, last, fault)?;
+    for (head, last, fault) in BEHIND_PROGRAMS {
+        let file = most_programs(rt.alloc(), head, last)?;
+        holds_for(&rt, is_refused(&rt, rt.alloc(), &file, *fault)?, last);
     }
-    Ok(())
-}
-
-// A withdrawn program counts.
-#[test]
-fn limits_are_judged_before_withdrawals(rt: HostRuntime) -> Result<(), Fail> {
-    let head = "match,2\nwithdraw,program,p1\n";
-    let file = many_programs(rt.alloc(), head, 20_001)?;
-    assert!(rt; is_refused(&rt, rt.alloc(), &file, (19, 20_003, "p20001"))?);
     Ok(())
 }
 

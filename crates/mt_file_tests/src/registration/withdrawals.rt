@@ -1,94 +1,50 @@
 //! Withdrawn rows: what is left has its numbers as if they had never been in the file.
-use crate::expect::holds_for;
-use crate::registration::{Fault, expect_refused, gives};
-use std::alloc::Global;
-use std::process::Abort;
-use std::test::Fail;
-use std::thread::Threads;
+use crate::registration::Fault;
 
-// Without P1 only P2 is left: it is program 0.
-#[test]
-fn withdrawn_program_leaves_all_lists(rt: HostRuntime) -> Result<(), Fail> {
-    let market = "program P2 1: 0 1\napplicant a1 single 0: 0\napplicant a2 single 1: 0\n";
-    for file in [
+// Withdrawn rows, and the market that is left.
+pub(crate) const ACCEPTED: &[(&str, &str)] = &[
+    // A program leaves all lists. Without P1 only P2 is left: it is program 0.
+    (
         "match,2\nprogram,P1,1,a2,a1\nprogram,P2,1,a1,a2\napplicant,a1,P1,P2\napplicant,a2,P2,P1\nwithdraw,program,P1\n",
+        "program P2 1: 0 1\napplicant a1 single 0: 0\napplicant a2 single 1: 0\n",
+    ),
+    (
         "match,2\nwithdraw,program,P1\nprogram,P1,1,a2,a1\nprogram,P2,1,a1,a2\napplicant,a1,P1,P2\napplicant,a2,P2,P1\n",
-    ] {
-        holds_for(&rt, gives(&rt, rt.alloc(), file, market)?, &file);
-    }
-    Ok(())
-}
+        "program P2 1: 0 1\napplicant a1 single 0: 0\napplicant a2 single 1: 0\n",
+    ),
+    // An applicant leaves all lists. Without a1 the applicants a2 and a3 are 0 and 1.
+    (
+        "match,2\nwithdraw,applicant,a1\nprogram,P1,1,a2,a3,a1\nprogram,P2,1,a1,a2\napplicant,a1,P1,P2\napplicant,a2,P2,P1\napplicant,a3,P1\n",
+        "program P1 1: 0 1\nprogram P2 1: 0\napplicant a2 single 0: 1 0\napplicant a3 single 1: 0\n",
+    ),
+    // A withdrawn couple takes its members a and b with it. The couple d is 0 then, and its members e and f are 1 and 2.
+    (
+        "match,2\nprogram,x,1,a,s,e\nprogram,y,1,s,b,f\napplicant,s,x,y\ncouple,c,a,b,x,y\ncouple,d,e,f,x,y\nwithdraw,couple,c\n",
+        "program x 1: 0 1\nprogram y 1: 0 2\napplicant s single 0: 0 1\napplicant e couple 0:\napplicant f couple 0:\ncouple d 1 2: 0 1,\n",
+    ),
+    // Of A's pairs those with q leave the list, whoever the other member is: p,q and q,p and q,- and -,q. What stays is
+    // p,- and u,v and -,v, with u as program 1 and v as program 2.
+    (
+        "match,2\nprogram,p,1,a1\nprogram,q,1,a2\nprogram,u,1,a1\nprogram,v,1,a2\ncouple,A,a1,a2,p,q,p,-,q,p,q,-,u,v,-,q,-,v\nwithdraw,program,q\n",
+        "program p 1: 0\nprogram u 1: 0\nprogram v 1: 1\napplicant a1 couple 0:\napplicant a2 couple 0:\ncouple A 0 1: 0 -, 1 2, - 2,\n",
+    ),
+    // One id is withdrawn in each of the three name spaces, and only there.
+    (
+        "match,2\nprogram,i,1,j,i\nprogram,j,1,i\napplicant,i,j,i\napplicant,j,i\ncouple,i,k,l,j,i\nwithdraw,program,i\n",
+        "program j 1: 0\napplicant i single 0: 0\napplicant j single 1:\napplicant k couple 0:\napplicant l couple 0:\ncouple i 2 3:\n",
+    ),
+    (
+        "match,2\nprogram,i,1,j,i\nprogram,j,1,i\napplicant,i,j,i\napplicant,j,i\ncouple,i,k,l,j,i\nwithdraw,applicant,i\n",
+        "program i 1: 0\nprogram j 1:\napplicant j single 0: 0\napplicant k couple 0:\napplicant l couple 0:\ncouple i 1 2: 1 0,\n",
+    ),
+    (
+        "match,2\nprogram,i,1,j,i\nprogram,j,1,i\napplicant,i,j,i\napplicant,j,i\ncouple,i,k,l,j,i\nwithdraw,couple,i\n",
+        "program i 1: 1 0\nprogram j 1: 0\napplicant i single 0: 1 0\napplicant j single 1: 0\n",
+    ),
+];
 
-// Without a1 the applicants a2 and a3 are 0 and 1.
-#[test]
-fn withdrawn_applicant_leaves_all_lists(rt: HostRuntime) -> Result<(), Fail> {
-    let file =
-        "match,2\nwithdraw,applicant,a1\nprogram,P1,1,a2,a3,a1\nprogram,P2,1,a1,a2\napplicant,a1,P1,P2\napplicant,a2,P2,P1\napplicant,a3,P1\n";
-    let market =
-        "program P1 1: 0 1\nprogram P2 1: 0\napplicant a2 single 0: 1 0\napplicant a3 single 1: 0\n";
-    assert!(rt; gives(&rt, rt.alloc(), file, market)?);
-    Ok(())
-}
-
-// A withdrawn couple takes its members a and b with it. The couple d is 0 then, and its members e and f are 1 and 2.
-#[test]
-fn withdrawn_couple_takes_its_members(rt: HostRuntime) -> Result<(), Fail> {
-    let file =
-        "match,2\nprogram,x,1,a,s,e\nprogram,y,1,s,b,f\napplicant,s,x,y\ncouple,c,a,b,x,y\ncouple,d,e,f,x,y\nwithdraw,couple,c\n";
-    let market =
-        "program x 1: 0 1\nprogram y 1: 0 2\napplicant s single 0: 0 1\napplicant e couple 0:\napplicant f couple 0:\ncouple d 1 2: 0 1,\n";
-    assert!(rt; gives(&rt, rt.alloc(), file, market)?);
-    Ok(())
-}
-
-// Of A's pairs those with q leave the list, whoever the other member is: p,q and q,p and q,- and -,q. What stays is p,-
-// and u,v and -,v, with u as program 1 and v as program 2.
-#[test]
-fn pairs_of_withdrawn_program_leave_the_list(rt: HostRuntime) -> Result<(), Fail> {
-    let file =
-        "match,2\nprogram,p,1,a1\nprogram,q,1,a2\nprogram,u,1,a1\nprogram,v,1,a2\ncouple,A,a1,a2,p,q,p,-,q,p,q,-,u,v,-,q,-,v\nwithdraw,program,q\n";
-    let market =
-        "program p 1: 0\nprogram u 1: 0\nprogram v 1: 1\napplicant a1 couple 0:\napplicant a2 couple 0:\ncouple A 0 1: 0 -, 1 2, - 2,\n";
-    assert!(rt; gives(&rt, rt.alloc(), file, market)?);
-    Ok(())
-}
-
-// With one id in all three name spaces, and a row of this kind withdrawn, a file has this market.
-fn expect_without<R: Abort + Threads + Sync>(
-    rt: &R,
-    alloc: Global,
-    kind: &str,
-    market: &str,
-) -> Result<(), Fail> {
-    let rows = "program,i,1,j,i\nprogram,j,1,i\napplicant,i,j,i\napplicant,j,i\ncouple,i,k,l,j,i\n";
-    let file = format!(in alloc; "match,2\n{rows}withdraw,{kind},i\n")?;
-    holds_for(rt, gives(rt, alloc, &file, market)?, &kind);
-    Ok(())
-}
-
-// One id is withdrawn in each of the three name spaces, and only there.
-#[test]
-fn one_id_withdrawn_in_each_name_space(rt: HostRuntime) -> Result<(), Fail> {
-    for (kind, market) in [
-        (
-            "program",
-            "program j 1: 0\napplicant i single 0: 0\napplicant j single 1:\napplicant k couple 0:\napplicant l couple 0:\ncouple i 2 3:\n",
-        ),
-        (
-            "applicant",
-            "program i 1: 0\nprogram j 1:\napplicant j single 0: 0\napplicant k couple 0:\napplicant l couple 0:\ncouple i 1 2: 1 0,\n",
-        ),
-        (
-            "couple",
-            "program i 1: 1 0\nprogram j 1: 0\napplicant i single 0: 1 0\napplicant j single 1: 0\n",
-        ),
-    ] {
-        expect_without(&rt, rt.alloc(), kind, market)?;
-    }
-    Ok(())
-}
-
-const FAULTS_OF_WITHDRAWALS: &[(&str, Fault<'static>)] = &[
+// Withdrawals have faults of their own, and what is withdrawn is still registered.
+pub(crate) const REFUSED: &[(&str, Fault<'static>)] = &[
     // No row is withdrawn in version 1.
     ("match,1\nprogram,P,1\nwithdraw,program,P\n", (13, 3, "")),
     // The kind is told before the number of fields, and that before the id.
@@ -128,9 +84,3 @@ const FAULTS_OF_WITHDRAWALS: &[(&str, Fault<'static>)] = &[
     // Who is withdrawn may list and be listed, but must list who is registered.
     ("match,2\nprogram,P,1,z\nwithdraw,program,P\n", (20, 2, "z")),
 ];
-
-// Withdrawals have faults of their own, and what is withdrawn is still registered.
-#[test]
-fn faults_of_withdrawals(rt: HostRuntime) -> Result<(), Fail> {
-    expect_refused(&rt, rt.alloc(), FAULTS_OF_WITHDRAWALS)
-}
