@@ -1,5 +1,6 @@
 use Rattle.std.proofs.Common.{◌≡◌, ◌≢◌, ℕ, if◌then◌else◌, take, sym, ap, ◌∙◌, arith, rules}
-use Rattle.mt_terms.specs.Floor.{after, after_all, is_due}
+use Rattle.std.proofs.lemmas.List.{take_all}
+use Rattle.mt_terms.specs.Floor.{after, after_all, due_count, is_due}
 use Rattle.mt_terms.specs.declared.events.Reply.TheVariants.{NotDue}
 use Rattle.mt_floor_laws.proofs.FloorRuns.{due_at_most_lem}
 use Rattle.mt_core.specs.Floors.{floor_of}
@@ -43,3 +44,13 @@ returns-clause-at_most c =
     let m = c.args.ranks.now.market in
     let f = floor_of m c.args.floor.now in
     omega (arith, c.loop-event.invariant.count, due_at_most_lem m f c.requires.recorded (take c.loop-event.event-index c.args.events.now))
+
+pub returns-clause-floor : goal.returns-clause-floor
+returns-clause-floor c =
+    let m = c.args.ranks.now.market in
+    c.loop-event.invariant.floor ∙ ap (after_all m (floor_of m c.args.floor.now)) (take_all c.loop-event.event-index c.args.events.now (omega (arith, c.loop-event-test.false)))
+
+pub returns-clause-count : goal.returns-clause-count
+returns-clause-count c =
+    let m = c.args.ranks.now.market in
+    c.loop-event.invariant.count ∙ ap (due_count m (floor_of m c.args.floor.now)) (take_all c.loop-event.event-index c.args.events.now (omega (arith, c.loop-event-test.false)))

@@ -1,3 +1,4 @@
+use Rattle.std.proofs.lemmas.Grind.{common_steps}
 use Rattle.std.proofs.Common.{◌<◌, arith, slice_index_or, subst}
 use Rattle.mt_hall.specs.Parts.{PassView}
 use Rattle.mt_hall.proofs.Auditing.{too_many}
@@ -8,3 +9,6 @@ returns-in-None g c =
     let less : c.loop-pass.left < slice_index_or c.pass-item.result.by_program c.args.program 0 = omega (arith, c.proposed.ensures, c.in-None.ensures) in
     too_many (λ (s : PassView). slice_index_or s.by_program c.args.program 0) c.args.passes.now c.loop-pass.pass-index c.loop-pass.left c.args.number c.pass-item.result c.loop-pass-test.true c.loop-pass.invariant
     (subst (λ (s : PassView). c.loop-pass.left < slice_index_or s.by_program c.args.program 0) c.pass-item.is less)
+
+pub loop-pass-preserved : goal.loop-pass-preserved
+loop-pass-preserved g c = grind (arith, common_steps)

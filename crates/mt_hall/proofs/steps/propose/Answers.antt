@@ -1,4 +1,4 @@
-use Rattle.std.proofs.Common.{◌≡◌, ◌+◌, ◌-◌, ◌<◌, ◌==◌, ◌||◌, ℕ, Bool, false, if◌then◌else◌, Some, slice_get, length, rules, sym, ap, ap₂, ◌∙◌, subst, arith}
+use Rattle.std.proofs.Common.{◌≡◌, ◌+◌, ◌<◌, ◌==◌, ◌||◌, ℕ, Bool, false, if◌then◌else◌, Some, slice_get, length, rules, sym, ap, ap₂, ◌∙◌, subst, arith}
 use Rattle.mt_terms.specs.Best.{IsExcluded}
 use Rattle.mt_terms.specs.Lists.{with_one}
 use Rattle.mt_terms.specs.Choice.{choice}

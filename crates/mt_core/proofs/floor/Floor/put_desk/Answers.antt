@@ -1,3 +1,4 @@
+use Rattle.std.proofs.lemmas.Grind.{common_steps}
 use Rattle.std.proofs.Common.{◌≡◌, ◌+◌, ◌<◌, length, get_or, sym, ap, ◌∙◌, arith, subst}
 use Rattle.mt_terms.specs.Floor.{Floor, IsRecorded}
 use Rattle.mt_terms.proofs.LiveFacts.{live_distinct}
@@ -85,3 +86,6 @@ enter-requires-clause-on_list c =
     let low : c.loop-place.place < length (live r.market a) = omega (arith, c.loop-place-test.true, c.requires.desk.within) in
     let facts = entry_there r c.applicants.ensures.ranked a c.loop-place.place entry entry low (c.index-live-place.is ∙ ap (λ xs. get_or xs c.loop-place.place entry) c.live.ensures.list) in
     omega (arith, facts.1.is_rank.within, c.loop-place.invariant.opened.lists entry.program)
+
+pub bounds-live-place : goal.bounds-live-place
+bounds-live-place c = grind (arith, common_steps)

@@ -12,9 +12,7 @@ use Rattle.mt_floor_laws.proofs.FloorLists.{has-get}
 use Rattle.mt_hall.specs.Answers.{is_single}
 use Rattle.mt_terms.specs.declared.events.Reply.{Reply}
 use Rattle.mt_terms.specs.declared.events.Reply.TheVariants.{Kept, KeptInstead, Refused, Noticed, NotDue}
-use Rattle.mt_terms.specs.Market.{Market}
 use Rattle.mt_hall.specs.Parts.{AllAboveExcluded, DeskView, DoorView, PassView, one_more, received_at}
-use Rattle.mt_hall.specs.Steps.{reply_of_step}
 use Rattle.mt_hall.specs.declared.answer.Answer.TheVariants.{Moved, Told, At, Stranger}
 use Rattle.mt_hall.proofs.hall.Hall.advance.Goals as goal
 

@@ -30,3 +30,12 @@ returns-clause-total g c =
           took.credits
       | else-is_none w ↦ if_some c.take_desks-astray.result _ w.if-is_none.ensures
     ]
+
+pub write_rows-requires-clause-len : goal.write_rows-requires-clause-len
+write_rows-requires-clause-len g c = grind arith
+
+pub write_rows-requires-clause-opened : goal.write_rows-requires-clause-opened
+write_rows-requires-clause-opened g c = grind arith
+
+pub settle-requires : goal.settle-requires
+settle-requires g c = grind arith
