@@ -1,11 +1,11 @@
 -- What an exit status says of the words.
-use Rattle.std.proofs.Common.{◌≡◌, ℕ, zero, suc, Bool, true, false, List, [], ◌∷◌, refl, sym, subst, inl, nat_le, arith, ◌≤◌}
+use Rattle.std.proofs.Common.{◌≡◌, ℕ, zero, suc, Bool, true, false, List, [], ◌∷◌, refl, sym, subst, inl, inr, nat_le, arith, ◌≤◌}
 use Rattle.std.specs.Prelude.{◌==◌, if◌then◌else◌}
 use Rattle.std.proofs.lemmas.Bool.Decides.{nat_tests}
 use Rattle.clap.specs.Words.{Text, fault_of}
 use Rattle.mt_terms.specs.Lists.{has}
 use Rattle.mt_check.specs.Status.{status_of}
-use Rattle.mt_nrcheck.specs.CommandLine.{nrcheck}
+use Rattle.mt_nrcheck.specs.CommandLine.{AreMisuse, AskToBeTold, nrcheck}
 use Rattle.mt_nrcheck.specs.Program.{IsExitFor}
 
 -- a status of a check
@@ -42,3 +42,15 @@ exit_without_memory words status true is =
     subst (IsExitFor words) (sym is) (record { known = refl; misuse = λ h. absurd (omega arith); taken = λ h. cc; done = λ h. absurd (omega arith) })
 exit_without_memory words status false is =
     subst (IsExitFor words) (sym is) (record { known = refl; misuse = λ h. absurd (omega arith); taken = λ h. cc; done = λ h. absurd (omega arith) })
+
+pub exit_of_told : (words : List Text) (status : ℕ) (whole : Bool) → status ≡ (if whole then 0 else 5) → AskToBeTold words → IsExitFor words status
+exit_of_told words status true is told =
+    subst (IsExitFor words) (sym is) (record { known = refl; misuse = λ h. absurd (omega arith); taken = λ h. cc; done = λ h. inr told })
+exit_of_told words status false is told =
+    subst (IsExitFor words) (sym is) (record { known = refl; misuse = λ h. absurd (omega arith); taken = λ h. cc; done = λ h. absurd (omega arith) })
+
+pub exit_of_misuse : (words : List Text) (status : ℕ) (whole : Bool) → status ≡ (if whole then 64 else 64) → AreMisuse words → IsExitFor words status
+exit_of_misuse words status true is misuse =
+    subst (IsExitFor words) (sym is) (record { known = refl; misuse = λ h. misuse; taken = λ h. cc; done = λ h. absurd (omega arith) })
+exit_of_misuse words status false is misuse =
+    subst (IsExitFor words) (sym is) (record { known = refl; misuse = λ h. misuse; taken = λ h. cc; done = λ h. absurd (omega arith) })

@@ -1,11 +1,11 @@
 -- The first fault of a file's records is their answer.
-use Rattle.std.proofs.Common.{◌≡◌, ℕ, true, false, ◌&&◌, List, length, Option, Some, None, Result, Ok, Err, refl, sym, subst, ap, ◌∙◌, nat_le, nat_lt}
+use Rattle.std.proofs.Common.{◌≡◌, ℕ, true, false, ◌&&◌, List, length, Option, Some, None, Result, Ok, Err, refl, sym, subst, ap, ◌∙◌, arith, nat_le, nat_lt}
 use Rattle.std.proofs.lemmas.Bool.{and_parts, true≢false}
 use Rattle.std.specs.Prelude.{◌≢◌, IfErr, IfOk, IfSome, MatchResult}
 use Rattle.mt_terms.specs.Market.{Registered}
 use Rattle.mt_terms.specs.Registration.{market_of}
 use Rattle.mt_terms.specs.Registration.Faults.{Fault}
-use Rattle.mt_terms.specs.Text.{is_fault_code, is_known_code}
+use Rattle.mt_terms.specs.Text.{IsNamedRefusal, is_fault_code, is_known_code}
 use Rattle.mt_refusal_laws.proofs.FaultFacts.{fault_codes_lem, fault_ids_lem}
 use Rattle.mt_lists.specs.Records.{records_of}
 use Rattle.mt_run.specs.Answer.{IsAnswer, IsAnswerOfRows, IsAnswerOfMarket, IsAnswerOfFault, IsRosterOf, most_bytes}
@@ -17,6 +17,10 @@ not_a_read code h e = true≢false (sym h ∙ ap is_fault_code e)
 
 pub refusals_are_not_zero : (code : ℕ) → is_known_code code ≡ true → code ≢ 0
 refusals_are_not_zero code h e = true≢false (sym h ∙ ap is_known_code e)
+
+-- want of memory is a refusal, whatever the answer is
+pub no_memory : {IsAnswered : ℕ → List ℕ → Type 0} (e : Refusal) → IsNamedRefusal e.code e.row e.id → e.code ≡ 30 → IsRefusalBy IsAnswered e
+no_memory e named is = record { named = named; reads_did = λ read. omega arith; answer = λ m. absurd (m is) }
 
 pub refusal_of_fault : (rows : List (List (List ℕ))) (budget : ℕ) (e : Refusal)
     → market_of rows ≡ Err (record { code = e.code; row = e.row; id = e.id }) → IsRefusalBy (λ code text. IsAnswerOfRows budget code text rows) e

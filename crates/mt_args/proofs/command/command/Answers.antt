@@ -1,6 +1,7 @@
-use Rattle.std.proofs.Common.{◌∙◌, rules, ap₂}
+use Rattle.std.proofs.Common.{◌∙◌, ap, ap₂}
 use Rattle.std.proofs.lemmas.Result.{IfOk-weaker}
-use Rattle.clap.specs.Words.{with_rule}
+use Rattle.clap.specs.Words.{rule_of, with_rule}
+use Rattle.clap.specs.declared.builder.arg.Arg.{Arg}
 use Rattle.mt_args.proofs.command.command.Goals as goal
 
 pub returns : goal.returns
@@ -8,6 +9,7 @@ returns c =
     IfOk-weaker c.arg-3.result _ _
     (λ r added. added.shape c.budget.ensures.local
     ∙ ap₂ with_rule (c.in_ok-arg.ensures.shape c.workers.ensures.local
-    ∙ ap₂ with_rule (c.in_ok-with_file.ensures.shape (search rules) ∙ ap₂ with_rule c.plain.ensures (search rules))
+    ∙ ap₂ with_rule (c.in_ok-with_file.ensures.shape (ap (λ (a : Arg). a.global) c.help-file.ensures ∙ c.new.ensures.optional.1)
+    ∙ ap₂ with_rule c.plain.ensures (ap rule_of c.help-file.ensures ∙ c.new.ensures.rule))
     c.workers.ensures.rule) c.budget.ensures.rule)
     c.arg-3.ensures

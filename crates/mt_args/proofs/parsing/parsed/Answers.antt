@@ -1,8 +1,10 @@
-use Rattle.std.proofs.Common.{◌≡◌, ◌∙◌, refl, ap, subst, true, map, string_bytes}
+use Rattle.std.proofs.Common.{◌≡◌, ◌∙◌, List, Result, IfOk, refl, ap, subst, true, map, string_bytes}
 use Rattle.std.proofs.lemmas.Result.{IfOk-weaker}
-use Rattle.clap.specs.Words.{fault_of, app_of, is_simple_and_free}
+use Rattle.clap.specs.Words.{App, HasMatchesOf, Text, app_of, fault_of, found_of, is_simple, is_simple_and_free, matches_of, rows_of}
 use Rattle.clap.specs.Kinds.{FailsBy}
 use Rattle.clap.proofs.OnLiterals.{clap_on_literals}
+use Rattle.clap.specs.declared.error.Error.{Error}
+use Rattle.clap.specs.declared.parser.matches.ArgMatches.{ArgMatches}
 use Rattle.mt_args.specs.CommandLine.{nrmatch}
 use Rattle.mt_args.proofs.Agreement.{command_agrees}
 use Rattle.mt_args.proofs.ParsedFacts.{options_there, refused_by_kind, refused_by_test, taken_by_test}
@@ -11,6 +13,10 @@ use Rattle.mt_args.proofs.parsing.parsed.Goals as goal
 free : is_simple_and_free nrmatch ≡ true
 unfolding clap_on_literals
 free = refl
+
+simple : is_simple nrmatch ≡ true
+unfolding clap_on_literals
+simple = refl
 
 fails_by : (c : goal.After-try_get_matches_from) → FailsBy (fault_of nrmatch (map string_bytes c.args.words.now)) c.try_get_matches_from.result
 fails_by c =
@@ -30,3 +36,12 @@ returns-clause-err c = refused_by_kind c.try_get_matches_from.result (command_ag
 
 pub returns-clause-refused : goal.returns-clause-refused
 returns-clause-refused c = refused_by_test c.try_get_matches_from.result (command_agrees _) (fails_by c)
+
+rows_in_parse : (a : App) (words : List Text) (r : Result ArgMatches Error) → is_simple a ≡ true → IfOk r (HasMatchesOf a words) → IfOk r (λ m. rows_of (found_of m) ≡ matches_of a words)
+rows_in_parse a words r simple parsed = IfOk-weaker r _ _ (λ m has. (has simple).0) parsed
+
+pub returns-clause-rows : goal.returns-clause-rows
+returns-clause-rows c =
+    let is : app_of c.in_ok-command.field-0 ≡ nrmatch = c.in_ok-command.ensures in
+    subst (λ a. IfOk c.try_get_matches_from.result (λ m. rows_of (found_of m) ≡ matches_of a (map string_bytes c.args.words.now))) is
+    (rows_in_parse (app_of c.in_ok-command.field-0) (map string_bytes c.args.words.now) c.try_get_matches_from.result (ap is_simple is ∙ simple) c.try_get_matches_from.ensures.matches)

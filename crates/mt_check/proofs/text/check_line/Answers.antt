@@ -1,4 +1,5 @@
-use Rattle.std.proofs.Common.{◌∙◌, ap, map, [], ◌∷◌, ◌++◌, Bor, List, ℕ}
+use Rattle.std.proofs.Common.{◌∙◌, ap, arith, map, [], ◌∷◌, ◌++◌, Bor, List, ℕ}
+use Rattle.std.proofs.lemmas.Grind.{common_steps}
 use Rattle.std.specs.Prelude.{codes}
 use Rattle.std.specs.List.{flat_map}
 use Rattle.std.proofs.lemmas.List.{take_all}
@@ -13,3 +14,6 @@ returns c =
     ∙ ap (λ (fields : List (Bor (List ℕ))). codes "check,1" ++ flat_map after_comma (map (λ (f : Bor (List ℕ)). f.now) fields))
     (take_all c.loop-field.field-index c.args.fields.now c.loop-field-test.false))
     ∙ by_commas (map (λ (f : Bor (List ℕ)). f.now) c.args.fields.now)
+
+pub loop-field-preserved : goal.loop-field-preserved
+loop-field-preserved c = grind (arith, common_steps)

@@ -1,3 +1,7 @@
+use Rattle.std.proofs.Common.{refl}
+use Rattle.mt_terms.specs.declared.codes.TheConstants.{OUT_OF_MEMORY}
+use Rattle.mt_check.proofs.FaultFacts.{alone_named}
+use Rattle.mt_check.specs.declared.source.Source.TheVariants.{Match}
 use Rattle.mt_check.proofs.whole.judge_match.Goals as goal
 
 pub returns-in-Err-clause-refused : goal.returns-in-Err-clause-refused
@@ -23,3 +27,6 @@ returns-clause-reads g c = c.read_match.ensures.reads
 
 pub returns-clause-failures : goal.returns-clause-failures
 returns-clause-failures g c = c.read_match.ensures.failures
+
+pub returns-clause-refused : goal.returns-clause-refused
+returns-clause-refused g c = record { named = rw (c.alone.ensures.code, c.alone.ensures.row, c.alone.ensures.id) (alone_named Match OUT_OF_MEMORY refl); fault = λ m. absurd (m c.alone.ensures.code) }

@@ -1,11 +1,13 @@
-use Rattle.std.proofs.Common.{◌≡◌, ◌∙◌, ℕ, Option, Vec, Global, true, not, ap, sym, subst, length, arith}
+use Rattle.std.proofs.Common.{◌≡◌, ◌∙◌, ℕ, Option, Vec, Global, true, not, ap, refl, sym, subst, length, arith}
 use Rattle.std.proofs.lemmas.Bool.{true≢false}
 use Rattle.std.specs.Prelude.{IsTrue, MatchOption}
 use Rattle.mt_terms.specs.Best.{proposals}
 use Rattle.mt_terms.specs.Stability.{stable}
+use Rattle.mt_terms.specs.Text.{published}
 use Rattle.mt_terms.proofs.BelowFacts.{length-map_below}
 use Rattle.mt_round_laws.proofs.RoundsStage.{stage_is_stable_lem}
 use Rattle.mt_run.specs.Answer.{IsPublished}
+use Rattle.mt_run.proofs.FaultFacts.{no_memory}
 use Rattle.mt_run.proofs.MatchFacts.{stable_are_places}
 use Rattle.mt_run.proofs.answer.answer_by_ranks.Goals as goal
 
@@ -36,3 +38,20 @@ unreachable-requires g c =
     subst (λ (text : Option (Vec ℕ Global)). MatchOption text (IsTrue (not (stable market places))) (λ t. IsPublished c.args.roster.now places c.deref.result.now t.items))
     c.in-Ok-None.field-0-is c.in-Ok-None.ensures in
     true≢false (sym is_not ∙ ap not is_stable)
+
+pub returns-clause-refused : goal.returns-clause-refused
+returns-clause-refused g c = no_memory c.alone-in-Err.result c.alone-in-Err.ensures.named c.alone-in-Err.ensures.code
+
+pub returns-in_default-clause-refused : goal.returns-in_default-clause-refused
+returns-in_default-clause-refused g c = no_memory c.alone.result c.alone.ensures.named c.alone.ensures.code
+
+pub returns-in-Ok-Some-clause-text : goal.returns-in-Ok-Some-clause-text
+returns-in-Ok-Some-clause-text g c =
+    let r = c.args.roster.now in
+    let places = c.in_ok-matched.matched.places in
+    let shown : IsPublished r places c.deref.result.now c.in-Ok-Some.text.items = rw c.in-Ok-Some.field-0-is at c.in-Ok-Some.ensures in
+    record {
+      best = c.in-Ok.singles.matched.places;
+      is_best = c.in-Ok.ensures.best;
+      ends = rw c.in_ok-matched.ensures.entered.1 (refl, shown.is_text ∙ ap (published r.market r.names places) (c.deref.ensures.value ∙ c.in-Ok.ensures.proposals));
+    }

@@ -1,6 +1,23 @@
+use Rattle.std.proofs.Common.{Err, ap, arith, refl}
 use Rattle.mt_round_laws.proofs.RoundsStage.{singles_fit}
+use Rattle.mt_run.proofs.FaultFacts.{no_memory}
 use Rattle.mt_run.proofs.answer.with_couples.Goals as goal
 
 pub enter_all-requires-clause-fits : goal.enter_all-requires-clause-fits
 enter_all-requires-clause-fits g c κs within =
     singles_fit c.args.roster.now.market c.is_of_a_file.ensures.well_formed c.args.singles.places c.requires.best.is_stable
+
+pub returns-in-Err-Memory-clause-refused : goal.returns-in-Err-Memory-clause-refused
+returns-in-Err-Memory-clause-refused g c = no_memory c.alone-in-Err-Memory.result c.alone-in-Err-Memory.ensures.named c.alone-in-Err-Memory.ensures.code
+
+pub returns-in-Err-BudgetSpent-clause-refused : goal.returns-in-Err-BudgetSpent-clause-refused
+returns-in-Err-BudgetSpent-clause-refused g c =
+    record {
+      named = c.alone.ensures.named;
+      reads_did = λ read. omega (arith, c.alone.ensures.code);
+      answer = λ m. record {
+        best = c.args.singles.places;
+        is_best = c.requires.best;
+        ends = rw (c.in-Err-BudgetSpent.ensures.spent (ap Err c.in-Err-BudgetSpent.field-0-is), c.alone.ensures.code, c.alone.ensures.row, c.alone.ensures.id) (refl, refl);
+      };
+    }

@@ -36,3 +36,6 @@ pub returns-in-Err-clause-singles : goal.returns-in-Err-clause-singles
 returns-in-Err-clause-singles g c =
     publishes_singles (bytes_left g.R.Read.remaining c.args.tap.now) c.args.options.budget c.in-Err.refusal.code (line_of c.in-Err.refusal)
     c.in-Err.ensures.refused.answer
+
+pub returns-in-Err-clause-fault : goal.returns-in-Err-clause-fault
+returns-in-Err-clause-fault g c = c.in-Err.ensures.fault
