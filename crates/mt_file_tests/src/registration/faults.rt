@@ -155,8 +155,6 @@ const UNKNOWN_PROGRAM: &[(&str, Fault<'static>)] = &[
     ),
 ];
 
-// The last file is cut in its last record, which has no end.
-
 #[test]
 fn files_that_are_refused(rt: HostRuntime) -> Result<(), Fail> {
     for files in [
