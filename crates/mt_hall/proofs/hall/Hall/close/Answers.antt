@@ -48,3 +48,12 @@ agree-agrees-requires-clause-opened g c =
           subst (λ (t : Tables). IsOpenedWith c.args.self.ranks.now.market t) (sym w.floor-is)
           (subst (λ (r : Ranked). IsOpenedWith r.market c.args.self.floor) (sym c.args.self.its_ranks) c.args.self.opened)
     ]
+
+pub returns-clause-opened : goal.returns-clause-opened
+returns-clause-opened g c =
+    elim c.if-is_none.branch [
+      | then-is_none w ↦
+          subst (λ (r : Ranked). IsOpenedWith r.market c.if-is_none.floor) c.args.self.its_ranks
+          (subst (λ (t : Tables). IsOpenedWith c.args.self.ranks.now.market t) (sym w.floor-is) w.write_rows.ensures.opened)
+      | else-is_none w ↦ subst (λ (t : Tables). IsOpenedWith g.K.HallName.ranked.market t) (sym w.floor-is) c.args.self.opened
+    ]
