@@ -1,4 +1,5 @@
-use Rattle.std.proofs.Common.{◌≡◌, length, ap, ◌∙◌, rules}
+use Rattle.std.proofs.Common.{◌≡◌, length, ap, ◌∙◌, rules, arith}
+use Rattle.std.proofs.lemmas.Grind.{elements}
 use Rattle.mt_terms.specs.Market.{live}
 use Rattle.mt_hall.specs.declared.audit.Row.{Row}
 use Rattle.mt_hall.proofs.Auditing.{if_none, row_credits}
@@ -11,3 +12,6 @@ returns-then-eq-clause-credits g c =
     let who : c.desk.inside.applicant ≡ c.args.place = search rules in
     let left = c.desk.invariant.left ∙ ap (λ a. length (live m a)) who in
     if_none c.args.astray.now _ (row_credits c.args.rows.now.items c.args.place row c.desk.inside.credits (length (live m c.args.place)) (search rules) left)
+
+pub returns-then-eq-clause-rows : goal.returns-then-eq-clause-rows
+returns-then-eq-clause-rows g c = grind (arith, elements)

@@ -1,5 +1,5 @@
-use Rattle.std.proofs.lemmas.Grind.{common_steps}
 use Rattle.std.proofs.Common.{length, ap, arith}
+use Rattle.std.proofs.lemmas.Grind.{common_steps}
 use Rattle.mt_core.proofs.NextFacts.{ranking_few}
 use Rattle.mt_hall.proofs.opening.open_door.Goals as goal
 

@@ -1,4 +1,4 @@
-use Rattle.std.proofs.Common.{arith}
+use Rattle.std.proofs.Common.{◌≡◌, ◌∙◌, ap, replicate, arith}
 use Rattle.std.proofs.lemmas.Grind.{common_steps}
 use Rattle.mt_tally.proofs.dealing.deal.Goals as goal
 
@@ -16,3 +16,8 @@ returns-clause-roll g c = grind (arith, common_steps)
 
 pub returns-clause-desks : goal.returns-clause-desks
 returns-clause-desks g c = grind (arith, common_steps)
+
+pub returns-clause-passes : goal.returns-clause-passes
+returns-clause-passes g c =
+    let all : c.loop-j._j ≡ c.args.passes = omega arith in
+    c.loop-j.invariant.shares ∙ ap (λ n. replicate n 0) all

@@ -1,5 +1,5 @@
-use Rattle.std.proofs.lemmas.Grind.{common_steps}
 use Rattle.std.proofs.Common.{◌≡◌, ◌+◌, ◌<◌, length, get_or, sym, ap, ◌∙◌, arith, subst}
+use Rattle.std.proofs.lemmas.Grind.{common_steps}
 use Rattle.mt_terms.specs.Floor.{Floor, IsRecorded}
 use Rattle.mt_terms.proofs.LiveFacts.{live_distinct}
 use Rattle.mt_terms.specs.Market.{live}

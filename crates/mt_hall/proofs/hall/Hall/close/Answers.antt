@@ -1,11 +1,11 @@
-use Rattle.std.proofs.Common.{◌≡◌, ◌<◌, ℕ, ap, ◌∙◌, subst, arith}
+use Rattle.std.proofs.Common.{◌≡◌, ◌<◌, ℕ, sym, ap, ◌∙◌, subst, arith}
 use Rattle.mt_terms.specs.Lists.{total_below}
 use Rattle.mt_terms.specs.Market.{applicants}
 use Rattle.mt_terms.specs.Floor.{proposals_made}
 use Rattle.mt_terms.proofs.Totals.{total_below-same}
 use Rattle.mt_tally.specs.Tally.{Tally}
 use Rattle.mt_ranks.specs.Ranked.{Ranked}
-use Rattle.mt_core.specs.Floors.{floor_of}
+use Rattle.mt_core.specs.Floors.{Tables, floor_of, IsOpenedWith}
 use Rattle.mt_hall.specs.Audits.{made_in}
 use Rattle.mt_hall.proofs.Auditing.{if_none_then, if_some}
 use Rattle.mt_hall.proofs.hall.Hall.close.Goals as goal
@@ -39,3 +39,21 @@ write_rows-requires-clause-opened g c = grind arith
 
 pub settle-requires : goal.settle-requires
 settle-requires g c = grind arith
+
+pub agree-agrees-requires-clause-opened : goal.agree-agrees-requires-clause-opened
+agree-agrees-requires-clause-opened g c =
+    elim c.if-is_none.branch [
+      | then-is_none w ↦ subst (λ (t : Tables). IsOpenedWith c.args.self.ranks.now.market t) (sym w.floor-is) w.write_rows.ensures.opened
+      | else-is_none w ↦
+          subst (λ (t : Tables). IsOpenedWith c.args.self.ranks.now.market t) (sym w.floor-is)
+          (subst (λ (r : Ranked). IsOpenedWith r.market c.args.self.floor) (sym c.args.self.its_ranks) c.args.self.opened)
+    ]
+
+pub returns-clause-opened : goal.returns-clause-opened
+returns-clause-opened g c =
+    elim c.if-is_none.branch [
+      | then-is_none w ↦
+          subst (λ (r : Ranked). IsOpenedWith r.market c.if-is_none.floor) c.args.self.its_ranks
+          (subst (λ (t : Tables). IsOpenedWith c.args.self.ranks.now.market t) (sym w.floor-is) w.write_rows.ensures.opened)
+      | else-is_none w ↦ subst (λ (t : Tables). IsOpenedWith g.K.HallName.ranked.market t) (sym w.floor-is) c.args.self.opened
+    ]
