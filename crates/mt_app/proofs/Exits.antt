@@ -3,7 +3,7 @@ use Rattle.std.proofs.Common.{◌≡◌, ◌≤◌, ℕ, Bool, true, false, List
 use Rattle.std.proofs.lemmas.Bool.{false≢true}
 use Rattle.std.specs.Prelude.{◌==◌, if◌then◌else◌}
 use Rattle.mt_terms.specs.Lists.{has}
-use Rattle.mt_args.specs.CommandLine.{IsMisuse, is_taken}
+use Rattle.mt_args.specs.CommandLine.{is_taken}
 use Rattle.mt_run.specs.Status.{status_of}
 use Rattle.mt_app.specs.Program.{IsExitFor}
 
@@ -43,11 +43,3 @@ module _ (words : List (List ℕ)) (status : ℕ) where
   pub exit_of_fault : (whole : Bool) → status ≡ (if whole then 5 else 5) → IsExitFor words status
   exit_of_fault true is = at_five is
   exit_of_fault false is = at_five is
-
-  at_misuse : status ≡ 64 → IsMisuse words → IsExitFor words status
-  at_misuse is misuse =
-      subst (IsExitFor words) (sym is) (record { known = refl; misuse = λ h. misuse; taken = λ h. absurd (false≢true h); done = λ h. absurd (omega arith) })
-
-  pub exit_of_misuse : (whole : Bool) → status ≡ (if whole then 64 else 64) → IsMisuse words → IsExitFor words status
-  exit_of_misuse true is misuse = at_misuse is misuse
-  exit_of_misuse false is misuse = at_misuse is misuse

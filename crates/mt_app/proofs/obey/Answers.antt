@@ -1,8 +1,7 @@
 use Rattle.std.proofs.Common.{◌≡◌, true, subst}
-use Rattle.mt_args.specs.CommandLine.{IfRun, IsMisuse, OnUsage, is_taken, texts_of}
+use Rattle.mt_args.specs.CommandLine.{IfRun, is_taken, texts_of}
 use Rattle.mt_args.specs.declared.answer.Asked.{Asked}
-use Rattle.mt_args.specs.declared.answer.AskEnd.{AskEnd}
-use Rattle.mt_app.proofs.Exits.{exit_of_fault, exit_of_misuse, exit_of_run, exit_without_memory}
+use Rattle.mt_app.proofs.Exits.{exit_of_fault, exit_of_run, exit_without_memory}
 use Rattle.mt_app.proofs.obey.Goals as goal
 
 pub returns-in-Ok : goal.returns-in-Ok
@@ -19,12 +18,6 @@ returns-in-Ok-Run g c =
 
 pub returns-in-Some : goal.returns-in-Some
 returns-in-Some g c = exit_of_fault (texts_of c.args.words.now) c.refuse.result c.refuse.ensures.whole c.refuse.ensures.is_status
-
-pub returns-in-Err-Usage : goal.returns-in-Err-Usage
-returns-in-Err-Usage g c =
-    let words = texts_of c.args.words.now in
-    let misuse : IsMisuse words = subst (λ (e : AskEnd). OnUsage e (IsMisuse words)) c.in-Err-Usage.field-0-is c.in-Err-Usage.ensures.usage in
-    exit_of_misuse words c.misuse.result c.misuse.ensures.whole c.misuse.ensures.is_status misuse
 
 pub returns : goal.returns
 returns g c = exit_without_memory (texts_of c.args.words.now) c.refuse-in-Err-Memory.result c.refuse-in-Err-Memory.ensures.whole c.refuse-in-Err-Memory.ensures.is_status
