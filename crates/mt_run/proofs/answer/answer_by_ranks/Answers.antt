@@ -1,9 +1,8 @@
-use Rattle.std.proofs.Common.{◌≡◌, ◌∙◌, ℕ, Option, Vec, Global, true, not, ap, refl, sym, subst, length, arith}
+use Rattle.std.proofs.Common.{◌≡◌, ◌∙◌, ℕ, Option, Vec, Global, true, not, ap, sym, subst, length, arith}
 use Rattle.std.proofs.lemmas.Bool.{true≢false}
 use Rattle.std.specs.Prelude.{IsTrue, MatchOption}
 use Rattle.mt_terms.specs.Best.{proposals}
 use Rattle.mt_terms.specs.Stability.{stable}
-use Rattle.mt_terms.specs.Text.{published}
 use Rattle.mt_terms.proofs.BelowFacts.{length-map_below}
 use Rattle.mt_round_laws.proofs.RoundsStage.{stage_is_stable_lem}
 use Rattle.mt_run.specs.Answer.{IsPublished}
@@ -44,14 +43,3 @@ returns-clause-refused g c = no_memory c.alone-in-Err.result c.alone-in-Err.ensu
 
 pub returns-in_default-clause-refused : goal.returns-in_default-clause-refused
 returns-in_default-clause-refused g c = no_memory c.alone.result c.alone.ensures.named c.alone.ensures.code
-
-pub returns-in-Ok-Some-clause-text : goal.returns-in-Ok-Some-clause-text
-returns-in-Ok-Some-clause-text g c =
-    let r = c.args.roster.now in
-    let places = c.in_ok-matched.matched.places in
-    let shown : IsPublished r places c.deref.result.now c.in-Ok-Some.text.items = rw c.in-Ok-Some.field-0-is at c.in-Ok-Some.ensures in
-    record {
-      best = c.in-Ok.singles.matched.places;
-      is_best = c.in-Ok.ensures.best;
-      ends = rw c.in_ok-matched.ensures.entered.1 (refl, shown.is_text ∙ ap (published r.market r.names places) (c.deref.ensures.value ∙ c.in-Ok.ensures.proposals));
-    }
