@@ -1,19 +1,17 @@
 //! Workers: that more than one of them acts, that none leaves anything to be finished, and what they come to.
-ghost use Rattle.std.specs.Prelude.{◌≡◌, ◌+◌, ◌≤◌};
-ghost use Rattle.mt_terms.specs.Market.{applicants};
+ghost use Rattle.std.specs.Prelude.{◌≡◌, ◌≤◌};
 
-use crate::expect::same;
+use crate::expect::{on_ranks, same};
+use crate::floor::CHAIN_END;
+use crate::hall::{Acts, Case, expect_case};
 use mt_crew::{Gate, Open, Singles, work, work_alone};
 use mt_hall::{Answer, Door, Hall, HallName, Pass};
 use mt_ranks::Ranks;
 use mt_samples::markets::{CHAIN, CROSSED};
-use mt_samples::tables::with_ranks;
 use mt_terms::{AppNo, ProgNo};
 use std::alloc::{AllocError, Global};
-use std::marker::Brand;
 use std::process::Abort;
 use std::sync::atomic::{AtomicU64, Ordering};
-use std::sync::ledger::Blank;
 use std::sync::{Mutex, Wait};
 use std::test::Fail;
 use std::thread;
@@ -41,6 +39,7 @@ struct Seen {
 #[derive(Drop)]
 struct Watch {
     seats: Vec<Seen>,
+    came: AtomicU64,
     meet: bool,
     missed: AtomicU64,
 }
@@ -55,6 +54,7 @@ fn open_watch(alloc: Global, workers: u32, meet: bool) -> Result<Watch, AllocErr
     }
     Ok(Watch {
         seats,
+        came: AtomicU64::new(0),
         meet,
         missed: AtomicU64::new(0),
     })
@@ -62,12 +62,7 @@ fn open_watch(alloc: Global, workers: u32, meet: bool) -> Result<Watch, AllocErr
 
 impl Watch {
     fn all_came(&self) -> bool {
-        for seen in self.seats.iter() {
-            if seen.tickets.load(Ordering::SeqCst) == 0 {
-                return false;
-            }
-        }
-        true
+        self.came.load(Ordering::SeqCst) == self.seats.len() as u64
     }
 
     fn await_all(&self) {
@@ -80,22 +75,15 @@ impl Watch {
         self.missed.fetch_add(1, Ordering::SeqCst);
     }
 
-    // How many proposals the passes had that it saw last.
-    fn proposals(&self) -> u64 {
-        let mut all: u64 = 0;
+    // How many proposals the passes had that it saw last, and whether each of them had one.
+    fn proposals(&self) -> (u64, bool) {
+        let (mut all, mut each) = (0u64, true);
         for seen in self.seats.iter() {
-            all = all.saturating_add(seen.proposals.load(Ordering::SeqCst));
+            let proposals = seen.proposals.load(Ordering::SeqCst);
+            all = all.saturating_add(proposals);
+            each &= proposals > 0;
         }
-        all
-    }
-
-    fn all_proposed(&self) -> bool {
-        for seen in self.seats.iter() {
-            if seen.proposals.load(Ordering::SeqCst) == 0 {
-                return false;
-            }
-        }
-        true
+        (all, each)
     }
 }
 
@@ -104,6 +92,7 @@ impl Gate for Watch {
         if let Some(seen) = self.seats.get(worker as usize) {
             let tickets = seen.tickets.fetch_add(1, Ordering::SeqCst);
             if self.meet && tickets == 0 {
+                self.came.fetch_add(1, Ordering::SeqCst);
                 self.await_all();
             }
         }
@@ -130,29 +119,17 @@ fn expect_singles(
     places: &[Option<ProgNo>],
     proposals: &[u32],
 ) {
-    same(rt, &singles.matched.places.as_slice(), &places);
-    same(rt, &singles.proposals.as_slice(), &proposals);
+    same(rt, singles.matched.places.as_slice(), places);
+    same(rt, singles.proposals.as_slice(), proposals);
 }
 
 // The workers' passes have all the proposals: nothing was left to be finished after they were closed. Where the workers
 // were to meet they met, and each of them proposed.
-fn expect_at<R: Abort + Threads + Wait + Sync>(
-    rt: &R,
-    alloc: Global,
-    ranks: &Ranks,
-    gate: &Watch,
-    workers: u32,
-    places: &[Option<ProgNo>],
-    proposals: &[u32],
-) -> Result<(), AllocError>
-    requires { (1 ≤ workers) × (workers ≤ 64) }
-{
-    let singles = work(rt, alloc, ranks, workers, gate)?;
-    expect_singles(rt, &singles, places, proposals);
-    same(rt, &gate.proposals(), &total(&singles.proposals));
-    same(rt, &gate.missed.load(Ordering::SeqCst), &0);
-    assert!(rt; !gate.meet || gate.all_proposed());
-    Ok(())
+fn expect_seen(rt: &impl Abort, gate: &Watch, singles: &Singles) {
+    let (proposals, each) = gate.proposals();
+    same(rt, proposals, total(&singles.proposals));
+    same(rt, gate.missed.load(Ordering::SeqCst), 0);
+    assert!(rt; !gate.meet || each);
 }
 
 fn expect_in_time<R: Abort + Threads + Wait + Sync>(
@@ -167,18 +144,18 @@ fn expect_in_time<R: Abort + Threads + Wait + Sync>(
     requires { (1 ≤ workers) × (workers ≤ 64) }
 {
     let gate = open_watch(alloc, workers, meet)?;
-    expect_at(rt, alloc, ranks, &gate, workers, places, proposals)
+    let singles = work(rt, alloc, ranks, workers, &gate)?;
+    expect_singles(rt, &singles, places, proposals);
+    expect_seen(rt, &gate, &singles);
+    Ok(())
 }
-
-// The rejection chain ends with a1 at P2, a2 at P1 and a3 nowhere.
-const CHAIN_END: [Option<ProgNo>; 3] = [Some(ProgNo(1)), Some(ProgNo(0)), None];
 
 // One of two workers waits with its first ticket until the other one has one, so both propose.
 #[test]
 fn two_at_the_gate(rt: HostRuntime) -> Result<(), Fail> {
-    Ok(with_ranks(&rt, rt.alloc(), CHAIN, |_, ranks| {
+    on_ranks(&rt, rt.alloc(), CHAIN, |ranks| {
         expect_in_time(&rt, rt.alloc(), ranks, 2, true, &CHAIN_END, &[3, 2])
-    })?)
+    })
 }
 
 // One thread without locks comes to the same.
@@ -216,9 +193,9 @@ fn expect_from_all<R: Abort + Threads + Wait + Sync>(
     places: &[Option<ProgNo>],
     proposals: &[u32],
 ) -> Result<(), Fail> {
-    Ok(with_ranks(rt, alloc, file, |_, ranks| {
+    on_ranks(rt, alloc, file, |ranks| {
         expect_from_all_on(rt, alloc, ranks, places, proposals)
-    })?)
+    })
 }
 
 #[test]
@@ -282,42 +259,42 @@ fn push_numbered(
     file.push_str(&text)
 }
 
-fn push_program(
+// So many numbers, each of them once: from the first on by steps, which end the row.
+fn push_list(
     alloc: Global,
     file: &mut String,
-    program: u32,
+    before: &str,
+    count: u32,
+    first: u32,
     step: u32,
 ) -> Result<(), AllocError> {
-    push_numbered(alloc, file, "program,p", program, ",5")?;
-    for place in 0..100u32 {
-        let applicant = place.saturating_mul(step).saturating_add(program) % 100;
-        push_numbered(alloc, file, ",a", applicant, "")?;
+    for place in 0..count {
+        let number = place.saturating_mul(step).saturating_add(first) % count;
+        push_numbered(alloc, file, before, number, "")?;
     }
     file.push_str("\n")
 }
 
-fn push_applicant(alloc: Global, file: &mut String, applicant: u32) -> Result<(), AllocError> {
-    push_numbered(alloc, file, "applicant,a", applicant, "")?;
-    for place in 0..10u32 {
-        let program = applicant.saturating_mul(7).saturating_add(place * 3) % 10;
-        push_numbered(alloc, file, ",p", program, "")?;
+const STEPS: &[u32] = &[1, 3, 7, 9, 11, 13, 17, 19, 21, 23];
+
+fn push_programs(alloc: Global, file: &mut String) -> Result<(), AllocError> {
+    for program in 0..10u32 {
+        push_numbered(alloc, file, "program,p", program, ",5")?;
+        push_list(alloc, file, ",a", 100, program, STEPS[program as usize])?;
     }
-    file.push_str("\n")
+    Ok(())
 }
 
 // Ten programs of five posts, each of which wants a hundred applicants in an order of its own, and each of these wants
 // all programs.
-fn hundred(alloc: Global) -> Result<String, AllocError> {
-    let mut file = String::new(alloc);
+fn push_hundred(alloc: Global, file: &mut String) -> Result<(), AllocError> {
     file.push_str("match,1\n")?;
-    let steps: [u32; 10] = [1, 3, 7, 9, 11, 13, 17, 19, 21, 23];
-    for program in 0..10u32 {
-        push_program(alloc, &mut file, program, steps[program as usize])?;
-    }
+    push_programs(alloc, file)?;
     for applicant in 0..100u32 {
-        push_applicant(alloc, &mut file, applicant)?;
+        push_numbered(alloc, file, "applicant,a", applicant, "")?;
+        push_list(alloc, file, ",p", 10, applicant * 7, 3)?;
     }
-    Ok(file)
+    Ok(())
 }
 
 // The match of one worker is the match of eight that give way to one another.
@@ -345,10 +322,11 @@ fn expect_same<R: Abort + Threads + Wait + Sync>(
 
 #[test]
 fn unrest_at_the_gate_changes_nothing(rt: HostRuntime) -> Result<(), Fail> {
-    let file = hundred(rt.alloc())?;
-    Ok(with_ranks(&rt, rt.alloc(), file.as_bytes(), |_, ranks| {
+    let mut file = String::new(rt.alloc());
+    push_hundred(rt.alloc(), &mut file)?;
+    on_ranks(&rt, rt.alloc(), file.as_bytes(), |ranks| {
         expect_same(&rt, rt.alloc(), ranks, 1000)
-    })?)
+    })
 }
 
 // Whether a thread has done its part, looked at for some time.
@@ -377,7 +355,7 @@ fn begin<'s, E, K: HallName + Send + Sync, R: Abort + Wait + Sync>(
             kept: true,
             displaced: None,
         };
-        same(rt, &hall.advance(rt, AppNo(applicant), pass), &kept);
+        same(rt, hall.advance(rt, AppNo(applicant), pass), kept);
         done.store(1, Ordering::SeqCst);
     });
     assert!(rt; begun.is_ok());
@@ -405,57 +383,44 @@ fn expect_first_waits<K: HallName + Send + Sync, R: Abort + Threads + Wait + Syn
         give_way();
         begin(rt, scope, hall, second, 1, second_done);
         assert!(rt; is_done(second_done));
-        same(rt, &first_done.load(Ordering::SeqCst), &0);
+        same(rt, first_done.load(Ordering::SeqCst), 0);
         drop(held);
     });
 }
 
-fn expect_two_doors<K: HallName + Send + Sync, R: Abort + Threads + Wait + Sync>(
+pub(crate) fn expect_two_doors<K: HallName + Send + Sync, R: Abort + Threads + Wait + Sync>(
     rt: &R,
     hall: &Hall<'_, K>,
     ranks: &Ranks,
-    first: &mut Pass<K>,
-    second: &mut Pass<K>,
+    passes: &mut [Pass<K>],
 )
     requires { ranks.now ≡ K.ranked }
 {
-    assert!(rt; ranks.programs() == 2);
+    assert!(rt; ranks.programs() == 2 && passes.len() == 2);
     let (first_done, second_done) = (AtomicU64::new(0), AtomicU64::new(0));
     let door = hall.door(ProgNo(0));
-    expect_first_waits(rt, hall, door, first, second, &first_done, &second_done);
-    same(rt, &first_done.load(Ordering::SeqCst), &1);
-}
-
-fn two_doors_in<K: HallName + Send + Sync, R: Abort + Threads + Wait + Sync>(
-    rt: &R,
-    alloc: Global,
-    ranks: &Ranks,
-    blank: Blank,
-) -> Result<(), AllocError>
-    requires ranks { ranks.now ≡ K.ranked }
-    requires name { blank.name ≡ K.name }
-    requires parts { (blank.parts ≡ K.parts) × (K.parts ≡ applicants K.ranked.market + 2) }
-{
-    let (hall, mut passes) = Hall::<K>::open(alloc, ranks, 2, blank)?;
     let (first, second) = passes.split_at_mut(1);
-    expect_two_doors(rt, &hall, ranks, &mut first[0], &mut second[0]);
-    let audit = hall.close(passes);
-    assert!(rt; audit.agrees);
-    Ok(())
+    expect_first_waits(
+        rt,
+        hall,
+        door,
+        &mut first[0],
+        &mut second[0],
+        &first_done,
+        &second_done,
+    );
+    same(rt, first_done.load(Ordering::SeqCst), 1);
 }
 
-fn two_doors_on<R: Abort + Threads + Wait + Sync>(
-    rt: &R,
-    alloc: Global,
-    ranks: &Ranks,
-) -> Result<(), AllocError> {
-    let blank = Blank::new(ranks.applicants() as u64 + 2);
-    two_doors_in::<Brand, _>(rt, alloc, ranks, blank)
-}
+const TWO_DOORS: Case<'static> = Case {
+    what: "two doors",
+    file: CROSSED,
+    passes: 2,
+    acts: Acts::AtTwoDoors,
+    left: None,
+};
 
 #[test]
 fn two_doors(rt: HostRuntime) -> Result<(), Fail> {
-    Ok(with_ranks(&rt, rt.alloc(), CROSSED, |_, ranks| {
-        two_doors_on(&rt, rt.alloc(), ranks)
-    })?)
+    expect_case(&rt, rt.alloc(), &TWO_DOORS)
 }

@@ -1,16 +1,16 @@
 //! The floor behind locks: the answer to each call, and what two threads make of it.
-ghost use Rattle.std.specs.Prelude.{◌≡◌, ◌+◌, length};
+ghost use Rattle.std.specs.Prelude.{◌≡◌, ◌+◌, ◌≤◌};
 ghost use Rattle.mt_terms.specs.Market.{applicants};
 ghost use Rattle.mt_terms.specs.Floor.{IsRecorded};
 ghost use Rattle.mt_core.specs.Floors.{floor_of, IsOpenedWith};
 
-use crate::expect::{same, same_for};
+use crate::crew::expect_two_doors;
+use crate::expect::{on_ranks, same, same_for};
 use crate::floor::{expect_chain_end, expect_finished};
 use mt_core::Floor;
 use mt_hall::{Answer, Audit, Door, Hall, HallName, Pass};
 use mt_ranks::Ranks;
 use mt_samples::markets::{BETWEEN, CHAIN};
-use mt_samples::tables::with_ranks;
 use mt_terms::{AppNo, ProgNo};
 use std::alloc::{AllocError, Global};
 use std::marker::Brand;
@@ -30,7 +30,7 @@ fn blank_for(ranks: &Ranks, workers: u32) -> Blank
 
 // An answer, by the numbers of programs and applicants.
 #[derive(Clone, Copy)]
-enum Said {
+pub(crate) enum Said {
     Held(u32),
     // Held by the program, which displaced an applicant for it.
     HeldInstead(u32, u32),
@@ -72,93 +72,86 @@ fn expect_answers<K: HallName, R: Abort + Wait>(
 ) {
     for (applicant, said) in answers {
         let answer = hall.advance(rt, AppNo(*applicant), pass);
-        same_for(rt, &answer, &answer_of(*said), &(of, *applicant));
+        same_for(rt, answer, answer_of(*said), (of, *applicant));
     }
 }
 
-// So many proposals were made with the pass: to each program, and for each applicant.
+// By turns, each with its own pass.
+fn expect_turns<K: HallName, R: Abort + Wait>(
+    rt: &R,
+    hall: &Hall<'_, K>,
+    passes: &mut [Pass<K>],
+    of: &str,
+    turns: &[Turn<'_>],
+) {
+    for (pass, answers) in turns {
+        assert!(rt; *pass < passes.len());
+        expect_answers(rt, hall, &mut passes[*pass], of, answers);
+    }
+}
+
+fn expect_proposed_to<K: HallName>(
+    rt: &impl Abort,
+    ranks: &Ranks,
+    pass: &Pass<K>,
+    of: &str,
+    to: &[u32],
+)
+    requires { ranks.now ≡ K.ranked }
+{
+    assert!(rt; ranks.programs() as usize == to.len());
+    for program in 0..ranks.programs() {
+        let proposed = pass.proposed(ProgNo(program));
+        same_for(rt, proposed, to[program as usize], (of, program));
+    }
+}
+
+fn expect_proposed_by<K: HallName>(
+    rt: &impl Abort,
+    ranks: &Ranks,
+    pass: &Pass<K>,
+    of: &str,
+    by: &[u32],
+)
+    requires { ranks.now ≡ K.ranked }
+{
+    assert!(rt; ranks.applicants() as usize == by.len());
+    for applicant in 0..ranks.applicants() {
+        let proposed = pass.proposed_for(AppNo(applicant));
+        same_for(rt, proposed, by[applicant as usize], (of, applicant));
+    }
+}
+
+// So many proposals were made with the pass. Whoever is alone finds each lock free.
 fn expect_pass<K: HallName>(
     rt: &impl Abort,
     ranks: &Ranks,
     pass: &Pass<K>,
     of: &str,
-    proposals: u64,
-    to: &[u32],
-    by: &[u32],
+    counts: Counts<'_>,
 )
     requires { ranks.now ≡ K.ranked }
 {
-    same_for(rt, &pass.proposals(), &proposals, &of);
-    assert!(rt; ranks.programs() as usize == to.len());
-    for program in 0..ranks.programs() {
-        same_for(
-            rt,
-            &pass.proposed(ProgNo(program)),
-            &to[program as usize],
-            &(of, program),
-        );
-    }
-    assert!(rt; ranks.applicants() as usize == by.len());
-    for applicant in 0..ranks.applicants() {
-        same_for(
-            rt,
-            &pass.proposed_for(AppNo(applicant)),
-            &by[applicant as usize],
-            &(of, applicant),
-        );
-    }
+    let (proposals, to, by) = counts;
+    same_for(rt, pass.proposals(), proposals, of);
+    expect_proposed_to(rt, ranks, pass, of, to);
+    expect_proposed_by(rt, ranks, pass, of, by);
+    same_for(rt, pass.waits(), 0, of);
 }
 
-// Every desk is in its place, and the passes' counts add up to the floor's.
-fn expect_order(rt: &impl Abort, audit: &Audit) {
-    same(rt, &audit.astray, &None);
-    assert!(rt; audit.agrees);
-}
-
-// After the chain everybody is placed or out.
-const REST: &[(u32, Said)] = &[
-    (2, Said::Out),
-    (0, Said::At(1)),
-    (1, Said::At(0)),
-    (3, Said::Stranger),
-];
-
-// The rejection chain: a3 and then a1 and a2 are refused, and a3 learns last that it is out.
-fn expect_chain<K: HallName, R: Abort + Wait>(
-    rt: &R,
-    hall: &Hall<'_, K>,
-    a: &mut Pass<K>,
-    b: &mut Pass<K>,
-) {
-    expect_answers(rt, hall, a, "a", &[(2, Said::Held(0))]);
-    expect_answers(
-        rt,
-        hall,
-        b,
-        "b",
-        &[(0, Said::Refused(0)), (0, Said::Held(1))],
-    );
-    expect_answers(rt, hall, a, "a", &[(1, Said::Refused(1))]);
-    expect_answers(rt, hall, b, "b", &[(1, Said::HeldInstead(0, 2))]);
-    expect_answers(rt, hall, a, "a", &[(2, Said::Told(0))]);
-    expect_answers(rt, hall, a, "a", REST);
-    expect_answers(rt, hall, b, "b", REST);
-}
-
-fn expect_table<K: HallName, R: Abort + Wait>(
-    rt: &R,
-    hall: &Hall<'_, K>,
+fn expect_passes<K: HallName>(
+    rt: &impl Abort,
     ranks: &Ranks,
-    passes: &mut [Pass<K>],
+    passes: &[Pass<K>],
+    of: &str,
+    counts: &[Counts<'_>],
 )
-    requires ranks { ranks.now ≡ K.ranked }
-    requires passes { length passes.old ≡ 2 }
+    requires { ranks.now ≡ K.ranked }
 {
-    let (first, second) = passes.split_at_mut(1);
-    let (a, b) = (&mut first[0], &mut second[0]);
-    expect_chain(rt, hall, a, b);
-    expect_pass(rt, ranks, a, "a", 2, &[1, 1], &[0, 1, 1]);
-    expect_pass(rt, ranks, b, "b", 3, &[2, 1], &[2, 1, 0]);
+    assert!(rt; passes.len() == counts.len());
+    for number in 0..passes.len() {
+        expect_pass(rt, ranks, &passes[number], of, counts[number]);
+    }
 }
 
 fn expect_door<K: HallName, R: Abort + Wait>(
@@ -168,8 +161,8 @@ fn expect_door<K: HallName, R: Abort + Wait>(
     received: u32,
 ) {
     let locked = door.lock(rt);
-    same(rt, &locked.program(), &program);
-    same(rt, &locked.received(), &received);
+    same(rt, locked.program(), program);
+    same(rt, locked.received(), received);
 }
 
 // Each lock of a door has that program's, which has received so many proposals.
@@ -189,126 +182,10 @@ fn expect_doors<K: HallName, R: Abort + Wait>(
     }
 }
 
-fn table_in<K: HallName, R: Abort + Wait>(
-    rt: &R,
-    alloc: Global,
-    ranks: &Ranks,
-    blank: Blank,
-) -> Result<(), AllocError>
-    requires ranks { ranks.now ≡ K.ranked }
-    requires name { blank.name ≡ K.name }
-    requires parts { (blank.parts ≡ K.parts) × (K.parts ≡ applicants K.ranked.market + 2) }
-{
-    let (hall, mut passes) = Hall::<K>::open(alloc, ranks, 2, blank)?;
-    expect_table(rt, &hall, ranks, &mut passes);
-    expect_doors(rt, &hall, ranks, &[3, 2]);
-    let audit = hall.close(passes);
-    expect_order(rt, &audit);
-    expect_chain_end(rt, alloc, &audit.floor, ranks)
-}
-
-fn table_on<R: Abort + Wait>(rt: &R, alloc: Global, ranks: &Ranks) -> Result<(), AllocError> {
-    let blank = blank_for(ranks, 2);
-    table_in::<Brand, _>(rt, alloc, ranks, blank)
-}
-
-#[test]
-fn each_call_gets_its_answer(rt: HostRuntime) -> Result<(), Fail> {
-    Ok(with_ranks(&rt, rt.alloc(), CHAIN, |_, ranks| {
-        table_on(&rt, rt.alloc(), ranks)
-    })?)
-}
-
-// What one thread does in a hall of its own.
-#[derive(Drop)]
-struct Alone<'a> {
-    what: &'a str,
-    file: &'a [u8],
-    // The applicants that it advances, and their answers.
-    answers: &'a [(u32, Said)],
-    // How many proposals its pass has then: in all, to each program, and for each applicant.
-    proposals: u64,
-    to: &'a [u32],
-    by: &'a [u32],
-    // How many of the chain's five proposals are left to be finished on the floor, where that is the market.
-    left: Option<u64>,
-}
-
-const ALONE: &[Alone<'static>] = &[
-    // Whoever is displaced has to be told, and nobody else is in that call.
-    Alone {
-        what: "each applicant's first wish first",
-        file: CHAIN,
-        answers: &[
-            (0, Said::Held(0)),
-            (1, Said::Held(1)),
-            (2, Said::HeldInstead(0, 0)),
-            (1, Said::At(1)),
-            (0, Said::Told(0)),
-            (0, Said::HeldInstead(1, 1)),
-            (1, Said::Told(1)),
-            (1, Said::HeldInstead(0, 2)),
-            (2, Said::Told(0)),
-            (2, Said::Out),
-            (0, Said::At(1)),
-            (1, Said::At(0)),
-            (3, Said::Stranger),
-        ],
-        proposals: 5,
-        to: &[3, 2],
-        by: &[2, 2, 1],
-        left: Some(0),
-    },
-    Alone {
-        what: "one of the chain's five proposals",
-        file: CHAIN,
-        answers: &[(2, Said::Held(0))],
-        proposals: 1,
-        to: &[1, 0],
-        by: &[0, 0, 1],
-        left: Some(4),
-    },
-    Alone {
-        what: "numbers past the end",
-        file: CHAIN,
-        answers: &[(3, Said::Stranger), (u32::MAX, Said::Stranger)],
-        proposals: 0,
-        to: &[0, 0],
-        by: &[0, 0, 0],
-        left: Some(5),
-    },
-    Alone {
-        what: "members",
-        file: BETWEEN,
-        answers: &[(1, Said::Stranger), (2, Said::Stranger)],
-        proposals: 0,
-        to: &[0],
-        by: &[0, 0, 0],
-        left: None,
-    },
-];
-
-fn expect_alone<K: HallName, R: Abort + Wait>(
-    rt: &R,
-    hall: &Hall<'_, K>,
-    ranks: &Ranks,
-    pass: &mut Pass<K>,
-    alone: &Alone<'_>,
-)
-    requires { ranks.now ≡ K.ranked }
-{
-    expect_answers(rt, hall, pass, alone.what, alone.answers);
-    expect_pass(
-        rt,
-        ranks,
-        pass,
-        alone.what,
-        alone.proposals,
-        alone.to,
-        alone.by,
-    );
-    // Whoever is alone finds each lock free.
-    same(rt, &pass.waits(), &0);
+// Every desk is in its place, and the passes' counts add up to the floor's.
+fn expect_order(rt: &impl Abort, audit: &Audit) {
+    same(rt, audit.astray, None);
+    assert!(rt; audit.agrees);
 }
 
 // So many of the chain's proposals are left, where it is the chain's floor.
@@ -329,40 +206,210 @@ fn expect_left(
     }
 }
 
-fn alone_in<K: HallName, R: Abort + Wait>(
+// Whose pass it is, the applicants that it advances, and their answers.
+pub(crate) type Turn<'a> = (usize, &'a [(u32, Said)]);
+
+// How many proposals a pass has: in all, to each program, and for each applicant.
+pub(crate) type Counts<'a> = (u64, &'a [u32], &'a [u32]);
+
+// What is done in a hall.
+#[derive(Drop)]
+pub(crate) enum Acts<'a> {
+    // One thread takes these turns. Then the passes have these counts, and the programs have received so many proposals.
+    ByTurns {
+        turns: &'a [Turn<'a>],
+        counts: &'a [Counts<'a>],
+        received: &'a [u32],
+    },
+    // A thread for each pass. The passes have so many proposals together.
+    OnThreads {
+        proposals: u128,
+    },
+    // Two threads, one at each of two doors, the first of which is held.
+    AtTwoDoors,
+}
+
+#[derive(Drop)]
+pub(crate) struct Case<'a> {
+    pub(crate) what: &'a str,
+    pub(crate) file: &'a [u8],
+    pub(crate) passes: u32,
+    pub(crate) acts: Acts<'a>,
+    // How many of the chain's five proposals are left to be finished on the floor, where that is the market.
+    pub(crate) left: Option<u64>,
+}
+
+fn expect_acts<K: HallName + Send + Sync, R: Abort + Threads + Wait + Sync>(
+    rt: &R,
+    hall: &Hall<'_, K>,
+    ranks: &Ranks,
+    passes: &mut [Pass<K>],
+    case: &Case<'_>,
+)
+    requires { ranks.now ≡ K.ranked }
+{
+    match &case.acts {
+        Acts::ByTurns {
+            turns,
+            counts,
+            received,
+        } => {
+            expect_turns(rt, hall, passes, case.what, turns);
+            expect_passes(rt, ranks, passes, case.what, counts);
+            expect_doors(rt, hall, ranks, received);
+        }
+        Acts::OnThreads { proposals } => {
+            work_all(rt, hall, passes, ranks.applicants());
+            same(rt, total(passes), *proposals);
+        }
+        Acts::AtTwoDoors => expect_two_doors(rt, hall, ranks, passes),
+    }
+}
+
+// Makes a case in a hall, and expects what it comes to of the hall's floor.
+fn case_in<K: HallName + Send + Sync, R: Abort + Threads + Wait + Sync>(
     rt: &R,
     alloc: Global,
     ranks: &Ranks,
     blank: Blank,
-    alone: &Alone<'_>,
+    case: &Case<'_>,
 ) -> Result<(), AllocError>
     requires ranks { ranks.now ≡ K.ranked }
     requires name { blank.name ≡ K.name }
-    requires parts { (blank.parts ≡ K.parts) × (K.parts ≡ applicants K.ranked.market + 1) }
+    requires parts { (blank.parts ≡ K.parts) × (K.parts ≡ applicants K.ranked.market + case.now.passes) }
+    requires passes { (1 ≤ case.now.passes) × (case.now.passes ≤ 64) }
 {
-    let (hall, mut passes) = Hall::<K>::open(alloc, ranks, 1, blank)?;
-    expect_alone(rt, &hall, ranks, &mut passes[0], alone);
+    let (hall, mut passes) = Hall::<K>::open(alloc, ranks, case.passes, blank)?;
+    expect_acts(rt, &hall, ranks, &mut passes, case);
     let mut audit = hall.close(passes);
     expect_order(rt, &audit);
-    expect_left(rt, alloc, &mut audit.floor, ranks, alone.left)
+    expect_left(rt, alloc, &mut audit.floor, ranks, case.left)
 }
 
-fn alone_on<R: Abort + Wait>(
+fn case_on<R: Abort + Threads + Wait + Sync>(
     rt: &R,
     alloc: Global,
     ranks: &Ranks,
-    alone: &Alone<'_>,
+    case: &Case<'_>,
 ) -> Result<(), AllocError> {
-    let blank = blank_for(ranks, 1);
-    alone_in::<Brand, _>(rt, alloc, ranks, blank, alone)
+    assert!(rt; 1 <= case.passes && case.passes <= 64);
+    let blank = blank_for(ranks, case.passes);
+    case_in::<Brand, _>(rt, alloc, ranks, blank, case)
 }
+
+pub(crate) fn expect_case<R: Abort + Threads + Wait + Sync>(
+    rt: &R,
+    alloc: Global,
+    case: &Case<'_>,
+) -> Result<(), Fail> {
+    on_ranks(rt, alloc, case.file, |ranks| {
+        case_on(rt, alloc, ranks, case)
+    })
+}
+
+// After the chain everybody is placed or out.
+const REST: &[(u32, Said)] = &[
+    (2, Said::Out),
+    (0, Said::At(1)),
+    (1, Said::At(0)),
+    (3, Said::Stranger),
+];
+
+// The rejection chain: a3 and then a1 and a2 are refused, and a3 learns last that it is out.
+const TWO_PASSES: Case<'static> = Case {
+    what: "two passes by turns",
+    file: CHAIN,
+    passes: 2,
+    acts: Acts::ByTurns {
+        turns: &[
+            (0, &[(2, Said::Held(0))]),
+            (1, &[(0, Said::Refused(0)), (0, Said::Held(1))]),
+            (0, &[(1, Said::Refused(1))]),
+            (1, &[(1, Said::HeldInstead(0, 2))]),
+            (0, &[(2, Said::Told(0))]),
+            (0, REST),
+            (1, REST),
+        ],
+        counts: &[(2, &[1, 1], &[0, 1, 1]), (3, &[2, 1], &[2, 1, 0])],
+        received: &[3, 2],
+    },
+    left: Some(0),
+};
+
+#[test]
+fn each_call_gets_its_answer(rt: HostRuntime) -> Result<(), Fail> {
+    expect_case(&rt, rt.alloc(), &TWO_PASSES)
+}
+
+const ALONE: &[Case<'static>] = &[
+    // Whoever is displaced has to be told, and nobody else is in that call.
+    Case {
+        what: "each applicant's first wish first",
+        file: CHAIN,
+        passes: 1,
+        acts: Acts::ByTurns {
+            turns: &[(
+                0,
+                &[
+                    (0, Said::Held(0)),
+                    (1, Said::Held(1)),
+                    (2, Said::HeldInstead(0, 0)),
+                    (1, Said::At(1)),
+                    (0, Said::Told(0)),
+                    (0, Said::HeldInstead(1, 1)),
+                    (1, Said::Told(1)),
+                    (1, Said::HeldInstead(0, 2)),
+                    (2, Said::Told(0)),
+                    (2, Said::Out),
+                    (0, Said::At(1)),
+                    (1, Said::At(0)),
+                    (3, Said::Stranger),
+                ],
+            )],
+            counts: &[(5, &[3, 2], &[2, 2, 1])],
+            received: &[3, 2],
+        },
+        left: Some(0),
+    },
+    Case {
+        what: "one of the chain's five proposals",
+        file: CHAIN,
+        passes: 1,
+        acts: Acts::ByTurns {
+            turns: &[(0, &[(2, Said::Held(0))])],
+            counts: &[(1, &[1, 0], &[0, 0, 1])],
+            received: &[1, 0],
+        },
+        left: Some(4),
+    },
+    Case {
+        what: "numbers past the end",
+        file: CHAIN,
+        passes: 1,
+        acts: Acts::ByTurns {
+            turns: &[(0, &[(3, Said::Stranger), (u32::MAX, Said::Stranger)])],
+            counts: &[(0, &[0, 0], &[0, 0, 0])],
+            received: &[0, 0],
+        },
+        left: Some(5),
+    },
+    Case {
+        what: "members",
+        file: BETWEEN,
+        passes: 1,
+        acts: Acts::ByTurns {
+            turns: &[(0, &[(1, Said::Stranger), (2, Said::Stranger)])],
+            counts: &[(0, &[0], &[0, 0, 0])],
+            received: &[0],
+        },
+        left: None,
+    },
+];
 
 #[test]
 fn one_thread_alone(rt: HostRuntime) -> Result<(), Fail> {
-    for alone in ALONE {
-        with_ranks(&rt, rt.alloc(), alone.file, |_, ranks| {
-            alone_on(&rt, rt.alloc(), ranks, alone)
-        })?;
+    for case in ALONE {
+        expect_case(&rt, rt.alloc(), case)?;
     }
     Ok(())
 }
@@ -413,44 +460,28 @@ fn work_all<K: HallName + Send + Sync, R: Abort + Threads + Wait + Sync>(
     });
 }
 
-// The passes together have the chain's proposals, and the last thread to act left a quiet floor.
-fn threads_in<K: HallName + Send + Sync, R: Abort + Threads + Wait + Sync>(
-    rt: &R,
-    alloc: Global,
-    ranks: &Ranks,
-    blank: Blank,
-) -> Result<(), AllocError>
-    requires ranks { ranks.now ≡ K.ranked }
-    requires name { blank.name ≡ K.name }
-    requires parts { (blank.parts ≡ K.parts) × (K.parts ≡ applicants K.ranked.market + 2) }
-{
-    let (hall, mut passes) = Hall::<K>::open(alloc, ranks, 2, blank)?;
-    work_all(rt, &hall, &mut passes, ranks.applicants());
-    same(
-        rt,
-        &(passes[0].proposals() as u128 + passes[1].proposals() as u128),
-        &5,
-    );
-    let audit = hall.close(passes);
-    expect_order(rt, &audit);
-    expect_chain_end(rt, alloc, &audit.floor, ranks)
+// How many proposals the passes have together.
+fn total<K: HallName>(passes: &[Pass<K>]) -> u128 {
+    let mut all: u128 = 0;
+    for pass in passes {
+        all = all.saturating_add(pass.proposals() as u128);
+    }
+    all
 }
 
-fn threads_on<R: Abort + Threads + Wait + Sync>(
-    rt: &R,
-    alloc: Global,
-    ranks: &Ranks,
-) -> Result<(), AllocError> {
-    let blank = blank_for(ranks, 2);
-    threads_in::<Brand, _>(rt, alloc, ranks, blank)
-}
+// The passes together have the chain's proposals, and the last thread to act left a quiet floor.
+const TWO_THREADS: Case<'static> = Case {
+    what: "two threads",
+    file: CHAIN,
+    passes: 2,
+    acts: Acts::OnThreads { proposals: 5 },
+    left: Some(0),
+};
 
 #[test]
 fn two_threads_end_at_the_same_floor(rt: HostRuntime) -> Result<(), Fail> {
-    Ok(with_ranks(&rt, rt.alloc(), CHAIN, |_, ranks| {
-        for _ in 0..50 {
-            threads_on(&rt, rt.alloc(), ranks)?;
-        }
-        Ok(())
-    })?)
+    for _ in 0..50 {
+        expect_case(&rt, rt.alloc(), &TWO_THREADS)?;
+    }
+    Ok(())
 }

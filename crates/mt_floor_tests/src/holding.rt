@@ -14,7 +14,7 @@ fn expect_reply(rt: &impl Abort, hold: &mut Hold, list_len: u32, rank: u32, repl
 {
     assert!(rt; rank < list_len);
     assert!(rt; !hold.received(rank));
-    same_for(rt, &hold.propose(rank), &reply, &rank);
+    same_for(rt, hold.propose(rank), reply, rank);
     assert!(rt; hold.received(rank));
 }
 
@@ -34,9 +34,9 @@ fn the_best_ranks_are_held(rt: HostRuntime) -> Result<(), Fail> {
         expect_reply(&rt, &mut hold, 3, first.0, first.1);
         expect_reply(&rt, &mut hold, 3, second.0, second.1);
         expect_reply(&rt, &mut hold, 3, third.0, third.1);
-        same(&rt, &hold.count(), &3);
+        same(&rt, hold.count(), 3);
         let held = [hold.holds(0), hold.holds(1), hold.holds(2)];
-        same(&rt, &held, &[true, true, false]);
+        same(&rt, held, [true, true, false]);
     }
     Ok(())
 }

@@ -1,10 +1,9 @@
 //! The rank tables of two markets, by all readers.
 ghost use Rattle.std.specs.Prelude.{◌≡◌, ◌<◌, length};
 
-use crate::expect::same_for;
+use crate::expect::{on_ranks, same_for};
 use mt_ranks::{Live, Ranks};
 use mt_samples::markets::BETWEEN;
-use mt_samples::tables::with_ranks;
 use mt_terms::{AppNo, ProgNo};
 use std::process::Abort;
 use std::test::Fail;
@@ -28,28 +27,21 @@ fn expect_count(rt: &impl Abort, count: u32, wanted: usize)
     assert!(rt; count as usize == wanted);
 }
 
-fn expect_program(
-    rt: &impl Abort,
-    tables: &Ranks,
-    of: &str,
-    program: ProgNo,
-    quota: u32,
-    by_rank: &[u32],
-    ranks: &[Option<u32>],
-)
-    requires { program < length tables.now.market.programs }
-{
-    same_for(rt, &tables.quota(program), &quota, &of);
-    let ranking = tables.by_rank(program);
-    assert!(rt; ranking.len() == by_rank.len());
+fn expect_ranking(rt: &impl Abort, ranking: &[AppNo], of: &str, wanted: &[u32]) {
+    assert!(rt; ranking.len() == wanted.len());
     for rank in 0..ranking.len() {
         let applicant = ranking[rank];
-        same_for(rt, &applicant.0, &by_rank[rank], &of);
+        same_for(rt, applicant.0, wanted[rank], of);
     }
-    assert!(rt; tables.applicants() as usize == ranks.len());
+}
+
+fn expect_ranks(rt: &impl Abort, tables: &Ranks, of: &str, program: ProgNo, wanted: &[Option<u32>])
+    requires { program < length tables.now.market.programs }
+{
+    assert!(rt; tables.applicants() as usize == wanted.len());
     for applicant in 0..tables.applicants() {
         let rank = tables.rank(program, AppNo(applicant));
-        same_for(rt, &rank, &ranks[applicant as usize], &of);
+        same_for(rt, rank, wanted[applicant as usize], of);
     }
 }
 
@@ -60,17 +52,12 @@ fn expect_programs(rt: &impl Abort, tables: &Ranks, expected: &Expected<'_>) {
     expect_count(rt, programs, expected.ranks.len());
     for program in 0..programs {
         let number = program as usize;
-        let quota = expected.quotas[number];
-        let (by_rank, ranks) = (expected.rankings[number], expected.ranks[number]);
-        expect_program(
-            rt,
-            tables,
-            expected.what,
-            ProgNo(program),
-            quota,
-            by_rank,
-            ranks,
-        );
+        let program = ProgNo(program);
+        let of = expected.what;
+        same_for(rt, tables.quota(program), expected.quotas[number], of);
+        let ranking = tables.by_rank(program);
+        expect_ranking(rt, ranking, of, expected.rankings[number]);
+        expect_ranks(rt, tables, of, program, expected.ranks[number]);
     }
 }
 
@@ -78,7 +65,7 @@ fn expect_live(rt: &impl Abort, live: &[Live], of: &str, expected: &[(u32, u32)]
     assert!(rt; live.len() == expected.len());
     for number in 0..live.len() {
         let entry = live[number];
-        same_for(rt, &(entry.program.0, entry.rank), &expected[number], &of);
+        same_for(rt, (entry.program.0, entry.rank), expected[number], of);
     }
 }
 
@@ -97,7 +84,7 @@ fn expect_applicants(rt: &impl Abort, tables: &Ranks, expected: &Expected<'_>) {
             expected.live[number],
         );
         let is_single = tables.is_single(applicant);
-        same_for(rt, &is_single, &expected.singles[number], &expected.what);
+        same_for(rt, is_single, expected.singles[number], expected.what);
     }
     assert!(rt; !tables.is_single(AppNo(applicants)));
     assert!(rt; !tables.is_single(AppNo(u32::MAX)));
@@ -138,7 +125,7 @@ const TABLES: &[(&[u8], Expected<'static>)] = &[
 #[test]
 fn readers_tell_the_tables(rt: HostRuntime) -> Result<(), Fail> {
     for (file, expected) in TABLES {
-        with_ranks(&rt, rt.alloc(), file, |_, tables| {
+        on_ranks(&rt, rt.alloc(), file, |tables| {
             expect_programs(&rt, tables, expected);
             expect_applicants(&rt, tables, expected);
             Ok(())
