@@ -231,21 +231,16 @@ module _ {m : Market} {old : Places} {g : Agent} {sent : Placement} (taking : Is
       (λ p. all p ∙ ap (λ (b : Bool). b || list_any (is_kept_at m (send sent old) p) (all_members m (displaced m (send sent old) sent))) (first p) ∙ left_is taking p)
       (left_within taking)
 
-  -- who waits, after each of three groups has joined
-  pub waits_after : (k : ℕ) (w0 w1 w2 w3 : Waiting) (left : List ℕ)
-      → Joins w0 w1 (map (agent_of m) (displaced m (send sent old) sent))
-      → Joins w1 w2 (if blocks m (match_after m old sent) g then (g ∷ []) else [])
-      → Joins w2 w3 (flat_map (blocking_on_list m k (match_after m old sent)) left)
+  -- who waits, after the displaced and the agent itself have joined, and then those at the programs that were left
+  pub waits_after : (k : ℕ) (w0 w1 w2 : Waiting) (left : List ℕ)
+      → Joins w0 w1 (map (agent_of m) (displaced m (send sent old) sent) ++ (if blocks m (match_after m old sent) g then (g ∷ []) else []))
+      → Joins w1 w2 (flat_map (blocking_on_list m k (match_after m old sent)) left)
       → left ≡ left_programs m (move_of m old sent)
-      → Joins w0 w3 (rechecked m k g sent (move_of m old sent))
-  waits_after k w0 w1 w2 w3 left first second third left_keys =
-      let out = map (agent_of m) (displaced m (send sent old) sent) in
-      let itself = if blocks m (match_after m old sent) g then (g ∷ []) else [] in
+      → Joins w0 w2 (rechecked m k g sent (move_of m old sent))
+  waits_after k w0 w1 w2 left first second left_keys =
+      let gone = map (agent_of m) (displaced m (send sent old) sent) ++ (if blocks m (match_after m old sent) g then (g ∷ []) else []) in
       let again = flat_map (blocking_on_list m k (match_after m old sent)) in
       let programs = left_programs m (move_of m old sent) in
-      let w = w0.agents in
-      third ∙ ap (λ ps. with_agents w2 (all_joined w2.agents (again ps))) left_keys
-      ∙ ap (λ (x : Waiting). with_agents x (all_joined x.agents (again programs)))
-      (second ∙ ap (λ (x : Waiting). with_agents x (all_joined x.agents itself)) first)
-      ∙ ap (λ gs. with_agents w0 (all_joined gs (again programs))) (sym (all_joined-append w out itself))
-      ∙ ap (with_agents w0) (sym (all_joined-append w (out ++ itself) (again programs)))
+      second ∙ ap (λ ps. with_agents w1 (all_joined w1.agents (again ps))) left_keys
+      ∙ ap (λ (x : Waiting). with_agents x (all_joined x.agents (again programs))) first
+      ∙ ap (with_agents w0) (sym (all_joined-append w0.agents gone (again programs)))

@@ -20,7 +20,7 @@ use Rattle.mt_couples.specs.Assigned.{Assigned}
 use Rattle.mt_couples.specs.Moves.{names_one_of, opens, some_has, IsTaking}
 use Rattle.mt_couples.specs.Running.{is_quiet_single, is_reopened, singles_quiet, work_of, IsQuiet, IsQuietBut}
 use Rattle.mt_couples.specs.Waiting.{Joins}
-use Rattle.mt_couples.proofs.JoinFacts.{AreJoining, joining_more, joining_some}
+use Rattle.mt_couples.proofs.JoinFacts.{all_joined-append, AreJoining, joining_more, joining_some}
 use Rattle.mt_couples.proofs.MoveFacts.{is_move, left_within}
 
 -- the entered agents that block
@@ -111,9 +111,10 @@ module _ {m : Market} {old : Places} {g : Agent} {sent : Placement} (taking : Is
       (and_from _ _ (finds (λ s. some_has left s.1) (by.member, Some p) by.option by.sends on) by.taken)
 
   pub quiet_but_left : (k : ℕ) (ws : List Agent) (left : List ℕ) → IsQuiet k (record { market = m; places = old }) (g ∷ ws) → left ≡ left_programs m (move_of m old sent)
-      → IsQuietBut k after left (all_joined (all_joined ws out) itself)
+      → IsQuietBut k after left (all_joined ws (out ++ itself))
   quiet_but_left k ws left quiet is h on entered off blocking_now =
-      let parts = or_parts (is_on (all_joined ws out) h) (is_on itself h) (sym (on_all_joined (all_joined ws out) itself h) ∙ off) in
+      let off' : is_on (all_joined (all_joined ws out) itself) h ≡ false = sym (ap (λ gs. is_on gs h) (all_joined-append ws out itself)) ∙ off in
+      let parts = or_parts (is_on (all_joined ws out) h) (is_on itself h) (sym (on_all_joined (all_joined ws out) itself h) ∙ off') in
       let others = or_parts (is_on ws h) (is_on out h) (sym (on_all_joined ws out h) ∙ parts.0) in
       elim (cases_Bool (is_same_agent h g)) [
         | inl same ↦

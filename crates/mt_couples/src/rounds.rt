@@ -1,4 +1,4 @@
-ghost use Rattle.std.specs.Prelude.{◌≡◌, ◌<◌, ◌≤◌, length, IsTrue, map, IfOk, IsErrOf, OnOk, Some, None, [], ◌∷◌};
+ghost use Rattle.std.specs.Prelude.{◌≡◌, ◌<◌, ◌≤◌, ◌++◌, length, IsTrue, map, IfOk, IsErrOf, OnOk, Some, None, [], ◌∷◌};
 ghost use Rattle.mt_terms.specs.Rounds.{after_taking, round_of, settled, stage};
 ghost use Rattle.mt_terms.specs.Best.{IsBest};
 ghost use Rattle.mt_terms.specs.Market.{applicants};
@@ -60,24 +60,24 @@ pub struct Entered {
     pub rounds: u32,
 }
 
-/// Puts the agents of displaced applicants on the work list.
-fn join_displaced(assignment: &Assignment<'_>, displaced: &[AppNo], waiting: &mut WorkList)
+/// Puts the agents of displaced applicants on the work list, and then the agent that moved, where it has a better
+/// option still.
+fn join_moved(
+    assignment: &Assignment<'_>,
+    watch: &Watch,
+    displaced: &[AppNo],
+    agent: Agent,
+    waiting: &mut WorkList,
+)
     requires displaced { AreApplicantsOf assignment.now.market displaced.now }
+    requires agent { IsAgentOf assignment.now.market agent }
+    requires counted { AreCounted assignment.now watch.now.better.items }
     requires waiting { IsListOf assignment.now.market waiting.old }
-    ensures { Joins waiting.old waiting.new (agents_of assignment.now displaced.now) }
+    ensures { Joins waiting.old waiting.new (agents_of assignment.now displaced.now ++ if_blocking assignment.now agent) }
 {
     for applicant in displaced {
         waiting.join(assignment.agent_of(*applicant));
     }
-}
-
-/// Puts the agent that moved on the work list, where it has a better option still.
-fn look_at_mover(assignment: &Assignment<'_>, watch: &Watch, agent: Agent, waiting: &mut WorkList)
-    requires agent { IsAgentOf assignment.now.market agent }
-    requires counted { AreCounted assignment.now watch.now.better.items }
-    requires waiting { IsListOf assignment.now.market waiting.old }
-    ensures { Joins waiting.old waiting.new (if_blocking assignment.now agent) }
-{
     if watch.blocks(assignment, &agent) {
         waiting.join(agent);
     }
@@ -244,10 +244,8 @@ fn take_option(
     follow_sent(assignment, watch, sent)?;
     follow_displaced(assignment, watch, &moved.displaced)?;
     note_mover(assignment, watch, &agent)?;
-    join_displaced(assignment, &moved.displaced, waiting);
-    look_at_mover(assignment, watch, agent, waiting);
-    look_at_left(alloc, assignment, watch, &moved.left, last, quiet, waiting)?;
-    Ok(())
+    join_moved(assignment, watch, &moved.displaced, agent, waiting);
+    look_at_left(alloc, assignment, watch, &moved.left, last, quiet, waiting)
 }
 
 /// One round: the agent at the front of the work list, which was taken off it, takes its first better option

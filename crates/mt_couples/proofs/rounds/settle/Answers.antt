@@ -1,4 +1,5 @@
-use Rattle.std.proofs.Common.{subst}
+use Rattle.std.proofs.Common.{◌∙◌, ap₂, sym, subst}
+use Rattle.mt_terms.specs.Rounds.{settled}
 use Rattle.mt_sets.specs.Waiting.{Waiting}
 use Rattle.mt_couples.specs.Looking.{IsWatching}
 use Rattle.mt_couples.proofs.RoundFacts.{settling_more}
@@ -15,3 +16,8 @@ loop-agent-preserved c = record {
 pub round-requires-clause-watch : goal.round-requires-clause-watch
 round-requires-clause-watch c =
     subst (λ (w : Waiting). IsWatching c.args.last c.loop-agent.assignment w.agents c.loop-agent.watch) c.in-Some.ensures.taken c.loop-agent.invariant.watch
+
+pub returns-then-left-eq0-clause-spent : goal.returns-then-left-eq0-clause-spent
+returns-then-left-eq0-clause-spent c = λ spent.
+    sym c.loop-agent.invariant.settling.leads
+    ∙ ap₂ (λ left (w : Waiting). settled c.args.assignment.now.market c.args.last left c.loop-agent.assignment.places w.agents) c.if-left-eq0.true c.in-Some.ensures.taken

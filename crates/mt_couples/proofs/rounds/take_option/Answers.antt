@@ -1,8 +1,11 @@
 use Rattle.std.proofs.lemmas.Grind.{common_steps}
-use Rattle.std.proofs.Common.{◌≡◌, ◌≤◌, ◌∙◌, ◌∷◌, length, ℕ, true, map, ap, ap₂, sym, arith, List, Vec, Global, subst}
+use Rattle.std.proofs.Common.{◌≡◌, ◌≤◌, ◌∙◌, ◌∷◌, ◌++◌, length, ℕ, true, map, ap, ap₂, sym, arith, List, Vec, Global, OnOk, subst}
+use Rattle.std.proofs.lemmas.Bool.{or_left}
+use Rattle.std.proofs.lemmas.List.Folds.{list_any-append}
+use Rattle.std.proofs.lemmas.Result.{on_ok_weaker}
 use Rattle.mt_terms.specs.Lists.{has, below}
 use Rattle.mt_terms.specs.Market.{applicants}
-use Rattle.mt_terms.specs.Rounds.{all_joined, is_on}
+use Rattle.mt_terms.specs.Rounds.{all_joined, is_on, is_same_agent}
 use Rattle.mt_terms.specs.declared.numbers.Agent.{Agent}
 use Rattle.mt_round_laws.proofs.RoundsLists.{has_in, of_kept, of_below}
 use Rattle.mt_sets.specs.Waiting.{with_agents, Waiting}
@@ -24,20 +27,17 @@ use Rattle.mt_couples.proofs.RoundFacts.{front_within}
 use Rattle.mt_couples.proofs.MoveFacts.{are_sent, displaced_within, waits_after}
 use Rattle.mt_couples.proofs.rounds.take_option.Goals as goal
 
-pub join_displaced-requires-clause-displaced : goal.join_displaced-requires-clause-displaced
-join_displaced-requires-clause-displaced c = λ a on.
+pub join_moved-requires-clause-displaced : goal.join_moved-requires-clause-displaced
+join_moved-requires-clause-displaced c = λ a on.
     let is = c.deref-2.ensures.value ∙ c.in_ok-moved.ensures.displaced in
     omega (arith, ap (λ (x : Assigned). applicants x.market) c.in_ok-moved.ensures.places, displaced_within c.requires.taking a (ap (λ xs. has xs a) (sym is) ∙ on))
 
-pub join_displaced-requires-clause-waiting : goal.join_displaced-requires-clause-waiting
-join_displaced-requires-clause-waiting c =
-    subst (λ (s : Assigned). IsListOf s.market c.args.waiting.now) (sym c.in_ok-moved.ensures.places) (rest_list _ _ (c.args.agent ∷ c.args.waiting.now.agents) c.requires.running.waiting)
+pub join_moved-requires-clause-agent : goal.join_moved-requires-clause-agent
+join_moved-requires-clause-agent c = subst (λ (x : Assigned). IsAgentOf x.market c.args.agent) (sym c.in_ok-moved.ensures.places) (front_within c.requires.running)
 
-pub look_at_mover-requires-clause-waiting : goal.look_at_mover-requires-clause-waiting
-look_at_mover-requires-clause-waiting c =
-    let s = c.move_to.new.self in
-    joined_list s.market c.args.waiting.now c.join_displaced.new.waiting (agents_of s c.deref-2.result.now)
-    (subst (λ (x : Assigned). IsListOf x.market c.args.waiting.now) (sym c.in_ok-moved.ensures.places) (rest_list _ _ (c.args.agent ∷ c.args.waiting.now.agents) c.requires.running.waiting)) c.join_displaced.ensures
+pub join_moved-requires-clause-waiting : goal.join_moved-requires-clause-waiting
+join_moved-requires-clause-waiting c =
+    subst (λ (s : Assigned). IsListOf s.market c.args.waiting.now) (sym c.in_ok-moved.ensures.places) (rest_list _ _ (c.args.agent ∷ c.args.waiting.now.agents) c.requires.running.waiting)
 
 pub look_at_left-requires-clause-programs : goal.look_at_left-requires-clause-programs
 look_at_left-requires-clause-programs c = λ p on.
@@ -49,30 +49,27 @@ look_at_left-requires-clause-programs c = λ p on.
 pub look_at_left-requires-clause-waiting : goal.look_at_left-requires-clause-waiting
 look_at_left-requires-clause-waiting c =
     let s = c.move_to.new.self in
-    joined_list s.market c.join_displaced.new.waiting c.look_at_mover.new.waiting (if_blocking s c.args.agent)
-    (joined_list s.market c.args.waiting.now c.join_displaced.new.waiting (agents_of s c.deref-2.result.now)
-    (subst (λ (x : Assigned). IsListOf x.market c.args.waiting.now) (sym c.in_ok-moved.ensures.places) (rest_list _ _ (c.args.agent ∷ c.args.waiting.now.agents) c.requires.running.waiting)) c.join_displaced.ensures)
-    c.look_at_mover.ensures
+    joined_list s.market c.args.waiting.now c.join_moved.new.waiting (agents_of s c.deref-2.result.now ++ if_blocking s c.args.agent)
+    (subst (λ (x : Assigned). IsListOf x.market c.args.waiting.now) (sym c.in_ok-moved.ensures.places) (rest_list _ _ (c.args.agent ∷ c.args.waiting.now.agents) c.requires.running.waiting)) c.join_moved.ensures
 
 pub look_at_left-requires-clause-market : goal.look_at_left-requires-clause-market
 look_at_left-requires-clause-market c =
     subst (λ (x : Assigned). IsWellFormed x.market) (sym c.in_ok-moved.ensures.places) c.requires.taking.well_formed
 
+-- the agents of who is displaced join, and the one that moved, by the match before the move
+moved_join : (s0 s1 : Assigned) (sent : Placement) (g : Agent) (old new : Waiting) (xs : List ℕ) → s1 ≡ moved s0 sent → xs ≡ displaced_by s0 sent → Joins old new (agents_of s1 xs ++ if_blocking s1 g)
+    → Joins old new (agents_of s0 (displaced_by s0 sent) ++ if_blocking (moved s0 sent) g)
+moved_join s0 s1 sent g old new xs after displaced joins = joins ∙ ap₂ (λ (x : Assigned) ys. with_agents old (all_joined old.agents (agents_of x ys ++ if_blocking x g))) after displaced
+
 pub look_at_left-requires-clause-quiet : goal.look_at_left-requires-clause-quiet
 look_at_left-requires-clause-quiet c = λ so.
     let s0 = c.args.assignment.now in
-    let s1 = moved s0 c.args.sent.now in
     let after = c.in_ok-moved.ensures.places in
     let left = c.deref-3.result.now in
-    let joins = λ (old : Waiting) (gs : List Agent). with_agents old (all_joined old.agents gs) in
-    let first : Joins c.args.waiting.now c.join_displaced.new.waiting (agents_of s0 (displaced_by s0 c.args.sent.now)) =
-    c.join_displaced.ensures ∙ ap₂ (λ (x : Assigned) ys. joins c.args.waiting.now (agents_of x ys)) after (c.deref-2.ensures.value ∙ c.in_ok-moved.ensures.displaced) in
-    let second : Joins c.join_displaced.new.waiting c.look_at_mover.new.waiting (if_blocking s1 c.args.agent) =
-    c.look_at_mover.ensures ∙ ap (λ (x : Assigned). joins c.join_displaced.new.waiting (if_blocking x c.args.agent)) after in
-    let waits : c.look_at_mover.new.waiting.agents ≡ all_joined (all_joined c.args.waiting.now.agents (agents_of s0 (displaced_by s0 c.args.sent.now))) (if_blocking s1 c.args.agent) =
-    ap (λ (w : Waiting). w.agents) second ∙ ap (λ (w : Waiting). all_joined w.agents (if_blocking s1 c.args.agent)) first in
-    subst (λ (x : Assigned). IsQuietBut c.args.last x left c.look_at_mover.new.waiting.agents) (sym after)
-    (subst (λ gs. IsQuietBut c.args.last s1 left gs) (sym waits)
+    let first = moved_join s0 c.move_to.new.self c.args.sent.now c.args.agent c.args.waiting.now c.join_moved.new.waiting c.deref-2.result.now after (c.deref-2.ensures.value ∙ c.in_ok-moved.ensures.displaced)
+    c.join_moved.ensures in
+    subst (λ (x : Assigned). IsQuietBut c.args.last x left c.join_moved.new.waiting.agents) (sym after)
+    (subst (λ gs. IsQuietBut c.args.last (moved s0 c.args.sent.now) left gs) (sym (ap (λ (w : Waiting). w.agents) first))
     (quiet_but_left c.requires.taking c.args.last c.args.waiting.now.agents left (c.requires.running.is_quiet so) (c.deref-3.ensures.value ∙ c.in_ok-moved.ensures.left)))
 
 pub follow_sent-requires : goal.follow_sent-requires
@@ -131,59 +128,58 @@ note_mover-requires-clause-counted c =
     c.requires.taking c.in_ok-moved.ensures.places c.requires.watch.counted c.in_ok-follow_sent.ensures.better c.in_ok-follow_displaced.ensures.better
     (c.deref.ensures.value ∙ c.in_ok-moved.ensures.displaced)
 
--- the agents of who is displaced join
-displaced_join : (s0 s1 : Assigned) (sent : Placement) (old new : Waiting) (xs : List ℕ) → s1 ≡ moved s0 sent → xs ≡ displaced_by s0 sent → Joins old new (agents_of s1 xs)
-    → Joins old new (agents_of s0 (displaced_by s0 sent))
-displaced_join s0 s1 sent old new xs after displaced joins = joins ∙ ap₂ (λ (x : Assigned) ys. with_agents old (all_joined old.agents (agents_of x ys))) after displaced
+-- who is displaced is among those that join
+in_front : (gs hs : List Agent) (h : Agent) → is_on gs h ≡ true → is_on (gs ++ hs) h ≡ true
+in_front gs hs h on = list_any-append (is_same_agent h) gs hs ∙ or_left (is_on gs h) (is_on hs h) on
 
 pub look_at_left-requires-clause-watch : goal.look_at_left-requires-clause-watch
 look_at_left-requires-clause-watch c =
     let s0 = c.args.assignment.now in
     let s1 = c.move_to.new.self in
     let old = c.args.waiting.now in
-    let mid = c.join_displaced.new.waiting in
-    let itself = if_blocking s1 c.args.agent in
+    let new = c.join_moved.new.waiting in
+    let itself = if_blocking (moved s0 c.args.sent.now) c.args.agent in
     let out = agents_of s0 (displaced_by s0 c.args.sent.now) in
-    let first = displaced_join s0 s1 c.args.sent.now old mid c.deref-2.result.now c.in_ok-moved.ensures.places (c.deref-2.ensures.value ∙ c.in_ok-moved.ensures.displaced) c.join_displaced.ensures in
-    watching s0 s1 c.args.sent.now c.args.agent c.args.last old.agents c.look_at_mover.new.waiting.agents c.args.watch.now c.follow_sent.new.watch c.follow_displaced.new.watch c.note_mover.new.watch
+    let first = moved_join s0 s1 c.args.sent.now c.args.agent old new c.deref-2.result.now c.in_ok-moved.ensures.places (c.deref-2.ensures.value ∙ c.in_ok-moved.ensures.displaced) c.join_moved.ensures in
+    watching s0 s1 c.args.sent.now c.args.agent c.args.last old.agents new.agents c.args.watch.now c.follow_sent.new.watch c.follow_displaced.new.watch c.note_mover.new.watch
     c.deref.result.now c.requires.taking c.in_ok-moved.ensures.places c.requires.watch c.in_ok-follow_sent.ensures.singles c.in_ok-follow_displaced.ensures.singles c.in_ok-follow_sent.ensures.better
     c.in_ok-follow_displaced.ensures.better (c.deref.ensures.value ∙ c.in_ok-moved.ensures.displaced) (c.in_ok-follow_displaced.ensures.couples ∙ c.in_ok-follow_sent.ensures.couples)
     c.in_ok-note_mover.ensures.singles c.in_ok-note_mover.ensures.better c.in_ok-note_mover.ensures.named c.in_ok-note_mover.ensures.noted
-    (λ h on. joins_keeps mid c.look_at_mover.new.waiting itself h c.look_at_mover.ensures (joins_keeps old mid out h first on))
-    (λ h on. joins_keeps mid c.look_at_mover.new.waiting itself h c.look_at_mover.ensures (joins_adds old mid out h first on))
+    (λ h on. joins_keeps old new (out ++ itself) h first on) (λ h on. joins_adds old new (out ++ itself) h first (in_front out itself h on))
 
 pub returns : goal.returns
 returns c =
     let s0 = c.args.assignment.now in
+    let s1 = moved s0 c.args.sent.now in
     let after = c.in_ok-moved.ensures.places in
-    let joins = λ (old : Waiting) (gs : List Agent). with_agents old (all_joined old.agents gs) in
-    let first : Joins c.args.waiting.now c.join_displaced.new.waiting (agents_of s0 (displaced_by s0 c.args.sent.now)) =
-    c.join_displaced.ensures ∙ ap₂ (λ (x : Assigned) ys. joins c.args.waiting.now (agents_of x ys)) after (c.deref-2.ensures.value ∙ c.in_ok-moved.ensures.displaced) in
-    let second : Joins c.join_displaced.new.waiting c.look_at_mover.new.waiting (if_blocking (moved s0 c.args.sent.now) c.args.agent) =
-    c.look_at_mover.ensures ∙ ap (λ (x : Assigned). joins c.join_displaced.new.waiting (if_blocking x c.args.agent)) after in
-    let third : Joins c.look_at_mover.new.waiting c.look_at_left.new.waiting (reopened (moved s0 c.args.sent.now) c.args.last c.deref-3.result.now) =
-    c.in_ok-look_at_left.ensures ∙ ap (λ (x : Assigned). joins c.look_at_mover.new.waiting (reopened x c.args.last c.deref-3.result.now)) after in
-    let all = waits_after c.requires.taking c.args.last c.args.waiting.now c.join_displaced.new.waiting c.look_at_mover.new.waiting c.look_at_left.new.waiting c.deref-3.result.now first second third
-    (c.deref-3.ensures.value ∙ c.in_ok-moved.ensures.left) in
+    let old = c.args.waiting.now in
+    let mid = c.join_moved.new.waiting in
+    let new = c.look_at_left.new.waiting in
+    let left = c.deref-3.result.now in
     let out = agents_of s0 (displaced_by s0 c.args.sent.now) in
-    let itself = if_blocking (moved s0 c.args.sent.now) c.args.agent in
-    let again = reopened (moved s0 c.args.sent.now) c.args.last c.deref-3.result.now in
-    let goes_on = λ (h : Agent) (on : is_on c.join_displaced.new.waiting.agents h ≡ true).
-    joins_keeps c.look_at_mover.new.waiting c.look_at_left.new.waiting again h third (joins_keeps c.join_displaced.new.waiting c.look_at_mover.new.waiting itself h second on) in
+    let itself = if_blocking s1 c.args.agent in
+    let again = reopened s1 c.args.last left in
+    let first : Joins old mid (out ++ itself) =
+    moved_join s0 c.move_to.new.self c.args.sent.now c.args.agent old mid c.deref-2.result.now after (c.deref-2.ensures.value ∙ c.in_ok-moved.ensures.displaced) c.join_moved.ensures in
+    let third : OnOk c.look_at_left.result (Joins mid new again) =
+    on_ok_weaker c.look_at_left.result (λ (h : Joins mid new (reopened c.move_to.new.self c.args.last left)). h ∙ ap (λ (x : Assigned). with_agents mid (all_joined mid.agents (reopened x c.args.last left))) after)
+    c.look_at_left.ensures in
+    let all = λ (h : Joins mid new again). waits_after c.requires.taking c.args.last old mid new left first h (c.deref-3.ensures.value ∙ c.in_ok-moved.ensures.left) in
     record {
-      watch = watching s0 c.move_to.new.self c.args.sent.now c.args.agent c.args.last c.args.waiting.now.agents c.look_at_left.new.waiting.agents c.args.watch.now c.follow_sent.new.watch
+      watch = on_ok_weaker c.look_at_left.result (λ (last : Joins mid new again).
+          watching s0 c.move_to.new.self c.args.sent.now c.args.agent c.args.last old.agents new.agents c.args.watch.now c.follow_sent.new.watch
           c.follow_displaced.new.watch c.note_mover.new.watch c.deref.result.now c.requires.taking after c.requires.watch c.in_ok-follow_sent.ensures.singles c.in_ok-follow_displaced.ensures.singles
           c.in_ok-follow_sent.ensures.better c.in_ok-follow_displaced.ensures.better (c.deref.ensures.value ∙ c.in_ok-moved.ensures.displaced)
           (c.in_ok-follow_displaced.ensures.couples ∙ c.in_ok-follow_sent.ensures.couples) c.in_ok-note_mover.ensures.singles c.in_ok-note_mover.ensures.better c.in_ok-note_mover.ensures.named
-          c.in_ok-note_mover.ensures.noted (λ h on. goes_on h (joins_keeps c.args.waiting.now c.join_displaced.new.waiting out h first on))
-          (λ h on. goes_on h (joins_adds c.args.waiting.now c.join_displaced.new.waiting out h first on));
-      market = ap (λ (x : Assigned). x.market) after;
-      room = all ∙ ap (λ (w : Waiting). with_agents c.args.waiting.now w.agents) (sym all);
-      work = ap₂ (λ (x : Assigned) (w : Waiting). work_of x w) after all;
+          c.in_ok-note_mover.ensures.noted (λ h on. joins_keeps mid new again h last (joins_keeps old mid (out ++ itself) h first on))
+          (λ h on. joins_keeps mid new again h last (joins_adds old mid (out ++ itself) h first (in_front out itself h on)))) third;
+      market = on_ok_weaker c.look_at_left.result (λ (last : Joins mid new again). ap (λ (x : Assigned). x.market) after) third;
+      room = on_ok_weaker c.look_at_left.result (λ (last : Joins mid new again). all last ∙ ap (λ (w : Waiting). with_agents old w.agents) (sym (all last))) third;
+      work = on_ok_weaker c.look_at_left.result (λ (last : Joins mid new again). ap₂ (λ (x : Assigned) (w : Waiting). work_of x w) after (all last)) third;
     }
 
-pub look_at_mover-requires-clause-counted : goal.look_at_mover-requires-clause-counted
-look_at_mover-requires-clause-counted c =
+pub join_moved-requires-clause-counted : goal.join_moved-requires-clause-counted
+join_moved-requires-clause-counted c =
     subst (λ (v : Vec ℕ Global). AreCounted c.move_to.new.self v.items) (sym c.in_ok-note_mover.ensures.better)
     (counting c.args.assignment.now c.move_to.new.self c.args.sent.now c.args.agent c.args.watch.now c.follow_sent.new.watch c.follow_displaced.new.watch c.deref.result.now
     c.requires.taking c.in_ok-moved.ensures.places c.requires.watch.counted c.in_ok-follow_sent.ensures.better c.in_ok-follow_displaced.ensures.better
@@ -209,9 +205,6 @@ returns-in_err-note_mover c = grind (arith, common_steps)
 
 pub returns-in_err-follow_sent : goal.returns-in_err-follow_sent
 returns-in_err-follow_sent c = grind (arith, common_steps)
-
-pub returns-in_err-look_at_left : goal.returns-in_err-look_at_left
-returns-in_err-look_at_left c = grind (arith, common_steps)
 
 pub returns-in_err-follow_displaced : goal.returns-in_err-follow_displaced
 returns-in_err-follow_displaced c = grind (arith, common_steps)
