@@ -182,18 +182,18 @@ fn follow_sent(
     Ok(())
 }
 
-/// Watches the applicants that are displaced.
+/// Watches these applicants, which are displaced.
 fn follow_displaced(
     assignment: &Assignment<'_>,
     watch: &mut Watch,
-    displaced: &[AppNo],
+    applicants: &[AppNo],
 ) -> Result<(), AllocError>
-    requires { AreApplicantsOf assignment.now.market displaced.now }
+    requires { AreApplicantsOf assignment.now.market applicants.now }
     ensures couples { OnOk result (watch.new.couples ≡ watch.old.couples) }
-    ensures singles { OnOk result (FollowsAll assignment.now watch.old.singles watch.new.singles displaced.now) }
-    ensures better { OnOk result (CountsAll assignment.now watch.old watch.new displaced.now) }
+    ensures singles { OnOk result (FollowsAll assignment.now watch.old.singles watch.new.singles applicants.now) }
+    ensures better { OnOk result (CountsAll assignment.now watch.old watch.new applicants.now) }
 {
-    for applicant in displaced {
+    for applicant in applicants {
         watch.follow(assignment, *applicant)?;
     }
     Ok(())

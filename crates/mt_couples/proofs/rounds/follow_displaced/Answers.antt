@@ -7,12 +7,12 @@ use Rattle.mt_couples.proofs.rounds.follow_displaced.Goals as goal
 
 pub follow-requires : goal.follow-requires
 follow-requires c =
-    c.requires c.applicant-item.result (has_read c.args.displaced.now c.loop-applicant.applicant-index c.applicant-item.result c.loop-applicant-test.true c.applicant-item.is)
+    c.requires c.applicant-item.result (has_read c.args.applicants.now c.loop-applicant.applicant-index c.applicant-item.result c.loop-applicant-test.true c.applicant-item.is)
 
 pub loop-applicant-preserved : goal.loop-applicant-preserved
 loop-applicant-preserved c =
     let s = c.args.assignment.now in
-    let xs = c.args.displaced.now in
+    let xs = c.args.applicants.now in
     let i = c.loop-applicant.applicant-index in
     let x = c.applicant-item.result in
     let old = c.args.watch.now in

@@ -1,4 +1,4 @@
-use Rattle.std.proofs.Common.{◌∙◌, ap₂, sym, subst}
+use Rattle.std.proofs.Common.{◌≡◌, ◌∙◌, ap₂, sym, subst}
 use Rattle.mt_terms.specs.Rounds.{settled}
 use Rattle.mt_sets.specs.Waiting.{Waiting}
 use Rattle.mt_couples.specs.Looking.{IsWatching}
@@ -19,5 +19,6 @@ round-requires-clause-watch c =
 
 pub returns-then-left-eq0-clause-spent : goal.returns-then-left-eq0-clause-spent
 returns-then-left-eq0-clause-spent c = λ spent.
+    let none : c.loop-agent.left ≡ 0 = c.if-left-eq0.true in
     sym c.loop-agent.invariant.settling.leads
-    ∙ ap₂ (λ left (w : Waiting). settled c.args.assignment.now.market c.args.last left c.loop-agent.assignment.places w.agents) c.if-left-eq0.true c.in-Some.ensures.taken
+    ∙ ap₂ (λ left (w : Waiting). settled c.args.assignment.now.market c.args.last left c.loop-agent.assignment.places w.agents) none c.in-Some.ensures.taken
