@@ -12,20 +12,12 @@ use mt_terms::{Agent, AppNo, ProgNo};
 use std::alloc::{AllocError, Global};
 
 /// What a move changes besides the places of the agent that moves.
+#[derive(Drop)]
 pub(crate) struct Moved {
     /// The applicants that are displaced: by the option's programs in order, and in a program by its list.
     pub(crate) displaced: Vec<AppNo>,
     /// The programs that somebody left without being displaced there, by number.
     pub(crate) left: Vec<ProgNo>,
-}
-
-impl Drop for Moved {
-    fn drop(self) {
-        let Moved {
-            displaced: _,
-            left: _,
-        } = self;
-    }
 }
 
 impl<'a> Assignment<'a> {

@@ -185,17 +185,8 @@ join_moved-requires-clause-counted c =
     c.requires.taking c.in_ok-moved.ensures.places c.requires.watch.counted c.in_ok-follow_sent.ensures.better c.in_ok-follow_displaced.ensures.better
     (c.deref.ensures.value ∙ c.in_ok-moved.ensures.displaced))
 
-pub returns-in_err-moved-clause-room : goal.returns-in_err-moved-clause-room
-returns-in_err-moved-clause-room c = grind (arith, common_steps)
-
-pub returns-in_err-moved-clause-work : goal.returns-in_err-moved-clause-work
-returns-in_err-moved-clause-work c = grind (arith, common_steps)
-
-pub returns-in_err-moved-clause-watch : goal.returns-in_err-moved-clause-watch
-returns-in_err-moved-clause-watch c = grind (arith, common_steps)
-
-pub returns-in_err-moved-clause-market : goal.returns-in_err-moved-clause-market
-returns-in_err-moved-clause-market c = grind (arith, common_steps)
+pub returns-in_err-moved : goal.returns-in_err-moved
+returns-in_err-moved c = grind (arith, common_steps)
 
 pub move_to-requires : goal.move_to-requires
 move_to-requires c = grind (arith, common_steps)
