@@ -2,7 +2,7 @@ use Rattle.std.proofs.lemmas.Grind.{common_steps}
 use Rattle.std.proofs.Common.{◌≡◌, ◌≤◌, ◌∙◌, ◌∷◌, ◌++◌, length, ℕ, true, map, ap, ap₂, sym, arith, List, Vec, Global, OnOk, subst}
 use Rattle.std.proofs.lemmas.Bool.{or_left}
 use Rattle.std.proofs.lemmas.List.Folds.{list_any-append}
-use Rattle.std.proofs.lemmas.Result.{on_ok_weaker}
+use Rattle.std.proofs.lemmas.Result.{on_ok_weaker, IfOk-from_err}
 use Rattle.mt_terms.specs.Lists.{has, below}
 use Rattle.mt_terms.specs.Market.{applicants}
 use Rattle.mt_terms.specs.Rounds.{all_joined, is_on, is_same_agent}
@@ -192,10 +192,16 @@ pub move_to-requires : goal.move_to-requires
 move_to-requires c = grind (arith, common_steps)
 
 pub returns-in_err-note_mover : goal.returns-in_err-note_mover
-returns-in_err-note_mover c = grind (arith, common_steps)
+returns-in_err-note_mover c =
+    let no = λ (P : Type 0). IfOk-from_err c.from_residual-in_err-note_mover.result (λ _. P) c.from_residual-in_err-note_mover.ensures.0 in
+    record { watch = no _; market = no _; room = no _; work = no _ }
 
 pub returns-in_err-follow_sent : goal.returns-in_err-follow_sent
-returns-in_err-follow_sent c = grind (arith, common_steps)
+returns-in_err-follow_sent c =
+    let no = λ (P : Type 0). IfOk-from_err c.from_residual-in_err-follow_sent.result (λ _. P) c.from_residual-in_err-follow_sent.ensures.0 in
+    record { watch = no _; market = no _; room = no _; work = no _ }
 
 pub returns-in_err-follow_displaced : goal.returns-in_err-follow_displaced
-returns-in_err-follow_displaced c = grind (arith, common_steps)
+returns-in_err-follow_displaced c =
+    let no = λ (P : Type 0). IfOk-from_err c.from_residual-in_err-follow_displaced.result (λ _. P) c.from_residual-in_err-follow_displaced.ensures.0 in
+    record { watch = no _; market = no _; room = no _; work = no _ }

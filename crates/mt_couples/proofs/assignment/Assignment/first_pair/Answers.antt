@@ -40,3 +40,6 @@ returns c = grind (arith, common_steps)
 
 pub returns-then-would_be_taken : goal.returns-then-would_be_taken
 returns-then-would_be_taken c = grind (arith, common_steps)
+
+pub offset_bounds-pair-items-pair-index : goal.offset_bounds-pair-items-pair-index
+offset_bounds-pair-items-pair-index c = grind (arith, common_steps)
