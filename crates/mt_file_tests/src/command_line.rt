@@ -18,10 +18,9 @@ enum Wanted<'a> {
 
 // Whether this is the file that is wanted.
 fn is_file(file: &Option<String>, wanted: Option<&str>) -> bool {
-    match (file, wanted) {
-        (Some(path), Some(name)) => path.as_str() == name,
-        (None, None) => true,
-        _ => false,
+    match file {
+        Some(path) => wanted == Some(path.as_str()),
+        None => wanted.is_none(),
     }
 }
 
@@ -45,8 +44,7 @@ fn asks_for(alloc: Global, words: &[&str], wanted: &Wanted<'_>) -> Result<bool, 
     for word in words {
         owned.push(String::from_str(alloc, word)?)?;
     }
-    let answer = asked(alloc, owned.as_slice());
-    Ok(is_wanted(&answer, wanted))
+    Ok(is_wanted(&asked(alloc, owned.as_slice()), wanted))
 }
 
 const USUAL: Options = Options {

@@ -4,7 +4,7 @@ use std::fmt::Debug;
 use std::process::Abort;
 
 // That what was found is what was wanted.
-pub(crate) fn same<T: PartialEq + Debug>(rt: &impl Abort, found: &T, wanted: &T) {
+pub(crate) fn same<T: Copy + PartialEq + Debug>(rt: &impl Abort, found: T, wanted: T) {
     assert_eq!(rt; found, wanted);
 }
 

@@ -3,10 +3,9 @@
 use crate::expect::{holds_for, same};
 use mt_lists::{ListFault, ReadEnd, Row, Rows, SourceFault, Tap, laws, read_all, records};
 use mt_samples::devices::{Endless, Pieces};
-use std::alloc::{AllocError, Global};
-use std::io::ErrorKind;
+use std::alloc::Global;
+use std::io::{ErrorKind, Read};
 use std::process::Abort;
-use std::test::Fail;
 
 // Whether a row has these fields.
 fn has_fields(row: &Row<'_>, fields: &[&[u8]]) -> bool {
@@ -19,14 +18,21 @@ fn has_fields(row: &Row<'_>, fields: &[&[u8]]) -> bool {
     left.next().is_none()
 }
 
-fn expect_rows(rt: &impl Abort, rows: &Rows<'_>, expected: &[&[&[u8]]]) {
-    let mut number = 0;
-    for row in rows.iter() {
-        assert!(rt; number < expected.len());
-        holds_for(rt, has_fields(&row, expected[number]), &number);
-        number += 1;
+// Whether an input has rows of these fields.
+fn has_rows(alloc: Global, input: &[u8], expected: &[&[&[u8]]]) -> Result<bool, ListFault> {
+    let rows = records(alloc, input)?;
+    Ok(are_rows(&rows, expected))
+}
+
+fn are_rows(rows: &Rows<'_>, expected: &[&[&[u8]]]) -> bool {
+    let mut left = rows.iter();
+    for fields in expected {
+        match left.next() {
+            Some(row) if has_fields(&row, fields) => {}
+            _ => return false,
+        }
     }
-    same(rt, &number, &expected.len());
+    left.next().is_none()
 }
 
 // Inputs, and the fields of their rows.
@@ -56,138 +62,137 @@ const ROWS: &[(&[u8], &[&[&[u8]]])] = &[
     ),
 ];
 
-fn expect_two_marks(rt: &impl Abort, alloc: Global, input: &[u8]) {
-    let twice = records(alloc, input);
-    assert!(rt; matches!(twice, Err(ListFault::TwoMarks)));
+fn fault_of(alloc: Global, input: &[u8]) -> Option<ListFault> {
+    records(alloc, input).err()
 }
 
 #[test]
-fn spreadsheet_rows(rt: HostRuntime) -> Result<(), Fail> {
+fn spreadsheet_rows(rt: HostRuntime) {
     for (input, expected) in ROWS {
-        let rows = records(rt.alloc(), input)?;
-        expect_rows(&rt, &rows, expected);
+        holds_for(
+            &rt,
+            has_rows(rt.alloc(), input, expected) == Ok(true),
+            input,
+        );
     }
-    expect_two_marks(&rt, rt.alloc(), b"\xEF\xBB\xBF\xEF\xBB\xBFmatch,1\n");
+    let fault = fault_of(rt.alloc(), b"\xEF\xBB\xBF\xEF\xBB\xBFmatch,1\n");
+    same(&rt, fault, Some(ListFault::TwoMarks));
     laws::worked_inputs();
-    Ok(())
+}
+
+// Reads twice: what comes of either, how many reads are made, and how many of them fail.
+fn read_twice(
+    source: &mut Pieces<'_>,
+    buf: &mut [u8],
+) -> ([Result<usize, SourceFault>; 2], u64, u64) {
+    let mut tap = Tap::new(source);
+    let first = tap.read(buf);
+    let second = tap.read(buf);
+    ([first, second], tap.reads(), tap.failures())
 }
 
 // An interrupted read is not made again by the same call, and the next call goes on.
 #[test]
-fn interrupted_read_fails(rt: HostRuntime) -> Result<(), Fail> {
+fn interrupted_read_fails(rt: HostRuntime) {
     let mut source = Pieces::new(b"abc", 2, 1, ErrorKind::Interrupted);
-    let mut tap = Tap::new(&mut source);
     let mut buf = [0u8; 8];
-    let first = tap.read(&mut buf);
-    let second = tap.read(&mut buf);
-    let counted = (tap.reads(), tap.failures());
-    same(&rt, &(first, second), &(Err(SourceFault), Ok(2)));
-    same(&rt, &counted, &(2, 1));
-    same(&rt, &source.calls, &2);
+    let found = read_twice(&mut source, &mut buf);
+    same(&rt, found, ([Err(SourceFault), Ok(2)], 2, 1));
+    same(&rt, source.calls, 2);
     assert!(rt; buf.starts_with(b"ab"));
-    Ok(())
+}
+
+// Reads to the end: how many bytes come, how many reads are made, and how many of them fail.
+fn read_whole<R: Read + Drop>(
+    alloc: Global,
+    reader: R,
+    limit: u32,
+) -> (Result<usize, ReadEnd>, u64, u64) {
+    let mut tap = Tap::new(reader);
+    let count = match read_all(alloc, &mut tap, limit as usize) {
+        Ok(bytes) => Ok(bytes.len()),
+        Err(end) => Err(end),
+    };
+    (count, tap.reads(), tap.failures())
 }
 
 // A read that fails ends the call, and isn't made again, though the reader would go on.
 fn expect_last_read(rt: &impl Abort, alloc: Global, at: u32, failure: ErrorKind) {
     let mut source = Pieces::new(b"0123456789", 3, at, failure);
-    let mut tap = Tap::new(&mut source);
-    let result = read_all(alloc, &mut tap, 10);
-    assert!(rt; matches!(result, Err(ReadEnd::Fault)));
-    same(rt, &(tap.reads(), tap.failures()), &(u64::from(at), 1));
-    same(rt, &source.calls, &at);
+    let ended = read_whole(alloc, &mut source, 10);
+    same(rt, ended, (Err(ReadEnd::Fault), u64::from(at), 1));
+    same(rt, source.calls, at);
 }
 
 #[test]
 fn a_read_that_fails_is_the_last(rt: HostRuntime) {
-    for failure in [ErrorKind::Interrupted, ErrorKind::Other] {
-        for at in 1..=5u32 {
-            expect_last_read(&rt, rt.alloc(), at, failure);
-        }
+    for at in 1..6 {
+        expect_last_read(&rt, rt.alloc(), at, ErrorKind::Interrupted);
+        expect_last_read(&rt, rt.alloc(), at, ErrorKind::Other);
     }
 }
 
 // A read asks for as many bytes as the buffer holds.
 #[test]
-fn a_read_fills_the_buffer(rt: HostRuntime) -> Result<(), Fail> {
+fn a_read_fills_the_buffer(rt: HostRuntime) {
     let mut source = Pieces::new(b"0123456789", 100, 0, ErrorKind::Other);
     let mut tap = Tap::new(&mut source);
     let mut buf = [0u8; 8];
-    same(&rt, &tap.read(&mut buf), &Ok(8));
-    same(&rt, &(source.calls, source.longest), &(1, 8));
+    same(&rt, tap.read(&mut buf), Ok(8));
+    same(&rt, (source.calls, source.longest), (1, 8));
     assert!(rt; buf == *b"01234567");
-    Ok(())
 }
 
-// An input of ten bytes, so many in each read, under limits of ten and of nine bytes.
-fn expect_limit(rt: &impl Abort, alloc: Global, size: usize) -> Result<(), ReadEnd> {
+// Whether an input of ten bytes, so many in each read, is read whole under this limit with no failure.
+fn reads_ten(alloc: Global, size: usize, limit: u32) -> Result<bool, ReadEnd> {
     let text = b"0123456789".as_slice();
     let mut tap = Tap::new(Pieces::new(text, size, 0, ErrorKind::Other));
-    same(rt, &read_all(alloc, &mut tap, 10)?.as_slice(), &text);
-    same(rt, &tap.failures(), &0);
-    let mut tap = Tap::new(Pieces::new(text, size, 0, ErrorKind::Other));
-    let result = read_all(alloc, &mut tap, 9);
-    assert!(rt; matches!(result, Err(ReadEnd::TooLarge)));
-    Ok(())
+    let bytes = read_all(alloc, &mut tap, limit as usize)?;
+    Ok(bytes.as_slice() == text && tap.failures() == 0)
 }
 
 #[test]
-fn an_input_of_the_limit_and_one_more(rt: HostRuntime) -> Result<(), Fail> {
+fn an_input_of_the_limit_and_one_more(rt: HostRuntime) {
     for size in [1, 3, 10, 100] {
-        expect_limit(&rt, rt.alloc(), size)?;
+        same(&rt, reads_ten(rt.alloc(), size, 10), Ok(true));
+        same(&rt, reads_ten(rt.alloc(), size, 9), Err(ReadEnd::TooLarge));
     }
-    Ok(())
 }
 
 #[test]
-fn an_input_without_end_and_one_without_a_byte(rt: HostRuntime) -> Result<(), Fail> {
-    let mut endless = Tap::new(Endless { size: 1 });
-    let result = read_all(rt.alloc(), &mut endless, 5);
-    assert!(rt; matches!(result, Err(ReadEnd::TooLarge)));
-    same(&rt, &endless.reads(), &6);
-    let mut empty = Tap::new(b"".as_slice());
-    assert!(rt; read_all(rt.alloc(), &mut empty, 0)?.is_empty());
-    same(&rt, &empty.reads(), &1);
-    Ok(())
+fn an_input_without_end_and_one_without_a_byte(rt: HostRuntime) {
+    let endless = read_whole(rt.alloc(), Endless { size: 1 }, 5);
+    same(&rt, endless, (Err(ReadEnd::TooLarge), 6, 0));
+    let empty = read_whole(rt.alloc(), b"".as_slice(), 0);
+    same(&rt, empty, (Ok(0), 1, 0));
 }
 
-// The fields of a row one after another.
-fn joined(alloc: Global, row: &Row<'_>) -> Result<Vec<u8>, AllocError> {
-    let mut joined = Vec::new(alloc);
-    for field in row.fields() {
-        joined.extend_from_slice(field)?;
-    }
-    Ok(joined)
-}
-
-// A row of three fields, of which the second is empty. Two are taken from it, and the third is left.
-fn expect_three_fields(rt: &impl Abort, alloc: Global, row: &Row<'_>) -> Result<(), AllocError> {
-    assert!(rt; !row.is_empty());
-    same(rt, &row.fields().len(), &3);
-    same(rt, &joined(alloc, row)?.as_slice(), &b"abc".as_slice());
+// Of a row: whether it is empty, how many fields it has, and how many of them are left once two are taken.
+fn counts_of(row: &Row<'_>) -> (bool, usize, usize) {
     let mut left = row.fields();
-    assert!(rt; left.next() == Some(b"a".as_slice()));
-    assert!(rt; left.next() == Some(b"".as_slice()));
-    same(rt, &left.len(), &1);
-    Ok(())
+    left.next();
+    left.next();
+    (row.is_empty(), row.fields().len(), left.len())
 }
 
-fn expect_one_row(rt: &impl Abort, alloc: Global, rows: &Rows<'_>) -> Result<(), AllocError> {
-    let mut left = rows.iter();
-    let Some(row) = left.next() else {
-        panic!(rt; "no row");
-    };
-    expect_three_fields(rt, alloc, &row)?;
-    assert!(rt; left.next().is_none());
-    Ok(())
-}
-
-// In a file with no quote a row is a line, and else one that was read.
-#[test]
-fn fields_of_a_row(rt: HostRuntime) -> Result<(), Fail> {
-    for text in [b"a,,bc,,\n".as_slice(), b"\"a\",,bc,,\n".as_slice()] {
-        let rows = records(rt.alloc(), text)?;
-        expect_one_row(&rt, rt.alloc(), &rows)?;
+fn counts_of_first(alloc: Global, input: &[u8]) -> Result<(bool, usize, usize), ListFault> {
+    let rows = records(alloc, input)?;
+    match rows.iter().next() {
+        Some(row) => Ok(counts_of(&row)),
+        None => Ok((true, 0, 0)),
     }
-    Ok(())
+}
+
+// A row of three fields, of which the second is empty. In a file with no quote a row is a line, and else one that was
+// read.
+#[test]
+fn fields_of_a_row(rt: HostRuntime) {
+    for text in [b"a,,bc,,\n".as_slice(), b"\"a\",,bc,,\n".as_slice()] {
+        same(
+            &rt,
+            has_rows(rt.alloc(), text, &[&[b"a", b"", b"bc"]]),
+            Ok(true),
+        );
+        same(&rt, counts_of_first(rt.alloc(), text), Ok((false, 3, 1)));
+    }
 }

@@ -1,58 +1,45 @@
 //! The text of a match and the lines of refusals, byte for byte.
 
-ghost use Rattle.std.specs.Prelude.{◌≡◌, length};
-ghost use Rattle.mt_terms.specs.Places.{ArePlaces};
-
-use crate::expect::same;
+use crate::expect::{holds_for, same};
 use mt_report::{published, refused};
 use mt_roster::Roster;
-use mt_samples::markets::{CHAIN, CHAIN_TEXT, roster_of};
+use mt_samples::markets::{CHAIN, CHAIN_TEXT, SampleError, roster_of};
 use mt_samples::places::are_places;
 use mt_terms::{Match, Places, ProgNo};
 use std::alloc::{AllocError, Global};
-use std::process::Abort;
-use std::test::Fail;
 
-// The text of the match with these places.
-fn text_of(
+// Whether the match with these places, after so many proposals to each program, has this text.
+fn has_text(
     alloc: Global,
     roster: &Roster,
     places: &[Option<ProgNo>],
     proposals: &[u32],
-) -> Result<Vec<u8>, AllocError>
-    requires places { ArePlaces roster.now.market places.now }
-    requires received { length proposals.now ≡ length roster.now.market.programs }
-{
+    text: &[u8],
+) -> Result<bool, AllocError> {
+    if !are_places(roster, places) || proposals.len() != roster.programs() as usize {
+        return Ok(false);
+    }
     let matched = Match {
         places: Places::new(places.to_vec(alloc)?),
     };
-    published(alloc, roster, &matched, proposals)
-}
-
-fn expect_chain_text(rt: &impl Abort, alloc: Global, roster: &Roster) -> Result<(), Fail> {
-    let places = [Some(ProgNo(1)), Some(ProgNo(0)), None];
-    let proposals = [3, 2];
-    assert!(rt; are_places(roster, &places));
-    assert!(rt; proposals.len() == roster.programs() as usize);
-    let text = text_of(alloc, roster, &places, &proposals)?;
-    same(rt, &text.as_slice(), &CHAIN_TEXT);
-    Ok(())
+    let found = published(alloc, roster, &matched, proposals)?;
+    Ok(found.as_slice() == text)
 }
 
 #[test]
-fn a_match_as_a_text(rt: HostRuntime) -> Result<(), Fail> {
+fn a_match_as_a_text(rt: HostRuntime) -> Result<(), SampleError> {
     let roster = roster_of(&rt, rt.alloc(), CHAIN)?;
-    expect_chain_text(&rt, rt.alloc(), &roster)
+    let places = [Some(ProgNo(1)), Some(ProgNo(0)), None];
+    let has_text = has_text(rt.alloc(), &roster, &places, &[3, 2], CHAIN_TEXT);
+    same(&rt, has_text, Ok(true));
+    Ok(())
 }
 
-fn expect_line(rt: &impl Abort, code: u16, row: u64, id: &str, line: &str) {
-    assert!(rt; matches!(code, 10..=22 | 30 | 31 | 41));
-    assert!(rt; id.len() <= 64);
-    same(
-        rt,
-        &refused(code, row, id.as_bytes()).as_bytes(),
-        &line.as_bytes(),
-    );
+// Whether a refusal for a known code, with an id that isn't too long, has this line.
+fn has_line(code: u16, row: u64, id: &str, line: &str) -> bool {
+    matches!(code, 10..=22 | 30 | 31 | 41)
+        && id.len() <= 64
+        && refused(code, row, id.as_bytes()).as_bytes() == line.as_bytes()
 }
 
 const ID_64: &str = "abcdefghijklmnopqrstuvwxyz012345ABCDEFGHIJKLMNOPQRSTUVWXYZ._:-67";
@@ -103,8 +90,8 @@ const LINES: &[(u16, u64, &str, &str)] = &[
 #[test]
 fn each_code_has_its_line(rt: HostRuntime) {
     for (code, row, id, line) in LINES {
-        expect_line(&rt, *code, *row, id, line);
+        holds_for(&rt, has_line(*code, *row, id, line), line);
     }
-    same(&rt, &LONGEST.len(), &110);
-    same(&rt, &LONGEST_OF_VERSION_1.len(), &78);
+    same(&rt, LONGEST.len(), 110);
+    same(&rt, LONGEST_OF_VERSION_1.len(), 78);
 }

@@ -1,31 +1,33 @@
 //! Texts into writers that take little at a time, fail, or take nothing.
 
-use crate::expect::same;
+use crate::expect::{holds_for, same};
 use mt_report::{Drain, put_all};
 use mt_samples::devices::{Faltering, Narrow};
 use mt_samples::markets::CROSSED_TEXT as TEXT;
-use std::alloc::Global;
+use std::alloc::{AllocError, Global};
 use std::io::Write;
 use std::process::Abort;
-use std::test::Fail;
 
-// Writes the text, of which so many bytes are written, and counts a failure where it isn't written whole.
-fn expect_put<W: Write>(rt: &impl Abort, writer: &mut W, written: u64, whole: bool) {
+// Writes a text: how many bytes are written, whether that is all of it, and how many failures are counted.
+fn put<W: Write>(writer: &mut W, text: &[u8]) -> (u64, bool, u64) {
     let mut drain = Drain::new(writer);
-    let wrote = put_all(&mut drain, TEXT);
-    same(rt, &wrote.written, &written);
-    same(rt, &wrote.whole, &whole);
-    same(rt, &drain.failures(), &u64::from(!whole));
+    let wrote = put_all(&mut drain, text);
+    (wrote.written, wrote.whole, drain.failures())
+}
+
+// Whether these are the first bytes of the text, so many.
+fn is_front(taken: &[u8], count: usize) -> bool {
+    taken.len() == count && TEXT.starts_with(taken)
 }
 
 // Writes the text, of which the writer has to take the first bytes alone, and none after it failed. Only a text
-// that was taken whole is flushed, once.
+// that was taken whole is flushed, once. A failure is counted where it isn't written whole.
 fn expect_written(rt: &impl Abort, narrow: Narrow, first: usize, whole: bool) {
-    assert!(rt; first <= TEXT.len());
     let mut writer = narrow;
-    expect_put(rt, &mut writer, first as u64, whole);
-    same(rt, &writer.taken.as_slice(), &&TEXT[..first]);
-    same(rt, &writer.flushes, &u32::from(first == TEXT.len()));
+    let found = put(&mut writer, TEXT);
+    same(rt, found, (first as u64, whole, u64::from(!whole)));
+    holds_for(rt, is_front(&writer.taken, first), &first);
+    same(rt, writer.flushes, u32::from(first == TEXT.len()));
 }
 
 fn narrow(alloc: Global, at_once: usize, room: usize, fails: bool, flush_fails: bool) -> Narrow {
@@ -39,24 +41,46 @@ fn narrow(alloc: Global, at_once: usize, room: usize, fails: bool, flush_fails: 
     }
 }
 
-// Writers that stop in the text, and then writers that take it whole.
+// Writers that stop in the text.
+fn expect_cut(rt: &impl Abort, alloc: Global, at_once: usize, fails: bool) {
+    for room in 0..99 {
+        let writer = narrow(alloc, at_once, room, fails, false);
+        expect_written(rt, writer, room, false);
+    }
+}
+
+fn expect_taken_whole(rt: &impl Abort, alloc: Global, at_once: usize, flush_fails: bool) {
+    let writer = narrow(alloc, at_once, 99, true, flush_fails);
+    expect_written(rt, writer, 99, !flush_fails);
+}
+
 #[test]
 fn writers_with_some_room(rt: HostRuntime) {
-    assert!(rt; TEXT.len() == 99);
+    let alloc = rt.alloc();
+    same(&rt, TEXT.len(), 99);
     for at_once in [1, 7, 100] {
-        for fails in [false, true] {
-            for room in 0..99 {
-                let writer = narrow(rt.alloc(), at_once, room, fails, false);
-                expect_written(&rt, writer, room, false);
-            }
-        }
+        expect_cut(&rt, alloc, at_once, false);
+        expect_cut(&rt, alloc, at_once, true);
     }
     for at_once in [1, 7, 98, 99, 100] {
-        for flush_fails in [false, true] {
-            let writer = narrow(rt.alloc(), at_once, 99, true, flush_fails);
-            expect_written(&rt, writer, 99, !flush_fails);
-        }
+        expect_taken_whole(&rt, alloc, at_once, false);
+        expect_taken_whole(&rt, alloc, at_once, true);
     }
+}
+
+// Writes nothing and then the text twice, and gives the same of each.
+fn put_thrice<W: Write>(writer: &mut W) -> [(u64, bool, u64); 3] {
+    let mut drain = Drain::new(writer);
+    let nothing = put_all(&mut drain, b"");
+    let before = drain.failures();
+    let first = put_all(&mut drain, TEXT);
+    let between = drain.failures();
+    let second = put_all(&mut drain, TEXT);
+    [
+        (nothing.written, nothing.whole, before),
+        (first.written, first.whole, between),
+        (second.written, second.whole, drain.failures()),
+    ]
 }
 
 // Nothing is to be written at first, so the writer isn't asked and is flushed once. A second text through the same drain
@@ -64,27 +88,10 @@ fn writers_with_some_room(rt: HostRuntime) {
 #[test]
 fn two_texts_through_one_drain(rt: HostRuntime) {
     let mut writer = narrow(rt.alloc(), 100, 10, false, false);
-    let mut drain = Drain::new(&mut writer);
-    let nothing = put_all(&mut drain, b"");
-    same(
-        &rt,
-        &(nothing.written, nothing.whole, drain.failures()),
-        &(0, true, 0),
-    );
-    let some = put_all(&mut drain, TEXT);
-    same(
-        &rt,
-        &(some.written, some.whole, drain.failures()),
-        &(10, false, 1),
-    );
-    let none = put_all(&mut drain, TEXT);
-    same(
-        &rt,
-        &(none.written, none.whole, drain.failures()),
-        &(0, false, 2),
-    );
-    same(&rt, &writer.taken.as_slice(), &b"match,1,pu".as_slice());
-    same(&rt, &writer.flushes, &1);
+    let found = put_thrice(&mut writer);
+    same(&rt, found, [(0, true, 0), (10, false, 1), (0, false, 2)]);
+    same(&rt, writer.taken.as_slice(), b"match,1,pu".as_slice());
+    same(&rt, writer.flushes, 1);
 }
 
 // A writer that takes seven bytes at a time, and falters once.
@@ -109,11 +116,11 @@ fn expect_asked(
     taken: usize,
     whole: bool,
 ) {
-    assert!(rt; taken <= TEXT.len());
     let mut writer = faltering;
-    expect_put(rt, &mut writer, taken as u64, whole);
-    same(rt, &(writer.writes, writer.flushes), &(writes, flushes));
-    same(rt, &writer.taken.as_slice(), &&TEXT[..taken]);
+    let found = put(&mut writer, TEXT);
+    same(rt, found, (taken as u64, whole, u64::from(!whole)));
+    same(rt, (writer.writes, writer.flushes), (writes, flushes));
+    holds_for(rt, is_front(&writer.taken, taken), &taken);
 }
 
 // The text has 99 bytes, so fifteen writes take it.
@@ -137,16 +144,12 @@ fn a_flush_is_made_once(rt: HostRuntime) {
 
 // A writer that takes all of a long text in one write is asked once.
 #[test]
-fn a_long_text_is_offered_whole(rt: HostRuntime) -> Result<(), Fail> {
+fn a_long_text_is_offered_whole(rt: HostRuntime) -> Result<(), AllocError> {
     let text = vec![in rt.alloc(); b'a'; 1 << 20]?;
-    let mut writer = Faltering {
-        at_once: 1 << 20,
-        ..faltering(rt.alloc(), 0, true, 0)
-    };
-    let mut drain = Drain::new(&mut writer);
-    let wrote = put_all(&mut drain, &text);
-    same(&rt, &(wrote.written, wrote.whole), &(1 << 20, true));
-    same(&rt, &(writer.writes, writer.flushes), &(1, 1));
+    let mut writer = faltering(rt.alloc(), 0, true, 0);
+    writer.at_once = 1 << 20;
+    same(&rt, put(&mut writer, &text), (1 << 20, true, 0));
+    same(&rt, (writer.writes, writer.flushes), (1, 1));
     assert!(rt; writer.taken == text);
     Ok(())
 }

@@ -1,7 +1,9 @@
 //! Refused files: of each the code, the record and the id of the first fault.
 use crate::expect::holds_for;
 use crate::registration::{Fault, is_refused, limits, withdrawals};
-use std::test::Fail;
+use std::alloc::Global;
+use std::process::Abort;
+use std::thread::Threads;
 
 const NO_VERSION: &[(&str, Fault<'static>)] = &[
     ("", (12, 0, "")),
@@ -155,24 +157,28 @@ const UNKNOWN_PROGRAM: &[(&str, Fault<'static>)] = &[
     ),
 ];
 
-#[test]
-fn files_that_are_refused(rt: HostRuntime) -> Result<(), Fail> {
-    for files in [
-        NO_VERSION,
-        UNKNOWN_KIND,
-        FIELD_COUNT,
-        BAD_ID,
-        BAD_QUOTA,
-        DUPLICATE_ID,
-        DUPLICATE_ENTRY,
-        UNKNOWN_APPLICANT,
-        UNKNOWN_PROGRAM,
-        limits::REFUSED,
-        withdrawals::REFUSED,
-    ] {
-        for (file, fault) in files {
-            holds_for(&rt, is_refused(&rt, rt.alloc(), file, *fault)?, file);
-        }
+fn expect_refused<R: Abort + Threads + Sync>(
+    rt: &R,
+    alloc: Global,
+    files: &[(&str, Fault<'static>)],
+) {
+    for (file, fault) in files {
+        holds_for(rt, is_refused(rt, alloc, file, *fault), file);
     }
-    Ok(())
+}
+
+#[test]
+fn files_that_are_refused(rt: HostRuntime) {
+    let alloc = rt.alloc();
+    expect_refused(&rt, alloc, NO_VERSION);
+    expect_refused(&rt, alloc, UNKNOWN_KIND);
+    expect_refused(&rt, alloc, FIELD_COUNT);
+    expect_refused(&rt, alloc, BAD_ID);
+    expect_refused(&rt, alloc, BAD_QUOTA);
+    expect_refused(&rt, alloc, DUPLICATE_ID);
+    expect_refused(&rt, alloc, DUPLICATE_ENTRY);
+    expect_refused(&rt, alloc, UNKNOWN_APPLICANT);
+    expect_refused(&rt, alloc, UNKNOWN_PROGRAM);
+    expect_refused(&rt, alloc, limits::REFUSED);
+    expect_refused(&rt, alloc, withdrawals::REFUSED);
 }

@@ -1,9 +1,8 @@
 //! The limits of the two versions.
-use crate::expect::holds_for;
-use crate::registration::{Fault, accepted, is_refused};
-use mt_roster::Roster;
-use std::alloc::Global;
-use std::test::Fail;
+use crate::expect::{holds_for, same};
+use crate::registration::{Fault, is_refused};
+use mt_samples::markets::{SampleError, roster_of};
+use std::alloc::{AllocError, Global};
 use std::thread::Threads;
 
 // Ids of 32 bytes, and of 64 in version 2.
@@ -55,34 +54,32 @@ pub(crate) const REFUSED: &[(&str, Fault<'static>)] = &[
     ),
 ];
 
-// Whether a market has so many programs, applicants and couples.
-fn has(roster: &Roster, programs: u32, applicants: u32, couples: u32) -> bool {
-    let is_paired = roster.applicants() == applicants && roster.couples() == couples;
-    roster.programs() == programs && is_paired
-}
-
-// Whether a file is accepted and has so many programs, applicants and couples.
-fn has_sizes<R: Threads + Sync>(
+// How many programs, applicants and couples a file has.
+fn sizes_of<R: Threads + Sync>(
     rt: &R,
     alloc: Global,
     file: &str,
-    programs: u32,
-    applicants: u32,
-    couples: u32,
-) -> Result<bool, Fail> {
-    let roster = accepted(rt, alloc, file)?;
-    Ok(has(&roster, programs, applicants, couples))
+) -> Result<(u32, u32, u32), SampleError> {
+    let roster = roster_of(rt, alloc, file.as_bytes())?;
+    Ok((roster.programs(), roster.applicants(), roster.couples()))
 }
 
 // A file of the most programs, with this line behind them.
-fn most_programs(alloc: Global, head: &str, last: &str) -> Result<String, Fail> {
-    let mut file = String::new(alloc);
-    file.push_str(head)?;
-    for number in 1..=20_000 {
-        file.push_str(&format!(in alloc; "program,p{number},0\n")?)?;
+fn most_programs(alloc: Global, head: &str, last: &str) -> Result<String, AllocError> {
+    let mut file = String::from_str(alloc, head)?;
+    for number in 1..20_001u32 {
+        write!(file, "program,p{number},0\n")?;
     }
     file.push_str(last)?;
     Ok(file)
+}
+
+fn sizes_of_most_programs<R: Threads + Sync>(
+    rt: &R,
+    alloc: Global,
+) -> Result<(u32, u32, u32), SampleError> {
+    let file = most_programs(alloc, "match,1\n", "")?;
+    sizes_of(rt, alloc, file.as_str())
 }
 
 // Heads of files, lines behind the most programs, and the faults of these.
@@ -100,33 +97,43 @@ const BEHIND_PROGRAMS: &[(&str, &str, Fault<'static>)] = &[
     ),
 ];
 
+fn is_refused_behind_programs<R: Threads + Sync>(
+    rt: &R,
+    alloc: Global,
+    head: &str,
+    last: &str,
+    fault: Fault<'_>,
+) -> Result<bool, AllocError> {
+    let file = most_programs(alloc, head, last)?;
+    Ok(is_refused(rt, alloc, file.as_str(), fault))
+}
+
 // A program more than 20,000 is told with its record and id, but not before what comes earlier in the order of codes.
 #[test]
-fn one_program_too_many(rt: HostRuntime) -> Result<(), Fail> {
-    let file = most_programs(rt.alloc(), "match,1\n", "")?;
-    assert!(rt; has_sizes(&rt, rt.alloc(), &file, 20_000, 0, 0)?);
+fn one_program_too_many(rt: HostRuntime) {
+    let sizes = sizes_of_most_programs(&rt, rt.alloc());
+    same(&rt, sizes, Ok((20_000, 0, 0)));
     for (head, last, fault) in BEHIND_PROGRAMS {
-        let file = most_programs(rt.alloc(), head, last)?;
-        holds_for(&rt, is_refused(&rt, rt.alloc(), &file, *fault)?, last);
+        let is_refused = is_refused_behind_programs(&rt, rt.alloc(), head, last, *fault);
+        holds_for(&rt, is_refused == Ok(true), last);
     }
-    Ok(())
 }
 
 // A file of the most couples that it may have.
-fn most_couples(alloc: Global) -> Result<String, Fail> {
-    let mut file = String::new(alloc);
-    file.push_str("match,1\n")?;
-    for number in 1..=10_000 {
-        file.push_str(&format!(in alloc; "couple,c{number},a{number},b{number}\n")?)?;
+fn most_couples(alloc: Global) -> Result<String, AllocError> {
+    let mut file = String::from_str(alloc, "match,1\n")?;
+    for number in 1..10_001u32 {
+        write!(file, "couple,c{number},a{number},b{number}\n")?;
     }
     Ok(file)
 }
 
 #[test]
-fn one_couple_too_many(rt: HostRuntime) -> Result<(), Fail> {
+fn one_couple_too_many(rt: HostRuntime) -> Result<(), AllocError> {
     let mut file = most_couples(rt.alloc())?;
-    assert!(rt; has_sizes(&rt, rt.alloc(), &file, 0, 20_000, 10_000)?);
+    let sizes = sizes_of(&rt, rt.alloc(), file.as_str());
+    same(&rt, sizes, Ok((0, 20_000, 10_000)));
     file.push_str("couple,c,a,b\n")?;
-    assert!(rt; is_refused(&rt, rt.alloc(), &file, (19, 10_002, "c"))?);
+    assert!(rt; is_refused(&rt, rt.alloc(), file.as_str(), (19, 10_002, "c")));
     Ok(())
 }
