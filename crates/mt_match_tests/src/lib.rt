@@ -4,6 +4,8 @@
 #[cfg(test)]
 mod expect;
 #[cfg(test)]
+mod finding;
+#[cfg(test)]
 mod parallel;
 #[cfg(test)]
 mod plain;

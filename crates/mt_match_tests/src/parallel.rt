@@ -4,72 +4,50 @@ ghost use Rattle.std.specs.Prelude.{◌≡◌};
 ghost use Rattle.mt_ranks.specs.Ranked.{ranked_of};
 
 use crate::expect::same_for;
-use crate::plain::{plain_rank, plain_verdict};
+use crate::finding::plain_finding;
+use crate::plain::plain_rank;
 use mt_ranks::{Live, Ranks};
 use mt_roster::Roster;
 use mt_samples::markets::{BETWEEN, CHAIN, CROSSED, HALF_PAIR, THREE_COUPLES};
-use mt_samples::places::are_places;
 use mt_samples::singles::singles;
 use mt_samples::tables::with_ranks;
-use mt_terms::{AppNo, Match, Places, ProgNo};
-use mt_verify::verify;
+use mt_terms::{AppNo, ProgNo};
 use std::alloc::{AllocError, Global};
 use std::process::Abort;
-use std::test::Fail;
 use std::thread::Threads;
 
-// The live list is of those programs on the applicant's list that list it too, each with the plain rank.
-fn expect_live(rt: &impl Abort, of: &str, roster: &Roster, live: &[Live], applicant: AppNo) {
-    let mut live = live.iter();
+// Whether the live list is of those programs on the applicant's list that list it too, each with the plain rank.
+fn is_plain_live(roster: &Roster, live: &[Live], applicant: AppNo) -> bool {
+    let mut left = live.iter();
     if applicant.0 < roster.applicants() {
         for program in roster.single_list(applicant) {
             if let Some(rank) = plain_rank(roster, *program, applicant) {
-                let entry = live.next().expect(rt, "a live entry");
-                same_for(rt, &(entry.program.0, entry.rank), &(program.0, rank), &of);
+                match left.next() {
+                    Some(entry) if entry.program == *program && entry.rank == rank => {}
+                    _ => return false,
+                }
             }
         }
     }
-    assert!(rt; live.next().is_none());
+    left.next().is_none()
 }
 
 // The live lists, and some ranks of each applicant: at two programs from a number on.
 fn expect_tables(rt: &impl Abort, of: &str, roster: &Roster, ranks: &Ranks) {
-    same_for(rt, &ranks.applicants(), &roster.applicants(), &of);
-    same_for(rt, &ranks.programs(), &roster.programs(), &of);
+    same_for(rt, ranks.applicants(), roster.applicants(), of);
+    same_for(rt, ranks.programs(), roster.programs(), of);
     for number in 0..ranks.applicants() {
         let applicant = AppNo(number);
-        expect_live(rt, of, roster, ranks.live(applicant), applicant);
+        let is_plain = is_plain_live(roster, ranks.live(applicant), applicant);
+        same_for(rt, is_plain, true, (of, number));
         for step in 0..2u32 {
             if ranks.programs() > 0 {
                 let program = ProgNo(number.saturating_add(step) % ranks.programs());
                 let rank = plain_rank(roster, program, applicant);
-                same_for(rt, &ranks.rank(program, applicant), &rank, &of);
+                same_for(rt, ranks.rank(program, applicant), rank, (of, number));
             }
         }
     }
-}
-
-fn expect_plain_verdict<R: Abort + Threads + Sync>(
-    rt: &R,
-    alloc: Global,
-    of: &str,
-    roster: &Roster,
-    ranks: &Ranks,
-    places: Vec<Option<ProgNo>>,
-) -> Result<(), AllocError>
-    requires { ranks.now ≡ ranked_of roster.now.market }
-{
-    assert!(rt; are_places(roster, places.as_slice()));
-    let matched = Match {
-        places: Places::new(places),
-    };
-    same_for(
-        rt,
-        &verify(rt, alloc, roster, ranks, &matched)?,
-        &plain_verdict(roster, &matched),
-        &of,
-    );
-    Ok(())
 }
 
 // The match with this number, whose digits to the base of one more than the programs are the places.
@@ -105,6 +83,20 @@ fn with_last(
     Ok(changed)
 }
 
+fn expect_plain_verdict<R: Abort + Threads + Sync>(
+    rt: &R,
+    alloc: Global,
+    of: &str,
+    roster: &Roster,
+    ranks: &Ranks,
+    places: Vec<Option<ProgNo>>,
+) -> Result<(), AllocError>
+    requires { ranks.now ≡ ranked_of roster.now.market }
+{
+    plain_finding(rt, alloc, of, roster, ranks, places)?;
+    Ok(())
+}
+
 // The first matches by number, of which the first one places nobody; the best match of the singles; and that with the
 // last applicant at the last program.
 fn expect_plain_on<R: Abort + Threads + Sync>(
@@ -136,15 +128,16 @@ fn expect_plain<R: Abort + Threads + Sync>(
     of: &str,
     file: &[u8],
     matches: u32,
-) -> Result<(), Fail> {
-    Ok(with_ranks(
+) {
+    let compared = with_ranks(
         rt,
         alloc,
         file,
         |roster: &Roster, ranks: &Ranks<'_>| -> Result<(), AllocError>
             requires { ranks.now ≡ ranked_of roster.now.market }
         { expect_plain_on(rt, alloc, of, roster, ranks, matches) },
-    )?)
+    );
+    compared.expect(rt, of);
 }
 
 // Markets, and how many matches they have.
@@ -158,27 +151,14 @@ const SMALL: &[(&str, &[u8], u32)] = &[
 ];
 
 #[test]
-fn small_markets_with_all_their_matches(rt: HostRuntime) -> Result<(), Fail> {
+fn small_markets_with_all_their_matches(rt: HostRuntime) {
     for (of, file, matches) in SMALL {
-        expect_plain(&rt, rt.alloc(), of, file, *matches)?;
+        expect_plain(&rt, rt.alloc(), of, file, *matches);
     }
-    Ok(())
-}
-
-fn push_numbered(
-    alloc: Global,
-    file: &mut String,
-    before: &str,
-    number: u32,
-    after: &str,
-) -> Result<(), AllocError> {
-    let text = format!(in alloc; "{before}{number}{after}")?;
-    file.push_str(&text)
 }
 
 // Those whose number is the program's or one more, but for a multiple of the programs' count, from the last ones down.
 fn push_every_so_many(
-    alloc: Global,
     file: &mut String,
     applicants: u32,
     programs: u32,
@@ -191,91 +171,90 @@ fn push_every_so_many(
             .saturating_mul(count)
             .saturating_add(program);
         for applicant in own..own.saturating_add(2).min(applicants) {
-            push_numbered(alloc, file, ",a", applicant, "")?;
+            write!(file, ",a{applicant}")?;
         }
     }
     Ok(())
 }
 
 // The second of the three programs doesn't list the applicant.
-fn push_wishes(
-    alloc: Global,
-    file: &mut String,
-    programs: u32,
-    applicant: u32,
-) -> Result<(), AllocError> {
+fn push_wishes(file: &mut String, programs: u32, applicant: u32) -> Result<(), AllocError> {
     let count = programs.max(1);
     let own = applicant % count;
     let before = applicant.saturating_add(count - 1) % count;
     let other = applicant.saturating_add(5) % count;
-    let line = format!(in alloc; "applicant,a{applicant},p{before},p{other},p{own}\n")?;
-    file.push_str(&line)
+    write!(file, "applicant,a{applicant},p{before},p{other},p{own}\n")
 }
 
 // Program p lists the applicants whose number is p or p + 1, but for a multiple of the programs' count, from the last
 // ones down, and has posts for half of them. Of an applicant's three programs the second doesn't list it.
 fn many_programs(alloc: Global, applicants: u32, programs: u32) -> Result<String, AllocError> {
-    let mut file = String::new(alloc);
-    file.push_str("match,2\n")?;
+    let mut file = String::from_str(alloc, "match,2\n")?;
     for program in 0..programs {
-        push_numbered(alloc, &mut file, "program,p", program, "")?;
-        push_numbered(alloc, &mut file, ",", applicants / programs.max(1), "")?;
-        push_every_so_many(alloc, &mut file, applicants, programs, program)?;
+        let quota = applicants / programs.max(1);
+        write!(file, "program,p{program},{quota}")?;
+        push_every_so_many(&mut file, applicants, programs, program)?;
         file.push_str("\n")?;
     }
     for applicant in 0..applicants {
-        push_wishes(alloc, &mut file, programs, applicant)?;
+        push_wishes(&mut file, programs, applicant)?;
     }
     Ok(file)
 }
 
+// So many numbers from the first one on, each between these texts.
+fn push_each(
+    file: &mut String,
+    before: &str,
+    first: u32,
+    count: u32,
+    after: &str,
+) -> Result<(), AllocError> {
+    for number in first..first.saturating_add(count) {
+        write!(file, "{before}{number}{after}")?;
+    }
+    Ok(())
+}
+
 // A program with 1,100 posts lists 2,200 applicants, and wants the last one most.
 fn one_program(alloc: Global) -> Result<String, AllocError> {
-    let mut file = String::new(alloc);
-    file.push_str("match,1\nprogram,P,1100")?;
+    let mut file = String::from_str(alloc, "match,1\nprogram,P,1100")?;
     for back in 0..2_200u32 {
-        push_numbered(alloc, &mut file, ",a", 2_199 - back, "")?;
+        write!(file, ",a{}", 2_199 - back)?;
     }
     file.push_str("\n")?;
-    for applicant in 0..2_200u32 {
-        push_numbered(alloc, &mut file, "applicant,a", applicant, ",P\n")?;
-    }
+    push_each(&mut file, "applicant,a", 0, 2_200, ",P\n")?;
     Ok(file)
 }
 
 // Behind two couples 3,000 singles want the two posts of x.
 fn couples_and_many_singles(alloc: Global) -> Result<String, AllocError> {
-    let mut file = String::new(alloc);
-    file.push_str("match,1\nprogram,x,2,c,e1,d")?;
-    for single in 1..3_001u32 {
-        push_numbered(alloc, &mut file, ",s", single, "")?;
-    }
+    let mut file = String::from_str(alloc, "match,1\nprogram,x,2,c,e1,d")?;
+    push_each(&mut file, ",s", 1, 3_000, "")?;
     file.push_str("\nprogram,z,1,e2\n")?;
-    for single in 1..3_001u32 {
-        push_numbered(alloc, &mut file, "applicant,s", single, ",x\n")?;
-    }
+    push_each(&mut file, "applicant,s", 1, 3_000, ",x\n")?;
     file.push_str("couple,D,c,d,x,x\ncouple,E,e1,e2,x,z\n")?;
     Ok(file)
 }
 
 // A large market, with few of its matches.
-fn expect_large<R: Abort + Threads + Sync>(
-    rt: &R,
-    alloc: Global,
-    of: &str,
-    file: String,
-) -> Result<(), Fail> {
-    expect_plain(rt, alloc, of, file.as_bytes(), 1)
+fn expect_large<R: Abort + Threads + Sync>(rt: &R, alloc: Global, of: &str, file: String) {
+    expect_plain(rt, alloc, of, file.as_bytes(), 1);
 }
 
 #[test]
-fn large_markets(rt: HostRuntime) -> Result<(), Fail> {
+fn large_markets(rt: HostRuntime) -> Result<(), AllocError> {
     let alloc = rt.alloc();
     // More applicants than a block of the tables has, and more programs than one thread goes through.
-    let file = many_programs(alloc, 25_011, 530)?;
-    expect_large(&rt, alloc, "many programs", file)?;
+    expect_large(
+        &rt,
+        alloc,
+        "many programs",
+        many_programs(alloc, 25_011, 530)?,
+    );
     // More applicants than one thread judges.
-    expect_large(&rt, alloc, "one program for all", one_program(alloc)?)?;
+    expect_large(&rt, alloc, "one program for all", one_program(alloc)?);
     let file = couples_and_many_singles(alloc)?;
-    expect_large(&rt, alloc, "couples before many singles", file)
+    expect_large(&rt, alloc, "couples before many singles", file);
+    Ok(())
 }

@@ -4,17 +4,15 @@
 ghost use Rattle.std.specs.Prelude.{◌≡◌};
 ghost use Rattle.mt_ranks.specs.Ranked.{ranked_of};
 
-use crate::expect::{same, same_for};
-use crate::plain::plain_verdict;
+use crate::expect::same_for;
+use crate::finding::plain_finding;
 use mt_ranks::Ranks;
 use mt_roster::Roster;
-use mt_samples::places::are_places;
+use mt_samples::markets::SampleError;
 use mt_samples::tables::with_ranks;
-use mt_terms::{Agent, Blocker, Match, Places, ProgNo};
-use mt_verify::{Verdict, verify};
+use mt_terms::{Agent, Blocker, ProgNo, Verdict};
 use std::alloc::{AllocError, Global};
 use std::process::Abort;
-use std::test::Fail;
 use std::thread::Threads;
 
 // x prefers t, which is there; y and z would both take s, which wants y more. At y it doesn't block with z, which
@@ -122,16 +120,15 @@ fn places_of(
 
 // A verdict as a text: an agent that blocks with its number and its option.
 fn shown(alloc: Global, verdict: &Verdict) -> Result<String, AllocError> {
-    let text = match verdict {
-        Verdict::Stable => format!(in alloc; "stable")?,
-        Verdict::Unlisted(applicant) => format!(in alloc; "unlisted {}", applicant.0)?,
-        Verdict::Over(program) => format!(in alloc; "over {}", program.0)?,
+    match verdict {
+        Verdict::Stable => String::from_str(alloc, "stable"),
+        Verdict::Unlisted(applicant) => format!(in alloc; "unlisted {}", applicant.0),
+        Verdict::Over(program) => format!(in alloc; "over {}", program.0),
         Verdict::Blocks(Blocker { agent, option }) => match agent {
-            Agent::Single(single) => format!(in alloc; "single {} by {option}", single.0)?,
-            Agent::Couple(couple) => format!(in alloc; "couple {} by {option}", couple.0)?,
+            Agent::Single(single) => format!(in alloc; "single {} by {option}", single.0),
+            Agent::Couple(couple) => format!(in alloc; "couple {} by {option}", couple.0),
         },
-    };
-    Ok(text)
+    }
 }
 
 // What the verifier says of a match.
@@ -145,12 +142,7 @@ fn finding_on<R: Abort + Threads + Sync>(
     requires { ranks.now ≡ ranked_of roster.now.market }
 {
     let places = places_of(alloc, roster, match_text)?;
-    assert!(rt; are_places(roster, places.as_slice()));
-    let matched = Match {
-        places: Places::new(places),
-    };
-    let verdict = verify(rt, alloc, roster, ranks, &matched)?;
-    same(rt, &verdict, &plain_verdict(roster, &matched));
+    let verdict = plain_finding(rt, alloc, match_text, roster, ranks, places)?;
     shown(alloc, &verdict)
 }
 
@@ -160,15 +152,15 @@ fn finding<R: Abort + Threads + Sync>(
     alloc: Global,
     file: &str,
     match_text: &str,
-) -> Result<String, Fail> {
-    Ok(with_ranks(
+) -> Result<String, SampleError> {
+    with_ranks(
         rt,
         alloc,
         file.as_bytes(),
         |roster: &Roster, ranks: &Ranks<'_>| -> Result<String, AllocError>
             requires { ranks.now ≡ ranked_of roster.now.market }
         { finding_on(rt, alloc, roster, ranks, match_text) },
-    )?)
+    )
 }
 
 const PLACES_THAT_ARE_NOT_ALLOWED: &[(&str, &str, &str)] = &[
@@ -235,20 +227,24 @@ const COUPLES_THAT_BLOCK_ONCE_THEY_ARE_TAKEN_OUT: &[(&str, &str, &str)] = &[
     (NOWHERE, "y -", "stable"),
 ];
 
-#[test]
-fn each_match_gets_its_finding(rt: HostRuntime) -> Result<(), Fail> {
-    for matches in [
-        PLACES_THAT_ARE_NOT_ALLOWED,
-        PROGRAMS_OVER_THEIR_QUOTAS,
-        AGENTS_THAT_BLOCK,
-        COUPLES_THAT_BLOCK_ONCE_THEY_ARE_TAKEN_OUT,
-    ] {
-        for (file, places, wanted) in matches {
-            let found = finding(&rt, rt.alloc(), file, places)?;
-            same_for(&rt, &found.as_str(), wanted, &(*file, *places));
-        }
+fn expect_findings<R: Abort + Threads + Sync>(
+    rt: &R,
+    alloc: Global,
+    matches: &[(&str, &str, &str)],
+) {
+    for (file, places, wanted) in matches {
+        let found = finding(rt, alloc, file, places).expect(rt, "a finding");
+        same_for(rt, found.as_str(), *wanted, (*file, *places));
     }
-    Ok(())
+}
+
+#[test]
+fn each_match_gets_its_finding(rt: HostRuntime) {
+    let alloc = rt.alloc();
+    expect_findings(&rt, alloc, PLACES_THAT_ARE_NOT_ALLOWED);
+    expect_findings(&rt, alloc, PROGRAMS_OVER_THEIR_QUOTAS);
+    expect_findings(&rt, alloc, AGENTS_THAT_BLOCK);
+    expect_findings(&rt, alloc, COUPLES_THAT_BLOCK_ONCE_THEY_ARE_TAKEN_OUT);
 }
 
 // All 27 ways to place three applicants at two programs.
@@ -259,10 +255,9 @@ const ALL_PLACES: &[&str] = &[
 ];
 
 #[test]
-fn a_market_without_a_stable_match(rt: HostRuntime) -> Result<(), Fail> {
+fn a_market_without_a_stable_match(rt: HostRuntime) {
     for places in ALL_PLACES {
-        let found = finding(&rt, rt.alloc(), UNSTABLE, places)?;
-        same_for(&rt, &(found.as_str() == "stable"), &false, places);
+        let found = finding(&rt, rt.alloc(), UNSTABLE, places).expect(&rt, "a finding");
+        same_for(&rt, found.as_str() == "stable", false, *places);
     }
-    Ok(())
 }
