@@ -3,17 +3,12 @@
 use std::fmt::Debug;
 use std::process::Abort;
 
-// That what was found is what was wanted.
-pub(crate) fn same<T: PartialEq + Debug>(rt: &impl Abort, found: &T, wanted: &T) {
-    assert_eq!(rt; found, wanted);
-}
-
-// The same, of something.
-pub(crate) fn same_for<T: PartialEq + Debug, W: Debug>(
+// That what was found of something is what was wanted.
+pub(crate) fn same_for<T: Copy + PartialEq + Debug, W: Copy + Debug>(
     rt: &impl Abort,
-    found: &T,
-    wanted: &T,
-    of: &W,
+    found: T,
+    wanted: T,
+    of: W,
 ) {
     assert_eq!(rt; found, wanted, "of {of:?}");
 }

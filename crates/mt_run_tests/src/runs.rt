@@ -1,7 +1,7 @@
 //! Whole runs: one for each exit, the same text for all workers and pieces, and devices that fail.
 ghost use Rattle.std.specs.Prelude.{◌≤◌};
 
-use crate::expect::{same, same_for};
+use crate::expect::same_for;
 use mt_lists::Tap;
 use mt_report::Drain;
 use mt_run::{Ended, Options, run};
@@ -10,11 +10,10 @@ use mt_samples::markets::{
     CHAIN, CHAIN_TEXT, CROSSED, CROSSED_TEXT, HALF_PAIR, HALF_PAIR_TEXT, THREE_COUPLES,
     THREE_COUPLES_TEXT,
 };
-use std::alloc::{AllocGlobal, Global};
+use std::alloc::{AllocError, AllocGlobal, Global};
 use std::io::{ErrorKind, Read};
 use std::process::Abort;
 use std::sync::Wait;
-use std::test::Fail;
 use std::thread::Threads;
 
 /// The options where nothing is said.
@@ -43,6 +42,21 @@ fn status_of(rt: &impl Abort, ended: &Ended) -> u8 {
     ended.status()
 }
 
+// How a run ends that writes there, and how often the writer fails.
+fn run_into<R: Read + Drop>(
+    rt: &(impl AllocGlobal + Threads + Wait + Sync),
+    reader: R,
+    writer: &mut Narrow,
+    options: Options,
+) -> (Ended, u64)
+    requires { (1 ≤ options.workers) × (options.workers ≤ 64) }
+{
+    let mut tap = Tap::new(reader);
+    let mut drain = Drain::new(writer);
+    let ended = run(rt, rt.alloc(), &mut tap, &mut drain, options);
+    (ended, drain.failures())
+}
+
 // Expects a run to end with this code and this exit status, and to write this text whole.
 fn expect_end<R: Read + Drop>(
     rt: &(impl Abort + AllocGlobal + Threads + Wait + Sync),
@@ -55,19 +69,16 @@ fn expect_end<R: Read + Drop>(
     requires { (1 ≤ options.workers) × (options.workers ≤ 64) }
 {
     let mut writer = narrow(rt.alloc(), usize::MAX, usize::MAX, false);
-    let mut tap = Tap::new(reader);
-    let mut drain = Drain::new(&mut writer);
-    let ended = run(rt, rt.alloc(), &mut tap, &mut drain, options);
-    same(rt, &drain.failures(), &0);
-    same_for(rt, &writer.taken.as_slice(), &text, &options);
-    same(rt, &writer.flushes, &1);
+    let (ended, failures) = run_into(rt, reader, &mut writer, options);
+    same_for(rt, writer.taken.as_slice(), text, options);
+    same_for(rt, (failures, writer.flushes), (0, 1), options);
     let wanted = Ended {
         code,
         written: text.len() as u64,
         whole: true,
     };
-    same_for(rt, &ended, &wanted, &options);
-    same(rt, &status_of(rt, &ended), &status);
+    same_for(rt, &ended, &wanted, options);
+    same_for(rt, status_of(rt, &ended), status, options);
 }
 
 // Expects a run into this writer to write only these bytes of a text, and to end with this code.
@@ -79,18 +90,16 @@ fn expect_cut(
     taken: &[u8],
 ) {
     let mut writer = narrow;
-    let mut tap = Tap::new(input);
-    let mut drain = Drain::new(&mut writer);
-    let ended = run(rt, rt.alloc(), &mut tap, &mut drain, USUAL);
-    same(rt, &drain.failures(), &1);
-    same(rt, &writer.taken.as_slice(), &taken);
+    let (ended, failures) = run_into(rt, input, &mut writer, USUAL);
+    same_for(rt, writer.taken.as_slice(), taken, failures);
+    same_for(rt, failures, 1, taken);
     let wanted = Ended {
         code,
         written: taken.len() as u64,
         whole: false,
     };
-    same(rt, &ended, &wanted);
-    same(rt, &status_of(rt, &ended), &5);
+    same_for(rt, &ended, &wanted, taken);
+    same_for(rt, status_of(rt, &ended), 5, taken);
 }
 
 #[test]
@@ -122,7 +131,7 @@ fn each_exit(rt: HostRuntime) {
         written: 35,
         whole: true,
     };
-    same(&rt, &status_of(&rt, &without_memory), &4);
+    same_for(&rt, status_of(&rt, &without_memory), 4, 30);
     let pieces = Pieces::new(CROSSED, 100, 2, ErrorKind::Other);
     expect_end(&rt, pieces, USUAL, 31, 5, READ_FAULT);
     expect_cut(
@@ -160,39 +169,39 @@ fn expect_same(rt: &(impl Abort + AllocGlobal + Threads + Wait + Sync), input: &
 }
 
 /// Singles `s1` to `s3000` wait for the post that a couple leaves.
-fn waiting_singles(alloc: Global) -> Result<String, Fail> {
-    let mut input = String::from_str(alloc, "match,1\nprogram,x,2,c,e1,d")?;
-    for i in 1..3_001 {
-        input.push_str(&format!(in alloc; ",s{i}")?)?;
+fn push_waiting_singles(input: &mut String) -> Result<(), AllocError> {
+    input.push_str("match,1\nprogram,x,2,c,e1,d")?;
+    for i in 1..3_001u32 {
+        write!(input, ",s{i}")?;
     }
     input.push_str("\nprogram,z,1,e2\n")?;
-    for i in 1..3_001 {
-        input.push_str(&format!(in alloc; "applicant,s{i},x\n")?)?;
+    for i in 1..3_001u32 {
+        write!(input, "applicant,s{i},x\n")?;
     }
-    input.push_str("couple,D,c,d,x,x\ncouple,E,e1,e2,x,z\n")?;
-    Ok(input)
+    input.push_str("couple,D,c,d,x,x\ncouple,E,e1,e2,x,z\n")
 }
 
 /// The text of the market where the first of them gets it.
-fn waiting_singles_text(alloc: Global) -> Result<String, Fail> {
-    let mut text = String::from_str(alloc, "match,1,published\napplicant,s1,x\n")?;
-    for i in 2..3_001 {
-        text.push_str(&format!(in alloc; "applicant,s{i},-\n")?)?;
+fn push_waiting_singles_text(text: &mut String) -> Result<(), AllocError> {
+    text.push_str("match,1,published\napplicant,s1,x\n")?;
+    for i in 2..3_001u32 {
+        write!(text, "applicant,s{i},-\n")?;
     }
     text.push_str("applicant,c,-\napplicant,d,-\napplicant,e1,x\napplicant,e2,z\n")?;
-    text.push_str("program,x,2,2,3000\nprogram,z,1,1,0\ntotals,3004,3001,3,0\n")?;
-    Ok(text)
+    text.push_str("program,x,2,2,3000\nprogram,z,1,1,0\ntotals,3004,3001,3,0\n")
 }
 
 // In the last file all who wait are looked at again: D takes both posts of x from s1 and s2, which aren't taken again; E
 // takes x and z and drives D out; D isn't taken again; s1 takes the post that was left, and the 2,999 others aren't taken.
 #[test]
-fn workers_and_pieces_change_nothing(rt: HostRuntime) -> Result<(), Fail> {
+fn workers_and_pieces_change_nothing(rt: HostRuntime) -> Result<(), AllocError> {
     expect_same(&rt, CHAIN, CHAIN_TEXT);
     expect_same(&rt, THREE_COUPLES, THREE_COUPLES_TEXT);
     expect_same(&rt, HALF_PAIR, HALF_PAIR_TEXT);
-    let input = waiting_singles(rt.alloc())?;
-    let text = waiting_singles_text(rt.alloc())?;
+    let mut input = String::new(rt.alloc());
+    push_waiting_singles(&mut input)?;
+    let mut text = String::new(rt.alloc());
+    push_waiting_singles_text(&mut text)?;
     expect_same(&rt, input.as_bytes(), text.as_bytes());
     Ok(())
 }
@@ -205,7 +214,7 @@ fn each_read_fails(rt: HostRuntime) {
         for k in 1..14 {
             let mut pieces = Pieces::new(CROSSED, 7, k, failure);
             expect_end(&rt, &mut pieces, USUAL, 31, 5, READ_FAULT);
-            same(&rt, &pieces.calls, &k);
+            same_for(&rt, pieces.calls, k, k);
         }
         let pieces = Pieces::new(CROSSED, 7, 14, failure);
         expect_end(&rt, pieces, USUAL, 0, 0, CROSSED_TEXT);
@@ -219,14 +228,10 @@ fn a_reader_without_end(rt: HostRuntime) {
     let mut writer = narrow(rt.alloc(), 100, 100, false);
     let mut drain = Drain::new(&mut writer);
     let ended = run(&rt, rt.alloc(), &mut tap, &mut drain, USUAL);
-    same(&rt, &ended.code, &10);
+    same_for(&rt, (ended.code, tap.failures()), (10, 0), tap.reads());
     assert!(rt; tap.reads() <= 1_048_577);
-    same(&rt, &tap.failures(), &0);
-    same(
-        &rt,
-        &writer.taken.as_slice(),
-        &b"match,1,refused,10,TooLarge,0,-\n".as_slice(),
-    );
+    let text = b"match,1,refused,10,TooLarge,0,-\n".as_slice();
+    same_for(&rt, writer.taken.as_slice(), text, ended.code);
 }
 
 #[test]
