@@ -1,4 +1,4 @@
-//! Tests of the judge, of the couples' rounds and of what threads share, by public calls alone.
+//! Tests of the judge, of the couples' rounds, of what threads share and of whole runs, by public calls alone.
 #![tactic(auto)]
 
 #[cfg(test)]
@@ -11,5 +11,7 @@ mod parallel;
 mod plain;
 #[cfg(test)]
 mod rounds;
+#[cfg(test)]
+mod runs;
 #[cfg(test)]
 mod verdicts;
