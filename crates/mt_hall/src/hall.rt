@@ -11,13 +11,12 @@ use crate::desk::Desk;
 use crate::door::Door;
 use crate::entries::{entry_at, is_single, live_len};
 use crate::name::HallName;
-use crate::opening::{credits_of, open_counts, open_doors, seat, seat_passes};
+use crate::opening::{deal_out, open_doors};
 use crate::pass::Pass;
 use crate::steps::step;
 use crate::till::Till;
 use mt_core::Floor;
 use mt_ranks::Ranks;
-use mt_tally::deal;
 use mt_terms::{AppNo, ProgNo, Reply};
 use std::alloc::{AllocError, Global};
 use std::sync::ledger::Blank;
@@ -60,42 +59,22 @@ impl<'a, K: HallName> Hall<'a, K> {
         ensures unused { IfOk result (λ opened. All (λ pass. pass ≡ unused_pass K.ranked.market) opened.1.items) }
     {
         let applicants = ranks.applicants();
-        let credits = credits_of(alloc, ranks)?;
         let floor = Floor::open(alloc, ranks)?;
         let rows = vec![in alloc; Row {
             made: 0,
             standing: false
         }; applicants as usize]?;
         let doors = open_doors::<K>(alloc, ranks)?;
-        let counts = open_counts(alloc, ranks.programs(), applicants, workers)?;
-        let mut desks: Vec<Mutex<Desk<K>>> = Vec::with_capacity(alloc, applicants as usize)?;
-        let mut passes: Vec<Pass<K>> = match Vec::with_capacity(alloc, workers as usize) {
-            Ok(passes) => passes,
-            Err(refused) => {
-                desks.destroy_empty();
-                return Err(refused);
-            }
+        let (till, desks, passes) = deal_out::<K>(alloc, ranks, workers, blank)?;
+        let hall = Hall {
+            desks,
+            doors,
+            till: Mutex::new(till),
+            ranks,
+            floor,
+            rows,
         };
-        match deal::<K>(alloc, blank, &credits, workers) {
-            Ok((roll, desk_shares, pass_shares)) => {
-                seat(&mut desks, desk_shares);
-                seat_passes(&mut passes, pass_shares, counts);
-                let hall = Hall {
-                    desks,
-                    doors,
-                    till: Mutex::new(Till { roll }),
-                    ranks,
-                    floor,
-                    rows,
-                };
-                Ok((hall, passes))
-            }
-            Err(refused) => {
-                desks.destroy_empty();
-                passes.destroy_empty();
-                Err(refused)
-            }
-        }
+        Ok((hall, passes))
     }
 
     // No clause can say which lock it is: a lock is seen as nothing, and a door's number only while it is locked. So

@@ -1,4 +1,4 @@
-ghost use Rattle.std.specs.Prelude.{◌≡◌, ◌^◌, ◌<◌, ◌≤◌, All, IfOk, ℕ, length, map, replicate, sum, vec_capacity, vec_len};
+ghost use Rattle.std.specs.Prelude.{◌≡◌, ◌^◌, ◌+◌, ◌<◌, ◌≤◌, All, IfOk, ℕ, length, map, replicate, sum, vec_capacity, vec_len};
 ghost use Rattle.mt_terms.specs.Lists.{below};
 ghost use Rattle.mt_terms.specs.Market.{applicants, live, live_entries};
 ghost use Rattle.mt_hall.specs.Openings.{unused_pass};
@@ -8,16 +8,18 @@ use crate::door::Door;
 use crate::entries::live_len;
 use crate::name::HallName;
 use crate::pass::Pass;
+use crate::till::Till;
 use mt_hold::Hold;
 use mt_ranks::Ranks;
-use mt_tally::{DeskShare, PassShare};
+use mt_tally::{DeskShare, PassShare, deal};
 use mt_terms::{AppNo, ProgNo};
 use std::alloc::{AllocError, Global};
 use std::marker::PhantomData;
 use std::sync::Mutex;
+use std::sync::ledger::Blank;
 
 /// How many live entries each applicant has: as many credits its desk is dealt.
-pub(crate) fn credits_of(alloc: Global, ranks: &Ranks) -> Result<Vec<u32>, AllocError>
+fn credits_of(alloc: Global, ranks: &Ranks) -> Result<Vec<u32>, AllocError>
     ensures each { IfOk result (λ credits. credits.items
         ≡ map (λ a. length (live ranks.now.market a)) (below (applicants ranks.now.market))) }
     ensures all { IfOk result (λ credits. sum credits.items ≡ live_entries ranks.now.market) }
@@ -64,7 +66,7 @@ pub(crate) fn open_doors<K: HallName>(
 }
 
 /// A desk for each applicant, in the order of their numbers, with its share of credits.
-pub(crate) fn seat<K: HallName>(desks: &mut Vec<Mutex<Desk<K>>>, shares: Vec<DeskShare<K>>)
+fn seat<K: HallName>(desks: &mut Vec<Mutex<Desk<K>>>, shares: Vec<DeskShare<K>>)
     requires shares { shares.items ≡ map (λ a. length (live K.ranked.market a)) (below (applicants K.ranked.market)) }
     requires few { applicants K.ranked.market < 2 ^ 32 }
     requires room { (vec_len desks.old ≡ 0) × (applicants K.ranked.market ≤ vec_capacity desks.old) }
@@ -86,13 +88,13 @@ pub(crate) fn seat<K: HallName>(desks: &mut Vec<Mutex<Desk<K>>>, shares: Vec<Des
 
 /// The counts of a pass.
 #[derive(Drop)]
-pub(crate) struct Counts {
+struct Counts {
     by_program: Vec<u32>,
     by_applicant: Vec<u32>,
 }
 
 /// Counts of nothing, for each worker.
-pub(crate) fn open_counts(
+fn open_counts(
     alloc: Global,
     programs: u32,
     applicants: u32,
@@ -113,7 +115,7 @@ pub(crate) fn open_counts(
 }
 
 /// A pass for each share, with counts of nothing.
-pub(crate) fn seat_passes<K: HallName>(
+fn seat_passes<K: HallName>(
     passes: &mut Vec<Pass<K>>,
     shares: Vec<PassShare<K>>,
     counts: Vec<Counts>,
@@ -145,4 +147,56 @@ pub(crate) fn seat_passes<K: HallName>(
         }
     }
     shares.destroy_empty();
+}
+
+/// No desks and no passes, with room for so many.
+fn empty_seats<K: HallName>(
+    alloc: Global,
+    applicants: u32,
+    workers: u32,
+) -> Result<(Vec<Mutex<Desk<K>>>, Vec<Pass<K>>), AllocError>
+    ensures desks { IfOk result (λ seats. (vec_len seats.0 ≡ 0) × (applicants ≤ vec_capacity seats.0)) }
+    ensures passes { IfOk result (λ seats. (vec_len seats.1 ≡ 0) × (workers ≤ vec_capacity seats.1)) }
+{
+    let desks: Vec<Mutex<Desk<K>>> = Vec::with_capacity(alloc, applicants as usize)?;
+    match Vec::with_capacity(alloc, workers as usize) {
+        Ok(passes) => Ok((desks, passes)),
+        Err(refused) => {
+            desks.destroy_empty();
+            Err(refused)
+        }
+    }
+}
+
+/// The till of all credits, and the desks and the passes that they are dealt to.
+pub(crate) fn deal_out<K: HallName>(
+    alloc: Global,
+    ranks: &Ranks,
+    workers: u32,
+    blank: Blank,
+) -> Result<(Till<K>, Vec<Mutex<Desk<K>>>, Vec<Pass<K>>), AllocError>
+    requires ranks { ranks.now ≡ K.ranked }
+    requires name { blank.name ≡ K.name }
+    requires parts { (blank.parts ≡ K.parts) × (K.parts ≡ applicants K.ranked.market + workers) }
+    requires workers { 1 ≤ workers }
+    ensures desks { IfOk result (λ dealt. vec_len dealt.1 ≡ applicants K.ranked.market) }
+    ensures passes { IfOk result (λ dealt. vec_len dealt.2 ≡ workers) }
+    ensures unused { IfOk result (λ dealt. All (λ pass. pass ≡ unused_pass K.ranked.market) dealt.2.items) }
+{
+    let applicants = ranks.applicants();
+    let credits = credits_of(alloc, ranks)?;
+    let counts = open_counts(alloc, ranks.programs(), applicants, workers)?;
+    let (mut desks, mut passes) = empty_seats::<K>(alloc, applicants, workers)?;
+    match deal::<K>(alloc, blank, &credits, workers) {
+        Ok((roll, desk_shares, pass_shares)) => {
+            seat(&mut desks, desk_shares);
+            seat_passes(&mut passes, pass_shares, counts);
+            Ok((Till { roll }, desks, passes))
+        }
+        Err(refused) => {
+            desks.destroy_empty();
+            passes.destroy_empty();
+            Err(refused)
+        }
+    }
 }

@@ -3,7 +3,7 @@ use Rattle.std.proofs.Common.{◌≡◌, length, ap, ◌∙◌, arith}
 use Rattle.mt_terms.specs.Market.{applicants, live}
 use Rattle.mt_terms.proofs.BelowFacts.{length-map_below}
 use Rattle.mt_ranks.specs.Ranked.{Ranked}
-use Rattle.mt_hall.proofs.hall.Hall.open.Goals as goal
+use Rattle.mt_hall.proofs.opening.deal_out.Goals as goal
 
 pub deal-requires-clause-parts : goal.deal-requires-clause-parts
 deal-requires-clause-parts g c =
@@ -11,9 +11,6 @@ deal-requires-clause-parts g c =
     let number : length c.deref.result.now ≡ applicants g.K.HallName.ranked.market =
     ap length (c.deref.ensures.value ∙ c.in_ok-credits.ensures.each) ∙ length-map_below (λ a. length (live m a)) (applicants m) ∙ ap (λ (r : Ranked). applicants r.market) c.requires.ranks in
     (c.requires.parts.0, omega (arith, c.requires.parts.1, number))
-
-pub returns-in-Ok-deal : goal.returns-in-Ok-deal
-returns-in-Ok-deal g c = grind (arith, common_steps)
 
 pub seat-requires : goal.seat-requires
 seat-requires g c = grind (arith, common_steps)
