@@ -10,6 +10,7 @@ use Rattle.clap.specs.Words.{App, Row, Rule, Text, fault_of, first_of, matches_o
 use Rattle.clap.specs.Words.{new_rule, one_of, takes, with_rule}
 use Rattle.clap.specs.Simple.{on_top}
 use Rattle.clap.specs.declared.builder.action.ArgAction.TheVariants.{Set}
+use Rattle.clap.specs.declared.builder.value_parser.ValueParser.{ValueParser}
 use Rattle.clap.specs.declared.builder.value_parser.ValueParser.TheVariants.{Signed}
 use Rattle.clap.specs.declared.error.kind.ErrorKind.{ErrorKind}
 use Rattle.clap.specs.declared.error.kind.ErrorKind.TheVariants.{DisplayHelp, DisplayVersion}
@@ -24,6 +25,16 @@ use Rattle.mt_terms.specs.declared.options.Options.{Options}
 -- `[FILE]`
 abbrev pub file_rule : Rule
 file_rule = new_rule (codes "FILE")
+
+-- an option with one value, whose name, range and default are given
+abbrev pub option_rule : Text → ValueParser → Text → Rule
+option_rule name range default = record (new_rule name) {
+  long = Some name;
+  action = Some Set;
+  value_names = 1;
+  parser = Some range;
+  defaults = default ∷ [];
+}
 
 -- `[--workers N]`, 1 to 64, without which it is 4
 abbrev pub workers_rule : Rule

@@ -1,8 +1,9 @@
 ghost use Rattle.std.specs.Prelude.{◌≡◌, IfOk, false};
 ghost use Rattle.clap.specs.Words.{app_of, rule_of};
-ghost use Rattle.mt_args.specs.CommandLine.{budget_rule, nrmatch, plain, workers_rule};
+ghost use Rattle.mt_args.specs.CommandLine.{budget_rule, nrmatch, option_rule, plain, workers_rule};
 
 use crate::version::VERSION;
+use clap::builder::ValueParser;
 use clap::{Arg, ArgAction, Command, value_parser};
 use std::alloc::{AllocError, Global};
 
@@ -31,18 +32,33 @@ Exit status:
   5   a read or a write failed
   64  the command line is wrong";
 
+// An option `--NAME N`, with the range of N and its default.
+fn option<'a>(
+    alloc: Global,
+    name: &'a str,
+    range: ValueParser<'a>,
+    default: &'a str,
+    help: &'a str,
+) -> Arg<'a>
+    ensures rule { rule_of result ≡ option_rule name.entry.now range.entry default.entry.now }
+    ensures local { result.global ≡ false }
+{
+    Arg::new(alloc, name)
+        .long(name)
+        .value_name("N")
+        .action(ArgAction::Set)
+        .value_parser(range)
+        .default_value(default)
+        .help(help)
+}
+
 // `[--workers N]`.
 fn workers<'a>(alloc: Global) -> Arg<'a>
     ensures rule { rule_of result ≡ workers_rule }
     ensures local { result.global ≡ false }
 {
-    Arg::new(alloc, "workers")
-        .long("workers")
-        .value_name("N")
-        .action(ArgAction::Set)
-        .value_parser(value_parser!(u32).range(1..=64))
-        .default_value("4")
-        .help(WORKERS_HELP)
+    let range = value_parser!(u32).range(1..=64);
+    option(alloc, "workers", range, "4", WORKERS_HELP)
 }
 
 // `[--budget N]`.
@@ -50,13 +66,8 @@ fn budget<'a>(alloc: Global) -> Arg<'a>
     ensures rule { rule_of result ≡ budget_rule }
     ensures local { result.global ≡ false }
 {
-    Arg::new(alloc, "budget")
-        .long("budget")
-        .value_name("N")
-        .action(ArgAction::Set)
-        .value_parser(value_parser!(u32).range(1..))
-        .default_value("1000000")
-        .help(BUDGET_HELP)
+    let range = value_parser!(u32).range(1..);
+    option(alloc, "budget", range, "1000000", BUDGET_HELP)
 }
 
 /// The command `nrmatch` with no argument, whose words begin after the program's name.
