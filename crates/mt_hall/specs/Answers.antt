@@ -1,8 +1,10 @@
 -- What an answer of `advance` shows, and what it does to the pass.
-use Rattle.std.specs.Prelude.{◌≡◌, ℕ, Bool, Option, IfSome, false, IsTrue, slice_index_or}
+use Rattle.std.specs.Prelude.{◌≡◌, ℕ, Bool, Option, IfSome, false, true, IsTrue, slice_index_or}
 use Rattle.mt_terms.specs.Lists.{has}
 use Rattle.mt_terms.specs.Market.{Market, live}
 use Rattle.mt_terms.specs.Best.{IsExcluded}
+use Rattle.mt_terms.specs.declared.events.Reply.{Reply}
+use Rattle.mt_terms.specs.declared.events.Reply.TheVariants.{Kept, KeptInstead, Refused, Noticed, NotDue}
 use Rattle.mt_ranks.specs.Ranked.{Ranked}
 use Rattle.mt_hall.specs.Parts.{PassView, AllAboveExcluded, one_more}
 use Rattle.mt_hall.specs.declared.answer.Answer.{Answer}
@@ -33,3 +35,11 @@ pass_after s a (Told by) = s
 pass_after s a (At place) = s
 pass_after s a Out = s
 pass_after s a Stranger = s
+
+-- whether a reply is one to a proposal
+abbrev pub is_of_proposal : Reply → Bool
+is_of_proposal Kept = true
+is_of_proposal (KeptInstead b) = true
+is_of_proposal Refused = true
+is_of_proposal Noticed = false
+is_of_proposal NotDue = false

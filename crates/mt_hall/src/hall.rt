@@ -1,9 +1,12 @@
-ghost use Rattle.std.specs.Prelude.{◌≡◌, ◌≢◌, ◌↔◌, ◌+◌, ◌<◌, ◌≤◌, All, IfOk, false, length, slice_index_or, vec_len};
-ghost use Rattle.mt_terms.specs.Market.{applicants};
+ghost use Rattle.std.specs.Prelude.{◌≡◌, ◌≢◌, ◌↔◌, ◌+◌, ◌<◌, ◌≤◌, All, IfOk, IsTrue, ℕ, false, if◌then◌else◌, length, slice_index_or, vec_len};
+ghost use Rattle.mt_terms.specs.Lists.{has};
+ghost use Rattle.mt_terms.specs.Market.{Market, applicants, live};
 ghost use Rattle.mt_terms.specs.Floor.{opening};
 ghost use Rattle.mt_core.specs.Floors.{floor_of, IsOpenedWith};
-ghost use Rattle.mt_hall.specs.Answers.{Tells, is_single, pass_after};
+ghost use Rattle.mt_hall.specs.Answers.{Tells, is_of_proposal, is_single, pass_after};
 ghost use Rattle.mt_hall.specs.Openings.{unused_pass};
+ghost use Rattle.mt_hall.specs.Parts.{one_more};
+ghost use Rattle.mt_hall.specs.Steps.{Shows};
 
 use crate::answer::Answer;
 use crate::audit::Row;
@@ -128,24 +131,34 @@ impl<'a, K: HallName> Hall<'a, K> {
         if door.program() != program {
             return self.unknown(applicant);
         }
-        match step(rt, &mut desk, &mut door, pass, self.ranks, &self.till) {
-            Reply::Kept => Answer::Moved {
-                to: program,
-                kept: true,
-                displaced: None,
-            },
-            Reply::KeptInstead(other) => Answer::Moved {
-                to: program,
-                kept: true,
-                displaced: Some(other),
-            },
-            Reply::Refused => Answer::Moved {
-                to: program,
-                kept: false,
-                displaced: None,
-            },
-            Reply::Noticed => Answer::Told { by: program },
-            Reply::NotDue => Answer::At { place: program },
-        }
+        let reply = step(rt, &mut desk, &mut door, pass, self.ranks, &self.till);
+        answer_to(program, reply)
+    }
+}
+
+// What a call came to whose one event had this reply of the program.
+fn answer_to(program: ProgNo, reply: Reply) -> Answer
+    ensures tells { (m : Market) (a : ℕ) → IsTrue (has (live m a) program) → Shows m a program reply → Tells m a result }
+    ensures known { result ≢ Answer.Stranger }
+    ensures pass { (s : _) (a : ℕ) → pass_after s a result ≡ (if is_of_proposal reply then one_more s program a else s) }
+{
+    match reply {
+        Reply::Kept => Answer::Moved {
+            to: program,
+            kept: true,
+            displaced: None,
+        },
+        Reply::KeptInstead(other) => Answer::Moved {
+            to: program,
+            kept: true,
+            displaced: Some(other),
+        },
+        Reply::Refused => Answer::Moved {
+            to: program,
+            kept: false,
+            displaced: None,
+        },
+        Reply::Noticed => Answer::Told { by: program },
+        Reply::NotDue => Answer::At { place: program },
     }
 }
