@@ -7,6 +7,7 @@ ghost use Rattle.mt_numbering.specs.Drafts.{drafted, has_too_many_names, AreDraf
 
 use crate::draft::draft_of;
 use crate::names::NameLists;
+use crate::push::push;
 use mt_lists::RowsIter;
 use mt_records::{Record, Rules, are_over};
 use mt_terms::Limits;
@@ -49,7 +50,7 @@ impl<'a> Drafts<'a> {
         ensures records { OnOk result (drafted self.new ≡ drafted self.old ++ record_seen next.entry ∷ []) }
     {
         self.names.push(&next)?;
-        self.records.push(next)?;
+        push(&mut self.records, next)?;
         Ok(())
     }
 }

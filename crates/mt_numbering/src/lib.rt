@@ -10,6 +10,7 @@ mod market;
 mod names;
 mod numbering;
 mod pair_blocks;
+mod push;
 mod registered;
 mod withdrawals;
 

@@ -3,6 +3,7 @@ ghost use Rattle.std.specs.Prelude.{◌≡◌, map, IfOk};
 ghost use Rattle.mt_records.specs.Fields.{pairs_left};
 ghost use Rattle.mt_numbering.specs.Numbered.{all_seen, lists_seen, program_lists, applicant_lists, couple_lists};
 
+use crate::push::push;
 use mt_lists::Fields;
 use mt_records::{Pairs, Record};
 use std::alloc::{AllocError, Global};
@@ -17,7 +18,7 @@ pub(crate) fn program_lists<'r, 'a>(
     let mut lists = Vec::new(alloc);
     for one in records {
         if let Record::Program { list, .. } = one {
-            lists.push(Some(list))?;
+            push(&mut lists, Some(list))?;
         }
     }
     Ok(lists)
@@ -33,10 +34,10 @@ pub(crate) fn applicant_lists<'r, 'a>(
     let mut lists = Vec::new(alloc);
     for one in records {
         match one {
-            Record::Applicant { list, .. } => lists.push(Some(list))?,
+            Record::Applicant { list, .. } => push(&mut lists, Some(list))?,
             Record::Couple { .. } => {
-                lists.push(None)?;
-                lists.push(None)?;
+                push(&mut lists, None)?;
+                push(&mut lists, None)?;
             }
             Record::Program { .. } | Record::Withdraw { .. } => {}
         }
@@ -54,7 +55,7 @@ pub(crate) fn couple_lists<'a>(
     let mut lists = Vec::new(alloc);
     for one in records {
         if let Record::Couple { fields, .. } = one {
-            lists.push(fields.pairs())?;
+            push(&mut lists, fields.pairs())?;
         }
     }
     Ok(lists)

@@ -159,9 +159,9 @@ fn place(programs: &IdTable<'_>, place: Option<&[u8]>) -> Option<Option<usize>>
 fn is_allowed(half_pairs: bool, first: Option<&[u8]>, second: Option<&[u8]>) -> bool
     ensures { result ≡ is_allowed half_pairs (option_copied first.entry, option_copied second.entry) }
 {
-    let both = first.is_some() && second.is_some();
-    let one = first.is_some() || second.is_some();
-    both || (half_pairs && one)
+    let first = first.is_some();
+    let second = second.is_some();
+    (first && second) || (half_pairs && (first || second))
 }
 
 /// A pair by numbers, if it is allowed and names none but these programs.

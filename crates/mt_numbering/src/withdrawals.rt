@@ -10,6 +10,7 @@ ghost use Rattle.mt_records.specs.Records.{record_seen};
 ghost use Rattle.mt_numbering.specs.Registered.{KnowsIds};
 ghost use Rattle.mt_numbering.specs.Withdrawals.{stays_after, Stand};
 
+use crate::push::push;
 use crate::registered::Registered;
 use mt_ids::{IdTable, Seed, add_field};
 use mt_records::{Kinds, Record};
@@ -79,7 +80,7 @@ pub(crate) fn leaving<'a>(
     let mut leaving = Vec::new(alloc);
     for one in records {
         if !stays(withdrawn, one) {
-            leaving.push(*one)?;
+            push(&mut leaving, *one)?;
         }
     }
     Ok(leaving)

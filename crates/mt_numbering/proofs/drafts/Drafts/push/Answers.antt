@@ -10,7 +10,7 @@ use Rattle.mt_numbering.proofs.drafts.Drafts.push.Goals as goal
 
 pub returns-clause-drafts : goal.returns-clause-drafts
 returns-clause-drafts c =
-    let same = ap all_seen c.in_ok-push-2.ensures.items ∙ map-append _ c.args.self.now.records.items _ in
+    let same = ap all_seen c.in_ok-push-2.ensures ∙ map-append _ c.args.self.now.records.items _ in
     record {
       names = subst (λ rs. AreNames rs c.push.new.self) (sym same) (names_more c.args.self.now.names c.push.new.self (drafted c.args.self.now) (record_seen c.args.next) c.requires.names c.in_ok-push.ensures);
     }
