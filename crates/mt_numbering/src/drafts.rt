@@ -50,8 +50,7 @@ impl<'a> Drafts<'a> {
         ensures records { OnOk result (drafted self.new ≡ drafted self.old ++ record_seen next.entry ∷ []) }
     {
         self.names.push(&next)?;
-        push(&mut self.records, next)?;
-        Ok(())
+        push(&mut self.records, next)
     }
 }
 

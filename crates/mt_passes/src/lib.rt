@@ -2,6 +2,7 @@
 #![tactic(auto)]
 
 mod first;
+mod push;
 mod register;
 mod repeats;
 mod second;

@@ -4,6 +4,7 @@ ghost use Rattle.mt_terms.specs.Registration.Passes.{first_in, registered_before
 ghost use Rattle.mt_records.specs.Records.{record_seen, charge_seen};
 ghost use Rattle.mt_passes.specs.Registers.{records_seen, contents_seen, withdraws_twice, AreFew, IsRegister, AddsRecord};
 
+use crate::push::push;
 use crate::repeats::{has_repeat, has_repeated_pair};
 use mt_ids::{IdTable, Seed, add_fields};
 use mt_lists::RowsIter;
@@ -158,20 +159,19 @@ impl<'a> Register<'a> {
         ensures { OnOk result (AddsRecord self.old self.new (record_seen record.now)) }
     {
         match record {
-            Record::Program { id, .. } => self.registered.push(Kind::Program, id)?,
+            Record::Program { id, .. } => self.registered.push(Kind::Program, id),
             Record::Applicant { id, .. } => {
                 self.registered.push(Kind::Applicant, id)?;
-                self.applicants.push(id)?;
+                self.applicants.push(id)
             }
             Record::Couple { id, fields } => {
                 let (first, second) = fields.members();
                 self.registered.push(Kind::Couple, id)?;
                 self.applicants.push(first)?;
-                self.applicants.push(second)?;
+                self.applicants.push(second)
             }
-            Record::Withdraw { kind, id } => self.withdrawn.push(*kind, id)?,
+            Record::Withdraw { kind, id } => self.withdrawn.push(*kind, id),
         }
-        Ok(())
     }
 
     /// Adds a record of which no id is registered, that withdraws nothing again, and with which there are not too many.
@@ -185,8 +185,7 @@ impl<'a> Register<'a> {
     {
         self.push_ids(&next)?;
         self.entries += next.entry_count();
-        self.records.push(Numbered { row, record: next })?;
-        Ok(())
+        push(&mut self.records, Numbered { row, record: next })
     }
 }
 

@@ -13,18 +13,3 @@ pub push-requires-in-Applicant : goal.push-requires-in-Applicant
 push-requires-in-Applicant c =
     ap (λ ids. has_id ids c.in-Applicant.id.now) (c.requires.register.registered OfApplicant)
     ∙ new_single (contents_seen c.args.self.now) c.in-Applicant.id.now (fields_left c.in-Applicant.list) (ap (λ r. registered_before (contents_seen c.args.self.now) (record_seen r)) (sym c.in-Applicant.is) ∙ c.requires.new)
-
-pub returns-in_ok-push-in-Couple-3 : goal.returns-in_ok-push-in-Couple-3
-returns-in_ok-push-in-Couple-3 c = grind (arith, common_steps)
-
-pub push-requires-in-Couple-3 : goal.push-requires-in-Couple-3
-push-requires-in-Couple-3 c = grind (arith, common_steps)
-
-pub returns-in_ok-push-in-Withdraw : goal.returns-in_ok-push-in-Withdraw
-returns-in_ok-push-in-Withdraw c = grind (arith, common_steps)
-
-pub returns-in_ok-push-in-Applicant-2 : goal.returns-in_ok-push-in-Applicant-2
-returns-in_ok-push-in-Applicant-2 c = grind (arith, common_steps)
-
-pub returns-in_ok-push-in-Program : goal.returns-in_ok-push-in-Program
-returns-in_ok-push-in-Program c = grind (arith, common_steps)
