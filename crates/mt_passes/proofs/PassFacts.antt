@@ -1,5 +1,5 @@
 -- What is known of a record that the first pass takes.
-use Rattle.std.proofs.Common.{◌≡◌, ℕ, ◌+◌, ◌≤◌, false, nat_lt, List, [], ◌∷◌, ◌++◌, length, refl, ap, sym, ◌∙◌, None, Result, Ok, Err, arith, subst}
+use Rattle.std.proofs.Common.{◌≡◌, ℕ, ◌+◌, ◌≤◌, false, nat_lt, List, [], ◌∷◌, ◌++◌, length, refl, ap, sym, ◌∙◌, Option, None, Some, Result, Ok, Err, arith}
 use Rattle.std.proofs.lemmas.Bool.Decides.{nat_tests}
 use Rattle.mt_file_laws.proofs.IdFacts.{neither}
 use Rattle.mt_file_laws.proofs.PassFacts.{kept_parts}
@@ -11,31 +11,35 @@ use Rattle.mt_records.specs.Limits.{AreBounded}
 use Rattle.mt_passes.specs.Registers.{withdraws_twice, AreFew, IsRegister}
 use Rattle.mt_passes.specs.Passes.{Reads, ReadsRow, GivesRegister}
 use Rattle.mt_records.specs.Refusals.{Refuses}
-use Rattle.mt_terms.specs.Registration.Faults.{Charge, Fault}
+use Rattle.mt_terms.specs.Registration.Faults.{Charge, Fault, fault_at}
 use Rattle.mt_terms.specs.Registration.Records.{Rules, Record, ProgramRecord, ApplicantRecord, CoupleRecord, WithdrawRecord, OfProgram, OfCouple, record_of}
 use Rattle.mt_terms.specs.Registration.Rows.{ids_of, applicant_ids, entry_count}
-use Rattle.mt_terms.specs.Registration.Passes.{registered_before, says_twice, are_too_many, first_conflict, next_record, and_then, unless, at_record, numbered_from, Numbered}
+use Rattle.mt_terms.specs.Registration.Passes.{registered_before, says_twice, are_too_many, first_conflict, first_pass, contents, unless, numbered_from, Numbered}
 
--- a record that doesn't first_conflict with those before it
+-- a record in no conflict with those before it
 pub record IsAccepted (rules : Rules) (before : List Record) (r : Record) : Type 0 where
   pub new : registered_before before r ≡ None
   pub once : says_twice before r ≡ false
   pub few : are_too_many rules.limits (before ++ r ∷ []) ≡ false
 
-pub is_accepted : (rules : Rules) (before : List Record) (row : List Bytes) (n : ℕ) (r : Record)
-    → at_record n (next_record rules before row) ≡ Ok r → IsAccepted rules before r
-is_accepted rules before row n r h = by (record_of rules row) h
-  where
-    beside : (q : Record) (o : Result Record Charge) → o ≡ unless (first_conflict rules before q) q → at_record n o ≡ Ok r → IsAccepted rules before r
-    beside q (Ok p) e k =
-        let s : p ≡ r = cc in
-        let t : (q ≡ r) × (registered_before before q ≡ None) × (says_twice before q ≡ false) × (are_too_many rules.limits (before ++ q ∷ []) ≡ false) = kept_parts _ _ _ _ _ q r (sym e ∙ ap Ok s) in
-        subst (λ (z : Record). IsAccepted rules before z) t.0 (record { new = t.1; once = t.2; few = t.3 })
-    beside q (Err c) e k = cc
+pub is_accepted : (rules : Rules) (before : List Record) (r : Record) → first_conflict rules before r ≡ None → IsAccepted rules before r
+is_accepted rules before r none =
+    let t = kept_parts _ _ _ _ _ r r (ap (λ (o : Option Charge). unless {E = Charge} o r) none) in
+    record { new = t.1; once = t.2; few = t.3 }
 
-    by : (o : Result Record Charge) → at_record n (and_then o (λ q. unless (first_conflict rules before q) q)) ≡ Ok r → IsAccepted rules before r
-    by (Ok q) k = beside q _ refl k
-    by (Err c) k = cc
+module _ (rules : Rules) (old : List (Numbered Record)) (n : ℕ) (fields : List Bytes) (rest : List (Numbered (List Bytes))) where
+  -- the pass ends with a row that has a fault by itself, or whose record has one beside those before it
+  pub ends_alone : (c : Charge) → record_of rules fields ≡ Err c → first_pass rules old ((n, fields) ∷ rest) ≡ Err (fault_at n c)
+  ends_alone c is = rw is refl
+
+  pub ends_beside : (r : Record) (c : Charge) → record_of rules fields ≡ Ok r → first_conflict rules (contents old) r ≡ Some c
+      → first_pass rules old ((n, fields) ∷ rest) ≡ Err (fault_at n c)
+  ends_beside r c is fault = rw (is, fault) refl
+
+  -- and goes on with any other
+  pub goes_on : (new : List (Numbered Record)) (r : Record) → record_of rules fields ≡ Ok r → first_conflict rules (contents old) r ≡ None
+      → new ≡ old ++ (n, r) ∷ [] → first_pass rules old ((n, fields) ∷ rest) ≡ first_pass rules new rest
+  goes_on new r is none more = rw (is, none, more) refl
 
 not_above : (limit most n : ℕ) → limit ≤ most → nat_lt limit n ≡ false → n ≤ most
 not_above limit most n h k = grind (arith, nat_tests)

@@ -15,6 +15,10 @@ Reads rules old new row (Ok _) =
     IsRegister new × ((rest : List (Numbered (List Bytes))) → first_pass rules (records_seen old) (row ∷ rest) ≡ first_pass rules (records_seen new) rest)
 Reads rules old new row (Err e) = (rest : List (Numbered (List Bytes))) → Refuses e (first_pass rules (records_seen old) (row ∷ rest))
 
+-- The same of each row that this record is taken from.
+abbrev pub ReadsRecord : {Y : Type 0} → model.Rules → Register → Register → ℕ → model.Record → Result Y Refusal → Type 0
+ReadsRecord rules old new n r result = (fields : List Bytes) → model.record_of rules fields ≡ Ok r → Reads rules old new (n, fields) result
+
 -- The same of a row with this number, which may have no field.
 abbrev pub ReadsRow : {Y : Type 0} → model.Rules → Register → Register → ℕ → List Bytes → Result Y Refusal → Type 0
 ReadsRow rules old new n row (Ok _) =

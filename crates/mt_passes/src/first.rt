@@ -1,36 +1,33 @@
 ghost use Rattle.std.specs.Prelude.{◌≡◌, ◌+◌, ◌<◌, ◌^◌, [], length};
 ghost use Rattle.mt_lists.specs.Rows.{fields_left, rows_left};
-ghost use Rattle.mt_terms.specs.Registration.Passes.{at_record, next_record, first_pass, numbered_from};
+ghost use Rattle.mt_terms.specs.Registration.Passes.{first_pass, numbered_from};
 ghost use Rattle.mt_records.specs.Records.{record_seen};
-ghost use Rattle.mt_records.specs.Refusals.{Gives};
 ghost use Rattle.mt_records.specs.Limits.{AreBounded};
-ghost use Rattle.mt_passes.specs.Registers.{contents_seen, records_seen, IsRegister};
-ghost use Rattle.mt_passes.specs.Passes.{Reads, ReadsRow, GivesRegister};
+ghost use Rattle.mt_passes.specs.Registers.{records_seen, IsRegister};
+ghost use Rattle.mt_passes.specs.Passes.{Reads, ReadsRecord, ReadsRow, GivesRegister};
 
 use crate::register::Register;
 use mt_lists::{Fields, Row, RowsIter};
 use mt_records::{Record, Refusal, Rules, record_of};
 use std::alloc::Global;
 
-/// The record of a row that follows those of a register, or its first fault.
-fn next_record<'a>(
+/// Adds a record to a register, if it has no fault beside those before it.
+fn read_record<'a>(
     alloc: Global,
     rules: &Rules,
-    register: &Register<'a>,
+    register: &mut Register<'a>,
     number: u64,
-    fields: Fields<'a>,
-) -> Result<Record<'a>, Refusal<'a>>
-    requires { IsRegister register.now }
-    ensures { Gives record_seen result (at_record number (next_record rules.now (contents_seen register.now) (fields_left fields.entry))) }
+    next: Record<'a>,
+) -> Result<(), Refusal<'a>>
+    requires limits { AreBounded rules.now.limits }
+    requires register { IsRegister register.old }
+    ensures { ReadsRecord rules.now register.old register.new number (record_seen next.entry) result }
 {
-    let next = match record_of(rules, fields) {
-        Ok(next) => next,
-        Err(charge) => return Err(Refusal::Fault(charge.at(number))),
-    };
-    match register.first_conflict(alloc, rules, &next)? {
-        Some(charge) => Err(Refusal::Fault(charge.at(number))),
-        None => Ok(next),
+    if let Some(charge) = register.first_conflict(alloc, rules, &next)? {
+        return Err(Refusal::Fault(charge.at(number)));
     }
+    register.push(number, next)?;
+    Ok(())
 }
 
 /// Adds the record of a row to a register.
@@ -45,9 +42,10 @@ fn read_fields<'a>(
     requires register { IsRegister register.old }
     ensures { Reads rules.now register.old register.new (number, fields_left fields.entry) result }
 {
-    let next = next_record(alloc, rules, register, number, fields)?;
-    register.push(number, next)?;
-    Ok(())
+    match record_of(rules, fields) {
+        Ok(next) => read_record(alloc, rules, register, number, next),
+        Err(charge) => Err(Refusal::Fault(charge.at(number))),
+    }
 }
 
 /// Adds the record of a row to a register, if the row has a field.

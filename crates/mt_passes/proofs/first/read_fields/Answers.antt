@@ -1,17 +1,14 @@
+use Rattle.std.proofs.Common.{sym, ap, ◌∙◌, Err}
 use Rattle.mt_lists.specs.Rows.{fields_left}
-use Rattle.mt_records.specs.Records.{record_seen}
-use Rattle.mt_passes.specs.Registers.{contents_seen}
-use Rattle.mt_passes.proofs.PassFacts.{IsAccepted, is_accepted, once_said, few_more}
+use Rattle.mt_records.specs.Records.{read_seen, charge_seen}
+use Rattle.mt_passes.specs.Registers.{records_seen}
+use Rattle.mt_passes.proofs.PassFacts.{ends_alone}
 use Rattle.mt_passes.proofs.first.read_fields.Goals as goal
 
-accepted : (c : goal.After-push-arg-1) → IsAccepted c.args.rules.now (contents_seen c.args.register.now) (record_seen c.in_ok-next.next)
-accepted c = is_accepted c.args.rules.now (contents_seen c.args.register.now) (fields_left c.args.fields) c.args.number (record_seen c.in_ok-next.next) c.in_ok-next.ensures
+pub returns-in-Ok : goal.returns-in-Ok
+returns-in-Ok c = c.read_record.ensures (fields_left c.args.fields) (sym c.record_of.ensures ∙ ap read_seen c.in-Ok.is)
 
-pub push-requires-clause-new : goal.push-requires-clause-new
-push-requires-clause-new c = (accepted c).new
-
-pub push-requires-clause-once : goal.push-requires-clause-once
-push-requires-clause-once c = once_said (contents_seen c.args.register.now) (record_seen c.in_ok-next.next) (accepted c).once
-
-pub push-requires-clause-few : goal.push-requires-clause-few
-push-requires-clause-few c = few_more c.args.rules.now (contents_seen c.args.register.now) (record_seen c.in_ok-next.next) c.requires.limits (accepted c).few
+pub returns-in-Err : goal.returns-in-Err
+returns-in-Err c = λ rest.
+    ends_alone c.args.rules.now (records_seen c.args.register.now) c.args.number (fields_left c.args.fields) rest (charge_seen c.in-Err.charge)
+    (sym c.record_of.ensures ∙ ap read_seen c.in-Err.is) ∙ ap Err (sym c.at.ensures)
