@@ -38,23 +38,11 @@ option_rule name range default = record (new_rule name) {
 
 -- `[--workers N]`, 1 to 64, without which it is 4
 abbrev pub workers_rule : Rule
-workers_rule = record (new_rule (codes "workers")) {
-  long = Some (codes "workers");
-  action = Some Set;
-  value_names = 1;
-  parser = Some (Signed (pos 1) (pos 64));
-  defaults = codes "4" ∷ [];
-}
+workers_rule = option_rule (codes "workers") (Signed (pos 1) (pos 64)) (codes "4")
 
 -- `[--budget N]`, 1 to 4,294,967,295, without which it is 1,000,000
 abbrev pub budget_rule : Rule
-budget_rule = record (new_rule (codes "budget")) {
-  long = Some (codes "budget");
-  action = Some Set;
-  value_names = 1;
-  parser = Some (Signed (pos 1) (pos 4294967295));
-  defaults = codes "1000000" ∷ [];
-}
+budget_rule = option_rule (codes "budget") (Signed (pos 1) (pos 4294967295)) (codes "1000000")
 
 -- the command without its arguments, whose words begin after the program's name; `--help`, `-h`, `--version` and `-V` are
 -- added by `clap`

@@ -18,10 +18,14 @@ market_rule = record (new_rule (codes "MARKET")) { required = true }
 abbrev pub match_rule : Rule
 match_rule = record (new_rule (codes "MATCH")) { required = true }
 
--- the command, whose words begin after the program's name; `--help`, `-h`, `--version` and `-V` are added by `clap`
+-- the command without arguments, whose words begin after the program's name; `--help`, `-h`, `--version` and `-V` are
+-- added by `clap`
+abbrev pub plain : App
+plain = on_top (λ s. record s { no_binary_name = true; has_version = true }) (new_app (codes "nrcheck"))
+
+-- the command: MARKET and MATCH
 abbrev pub nrcheck : App
-nrcheck =
-    with_rule (with_rule (on_top (λ s. record s { no_binary_name = true; has_version = true }) (new_app (codes "nrcheck"))) market_rule) match_rule
+nrcheck = with_rule (with_rule plain market_rule) match_rule
 
 abbrev pub texts_of : List (String Global) → List Text
 texts_of = map string_bytes

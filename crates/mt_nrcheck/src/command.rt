@@ -1,6 +1,6 @@
 ghost use Rattle.std.specs.Prelude.{◌≡◌, IfOk, false};
 ghost use Rattle.clap.specs.Words.{app_of, rule_of};
-ghost use Rattle.mt_nrcheck.specs.CommandLine.{market_rule, match_rule, nrcheck};
+ghost use Rattle.mt_nrcheck.specs.CommandLine.{market_rule, match_rule, nrcheck, plain};
 
 use clap::{Arg, Command};
 use std::alloc::{AllocError, Global};
@@ -50,14 +50,20 @@ fn matched<'a>(alloc: Global) -> Arg<'a>
     Arg::new(alloc, "MATCH").required(true).help(MATCH_HELP)
 }
 
-/// The command `nrcheck MARKET MATCH`, whose words begin after the program's name.
-pub(crate) fn command<'a>(alloc: Global) -> Result<Command<'a>, AllocError>
-    ensures { IfOk result (λ c. app_of c ≡ nrcheck) }
+// The command `nrcheck` with no argument, whose words begin after the program's name.
+fn plain<'a>(alloc: Global) -> Command<'a>
+    ensures { app_of result ≡ plain }
 {
-    let plain = Command::new(alloc, "nrcheck")
+    Command::new(alloc, "nrcheck")
         .no_binary_name(true)
         .version(VERSION)
         .about(ABOUT)
-        .after_help(EXIT_STATUSES);
-    plain.arg(market(alloc))?.arg(matched(alloc))
+        .after_help(EXIT_STATUSES)
+}
+
+/// The command `nrcheck MARKET MATCH`.
+pub(crate) fn command<'a>(alloc: Global) -> Result<Command<'a>, AllocError>
+    ensures { IfOk result (λ c. app_of c ≡ nrcheck) }
+{
+    plain(alloc).arg(market(alloc))?.arg(matched(alloc))
 }

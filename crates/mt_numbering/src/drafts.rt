@@ -7,9 +7,8 @@ ghost use Rattle.mt_numbering.specs.Drafts.{drafted, has_too_many_names, AreDraf
 
 use crate::draft::draft_of;
 use crate::names::NameLists;
-use crate::push::push;
 use mt_lists::RowsIter;
-use mt_records::{Record, Rules, are_over};
+use mt_records::{Record, Rules, are_over, push};
 use mt_terms::Limits;
 use std::alloc::{AllocError, Global};
 

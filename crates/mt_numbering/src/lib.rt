@@ -10,7 +10,6 @@ mod market;
 mod names;
 mod numbering;
 mod pair_blocks;
-mod push;
 mod registered;
 mod withdrawals;
 

@@ -3,9 +3,8 @@ ghost use Rattle.std.specs.Prelude.{◌≡◌, map, IfOk};
 ghost use Rattle.mt_records.specs.Fields.{pairs_left};
 ghost use Rattle.mt_numbering.specs.Numbered.{all_seen, lists_seen, program_lists, applicant_lists, couple_lists};
 
-use crate::push::push;
 use mt_lists::Fields;
-use mt_records::{Pairs, Record};
+use mt_records::{Pairs, Record, push};
 use std::alloc::{AllocError, Global};
 
 /// The lists of programs.

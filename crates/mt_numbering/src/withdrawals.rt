@@ -10,10 +10,9 @@ ghost use Rattle.mt_records.specs.Records.{record_seen};
 ghost use Rattle.mt_numbering.specs.Registered.{KnowsIds};
 ghost use Rattle.mt_numbering.specs.Withdrawals.{stays_after, Stand};
 
-use crate::push::push;
 use crate::registered::Registered;
 use mt_ids::{IdTable, Seed, add_field};
-use mt_records::{Kinds, Record};
+use mt_records::{Kinds, Record, push};
 use mt_terms::{AppNo, ProgNo};
 use std::alloc::{AllocError, Global};
 use std::hash::DefaultHasher;

@@ -2,7 +2,6 @@
 #![tactic(auto)]
 
 mod first;
-mod push;
 mod register;
 mod repeats;
 mod second;

@@ -4,11 +4,10 @@ ghost use Rattle.mt_terms.specs.Registration.Passes.{first_in, registered_before
 ghost use Rattle.mt_records.specs.Records.{record_seen, charge_seen};
 ghost use Rattle.mt_passes.specs.Registers.{records_seen, contents_seen, withdraws_twice, AreFew, IsRegister, AddsRecord};
 
-use crate::push::push;
 use crate::repeats::{has_repeat, has_repeated_pair};
 use mt_ids::{IdTable, Seed, add_fields};
 use mt_lists::RowsIter;
-use mt_records::{Charge, Kind, Kinds, Record, Rules, are_over};
+use mt_records::{Charge, Kind, Kinds, Record, Rules, are_over, push};
 use mt_terms::Limits;
 use mt_terms::codes::{DUPLICATE_ENTRY, DUPLICATE_ID, TOO_MANY};
 use std::alloc::{AllocError, Global};

@@ -4,6 +4,7 @@
 mod fields;
 mod kinds;
 mod limits;
+mod push;
 mod record;
 mod refusal;
 mod rules;
@@ -11,6 +12,7 @@ mod rules;
 pub use fields::{CoupleFields, Pairs};
 pub use kinds::Kinds;
 pub use limits::are_over;
+pub use push::push;
 pub use record::{
     Charge, Kind, Record, kind_of, names_are_ids, record_of, withdraw_record, withdraws,
 };
