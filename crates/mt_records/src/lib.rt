@@ -2,17 +2,17 @@
 #![tactic(auto)]
 
 mod fields;
+mod grow;
 mod kinds;
 mod limits;
-mod push;
 mod record;
 mod refusal;
 mod rules;
 
 pub use fields::{CoupleFields, Pairs};
+pub use grow::push;
 pub use kinds::Kinds;
 pub use limits::are_over;
-pub use push::push;
 pub use record::{
     Charge, Kind, Record, kind_of, names_are_ids, record_of, withdraw_record, withdraws,
 };
