@@ -4,7 +4,7 @@ ghost use Rattle.mt_ids.specs.Keys.{AreBytes, four_from, head_of};
 
 use crate::seed::{Seed, add_field};
 use indexmap::IndexSet;
-use mt_market::FlatLists;
+use mt_rows::FlatLists;
 use std::alloc::{AllocError, Global};
 use std::hash::{DefaultHasher, Hash, Hasher};
 use std::marker::Model;

@@ -7,4 +7,4 @@ mod seed;
 
 pub use id_table::IdTable;
 pub use ids::{are_digits, is_dash, is_id, quota_of, value_of};
-pub use seed::{Seed, add_field, add_fields};
+pub use seed::{Seed, add_field};

@@ -1,6 +1,5 @@
 //! Seeds of tables. Each is made of all that its table will hold, so that nobody can choose beforehand what collides
 //! there.
-use mt_lists::Fields;
 use std::hash::{BuildHasher, DefaultHasher, FoldHasher, Hasher};
 
 /// What makes the hashers of a table.
@@ -34,11 +33,4 @@ impl BuildHasher for Seed {
 pub fn add_field(digest: &mut DefaultHasher, field: &[u8]) {
     digest.write_usize(field.len());
     digest.write(field);
-}
-
-/// Adds fields to a digest.
-pub fn add_fields(digest: &mut DefaultHasher, fields: Fields<'_>) {
-    for field in fields {
-        add_field(digest, field);
-    }
 }

@@ -1,2 +1,1 @@
-pub mod FlatListsFacts
 pub mod TablesFacts

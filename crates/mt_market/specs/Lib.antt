@@ -1,2 +1,1 @@
-pub mod FlatLists
 pub mod Tables

@@ -12,8 +12,9 @@ use Rattle.mt_numbering.specs.Numbered.{program_lists, applicant_lists, couple_l
 use Rattle.mt_numbering.specs.declared.numbering.Entries.{Entries}
 use Rattle.mt_numbering.specs.declared.numbering.Numbers.{Numbers}
 use Rattle.mt_numbering.specs.declared.registered.Registered.{Registered}
-use Rattle.mt_numbering.specs.Reading.{numbers_by, pairs_by, pairs_once, pair_entries, lists_stand, others_stand, other_entries, ReadsLists, ReadsAllPairs, ReadsEntries, ReadsOthers}
-use Rattle.mt_numbering.proofs.ReadingSteps.{both}
+use Rattle.mt_numbering.specs.Reading.{pairs_by, pairs_once, pair_entries, lists_stand, others_stand, other_entries, ReadsAllPairs, ReadsEntries, ReadsOthers}
+use Rattle.mt_blocks.specs.Reading.{numbers_by, ReadsLists}
+use Rattle.mt_blocks.proofs.ReadingSteps.{both}
 
 -- the entries of all records are those of the lists of programs, of applicants and of couples
 pub entry_count-is : (rs : List Record) → entry_count rs ≡ sum_by length (program_lists rs) + sum_by length (applicant_lists rs) + sum_by pair_entries (couple_lists rs)

@@ -2,9 +2,6 @@ pub mod NeighbourFacts
 pub mod NameFacts
 pub mod DraftFacts
 pub mod NumberingSteps
-pub mod StampFacts
-pub mod ReadingSteps
-pub mod BlockFacts
 pub mod EntryFacts
 pub mod PairSteps
 pub mod NumberingTables

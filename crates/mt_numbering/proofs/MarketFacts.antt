@@ -30,7 +30,8 @@ use Rattle.mt_records.specs.Records.{record_seen}
 use Rattle.mt_numbering.specs.Entries.{single_flags, AreNames}
 use Rattle.mt_numbering.specs.Markets.{AreNewNumbers, AreIdsOfRecords, AreEntries, AreUnnamed, GivesUnnamed, Stays, fit}
 use Rattle.mt_numbering.specs.Numbered.{all_seen, program_lists, applicant_lists, couple_lists, ranking_in, lists_by, members_in, pairs_in}
-use Rattle.mt_numbering.specs.Reading.{number_by, numbers_by, pairs_by, lists_stand, members_by, HaveNumbers, AreRead, ReadsEntries, ReadsUnnamed}
+use Rattle.mt_numbering.specs.Reading.{pairs_by, lists_stand, members_by, HaveNumbers, AreRead, ReadsEntries, ReadsUnnamed}
+use Rattle.mt_blocks.specs.Reading.{number_by, numbers_by}
 use Rattle.mt_numbering.specs.Registered.{is_registered}
 use Rattle.mt_records.specs.Limits.{AreBounded}
 use Rattle.mt_numbering.specs.Withdrawals.{stays_after, Stand}

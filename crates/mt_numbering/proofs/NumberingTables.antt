@@ -17,7 +17,7 @@ use Rattle.mt_numbering.specs.declared.names.NameLists.{NameLists}
 use Rattle.mt_numbering.specs.Entries.{AreNames}
 use Rattle.mt_numbering.specs.Markets.{AreEntries}
 use Rattle.mt_numbering.specs.Numbered.{quota_in, ranking_in, lists_by, members_in, pairs_in, bare_couples, registered_by_all}
-use Rattle.mt_numbering.proofs.NumberingSteps.{get_or-set, take_whole}
+use Rattle.mt_blocks.proofs.ListFacts.{get_or-set, take_whole}
 use Rattle.mt_market.specs.declared.tables.Tables.{Tables}
 use Rattle.mt_market.proofs.TablesFacts.{length-couples_with, couple_at}
 

@@ -8,15 +8,16 @@ use Rattle.std.proofs.lemmas.List.{append_assoc}
 use Rattle.mt_file_laws.specs.Faultless.{is_allowed, pair_stands}
 use Rattle.mt_file_laws.specs.Staying.{new_pair}
 use Rattle.mt_file_laws.proofs.IdFacts.{number_below, same_number, same_id, is_same, not_true}
-use Rattle.mt_market.specs.FlatLists.{with_last}
+use Rattle.mt_rows.specs.FlatLists.{with_last}
 use Rattle.mt_terms.specs.Market.{Pair}
 use Rattle.mt_terms.specs.Registration.Ids.{Bytes, has_id, number_of, all_differ}
 use Rattle.mt_terms.specs.Registration.Records.{IdPair}
 use Rattle.mt_terms.specs.Registration.Passes.{is_same_pair}
 use Rattle.mt_terms.specs.Registration.Numbering.{is_none_or_in, names_only, pair_by_number}
-use Rattle.mt_numbering.specs.Numbered.{with_more, pair_in}
+use Rattle.mt_numbering.specs.Numbered.{pair_in}
+use Rattle.mt_blocks.specs.Reading.{with_more}
 use Rattle.mt_numbering.specs.Reading.{pairs_by, ReadsPairs}
-use Rattle.mt_numbering.proofs.ReadingSteps.{both}
+use Rattle.mt_blocks.proofs.ReadingSteps.{both}
 
 -- a place by number is within the programs
 place_within : (ids : List Bytes) (bound : ℕ) → bound ≡ length ids → (place : Option Bytes) → is_none_or_in ids place ≡ true

@@ -4,5 +4,4 @@ pub mod Entries
 pub mod Registered
 pub mod Withdrawals
 pub mod Reading
-pub mod Blocks
 pub mod Markets

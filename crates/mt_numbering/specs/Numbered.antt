@@ -1,9 +1,5 @@
 -- What each table of a roster has from each record, by the ids of programs and of applicants.
-use Rattle.std.specs.Prelude.{ℕ, Bool, List, [], ◌∷◌, map, fold, Option, Some, None, option_map, filter_map, flat_map, if◌then◌else◌}
-use Rattle.std.specs.Borrow.{Bor}
-use Rattle.mt_lists.specs.Rows.{fields_left}
-use Rattle.mt_lists.specs.declared.row.Fields.{Fields}
-use Rattle.mt_market.specs.FlatLists.{with_last}
+use Rattle.std.specs.Prelude.{ℕ, Bool, List, [], ◌∷◌, map, Option, Some, None, option_map, filter_map, flat_map, if◌then◌else◌}
 use Rattle.mt_terms.specs.Market.{Pair, Partners, Registered}
 use Rattle.mt_terms.specs.Registration.Ids.{Bytes, number_of, numbers_of}
 use Rattle.mt_terms.specs.Registration.Records.{Record, ProgramRecord, ApplicantRecord, CoupleRecord, IdPair}
@@ -39,14 +35,6 @@ couple_lists records = filter_map list_of records
     list_of (CoupleRecord id a b pairs) = Some pairs
     list_of _ = None
 
--- lists of records, of which a couple's members have none, as those of the definition
-abbrev pub list_seen : Option (Bor Fields) → List Bytes
-list_seen None = []
-list_seen (Some list) = fields_left list.now
-
-abbrev pub lists_seen : List (Option (Bor Fields)) → List (List Bytes)
-lists_seen lists = map list_seen lists
-
 -- where a pair sends a member, by number, if it names none but these programs
 abbrev pub place_in : List Bytes → Option Bytes → Option (Option ℕ)
 place_in programs place = if is_none_or_in programs place then Some (option_map (number_of programs) place) else None
@@ -54,10 +42,6 @@ place_in programs place = if is_none_or_in programs place then Some (option_map 
 -- a pair by numbers, if it is allowed and names none but these programs
 abbrev pub pair_in : Bool → List Bytes → IdPair → Option Pair
 pair_in half_pairs programs pair = if pair_stands half_pairs programs pair then Some (pair_by_number programs pair) else None
-
--- lists with more elements at the end of the last one
-abbrev pub with_more : {X : Type 0} → List (List X) → List X → List (List X)
-with_more lists xs = fold with_last lists xs
 
 -- a program's quota and its list
 abbrev pub quota_in : Record → Option ℕ

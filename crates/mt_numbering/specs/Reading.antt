@@ -1,11 +1,10 @@
--- What the reading of lists gives, of which each entry is looked up among all ids, and gets the new number of the id that
--- it is, if that has one.
-use Rattle.std.specs.Prelude.{◌≡◌, ℕ, ◌+◌, ◌*◌, ◌<◌, ◌&&◌, Bool, true, false, List, length, map, sum_by, slice_index_or, filter_map, Option, Some, None, is_some, unwrap_or}
+-- What the reading of records' lists gives, and of their couples' members.
+use Rattle.std.specs.Prelude.{◌≡◌, ℕ, ◌+◌, ◌*◌, ◌<◌, ◌&&◌, Bool, true, List, length, map, sum_by, filter_map, Option, Some, None, is_some, unwrap_or}
 use Rattle.std.specs.List.{list_all}
 use Rattle.mt_file_laws.specs.Faultless.{stands_once, ranking_stands, list_stands, pair_stands, pairs_stand}
 use Rattle.mt_file_laws.specs.Staying.{new_pair}
 use Rattle.mt_terms.specs.Market.{Pair}
-use Rattle.mt_terms.specs.Registration.Ids.{Bytes, has_id, number_of, all_differ}
+use Rattle.mt_terms.specs.Registration.Ids.{Bytes, has_id, all_differ}
 use Rattle.mt_terms.specs.Registration.Records.{Record, CoupleRecord, IdPair}
 use Rattle.mt_terms.specs.Registration.Rows.{entry_count}
 use Rattle.mt_terms.specs.Registration.Passes.{is_same_pair}
@@ -14,23 +13,12 @@ use Rattle.mt_numbering.specs.declared.market.Unnamed.{Unnamed}
 use Rattle.mt_numbering.specs.declared.numbering.Entries.{Entries}
 use Rattle.mt_numbering.specs.declared.numbering.Numbers.{Numbers}
 use Rattle.mt_numbering.specs.declared.registered.Registered.{Registered}
-use Rattle.mt_numbering.specs.Numbered.{all_seen, with_more, program_lists, applicant_lists, couple_lists}
-
--- the new number of an id, if it has one
-abbrev pub number_by : {X : Type 0} → List Bytes → List (Option X) → Bytes → Option X
-number_by ids numbers id = slice_index_or numbers (number_of ids id) None
-
--- the new numbers of a list's ids, of those that have one
-abbrev pub numbers_by : {X : Type 0} → List Bytes → List (Option X) → List Bytes → List X
-numbers_by ids numbers list = filter_map (number_by ids numbers) list
+use Rattle.mt_numbering.specs.Numbered.{all_seen, program_lists, applicant_lists, couple_lists}
+use Rattle.mt_blocks.specs.Reading.{number_by, numbers_by, ReadsOne, ReadsAll}
 
 -- the pairs of a list by new numbers, of those whose programs have one
 abbrev pub pairs_by : List Bytes → List (Option ℕ) → List IdPair → List Pair
 pairs_by ids numbers list = filter_map (λ p. new_pair numbers (pair_by_number ids p)) list
-
--- Each stamp is less than this.
-abbrev pub AreStampedBelow : ℕ → List ℕ → Type 0
-AreStampedBelow n stamps = (i : ℕ) → i < length stamps → slice_index_or stamps i 0 < n
 
 -- whether a list of pairs has none but those that are allowed and name none but these programs, and none of them twice
 abbrev pub pairs_once : Bool → List Bytes → List IdPair → Bool
@@ -40,25 +28,7 @@ pairs_once half_pairs ids pairs = list_all (pair_stands half_pairs ids) pairs &&
 abbrev pub pair_entries : List IdPair → ℕ
 pair_entries pairs = 2 * length pairs
 
--- After a list was read, where it stands and there was room for its entries; or it doesn't stand, or there wasn't room.
-abbrev pub ReadsOne : {L X : Type 0} → (L → Bool) → (L → ℕ) → (L → List X) → ℕ → ℕ → L → List (List X) → List (List X) → Bool → Type 0
-ReadsOne stands count read room left list old new true =
-    (stands list ≡ true) × (left + count list ≡ room) × (new ≡ with_more old (read list))
-ReadsOne stands count read room left list old new false = stands list ≡ true → room < count list
-
--- The same of all lists.
-abbrev pub ReadsAll : {L X : Type 0} → (L → Bool) → (L → ℕ) → (L → List X) → ℕ → ℕ → List L → Option (List (List X)) → Type 0
-ReadsAll stands count read room left lists (Some new) =
-    (list_all stands lists ≡ true) × (left + sum_by count lists ≡ room) × (new ≡ map read lists)
-ReadsAll stands count read room left lists None = list_all stands lists ≡ true → room < sum_by count lists
-
--- Lists of ids, and lists of pairs, are read so.
-abbrev pub ReadsList : {X : Type 0} → List Bytes → List (Option X) → ℕ → ℕ → List Bytes → List (List X) → List (List X) → Bool → Type 0
-ReadsList ids numbers = ReadsOne (stands_once ids) length (numbers_by ids numbers)
-
-abbrev pub ReadsLists : {X : Type 0} → List Bytes → List (Option X) → ℕ → ℕ → List (List Bytes) → Option (List (List X)) → Type 0
-ReadsLists ids numbers = ReadsAll (stands_once ids) length (numbers_by ids numbers)
-
+-- Lists of pairs are read as those of ids are.
 abbrev pub ReadsPairs : Bool → List Bytes → List (Option ℕ) → ℕ → ℕ → List IdPair → List (List Pair) → List (List Pair) → Bool → Type 0
 ReadsPairs half_pairs ids numbers = ReadsOne (pairs_once half_pairs ids) pair_entries (pairs_by ids numbers)
 

@@ -1,7 +1,6 @@
 //! The market of rows without a fault, by numbers: each entry of each list is looked up once.
 #![tactic(auto)]
 
-mod blocks;
 mod draft;
 mod drafts;
 mod duplicates;

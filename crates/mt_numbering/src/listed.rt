@@ -1,7 +1,8 @@
 //! The lists of records, one after another. Those of programs and applicants stay where they are.
 ghost use Rattle.std.specs.Prelude.{◌≡◌, map, IfOk};
 ghost use Rattle.mt_records.specs.Fields.{pairs_left};
-ghost use Rattle.mt_numbering.specs.Numbered.{all_seen, lists_seen, program_lists, applicant_lists, couple_lists};
+ghost use Rattle.mt_numbering.specs.Numbered.{all_seen, program_lists, applicant_lists, couple_lists};
+ghost use Rattle.mt_blocks.specs.Reading.{lists_seen};
 
 use mt_lists::Fields;
 use mt_records::{Pairs, Record, push};

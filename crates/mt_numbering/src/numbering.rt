@@ -1,23 +1,22 @@
 //! What records say by the numbers of their programs and applicants.
-ghost use Rattle.std.specs.Prelude.{◌≡◌, ◌<◌, ◌≤◌, ◌^◌, ◌+◌, [], map, filter_map, length, All, IfOk, IfSome, OnOk, slice_set};
+ghost use Rattle.std.specs.Prelude.{◌≡◌, ◌<◌, ◌^◌, [], map, filter_map, length, All, IfOk, IfSome, slice_set};
 ghost use Rattle.std.specs.Option.{option_copied};
-ghost use Rattle.mt_lists.specs.Rows.{fields_left};
 ghost use Rattle.mt_terms.specs.Lists.{below};
 ghost use Rattle.mt_terms.specs.Market.{agent_from};
 ghost use Rattle.mt_terms.specs.Registration.Rows.{applicant_ids};
 ghost use Rattle.mt_file_laws.specs.Faultless.{is_allowed};
 ghost use Rattle.mt_file_laws.specs.Staying.{new_place, new_pair};
 ghost use Rattle.mt_records.specs.Fields.{pairs_left};
-ghost use Rattle.mt_numbering.specs.Numbered.{all_seen, place_in, pair_in, quota_in, bare_couples, lists_seen, program_lists, applicant_lists, couple_lists};
-ghost use Rattle.mt_numbering.specs.Reading.{AreStampedBelow, ReadsList, ReadsLists, ReadsPairs, ReadsAllPairs, ReadsEntries, ReadsOthers, number_by, members_by, HaveNumbers};
+ghost use Rattle.mt_numbering.specs.Numbered.{all_seen, place_in, pair_in, quota_in, bare_couples, program_lists, applicant_lists, couple_lists};
+ghost use Rattle.mt_blocks.specs.Reading.{ReadsLists, number_by};
+ghost use Rattle.mt_numbering.specs.Reading.{ReadsPairs, ReadsAllPairs, ReadsEntries, ReadsOthers, members_by, HaveNumbers};
 
-use crate::blocks::read_side_by_side;
 use crate::duplicates::has_duplicate;
 use crate::listed::{applicant_lists, couple_lists, program_lists};
 use crate::pair_blocks;
 use crate::registered::Registered;
+use mt_blocks::read_side_by_side;
 use mt_ids::IdTable;
-use mt_lists::Fields;
 use mt_market::FlatLists;
 use mt_records::{Pairs, Record};
 use mt_terms::{Agent, AppNo, CoupleNo, ProgNo};
@@ -35,80 +34,6 @@ pub(crate) fn quotas(alloc: Global, records: &[Record<'_>]) -> Result<Vec<u32>, 
         }
     }
     Ok(quotas)
-}
-
-/// A stamp that no id has: the one after the last, or the first, once all are taken away.
-fn next_stamp(alloc: Global, stamps: &mut Vec<u8>, last: u8) -> Result<u8, AllocError>
-    requires { AreStampedBelow (last + 1) stamps.old.items }
-    ensures len { OnOk result (length stamps.new.items ≡ length stamps.old.items) }
-    ensures fresh { IfOk result (λ stamp. AreStampedBelow stamp stamps.new.items) }
-{
-    if last < u8::MAX {
-        return Ok(last + 1);
-    }
-    *stamps = vec![in alloc; 0; stamps.len()]?;
-    Ok(1)
-}
-
-/// Adds the numbers of a list's ids, of those that have one, to the last of these lists, and says that it did so, where
-/// each is one of these ids, none stands twice, and there is room for so many entries. An id that is met gets the list's
-/// stamp, which no id has before.
-fn push_list<T: Copy + Drop>(
-    lists: &mut FlatLists<T>,
-    ids: &IdTable<'_>,
-    numbers: &[Option<T>],
-    stamps: &mut [u8],
-    stamp: u8,
-    room: &mut u32,
-    list: Fields<'_>,
-) -> Result<bool, AllocError>
-    requires numbers { length numbers.now ≡ length ids.now }
-    requires stamps { length stamps.old ≡ length ids.now }
-    requires fresh { AreStampedBelow stamp stamps.old }
-    requires begun { 0 < length lists.old }
-    ensures stamps { AreStampedBelow (stamp + 1) stamps.new }
-    ensures reads { IfOk result (λ found. ReadsList ids.now numbers.now room.old room.new (fields_left list.entry) lists.old lists.new found) }
-{
-    for id in list {
-        let Some(place) = ids.number(id) else {
-            return Ok(false);
-        };
-        if *room == 0 || stamps[place] == stamp {
-            return Ok(false);
-        }
-        stamps[place] = stamp;
-        *room -= 1;
-        if let Some(number) = numbers[place] {
-            lists.push(number)?;
-        }
-    }
-    Ok(true)
-}
-
-/// These lists by numbers, where each names none but these ids, none twice, and there is room for all entries.
-pub(crate) fn read_lists<T: Copy + Drop>(
-    alloc: Global,
-    ids: &IdTable<'_>,
-    numbers: &[Option<T>],
-    room: &mut u32,
-    lists: &[Option<&Fields<'_>>],
-) -> Result<Option<FlatLists<T>>, AllocError>
-    requires { length numbers.now ≡ length ids.now }
-    ensures { IfOk result (ReadsLists ids.now numbers.now room.old room.new (lists_seen lists.now)) }
-{
-    let mut read = FlatLists::new(alloc);
-    let mut stamps: Vec<u8> = vec![in alloc; 0; ids.len()]?;
-    let mut stamp = 0;
-    for list in lists {
-        read.begin()?;
-        if let Some(fields) = list {
-            stamp = next_stamp(alloc, &mut stamps, stamp)?;
-            if !push_list(&mut read, ids, numbers, &mut stamps, stamp, room, **fields)? {
-                return Ok(None);
-            }
-        }
-    }
-    Ok(Some(read))
 }
 
 /// The programs' lists by numbers, where each names applicants alone, none twice, and there is room for all entries.

@@ -1,11 +1,11 @@
 //! Couples' lists of pairs by numbers, read in blocks side by side.
 ghost use Rattle.std.specs.Prelude.{◌≡◌, ◌<◌, length, map, IfOk};
-ghost use Rattle.mt_numbering.specs.Blocks.{AreBlocks, IsBlock};
+ghost use Rattle.mt_blocks.specs.Blocks.{AreBlocks, IsBlock};
 ghost use Rattle.mt_records.specs.Fields.{pairs_left};
 ghost use Rattle.mt_numbering.specs.Reading.{ReadsAllPairs};
 
-use crate::blocks::{Block, FEWEST, block_size, join_blocks};
 use crate::numbering::read_pairs;
+use mt_blocks::{Block, FEWEST, block_size, join_blocks};
 use mt_ids::IdTable;
 use mt_market::FlatLists;
 use mt_records::Pairs;

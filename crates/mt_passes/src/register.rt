@@ -4,8 +4,8 @@ ghost use Rattle.mt_terms.specs.Registration.Passes.{first_in, registered_before
 ghost use Rattle.mt_records.specs.Records.{record_seen, charge_seen};
 ghost use Rattle.mt_passes.specs.Registers.{records_seen, contents_seen, withdraws_twice, AreFew, IsRegister, AddsRecord};
 
-use crate::repeats::{has_repeat, has_repeated_pair};
-use mt_ids::{IdTable, Seed, add_fields};
+use crate::repeats::{add_fields, has_repeat, has_repeated_pair};
+use mt_ids::{IdTable, Seed};
 use mt_lists::RowsIter;
 use mt_records::{Charge, Kind, Kinds, Record, Rules, are_over, push};
 use mt_terms::Limits;

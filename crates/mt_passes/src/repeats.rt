@@ -7,12 +7,19 @@ ghost use Rattle.mt_terms.specs.Registration.Passes.{is_same_pair};
 ghost use Rattle.mt_records.specs.Fields.{pairs_left};
 
 use indexmap::IndexSet;
-use mt_ids::{IdTable, Seed, add_field, add_fields};
+use mt_ids::{IdTable, Seed, add_field};
 use mt_lists::Fields;
 use mt_records::Pairs;
 use std::alloc::{AllocError, Global};
 use std::hash::DefaultHasher;
 use std::marker::Model;
+
+/// Adds fields to a digest.
+pub(crate) fn add_fields(digest: &mut DefaultHasher, fields: Fields<'_>) {
+    for field in fields {
+        add_field(digest, field);
+    }
+}
 
 /// Whether an id stands twice in a list.
 pub(crate) fn has_repeat(alloc: Global, list: Fields<'_>) -> Result<bool, AllocError>

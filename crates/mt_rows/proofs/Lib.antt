@@ -1,1 +1,2 @@
 pub mod RowFacts
+pub mod FlatListsFacts

@@ -1,6 +1,8 @@
-//! Rows that grow side by side in one vector.
+//! Lists of lists in one vector: rows that grow side by side, and lists one after another.
 #![tactic(auto)]
 
+mod flat_lists;
 mod rows;
 
+pub use flat_lists::FlatLists;
 pub use rows::Rows;

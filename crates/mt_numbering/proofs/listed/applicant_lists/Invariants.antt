@@ -1,5 +1,6 @@
 use Rattle.std.proofs.Common.{◌≡◌, ◌++◌, drop}
-use Rattle.mt_numbering.specs.Numbered.{all_seen, lists_seen, applicant_lists}
+use Rattle.mt_numbering.specs.Numbered.{all_seen, applicant_lists}
+use Rattle.mt_blocks.specs.Reading.{lists_seen}
 use Rattle.mt_numbering.proofs.listed.applicant_lists.Given as goal
 
 abbrev pub invariant-loop-one : goal.invariant-loop-one

@@ -3,7 +3,8 @@ use Rattle.mt_terms.specs.Registration.Ids.{Bytes}
 use Rattle.mt_terms.specs.Registration.Records.{Record}
 use Rattle.mt_records.specs.declared.record.Record.{Record as Checked}
 use Rattle.mt_numbering.specs.Numbered.{all_seen, program_lists}
-use Rattle.mt_numbering.specs.Reading.{ReadsLists, ReadsOthers, members_by}
+use Rattle.mt_numbering.specs.Reading.{ReadsOthers, members_by}
+use Rattle.mt_blocks.specs.Reading.{ReadsLists}
 use Rattle.mt_numbering.proofs.EntryFacts.{rankings_fail, read_beside}
 use Rattle.mt_numbering.proofs.market.read_unnamed.Goals as goal
 

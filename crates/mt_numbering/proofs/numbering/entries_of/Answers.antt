@@ -1,7 +1,7 @@
 use Rattle.std.proofs.Common.{ℕ, refl, subst}
 use Rattle.std.proofs.lemmas.Result.{IfOk-weaker}
 use Rattle.mt_numbering.specs.Numbered.{all_seen, program_lists}
-use Rattle.mt_numbering.specs.Reading.{ReadsLists}
+use Rattle.mt_blocks.specs.Reading.{ReadsLists}
 use Rattle.mt_numbering.proofs.EntryFacts.{rankings_fail, with_others}
 use Rattle.mt_numbering.proofs.numbering.entries_of.Goals as goal
 

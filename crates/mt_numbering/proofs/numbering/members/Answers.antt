@@ -5,7 +5,7 @@ use Rattle.mt_terms.specs.Registration.Ids.{Bytes, has_id}
 use Rattle.mt_terms.specs.Registration.Rows.{applicants_of}
 use Rattle.mt_records.specs.declared.record.Record.{Record as Checked}
 use Rattle.mt_records.specs.Fields.{members_in}
-use Rattle.mt_numbering.specs.Reading.{number_by}
+use Rattle.mt_blocks.specs.Reading.{number_by}
 use Rattle.mt_records.specs.Records.{record_seen}
 use Rattle.mt_numbering.proofs.NumberingSteps.{members_pass, found_number}
 use Rattle.mt_numbering.proofs.numbering.members.Goals as goal

@@ -1,6 +1,7 @@
 use Rattle.std.proofs.Common.{ℕ, subst}
 use Rattle.mt_numbering.specs.Numbered.{all_seen, applicant_lists, couple_lists}
-use Rattle.mt_numbering.specs.Reading.{ReadsLists, ReadsAllPairs}
+use Rattle.mt_numbering.specs.Reading.{ReadsAllPairs}
+use Rattle.mt_blocks.specs.Reading.{ReadsLists}
 use Rattle.mt_numbering.proofs.EntryFacts.{lists_fail, pairs_fail, all_read}
 use Rattle.mt_numbering.proofs.numbering.other_entries.Goals as goal
 

@@ -8,9 +8,9 @@ use Rattle.mt_file_laws.specs.Faultless.{pair_stands}
 use Rattle.mt_terms.specs.Registration.Numbering.{pair_by_number}
 use Rattle.mt_terms.specs.Registration.Records.{IdPair}
 use Rattle.mt_records.specs.Fields.{pairs_left}
-use Rattle.mt_numbering.specs.Numbered.{with_more}
+use Rattle.mt_blocks.specs.Reading.{with_more}
 use Rattle.mt_numbering.specs.Reading.{pairs_by}
-use Rattle.mt_numbering.proofs.NumberingSteps.{length-with_last}
+use Rattle.mt_blocks.proofs.ListFacts.{length-with_last}
 use Rattle.mt_numbering.proofs.PairSteps.{found_pair, is_same_numbers, numbers-more, pairs_by-none, pairs_by-some, pairs_read}
 use Rattle.mt_numbering.proofs.numbering.push_pairs.Goals as goal
 

@@ -3,7 +3,7 @@ use Rattle.std.specs.List.{list_all}
 use Rattle.mt_file_laws.specs.Faultless.{pair_stands}
 use Rattle.mt_terms.specs.Registration.Numbering.{pair_by_number}
 use Rattle.mt_records.specs.Fields.{pairs_left}
-use Rattle.mt_numbering.specs.Numbered.{with_more}
+use Rattle.mt_blocks.specs.Reading.{with_more}
 use Rattle.mt_numbering.specs.Reading.{pairs_by}
 use Rattle.mt_numbering.proofs.numbering.push_pairs.Given as goal
 

@@ -2,7 +2,7 @@ use Rattle.std.proofs.Common.{◌≡◌, ◌+◌, ◌∷◌, arith, drop, map, s
 use Rattle.std.proofs.lemmas.Grind.{common_steps, elements}
 use Rattle.mt_records.specs.Fields.{pairs_left}
 use Rattle.mt_numbering.specs.Reading.{pairs_by, pairs_once, pair_entries, ReadsPairs}
-use Rattle.mt_numbering.proofs.ReadingSteps.{read_no_more, read_one}
+use Rattle.mt_blocks.proofs.ReadingSteps.{read_no_more, read_one}
 use Rattle.mt_numbering.proofs.numbering.read_pairs.Goals as goal
 
 pub returns-then-not-branch : goal.returns-then-not-branch

@@ -1,7 +1,7 @@
 use Rattle.std.proofs.Common.{drop, map}
 use Rattle.mt_records.specs.Fields.{pairs_left}
 use Rattle.mt_numbering.specs.Reading.{pairs_by, pairs_once, pair_entries}
-use Rattle.mt_numbering.proofs.ReadingSteps.{AreReadTo}
+use Rattle.mt_blocks.proofs.ReadingSteps.{AreReadTo}
 use Rattle.mt_numbering.proofs.numbering.read_pairs.Given as goal
 
 abbrev pub invariant-loop-list : goal.invariant-loop-list

@@ -2,12 +2,12 @@ use Rattle.std.proofs.Common.{◌≡◌, ap, ◌∙◌, refl, ℕ, Bool, List, m
 use Rattle.rayon.specs.Lists.{chunks_of, chunks_size, chunks_slice, min_len_base}
 use Rattle.mt_terms.specs.Market.{Pair}
 use Rattle.mt_terms.specs.Registration.Ids.{Bytes}
-use Rattle.mt_numbering.specs.declared.blocks.Block.{Block}
+use Rattle.mt_blocks.specs.declared.blocks.Block.{Block}
 use Rattle.mt_records.specs.declared.fields.Pairs.{Pairs}
-use Rattle.mt_numbering.specs.Blocks.{IsBlock}
+use Rattle.mt_blocks.specs.Blocks.{IsBlock}
 use Rattle.mt_records.specs.Fields.{pairs_left}
 use Rattle.mt_numbering.specs.Reading.{ReadsAllPairs}
-use Rattle.mt_numbering.proofs.BlockFacts.{blocks_by_threads, same_blocks}
+use Rattle.mt_blocks.proofs.BlockFacts.{blocks_by_threads, same_blocks}
 use Rattle.mt_numbering.proofs.pair_blocks.read_blocks.Goals as goal
 
 -- what is known of a block of lists of pairs, by whether half pairs are allowed, and ids

@@ -3,7 +3,7 @@ use Rattle.rayon.proofs.ToStd.{chunks_of-concat}
 use Rattle.rayon.specs.Lists.{chunks_of}
 use Rattle.mt_records.specs.Fields.{pairs_left}
 use Rattle.mt_numbering.specs.Reading.{pairs_by, pairs_once, pair_entries}
-use Rattle.mt_numbering.proofs.BlockFacts.{lists_read}
+use Rattle.mt_blocks.proofs.BlockFacts.{lists_read}
 use Rattle.mt_numbering.proofs.pair_blocks.read_side_by_side.Goals as goal
 
 pub returns : goal.returns

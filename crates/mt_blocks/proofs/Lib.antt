@@ -1,0 +1,4 @@
+pub mod ListFacts
+pub mod StampFacts
+pub mod ReadingSteps
+pub mod BlockFacts
