@@ -12,7 +12,8 @@ use Rattle.mt_terms.specs.Matching.{Places}
 use Rattle.mt_terms.specs.Registration.Faults.{Fault}
 use Rattle.mt_terms.specs.Text.{published}
 use Rattle.mt_match_laws.proofs.ExclusionLemmas.{best_is_unique_lem}
-use Rattle.mt_run.specs.Answer.{IsRefusedAlone, IsAnswerOfStage, IsAnswerOfMarket, IsAnswerOfFault, IsAnswerOfRows, all_proposals, most_bytes}
+use Rattle.mt_answer.specs.Answer.{IsRefusedAlone, IsAnswerOfStage, IsAnswerOfMarket, all_proposals}
+use Rattle.mt_run.specs.Answer.{IsAnswerOfFault, IsAnswerOfRows, most_bytes}
 use Rattle.mt_run.specs.Examples.{crossed_file, ProgramOptimalIsNoAnswer}
 use Rattle.mt_run.proofs.HeadlineLemmas.{not_zero, stage_of_singles}
 

@@ -8,8 +8,10 @@ use Rattle.mt_terms.specs.Registration.Faults.{Fault}
 use Rattle.mt_terms.specs.Text.{IsNamedRefusal, is_fault_code, is_known_code}
 use Rattle.mt_refusal_laws.proofs.FaultFacts.{fault_codes_lem, fault_ids_lem}
 use Rattle.mt_lists.specs.Records.{records_of}
-use Rattle.mt_run.specs.Answer.{IsAnswer, IsAnswerOfRows, IsAnswerOfMarket, IsAnswerOfFault, IsRosterOf, most_bytes}
-use Rattle.mt_run.specs.Refusals.{IsRefusalBy, IsRefusalTo, line_of}
+use Rattle.mt_answer.specs.Answer.{IsAnswerOfMarket}
+use Rattle.mt_run.specs.Answer.{IsAnswer, IsAnswerOfRows, IsAnswerOfFault, IsRosterOf, most_bytes}
+use Rattle.mt_answer.specs.Refusals.{IsRefusalBy, line_of}
+use Rattle.mt_run.specs.Refusals.{IsRefusalTo}
 use Rattle.mt_terms.specs.declared.refusal.Refusal.{Refusal}
 
 not_a_read : (code : ℕ) → is_fault_code code ≡ true → code ≢ 31
@@ -17,10 +19,6 @@ not_a_read code h e = true≢false (sym h ∙ ap is_fault_code e)
 
 pub refusals_are_not_zero : (code : ℕ) → is_known_code code ≡ true → code ≢ 0
 refusals_are_not_zero code h e = true≢false (sym h ∙ ap is_known_code e)
-
--- want of memory is a refusal, whatever the answer is
-pub no_memory : {IsAnswered : ℕ → List ℕ → Type 0} (e : Refusal) → IsNamedRefusal e.code e.row e.id → e.code ≡ 30 → IsRefusalBy IsAnswered e
-no_memory e named is = record { named = named; reads_did = λ read. omega arith; answer = λ m. absurd (m is) }
 
 pub refusal_of_fault : (rows : List (List (List ℕ))) (budget : ℕ) (e : Refusal)
     → market_of rows ≡ Err (record { code = e.code; row = e.row; id = e.id }) → IsRefusalBy (λ code text. IsAnswerOfRows budget code text rows) e

@@ -23,7 +23,8 @@ use Rattle.mt_file_laws.proofs.PassFacts.{accepted_is_registration_lem}
 use Rattle.mt_refusal_laws.proofs.RefusalLine.{refusal_is_one_record_lem}
 use Rattle.mt_round_laws.proofs.RoundsStage.{stage_is_stable_lem}
 use Rattle.mt_floor_laws.proofs.RuralLemmas.{fill_alike_without_couples}
-use Rattle.mt_run.specs.Answer.{IsAnswer, most_bytes, IsRefusedAlone, IsAnswerOfStage, IsAnswerOfMarket, IsAnswerOfFault, IsAnswerOfRows, IsAnswerTo, all_proposals}
+use Rattle.mt_answer.specs.Answer.{IsRefusedAlone, IsAnswerOfStage, IsAnswerOfMarket, all_proposals}
+use Rattle.mt_run.specs.Answer.{IsAnswer, most_bytes, IsAnswerOfFault, IsAnswerOfRows, IsAnswerTo}
 use Rattle.mt_run.specs.Refusals.{HasNoCouple, PublishesSingles}
 use Rattle.mt_run.specs.Headline.{IsBestOfAll, IsStableText, IsStableTextOf}
 use Rattle.mt_run.specs.Laws.{PublishedIsNoRefusal, PublishedIsStable, RefusalIsOneRecord}

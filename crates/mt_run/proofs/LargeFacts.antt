@@ -6,7 +6,8 @@ use Rattle.std.proofs.lemmas.Bool.{lt-ltb}
 use Rattle.std.proofs.lemmas.List.{length-replicate}
 use Rattle.mt_lists.specs.Records.{records_of}
 use Rattle.mt_terms.specs.Text.{refused}
-use Rattle.mt_run.specs.Answer.{IsAnswer, IsAnswerTo, IsAnswerOfRows, IsRefusedAlone, most_bytes}
+use Rattle.mt_answer.specs.Answer.{IsRefusedAlone}
+use Rattle.mt_run.specs.Answer.{IsAnswer, IsAnswerTo, IsAnswerOfRows, most_bytes}
 
 large_answer : (bytes : List ℕ) (budget : ℕ) → most_bytes < length bytes → IsAnswer bytes budget 10 (refused 10 0 [])
 large_answer bytes budget h =

@@ -1,49 +1,16 @@
 -- What a run writes for the bytes that it reads.
-use Rattle.std.specs.Prelude.{◌≡◌, ◌≢◌, ℕ, ◌+◌, ◌≤◌, List, [], map, length, take, Option, None, Some, IsTrue, nat_lt, MatchOption, MatchResult, Ok, Bool}
+use Rattle.std.specs.Prelude.{◌≡◌, ◌≢◌, ℕ, ◌+◌, ◌≤◌, List, length, take, Option, None, Some, IsTrue, nat_lt, MatchOption, MatchResult, Ok, Bool}
 use Rattle.std.specs.Bool.{MatchBool}
 use Rattle.std.specs.Io.KnownBytes.{Appends}
 use Rattle.mt_lists.specs.Records.{records_of}
-use Rattle.mt_terms.specs.Best.{IsBest, proposals}
-use Rattle.mt_terms.specs.Lists.{below}
-use Rattle.mt_terms.specs.Market.{Market, Registered}
-use Rattle.mt_terms.specs.Matching.{Places}
+use Rattle.mt_terms.specs.Market.{Registered}
 use Rattle.mt_terms.specs.Registration.{market_of}
 use Rattle.mt_terms.specs.Registration.Faults.{Fault}
-use Rattle.mt_terms.specs.Rounds.{stage}
-use Rattle.mt_terms.specs.Stability.{stable}
-use Rattle.mt_terms.specs.Text.{published, refused}
-use Rattle.mt_terms.specs.declared.codes.TheConstants.{TOO_LARGE, TWO_MARKS, OUT_OF_MEMORY, READ_FAULT, BUDGET_SPENT}
+use Rattle.mt_terms.specs.Text.{refused}
+use Rattle.mt_terms.specs.declared.codes.TheConstants.{TOO_LARGE, TWO_MARKS, OUT_OF_MEMORY, READ_FAULT}
 use Rattle.mt_terms.specs.declared.limits.TheConstants.{LIMITS_2}
+use Rattle.mt_answer.specs.Answer.{IsRefusedAlone, IsAnswerOfMarket}
 use Rattle.mt_run.specs.Headline.{IsRefusal, IsStableTextOf}
-
--- the text is the line of a refusal with this code, which no record is at
-abbrev pub IsRefusedAlone : ℕ → ℕ → List ℕ → Type 0
-IsRefusedAlone refusal code text = (code ≡ refusal) × (text ≡ refused refusal 0 [])
-
--- how many proposals each program receives on the way to the best match
-abbrev pub all_proposals : Registered → Places → List ℕ
-all_proposals r best = map (proposals r.market best) (below (length r.market.programs))
-
--- the published text of a stable match
-pub record IsPublished (r : Registered) (places : Places) (received text : List ℕ) : Type 0 where
-  pub is_stable : IsTrue (stable r.market places)
-  pub is_text : text ≡ published r.market r.names places received
-
--- after the couples' stage from the best match of the singles: the published text of the match that it ends
--- in, or the refusal where the budget is spent
-abbrev pub IsAnswerOfStage : Registered → Places → Option (Places × ℕ) → ℕ → List ℕ → Type 0
-IsAnswerOfStage r best None code text = IsRefusedAlone BUDGET_SPENT code text
-IsAnswerOfStage r best (Some s) code text = (code ≡ 0) × (text ≡ published r.market r.names s.0 (all_proposals r best))
-
--- the couples' stage from this match ends, within the budget, in that one
-abbrev pub IsEnteredFrom : Market → Places → ℕ → Places → Type 0
-IsEnteredFrom m singles budget places = (rounds : ℕ) × (stage m singles budget ≡ Some (places, rounds))
-
--- the answer to a market: the couples enter after the best match of the singles
-pub record IsAnswerOfMarket (r : Registered) (budget code : ℕ) (text : List ℕ) : Type 0 where
-  pub best : Places
-  pub is_best : IsBest r.market best
-  pub ends : IsAnswerOfStage r best (stage r.market best budget) code text
 
 -- the answer to a first fault: its refusal line
 pub record IsAnswerOfFault (f : Fault) (code : ℕ) (text : List ℕ) : Type 0 where

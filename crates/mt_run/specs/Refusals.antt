@@ -1,20 +1,11 @@
 -- What the end of a step of a run is for a market, or for a file's records, or for its bytes: a text, or a refusal.
 use Rattle.std.specs.Prelude.{◌≡◌, ◌≢◌, ◌≤◌, ℕ, List, [], length, Result, Ok, Err, Option, Some}
-use Rattle.mt_terms.specs.Text.{IsNamedRefusal, refused}
+use Rattle.mt_terms.specs.Text.{IsNamedRefusal}
 use Rattle.mt_terms.specs.declared.codes.TheConstants.{OUT_OF_MEMORY, READ_FAULT}
 use Rattle.mt_terms.specs.Market.{Registered}
+use Rattle.mt_answer.specs.Refusals.{line_of}
 use Rattle.mt_run.specs.Answer.{IsAnswerTo, IsRosterOf, most_bytes}
 use Rattle.mt_terms.specs.declared.refusal.Refusal.{Refusal}
-
--- the line of a refusal
-abbrev pub line_of : Refusal → List ℕ
-line_of e = refused e.code e.row e.id
-
--- A named refusal, which is the answer but for want of memory.
-pub record IsRefusalBy (IsAnswered : ℕ → List ℕ → Type 0) (e : Refusal) : Type 0 where
-  pub named : IsNamedRefusal e.code e.row e.id
-  pub reads_did : e.code ≢ READ_FAULT
-  pub answer : e.code ≢ OUT_OF_MEMORY → IsAnswered e.code (line_of e)
 
 -- the code with which a step ends
 abbrev pub code_of : {X : Type 0} → Result X Refusal → ℕ

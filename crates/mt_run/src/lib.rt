@@ -1,10 +1,8 @@
 //! The whole run: bytes in, the text of a match or one refusal line out.
 #![tactic(auto)]
 
-mod answer;
 mod ended;
 pub mod laws;
-mod singles;
 mod whole;
 
 pub use ended::Ended;

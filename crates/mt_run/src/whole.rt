@@ -1,21 +1,35 @@
-ghost use Rattle.std.specs.Prelude.{◌≡◌, ℕ, ◌+◌, ◌<◌, ◌≤◌, ◌^◌, ◌↔◌, ◌≢◌, length, if◌then◌else◌, IfErr, IfOk, IsTrue};
+ghost use Rattle.std.specs.Prelude.{◌≡◌, ℕ, ◌+◌, ◌<◌, ◌≤◌, ◌^◌, ◌↔◌, ◌≢◌, length, if◌then◌else◌, IfErr, IfOk, IsTrue, Ok};
 ghost use Rattle.mt_lists.specs.Tap.{bytes_left, failures_of as read_failures_of, reads_of};
+ghost use Rattle.mt_terms.specs.Registration.{market_of};
 ghost use Rattle.mt_terms.specs.declared.codes.TheConstants.{READ_FAULT};
 ghost use Rattle.mt_report.specs.Drains.{contents_of, failures_of, is_flushed};
-ghost use Rattle.mt_run.specs.Answer.{Answers, IsAnswer, IsAnswerTo, IsRosterOf, RisesAtMost, most_bytes};
-ghost use Rattle.mt_run.specs.Refusals.{code_of, IsRefusalBy, IsRefusalTo, PublishesSingles};
+ghost use Rattle.mt_answer.specs.Refusals.{IsRefusalBy};
+ghost use Rattle.mt_run.specs.Answer.{Answers, IsAnswer, IsAnswerOfRows, IsAnswerTo, IsRosterOf, RisesAtMost, most_bytes};
+ghost use Rattle.mt_run.specs.Refusals.{code_of, IsRefusalTo, PublishesSingles};
 
-use crate::answer::{answer_to_market, roster_of};
 use crate::ended::Ended;
-use mt_lists::{ListFault, ReadEnd, Tap, read_all, records};
+use mt_answer::answer_to_market;
+use mt_lists::{ListFault, ReadEnd, Rows, Tap, read_all, records};
 use mt_report::{Drain, put_all, refused};
-use mt_roster::Roster;
+use mt_roster::{Roster, RosterError, roster};
 use mt_terms::codes::{OUT_OF_MEMORY, READ_FAULT, TOO_LARGE, TWO_MARKS};
 use mt_terms::{LIMITS, Options, Refusal};
 use std::alloc::Global;
 use std::io::{Read, Write};
 use std::sync::Wait;
 use std::thread::Threads;
+
+/// The roster of the records of a file, or the refusal that is the answer.
+fn roster_of<T: Threads + Sync>(rt: &T, alloc: Global, rows: &Rows<'_>) -> Result<Roster, Refusal>
+    ensures market { IfOk result (λ roster. market_of rows.now ≡ Ok roster) }
+    ensures refused { (budget : ℕ) → IfErr result (IsRefusalBy (λ code text. IsAnswerOfRows budget code text rows.now)) }
+{
+    match roster(rt, alloc, rows) {
+        Ok(roster) => Ok(roster),
+        Err(RosterError::Fault(fault)) => Err(fault),
+        Err(RosterError::Memory) => Err(Refusal::alone(OUT_OF_MEMORY)),
+    }
+}
 
 /// The roster of bytes that are no more than the limit, or the refusal that is the answer.
 fn roster_of_bytes<T: Threads + Sync>(

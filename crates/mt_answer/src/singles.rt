@@ -4,8 +4,8 @@ ghost use Rattle.mt_terms.specs.Lists.{below};
 ghost use Rattle.mt_ranks.specs.Ranked.{ranked_of};
 
 use mt_crew::{Open, Singles, work, work_alone};
+use mt_market::Roster;
 use mt_ranks::Ranks;
-use mt_roster::Roster;
 use std::alloc::{AllocError, Global};
 use std::sync::Wait;
 use std::thread::Threads;

@@ -5,10 +5,10 @@ use Rattle.mt_terms.specs.Best.{proposals}
 use Rattle.mt_terms.specs.Stability.{stable}
 use Rattle.mt_terms.proofs.BelowFacts.{length-map_below}
 use Rattle.mt_round_laws.proofs.RoundsStage.{stage_is_stable_lem}
-use Rattle.mt_run.specs.Answer.{IsPublished}
-use Rattle.mt_run.proofs.FaultFacts.{no_memory}
-use Rattle.mt_run.proofs.MatchFacts.{stable_are_places}
-use Rattle.mt_run.proofs.answer.answer_by_ranks.Goals as goal
+use Rattle.mt_answer.specs.Answer.{IsPublished}
+use Rattle.mt_answer.proofs.RefusalFacts.{no_memory}
+use Rattle.mt_answer.proofs.MatchFacts.{stable_are_places}
+use Rattle.mt_answer.proofs.answer.answer_by_ranks.Goals as goal
 
 -- from the best match the couples' stage ends in a stable match
 pub publish-requires-clause-places : goal.publish-requires-clause-places

@@ -1,20 +1,16 @@
-ghost use Rattle.std.specs.Prelude.{◌≡◌, ◌↔◌, ◌≤◌, ℕ, length, not, IfErr, IfOk, IsTrue, MatchOption, Ok};
+ghost use Rattle.std.specs.Prelude.{◌≡◌, ◌↔◌, ◌≤◌, length, not, IfErr, IfOk, IsTrue, MatchOption};
 ghost use Rattle.mt_terms.specs.Best.{IsBest};
 ghost use Rattle.mt_terms.specs.Places.{ArePlaces};
-ghost use Rattle.mt_terms.specs.Registration.{market_of};
-ghost use Rattle.mt_terms.specs.Rounds.{stage};
 ghost use Rattle.mt_terms.specs.Stability.{stable};
-ghost use Rattle.mt_terms.specs.Text.{published as published_text};
 ghost use Rattle.mt_ranks.specs.Ranked.{ranked_of};
-ghost use Rattle.mt_run.specs.Answer.{IsAnswerOfMarket, IsAnswerOfRows, IsEnteredFrom, IsPublished};
-ghost use Rattle.mt_run.specs.Refusals.{IsRefusalBy};
+ghost use Rattle.mt_answer.specs.Answer.{IsAnswerOfMarket, IsEnteredFrom, IsPublished};
+ghost use Rattle.mt_answer.specs.Refusals.{IsRefusalBy};
 
 use crate::singles::match_singles;
 use mt_couples::{CoupleEnd, enter_all};
-use mt_lists::Rows;
+use mt_market::Roster;
 use mt_ranks::Ranks;
 use mt_report::published;
-use mt_roster::{Roster, RosterError, roster};
 use mt_terms::codes::{BUDGET_SPENT, OUT_OF_MEMORY};
 use mt_terms::{Agent, Blocker, Match, Options, Refusal};
 use mt_verify::{Verdict, verify};
@@ -115,8 +111,9 @@ fn answer_by_ranks<T: Threads + Wait + Sync>(
     }
 }
 
-/// The text of the market's match.
-pub(crate) fn answer_to_market<T: Threads + Wait + Sync>(
+/// The text of the market's match, which is stable: the singles are matched by so many workers, and the couples enter
+/// within the budget. The error is a refusal: the budget is spent, or memory was refused.
+pub fn answer_to_market<T: Threads + Wait + Sync>(
     rt: &T,
     alloc: Global,
     roster: &Roster,
@@ -129,21 +126,5 @@ pub(crate) fn answer_to_market<T: Threads + Wait + Sync>(
     match Ranks::build(rt, alloc, roster) {
         Ok(ranks) => answer_by_ranks(rt, alloc, roster, &ranks, options),
         Err(_) => Err(Refusal::alone(OUT_OF_MEMORY)),
-    }
-}
-
-/// The roster of the records of a file, or the refusal that is the answer.
-pub(crate) fn roster_of<T: Threads + Sync>(
-    rt: &T,
-    alloc: Global,
-    rows: &Rows<'_>,
-) -> Result<Roster, Refusal>
-    ensures market { IfOk result (λ roster. market_of rows.now ≡ Ok roster) }
-    ensures refused { (budget : ℕ) → IfErr result (IsRefusalBy (λ code text. IsAnswerOfRows budget code text rows.now)) }
-{
-    match roster(rt, alloc, rows) {
-        Ok(roster) => Ok(roster),
-        Err(RosterError::Fault(fault)) => Err(fault),
-        Err(RosterError::Memory) => Err(Refusal::alone(OUT_OF_MEMORY)),
     }
 }

@@ -1,7 +1,7 @@
 use Rattle.std.proofs.Common.{Err, ap, arith, refl}
 use Rattle.mt_round_laws.proofs.RoundsStage.{singles_fit}
-use Rattle.mt_run.proofs.FaultFacts.{no_memory}
-use Rattle.mt_run.proofs.answer.with_couples.Goals as goal
+use Rattle.mt_answer.proofs.RefusalFacts.{no_memory}
+use Rattle.mt_answer.proofs.answer.with_couples.Goals as goal
 
 pub enter_all-requires-clause-fits : goal.enter_all-requires-clause-fits
 enter_all-requires-clause-fits g c κs within =

@@ -1,8 +1,8 @@
 use Rattle.std.proofs.Common.{ap, refl, ◌∙◌}
 use Rattle.mt_terms.specs.Best.{proposals}
 use Rattle.mt_ranks.specs.Ranked.{Ranked}
-use Rattle.mt_run.proofs.SinglesFacts.{best_of_live, proposals_of_live}
-use Rattle.mt_run.proofs.singles.match_singles.Goals as goal
+use Rattle.mt_answer.proofs.SinglesFacts.{best_of_live, proposals_of_live}
+use Rattle.mt_answer.proofs.singles.match_singles.Goals as goal
 
 pub returns-clause-best : goal.returns-clause-best
 returns-clause-best g c =

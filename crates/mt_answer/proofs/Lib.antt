@@ -1,0 +1,3 @@
+pub mod MatchFacts
+pub mod RefusalFacts
+pub mod SinglesFacts

@@ -1,0 +1,7 @@
+//! The answer to a market: the text of its match, or a refusal.
+#![tactic(auto)]
+
+mod answer;
+mod singles;
+
+pub use answer::answer_to_market;
