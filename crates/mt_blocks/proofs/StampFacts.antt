@@ -4,8 +4,8 @@ use Rattle.std.specs.Prelude.{bytes_eq}
 use Rattle.std.specs.List.{list_all}
 use Rattle.std.proofs.lemmas.Bool.Decides.{nat_tests}
 use Rattle.std.proofs.lemmas.List.{length-set}
-use Rattle.mt_file_laws.specs.Faultless.{stands_once}
-use Rattle.mt_file_laws.proofs.IdFacts.{number_below, same_number, same_id, is_same}
+use Rattle.mt_terms.specs.Registration.Ids.{stands_once}
+use Rattle.mt_terms.proofs.IdFacts.{number_below, same_number, same_id, is_same}
 use Rattle.mt_terms.specs.Registration.Ids.{Bytes, has_id, number_of, all_differ}
 use Rattle.mt_blocks.specs.Reading.{AreStampedBelow}
 use Rattle.mt_blocks.proofs.ListFacts.{get_or-set}

@@ -6,7 +6,7 @@ use Rattle.std.specs.List.{list_all}
 use Rattle.mt_rows.specs.FlatLists.{with_last}
 use Rattle.mt_lists.specs.Rows.{fields_left}
 use Rattle.mt_lists.specs.declared.row.Fields.{Fields}
-use Rattle.mt_file_laws.specs.Faultless.{stands_once}
+use Rattle.mt_terms.specs.Registration.Ids.{stands_once}
 use Rattle.mt_terms.specs.Registration.Ids.{Bytes, number_of}
 
 -- lists with more elements at the end of the last one

@@ -15,7 +15,8 @@ use Rattle.mt_terms.specs.Registration.Rows.{own_id, ids_of, withdrawn_id, withd
 use Rattle.mt_terms.specs.Registration.Passes.{is_same_pair, registered_before, says_twice, are_too_many, first_of, first_in}
 use Rattle.mt_file_laws.specs.Faultless.{ids_differ}
 use Rattle.mt_file_laws.proofs.GrowthFacts.{applicant_ids-more, ids_of-more, withdrawn-more}
-use Rattle.mt_file_laws.proofs.IdFacts.{differ_parts, differ_join, neither, same_id, is_same}
+use Rattle.mt_file_laws.proofs.IdFacts.{differ_parts, differ_join, neither}
+use Rattle.mt_terms.proofs.IdFacts.{same_id, is_same}
 use Rattle.mt_file_laws.proofs.NumberingFacts.{both}
 
 -- whether nothing is withdrawn twice

@@ -12,7 +12,7 @@ use Rattle.mt_terms.specs.Registration.Rows.{ids_of, applicant_ids, withdrawn}
 use Rattle.mt_terms.specs.Registration.Passes.{Numbered, contents, first_of, first_not_in, unknown_id, named, are_too_many, is_same_pair}
 use Rattle.mt_terms.specs.Registration.Numbering.{is_none_or_in, names_only}
 use Rattle.mt_file_laws.specs.Faultless.{ids_differ, ranking_stands, list_stands, is_allowed, pair_stands, pairs_stand, withdrawals_stand, is_faultless}
-use Rattle.mt_file_laws.proofs.IdFacts.{same_id}
+use Rattle.mt_terms.proofs.IdFacts.{same_id}
 use Rattle.mt_file_laws.proofs.NumberingFacts.{both}
 use Rattle.mt_file_laws.proofs.ApartFacts.{withdrawn_once, lists_once, AreApart, no}
 use Rattle.mt_file_laws.proofs.DraftFacts.{lists_ids, registers_ids, is_none_or_id, is_id_pair, programs_ids, applicants_ids}

@@ -4,7 +4,7 @@ use Rattle.std.specs.List.{list_all}
 use Rattle.std.specs.Result.{result_ok}
 use Rattle.mt_terms.specs.Market.{Registered}
 use Rattle.mt_terms.specs.Registration.{market_under}
-use Rattle.mt_terms.specs.Registration.Ids.{Bytes, is_id, quota_of, has_id, all_differ}
+use Rattle.mt_terms.specs.Registration.Ids.{Bytes, is_id, quota_of, has_id, all_differ, stands_once}
 use Rattle.mt_terms.specs.Registration.Records.{Rules, Kind, OfProgram, OfApplicant, OfCouple, Record, ProgramRecord, ApplicantRecord, CoupleRecord, IdPair, kind_of, are_ids, two_by_two, pair_of, withdraw_record}
 use Rattle.mt_terms.specs.Registration.Rows.{ids_of, withdrawn, applicant_ids}
 use Rattle.mt_terms.specs.Registration.Passes.{Numbered, contents, is_same_pair, are_too_many}
@@ -43,10 +43,6 @@ draft rules (word ∷ fields) =
 abbrev pub drafts : Rules → List (List Bytes) → Option (List Record)
 drafts rules [] = Some []
 drafts rules (row ∷ rows) = option_and_then (λ r. option_map (λ rs. r ∷ rs) (drafts rules rows)) (draft rules row)
-
--- whether a list names none but these, and none twice
-abbrev pub stands_once : List Bytes → List Bytes → Bool
-stands_once ids list = list_all (has_id ids) list && all_differ bytes_eq list
 
 -- whether a pair is allowed: it has a place for each member, or where half pairs are allowed for one of them
 abbrev pub is_allowed : Bool → IdPair → Bool

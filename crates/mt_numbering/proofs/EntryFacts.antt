@@ -3,7 +3,8 @@ use Rattle.std.proofs.Common.{◌≡◌, ◌<◌, ◌+◌, Bool, true, ◌&&◌,
 use Rattle.std.specs.Prelude.{sum_by}
 use Rattle.std.specs.List.{list_all}
 use Rattle.std.proofs.lemmas.List.Sums.{sum_by-cons}
-use Rattle.mt_file_laws.specs.Faultless.{stands_once, ranking_stands, list_stands, pairs_stand}
+use Rattle.mt_file_laws.specs.Faultless.{ranking_stands, list_stands, pairs_stand}
+use Rattle.mt_terms.specs.Registration.Ids.{stands_once}
 use Rattle.mt_terms.specs.Market.{Pair}
 use Rattle.mt_terms.specs.Registration.Ids.{Bytes}
 use Rattle.mt_terms.specs.Registration.Records.{Record, ProgramRecord, ApplicantRecord, CoupleRecord, WithdrawRecord}

@@ -15,7 +15,8 @@ use Rattle.mt_terms.specs.Registration.Records.{Rules, Record, ProgramRecord, Ap
 use Rattle.mt_terms.specs.Registration.Rows.{ids_of, applicant_ids, withdrawn, remaining, entries_of, entry_count}
 use Rattle.mt_file_laws.specs.Faultless.{ids_differ, withdrawals_stand, ranking_stands, list_stands, pair_stands, pairs_stand, is_faultless}
 use Rattle.mt_file_laws.specs.Staying.{stays_without, flagged, new_numbers, program_flags, applicant_flags}
-use Rattle.mt_file_laws.proofs.IdFacts.{not_true, differ_parts, same_id, neither, itself, or_left, or_right}
+use Rattle.mt_file_laws.proofs.IdFacts.{not_true, differ_parts, neither, itself, or_left, or_right}
+use Rattle.mt_terms.proofs.IdFacts.{same_id}
 use Rattle.mt_file_laws.proofs.NumberingFacts.{both}
 use Rattle.mt_file_laws.proofs.StayingFacts.{remaining_is, program_ids_stay, applicant_ids_stay, length-program_flags, length-applicant_flags, length-new_numbers, new_number, numbers_stay, pairs_stay}
 use Rattle.mt_numbering.specs.declared.market.Unnamed.{Unnamed}

@@ -7,7 +7,8 @@ use Rattle.std.proofs.lemmas.Bool.Decides.{nat_tests}
 use Rattle.std.proofs.lemmas.List.{append_assoc}
 use Rattle.mt_file_laws.specs.Faultless.{is_allowed, pair_stands}
 use Rattle.mt_file_laws.specs.Staying.{new_pair}
-use Rattle.mt_file_laws.proofs.IdFacts.{number_below, same_number, same_id, is_same, not_true}
+use Rattle.mt_file_laws.proofs.IdFacts.{not_true}
+use Rattle.mt_terms.proofs.IdFacts.{number_below, same_number, same_id, is_same}
 use Rattle.mt_rows.specs.FlatLists.{with_last}
 use Rattle.mt_terms.specs.Market.{Pair}
 use Rattle.mt_terms.specs.Registration.Ids.{Bytes, has_id, number_of, all_differ}

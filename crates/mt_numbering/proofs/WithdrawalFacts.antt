@@ -10,9 +10,11 @@ use Rattle.std.proofs.lemmas.List.Folds.{list_all-append}
 use Rattle.mt_terms.specs.Registration.Ids.{Bytes, has_id, all_differ}
 use Rattle.mt_terms.specs.Registration.Records.{Record, ProgramRecord, ApplicantRecord, CoupleRecord, WithdrawRecord, Kind, OfProgram, OfApplicant, OfCouple}
 use Rattle.mt_terms.specs.Registration.Rows.{withdrawn_id, withdrawn, ids_of}
-use Rattle.mt_file_laws.specs.Faultless.{stands_once, withdrawals_stand}
+use Rattle.mt_file_laws.specs.Faultless.{withdrawals_stand}
+use Rattle.mt_terms.specs.Registration.Ids.{stands_once}
 use Rattle.mt_file_laws.specs.Staying.{new_numbers}
-use Rattle.mt_file_laws.proofs.IdFacts.{differ_parts, differ_push, is_same, not_true, or_left, or_right, same_id}
+use Rattle.mt_file_laws.proofs.IdFacts.{differ_parts, differ_push, not_true, or_left, or_right}
+use Rattle.mt_terms.proofs.IdFacts.{is_same, same_id}
 use Rattle.mt_file_laws.proofs.NumberingFacts.{both}
 use Rattle.mt_records.specs.declared.record.Kind as checked
 use Rattle.mt_records.specs.declared.record.Record.{Record as Checked}

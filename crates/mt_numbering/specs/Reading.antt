@@ -1,7 +1,8 @@
 -- What the reading of records' lists gives, and of their couples' members.
 use Rattle.std.specs.Prelude.{◌≡◌, ℕ, ◌+◌, ◌*◌, ◌<◌, ◌&&◌, Bool, true, List, length, map, sum_by, filter_map, Option, Some, None, is_some, unwrap_or}
 use Rattle.std.specs.List.{list_all}
-use Rattle.mt_file_laws.specs.Faultless.{stands_once, ranking_stands, list_stands, pair_stands, pairs_stand}
+use Rattle.mt_file_laws.specs.Faultless.{ranking_stands, list_stands, pair_stands, pairs_stand}
+use Rattle.mt_terms.specs.Registration.Ids.{stands_once}
 use Rattle.mt_file_laws.specs.Staying.{new_pair}
 use Rattle.mt_terms.specs.Market.{Pair}
 use Rattle.mt_terms.specs.Registration.Ids.{Bytes, has_id, all_differ}

@@ -6,7 +6,8 @@ use Rattle.std.specs.Option.{option_copied, option_eq}
 use Rattle.std.proofs.lemmas.Bool.{and_parts}
 use Rattle.std.proofs.lemmas.List.{append_assoc, drop_more, map-append}
 use Rattle.std.proofs.lemmas.List.Folds.{list_any-append}
-use Rattle.mt_file_laws.proofs.IdFacts.{same_id, is_same, neither, not_true, or_right}
+use Rattle.mt_file_laws.proofs.IdFacts.{neither, not_true, or_right}
+use Rattle.mt_terms.proofs.IdFacts.{same_id, is_same}
 use Rattle.mt_terms.specs.Registration.Ids.{Bytes, all_differ}
 use Rattle.mt_terms.specs.Registration.Records.{IdPair}
 use Rattle.mt_terms.specs.Registration.Passes.{is_same_pair}

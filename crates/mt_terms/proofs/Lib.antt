@@ -1,4 +1,5 @@
 pub mod BelowFacts
+pub mod IdFacts
 pub mod ListFacts
 pub mod LiveFacts
 pub mod Totals

@@ -43,3 +43,7 @@ numbers_of ids list = map (number_of ids) (filter (has_id ids) list)
 abbrev pub all_differ : {X : Type 0} → (X → X → Bool) → List X → Bool
 all_differ same [] = true
 all_differ same (x ∷ xs) = not (list_any (same x) xs) && all_differ same xs
+
+-- whether a list names none but these ids, and none twice
+abbrev pub stands_once : List Bytes → List Bytes → Bool
+stands_once ids list = list_all (has_id ids) list && all_differ bytes_eq list

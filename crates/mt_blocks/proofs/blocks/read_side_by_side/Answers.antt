@@ -3,7 +3,7 @@ use Rattle.std.proofs.lemmas.Result.{IfOk-weaker}
 use Rattle.rayon.proofs.ToStd.{chunks_of-concat}
 use Rattle.rayon.specs.Lists.{chunks_of}
 use Rattle.mt_lists.specs.declared.row.Fields.{Fields}
-use Rattle.mt_file_laws.specs.Faultless.{stands_once}
+use Rattle.mt_terms.specs.Registration.Ids.{stands_once}
 use Rattle.mt_terms.specs.Registration.Ids.{Bytes}
 use Rattle.mt_blocks.specs.Blocks.{AreBlocks}
 use Rattle.mt_blocks.specs.Reading.{list_seen}

@@ -1,6 +1,6 @@
 use Rattle.std.proofs.Common.{◌≡◌, ◌<◌, length, List, [], Bool, false, true, refl, ap, sym, ◌∙◌, arith}
 use Rattle.mt_lists.specs.Rows.{fields_left}
-use Rattle.mt_file_laws.proofs.IdFacts.{number_below}
+use Rattle.mt_terms.proofs.IdFacts.{number_below}
 use Rattle.mt_terms.specs.Registration.Ids.{Bytes}
 use Rattle.mt_blocks.specs.Reading.{with_more}
 use Rattle.mt_blocks.specs.Reading.{numbers_by}

@@ -1,6 +1,6 @@
 use Rattle.std.proofs.Common.{◌≡◌, ◌+◌, length}
 use Rattle.mt_lists.specs.Rows.{fields_left}
-use Rattle.mt_file_laws.specs.Faultless.{stands_once}
+use Rattle.mt_terms.specs.Registration.Ids.{stands_once}
 use Rattle.mt_blocks.specs.Reading.{with_more}
 use Rattle.mt_blocks.specs.Reading.{AreStampedBelow, numbers_by}
 use Rattle.mt_blocks.proofs.StampFacts.{stands_from}

@@ -1,6 +1,6 @@
 use Rattle.std.proofs.Common.{◌≡◌, ◌+◌, [], ◌∷◌, ap, subst, refl, ◌∙◌, arith, drop, length}
 use Rattle.std.proofs.lemmas.Grind.{common_steps}
-use Rattle.mt_file_laws.specs.Faultless.{stands_once}
+use Rattle.mt_terms.specs.Registration.Ids.{stands_once}
 use Rattle.mt_lists.specs.Rows.{fields_left}
 use Rattle.mt_blocks.specs.Reading.{lists_seen}
 use Rattle.mt_blocks.specs.Reading.{numbers_by, ReadsList}

@@ -1,5 +1,5 @@
 use Rattle.std.proofs.Common.{◌≡◌, ◌+◌, drop, length}
-use Rattle.mt_file_laws.specs.Faultless.{stands_once}
+use Rattle.mt_terms.specs.Registration.Ids.{stands_once}
 use Rattle.mt_blocks.specs.Reading.{lists_seen}
 use Rattle.mt_blocks.specs.Reading.{AreStampedBelow, numbers_by}
 use Rattle.mt_blocks.proofs.ReadingSteps.{AreReadTo}

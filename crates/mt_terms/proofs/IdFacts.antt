@@ -1,0 +1,32 @@
+-- Ids, and their numbers on lists.
+use Rattle.std.proofs.Common.{◌≡◌, suc, ◌+◌, ◌<◌, Bool, true, false, not, ◌||◌, List, [], ◌∷◌, length, refl, arith, cond}
+use Rattle.std.specs.Prelude.{bytes_eq}
+use Rattle.std.proofs.lemmas.Slice.Eq.{bytes_eq-Decides}
+use Rattle.mt_terms.specs.Registration.Ids.{Bytes, has_id, number_of}
+
+pub same_id : (x y : Bytes) → bytes_eq x y ≡ true → x ≡ y
+same_id x y h = (bytes_eq-Decides x y).0 h
+
+pub is_same : (x y : Bytes) → x ≡ y → bytes_eq x y ≡ true
+is_same x y e = (bytes_eq-Decides x y).1 e
+
+-- the number of a listed id is below the length
+pub number_below : (ids : List Bytes) (x : Bytes) → has_id ids x ≡ true → number_of ids x < length ids
+number_below [] x h = cc
+number_below (y ∷ ys) x h = by (bytes_eq x y) (number_below ys x) h
+  where
+    by : (b : Bool) → (has_id ys x ≡ true → number_of ys x < length ys) → (b || has_id ys x) ≡ true → cond (not b) (1 + number_of ys x) 0 < suc (length ys)
+    by true ih k = omega arith
+    by false ih k = let l : number_of ys x < length ys = ih k in omega arith
+
+-- two listed ids have two numbers
+pub same_number : (ids : List Bytes) (x y : Bytes) → has_id ids x ≡ true → has_id ids y ≡ true → number_of ids x ≡ number_of ids y → x ≡ y
+same_number [] x y h k e = cc
+same_number (z ∷ zs) x y h k e = by (bytes_eq x z) (bytes_eq y z) (same_id x z) (same_id y z) (same_number zs x y) h k e
+  where
+    by : (b c : Bool) → (b ≡ true → x ≡ z) → (c ≡ true → y ≡ z) → (has_id zs x ≡ true → has_id zs y ≡ true → number_of zs x ≡ number_of zs y → x ≡ y)
+        → (b || has_id zs x) ≡ true → (c || has_id zs y) ≡ true → cond (not b) (1 + number_of zs x) 0 ≡ cond (not c) (1 + number_of zs y) 0 → x ≡ y
+    by true true f g ih h k e = cc (f refl, g refl)
+    by true false f g ih h k e = absurd (omega arith)
+    by false true f g ih h k e = absurd (omega arith)
+    by false false f g ih h k e = ih h k (omega arith)
