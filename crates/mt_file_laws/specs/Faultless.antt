@@ -4,7 +4,7 @@ use Rattle.std.specs.List.{list_all}
 use Rattle.std.specs.Result.{result_ok}
 use Rattle.mt_terms.specs.Market.{Registered}
 use Rattle.mt_terms.specs.Registration.{market_under}
-use Rattle.mt_terms.specs.Registration.Ids.{Bytes, is_id, quota_of, has_id, all_differ, stands_once}
+use Rattle.mt_terms.specs.Registration.Ids.{Bytes, is_id, quota_of, all_differ, stands_once}
 use Rattle.mt_terms.specs.Registration.Records.{Rules, Kind, OfProgram, OfApplicant, OfCouple, Record, ProgramRecord, ApplicantRecord, CoupleRecord, IdPair, kind_of, are_ids, two_by_two, pair_of, withdraw_record}
 use Rattle.mt_terms.specs.Registration.Rows.{ids_of, withdrawn, applicant_ids}
 use Rattle.mt_terms.specs.Registration.Passes.{Numbered, contents, is_same_pair, are_too_many}

@@ -1,11 +1,11 @@
 -- The first fault of a file's records is their answer.
-use Rattle.std.proofs.Common.{◌≡◌, ℕ, true, false, ◌&&◌, List, length, Option, Some, None, Result, Ok, Err, refl, sym, subst, ap, ◌∙◌, arith, nat_le, nat_lt}
+use Rattle.std.proofs.Common.{◌≡◌, ℕ, true, false, ◌&&◌, List, length, Option, Some, None, Result, Ok, Err, refl, sym, subst, ap, ◌∙◌, nat_le, nat_lt}
 use Rattle.std.proofs.lemmas.Bool.{and_parts, true≢false}
 use Rattle.std.specs.Prelude.{◌≢◌, IfErr, IfOk, IfSome, MatchResult}
 use Rattle.mt_terms.specs.Market.{Registered}
 use Rattle.mt_terms.specs.Registration.{market_of}
 use Rattle.mt_terms.specs.Registration.Faults.{Fault}
-use Rattle.mt_terms.specs.Text.{IsNamedRefusal, is_fault_code, is_known_code}
+use Rattle.mt_terms.specs.Text.{is_fault_code, is_known_code}
 use Rattle.mt_refusal_laws.proofs.FaultFacts.{fault_codes_lem, fault_ids_lem}
 use Rattle.mt_lists.specs.Records.{records_of}
 use Rattle.mt_answer.specs.Answer.{IsAnswerOfMarket}
