@@ -7,4 +7,4 @@ mod stages;
 
 pub use floors::{closes, deals, finishes, works, works_alone};
 pub use lists::{asks, holds, ranks, reads, registers, splits};
-pub use stages::{enters, judges, publishes};
+pub use stages::{answers, enters, judges, publishes};

@@ -1,18 +1,23 @@
-//! The couples' rounds, the judge and the text.
-ghost use Rattle.std.specs.Prelude.{◌≡◌};
+//! The couples' rounds, the judge, the text, and the answer to a market.
+ghost use Rattle.std.specs.Prelude.{◌≡◌, ◌≤◌};
 ghost use Rattle.mt_ranks.specs.Ranked.{ranked_of};
 
+use mt_answer::answer_to_market;
 use mt_couples::{CoupleEnd, enter_all};
 use mt_market::Roster;
 use mt_ranks::Ranks;
 use mt_report::published;
-use mt_samples::markets::{CHAIN, CHAIN_TEXT, SampleError, TWO_COUPLES, roster_of};
+use mt_samples::markets::{
+    CHAIN, CHAIN_TEXT, SampleError, TWO_COUPLES, TWO_COUPLES_TEXT, roster_of,
+};
 use mt_samples::places::are_places;
 use mt_samples::singles::singles;
 use mt_samples::tables::with_ranks;
-use mt_terms::{Agent, AppNo, Blocker, Match, Places, ProgNo};
+use mt_terms::codes::OUT_OF_MEMORY;
+use mt_terms::{Agent, AppNo, Blocker, Match, Options, Places, ProgNo};
 use mt_verify::{Verdict, verify};
 use std::alloc::{AllocError, Global};
+use std::sync::Wait;
 use std::thread::Threads;
 
 fn enters_on<T: Threads + Sync>(
@@ -103,4 +108,21 @@ fn publishes_on(alloc: Global, roster: &Roster) -> Result<bool, SampleError> {
 pub fn publishes<T: Threads + Sync>(rt: &T, alloc: Global) -> Result<bool, SampleError> {
     let roster = roster_of(rt, alloc, CHAIN)?;
     publishes_on(alloc, &roster)
+}
+
+/// Whether a market with couples is answered with its text, where so many workers match the singles.
+pub fn answers<T: Threads + Wait + Sync>(
+    rt: &T,
+    alloc: Global,
+    workers: u32,
+) -> Result<bool, SampleError>
+    requires { (1 ≤ workers) × (workers ≤ 64) }
+{
+    let roster = roster_of(rt, alloc, TWO_COUPLES)?;
+    let options = Options { workers, budget: 5 };
+    match answer_to_market(rt, alloc, &roster, options) {
+        Ok(text) => Ok(text.as_slice() == TWO_COUPLES_TEXT),
+        Err(refusal) if refusal.code == OUT_OF_MEMORY => Err(SampleError::Memory),
+        Err(_) => Ok(false),
+    }
 }

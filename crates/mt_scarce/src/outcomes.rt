@@ -3,8 +3,8 @@ ghost use Rattle.std.specs.Prelude.{◌≤◌};
 
 use crate::runs::runs;
 use mt_calls::{
-    asks, closes, deals, enters, finishes, holds, judges, publishes, ranks, reads, registers,
-    splits, works, works_alone,
+    answers, asks, closes, deals, enters, finishes, holds, judges, publishes, ranks, reads,
+    registers, splits, works, works_alone,
 };
 use mt_samples::markets::{CHAIN, CHAIN_TEXT, SampleError, TWO_COUPLES, TWO_COUPLES_TEXT};
 use std::alloc::Global;
@@ -28,11 +28,12 @@ pub(crate) enum Call {
     Enters,
     Judges,
     Publishes,
+    Answers,
     RunsSingles,
     RunsCouples,
 }
 
-pub(crate) const CALLS: [Call; 16] = [
+pub(crate) const CALLS: [Call; 17] = [
     Call::Reads,
     Call::Splits,
     Call::Asks,
@@ -47,6 +48,7 @@ pub(crate) const CALLS: [Call; 16] = [
     Call::Enters,
     Call::Judges,
     Call::Publishes,
+    Call::Answers,
     Call::RunsSingles,
     Call::RunsCouples,
 ];
@@ -82,6 +84,7 @@ pub(crate) fn outcome_of<T: Threads + Wait + Sync>(
         Call::Enters => enters(rt, alloc),
         Call::Judges => judges(rt, alloc),
         Call::Publishes => publishes(rt, alloc),
+        Call::Answers => answers(rt, alloc, workers),
         Call::RunsSingles => runs(rt, alloc, CHAIN, CHAIN_TEXT, workers),
         Call::RunsCouples => runs(rt, alloc, TWO_COUPLES, TWO_COUPLES_TEXT, workers),
     };
