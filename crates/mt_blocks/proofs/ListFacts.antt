@@ -3,15 +3,11 @@ use Rattle.std.proofs.Common.{◌≡◌, ◌≢◌, ◌==◌, set, take, drop, �
 use Rattle.std.proofs.lemmas.Bool.Decides.{nat_tests}
 use Rattle.std.proofs.lemmas.List.{append-nil, append_assoc, get_or-set_same, get_or-set_other, take_all, drop_all}
 use Rattle.mt_rows.specs.FlatLists.{with_last}
+use Rattle.mt_rows.proofs.FlatListsFacts.{with_last-append}
 use Rattle.mt_blocks.specs.Reading.{with_more}
 
 -- lists held one after another
 module _ {X : Type 0} where
-  pub with_last-push : (front : List (List X)) (ys : List X) (x : X) → with_last (front ++ ys ∷ []) x ≡ front ++ (ys ++ x ∷ []) ∷ []
-  with_last-push [] ys x = refl
-  with_last-push (f ∷ []) ys x = refl
-  with_last-push (f ∷ g ∷ rest) ys x = ap (λ l. f ∷ l) (with_last-push (g ∷ rest) ys x)
-
   pub length-with_last : (lists : List (List X)) (x : X) → length (with_last lists x) ≡ length lists
   length-with_last [] x = refl
   length-with_last (f ∷ []) x = refl
@@ -20,7 +16,7 @@ module _ {X : Type 0} where
   with_more-push : (front : List (List X)) (ys xs : List X) → with_more (front ++ ys ∷ []) xs ≡ front ++ (ys ++ xs) ∷ []
   with_more-push front ys [] = ap (λ l. front ++ l ∷ []) (sym (append-nil ys))
   with_more-push front ys (x ∷ xs) =
-      ap (λ l. with_more l xs) (with_last-push front ys x)
+      ap (λ l. with_more l xs) (with_last-append front ys x)
       ∙ with_more-push front (ys ++ x ∷ []) xs
       ∙ ap (λ l. front ++ l ∷ []) (append_assoc ys (x ∷ []) xs)
 

@@ -12,7 +12,7 @@ use Rattle.mt_terms.specs.Registration.Faults.{Fault, charge_alone, fault_at}
 use Rattle.mt_terms.specs.Registration.Ids.{Bytes}
 use Rattle.mt_terms.specs.Text.{is_fault_code, is_known_code}
 use Rattle.mt_terms.specs.declared.refusal.Refusal.{Refusal}
-use Rattle.mt_refusal_laws.proofs.FaultFacts.{fault_codes_lem, fault_ids_lem}
+use Rattle.mt_file_laws.proofs.FaultFacts.{fault_codes_lem, fault_ids_lem}
 use Rattle.mt_match.specs.Laws.{fault_codes}
 use Rattle.mt_match.specs.Told.{told_by}
 use Rattle.mt_match.proofs.FaultFacts.{faults_are_named_lem}

@@ -36,9 +36,9 @@ use Rattle.mt_couples.proofs.LiveFacts.{better_single, post_for}
 use Rattle.mt_sets.proofs.FrontFacts.{until_front}
 use Rattle.mt_sets.proofs.NoteFacts.{before_end}
 use Rattle.mt_couples.proofs.NoteFacts.{better_couple, couple_with_pair}
-use Rattle.mt_placed.proofs.PlaceFacts.{has_read}
+use Rattle.mt_sets.proofs.PlaceFacts.{has_read}
 use Rattle.mt_couples.proofs.RankFacts.{has_rank, rank_there}
-use Rattle.mt_placed.proofs.OrderFacts.{has_at}
+use Rattle.mt_sets.proofs.OrderFacts.{has_at}
 use Rattle.mt_sets.proofs.GrowingFacts.{has_end, has_parts, has_still}
 use Rattle.mt_couples.proofs.WatchFacts.{index_of}
 use Rattle.mt_couples.proofs.JoinFacts.{next_mapped}

@@ -10,7 +10,7 @@ use Rattle.mt_round_laws.proofs.RoundsSets.{has_head}
 use Rattle.mt_terms.specs.WellFormed.{IsWellFormed}
 use Rattle.mt_ranks.specs.Ranked.{Ranked, ranked_of}
 use Rattle.mt_couples.specs.Assigned.{IsAgentOf}
-use Rattle.mt_placed.proofs.PlaceFacts.{has_read}
+use Rattle.mt_sets.proofs.PlaceFacts.{has_read}
 
 -- Below, r are the rank tables of the market m.
 pub ranked_programs : (r : Ranked) (m : Market) → r ≡ ranked_of m → length r.market.programs ≡ length m.programs

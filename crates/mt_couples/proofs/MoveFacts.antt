@@ -26,7 +26,7 @@ use Rattle.mt_couples.specs.Moves.{is_left_by_movers, is_kept_at, all_members, I
 use Rattle.mt_couples.specs.Waiting.{Joins}
 use Rattle.mt_round_laws.proofs.SentCounts.{in_list}
 use Rattle.mt_couples.proofs.JoinFacts.{all_joined-append}
-use Rattle.mt_placed.proofs.OrderFacts.{below_rest}
+use Rattle.mt_sets.proofs.OrderFacts.{below_rest}
 
 -- an option names two applicants at most
 option_few : (m : Market) (g : Agent) (sent : Placement) → In sent (options m g) → length sent ≤ 2

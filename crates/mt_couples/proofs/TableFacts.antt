@@ -21,8 +21,8 @@ use Rattle.mt_couples.specs.View.{assigned_of, AreTables}
 use Rattle.mt_couples.specs.declared.assignment.Assignment.TheInside.{Inside}
 use Rattle.mt_couples.proofs.MarketFacts.{ranked_ranking}
 use Rattle.mt_couples.proofs.RankFacts.{has_no_rank}
-use Rattle.mt_placed.proofs.MatchRows.{row_count, row_read, rows_written, rows_kept, unlisted_same, elsewhere_same, comes_in, goes_off, AreRows}
-use Rattle.mt_placed.proofs.RanksFacts.{ranks_sorted, has_own_rank, has_no_own_rank}
+use Rattle.mt_sets.proofs.MatchRows.{row_count, row_read, rows_written, rows_kept, unlisted_same, elsewhere_same, comes_in, goes_off, AreRows}
+use Rattle.mt_sets.proofs.RanksFacts.{ranks_sorted, has_own_rank, has_no_own_rank}
 
 -- a match in which one applicant is moved to a program of the market, or to none
 places_moved : (m : Market) (places : Places) (a : ℕ) (v : Option ℕ) → ArePlaces m places → a < length places → ((p : ℕ) → is_program p v ≡ true → p < length m.programs)

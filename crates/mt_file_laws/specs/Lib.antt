@@ -1,3 +1,5 @@
 pub mod Faultless
+pub mod Faults
 pub mod Registration
 pub mod Staying
+pub mod Text

@@ -1,7 +1,9 @@
 //! Laws of the definitions: each is the contract of a function that does nothing.
 
 pub use mt_budget_laws::{premises_of_rounds, stage_rounds};
-pub use mt_file_laws::{accepted_is_registration, versions_agree};
+pub use mt_file_laws::{
+    accepted_is_registration, fault_codes, fault_ids, refusal_is_one_record, versions_agree,
+};
 pub use mt_floor_laws::{
     best_exists, due_at_most, due_proposals_are_made, event_due, event_keeps_legal,
     event_keeps_recorded, event_keeps_strict, event_not_due, events_keep_legal,
@@ -15,7 +17,6 @@ pub use mt_match_laws::{
     none_comes_back, pair_taken, same_program_taken, single_taken, stability_of_singles,
     taken_in_examples, well_formed_test,
 };
-pub use mt_refusal_laws::{fault_codes, fault_ids, refusal_is_one_record};
 pub use mt_round_laws::{
     first_couple_waits, last_list_is_stable, next_couple_waits, round_fits, round_keeps,
     stage_fits, stage_is_stable,

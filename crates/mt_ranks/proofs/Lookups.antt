@@ -9,6 +9,7 @@ use Rattle.std.proofs.lemmas.Bool.{eq-eqb, ne_eqb, cases_lt}
 use Rattle.std.proofs.lemmas.Bool.Decides.{nat_tests}
 use Rattle.mt_ranks.specs.Entries.{AscendFrom, rank_among, entry_among, entries_among}
 use Rattle.mt_rows.specs.FlatLists.{with_last}
+use Rattle.mt_rows.proofs.FlatListsFacts.{with_last-append}
 use Rattle.mt_ranks.specs.declared.entries.Live.{Live}
 
 equal_means : (a b : ℕ) → nat_cmp a b ≡ Equal → a ≡ b
@@ -60,11 +61,6 @@ absent_by_search xs p i h split =
     ])
 
 -- Below, a list's entries are looked up one after another.
-pub with_last-append : {X : Type 0} (lists : List (List X)) (xs : List X) (x : X) → with_last (lists ++ xs ∷ []) x ≡ lists ++ (xs ++ x ∷ []) ∷ []
-with_last-append [] xs x = refl
-with_last-append (l ∷ []) xs x = refl
-with_last-append (l ∷ m ∷ ls) xs x = ap (λ rest. l ∷ rest) (with_last-append (m ∷ ls) xs x)
-
 -- the lists so far: those that were there, and one with the entries of the first i programs of a list
 abbrev pub AreLive : List (List Live) → List (List Live) → List Live → List ℕ → ℕ → Type 0
 AreLive lists start es ps i = lists ≡ start ++ entries_among es (take i ps) ∷ []

@@ -9,7 +9,7 @@ use Rattle.mt_records.specs.declared.refusal.Refusal.{Refusal}
 use Rattle.mt_records.specs.declared.refusal.Refusal.TheVariants as refusals
 use Rattle.mt_records.specs.Refusals.{fault_seen, Refuses}
 use Rattle.mt_roster.specs.Faults.{HasShortId, IsErrorOf, Tells}
-use Rattle.mt_refusal_laws.proofs.FaultFacts.{fault_ids_lem, short_id}
+use Rattle.mt_file_laws.proofs.FaultFacts.{fault_ids_lem, short_id}
 
 pub has_short_id : (rows : List (List Bytes)) (refusal : Refusal) → Refuses {Y = Registered} refusal (market_of rows) → HasShortId refusal
 has_short_id rows (refusals.Fault f) h = short_id f.id.now (fault_ids_lem rows (fault_seen f) h)

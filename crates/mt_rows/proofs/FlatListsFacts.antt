@@ -65,6 +65,12 @@ pieces-push from (e ∷ d ∷ es) xs x (suc j) h i =
     let rest : pieces e (set (d ∷ es) j (length xs + 1)) (xs ++ x ∷ []) ≡ with_last (pieces e (d ∷ es) xs) x = pieces-push e (d ∷ es) xs x j h.1 (omega arith) in
     cc
 
+-- an element more at the end of the last list
+pub with_last-append : {X : Type 0} (lists : List (List X)) (xs : List X) (x : X) → with_last (lists ++ xs ∷ []) x ≡ lists ++ (xs ++ x ∷ []) ∷ []
+with_last-append [] xs x = refl
+with_last-append (l ∷ []) xs x = refl
+with_last-append (l ∷ m ∷ ls) xs x = ap (λ rest. l ∷ rest) (with_last-append (m ∷ ls) xs x)
+
 -- Below, a whole list is added at the end.
 pub AreEnds-append : (from : ℕ) (ends : List ℕ) (n m : ℕ) → AreEnds from ends n → n ≤ m → AreEnds from (ends ++ m ∷ []) m
 AreEnds-append from [] n m h i = (omega arith, refl)

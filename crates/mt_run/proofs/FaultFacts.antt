@@ -6,7 +6,7 @@ use Rattle.mt_terms.specs.Market.{Registered}
 use Rattle.mt_terms.specs.Registration.{market_of}
 use Rattle.mt_terms.specs.Registration.Faults.{Fault}
 use Rattle.mt_terms.specs.Text.{is_fault_code, is_known_code}
-use Rattle.mt_refusal_laws.proofs.FaultFacts.{fault_codes_lem, fault_ids_lem}
+use Rattle.mt_file_laws.proofs.FaultFacts.{fault_codes_lem, fault_ids_lem}
 use Rattle.mt_lists.specs.Records.{records_of}
 use Rattle.mt_answer.specs.Answer.{IsAnswerOfMarket}
 use Rattle.mt_run.specs.Answer.{IsAnswer, IsAnswerOfRows, IsAnswerOfFault, IsRosterOf, most_bytes}

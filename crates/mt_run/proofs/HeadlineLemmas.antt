@@ -18,9 +18,9 @@ use Rattle.mt_terms.specs.Rounds.{entered, stage}
 use Rattle.mt_terms.specs.Stability.{stable}
 use Rattle.mt_terms.specs.WellFormed.{IsWellFormed}
 use Rattle.mt_match_laws.proofs.ExclusionLemmas.{best_is_at_least_lem}
-use Rattle.mt_refusal_laws.proofs.FaultFacts.{fault_codes_lem}
+use Rattle.mt_file_laws.proofs.FaultFacts.{fault_codes_lem}
 use Rattle.mt_file_laws.proofs.PassFacts.{accepted_is_registration_lem}
-use Rattle.mt_refusal_laws.proofs.RefusalLine.{refusal_is_one_record_lem}
+use Rattle.mt_file_laws.proofs.RefusalLine.{refusal_is_one_record_lem}
 use Rattle.mt_round_laws.proofs.RoundsStage.{stage_is_stable_lem}
 use Rattle.mt_floor_laws.proofs.RuralLemmas.{fill_alike_without_couples}
 use Rattle.mt_answer.specs.Answer.{IsRefusedAlone, IsAnswerOfStage, IsAnswerOfMarket, all_proposals}

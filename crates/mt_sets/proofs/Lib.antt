@@ -1,6 +1,13 @@
 pub mod FrontFacts
 pub mod GrowingFacts
 pub mod ListFacts
+pub mod MatchRows
 pub mod NamedFacts
 pub mod NoteFacts
+pub mod OrderFacts
+pub mod PlaceFacts
+pub mod PlacedFacts
+pub mod RanksFacts
+pub mod RefusedFacts
+pub mod RowFacts
 pub mod WaitingFacts

@@ -9,14 +9,14 @@ use Rattle.mt_terms.specs.Matching.{is_program, place_of}
 use Rattle.mt_ranks.specs.declared.entries.Live.{Live}
 use Rattle.mt_ranks.specs.Ranked.{Ranked, ranked_list}
 use Rattle.mt_bits.specs.Tables.{AddsRank}
-use Rattle.mt_placed.specs.Ranks.{HavePlaced}
+use Rattle.mt_sets.specs.Ranks.{HavePlaced}
 use Rattle.mt_couples.specs.Assigned.{Assigned, assignment, IsAssigned}
 use Rattle.mt_couples.specs.Watching.{better_entries, IsWatched, Watches}
 use Rattle.mt_couples.proofs.EntryFacts.{first_watched, others_as_before}
 use Rattle.mt_couples.proofs.MarketFacts.{ranked_applicants, ranked_programs, ranked_ranking}
 use Rattle.mt_couples.proofs.RankFacts.{has_no_rank}
 use Rattle.mt_couples.proofs.WatchFacts.{watched_still}
-use Rattle.mt_placed.proofs.PlacedFacts.{nobody_placed, placed_within, nowhere, unlisted, listed}
+use Rattle.mt_sets.proofs.PlacedFacts.{nobody_placed, placed_within, nowhere, unlisted, listed}
 use Rattle.mt_couples.proofs.assignment.placed_ranks.Goals as goal
 use Rattle.mt_couples.proofs.assignment.placed_ranks.Goals.{in-Some+in-Some-placed_rank+in_ok-insert, in-Some+in_default-placed_rank, in_default}
 

@@ -1,6 +1,6 @@
 use Rattle.std.proofs.Common.{◌≡◌, ◌≤◌, ◌<◌, ℕ, Some, false, take, length}
 use Rattle.mt_ranks.specs.Ranked.{rank_of}
-use Rattle.mt_placed.specs.Ranks.{HavePlaced}
+use Rattle.mt_sets.specs.Ranks.{HavePlaced}
 use Rattle.mt_couples.specs.Assigned.{assignment}
 use Rattle.mt_couples.specs.Watching.{ranks_at, IsWatched}
 use Rattle.mt_couples.proofs.assignment.placed_ranks.Given as goal

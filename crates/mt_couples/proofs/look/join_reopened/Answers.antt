@@ -10,7 +10,7 @@ use Rattle.mt_couples.proofs.QuietFacts.{blocking}
 use Rattle.mt_sets.proofs.ListFacts.{drop_past}
 use Rattle.mt_couples.proofs.LookFacts.{none_between, passes_joined, passes_skipped, passing, Rest}
 use Rattle.mt_couples.proofs.MarketFacts.{read_within}
-use Rattle.mt_placed.proofs.OrderFacts.{has_at}
+use Rattle.mt_sets.proofs.OrderFacts.{has_at}
 use Rattle.mt_couples.proofs.look.join_reopened.Goals as goal
 use Rattle.mt_couples.proofs.look.join_reopened.Goals.{then-next-place+then-is_reopened, then-next-place+else-is_reopened, else-next-place}
 

@@ -4,11 +4,11 @@ use Rattle.mt_terms.specs.Lists.{has}
 use Rattle.mt_terms.specs.Market.{program_of}
 use Rattle.mt_terms.specs.Matching.{at}
 use Rattle.mt_couples.specs.Assigned.{Assigned}
-use Rattle.mt_placed.proofs.RefusedFacts.{is_refused}
+use Rattle.mt_sets.proofs.RefusedFacts.{is_refused}
 use Rattle.mt_couples.proofs.MarketFacts.{ranked_ranking, ranked_quota}
-use Rattle.mt_placed.proofs.PlaceFacts.{has-drop}
-use Rattle.mt_placed.proofs.OrderFacts.{has_at}
-use Rattle.mt_placed.proofs.RanksFacts.{ranks_are, refused_ranks}
+use Rattle.mt_sets.proofs.PlaceFacts.{has-drop}
+use Rattle.mt_sets.proofs.OrderFacts.{has_at}
+use Rattle.mt_sets.proofs.RanksFacts.{ranks_are, refused_ranks}
 use Rattle.mt_couples.proofs.TableFacts.{program_known, row_index, row_at}
 use Rattle.mt_couples.proofs.assignment.Assignment.add_displaced.Goals as goal
 

@@ -6,7 +6,7 @@ use Rattle.mt_terms.specs.Lists.{has}
 use Rattle.std.proofs.lemmas.List.Sorted.{IsPartitionPoint-from_clause, IsPartitionedBy-ltb}
 use Rattle.std.proofs.lemmas.Map.Keys.{non_decreasing_from_sorted}
 use Rattle.mt_terms.proofs.ListFacts.{count_to_point}
-use Rattle.mt_placed.proofs.OrderFacts.{has-insert_key, insert_at_place, sorted-insert_key}
+use Rattle.mt_sets.proofs.OrderFacts.{has-insert_key, insert_at_place, sorted-insert_key}
 use Rattle.mt_sets.proofs.program_set.ProgramSet.insert.Goals as goal
 
 -- a number that no list has is put in its place

@@ -1,2 +1,0 @@
-pub mod FaultFacts
-pub mod RefusalLine

@@ -1,5 +1,0 @@
-use Rattle.mt_refusal_laws.proofs.FaultFacts.{fault_codes_lem}
-use Rattle.mt_refusal_laws.proofs.faults.fault_codes.Goals as goal
-
-pub returns : goal.returns
-returns c = fault_codes_lem
