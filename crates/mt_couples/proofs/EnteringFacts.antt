@@ -13,7 +13,7 @@ use Rattle.mt_terms.specs.declared.numbers.Agent.TheVariants.{Couple}
 use Rattle.mt_round_laws.proofs.RoundsLists.{In}
 use Rattle.mt_round_laws.proofs.RoundsAgents.{on_list, of_list, agent_on_list, couple_members}
 use Rattle.mt_sets.specs.Waiting.{nobody, Waiting}
-use Rattle.mt_couples.specs.Assigned.{assignment, Assigned}
+use Rattle.mt_assignment.specs.Assigned.{assignment, Assigned}
 use Rattle.mt_couples.specs.Running.{is_idle, IsQuiet, IsRunning}
 use Rattle.mt_couples.specs.Waiting.{IsListOf}
 use Rattle.mt_couples.proofs.QuietFacts.{before_it, entered_before, entered_by}

@@ -8,18 +8,18 @@ use Rattle.mt_terms.specs.Matching.{Places, Placement, better, holds, is_same_pl
 use Rattle.mt_terms.specs.Rounds.{displaced, is_on, is_same_agent}
 use Rattle.mt_terms.specs.declared.numbers.Agent.{Agent}
 use Rattle.mt_terms.specs.declared.numbers.Agent.TheVariants.{Couple}
-use Rattle.mt_match_laws.proofs.ListLemmas.{until-map}
 use Rattle.mt_round_laws.proofs.RoundsLists.{In, in_has, of_image}
 use Rattle.mt_round_laws.proofs.RoundsAgents.{IsAgent, agent_of_applicant, of_list, option_movers, same_agent}
 use Rattle.mt_round_laws.proofs.RoundsMove.{IsMove, match_after, displaced_agents, is_displaced, untouched}
-use Rattle.mt_couples.specs.Assigned.{Assigned, pair_of}
+use Rattle.mt_assignment.specs.Assigned.{Assigned, pair_of}
 use Rattle.mt_couples.specs.Looking.{AreNoted}
-use Rattle.mt_couples.specs.Moves.{IsTaking}
-use Rattle.mt_couples.specs.Watching.{better_pairs, AreCounted, CountsAll, IsCounted, IsNoted}
+use Rattle.mt_assignment.specs.Moves.{IsTaking}
+use Rattle.mt_assignment.specs.Watched.{better_pairs}
+use Rattle.mt_couples.specs.Watching.{AreCounted, CountsAll, IsCounted, IsNoted}
 use Rattle.mt_sets.specs.Named.{noted_count}
 use Rattle.mt_sets.proofs.FrontFacts.{until_within}
 use Rattle.mt_couples.specs.declared.watch.Watch.{Watch}
-use Rattle.mt_couples.proofs.MoveFacts.{is_move}
+use Rattle.mt_assignment.proofs.MoveFacts.{is_move}
 
 -- a couple wants no more pairs than it lists
 pub counted_within : (s : Assigned) (counts : List ℕ) (c : ℕ) → AreCounted s counts → c < length s.market.couples → get_or counts c 0 ≤ length (couple_of s.market c).pairs
@@ -48,10 +48,6 @@ noted_without k g ws w own noted c idle =
       | inl same ↦ own c (sym (same_agent (Couple c) g same))
       | inr other ↦ noted c (and_from _ _ parts.0 (not_from_false _ (or_from (is_same_agent (Couple c) g) (is_on ws (Couple c)) other (not-true _ parts.1))))
     ]
-
--- a couple's better options are the pairs that it wants more than what it has
-pub better_couple : (s : Assigned) (c : ℕ) → better s.market s.places (Couple c) ≡ map (pair_of s c) (better_pairs s c)
-better_couple s c = until-map (holds s.places) (pair_of s c) (couple_of s.market c).pairs
 
 -- these pairs, by the members' places
 pub same_pairs : (m : Market) (s t : Places) (c : ℕ) → place_of s (couple_of m c).first ≡ place_of t (couple_of m c).first

@@ -19,16 +19,17 @@ use Rattle.mt_round_laws.proofs.RoundsLists.{In, all_pass, each, found, finds, h
 use Rattle.mt_round_laws.proofs.RoundsAgents.{IsAgent, agent_of_applicant, couple_number, member_of_agent, one_of_two}
 use Rattle.mt_sets.specs.Waiting.{with_agents, Waiting}
 use Rattle.mt_sets.proofs.OrderFacts.{has_at}
-use Rattle.mt_couples.specs.Assigned.{has_post, Assigned, IsAssigned}
+use Rattle.mt_assignment.specs.Assigned.{has_post, Assigned, IsAssigned}
 use Rattle.mt_couples.specs.Looking.{has_wanted_post, AddsCouples, IsClosed, IsOpenFrom}
-use Rattle.mt_couples.specs.Moves.{blockers, names_one_of, opens}
+use Rattle.mt_couples.specs.Waiting.{blockers}
+use Rattle.mt_assignment.specs.Moves.{names_one_of, opens}
 use Rattle.mt_couples.specs.Running.{is_quiet_single, is_reopened, singles_quiet}
-use Rattle.mt_couples.specs.Watching.{better_entries, ranks_at, wanted, AreWatched}
-use Rattle.mt_couples.proofs.EntryFacts.{entry_in, entry_wanted}
-use Rattle.mt_couples.proofs.LiveFacts.{better_single, opens_live, post_for}
+use Rattle.mt_assignment.specs.Watched.{better_entries, ranks_at, wanted, AreWatched}
+use Rattle.mt_assignment.proofs.EntryFacts.{entry_in, entry_wanted}
+use Rattle.mt_assignment.proofs.LiveFacts.{better_single, opens_live, post_for}
 use Rattle.mt_couples.proofs.LookFacts.{any_default, at_rank, open_at, open_single, passes_joined, passes_skipped, passing, rank_at_place, reopened_before, Rest}
 use Rattle.mt_sets.proofs.PlaceFacts.{has_read}
-use Rattle.mt_couples.proofs.RankFacts.{rank_there}
+use Rattle.mt_assignment.proofs.RankFacts.{rank_there}
 
 -- a single that wants a program more than what it has, where that has a post for it, has an option there
 pub opens_there : (s : Assigned) → IsAssigned s → (a p r : ℕ) → a < applicants s.market → has (wanted s a) p ≡ true → rank_of s.market p a ≡ Some r

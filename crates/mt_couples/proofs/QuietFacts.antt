@@ -1,5 +1,5 @@
 -- Who blocks between two rounds, and where that was opened.
-use Rattle.std.proofs.Common.{◌≡◌, ℕ, ◌+◌, ◌<◌, Bool, true, false, not, ◌&&◌, ◌||◌, ◌==◌, nat_lt, List, [], ◌∷◌, ◌++◌, map, filter, length, Option, Some, None, refl, ap, sym, ◌∙◌, inl, inr, arith, subst, if◌then◌else◌}
+use Rattle.std.proofs.Common.{◌≡◌, ℕ, ◌+◌, ◌<◌, Bool, true, false, not, ◌&&◌, ◌||◌, ◌==◌, nat_lt, List, [], ◌∷◌, ◌++◌, map, filter, length, Option, Some, None, refl, ap, sym, ◌∙◌, inl, inr, arith, subst, flat_map, if◌then◌else◌}
 use Rattle.std.proofs.lemmas.Bool.{cases_Bool, and_parts, and_from, or_parts, or_from, or_left, both_ways, not-true, not_from_false}
 use Rattle.std.proofs.lemmas.Bool.Decides.{nat_tests}
 use Rattle.mt_terms.specs.Lists.{has, below}
@@ -7,7 +7,7 @@ use Rattle.mt_terms.specs.Market.{Market, applicants, agent_of, agents}
 use Rattle.mt_terms.specs.Matching.{Places, Placement, send, better}
 use Rattle.mt_terms.specs.Stability.{would_be_taken, fits, blocks}
 use Rattle.mt_terms.specs.WellFormed.{IsWellFormed}
-use Rattle.mt_terms.specs.Rounds.{is_same_agent, is_on, Work, has_entered, joined, all_joined, first_taken, move_of, displaced, is_left, left_programs, rechecked, after_taking, round_of}
+use Rattle.mt_terms.specs.Rounds.{is_same_agent, is_on, Work, has_entered, joined, all_joined, first_taken, move_of, displaced, is_left, left_programs, blocking_on_list, rechecked, after_taking, round_of}
 use Rattle.mt_terms.specs.declared.numbers.Agent.{Agent}
 use Rattle.mt_terms.specs.declared.numbers.Agent.TheVariants.{Single, Couple}
 use Rattle.mt_round_laws.proofs.RoundsLists.{found, finds, each, in_has, in_kept, in_below}
@@ -16,12 +16,12 @@ use Rattle.mt_round_laws.proofs.RoundsSets.{has_head}
 use Rattle.mt_round_laws.proofs.RoundsMove.{match_after}
 use Rattle.mt_round_laws.proofs.RoundsKeep.{IsOpened, found_none, move_from, on_joined, on_all_joined, opened_by_left, quiet_after}
 use Rattle.mt_sets.specs.Waiting.{with_agents, Waiting}
-use Rattle.mt_couples.specs.Assigned.{Assigned}
-use Rattle.mt_couples.specs.Moves.{names_one_of, opens, some_has, IsTaking}
+use Rattle.mt_assignment.specs.Assigned.{Assigned}
+use Rattle.mt_assignment.specs.Moves.{names_one_of, opens, some_has, IsTaking}
 use Rattle.mt_couples.specs.Running.{is_quiet_single, is_reopened, singles_quiet, work_of, IsQuiet, IsQuietBut}
 use Rattle.mt_couples.specs.Waiting.{Joins}
 use Rattle.mt_couples.proofs.JoinFacts.{all_joined-append, AreJoining, joining_more, joining_some}
-use Rattle.mt_couples.proofs.MoveFacts.{is_move, left_within}
+use Rattle.mt_assignment.proofs.MoveFacts.{is_move, left_within}
 
 -- the entered agents that block
 abbrev pub blocking : ℕ → Assigned → Agent → Bool
@@ -126,6 +126,20 @@ module _ {m : Market} {old : Places} {g : Agent} {sent : Placement} (taking : Is
             at_left h left is (opened_by_left (is_move taking) h (agent_from_list m taking.well_formed h (of_list h (agents m) on)) others.1 other
             (quiet h on entered (or_from (is_same_agent h g) (is_on ws h) other others.0)) blocking_now)
       ]
+
+  -- who waits, after the displaced and the agent itself have joined, and then those at the programs that were left
+  pub waits_after : (k : ℕ) (w0 w1 w2 : Waiting) (left : List ℕ)
+      → Joins w0 w1 (map (agent_of m) (displaced m (send sent old) sent) ++ (if blocks m (match_after m old sent) g then (g ∷ []) else []))
+      → Joins w1 w2 (flat_map (blocking_on_list m k (match_after m old sent)) left)
+      → left ≡ left_programs m (move_of m old sent)
+      → Joins w0 w2 (rechecked m k g sent (move_of m old sent))
+  waits_after k w0 w1 w2 left first second left_keys =
+      let gone = map (agent_of m) (displaced m (send sent old) sent) ++ (if blocks m (match_after m old sent) g then (g ∷ []) else []) in
+      let again = flat_map (blocking_on_list m k (match_after m old sent)) in
+      let programs = left_programs m (move_of m old sent) in
+      second ∙ ap (λ ps. with_agents w1 (all_joined w1.agents (again ps))) left_keys
+      ∙ ap (λ (x : Waiting). with_agents x (all_joined x.agents (again programs))) first
+      ∙ ap (with_agents w0) (sym (all_joined-append w0.agents gone (again programs)))
 
 -- a round keeps it quiet
 pub quiet_round : (m : Market) → IsWellFormed m → (k : ℕ) (places : Places) (g : Agent) (ws : List Agent) → fits m places ≡ true → is_on (agents m) g ≡ true

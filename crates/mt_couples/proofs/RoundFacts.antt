@@ -14,11 +14,11 @@ use Rattle.mt_round_laws.proofs.RoundsAgents.{is_same_agent_refl, agent_from_lis
 use Rattle.mt_round_laws.proofs.RoundsFits.{fitting_facts, listing_program}
 use Rattle.mt_round_laws.proofs.RoundsKeep.{fitting_round, found_first}
 use Rattle.mt_sets.specs.Waiting.{waiting_first, Waiting}
-use Rattle.mt_couples.specs.Assigned.{Assigned, AreListed, IsAgentOf}
-use Rattle.mt_couples.specs.Moves.{IsTaking}
+use Rattle.mt_assignment.specs.Assigned.{Assigned, AreListed, IsAgentOf}
+use Rattle.mt_assignment.specs.Moves.{IsTaking}
 use Rattle.mt_couples.specs.Running.{work_of, IsRunning}
 use Rattle.mt_couples.specs.Waiting.{IsListOf, KeepsRoom}
-use Rattle.mt_couples.proofs.MarketFacts.{number_within}
+use Rattle.mt_assignment.proofs.MarketFacts.{number_within}
 use Rattle.mt_couples.proofs.QuietFacts.{quiet_round}
 
 contains_in : {X : Type 0} (xs : List X) (x : X) → In x xs → Contains xs x

@@ -12,13 +12,15 @@ use Rattle.mt_terms.specs.declared.numbers.Agent.TheVariants.{Single, Couple}
 use Rattle.mt_round_laws.proofs.RoundsLists.{In, has_in, in_has, of_image, of_until}
 use Rattle.mt_round_laws.proofs.RoundsAgents.{IsAgent, agent_of_applicant, couple_number, member_of_agent, of_list, one_of_two, option_movers, same_agent}
 use Rattle.mt_round_laws.proofs.RoundsMove.{IsMove, match_after, displaced_agents, is_displaced, untouched}
-use Rattle.mt_couples.specs.Assigned.{Assigned}
-use Rattle.mt_couples.specs.Moves.{IsTaking}
-use Rattle.mt_couples.specs.Watching.{wanted, AreWatched, Counts, CountsAll, Follows, FollowsAll, IsWatched, IsWithinList, KeepsOthers}
+use Rattle.mt_assignment.specs.Assigned.{Assigned}
+use Rattle.mt_assignment.specs.Moves.{IsTaking}
+use Rattle.mt_assignment.specs.Watched.{wanted, AreWatched, Follows, IsWatched, IsWithinList, KeepsOthers}
+use Rattle.mt_couples.specs.Watching.{Counts, CountsAll, FollowsAll}
 use Rattle.mt_couples.specs.declared.watch.Watch.{Watch}
-use Rattle.mt_couples.proofs.MoveFacts.{is_move}
+use Rattle.mt_assignment.proofs.MoveFacts.{is_move}
 use Rattle.mt_sets.proofs.GrowingFacts.{has_parts, has_still}
-use Rattle.mt_couples.proofs.RankFacts.{has_rank}
+use Rattle.mt_assignment.proofs.RankFacts.{has_rank}
+use Rattle.mt_assignment.proofs.EntryFacts.{watched_still}
 
 -- the place of an element
 pub index_of : {X : Type 0} (x : X) (xs : List X) → In x xs → (i : ℕ) × (i < length xs) × (x ≡ get_or xs i x)
@@ -33,9 +35,6 @@ watched_within s rows a is p r known ranked here =
 
 pub within_still : (m : Market) (old new : List (List Bool)) (xs : List ℕ) (a : ℕ) → KeepsOthers m old new xs → has xs a ≡ false → IsWithinList m old a → IsWithinList m new a
 within_still m old new xs a keeps other is p r known ranked here = is p r known ranked (sym (keeps a p r other known ranked) ∙ here)
-
-pub watched_still : (s : Assigned) (old new : List (List Bool)) (xs : List ℕ) (a : ℕ) → KeepsOthers s.market old new xs → has xs a ≡ false → IsWatched s old a → IsWatched s new a
-watched_still s old new xs a keeps other is p r known ranked = keeps a p r other known ranked ∙ is p r known ranked
 
 -- some are watched anew, and one more
 pub follows_more : (s : Assigned) (old mid new : List (List Bool)) (xs : List ℕ) (x : ℕ) → FollowsAll s old mid xs → Follows s mid new x → FollowsAll s old new (xs ++ x ∷ [])

@@ -7,11 +7,12 @@ use Rattle.mt_terms.specs.declared.numbers.Agent.{Agent}
 use Rattle.mt_terms.specs.declared.numbers.Agent.TheVariants.{Single, Couple}
 use Rattle.mt_ranks.specs.Ranked.{rank_of}
 use Rattle.mt_bits.specs.Members.{IsFirstFrom}
-use Rattle.mt_couples.specs.Assigned.{has_post, Assigned}
+use Rattle.mt_assignment.specs.Assigned.{has_post, Assigned}
 use Rattle.mt_couples.specs.Running.{is_idle, is_reopened}
 use Rattle.mt_sets.specs.Notes.{end_of}
 use Rattle.mt_sets.specs.Named.{AreNamed}
-use Rattle.mt_couples.specs.Watching.{opens_between, ranks_at, AreCounted, AreWatched, IsNoted}
+use Rattle.mt_assignment.specs.Watched.{opens_between, ranks_at, AreWatched}
+use Rattle.mt_couples.specs.Watching.{AreCounted, IsNoted}
 use Rattle.mt_sets.specs.declared.couple_list.Note.{Note}
 use Rattle.mt_couples.specs.declared.watch.Watch.{Watch}
 

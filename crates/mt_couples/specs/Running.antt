@@ -9,8 +9,8 @@ use Rattle.mt_terms.specs.Rounds.{Work, has_entered, is_on, IsFittingState}
 use Rattle.mt_terms.specs.declared.numbers.Agent.{Agent}
 use Rattle.mt_terms.specs.declared.numbers.Agent.TheVariants.{Single, Couple}
 use Rattle.mt_sets.specs.Waiting.{Waiting}
-use Rattle.mt_couples.specs.Assigned.{Assigned}
-use Rattle.mt_couples.specs.Moves.{opens}
+use Rattle.mt_assignment.specs.Assigned.{Assigned}
+use Rattle.mt_assignment.specs.Moves.{opens}
 use Rattle.mt_couples.specs.Waiting.{IsListOf}
 
 -- the state of a match and a work list

@@ -3,10 +3,11 @@ ghost use Rattle.mt_terms.specs.Market.{applicants};
 ghost use Rattle.mt_terms.specs.Stability.{blocks};
 ghost use Rattle.mt_bits.specs.Members.{is_in};
 ghost use Rattle.mt_sets.specs.Named.{row_at, AreNamed};
-ghost use Rattle.mt_couples.specs.Assigned.{IsAgentOf};
-ghost use Rattle.mt_couples.specs.Watching.{better_pairs, ranks_at, AreCounted, AreWatched, Counts, CountsCouple, Follows, NotesCouple, Unwatches, Watches};
+ghost use Rattle.mt_assignment.specs.Assigned.{IsAgentOf};
+ghost use Rattle.mt_assignment.specs.Watched.{better_pairs, ranks_at, AreWatched, Follows, Unwatches, Watches};
+ghost use Rattle.mt_couples.specs.Watching.{AreCounted, Counts, CountsCouple, NotesCouple};
 
-use crate::assignment::Assignment;
+use mt_assignment::Assignment;
 use mt_bits::{RankRow, RankTable};
 use mt_ranks::Live;
 use mt_sets::{Note, NotedPairs};

@@ -1,6 +1,6 @@
 use Rattle.std.proofs.Common.{◌≡◌, ◌-◌, ◌<◌, ℕ, true, length}
 use Rattle.mt_bits.specs.Members.{is_in}
-use Rattle.mt_couples.specs.Assigned.{AreApplicantsOf}
+use Rattle.mt_assignment.specs.Assigned.{AreApplicantsOf}
 use Rattle.mt_couples.specs.Looking.{Keeps}
 use Rattle.mt_couples.proofs.LookFacts.{IsFoundAt}
 use Rattle.mt_couples.proofs.look.add_by_rank.Given as goal

@@ -1,5 +1,5 @@
 use Rattle.std.proofs.Common.{◌<◌, ℕ, get_or}
-use Rattle.mt_couples.specs.Assigned.{AreApplicantsOf}
+use Rattle.mt_assignment.specs.Assigned.{AreApplicantsOf}
 use Rattle.mt_couples.specs.Looking.{Keeps}
 use Rattle.mt_couples.proofs.LookFacts.{no_note, AreFoundBy}
 use Rattle.mt_couples.proofs.look.add_members.Given as goal

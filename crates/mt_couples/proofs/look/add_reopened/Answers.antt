@@ -1,6 +1,6 @@
 use Rattle.std.proofs.Common.{subst}
 use Rattle.mt_couples.specs.Looking.{AddsSingles}
-use Rattle.mt_couples.specs.Watching.{ranks_at}
+use Rattle.mt_assignment.specs.Watched.{ranks_at}
 use Rattle.mt_couples.proofs.LookFacts.{both_ok, covers_one}
 use Rattle.mt_couples.proofs.look.add_reopened.Goals as goal
 

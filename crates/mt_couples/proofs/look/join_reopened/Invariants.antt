@@ -1,6 +1,6 @@
 use Rattle.std.proofs.Common.{◌≡◌, ◌<◌, ◌≤◌, ℕ, true, drop, filter, length, get_or}
 use Rattle.mt_terms.specs.Rounds.{is_on}
-use Rattle.mt_couples.specs.Moves.{agents_of, blockers}
+use Rattle.mt_couples.specs.Waiting.{agents_of, blockers}
 use Rattle.mt_couples.proofs.QuietFacts.{blocking, IsLooking}
 use Rattle.mt_terms.specs.declared.numbers.Agent.{Agent}
 use Rattle.mt_couples.proofs.look.join_reopened.Given as goal

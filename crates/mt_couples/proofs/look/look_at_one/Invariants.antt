@@ -1,7 +1,7 @@
 use Rattle.std.proofs.Common.{◌≡◌, ◌∷◌, ◌-◌, ◌≤◌, [], true, drop, filter, length}
 use Rattle.mt_terms.specs.Rounds.{is_on}
 use Rattle.mt_terms.specs.declared.numbers.Agent.{Agent}
-use Rattle.mt_couples.specs.Moves.{agents_of, blockers}
+use Rattle.mt_couples.specs.Waiting.{agents_of, blockers}
 use Rattle.mt_couples.proofs.QuietFacts.{blocking, IsLooking}
 use Rattle.mt_couples.proofs.look.look_at_one.Given as goal
 

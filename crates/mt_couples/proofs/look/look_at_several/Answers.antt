@@ -8,7 +8,7 @@ use Rattle.mt_terms.specs.Rounds.{is_on}
 use Rattle.mt_round_laws.proofs.RoundsKeep.{on_all_joined}
 use Rattle.mt_sets.specs.Waiting.{Waiting}
 use Rattle.mt_couples.specs.Looking.{HaveReopened}
-use Rattle.mt_couples.specs.Moves.{blockers, reopened}
+use Rattle.mt_couples.specs.Waiting.{blockers, reopened}
 use Rattle.mt_sets.proofs.PlaceFacts.{has_read}
 use Rattle.mt_couples.proofs.QuietFacts.{looking_some, IsLooking}
 use Rattle.mt_couples.proofs.LookFacts.{reopened_before}

@@ -1,7 +1,7 @@
 use Rattle.std.proofs.Common.{◌≡◌, true, drop}
 use Rattle.mt_terms.specs.Rounds.{is_on}
 use Rattle.mt_terms.specs.declared.numbers.Agent.{Agent}
-use Rattle.mt_couples.specs.Moves.{reopened}
+use Rattle.mt_couples.specs.Waiting.{reopened}
 use Rattle.mt_couples.proofs.QuietFacts.{IsLooking}
 use Rattle.mt_couples.proofs.look.look_at_several.Given as goal
 

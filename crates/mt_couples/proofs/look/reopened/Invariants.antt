@@ -1,6 +1,6 @@
 use Rattle.std.proofs.Common.{◌≡◌, ◌∷◌, [], ℕ, true, take}
 use Rattle.mt_terms.specs.Lists.{has}
-use Rattle.mt_couples.specs.Assigned.{AreApplicantsOf}
+use Rattle.mt_assignment.specs.Assigned.{AreApplicantsOf}
 use Rattle.mt_couples.specs.Watching.{Covers}
 use Rattle.mt_couples.proofs.look.reopened.Given as goal
 

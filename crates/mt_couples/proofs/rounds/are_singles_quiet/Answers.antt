@@ -3,7 +3,7 @@ use Rattle.std.proofs.Math.Bool.{not-not}
 use Rattle.rayon.specs.Lists.{range_start, range_end}
 use Rattle.mt_terms.specs.Market.{Market}
 use Rattle.mt_couples.specs.Looking.{has_wanted_post}
-use Rattle.mt_couples.specs.Watching.{AreWatched}
+use Rattle.mt_assignment.specs.Watched.{AreWatched}
 use Rattle.mt_couples.proofs.AskFacts.{asked_below, none_found_by_threads}
 use Rattle.mt_couples.proofs.OneFacts.{quiet_by_posts}
 use Rattle.mt_couples.proofs.rounds.are_singles_quiet.Goals as goal

@@ -1,6 +1,7 @@
 use Rattle.std.proofs.Common.{◌<◌, ℕ}
 use Rattle.mt_sets.specs.Named.{AreNamed}
-use Rattle.mt_couples.specs.Watching.{AreCounted, AreWatched, IsNoted}
+use Rattle.mt_couples.specs.Watching.{AreCounted, IsNoted}
+use Rattle.mt_assignment.specs.Watched.{AreWatched}
 use Rattle.mt_couples.proofs.EnteringFacts.{IsEntering}
 use Rattle.mt_couples.proofs.rounds.enter_all.Given as goal
 

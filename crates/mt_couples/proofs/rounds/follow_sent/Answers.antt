@@ -1,7 +1,7 @@
 use Rattle.std.proofs.Common.{◌≡◌, ◌∙◌, ◌∷◌, ◌++◌, ◌+◌, [], map, take, ap, sym, subst}
 use Rattle.std.proofs.lemmas.List.{map-append, take_more}
 use Rattle.mt_couples.specs.Watching.{CountsAll, FollowsAll}
-use Rattle.mt_couples.proofs.SentFacts.{sent_within}
+use Rattle.mt_assignment.proofs.SentFacts.{sent_within}
 use Rattle.mt_couples.proofs.WatchFacts.{counts_more, follows_more}
 use Rattle.mt_couples.proofs.rounds.follow_sent.Goals as goal
 

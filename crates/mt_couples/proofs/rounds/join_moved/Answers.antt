@@ -5,11 +5,10 @@ use Rattle.mt_terms.specs.Stability.{blocks}
 use Rattle.mt_terms.specs.Rounds.{all_joined}
 use Rattle.mt_terms.specs.declared.numbers.Agent.{Agent}
 use Rattle.mt_sets.specs.Waiting.{with_agents, Waiting}
-use Rattle.mt_couples.specs.Assigned.{Assigned}
-use Rattle.mt_couples.specs.Moves.{agents_of, if_blocking}
-use Rattle.mt_couples.specs.Waiting.{Joins}
+use Rattle.mt_assignment.specs.Assigned.{Assigned}
+use Rattle.mt_couples.specs.Waiting.{agents_of, if_blocking, Joins}
 use Rattle.mt_couples.proofs.JoinFacts.{all_joined-append, AreJoining, joining_list, joining_more, known_to, next_mapped}
-use Rattle.mt_couples.proofs.MarketFacts.{read_within}
+use Rattle.mt_assignment.proofs.MarketFacts.{read_within}
 use Rattle.mt_couples.proofs.rounds.join_moved.Goals as goal
 
 pub agent_of-requires : goal.agent_of-requires

@@ -1,5 +1,5 @@
 use Rattle.std.proofs.Common.{drop}
-use Rattle.mt_couples.specs.Moves.{agents_of}
+use Rattle.mt_couples.specs.Waiting.{agents_of}
 use Rattle.mt_couples.proofs.JoinFacts.{AreJoining}
 use Rattle.mt_couples.proofs.rounds.join_moved.Given as goal
 

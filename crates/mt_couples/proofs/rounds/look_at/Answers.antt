@@ -1,7 +1,7 @@
 use Rattle.std.proofs.lemmas.Grind.{common_steps}
 use Rattle.std.proofs.Common.{arith}
 use Rattle.mt_terms.specs.Market.{applicants}
-use Rattle.mt_couples.proofs.MarketFacts.{read_within}
+use Rattle.mt_assignment.proofs.MarketFacts.{read_within}
 use Rattle.mt_couples.proofs.rounds.look_at.Goals as goal
 
 pub agent_of-agent-requires : goal.agent_of-agent-requires

@@ -1,7 +1,7 @@
 use Rattle.std.proofs.Common.{◌&&◌, drop, filter}
 use Rattle.mt_terms.specs.Stability.{blocks}
 use Rattle.mt_terms.specs.Rounds.{has_entered}
-use Rattle.mt_couples.specs.Moves.{agents_of, blockers}
+use Rattle.mt_couples.specs.Waiting.{agents_of, blockers}
 use Rattle.mt_couples.proofs.JoinFacts.{AreJoining}
 use Rattle.mt_couples.proofs.rounds.look_at.Given as goal
 

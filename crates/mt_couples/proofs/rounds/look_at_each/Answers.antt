@@ -1,6 +1,6 @@
 use Rattle.std.proofs.Common.{◌≡◌, ◌∙◌, ◌++◌, ◌+◌, drop, ap, sym, subst}
 use Rattle.std.proofs.lemmas.List.{drop_more}
-use Rattle.mt_couples.specs.Moves.{blockers, reopened}
+use Rattle.mt_couples.specs.Waiting.{blockers, reopened}
 use Rattle.mt_couples.proofs.JoinFacts.{AreJoining, joining_list, joining_some}
 use Rattle.mt_sets.proofs.PlaceFacts.{has_read}
 use Rattle.mt_couples.proofs.rounds.look_at_each.Goals as goal

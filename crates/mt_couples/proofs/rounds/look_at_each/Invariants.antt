@@ -1,5 +1,5 @@
 use Rattle.std.proofs.Common.{drop}
-use Rattle.mt_couples.specs.Moves.{reopened}
+use Rattle.mt_couples.specs.Waiting.{reopened}
 use Rattle.mt_couples.proofs.JoinFacts.{AreJoining}
 use Rattle.mt_couples.proofs.rounds.look_at_each.Given as goal
 

@@ -9,22 +9,23 @@ use Rattle.mt_terms.specs.Rounds.{all_joined, is_on, is_same_agent}
 use Rattle.mt_terms.specs.declared.numbers.Agent.{Agent}
 use Rattle.mt_round_laws.proofs.RoundsLists.{has_in, of_kept, of_below}
 use Rattle.mt_sets.specs.Waiting.{with_agents, Waiting}
-use Rattle.mt_couples.specs.Assigned.{Assigned, AreSent, IsAgentOf}
-use Rattle.mt_couples.specs.Moves.{agents_of, displaced_by, if_blocking, moved, reopened, IsTaking}
-use Rattle.mt_couples.specs.Waiting.{IsListOf, Joins}
+use Rattle.mt_assignment.specs.Assigned.{Assigned, AreSent, IsAgentOf}
+use Rattle.mt_couples.specs.Waiting.{agents_of, if_blocking, reopened, IsListOf, Joins}
+use Rattle.mt_assignment.specs.Moves.{displaced_by, moved, IsTaking}
 use Rattle.mt_couples.specs.Running.{work_of, IsQuietBut}
 use Rattle.mt_couples.proofs.JoinFacts.{joined_list, joins_adds, joins_keeps, rest_list}
-use Rattle.mt_couples.proofs.QuietFacts.{quiet_but_left}
+use Rattle.mt_couples.proofs.QuietFacts.{quiet_but_left, waits_after}
 use Rattle.mt_terms.specs.WellFormed.{IsWellFormed}
 use Rattle.mt_couples.specs.Looking.{IsWatching}
 use Rattle.mt_terms.specs.Matching.{Placement}
 use Rattle.mt_sets.specs.Named.{noted_count, AreNamed, Noted}
 use Rattle.mt_couples.specs.declared.watch.Watch.{Watch}
-use Rattle.mt_couples.specs.Watching.{AreCounted, AreWatched, CountsAll, FollowsAll, NotesAgent}
+use Rattle.mt_couples.specs.Watching.{AreCounted, CountsAll, FollowsAll, NotesAgent}
+use Rattle.mt_assignment.specs.Watched.{AreWatched}
 use Rattle.mt_couples.proofs.WatchFacts.{watched_after}
 use Rattle.mt_couples.proofs.NoteFacts.{counted_after, noted_after}
 use Rattle.mt_couples.proofs.RoundFacts.{front_within}
-use Rattle.mt_couples.proofs.MoveFacts.{are_sent, displaced_within, waits_after}
+use Rattle.mt_assignment.proofs.MoveFacts.{are_sent, displaced_within}
 use Rattle.mt_couples.proofs.rounds.take_option.Goals as goal
 
 pub join_moved-requires-clause-displaced : goal.join_moved-requires-clause-displaced

@@ -1,5 +1,5 @@
 use Rattle.std.proofs.Common.{take}
-use Rattle.mt_couples.specs.Watching.{Unwatches}
+use Rattle.mt_assignment.specs.Watched.{Unwatches}
 use Rattle.mt_couples.proofs.watch.unwatch_each.Given as goal
 
 abbrev pub invariant-loop-entry : goal.invariant-loop-entry

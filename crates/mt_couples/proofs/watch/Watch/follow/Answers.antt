@@ -1,6 +1,6 @@
 use Rattle.std.proofs.Common.{subst, sym}
-use Rattle.mt_couples.specs.Watching.{Follows}
-use Rattle.mt_couples.proofs.EntryFacts.{follows}
+use Rattle.mt_assignment.specs.Watched.{Follows}
+use Rattle.mt_assignment.proofs.EntryFacts.{follows}
 use Rattle.mt_couples.proofs.watch.Watch.follow.Goals as goal
 
 pub returns-in-Couple-clause-singles : goal.returns-in-Couple-clause-singles

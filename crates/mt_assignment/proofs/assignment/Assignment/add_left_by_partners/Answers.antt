@@ -1,0 +1,15 @@
+use Rattle.std.proofs.lemmas.Grind.{common_steps}
+use Rattle.std.proofs.Common.{arith}
+use Rattle.mt_terms.specs.Market.{applicants}
+use Rattle.mt_assignment.proofs.MarketFacts.{read_within}
+use Rattle.mt_assignment.proofs.assignment.Assignment.add_left_by_partners.Goals as goal
+
+pub agent_of-requires : goal.agent_of-requires
+agent_of-requires c =
+    read_within c.args.displaced.now c.loop-applicant.applicant-index c.applicant-item.result (applicants c.args.self.now.market) c.loop-applicant-test.true c.applicant-item.is c.requires
+
+pub loop-applicant-preserved : goal.loop-applicant-preserved
+loop-applicant-preserved c = grind (arith, common_steps)
+
+pub returns : goal.returns
+returns c = grind (arith, common_steps)

@@ -1,0 +1,9 @@
+use Rattle.std.proofs.Common.{arith, ap}
+use Rattle.mt_terms.specs.Market.{applicants}
+use Rattle.mt_assignment.specs.Assigned.{Assigned}
+use Rattle.mt_assignment.proofs.MarketFacts.{ranked_applicants}
+use Rattle.mt_assignment.proofs.assignment.Assignment.rank.Goals as goal
+
+pub rank-requires-clause-applicant : goal.rank-requires-clause-applicant
+rank-requires-clause-applicant c =
+    omega (arith, ranked_applicants c.self.inside.ranks.now c.self.inside.roster.now.market c.self.invariant.one_market, ap (λ (s : Assigned). applicants s.market) c.self.view_is)

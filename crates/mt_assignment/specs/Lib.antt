@@ -1,0 +1,4 @@
+pub mod Assigned
+pub mod Moves
+pub mod View
+pub mod Watched
