@@ -1,5 +1,6 @@
-pub mod RepeatFacts
 pub mod CountFacts
-pub mod RegisterFacts
+pub mod FaultFacts
 pub mod PassFacts
+pub mod RegisterFacts
+pub mod RepeatFacts
 pub mod UnknownFacts

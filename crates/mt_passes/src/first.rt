@@ -68,7 +68,7 @@ fn read_row<'a>(
 
 /// Adds the records of these rows to a register that has none, of which the first has this number, or gives their first
 /// fault. Nothing is said of the register then.
-pub fn first_pass<'a>(
+pub(crate) fn first_pass<'a>(
     alloc: Global,
     rules: &Rules,
     register: &mut Register<'a>,

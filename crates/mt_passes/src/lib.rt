@@ -1,11 +1,11 @@
-//! The two passes over a file's records, which name its first fault.
+//! The first fault of a file's records, by two passes over them.
 #![tactic(auto)]
 
+mod fault;
 mod first;
 mod register;
 mod repeats;
 mod second;
 mod unknown;
 
-pub use first::first_pass;
-pub use register::Register;
+pub use fault::first_fault;

@@ -30,7 +30,7 @@ fn seed_of(rows: RowsIter<'_>) -> Seed {
 }
 
 /// The records that were read, with what they register and what they withdraw.
-pub struct Register<'a> {
+pub(crate) struct Register<'a> {
     pub(crate) records: Vec<Numbered<'a>>,
     /// The own ids of the records.
     pub(crate) registered: Kinds<'a>,
@@ -56,7 +56,7 @@ impl Drop for Register<'_> {
 
 impl<'a> Register<'a> {
     /// No records, where those of these rows will come: the tables of their ids hash by a seed that these give.
-    pub fn new(alloc: Global, rows: RowsIter<'_>) -> Self
+    pub(crate) fn new(alloc: Global, rows: RowsIter<'_>) -> Self
         ensures register { IsRegister result }
         ensures records { records_seen result ≡ [] }
     {

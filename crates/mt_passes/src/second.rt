@@ -53,7 +53,7 @@ impl<'a> Register<'a> {
     }
 
     /// The first fault of the second pass: the first record that names an unknown id.
-    pub fn second_pass(&self) -> Option<Fault<'a>>
+    pub(crate) fn second_pass(&self) -> Option<Fault<'a>>
         requires { IsRegister self.now }
         ensures { option_map fault_seen result ≡ second_pass (records_seen self.now) }
     {

@@ -1,6 +1,7 @@
 -- The market of a file's records, by the passes over them.
 use Rattle.std.proofs.Common.{◌≡◌, ℕ, ◌+◌, Bool, true, false, ◌&&◌, List, [], ◌∷◌, length, refl, ap, sym, ◌∙◌, arith, subst, Option, Some, None, Ok, Err, if◌then◌else◌}
 use Rattle.std.specs.Prelude.{bytes_eq, codes}
+use Rattle.std.specs.Result.{result_ok}
 use Rattle.mt_terms.specs.Registration.{market_of_numbered, market_under}
 use Rattle.mt_terms.specs.Registration.Ids.{Bytes}
 use Rattle.mt_terms.specs.Registration.Faults as faults
@@ -11,7 +12,7 @@ use Rattle.mt_terms.specs.Registration.Passes.{Numbered, numbered_from, first_pa
 use Rattle.mt_terms.specs.Market.{Registered}
 use Rattle.mt_terms.specs.declared.codes.TheConstants.{NO_VERSION}
 use Rattle.mt_file_laws.specs.Faultless.{faultless_market}
-use Rattle.mt_file_laws.proofs.FaultlessFacts.{accepts, accepted}
+use Rattle.mt_file_laws.proofs.FaultlessFacts.{accepts, passes_agree}
 use Rattle.mt_records.specs.Limits.{AreBounded}
 use Rattle.mt_numbering.specs.Drafts.{with_fields}
 
@@ -48,19 +49,8 @@ module _ (rules : Rules) (n : ℕ) (rows : List (List Bytes)) where
   pub market_is : (m : Registered) → faultless_market rules (with_fields rows) ≡ Some m → market_under rules (numbered_from n rows) ≡ Ok m
   market_is m h = accepts rules (numbered_from n rows) m (same_rows ∙ h)
 
-  pub no_market : (m : Registered) → faultless_market rules (with_fields rows) ≡ None → market_under rules (numbered_from n rows) ≡ Ok m → ⊥
-  no_market m h k = cc (sym h ∙ sym same_rows ∙ accepted rules (numbered_from n rows) m k)
-
--- with the first pass done, it is that of its records
-pub market_after : (rules : Rules) (rest : List (Numbered (List Bytes))) (records : List (Numbered model.Record)) → first_pass rules [] rest ≡ Ok records
-    → market_under rules rest ≡ unless (second_pass records) (registered (contents records))
-market_after rules rest records h = rw h refl
-
--- the second pass finds no fault
-pub market_by : (rules : Rules) (rest : List (Numbered (List Bytes))) (records : List (Numbered model.Record)) (found : Option faults.Fault) → first_pass rules [] rest ≡ Ok records
-    → found ≡ second_pass records → found ≡ None → market_under rules rest ≡ Ok (registered (contents records))
-market_by rules rest records found first second none =
-    market_after rules rest records first ∙ ap (λ o. unless o (registered (contents records))) (sym second ∙ none)
+  pub no_market : faultless_market rules (with_fields rows) ≡ None → result_ok (market_under rules (numbered_from n rows)) ≡ None
+  no_market h = passes_agree rules (numbered_from n rows) ∙ same_rows ∙ h
 
 -- no version allows more than an input may have
 pub bounded : (row : List Bytes) (rules : Rules) → rules_of row ≡ Some rules → AreBounded rules.limits

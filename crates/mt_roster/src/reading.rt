@@ -1,13 +1,11 @@
-ghost use Rattle.std.specs.Prelude.{◌≡◌, [], None, IfErr, IfOk, Ok};
+ghost use Rattle.std.specs.Prelude.{◌≡◌, IfErr, IfOk, Ok};
 ghost use Rattle.mt_lists.specs.Rows.{rows_left};
-ghost use Rattle.mt_file_laws.specs.Faultless.{faultless_market};
 ghost use Rattle.mt_terms.specs.Registration.{market_of, market_under};
 ghost use Rattle.mt_terms.specs.Registration.Passes.{numbered_from};
 ghost use Rattle.mt_numbering.specs.Drafts.{with_fields};
-ghost use Rattle.mt_passes.specs.Registers.{records_seen, IsRegister};
 ghost use Rattle.mt_numbering.specs.Markets.{AcceptsRegistrations};
 ghost use Rattle.mt_roster.specs.Faults.{Tells};
-ghost use Rattle.mt_records.specs.Refusals.{Gives, Refuses};
+ghost use Rattle.mt_records.specs.Refusals.{Gives};
 ghost use Rattle.mt_records.specs.Limits.{AreBounded};
 ghost use Rattle.mt_roster.specs.Read.{NamesNoVersion, GivesVersion, IsShort, same};
 
@@ -15,7 +13,7 @@ use crate::fault::{RosterError, error_of};
 use mt_lists::{Rows, RowsIter};
 use mt_market::Roster;
 use mt_numbering::faultless_market;
-use mt_passes::{Register, first_pass};
+use mt_passes::first_fault;
 use mt_records::{Fault, Refusal, Rules, rules_of};
 use mt_terms::codes::NO_VERSION;
 use std::alloc::Global;
@@ -63,35 +61,6 @@ fn body_of<'a>(rows: &'a Rows<'_>) -> Result<Body<'a>, Refusal<'a>>
     Err(no_version(0))
 }
 
-/// The first fault of rows that have one, by a register without records.
-fn fault_by<'a>(alloc: Global, register: &mut Register<'a>, body: &Body<'a>) -> Refusal<'a>
-    requires limits { AreBounded body.now.rules.limits }
-    requires short { IsShort body.now }
-    requires fault { faultless_market body.now.rules (with_fields (rows_left body.now.rows)) ≡ None }
-    requires register { IsRegister register.old }
-    requires none { records_seen register.old ≡ [] }
-    ensures { Refuses result (market_under body.now.rules (numbered_from body.now.first (rows_left body.now.rows))) }
-{
-    match first_pass(alloc, &body.rules, register, body.rows, body.first) {
-        Ok(()) => match register.second_pass() {
-            Some(fault) => Refusal::Fault(fault),
-            None => unreachable!(),
-        },
-        Err(refusal) => refusal,
-    }
-}
-
-/// The first fault of rows that have one.
-fn first_fault<'a>(alloc: Global, body: &Body<'a>) -> Refusal<'a>
-    requires limits { AreBounded body.now.rules.limits }
-    requires short { IsShort body.now }
-    requires fault { faultless_market body.now.rules (with_fields (rows_left body.now.rows)) ≡ None }
-    ensures { Refuses result (market_under body.now.rules (numbered_from body.now.first (rows_left body.now.rows))) }
-{
-    let mut register = Register::new(alloc, body.rows);
-    fault_by(alloc, &mut register, body)
-}
-
 /// The market of what follows the record that names a version, or its first fault.
 fn read_body<'a, R: Threads + Sync>(
     rt: &R,
@@ -105,7 +74,7 @@ fn read_body<'a, R: Threads + Sync>(
 {
     match faultless_market(rt, alloc, &body.rules, body.rows)? {
         Some(roster) => Ok(roster),
-        None => Err(first_fault(alloc, body)),
+        None => Err(first_fault(alloc, &body.rules, body.rows, body.first)),
     }
 }
 
