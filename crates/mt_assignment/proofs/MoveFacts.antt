@@ -1,5 +1,5 @@
 -- What a move of an agent to an option that would be taken does, by the applicants that it touches alone.
-use Rattle.std.proofs.Common.{◌≡◌, ℕ, zero, suc, ◌+◌, ◌<◌, ◌≤◌, Bool, true, false, not, ◌&&◌, ◌||◌, ◌==◌, List, [], ◌∷◌, map, filter, length, Option, Some, None, refl, ap, sym, ◌∙◌, inl, inr, arith, subst, flat_map, ap₂, ◌++◌, if◌then◌else◌}
+use Rattle.std.proofs.Common.{◌≡◌, ℕ, zero, suc, ◌+◌, ◌<◌, ◌≤◌, Bool, true, false, not, ◌&&◌, ◌||◌, ◌==◌, List, [], ◌∷◌, filter, length, Option, Some, None, refl, ap, sym, ◌∙◌, inl, inr, arith, subst, ap₂}
 use Rattle.std.specs.List.{list_any, range_with_len}
 use Rattle.std.specs.List.Sorted.{IsStrictlySortedBy}
 use Rattle.std.specs.Ordering.{nat_cmp}
@@ -10,8 +10,8 @@ use Rattle.mt_terms.specs.Lists.{has, below, is_distinct}
 use Rattle.mt_terms.specs.Market.{Market, applicants, program_of, agent_of, members, agents}
 use Rattle.mt_terms.specs.Matching.{Places, Placement, place_of, is_program, at, send, options, single_placement, couple_placement}
 use Rattle.mt_terms.specs.Choice.{choice}
-use Rattle.mt_terms.specs.Rounds.{programs_sent_to, displaced, displaced_at, is_left, is_same_agent, all_joined, left_programs, move_of, blocking_on_list, rechecked}
-use Rattle.mt_terms.specs.Stability.{blocks, is_chosen}
+use Rattle.mt_terms.specs.Rounds.{programs_sent_to, displaced, displaced_at, is_left, is_same_agent, left_programs, move_of}
+use Rattle.mt_terms.specs.Stability.{is_chosen}
 use Rattle.mt_terms.specs.declared.numbers.Agent.{Agent}
 use Rattle.mt_terms.specs.declared.numbers.Agent.TheVariants.{Single, Couple}
 use Rattle.mt_match_laws.proofs.ChoiceLemmas.{choice_facts}
@@ -20,7 +20,6 @@ use Rattle.mt_round_laws.proofs.RoundsPlaces.{at_none}
 use Rattle.mt_round_laws.proofs.RoundsAgents.{agent_of_applicant, agent_from_list, of_list, on_list, same_agent, member_of_agent, apart, option_movers, option_entry, option_member, option_there, option_elsewhere}
 use Rattle.mt_round_laws.proofs.RoundsFits.{listing_program, fitting_facts}
 use Rattle.mt_round_laws.proofs.RoundsMove.{IsMove, of_displaced, displaced_agents, match_after, is_displaced, displaced_agent, goes_out, mover_stays, stays_in, was_before}
-use Rattle.mt_sets.specs.Waiting.{with_agents, Waiting}
 use Rattle.mt_assignment.specs.Assigned.{AreSent, AreSentToLists}
 use Rattle.mt_assignment.specs.Moves.{is_left_by_movers, is_kept_at, all_members, IsTaking}
 use Rattle.mt_round_laws.proofs.SentCounts.{in_list}

@@ -2,10 +2,9 @@ use Rattle.std.proofs.Common.{ap, sym, ◌∙◌}
 use Rattle.std.specs.Prelude.{option_map}
 use Rattle.std.specs.Result.{result_ok}
 use Rattle.mt_lists.specs.Rows.{rows_left}
-use Rattle.mt_terms.specs.Registration.Numbering.{registered}
 use Rattle.mt_terms.specs.Registration.Passes.{numbered_from}
 use Rattle.mt_records.specs.Refusals.{fault_seen}
-use Rattle.mt_passes.specs.Registers.{contents_seen, records_seen}
+use Rattle.mt_passes.specs.Registers.{records_seen}
 use Rattle.mt_passes.proofs.FaultFacts.{market_by}
 use Rattle.mt_passes.proofs.fault.fault_by.Goals as goal
 
