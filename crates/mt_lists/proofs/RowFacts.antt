@@ -1,7 +1,6 @@
 -- The fields of a row by their places, and those that stay without the empty ones at its end.
-use Rattle.std.proofs.Common.{◌≡◌, ◌≤◌, ◌<◌, ◌+◌, ◌-◌, ℕ, zero, suc, List, [], ◌∷◌, length, get_or, slice_get, take, true, false, Option, Some, None, Bor, refl, arith, rules, drop}
+use Rattle.std.proofs.Common.{◌≡◌, ◌≤◌, ◌<◌, ◌-◌, ℕ, zero, suc, List, [], ◌∷◌, length, get_or, slice_get, take, true, false, Option, Some, None, Bor, refl, arith, rules}
 use Rattle.std.specs.Option.{IsSome, option_copied}
-use Rattle.std.proofs.lemmas.List.{drop_more}
 use Rattle.std.proofs.lemmas.Option.{slice_get-get_or}
 use Rattle.std.specs.List.{suffix_len}
 use Rattle.std.proofs.lemmas.List.Sums.{suffix_len_is}
@@ -29,9 +28,3 @@ kept_are fields n le empty last =
 pub field_there : (fields : List (List ℕ)) (i : ℕ) (found : Option (Bor (List ℕ))) → option_copied found ≡ slice_get fields i → i < length fields → IsSome found
 field_there fields i None e lt = absurd (cc (slice_get-get_or fields i [] lt))
 field_there fields i (Some field) e lt = search rules
-
--- the field at a place, and the fields after it
-pub drop-field : (fields : List (List ℕ)) (i : ℕ) (field : List ℕ) → i < length fields → slice_get fields i ≡ Some field → drop i fields ≡ field ∷ drop (i + 1) fields
-drop-field fields i field lt e =
-    let same : get_or fields i [] ≡ field = cc (slice_get-get_or fields i [] lt) in
-    rw (drop_more fields i [] lt, same) refl

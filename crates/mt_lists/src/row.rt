@@ -2,7 +2,8 @@ ghost use Rattle.std.specs.Prelude.{◌≡◌, ◌==◌, length};
 ghost use Rattle.std.specs.Iterator.{YieldsFirstRef, item_count};
 
 use crate::lines::LineFields;
-use crate::read_row::{ReadFields, ReadRow};
+use crate::read_row::ReadFields;
+use mt_rows::FlatLists;
 use std::marker::Model;
 
 /// A row: its fields in order, without the empty ones at its end. It is as small as a reference and a length.
@@ -11,11 +12,12 @@ pub struct Row<'r> {
     source: RowSource<'r>,
 }
 
-// Where the fields of a row lie: in a line that has lost the commas at its end, or in a record that `csv` has read.
+// Where the fields of a row lie: in a line that has lost the commas at its end, or in a table of those of a record that
+// `csv` has read.
 #[derive(Clone, Copy)]
 pub(crate) enum RowSource<'r> {
     Line(&'r [u8]),
-    Read(&'r ReadRow),
+    Read(&'r FlatLists<u8>),
 }
 
 impl<'r> Model for Row<'r> {
@@ -44,7 +46,7 @@ impl<'r> Row<'r> {
     {
         match self.source {
             RowSource::Line(line) => line.is_empty(),
-            RowSource::Read(row) => row.len() == 0,
+            RowSource::Read(row) => row.is_empty(),
         }
     }
 

@@ -2,8 +2,8 @@ ghost use Rattle.std.specs.Prelude.{◌≡◌, ◌≤◌, ◌^◌, length};
 ghost use Rattle.std.specs.Iterator.{YieldsFirst, item_count};
 
 use crate::lines::Lines;
-use crate::read_row::ReadRow;
 use crate::row::{Row, RowSource};
+use mt_rows::FlatLists;
 use std::marker::Model;
 
 /// The rows of an input: the lines of a text that has no quote, which are cut as they are lent, or else the rows that
@@ -22,7 +22,7 @@ impl Drop for Rows<'_> {
 #[derive(Drop)]
 pub(crate) enum RowsSource<'t> {
     Lines(Lines<'t>),
-    Read(Vec<ReadRow>),
+    Read(Vec<FlatLists<u8>>),
 }
 
 impl<'t> Model for Rows<'t> {
@@ -71,7 +71,7 @@ pub struct RowsIter<'r> {
 #[derive(Clone, Copy)]
 pub(crate) enum RowsRest<'r> {
     Lines(Lines<'r>),
-    Read(&'r [ReadRow]),
+    Read(&'r [FlatLists<u8>]),
 }
 
 impl<'r> Iterator for RowsIter<'r> {

@@ -6,9 +6,10 @@ ghost use Rattle.csv.specs.declared.reader.Trim.TheVariants as trim;
 ghost use Rattle.mt_lists.specs.Records.{mark, records_of, rows_of};
 
 use crate::lines::Lines;
-use crate::read_row::ReadRow;
+use crate::read_row::trimmed_row;
 use crate::rows::{Rows, RowsSource};
 use csv::{ByteRecord, ErrorKind, Reader, ReaderBuilder};
+use mt_rows::FlatLists;
 use std::alloc::Global;
 use thiserror::Error;
 
@@ -59,7 +60,7 @@ fn after_mark(bytes: &[u8]) -> Option<&[u8]>
 }
 
 // The rows of a text that has no mark at its start.
-fn read_rows(alloc: Global, text: &[u8]) -> Result<Vec<ReadRow>, ListFault>
+fn read_rows(alloc: Global, text: &[u8]) -> Result<Vec<FlatLists<u8>>, ListFault>
     requires { starts_with nat_eq text.now mark ≡ false }
     ensures rows { IfOk result (λ rows. rows.items ≡ rows_of text.now) }
     ensures memory { OnErr result (IsErrOf result ListFault.Memory) }
@@ -71,7 +72,7 @@ fn read_rows(alloc: Global, text: &[u8]) -> Result<Vec<ReadRow>, ListFault>
     let mut raw = ByteRecord::new(alloc);
     let mut rows = Vec::new(alloc);
     while read_record(&mut reader, &mut raw)? {
-        let row = ReadRow::trimmed(&mut raw).map_err(|_| ListFault::Memory)?;
+        let row = trimmed_row(alloc, &raw).map_err(|_| ListFault::Memory)?;
         rows.push(row).map_err(|_| ListFault::Memory)?;
     }
     Ok(rows)

@@ -1,4 +1,4 @@
-ghost use Rattle.std.specs.Prelude.{◌≡◌, ◌==◌, ◌<◌, ◌++◌, [], ◌∷◌, length, slice_index_or, OnOk, OnErr};
+ghost use Rattle.std.specs.Prelude.{◌≡◌, ◌==◌, ◌<◌, ◌++◌, [], ◌∷◌, length, slice_index_or, IfOk, OnOk, OnErr};
 ghost use Rattle.mt_rows.specs.FlatLists.{AreEnds, pieces, start_of, with_last};
 
 use std::alloc::{AllocError, Global};
@@ -56,6 +56,15 @@ impl<T> FlatLists<T> {
             items: Vec::new(alloc),
             ends: Vec::new(alloc),
         }
+    }
+
+    /// No lists, with room for so many, and for so many elements in all. The error is want of memory.
+    pub fn with_capacity(alloc: Global, lists: usize, items: usize) -> Result<Self, AllocError>
+        ensures { IfOk result (λ lists. lists ≡ []) }
+    {
+        let ends = Vec::with_capacity(alloc, lists)?;
+        let items = Vec::with_capacity(alloc, items)?;
+        Ok(FlatLists { items, ends })
     }
 
     /// How many lists there are.

@@ -28,7 +28,7 @@ pub loop-rows-preserved : goal.loop-rows-preserved
 loop-rows-preserved c =
     let read = c.in_ok-read_record.ensures in
     let trimmed = was_ok _ _ _ _ c.map_err.ensures.cases c.map_err.ensures.variant c.in_ok-row.was in
-    let row : c.in_ok-row.row ≡ without_trailing_empty (fields_of c.read_record.new.raw) = rw trimmed at c.trimmed.ensures in
+    let row : c.in_ok-row.row ≡ without_trailing_empty (fields_of c.read_record.new.raw) = rw trimmed at c.trimmed_row.ensures in
     let good : is_ok c.push.result ≡ true = search rules in
     let items : c.push.new.self.items ≡ c.loop-rows.rows.items ++ without_trailing_empty (fields_of c.read_record.new.raw) ∷ [] = rw (good, row) at c.push.ensures.items in
     rw items ((one_row_more c.args.text.now c.loop-rows.reader c.read_record.new.reader c.loop-rows.rows.items _ c.loop-rows.invariant (rw c.if-branch.true at read.reads) read.first read.still_flexible).0)

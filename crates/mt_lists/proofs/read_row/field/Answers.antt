@@ -1,8 +1,8 @@
-use Rattle.std.proofs.Common.{◌≡◌, ◌∙◌, [], get_or, sym}
+use Rattle.std.proofs.Common.{◌∙◌, sym}
 use Rattle.csv.specs.Records.{fields_of}
 use Rattle.csv.proofs.RecordFacts.{field-get}
 use Rattle.mt_lists.proofs.RowFacts.{field_there, field_at-slice_get}
-use Rattle.mt_lists.proofs.read_row.is_empty_at.Goals as goal
+use Rattle.mt_lists.proofs.read_row.field.Goals as goal
 
 pub unwrap-requires : goal.unwrap-requires
 unwrap-requires c =
@@ -11,5 +11,4 @@ unwrap-requires c =
 pub returns : goal.returns
 returns c =
     let found = rw c.unwrap.ensures at c.get.ensures.value in
-    let same : get_or (fields_of c.args.raw.now) c.args.i [] ≡ c.unwrap.result.now = field-get (fields_of c.args.raw.now) c.args.i c.unwrap.result.now (sym found) in
-    rw same c.is_empty.ensures
+    sym (field-get (fields_of c.args.raw.now) c.args.i c.unwrap.result.now (sym found))
