@@ -269,7 +269,7 @@ class Matching:
         return out, left - stayed
 
     def enter_couples(self, budget):
-        """Lets the couples enter in order, within so many rounds."""
+        """Lets the couples enter in order, within a budget of rounds."""
         market, rounds = self.market, 0
         numbers = {program: number for number, program in enumerate(market.quotas)}
         entered = {agent for agent, (members, _) in enumerate(market.agents) if len(members) == 1}
