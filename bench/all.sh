@@ -4,7 +4,7 @@
 #   bench/all.sh [NAME..]      the files with these names, or all
 #
 # The files are kept in the scratch folder of bench/stages.sh, up to 60 MB each, and made once.
-set -eu
+set -euo pipefail
 here=$(cd "$(dirname "${BASH_SOURCE[0]}")" && pwd)
 scratch=${BENCH_SCRATCH:-${TMPDIR:-/tmp}/nrmatch-bench}
 mkdir -p "$scratch/files"
@@ -51,6 +51,12 @@ make() {
     mv "$file.part" "$file"
 }
 
+for wanted in "$@"; do
+    if ! files | cut -d ' ' -f 1 | grep -xF -e "$wanted" > /dev/null; then
+        echo "bench/all.sh: there is no file $wanted, but $(files | cut -d ' ' -f 1 | paste -sd ' ')" >&2
+        exit 2
+    fi
+done
 files | while read -r name budget words; do
     case " $* " in "  " | *" $name "*) ;; *) continue ;; esac
     file=$scratch/files/$name.csv

@@ -95,7 +95,11 @@ def arguments():
     parser.add_argument("--withdraw", action="store_true", help="withdraw every program")
     parser.add_argument("--names", help="a file of ids, one a line, for a market without couples")
     parser.add_argument("--seed", type=int, default=1)
-    return parser.parse_args()
+    args = parser.parse_args()
+    most = args.programs**2
+    if args.shape == "random" and args.couples > 0 and args.pairs > most:
+        parser.error(f"--pairs {args.pairs}: a couple's list has no pair twice, and {args.programs} programs make {most} pairs")
+    return args
 
 
 def main():

@@ -22,7 +22,7 @@
 # `rt try` leaves out, are written in (bench/hints.py): without them the couples' stage takes up to twice its time. Without them a program does anything at all where
 # one would have stopped it, so what isn't tried with them isn't measured without. `prove` takes some minutes where the
 # layers are proved in this checkout, and a quarter of an hour from nothing.
-set -eu
+set -euo pipefail
 top=$(cd "$(dirname "${BASH_SOURCE[0]}")/.." && pwd)
 scratch=${BENCH_SCRATCH:-${TMPDIR:-/tmp}/nrmatch-bench}
 program=$scratch/stages
@@ -133,12 +133,21 @@ prove() {
 least() {
     awk '!($1 in time) { order[++n] = $1; time[$1] = $2 }
         { if ($2 < time[$1]) time[$1] = $2; rest[$1] = $3 " " $4 " " $5 }
-        END { for (i = 1; i <= n; i++) print order[i], time[order[i]], rest[order[i]] }' |
-        column -t
+        END {
+            for (i = 1; i <= n; i++) {
+                split(rest[order[i]], others)
+                printf "%-10s %10s %8s %8s %10s\n", order[i], time[order[i]], others[1], others[2], others[3]
+            }
+        }'
 }
 
 measure() {
     local file=$1 last=${2:-text} budget=${3:-1000000} runs=${4:-3} run
+    if [ ! -f "$file" ] || [ ! -r "$file" ]; then
+        echo "bench/stages.sh: there is no file $file that can be read" >&2
+        exit 2
+    fi
+    [ -x "$program" ] || build >&2
     # So that what a floor and a hall take is a rise of the process's memory: large vectors go back when they are freed,
     # and aren't used again.
     if [ "$last" = hall ]; then export MALLOC_MMAP_THRESHOLD_=65536; fi
@@ -149,8 +158,5 @@ case ${1:-} in
     '' | -h | --help) sed -n '2,/^set/{/^#/s/^# \{0,1\}//p}' "${BASH_SOURCE[0]}" ;;
     build) build "${2:-}" ;;
     prove) prove "${2:-}" ;;
-    *)
-        [ -x "$program" ] || build >&2
-        measure "$@"
-        ;;
+    *) measure "$@" ;;
 esac
