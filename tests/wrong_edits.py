@@ -1,0 +1,128 @@
+"""What an edit says, and where the edits of a crate are. An edit is a mistake in the sources of a crate: lines
+'file: PATH' (below the crate's folder) and then pairs of lines 'old: TEXT' and 'new: TEXT', each of one line. An edit
+that the tests have to see has lines 'test: NAME' too.
+"""
+import os
+import re
+
+TOP = os.path.dirname(os.path.dirname(os.path.realpath(__file__)))
+LINE = re.compile(r"(file|old|test): (.*)|(new):(?: (.*))?")
+FUNCTION = re.compile(r"\s*(?:pub(?:\([a-z]+\))? )?(?:const )?fn (\w+)")
+# What a proof file says where the edit took away what it names.
+GONE = re.compile(r"(\./)?proofs/.*(has no field|is not in scope|has no `|was not admitted|: (record|module) `[^`]*`($| \(nearest))")
+
+
+class BadEdit(Exception):
+    """An edit that can't be applied or read."""
+
+
+def crate_lines():
+    """The lines of crates.txt, by the name of the crate."""
+    with open(f"{TOP}/crates.txt", encoding="utf-8") as file:
+        lines = [line for line in file if ":" in line and not line.startswith("#")]
+    return {line.partition(":")[0].split()[0]: line for line in lines}
+
+
+def libraries(line):
+    """The libraries that a line of crates.txt names."""
+    return line.partition(":")[2].split()
+
+
+def needed_by(crate, lines):
+    """The crate, and the libraries of this repository that it stands on."""
+    found, names = set(), [crate]
+    while names:
+        name = names.pop()
+        if name in lines and name not in found:
+            found.add(name)
+            names += libraries(lines[name])
+    return found
+
+
+def edits_in(folder):
+    """The files of the edits in a folder."""
+    names = sorted(os.listdir(folder)) if os.path.isdir(folder) else []
+    return [f"{folder}/{name}" for name in names if name.endswith(".edit")]
+
+
+def must_fail_of(crate):
+    """The files of the crate's edits that the gate tries."""
+    return edits_in(f"{TOP}/crates/{crate}/must-fail")
+
+
+def refused_of(crate):
+    """The files of the crate's edits that a clause refuses."""
+    return must_fail_of(crate) + edits_in(f"{TOP}/tests/edits/{crate}")
+
+
+def tested_of(crate):
+    """The files of the crate's edits that the tests have to see."""
+    return edits_in(f"{TOP}/tests/tested/{crate}")
+
+
+def name_of(crate, edit):
+    """What an edit is called."""
+    return f"{crate}/{os.path.basename(edit).removesuffix('.edit')}"
+
+
+def words_of(edit):
+    """The lines of an edit: the word that each begins with, and its text."""
+    with open(edit, encoding="utf-8") as file:
+        lines = file.read().split("\n")
+    words = []
+    for line in lines:
+        found = LINE.fullmatch(line)
+        if found:
+            words.append((found[1] or found[3], found[2] or found[4] or ""))
+        elif line.strip():
+            raise BadEdit(f"it has a line that isn't read: {line}")
+    return words
+
+
+def tests_of(edit):
+    """The names of the tests that have to see an edit."""
+    return [text.strip() for word, text in words_of(edit) if word == "test"]
+
+
+def changed_texts(edit, folder):
+    """The texts of the files that an edit changes, and the functions in whose bodies it does: none for all."""
+    path, old, texts, before, functions = None, None, {}, {}, []
+    for word, text in words_of(edit):
+        if word == "file":
+            path = text.strip()
+        elif word == "old":
+            old = text
+        elif word == "new":
+            if not path or not old:
+                raise BadEdit("a 'new:' line comes before any 'file:' or 'old:' line")
+            if path not in texts:
+                texts[path] = before[path] = text_of(f"{folder}/{path}", path)
+            times = texts[path].count(old)
+            if times != 1:
+                raise BadEdit(f"{path} has this text {times} times, and not once: {old}")
+            functions.append(function_at(path, texts[path], texts[path].index(old)))
+            texts[path] = texts[path].replace(old, text)
+            old = None
+    if texts == before:
+        raise BadEdit("it changes nothing")
+    return texts, [] if None in functions else sorted(set(functions))
+
+
+def text_of(file, path):
+    """The text of a file that an edit calls by a path."""
+    try:
+        with open(file, encoding="utf-8") as text:
+            return text.read()
+    except OSError as error:
+        raise BadEdit(f"there is no file {path}") from error
+
+
+def function_at(path, text, at):
+    """The name of the function that a place of a source file lies in; None where it lies in none, or in a definition."""
+    if not path.startswith("src/"):
+        return None
+    for line in reversed(text[:at].split("\n")):
+        found = FUNCTION.match(line)
+        if found:
+            return found[1]
+    return None
