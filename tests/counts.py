@@ -14,6 +14,7 @@ CHECKS = {
     "cli PROGRAM": 8385,
     "cli": 8388,
     "edits_apply": 569,
+    "linear": 45,
     "memory --calls": 15,
     "memory --calls": {(1, False): 1, (1, True): 1, (2, False): 1, (2, True): 1},
     "memory --check": 114,
