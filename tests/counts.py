@@ -21,6 +21,7 @@ CHECKS = {
     "memory --check": {(1, False): 35, (1, True): 35},
     "memory": 448,
     "memory": {(1, False): 71, (1, True): 71, (4, False): 71, (4, True): 71},
+    "must_fail": 68,
     "words": 193,
     "wrong_bodies --release": 42,
     # tests/cli with the path of a program, where bin/nrmatch isn't run.
