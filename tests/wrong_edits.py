@@ -84,25 +84,35 @@ def tests_of(edit):
     return [text.strip() for word, text in words_of(edit) if word == "test"]
 
 
-def changed_texts(edit, folder):
-    """The texts of the files that an edit changes, and the functions in whose bodies it does: none for all."""
-    path, old, texts, before, functions = None, None, {}, {}, []
+def pairs_of(edit):
+    """The pairs of an edit: a file, a text in it, and what takes its place."""
+    path, old, pairs = None, None, []
     for word, text in words_of(edit):
         if word == "file":
             path = text.strip()
-        elif word == "old":
+        elif word == "old" and path and old is None:
             old = text
-        elif word == "new":
-            if not path or not old:
-                raise BadEdit("a 'new:' line comes before any 'file:' or 'old:' line")
-            if path not in texts:
-                texts[path] = before[path] = text_of(f"{folder}/{path}", path)
-            times = texts[path].count(old)
-            if times != 1:
-                raise BadEdit(f"{path} has this text {times} times, and not once: {old}")
-            functions.append(function_at(path, texts[path], texts[path].index(old)))
-            texts[path] = texts[path].replace(old, text)
+        elif word == "new" and old:
+            pairs.append((path, old, text))
             old = None
+        elif word != "test":
+            raise BadEdit(f"a line '{word}:' is out of place: {text}")
+    if old is not None or not pairs:
+        raise BadEdit("its last 'old:' line has no 'new:' line" if pairs or old else "it has no pair of 'old:' and 'new:'")
+    return pairs
+
+
+def changed_texts(edit, folder):
+    """The texts of the files that an edit changes, and the functions in whose bodies it does: none for all."""
+    texts, before, functions = {}, {}, []
+    for path, old, new in pairs_of(edit):
+        if path not in texts:
+            texts[path] = before[path] = text_of(f"{folder}/{path}", path)
+        times = texts[path].count(old)
+        if times != 1:
+            raise BadEdit(f"{path} has this text {times} times, and not once: {old}")
+        functions.append(function_at(path, texts[path], texts[path].index(old)))
+        texts[path] = texts[path].replace(old, new)
     if texts == before:
         raise BadEdit("it changes nothing")
     return texts, [] if None in functions else sorted(set(functions))
