@@ -11,23 +11,24 @@ import sys
 CHECKS = {
     "bytes": 6088,
     "check": 20517,
+    # tests/cli with the path of a program, where bin/nrmatch isn't run.
     "cli PROGRAM": 8385,
     "cli": 8388,
     "edits_apply": 569,
     "linear": 45,
-    "memory --calls": 15,
-    "memory --calls": {(1, False): 1, (1, True): 1, (2, False): 1, (2, True): 1},
-    "memory --check": 114,
-    "memory --check": {(1, False): 35, (1, True): 35},
     "memory": 448,
-    "memory": {(1, False): 71, (1, True): 71, (4, False): 71, (4, True): 71},
+    "memory --calls": 15,
+    "memory --check": 114,
     "must_fail": 68,
     "words": 193,
     "wrong_bodies --release": 42,
-    # tests/cli with the path of a program, where bin/nrmatch isn't run.
+}
+
 # The sweeps of the forms of tests/memory, by the number of workers and whether all requests from one on are refused.
 SWEEPS = {
-}
+    "memory": {(1, False): 71, (1, True): 71, (4, False): 71, (4, True): 71},
+    "memory --calls": {(1, False): 1, (1, True): 1, (2, False): 1, (2, True): 1},
+    "memory --check": {(1, False): 35, (1, True): 35},
 }
 
 
