@@ -20,10 +20,10 @@ CHECKS = {
     "memory --calls": 15,
     "memory --check": 114,
     "must_fail": 68,
+    "pages": 248,
     "words": 193,
     "wrong_bodies --release": 42,
 }
-
 # The sweeps of the forms of tests/memory, by the number of workers and whether all requests from one on are refused.
 SWEEPS = {
     "memory": {(1, False): 71, (1, True): 71, (4, False): 71, (4, True): 71},
