@@ -14,6 +14,7 @@ CHECKS = {
     # tests/cli with the path of a program, where bin/nrmatch isn't run.
     "cli PROGRAM": 8385,
     "cli": 8388,
+    "controls": 28,
     "edits_apply": 569,
     "linear": 45,
     "memory": 448,
