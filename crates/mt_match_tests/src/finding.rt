@@ -3,7 +3,7 @@ ghost use Rattle.std.specs.Prelude.{◌≡◌};
 ghost use Rattle.mt_ranks.specs.Ranked.{ranked_of};
 
 use crate::expect::same_for;
-use crate::plain::plain_verdict;
+use crate::plain::verdict::plain_verdict;
 use mt_ranks::Ranks;
 use mt_roster::Roster;
 use mt_samples::places::are_places;
@@ -29,6 +29,7 @@ pub(crate) fn plain_finding<R: Abort + Threads + Sync>(
         places: Places::new(places),
     };
     let verdict = verify(rt, alloc, roster, ranks, &matched)?;
-    same_for(rt, &verdict, &plain_verdict(roster, &matched), of);
+    let plain = plain_verdict(roster, matched.places.as_slice());
+    same_for(rt, &verdict, &plain, of);
     Ok(verdict)
 }

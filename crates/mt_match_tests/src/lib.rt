@@ -2,6 +2,8 @@
 #![tactic(auto)]
 
 #[cfg(test)]
+mod beside;
+#[cfg(test)]
 mod expect;
 #[cfg(test)]
 mod finding;
@@ -15,3 +17,5 @@ mod rounds;
 mod runs;
 #[cfg(test)]
 mod verdicts;
+#[cfg(test)]
+mod worked;

@@ -6,6 +6,7 @@ use mt_lists::Tap;
 use mt_report::Drain;
 use mt_run::{Ended, Options, run};
 use mt_samples::devices::{Endless, Narrow, Pieces};
+use mt_samples::large::{waiting_singles, waiting_singles_text};
 use mt_samples::markets::{
     CHAIN, CHAIN_TEXT, CROSSED, CROSSED_TEXT, HALF_PAIR, HALF_PAIR_TEXT, THREE_COUPLES,
     THREE_COUPLES_TEXT,
@@ -168,40 +169,13 @@ fn expect_same(rt: &(impl Abort + AllocGlobal + Threads + Wait + Sync), input: &
     expect_with(rt, input, text, 64);
 }
 
-/// Singles `s1` to `s3000` wait for the post that a couple leaves.
-fn push_waiting_singles(input: &mut String) -> Result<(), AllocError> {
-    input.push_str("match,1\nprogram,x,2,c,e1,d")?;
-    for i in 1..3_001u32 {
-        write!(input, ",s{i}")?;
-    }
-    input.push_str("\nprogram,z,1,e2\n")?;
-    for i in 1..3_001u32 {
-        write!(input, "applicant,s{i},x\n")?;
-    }
-    input.push_str("couple,D,c,d,x,x\ncouple,E,e1,e2,x,z\n")
-}
-
-/// The text of the market where the first of them gets it.
-fn push_waiting_singles_text(text: &mut String) -> Result<(), AllocError> {
-    text.push_str("match,1,published\napplicant,s1,x\n")?;
-    for i in 2..3_001u32 {
-        write!(text, "applicant,s{i},-\n")?;
-    }
-    text.push_str("applicant,c,-\napplicant,d,-\napplicant,e1,x\napplicant,e2,z\n")?;
-    text.push_str("program,x,2,2,3000\nprogram,z,1,1,0\ntotals,3004,3001,3,0\n")
-}
-
-// In the last file all who wait are looked at again: D takes both posts of x from s1 and s2, which aren't taken again; E
-// takes x and z and drives D out; D isn't taken again; s1 takes the post that was left, and the 2,999 others aren't taken.
 #[test]
 fn workers_and_pieces_change_nothing(rt: HostRuntime) -> Result<(), AllocError> {
     expect_same(&rt, CHAIN, CHAIN_TEXT);
     expect_same(&rt, THREE_COUPLES, THREE_COUPLES_TEXT);
     expect_same(&rt, HALF_PAIR, HALF_PAIR_TEXT);
-    let mut input = String::new(rt.alloc());
-    push_waiting_singles(&mut input)?;
-    let mut text = String::new(rt.alloc());
-    push_waiting_singles_text(&mut text)?;
+    let input = waiting_singles(rt.alloc())?;
+    let text = waiting_singles_text(rt.alloc())?;
     expect_same(&rt, input.as_bytes(), text.as_bytes());
     Ok(())
 }

@@ -8,91 +8,79 @@ use crate::expect::same_for;
 use crate::finding::plain_finding;
 use mt_ranks::Ranks;
 use mt_roster::Roster;
-use mt_samples::markets::SampleError;
+use mt_samples::couples::{
+    COUPLE_DISPLACES_A_SINGLE, COUPLE_IN_ITS_OWN_WAY, COUPLE_LACKS_A_SECOND_POST, NO_STABLE_MATCH,
+};
+use mt_samples::markets::{BETWEEN, CHAIN, SampleError};
 use mt_samples::tables::with_ranks;
 use mt_terms::{Agent, Blocker, ProgNo, Verdict};
 use std::alloc::{AllocError, Global};
 use std::process::Abort;
 use std::thread::Threads;
 
+// A market's name, its file, and matches of it with the finding against each.
+type Judged = (
+    &'static str,
+    &'static [u8],
+    &'static [(&'static str, &'static str)],
+);
+
 // x prefers t, which is there; y and z would both take s, which wants y more. At y it doesn't block with z, which
 // comes later on its list.
-const SINGLES: &str =
-    "match,1\nprogram,x,1,t,s\nprogram,y,1,s\nprogram,z,1,s\napplicant,t,x\napplicant,s,x,y,z\n";
-
-// P1 wants a2, a3 and a1 in this order.
-const CHAIN: &str =
-    "match,1\nprogram,P1,1,a2,a3,a1\nprogram,P2,1,a1,a2\napplicant,a1,P1,P2\napplicant,a2,P2,P1\napplicant,a3,P1\n";
+const SINGLES: &[u8] =
+    b"match,1\nprogram,x,1,t,s\nprogram,y,1,s\nprogram,z,1,s\napplicant,t,x\napplicant,s,x,y,z\n";
 
 // x prefers s, which is there; z and y would take the couple, and so would z and w, which it wants less.
-const PAIRS: &str =
-    "match,1\nprogram,x,1,s,a\nprogram,y,1,b\nprogram,z,1,a\nprogram,w,1,b\napplicant,s,x\ncouple,c,a,b,x,y,z,y,z,w\n";
+const PAIRS: &[u8] =
+    b"match,1\nprogram,x,1,s,a\nprogram,y,1,b\nprogram,z,1,a\nprogram,w,1,b\napplicant,s,x\ncouple,c,a,b,x,y,z,y,z,w\n";
 
 // Each has a program to itself, so whoever is unplaced blocks: the one with the lowest number first, a couple by the
 // number of a. The applicants are t, a, b, s in this order.
-const ALL_FREE: &str =
-    "match,1\nprogram,v,1,t\nprogram,x,1,a\nprogram,y,1,b\nprogram,z,1,s\napplicant,t,v\ncouple,c,a,b,x,y\napplicant,s,z\n";
+const ALL_FREE: &[u8] =
+    b"match,1\nprogram,v,1,t\nprogram,x,1,a\nprogram,y,1,b\nprogram,z,1,s\napplicant,t,v\ncouple,c,a,b,x,y\napplicant,s,z\n";
 
 // y doesn't list b, so the couple doesn't block, and s behind it does. The applicants are a, b, s.
-const BEHIND: &str =
-    "match,1\nprogram,x,1,a\nprogram,y,1\nprogram,z,1,s\ncouple,c,a,b,x,y\napplicant,s,z\n";
-
-// Both members stand above s, and there are two posts.
-const BOTH: &str = "match,1\nprogram,x,2,a,b,s\napplicant,s,x\ncouple,c,a,b,x,x\n";
-
-// The single stands between the members.
-const BETWEEN: &str = "match,1\nprogram,x,2,a,s,b\napplicant,s,x\ncouple,c,a,b,x,x\n";
+const BEHIND: &[u8] =
+    b"match,1\nprogram,x,1,a\nprogram,y,1\nprogram,z,1,s\ncouple,c,a,b,x,y\napplicant,s,z\n";
 
 // Each member alone would be the first choice of a program with one post, and of the two together only the first is;
 // without a post nobody is.
-const ONE_POST: &str =
-    "match,1\nprogram,x,1,a,b\nprogram,y,0,d,e\ncouple,c,a,b,x,x\ncouple,f,d,e,y,y\n";
+const ONE_POST: &[u8] =
+    b"match,1\nprogram,x,1,a,b\nprogram,y,0,d,e\ncouple,c,a,b,x,x\ncouple,f,d,e,y,y\n";
 
 // At x the member a stands above b, and at y b stands above a. So where a is at x and b at y, neither would be taken by
 // the other's program but for both being taken out first.
-const EXCHANGE: &str = "match,1\nprogram,x,1,a,b\nprogram,y,1,b,a\ncouple,c,a,b,y,x,x,y\n";
-
-// From x and y the couple can move to w and x, since a makes room for b; then s, which stands above b, blocks; and with
-// s at x the couple can come back to x and y.
-const OWN_ROOM: &str =
-    "match,1\nprogram,w,1,a\nprogram,x,1,a,s,b\nprogram,y,1,b\napplicant,s,x\ncouple,c,a,b,w,x,x,y\n";
+const EXCHANGE: &[u8] = b"match,1\nprogram,x,1,a,b\nprogram,y,1,b,a\ncouple,c,a,b,y,x,x,y\n";
 
 // At y the single stands above b, and x would take a alone.
-const HALF: &str = "match,2\nprogram,x,1,a\nprogram,y,1,s,b\napplicant,s,y\ncouple,c,a,b,x,y,x,-\n";
+const HALF: &[u8] =
+    b"match,2\nprogram,x,1,a\nprogram,y,1,s,b\napplicant,s,y\ncouple,c,a,b,x,y,x,-\n";
 
 // y prefers b, which is there and would be sent nowhere: its post is then a's.
-const NOWHERE: &str = "match,2\nprogram,x,1,a\nprogram,y,1,b,a\ncouple,c,a,b,y,-,x,y\n";
+const NOWHERE: &[u8] = b"match,2\nprogram,x,1,a\nprogram,y,1,b,a\ncouple,c,a,b,y,-,x,y\n";
 
 // Both programs list both members, and the couple lists x for both alone. Whichever of its members is placed, the
 // couple is reported at a, which has the lower number.
-const NO_PAIR: &str =
-    "match,1\nprogram,x,2,a,b\nprogram,y,1,s,a,b\napplicant,s,y\ncouple,c,a,b,x,x\n";
+const NO_PAIR: &[u8] =
+    b"match,1\nprogram,x,2,a,b\nprogram,y,1,s,a,b\napplicant,s,y\ncouple,c,a,b,x,x\n";
 
 // The couple lists x for a alone, so it can't have x for b alone.
-const OTHER_HALF: &str = "match,2\nprogram,x,1,a,b\ncouple,c,a,b,x,-\n";
+const OTHER_HALF: &[u8] = b"match,2\nprogram,x,1,a,b\ncouple,c,a,b,x,-\n";
 
 // The pair of x and y is on the couple's list, and y doesn't list b: b is reported at its own number.
-const UNLISTED_MEMBER: &str = "match,1\nprogram,x,2,a,b\nprogram,y,1,a\ncouple,c,a,b,x,y,x,x\n";
+const UNLISTED_MEMBER: &[u8] = b"match,1\nprogram,x,2,a,b\nprogram,y,1,a\ncouple,c,a,b,x,y,x,x\n";
 
 // x lists s, which doesn't list x; s lists y, which doesn't list s. So s can be nowhere.
-const ONE_SIDE: &str = "match,1\nprogram,x,1,s\nprogram,y,2,t\napplicant,t,y\napplicant,s,y\n";
-
-// At y the single stands above the second member.
-const ELSEWHERE: &str =
-    "match,1\nprogram,x,1,a,s\nprogram,y,1,s,b\napplicant,s,y,x\ncouple,c,a,b,x,y\n";
+const ONE_SIDE: &[u8] = b"match,1\nprogram,x,1,s\nprogram,y,2,t\napplicant,t,y\napplicant,s,y\n";
 
 // y has no post. With s at x beside a both programs are over their quotas, and without s only y is.
-const OVER: &str = "match,1\nprogram,x,1,s,a\nprogram,y,0,b\napplicant,s,x\ncouple,c,a,b,x,y\n";
+const OVER: &[u8] = b"match,1\nprogram,x,1,s,a\nprogram,y,0,b\napplicant,s,x\ncouple,c,a,b,x,y\n";
 
 // y doesn't list w. With t and u at x it is over its quota, and where s is unplaced it blocks with y: of three kinds of
 // finding the first match has all, the second two and the third one. In the fourth both s and w are at places that
 // aren't allowed.
-const THREE_KINDS: &str =
-    "match,1\nprogram,x,1,t,u\nprogram,y,1,s\napplicant,s,y\napplicant,t,x\napplicant,u,x\napplicant,w,y\n";
-
-// The single displaces b from y, and the couple then displaces the single from x: no match is stable.
-const UNSTABLE: &str =
-    "match,1\nprogram,x,1,a,s\nprogram,y,1,s,b\napplicant,s,x,y\ncouple,c,a,b,x,y\n";
+const THREE_KINDS: &[u8] =
+    b"match,1\nprogram,x,1,t,u\nprogram,y,1,s\napplicant,s,y\napplicant,t,x\napplicant,u,x\napplicant,w,y\n";
 
 // The number of the program with this id.
 fn program_called(roster: &Roster, id: &str) -> Option<ProgNo> {
@@ -150,91 +138,180 @@ fn finding_on<R: Abort + Threads + Sync>(
 fn finding<R: Abort + Threads + Sync>(
     rt: &R,
     alloc: Global,
-    file: &str,
+    file: &[u8],
     match_text: &str,
 ) -> Result<String, SampleError> {
     with_ranks(
         rt,
         alloc,
-        file.as_bytes(),
+        file,
         |roster: &Roster, ranks: &Ranks<'_>| -> Result<String, AllocError>
             requires { ranks.now ≡ ranked_of roster.now.market }
         { finding_on(rt, alloc, roster, ranks, match_text) },
     )
 }
 
-const PLACES_THAT_ARE_NOT_ALLOWED: &[(&str, &str, &str)] = &[
-    (NO_PAIR, "- x -", "unlisted 1"),
-    (NO_PAIR, "- - x", "unlisted 1"),
-    (NO_PAIR, "- x y", "unlisted 1"),
-    (NO_PAIR, "- y x", "unlisted 1"),
-    (NO_PAIR, "y x x", "stable"),
-    (OTHER_HALF, "- x", "unlisted 0"),
-    (OTHER_HALF, "x -", "stable"),
-    (UNLISTED_MEMBER, "x y", "unlisted 1"),
-    (UNLISTED_MEMBER, "x x", "stable"),
-    (ONE_SIDE, "y x", "unlisted 1"),
-    (ONE_SIDE, "y y", "unlisted 1"),
-    (ONE_SIDE, "y -", "stable"),
-    (ELSEWHERE, "y x -", "unlisted 1"),
-    (ELSEWHERE, "y - -", "stable"),
+const PLACES_THAT_ARE_NOT_ALLOWED: &[Judged] = &[
+    (
+        "no pair",
+        NO_PAIR,
+        &[
+            ("- x -", "unlisted 1"),
+            ("- - x", "unlisted 1"),
+            ("- x y", "unlisted 1"),
+            ("- y x", "unlisted 1"),
+            ("y x x", "stable"),
+        ],
+    ),
+    (
+        "the other half",
+        OTHER_HALF,
+        &[("- x", "unlisted 0"), ("x -", "stable")],
+    ),
+    (
+        "an unlisted member",
+        UNLISTED_MEMBER,
+        &[("x y", "unlisted 1"), ("x x", "stable")],
+    ),
+    (
+        "entries of one side",
+        ONE_SIDE,
+        &[
+            ("y x", "unlisted 1"),
+            ("y y", "unlisted 1"),
+            ("y -", "stable"),
+        ],
+    ),
+    (
+        "no second post",
+        COUPLE_LACKS_A_SECOND_POST,
+        &[("y x -", "unlisted 1"), ("y - -", "stable")],
+    ),
 ];
 
-const PROGRAMS_OVER_THEIR_QUOTAS: &[(&str, &str, &str)] = &[
-    (BETWEEN, "x x x", "over 0"),
-    (BETWEEN, "x - -", "stable"),
-    (OVER, "x x y", "over 0"),
-    (OVER, "- x y", "over 1"),
-    (OVER, "x - -", "stable"),
-    (ONE_POST, "x x - -", "over 0"),
-    (ONE_POST, "- - - -", "stable"),
-    (THREE_KINDS, "- x x y", "unlisted 3"),
-    (THREE_KINDS, "- x x -", "over 0"),
-    (THREE_KINDS, "- x - -", "single 0 by 0"),
-    (THREE_KINDS, "x - - y", "unlisted 0"),
-    (THREE_KINDS, "y x - -", "stable"),
+const PROGRAMS_OVER_THEIR_QUOTAS: &[Judged] = &[
+    (
+        "a single between",
+        BETWEEN,
+        &[("x x x", "over 0"), ("x - -", "stable")],
+    ),
+    (
+        "over",
+        OVER,
+        &[
+            ("x x y", "over 0"),
+            ("- x y", "over 1"),
+            ("x - -", "stable"),
+        ],
+    ),
+    (
+        "one post or none",
+        ONE_POST,
+        &[("x x - -", "over 0"), ("- - - -", "stable")],
+    ),
+    (
+        "three kinds",
+        THREE_KINDS,
+        &[
+            ("- x x y", "unlisted 3"),
+            ("- x x -", "over 0"),
+            ("- x - -", "single 0 by 0"),
+            ("x - - y", "unlisted 0"),
+            ("y x - -", "stable"),
+        ],
+    ),
 ];
 
-const AGENTS_THAT_BLOCK: &[(&str, &str, &str)] = &[
-    (SINGLES, "x -", "single 1 by 1"),
-    (SINGLES, "x z", "single 1 by 1"),
-    (SINGLES, "x y", "stable"),
-    (SINGLES, "- y", "single 0 by 0"),
-    (CHAIN, "P1 P2 -", "single 2 by 0"),
-    (CHAIN, "P2 P1 -", "stable"),
-    (PAIRS, "x - -", "couple 0 by 1"),
-    (PAIRS, "x z w", "couple 0 by 1"),
-    (PAIRS, "x z y", "stable"),
-    (ALL_FREE, "- - - -", "single 0 by 0"),
-    (ALL_FREE, "v - - -", "couple 0 by 0"),
-    (ALL_FREE, "v x y -", "single 3 by 0"),
-    (ALL_FREE, "v x y z", "stable"),
-    (BEHIND, "- - -", "single 2 by 0"),
-    (BEHIND, "- - z", "stable"),
+const AGENTS_THAT_BLOCK: &[Judged] = &[
+    (
+        "singles",
+        SINGLES,
+        &[
+            ("x -", "single 1 by 1"),
+            ("x z", "single 1 by 1"),
+            ("x y", "stable"),
+            ("- y", "single 0 by 0"),
+        ],
+    ),
+    (
+        "the chain",
+        CHAIN,
+        &[("P1 P2 -", "single 2 by 0"), ("P2 P1 -", "stable")],
+    ),
+    (
+        "pairs",
+        PAIRS,
+        &[
+            ("x - -", "couple 0 by 1"),
+            ("x z w", "couple 0 by 1"),
+            ("x z y", "stable"),
+        ],
+    ),
+    (
+        "all free",
+        ALL_FREE,
+        &[
+            ("- - - -", "single 0 by 0"),
+            ("v - - -", "couple 0 by 0"),
+            ("v x y -", "single 3 by 0"),
+            ("v x y z", "stable"),
+        ],
+    ),
+    (
+        "a single behind a couple",
+        BEHIND,
+        &[("- - -", "single 2 by 0"), ("- - z", "stable")],
+    ),
 ];
 
-const COUPLES_THAT_BLOCK_ONCE_THEY_ARE_TAKEN_OUT: &[(&str, &str, &str)] = &[
-    (BOTH, "x - -", "couple 0 by 0"),
-    (BOTH, "- x x", "stable"),
-    (EXCHANGE, "x y", "couple 0 by 0"),
-    (EXCHANGE, "y x", "stable"),
-    (OWN_ROOM, "- x y", "couple 0 by 0"),
-    (OWN_ROOM, "- w x", "single 0 by 0"),
-    (OWN_ROOM, "x - -", "couple 0 by 1"),
-    (HALF, "y - -", "couple 0 by 1"),
-    (HALF, "y x -", "stable"),
-    (NOWHERE, "x y", "couple 0 by 0"),
-    (NOWHERE, "y -", "stable"),
+const COUPLES_THAT_BLOCK_ONCE_THEY_ARE_TAKEN_OUT: &[Judged] = &[
+    (
+        "both members above",
+        COUPLE_DISPLACES_A_SINGLE,
+        &[("x - -", "couple 0 by 0"), ("- x x", "stable")],
+    ),
+    (
+        "members exchanged",
+        EXCHANGE,
+        &[("x y", "couple 0 by 0"), ("y x", "stable")],
+    ),
+    (
+        "room of its own",
+        COUPLE_IN_ITS_OWN_WAY,
+        &[
+            ("- x y", "couple 0 by 0"),
+            ("- w x", "single 0 by 0"),
+            ("x - -", "couple 0 by 1"),
+        ],
+    ),
+    (
+        "half a pair",
+        HALF,
+        &[("y - -", "couple 0 by 1"), ("y x -", "stable")],
+    ),
+    (
+        "a member sent nowhere",
+        NOWHERE,
+        &[("x y", "couple 0 by 0"), ("y -", "stable")],
+    ),
 ];
 
-fn expect_findings<R: Abort + Threads + Sync>(
+fn expect_findings_on<R: Abort + Threads + Sync>(
     rt: &R,
     alloc: Global,
-    matches: &[(&str, &str, &str)],
+    of: &str,
+    file: &[u8],
+    matches: &[(&str, &str)],
 ) {
-    for (file, places, wanted) in matches {
-        let found = finding(rt, alloc, file, places).expect(rt, "a finding");
-        same_for(rt, found.as_str(), *wanted, (*file, *places));
+    for (places, wanted) in matches {
+        let found = finding(rt, alloc, file, places).expect(rt, of);
+        same_for(rt, found.as_str(), *wanted, (of, *places));
+    }
+}
+
+fn expect_findings<R: Abort + Threads + Sync>(rt: &R, alloc: Global, judged: &[Judged]) {
+    for (of, file, matches) in judged {
+        expect_findings_on(rt, alloc, of, file, matches);
     }
 }
 
@@ -257,7 +334,7 @@ const ALL_PLACES: &[&str] = &[
 #[test]
 fn a_market_without_a_stable_match(rt: HostRuntime) {
     for places in ALL_PLACES {
-        let found = finding(&rt, rt.alloc(), UNSTABLE, places).expect(&rt, "a finding");
+        let found = finding(&rt, rt.alloc(), NO_STABLE_MATCH, places).expect(&rt, "a finding");
         same_for(&rt, found.as_str() == "stable", false, *places);
     }
 }

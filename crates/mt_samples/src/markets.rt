@@ -45,6 +45,13 @@ pub const BETWEEN: &[u8] = b"match,1\n\
     applicant,s,x\n\
     couple,c,a,b,x,x\n";
 
+pub const BETWEEN_TEXT: &[u8] = b"match,1,published\n\
+    applicant,s,x\n\
+    applicant,a,-\n\
+    applicant,b,-\n\
+    program,x,2,1,1\n\
+    totals,3,2,2,1\n";
+
 /// With whole pairs alone this market has no stable match. The couple ends with its first member placed and its
 /// second one unplaced.
 pub const HALF_PAIR: &[u8] = b"match,2\n\
