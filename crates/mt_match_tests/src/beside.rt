@@ -104,7 +104,8 @@ fn matches_of(roster: &Roster, most: u32) -> u32 {
     count
 }
 
-/// The findings against the first matches by number, at most so many, are the plain ones. The first match places nobody.
+/// The findings against the first matches by number, `most` of them at most, are the plain ones. The first match places
+/// nobody.
 pub(crate) fn expect_findings<R: Abort + Threads + Sync>(
     rt: &R,
     alloc: Global,
@@ -122,7 +123,7 @@ pub(crate) fn expect_findings<R: Abort + Threads + Sync>(
     Ok(())
 }
 
-/// The finding against the match where the last applicant is put at the last program is the plain one.
+/// If the last applicant is put at the last program, the finding is the plain one.
 pub(crate) fn expect_finding_on_change<R: Abort + Threads + Sync>(
     rt: &R,
     alloc: Global,
@@ -160,7 +161,7 @@ fn expect_end(
     }
 }
 
-/// What the plain rounds end with: a match and how many rounds there were, or none where the budget is spent.
+/// What the plain rounds end with: a match and how many rounds there were, or none if the budget is spent.
 pub(crate) type Ended = Option<(Vec<Option<ProgNo>>, u32)>;
 
 /// The best match of the singles, and what the couples come to after it with this budget, are the plain ones.

@@ -78,7 +78,7 @@ fn expect_plain_on<R: Abort + Threads + Sync>(
 
 // More applicants than a block of the tables has, and more programs than one thread goes through.
 #[test]
-fn many_programs_by_the_plain_forms(rt: HostRuntime) -> Result<(), AllocError> {
+fn do_many_programs_give_the_plain_answers(rt: HostRuntime) -> Result<(), AllocError> {
     let alloc = rt.alloc();
     let file = many_programs(alloc, 25_011, 530)?;
     let compared = with_ranks(

@@ -1,5 +1,5 @@
-//! The worked markets: what the calls give of each is what the plain forms give, and that has the text which was worked out
-//! by hand. `tests/cases/README.md` tells the rounds.
+//! On each worked market the calls give what the plain forms give. The plain match has the text that was worked out by
+//! hand, after the number of rounds that `tests/cases/README.md` gives.
 ghost use Rattle.std.specs.Prelude.{◌≡◌};
 ghost use Rattle.mt_ranks.specs.Ranked.{ranked_of};
 
@@ -223,7 +223,7 @@ const WORK_LIST: &[Worked] = &[
     ),
 ];
 
-// How many matches of a small market are judged: of most all.
+// How many matches of a small market are judged. Most markets have fewer.
 const MOST_MATCHES: u32 = 7_000;
 
 // What was worked out of a market by hand, and how many of its matches are judged.
@@ -235,7 +235,7 @@ struct Known<'a> {
     matches: u32,
 }
 
-// With one round fewer the budget is spent, and the match that the rounds end with has the text, and is stable.
+// With one round fewer the budget is spent. The match that the rounds end with has the text, and is stable.
 fn expect_known<R: Abort + Threads + Sync>(
     rt: &R,
     alloc: Global,
@@ -303,7 +303,7 @@ fn expect_each<R: Abort + Threads + Sync>(rt: &R, alloc: Global, worked: &[Worke
 }
 
 #[test]
-fn small_markets_by_the_plain_forms(rt: HostRuntime) {
+fn do_small_markets_give_the_plain_answers(rt: HostRuntime) {
     let alloc = rt.alloc();
     expect_each(&rt, alloc, WITHOUT_COUPLES);
     expect_each(&rt, alloc, WITH_COUPLES);
@@ -363,7 +363,7 @@ fn expect_no_end<R: Abort + Threads + Sync>(rt: &R, alloc: Global, of: &str, fil
 }
 
 #[test]
-fn rounds_without_end_spend_each_budget(rt: HostRuntime) {
+fn do_rounds_without_end_spend_each_budget(rt: HostRuntime) {
     for (of, file) in WITHOUT_END {
         expect_no_end(&rt, rt.alloc(), of, file);
     }
@@ -371,7 +371,7 @@ fn rounds_without_end_spend_each_budget(rt: HostRuntime) {
 
 // More applicants than one thread judges, and a market where 3,000 singles are looked at again.
 #[test]
-fn large_markets_by_the_plain_forms(rt: HostRuntime) -> Result<(), AllocError> {
+fn do_large_markets_give_the_plain_answers(rt: HostRuntime) -> Result<(), AllocError> {
     let alloc = rt.alloc();
     let file = one_program(alloc)?;
     let text = one_program_text(alloc)?;

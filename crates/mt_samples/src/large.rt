@@ -2,7 +2,7 @@
 
 use std::alloc::{AllocError, Global};
 
-// So many numbers from the first one on, each between these texts.
+// `count` numbers from `first` on, each between these texts.
 fn push_each(
     file: &mut String,
     before: &str,
@@ -36,9 +36,9 @@ pub fn one_program_text(alloc: Global) -> Result<String, AllocError> {
     Ok(text)
 }
 
-/// Behind two couples 3,000 singles want the two posts of x. D takes both posts from s1 and s2, which aren't taken again;
-/// E takes x and z and drives D out; D isn't taken again; s1 takes the post that was left, and the 2,999 others aren't
-/// taken. These are 3,005 rounds.
+/// Behind two couples 3,000 singles want the two posts of x. These are 3,005 rounds. D takes both posts from s1 and s2,
+/// which aren't taken again. E takes x and z and displaces D, which isn't taken again. s1 takes the post that was left.
+/// The 2,999 others aren't taken.
 pub fn waiting_singles(alloc: Global) -> Result<String, AllocError> {
     let mut file = String::from_str(alloc, "match,1\nprogram,x,2,c,e1,d")?;
     push_each(&mut file, ",s", 1, 3_000, "")?;

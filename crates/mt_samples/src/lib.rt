@@ -1,4 +1,5 @@
-//! What the tests of several crates are made on: small markets with their texts, and devices that give or take little.
+//! What the tests of several crates are made on: markets with the text that is published for each, and devices that give
+//! or take little. Each small market is also a case in `tests/cases`.
 #![tactic(auto)]
 
 pub mod couples;

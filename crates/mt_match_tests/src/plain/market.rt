@@ -1,4 +1,4 @@
-//! What a roster and a match say, for any number: what nobody has is empty.
+//! The readers of a roster and of a match, for any number. For a number that nobody has they give nothing.
 use mt_roster::Roster;
 use mt_terms::{Agent, AppNo, CoupleNo, ProgNo};
 

@@ -117,7 +117,7 @@ fn join(waiting: &mut Vec<Agent>, agent: Agent) -> Result<(), AllocError> {
     Ok(())
 }
 
-// The agent joins where it has entered and has a better option that would be taken.
+// The agent joins if it has entered and has a better option that would be taken.
 fn join_if_it_blocks(
     roster: &Roster,
     entered: u32,
@@ -200,7 +200,8 @@ fn round(
     join_of_left_programs(roster, entered, work, &before, &displaced)
 }
 
-// How many rounds were made once nobody waits, after `made` of them; none where the budget is spent before.
+// How many rounds there are in all once nobody waits, if `made` were made before. It is none if the budget is spent
+// first.
 fn settle(
     alloc: Global,
     roster: &Roster,
@@ -223,7 +224,7 @@ fn settle(
     })
 }
 
-/// The match once every couple has entered, with how many rounds that took; none where the budget is spent before.
+/// The match once every couple has entered, and how many rounds that took. It is none if the budget is spent first.
 pub(crate) fn plain_entered(
     alloc: Global,
     roster: &Roster,

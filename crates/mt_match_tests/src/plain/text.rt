@@ -1,5 +1,4 @@
-//! The text of a match, or of a budget that is spent. Where memory is refused the text lacks a part, and is not the one
-//! that is wanted.
+//! The text of a match. If memory is refused, the text lacks a part.
 ghost use Rattle.std.specs.Prelude.{◌<◌, length};
 ghost use Rattle.mt_terms.specs.Market.{applicants};
 
@@ -107,7 +106,7 @@ fn add_totals(text: &mut String, roster: &Roster, places: &[Option<ProgNo>]) {
     );
 }
 
-/// The text that is published for a match, where this is the best match of the singles.
+/// The text that is published for a match with these places, after this best match of the singles.
 pub(crate) fn plain_text(
     alloc: Global,
     roster: &Roster,

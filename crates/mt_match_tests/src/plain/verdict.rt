@@ -5,7 +5,8 @@ use super::taken::first_taken;
 use mt_roster::Roster;
 use mt_terms::{Agent, AppNo, Blocker, ProgNo, Verdict};
 
-// Whether the place of a single, or the two of a couple, are on no list of its own. A couple is told at the lower number.
+// Whether the single's list lacks its place, or the couple's list its two places. A couple is reported at its lower
+// number.
 fn is_off_own_list(roster: &Roster, places: &[Option<ProgNo>], applicant: AppNo) -> bool {
     match agent_of(roster, applicant) {
         Agent::Single(single) => match place_of(places, single) {
@@ -32,7 +33,7 @@ fn is_unlisted(roster: &Roster, places: &[Option<ProgNo>], applicant: AppNo) -> 
     is_off_list || is_off_own_list(roster, places, applicant)
 }
 
-// Whoever is placed there is on its list, where nobody is unlisted.
+// Nobody is unlisted here, so all who are placed at the program are on its list.
 fn is_over(roster: &Roster, places: &[Option<ProgNo>], program: ProgNo) -> bool {
     let mut placed = 0u32;
     for listed in ranking(roster, program) {
