@@ -3,6 +3,7 @@
 use crate::expect::{holds_for, same};
 use mt_lists::{ListFault, ReadEnd, Row, Rows, SourceFault, Tap, laws, read_all, records};
 use mt_samples::devices::{Endless, Pieces};
+use mt_samples::without_couples::SPREADSHEET_EXPORT;
 use std::alloc::Global;
 use std::io::{ErrorKind, Read};
 use std::process::Abort;
@@ -38,7 +39,7 @@ fn are_rows(rows: &Rows<'_>, expected: &[&[&[u8]]]) -> bool {
 // Inputs, and the fields of their rows.
 const ROWS: &[(&[u8], &[&[&[u8]]])] = &[
     (
-        b"\xEF\xBB\xBFmatch,1,,\r\n\"program\",P1,1,\"a2\",a1\r\n\r\nprogram,P2,01,a1,a2,\r\n,,,\r\napplicant,a1,P1,P2\r\napplicant,\"a2\",P2,P1",
+        SPREADSHEET_EXPORT,
         &[
             &[b"match", b"1"],
             &[b"program", b"P1", b"1", b"a2", b"a1"],
