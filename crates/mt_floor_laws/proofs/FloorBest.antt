@@ -114,7 +114,7 @@ placed_from_held m f s a p on = go (cases_Bool (f.standing a))
     go (inr free) = absurd (both_ways _ not_passed (ap (λ ps. has ps p) (passed_where_free m f a free) ∙ has_tried))
 
 -- a live program that an applicant wants more than its place is one that it has passed
-passed_from_better : (m : Market) (f : Floor) → IsRecorded m f → IsTrue (is_quiet m f) → (places : Places) → IsResult m f places
+pub passed_from_better : (m : Market) (f : Floor) → IsRecorded m f → IsTrue (is_quiet m f) → (places : Places) → IsResult m f places
     → (a p : ℕ) → IsTrue (has (program_of m p).ranking a) → IsTrue (has (better_programs m places a) p) → IsTrue (has (passed m f a) p)
 passed_from_better m f r quiet places result a p listed better = go (cases_Bool (f.standing a))
   where

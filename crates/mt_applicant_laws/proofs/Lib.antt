@@ -1,0 +1,4 @@
+pub mod ByEvents
+pub mod EasierMarkets
+pub mod Fronts
+pub mod ListChanges
