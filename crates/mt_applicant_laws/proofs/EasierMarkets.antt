@@ -1,5 +1,5 @@
--- A market that is easier for the applicants: it has no fewer posts, and lists that are cut short. Whatever its
--- programs refuse in deferred acceptance is excluded in the harder market.
+-- A market that is easier for the applicants: it has no fewer posts, and lists that are cut short. By induction on the
+-- events of deferred acceptance, an applicant that is refused in it is excluded there in the harder market.
 use Rattle.std.proofs.Common.{◌≡◌, ◌≢◌, ◌⊎◌, ℕ, ◌<◌, ◌≤◌, false, ◌==◌, List, [], ◌∷◌, ◌++◌, length, filter, get_or, IsTrue, IsFalse, refl, ap, sym, ◌∙◌, subst, inl, inr, arith, eq-eqb, eqb-true, ne_eqb}
 use Rattle.std.proofs.lemmas.Bool.{cases_Bool, cases_eq, cases_lt, both_ways, false_from_ne_true, or_cases}
 use Rattle.std.proofs.lemmas.Bool.Decides.{nat_tests}
@@ -27,8 +27,8 @@ use Rattle.mt_applicant_laws.specs.Laws.{MorePostsHurtNone, ShorterListHurtsNoOt
 use Rattle.mt_applicant_laws.proofs.Fronts.{has_front, distinct_front, until_in_front}
 use Rattle.mt_applicant_laws.proofs.ListChanges.{list_of-with_list, list_of-with_list_other, nothing_new, with_list_well_formed}
 
--- A market is easier than another one where it has the same programs with no fewer posts, and each applicant's list
--- has only what it had, with all that was above.
+-- A market is easier than another one if it has the same programs with no fewer posts, and each applicant's list has
+-- only what it had, with all that was above.
 pub record IsEasier (m k : Market) : Type 0 where
   pub same_rankings : (p : ℕ) → (program_of k p).ranking ≡ (program_of m p).ranking
   pub more_posts : (p : ℕ) → (program_of m p).quota ≤ (program_of k p).quota
@@ -46,12 +46,12 @@ chosen_with_more p q same more set a chosen =
       has_few_above = omega (arith, ap (λ xs. above set xs a) same, few);
     })
 
--- what stands above an element that is kept, on a list that is filtered, stands above it on the list
+-- what is above an element of a filtered list is above it on the list
 above_unfiltered : (kept : Set) (xs : List ℕ) (p q : ℕ) → IsTrue (kept p) → IsTrue (has (until (λ x. x == p) (filter kept xs)) q) → IsTrue (has (until (λ x. x == p) xs) q)
 above_unfiltered kept [] p q keeps before = before
 above_unfiltered kept (x ∷ xs) p q keeps before = grind (arith, nat_tests, above_unfiltered kept xs p q)
 
--- Whoever an easier market's programs have received and don't hold is excluded in the harder one.
+-- An applicant that a program of the easier market has received and doesn't hold is excluded there in the harder one.
 pub record RefusedAreExcluded (m k : Market) (f : Floor) : Type 0 where
   pub refused : (a p : ℕ) → IsTrue (f.received p a) → IsFalse (held k f p a) → IsExcluded m a p
 
@@ -210,7 +210,7 @@ pub more_posts_hurt_none_lem : MorePostsHurtNone
 more_posts_hurt_none_lem m p quota w no_fewer best more is_best is_more a =
     easier_gives_at_least m (with_quota m p quota) w (more_posts_well_formed m w p quota) (more_posts_easier m p quota no_fewer) best more is_best is_more a refl
 
--- a market in which an applicant's list is cut short is easier
+-- a market is easier if an applicant's list is cut short
 shorter_easier : (m : Market) (a : ℕ) (front back : List ℕ) → a < applicants m → list_of m a ≡ front ++ back → IsEasier m (with_list m a front)
 shorter_easier m a front back a_in cut = record {
   same_rankings = λ p. refl;

@@ -1,4 +1,5 @@
--- Fronts of a list: what stands before the first element that passes a test, and where a list is cut in two.
+-- Fronts of a list: what is before the first element that passes a test, and where a list is cut in two.
+-- By induction on the list.
 use Rattle.std.proofs.Common.{◌≡◌, ◌⊎◌, ℕ, false, not, ◌||◌, ◌==◌, List, [], ◌∷◌, ◌++◌, IsTrue, IsFalse, refl, ap, sym, ◌∙◌, inl, inr, arith, eqb-true}
 use Rattle.std.proofs.lemmas.Bool.{both_ways, and_parts, and_from, cases_Bool, or_cases, or_left, or_right, false_from_ne_true, not-true, not_from_false}
 use Rattle.std.proofs.lemmas.Bool.Decides.{nat_tests}
@@ -16,7 +17,7 @@ distinct_front (x ∷ xs) ys distinct =
     let parts = and_parts (not (has (xs ++ ys) x)) (is_distinct (xs ++ ys)) distinct in
     and_from _ _ (not_from_false _ (false_from_ne_true _ (λ on. both_ways _ (not-true _ parts.0) (has_front xs ys x on)))) (distinct_front xs ys parts.1)
 
--- where some element of the front passes, what stands before the first that does is of the front
+-- if an element of the front passes, only the front decides what is before the first that does
 pub until_in_front : (test : Set) (xs ys : List ℕ) (p : ℕ) → IsTrue (has xs p) → IsTrue (test p) → until test (xs ++ ys) ≡ until test xs
 until_in_front test [] ys p on passes = absurd (both_ways false refl on)
 until_in_front test (x ∷ xs) ys p on passes = elim (cases_Bool (test x)) [
@@ -27,17 +28,17 @@ until_in_front test (x ∷ xs) ys p on passes = elim (cases_Bool (test x)) [
       rw later (ap (λ zs. x ∷ zs) rest)
 ]
 
--- what stands before the first that passes in the front stands so in the list
+-- what is before the first that passes in the front is so in the list
 pub until_longer : (test : Set) (xs ys : List ℕ) (q : ℕ) → IsTrue (has (until test xs) q) → IsTrue (has (until test (xs ++ ys)) q)
 until_longer test [] ys q before = absurd (both_ways false refl before)
 until_longer test (x ∷ xs) ys q before = grind (arith, nat_tests, until_longer test xs ys q)
 
--- what stands above an element that is before the first that passes is so too
+-- what is above an element that is before the first that passes is so too
 pub until_above : (test : Set) (xs : List ℕ) (p q : ℕ) → IsTrue (has (until test xs) p) → IsTrue (has (until (λ x. x == p) xs) q) → IsTrue (has (until test xs) q)
 until_above test [] p q before above = above
 until_above test (x ∷ xs) p q before above = grind (arith, nat_tests, until_above test xs p q)
 
--- A list cut below one of its elements: the front ends with it, and has else what stands above it.
+-- A list cut below one of its elements: the front has it and what is above it, and nothing else.
 pub record IsCutBelow (xs : List ℕ) (p : ℕ) (front back : List ℕ) : Type 0 where
   pub joined : xs ≡ front ++ back
   pub has_it : IsTrue (has front p)

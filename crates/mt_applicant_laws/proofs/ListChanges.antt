@@ -1,5 +1,5 @@
--- A market in which one applicant has another list, and its stable matches: a match that is stable by one list of the
--- applicant is stable by another one that has its place and nothing new above it.
+-- A market with another list of one applicant. A match that is stable by one list stays stable by another one that has
+-- the applicant's place and nothing new above it. The rural hospitals theorem then excludes a gain.
 use Rattle.std.proofs.Common.{◌≡◌, ◌≢◌, ◌⊎◌, ℕ, ◌<◌, Bool, true, false, ◌==◌, List, [], ◌∷◌, ◌++◌, Option, None, Some, is_some, IsTrue, IsFalse, refl, ap, sym, ◌∙◌, subst, inl, inr, arith, eq-eqb, eqb-true, if◌then◌else◌}
 use Rattle.std.proofs.lemmas.Bool.{cases_Bool, cases_eq, both_ways, false_from_ne_true, or_left, or_cases}
 use Rattle.std.proofs.lemmas.List.{get_or-set_same, get_or-set_other, length-set, set-get_or}
@@ -38,7 +38,7 @@ nil_if_none : (xs : List ℕ) → ((p : ℕ) → IsTrue (has xs p) → ⊥) → 
 nil_if_none [] none = refl
 nil_if_none (x ∷ xs) none = absurd (none x (or_left _ _ (eq-eqb x x refl)))
 
--- where the other list has nothing new, no list has
+-- if the other list has nothing new, no list has
 pub nothing_new : (m : Market) (a : ℕ) (list : List ℕ) → a < applicants m → ((p : ℕ) → IsTrue (has list p) → IsTrue (has (list_of m a) p))
     → (b p : ℕ) → IsTrue (has (list_of (with_list m a list) b) p) → IsTrue (has (list_of m b) p)
 nothing_new m a list a_in known b p on = elim (cases_eq b a) [
@@ -72,8 +72,8 @@ with_list_well_formed m w a list a_in distinct known = record {
       belongs = is.belongs;
     }
 
--- What another list of an applicant has to have so that a match which is stable by the first list stays stable:
--- its place, and nothing new above that.
+-- What another list of an applicant needs so that a match that is stable by the first list stays stable: its place, and
+-- nothing new above that.
 pub record KeepsStable (places : Places) (a : ℕ) (xs ys : List ℕ) : Type 0 where
   pub place_on : (p : ℕ) → IsTrue (at places p a) → IsTrue (has ys p)
   pub none_new : (p : ℕ) → IsTrue (has (until (λ q. at places q a) ys) p) → IsTrue (has (until (λ q. at places q a) xs) p)
@@ -138,7 +138,7 @@ until_unplaced places a xs unplaced = of_place (place_of places a) unplaced
 only_it : (p q : ℕ) → IsTrue (has (p ∷ []) q) → p ≡ q
 only_it p q on = elim (or_cases (p == q) false on) [ inl same ↦ eqb-true p q same | inr none ↦ absurd (both_ways false refl none) ]
 
--- a match that is stable where an applicant's list is cut short, and places it, is stable by the whole list
+-- a match that is stable by the front of an applicant's list, and places the applicant, is stable by the whole list
 stable_by_longer : (m : Market) (a : ℕ) (front back : List ℕ) (places : Places) (p : ℕ) → a < applicants m → IsTrue (at places p a)
     → IsTrue (stable (singles_market (with_list m a front)) places) → IsTrue (stable (singles_market (with_list m a (front ++ back))) places)
 stable_by_longer m a front back places p a_in there is = stable_by_other_list m a front (front ++ back) places a_in (record {
@@ -157,13 +157,13 @@ stable_by_shorter m a front back places p a_in there on = stable_by_other_list m
   none_new = λ q before. until_longer (λ x. at places x a) front back q before;
 })
 
--- Below, a match is stable where an applicant has another list, and gives it a program p of its own list.
+-- Below, a match is stable by another list of an applicant, and gives it a program p of its own list.
 module _ (m : Market) (w : IsWellFormed m) (a p : ℕ) (list : List ℕ) (other : Places) (is_other : IsTrue (stable (singles_market (with_list m a list)) other))
     (there : IsTrue (at other p a)) (on : IsTrue (has (list_of m a) p)) where
   a_in : a < applicants m
   a_in = omega (arith, lt_of_there other a p there, (stable_facts (with_list m a list) other is_other).one_each, applicants-with_list m a list)
 
-  -- it is stable where the applicant lists p alone
+  -- it is stable if the applicant lists p alone
   stable_alone : IsTrue (stable (singles_market (with_list m a (p ∷ []))) other)
   stable_alone = stable_by_other_list m a list (p ∷ []) other a_in (record {
     place_on = λ q at_q. or_left _ _ (eq-eqb p q (sym (one_place other a p q there at_q)));
@@ -173,7 +173,7 @@ module _ (m : Market) (w : IsWellFormed m) (a p : ℕ) (list : List ℕ) (other 
   alone_well_formed : IsWellFormed (with_list m a (p ∷ []))
   alone_well_formed = with_list_well_formed m w a (p ∷ []) a_in refl (λ q only. ap (has (list_of m a)) (sym (only_it p q only)) ∙ on)
 
-  -- so no match in which the applicant is unplaced is stable where its list is cut below p
+  -- so no match that leaves the applicant unplaced is stable by its own list cut below p
   placed_if_cut : (front back : List ℕ) → IsCutBelow (list_of m a) p front back → (places : Places)
       → IsTrue (stable (singles_market (with_list m a front)) places) → IsFalse (is_some (place_of places a)) → ⊥
   placed_if_cut front back cut places is unplaced =
@@ -186,41 +186,50 @@ module _ (m : Market) (w : IsWellFormed m) (a p : ℕ) (list : List ℕ) (other 
       both_ways _ unplaced
       (sym ((singles_fill_alike (with_list m a (p ∷ [])) alone_well_formed other places stable_alone also).same_placed a) ∙ ap is_some (place_at other p a there))
 
+  -- if p is better than the applicant's place in the best match, none that places it is stable by the cut list: it would
+  -- be stable by the whole list, and have the applicant at p or above
+  unplaced_if_cut : (best : Places) → IsBest m best → IsTrue (has (better_programs m best a) p) → (front back : List ℕ) → IsCutBelow (list_of m a) p front back
+      → (places : Places) → IsTrue (stable (singles_market (with_list m a front)) places) → (q : ℕ) → IsTrue (at places q a) → ⊥
+  unplaced_if_cut best is_best better front back cut places is q at_q =
+      let on_front : IsTrue (has front q) =
+      ap (λ ps. has ps q) (sym (list_of-with_list m a front a_in)) ∙ (stable_facts (with_list m a front) places is).on_list a q at_q in
+      let by_all : IsTrue (stable (singles_market m) places) =
+      subst (λ (k : Market). IsTrue (stable (singles_market k) places)) (ap (with_list m a) (sym cut.joined) ∙ with_own_list m a)
+      (stable_by_longer m a front back places q a_in at_q is) in
+      let better_q : IsTrue (has (better_programs m best a) q) = elim (cut.above_it q on_front) [
+        | inl same ↦ ap (has (better_programs m best a)) same ∙ better
+        | inr above ↦ until_above (λ x. at best x a) (list_of m a) p q better above
+      ] in
+      both_ways (at places q a) (is_best.none_better a q better_q places by_all) at_q
+
+  -- but some match is stable by the cut list
+  never_better : (best : Places) → IsBest m best → IsTrue (has (better_programs m best a) p) → (front back : List ℕ) → IsCutBelow (list_of m a) p front back → ⊥
+  never_better best is_best better front back cut = neither (best_exists_lem (with_list m a front) well_formed)
+    where
+      well_formed : IsWellFormed (with_list m a front)
+      well_formed =
+          with_list_well_formed m w a front a_in (distinct_front front back (ap is_distinct (sym cut.joined) ∙ w.lists_distinct a))
+          (λ q on_front. ap (λ ps. has ps q) cut.joined ∙ has_front front back q on_front)
+
+      neither : (n : Places) × IsBest (with_list m a front) n → ⊥
+      neither (n, best_n) = elim (cases_Bool (is_some (place_of n a))) [
+        | inl placed ↦ (let (q, at_q) = somewhere n a placed in unplaced_if_cut best is_best better front back cut n best_n.is_stable q at_q)
+        | inr unplaced ↦ placed_if_cut front back cut n best_n.is_stable unplaced
+      ]
+
 -- no match that is stable with another list gives the applicant more
 pub no_stable_match_gives_more_lem : NoStableMatchGivesMore
-no_stable_match_gives_more_lem m a list w best other is_best is_other p there = false_from_ne_true _ gains
-  where
-    gains : IsTrue (has (better_programs m best a) p) → ⊥
-    gains better =
-        let on : IsTrue (has (list_of m a) p) = has-until (λ q. at best q a) (list_of m a) p better in
-        let low : a < applicants m = a_in m w a p list other is_other there on in
-        let (front, back, cut) = cut_below (list_of m a) p on in
-        let w_front : IsWellFormed (with_list m a front) =
-        with_list_well_formed m w a front low (distinct_front front back (ap is_distinct (sym cut.joined) ∙ w.lists_distinct a))
-        (λ q on_front. ap (λ ps. has ps q) cut.joined ∙ has_front front back q on_front) in
-        let (n, best_n) = best_exists_lem (with_list m a front) w_front in
-        elim (cases_Bool (is_some (place_of n a))) [
-          | inl placed ↦
-              let (q, at_q) = somewhere n a placed in
-              let on_front : IsTrue (has front q) =
-              ap (λ ps. has ps q) (sym (list_of-with_list m a front low)) ∙ (stable_facts (with_list m a front) n best_n.is_stable).on_list a q at_q in
-              let in_m : IsTrue (stable (singles_market m) n) =
-              subst (λ (k : Market). IsTrue (stable (singles_market k) n)) (ap (with_list m a) (sym cut.joined) ∙ with_own_list m a)
-              (stable_by_longer m a front back n q low at_q best_n.is_stable) in
-              let better_q : IsTrue (has (better_programs m best a) q) = elim (cut.above_it q on_front) [
-                | inl same ↦ ap (has (better_programs m best a)) same ∙ better
-                | inr above ↦ until_above (λ x. at best x a) (list_of m a) p q better above
-              ] in
-              both_ways _ (is_best.none_better a q better_q n in_m) at_q
-          | inr unplaced ↦ placed_if_cut m w a p list other is_other there on front back cut n best_n.is_stable unplaced
-        ]
+no_stable_match_gives_more_lem m a list w best other is_best is_other p there = false_from_ne_true _ (λ better.
+    let on = has-until (λ q. at best q a) (list_of m a) p better in
+    let (front, back, cut) = cut_below (list_of m a) p on in
+    never_better m w a p list other is_other there on best is_best better front back cut)
 
 -- so no applicant gains by another list
 pub none_gains_by_another_list_lem : NoneGainsByAnotherList
 none_gains_by_another_list_lem m a list w best other is_best is_other = no_stable_match_gives_more_lem m a list w best other is_best is_other.is_stable
 
--- Where two markets' best matches are each stable in the other market, and what an applicant wants more in the one it
--- wants more in the other, they are one match.
+-- Two markets have one best match if that of each is stable in the other one, and an applicant that wants more in the
+-- first wants it in the second.
 same_best : (m k : Market) (b n : Places) → IsBest m b → IsBest k n → IsTrue (stable (singles_market k) b) → IsTrue (stable (singles_market m) n)
     → ((a q : ℕ) → IsTrue (has (better_programs m n a) q) → IsTrue (has (better_programs k n a) q)) → b ≡ n
 same_best m k b n best_b best_n b_in_k n_in_m wanted = best_is_unique_lem m b n best_b (record { is_stable = n_in_m; none_better = none_better })

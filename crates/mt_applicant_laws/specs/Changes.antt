@@ -1,4 +1,4 @@
--- A market in which one thing is another, and what an applicant has in one match compared with another match.
+-- A market with one list or one quota changed, and how an applicant compares two matches.
 use Rattle.std.specs.Prelude.{ℕ, List, slice_set, IsTrue, IsFalse}
 use Rattle.mt_terms.specs.Lists.{has}
 use Rattle.mt_terms.specs.Market.{Market, program_of}
@@ -17,7 +17,7 @@ with_quota m p quota = record m { programs = slice_set m.programs p (record (pro
 abbrev pub with_ranking : Market → ℕ → List ℕ → Market
 with_ranking m p ranking = record m { programs = slice_set m.programs p (record (program_of m p) { ranking = ranking }) }
 
--- An applicant has at least as much in a match as in another one where, by its list in the market, it doesn't
--- want its place in the other one more.
+-- By its list in a market, an applicant has at least as much in a match as in another one if it doesn't want its
+-- place there more.
 abbrev pub HasAtLeast : Market → ℕ → Places → Places → Type 0
 HasAtLeast m a places other = (p : ℕ) → IsTrue (at other p a) → IsFalse (has (better_programs m places a) p)

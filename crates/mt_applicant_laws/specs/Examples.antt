@@ -27,9 +27,9 @@ pub record LieOfTwo : Type 0 where
   pub lie : IsBest (with_list (with_list chain 0 (0 ∷ [])) 2 []) (Some 0 ∷ Some 1 ∷ None ∷ [])
   pub first_gains : has (better_programs chain (Some 1 ∷ Some 0 ∷ None ∷ []) 0) 0 ≡ true
 
--- With one post more at the first program, each applicant of the chain has its first wish. So have the first two where
--- the third one wants nothing. That one shows too what isn't so: a program that an unplaced applicant adds to its list
--- changes the best match, and hurts others.
+-- With one post more at the first program, each applicant of the chain has its first wish. The first two have theirs if
+-- the third one wants nothing. If the third one, who is unplaced, then adds a program to its list, the first one loses:
+-- so the law of a longer list speaks of placed applicants alone.
 pub record ChangedChain : Type 0 where
   pub one_post_more : IsBest (with_quota chain 0 2) (Some 0 ∷ Some 1 ∷ Some 0 ∷ [])
   pub one_less : IsBest (with_list chain 2 []) (Some 0 ∷ Some 1 ∷ None ∷ [])
