@@ -36,6 +36,13 @@ pub record ChangedChain : Type 0 where
   pub list_added : with_list (with_list chain 2 []) 2 (0 ∷ []) ≡ chain
   pub then_hurt : has (better_programs chain (Some 1 ∷ Some 0 ∷ None ∷ []) 0) 0 ≡ true
 
+-- A longer list that changes nothing: in the market of the crossed wishes the first applicant has its first wish, also
+-- if it lists that one alone.
+pub record LongerListOfTheFirst : Type 0 where
+  pub first_wish_alone : IsBest (with_list crossed 0 (0 ∷ [])) (Some 0 ∷ Some 1 ∷ [])
+  pub list_added : with_list (with_list crossed 0 (0 ∷ [])) 0 (0 ∷ 1 ∷ []) ≡ crossed
+  pub both_wishes : IsBest crossed (Some 0 ∷ Some 1 ∷ [])
+
 -- With a couple a single can gain by a lie. By its own list it has its last wish after the couple has entered. If it
 -- lists its second wish alone, it keeps that one: the couple finds the single's first wish open, and takes it.
 --     program,x,1,s,a    program,y,1,b,s    program,z,1,a,s,b    applicant,s,z,y,x    couple,c,a,b,x,z,z,y

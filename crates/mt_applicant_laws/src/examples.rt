@@ -1,4 +1,4 @@
-ghost use Rattle.mt_applicant_laws.specs.Examples.{LieThatDoesNotHelp, LieOfAProgram, LieOfTwo, ChangedChain, LieBesideACouple};
+ghost use Rattle.mt_applicant_laws.specs.Examples.{LieThatDoesNotHelp, LieOfAProgram, LieOfTwo, ChangedChain, LongerListOfTheFirst, LieBesideACouple};
 
 /// A lie of one applicant that leaves it unplaced.
 pub fn lie_that_does_not_help()
@@ -18,6 +18,11 @@ pub fn lie_of_two()
 /// The rejection chain with a post more, with an applicant less, and with a list added.
 pub fn changed_chain()
     ensures { ChangedChain }
+{}
+
+/// A placed applicant's list with a program added.
+pub fn longer_list_of_the_first()
+    ensures { LongerListOfTheFirst }
 {}
 
 /// A lie by which a single gains beside a couple: the law speaks of singles alone.

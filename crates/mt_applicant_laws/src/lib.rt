@@ -7,6 +7,7 @@ mod laws;
 
 pub use examples::{
     changed_chain, lie_beside_a_couple, lie_of_a_program, lie_of_two, lie_that_does_not_help,
+    longer_list_of_the_first,
 };
 pub use laws::{
     longer_list_keeps_best, more_posts_hurt_none, none_gains_by_another_list,
