@@ -1,5 +1,5 @@
 -- What an audit finds.
-use Rattle.std.specs.Prelude.{ℕ, ◌<◌, Bool, false, not, ◌&&◌, ◌||◌, ◌==◌, List, length, slice_index_or}
+use Rattle.std.specs.Prelude.{ℕ, ◌<◌, Bool, false, not, ◌&&◌, ◌||◌, ◌==◌, if◌then◌else◌, Option, Some, None, List, length, slice_index_or}
 use Rattle.std.specs.List.{list_all, sum_by}
 use Rattle.mt_terms.specs.Lists.{below, count_below, total_below}
 use Rattle.mt_terms.specs.Market.{Market, applicants, live}
@@ -39,6 +39,11 @@ standing_in rows a = (slice_index_or rows a (record { made = 0; standing = false
 -- each applicant below a number has a row that can be that of a legal floor
 abbrev pub AreRows : Market → List Row → ℕ → Type 0
 AreRows m rows n = (a : ℕ) → a < n → IsRow m a (made_in rows a) (standing_in rows a)
+
+-- the first place of which a desk of another applicant was found, with that applicant, once one place more is looked at
+abbrev pub noted : Option (ℕ × ℕ) → ℕ → ℕ → Option (ℕ × ℕ)
+noted (Some found) place applicant = Some found
+noted None place applicant = if applicant == place then None else (Some (place, applicant))
 
 -- how many live entries the applicants below a number have
 abbrev pub entries_to : Market → ℕ → ℕ

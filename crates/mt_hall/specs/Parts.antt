@@ -1,5 +1,5 @@
 -- What a desk, a door and a pass show, and what they keep whenever their lock is free.
-use Rattle.std.specs.Prelude.{◌≡◌, ℕ, ◌+◌, ◌-◌, ◌<◌, ◌≤◌, ◌==◌, Bool, List, length, take, sum, slice_index_or, slice_set, IsTrue, if◌then◌else◌}
+use Rattle.std.specs.Prelude.{◌≡◌, ℕ, ◌+◌, ◌-◌, ◌<◌, ◌≤◌, ◌==◌, Bool, List, length, take, sum, slice_index_or, slice_set, IsTrue, IsFalse, if◌then◌else◌}
 use Rattle.mt_terms.specs.Lists.{Set, has, until}
 use Rattle.mt_terms.specs.Market.{Market, applicants, program_of, live}
 use Rattle.mt_terms.specs.Choice.{choice}
@@ -62,6 +62,10 @@ pub record IsDoor (m : Market) (v : DoorView) : Type 0 where
   pub quota : v.holding.quota ≡ (program_of m v.program).quota
   pub listed : ranks v.holding ≡ length (program_of m v.program).ranking
   pub comers : (a : ℕ) → IsTrue (received_at m v a) → IsComer m a v.program
+
+-- whoever a program has received and doesn't hold is excluded there
+abbrev pub RefusedAreExcluded : Market → DoorView → Type 0
+RefusedAreExcluded m v = (a : ℕ) → IsTrue (received_at m v a) → IsFalse (held_at m v a) → IsExcluded m a v.program
 
 -- A pass: a count for each program and each applicant, and both add up to its proposals.
 pub record IsPass (m : Market) (s : PassView) : Type 0 where

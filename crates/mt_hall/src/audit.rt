@@ -5,7 +5,7 @@ ghost use Rattle.mt_terms.specs.Floor.{IsLegal, opening, proposals_made};
 ghost use Rattle.mt_ranks.specs.Ranked.{IsRanked};
 ghost use Rattle.mt_core.specs.Floors.{floor_of, IsOpenedWith};
 ghost use Rattle.mt_hall.specs.Answers.{is_single};
-ghost use Rattle.mt_hall.specs.Audits.{all_agree, all_for, all_proposals, all_to, made_in, programs_agree, singles_agree, AreRows};
+ghost use Rattle.mt_hall.specs.Audits.{all_agree, all_for, all_proposals, all_to, made_in, noted, programs_agree, singles_agree, AreRows};
 
 use crate::desk::Desk;
 use crate::hall::Hall;
@@ -49,6 +49,7 @@ fn note<K: HallName>(
     ensures len { vec_len rows.new ≡ vec_len rows.old }
     ensures rows { IfNone astray.new (AreRows K.ranked.market rows.new.items (place + 1)) }
     ensures before { IfNone astray.new (IsNone astray.old) }
+    ensures first { astray.new ≡ noted astray.old place desk.applicant }
     ensures credits { IfNone astray.new (result + total_below (made_in rows.new.items) (place + 1)
         ≡ total_below (made_in rows.old.items) place + length (live K.ranked.market place)) }
     ensures astray { IfSome astray.new (λ numbers. numbers.0 ≢ numbers.1) }
@@ -140,7 +141,7 @@ fn made_with<K: HallName>(passes: &[Pass<K>], applicant: AppNo, number: u32) -> 
     requires { applicant < applicants K.ranked.market }
     ensures { result ≡ (all_for passes.now applicant == number) }
 {
-    let mut left = number;
+    let mut left = number as u64;
     for pass in passes {
         match left.checked_sub(pass.proposed_for(applicant)) {
             Some(rest) => left = rest,
@@ -155,7 +156,7 @@ fn received_with<K: HallName>(passes: &[Pass<K>], program: ProgNo, number: u32) 
     requires { program < length K.ranked.market.programs }
     ensures { result ≡ (all_to passes.now program == number) }
 {
-    let mut left = number;
+    let mut left = number as u64;
     for pass in passes {
         match left.checked_sub(pass.proposed(program)) {
             Some(rest) => left = rest,

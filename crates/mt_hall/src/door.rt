@@ -1,9 +1,10 @@
 ghost use Rattle.std.specs.Prelude.{◌≡◌, ◌==◌, ◌||◌, ◌<◌, ℕ, length};
 ghost use Rattle.mt_terms.specs.Market.{program_of};
+ghost use Rattle.mt_terms.specs.WellFormed.{IsWellFormed};
 ghost use Rattle.mt_hold.specs.Holding.{received_count};
 ghost use Rattle.mt_ranks.specs.Ranked.{IsRank, ranking_of};
 ghost use Rattle.mt_core.specs.Replies.{reply_to};
-ghost use Rattle.mt_hall.specs.Parts.{IsComer, received_at, held_at};
+ghost use Rattle.mt_hall.specs.Parts.{IsComer, IsDoor, RefusedAreExcluded, received_at, held_at};
 ghost use Rattle.mt_hall.specs.Steps.{is_kept, ShowsExcluded};
 
 use crate::name::HallName;
@@ -38,9 +39,13 @@ impl<K: HallName> Door<K> {
         self.program
     }
 
-    /// How many applicants the program has received a proposal from.
+    /// How many applicants the program has received a proposal from. For each of them all live entries above the program
+    /// are excluded. So the program itself is excluded for those that it doesn't hold.
     pub fn received(&self) -> u32
-        ensures { result ≡ received_count self.now.holding }
+        ensures received { result ≡ received_count self.now.holding }
+        ensures keeps { IsDoor K.ranked.market self.now }
+        ensures refused { let m = K.ranked.market in
+            IsWellFormed m → RefusedAreExcluded m self.now }
     {
         self.hold.count()
     }

@@ -1,6 +1,6 @@
 ghost use Rattle.std.specs.Prelude.{◌≡◌, ◌+◌, ◌<◌, length, slice_index};
 ghost use Rattle.mt_terms.specs.Market.{applicants};
-ghost use Rattle.mt_hall.specs.Parts.{one_more};
+ghost use Rattle.mt_hall.specs.Parts.{IsPass, one_more};
 
 use crate::name::HallName;
 use crate::till::Till;
@@ -30,27 +30,28 @@ impl<K: HallName> Model for Pass<K> {
 }
 
 impl<K: HallName> Pass<K> {
-    /// How many proposals were made with it.
+    /// How many proposals were made with it. Its counts by program add up to that, and so do those by applicant.
     pub fn proposals(&self) -> u64
-        ensures { result ≡ self.now.proposals }
+        ensures proposals { result ≡ self.now.proposals }
+        ensures keeps { IsPass K.ranked.market self.now }
     {
         self.credits.credits()
     }
 
     /// How many of them were to the program.
-    pub fn proposed(&self, program: ProgNo) -> u32
+    pub fn proposed(&self, program: ProgNo) -> u64
         requires { program < length K.ranked.market.programs }
         ensures { result ≡ slice_index self.now.by_program program }
     {
-        self.by_program[program.index()]
+        self.by_program[program.index()] as u64
     }
 
     /// How many of them were the applicant's.
-    pub fn proposed_for(&self, applicant: AppNo) -> u32
+    pub fn proposed_for(&self, applicant: AppNo) -> u64
         requires { applicant < applicants K.ranked.market }
         ensures { result ≡ slice_index self.now.by_applicant applicant }
     {
-        self.by_applicant[applicant.index()]
+        self.by_applicant[applicant.index()] as u64
     }
 
     /// How often a lock that was wanted was another worker's just then: more often where workers are in each other's
