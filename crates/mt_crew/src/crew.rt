@@ -3,7 +3,7 @@ ghost use Rattle.mt_terms.specs.Best.{IsBest, proposals};
 ghost use Rattle.mt_terms.specs.Lists.{below};
 ghost use Rattle.mt_terms.specs.Market.{applicants};
 
-use crate::gate::Gate;
+use crate::gate::{Closing, Gate};
 use crate::seats::{Seat, dealt_seats, next_ticket, thieves};
 use crate::singles::{Singles, singles_of};
 use crossbeam_deque::Stealer;
@@ -166,7 +166,13 @@ fn work_in<K: HallName + Send + Sync, R: Threads + Wait + Sync, G: Gate + Sync>(
     let (hall, mut passes) = Hall::<K>::open(alloc, ranks, workers, blank)?;
     serve_all(rt, &hall, gate, &thieves, &mut seats, &mut passes);
     let mut audit = hall.close(passes);
-    singles_of(alloc, &mut audit.floor, ranks)
+    let (singles, late) = singles_of(alloc, &mut audit.floor, ranks)?;
+    gate.closed(&Closing {
+        agrees: audit.agrees,
+        astray: audit.astray,
+        late,
+    });
+    Ok(singles)
 }
 
 /// The best match of the singles, made by so many workers, and the proposals on the way to it. Worker 0 works on the

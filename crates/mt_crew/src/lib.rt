@@ -8,5 +8,5 @@ mod seats;
 mod singles;
 
 pub use crew::work;
-pub use gate::{Gate, Open};
+pub use gate::{Closing, Gate, Open};
 pub use singles::{Singles, work_alone};

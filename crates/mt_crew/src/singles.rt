@@ -1,7 +1,7 @@
-ghost use Rattle.std.specs.Prelude.{◌≡◌, map, length, IfOk};
+ghost use Rattle.std.specs.Prelude.{◌≡◌, ◌+◌, map, length, IfOk};
 ghost use Rattle.mt_core.specs.Floors.{IsOpenedWith, floor_of};
 ghost use Rattle.mt_terms.specs.Best.{IsBest, proposals};
-ghost use Rattle.mt_terms.specs.Floor.{IsLegal};
+ghost use Rattle.mt_terms.specs.Floor.{IsLegal, proposals_made};
 ghost use Rattle.mt_terms.specs.Lists.{below, count_below};
 ghost use Rattle.mt_terms.specs.Market.{applicants};
 
@@ -30,22 +30,25 @@ fn all_received(alloc: Global, floor: &Floor, ranks: &Ranks) -> Result<Vec<u32>,
     Ok(counts)
 }
 
-/// What a legal floor comes to: the best match, and the proposals on the way to it.
+/// What a legal floor comes to: the best match, and the proposals on the way to it; and how many of these were left to be
+/// made on the floor.
 pub(crate) fn singles_of(
     alloc: Global,
     floor: &mut Floor,
     ranks: &Ranks,
-) -> Result<Singles, AllocError>
+) -> Result<(Singles, u64), AllocError>
     requires opened { IsOpenedWith ranks.now.market floor.old }
     requires legal { IsLegal ranks.now.market (floor_of ranks.now.market floor.old) }
-    ensures best { IfOk result (λ s. IsBest ranks.now.market s.matched.places) }
-    ensures proposals { IfOk result (λ s. s.proposals.items
-        ≡ map (proposals ranks.now.market s.matched.places) (below (length ranks.now.market.programs))) }
+    ensures best { IfOk result (λ s. IsBest ranks.now.market s.0.matched.places) }
+    ensures proposals { IfOk result (λ s. s.0.proposals.items
+        ≡ map (proposals ranks.now.market s.0.matched.places) (below (length ranks.now.market.programs))) }
+    ensures late { let m = ranks.now.market in IfOk result (λ s.
+        proposals_made m (floor_of m floor.new) ≡ proposals_made m (floor_of m floor.old) + s.1) }
 {
-    finish(floor, ranks);
+    let late = finish(floor, ranks);
     let matched = result(alloc, floor, ranks)?;
     let proposals = all_received(alloc, floor, ranks)?;
-    Ok(Singles { matched, proposals })
+    Ok((Singles { matched, proposals }, late))
 }
 
 /// The best match of the singles, made by the calling thread alone, and the proposals on the way to it: what `work`
@@ -57,5 +60,6 @@ pub fn work_alone(alloc: Global, ranks: &Ranks) -> Result<Singles, AllocError>
         ≡ map (proposals ranks.now.market s.matched.places) (below (length ranks.now.market.programs))) }
 {
     let mut floor = Floor::open(alloc, ranks)?;
-    singles_of(alloc, &mut floor, ranks)
+    let (singles, _) = singles_of(alloc, &mut floor, ranks)?;
+    Ok(singles)
 }
