@@ -3,8 +3,9 @@ ghost use Rattle.std.specs.Prelude.{◌≡◌, ◌≤◌};
 
 use crate::expect::{on_ranks, same};
 use crate::floor::CHAIN_END;
-use crate::hall::{Acts, Case, expect_case};
-use mt_crew::{Gate, Open, Singles, work, work_alone};
+use crate::hall::{Acts, Case, Left, expect_case};
+use crate::hundred::{Orders, common_places, common_proposals, hundred};
+use mt_crew::{Closing, Gate, Open, Singles, work, work_alone};
 use mt_hall::{Answer, Door, Hall, HallName, Pass};
 use mt_ranks::Ranks;
 use mt_samples::markets::{CHAIN, CROSSED};
@@ -42,6 +43,10 @@ struct Watch {
     came: AtomicU64,
     meet: bool,
     missed: AtomicU64,
+    misdealt: AtomicU64,
+    closings: AtomicU64,
+    late: AtomicU64,
+    disorders: AtomicU64,
 }
 
 fn open_watch(alloc: Global, workers: u32, meet: bool) -> Result<Watch, AllocError> {
@@ -57,6 +62,10 @@ fn open_watch(alloc: Global, workers: u32, meet: bool) -> Result<Watch, AllocErr
         came: AtomicU64::new(0),
         meet,
         missed: AtomicU64::new(0),
+        misdealt: AtomicU64::new(0),
+        closings: AtomicU64::new(0),
+        late: AtomicU64::new(0),
+        disorders: AtomicU64::new(0),
     })
 }
 
@@ -88,12 +97,15 @@ impl Watch {
 }
 
 impl Gate for Watch {
-    fn before(&self, worker: u32, _applicant: AppNo) {
+    fn before(&self, worker: u32, applicant: AppNo) {
         if let Some(seen) = self.seats.get(worker as usize) {
             let tickets = seen.tickets.fetch_add(1, Ordering::SeqCst);
             if self.meet && tickets == 0 {
                 self.came.fetch_add(1, Ordering::SeqCst);
                 self.await_all();
+                if applicant.0 != worker {
+                    self.misdealt.fetch_add(1, Ordering::SeqCst);
+                }
             }
         }
     }
@@ -101,6 +113,14 @@ impl Gate for Watch {
     fn after<K: HallName>(&self, worker: u32, pass: &Pass<K>) {
         if let Some(seen) = self.seats.get(worker as usize) {
             seen.proposals.store(pass.proposals(), Ordering::SeqCst);
+        }
+    }
+
+    fn closed(&self, closing: &Closing) {
+        self.closings.fetch_add(1, Ordering::SeqCst);
+        self.late.fetch_add(closing.late, Ordering::SeqCst);
+        if !closing.agrees || closing.astray.is_some() {
+            self.disorders.fetch_add(1, Ordering::SeqCst);
         }
     }
 }
@@ -123,12 +143,17 @@ fn expect_singles(
     same(rt, singles.proposals.as_slice(), proposals);
 }
 
-// The workers' passes have all the proposals: nothing was left to be finished after they were closed. Where the workers
-// were to meet they met, and each of them proposed.
+// The hall was closed once, with nothing left to be made, no desk astray and counts that agree; and the workers' passes
+// have all the proposals. If the workers were to meet, all of them started and proposed, and each began with the ticket
+// that was dealt to it first: that of the applicant of its number, in a market of singles.
 fn expect_seen(rt: &impl Abort, gate: &Watch, singles: &Singles) {
     let (proposals, each) = gate.proposals();
     same(rt, proposals, total(&singles.proposals));
     same(rt, gate.missed.load(Ordering::SeqCst), 0);
+    same(rt, gate.misdealt.load(Ordering::SeqCst), 0);
+    same(rt, gate.closings.load(Ordering::SeqCst), 1);
+    same(rt, gate.late.load(Ordering::SeqCst), 0);
+    same(rt, gate.disorders.load(Ordering::SeqCst), 0);
     assert!(rt; !gate.meet || each);
 }
 
@@ -218,6 +243,59 @@ fn nothing_is_left_after_the_workers(rt: HostRuntime) -> Result<(), Fail> {
     )
 }
 
+// One worker, and several that all start and take a ticket before any goes on.
+fn expect_of_hundred<R: Abort + Threads + Wait + Sync>(
+    rt: &R,
+    alloc: Global,
+    ranks: &Ranks,
+    places: &[Option<ProgNo>],
+    proposals: &[u32],
+) -> Result<(), AllocError> {
+    expect_in_time(rt, alloc, ranks, 1, true, places, proposals)?;
+    for _ in 0..10 {
+        expect_in_time(rt, alloc, ranks, 2, true, places, proposals)?;
+        expect_in_time(rt, alloc, ranks, 8, true, places, proposals)?;
+        expect_in_time(rt, alloc, ranks, 64, true, places, proposals)?;
+    }
+    Ok(())
+}
+
+// All compete for the same posts, so most proposals displace somebody.
+#[test]
+fn nothing_is_left_of_a_hundred(rt: HostRuntime) -> Result<(), Fail> {
+    let alloc = rt.alloc();
+    let file = hundred(alloc, Orders::Common)?;
+    let (places, proposals) = (common_places(alloc)?, common_proposals(alloc)?);
+    on_ranks(&rt, alloc, file.as_bytes(), |ranks| {
+        expect_of_hundred(&rt, alloc, ranks, &places, &proposals)
+    })
+}
+
+// The floor of one thread says what the workers have to come to.
+fn expect_as_alone<R: Abort + Threads + Wait + Sync>(
+    rt: &R,
+    alloc: Global,
+    ranks: &Ranks,
+) -> Result<(), AllocError> {
+    let alone = work_alone(alloc, ranks)?;
+    expect_of_hundred(
+        rt,
+        alloc,
+        ranks,
+        alone.matched.places.as_slice(),
+        &alone.proposals,
+    )
+}
+
+#[test]
+fn nothing_is_left_of_orders_of_their_own(rt: HostRuntime) -> Result<(), Fail> {
+    let alloc = rt.alloc();
+    let file = hundred(alloc, Orders::Own)?;
+    on_ranks(&rt, alloc, file.as_bytes(), |ranks| {
+        expect_as_alone(&rt, alloc, ranks)
+    })
+}
+
 // A gate at which workers give way, some times that differ from ticket to ticket.
 #[derive(Drop)]
 struct Unrest {
@@ -248,55 +326,6 @@ impl Gate for Unrest {
     }
 }
 
-fn push_numbered(
-    alloc: Global,
-    file: &mut String,
-    before: &str,
-    number: u32,
-    after: &str,
-) -> Result<(), AllocError> {
-    let text = format!(in alloc; "{before}{number}{after}")?;
-    file.push_str(&text)
-}
-
-// So many numbers, each of them once: from the first on by steps, which end the row.
-fn push_list(
-    alloc: Global,
-    file: &mut String,
-    before: &str,
-    count: u32,
-    first: u32,
-    step: u32,
-) -> Result<(), AllocError> {
-    for place in 0..count {
-        let number = place.saturating_mul(step).saturating_add(first) % count;
-        push_numbered(alloc, file, before, number, "")?;
-    }
-    file.push_str("\n")
-}
-
-const STEPS: &[u32] = &[1, 3, 7, 9, 11, 13, 17, 19, 21, 23];
-
-fn push_programs(alloc: Global, file: &mut String) -> Result<(), AllocError> {
-    for program in 0..10u32 {
-        push_numbered(alloc, file, "program,p", program, ",5")?;
-        push_list(alloc, file, ",a", 100, program, STEPS[program as usize])?;
-    }
-    Ok(())
-}
-
-// Ten programs of five posts, each of which wants a hundred applicants in an order of its own, and each of these wants
-// all programs.
-fn push_hundred(alloc: Global, file: &mut String) -> Result<(), AllocError> {
-    file.push_str("match,1\n")?;
-    push_programs(alloc, file)?;
-    for applicant in 0..100u32 {
-        push_numbered(alloc, file, "applicant,a", applicant, "")?;
-        push_list(alloc, file, ",p", 10, applicant * 7, 3)?;
-    }
-    Ok(())
-}
-
 // The match of one worker is the match of eight that give way to one another.
 fn expect_same<R: Abort + Threads + Wait + Sync>(
     rt: &R,
@@ -322,8 +351,7 @@ fn expect_same<R: Abort + Threads + Wait + Sync>(
 
 #[test]
 fn unrest_at_the_gate_changes_nothing(rt: HostRuntime) -> Result<(), Fail> {
-    let mut file = String::new(rt.alloc());
-    push_hundred(rt.alloc(), &mut file)?;
+    let file = hundred(rt.alloc(), Orders::Own)?;
     on_ranks(&rt, rt.alloc(), file.as_bytes(), |ranks| {
         expect_same(&rt, rt.alloc(), ranks, 1000)
     })
@@ -417,7 +445,7 @@ const TWO_DOORS: Case<'static> = Case {
     file: CROSSED,
     passes: 2,
     acts: Acts::AtTwoDoors,
-    left: None,
+    left: Left::Unasked,
 };
 
 #[test]

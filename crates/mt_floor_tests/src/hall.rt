@@ -7,7 +7,9 @@ ghost use Rattle.mt_core.specs.Floors.{floor_of, IsOpenedWith};
 use crate::crew::expect_two_doors;
 use crate::expect::{on_ranks, same, same_for};
 use crate::floor::{expect_chain_end, expect_finished};
-use mt_core::Floor;
+use crate::hundred::{ALL_COMMON_PROPOSALS, Orders, common_places, hundred};
+use crate::parts::{came_to, sum_by_program};
+use mt_core::{Floor, finish, result};
 use mt_hall::{Answer, Audit, Door, Hall, HallName, Pass};
 use mt_ranks::Ranks;
 use mt_samples::markets::{BETWEEN, CHAIN};
@@ -102,7 +104,7 @@ fn expect_proposed_to<K: HallName>(
     assert!(rt; ranks.programs() as usize == to.len());
     for program in 0..ranks.programs() {
         let proposed = pass.proposed(ProgNo(program));
-        same_for(rt, proposed, to[program as usize], (of, program));
+        same_for(rt, proposed, to[program as usize] as u64, (of, program));
     }
 }
 
@@ -118,7 +120,7 @@ fn expect_proposed_by<K: HallName>(
     assert!(rt; ranks.applicants() as usize == by.len());
     for applicant in 0..ranks.applicants() {
         let proposed = pass.proposed_for(AppNo(applicant));
-        same_for(rt, proposed, by[applicant as usize], (of, applicant));
+        same_for(rt, proposed, by[applicant as usize] as u64, (of, applicant));
     }
 }
 
@@ -134,6 +136,7 @@ fn expect_pass<K: HallName>(
 {
     let (proposals, to, by) = counts;
     same_for(rt, pass.proposals(), proposals, of);
+    same_for(rt, sum_by_program(ranks, pass), proposals, of);
     expect_proposed_to(rt, ranks, pass, of, to);
     expect_proposed_by(rt, ranks, pass, of, by);
     same_for(rt, pass.waits(), 0, of);
@@ -157,12 +160,15 @@ fn expect_passes<K: HallName>(
 fn expect_door<K: HallName, R: Abort + Wait>(
     rt: &R,
     door: &Mutex<Door<K>>,
+    ranks: &Ranks,
     program: ProgNo,
     received: u32,
-) {
+)
+    requires { ranks.now ≡ K.ranked }
+{
     let locked = door.lock(rt);
     same(rt, locked.program(), program);
-    same(rt, locked.received(), received);
+    same(rt, came_to(ranks, &locked), received);
 }
 
 // Each lock of a door has that program's, which has received so many proposals.
@@ -178,7 +184,7 @@ fn expect_doors<K: HallName, R: Abort + Wait>(
     for program in 0..ranks.programs() {
         let wanted = received[program as usize];
         let program = ProgNo(program);
-        expect_door(rt, hall.door(program), program, wanted);
+        expect_door(rt, hall.door(program), ranks, program, wanted);
     }
 }
 
@@ -188,21 +194,38 @@ fn expect_order(rt: &impl Abort, audit: &Audit) {
     assert!(rt; audit.agrees);
 }
 
-// So many of the chain's proposals are left, where it is the chain's floor.
+// Nothing is left to be made, and the hundred of the common order are at their places.
+fn expect_common_end(
+    rt: &impl Abort,
+    alloc: Global,
+    floor: &mut Floor,
+    ranks: &Ranks,
+) -> Result<(), AllocError>
+    requires opened { IsOpenedWith ranks.now.market floor.old }
+    requires recorded { IsRecorded ranks.now.market (floor_of ranks.now.market floor.old) }
+{
+    same(rt, finish(floor, ranks), 0);
+    let matched = result(alloc, floor, ranks)?;
+    let places = common_places(alloc)?;
+    same(rt, matched.places.as_slice(), places.as_slice());
+    Ok(())
+}
+
 fn expect_left(
     rt: &impl Abort,
     alloc: Global,
     floor: &mut Floor,
     ranks: &Ranks,
-    left: Option<u64>,
+    left: Left,
 ) -> Result<(), AllocError>
     requires opened { IsOpenedWith ranks.now.market floor.old }
     requires recorded { IsRecorded ranks.now.market (floor_of ranks.now.market floor.old) }
 {
     match left {
-        None => Ok(()),
-        Some(0) => expect_chain_end(rt, alloc, floor, ranks),
-        Some(left) => expect_finished(rt, alloc, floor, ranks, left),
+        Left::Unasked => Ok(()),
+        Left::OfChain(0) => expect_chain_end(rt, alloc, floor, ranks),
+        Left::OfChain(left) => expect_finished(rt, alloc, floor, ranks, left),
+        Left::OfCommon => expect_common_end(rt, alloc, floor, ranks),
     }
 }
 
@@ -235,8 +258,18 @@ pub(crate) struct Case<'a> {
     pub(crate) file: &'a [u8],
     pub(crate) passes: u32,
     pub(crate) acts: Acts<'a>,
-    // How many of the chain's five proposals are left to be finished on the floor, where that is the market.
-    pub(crate) left: Option<u64>,
+    pub(crate) left: Left,
+}
+
+// What is left to be finished on the floor.
+#[derive(Clone, Copy)]
+pub(crate) enum Left {
+    // No test asks.
+    Unasked,
+    // This many of the chain's five proposals.
+    OfChain(u64),
+    // Nothing, with the hundred of the common order at their places.
+    OfCommon,
 }
 
 fn expect_acts<K: HallName + Send + Sync, R: Abort + Threads + Wait + Sync>(
@@ -333,7 +366,7 @@ const TWO_PASSES: Case<'static> = Case {
         counts: &[(2, &[1, 1], &[0, 1, 1]), (3, &[2, 1], &[2, 1, 0])],
         received: &[3, 2],
     },
-    left: Some(0),
+    left: Left::OfChain(0),
 };
 
 #[test]
@@ -369,7 +402,7 @@ const ALONE: &[Case<'static>] = &[
             counts: &[(5, &[3, 2], &[2, 2, 1])],
             received: &[3, 2],
         },
-        left: Some(0),
+        left: Left::OfChain(0),
     },
     Case {
         what: "one of the chain's five proposals",
@@ -380,7 +413,7 @@ const ALONE: &[Case<'static>] = &[
             counts: &[(1, &[1, 0], &[0, 0, 1])],
             received: &[1, 0],
         },
-        left: Some(4),
+        left: Left::OfChain(4),
     },
     Case {
         what: "numbers past the end",
@@ -391,7 +424,7 @@ const ALONE: &[Case<'static>] = &[
             counts: &[(0, &[0, 0], &[0, 0, 0])],
             received: &[0, 0],
         },
-        left: Some(5),
+        left: Left::OfChain(5),
     },
     Case {
         what: "members",
@@ -402,7 +435,7 @@ const ALONE: &[Case<'static>] = &[
             counts: &[(0, &[0], &[0, 0, 0])],
             received: &[0],
         },
-        left: None,
+        left: Left::Unasked,
     },
 ];
 
@@ -475,8 +508,29 @@ const TWO_THREADS: Case<'static> = Case {
     file: CHAIN,
     passes: 2,
     acts: Acts::OnThreads { proposals: 5 },
-    left: Some(0),
+    left: Left::OfChain(0),
 };
+
+// Several threads make all proposals of a hundred applicants, and the audit finds each desk in its place and counts
+// that agree.
+#[test]
+fn a_hundred_on_threads(rt: HostRuntime) -> Result<(), Fail> {
+    let alloc = rt.alloc();
+    let file = hundred(alloc, Orders::Common)?;
+    for passes in [1u32, 2, 8, 64] {
+        let case = Case {
+            what: "a hundred",
+            file: file.as_bytes(),
+            passes,
+            acts: Acts::OnThreads {
+                proposals: ALL_COMMON_PROPOSALS,
+            },
+            left: Left::OfCommon,
+        };
+        expect_case(&rt, alloc, &case)?;
+    }
+    Ok(())
+}
 
 #[test]
 fn two_threads_end_at_the_same_floor(rt: HostRuntime) -> Result<(), Fail> {

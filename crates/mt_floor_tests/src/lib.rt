@@ -12,4 +12,8 @@ mod hall;
 #[cfg(test)]
 mod holding;
 #[cfg(test)]
+mod hundred;
+#[cfg(test)]
+mod parts;
+#[cfg(test)]
 mod tables;
