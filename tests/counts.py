@@ -22,6 +22,7 @@ CHECKS = {
     "memory --check": 114,
     "must_fail": 68,
     "pages": 248,
+    "threads": 28,
     "words": 193,
     "wrong_bodies --release": 42,
 }
