@@ -1,4 +1,4 @@
-use Rattle.std.proofs.Common.{◌≡◌, true, false, subst}
+use Rattle.std.proofs.Common.{subst}
 use Rattle.std.proofs.lemmas.Bool.{true≢false}
 use Rattle.mt_terms.specs.declared.events.Reply.{Reply}
 use Rattle.mt_hall.specs.Steps.{Shows}
