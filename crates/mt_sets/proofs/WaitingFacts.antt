@@ -1,15 +1,18 @@
--- Who waits, where it is told, and that there is room for all.
-use Rattle.std.proofs.Common.{◌≡◌, ℕ, ◌+◌, ◌<◌, ◌≤◌, Bool, true, false, ◌==◌, ◌||◌, List, [], ◌∷◌, ◌++◌, map, length, slice_set, slice_index_or, refl, ap, sym, ◌∙◌, inl, inr, arith, subst, IsTrue, replicate}
-use Rattle.std.specs.List.{list_any, AllByRecursion, IsDistinct}
+-- Who waits, and that there is room for all.
+use Rattle.std.proofs.Common.{◌≡◌, ℕ, ◌+◌, ◌<◌, ◌≤◌, suc, zero, Bool, true, false, ◌==◌, ◌||◌, ◌&&◌, not, cond, List, [], ◌∷◌, ◌++◌, map, length, drop, slice_get, nat_le, nat_lt, Some, None, refl, ap, sym, ◌∙◌, inl, inr, arith, subst, IsTrue}
+use Rattle.std.specs.List.{list_any, position, position_or_len, AllByRecursion, IsDistinct}
+use Rattle.std.proofs.lemmas.Bool.Decides.{nat_tests}
+use Rattle.std.proofs.lemmas.Option.{none-some, same_Some}
 use Rattle.std.proofs.lemmas.Bool.{or_from, or_left, or_right, or_cases, or_parts, both_ways, cases_Bool, eq-eqb, false≢true, false_from_ne_true, ne_eqb, eqb-true}
-use Rattle.std.proofs.lemmas.List.{get_or-set_same, get_or-set_other, length-set, length-map, length-append, length-replicate, get_or-replicate, get_or_default}
+use Rattle.std.proofs.lemmas.List.{length-map, length-append}
 use Rattle.std.proofs.lemmas.List.Folds.{list_any-append}
 use Rattle.std.proofs.lemmas.Map.Keys.{IsDistinct-tail}
 use Rattle.std.proofs.lemmas.Map.Steps.{length-le_from_distinct_below}
 use Rattle.mt_terms.specs.Rounds.{is_same_agent, is_on}
 use Rattle.mt_terms.specs.declared.numbers.Agent.{Agent}
 use Rattle.mt_terms.specs.declared.numbers.Agent.TheVariants.{Single, Couple}
-use Rattle.mt_sets.specs.Waiting.{place_for, IsTold, IsWithin}
+use Rattle.mt_terms.specs.contracts.numbers.AgentPartialEq.TheImpl.{eq-value}
+use Rattle.mt_sets.specs.Waiting.{IsWithin, WaitOnce}
 
 -- each agent is the same as itself, and as no other
 is_same_agent_refl : (g : Agent) → is_same_agent g g ≡ true
@@ -22,14 +25,18 @@ same_agent (Single a) (Couple d) e = absurd (false≢true e)
 same_agent (Couple c) (Single b) e = absurd (false≢true e)
 same_agent (Couple c) (Couple d) e = ap Couple (eqb-true c d e)
 
--- agents of different numbers or kinds have different places
-pub one_place : (n c : ℕ) (g h : Agent) → IsWithin n c g → IsWithin n c h → place_for n g ≡ place_for n h → g ≡ h
+-- agents of different numbers or kinds have different places: singles are before couples
+abbrev place_for : ℕ → Agent → ℕ
+place_for n (Single a) = a
+place_for n (Couple c) = n + c
+
+one_place : (n c : ℕ) (g h : Agent) → IsWithin n c g → IsWithin n c h → place_for n g ≡ place_for n h → g ≡ h
 one_place n c (Single a) (Single b) g_in h_in same = ap Single same
 one_place n c (Single a) (Couple d) g_in h_in same = absurd (omega arith)
 one_place n c (Couple b) (Single a) g_in h_in same = absurd (omega arith)
 one_place n c (Couple b) (Couple d) g_in h_in same = let e : b ≡ d = omega arith in ap Couple e
 
-pub place_within : (n c : ℕ) (g : Agent) → IsWithin n c g → place_for n g < n + c
+place_within : (n c : ℕ) (g : Agent) → IsWithin n c g → place_for n g < n + c
 place_within n c (Single a) within = omega arith
 place_within n c (Couple b) within = omega arith
 
@@ -45,7 +52,7 @@ first_off g [] h = refl
 first_off g (x ∷ xs) h = or_from _ _ h.0 (first_off g xs h.1)
 
 -- the one in front waits no longer
-pub front_off : (g : Agent) (gs : List Agent) → IsDistinct is_same_agent (g ∷ gs) → is_on gs g ≡ false
+front_off : (g : Agent) (gs : List Agent) → IsDistinct is_same_agent (g ∷ gs) → is_on gs g ≡ false
 unfolding IsDistinct
 front_off g gs once = first_off g gs once.0
 
@@ -55,7 +62,7 @@ apart_more : (x g : Agent) (xs : List Agent) → AllByRecursion (λ y. is_same_a
 apart_more x g [] h other = (other, tt)
 apart_more x g (y ∷ ys) h other = (h.0, apart_more x g ys h.1 other)
 
-pub once_more : (g : Agent) (gs : List Agent) → IsDistinct is_same_agent gs → is_on gs g ≡ false → IsDistinct is_same_agent (gs ++ g ∷ [])
+once_more : (g : Agent) (gs : List Agent) → IsDistinct is_same_agent gs → is_on gs g ≡ false → IsDistinct is_same_agent (gs ++ g ∷ [])
 unfolding IsDistinct
 once_more g [] once off = (tt, tt)
 once_more g (x ∷ xs) once off =
@@ -108,68 +115,110 @@ pub room_left : (n c : ℕ) (g : Agent) (gs : List Agent) → IsWithin n c g →
 room_left n c g gs g_in all once off =
     omega (arith, few_wait n c (gs ++ g ∷ []) (all_with n c g gs g_in all) (once_more g gs once off), length-append gs (g ∷ []))
 
--- what is told stays right as one joins
-pub told_joined : (n c : ℕ) (g : Agent) (gs : List Agent) (waits : List Bool) → IsTold n c gs waits → IsWithin n c g → is_on gs g ≡ false
-    → IsTold n c (gs ++ g ∷ []) (slice_set waits (place_for n g) true)
-told_joined n c g gs waits h g_in off = record {
-  once = once_more g gs h.once off;
-  known = all_with n c g gs g_in h.known;
-  told = λ x x_in. elim (cases_Bool (is_same_agent x g)) [
-    | inl same ↦
-        let is = same_agent x g same in
-        ap (λ y. slice_index_or (slice_set waits (place_for n g) true) (place_for n y) false) is
-        ∙ get_or-set_same waits (place_for n g) true false (let l = place_within n c g g_in in omega (arith, h.places))
-        ∙ sym (list_any-append (is_same_agent x) gs (g ∷ []) ∙ or_right (is_on gs x) _ (or_left (is_same_agent x g) false same))
-    | inr other ↦
-        get_or-set_other waits (place_for n g) (place_for n x) true false (λ e.
-        both_ways (is_same_agent x g) other (ap (is_same_agent x) (sym (one_place n c x g x_in g_in e)) ∙ is_same_agent_refl x))
-        ∙ h.told x x_in ∙ sym (list_any-append (is_same_agent x) gs (g ∷ []) ∙ rw other (or_none (is_on gs x)))
-  ];
-  places = length-set waits (place_for n g) true ∙ h.places;
-}
-  where
-    or_none : (b : Bool) → (b || (false || false)) ≡ b
-    or_none true = refl
-    or_none false = refl
+-- one more joins, and the one in front is taken
+pub wait_joined : (n c : ℕ) (g : Agent) (gs : List Agent) → WaitOnce n c gs → IsWithin n c g → is_on gs g ≡ false → WaitOnce n c (gs ++ g ∷ [])
+wait_joined n c g gs h g_in off = record { once = once_more g gs h.once off; known = all_with n c g gs g_in h.known }
 
--- and as the one in front is taken
-pub told_taken : (n c : ℕ) (g : Agent) (gs : List Agent) (waits : List Bool) → IsTold n c (g ∷ gs) waits
-    → IsTold n c gs (slice_set waits (place_for n g) false)
-told_taken n c g gs waits h =
-    let g_in = h.known g (or_left (is_same_agent g g) (is_on gs g) (is_same_agent_refl g)) in
-    record {
-      once = IsDistinct-tail is_same_agent g gs h.once;
-      known = λ x on. h.known x (or_right (is_same_agent x g) (is_on gs x) on);
-      told = λ x x_in. elim (cases_Bool (is_same_agent x g)) [
-        | inl same ↦
-            let is = same_agent x g same in
-            ap (λ y. slice_index_or (slice_set waits (place_for n g) false) (place_for n y) false) is
-            ∙ get_or-set_same waits (place_for n g) false false (let l = place_within n c g g_in in omega (arith, h.places))
-            ∙ sym (ap (is_on gs) is ∙ front_off g gs h.once)
-        | inr other ↦
-            get_or-set_other waits (place_for n g) (place_for n x) false false (λ e.
-            both_ways (is_same_agent x g) other (ap (is_same_agent x) (sym (one_place n c x g x_in g_in e)) ∙ is_same_agent_refl x))
-            ∙ h.told x x_in ∙ ap (λ (b : Bool). b || is_on gs x) other
-      ];
-      places = length-set waits (place_for n g) false ∙ h.places;
-    }
+pub wait_rest : (n c : ℕ) (g : Agent) (gs : List Agent) → WaitOnce n c (g ∷ gs) → WaitOnce n c gs
+wait_rest n c g gs h = record {
+  once = IsDistinct-tail is_same_agent g gs h.once;
+  known = λ x on. h.known x (or_right (is_same_agent x g) (is_on gs x) on);
+}
 
 -- nobody waits at the start
-nobody_once : IsDistinct is_same_agent []
+pub wait_nobody : (n c : ℕ) → WaitOnce n c []
 unfolding IsDistinct
-nobody_once = tt
+wait_nobody n c = record { once = tt; known = λ g on. absurd (false≢true on) }
 
-pub told_nobody : (n c : ℕ) → IsTold n c [] (replicate (n + c) false)
-told_nobody n c = record {
-  once = nobody_once;
-  known = λ g on. absurd (false≢true on);
-  told = λ g g_in. get_or-replicate (n + c) (place_for n g) false false (place_within n c g g_in);
-  places = length-replicate (n + c) false;
-}
+-- what is left of a list begins with the one at the place to which it is passed over
+pub next_out : {X : Type 0} (xs : List X) (i : ℕ) (x : X) → slice_get xs i ≡ Some x → drop i xs ≡ x ∷ drop (i + 1) xs
+next_out [] i x at = absurd (none-some x at)
+next_out (y ∷ ys) zero x at = ap (λ z. z ∷ ys) (same_Some y x at)
+next_out (y ∷ ys) (suc i) x at = let e : suc (i + 1) ≡ suc i + 1 = omega arith in next_out ys i x at ∙ ap (λ n. x ∷ drop n (y ∷ ys)) e
 
--- what is read at an agent's place
-pub read_told : (n c : ℕ) (gs : List Agent) (waits : List Bool) (g : Agent) (i : ℕ) (b : Bool) → IsTold n c gs waits → IsWithin n c g → i ≡ place_for n g
-    → b ≡ slice_index_or waits i b → b ≡ is_on gs g
-read_told n c gs waits g i b h g_in at read =
-    let l = place_within n c g g_in in
-    read ∙ get_or_default waits i b false (omega (arith, h.places)) ∙ ap (λ j. slice_index_or waits j false) at ∙ h.told g g_in
+-- whoever is found at a place is beyond the places up to it, and nobody else is there
+off_rest : (n : ℕ) (g : Agent) (xs : List Agent) → AllByRecursion (λ y. is_same_agent g y ≡ false) xs → is_on (drop n xs) g ≡ false
+off_rest zero g xs apart = first_off g xs apart
+off_rest (suc n) g [] apart = refl
+off_rest (suc n) g (x ∷ xs) apart = off_rest n g xs apart.1
+
+at_first : (b on : Bool) (p len : ℕ) → on ≡ (nat_le 0 p && nat_lt p len) → (b || on) ≡ (nat_le 0 (cond (not b) (1 + p) 0) && nat_lt (cond (not b) (1 + p) 0) (suc len))
+at_first true on p len e = grind (arith, nat_tests)
+at_first false on p len e = grind (arith, nat_tests)
+
+at_next : (n : ℕ) (b on : Bool) (p len : ℕ) → on ≡ (nat_le n p && nat_lt p len) → (b ≡ true → on ≡ false)
+    → on ≡ (nat_le (suc n) (cond (not b) (1 + p) 0) && nat_lt (cond (not b) (1 + p) 0) (suc len))
+at_next n true on p len e off = off refl ∙ grind (arith, nat_tests)
+at_next n false on p len e off = e ∙ grind (arith, nat_tests)
+
+with_false : (b : Bool) → false ≡ (b && false)
+with_false true = refl
+with_false false = refl
+
+beyond : (n : ℕ) (g : Agent) (xs : List Agent) → IsDistinct is_same_agent xs
+    → is_on (drop n xs) g ≡ (nat_le n (position_or_len (is_same_agent g) xs) && nat_lt (position_or_len (is_same_agent g) xs) (length xs))
+unfolding IsDistinct
+beyond zero g [] once = refl
+beyond zero g (x ∷ xs) once = at_first (is_same_agent g x) (is_on xs g) (position_or_len (is_same_agent g) xs) (length xs) (beyond zero g xs once.1)
+beyond (suc n) g [] once = with_false (nat_le (suc n) 0)
+beyond (suc n) g (x ∷ xs) once =
+    at_next n (is_same_agent g x) (is_on (drop n xs) g) (position_or_len (is_same_agent g) xs) (length xs) (beyond n g xs once.1)
+    (λ same. off_rest n g xs (subst (λ y. AllByRecursion (λ z. is_same_agent y z ≡ false) xs) (sym (same_agent g x same)) once.0))
+
+-- the equality by which a set tells agents apart is that of their kinds and numbers
+same_eq : (g h : Agent) → eq-value.it g h ≡ is_same_agent g h
+same_eq (Single a) (Single b) = refl
+same_eq (Single a) (Couple d) = refl
+same_eq (Couple c) (Single b) = refl
+same_eq (Couple c) (Couple d) = refl
+
+pub on_by_eq : (g : Agent) (xs : List Agent) → list_any (eq-value.it g) xs ≡ is_on xs g
+on_by_eq g [] = refl
+on_by_eq g (x ∷ xs) = ap (λ b. b || list_any (eq-value.it g) xs) (same_eq g x) ∙ ap (λ b. is_same_agent g x || b) (on_by_eq g xs)
+
+same_turned : (g h : Agent) → is_same_agent g h ≡ is_same_agent h g
+same_turned g h = elim (cases_Bool (is_same_agent g h)) [
+  | inl same ↦ same ∙ sym (ap (is_same_agent h) (same_agent g h same) ∙ is_same_agent_refl h)
+  | inr other ↦ other ∙ sym (same_back g h other)
+]
+
+pub on_by_contains : (g : Agent) (xs : List Agent) → list_any (λ y. eq-value.it y g) xs ≡ is_on xs g
+on_by_contains g [] = refl
+on_by_contains g (x ∷ xs) =
+    ap (λ b. b || list_any (λ y. eq-value.it y g) xs) (same_eq x g ∙ same_turned x g) ∙ ap (λ b. is_same_agent g x || b) (on_by_contains g xs)
+
+place_by_eq : (g : Agent) (xs : List Agent) → position_or_len (eq-value.it g) xs ≡ position_or_len (is_same_agent g) xs
+place_by_eq g [] = refl
+place_by_eq g (x ∷ xs) =
+    ap (λ b. cond (not b) (1 + position_or_len (eq-value.it g) xs) 0) (same_eq g x) ∙ ap (λ p. cond (not (is_same_agent g x)) (1 + p) 0) (place_by_eq g xs)
+
+apart_by_eq : (g : Agent) (xs : List Agent) → AllByRecursion (λ y. eq-value.it g y ≡ false) xs → AllByRecursion (λ y. is_same_agent g y ≡ false) xs
+apart_by_eq g [] h = tt
+apart_by_eq g (x ∷ xs) h = (sym (same_eq g x) ∙ h.0, apart_by_eq g xs h.1)
+
+once_by_eq : (xs : List Agent) → IsDistinct eq-value.it xs → IsDistinct is_same_agent xs
+unfolding IsDistinct
+once_by_eq [] h = tt
+once_by_eq (x ∷ xs) h = (apart_by_eq x xs h.0, once_by_eq xs h.1)
+
+from_place : (b : Bool) (n p i : ℕ) → Some i ≡ cond b (Some p) None → nat_le n i ≡ (nat_le n p && b)
+from_place true n p i at = ap (nat_le n) (same_Some i p at) ∙ with_true (nat_le n p)
+  where
+    with_true : (b : Bool) → b ≡ (b && true)
+    with_true true = refl
+    with_true false = refl
+from_place false n p i at = absurd (none-some i (sym at))
+
+from_no_place : (b : Bool) (n p : ℕ) → None ≡ cond b (Some p) None → false ≡ (nat_le n p && b)
+from_no_place true n p at = absurd (none-some p at)
+from_no_place false n p at = with_false (nat_le n p)
+
+pub beyond_found : (n i : ℕ) (g : Agent) (xs : List Agent) → IsDistinct eq-value.it xs → Some i ≡ position (eq-value.it g) xs → nat_le n i ≡ is_on (drop n xs) g
+beyond_found n i g xs once at =
+    let p = position_or_len (is_same_agent g) xs in
+    from_place (nat_lt p (length xs)) n p i (at ∙ ap (λ q. cond (nat_lt q (length xs)) (Some q) None) (place_by_eq g xs)) ∙ sym (beyond n g xs (once_by_eq xs once))
+
+pub beyond_none : (n : ℕ) (g : Agent) (xs : List Agent) → IsDistinct eq-value.it xs → None ≡ position (eq-value.it g) xs → false ≡ is_on (drop n xs) g
+beyond_none n g xs once at =
+    let p = position_or_len (is_same_agent g) xs in
+    from_no_place (nat_lt p (length xs)) n p (at ∙ ap (λ q. cond (nat_lt q (length xs)) (Some q) None) (place_by_eq g xs)) ∙ sym (beyond n g xs (once_by_eq xs once))

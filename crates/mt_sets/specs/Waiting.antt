@@ -1,5 +1,5 @@
 -- A work list of agents, and how many applicants and couples there are.
-use Rattle.std.specs.Prelude.{◌≡◌, ℕ, ◌+◌, ◌<◌, Bool, false, List, [], ◌∷◌, length, slice_index_or, IsTrue}
+use Rattle.std.specs.Prelude.{ℕ, ◌<◌, List, [], ◌∷◌, IsTrue}
 use Rattle.std.specs.List.{IsDistinct}
 use Rattle.mt_terms.specs.Rounds.{is_on, is_same_agent}
 use Rattle.mt_terms.specs.declared.numbers.Agent.{Agent}
@@ -29,14 +29,7 @@ IsWithin applicants couples (Couple c) = c < couples
 abbrev pub IsKnown : Waiting → Agent → Type 0
 IsKnown w g = IsWithin w.applicants w.couples g
 
--- where it is told whether an agent waits: singles are before couples
-abbrev pub place_for : ℕ → Agent → ℕ
-place_for applicants (Single a) = a
-place_for applicants (Couple c) = applicants + c
-
--- Of so many applicants and couples each agent waits once at most, and it is told whether it waits.
-pub record IsTold (applicants couples : ℕ) (agents : List Agent) (waits : List Bool) : Type 0 where
+-- Of so many applicants and couples each agent waits once at most.
+pub record WaitOnce (applicants couples : ℕ) (agents : List Agent) : Type 0 where
   pub once : IsDistinct is_same_agent agents
   pub known : (g : Agent) → IsTrue (is_on agents g) → IsWithin applicants couples g
-  pub told : (g : Agent) → IsWithin applicants couples g → slice_index_or waits (place_for applicants g) false ≡ is_on agents g
-  pub places : length waits ≡ applicants + couples

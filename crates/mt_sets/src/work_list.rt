@@ -1,20 +1,28 @@
-ghost use Rattle.std.specs.Prelude.{◌≡◌, [], IfOk, IfSome, IfNone};
+ghost use Rattle.std.specs.Prelude.{◌≡◌, [], drop, IfOk, IfSome, IfNone};
 ghost use Rattle.mt_terms.specs.Rounds.{is_on, joined};
-ghost use Rattle.mt_sets.specs.Waiting.{nobody, place_for, waiting_first, with_agents, IsKnown};
+ghost use Rattle.mt_sets.specs.Waiting.{nobody, waiting_first, with_agents, IsKnown};
 
+use indexmap::IndexSet;
 use mt_terms::Agent;
 use std::alloc::{AllocError, Global};
-use std::collections::VecDeque;
 use std::marker::Model;
+use std::mem::swap;
 
-/// The agents that are to be looked at, first in first out, each at most once. Room for every agent of a
-/// market is taken at the start, so joining takes no memory.
+/// The agents that are to be looked at, first in first out, each at most once.
+///
+/// Agents are read from one ordered set and join at the end of another. Where all of the first are taken, the second takes
+/// its place. Room for every agent of a market is taken in both at the start, so joining takes no memory. An agent that is
+/// taken stays in the first set, passed over, until all are: `IndexSet::pop` doesn't promise that the place is free again.
+///
+/// The sets hash with the fixed seed of `indexmap`. Whoever writes a file chooses which agents wait, but no other keys:
+/// the numbers of all agents together are what the sets have room for.
 pub struct WorkList {
     applicants: u32,
     couples: u32,
-    queue: VecDeque<Agent>,
-    /// Whether an agent waits: the applicants by number, and then the couples by number.
-    waits: Vec<bool>,
+    front: IndexSet<Agent>,
+    /// How many of the front are taken, from the first on.
+    taken: usize,
+    back: IndexSet<Agent>,
 }
 
 impl Drop for WorkList {
@@ -22,8 +30,9 @@ impl Drop for WorkList {
         let WorkList {
             applicants: _,
             couples: _,
-            queue: _,
-            waits: _,
+            front: _,
+            taken: _,
+            back: _,
         } = self;
     }
 }
@@ -40,13 +49,28 @@ impl Model for WorkList {
     ghost invariant = { IsWorkList };
 }
 
-/// Where it is told whether the agent waits.
-fn place_for(applicants: u32, agent: &Agent) -> usize
-    ensures { result ≡ place_for applicants agent.now }
+/// Up to so many agents are compared one by one. A look-up of a hash takes longer then: a table with room for all agents
+/// is spread over more memory than stays near.
+const FEW: usize = 16;
+
+/// The agents of a set but so many, from the first on.
+fn rest(agents: &IndexSet<Agent>, first: usize) -> &[Agent]
+    ensures { result.now ≡ drop first agents.now.keys }
 {
-    match agent {
-        Agent::Single(applicant) => applicant.0 as usize,
-        Agent::Couple(couple) => applicants as usize + couple.0 as usize,
+    agents.as_slice().get(first..).unwrap_or(&[])
+}
+
+/// Whether an agent is one of them.
+#[tactic(auto, using(crate::proofs::WaitingFacts::on_by_contains))]
+fn is_beyond(agents: &IndexSet<Agent>, first: usize, agent: &Agent) -> bool
+    ensures { result ≡ is_on (drop first agents.now.keys) agent.now }
+{
+    if agents.len() <= first.saturating_add(FEW) {
+        return rest(agents, first).contains(agent);
+    }
+    match agents.get_index_of(agent) {
+        Some(index) => first <= index,
+        None => false,
     }
 }
 
@@ -59,8 +83,9 @@ impl WorkList {
         Ok(WorkList {
             applicants,
             couples,
-            queue: VecDeque::with_capacity(alloc, agents)?,
-            waits: Vec::from_elem(alloc, false, agents)?,
+            front: IndexSet::with_capacity(alloc, agents)?,
+            taken: 0,
+            back: IndexSet::with_capacity(alloc, agents)?,
         })
     }
 
@@ -69,7 +94,7 @@ impl WorkList {
         requires { IsKnown self.now agent.now }
         ensures { result ≡ is_on self.now.agents agent.now }
     {
-        self.waits[place_for(self.applicants, agent)]
+        is_beyond(&self.front, self.taken, agent) || is_beyond(&self.back, 0, agent)
     }
 
     /// Takes the agent at the front, or none where nobody waits.
@@ -78,9 +103,13 @@ impl WorkList {
         ensures empty { IfNone result (self.old.agents ≡ []) }
         ensures still_empty { IfNone result (self.new ≡ self.old) }
     {
-        let agent = self.queue.pop_front()?;
-        let place = place_for(self.applicants, &agent);
-        self.waits[place] = false;
+        if self.taken == self.front.len() {
+            self.front.truncate(0);
+            swap(&mut self.front, &mut self.back);
+            self.taken = 0;
+        }
+        let agent = *self.front.get_index(self.taken)?;
+        self.taken += 1;
         Some(agent)
     }
 
@@ -89,10 +118,8 @@ impl WorkList {
         requires { IsKnown self.old agent }
         ensures { self.new ≡ with_agents self.old (joined self.old.agents agent) }
     {
-        let place = place_for(self.applicants, &agent);
-        if !self.waits[place] {
-            self.waits[place] = true;
-            self.queue.push_back_reserved(agent);
+        if !self.waits(&agent) {
+            let _added = self.back.insert(agent).unwrap();
         }
     }
 }
