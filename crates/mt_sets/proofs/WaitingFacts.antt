@@ -176,17 +176,6 @@ pub on_by_eq : (g : Agent) (xs : List Agent) → list_any (eq-value.it g) xs ≡
 on_by_eq g [] = refl
 on_by_eq g (x ∷ xs) = ap (λ b. b || list_any (eq-value.it g) xs) (same_eq g x) ∙ ap (λ b. is_same_agent g x || b) (on_by_eq g xs)
 
-same_turned : (g h : Agent) → is_same_agent g h ≡ is_same_agent h g
-same_turned g h = elim (cases_Bool (is_same_agent g h)) [
-  | inl same ↦ same ∙ sym (ap (is_same_agent h) (same_agent g h same) ∙ is_same_agent_refl h)
-  | inr other ↦ other ∙ sym (same_back g h other)
-]
-
-pub on_by_contains : (g : Agent) (xs : List Agent) → list_any (λ y. eq-value.it y g) xs ≡ is_on xs g
-on_by_contains g [] = refl
-on_by_contains g (x ∷ xs) =
-    ap (λ b. b || list_any (λ y. eq-value.it y g) xs) (same_eq x g ∙ same_turned x g) ∙ ap (λ b. is_same_agent g x || b) (on_by_contains g xs)
-
 place_by_eq : (g : Agent) (xs : List Agent) → position_or_len (eq-value.it g) xs ≡ position_or_len (is_same_agent g) xs
 place_by_eq g [] = refl
 place_by_eq g (x ∷ xs) =

@@ -49,24 +49,12 @@ impl Model for WorkList {
     ghost invariant = { IsWorkList };
 }
 
-/// Up to so many agents are compared one by one. A look-up of a hash takes longer then: a table with room for all agents
-/// is spread over more memory than stays near.
-const FEW: usize = 16;
-
-/// The agents of a set but so many, from the first on.
-fn rest(agents: &IndexSet<Agent>, first: usize) -> &[Agent]
-    ensures { result.now ≡ drop first agents.now.keys }
-{
-    agents.as_slice().get(first..).unwrap_or(&[])
-}
-
-/// Whether an agent is one of them.
-#[tactic(auto, using(crate::proofs::WaitingFacts::on_by_contains))]
+/// Whether an agent is one of a set but so many, from the first on.
 fn is_beyond(agents: &IndexSet<Agent>, first: usize, agent: &Agent) -> bool
     ensures { result ≡ is_on (drop first agents.now.keys) agent.now }
 {
-    if agents.len() <= first.saturating_add(FEW) {
-        return rest(agents, first).contains(agent);
+    if first >= agents.len() {
+        return false;
     }
     match agents.get_index_of(agent) {
         Some(index) => first <= index,
