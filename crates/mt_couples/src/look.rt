@@ -1,4 +1,4 @@
-ghost use Rattle.std.specs.Prelude.{◌≡◌, ◌≤◌, ◌<◌, ℕ, length, true, [], ◌∷◌, IfNone, IfOk, IfSome, IsFalse, IsTrue, OnOk};
+ghost use Rattle.std.specs.Prelude.{◌≡◌, ◌≤◌, ◌<◌, ℕ, length, map, true, [], ◌∷◌, IfNone, IfOk, IfSome, IsFalse, IsTrue, OnOk};
 ghost use Rattle.std.specs.List.Sorted.{IsNonDecreasing};
 ghost use Rattle.mt_terms.specs.Lists.{has};
 ghost use Rattle.mt_terms.specs.Market.{applicants};
@@ -6,6 +6,7 @@ ghost use Rattle.mt_terms.specs.Rounds.{has_entered};
 ghost use Rattle.mt_terms.specs.WellFormed.{IsWellFormed};
 ghost use Rattle.mt_ranks.specs.Ranked.{rank_of};
 ghost use Rattle.mt_bits.specs.Members.{is_in};
+ghost use Rattle.mt_sets.specs.Named.{row_at};
 ghost use Rattle.mt_sets.specs.Waiting.{IsKnown};
 ghost use Rattle.mt_assignment.specs.Assigned.{AreApplicantsOf, AreProgramsOf, IsAgentOf};
 ghost use Rattle.mt_couples.specs.Looking.{has_wanted_post, is_noted_reopened, AddsCouples, AddsSingles, AreRanksOf, HaveReopened, IsClosed, IsOpenFrom, IsWatching, Keeps};
@@ -19,7 +20,12 @@ use mt_assignment::Assignment;
 use mt_bits::RankRow;
 use mt_sets::{Note, WorkList};
 use mt_terms::{Agent, AppNo, CoupleNo, ProgNo};
+use rayon::prelude::*;
 use std::alloc::{AllocError, Global};
+use std::thread::Threads;
+
+/// So many notes of a program pay for the start of a thread that asks them.
+const LEAST_NOTES: usize = 1024;
 
 /// Whether the agent has entered, once this couple has.
 pub(crate) fn has_entered(agent: &Agent, last: CoupleNo) -> bool
@@ -136,8 +142,8 @@ fn is_noted_reopened(
         && assignment.opens_between(note.couple, program, from, end)
 }
 
-/// Adds the members of the couples that are reopened by an option at the program.
-fn add_members(
+/// Adds the members of the couples that are reopened by an option at the program, where its notes are few.
+fn add_few_members(
     assignment: &Assignment<'_>,
     watch: &Watch,
     program: ProgNo,
@@ -163,8 +169,97 @@ fn add_members(
     Ok(())
 }
 
+/// For each note of the program whether its couple is reopened there. They are asked side by side.
+fn which_reopened<R: Threads + Sync>(
+    rt: &R,
+    alloc: Global,
+    assignment: &Assignment<'_>,
+    watch: &Watch,
+    program: ProgNo,
+    last: CoupleNo,
+    waiting: &WorkList,
+) -> Result<Vec<bool>, AllocError>
+    requires watch { IsWatching last assignment.now waiting.now.agents watch.now }
+    requires waiting { IsListOf assignment.now.market waiting.now }
+    ensures { IfOk result (λ v. v.items ≡ map (is_noted_reopened last assignment.now watch.now program waiting.now.agents) (row_at watch.now.couples.rows program)) }
+{
+    watch
+        .couples(program)
+        .par_iter()
+        .with_min_len(LEAST_NOTES)
+        .map(
+            |note: &Note| -> bool
+                requires { (note.now.couple < length assignment.now.market.couples) × AreCounted assignment.now watch.now.better.items
+                    × IsListOf assignment.now.market waiting.now }
+                ensures { result ≡ is_noted_reopened last assignment.entry.now watch.entry.now program waiting.entry.now.agents note.now }
+            { is_noted_reopened(assignment, watch, program, note, last, waiting) },
+        )
+        .collect(rt, alloc)
+}
+
+/// The same where its notes are many.
+fn add_many_members<R: Threads + Sync>(
+    rt: &R,
+    alloc: Global,
+    assignment: &Assignment<'_>,
+    watch: &Watch,
+    program: ProgNo,
+    last: CoupleNo,
+    waiting: &WorkList,
+    found: &mut Vec<AppNo>,
+) -> Result<(), AllocError>
+    requires program { program < length assignment.now.market.programs }
+    requires watch { IsWatching last assignment.now waiting.now.agents watch.now }
+    requires waiting { IsListOf assignment.now.market waiting.now }
+    requires found { AreApplicantsOf assignment.now.market found.old.items }
+    ensures found { OnOk result (AreApplicantsOf assignment.now.market found.new.items) }
+    ensures keeps { OnOk result (Keeps found.old.items found.new.items) }
+    ensures adds { OnOk result (AddsCouples last assignment.now program waiting.now.agents found.new.items) }
+{
+    let reopened = which_reopened(rt, alloc, assignment, watch, program, last, waiting)?;
+    let notes = watch.couples(program);
+    for index in 0..notes.len() {
+        if reopened[index] {
+            let (one, other) = assignment.members(notes[index].couple);
+            found.push(one)?;
+            found.push(other)?;
+        }
+    }
+    Ok(())
+}
+
+/// Adds the members of the couples that are reopened by an option at the program.
+fn add_members<R: Threads + Sync>(
+    rt: &R,
+    alloc: Global,
+    assignment: &Assignment<'_>,
+    watch: &Watch,
+    program: ProgNo,
+    last: CoupleNo,
+    waiting: &WorkList,
+    found: &mut Vec<AppNo>,
+) -> Result<(), AllocError>
+    requires program { program < length assignment.now.market.programs }
+    requires watch { IsWatching last assignment.now waiting.now.agents watch.now }
+    requires waiting { IsListOf assignment.now.market waiting.now }
+    requires found { AreApplicantsOf assignment.now.market found.old.items }
+    ensures found { OnOk result (AreApplicantsOf assignment.now.market found.new.items) }
+    ensures keeps { OnOk result (Keeps found.old.items found.new.items) }
+    ensures adds { OnOk result (AddsCouples last assignment.now program waiting.now.agents found.new.items) }
+{
+    if watch.couples(program).len() / 2 < LEAST_NOTES {
+        add_few_members(assignment, watch, program, last, waiting, found)
+    } else {
+        add_many_members(
+            rt, alloc, assignment, watch, program, last, waiting, found,
+        )
+    }
+}
+
 /// Adds all applicants whose agents are reopened by an option at the program.
-fn add_reopened(
+fn add_reopened<R: Threads + Sync>(
+    rt: &R,
+    alloc: Global,
     assignment: &Assignment<'_>,
     watch: &Watch,
     program: ProgNo,
@@ -189,11 +284,14 @@ fn add_reopened(
         waiting,
         found,
     )?;
-    add_members(assignment, watch, program, last, waiting, found)
+    add_members(
+        rt, alloc, assignment, watch, program, last, waiting, found,
+    )
 }
 
 /// All applicants whose agents are reopened by an option at a program that was left.
-fn reopened(
+fn reopened<R: Threads + Sync>(
+    rt: &R,
     alloc: Global,
     assignment: &Assignment<'_>,
     watch: &Watch,
@@ -210,7 +308,9 @@ fn reopened(
 {
     let mut found = Vec::new(alloc);
     for program in left {
-        add_reopened(assignment, watch, *program, last, waiting, &mut found)?;
+        add_reopened(
+            rt, alloc, assignment, watch, *program, last, waiting, &mut found,
+        )?;
     }
     Ok(found)
 }
@@ -273,7 +373,8 @@ fn join_reopened(
 /// and doesn't wait blocks by an option there alone, and no couple does: so they are singles that want the program more
 /// than what they have, at the ranks that are watched there. Where a couple does, nothing is done, and the result is
 /// false.
-fn look_at_one(
+fn look_at_one<R: Threads + Sync>(
+    rt: &R,
     alloc: Global,
     assignment: &Assignment<'_>,
     watch: &Watch,
@@ -290,7 +391,16 @@ fn look_at_one(
     ensures not_done { IfOk result (λ done. IsFalse done → waiting.new ≡ waiting.old) }
 {
     let mut members = Vec::new(alloc);
-    add_members(assignment, watch, program, last, waiting, &mut members)?;
+    add_members(
+        rt,
+        alloc,
+        assignment,
+        watch,
+        program,
+        last,
+        waiting,
+        &mut members,
+    )?;
     if !members.is_empty() {
         return Ok(false);
     }
@@ -306,7 +416,8 @@ fn look_at_one(
 
 /// Puts those agents of the lists of the programs that were left on the work list that have entered and block now: all
 /// that are reopened at any of them are found first.
-fn look_at_several(
+fn look_at_several<R: Threads + Sync>(
+    rt: &R,
     alloc: Global,
     assignment: &Assignment<'_>,
     watch: &Watch,
@@ -321,7 +432,7 @@ fn look_at_several(
     requires quiet { IsQuietBut last assignment.now left.now waiting.old.agents }
     ensures { OnOk result (Joins waiting.old waiting.new (reopened assignment.now last left.now)) }
 {
-    let found = reopened(alloc, assignment, watch, left, last, waiting)?;
+    let found = reopened(rt, alloc, assignment, watch, left, last, waiting)?;
     for program in left {
         let ranks = ranks_of(alloc, assignment, *program, &found)?;
         join_reopened(assignment, *program, &ranks, left, last, waiting);
@@ -331,7 +442,8 @@ fn look_at_several(
 
 /// Puts those agents of the lists of the programs that were left on the work list that have entered and block
 /// now, where whoever has entered and doesn't wait blocks by an option at such a program alone.
-pub(crate) fn look_at_opened(
+pub(crate) fn look_at_opened<R: Threads + Sync>(
+    rt: &R,
     alloc: Global,
     assignment: &Assignment<'_>,
     watch: &Watch,
@@ -347,9 +459,9 @@ pub(crate) fn look_at_opened(
     ensures { OnOk result (Joins waiting.old waiting.new (reopened assignment.now last left.now)) }
 {
     if left.len() == 1 {
-        if look_at_one(alloc, assignment, watch, left[0], last, waiting)? {
+        if look_at_one(rt, alloc, assignment, watch, left[0], last, waiting)? {
             return Ok(());
         }
     }
-    look_at_several(alloc, assignment, watch, left, last, waiting)
+    look_at_several(rt, alloc, assignment, watch, left, last, waiting)
 }

@@ -143,7 +143,8 @@ fn are_singles_quiet<R: Threads + Sync>(rt: &R, assignment: &Assignment<'_>, wat
 
 /// Puts those agents of the lists of the programs that were left on the work list that have entered and block
 /// now. Where it is quiet, only options at these programs can have been opened.
-fn look_at_left(
+fn look_at_left<R: Threads + Sync>(
+    rt: &R,
     alloc: Global,
     assignment: &Assignment<'_>,
     watch: &Watch,
@@ -160,7 +161,7 @@ fn look_at_left(
     ensures { OnOk result (Joins waiting.old waiting.new (reopened assignment.now last left.now)) }
 {
     if quiet {
-        return look_at_opened(alloc, assignment, watch, left, last, waiting);
+        return look_at_opened(rt, alloc, assignment, watch, left, last, waiting);
     }
     look_at_each(assignment, watch, left, last, waiting);
     Ok(())
@@ -223,7 +224,8 @@ fn note_mover(
 /// Moves the agent to an option that would be taken, and puts on the work list who is to be looked at then:
 /// the displaced agents, the agent itself where it blocks now, and for each program that was left the agents
 /// of its list that block now.
-fn take_option(
+fn take_option<R: Threads + Sync>(
+    rt: &R,
     alloc: Global,
     assignment: &mut Assignment<'_>,
     watch: &mut Watch,
@@ -246,12 +248,13 @@ fn take_option(
     follow_displaced(assignment, watch, &moved.displaced)?;
     note_mover(assignment, watch, &agent)?;
     join_moved(assignment, watch, &moved.displaced, agent, waiting);
-    look_at_left(alloc, assignment, watch, &moved.left, last, quiet, waiting)
+    look_at_left(rt, alloc, assignment, watch, &moved.left, last, quiet, waiting)
 }
 
 /// One round: the agent at the front of the work list, which was taken off it, takes its first better option
 /// that would be taken.
-fn round(
+fn round<R: Threads + Sync>(
+    rt: &R,
     alloc: Global,
     assignment: &mut Assignment<'_>,
     watch: &mut Watch,
@@ -273,7 +276,7 @@ fn round(
                 return Ok(());
             };
             let sent = [(*applicant, Some(program))];
-            take_option(alloc, assignment, watch, waiting, last, quiet, agent, &sent)
+            take_option(rt, alloc, assignment, watch, waiting, last, quiet, agent, &sent)
         }
         Agent::Couple(couple) => {
             let Some(pair) = assignment.first_pair(*couple, watch.better(*couple)) else {
@@ -281,13 +284,14 @@ fn round(
             };
             let (first, second) = assignment.members(*couple);
             let sent = [(first, pair.0), (second, pair.1)];
-            take_option(alloc, assignment, watch, waiting, last, quiet, agent, &sent)
+            take_option(rt, alloc, assignment, watch, waiting, last, quiet, agent, &sent)
         }
     }
 }
 
 /// Makes rounds until the work list is empty. The result is how many rounds of the budget are left.
-fn settle(
+fn settle<R: Threads + Sync>(
+    rt: &R,
     alloc: Global,
     assignment: &mut Assignment<'_>,
     watch: &mut Watch,
@@ -312,7 +316,7 @@ fn settle(
             return Err(CoupleEnd::BudgetSpent);
         }
         left -= 1;
-        round(alloc, assignment, watch, waiting, last, quiet, agent)?;
+        round(rt, alloc, assignment, watch, waiting, last, quiet, agent)?;
     }
     Ok(left)
 }
@@ -355,6 +359,7 @@ pub fn enter_all<R: Threads + Sync>(
         let couple = CoupleNo(number);
         waiting.join(Agent::Couple(couple));
         left = settle(
+            rt,
             alloc,
             &mut assignment,
             &mut watch,

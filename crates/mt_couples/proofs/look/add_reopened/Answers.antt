@@ -5,7 +5,7 @@ use Rattle.mt_couples.proofs.LookFacts.{both_ok, covers_one}
 use Rattle.mt_couples.proofs.look.add_reopened.Goals as goal
 
 pub returns-clause-covers : goal.returns-clause-covers
-returns-clause-covers c =
+returns-clause-covers g c =
     let k = c.args.last in
     let s = c.args.assignment.now in
     let w = c.args.watch.now in

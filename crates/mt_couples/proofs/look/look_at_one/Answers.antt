@@ -16,7 +16,7 @@ use Rattle.mt_couples.proofs.OneFacts.{no_couples, passes_last, passes_next}
 use Rattle.mt_couples.proofs.look.look_at_one.Goals as goal
 
 pub join-requires : goal.join-requires
-join-requires c =
+join-requires g c =
     let s = c.args.assignment.now in
     let k = c.args.last in
     let p = c.args.program in
@@ -29,7 +29,7 @@ join-requires c =
     omega (arith, x_in, room.applicants_are)
 
 pub loop-rank-preserved : goal.loop-rank-preserved
-loop-rank-preserved c =
+loop-rank-preserved g c =
     let s = c.args.assignment.now in
     let k = c.args.last in
     let p = c.args.program in
@@ -60,7 +60,7 @@ loop-rank-preserved c =
     }
 
 pub returns-clause-done : goal.returns-clause-done
-returns-clause-done c = λ done.
+returns-clause-done g c = λ done.
     let s = c.args.assignment.now in
     let k = c.args.last in
     let p = c.args.program in

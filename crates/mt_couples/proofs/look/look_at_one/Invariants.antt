@@ -6,7 +6,7 @@ use Rattle.mt_couples.proofs.QuietFacts.{blocking, IsLooking}
 use Rattle.mt_couples.proofs.look.look_at_one.Given as goal
 
 abbrev pub invariant-loop-rank : goal.invariant-loop-rank
-invariant-loop-rank l = record {
+invariant-loop-rank g l = record {
   looking : IsLooking l.fn.last l.assignment (l.program ∷ []) l.initial.waiting l.waiting
       (filter (blocking l.fn.last l.assignment) (agents_of l.assignment (drop l.next l.ranking))) (blockers l.assignment l.fn.last l.program);
   grows : (g : Agent) → is_on l.initial.waiting.agents g ≡ true → is_on l.waiting.agents g ≡ true;
@@ -14,4 +14,4 @@ invariant-loop-rank l = record {
 }
 
 abbrev pub decreases-loop-rank : goal.decreases-loop-rank
-decreases-loop-rank l = length l.ranking - l.next
+decreases-loop-rank g l = length l.ranking - l.next

@@ -4,11 +4,11 @@ use Rattle.mt_sets.proofs.PlaceFacts.{has_read}
 use Rattle.mt_couples.proofs.look.look_at_opened.Goals as goal
 
 pub look_at_one-requires-clause-program : goal.look_at_one-requires-clause-program
-look_at_one-requires-clause-program c =
+look_at_one-requires-clause-program g c κs within =
     c.requires.programs c.index-left-0.result (has_read c.args.left.now 0 c.index-left-0.result (omega (arith, c.if-left-eq1.true)) c.index-left-0.is)
 
 pub look_at_one-requires-clause-quiet : goal.look_at_one-requires-clause-quiet
-look_at_one-requires-clause-quiet c = grind (arith, common_steps)
+look_at_one-requires-clause-quiet g c κs within = grind (arith, common_steps)
 
 pub returns-then-branch : goal.returns-then-branch
-returns-then-branch c = grind (arith, common_steps)
+returns-then-branch g c = grind (arith, common_steps)

@@ -15,15 +15,15 @@ use Rattle.mt_couples.proofs.LookFacts.{reopened_before}
 use Rattle.mt_couples.proofs.look.look_at_several.Goals as goal
 
 pub ranks_of-requires-clause-program : goal.ranks_of-requires-clause-program
-ranks_of-requires-clause-program c =
+ranks_of-requires-clause-program g c =
     c.requires.programs c.program-item.result (has_read c.args.left.now c.loop-program.program-index c.program-item.result c.loop-program-test.true c.program-item.is)
 
 pub join_reopened-requires-clause-program : goal.join_reopened-requires-clause-program
-join_reopened-requires-clause-program c =
+join_reopened-requires-clause-program g c =
     c.requires.programs c.program-item.result (has_read c.args.left.now c.loop-program.program-index c.program-item.result c.loop-program-test.true c.program-item.is)
 
 pub join_reopened-requires-clause-ranks : goal.join_reopened-requires-clause-ranks
-join_reopened-requires-clause-ranks c =
+join_reopened-requires-clause-ranks g c =
     let s = c.args.assignment.now in
     let k = c.args.last in
     let p = c.program-item.result in
@@ -36,7 +36,7 @@ join_reopened-requires-clause-ranks c =
     })
 
 pub loop-program-preserved : goal.loop-program-preserved
-loop-program-preserved c =
+loop-program-preserved g c =
     let s = c.args.assignment.now in
     let k = c.args.last in
     let p = c.program-item.result in
@@ -54,4 +54,4 @@ loop-program-preserved c =
     }
 
 pub returns : goal.returns
-returns c = grind (arith, common_steps)
+returns g c = grind (arith, common_steps)

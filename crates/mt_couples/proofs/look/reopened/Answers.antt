@@ -7,14 +7,14 @@ use Rattle.mt_couples.proofs.LookFacts.{covers_all}
 use Rattle.mt_couples.proofs.look.reopened.Goals as goal
 
 pub add_reopened-requires-clause-program : goal.add_reopened-requires-clause-program
-add_reopened-requires-clause-program c =
+add_reopened-requires-clause-program g c κs within =
     c.requires.programs c.program-item.result (has_read c.args.left.now c.loop-program.program-index c.program-item.result c.loop-program-test.true c.program-item.is)
 
 pub returns-clause-covers : goal.returns-clause-covers
-returns-clause-covers c =
+returns-clause-covers g c =
     let found = c.loop-program.found.items in
     covers_all c.args.last c.args.assignment.now c.args.left.now c.args.waiting.now.agents found
     (each_all (λ p. Covers c.args.last c.args.assignment.now (p ∷ []) c.args.waiting.now.agents found) c.args.left.now c.loop-program.program-index c.loop-program-test.false c.loop-program.invariant.covers)
 
 pub loop-program-preserved : goal.loop-program-preserved
-loop-program-preserved c = grind (arith, common_steps)
+loop-program-preserved g c = grind (arith, common_steps)

@@ -22,7 +22,7 @@ pub new-requires-clause-listed : goal.new-requires-clause-listed
 new-requires-clause-listed g c = listed_of_fitting c.args.roster.now.market c.args.singles.places c.couples-couples.ensures.registration.well_formed c.requires.fits
 
 pub settle-requires-clause-running : goal.settle-requires-clause-running
-settle-requires-clause-running g c =
+settle-requires-clause-running g c κs within =
     let so_far = c.loop-number.invariant.entering in
     let m = c.args.roster.now.market in
     let joins = known_joins c.loop-number.waiting c.join.new.self c.loop-number.number so_far.nobody_waits c.join.ensures in
@@ -97,7 +97,7 @@ returns-then-couples-eq0-clause-stable g c = λ best.
     (none_enters c.args.roster.now.market places c.args.budget (sym c.couples-couples.ensures.count ∙ c.if-couples-eq0.true))
 
 pub settle-requires-clause-watch : goal.settle-requires-clause-watch
-settle-requires-clause-watch g c =
+settle-requires-clause-watch g c κs within =
     let number = c.loop-number.number in
     let joins = known_joins c.loop-number.waiting c.join.new.self number c.loop-number.invariant.entering.nobody_waits c.join.ensures in
     record {

@@ -7,29 +7,29 @@ use Rattle.mt_couples.proofs.RoundFacts.{front_within, front_takes}
 use Rattle.mt_couples.proofs.rounds.round.Goals as goal
 
 pub first_program-requires : goal.first_program-requires
-first_program-requires c = subst (IsAgentOf c.args.assignment.now.market) c.in-Single.is (front_within c.requires.running)
+first_program-requires g c = subst (IsAgentOf c.args.assignment.now.market) c.in-Single.is (front_within c.requires.running)
 
 pub first_pair-requires-clause-couple : goal.first_pair-requires-clause-couple
-first_pair-requires-clause-couple c = subst (IsAgentOf c.args.assignment.now.market) c.in-Couple.is (front_within c.requires.running)
+first_pair-requires-clause-couple g c = subst (IsAgentOf c.args.assignment.now.market) c.in-Couple.is (front_within c.requires.running)
 
 pub first_pair-requires-clause-better : goal.first_pair-requires-clause-better
-first_pair-requires-clause-better c =
+first_pair-requires-clause-better g c =
     c.better.ensures ∙ c.requires.watch.counted.each c.in-Couple.couple (subst (IsAgentOf c.args.assignment.now.market) c.in-Couple.is (front_within c.requires.running))
 
 pub take_option-requires-clause-taking : goal.take_option-requires-clause-taking
-take_option-requires-clause-taking c =
+take_option-requires-clause-taking g c κs within =
     front_takes c.requires.running (single_placement c.in-Single.applicant c.in-Some.program)
     (ap (first_taken c.args.assignment.now.market c.args.assignment.now.places) c.in-Single.is ∙ sym c.in-Some.ensures)
 
 pub take_option-requires-in-Couple-clause-taking : goal.take_option-requires-in-Couple-clause-taking
-take_option-requires-in-Couple-clause-taking c =
+take_option-requires-in-Couple-clause-taking g c κs within =
     let pair = c.in-Some-first_pair.pair in
     front_takes c.requires.running (couple_placement c.members-first.result.0 c.members-first.result.1 pair)
     (ap (first_taken c.args.assignment.now.market c.args.assignment.now.places) c.in-Couple.is ∙ sym c.in-Some-first_pair.ensures
     ∙ ap₂ (λ a b. Some (couple_placement a b pair)) (sym c.members-first.ensures.first) (sym c.members-first.ensures.second))
 
 pub note_better-requires-clause-couple : goal.note_better-requires-clause-couple
-note_better-requires-clause-couple c = subst (IsAgentOf c.args.assignment.now.market) c.in-Couple.is (front_within c.requires.running)
+note_better-requires-clause-couple g c = subst (IsAgentOf c.args.assignment.now.market) c.in-Couple.is (front_within c.requires.running)
 
 pub members-first-requires : goal.members-first-requires
-members-first-requires c = grind (arith, common_steps)
+members-first-requires g c = grind (arith, common_steps)

@@ -29,32 +29,32 @@ use Rattle.mt_assignment.proofs.MoveFacts.{are_sent, displaced_within}
 use Rattle.mt_couples.proofs.rounds.take_option.Goals as goal
 
 pub join_moved-requires-clause-displaced : goal.join_moved-requires-clause-displaced
-join_moved-requires-clause-displaced c = λ a on.
+join_moved-requires-clause-displaced g c = λ a on.
     let is = c.deref-2.ensures.value ∙ c.in_ok-moved.ensures.displaced in
     omega (arith, ap (λ (x : Assigned). applicants x.market) c.in_ok-moved.ensures.places, displaced_within c.requires.taking a (ap (λ xs. has xs a) (sym is) ∙ on))
 
 pub join_moved-requires-clause-agent : goal.join_moved-requires-clause-agent
-join_moved-requires-clause-agent c = subst (λ (x : Assigned). IsAgentOf x.market c.args.agent) (sym c.in_ok-moved.ensures.places) (front_within c.requires.running)
+join_moved-requires-clause-agent g c = subst (λ (x : Assigned). IsAgentOf x.market c.args.agent) (sym c.in_ok-moved.ensures.places) (front_within c.requires.running)
 
 pub join_moved-requires-clause-waiting : goal.join_moved-requires-clause-waiting
-join_moved-requires-clause-waiting c =
+join_moved-requires-clause-waiting g c =
     subst (λ (s : Assigned). IsListOf s.market c.args.waiting.now) (sym c.in_ok-moved.ensures.places) (rest_list _ _ (c.args.agent ∷ c.args.waiting.now.agents) c.requires.running.waiting)
 
 pub look_at_left-requires-clause-programs : goal.look_at_left-requires-clause-programs
-look_at_left-requires-clause-programs c = λ p on.
+look_at_left-requires-clause-programs g c κs within = λ p on.
     let programs = c.args.assignment.now.market.programs in
     let is = c.deref-3.ensures.value ∙ c.in_ok-moved.ensures.left in
     let kept = of_kept _ p (below (length programs)) (has_in p _ (ap (λ xs. has xs p) (sym is) ∙ on)) in
     omega (arith, ap (λ (x : Assigned). length x.market.programs) c.in_ok-moved.ensures.places, of_below p (length programs) kept.0)
 
 pub look_at_left-requires-clause-waiting : goal.look_at_left-requires-clause-waiting
-look_at_left-requires-clause-waiting c =
+look_at_left-requires-clause-waiting g c κs within =
     let s = c.move_to.new.self in
     joined_list s.market c.args.waiting.now c.join_moved.new.waiting (agents_of s c.deref-2.result.now ++ if_blocking s c.args.agent)
     (subst (λ (x : Assigned). IsListOf x.market c.args.waiting.now) (sym c.in_ok-moved.ensures.places) (rest_list _ _ (c.args.agent ∷ c.args.waiting.now.agents) c.requires.running.waiting)) c.join_moved.ensures
 
 pub look_at_left-requires-clause-market : goal.look_at_left-requires-clause-market
-look_at_left-requires-clause-market c =
+look_at_left-requires-clause-market g c κs within =
     subst (λ (x : Assigned). IsWellFormed x.market) (sym c.in_ok-moved.ensures.places) c.requires.taking.well_formed
 
 -- the agents of who is displaced join, and the one that moved, by the match before the move
@@ -63,7 +63,7 @@ moved_join : (s0 s1 : Assigned) (sent : Placement) (g : Agent) (old new : Waitin
 moved_join s0 s1 sent g old new xs after displaced joins = joins ∙ ap₂ (λ (x : Assigned) ys. with_agents old (all_joined old.agents (agents_of x ys ++ if_blocking x g))) after displaced
 
 pub look_at_left-requires-clause-quiet : goal.look_at_left-requires-clause-quiet
-look_at_left-requires-clause-quiet c = λ so.
+look_at_left-requires-clause-quiet g c κs within = λ so.
     let s0 = c.args.assignment.now in
     let after = c.in_ok-moved.ensures.places in
     let left = c.deref-3.result.now in
@@ -74,11 +74,11 @@ look_at_left-requires-clause-quiet c = λ so.
     (quiet_but_left c.requires.taking c.args.last c.args.waiting.now.agents left (c.requires.running.is_quiet so) (c.deref-3.ensures.value ∙ c.in_ok-moved.ensures.left)))
 
 pub follow_sent-requires : goal.follow_sent-requires
-follow_sent-requires c =
+follow_sent-requires g c =
     subst (λ (x : Assigned). AreSent x.market c.args.sent.now) (sym c.in_ok-moved.ensures.places) (are_sent c.requires.taking)
 
 pub follow_displaced-requires : goal.follow_displaced-requires
-follow_displaced-requires c = λ a on.
+follow_displaced-requires g c = λ a on.
     let is = c.deref.ensures.value ∙ c.in_ok-moved.ensures.displaced in
     omega (arith, ap (λ (x : Assigned). applicants x.market) c.in_ok-moved.ensures.places, displaced_within c.requires.taking a (ap (λ xs. has xs a) (sym is) ∙ on))
 
@@ -116,15 +116,15 @@ watching s0 s1 sent g k ws now w0 w1 w2 w3 xs taking after before first second c
     }
 
 pub note_mover-requires-clause-agent : goal.note_mover-requires-clause-agent
-note_mover-requires-clause-agent c = subst (λ (x : Assigned). IsAgentOf x.market c.args.agent) (sym c.in_ok-moved.ensures.places) (front_within c.requires.running)
+note_mover-requires-clause-agent g c = subst (λ (x : Assigned). IsAgentOf x.market c.args.agent) (sym c.in_ok-moved.ensures.places) (front_within c.requires.running)
 
 pub note_mover-requires-clause-named : goal.note_mover-requires-clause-named
-note_mover-requires-clause-named c =
+note_mover-requires-clause-named g c =
     subst (λ (x : Assigned). AreNamed x.market c.follow_displaced.new.watch.couples) (sym c.in_ok-moved.ensures.places)
     (subst (AreNamed c.args.assignment.now.market) (sym (c.in_ok-follow_displaced.ensures.couples ∙ c.in_ok-follow_sent.ensures.couples)) c.requires.watch.named)
 
 pub note_mover-requires-clause-counted : goal.note_mover-requires-clause-counted
-note_mover-requires-clause-counted c =
+note_mover-requires-clause-counted g c =
     counting c.args.assignment.now c.move_to.new.self c.args.sent.now c.args.agent c.args.watch.now c.follow_sent.new.watch c.follow_displaced.new.watch c.deref.result.now
     c.requires.taking c.in_ok-moved.ensures.places c.requires.watch.counted c.in_ok-follow_sent.ensures.better c.in_ok-follow_displaced.ensures.better
     (c.deref.ensures.value ∙ c.in_ok-moved.ensures.displaced)
@@ -134,7 +134,7 @@ in_front : (gs hs : List Agent) (h : Agent) → is_on gs h ≡ true → is_on (g
 in_front gs hs h on = list_any-append (is_same_agent h) gs hs ∙ or_left (is_on gs h) (is_on hs h) on
 
 pub look_at_left-requires-clause-watch : goal.look_at_left-requires-clause-watch
-look_at_left-requires-clause-watch c =
+look_at_left-requires-clause-watch g c κs within =
     let s0 = c.args.assignment.now in
     let s1 = c.move_to.new.self in
     let old = c.args.waiting.now in
@@ -149,7 +149,7 @@ look_at_left-requires-clause-watch c =
     (λ h on. joins_keeps old new (out ++ itself) h first on) (λ h on. joins_adds old new (out ++ itself) h first (in_front out itself h on))
 
 pub returns : goal.returns
-returns c =
+returns g c =
     let s0 = c.args.assignment.now in
     let s1 = moved s0 c.args.sent.now in
     let after = c.in_ok-moved.ensures.places in
@@ -180,29 +180,29 @@ returns c =
     }
 
 pub join_moved-requires-clause-counted : goal.join_moved-requires-clause-counted
-join_moved-requires-clause-counted c =
+join_moved-requires-clause-counted g c =
     subst (λ (v : Vec ℕ Global). AreCounted c.move_to.new.self v.items) (sym c.in_ok-note_mover.ensures.better)
     (counting c.args.assignment.now c.move_to.new.self c.args.sent.now c.args.agent c.args.watch.now c.follow_sent.new.watch c.follow_displaced.new.watch c.deref.result.now
     c.requires.taking c.in_ok-moved.ensures.places c.requires.watch.counted c.in_ok-follow_sent.ensures.better c.in_ok-follow_displaced.ensures.better
     (c.deref.ensures.value ∙ c.in_ok-moved.ensures.displaced))
 
 pub returns-in_err-moved : goal.returns-in_err-moved
-returns-in_err-moved c = grind (arith, common_steps)
+returns-in_err-moved g c = grind (arith, common_steps)
 
 pub move_to-requires : goal.move_to-requires
-move_to-requires c = grind (arith, common_steps)
+move_to-requires g c = grind (arith, common_steps)
 
 pub returns-in_err-note_mover : goal.returns-in_err-note_mover
-returns-in_err-note_mover c =
+returns-in_err-note_mover g c =
     let no = λ (P : Type 0). IfOk-from_err c.from_residual-in_err-note_mover.result (λ _. P) c.from_residual-in_err-note_mover.ensures.0 in
     record { watch = no _; market = no _; room = no _; work = no _ }
 
 pub returns-in_err-follow_sent : goal.returns-in_err-follow_sent
-returns-in_err-follow_sent c =
+returns-in_err-follow_sent g c =
     let no = λ (P : Type 0). IfOk-from_err c.from_residual-in_err-follow_sent.result (λ _. P) c.from_residual-in_err-follow_sent.ensures.0 in
     record { watch = no _; market = no _; room = no _; work = no _ }
 
 pub returns-in_err-follow_displaced : goal.returns-in_err-follow_displaced
-returns-in_err-follow_displaced c =
+returns-in_err-follow_displaced g c =
     let no = λ (P : Type 0). IfOk-from_err c.from_residual-in_err-follow_displaced.result (λ _. P) c.from_residual-in_err-follow_displaced.ensures.0 in
     record { watch = no _; market = no _; room = no _; work = no _ }

@@ -11,8 +11,8 @@ use Rattle.mt_sets.proofs.NamedFacts.{note_within}
 use Rattle.mt_sets.proofs.GrowingFacts.{has_still}
 use Rattle.mt_couples.proofs.WatchFacts.{index_of}
 use Rattle.mt_couples.proofs.LookFacts.{found_both, no_note, open_note, within_more, AreFoundBy}
-use Rattle.mt_couples.proofs.look.add_members.Goals as goal
-use Rattle.mt_couples.proofs.look.add_members.Goals.{then-is_noted_reopened+in_ok-push+in_ok-push-2, else-is_noted_reopened}
+use Rattle.mt_couples.proofs.look.add_few_members.Goals as goal
+use Rattle.mt_couples.proofs.look.add_few_members.Goals.{then-is_noted_reopened+in_ok-push+in_ok-push-2, else-is_noted_reopened}
 
 pub is_noted_reopened-requires-clause-couple : goal.is_noted_reopened-requires-clause-couple
 is_noted_reopened-requires-clause-couple c =

@@ -1,0 +1,12 @@
+use Rattle.std.proofs.Common.{◌<◌, ℕ, get_or}
+use Rattle.mt_assignment.specs.Assigned.{AreApplicantsOf}
+use Rattle.mt_couples.specs.Looking.{Keeps}
+use Rattle.mt_couples.proofs.LookFacts.{no_note, AreFoundBy}
+use Rattle.mt_couples.proofs.look.add_few_members.Given as goal
+
+abbrev pub invariant-loop-note : goal.invariant-loop-note
+invariant-loop-note l = record {
+  within : AreApplicantsOf l.assignment.market l.found.items;
+  keeps : Keeps l.initial.found.items l.found.items;
+  adds : (j : ℕ) → j < l.note-index → AreFoundBy l.last l.assignment l.fn.program l.waiting.agents l.watch l.found.items (get_or l.note-items j no_note);
+}
