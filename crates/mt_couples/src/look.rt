@@ -250,9 +250,7 @@ fn add_members<R: Threads + Sync>(
     if watch.couples(program).len() / 2 < LEAST_NOTES {
         add_few_members(assignment, watch, program, last, waiting, found)
     } else {
-        add_many_members(
-            rt, alloc, assignment, watch, program, last, waiting, found,
-        )
+        add_many_members(rt, alloc, assignment, watch, program, last, waiting, found)
     }
 }
 
@@ -284,9 +282,7 @@ fn add_reopened<R: Threads + Sync>(
         waiting,
         found,
     )?;
-    add_members(
-        rt, alloc, assignment, watch, program, last, waiting, found,
-    )
+    add_members(rt, alloc, assignment, watch, program, last, waiting, found)
 }
 
 /// All applicants whose agents are reopened by an option at a program that was left.

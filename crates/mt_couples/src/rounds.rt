@@ -248,7 +248,16 @@ fn take_option<R: Threads + Sync>(
     follow_displaced(assignment, watch, &moved.displaced)?;
     note_mover(assignment, watch, &agent)?;
     join_moved(assignment, watch, &moved.displaced, agent, waiting);
-    look_at_left(rt, alloc, assignment, watch, &moved.left, last, quiet, waiting)
+    look_at_left(
+        rt,
+        alloc,
+        assignment,
+        watch,
+        &moved.left,
+        last,
+        quiet,
+        waiting,
+    )
 }
 
 /// One round: the agent at the front of the work list, which was taken off it, takes its first better option
@@ -276,7 +285,9 @@ fn round<R: Threads + Sync>(
                 return Ok(());
             };
             let sent = [(*applicant, Some(program))];
-            take_option(rt, alloc, assignment, watch, waiting, last, quiet, agent, &sent)
+            take_option(
+                rt, alloc, assignment, watch, waiting, last, quiet, agent, &sent,
+            )
         }
         Agent::Couple(couple) => {
             let Some(pair) = assignment.first_pair(*couple, watch.better(*couple)) else {
@@ -284,7 +295,9 @@ fn round<R: Threads + Sync>(
             };
             let (first, second) = assignment.members(*couple);
             let sent = [(first, pair.0), (second, pair.1)];
-            take_option(rt, alloc, assignment, watch, waiting, last, quiet, agent, &sent)
+            take_option(
+                rt, alloc, assignment, watch, waiting, last, quiet, agent, &sent,
+            )
         }
     }
 }

@@ -1,5 +1,5 @@
 -- The notes are those of the program, so their couples are of the market. The answers are the test's, in their order.
-use Rattle.std.proofs.Common.{◌≡◌, ◌∙◌, ◌<◌, ℕ, Bool, List, ap, map, refl, sym}
+use Rattle.std.proofs.Common.{◌≡◌, ◌∙◌, ℕ, Bool, List, ap, map, refl}
 use Rattle.std.specs.Borrow.{Bor}
 use Rattle.std.specs.List.{AllZip}
 use Rattle.std.proofs.lemmas.List.{get_or_default}

@@ -1,10 +1,10 @@
 -- Whoever doesn't wait is in neither set, and fewer than all agents wait, so there is room for it.
-use Rattle.std.proofs.Common.{◌≡◌, ◌∙◌, ◌+◌, ◌<◌, ◌++◌, ◌∷◌, [], append_assoc, ap, arith, false, drop, if◌then◌else◌, length, subst, sym}
+use Rattle.std.proofs.Common.{◌≡◌, ◌∙◌, ◌++◌, ◌∷◌, [], append_assoc, ap, arith, false, drop, if◌then◌else◌, length, subst, sym}
 use Rattle.std.proofs.lemmas.Bool.{or_parts}
 use Rattle.std.proofs.lemmas.List.{length-append}
 use Rattle.std.proofs.lemmas.List.Folds.{list_any-append}
 use Rattle.std.proofs.lemmas.Result.{IfOk-at_ok}
-use Rattle.mt_terms.specs.Rounds.{is_on, is_same_agent, joined}
+use Rattle.mt_terms.specs.Rounds.{is_on, is_same_agent}
 use Rattle.mt_sets.specs.View.{waiting_in}
 use Rattle.mt_sets.specs.Waiting.{IsKnown, Waiting, WaitOnce}
 use Rattle.mt_sets.proofs.WaitingFacts.{on_by_eq, room_left, wait_joined}
