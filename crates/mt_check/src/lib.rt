@@ -14,7 +14,6 @@ mod whole;
 
 pub use checked::Checked;
 pub use finding::Finding;
-pub use mt_report::RefusalLine;
-pub use refusal::refused;
+pub use refusal::{RefusalLine, refused};
 pub use source::Source;
 pub use whole::check;

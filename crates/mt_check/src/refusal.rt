@@ -1,12 +1,59 @@
-ghost use Rattle.std.specs.Prelude.{◌≡◌, ◌≤◌, length, IsTrue};
+ghost use Rattle.std.specs.Prelude.{◌≡◌, ◌+◌, ◌≤◌, ◌++◌, [], length, IsTrue};
 ghost use Rattle.mt_terms.specs.Text.{name_among};
 ghost use Rattle.mt_check.specs.Text.{is_code_of, refusals, refused_line, source_word};
 
 use crate::source::Source;
 use itoa::Buffer;
 use mt_match::codes as of_match;
-use mt_report::{RefusalLine, id_or_dash};
+use mt_report::id_or_dash;
 use mt_terms::codes;
+use std::marker::Model;
+
+/// The line of a refusal of a file, of at most 136 bytes, without memory of its own.
+#[derive(Drop)]
+pub struct RefusalLine {
+    bytes: [u8; 136],
+    len: usize,
+}
+
+impl Model for RefusalLine {
+    ghost use Rattle.std.specs.Prelude.{ℕ, List, take, ◌≤◌};
+
+    ghost Value = { List ℕ };
+
+    ghost view = { λ l. take l.len l.bytes };
+
+    ghost invariant = { λ l. l.len ≤ 136 };
+}
+
+impl RefusalLine {
+    /// The bytes of the line, its line feed included.
+    pub fn as_bytes(&self) -> &[u8]
+        ensures { result.now ≡ self.now }
+    {
+        &self.bytes[..self.len]
+    }
+
+    // A line with nothing on it.
+    fn new() -> Self
+        ensures { result ≡ [] }
+    {
+        RefusalLine {
+            bytes: [0; 136],
+            len: 0,
+        }
+    }
+
+    // Adds bytes at the end, for which there is room.
+    fn push(&mut self, text: &[u8])
+        requires { length self.old + length text.now ≤ 136 }
+        ensures { self.new ≡ self.old ++ text.now }
+    {
+        let end = self.len + text.len();
+        self.bytes[self.len..end].copy_from_slice(text);
+        self.len = end;
+    }
+}
 
 /// The name of a refusal's code.
 fn code_name(source: Source, code: u16) -> &'static [u8]

@@ -5,10 +5,10 @@ use itoa::Buffer;
 use mt_terms::codes;
 use std::marker::Model;
 
-/// The line of a refusal, of at most 160 bytes, without memory of its own.
+/// The line of a refusal, of at most 128 bytes, without memory of its own.
 #[derive(Drop)]
 pub struct RefusalLine {
-    bytes: [u8; 160],
+    bytes: [u8; 128],
     len: usize,
 }
 
@@ -19,7 +19,7 @@ impl Model for RefusalLine {
 
     ghost view = { λ l. take l.len l.bytes };
 
-    ghost invariant = { λ l. l.len ≤ 160 };
+    ghost invariant = { λ l. l.len ≤ 128 };
 }
 
 impl RefusalLine {
@@ -30,19 +30,19 @@ impl RefusalLine {
         &self.bytes[..self.len]
     }
 
-    /// A line with nothing on it.
-    pub fn new() -> Self
+    // A line with nothing on it.
+    fn new() -> Self
         ensures { result ≡ [] }
     {
         RefusalLine {
-            bytes: [0; 160],
+            bytes: [0; 128],
             len: 0,
         }
     }
 
-    /// Adds bytes at the end, for which there is room.
-    pub fn push(&mut self, text: &[u8])
-        requires { length self.old + length text.now ≤ 160 }
+    // Adds bytes at the end, for which there is room.
+    fn push(&mut self, text: &[u8])
+        requires { length self.old + length text.now ≤ 128 }
         ensures { self.new ≡ self.old ++ text.now }
     {
         let end = self.len + text.len();
