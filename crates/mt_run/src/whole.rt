@@ -1,5 +1,5 @@
 ghost use Rattle.std.specs.Prelude.{◌≡◌, ℕ, ◌+◌, ◌<◌, ◌≤◌, ◌^◌, ◌↔◌, ◌≢◌, length, if◌then◌else◌, IfErr, IfOk, IsTrue, Ok};
-ghost use Rattle.mt_lists.specs.Tap.{bytes_left, failures_of as read_failures_of, reads_of};
+ghost use Rattle.mt_lists.specs.Tap.{LosesAtMost, bytes_left, failures_of as read_failures_of, reads_of};
 ghost use Rattle.mt_terms.specs.Registration.{market_of};
 ghost use Rattle.mt_terms.specs.declared.codes.TheConstants.{READ_FAULT};
 ghost use Rattle.mt_report.specs.Drains.{contents_of, failures_of, is_flushed};
@@ -77,6 +77,7 @@ fn answer_to_input<T: Threads + Wait + Sync, R: Read>(
     ensures text { IfOk result (λ text. IsAnswerTo (bytes_left R.remaining tap.old) options.budget 0 text.items) }
     ensures refused { IfErr result (IsRefusalTo (bytes_left R.remaining tap.old) options.budget) }
     ensures fault { (code_of result ≡ READ_FAULT) ↔ (read_failures_of tap.old < read_failures_of tap.new) }
+    ensures taken { LosesAtMost (most_bytes + 1) (bytes_left R.remaining tap.old) (bytes_left R.remaining tap.new) }
     ensures reads { RisesAtMost (most_bytes + 1) (reads_of tap.old) (reads_of tap.new) }
     ensures failures { RisesAtMost 1 (read_failures_of tap.old) (read_failures_of tap.new) }
 {
@@ -106,6 +107,7 @@ pub fn run<T: Threads + Wait + Sync, R: Read, W: Write>(
     ensures writer { failures_of drain.new ≡ failures_of drain.old + (if result.whole then 0 else 1) }
     ensures flushed { IsTrue result.whole → IsTrue (is_flushed drain.new) }
     ensures fault { (result.code ≡ READ_FAULT) ↔ (read_failures_of tap.old < read_failures_of tap.new) }
+    ensures taken { LosesAtMost (most_bytes + 1) (bytes_left R.remaining tap.old) (bytes_left R.remaining tap.new) }
     ensures reads { RisesAtMost (most_bytes + 1) (reads_of tap.old) (reads_of tap.new) }
     ensures failures { RisesAtMost 1 (read_failures_of tap.old) (read_failures_of tap.new) }
 {
