@@ -61,18 +61,33 @@ pub record OfLeft (P : List ℕ → List ℕ → ℕ → List ℕ → Type 0) (m
   pub match_left : AreLeft told match_bytes
   pub is_so : P market_bytes match_bytes code text
 
+-- the bytes that a reader had left are those of a market, or some bytes are where it doesn't tell them
+pub record Stands (market : Option (List ℕ)) : Type 0 where
+  pub bytes : List ℕ
+  pub are_left : AreLeft market bytes
+  pub registered : Registered
+  pub is_market : market_in bytes ≡ Ok registered
+
+-- The files come in turn: a refusal names the market where no read of the match was made, and the match where the market
+-- stands.
+abbrev pub IsInTurn : Option (List ℕ) → ℕ → Source → Type 0
+IsInTurn market reads Market = reads ≡ 0
+IsInTurn market reads Match = Stands market
+
 -- a count goes up by no more than this
 abbrev pub RisesAtMost : ℕ → ℕ → ℕ → Type 0
 RisesAtMost most old new = (old ≤ new) × (new ≤ old + most)
 
--- What a check did: it appended the first bytes of a line, all of it where the writer didn't fail. The line says what is
--- so of the match that is told, where the code is 0 or 1, and else it is one named refusal line; and but for want of
--- memory and a read that failed it is the answer to the bytes that were there to read.
-pub record Answers (market told old new : Option (List ℕ)) (code written : ℕ) (whole : Bool) : Type 0 where
+-- What a check did that made this number of reads of the match: it appended the first bytes of a line, all of it where
+-- the writer didn't fail. The line says what is so of the match that is told, where the code is 0 or 1, and else it is one named
+-- refusal line, of the file whose turn it is; and but for want of memory and a read that failed it is the answer to the
+-- bytes that were there to read.
+pub record Answers (market told : Option (List ℕ)) (reads : ℕ) (old new : Option (List ℕ)) (code written : ℕ) (whole : Bool) : Type 0 where
   pub text : List ℕ
   pub appended : Appends old new (take written text)
   pub within : written ≤ length text
   pub all : IsTrue whole → written ≡ length text
   pub judged : code ≤ 1 → OfLeft IsJudged market told code text
   pub refusal : 1 < code → IsRefusal code text
+  pub in_turn : (refused : 1 < code) → IsInTurn market reads (refusal refused).file
   pub answer : code ≢ OUT_OF_MEMORY → code ≢ READ_FAULT → OfLeft IsAnswer market told code text

@@ -1,11 +1,11 @@
-ghost use Rattle.std.specs.Prelude.{◌≡◌, ◌⊎◌, ℕ, ◌+◌, ◌<◌, ◌≤◌, ◌^◌, ◌↔◌, ◌≢◌, length, if◌then◌else◌, IfErr, IfOk, IsTrue, Ok};
+ghost use Rattle.std.specs.Prelude.{◌≡◌, ◌⊎◌, ℕ, ◌+◌, ◌<◌, ◌≤◌, ◌-◌, ◌^◌, ◌↔◌, ◌≢◌, length, if◌then◌else◌, IfErr, IfOk, IsTrue, Ok};
 ghost use Rattle.mt_lists.specs.Tap.{bytes_left, failures_of as read_failures_of, reads_of};
 ghost use Rattle.mt_match.specs.Told.{told_by};
 ghost use Rattle.mt_terms.specs.Registration.{market_of};
 ghost use Rattle.mt_terms.specs.Places.{ArePlaces};
 ghost use Rattle.mt_terms.specs.declared.codes.TheConstants.{READ_FAULT};
 ghost use Rattle.mt_report.specs.Drains.{contents_of, failures_of, is_flushed};
-ghost use Rattle.mt_check.specs.Answer.{Answers, IsAnswer, OfLeft, RisesAtMost, finding_answer, told_answer};
+ghost use Rattle.mt_check.specs.Answer.{Answers, IsAnswer, IsInTurn, OfLeft, RisesAtMost, finding_answer, told_answer};
 ghost use Rattle.mt_check.specs.Ends.{IsRefused, answer_seen, end_code};
 ghost use Rattle.mt_check.specs.Findings.{finding_of};
 ghost use Rattle.mt_check.specs.Headline.{market_in, most_bytes, told_in};
@@ -218,6 +218,7 @@ fn answer<T: Threads + Sync, R: Read, S: Read>(
         found.code found.text.items) }
     ensures code { IfOk result (λ found. found.code ≤ 1) }
     ensures refused { IfErr result (IsRefused (bytes_left R.remaining market.old) (bytes_left S.remaining told.old)) }
+    ensures in_turn { IfErr result (λ e. IsInTurn (bytes_left R.remaining market.old) (reads_of told.new - reads_of told.old) e.source) }
     ensures fault { (end_code result ≡ READ_FAULT)
         ↔ ((read_failures_of market.old < read_failures_of market.new) ⊎ (read_failures_of told.old < read_failures_of told.new)) }
     ensures market_reads { RisesAtMost (most_bytes + 1) (reads_of market.old) (reads_of market.new) }
@@ -236,7 +237,7 @@ fn answer<T: Threads + Sync, R: Read, S: Read>(
 
 /// The whole check: reads a market and a match, and writes one line: that the match is stable by the market's lists and
 /// its counts fit it, or the first finding against it, or a refusal of one of the files. The market is read and judged
-/// first. The line is complete before the first byte is written.
+/// first, and a market that is refused leaves the match unread. The line is complete before the first byte is written.
 pub fn check<T: Threads + Sync, R: Read, S: Read, W: Write>(
     rt: &T,
     alloc: Global,
@@ -247,7 +248,8 @@ pub fn check<T: Threads + Sync, R: Read, S: Read, W: Write>(
     requires market { reads_of market.old + most_bytes < u64.MAX }
     requires told { reads_of told.old + most_bytes < u64.MAX }
     requires failures { failures_of drain.old + 1 < 2 ^ 64 }
-    ensures answers { Answers (bytes_left R.remaining market.old) (bytes_left S.remaining told.old)
+    ensures answers { Answers (bytes_left R.remaining market.old)
+        (bytes_left S.remaining told.old) (reads_of told.new - reads_of told.old)
         (contents_of W.contents drain.old) (contents_of W.contents drain.new) result.code result.written result.whole }
     ensures writer { failures_of drain.new ≡ failures_of drain.old + (if result.whole then 0 else 1) }
     ensures flushed { IsTrue result.whole → IsTrue (is_flushed drain.new) }

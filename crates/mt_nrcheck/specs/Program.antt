@@ -10,10 +10,11 @@ use Rattle.mt_nrcheck.specs.CommandLine.{AreMisuse, AskToBeTold, nrcheck}
 -- The program checked a match: what it did to its writer answers what its readers had left, and it ends with the status
 -- of that.
 pub record IsCheck (market matched old new : Option (List ℕ)) (status : ℕ) : Type 0 where
+  pub reads : ℕ
   pub code : ℕ
   pub written : ℕ
   pub whole : Bool
-  pub answers : Answers market matched old new code written whole
+  pub answers : Answers market matched reads old new code written whole
   pub is_status : status ≡ status_of code whole
 
 -- The program wrote a text, or its first bytes, and ends with this status where all of it was written, and with that

@@ -2,6 +2,7 @@ use Rattle.mt_nrcheck.proofs.check_match.Goals as goal
 
 pub returns : goal.returns
 returns g c = record {
+  reads = _;
   code = c.check.result.code;
   written = c.check.result.written;
   whole = c.check.result.whole;

@@ -1,7 +1,7 @@
-use Rattle.std.proofs.Common.{◌≡◌, ℕ, ◌<◌, ◌⊎◌, ◌↔◌, List, Option, Result, Ok, Err, IfErr, IfOk, inl, inr, sym, subst, arith}
+use Rattle.std.proofs.Common.{◌≡◌, ℕ, ◌<◌, ◌-◌, ◌⊎◌, ◌↔◌, List, Option, Result, Ok, Err, IfErr, IfOk, inl, inr, sym, subst, arith}
 use Rattle.mt_lists.specs.Tap.{bytes_left}
 use Rattle.mt_terms.specs.Market.{Registered}
-use Rattle.mt_check.specs.Answer.{IsAnswer, OfLeft, RisesAtMost, told_answer}
+use Rattle.mt_check.specs.Answer.{IsAnswer, IsInTurn, OfLeft, RisesAtMost, Stands, told_answer}
 use Rattle.mt_check.specs.Ends.{IsRefused, answer_seen}
 use Rattle.mt_check.specs.Headline.{market_in, told_in}
 use Rattle.mt_check.specs.Refusals.{IsRefusalOf, LeftIs}
@@ -44,6 +44,23 @@ module _ (market told : Option (List ℕ)) (r : Registered) (left : LeftIs marke
   refused_there : (result : Result Found Refused) → IfErr result (λ e. e.source ≡ Match) → IfErr result (λ e. IsRefusalOf Match told (told_in r) e.refusal) → IfErr result (IsRefused market told)
   refused_there (Ok f) file h = tt
   refused_there (Err e) file h = subst (λ (s : Source). IsRefused market told (record { source = s; refusal = e.refusal })) (sym file) (match_refused market told r e.refusal left h)
+
+  stands : Stands market
+  stands = record { bytes = left.bytes; are_left = left.are_left; registered = r; is_market = left.it_is }
+
+  match_in_turn : (reads : ℕ) (result : Result Found Refused) → IfErr result (λ e. e.source ≡ Match) → IfErr result (λ e. IsInTurn market reads e.source)
+  match_in_turn reads (Ok f) file = tt
+  match_in_turn reads (Err e) file = subst (IsInTurn market reads) (sym file) stands
+
+none_more : (n : ℕ) → n - n ≡ 0
+none_more n = omega arith
+
+pub returns-in-Err-clause-in_turn : goal.returns-in-Err-clause-in_turn
+returns-in-Err-clause-in_turn g c = none_more _
+
+pub returns-in-Ok-clause-in_turn : goal.returns-in-Ok-clause-in_turn
+returns-in-Ok-clause-in_turn g c =
+    match_in_turn (bytes_left g.R.Read.remaining c.args.market.now) (bytes_left g.S.Read.remaining c.args.told.now) c.in-Ok.roster c.in-Ok.ensures.market _ c.answer_by.result c.answer_by.ensures.source
 
 pub returns-in-Err-clause-refused : goal.returns-in-Err-clause-refused
 returns-in-Err-clause-refused g c =

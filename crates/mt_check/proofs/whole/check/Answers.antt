@@ -18,6 +18,7 @@ returns-in-Ok-clause-answers g c =
           judged_left (bytes_left g.R.Read.remaining c.args.market.now) (bytes_left g.S.Read.remaining c.args.told.now) c.in-Ok.found.code c.in-Ok.found.text.items few
           c.in-Ok.ensures.found;
       refusal = λ large. absurd (omega arith);
+      in_turn = λ large. absurd (omega arith);
       answer = λ m r. c.in-Ok.ensures.found;
     }
 
@@ -67,5 +68,6 @@ returns-in-Err-clause-answers g c =
       all = c.put_all-wrote-in-Err.ensures.all;
       judged = λ small. absurd (omega arith);
       refusal = λ _. record { file = e.source; row = e.refusal.row; id = e.refusal.id; named = refused.named; line = line };
+      in_turn = λ _. c.in-Err.ensures.in_turn;
       answer = λ m r. rw line (refused.answer m r);
     }
