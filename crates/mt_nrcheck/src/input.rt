@@ -1,30 +1,67 @@
+use mt_report::{Drain, put_all};
 use std::fs::File;
-use std::io::{self, ErrorKind, Read};
+use std::io::{self, Error, Read};
 
-/// A file that is read, or one that can't be opened, of which each read fails.
-#[derive(Drop)]
-pub(crate) enum Input {
-    /// It is open.
-    Open(File),
-    /// It can't be opened.
-    Shut,
+/// The system's words in the text of an error, without the number after them.
+fn words_in(said: &str) -> &str {
+    match said.split_once(" (os error ") {
+        Some((words, _)) => words,
+        None => said,
+    }
 }
 
-impl Input {
-    /// The file at a path.
-    pub(crate) fn at(rt: &HostRuntime, path: &str) -> Input {
-        match File::open(rt, path) {
-            Ok(file) => Input::Open(file),
-            Err(_) => Input::Shut,
+/// A file that its first read opens. So nothing waits for the other end of a pipe before the file's turn.
+#[derive(Drop)]
+pub(crate) struct Input<'a> {
+    rt: &'a HostRuntime,
+    path: &'a str,
+    file: Option<File>,
+    unopened: Option<Error>,
+}
+
+impl<'a> Input<'a> {
+    /// The file at a path, not opened yet.
+    pub(crate) fn at(rt: &'a HostRuntime, path: &'a str) -> Self {
+        Input {
+            rt,
+            path,
+            file: None,
+            unopened: None,
+        }
+    }
+
+    /// Says on standard error why the file couldn't be opened, where a read tried to.
+    pub(crate) fn say_why(&self) {
+        let Some(error) = self.unopened else {
+            return;
+        };
+        let alloc = self.rt.alloc();
+        let Ok(said) = format!(in alloc; "{error}") else {
+            return;
+        };
+        let words = words_in(said.as_str());
+        let path = self.path;
+        if let Ok(line) = format!(in alloc; "nrcheck: {path}: {words}\n") {
+            put_all(&mut Drain::new(self.rt.stderr()), line.as_bytes());
         }
     }
 }
 
-impl Read for Input {
+impl Read for Input<'_> {
     fn read(&mut self, buf: &mut [u8]) -> io::Result<usize> {
-        match self {
-            Input::Open(file) => file.read(buf),
-            Input::Shut => Err(ErrorKind::NotFound.into()),
+        if let Some(file) = &mut self.file {
+            return file.read(buf);
+        }
+        match File::open(self.rt, self.path) {
+            Ok(mut file) => {
+                let came = file.read(buf);
+                self.file = Some(file);
+                came
+            }
+            Err(error) => {
+                self.unopened = Some(error);
+                Err(error)
+            }
         }
     }
 }

@@ -93,9 +93,12 @@ fn obey<T: Threads + Sync>(rt: &HostRuntime, crew: &T, words: &[String]) -> u8
     let mut out = Drain::new(rt.stdout());
     match asked(alloc, words) {
         Ok(Request::Check { market, matched }) => {
-            let market = Input::at(rt, market.as_str());
-            let matched = Input::at(rt, matched.as_str());
-            check_match(crew, alloc, market, matched, &mut out)
+            let mut market = Input::at(rt, market.as_str());
+            let mut matched = Input::at(rt, matched.as_str());
+            let status = check_match(crew, alloc, &mut market, &mut matched, &mut out);
+            market.say_why();
+            matched.say_why();
+            status
         }
         Ok(Request::Told(text)) => tell(&mut out, text.as_bytes(), 0, UNWRITTEN),
         Ok(Request::Misuse(text)) => tell(

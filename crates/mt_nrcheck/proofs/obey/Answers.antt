@@ -10,7 +10,7 @@ returns-in-Ok-Check g c =
     let words = texts_of c.args.words.now in
     let named : NameFiles words (string_bytes c.in-Ok-Check.market) (string_bytes c.in-Ok-Check.matched) =
     subst (λ (asked : Request). IsAskedBy words asked) c.in-Ok-Check.field-0-is c.in-Ok-Check.ensures in
-    exit_of_check words c.check_match.ensures.code c.check_match.result c.check_match.ensures.whole c.check_match.ensures.is_status named.taken
+    exit_of_check words c.check_match-status.ensures.code c.check_match-status.result c.check_match-status.ensures.whole c.check_match-status.ensures.is_status named.taken
 
 pub returns-in-Ok-Told : goal.returns-in-Ok-Told
 returns-in-Ok-Told g c =
