@@ -108,6 +108,27 @@ fn misuse<W: Write>(drain: &mut Drain<W>, text: &str) -> u8
     MISUSE
 }
 
+/// The system's words in the text of an error, without the number after them.
+fn words_in(said: &str) -> &str {
+    match said.split_once(" (os error ") {
+        Some((words, _)) => words,
+        None => said,
+    }
+}
+
+/// Says why a file can't be opened, in the system's words. Where there is no memory for the line, it says nothing.
+fn say_why<W: Write>(drain: &mut Drain<W>, alloc: Global, path: &str, error: &io::Error)
+    requires { failures_of drain.old + 1 < 2 ^ 64 }
+{
+    let Ok(said) = format!(in alloc; "{error}") else {
+        return;
+    };
+    let words = words_in(said.as_str());
+    if let Ok(line) = format!(in alloc; "nrmatch: {path}: {words}\n") {
+        put_all(drain, line.as_bytes());
+    }
+}
+
 /// Does what the words ask for, and gives the exit status. `crew` is `rt` too: only `main` may take it for a handle that
 /// starts threads and waits for them.
 fn obey<T: Threads + Wait + Sync>(rt: &HostRuntime, crew: &T, words: &[String]) -> u8
@@ -119,7 +140,11 @@ fn obey<T: Threads + Wait + Sync>(rt: &HostRuntime, crew: &T, words: &[String]) 
         Ok(Asked::Run { file, options }) => match file {
             Some(path) => match File::open(rt, path.as_str()) {
                 Ok(file) => run_match(crew, alloc, file, &mut out, options),
-                Err(_) => refuse(&mut out, READ_FAULT),
+                Err(error) => {
+                    let status = refuse(&mut out, READ_FAULT);
+                    say_why(&mut Drain::new(rt.stderr()), alloc, path.as_str(), &error);
+                    status
+                }
             },
             None => run_match(crew, alloc, rt.stdin(), &mut out, options),
         },
