@@ -1,3 +1,4 @@
 pub mod DigitFacts
 pub mod IdFacts
 pub mod KeyFacts
+pub mod SeedFacts

@@ -1,6 +1,7 @@
 ghost use Rattle.std.specs.Prelude.{◌≡◌, ◌<◌, ◌≤◌, ◌+◌, ◌^◌, ◌++◌, [], ◌∷◌, not, length, position, bytes_eq, true, false, OnOk, OnErr, IfOk, IfSome, is_some, if◌then◌else◌};
 ghost use Rattle.mt_terms.specs.Registration.Ids.{has_id, all_differ};
 ghost use Rattle.mt_ids.specs.Keys.{AreBytes, four_from, head_of};
+ghost use Rattle.mt_ids.specs.Seeds.{seed_of};
 
 use crate::seed::{Seed, add_field};
 use indexmap::IndexSet;
@@ -95,7 +96,9 @@ fn four(bytes: &[u8], at: usize) -> u64
 }
 
 /// The seed of a table of these names.
-fn seed_of(names: &FlatLists<u8>) -> Seed {
+fn seed_of(names: &FlatLists<u8>) -> Seed
+    ensures { result ≡ seed_of names.now }
+{
     let mut digest = DefaultHasher::new();
     for number in 0..names.len() {
         add_field(&mut digest, names.list(number));

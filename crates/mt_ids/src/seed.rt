@@ -1,5 +1,8 @@
 //! Seeds of tables. Each is made of all that its table will hold, so that nobody can choose beforehand what collides
 //! there.
+ghost use Rattle.std.specs.Prelude.{◌≡◌};
+ghost use Rattle.mt_ids.specs.Seeds.{seed_by, with_field};
+
 use std::hash::{BuildHasher, DefaultHasher, FoldHasher, Hasher};
 
 /// What makes the hashers of a table.
@@ -10,7 +13,9 @@ pub struct Seed {
 
 impl Seed {
     /// The seed of a table, by a digest of all that it will hold.
-    pub fn of(digest: &DefaultHasher) -> Seed {
+    pub fn of(digest: &DefaultHasher) -> Seed
+        ensures { result ≡ seed_by digest.now }
+    {
         let mut begun = FoldHasher::default();
         begun.write_u64(digest.finish());
         Seed { begun }
@@ -30,7 +35,9 @@ impl BuildHasher for Seed {
 }
 
 /// Adds a field to a digest, with its length: so the same bytes, parted in another way, give another digest.
-pub fn add_field(digest: &mut DefaultHasher, field: &[u8]) {
+pub fn add_field(digest: &mut DefaultHasher, field: &[u8])
+    ensures { digest.new ≡ with_field digest.old field.now }
+{
     digest.write_usize(field.len());
     digest.write(field);
 }
