@@ -23,7 +23,11 @@ use Rattle.mt_records.specs.declared.kinds.Kinds.{Kinds}
 use Rattle.mt_numbering.specs.Numbered.{all_seen}
 use Rattle.mt_records.specs.Records.{record_seen}
 use Rattle.mt_records.specs.Kinds.{ids_in, under, AddsId}
-use Rattle.mt_numbering.specs.Withdrawals.{Stand}
+use Rattle.mt_numbering.specs.Withdrawals.{Stand, withdrawn_by, withdrawn_ids}
+use Rattle.mt_ids.specs.Seeds.{digest_of, with_fields}
+use Rattle.mt_ids.proofs.SeedFacts.{with_fields-append}
+use Rattle.std.specs.Hash.DefaultHasher as sip
+use Rattle.std.proofs.lemmas.Grind.{flat_map-append}
 use Rattle.mt_file_laws.proofs.GrowthFacts.{withdrawn-more}
 
 -- an id that differs from all others is none of those before it
@@ -102,6 +106,21 @@ no_withdrawal (variants.Program id quota list) h = refl
 no_withdrawal (variants.Applicant id list) h = refl
 no_withdrawal (variants.Couple id fields) h = refl
 no_withdrawal (variants.Withdraw kind id) h = absurd (h kind id refl)
+
+withdraws_nothing : (r : Record) → is_withdrawal r ≡ false → withdrawn_by r ≡ []
+withdraws_nothing (ProgramRecord id quota list) h = refl
+withdraws_nothing (ApplicantRecord id list) h = refl
+withdraws_nothing (CoupleRecord id a b pairs) h = refl
+withdraws_nothing (WithdrawRecord kind id) h = cc
+
+-- the digest of what records withdraw, with one record more
+pub digest_with : (rs : List Record) (r : Record) → digest_of (withdrawn_ids (rs ++ r ∷ [])) ≡ with_fields (digest_of (withdrawn_ids rs)) (withdrawn_by r)
+digest_with rs r =
+    ap digest_of (flat_map-append withdrawn_by rs (r ∷ []) ∙ ap (λ (ids : List Bytes). withdrawn_ids rs ++ ids) (append-nil (withdrawn_by r)))
+    ∙ with_fields-append sip.initial (withdrawn_ids rs) (withdrawn_by r)
+
+pub digest_without : (rs : List Record) (r : Record) → is_withdrawal r ≡ false → digest_of (withdrawn_ids (rs ++ r ∷ [])) ≡ digest_of (withdrawn_ids rs)
+digest_without rs r h = digest_with rs r ∙ ap (with_fields (digest_of (withdrawn_ids rs))) (withdraws_nothing r h)
 
 withdraws_none : (r : Record) (kind : Kind) → is_withdrawal r ≡ false → option_to_list (withdrawn_id kind r) ≡ []
 withdraws_none (ProgramRecord id quota list) OfProgram h = refl

@@ -1,8 +1,9 @@
 -- What records withdraw, and who stays.
-use Rattle.std.specs.Prelude.{◌≡◌, Bool, true, List}
+use Rattle.std.specs.Prelude.{◌≡◌, Bool, true, List, [], ◌∷◌, flat_map}
 use Rattle.mt_file_laws.specs.Faultless.{withdrawals_stand}
 use Rattle.mt_file_laws.specs.Staying.{stays_without}
-use Rattle.mt_terms.specs.Registration.Records.{Kind, Record}
+use Rattle.mt_terms.specs.Registration.Ids.{Bytes}
+use Rattle.mt_terms.specs.Registration.Records.{Kind, Record, WithdrawRecord}
 use Rattle.mt_terms.specs.Registration.Rows.{withdrawn}
 use Rattle.mt_records.specs.declared.kinds.Kinds.{Kinds}
 use Rattle.mt_records.specs.Kinds.{ids_in}
@@ -10,6 +11,14 @@ use Rattle.mt_records.specs.Kinds.{ids_in}
 -- whether a record stays where these ids are withdrawn
 abbrev pub stays_after : Kinds → Record → Bool
 stays_after w r = stays_without w.programs w.applicants w.couples r
+
+-- the ids that records withdraw, of all kinds, in the order of the records
+abbrev pub withdrawn_by : Record → List Bytes
+withdrawn_by (WithdrawRecord kind id) = id ∷ []
+withdrawn_by _ = []
+
+abbrev pub withdrawn_ids : List Record → List Bytes
+withdrawn_ids records = flat_map withdrawn_by records
 
 -- Each id that the records withdraw is registered, none is withdrawn twice, and they are these.
 pub record Stand (rs : List Record) (w : Kinds) : Type 0 where

@@ -34,7 +34,7 @@ impl NameLists {
 
     /// Adds the ids that a record registers.
     pub(crate) fn push(&mut self, record: &Record<'_>) -> Result<(), AllocError>
-        ensures { OnOk result (AddsNames self.old self.new (record_seen record.now)) }
+        ensures { OnOk result (AddsNames self.old self.new (record_seen «record».now)) }
     {
         match record {
             Record::Program { id, .. } => self.programs.push_list(*id)?,

@@ -8,7 +8,8 @@ ghost use Rattle.mt_terms.specs.Registration.Rows.{ids_of, applicant_ids};
 ghost use Rattle.mt_numbering.specs.Numbered.{all_seen};
 ghost use Rattle.mt_records.specs.Records.{record_seen};
 ghost use Rattle.mt_numbering.specs.Registered.{KnowsIds};
-ghost use Rattle.mt_numbering.specs.Withdrawals.{stays_after, Stand};
+ghost use Rattle.mt_numbering.specs.Withdrawals.{stays_after, withdrawn_ids, Stand};
+ghost use Rattle.mt_ids.specs.Seeds.{seed_of};
 
 use crate::registered::Registered;
 use mt_ids::{IdTable, Seed, add_field};
@@ -18,7 +19,9 @@ use std::alloc::{AllocError, Global};
 use std::hash::DefaultHasher;
 
 /// The seed of tables of what these records withdraw.
-fn seed_of(records: &[Record<'_>]) -> Seed {
+fn seed_of(records: &[Record<'_>]) -> Seed
+    ensures { result ≡ seed_of (withdrawn_ids (all_seen records.now)) }
+{
     let mut digest = DefaultHasher::new();
     for one in records {
         if let Record::Withdraw { id, .. } = one {
