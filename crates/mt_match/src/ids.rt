@@ -2,6 +2,7 @@ ghost use Rattle.std.specs.Prelude.{◌≡◌, ◌<◌, ◌++◌, [], ◌∷◌,
 ghost use Rattle.mt_terms.specs.Registration.Accepted.{IsRegistration};
 ghost use Rattle.mt_terms.specs.Registration.Ids.{has_id};
 ghost use Rattle.mt_match.specs.Told.{place_named};
+ghost use Rattle.mt_ids.specs.Seeds.{seed_of};
 
 use mt_ids::{IdTable, Seed, add_field, is_dash};
 use mt_market::Roster;
@@ -10,7 +11,9 @@ use std::alloc::{AllocError, Global};
 use std::hash::DefaultHasher;
 
 /// The seed of a table of the programs' ids.
-fn programs_seed(roster: &Roster) -> Seed {
+fn programs_seed(roster: &Roster) -> Seed
+    ensures { result ≡ seed_of roster.now.names.programs }
+{
     let mut digest = DefaultHasher::new();
     for number in 0..roster.programs() {
         add_field(&mut digest, roster.program_id(ProgNo(number)));
@@ -19,7 +22,9 @@ fn programs_seed(roster: &Roster) -> Seed {
 }
 
 /// The seed of a table of the applicants' ids.
-fn applicants_seed(roster: &Roster) -> Seed {
+fn applicants_seed(roster: &Roster) -> Seed
+    ensures { result ≡ seed_of roster.now.names.applicants }
+{
     let mut digest = DefaultHasher::new();
     for number in 0..roster.applicants() {
         add_field(&mut digest, roster.applicant_id(AppNo(number)));
