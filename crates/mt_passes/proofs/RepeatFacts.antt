@@ -2,7 +2,7 @@
 use Rattle.std.proofs.Common.{◌≡◌, ℕ, ◌+◌, ◌<◌, Bool, true, false, not, ◌&&◌, ◌||◌, List, [], ◌∷◌, ◌++◌, map, length, drop, get_or, Some, None, Option, Bor, refl, ap, sym, ◌∙◌, subst, inl, inr, ◌⊎◌, if◌then◌else◌}
 use Rattle.std.specs.Prelude.{bytes_eq}
 use Rattle.std.specs.List.{list_any}
-use Rattle.std.specs.Option.{option_copied, option_eq}
+use Rattle.std.specs.Option.{option_copied, option_eq, unwrap_or}
 use Rattle.std.proofs.lemmas.Bool.{and_parts}
 use Rattle.std.proofs.lemmas.List.{append_assoc, drop_more, map-append}
 use Rattle.std.proofs.lemmas.List.Folds.{list_any-append}
@@ -140,3 +140,8 @@ pair_alike p q = place_alike p.0 q.0 && place_alike p.1 q.1
 
 pub pair_agree : (p q : Place × Place) → pair_alike p q ≡ is_same_pair (pair_seen p) (pair_seen q)
 pair_agree p q = rw (place_agree p.0 q.0, place_agree p.1 q.1) refl
+
+-- what is lent of an optional id, or another one
+pub lent_or : (o : Option (Bor Bytes)) (d : Bor Bytes) → (unwrap_or o d).now ≡ unwrap_or (option_copied o) d.now
+lent_or None d = refl
+lent_or (Some x) d = refl

@@ -1,7 +1,9 @@
-ghost use Rattle.std.specs.Prelude.{◌≡◌, ◌+◌, false, nat_lt, ◌++◌, [], ◌∷◌, option_map, None, OnOk, IfOk};
+ghost use Rattle.std.specs.Prelude.{◌≡◌, ◌+◌, false, nat_lt, ◌++◌, [], ◌∷◌, option_map, flat_map, None, OnOk, IfOk};
 ghost use Rattle.std.specs.Option.{option_copied};
 ghost use Rattle.mt_terms.specs.Registration.Passes.{first_in, registered_before, says_twice, are_too_many, first_conflict};
 ghost use Rattle.mt_records.specs.Records.{record_seen, charge_seen};
+ghost use Rattle.mt_lists.specs.Rows.{rows_left};
+ghost use Rattle.mt_ids.specs.Seeds.{seed_of};
 ghost use Rattle.mt_passes.specs.Registers.{records_seen, contents_seen, withdraws_twice, AreFew, IsRegister, AddsRecord};
 
 use crate::repeats::{add_fields, has_repeat, has_repeated_pair};
@@ -21,7 +23,9 @@ pub(crate) struct Numbered<'a> {
 }
 
 /// The seed of tables of what these rows register and withdraw.
-fn seed_of(rows: RowsIter<'_>) -> Seed {
+fn seed_of(rows: RowsIter<'_>) -> Seed
+    ensures { result ≡ seed_of (flat_map (λ fields. fields) (rows_left rows.entry)) }
+{
     let mut digest = DefaultHasher::new();
     for row in rows {
         add_fields(&mut digest, row.fields());
@@ -73,7 +77,7 @@ impl<'a> Register<'a> {
     /// The first id of a record, in the order own, first member, second member, that is registered already.
     pub(crate) fn registered_before(&self, record: &Record<'a>) -> Option<&'a [u8]>
         requires { IsRegister self.now }
-        ensures { option_copied result ≡ registered_before (contents_seen self.now) (record_seen record.now) }
+        ensures { option_copied result ≡ registered_before (contents_seen self.now) (record_seen «record».now) }
     {
         match record {
             Record::Program { id, .. } => found(&self.registered.programs, id),
@@ -97,7 +101,7 @@ impl<'a> Register<'a> {
     /// Whether an id or a pair stands twice in a record's list, or what it withdraws was withdrawn before.
     fn says_twice(&self, alloc: Global, record: &Record<'a>) -> Result<bool, AllocError>
         requires { IsRegister self.now }
-        ensures { IfOk result (λ twice. twice ≡ says_twice (contents_seen self.now) (record_seen record.now)) }
+        ensures { IfOk result (λ twice. twice ≡ says_twice (contents_seen self.now) (record_seen «record».now)) }
     {
         match record {
             Record::Program { list, .. } => has_repeat(alloc, *list),
@@ -110,7 +114,7 @@ impl<'a> Register<'a> {
     /// Whether the records with this one are more than a version takes.
     pub(crate) fn are_too_many(&self, limits: &Limits, record: &Record<'a>) -> bool
         requires { IsRegister self.now }
-        ensures { result ≡ are_too_many limits.now (contents_seen self.now ++ record_seen record.now ∷ []) }
+        ensures { result ≡ are_too_many limits.now (contents_seen self.now ++ record_seen «record».now ∷ []) }
     {
         let applicants = self.applicants.len() + record.applicant_count();
         let programs = self.registered.programs.len() + record.program_count();
@@ -127,7 +131,7 @@ impl<'a> Register<'a> {
         record: &Record<'a>,
     ) -> Result<Option<Charge<'a>>, AllocError>
         requires { IsRegister self.now }
-        ensures { IfOk result (λ charge. option_map charge_seen charge ≡ first_conflict rules.now (contents_seen self.now) (record_seen record.now)) }
+        ensures { IfOk result (λ charge. option_map charge_seen charge ≡ first_conflict rules.now (contents_seen self.now) (record_seen «record».now)) }
     {
         if let Some(id) = self.registered_before(record) {
             return Ok(Some(Charge {
@@ -153,9 +157,9 @@ impl<'a> Register<'a> {
     /// Adds what a record registers, or what it withdraws.
     fn push_ids(&mut self, record: &Record<'a>) -> Result<(), AllocError>
         requires register { IsRegister self.old }
-        requires new { registered_before (contents_seen self.old) (record_seen record.now) ≡ None }
-        requires once { withdraws_twice (contents_seen self.old) (record_seen record.now) ≡ false }
-        ensures { OnOk result (AddsRecord self.old self.new (record_seen record.now)) }
+        requires new { registered_before (contents_seen self.old) (record_seen «record».now) ≡ None }
+        requires once { withdraws_twice (contents_seen self.old) (record_seen «record».now) ≡ false }
+        ensures { OnOk result (AddsRecord self.old self.new (record_seen «record».now)) }
     {
         match record {
             Record::Program { id, .. } => self.registered.push(Kind::Program, id),

@@ -1,7 +1,9 @@
-ghost use Rattle.std.specs.Prelude.{◌≡◌, ◌++◌, [], ◌∷◌, not, bytes_eq, OnErr, IfOk, if◌then◌else◌};
+ghost use Rattle.std.specs.Prelude.{◌≡◌, ◌++◌, [], ◌∷◌, not, bytes_eq, flat_map, OnErr, IfOk, if◌then◌else◌};
 ghost use Rattle.std.specs.List.{list_any};
 ghost use Rattle.std.specs.Option.{option_copied};
 ghost use Rattle.mt_lists.specs.Rows.{fields_left};
+ghost use Rattle.mt_ids.specs.Seeds.{seed_of, with_fields};
+ghost use Rattle.mt_passes.specs.Seeds.{pair_fields};
 ghost use Rattle.mt_terms.specs.Registration.Ids.{all_differ};
 ghost use Rattle.mt_terms.specs.Registration.Passes.{is_same_pair};
 ghost use Rattle.mt_records.specs.Fields.{pairs_left};
@@ -15,19 +17,28 @@ use std::hash::DefaultHasher;
 use std::marker::Model;
 
 /// Adds fields to a digest.
-pub(crate) fn add_fields(digest: &mut DefaultHasher, fields: Fields<'_>) {
+pub(crate) fn add_fields(digest: &mut DefaultHasher, fields: Fields<'_>)
+    ensures { digest.new ≡ with_fields digest.old (fields_left fields.entry) }
+{
     for field in fields {
         add_field(digest, field);
     }
+}
+
+/// The seed of a table of the ids in a list.
+fn ids_seed(list: Fields<'_>) -> Seed
+    ensures { result ≡ seed_of (fields_left list.entry) }
+{
+    let mut digest = DefaultHasher::new();
+    add_fields(&mut digest, list);
+    Seed::of(&digest)
 }
 
 /// Whether an id stands twice in a list.
 pub(crate) fn has_repeat(alloc: Global, list: Fields<'_>) -> Result<bool, AllocError>
     ensures { IfOk result (λ repeats. repeats ≡ not (all_differ bytes_eq (fields_left list.entry))) }
 {
-    let mut digest = DefaultHasher::new();
-    add_fields(&mut digest, list);
-    let mut seen = IdTable::with_capacity(alloc, list.len(), Seed::of(&digest))?;
+    let mut seen = IdTable::with_capacity(alloc, list.len(), ids_seed(list))?;
     for id in list {
         if !seen.add(id)? {
             return Ok(true);
@@ -77,7 +88,9 @@ impl<'a> PairTable<'a> {
 }
 
 /// The seed of a table of these pairs.
-fn seed_of(pairs: Pairs<'_>) -> Seed {
+fn pairs_seed(pairs: Pairs<'_>) -> Seed
+    ensures { result ≡ seed_of (flat_map pair_fields (pairs_left pairs.entry)) }
+{
     let mut digest = DefaultHasher::new();
     for (first, second) in pairs {
         add_field(&mut digest, first.unwrap_or(b"-"));
@@ -90,7 +103,7 @@ fn seed_of(pairs: Pairs<'_>) -> Seed {
 pub(crate) fn has_repeated_pair(alloc: Global, pairs: Pairs<'_>) -> Result<bool, AllocError>
     ensures { IfOk result (λ repeats. repeats ≡ not (all_differ is_same_pair (pairs_left pairs.entry))) }
 {
-    let mut seen = PairTable::with_capacity(alloc, pairs.len(), seed_of(pairs))?;
+    let mut seen = PairTable::with_capacity(alloc, pairs.len(), pairs_seed(pairs))?;
     for pair in pairs {
         if !seen.add(pair)? {
             return Ok(true);

@@ -23,7 +23,7 @@ impl<'a> Register<'a> {
     /// The first id that a record names and that no record registers.
     fn unknown_id(&self, record: &Record<'a>) -> Option<Charge<'a>>
         requires { IsRegister self.now }
-        ensures { option_map charge_seen result ≡ unknown_id (contents_seen self.now) (record_seen record.now) }
+        ensures { option_map charge_seen result ≡ unknown_id (contents_seen self.now) (record_seen «record».now) }
     {
         match record {
             Record::Program { list, .. } => {

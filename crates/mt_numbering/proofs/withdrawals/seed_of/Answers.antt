@@ -1,10 +1,10 @@
-use Rattle.std.proofs.Common.{◌≡◌, ◌∷◌, List, ap, sym, ◌∙◌, arith, take, get_or}
+use Rattle.std.proofs.Common.{◌≡◌, List, ap, sym, ◌∙◌, arith, take, get_or}
 use Rattle.std.proofs.lemmas.List.{take_all}
 use Rattle.std.specs.declared.hash.DefaultHasher.{DefaultHasher}
 use Rattle.mt_terms.specs.Registration.Records.{WithdrawRecord}
 use Rattle.mt_ids.specs.Seeds.{digest_of, seed_by, with_field}
 use Rattle.mt_records.specs.declared.record.Record.{Record as Checked}
-use Rattle.mt_records.specs.Records.{record_seen, kind_seen}
+use Rattle.mt_records.specs.Records.{record_seen}
 use Rattle.mt_numbering.specs.Numbered.{all_seen}
 use Rattle.mt_numbering.specs.Withdrawals.{withdrawn_ids}
 use Rattle.mt_numbering.proofs.WithdrawalFacts.{digest_with, digest_without, is_withdrawal, no_withdrawal, seen_more}
