@@ -15,7 +15,7 @@ CHECKS = {
     "cli PROGRAM": 8385,
     "cli": 8388,
     "controls": 29,
-    "edits_apply": 578,
+    "edits_apply": 593,
     "linear": 45,
     "memory": 448,
     "memory --calls": 15,
@@ -23,7 +23,7 @@ CHECKS = {
     "must_fail": 68,
     "pages": 248,
     "threads": 28,
-    "words": 196,
+    "words": 198,
     "wrong_bodies --release": 42,
 }
 # The sweeps of the forms of tests/memory, by the number of workers and whether all requests from one on are refused.
