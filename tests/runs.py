@@ -238,4 +238,6 @@ BEHAVIOUR = [
         ["check,1,refused,13,UnknownKind,market,2,-"],
         2,
     ),
+    (FORMAT, "standard error says why, as `nrmatch: market.csv: No such file or directory`.", "nrmatch market.csv 2>&1 > /dev/null", ["nrmatch: market.csv: No such file or directory"], 5),
+    (CHECK, "standard error says why, as `nrcheck: match.csv: No such file or directory`.", f"nrcheck {ONE} match.csv 2>&1 > /dev/null", ["nrcheck: match.csv: No such file or directory"], 5),
 ]
