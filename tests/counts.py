@@ -21,7 +21,7 @@ CHECKS = {
     "memory --calls": 15,
     "memory --check": 114,
     "must_fail": 68,
-    "pages": 255,
+    "pages": 267,
     "threads": 28,
     "words": 198,
     "wrong_bodies --release": 42,
