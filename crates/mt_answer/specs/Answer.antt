@@ -32,7 +32,9 @@ IsAnswerOfStage r best (Some s) code text = (code ≡ 0) × (text ≡ published 
 abbrev pub IsEnteredFrom : Market → Places → ℕ → Places → Type 0
 IsEnteredFrom m singles budget places = (rounds : ℕ) × (stage m singles budget ≡ Some (places, rounds))
 
--- the answer to a market: the couples enter after the best match of the singles
+-- The answer to a market and a budget. The couples enter after the best match of the singles. The text is
+-- that of the match in which this ends, with the proposals on the way to the best match. If the budget is
+-- spent, it is that refusal line.
 pub record IsAnswerOfMarket (r : Registered) (budget code : ℕ) (text : List ℕ) : Type 0 where
   pub best : Places
   pub is_best : IsBest r.market best

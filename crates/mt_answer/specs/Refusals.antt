@@ -8,7 +8,7 @@ use Rattle.mt_terms.specs.declared.refusal.Refusal.{Refusal}
 abbrev pub line_of : Refusal → List ℕ
 line_of e = refused e.code e.row e.id
 
--- A named refusal, which is the answer but for want of memory.
+-- A named refusal that no failed read made. It is the answer, unless memory ran out.
 pub record IsRefusalBy (IsAnswered : ℕ → List ℕ → Type 0) (e : Refusal) : Type 0 where
   pub named : IsNamedRefusal e.code e.row e.id
   pub reads_did : e.code ≢ READ_FAULT

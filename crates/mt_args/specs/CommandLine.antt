@@ -93,30 +93,34 @@ IsMisuse words = (kind : ErrorKind) × (kind ≢ DisplayHelp) × (kind ≢ Displ
 
 -- ---- answers
 
+-- the words of a command line, each as its bytes
 abbrev pub texts_of : List (String Global) → List Text
 texts_of = map string_bytes
 
--- a fact of the run that an answer asks for, of an answer that is help or the version, and of a refusal that is usage
+-- If the answer is a run, P holds of its file and its options. Any other answer meets this.
 abbrev pub IfRun : Asked → (Option Text → Options → Type 0) → Type 0
 IfRun (Run file options) P = P (option_map string_bytes file) options
 IfRun (Help text) P = ⊤
 IfRun (Version text) P = ⊤
 
+-- If the answer is the text of help, P holds. Any other answer meets this.
 abbrev pub OnHelp : Asked → Type 0 → Type 0
 OnHelp (Help text) P = P
 OnHelp (Version text) P = ⊤
 OnHelp (Run file options) P = ⊤
 
+-- If the answer is the text of the version, P holds. Any other answer meets this.
 abbrev pub OnVersion : Asked → Type 0 → Type 0
 OnVersion (Version text) P = P
 OnVersion (Help text) P = ⊤
 OnVersion (Run file options) P = ⊤
 
+-- If the words are refused with a text of usage, P holds. Want of memory meets this.
 abbrev pub OnUsage : AskEnd → Type 0 → Type 0
 OnUsage (Usage text) P = P
 OnUsage Memory P = ⊤
 
--- what a run is told is within the limits of the command
+-- the options of a run are within the command's limits: 1 to 64 workers, and a budget of one round or more
 abbrev pub IsWithinLimits : Options → Type 0
 IsWithinLimits o = (1 ≤ o.workers) × (o.workers ≤ 64) × (1 ≤ o.budget)
 

@@ -21,6 +21,7 @@ with_places s places = record s { places = places }
 abbrev pub with_place : Assigned → ℕ → Option ℕ → Assigned
 with_place s a place = with_places s (slice_set s.places a place)
 
+-- a market with the places of a match
 abbrev pub assignment : Market → Places → Assigned
 assignment m places = record { market = m; places = places }
 
@@ -36,7 +37,7 @@ front_of s p rank = take rank (program_of s.market p).ranking
 abbrev pub ahead : Assigned → ℕ → ℕ → ℕ
 ahead s p rank = count (at s.places p) (front_of s p rank)
 
--- whether a program has a post for a rank, by those that are there
+-- whether fewer of those at a program than its quota have a rank below this one
 abbrev pub has_post : Assigned → ℕ → ℕ → Bool
 has_post s p rank = nat_lt (ahead s p rank) (program_of s.market p).quota
 
@@ -48,7 +49,7 @@ chooses s p a = choice (program_of s.market p) (at s.places p) a
 abbrev pub displaced_from : Assigned → ℕ → List ℕ
 displaced_from s p = filter (displaced_at s.market s.places p) (program_of s.market p).ranking
 
--- the option that an agent takes
+-- the option that an agent takes: its first better one that would be taken, if there is one
 abbrev pub taken_by : Assigned → Agent → Option Placement
 taken_by s g = first_taken s.market s.places g
 
@@ -56,7 +57,7 @@ taken_by s g = first_taken s.market s.places g
 abbrev pub pair_of : Assigned → ℕ → Option ℕ × Option ℕ → Placement
 pair_of s c pair = couple_placement (couple_of s.market c).first (couple_of s.market c).second pair
 
--- whoever is at a program is on the program's list
+-- each applicant at a program is on that program's list
 abbrev pub AreListed : Market → Places → Type 0
 AreListed m places = (a p : ℕ) → at places p a ≡ true → has (program_of m p).ranking a ≡ true
 
@@ -64,7 +65,8 @@ AreListed m places = (a p : ℕ) → at places p a ≡ true → has (program_of 
 abbrev pub AreSentToLists : Market → Placement → Type 0
 AreSentToLists m sent = (s : ℕ × Option ℕ) (p : ℕ) → Contains sent s → s.1 ≡ Some p → has (program_of m p).ranking s.0 ≡ true
 
--- What every assignment has: a well-formed market, and for each of its applicants a place, where it is listed.
+-- What every assignment has: the market is well formed, and each of its applicants has a place. Each
+-- applicant that is placed is on its program's list.
 pub record IsAssigned (s : Assigned) : Type 0 where
   pub well_formed : IsWellFormed s.market
   pub are_places : ArePlaces s.market s.places
@@ -76,14 +78,15 @@ pub record AreSent (m : Market) (sent : Placement) : Type 0 where
   pub within : (a : ℕ) → IsTrue (has (map (λ s. s.0) sent) a) → a < applicants m
   pub few : length sent ≤ 2
 
--- numbers of applicants of the market, and of its programs
+-- each of these numbers is that of an applicant of the market
 abbrev pub AreApplicantsOf : Market → List ℕ → Type 0
 AreApplicantsOf m xs = (a : ℕ) → IsTrue (has xs a) → a < applicants m
 
+-- each of these numbers is that of a program of the market
 abbrev pub AreProgramsOf : Market → List ℕ → Type 0
 AreProgramsOf m ps = (p : ℕ) → IsTrue (has ps p) → p < length m.programs
 
--- an applicant or a couple of the market
+-- the agent is an applicant or a couple of the market, by its number
 abbrev pub IsAgentOf : Market → Agent → Type 0
 IsAgentOf m (Single a) = a < applicants m
 IsAgentOf m (Couple c) = c < length m.couples

@@ -51,13 +51,15 @@ is_kept s a p = is_kept_at s.market s.places p a
 abbrev pub any_kept : Assigned → List ℕ → ℕ → Bool
 any_kept s xs p = list_any (is_kept_at s.market s.places p) (all_members s.market xs)
 
--- the match after a move, whom the move displaces, and the programs that it leaves
+-- the match after an agent's move to an option
 abbrev pub moved : Assigned → Placement → Assigned
 moved s sent = with_places s (move_of s.market s.places sent).after
 
+-- whom that move displaces: by the option's programs in its order, and in a program by its list
 abbrev pub displaced_by : Assigned → Placement → List ℕ
 displaced_by s sent = displaced s.market (send sent s.places) sent
 
+-- the programs that the move leaves, by number
 abbrev pub left_by : Assigned → Placement → List ℕ
 left_by s sent = left_programs s.market (move_of s.market s.places sent)
 

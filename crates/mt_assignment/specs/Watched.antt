@@ -15,15 +15,16 @@ use Rattle.mt_sets.specs.Named.{names}
 abbrev pub wanted : Assigned → ℕ → List ℕ
 wanted s a = until (λ p. at s.places p a) (list_of s.market a)
 
--- the same of its live entries
+-- an applicant's live entries before its place, each with the applicant's rank there: all of them if it is
+-- unplaced
 abbrev pub better_entries : Assigned → ℕ → List Live
 better_entries s a = until (λ (e : Live). at s.places e.program a) (ranked_list (live_market s.market) a)
 
--- its other live entries
+-- an applicant's live entries from its place on: none if it is unplaced
 abbrev pub other_entries : Assigned → ℕ → List Live
 other_entries s a = drop (length (better_entries s a)) (ranked_list (live_market s.market) a)
 
--- the pairs that a couple's list has before its own
+-- the pairs of a couple's list before the one that it has: all of them if it has none
 abbrev pub better_pairs : Assigned → ℕ → List Pair
 better_pairs s c = until (λ pair. holds s.places (pair_of s c pair)) (couple_of s.market c).pairs
 
@@ -35,7 +36,7 @@ ranks_at rows p = is_in (slice_index_or rows p [])
 abbrev pub is_entry : List Live → ℕ → ℕ → Bool
 is_entry entries p r = list_any (λ (e : Live). e.program == p && e.rank == r) entries
 
--- no rank is watched
+-- There is a set of watched ranks for each program, and no rank is in one.
 pub record AreUnwatched (m : Market) (rows : List (List Bool)) : Type 0 where
   pub one_each : length rows ≡ length m.programs
   pub none : (p r : ℕ) → ranks_at rows p r ≡ false
@@ -44,6 +45,8 @@ pub record AreUnwatched (m : Market) (rows : List (List Bool)) : Type 0 where
 abbrev pub IsWatched : Assigned → List (List Bool) → ℕ → Type 0
 IsWatched s rows a = (p r : ℕ) → p < length s.market.programs → rank_of s.market p a ≡ Some r → ranks_at rows p r ≡ has (wanted s a) p
 
+-- There is a set of watched ranks for each program. Each applicant is watched at the programs that it wants
+-- more than what it has, and nowhere else.
 pub record AreWatched (s : Assigned) (rows : List (List Bool)) : Type 0 where
   pub one_each : length rows ≡ length s.market.programs
   pub each : (a : ℕ) → a < applicants s.market → IsWatched s rows a

@@ -2,7 +2,7 @@
 use Rattle.std.specs.Prelude.{◌≡◌, ℕ, ◌<◌, ◌≤◌, Bool, true, false, List, slice_index_or}
 use Rattle.mt_terms.specs.Lists.{Set}
 
--- whether a rank is in a set, for which it is told of each rank
+-- whether a rank is in a set that is kept as a flag for each rank, from 0 on
 abbrev pub is_in : List Bool → Set
 is_in told r = slice_index_or told r false
 

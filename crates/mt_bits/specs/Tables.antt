@@ -28,11 +28,12 @@ pub record AddsList (old new : List (List Bool)) : Type 0 where
   pub as_many : length new ≡ length old + 1
   pub same : (k r : ℕ) → is_in (told_of new k) r ≡ is_in (told_of old k) r
 
--- a rank more on a list, or one less
+-- This rank is now on this list. All other ranks of all lists are as before.
 pub record AddsRank (old new : List (List Bool)) (list rank : ℕ) : Type 0 where
   pub as_many : length new ≡ length old
   pub now : (k r : ℕ) → is_in (told_of new k) r ≡ ((list == k && rank == r) || is_in (told_of old k) r)
 
+-- This rank isn't on this list any more. All other ranks of all lists are as before.
 pub record TakesRank (old new : List (List Bool)) (list rank : ℕ) : Type 0 where
   pub as_many : length new ≡ length old
   pub now : (k r : ℕ) → is_in (told_of new k) r ≡ (not (list == k && rank == r) && is_in (told_of old k) r)

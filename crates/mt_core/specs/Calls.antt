@@ -8,11 +8,11 @@ use Rattle.mt_terms.specs.declared.events.Reply.{Reply}
 use Rattle.mt_core.specs.Floors.{Tables, floor_of}
 use Rattle.mt_core.specs.Ends.{IsReached, IsStep, AreSettled, AreSettledBut}
 
--- the floor is as after the event
+-- the tables show the floor after the event
 abbrev pub IsAfter : Market → Tables → Tables → Event → Type 0
 IsAfter m old new event = floor_of m new ≡ after m (floor_of m old) event
 
--- the floor is as after the events, in order
+-- the tables show the floor after the events, in order
 abbrev pub IsAfterAll : Market → Tables → Tables → List Event → Type 0
 IsAfterAll m old new events = floor_of m new ≡ after_all m (floor_of m old) events
 
@@ -24,7 +24,7 @@ StaysLegal m old new = IsLegal m (floor_of m old) → IsLegal m (floor_of m new)
 abbrev pub StaysStrict : Market → Tables → Tables → Type 0
 StaysStrict m old new = IsStrict m (floor_of m old) → IsStrict m (floor_of m new)
 
--- events led from one floor to the other, and so many of them were proposals that were due
+-- events led from one floor to the other, and this many of them were proposals that were due
 abbrev pub IsLedOn : Market → Tables → Tables → ℕ → Type 0
 IsLedOn m old new proposals = IsReached m (floor_of m old) (floor_of m new) proposals
 

@@ -4,8 +4,8 @@ use Rattle.mt_terms.specs.Lists.{has}
 use Rattle.mt_terms.specs.Market.{Market, live}
 use Rattle.mt_terms.specs.Floor.{Floor}
 
--- the floor on which an applicant has made so many proposals and stands or doesn't: each program among so many of
--- its live entries has received it, and the rest is as it was
+-- The floor with one applicant's desk written into it: how many proposals it has made, and whether it stands.
+-- Each of that many programs at the front of its live list has received it. The rest is as before.
 abbrev pub with_desk : Market → Floor → ℕ → ℕ → Bool → Floor
 with_desk m f a made standing = record {
   made = λ b. if b == a then made else f.made b;
@@ -13,7 +13,8 @@ with_desk m f a made standing = record {
   received = λ p b. if b == a then has (take made (live m a)) p else f.received p b;
 }
 
--- what a recorded floor may have of an applicant
+-- what a recorded floor may have of an applicant: no more proposals than live entries, and at least one if it
+-- stands
 pub record MayHave (m : Market) (a made : ℕ) (standing : Bool) : Type 0 where
   pub within : made ≤ length (live m a)
   pub proposed : IsTrue standing → 0 < made

@@ -20,7 +20,9 @@ pub record IsMove (m : Market) (a to : ℕ) (kept : Bool) (displaced : Option �
   pub refused : kept ≡ false → IsExcluded m a to
   pub fallen : IfSome displaced (λ b. IsExcluded m b to)
 
--- what an answer shows of the market
+-- What an answer shows of the market. Each program that it names is a live entry. A program is excluded for
+-- an applicant that it refused or displaced, or that learns that it isn't held. All live entries above a
+-- place are excluded. If the applicant is out, all its live entries are.
 abbrev pub Tells : Market → ℕ → Answer → Type 0
 Tells m a (Moved to kept displaced) = IsMove m a to kept displaced
 Tells m a (Told by) = IsTrue (has (live m a) by) × IsExcluded m a by
@@ -28,7 +30,7 @@ Tells m a (At place) = IsTrue (has (live m a) place) × AllAboveExcluded m a pla
 Tells m a Out = (p : ℕ) → IsTrue (has (live m a) p) → IsExcluded m a p
 Tells m a Stranger = Unit {0}
 
--- the pass after an answer: one proposal more where one was made, and else as before
+-- the pass after an answer: with one proposal more if the answer says that one was made, and else as before
 abbrev pub pass_after : PassView → ℕ → Answer → PassView
 pass_after s a (Moved to kept displaced) = one_more s to a
 pass_after s a (Told by) = s

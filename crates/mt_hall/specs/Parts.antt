@@ -25,10 +25,11 @@ pub record PassView : Type 0 where
   pub by_program : List ℕ
   pub by_applicant : List ℕ
 
--- whom a door has received, and whom its program holds of them
+-- whom a door has received, by its program's list
 abbrev pub received_at : Market → DoorView → Set
 received_at m v = received_from (program_of m v.program) v.holding
 
+-- whom the door's program holds of them
 abbrev pub held_at : Market → DoorView → Set
 held_at m v = choice (program_of m v.program) (received_at m v)
 
@@ -46,7 +47,8 @@ pub record IsRow (m : Market) (a made : ℕ) (standing : Bool) : Type 0 where
   pub proposed : IsTrue standing → 0 < made
   pub passed_excluded : (p : ℕ) → IsTrue (has (take (passed_count made standing) (live m a)) p) → IsExcluded m a p
 
--- A desk: with each proposal a credit has left it, and its row can be that of a legal floor.
+-- What a desk keeps. Its credits and its proposals add up to its live entries. Its row can be that of a legal
+-- floor: an applicant that stands has proposed, and all that it has passed is excluded for it.
 pub record IsDesk (m : Market) (d : DeskView) : Type 0 where
   pub left : d.credits + d.made ≡ length (live m d.applicant)
   pub row : IsRow m d.applicant d.made d.standing
@@ -56,18 +58,20 @@ pub record IsComer (m : Market) (a p : ℕ) : Type 0 where
   pub is_live : IsTrue (has (live m a) p)
   pub above_excluded : AllAboveExcluded m a p
 
--- A door: the holding is its program's, and all that it has received may come. So whoever was received and isn't
--- held is excluded there, by the exclusion law.
+-- What a door keeps. Its holding has its program's quota, and a rank for each applicant on the list. Each
+-- applicant that it has received has the program on its live list, and all entries above it are excluded. By
+-- the exclusion law a received applicant that isn't held is excluded there.
 pub record IsDoor (m : Market) (v : DoorView) : Type 0 where
   pub quota : v.holding.quota ≡ (program_of m v.program).quota
   pub listed : ranks v.holding ≡ length (program_of m v.program).ranking
   pub comers : (a : ℕ) → IsTrue (received_at m v a) → IsComer m a v.program
 
--- whoever a program has received and doesn't hold is excluded there
+-- each applicant that a program has received and doesn't hold is excluded there
 abbrev pub RefusedAreExcluded : Market → DoorView → Type 0
 RefusedAreExcluded m v = (a : ℕ) → IsTrue (received_at m v a) → IsFalse (held_at m v a) → IsExcluded m a v.program
 
--- A pass: a count for each program and each applicant, and both add up to its proposals.
+-- What a pass keeps: a count for each program, and one for each applicant. Each of the two lists of counts
+-- adds up to its proposals.
 pub record IsPass (m : Market) (s : PassView) : Type 0 where
   pub programs : length s.by_program ≡ length m.programs
   pub applicants : length s.by_applicant ≡ applicants m

@@ -12,24 +12,25 @@ use Rattle.mt_terms.specs.declared.events.Reply.TheVariants.{Kept, KeptInstead, 
 use Rattle.mt_core.specs.Replies.{reply_to}
 use Rattle.mt_hall.specs.Parts.{DeskView, DoorView, AllAboveExcluded, passed_count, received_at, held_at}
 
--- The door is that of the entry that the desk's next event is about: of the next one where the applicant doesn't
--- stand, and of the last one where it does.
+-- The desk's next event is about the door's program: its next live entry, or its last one while the
+-- applicant is standing there.
 pub record IsDue (m : Market) (d : DeskView) (v : DoorView) : Type 0 where
   pub applicant : d.applicant < applicants m
   pub program : v.program < length m.programs
   pub entry : slice_get (live m d.applicant) (passed_count d.made d.standing) ≡ Some v.program
 
--- what becomes of the desk, with the door as it is then
+-- the desk after its next event, by the door as it is then
 abbrev pub stepped : Market → DeskView → DoorView → DeskView
 stepped m d w =
     let standing = held_at m w d.applicant in
     if d.standing then (record d { standing = standing })
     else (record { applicant = d.applicant; made = d.made + 1; standing = standing; credits = d.credits - 1 })
 
--- the event, and the reply to it, with the door as it was before
+-- a desk's next event: a notice if its applicant stands, and else a proposal
 abbrev pub event_of : DeskView → Event
 event_of d = if d.standing then (Notice d.applicant) else Propose d.applicant
 
+-- the reply to a desk's next event, by the door as it was before
 abbrev pub reply_of_step : Market → DeskView → DoorView → Reply
 reply_of_step m d v =
     let set = received_at m v in
@@ -52,7 +53,9 @@ ShowsExcluded m a p Refused = IsExcluded m a p
 ShowsExcluded m a p Noticed = Unit {0}
 ShowsExcluded m a p NotDue = Unit {0}
 
--- what the reply to an event shows
+-- What the reply to an event shows. An applicant that is refused or displaced, or learns that it isn't held,
+-- is excluded at the program. If no event is due, all live entries above the program are excluded for the
+-- applicant.
 abbrev pub Shows : Market → ℕ → ℕ → Reply → Type 0
 Shows m a p Kept = Unit {0}
 Shows m a p (KeptInstead b) = IsExcluded m b p

@@ -18,7 +18,7 @@ ranks h = length h.received
 abbrev pub has_received : Holding → Set
 has_received h rank = slice_index_or h.received rank false
 
--- how many these are
+-- how many ranks a proposal was received from
 abbrev pub received_count : Holding → ℕ
 received_count h = count (λ b. b) h.received
 
@@ -26,7 +26,7 @@ received_count h = count (λ b. b) h.received
 abbrev pub numbered_by_rank : Holding → Program
 numbered_by_rank h = record { quota = h.quota; ranking = below (ranks h) }
 
--- the ranks that are held: the choice from those received
+-- the ranks that are held: the choice from those received (Gale and Shapley 1962)
 unfoldable pub held : Holding → Set
 held h = choice (numbered_by_rank h) (has_received h)
 

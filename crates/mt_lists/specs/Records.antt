@@ -24,6 +24,6 @@ without_trailing_empty fields = take (length fields - suffix_len is_empty_field 
 unfoldable pub rows_of : List ℕ → List (List (List ℕ))
 rows_of text = map without_trailing_empty (records default_config text)
 
--- the rows of an input after the mark at its start, or none where two marks stand there
+-- the rows of an input after its byte order mark, if it has one: nothing if it begins with two marks
 unfoldable pub records_of : List ℕ → Option (List (List (List ℕ)))
 records_of bytes = if starts_with nat_eq bytes (mark ++ mark) then None else Some (rows_of (without_mark bytes))

@@ -11,11 +11,11 @@ reader_of tap = tap.reader
 abbrev pub reads_of : {R : Type 0} → Tap R → ℕ
 reads_of tap = tap.reads
 
--- how many of them failed
+-- how many reads of a tap failed
 abbrev pub failures_of : {R : Type 0} → Tap R → ℕ
 failures_of tap = tap.failures
 
--- the bytes that the reader under a tap has left, where readers of its type tell them, as `remaining` says
+-- the bytes that the reader under a tap has left, if readers of its type report them, as `remaining` says
 abbrev pub bytes_left : {R : Type 0} → (R → Option (List ℕ)) → Tap R → Option (List ℕ)
 bytes_left remaining tap = remaining (reader_of tap)
 

@@ -17,14 +17,15 @@ couples_with [] pairs = []
 couples_with (x ∷ xs) [] = []
 couples_with (x ∷ xs) (p ∷ ps) = record { first = x.0; second = x.1; pairs = p } ∷ couples_with xs ps
 
--- the market of some tables
+-- the market that tables show, with its ids
 abbrev pub registered_of : Tables → Registered
 registered_of t = record {
   market = record { programs = programs_with t.quotas.items t.rankings; lists = t.lists; couples = couples_with t.members.items t.pairs };
   names = record { programs = t.program_ids; applicants = t.applicant_ids; couples = t.couple_ids };
 }
 
--- The tables are of one length each, every applicant's agent is the market's, and that is the market of a file.
+-- The two tables of programs have one length, and so have the two of couples. Each applicant's agent is the
+-- one that the market gives it. The market is a registration.
 pub record AreTables (t : Tables) : Type 0 where
   pub rankings : length t.rankings ≡ length t.quotas.items
   pub pairs : length t.pairs ≡ length t.members.items

@@ -32,7 +32,7 @@ single_flags m = map (is_single m) (below (applicants m))
 abbrev pub ranked_of : Market → Ranked
 ranked_of m = record { market = live_market m; singles = single_flags m }
 
--- a program's list
+-- a program's rank order list, the most wanted first
 abbrev pub ranking_of : Market → ℕ → List ℕ
 ranking_of m p = (program_of m p).ranking
 
@@ -74,8 +74,9 @@ all_entries m = entries_of_applicants m + entries_of_programs m
 abbrev pub AreMutual : Market → ℕ → Type 0
 AreMutual m a = (p : ℕ) → IsTrue (has (list_of m a) p) → IsEntry m a (ranked_entry m a p)
 
--- What all rank tables have: a well-formed market without couples, whose lists are live, a flag for each
--- applicant, no list for who isn't a single, and no more of anything than an input may have.
+-- What all rank tables have: a well-formed market without couples, whose lists are live, and a flag for each
+-- applicant. An applicant that is no single has an empty list. Of nothing is there more than an input may
+-- have.
 pub record IsRanked (r : Ranked) : Type 0 where
   pub well_formed : IsWellFormed r.market
   pub no_couples : r.market.couples ≡ []

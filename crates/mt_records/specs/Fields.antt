@@ -14,7 +14,7 @@ by_pairs [] = []
 by_pairs (x ∷ []) = []
 by_pairs (x ∷ y ∷ fields) = (x, y) ∷ by_pairs fields
 
--- the pairs that have yet to come
+-- the pairs that an iterator over a couple's fields has yet to give
 abbrev pub pairs_left : Pairs → List IdPair
 pairs_left pairs = map pair_of (by_pairs (fields_left pairs.fields))
 
@@ -27,9 +27,10 @@ abbrev pub first_two : List (Bytes × Bytes) → Bytes × Bytes
 first_two [] = ([], [])
 first_two (two ∷ rest) = two
 
--- a couple's members, and the pairs after them
+-- a couple's two members: the first two fields after its own id, or two empty ones if there are fewer
 abbrev pub members_in : CoupleFields → Bytes × Bytes
 members_in couple = first_two (by_pairs (fields_left couple.fields))
 
+-- the pairs of a couple's list: the fields after its members, two by two
 abbrev pub pairs_after : CoupleFields → List IdPair
 pairs_after couple = map pair_of (drop 1 (by_pairs (fields_left couple.fields)))

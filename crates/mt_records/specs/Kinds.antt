@@ -17,6 +17,6 @@ under model.OfApplicant id model.OfApplicant = id ∷ []
 under model.OfCouple id model.OfCouple = id ∷ []
 under _ id _ = []
 
--- Ids of each kind get one more, of a kind, at the end.
+-- An id is added at the end of those of its kind. Those of the other kinds are as before.
 abbrev pub AddsId : Kinds → Kinds → model.Kind → Bytes → Type 0
 AddsId old new kind id = (k : model.Kind) → ids_in new k ≡ ids_in old k ++ under kind id k

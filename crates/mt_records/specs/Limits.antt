@@ -3,7 +3,8 @@ use Rattle.std.specs.Prelude.{◌≤◌}
 use Rattle.mt_terms.specs.declared.limits.Limits.{Limits}
 use Rattle.mt_terms.specs.declared.limits.TheConstants.{LIMITS_2}
 
--- Limits that no version passes.
+-- The limits on programs, applicants, couples and entries are no greater than those of version 2. No version
+-- passes these.
 pub record AreBounded (limits : Limits) : Type 0 where
   pub programs : limits.programs ≤ LIMITS_2.programs
   pub couples : limits.couples ≤ LIMITS_2.couples

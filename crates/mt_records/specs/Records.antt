@@ -10,20 +10,24 @@ use Rattle.mt_records.specs.declared.record.Record.{Record}
 use Rattle.mt_records.specs.declared.record.Record.TheVariants as records
 use Rattle.mt_records.specs.declared.record.Charge.{Charge}
 
+-- a kind of records, as the definition's kind
 abbrev pub kind_seen : Kind → model.Kind
 kind_seen kinds.Program = model.OfProgram
 kind_seen kinds.Applicant = model.OfApplicant
 kind_seen kinds.Couple = model.OfCouple
 
+-- a record that was read, as the definition's record
 abbrev pub record_seen : Record → model.Record
 record_seen (records.Program quota id list) = model.ProgramRecord id.now quota (fields_left list)
 record_seen (records.Applicant id list) = model.ApplicantRecord id.now (fields_left list)
 record_seen (records.Couple id couple) = model.CoupleRecord id.now (members_in couple).0 (members_in couple).1 (pairs_after couple)
 record_seen (records.Withdraw kind id) = model.WithdrawRecord (kind_seen kind) id.now
 
+-- a fault without its record's number, as the definition's charge
 abbrev pub charge_seen : Charge → faults.Charge
 charge_seen c = (c.code, c.id.now)
 
+-- what the reading of one record gives, the record or its fault, as the definition's result
 abbrev pub read_seen : Result Record Charge → Result model.Record faults.Charge
 read_seen (Ok r) = Ok (record_seen r)
 read_seen (Err c) = Err (charge_seen c)

@@ -5,6 +5,7 @@ use Rattle.mt_records.specs.declared.refusal.Fault.{Fault}
 use Rattle.mt_records.specs.declared.refusal.Refusal.{Refusal}
 use Rattle.mt_records.specs.declared.refusal.Refusal.TheVariants as refusals
 
+-- a fault of a file, as the definition's fault
 abbrev pub fault_seen : Fault → faults.Fault
 fault_seen f = record { code = f.code; row = f.row; id = f.id.now }
 

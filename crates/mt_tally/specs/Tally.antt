@@ -8,6 +8,6 @@ pub record Tally : Type 0 where
   pub desk_credits : ℕ
   pub pass_credits : ℕ
 
--- so many credits were dealt, and nothing was taken in
+-- a roll with n credits dealt, and nothing taken in yet
 abbrev pub all_dealt : ℕ → Tally
 all_dealt n = record { total = n; shares = 0; desk_credits = 0; pass_credits = 0 }

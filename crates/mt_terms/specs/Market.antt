@@ -33,15 +33,15 @@ pub record Market : Type 0 where
 abbrev pub applicants : Market → ℕ
 applicants m = length m.lists
 
--- a number that no program has stands for one that takes nobody
+-- the program with a number. A number that no program has gives one that takes nobody
 abbrev pub program_of : Market → ℕ → Program
 program_of m p = slice_index_or m.programs p (record { quota = 0; ranking = [] })
 
--- the list of an applicant
+-- the list of an applicant, by number: empty for a couple's member
 abbrev pub list_of : Market → ℕ → List ℕ
 list_of m a = slice_index_or m.lists a []
 
--- a number that no couple has stands for one that wants nothing
+-- the couple with a number. A number that no couple has gives one that wants nothing
 abbrev pub couple_of : Market → ℕ → Partners
 couple_of m c = slice_index_or m.couples c (record { first = 0; second = 0; pairs = [] })
 
@@ -57,7 +57,7 @@ live m a = filter (λ p. has (program_of m p).ranking a) (list_of m a)
 abbrev pub live_market : Market → Market
 live_market m = record { programs = m.programs; lists = map (live m) (below (applicants m)); couples = [] }
 
--- how many live entries there are in all
+-- how many entries the live lists of all applicants have
 abbrev pub live_entries : Market → ℕ
 live_entries m = total_below (λ a. length (live m a)) (applicants m)
 
@@ -65,11 +65,12 @@ live_entries m = total_below (λ a. length (live m a)) (applicants m)
 abbrev pub is_member : Partners → ℕ → Bool
 is_member c a = (c.first == a) || (c.second == a)
 
--- the agent that an applicant belongs to: the couple of which it is a member, or else itself
+-- an applicant's agent, by couples that are numbered from c on
 abbrev pub agent_from : List Partners → ℕ → ℕ → Agent
 agent_from [] c a = Single a
 agent_from (x ∷ xs) c a = if is_member x a then Couple c else agent_from xs (c + 1) a
 
+-- the agent of an applicant: its couple if it is a member of one, or else itself
 abbrev pub agent_of : Market → ℕ → Agent
 agent_of m a = agent_from m.couples 0 a
 

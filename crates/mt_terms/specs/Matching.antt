@@ -51,10 +51,11 @@ is_same_place (Some p) (Some q) = p == q
 abbrev pub Placement : Type 0
 Placement = List (ℕ × Option ℕ)
 
--- the placement of a single at a program, and of a couple at a pair
+-- the placement of a single at a program
 abbrev pub single_placement : ℕ → ℕ → Placement
 single_placement a p = (a, Some p) ∷ []
 
+-- the placement of a couple's two members by a pair
 abbrev pub couple_placement : ℕ → ℕ → Pair → Placement
 couple_placement a b pair = (a, pair.0) ∷ (b, pair.1) ∷ []
 
@@ -81,8 +82,8 @@ unplaced (a ∷ xs) places = unplaced xs (slice_set places a None)
 abbrev pub none_placed : Places → List ℕ → Bool
 none_placed places xs = list_all (λ a. not (is_some (place_of places a))) xs
 
--- an agent's options that are better than what it has: those earlier on its list. Where it has none of
--- them, all are better
+-- an agent's options that are better than what it has: those earlier on its list. If it has none of them, all
+-- are better
 abbrev pub better : Market → Places → Agent → List Placement
 better m places agent = until (holds places) (options m agent)
 

@@ -18,7 +18,7 @@ line_feed = 10
 abbrev pub line : List (List ℕ) → List ℕ
 line fields = join_with_byte comma fields ++ line_feed ∷ []
 
--- the id of a number
+-- the id of a program, an applicant or a couple, by its number in a list of ids
 abbrev pub name_of : List (List ℕ) → ℕ → List ℕ
 name_of ids n = slice_index_or ids n []
 
@@ -52,10 +52,11 @@ program_lines m names places received = flat_map (program_line m names places re
 abbrev pub unmatched : Places → ℕ
 unmatched places = count (λ place. not (is_some place)) places
 
--- how many posts there are, and how many of them are filled
+-- how many posts there are: the sum of all quotas
 abbrev pub positions : Market → ℕ
 positions m = total_below (λ p. (program_of m p).quota) (length m.programs)
 
+-- how many posts are filled, at all programs together
 abbrev pub all_filled : Market → Places → ℕ
 all_filled m places = total_below (filled places) (length m.programs)
 
@@ -82,6 +83,7 @@ refusals =
     ∷ (UNKNOWN_PROGRAM, codes "UnknownProgram") ∷ (NOT_REGISTERED, codes "NotRegistered")
     ∷ (OUT_OF_MEMORY, codes "OutOfMemory") ∷ (READ_FAULT, codes "ReadFault") ∷ (BUDGET_SPENT, codes "BudgetSpent") ∷ []
 
+-- whether a number is the code of a refusal
 abbrev pub is_known_code : ℕ → Bool
 is_known_code code = list_any (λ r. r.0 == code) refusals
 
@@ -105,7 +107,7 @@ abbrev pub name_among : List (ℕ × List ℕ) → ℕ → List ℕ
 name_among [] code = []
 name_among (r ∷ rs) code = if r.0 == code then r.1 else name_among rs code
 
--- an id that is absent is a dash
+-- an id as a line has it, with a dash if there is none
 abbrev pub id_text : List ℕ → List ℕ
 id_text [] = codes "-"
 id_text (b ∷ bytes) = b ∷ bytes

@@ -72,10 +72,10 @@ front j p rank = take rank (program_of j.market p).ranking
 abbrev pub count_above : Judged → ℕ → ℕ → ℕ
 count_above j p rank = count (at j.places p) (front j p rank)
 
--- whether these are fewer than its quota
+-- whether fewer of those at a program than its quota are above a rank on its list
 abbrev pub has_post : Judged → ℕ → ℕ → Bool
 has_post j p rank = nat_lt (count_above j p rank) (program_of j.market p).quota
 
--- how many stand above it, with an applicant moved to a place
+-- how many of them are above the rank, with an applicant moved to a place
 abbrev pub count_above_moved : Judged → ℕ → ℕ → ℕ → Option ℕ → ℕ
 count_above_moved j p rank a place = count (at_moved j.places a place p) (front j p rank)

@@ -28,7 +28,9 @@ pub record AreNames (n : ℕ) (ids : List Bytes) : Type 0 where
 abbrev pub list_entries : Market → ℕ
 list_entries m = sum_by (λ p. length (Program.ranking p)) m.programs + sum_by length m.lists + 2 * sum_by (λ c. length (Partners.pairs c)) m.couples
 
--- a well formed market with its names, within the limits
+-- A market with its ids, as every accepted file has it: well formed, and within the limits. Each pair names
+-- one or two programs of the market, and no couple lists a pair twice. Each program, applicant and couple has
+-- an id of its own.
 pub record IsRegistration (r : Registered) : Type 0 where
   pub well_formed : IsWellFormed r.market
   pub pairs_below : (c : ℕ) → IsTrue (list_all (is_pair_below (length r.market.programs)) (couple_of r.market c).pairs)

@@ -10,7 +10,7 @@ use Rattle.mt_terms.specs.Lists.{has}
 abbrev pub Bytes : Type 0
 Bytes = List ℕ
 
--- the field that says that a member of a couple has no place in a pair
+-- whether a field is the single `-`, which says that a member of a couple has no place in a pair
 abbrev pub is_dash : Bytes → Bool
 is_dash field = bytes_eq field (codes "-")
 
@@ -18,7 +18,7 @@ is_dash field = bytes_eq field (codes "-")
 abbrev pub is_id_byte : ℕ → Bool
 is_id_byte byte = is_ascii_alphanumeric byte || has (codes "._:-") byte
 
--- whether a field is an id of at most so many bytes: one byte or more of those, and not the single `-`
+-- whether a field is an id of at most this many bytes: one byte or more of those, and not the single `-`
 abbrev pub is_id : ℕ → Bytes → Bool
 is_id most field = nat_lt 0 (length field) && nat_le (length field) most && list_all is_id_byte field && not (is_dash field)
 

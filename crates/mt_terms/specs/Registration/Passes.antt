@@ -13,7 +13,7 @@ use Rattle.mt_terms.specs.Registration.Rows.{id_of, ids_of, withdrawn, applicant
 abbrev pub Numbered : Type 0 → Type 0
 Numbered X = ℕ × X
 
--- the records that have a field, the first of them being record n
+-- the records that have a field, each with its number, if the first of all records is record n
 abbrev pub numbered_from : ℕ → List (List Bytes) → List (Numbered (List Bytes))
 numbered_from n [] = []
 numbered_from n ([] ∷ rows) = numbered_from (n + 1) rows

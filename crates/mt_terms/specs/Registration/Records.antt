@@ -46,6 +46,7 @@ pub data Record : Type 0 where
   CoupleRecord : (id first second : Bytes) (pairs : List IdPair) → Record
   WithdrawRecord : (kind : Kind) (id : Bytes) → Record
 
+-- the kind of record that a word names, if it names one
 abbrev pub kind_of : Bytes → Option Kind
 kind_of word =
     if bytes_eq word (codes "program") then Some OfProgram
@@ -53,6 +54,7 @@ kind_of word =
     else if bytes_eq word (codes "couple") then Some OfCouple
     else None
 
+-- whether each of these fields is an id by the rules of a version
 abbrev pub are_ids : Rules → List Bytes → Bool
 are_ids rules fields = list_all (is_id rules.limits.id_bytes) fields
 
@@ -69,6 +71,7 @@ is_pair rules p = (an_id p.0 && an_id p.1) || (rules.half_pairs && ((an_id p.0 &
     an_id : Bytes → Bool
     an_id field = is_id rules.limits.id_bytes field
 
+-- the pair that two fields write, in which a `-` is no place
 abbrev pub pair_of : Bytes × Bytes → IdPair
 pair_of p = (place p.0, place p.1)
   where
@@ -96,11 +99,13 @@ abbrev pub couple_record : Rules → List Bytes → Result Record Charge
 couple_record rules (id ∷ a ∷ b ∷ fields) = couple_by_pairs rules id a b (two_by_two fields)
 couple_record rules _ = Err (charge_alone FIELD_COUNT)
 
+-- a withdrawal by its kind, if its word names one, and by the fields after that word
 abbrev pub withdraw_by_kind : Rules → Option Kind → List Bytes → Result Record Charge
 withdraw_by_kind rules None fields = Err (charge_alone UNKNOWN_KIND)
 withdraw_by_kind rules (Some kind) (id ∷ []) = if are_ids rules (id ∷ []) then Ok (WithdrawRecord kind id) else Err (charge_alone BAD_ID)
 withdraw_by_kind rules (Some kind) _ = Err (charge_alone FIELD_COUNT)
 
+-- a withdrawal by the fields after its first, or its first fault: the kind and the id that it withdraws
 abbrev pub withdraw_record : Rules → List Bytes → Result Record Charge
 withdraw_record rules [] = Err (charge_alone FIELD_COUNT)
 withdraw_record rules (word ∷ fields) = withdraw_by_kind rules (kind_of word) fields
@@ -112,7 +117,7 @@ record_by_kind rules (Some OfApplicant) fields = applicant_record rules fields
 record_by_kind rules (Some OfCouple) fields = couple_record rules fields
 record_by_kind rules None fields = Err (charge_alone UNKNOWN_KIND)
 
--- a record by all its fields, of which there is one at least
+-- a record by all its fields, or its first fault if it is judged by itself. It has at least one field
 abbrev pub record_of : Rules → List Bytes → Result Record Charge
 record_of rules [] = Err (charge_alone UNKNOWN_KIND)
 record_of rules (word ∷ fields) =
