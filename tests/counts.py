@@ -14,7 +14,7 @@ CHECKS = {
     # tests/cli with the path of a program, where bin/nrmatch isn't run.
     "cli PROGRAM": 8385,
     "cli": 8388,
-    "controls": 29,
+    "controls": 32,
     "edits_apply": 593,
     "linear": 45,
     "memory": 448,
@@ -23,7 +23,7 @@ CHECKS = {
     "must_fail": 68,
     "pages": 267,
     "threads": 28,
-    "words": 198,
+    "words": 267,
     "wrong_bodies --release": 42,
 }
 # The sweeps of the forms of tests/memory, by the number of workers and whether all requests from one on are refused.
