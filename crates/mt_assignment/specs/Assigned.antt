@@ -37,7 +37,7 @@ front_of s p rank = take rank (program_of s.market p).ranking
 abbrev pub ahead : Assigned → ℕ → ℕ → ℕ
 ahead s p rank = count (at s.places p) (front_of s p rank)
 
--- whether fewer of those at a program than its quota have a rank below this one
+-- whether fewer than its quota of those at a program have a rank below this one
 abbrev pub has_post : Assigned → ℕ → ℕ → Bool
 has_post s p rank = nat_lt (ahead s p rank) (program_of s.market p).quota
 

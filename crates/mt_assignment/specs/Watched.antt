@@ -15,12 +15,12 @@ use Rattle.mt_sets.specs.Named.{names}
 abbrev pub wanted : Assigned → ℕ → List ℕ
 wanted s a = until (λ p. at s.places p a) (list_of s.market a)
 
--- an applicant's live entries before its place, each with the applicant's rank there: all of them if it is
--- unplaced
+-- an applicant's live entries before its place, each with its rank there: all of them if none of them is its
+-- place
 abbrev pub better_entries : Assigned → ℕ → List Live
 better_entries s a = until (λ (e : Live). at s.places e.program a) (ranked_list (live_market s.market) a)
 
--- an applicant's live entries from its place on: none if it is unplaced
+-- an applicant's live entries from its place on: none if none of them is its place
 abbrev pub other_entries : Assigned → ℕ → List Live
 other_entries s a = drop (length (better_entries s a)) (ranked_list (live_market s.market) a)
 
@@ -45,8 +45,8 @@ pub record AreUnwatched (m : Market) (rows : List (List Bool)) : Type 0 where
 abbrev pub IsWatched : Assigned → List (List Bool) → ℕ → Type 0
 IsWatched s rows a = (p r : ℕ) → p < length s.market.programs → rank_of s.market p a ≡ Some r → ranks_at rows p r ≡ has (wanted s a) p
 
--- There is a set of watched ranks for each program. Each applicant is watched at the programs that it wants
--- more than what it has, and nowhere else.
+-- There is a set of watched ranks for each program. Each applicant is watched at each program that lists it
+-- and that it wants more than what it has, and nowhere else.
 pub record AreWatched (s : Assigned) (rows : List (List Bool)) : Type 0 where
   pub one_each : length rows ≡ length s.market.programs
   pub each : (a : ℕ) → a < applicants s.market → IsWatched s rows a

@@ -5,7 +5,7 @@ use Rattle.mt_terms.specs.Market.{Market, live}
 use Rattle.mt_terms.specs.Floor.{Floor}
 
 -- The floor with one applicant's desk written into it: how many proposals it has made, and whether it stands.
--- Each of that many programs at the front of its live list has received it. The rest is as before.
+-- The programs that have received it are that many from the front of its live list. The rest is as before.
 abbrev pub with_desk : Market → Floor → ℕ → ℕ → Bool → Floor
 with_desk m f a made standing = record {
   made = λ b. if b == a then made else f.made b;

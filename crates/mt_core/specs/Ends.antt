@@ -8,7 +8,7 @@ use Rattle.mt_terms.specs.declared.events.Event.TheVariants.{Propose, Notice}
 use Rattle.mt_terms.specs.declared.events.Reply.{Reply}
 use Rattle.mt_terms.specs.declared.events.Reply.TheVariants.{KeptInstead}
 
--- Events lead from one floor to another, and so many of them are proposals that are due.
+-- Events lead from one floor to another, and this many of them are proposals that are due.
 pub record IsReached (m : Market) (old new : Floor) (proposals : ℕ) : Type 0 where
   pub events : List Event
   pub floor : new ≡ after_all m old events

@@ -33,8 +33,8 @@ floor_of m t = record {
   received = received_by m t;
 }
 
--- The tables were opened for a market: they have a place for each of its applicants and programs, and each holding
--- has its program's quota and a rank for each applicant on the list.
+-- The tables were opened for a market: they have a place for each of its applicants and programs. Each
+-- holding has its program's quota, and a rank for each applicant on the list.
 pub record IsOpenedWith (m : Market) (t : Tables) : Type 0 where
   pub made : length t.made ≡ applicants m
   pub standing : length t.standing ≡ applicants m

@@ -130,8 +130,9 @@ abbrev pub match_of : Names → SoFar → Option ℕ → Result Told Fault
 match_of names s (Some a) = Err (fault_at 0 (charge_at NOT_PLACED (name_of names.applicants a)))
 match_of names s None = Ok (record { places = map (λ place. unwrap_or place None) s.places; counts = s.counts })
 
--- What the records of a match tell of the applicants of a market, or their first fault: records are read one after
--- another, counted from 1, and one without a field is passed over; after all of them each applicant has its place.
+-- What the records of a match say of the applicants of a market, or their first fault. Records are read one
+-- after another and counted from 1, and one without a field is passed over. After all of them each applicant
+-- has its place.
 abbrev pub told_by : Registered → List (List Bytes) → Result Told Fault
 told_by r rows =
     and_then (all_told r.names (nothing_told (applicants r.market)) (numbered_from 1 rows)) (λ s. match_of r.names s (first_unplaced s))

@@ -12,6 +12,7 @@ use Rattle.mt_match.specs.declared.so_far.SoFar.{SoFar}
 abbrev pub market_of : Ids → Registered
 market_of ids = ids.roster.now
 
+-- a fault without its record's number, as the definition's charge
 abbrev pub charge_seen : Charge → faults.Charge
 charge_seen c = (c.code, c.id.now)
 

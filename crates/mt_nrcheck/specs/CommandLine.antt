@@ -27,6 +27,7 @@ plain = on_top (λ s. record s { no_binary_name = true; has_version = true }) (n
 abbrev pub nrcheck : App
 nrcheck = with_rule (with_rule plain market_rule) match_rule
 
+-- the words of a command line, each as its bytes
 abbrev pub texts_of : List (String Global) → List Text
 texts_of = map string_bytes
 

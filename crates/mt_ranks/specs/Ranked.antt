@@ -75,7 +75,7 @@ abbrev pub AreMutual : Market → ℕ → Type 0
 AreMutual m a = (p : ℕ) → IsTrue (has (list_of m a) p) → IsEntry m a (ranked_entry m a p)
 
 -- What all rank tables have: a well-formed market without couples, whose lists are live, and a flag for each
--- applicant. An applicant that is no single has an empty list. Of nothing is there more than an input may
+-- applicant. An applicant that is no single has an empty list. There is no more of anything than an input may
 -- have.
 pub record IsRanked (r : Ranked) : Type 0 where
   pub well_formed : IsWellFormed r.market

@@ -15,9 +15,9 @@ use Rattle.mt_terms.specs.declared.events.Event.TheVariants.{Propose, Notice}
 use Rattle.mt_terms.specs.declared.events.Reply.{Reply}
 use Rattle.mt_terms.specs.declared.events.Reply.TheVariants.{Kept, KeptInstead, Refused, Noticed, NotDue}
 
--- The floor is the state between two events: how many proposals each applicant has made, whether it
--- stands, that is, believes that the program to which it proposed last holds it, and from whom each
--- program has received a proposal.
+-- The floor is the state between two events. It has how many proposals each applicant has made, whether it
+-- stands, and from whom each program has received a proposal. An applicant stands if it believes that the
+-- program to which it proposed last holds it.
 pub record Floor : Type 0 where
   pub made : ℕ → ℕ
   pub standing : Set
@@ -51,15 +51,15 @@ abbrev pub is_held_by : Market → Floor → ℕ → Option ℕ → Bool
 is_held_by m f a None = false
 is_held_by m f a (Some p) = held m f p a
 
--- A floor is recorded where its parts agree: nobody has made more proposals than it has live entries,
--- whoever stands has made one, and the programs have received just the proposals that were made.
+-- A floor is recorded if its parts agree. Nobody has made more proposals than it has live entries, and an
+-- applicant that stands has made one. The programs have received exactly the proposals that were made.
 pub record IsRecorded (m : Market) (f : Floor) : Type 0 where
   pub within : (a : ℕ) → f.made a ≤ length (live m a)
   pub proposed : (a : ℕ) → IsTrue (f.standing a) → 0 < f.made a
   pub receives : (a p : ℕ) → f.received p a ≡ has (tried m f a) p
 
--- A floor is legal where each program that an applicant has passed, and each that has its proposal and
--- doesn't hold it, is excluded for it: no stable match of the singles has the applicant there.
+-- A floor is legal if each program that an applicant has passed is excluded for it: no stable match of the
+-- singles has the applicant there. So is each program that has its proposal and doesn't hold it.
 pub record IsLegal (m : Market) (f : Floor) : Type 0 where
   pub recorded : IsRecorded m f
   pub passed_excluded : (a p : ℕ) → IsTrue (has (passed m f a) p) → IsExcluded m a p
@@ -154,7 +154,7 @@ pub record IsResult (m : Market) (f : Floor) (places : Places) : Type 0 where
   pub one_each : length places ≡ applicants m
   pub each_place : (a : ℕ) → a < applicants m → place_of places a ≡ place_on m f a
 
--- the result of a floor
+-- the result of a floor: the match in which each applicant is where the floor has it
 abbrev pub result_of : Market → Floor → Places
 result_of m f = map (place_on m f) (below (applicants m))
 
@@ -162,9 +162,8 @@ result_of m f = map (place_on m f) (below (applicants m))
 abbrev pub proposals_made : Market → Floor → ℕ
 proposals_made m f = total_below f.made (applicants m)
 
--- The proposals made are those on the way to a match: each applicant has proposed to the programs of its
--- live list down to its place, or to all of them where it has none, and each program has received as many
--- as that makes.
+-- The proposals made are those on the way to a match. Each applicant has proposed to the programs of its live
+-- list down to its place, or to all of them if it has none. Each program has received as many as that makes.
 pub record HasProposalsOf (m : Market) (f : Floor) (places : Places) : Type 0 where
   pub same_tried : (a : ℕ) → tried m f a ≡ proposed_to m places a
   pub same_counts : (p : ℕ) → count_below (f.received p) (applicants m) ≡ proposals m places p

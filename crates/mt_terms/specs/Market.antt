@@ -37,7 +37,7 @@ applicants m = length m.lists
 abbrev pub program_of : Market → ℕ → Program
 program_of m p = slice_index_or m.programs p (record { quota = 0; ranking = [] })
 
--- the list of an applicant, by number: empty for a couple's member
+-- the list of an applicant, by number. A number that no applicant has gives an empty list
 abbrev pub list_of : Market → ℕ → List ℕ
 list_of m a = slice_index_or m.lists a []
 

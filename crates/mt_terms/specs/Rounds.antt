@@ -117,8 +117,8 @@ abbrev pub entered : Market → List ℕ → ℕ → Places → Option (Places �
 entered m [] left places = Some (places, left)
 entered m (k ∷ ks) left places = option_and_then (λ r. entered m ks r.1 r.0) (settled m k left places (Couple k ∷ []))
 
--- The couples' stage: the match after every couple has entered, and how many rounds that took; none where
--- a work list that isn't empty meets a budget that is spent.
+-- The couples' stage: the match after every couple has entered, and how many rounds that took. There is none
+-- if the budget is spent before the work list is empty.
 abbrev pub stage : Market → Places → ℕ → Option (Places × ℕ)
 stage m places budget = option_map (λ r. (r.0, budget - r.1)) (entered m (below (length m.couples)) budget places)
 

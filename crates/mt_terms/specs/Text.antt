@@ -96,8 +96,8 @@ abbrev pub is_none_or_id : Bytes → Bool
 is_none_or_id [] = true
 is_none_or_id (byte ∷ bytes) = is_id LIMITS_2.id_bytes (byte ∷ bytes)
 
--- What a refusal line may say: a known code; an id or none; and neither a record nor an id where the code is no
--- fault of a file.
+-- What a refusal line may say: a known code, and an id or none. It says neither a record nor an id if the
+-- code is no fault of a file.
 pub record IsNamedRefusal (code row : ℕ) (id : Bytes) : Type 0 where
   pub known : IsTrue (is_known_code code)
   pub is_id : IsTrue (is_none_or_id id)

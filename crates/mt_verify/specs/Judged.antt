@@ -72,7 +72,7 @@ front j p rank = take rank (program_of j.market p).ranking
 abbrev pub count_above : Judged → ℕ → ℕ → ℕ
 count_above j p rank = count (at j.places p) (front j p rank)
 
--- whether fewer of those at a program than its quota are above a rank on its list
+-- whether fewer than its quota of those at a program are above a rank on its list
 abbrev pub has_post : Judged → ℕ → ℕ → Bool
 has_post j p rank = nat_lt (count_above j p rank) (program_of j.market p).quota
 

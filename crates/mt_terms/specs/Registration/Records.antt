@@ -105,7 +105,8 @@ withdraw_by_kind rules None fields = Err (charge_alone UNKNOWN_KIND)
 withdraw_by_kind rules (Some kind) (id ∷ []) = if are_ids rules (id ∷ []) then Ok (WithdrawRecord kind id) else Err (charge_alone BAD_ID)
 withdraw_by_kind rules (Some kind) _ = Err (charge_alone FIELD_COUNT)
 
--- a withdrawal by the fields after its first, or its first fault: the kind and the id that it withdraws
+-- a withdrawal by the fields after its first, which are the kind and the id of what it withdraws; or its
+-- first fault
 abbrev pub withdraw_record : Rules → List Bytes → Result Record Charge
 withdraw_record rules [] = Err (charge_alone FIELD_COUNT)
 withdraw_record rules (word ∷ fields) = withdraw_by_kind rules (kind_of word) fields
