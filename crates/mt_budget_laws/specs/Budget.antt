@@ -17,9 +17,10 @@ StageRounds = (m : Market) (places : Places) → OfEveryEnd m places (NeedsRound
 abbrev pub single_back : Places
 single_back = Some 0 ∷ None ∷ None ∷ Some 0 ∷ Some 1 ∷ []
 
--- What the laws of rounds ask for is so where the partner withdraws: the single alone is placed best, a stage ends, and
--- once the second couple moved the first couple and the single are still to be looked at. It is so in the
--- market of three couples where the second one enters, the first one placed and the third one outside.
+-- What the laws of rounds require holds in the market where the partner withdraws. There the match of the single
+-- alone is the best one, and a stage ends. Once the second couple has moved, the first couple and the single are on
+-- the work list. It also holds in the market of three couples when the second one enters, with the first one placed
+-- and the third one outside.
 pub record PremisesOfRounds : Type 0 where
   pub well_formed : IsWellFormed partner_withdraws
   pub best : IsBest partner_withdraws (Some 0 ∷ nobody 4)

@@ -19,7 +19,7 @@ abbrev pub applicant_draft : Rules → List Bytes → Option Record
 applicant_draft rules (id ∷ list) = if is_id rules.limits.id_bytes id then Some (ApplicantRecord id list) else None
 applicant_draft rules [] = None
 
--- the record of a couple, in whose pairs anything may stand
+-- the record of a couple, whose pairs may have any fields
 abbrev pub couple_draft : Rules → List Bytes → Option Record
 couple_draft rules (id ∷ a ∷ b ∷ fields) =
     if are_ids rules (id ∷ a ∷ b ∷ []) then option_map (λ pairs. CoupleRecord id a b (map pair_of pairs)) (two_by_two fields) else None
@@ -44,7 +44,7 @@ abbrev pub drafts : Rules → List (List Bytes) → Option (List Record)
 drafts rules [] = Some []
 drafts rules (row ∷ rows) = option_and_then (λ r. option_map (λ rs. r ∷ rs) (drafts rules rows)) (draft rules row)
 
--- whether a pair is allowed: it has a place for each member, or where half pairs are allowed for one of them
+-- whether a pair is allowed: it has a place for each member, or for one of them if half pairs are allowed
 abbrev pub is_allowed : Bool → IdPair → Bool
 is_allowed half_pairs pair = (is_some pair.0 && is_some pair.1) || (half_pairs && (is_some pair.0 || is_some pair.1))
 
@@ -52,9 +52,9 @@ is_allowed half_pairs pair = (is_some pair.0 && is_some pair.1) || (half_pairs &
 abbrev pub pair_stands : Bool → List Bytes → IdPair → Bool
 pair_stands half_pairs programs pair = is_allowed half_pairs pair && names_only programs pair
 
--- whether the list of a program names none but all applicants, and none twice; whether that of a single names none but all
--- programs, and none twice; whether each pair of a couple stands by all programs, and none is there twice. Each is true of any
--- other record
+-- Whether a program's list names only registered applicants, none of them twice. Whether a single's list names only
+-- registered programs, none of them twice. Whether each pair of a couple is allowed with these programs, and none of
+-- them comes twice. Each is true of any record of another kind.
 abbrev pub ranking_stands : List Bytes → Record → Bool
 ranking_stands applicants (ProgramRecord id quota list) = stands_once applicants list
 ranking_stands applicants _ = true

@@ -18,7 +18,7 @@ new_numbers n [] = []
 new_numbers n (true ∷ bs) = Some n ∷ new_numbers (n + 1) bs
 new_numbers n (false ∷ bs) = None ∷ new_numbers n bs
 
--- where a pair sends a member, by new numbers: none where the program that it names has none
+-- where a pair sends a member, by new numbers: none if the program that it names has none
 abbrev pub new_place : List (Option ℕ) → Option ℕ → Option (Option ℕ)
 new_place news None = Some None
 new_place news (Some n) = option_map Some (slice_index_or news n None)
@@ -28,11 +28,11 @@ abbrev pub pair_of_places : Option (Option ℕ) → Option (Option ℕ) → Opti
 pair_of_places (Some x) (Some y) = Some (x, y)
 pair_of_places _ _ = None
 
--- a pair by new numbers: none where a program that it names has none
+-- a pair by new numbers: none if a program that it names has none
 abbrev pub new_pair : List (Option ℕ) → Pair → Option Pair
 new_pair news p = pair_of_places (new_place news p.0) (new_place news p.1)
 
--- whether a record stays where these ids are withdrawn. A withdrawal itself doesn't
+-- Whether a record stays if these ids are withdrawn. A withdrawal itself doesn't stay.
 abbrev pub stays_without : (programs applicants couples : List Bytes) → Record → Bool
 stays_without programs applicants couples (ProgramRecord id quota list) = not (has_id programs id)
 stays_without programs applicants couples (ApplicantRecord id list) = not (has_id applicants id)

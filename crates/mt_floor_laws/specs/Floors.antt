@@ -1,5 +1,5 @@
--- The laws of floors: what an event keeps, how many events are due, and that a strict floor on which no
--- event is due is the best match, however it was reached (McVitie and Wilson 1971).
+-- The laws of floors: what an event keeps, and how many events are due. A strict floor on which no event is due is
+-- the best match, however it was reached (McVitie and Wilson 1971).
 use Rattle.std.specs.Prelude.{◌≡◌, ◌≢◌, ◌↔◌, ℕ, ◌+◌, ◌*◌, ◌≤◌, Bool, true, false, ◌&&◌, List, [], ◌∷◌, Some, None, IsTrue, IsFalse, if◌then◌else◌}
 use Rattle.mt_terms.specs.Lists.{has, count_below}
 use Rattle.mt_terms.specs.Market.{Market, live_entries}
@@ -58,7 +58,7 @@ EventDue = (m : Market) (f : Floor) (e : Event) → IsTrue (is_due m f e) → re
 abbrev pub DueAtMost : Type 0
 DueAtMost = (m : Market) (f : Floor) → IsRecorded m f → (es : List Event) → due_count m f es ≤ 2 * live_entries m
 
--- from each recorded floor, some list of events ends where no event is due
+-- from each recorded floor, some list of events ends on a floor on which no event is due
 abbrev pub QuietIsReached : Type 0
 QuietIsReached = (m : Market) (f : Floor) → IsRecorded m f → (es : List Event) × IsTrue (is_quiet m (after_all m f es))
 

@@ -1,5 +1,5 @@
--- A market and its singles' market with live lists alone have the same stable matches of the singles: an entry
--- that isn't mutual can be no place, and nobody blocks with it.
+-- A market and its singles' market with live lists alone have the same stable matches of the singles. An entry that
+-- isn't mutual can be no place, and nobody blocks with it.
 use Rattle.std.specs.Prelude.{◌≡◌, ◌↔◌, ℕ, [], ◌∷◌}
 use Rattle.mt_terms.specs.Market.{Market, applicants, live, live_entries, singles_market, live_market}
 use Rattle.mt_terms.specs.Matching.{Places}
@@ -8,8 +8,8 @@ use Rattle.mt_terms.specs.Best.{IsExcluded, IsBest, proposals}
 use Rattle.mt_terms.specs.WellFormed.{IsWellFormed}
 use Rattle.mt_terms.specs.Examples.Markets.{one_sided}
 
--- The live market of a market agrees with it: it is well formed, and has the same live lists, the same stable
--- matches of the singles, the same best one, and the same numbers of proposals on the way there.
+-- The live market of a market agrees with it. It is well formed and has the same live lists. It has the same stable
+-- matches of the singles and the same best one. The way to that match has the same numbers of proposals.
 pub record LiveAgrees (m : Market) : Type 0 where
   pub well_formed : IsWellFormed (live_market m)
   pub same_applicants : applicants (live_market m) ≡ applicants m
@@ -24,7 +24,7 @@ pub record LiveAgrees (m : Market) : Type 0 where
 abbrev pub LiveMarketAgrees : Type 0
 LiveMarketAgrees = (m : Market) → IsWellFormed m → LiveAgrees m
 
--- An example: where no entry is mutual nothing is left on the lists, and the market agrees with that.
+-- An example: if no entry is mutual, nothing is left on the lists, and the market agrees with that.
 pub record NothingIsLive : Type 0 where
   pub no_lists : (live_market one_sided).lists ≡ [] ∷ [] ∷ []
   pub agrees : LiveAgrees one_sided

@@ -1,5 +1,5 @@
--- What holds of all stable matches of the singles (the rural hospitals theorem: Gale and Sotomayor 1985,
--- Roth 1986; Gusfield and Irving 1989), and that a legal floor ends in the best one.
+-- What all stable matches of the singles have in common (the rural hospitals theorem: Gale and Sotomayor 1985, Roth
+-- 1986; Gusfield and Irving 1989). A legal floor ends in the best of them.
 use Rattle.std.specs.Prelude.{◌≡◌, [], IsTrue}
 use Rattle.mt_terms.specs.Market.{Market, singles_market}
 use Rattle.mt_terms.specs.Matching.{Places, FillsAlike}

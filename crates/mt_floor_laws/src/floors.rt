@@ -10,7 +10,7 @@ pub fn opening_is_strict()
     ensures { OpeningIsStrict }
 {}
 
-/// A recorded floor is legal where each program that an applicant has passed is excluded for it.
+/// A recorded floor is legal if each program that an applicant has passed is excluded for it.
 pub fn legal_from_passed()
     ensures { LegalFromPassed }
 {}
@@ -60,7 +60,7 @@ pub fn due_at_most()
     ensures { DueAtMost }
 {}
 
-/// From each recorded floor, some list of events ends where no event is due.
+/// From each recorded floor, some list of events ends on a floor on which no event is due.
 pub fn quiet_is_reached()
     ensures { QuietIsReached }
 {}

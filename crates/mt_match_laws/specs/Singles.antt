@@ -1,4 +1,4 @@
--- The laws of a program's choice and of the singles' market: whom a program chooses, what stability means,
+-- The laws of a program's choice and of the singles' market. They say whom a program chooses, what stability means,
 -- who is excluded where, and that one match at most is best.
 use Rattle.std.specs.Prelude.{◌≡◌, ◌⊎◌, ◌↔◌, ℕ, ◌<◌, ◌≤◌, ◌==◌, true, false, [], ◌∷◌, length, IsTrue, IsFalse}
 use Rattle.mt_terms.specs.Lists.{Set, has, until, above, with_one}
@@ -26,8 +26,8 @@ NoneComesBack =
     (p : Program) (s t : Set) → ((b : ℕ) → IsTrue (s b) → IsTrue (t b))
     → (a : ℕ) → IsTrue (s a) → IsTrue (choice p t a) → IsTrue (choice p s a)
 
--- A match of the singles is stable where each has one place, on both lists; programs keep their quotas; and
--- no program that a single wants more would choose it from those there and the single.
+-- A match of the singles is stable if each has one place, on both lists, and programs keep their quotas. Also no
+-- program that a single wants more would choose it from those there and the single.
 pub record IsStableForSingles (m : Market) (places : Places) : Type 0 where
   pub one_each : length places ≡ applicants m
   pub on_list : (a p : ℕ) → IsTrue (at places p a) → IsTrue (has (list_of m a) p)
@@ -38,8 +38,8 @@ pub record IsStableForSingles (m : Market) (places : Places) : Type 0 where
 abbrev pub StabilityOfSingles : Type 0
 StabilityOfSingles = (m : Market) (places : Places) → IsTrue (stable (singles_market m) places) ↔ IsStableForSingles m places
 
--- Of a set of singles that have the program on their lists, and only excluded programs above it on their
--- live lists, whoever isn't chosen is excluded there.
+-- The set has singles that have the program on their lists, and only excluded programs above it on their live lists.
+-- Each of them that the program doesn't choose from the set is excluded there.
 abbrev pub Exclusion : Type 0
 Exclusion =
     (m : Market) → IsWellFormed m → (p : ℕ) (set : Set)
@@ -77,9 +77,8 @@ pub record ChosenForTwoPosts : Type 0 where
   pub kept : choice (program_of two_posts 0) (with_one (has (0 ∷ 1 ∷ [])) 2) 0 ≡ true
   pub driven_out : choice (program_of two_posts 0) (with_one (has (0 ∷ 1 ∷ [])) 2) 1 ≡ false
 
--- In the market of the rejection chain exclusion applies twice: of the first and the third applicant the
--- first program doesn't choose the first one, and then of the first two the second program doesn't choose
--- the second one.
+-- In the market of the rejection chain exclusion applies twice. The first program doesn't choose the first applicant
+-- from the first and the third. Then the second program doesn't choose the second applicant from the first two.
 pub record ExcludedInChain : Type 0 where
   pub well_formed : IsWellFormed chain
   pub first_at_first : IsExcluded chain 0 0

@@ -1,5 +1,5 @@
--- The laws of which options would be taken: what the one definition says of a single, of a couple at two
--- programs, at one program, and with one member unplaced. The rule for couples is this project's own.
+-- The laws of which options would be taken. They say what the one definition means for a single, for a couple at two
+-- programs or at one, and for one member unplaced. The rule for couples is this project's own.
 use Rattle.std.specs.Prelude.{◌≡◌, ◌≢◌, ◌↔◌, ℕ, ◌<◌, ◌≤◌, true, false, [], ◌∷◌, length, Some, None, IsTrue, IsFalse}
 use Rattle.mt_terms.specs.Lists.{with_one}
 use Rattle.mt_terms.specs.Market.{Market, program_of}
@@ -18,7 +18,7 @@ SingleTaken =
 abbrev pub taken_out : Places → ℕ → ℕ → Places
 taken_out places a b = unplaced (a ∷ b ∷ []) places
 
--- Two programs would take a couple where each chooses its member from those there and the member.
+-- Two programs would take a couple exactly if each chooses its member from those there and the member.
 abbrev pub PairTaken : Type 0
 PairTaken =
     (m : Market) (places : Places) (a b x y : ℕ) → a < length places → b < length places → a ≢ b → x ≢ y
@@ -26,7 +26,7 @@ PairTaken =
     ↔ (IsTrue (choice (program_of m x) (with_one (at (taken_out places a b) x) a) a)
     × IsTrue (choice (program_of m y) (with_one (at (taken_out places a b) y) b) b))
 
--- One program would take both members where it chooses both from those there and the two.
+-- One program would take both members exactly if it chooses both from those there and the two.
 abbrev pub SameProgramTaken : Type 0
 SameProgramTaken =
     (m : Market) (places : Places) (a b x : ℕ) → a < length places → b < length places
@@ -34,7 +34,7 @@ SameProgramTaken =
     ↔ (IsTrue (choice (program_of m x) (with_one (with_one (at (taken_out places a b) x) a) b) a)
     × IsTrue (choice (program_of m x) (with_one (with_one (at (taken_out places a b) x) a) b) b))
 
--- A pair with one member unplaced would be taken where the other one's program chooses it.
+-- A pair with one member unplaced would be taken exactly if the other one's program chooses it.
 abbrev pub FirstAloneTaken : Type 0
 FirstAloneTaken =
     (m : Market) (places : Places) (a b x : ℕ) → a < length places → b < length places → a ≢ b
@@ -51,9 +51,9 @@ NeverTwiceAtOne =
     (m : Market) (places : Places) (a b x : ℕ) → a ≢ b → (program_of m x).quota ≤ 1
     → IsFalse (would_be_taken m places (couple_placement a b (Some x, Some x)))
 
--- On the example markets: an option of a single; of a couple at two programs, of which it has one seat now;
--- at one program, with room for both or for one alone; with one member unplaced; and at one program with one
--- post.
+-- On the example markets: an option of a single, and options of a couple. The couple's options are two programs, of
+-- which it has one seat now, and one program, with room for both or for one alone. They are also one member unplaced,
+-- and one program with one post.
 pub record TakenInExamples : Type 0 where
   pub single : would_be_taken Markets.crossed (None ∷ Some 0 ∷ []) (single_placement 0 1) ≡ true
   pub pair : would_be_taken Markets.own_seat (None ∷ Some 1 ∷ Some 2 ∷ []) (couple_placement 1 2 (Some 0, Some 1)) ≡ true

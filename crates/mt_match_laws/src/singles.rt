@@ -15,14 +15,14 @@ pub fn none_comes_back()
     ensures { NoneComesBack }
 {}
 
-/// A match of the singles is stable where it fits both sides' lists and the quotas, and no program that a
-/// single wants more would choose it.
+/// A match of the singles is stable exactly if it fits both sides' lists and the quotas, and no program that a single
+/// wants more would choose it.
 pub fn stability_of_singles()
     ensures { StabilityOfSingles }
 {}
 
-/// Of a set of singles that have only excluded programs above this one on their live lists, whoever isn't
-/// chosen here is in no stable match here.
+/// The set has singles that have only excluded programs above this one on their live lists. Each of them that this
+/// program doesn't choose from the set is in no stable match here.
 pub fn exclusion()
     ensures { Exclusion }
 {}

@@ -5,18 +5,18 @@ pub fn single_taken()
     ensures { SingleTaken }
 {}
 
-/// Two programs would take a couple where each chooses its member, the couple taken out first.
+/// Two programs would take a couple exactly if each chooses its member, the couple taken out first.
 pub fn pair_taken()
     ensures { PairTaken }
 {}
 
-/// One program would take both members of a couple where it chooses both, the couple taken out first.
+/// One program would take both members of a couple exactly if it chooses both, the couple taken out first.
 pub fn same_program_taken()
     ensures { SameProgramTaken }
 {}
 
-/// A pair with one member unplaced would be taken where the other one's program chooses it, the couple taken
-/// out first.
+/// A pair with one member unplaced would be taken exactly if the other one's program chooses it, the couple taken out
+/// first.
 pub fn half_pair_taken()
     ensures first { FirstAloneTaken }
     ensures second { SecondAloneTaken }

@@ -15,8 +15,8 @@ pub fn last_list_is_stable()
     ensures { LastListIsStable }
 {}
 
-/// A round keeps its state: the match fits, the work list has agents of the market that have entered, no
-/// couple that has not entered is placed, and no entered agent that is not on the work list blocks.
+/// A round keeps its state. The match fits, and the work list has agents of the market that have entered. No couple
+/// that has not entered is placed. No entered agent that is not on the work list blocks.
 pub fn round_keeps()
     ensures { RoundKeeps }
 {}

@@ -14,14 +14,14 @@ IsExcluded m a p = (places : Places) → IsTrue (stable (singles_market m) place
 abbrev pub better_programs : Market → Places → ℕ → List ℕ
 better_programs m places a = until (λ p. at places p a) (list_of m a)
 
--- A match of the singles' market is best where it is stable, and no stable match gives any single a program
--- that it wants more.
+-- A match of the singles' market is best if it is stable and no stable match gives any single a program that it wants
+-- more.
 pub record IsBest (m : Market) (places : Places) : Type 0 where
   pub is_stable : IsTrue (stable (singles_market m) places)
   pub none_better : (a p : ℕ) → IsTrue (has (better_programs m places a) p) → IsExcluded m a p
 
--- the programs to which an applicant proposes on the way to the best match: its live list up to its place,
--- and all of its live list where it has none
+-- the programs to which an applicant proposes on the way to the best match: its live list up to its place, or all of
+-- it if the applicant has none
 abbrev pub proposed_to : Market → Places → ℕ → List ℕ
 proposed_to m best a = through (λ p. at best p a) (live m a)
 

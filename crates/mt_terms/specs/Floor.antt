@@ -1,8 +1,7 @@
--- Deferred acceptance one event at a time, in any order (McVitie and Wilson 1971). Each applicant
--- proposes to the programs of its live list, those of its list that list it too, one after another, and
--- each program holds its choice of all that have proposed to it. A program that lets an applicant go
--- doesn't tell it: the applicant learns of that by an event of its own, a notice, which is this
--- project's own rule.
+-- Deferred acceptance one event at a time, in any order (McVitie and Wilson 1971). Each applicant proposes to the
+-- programs of its live list, one after another. These are the programs of its list that list it too. Each program
+-- holds its choice of all that have proposed to it. A program that displaces an applicant doesn't notify it. The
+-- applicant learns of that by an event of its own, a notice, which is this project's own rule.
 use Rattle.std.specs.Prelude.{◌≡◌, ℕ, ◌+◌, ◌-◌, ◌<◌, ◌≤◌, Bool, false, not, ◌&&◌, ◌==◌, List, [], ◌∷◌, length, map, take, Option, Some, None, is_some, slice_get, IsTrue, IsFalse, if◌then◌else◌}
 use Rattle.std.specs.List.{find, list_all}
 use Rattle.mt_terms.specs.Lists.{Set, has, with_one, without, below, total_below, count_below}
@@ -32,8 +31,7 @@ held m f p = choice (program_of m p) (f.received p)
 abbrev pub tried : Market → Floor → ℕ → List ℕ
 tried m f a = take (f.made a) (live m a)
 
--- the programs that an applicant has passed: all that it proposed to, but for the last one while it
--- stands there
+-- the programs that an applicant has passed: all that it proposed to, but for the last one while it is standing
 abbrev pub passed : Market → Floor → ℕ → List ℕ
 passed m f a = take (f.made a - (if f.standing a then 1 else 0)) (live m a)
 
@@ -46,7 +44,7 @@ last_tried m f a = if f.made a == 0 then None else slice_get (live m a) (f.made 
 abbrev pub next_entry : Market → Floor → ℕ → Option ℕ
 next_entry m f a = if f.standing a then None else slice_get (live m a) (f.made a)
 
--- whether an applicant is held by the program given: never where none is
+-- whether an applicant is held by the program given: never if none is
 abbrev pub is_held_by : Market → Floor → ℕ → Option ℕ → Bool
 is_held_by m f a None = false
 is_held_by m f a (Some p) = held m f p a
@@ -65,7 +63,7 @@ pub record IsLegal (m : Market) (f : Floor) : Type 0 where
   pub passed_excluded : (a p : ℕ) → IsTrue (has (passed m f a) p) → IsExcluded m a p
   pub refused_excluded : (a p : ℕ) → IsTrue (f.received p a) → IsFalse (held m f p a) → IsExcluded m a p
 
--- A legal floor is strict where no program that an applicant has passed holds it.
+-- A legal floor is strict if no program that an applicant has passed holds it.
 pub record IsStrict (m : Market) (f : Floor) : Type 0 where
   pub legal : IsLegal m f
   pub let_go : (a p : ℕ) → IsTrue (has (passed m f a) p) → IsFalse (held m f p a)
@@ -74,8 +72,8 @@ pub record IsStrict (m : Market) (f : Floor) : Type 0 where
 abbrev pub opening : Floor
 opening = record { made = λ a. 0; standing = λ a. false; received = λ p a. false }
 
--- whether an event is due: a proposal where the applicant has a program to propose to next, and a notice
--- where it stands and isn't held
+-- whether an event is due: a proposal if the applicant has a program to propose to next, and a notice if it stands
+-- and isn't held
 abbrev pub is_due : Market → Floor → Event → Bool
 is_due m f (Propose a) = is_some (next_entry m f a)
 is_due m f (Notice a) = f.standing a && not (is_held_by m f a (last_tried m f a))
@@ -92,7 +90,7 @@ is_quiet m f = list_all (is_settled m f) (below (applicants m))
 abbrev pub receives_one : Floor → ℕ → ℕ → Set
 receives_one f p a = with_one (f.received p) a
 
--- the floor after an applicant's proposal to a program: it stands there where it is chosen
+-- the floor after an applicant's proposal to a program: the applicant stands if the program chooses it
 abbrev pub proposed_at : Market → Floor → ℕ → ℕ → Floor
 proposed_at m f a p = record {
   made = λ b. if b == a then (f.made a + 1) else f.made b;
@@ -100,7 +98,7 @@ proposed_at m f a p = record {
   received = λ q. if q == p then receives_one f p a else f.received q;
 }
 
--- the floor after a proposal to the program given, where one is
+-- the floor after a proposal to the program given, if one is
 abbrev pub after_proposal : Market → Floor → ℕ → Option ℕ → Floor
 after_proposal m f a None = f
 after_proposal m f a (Some p) = proposed_at m f a p
@@ -120,7 +118,7 @@ abbrev pub kept_reply : Option ℕ → Reply
 kept_reply None = Kept
 kept_reply (Some b) = KeptInstead b
 
--- the reply to a proposal to the program given: where none is, the proposal wasn't due
+-- the reply to a proposal to the program given: if none is, the proposal wasn't due
 abbrev pub reply_of_proposal : Market → Floor → ℕ → Option ℕ → Reply
 reply_of_proposal m f a None = NotDue
 reply_of_proposal m f a (Some p) = if choice (program_of m p) (receives_one f p a) a then kept_reply (dropped m f p a) else Refused
@@ -149,7 +147,7 @@ due_count m f (e ∷ es) = (if is_due m f e then 1 else 0) + due_count m (after 
 abbrev pub place_on : Market → Floor → ℕ → Option ℕ
 place_on m f a = if f.standing a then last_tried m f a else None
 
--- A match is the result of a floor where it has each applicant where the floor has it.
+-- A match is the result of a floor if it places each applicant where the floor has it.
 pub record IsResult (m : Market) (f : Floor) (places : Places) : Type 0 where
   pub one_each : length places ≡ applicants m
   pub each_place : (a : ℕ) → a < applicants m → place_of places a ≡ place_on m f a
@@ -168,8 +166,8 @@ pub record HasProposalsOf (m : Market) (f : Floor) (places : Places) : Type 0 wh
   pub same_tried : (a : ℕ) → tried m f a ≡ proposed_to m places a
   pub same_counts : (p : ℕ) → count_below (f.received p) (applicants m) ≡ proposals m places p
 
--- Two floors end alike where they have the same proposals made and received and the same result, and where
--- that is the best match and the proposals are those on the way to it.
+-- Two floors end alike if they have the same proposals made and received and the same result. That result is the best
+-- match, and the proposals are those on the way to it.
 pub record EndAlike (m : Market) (f g : Floor) : Type 0 where
   pub same_made : (a : ℕ) → f.made a ≡ g.made a
   pub same_received : (p a : ℕ) → f.received p a ≡ g.received p a

@@ -15,7 +15,7 @@ abbrev pub count : {X : Type 0} → (X → Bool) → List X → ℕ
 count test [] = 0
 count test (x ∷ xs) = (if test x then 1 else 0) + count test xs
 
--- the front of a list before the first element that passes a test: all of it where none does
+-- the front of a list before the first element that passes a test: all of it if none does
 abbrev pub until : {X : Type 0} → (X → Bool) → List X → List X
 until test [] = []
 until test (x ∷ xs) = if test x then [] else (x ∷ until test xs)
@@ -25,7 +25,7 @@ abbrev pub through : {X : Type 0} → (X → Bool) → List X → List X
 through test [] = []
 through test (x ∷ xs) = if test x then (x ∷ []) else (x ∷ through test xs)
 
--- how many members of a set stand above a number on a list
+-- how many members of a set a list ranks above a number
 abbrev pub above : Set → List ℕ → ℕ → ℕ
 above set xs a = count set (until (λ x. x == a) xs)
 
@@ -50,7 +50,7 @@ total_below f (suc n) = f n + total_below f n
 abbrev pub count_below : Set → ℕ → ℕ
 count_below set n = total_below (λ a. if set a then 1 else 0) n
 
--- whether no number stands twice on a list
+-- whether a list has no number twice
 abbrev pub is_distinct : List ℕ → Bool
 is_distinct [] = true
 is_distinct (x ∷ xs) = not (has xs x) && is_distinct xs

@@ -31,7 +31,7 @@ filled places p = count (is_program p) places
 abbrev pub filled_counts : Market → Places → List ℕ
 filled_counts m places = map (filled places) (below (length m.programs))
 
--- where the members of a set stand on a list, in rising order, if its first place has this number
+-- the positions of the members of a set on a list, in rising order, if the first position has this number
 abbrev pub ranks_from : ℕ → Set → List ℕ → List ℕ
 ranks_from rank set [] = []
 ranks_from rank set (x ∷ xs) = if set x then (rank ∷ ranks_from (rank + 1) set xs) else ranks_from (rank + 1) set xs

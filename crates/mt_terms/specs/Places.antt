@@ -1,4 +1,4 @@
--- What is asked of a match of a market, whoever made it.
+-- What is asked of a match of a market, whatever made it.
 use Rattle.std.specs.Prelude.{◌≡◌, ℕ, ◌<◌, length, IsTrue}
 use Rattle.mt_terms.specs.Market.{Market, applicants}
 use Rattle.mt_terms.specs.Matching.{Places, at}

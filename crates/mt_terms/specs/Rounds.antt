@@ -1,5 +1,5 @@
--- How couples enter, one at a time, after the singles are matched: in the manner of Roth and Peranson 1999;
--- the exact order of the rounds is this project's own rule.
+-- How couples enter, one at a time, after the singles are matched. It is in the manner of Roth and Peranson 1999. The
+-- exact order of the rounds is this project's own rule.
 use Rattle.std.specs.Prelude.{◌≡◌, ℕ, zero, suc, ◌-◌, ◌<◌, ◌≤◌, Bool, true, false, not, ◌&&◌, ◌==◌, nat_le, List, [], ◌∷◌, ◌++◌, map, filter, length, Option, Some, None, IsTrue, IsFalse, if◌then◌else◌}
 use Rattle.std.specs.List.{list_any, find, filter_map, flat_map}
 use Rattle.std.specs.Option.{option_map, option_and_then}
@@ -18,13 +18,13 @@ is_same_agent (Single a) (Couple d) = false
 is_same_agent (Couple c) (Single b) = false
 is_same_agent (Couple c) (Couple d) = c == d
 
--- The state between two rounds: the match of the agents that have entered, and the work list of the agents
+-- The state between two rounds. It has the match of the agents that have entered, and the work list of the agents
 -- that are to be looked at, first in first out.
 pub record Work : Type 0 where
   pub places : Places
   pub waiting : List Agent
 
--- the work list after an agent joins at its end, where it isn't on it yet
+-- the work list after an agent joins at its end, if it isn't on it yet
 abbrev pub joined : List Agent → Agent → List Agent
 joined waiting g = if list_any (is_same_agent g) waiting then waiting else (waiting ++ g ∷ [])
 
@@ -81,8 +81,9 @@ left_programs m v = filter (is_left m v) (below (length m.programs))
 abbrev pub blocking_on_list : Market → ℕ → Places → ℕ → List Agent
 blocking_on_list m k places p = filter (λ g. has_entered k g && blocks m places g) (map (agent_of m) (program_of m p).ranking)
 
--- Looked at again after a move, in order: the agents of the displaced; the mover, where it still blocks; and for
--- each program that is left, by number, the entered agents of its list that block.
+-- The agents to look at again after a move, in order. First come the agents of the displaced applicants. The mover
+-- follows, if it still blocks. Then come, for each program that is left, by number, the entered agents of its list
+-- that block.
 abbrev pub rechecked : Market → ℕ → Agent → Placement → Move → List Agent
 rechecked m k mover sent v =
     map (agent_of m) (displaced m v.seated sent)
@@ -95,8 +96,8 @@ after_taking m k places g waiting None = record { places = places; waiting = wai
 after_taking m k places g waiting (Some sent) =
     let v : Move = move_of m places sent in record { places = v.after; waiting = all_joined waiting (rechecked m k g sent v) }
 
--- one round: the agent at the front of the work list is taken off it, and takes the first better option
--- that would be taken; with no agent on the list there is nothing to do
+-- One round: the agent at the front is taken off the work list, and takes the first better option that would be
+-- taken. With no agent on the list there is nothing to do.
 abbrev pub round_of : Market → ℕ → Places → List Agent → Work
 round_of m k places [] = record { places = places; waiting = [] }
 round_of m k places (g ∷ waiting) = after_taking m k places g waiting (first_taken m places g)
@@ -104,8 +105,8 @@ round_of m k places (g ∷ waiting) = after_taking m k places g waiting (first_t
 abbrev pub round : Market → ℕ → Work → Work
 round m k w = round_of m k w.places w.waiting
 
--- the match once the work list is empty, with the rounds that are left of the budget; none where the list
--- isn't empty and no round is left
+-- The match once the work list is empty, with the rounds that are left of the budget. There is none if the list isn't
+-- empty and no round is left.
 abbrev pub settled : Market → ℕ → ℕ → Places → List Agent → Option (Places × ℕ)
 settled m k left places [] = Some (places, left)
 settled m k zero places (g ∷ waiting) = None
@@ -126,9 +127,9 @@ stage m places budget = option_map (λ r. (r.0, budget - r.1)) (entered m (below
 abbrev pub is_on : List Agent → Agent → Bool
 is_on list g = list_any (is_same_agent g) list
 
--- The state between two rounds, once couple k has entered: the match fits; on the work list are agents of the
--- market that have entered; a couple that has not entered is unplaced; and an entered agent that is not on the
--- work list does not block.
+-- The state between two rounds, once couple k has entered. The match fits. On the work list are agents of the market
+-- that have entered. A couple that has not entered is unplaced. An entered agent that is not on the work list does
+-- not block.
 pub record IsRoundState (m : Market) (k : ℕ) (w : Work) : Type 0 where
   pub fitting : IsTrue (fits m w.places)
   pub waiting_entered : (g : Agent) → IsTrue (is_on w.waiting g) → IsTrue (is_on (agents m) g) × IsTrue (has_entered k g)
@@ -140,8 +141,8 @@ pub record IsFittingState (m : Market) (w : Work) : Type 0 where
   pub fitting : IsTrue (fits m w.places)
   pub waiting_agents : (g : Agent) → IsTrue (is_on w.waiting g) → IsTrue (is_on (agents m) g)
 
--- how many rounds a stage makes is what it needs: it is within the budget, any budget of at least that much
--- gives the same, and any smaller one is spent
+-- The rounds that a stage makes are those that it needs. They are within the budget. Any budget of at least that
+-- number gives the same, and any smaller one is spent.
 pub record NeedsRounds (m : Market) (places : Places) (budget : ℕ) (r : Places × ℕ) : Type 0 where
   pub within : r.1 ≤ budget
   pub enough : (b : ℕ) → r.1 ≤ b → stage m places b ≡ Some r

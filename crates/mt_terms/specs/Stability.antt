@@ -22,8 +22,8 @@ is_chosen m places a (Some p) = choice (program_of m p) (at places p) a
 abbrev pub has_own_option : Market → Places → Agent → Bool
 has_own_option m places agent = list_any (holds places) (options m agent) || none_placed places (members m agent)
 
--- A match fits where it has one place for each applicant, each agent has an option of its list or nothing,
--- each placed applicant is on its program's list, and no program has more applicants than its quota.
+-- A match fits if it has one place for each applicant, and each agent has an option of its list or nothing. Each
+-- placed applicant is on its program's list, and no program has more applicants than its quota.
 abbrev pub fits : Market → Places → Bool
 fits m places =
     (length places == applicants m)
@@ -31,15 +31,15 @@ fits m places =
     && list_all (λ a. is_listed m a (place_of places a)) (below (applicants m))
     && list_all (λ p. nat_le (filled places p) (program_of m p).quota) (below (length m.programs))
 
--- An option would be taken where, with each of the agent's members sent where the option sends it, each
--- program that somebody was sent to chooses whom it was sent.
+-- An option would be taken if each program that a member is sent to chooses that member. All of the agent's members
+-- are first sent where the option sends them.
 abbrev pub would_be_taken : Market → Places → Placement → Bool
 would_be_taken m places sent = list_all (λ s. is_chosen m (send sent places) s.0 s.1) sent
 
--- An agent blocks a match where one of the options that it wants more than what it has would be taken.
+-- An agent blocks a match if one of the options that it wants more than what it has would be taken.
 abbrev pub blocks : Market → Places → Agent → Bool
 blocks m places agent = list_any (would_be_taken m places) (better m places agent)
 
--- A match is stable where it fits and no agent blocks it.
+-- A match is stable if it fits and no agent blocks it.
 abbrev pub stable : Market → Places → Bool
 stable m places = fits m places && not (list_any (blocks m places) (agents m))

@@ -3,7 +3,7 @@
 /// The input has more bytes than the limit.
 pub const TOO_LARGE: u16 = 10;
 
-/// Two byte order marks stand at the start of the input.
+/// The input begins with two byte order marks.
 pub const TWO_MARKS: u16 = 11;
 
 /// No record has a field, or the first that has one names no version.
@@ -24,7 +24,7 @@ pub const BAD_QUOTA: u16 = 16;
 /// An id is registered already.
 pub const DUPLICATE_ID: u16 = 17;
 
-/// An id or a pair stands twice in a list, or a row is withdrawn twice.
+/// A list has an id or a pair twice, or a row is withdrawn twice.
 pub const DUPLICATE_ENTRY: u16 = 18;
 
 /// A limit is passed.

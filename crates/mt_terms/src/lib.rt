@@ -1,5 +1,5 @@
-//! The residency match in the terms of the literature: the numbers of applicants, programs and couples,
-//! the limits of an input, a match, and in `specs/` the definitions that every contract cites.
+//! The residency match in the terms of the literature: the numbers of applicants, programs and couples, the limits of
+//! an input, and a match. The definitions that every contract cites are in `specs/`.
 #![tactic(auto)]
 
 pub mod codes;

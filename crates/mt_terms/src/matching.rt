@@ -46,7 +46,7 @@ pub struct Match {
 }
 
 impl Match {
-    /// The applicant's place, or none where it is unplaced or there is no such applicant.
+    /// The applicant's place, or none if it is unplaced or there is no such applicant.
     pub fn place(&self, applicant: AppNo) -> Option<ProgNo>
         ensures { result ≡ slice_index_or self.now.places applicant None }
     {

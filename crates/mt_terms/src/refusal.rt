@@ -2,7 +2,7 @@ ghost use Rattle.std.specs.Prelude.{◌≡◌, ◌≤◌, length};
 
 use std::marker::Model;
 
-/// An id, or no byte where there is none. It has 64 bytes at most.
+/// An id, or no byte if there is none. It has 64 bytes at most.
 #[derive(Debug, Drop)]
 pub struct IdText {
     bytes: [u8; 64],
@@ -45,7 +45,7 @@ impl IdText {
         }
     }
 
-    /// The id's bytes: none where there is no id.
+    /// The id's bytes: none if there is no id.
     pub fn as_bytes(&self) -> &[u8]
         ensures bytes { result.now ≡ self.now }
         ensures short { length self.now ≤ 64 }
@@ -54,8 +54,8 @@ impl IdText {
     }
 }
 
-/// Why there is no match: the code, the number of the record at fault, from 1, or 0 where there is none, and the id at
-/// fault, if there is one.
+/// Why there is no match. It has the code and the number of the record at fault, from 1, or 0 if there is none. It
+/// also has the id at fault, if there is one.
 #[derive(Debug, Drop)]
 pub struct Refusal {
     /// The code, one of [`codes`](crate::codes).

@@ -12,8 +12,8 @@ abbrev pub HasRoomFor : Market → Places → ℕ → ℕ → Type 0
 HasRoomFor m places p a =
     (filled places p < (program_of m p).quota) ⊎ ((b : ℕ) × IsTrue (at places p b) × IsTrue (has (until (λ x. x == b) (program_of m p).ranking) a))
 
--- An applicant and a program block where each lists the other, the applicant is unplaced or wants the program
--- more than its place, and the program has room for it.
+-- An applicant and a program block if they list each other, the applicant wants the program more than what it has,
+-- and the program has room for it.
 pub record IsBlockingPair (m : Market) (places : Places) (a p : ℕ) : Type 0 where
   pub is_better : IsTrue (has (better_programs m places a) p)
   pub is_listed : IsTrue (has (program_of m p).ranking a)

@@ -1,5 +1,5 @@
--- The laws of the verdict: it is that a match is stable exactly where the match is, and every other verdict
--- names the first finding against it, in this project's own order.
+-- The laws of the verdict. It is that a match is stable exactly if the match is stable. Every other verdict names the
+-- first finding against it, in this project's own order.
 use Rattle.std.specs.Prelude.{◌≡◌, ◌↔◌, ℕ, ◌<◌, ◌≤◌, ◌&&◌, [], ◌∷◌, Some, None, length, slice_index_or, IsTrue, IsFalse}
 use Rattle.mt_terms.specs.Lists.{Set}
 use Rattle.mt_terms.specs.Market.{Market, applicants, agent_of, leads}
@@ -39,8 +39,8 @@ pub record IsFirstTaken (m : Market) (places : Places) (g : Agent) (option : ℕ
   pub is_taken : IsTrue (would_be_taken m places (slice_index_or (options m g) option []))
   pub none_before : (k : ℕ) → k < option → IsFalse (would_be_taken m places (slice_index_or (options m g) k []))
 
--- The match fits, and this agent is the first that blocks it, by the number of the single or of the couple's
--- first member; this option is the first with which it does.
+-- The match fits, and this agent is the first that blocks it, by the number of the single or of the couple's first
+-- member. This option is the first with which it blocks.
 pub record IsFirstBlocker (m : Market) (places : Places) (g : Agent) (option : ℕ) : Type 0 where
   pub fitting : IsTrue (fits m places)
   pub number : ℕ
@@ -61,7 +61,7 @@ VerdictInWords =
     (m : Market) → IsWellFormed m → (places : Places) → length places ≡ applicants m
     → VerdictSays m places (verdict_of m places)
 
--- The verdict is that a match is stable exactly where it is.
+-- The verdict is that a match is stable exactly if it is.
 abbrev pub StableVerdict : Type 0
 StableVerdict =
     (m : Market) → IsWellFormed m → (places : Places) → length places ≡ applicants m

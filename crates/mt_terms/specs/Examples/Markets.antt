@@ -42,12 +42,12 @@ one_sided = market (program 1 (0 ∷ []) ∷ program 1 [] ∷ []) ((1 ∷ []) �
 abbrev pub two_posts : Market
 two_posts = market (program 2 (2 ∷ 0 ∷ 1 ∷ []) ∷ []) ((0 ∷ []) ∷ (0 ∷ []) ∷ (0 ∷ []) ∷ []) []
 
--- A couple that wants one program for both members, and a single whom the program wants in between.
+-- A couple that wants one program for both members. The program wants a single in between.
 --     program,x,2,a,s,b    applicant,s,x    couple,c,a,b,x,x
 abbrev pub single_between : Market
 single_between = market (program 2 (1 ∷ 0 ∷ 2 ∷ []) ∷ []) ((0 ∷ []) ∷ [] ∷ [] ∷ []) (couple 1 2 (both 0 0 ∷ []) ∷ [])
 
--- The same, where the program wants the single least.
+-- The same, but the program wants the single least.
 --     program,x,2,a,b,s    applicant,s,x    couple,c,a,b,x,x
 abbrev pub single_last : Market
 single_last = market (program 2 (1 ∷ 2 ∷ 0 ∷ []) ∷ []) ((0 ∷ []) ∷ [] ∷ [] ∷ []) (couple 1 2 (both 0 0 ∷ []) ∷ [])
@@ -57,17 +57,17 @@ single_last = market (program 2 (1 ∷ 2 ∷ 0 ∷ []) ∷ []) ((0 ∷ []) ∷ [
 abbrev pub unstable : Market
 unstable = market (program 1 (1 ∷ 0 ∷ []) ∷ program 1 (0 ∷ 2 ∷ []) ∷ []) ((0 ∷ 1 ∷ []) ∷ [] ∷ [] ∷ []) (couple 1 2 (both 0 1 ∷ []) ∷ [])
 
--- The same, where the single wants the other program more.
+-- The same, but the single wants the other program more.
 --     program,x,1,a,s    program,y,1,s,b    applicant,s,y,x    couple,c,a,b,x,y
 abbrev pub single_elsewhere : Market
 single_elsewhere = market (program 1 (1 ∷ 0 ∷ []) ∷ program 1 (0 ∷ 2 ∷ []) ∷ []) ((1 ∷ 0 ∷ []) ∷ [] ∷ [] ∷ []) (couple 1 2 (both 0 1 ∷ []) ∷ [])
 
--- The unstable market, where the couple would also have its second member unplaced.
+-- The unstable market. The couple would also have its second member unplaced.
 --     program,x,1,a,s    program,y,1,s,b    applicant,s,x,y    couple,c,a,b,x,y,x,-
 abbrev pub half_pair : Market
 half_pair = market (program 1 (1 ∷ 0 ∷ []) ∷ program 1 (0 ∷ 2 ∷ []) ∷ []) ((0 ∷ 1 ∷ []) ∷ [] ∷ [] ∷ []) (couple 1 2 (both 0 1 ∷ (Some 0, None) ∷ []) ∷ [])
 
--- Three couples; the third takes out the first, which opens a seat for the second.
+-- Three couples. The third takes out the first, which opens a seat for the second.
 --     program,p,1,d1,a1    program,q,1,a2    program,r,1,e1,d2    program,t,1,e2    program,u,1,a1    program,v,1,a2
 --     couple,D,d1,d2,p,r    couple,A,a1,a2,p,q,u,v    couple,E,e1,e2,r,t
 abbrev pub six_programs : List Program
@@ -81,26 +81,26 @@ no_lists (suc n) = [] ∷ no_lists n
 abbrev pub three_couples : Market
 three_couples = market six_programs (no_lists 6) (couple 0 1 (both 0 2 ∷ []) ∷ couple 2 3 (both 0 1 ∷ both 4 5 ∷ []) ∷ couple 4 5 (both 2 3 ∷ []) ∷ [])
 
--- The same, where the second couple would have its second member unplaced.
+-- The same, but the second couple would have its second member unplaced.
 --     couple,A,a1,a2,p,-,u,v
 abbrev pub three_couples_half : Market
 three_couples_half = market six_programs (no_lists 6) (couple 0 1 (both 0 2 ∷ []) ∷ couple 2 3 ((Some 0, None) ∷ both 4 5 ∷ []) ∷ couple 4 5 (both 2 3 ∷ []) ∷ [])
 
--- Two couples; one member is displaced, its partner withdraws, and the seat goes to a single.
+-- Two couples. One member is displaced, and its partner withdraws. The seat goes to a single.
 --     program,x,2,c,e1,d,s    program,z,1,e2    applicant,s,x    couple,D,c,d,x,x    couple,E,e1,e2,x,z
 abbrev pub partner_withdraws : Market
 partner_withdraws =
     market (program 2 (1 ∷ 3 ∷ 2 ∷ 0 ∷ []) ∷ program 1 (4 ∷ []) ∷ []) ((0 ∷ []) ∷ [] ∷ [] ∷ [] ∷ [] ∷ [])
     (couple 1 2 (both 0 0 ∷ []) ∷ couple 3 4 (both 0 1 ∷ []) ∷ [])
 
--- A couple that finds the seat from which it drove a single open to its other member; no match is stable.
+-- A couple that finds the seat from which it drove a single open to its other member. No match is stable.
 --     program,w,1,a    program,x,1,a,s,b    program,y,1,b    applicant,s,x    couple,c,a,b,w,x,x,y
 abbrev pub own_seat : Market
 own_seat =
     market (program 1 (1 ∷ []) ∷ program 1 (1 ∷ 0 ∷ 2 ∷ []) ∷ program 1 (2 ∷ []) ∷ []) ((1 ∷ []) ∷ [] ∷ [] ∷ [])
     (couple 1 2 (both 0 1 ∷ both 1 2 ∷ []) ∷ [])
 
--- Three couples; the second takes out the first, and so opens a seat for the third, which hasn't entered yet.
+-- Three couples. The second takes out the first, and so opens a seat for the third, which hasn't entered yet.
 --     program,r,1,a2,c1    program,w,1,c2    program,x,1,b1,a1    program,z,1,b2
 --     couple,A,a1,a2,x,r    couple,B,b1,b2,x,z    couple,C,c1,c2,r,w
 abbrev pub couple_outside : Market

@@ -61,7 +61,7 @@ pub record CoupleShutOut : Type 0 where
   pub half_placed : verdict_of Markets.single_elsewhere (Some 1 ∷ Some 0 ∷ None ∷ []) ≡ Unlisted 1
   pub with_half_pair : stable Markets.half_pair (Some 1 ∷ Some 0 ∷ None ∷ []) ≡ true
 
--- Whoever is placed, somebody blocks: each match that fits the unstable market is here.
+-- Somebody blocks each match that fits the unstable market, and all of these matches are here.
 pub record NoneStable : Type 0 where
   pub nobody : verdict_of Markets.unstable (None ∷ None ∷ None ∷ []) ≡ Blocks (record { agent = Single 0; option = 0 })
   pub single_first : verdict_of Markets.unstable (Some 0 ∷ None ∷ None ∷ []) ≡ Blocks (record { agent = Couple 0; option = 0 })

@@ -16,7 +16,7 @@ pub record TwoPostsText : Type 0 where
       (Some 0 ∷ None ∷ Some 0 ∷ []) (3 ∷ [])
       ≡ codes "match,1,published\napplicant,a,P\napplicant,b,-\napplicant,c,P\nprogram,P,2,2,3\ntotals,3,1,2,0\n"
 
--- a couple's members stand among the applicants
+-- a couple's members are among the applicants
 pub record SingleBetweenText : Type 0 where
   pub text : published Markets.single_between (record { programs = codes "x" ∷ []; applicants = codes "s" ∷ codes "a" ∷ codes "b" ∷ []; couples = codes "c" ∷ [] })
       (Some 0 ∷ None ∷ None ∷ []) (1 ∷ [])

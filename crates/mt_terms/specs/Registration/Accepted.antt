@@ -18,7 +18,7 @@ is_pair_below n p = (is_some p.0 || is_some p.1) && is_none_or_below n p.0 && is
 abbrev pub are_same_places : Pair → Pair → Bool
 are_same_places p q = option_eq ◌==◌ p.0 q.0 && option_eq ◌==◌ p.1 q.1
 
--- names that fit so many rows: an id for each, and none twice
+-- names that fit this number of rows: an id for each, and none twice
 pub record AreNames (n : ℕ) (ids : List Bytes) : Type 0 where
   pub one_each : length ids ≡ n
   pub are_ids : IsTrue (list_all (is_id LIMITS_2.id_bytes) ids)

@@ -2,8 +2,8 @@
 use Rattle.std.specs.Prelude.{ℕ, []}
 use Rattle.mt_terms.specs.Registration.Ids.{Bytes}
 
--- the fault of a file: its code, the number of the record at fault (0 where there is none), and the id
--- at fault (empty where there is none)
+-- The fault of a file has its code, the number of the record at fault and the id at fault. The number is 0 if there
+-- is no such record, and the id is empty if there is none.
 pub record Fault : Type 0 where
   pub code : ℕ
   pub row : ℕ

@@ -14,7 +14,7 @@ Bytes = List ℕ
 abbrev pub is_dash : Bytes → Bool
 is_dash field = bytes_eq field (codes "-")
 
--- whether a byte may stand in an id: the ASCII letters and digits, and `.`, `_`, `:` and `-`
+-- whether a byte may be in an id: the ASCII letters and digits, and `.`, `_`, `:` and `-`
 abbrev pub is_id_byte : ℕ → Bool
 is_id_byte byte = is_ascii_alphanumeric byte || has (codes "._:-") byte
 

@@ -25,8 +25,8 @@ pair_by_number programs p = (option_map (number_of programs) p.0, option_map (nu
 abbrev pub pairs_by_number : List Bytes → List IdPair → List Pair
 pairs_by_number programs pairs = map (pair_by_number programs) (filter (names_only programs) pairs)
 
--- what each record gives to the market, by these names: a program; the list of each applicant that it registers,
--- which is empty for a member; a couple
+-- What each record gives to the market, by these names. A program's record gives a program, and a couple's record a
+-- couple. A record of applicants gives the list of each applicant that it registers, which is empty for a member.
 abbrev pub program_in : Names → Record → Option Program
 program_in names (ProgramRecord id quota list) = Some (record { quota = quota; ranking = numbers_of names.applicants list })
 program_in names _ = None

@@ -52,7 +52,7 @@ registered_before before (WithdrawRecord kind id) = None
 abbrev pub is_same_pair : IdPair → IdPair → Bool
 is_same_pair p q = option_eq bytes_eq p.0 q.0 && option_eq bytes_eq p.1 q.1
 
--- whether an id or a pair stands twice in a record's list, or what it withdraws was withdrawn before
+-- whether a record's list has an id or a pair twice, or the record withdraws what was withdrawn before
 abbrev pub says_twice : List Record → Record → Bool
 says_twice before (ProgramRecord id quota list) = not (all_differ bytes_eq list)
 says_twice before (ApplicantRecord id list) = not (all_differ bytes_eq list)
@@ -85,7 +85,7 @@ first_conflict rules before r =
     ∷ then_some (are_too_many rules.limits (before ++ r ∷ [])) (charge TOO_MANY (id_of r))
     ∷ [])
 
--- what comes next, where there is no fault
+-- what comes next, if there is no fault
 abbrev pub and_then : {X Y E : Type 0} → Result X E → (X → Result Y E) → Result Y E
 and_then (Ok x) next = next x
 and_then (Err e) next = Err e

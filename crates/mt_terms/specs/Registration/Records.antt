@@ -38,8 +38,8 @@ pub data Kind : Type 0 where
 abbrev pub IdPair : Type 0
 IdPair = Option Bytes × Option Bytes
 
--- a record taken apart: a program with its quota and its list of applicants; an applicant with its list of
--- programs; a couple with its two members and its list of pairs; or the withdrawal of one of these
+-- A record is one of four. A program has its quota and its list of applicants. An applicant has its list of programs.
+-- A couple has its two members and its list of pairs. A withdrawal has what it withdraws.
 pub data Record : Type 0 where
   ProgramRecord : (id : Bytes) (quota : ℕ) (list : List Bytes) → Record
   ApplicantRecord : (id : Bytes) (list : List Bytes) → Record
@@ -58,13 +58,13 @@ kind_of word =
 abbrev pub are_ids : Rules → List Bytes → Bool
 are_ids rules fields = list_all (is_id rules.limits.id_bytes) fields
 
--- the fields two by two, where their number is even
+-- the fields two by two, if their number is even
 abbrev pub two_by_two : List Bytes → Option (List (Bytes × Bytes))
 two_by_two [] = Some []
 two_by_two (x ∷ []) = None
 two_by_two (x ∷ y ∷ fields) = option_map (λ ps. (x, y) ∷ ps) (two_by_two fields)
 
--- whether two fields are a pair: two ids, or where the version allows it one id and one `-`
+-- whether two fields are a pair: two ids, or one id and one `-` if the version allows it
 abbrev pub is_pair : Rules → Bytes × Bytes → Bool
 is_pair rules p = (an_id p.0 && an_id p.1) || (rules.half_pairs && ((an_id p.0 && is_dash p.1) || (is_dash p.0 && an_id p.1)))
   where

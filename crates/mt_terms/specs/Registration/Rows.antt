@@ -51,7 +51,7 @@ entries_of (WithdrawRecord kind id) = 0
 abbrev pub entry_count : List Record → ℕ
 entry_count records = sum_by entries_of records
 
--- the records that stay: neither withdrawals, nor withdrawn by one, wherever that stands
+-- the records that stay: they are no withdrawals, and no withdrawal in any row names them
 abbrev pub remaining : List Record → List Record
 remaining records = filter stays records
   where

@@ -18,8 +18,8 @@ pub fn registered_files()
     ensures longest_id { market_of (file_2 ("applicant,abcdefghijklmnopqrstuvwxyz012345abcdefghijklmnopqrstuvwxyz012345" ∷ [])) ≡ Ok (named one_applicant "" "abcdefghijklmnopqrstuvwxyz012345abcdefghijklmnopqrstuvwxyz012345" "") }
 {}
 
-/// What a record is by itself: the first that has a field names the version, each kind has its own number of fields,
-/// ids are of some bytes alone, and a quota is one to four digits.
+/// What a record is by itself. The first record that has a field names the version. Each kind has its own number of
+/// fields. Ids have certain bytes alone, and a quota is one to four digits.
 pub fn records_that_cannot_be_read()
     ensures third_version { market_of (file ("match,3" ∷ crossed_file)) ≡ refused NO_VERSION 1 "" }
     ensures kind_after_a_blank_record { market_of (file ("" ∷ "match,1" ∷ "" ∷ "post,P" ∷ [])) ≡ refused UNKNOWN_KIND 4 "" }
@@ -31,8 +31,8 @@ pub fn records_that_cannot_be_read()
     ensures quota_of_five_digits { market_of (file_1 ("program,P,00001" ∷ [])) ≡ refused BAD_QUOTA 2 "P" }
 {}
 
-/// What a record is beside those before it: an id is registered once in its name space, nothing stands twice in a
-/// list, and the counts have limits. What is withdrawn counts, and so does a `-` in a pair.
+/// What a record is beside those before it. An id is registered once in its name space, no list has an entry twice,
+/// and the counts have limits. What is withdrawn counts, and so does a `-` in a pair.
 pub fn records_that_do_not_go_together()
     ensures applicant_after_a_member { market_of (file_1 ("couple,c,a,b" ∷ "applicant,a" ∷ [])) ≡ refused DUPLICATE_ID 3 "a" }
     ensures couple_of_one { market_of (file_1 ("couple,c,a,a" ∷ [])) ≡ refused DUPLICATE_ID 2 "a" }
@@ -43,8 +43,8 @@ pub fn records_that_do_not_go_together()
     ensures withdrawn_program_counts { market_within small ("program,p1,0" ∷ "program,p2,0" ∷ "withdraw,program,p1" ∷ "program,p3,0" ∷ []) ≡ refused TOO_MANY 5 "p3" }
 {}
 
-/// What a record names is looked up once all records stand, in the order of the records and of their fields. A
-/// withdrawal names a record of its kind, so no member is withdrawn alone.
+/// What a record names is looked up once all records are registered, in the order of the records and of their fields.
+/// A withdrawal names a record of its kind, so no member is withdrawn alone.
 pub fn names_that_nobody_registers()
     ensures applicant { market_of (file_1 ("program,P,1,a,z,y" ∷ "applicant,a" ∷ [])) ≡ refused UNKNOWN_APPLICANT 2 "z" }
     ensures both_programs_of_a_pair { market_of (file_1 ("couple,c,a,b,z,y" ∷ [])) ≡ refused UNKNOWN_PROGRAM 2 "z" }

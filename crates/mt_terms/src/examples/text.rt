@@ -5,12 +5,12 @@ pub fn crossed_text()
     ensures { CrossedText }
 {}
 
-/// The text where somebody has no place.
+/// The text of a match in which somebody has no place.
 pub fn two_posts_text()
     ensures { TwoPostsText }
 {}
 
-/// The text where a couple is entered.
+/// The text of a match with a couple.
 pub fn single_between_text()
     ensures { SingleBetweenText }
 {}
