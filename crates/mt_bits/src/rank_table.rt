@@ -7,7 +7,7 @@ use mt_rows::Rows;
 use std::alloc::{AllocError, Global};
 use std::marker::Model;
 
-/// With so many words each bit has a number of 32 bits.
+/// With this number of words each bit has a number of 32 bits.
 const MOST_WORDS: usize = 67_108_864;
 
 /// The first rank whose bit is set that isn't below a number.
@@ -138,7 +138,7 @@ impl RankTable {
         self.rows.len()
     }
 
-    /// Adds a list of so many ranks, none of which is in the set. The error is want of memory.
+    /// Adds a list of `size` ranks, none of which is in the set. The error is want of memory.
     pub fn push_list(&mut self, size: usize) -> Result<(), AllocError>
         ensures { OnOk result (AddsList self.old self.new) }
     {

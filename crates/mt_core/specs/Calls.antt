@@ -28,11 +28,11 @@ StaysStrict m old new = IsStrict m (floor_of m old) → IsStrict m (floor_of m n
 abbrev pub IsLedOn : Market → Tables → Tables → ℕ → Type 0
 IsLedOn m old new proposals = IsReached m (floor_of m old) (floor_of m new) proposals
 
--- an applicant's notice and then its proposal led there, each where it was due, with this reply
+-- an applicant's notice and then its proposal led there, each if it was due, with this reply
 abbrev pub IsOneStepOn : Market → Tables → Tables → ℕ → Reply → Type 0
 IsOneStepOn m old new a answer = IsStep m (floor_of m old) (floor_of m new) a answer
 
--- where an applicant was the only one with events due, none has any
+-- if an applicant was the only one with events due, none has any
 abbrev pub Settles : Market → Tables → Tables → ℕ → Type 0
 Settles m old new a =
     (n : ℕ) → AreSettledBut m (floor_of m old) n a → AreSettled m (floor_of m new) n

@@ -19,7 +19,7 @@ abbrev pub NamesDisplaced : Market → Floor → Floor → Reply → Type 0
 NamesDisplaced m old new answer =
     (b p : ℕ) → IsTrue (held m old p b) → IsFalse (held m new p b) → answer ≡ KeptInstead b
 
--- An applicant's notice and then its proposal, each where it is due, with the reply to the proposal: at most one
+-- An applicant's notice and then its proposal, each if it is due, with the reply to the proposal. At most one
 -- applicant was displaced, the one that the reply names.
 pub record IsStep (m : Market) (old new : Floor) (a : ℕ) (answer : Reply) : Type 0 where
   pub floor : new ≡ after m (after m old (Notice a)) (Propose a)

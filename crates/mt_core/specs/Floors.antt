@@ -13,7 +13,7 @@ pub record Tables : Type 0 where
   pub standing : List Bool
   pub holds : List Holding
 
--- the holding of a program; a number that no program has stands for one that has received nothing
+-- the holding of a program: a number that no program has gives a holding that has received nothing
 abbrev pub hold_of : Tables → ℕ → Holding
 hold_of t p = slice_index_or t.holds p (opened 0 0)
 

@@ -6,13 +6,13 @@ use Rattle.mt_terms.specs.declared.events.Event.{Event}
 use Rattle.mt_ranks.specs.Ranked.{Ranked, IsRanked}
 use Rattle.mt_core.specs.Floors.{Tables, floor_of}
 
--- Tables are at the end of a list of events: the events lead from the opening floor to the one that they show, and
--- no event is due there.
+-- Tables are at the end of a list of events. The events lead from the opening floor to the one that the tables show,
+-- and no event is due there.
 pub record IsEndOf (m : Market) (events : List Event) (t : Tables) : Type 0 where
   pub floor : floor_of m t ≡ after_all m opening events
   pub quiet : IsTrue (is_quiet m (floor_of m t))
 
--- any two lists of events from the opening floor that end where no event is due end alike
+-- any two lists of events from the opening floor end alike if no event is due at their ends
 abbrev pub OrderFree : Type 0
 OrderFree =
     (r : Ranked) → IsRanked r → (es fs : List Event) (s t : Tables)

@@ -35,7 +35,7 @@ pub fn quiet(floor: &Floor, ranks: &Ranks) -> bool
     (0..ranks.applicants()).all(|applicant| is_settled(floor, ranks, AppNo(applicant)))
 }
 
-/// Where the applicant is: at the program that it proposed to last where it stands, else nowhere.
+/// Where the applicant is: at the program that it proposed to last if it stands, else nowhere.
 fn place(floor: &Floor, ranks: &Ranks, applicant: AppNo) -> Option<ProgNo>
     requires opened { IsOpenedWith ranks.now.market floor.now }
     requires ranked { IsRanked ranks.now }

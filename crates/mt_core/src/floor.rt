@@ -13,9 +13,9 @@ use mt_terms::{AppNo, ProgNo};
 use std::alloc::{AllocError, Global};
 use std::marker::Model;
 
-/// How far deferred acceptance has come (Gale and Shapley 1962; McVitie and Wilson 1971): how many programs of
-/// its live list each applicant has proposed to, whether it believes that it stands at the last of them, and what
-/// each program holds. A floor belongs to the rank tables that it was opened with.
+/// How far deferred acceptance has come (Gale and Shapley 1962; McVitie and Wilson 1971). It has the number of
+/// proposals that each applicant has made along its live list, and whether the applicant believes that the last of
+/// them is held. It has what each program holds. A floor belongs to the rank tables that it was opened with.
 pub struct Floor {
     made: Vec<u32>,
     standing: Vec<bool>,
@@ -74,7 +74,7 @@ impl Floor {
         })
     }
 
-    /// Whether the applicant believes that it stands where it proposed last.
+    /// Whether the applicant stands: it believes that the program to which it proposed last holds it.
     pub(crate) fn stands(&self, applicant: AppNo) -> bool
         requires { applicant < length self.now.standing }
         ensures { result ≡ slice_index_or self.now.standing applicant false }
@@ -121,9 +121,9 @@ impl Floor {
         taken
     }
 
-    /// Writes the desk of an applicant that has proposed to nobody: so many proposals made, each of them received, and
-    /// whether it stands at the last of them. The rest stays as it is. It takes no memory. The floor needn't be legal
-    /// after it.
+    /// Writes the desk of an applicant that has proposed to nobody: `made` proposals, each of them received, and
+    /// whether the applicant believes that the last one is held. The rest stays as it is. It takes no memory. The
+    /// floor needn't be legal after it.
     pub fn put_desk(&mut self, ranks: &Ranks, applicant: AppNo, made: u32, standing: bool)
         requires opened { IsOpenedWith ranks.now.market self.old }
         requires recorded { IsRecorded ranks.now.market (floor_of ranks.now.market self.old) }

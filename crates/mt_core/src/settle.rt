@@ -11,7 +11,7 @@ use crate::step::{apply, notice, propose};
 use mt_ranks::Ranks;
 use mt_terms::{AppNo, Event, Reply};
 
-/// Makes the events in order, each where it is due by then, and says how many were.
+/// Makes the events in order, each if it is due by then, and says how many were.
 pub fn run(floor: &mut Floor, ranks: &Ranks, events: &[Event]) -> u64
     requires opened { IsOpenedWith ranks.now.market floor.old }
     requires recorded { IsRecorded ranks.now.market (floor_of ranks.now.market floor.old) }
@@ -32,7 +32,7 @@ pub fn run(floor: &mut Floor, ranks: &Ranks, events: &[Event]) -> u64
     due
 }
 
-/// The applicant learns whether it is held no longer, and then proposes where it doesn't stand.
+/// The applicant learns whether it is held no longer, and then proposes if it doesn't stand.
 fn go_on(floor: &mut Floor, ranks: &Ranks, applicant: AppNo) -> Reply
     requires opened { IsOpenedWith ranks.now.market floor.old }
     requires recorded { IsRecorded ranks.now.market (floor_of ranks.now.market floor.old) }
@@ -45,8 +45,8 @@ fn go_on(floor: &mut Floor, ranks: &Ranks, applicant: AppNo) -> Reply
     propose(floor, ranks, applicant)
 }
 
-/// Makes the applicant's events, those of whom it displaces, and so on, one applicant at a time, until none is due
-/// for the last of them (McVitie and Wilson 1971). Says how many proposals that were.
+/// Makes the applicant's events, those of each applicant that it displaces, and so on. It settles one applicant at a
+/// time, until none is due for the last of them (McVitie and Wilson 1971). The result is the number of proposals.
 fn settle(floor: &mut Floor, ranks: &Ranks, first: AppNo) -> u64
     requires opened { IsOpenedWith ranks.now.market floor.old }
     requires recorded { IsRecorded ranks.now.market (floor_of ranks.now.market floor.old) }

@@ -78,7 +78,7 @@ fn is_still_held(floor: &Floor, ranks: &Ranks, applicant: AppNo) -> bool
     }
 }
 
-/// Whether the applicant believes that it stands where it isn't held.
+/// Whether the applicant stands and isn't held.
 fn is_dropped(floor: &Floor, ranks: &Ranks, applicant: AppNo) -> bool
     requires opened { IsOpenedWith ranks.now.market floor.now }
     requires recorded { IsRecorded ranks.now.market (floor_of ranks.now.market floor.now) }
@@ -89,7 +89,7 @@ fn is_dropped(floor: &Floor, ranks: &Ranks, applicant: AppNo) -> bool
     floor.stands(applicant) && !is_still_held(floor, ranks, applicant)
 }
 
-/// The applicant learns that it is held no longer, where that is so.
+/// The applicant learns that it is held no longer, if that is so.
 pub(crate) fn notice(floor: &mut Floor, ranks: &Ranks, applicant: AppNo) -> Reply
     requires opened { IsOpenedWith ranks.now.market floor.old }
     requires recorded { IsRecorded ranks.now.market (floor_of ranks.now.market floor.old) }
@@ -121,7 +121,7 @@ fn reply_at(ranks: &Ranks, program: ProgNo, taken: Taken) -> Reply
     }
 }
 
-/// The applicant proposes to the next program on its live list, where there is one.
+/// The applicant proposes to the next program on its live list, if there is one.
 pub(crate) fn propose(floor: &mut Floor, ranks: &Ranks, applicant: AppNo) -> Reply
     requires opened { IsOpenedWith ranks.now.market floor.old }
     requires recorded { IsRecorded ranks.now.market (floor_of ranks.now.market floor.old) }
@@ -144,8 +144,8 @@ pub(crate) fn propose(floor: &mut Floor, ranks: &Ranks, applicant: AppNo) -> Rep
     reply_at(ranks, entry.program, taken)
 }
 
-/// Makes the event, where it is due, and says what came of it. An event that isn't due changes nothing. The floor
-/// was opened with these rank tables, and events alone have changed it.
+/// Makes the event, if it is due, and gives the reply to it. An event that isn't due changes nothing. The floor was
+/// opened with these rank tables, and events alone have changed it.
 pub fn apply(floor: &mut Floor, ranks: &Ranks, event: Event) -> Reply
     requires opened { IsOpenedWith ranks.now.market floor.old }
     requires recorded { IsRecorded ranks.now.market (floor_of ranks.now.market floor.old) }

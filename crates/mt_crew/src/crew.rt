@@ -17,8 +17,8 @@ use std::sync::ledger::Blank;
 use std::thread::Threads;
 use std::{hint, thread};
 
-/// Acts for the applicant until it is placed or out. Whom it displaces gets a ticket; where there is no memory for
-/// that, it goes on with that applicant.
+/// Acts for the applicant until it is placed or out. An applicant that it displaces gets a ticket. If there is no
+/// memory for the ticket, the worker goes on with that applicant.
 fn act<K: HallName, R: Wait>(
     rt: &R,
     hall: &Hall<'_, K>,
@@ -64,8 +64,8 @@ const YIELD_AFTER: u32 = 64;
 /// After how many turns of its rest a worker looks whether there are tickets left.
 const LOOK_AFTER: u32 = 1 << 11;
 
-/// How long a worker rests that has rested so long the last time: twice as long where it had to wait for another one
-/// since, and half as long where it hadn't.
+/// How many turns a worker rests, after a rest of `last` turns. It is twice as many if the worker had to wait for
+/// another one since, and half as many if it hadn't.
 fn next_rest(last: u32, waited: bool) -> u32
     ensures bounded { last ≤ LONGEST_REST → result ≤ LONGEST_REST }
     ensures grows { IsTrue waited → result ≡ min (2 * last + 1) LONGEST_REST }
@@ -83,7 +83,7 @@ fn are_empty(thieves: &[Stealer<AppNo>]) -> bool {
     thieves.iter().all(|thief| thief.is_empty())
 }
 
-/// Lets so many turns pass, or fewer where no deque has a ticket any more.
+/// Waits for this number of turns, or for fewer if no deque has a ticket any more.
 fn rest(turns: u32, thieves: &[Stealer<AppNo>]) {
     for turn in 0..turns {
         if turn % LOOK_AFTER == LOOK_AFTER - 1 && are_empty(thieves) {
@@ -97,8 +97,9 @@ fn rest(turns: u32, thieves: &[Stealer<AppNo>]) {
     }
 }
 
-/// Acts on one ticket after another, until no deque gives one. Workers that wait for one another's locks are slower than
-/// one alone, so whoever had to wait rests before its next ticket. Worker 0 never does, so the work goes on.
+/// Acts on one ticket after another, until no deque gives one. Workers that wait for one another's locks are slower
+/// than one alone. So a worker that had to wait rests before its next ticket. Worker 0 never rests, so the work goes
+/// on.
 fn serve<K: HallName, R: Wait, G: Gate>(
     rt: &R,
     hall: &Hall<'_, K>,
@@ -175,9 +176,9 @@ fn work_in<K: HallName + Send + Sync, R: Threads + Wait + Sync, G: Gate + Sync>(
     Ok(singles)
 }
 
-/// The best match of the singles, made by so many workers, and the proposals on the way to it. Worker 0 works on the
-/// calling thread, so one worker starts no thread; it takes locks all the same, which `work_alone` doesn't. Its one
-/// error is that there isn't enough memory.
+/// The best match of the singles, made by this number of workers, and the proposals on the way to it. Worker 0 works
+/// on the calling thread, so one worker starts no thread. That worker takes locks all the same, which `work_alone`
+/// doesn't. The one error is want of memory.
 pub fn work<R: Threads + Wait + Sync, G: Gate + Sync>(
     rt: &R,
     alloc: Global,

@@ -5,7 +5,7 @@ use mt_ranks::Ranks;
 use mt_terms::AppNo;
 use std::alloc::{AllocError, Global};
 
-/// How often a thief asks again where another one came between.
+/// How often a thief asks again if another one came between.
 const TRIES: u32 = 64;
 
 /// A worker's number, and its own tickets. A ticket is an applicant's number: a hint to look at it, and no right.
@@ -81,7 +81,7 @@ fn steal_any(thieves: &[Stealer<AppNo>]) -> Option<AppNo> {
     None
 }
 
-/// A ticket of the worker's own, or else one that it steals: it asks the others in the order of their numbers, from
+/// A ticket of the worker's own, or else one that it steals. It asks the others in the order of their numbers, from
 /// the one after its own on.
 pub(crate) fn next_ticket(seat: &mut Seat, thieves: &[Stealer<AppNo>]) -> Option<AppNo>
     ensures { seat.new.number ≡ seat.old.number }

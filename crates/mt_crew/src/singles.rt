@@ -30,8 +30,8 @@ fn all_received(alloc: Global, floor: &Floor, ranks: &Ranks) -> Result<Vec<u32>,
     Ok(counts)
 }
 
-/// What a legal floor comes to: the best match, and the proposals on the way to it; and how many of these were left to be
-/// made on the floor.
+/// The best match in which a legal floor ends, and the proposals on the way to it, with the number of them that were
+/// left to be made on the floor.
 pub(crate) fn singles_of(
     alloc: Global,
     floor: &mut Floor,

@@ -14,7 +14,8 @@ use Rattle.mt_hall.specs.declared.answer.Answer.TheVariants.{Moved, Told, At, Ou
 abbrev pub is_single : Ranked → ℕ → Bool
 is_single r a = slice_index_or r.singles a false
 
--- A proposal went to a live entry; where it was refused that is excluded, and so it is for whom it displaced.
+-- A proposal went to a live entry. If it was refused, the program is excluded for the applicant. If it displaced
+-- another applicant, the program is excluded for that one.
 pub record IsMove (m : Market) (a to : ℕ) (kept : Bool) (displaced : Option ℕ) : Type 0 where
   pub is_live : IsTrue (has (live m a) to)
   pub refused : kept ≡ false → IsExcluded m a to

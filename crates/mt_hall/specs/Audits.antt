@@ -44,7 +44,7 @@ standing_in rows a = (slice_index_or rows a (record { made = 0; standing = false
 abbrev pub AreRows : Market → List Row → ℕ → Type 0
 AreRows m rows n = (a : ℕ) → a < n → IsRow m a (made_in rows a) (standing_in rows a)
 
--- the first place of which a desk of another applicant was found, with that applicant, once one place more is looked at
+-- The first place with a desk of another applicant, and that applicant, once one place more is looked at.
 abbrev pub noted : Option (ℕ × ℕ) → ℕ → ℕ → Option (ℕ × ℕ)
 noted (Some found) place applicant = Some found
 noted None place applicant = if applicant == place then None else (Some (place, applicant))

@@ -33,7 +33,7 @@ received_at m v = received_from (program_of m v.program) v.holding
 abbrev pub held_at : Market → DoorView → Set
 held_at m v = choice (program_of m v.program) (received_at m v)
 
--- how many entries a desk has passed: all that it proposed to, but for the last one while the applicant stands there
+-- how many entries a desk has passed: all that it proposed to, but for the last one while the applicant is standing
 abbrev pub passed_count : ℕ → Bool → ℕ
 passed_count made standing = made - (if standing then 1 else 0)
 
@@ -41,7 +41,8 @@ passed_count made standing = made - (if standing then 1 else 0)
 abbrev pub AllAboveExcluded : Market → ℕ → ℕ → Type 0
 AllAboveExcluded m a p = (q : ℕ) → IsTrue (has (until (λ x. x == p) (live m a)) q) → IsExcluded m a q
 
--- A desk's row can be that of a legal floor: whoever stands has proposed, and what it has passed is excluded for it.
+-- A desk's row can be that of a legal floor. An applicant that is standing has proposed, and each program that it has
+-- passed is excluded for it.
 pub record IsRow (m : Market) (a made : ℕ) (standing : Bool) : Type 0 where
   pub within : made ≤ length (live m a)
   pub proposed : IsTrue standing → 0 < made

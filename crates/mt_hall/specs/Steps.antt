@@ -69,7 +69,7 @@ pub record HasParts (m : Market) (d : DeskView) (v : DoorView) (f : Floor) : Typ
   pub standing : f.standing d.applicant ≡ d.standing
   pub received : (b : ℕ) → f.received v.program b ≡ received_at m v b
 
--- the door has received the applicant exactly where its program is among those that the desk has proposed to
+-- the door has received the applicant exactly if its program is among those that the desk has proposed to
 abbrev pub IsInStep : Market → DeskView → DoorView → Type 0
 IsInStep m d v = received_at m v d.applicant ≡ has (take d.made (live m d.applicant)) v.program
 

@@ -21,7 +21,7 @@ use std::sync::Mutex;
 /// What an audit found.
 #[derive(Drop)]
 pub struct Audit {
-    /// The floor of all desks; the opening floor where one is astray.
+    /// The floor of all desks, or the opening floor if a desk is astray.
     pub floor: Floor,
     /// Whether, for each single and each program, the passes' counts add up to the floor's.
     pub agrees: bool,
@@ -36,7 +36,8 @@ pub(crate) struct Row {
     pub(crate) standing: bool,
 }
 
-// Writes what a desk says into its place's row, or notes that it bears another number; and lets go of its share.
+// Writes what a desk says into its place's row, or notes that it bears another number. The result is the desk's
+// share.
 fn note<K: HallName>(
     rows: &mut Vec<Row>,
     astray: &mut Option<(AppNo, AppNo)>,
@@ -136,7 +137,7 @@ fn write_rows(floor: &mut Floor, ranks: &Ranks, rows: &[Row])
     }
 }
 
-// Whether the passes' proposals for the applicant are so many.
+// Whether the passes have this number of proposals for the applicant.
 fn made_with<K: HallName>(passes: &[Pass<K>], applicant: AppNo, number: u32) -> bool
     requires { applicant < applicants K.ranked.market }
     ensures { result ≡ (all_for passes.now applicant == number) }
@@ -151,7 +152,7 @@ fn made_with<K: HallName>(passes: &[Pass<K>], applicant: AppNo, number: u32) -> 
     left == 0
 }
 
-// Whether the passes' proposals to the program are so many.
+// Whether the passes have this number of proposals to the program.
 fn received_with<K: HallName>(passes: &[Pass<K>], program: ProgNo, number: u32) -> bool
     requires { program < length K.ranked.market.programs }
     ensures { result ≡ (all_to passes.now program == number) }
@@ -225,10 +226,10 @@ fn programs_agree<K: HallName>(floor: &Floor, ranks: &Ranks, passes: &[Pass<K>])
 }
 
 impl<'a, K: HallName> Hall<'a, K> {
-    /// Audits what was made with all the passes that were opened with this hall: takes every credit in, and writes
-    /// each desk into one floor, which is legal whatever the threads did and in whatever order. It takes no lock and
-    /// no memory. Where a desk bears another number than its place's, which no test meets, the floor is the opening
-    /// one.
+    /// Audits what was made with all the passes that were opened with this hall. It takes every credit in, and writes
+    /// each desk into one floor. That floor is legal whatever the threads did, and in whatever order. It takes no
+    /// lock and no memory. If a desk bears another number than its place's, the floor is the opening one. No test
+    /// meets such a desk.
     pub fn close(self, passes: Vec<Pass<K>>) -> Audit
         requires all { K.parts ≡ applicants K.ranked.market + vec_len passes }
         ensures opened { IsOpenedWith K.ranked.market result.floor }

@@ -6,8 +6,8 @@ use mt_tally::DeskShare;
 use mt_terms::AppNo;
 use std::marker::Model;
 
-/// The desk of an applicant: how many proposals it has made, whether it believes that it stands at the last of them,
-/// and a credit for each live entry that is left.
+/// The desk of an applicant. It has how many proposals the applicant has made, whether the applicant believes that
+/// the last one is held, and a credit for each live entry that is left.
 pub struct Desk<K: HallName> {
     pub(crate) applicant: AppNo,
     pub(crate) made: u32,
@@ -41,7 +41,7 @@ impl<K: HallName> Desk<K> {
         self.made
     }
 
-    /// Whether the applicant believes that it stands where it proposed last.
+    /// Whether the applicant stands: it believes that the program to which it proposed last holds it.
     pub fn standing(&self) -> bool
         ensures { result ≡ self.now.standing }
     {

@@ -50,8 +50,8 @@ impl<K: HallName> Door<K> {
         self.hold.count()
     }
 
-    /// Receives the applicant, who has this rank on the program's list, unless it did before; and says, as an event
-    /// would, whether the program holds it then, and whom it holds no longer for that.
+    /// Receives the applicant, who has this rank on the program's list, unless the door did so before. The reply
+    /// says, as an event would, whether the program then holds the applicant, and which one it displaced for that.
     pub(crate) fn meet(&mut self, ranks: &Ranks, applicant: AppNo, rank: u32) -> Reply
         requires ranks { ranks.now ≡ K.ranked }
         requires program { self.old.program < length K.ranked.market.programs }

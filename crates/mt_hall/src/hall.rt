@@ -25,9 +25,9 @@ use std::alloc::{AllocError, Global};
 use std::sync::ledger::Blank;
 use std::sync::{Mutex, Wait};
 
-/// The floor behind locks: a desk for each applicant and a door for each program, each behind its own lock, and the
-/// till of all credits. A thread locks one desk, then the door of one of that applicant's live entries, and then, for
-/// the move of one credit, the till; it never holds two desks or two doors.
+/// The floor behind locks: each applicant's desk and each program's door has a lock of its own, and so has the till
+/// of all credits. A thread locks one desk, and then the door of one of that applicant's live entries. For the move
+/// of one credit it then locks the till. It never holds two desks or two doors.
 pub struct Hall<'a, K: HallName> {
     pub(crate) desks: Vec<Mutex<Desk<K>>>,
     pub(crate) doors: Vec<Mutex<Door<K>>>,
@@ -89,7 +89,7 @@ impl<'a, K: HallName> Hall<'a, K> {
         &self.doors[program.index()]
     }
 
-    // Where a locked part bears another number than its place, nothing is known of the applicant.
+    // If a locked part bears another number than its place, nothing is known of the applicant.
     fn unknown(&self, applicant: AppNo) -> Answer
         requires { applicant < applicants K.ranked.market }
         ensures tells { Tells K.ranked.market applicant result }
@@ -105,8 +105,8 @@ impl<'a, K: HallName> Hall<'a, K> {
         }
     }
 
-    /// Makes one event of the applicant with the pass, or none where none is due; and says what came of it. The pass
-    /// was opened with this hall.
+    /// Makes one event of the applicant with the pass, or none if none is due. The answer says what the event did.
+    /// The pass was opened with this hall.
     pub fn advance<R: Wait>(&self, rt: &R, applicant: AppNo, pass: &mut Pass<K>) -> Answer
         ensures tells { Tells K.ranked.market applicant result }
         ensures stranger { (result ≡ Answer.Stranger) ↔ (is_single K.ranked applicant ≡ false) }

@@ -1,5 +1,5 @@
-//! The floor behind locks: a desk for each applicant and a door for each program, each behind its own lock, so that
-//! any number of threads make the events of deferred acceptance, and the audit of what they made.
+//! The floor behind locks: each applicant's desk and each program's door has a lock of its own. So any number of
+//! threads can make the events of deferred acceptance. The audit says what they made.
 #![tactic(auto)]
 
 mod answer;

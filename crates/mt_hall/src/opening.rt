@@ -149,7 +149,7 @@ fn seat_passes<K: HallName>(
     shares.destroy_empty();
 }
 
-/// No desks and no passes, with room for so many.
+/// No desks and no passes, with room for these numbers of them.
 fn empty_seats<K: HallName>(
     alloc: Global,
     applicants: u32,

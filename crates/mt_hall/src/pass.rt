@@ -54,13 +54,13 @@ impl<K: HallName> Pass<K> {
         self.by_applicant[applicant.index()] as u64
     }
 
-    /// How often a lock that was wanted was another worker's just then: more often where workers are in each other's
-    /// way. It is about as many; no clause says how many.
+    /// How often a lock that was wanted was another worker's just then. It is more often if workers are in each
+    /// other's way. The number is about right, and no clause pins it.
     pub fn waits(&self) -> u32 {
         self.waits
     }
 
-    /// Locks, and counts where another worker has the lock.
+    /// Locks, and counts if another worker has the lock.
     pub(crate) fn lock<'m, T, R: Wait>(&mut self, rt: &R, lock: &'m Mutex<T>) -> MutexGuard<'m, T>
         ensures { self.new ≡ self.old }
     {

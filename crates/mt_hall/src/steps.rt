@@ -42,7 +42,7 @@ fn propose<K: HallName, R: Wait>(
     reply
 }
 
-/// The applicant, which believes that it stands, learns where the program of its last entry doesn't hold it.
+/// The applicant, which believes that it is held, gets a notice if the program of its last entry doesn't hold it.
 fn notice<K: HallName>(desk: &mut Desk<K>, door: &mut Door<K>, ranks: &Ranks) -> Reply
     requires ranks { ranks.now ≡ K.ranked }
     requires due { IsDue K.ranked.market desk.old door.old }
@@ -65,10 +65,11 @@ fn notice<K: HallName>(desk: &mut Desk<K>, door: &mut Door<K>, ranks: &Ranks) ->
     }
 }
 
-/// Makes one event of the desk's applicant on lent parts of one hall: a proposal where it doesn't stand, and a notice
-/// where it does and isn't held. The door is that of the entry that the event is about: the next one, or the last one
-/// where the applicant stands. On every floor that has these parts, with the door in step, it is what `apply` of
-/// `mt_core` makes of them. A door that is out of step first receives the applicant that stands there.
+/// Makes one event of the desk's applicant on lent parts of one hall. The event is a proposal if the applicant isn't
+/// standing, and a notice if it is standing and isn't held. The door is that of the entry that the event is about:
+/// the next one, or the last one of an applicant that is standing. On every floor that has these parts, with the door
+/// in step, the event is what `apply` of `mt_core` makes of them. A door that is out of step first receives the
+/// applicant that is standing.
 pub fn step<K: HallName, R: Wait>(
     rt: &R,
     desk: &mut Desk<K>,

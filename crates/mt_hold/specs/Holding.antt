@@ -1,5 +1,5 @@
--- What a program has received and whom it holds, by the ranks of applicants on its list: the rank is the
--- position from 0, so the applicant that it wants most has rank 0.
+-- What a program has received and whom it holds, by the ranks of applicants on its list. A rank is the position from
+-- 0, so the applicant that the program wants most has rank 0.
 use Rattle.std.specs.Prelude.{ℕ, Bool, true, false, List, length, replicate, slice_index_or, slice_set}
 use Rattle.mt_terms.specs.Lists.{Set, below, count}
 use Rattle.mt_terms.specs.Market.{Program}

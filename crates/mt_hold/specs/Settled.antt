@@ -10,7 +10,7 @@ pub record HasRoom (quota count old new : ℕ) : Type 0 where
   pub room : count ≤ quota
   pub stays : new ≡ old
 
--- more are received, and the last rank below the end, which is another one than that received, is let go
+-- more are received, and the holding displaces the last rank below the end, which isn't the rank received
 pub record LetsLastGo (set : Set) (quota count rank old last new : ℕ) : Type 0 where
   pub over : quota < count
   pub in_time : rank < old

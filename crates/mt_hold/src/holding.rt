@@ -18,9 +18,9 @@ pub enum Taken {
     Refused,
 }
 
-/// What a program holds of the proposals that it received, by the ranks of the applicants on its list: the
-/// rank is the position from 0, so a lower one is wanted more. As in deferred acceptance (Gale and Shapley 1962),
-/// it holds the best of all that it has received, as many as its quota.
+/// What a program holds of the proposals that it received, by the ranks of the applicants on its list. A rank is the
+/// position from 0, so the program wants a lower one more. As in deferred acceptance (Gale and Shapley 1962), it
+/// holds the best of all that it has received, as many as its quota.
 #[derive(Drop)]
 pub struct Hold {
     quota: u32,
@@ -63,14 +63,14 @@ impl Hold {
         })
     }
 
-    /// Receives a proposal from a rank, holds it where it is among the best `quota` received, and says so, and which
-    /// rank was displaced by it. It takes no memory.
+    /// Receives a proposal from a rank, and holds it if it is among the best `quota` received. The result says so,
+    /// and which rank it displaced. It takes no memory.
     pub fn propose(&mut self, rank: u32) -> Taken
         requires on_list { rank < ranks self.old }
         requires first_time { IsFalse (has_received self.old rank) }
         ensures received { self.new ≡ receive self.old rank }
 
-        // Refused exactly where it isn't held, and another rank exactly where that was held and is no longer.
+        // Refused exactly if it isn't held, and another rank exactly if that was held and is no longer.
         ensures refused { (result ≡ Taken.Refused) ↔ IsFalse (held self.new rank) }
         ensures dropped { (other : ℕ) → (result ≡ Taken.KeptInstead other)
             ↔ (IsTrue (held self.old other) × IsFalse (held self.new other)) }
@@ -129,8 +129,8 @@ fn set_flag(words: &mut [u64], rank: u32)
     words[rank as usize / 64] |= 1 << (rank % 64);
 }
 
-// Moves the end down to the last rank below it, where more than the quota are received and the rank, which was
-// just received, comes before the end.
+// Moves the end down to the last rank below it, if more than the quota are received and the rank, which was just
+// received, comes before the end.
 fn settle(words: &[u64], quota: u32, count: u32, end: &mut u32, rank: u32) -> Taken
     requires within { end.old / 64 < length words.now }
     requires received { IsTrue (flag words.now rank) }

@@ -1,8 +1,8 @@
 //! What a holding by ranks says of the program's own list of applicants, whatever that list is.
 ghost use Rattle.mt_hold.specs.Laws.{HeldIsChoice, OpenedIsEmpty, ReceiveAddsOne, CountIsMembers, CountIsSize};
 
-/// A rank is held exactly where the applicant at that rank is in the program's choice from all that it
-/// received. The list has no applicant twice.
+/// A rank is held exactly if the applicant at that rank is in the program's choice from all that it received. The
+/// list has no applicant twice.
 pub fn held_is_choice()
     ensures { HeldIsChoice }
 {}
@@ -22,8 +22,8 @@ pub fn count_is_members()
     ensures { CountIsMembers }
 {}
 
-/// Where only applicants on the list propose, and all are below a number, as many ranks are received as there are
-/// numbers below it from which a proposal was received. The list has no applicant twice.
+/// As many ranks are received as there are numbers below a bound from which a proposal was received. Only applicants
+/// on the list propose, all of them are below the bound, and the list has no applicant twice.
 pub fn count_is_size()
     ensures { CountIsSize }
 {}

@@ -1,5 +1,5 @@
-//! One program's holding: from which ranks of its list it has received a proposal, and whom of them it
-//! holds, which is its choice from all that it received.
+//! One program's holding: the ranks of its list from which it has received a proposal. It holds its choice from all
+//! that it received.
 #![tactic(auto)]
 
 mod holding;

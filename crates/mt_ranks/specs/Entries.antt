@@ -43,7 +43,7 @@ abbrev pub IsCounted : List ℕ → List ℕ → List ℕ → Type 0
 IsCounted old new ranking =
     (a : ℕ) → a < length old → slice_index new a ≡ slice_index old a + times_in ranking a
 
--- how often programs list each applicant, and each of so many from a number on
+-- how often programs list each applicant, and each of `size` applicants from a number on
 abbrev pub all_times : Market → List ℕ
 all_times m = map (times_listed (rankings_of m)) (below (applicants m))
 
@@ -56,7 +56,7 @@ abbrev pub rank_among : List Live → ℕ → Option ℕ
 rank_among [] p = None
 rank_among (x ∷ xs) p = if x.program == p then Some x.rank else rank_among xs p
 
--- the entry of a program, where the entries have it
+-- the entry of a program, if the entries have it
 abbrev pub entry_among : List Live → ℕ → Option Live
 entry_among entries p = option_map (λ r. record { program = p; rank = r }) (rank_among entries p)
 

@@ -8,8 +8,8 @@ use Rattle.mt_ranks.specs.declared.blocks.TheConstants.{BLOCKS}
 use Rattle.mt_ranks.specs.declared.entries.Live.{Live}
 use Rattle.mt_ranks.specs.declared.tables.Part.{Part}
 
--- Blocks follow one another, each of so many applicants but for the last ones: where the block of a number begins,
--- and how many applicants it has.
+-- Blocks follow one another, each of `size` applicants but for the last ones: where the block of a number begins, and
+-- how many applicants it has.
 abbrev pub block_first : ℕ → ℕ → ℕ → ℕ
 block_first size number count = min (number * size) count
 
@@ -21,7 +21,7 @@ pub record IsPart (m : Market) (size number : ℕ) (part : Part) : Type 0 where
   pub rows : part.rows.lists ≡ map (λ k. own_entries m (block_first size number (applicants m) + k)) (below (block_size size number (applicants m)))
   pub lists : part.lists ≡ listed_rows m (block_first size number (applicants m)) (block_size size number (applicants m)) part.rows
 
--- the part with a number, where there is one
+-- the part with a number, if there is one
 abbrev pub part_of : List Part → ℕ → Part
 part_of parts number = slice_index_or parts number (record { rows = empty_rows []; lists = [] })
 

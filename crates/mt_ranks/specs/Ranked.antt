@@ -36,7 +36,7 @@ ranked_of m = record { market = live_market m; singles = single_flags m }
 abbrev pub ranking_of : Market → ℕ → List ℕ
 ranking_of m p = (program_of m p).ranking
 
--- an applicant's rank on a program's list: its position from 0, where the list has it
+-- an applicant's rank on a program's list: its position from 0, if the list has it
 abbrev pub rank_of : Market → ℕ → ℕ → Option ℕ
 rank_of m p a = position (λ x. x == a) (ranking_of m p)
 
@@ -48,7 +48,7 @@ ranked_entry m a p = record { program = p; rank = unwrap_or (rank_of m p a) 0 }
 abbrev pub ranked_list : Market → ℕ → List Live
 ranked_list m a = map (ranked_entry m a) (list_of m a)
 
--- a number is the applicant's rank on a list: the first place where it stands
+-- a number is the applicant's rank on a list: the first position at which the list has it
 pub record IsRank (ranking : List ℕ) (a rank : ℕ) : Type 0 where
   pub found : position (λ x. x == a) ranking ≡ Some rank
   pub within : rank < length ranking

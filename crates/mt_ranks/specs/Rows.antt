@@ -18,7 +18,7 @@ empty_rows sizes = record { lists = replicate (length sizes) []; sizes = sizes }
 abbrev pub row_of : Filling → ℕ → List Live
 row_of f k = slice_index_or f.lists k []
 
--- whether a row has room for so many more
+-- whether a row has room for this number of entries more
 abbrev pub HasRoom : Filling → ℕ → ℕ → Type 0
 HasRoom f k n = length (row_of f k) + n ≤ slice_index f.sizes k
 
@@ -31,7 +31,7 @@ abbrev pub IsEnteredFor : ℕ → Filling → Filling → ℕ → List ℕ → T
 IsEnteredFor from old new p ranking =
     (k : ℕ) → k < length old.lists → row_of new k ≡ row_of old k ++ entries_in p 0 ranking (from + k)
 
--- for each of so many applicants the entries of its row that its list names
+-- for each of `size` applicants the entries of its row that its list names
 abbrev pub listed_rows : Market → ℕ → ℕ → Filling → List (List Live)
 listed_rows m from size f =
     map (λ k. entries_among (row_of f k) (list_of m (from + k))) (below size)

@@ -3,11 +3,11 @@ ghost use Rattle.mt_ranks.specs.Parts.{block_of};
 
 use mt_terms::AppNo;
 
-/// In how many blocks the applicants are taken. The tables of a block are made by a thread of its own, which goes
-/// through the lists of all programs: with more blocks there is more of that.
+/// How many blocks the applicants have. A thread of its own makes the tables of each block, and reads the lists of
+/// all programs for it. More blocks would mean more reads.
 pub(crate) const BLOCKS: usize = 4;
 
-/// How many applicants a block has, of so many, but for the last blocks.
+/// How many of all `applicants` applicants each block has, but for the last blocks.
 pub(crate) fn block_size(applicants: usize) -> usize
     ensures enough { applicants ≤ result * BLOCKS }
     ensures few { result ≤ applicants }
@@ -32,7 +32,7 @@ pub(crate) fn block_of(size: usize, applicant: usize) -> usize
     }
 }
 
-/// A block of applicants: so many of them, from a number on.
+/// A block of applicants: `size` of them, from the number `first` on.
 #[derive(Clone, Copy)]
 pub(crate) struct Block {
     pub(crate) first: usize,
@@ -40,7 +40,7 @@ pub(crate) struct Block {
 }
 
 impl Block {
-    /// The block with this number, from 0, of so many applicants in blocks of this size.
+    /// The block with this number, from 0, of `applicants` applicants in blocks of this size.
     pub(crate) fn numbered(number: usize, size: usize, applicants: usize) -> Block
         ensures first { result.first ≡ min (number * size) applicants }
         ensures size { result.size ≡ min size (applicants - result.first) }
@@ -52,7 +52,7 @@ impl Block {
         }
     }
 
-    /// The applicant's place in the block, from 0, where the block has it.
+    /// The applicant's place in the block, from 0, if the block has it.
     pub(crate) fn place(self, applicant: AppNo) -> Option<usize>
         requires { self.first + self.size ≤ 2 ^ 64 }
         ensures inside { IfSome result (λ k. (k < self.size) × (self.first + k ≡ applicant)) }

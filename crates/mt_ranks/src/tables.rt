@@ -90,8 +90,8 @@ fn live_lists(
     Ok(lists)
 }
 
-/// The tables of the block of applicants with this number, in blocks of this size, where the programs list each
-/// applicant so often.
+/// The tables of the block of applicants with this number, in blocks of this size. `times` says how often the
+/// programs list each applicant.
 fn part_numbered(
     alloc: Global,
     roster: &Roster,
@@ -110,8 +110,8 @@ fn part_numbered(
     Ok(Part { rows, lists })
 }
 
-/// How many blocks a thread makes at least, where programs list the applicants so often: all of them where these are few
-/// entries.
+/// How many blocks a thread makes at least: all of them if the programs list the applicants with few entries in all.
+/// `times` says how often they list each.
 fn least_blocks(times: &[usize]) -> usize {
     let mut entries: usize = 0;
     for count in times {
@@ -233,7 +233,7 @@ impl<'m> Ranks<'m> {
         self.roster.program_list(program)
     }
 
-    /// The applicant's rank on the program's list, its position from 0, where the list has it.
+    /// The applicant's rank on the program's list, its position from 0, if the list has it.
     pub fn rank(&self, program: ProgNo, applicant: AppNo) -> Option<u32>
         requires program { program < length self.now.market.programs }
         requires applicant { applicant < applicants self.now.market }

@@ -66,8 +66,8 @@ fn add_ranking(rows: &mut Rows, block: Block, program: ProgNo, ranking: &[AppNo]
     }
 }
 
-/// For each applicant of a block the programs that list it, in their order, with its rank on each. So many as
-/// these sizes say list each.
+/// For each applicant of a block the programs that list it, in their order, with its rank on each. `sizes` says how
+/// many programs list each applicant.
 pub(crate) fn transpose(
     alloc: Global,
     roster: &Roster,

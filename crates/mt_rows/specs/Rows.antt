@@ -10,7 +10,7 @@ row_in xs w = slice_range xs w.start w.end
 abbrev pub span_at : List Span → ℕ → Span
 span_at spans k = slice_index_or spans k (record { start = 0; end = 0; limit = 0 })
 
--- a row ends within its room, and that within so many elements
+-- a row ends within its room, and the room within this number of elements
 pub record IsSpan (size : ℕ) (w : Span) : Type 0 where
   pub ordered : w.start ≤ w.end
   pub roomy : w.end ≤ w.limit
@@ -30,7 +30,7 @@ pub record Extends {X : Type 0} (old new : List X) : Type 0 where
   pub rest : List X
   pub is : new ≡ old ++ rest
 
--- a row stands behind what was there before, with an element more
+-- a row is behind what was there before, with an element more
 pub record IsMoved {X : Type 0} (old new : List X) (from : Span) (x : X) (w : Span) : Type 0 where
   pub behind : length old ≤ w.start
   pub is_span : IsSpan (length new) w

@@ -58,7 +58,7 @@ impl<T> FlatLists<T> {
         }
     }
 
-    /// No lists, with room for so many, and for so many elements in all. The error is want of memory.
+    /// No lists, with room for `lists` of them, and for `items` elements in all. The error is want of memory.
     pub fn with_capacity(alloc: Global, lists: usize, items: usize) -> Result<Self, AllocError>
         ensures { IfOk result (λ lists. lists ≡ []) }
     {

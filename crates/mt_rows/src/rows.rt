@@ -123,8 +123,8 @@ impl<T> Rows<T> {
 }
 
 impl<T: Copy> Rows<T> {
-    /// Adds a row of so many copies of an element. The error is want of memory, or of places, and the rows are as they
-    /// were then.
+    /// Adds a row of `count` copies of an element. The error is want of memory, or of places, and leaves the rows as
+    /// they were.
     pub fn push_row(&mut self, count: usize, item: T) -> Result<(), AllocError>
         ensures err { OnErr result (self.new ≡ self.old) }
         ensures ok { OnOk result (self.new ≡ self.old ++ replicate count item ∷ []) }

@@ -6,9 +6,9 @@ use crate::shares::{DeskShare, PassShare};
 use std::alloc::{AllocError, Global};
 use std::sync::ledger::{Blank, Ledger};
 
-/// Opens a ledger: a desk share for each number, in order, with that many credits, and as many pass shares as asked,
-/// with none. The blank has one part for each share. It takes the memory for all shares first, so where it answers that
-/// there isn't enough, its one error, no credit was dealt.
+/// Opens a ledger. There is a desk share for each number, in order, with that many credits, and `passes` pass shares
+/// with none. The blank has one part for each share. It takes the memory for all shares first. So if it ends in its
+/// one error, want of memory, no credit was dealt.
 pub fn deal<K: Ledger>(
     alloc: Global,
     blank: Blank,

@@ -1,6 +1,6 @@
-//! Credits that are neither made up nor lost: one ledger for a hall, in which one credit stands for one proposal. An
-//! applicant's desk is dealt as many credits as it has live entries, and each proposal moves one of them to the pass
-//! of the worker that made it. Shares can't be dropped, copied or taken apart: whoever opens a ledger has to bring
+//! Credits that are neither invented nor lost: one ledger for a hall, in which one credit is one proposal. An
+//! applicant's desk is dealt as many credits as it has live entries. Each proposal moves one of them to the pass of
+//! the worker that made it. Shares can't be dropped, copied or split, so the code that opens a ledger has to bring
 //! back every share of it.
 #![tactic(auto)]
 
