@@ -1,4 +1,4 @@
--- What the seeds of tables are made of, and what the hashers of a table begin with.
+-- What seeds of tables consist of, and what the hashers of a table begin with.
 use Rattle.std.specs.Prelude.{List, length}
 use Rattle.std.specs.List.{fold}
 use Rattle.std.specs.Hash as fed

@@ -10,7 +10,7 @@ use std::alloc::{AllocError, Global};
 use std::hash::{DefaultHasher, Hash, Hasher};
 use std::marker::Model;
 
-/// An id as tables hold it, with its head, by which most ids are told apart without a look at their bytes.
+/// An id as tables hold it, with its head. Most ids differ in their heads, so their bytes are seldom read.
 #[derive(Clone, Copy)]
 struct Key<'a> {
     head: u64,
@@ -180,7 +180,7 @@ impl<'a> IdTable<'a> {
         self.ids.get_index_of(&Key::of(id))
     }
 
-    /// Adds an id at the end, and says that it did so, where it is none of them.
+    /// Adds an id at the end, if it is none of them, and says whether it did so.
     pub fn add(&mut self, id: &'a [u8]) -> Result<bool, AllocError>
         ensures added { IfOk result (λ added. added ≡ not (has_id self.old id.now)) }
         ensures ids { IfOk result (λ _. self.new ≡ (if has_id self.old id.now then self.old else self.old ++ id.now ∷ [])) }

@@ -4,7 +4,7 @@ ghost use Rattle.std.specs.Char.{is_ascii_digit};
 ghost use Rattle.std.specs.Str.Parse.{digits_value};
 ghost use Rattle.mt_terms.specs.Registration.Ids.{is_id_byte, is_id, is_dash, quota_of};
 
-/// Whether a byte may stand in an id: an ASCII letter or digit, or one of `.`, `_`, `:` and `-`.
+/// Whether a byte may be in an id: an ASCII letter or digit, or one of `.`, `_`, `:` and `-`.
 fn may_stand(byte: u8) -> bool
     ensures { result ≡ is_id_byte byte }
 {
@@ -18,14 +18,14 @@ pub fn is_dash(field: &[u8]) -> bool
     field == b"-".as_slice()
 }
 
-/// Whether each byte of a field may stand in an id.
+/// Whether each byte of a field may be in an id.
 fn may_all_stand(field: &[u8]) -> bool
     ensures { result ≡ list_all is_id_byte field.now }
 {
     field.iter().all(|byte| may_stand(*byte))
 }
 
-/// Whether a field is an id of at most so many bytes.
+/// Whether a field is an id of at most `most` bytes.
 pub fn is_id(most: usize, field: &[u8]) -> bool
     ensures { result ≡ is_id most field.now }
 {

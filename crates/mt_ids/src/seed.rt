@@ -1,4 +1,4 @@
-//! Seeds of tables. Each is made of all that its table will hold, so that nobody can choose beforehand what collides
+//! Seeds of tables. Each depends on all that its table will hold, so that nobody can choose beforehand what collides
 //! there.
 ghost use Rattle.std.specs.Prelude.{◌≡◌};
 ghost use Rattle.mt_ids.specs.Seeds.{seed_by, with_field};

@@ -2,8 +2,8 @@
 use Rattle.std.specs.Prelude.{◌≡◌, ℕ, List, [], ◌∷◌, ◌++◌, codes, Some, None}
 use Rattle.mt_lists.specs.Records.{mark, records_of}
 
--- what a spreadsheet exports: a mark, quoted fields, an empty line, rows padded with empty fields, one of them with no
--- other field, and a last line without an end
+-- What a spreadsheet exports: a mark, quoted fields, an empty line, and rows padded with empty fields. One of these
+-- rows has no other field. The last line has no end.
 abbrev pub spreadsheet : List ℕ
 spreadsheet = mark
     ++ codes "match,1,,\r\n"
@@ -30,7 +30,7 @@ SpreadsheetIsRead = records_of spreadsheet ≡ Some spreadsheet_rows
 abbrev pub SecondMarkIsRefused : Type 0
 SecondMarkIsRefused = records_of (mark ++ mark ++ codes "match,1\n") ≡ None
 
--- two quotes in a quoted field stand for one
+-- two quotes in a quoted field are one
 abbrev pub DoubledQuoteIsOne : Type 0
 DoubledQuoteIsOne = records_of (codes "match,1\napplicant,\"a\"\"1\"\n")
     ≡ Some ((codes "match" ∷ codes "1" ∷ []) ∷ (codes "applicant" ∷ codes "a\"1" ∷ []) ∷ [])

@@ -19,7 +19,7 @@ unfoldable pub split_from : List ℕ → List ℕ → List (List ℕ)
 split_from field [] = field ∷ []
 split_from field (c ∷ rest) = if c == 44 then field ∷ split_from [] rest else split_from (field ++ (c ∷ [])) rest
 
--- the fields of a line: what stands between its commas
+-- the fields of a line: what is between its commas
 abbrev pub fields_of_line : List ℕ → List (List ℕ)
 fields_of_line line = split_from [] line
 

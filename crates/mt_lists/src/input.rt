@@ -24,9 +24,9 @@ pub enum ReadEnd {
 // How many bytes a read asks for at most.
 const PIECE: usize = 1 << 16;
 
-/// Reads to the end of the input, and gives all its bytes. It ends at the first of these: a read failed, more
-/// than `limit` bytes came, memory was refused, or the input is at its end. A failed read is not made again. In
-/// all it asks for one byte more than `limit`, and after a refusal the reader stands where the last read left it.
+/// Reads to the end of the input, and gives all its bytes. It ends at the first of these: a read failed, more than
+/// `limit` bytes came, memory was refused, or the input is at its end. A failed read is not made again. In all it
+/// asks for one byte more than `limit`, and after a refusal the reader is where the last read left it.
 pub fn read_all<R: Read>(alloc: Global, tap: &mut Tap<R>, limit: usize) -> Result<Vec<u8>, ReadEnd>
     requires { reads_of tap.old + limit < u64.MAX }
 
@@ -36,7 +36,7 @@ pub fn read_all<R: Read>(alloc: Global, tap: &mut Tap<R>, limit: usize) -> Resul
         (λ left. bytes.items ≡ left)) }
     ensures ended { OnOk result (IsAtEnd (bytes_left R.remaining tap.new)) }
 
-    // So `TooLarge` comes exactly where there were more, unless a read failed or memory was refused.
+    // So `TooLarge` comes exactly if there were more, unless a read failed or memory was refused.
     ensures too_large { IsErrOf result ReadEnd.TooLarge → IfSome (bytes_left R.remaining tap.old)
         (λ left. limit < length left) }
     ensures fault { IsErrOf result ReadEnd.Fault ↔ (failures_of tap.old < failures_of tap.new) }
@@ -74,7 +74,7 @@ pub fn read_all<R: Read>(alloc: Global, tap: &mut Tap<R>, limit: usize) -> Resul
     }
 }
 
-// A buffer of so many bytes.
+// A buffer of `len` zero bytes.
 fn zeroes(alloc: Global, len: usize) -> Result<Vec<u8>, AllocError>
     ensures { IfOk result (λ buffer. vec_len buffer ≡ len) }
 {

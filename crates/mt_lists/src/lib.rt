@@ -1,5 +1,5 @@
 //! From the bytes of an input to its records: a reader with counts, the whole of its bytes within a limit, and its
-//! rows, which are the lines of a text with no quote, and else what the crate `csv` reads.
+//! rows. The rows of a text without a quote are its lines. Those of any other text are what the crate `csv` reads.
 #![tactic(auto)]
 
 mod input;

@@ -12,8 +12,8 @@ pub struct Row<'r> {
     source: RowSource<'r>,
 }
 
-// Where the fields of a row lie: in a line that has lost the commas at its end, or in a table of those of a record that
-// `csv` has read.
+// Where the fields of a row lie. They are in a line that has lost the commas at its end, or in a table of the fields
+// of a record that `csv` has read.
 #[derive(Clone, Copy)]
 pub(crate) enum RowSource<'r> {
     Line(&'r [u8]),

@@ -6,8 +6,8 @@ use crate::row::{Row, RowSource};
 use mt_rows::FlatLists;
 use std::marker::Model;
 
-/// The rows of an input: the lines of a text that has no quote, which are cut as they are lent, or else the rows that
-/// `csv` has read.
+/// The rows of an input. The rows of a text without a quote are its lines, which are cut as they are lent. Those of
+/// any other text are what `csv` has read.
 pub struct Rows<'t> {
     source: RowsSource<'t>,
 }

@@ -16,7 +16,7 @@ use thiserror::Error;
 /// Why an input was not split into records.
 #[derive(Clone, Copy, Debug, PartialEq, Eq, Error)]
 pub enum ListFault {
-    /// Two byte order marks stand at the start.
+    /// The input begins with two byte order marks.
     #[error("two byte order marks at the start")]
     TwoMarks,
     /// Memory was refused.
@@ -45,7 +45,7 @@ pub fn records<'t>(alloc: Global, bytes: &'t [u8]) -> Result<Rows<'t>, ListFault
     Ok(Rows::new(source))
 }
 
-// The input after the mark at its start, if it has one, or none where a second mark follows.
+// The input after the mark at its start, if it has one, or none if a second mark follows.
 fn after_mark(bytes: &[u8]) -> Option<&[u8]>
     ensures { MatchOption result (records_of bytes.now ≡ None)
         (λ text. (records_of bytes.now ≡ Some (rows_of text.now)) × (starts_with nat_eq text.now mark ≡ false)) }

@@ -8,8 +8,8 @@ use mt_rows::FlatLists;
 use mt_terms::{Agent, AppNo, CoupleNo, ProgNo};
 use std::marker::Model;
 
-/// What a market is made of, by number: programs with quotas and rank order lists, singles with theirs, couples with
-/// their members and lists of pairs, and the ids of all.
+/// A market by number: programs with quotas and rank order lists, singles with theirs, and couples with their members
+/// and lists of pairs. It also has the ids of all.
 pub struct Tables {
     /// The posts of each program.
     pub quotas: Vec<u32>,
@@ -171,8 +171,8 @@ impl Roster {
         self.tables.members[couple.index()]
     }
 
-    /// The pairs that the couple lists, the most wanted first: a place for each member, where none is a
-    /// member that stays unplaced.
+    /// The pairs that the couple lists, the most wanted first: a place for each member, with none for a member that
+    /// stays unplaced.
     pub fn couple_list(&self, couple: CoupleNo) -> &[(Option<ProgNo>, Option<ProgNo>)]
         requires { couple < length self.now.market.couples }
         ensures { result.now ≡ (couple_of self.now.market couple).pairs }

@@ -37,8 +37,9 @@ fn fault_by<'a>(
     }
 }
 
-/// The first fault of rows that have one, by these rules: of one record by itself or beside those before it, or else the
-/// first that names an unknown id; or want of memory. The first row has this number.
+/// The first fault of rows that have one, by these rules, or want of memory. The faults of one record by itself or
+/// beside those before it come first. If there is none of these, the fault is that of the first record that names an
+/// unknown id. The first row has this number.
 pub fn first_fault<'a>(alloc: Global, rules: &Rules, rows: RowsIter<'a>, first: u64) -> Refusal<'a>
     requires limits { AreBounded rules.now.limits }
     requires few { first + length (rows_left rows) < 2 ^ 64 }

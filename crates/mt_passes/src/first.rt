@@ -66,8 +66,8 @@ fn read_row<'a>(
     read_fields(alloc, rules, register, number, row.fields())
 }
 
-/// Adds the records of these rows to a register that has none, of which the first has this number, or gives their first
-/// fault. Nothing is said of the register then.
+/// Adds the records of these rows to a register that has none, or gives their first fault. The first row has this
+/// number. After a fault nothing is known of the register.
 pub(crate) fn first_pass<'a>(
     alloc: Global,
     rules: &Rules,

@@ -59,7 +59,7 @@ impl Drop for Register<'_> {
 }
 
 impl<'a> Register<'a> {
-    /// No records, where those of these rows will come: the tables of their ids hash by a seed that these give.
+    /// A register without records. The tables of its ids hash by a seed that depends on the rows that it will have.
     pub(crate) fn new(alloc: Global, rows: RowsIter<'_>) -> Self
         ensures register { IsRegister result }
         ensures records { records_seen result ≡ [] }
@@ -98,7 +98,7 @@ impl<'a> Register<'a> {
         }
     }
 
-    /// Whether an id or a pair stands twice in a record's list, or what it withdraws was withdrawn before.
+    /// Whether a record's list has an id or a pair twice, or the record withdraws what was withdrawn before.
     fn says_twice(&self, alloc: Global, record: &Record<'a>) -> Result<bool, AllocError>
         requires { IsRegister self.now }
         ensures { IfOk result (λ twice. twice ≡ says_twice (contents_seen self.now) (record_seen «record».now)) }
@@ -177,7 +177,7 @@ impl<'a> Register<'a> {
         }
     }
 
-    /// Adds a record of which no id is registered, that withdraws nothing again, and with which there are not too many.
+    /// Adds a record. None of its ids is registered, it withdraws nothing again, and there are not too many with it.
     pub(crate) fn push(&mut self, row: u64, next: Record<'a>) -> Result<(), AllocError>
         requires register { IsRegister self.old }
         requires new { registered_before (contents_seen self.old) (record_seen next) ≡ None }
@@ -199,7 +199,7 @@ fn found<'a>(ids: &IdTable<'_>, id: &'a [u8]) -> Option<&'a [u8]>
     if ids.contains(id) { Some(id) } else { None }
 }
 
-/// Whether so many entries and these are more than the limits allow.
+/// Whether `entries` and `more` entries together are more than the limits allow.
 pub(crate) fn adds_too_many(limits: &Limits, entries: u64, more: u64) -> bool
     ensures { result ≡ nat_lt limits.now.entries (entries + more) }
 {

@@ -34,7 +34,7 @@ fn ids_seed(list: Fields<'_>) -> Seed
     Seed::of(&digest)
 }
 
-/// Whether an id stands twice in a list.
+/// Whether a list has an id twice.
 pub(crate) fn has_repeat(alloc: Global, list: Fields<'_>) -> Result<bool, AllocError>
     ensures { IfOk result (λ repeats. repeats ≡ not (all_differ bytes_eq (fields_left list.entry))) }
 {
@@ -77,7 +77,7 @@ impl<'a> PairTable<'a> {
         })
     }
 
-    /// Adds a pair at the end, and says that it did so, where it is none of them.
+    /// Adds a pair at the end, if it is none of them, and says whether it did so.
     fn add(&mut self, pair: (Option<&'a [u8]>, Option<&'a [u8]>)) -> Result<bool, AllocError>
         ensures added { IfOk result (λ added. added ≡ not (list_any (is_same_pair (option_copied pair.entry.0, option_copied pair.entry.1)) self.old)) }
         ensures pairs { IfOk result (λ _. self.new ≡ (if list_any (is_same_pair (option_copied pair.entry.0, option_copied pair.entry.1)) self.old then self.old else self.old ++ (option_copied pair.entry.0, option_copied pair.entry.1) ∷ [])) }
@@ -99,7 +99,7 @@ fn pairs_seed(pairs: Pairs<'_>) -> Seed
     Seed::of(&digest)
 }
 
-/// Whether a pair stands twice in a couple's list.
+/// Whether a couple's list has a pair twice.
 pub(crate) fn has_repeated_pair(alloc: Global, pairs: Pairs<'_>) -> Result<bool, AllocError>
     ensures { IfOk result (λ repeats. repeats ≡ not (all_differ is_same_pair (pairs_left pairs.entry))) }
 {

@@ -1,4 +1,4 @@
--- How the records that rows are taken apart into are seen as those of the definition.
+-- How the records that are parsed from rows are seen as those of the definition.
 use Rattle.std.specs.Prelude.{Result, Ok, Err}
 use Rattle.mt_lists.specs.Rows.{fields_left}
 use Rattle.mt_terms.specs.Registration.Faults as faults

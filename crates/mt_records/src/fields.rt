@@ -21,7 +21,7 @@ pub(crate) fn are_ids(rules: &Rules, fields: Fields<'_>) -> bool
     true
 }
 
-/// Whether two fields are a pair: two ids, or where the version allows it one id and one `-`.
+/// Whether two fields are a pair: two ids, or one id and one `-` if the version allows it.
 fn is_pair(rules: &Rules, first: &[u8], second: &[u8]) -> bool
     ensures { result ≡ is_pair rules.now (first.now, second.now) }
 {
@@ -33,7 +33,7 @@ fn is_pair(rules: &Rules, first: &[u8], second: &[u8]) -> bool
             && ((first_is_id && is_dash(second)) || (is_dash(first) && second_is_id)))
 }
 
-/// The next two fields, which are taken. None where there aren't two.
+/// The next two fields, which are taken. None if there aren't two.
 fn next_two<'a>(fields: &mut Fields<'a>) -> Option<(&'a [u8], &'a [u8])>
     ensures { MatchOption result ((by_pairs (fields_left fields.old) ≡ []) × (by_pairs (fields_left fields.new) ≡ []))
         (λ two. by_pairs (fields_left fields.old) ≡ (two.0.now, two.1.now) ∷ by_pairs (fields_left fields.new)) }
@@ -123,7 +123,7 @@ impl<'a> CoupleFields<'a> {
         CoupleFields { fields }
     }
 
-    /// The ids of the couple's members, which are empty where the record has none.
+    /// The ids of the couple's members, which are empty if the record has none.
     pub fn members(&self) -> (&'a [u8], &'a [u8])
         ensures { (result.0.now, result.1.now) ≡ members_in self.now }
     {

@@ -1,4 +1,4 @@
-//! One record taken apart by itself, by the rules of its version, or its first fault; and ids of each kind.
+//! One record parsed by itself, by the rules of its version, or its first fault; and ids of each kind.
 #![tactic(auto)]
 
 mod fields;

@@ -21,8 +21,9 @@ pub enum Kind {
     Couple,
 }
 
-/// A record taken apart. Its ids lie in the row. There is one for each row of a file, so a couple's members are found
-/// among its fields where they are asked for: a variant with both ids would make each record larger by half.
+/// A parsed record. Its ids lie in the row. There is one record for each row of a file, so a couple's members are
+/// only found among its fields when they are asked for. A variant with both ids would make each record larger by
+/// half.
 #[derive(Clone, Copy)]
 pub enum Record<'a> {
     Program {
@@ -101,7 +102,7 @@ impl<'a> Record<'a> {
     }
 }
 
-/// A fault of a record: its code and the id at fault, which is empty where there is none.
+/// A fault of a record: its code and the id at fault, which is empty if there is none.
 #[derive(Clone, Copy)]
 pub struct Charge<'a> {
     pub code: u16,
@@ -237,14 +238,14 @@ pub fn withdraw_record<'a>(rules: &Rules, fields: Fields<'a>) -> Result<Record<'
     }
 }
 
-/// Whether a field is the word of a withdrawal, where the version knows withdrawals.
+/// Whether a field is the word of a withdrawal, and the version knows withdrawals.
 pub fn withdraws(rules: &Rules, word: &[u8]) -> bool
     ensures { result ≡ (rules.now.withdrawals && bytes_eq word.now (codes "withdraw")) }
 {
     rules.withdrawals && word == b"withdraw".as_slice()
 }
 
-/// A record taken apart by itself, or its first fault.
+/// A record parsed by itself, or its first fault.
 pub fn record_of<'a>(rules: &Rules, fields: Fields<'a>) -> Result<Record<'a>, Charge<'a>>
     ensures { read_seen result ≡ record_of rules.now (fields_left fields.entry) }
 {

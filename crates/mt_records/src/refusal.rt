@@ -7,8 +7,8 @@ ghost use Rattle.mt_records.specs.declared.refusal.Refusal.TheVariants.{Memory};
 use crate::record::Charge;
 use std::alloc::AllocError;
 
-/// The fault of a file: its code, the number of the record at fault, and the id at fault, which is empty where there
-/// is none.
+/// The fault of a file: its code, the number of the record at fault, and the id at fault, which is empty if there is
+/// none.
 #[derive(Clone, Copy)]
 pub struct Fault<'a> {
     pub code: u16,

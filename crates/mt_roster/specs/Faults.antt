@@ -1,4 +1,4 @@
--- What an error of the roster tells of a file.
+-- What an error of the roster says of a file.
 use Rattle.std.specs.Prelude.{◌≡◌, ◌≤◌, length, Result, Err}
 use Rattle.mt_terms.specs.Market.{Registered}
 use Rattle.mt_terms.specs.Registration.Faults.{Fault}
@@ -7,7 +7,7 @@ use Rattle.mt_roster.specs.declared.fault.RosterError.TheVariants as errors
 use Rattle.mt_records.specs.declared.refusal.Refusal.{Refusal}
 use Rattle.mt_records.specs.declared.refusal.Refusal.TheVariants as refusals
 
--- a fault is the file's first one; want of memory tells nothing
+-- a fault is the file's first one, and want of memory says nothing of the file
 abbrev pub Tells : RosterError → Result Registered Fault → Type 0
 Tells (errors.Fault f) market = market ≡ Err (record { code = f.code; row = f.row; id = f.id })
 Tells errors.Memory market = Unit {0}

@@ -30,7 +30,7 @@ fn no_version<'a>(row: u64) -> Refusal<'a>
     })
 }
 
-/// What follows the record that names a version: the rules of that version, and the rows, of which the first has this
+/// What follows the record that names a version: the rules of that version, and the rows. The first row has this
 /// number.
 #[derive(Clone, Copy)]
 struct Body<'a> {
