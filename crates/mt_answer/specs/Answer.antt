@@ -22,8 +22,8 @@ pub record IsPublished (r : Registered) (places : Places) (received text : List 
   pub is_stable : IsTrue (stable r.market places)
   pub is_text : text ≡ published r.market r.names places received
 
--- after the couples' stage from the best match of the singles: the published text of the match that it ends
--- in, or the refusal where the budget is spent
+-- The answer after the couples' stage from the best match of the singles. It is the published text of the match in
+-- which the stage ends, or the refusal if the budget is spent.
 abbrev pub IsAnswerOfStage : Registered → Places → Option (Places × ℕ) → ℕ → List ℕ → Type 0
 IsAnswerOfStage r best None code text = IsRefusedAlone BUDGET_SPENT code text
 IsAnswerOfStage r best (Some s) code text = (code ≡ 0) × (text ≡ published r.market r.names s.0 (all_proposals r best))

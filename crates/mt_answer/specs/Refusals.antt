@@ -1,4 +1,4 @@
--- What the end of a step of a run is, where that is a refusal.
+-- What the end of a step of a run is, if that is a refusal.
 use Rattle.std.specs.Prelude.{◌≢◌, ℕ, List}
 use Rattle.mt_terms.specs.Text.{IsNamedRefusal, refused}
 use Rattle.mt_terms.specs.declared.codes.TheConstants.{OUT_OF_MEMORY, READ_FAULT}

@@ -33,7 +33,7 @@ fn is_stable<T: Threads + Sync>(
     match verify(rt, alloc, roster, ranks, matched)? {
         Verdict::Stable => Ok(true),
         Verdict::Unlisted(_) | Verdict::Over(_) => Ok(false),
-        // Both kinds of agent are named, so that the proof sees where the type stands.
+        // Both kinds of agent are named, so that the proof sees of which type they are.
         Verdict::Blocks(
             Blocker {
                 agent: Agent::Single(_) | Agent::Couple(_),
@@ -65,7 +65,7 @@ fn with_couples<T: Threads + Sync>(
     }
 }
 
-/// The text of a match, where the verifier calls it stable.
+/// The text of a match, if the verifier calls it stable.
 fn publish<T: Threads + Sync>(
     rt: &T,
     alloc: Global,
@@ -111,8 +111,8 @@ fn answer_by_ranks<T: Threads + Wait + Sync>(
     }
 }
 
-/// The text of the market's match, which is stable: the singles are matched by so many workers, and the couples enter
-/// within the budget. The error is a refusal: the budget is spent, or memory was refused.
+/// The text of the market's match, which is stable. `workers` workers match the singles, and the couples enter within
+/// the budget. The error is a refusal: the budget is spent, or memory was refused.
 pub fn answer_to_market<T: Threads + Wait + Sync>(
     rt: &T,
     alloc: Global,

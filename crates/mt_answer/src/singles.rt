@@ -10,7 +10,7 @@ use std::alloc::{AllocError, Global};
 use std::sync::Wait;
 use std::thread::Threads;
 
-/// What so many workers make of the rank tables. One worker has no need of locks.
+/// What this number of workers makes of the rank tables. One worker has no need of locks.
 fn made_by<T: Threads + Wait + Sync>(
     rt: &T,
     alloc: Global,

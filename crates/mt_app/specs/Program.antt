@@ -21,16 +21,17 @@ pub record IsWritten (text : List ℕ) (old new : Option (List ℕ)) (written : 
   pub within : written ≤ length text
   pub all : IsTrue whole → written ≡ length text
 
--- The program wrote a text, or its first bytes, and ends with this status where all of it was written, and with that
--- one where it wasn't.
+-- The program wrote a text, or its first bytes. It ends with the one status if all of the text was written, and with
+-- the other if it wasn't.
 pub record IsTold (text : List ℕ) (done undone : ℕ) (old new : Option (List ℕ)) (status : ℕ) : Type 0 where
   pub written : ℕ
   pub whole : Bool
   pub is_written : IsWritten text old new written whole
   pub is_status : status ≡ (if whole then done else undone)
 
--- what an exit status says of the words of the command line: 64 that they break the usage; 2 and 3 that the command
--- takes them; 0 that it does, or that they ask for help or the version; 4 and 5 nothing
+-- What an exit status says of the words of the command line. Status 64 says that they break the usage. Statuses 2 and
+-- 3 say that the command takes them. Status 0 says that it takes them, or that they ask for help or the version.
+-- Statuses 4 and 5 say nothing of them.
 pub record IsExitFor (words : List (List ℕ)) (status : ℕ) : Type 0 where
   pub known : IsTrue (has (0 ∷ 2 ∷ 3 ∷ 4 ∷ 5 ∷ 64 ∷ []) status)
   pub misuse : status ≡ 64 → IsMisuse words

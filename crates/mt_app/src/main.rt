@@ -116,7 +116,7 @@ fn words_in(said: &str) -> &str {
     }
 }
 
-/// Says why a file can't be opened, in the system's words. Where there is no memory for the line, it says nothing.
+/// Says why a file can't be opened, in the system's words. If there is no memory for the line, it says nothing.
 fn say_why<W: Write>(drain: &mut Drain<W>, alloc: Global, path: &str, error: &io::Error)
     requires { failures_of drain.old + 1 < 2 ^ 64 }
 {

@@ -1,7 +1,7 @@
--- The command line `nrmatch [FILE] [--workers N] [--budget N]`: a simple command in the terms of the crate `clap`, and what
--- its words ask for. Which words the command takes, what it reads of them, defaults included, and how it refuses others
--- is `clap`'s own definition of a simple command: `takes`, `matches_of` and `fault_of`. The command, its limits and its
--- defaults are this project's own.
+-- The command line `nrmatch [FILE] [--workers N] [--budget N]`: a simple command in the terms of the crate `clap`,
+-- and what its words ask for. Three things are `clap`'s own definition of a simple command. `takes` is which words
+-- the command takes. `matches_of` is what it reads of them, defaults included. `fault_of` is how it refuses others.
+-- The command, its limits and its defaults are this project's own.
 use Rattle.std.specs.Prelude.{◌≡◌, ◌≢◌, ◌≤◌, ℕ, Bool, true, List, [], ◌∷◌, Option, Some, ⊤}
 use Rattle.std.specs.Prelude.{option_map, codes, pos, map, String, string_bytes}
 use Rattle.std.specs.Global.{Global}

@@ -6,9 +6,9 @@ use thiserror::Error;
 pub enum Asked {
     /// A run of the match.
     Run {
-        /// The path of the input. Where there is none, the input is the standard input.
+        /// The path of the input. If there is none, the input is the standard input.
         file: Option<String>,
-        /// What the run is told besides its input: 1 to 64 workers, and a budget of at least 1.
+        /// The options of the run: 1 to 64 workers, and a budget of at least 1.
         options: Options,
     },
     /// The help text, which goes to the standard output.

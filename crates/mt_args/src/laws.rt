@@ -2,8 +2,8 @@
 
 ghost use Rattle.mt_args.specs.Laws.{HelpIsNotTaken, RefusalIsExact};
 
-/// `clap` has a definition of which words a command takes and one of the kinds of error at the others. For this
-/// command they agree: words that are taken have no kind of error, and all others have exactly one.
+/// `clap` has two definitions: which words a command takes, and the kinds of error at the others. For this command
+/// they agree: words that are taken have no kind of error, and all others have exactly one.
 pub fn refusal_is_exact()
     ensures { RefusalIsExact }
 {}

@@ -12,12 +12,12 @@ use clap::{ArgMatches, Error};
 use mt_terms::Options;
 use std::alloc::{AllocError, Global};
 
-/// What the words after the program's name ask for, by `clap`'s definition of a simple command: where the command
-/// `nrmatch [FILE] [--workers N] [--budget N]` takes the words, the file and the options that they name, or the
-/// defaults, and else `clap`'s text of help, of the version or of what is wrong.
+/// What the words after the program's name ask for, by `clap`'s definition of a simple command. The command is
+/// `nrmatch [FILE] [--workers N] [--budget N]`. If it takes the words, the result is the file and the options that
+/// they name, or the defaults. If it doesn't, the result is `clap`'s text of help or of the version.
 ///
-/// `AskEnd::Usage` comes where the words aren't taken and ask for neither help nor the version, and `AskEnd::Memory`
-/// where memory was refused.
+/// `AskEnd::Usage` has `clap`'s text of what is wrong, if the words ask for neither. `AskEnd::Memory` comes if memory
+/// was refused.
 pub fn asked(alloc: Global, words: &[String]) -> Result<Asked, AskEnd>
     ensures taken { IfOk result (λ a. IfRun a (λ _ _. is_taken (texts_of words.now) ≡ true)) }
     ensures file { IfOk result (λ a. IfRun a (λ file _. file ≡ file_of (texts_of words.now))) }

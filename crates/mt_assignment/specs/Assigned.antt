@@ -61,7 +61,7 @@ pair_of s c pair = couple_placement (couple_of s.market c).first (couple_of s.ma
 abbrev pub AreListed : Market → Places → Type 0
 AreListed m places = (a p : ℕ) → at places p a ≡ true → has (program_of m p).ranking a ≡ true
 
--- whoever is sent to a program is on the program's list
+-- each applicant sent to a program is on the program's list
 abbrev pub AreSentToLists : Market → Placement → Type 0
 AreSentToLists m sent = (s : ℕ × Option ℕ) (p : ℕ) → Contains sent s → s.1 ≡ Some p → has (program_of m p).ranking s.0 ≡ true
 

@@ -10,8 +10,8 @@ use Rattle.mt_assignment.specs.declared.assignment.Assignment.TheInside.{Inside}
 abbrev pub assigned_of : Inside → Assigned
 assigned_of t = record { market = t.roster.now.market; places = t.places.items }
 
--- The rank tables are those of the market, each applicant has one place, at a program that lists it, and for each
--- program there are the ranks of those that are placed there.
+-- The rank tables are those of the market. Each applicant has one place, at a program that lists it. Each program has
+-- the ranks of the applicants that are placed there.
 pub record AreTables (t : Inside) : Type 0 where
   pub is_registration : IsRegistration t.roster.now
   pub one_market : t.ranks.now ≡ ranked_of t.roster.now.market

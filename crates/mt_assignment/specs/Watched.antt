@@ -41,7 +41,7 @@ pub record AreUnwatched (m : Market) (rows : List (List Bool)) : Type 0 where
   pub one_each : length rows ≡ length m.programs
   pub none : (p r : ℕ) → ranks_at rows p r ≡ false
 
--- an applicant is watched at a program that lists it where it wants that more than what it has, and nowhere else
+-- an applicant is watched at a program that lists it if it wants that more than what it has, and at no other
 abbrev pub IsWatched : Assigned → List (List Bool) → ℕ → Type 0
 IsWatched s rows a = (p r : ℕ) → p < length s.market.programs → rank_of s.market p a ≡ Some r → ranks_at rows p r ≡ has (wanted s a) p
 
@@ -55,7 +55,7 @@ pub record AreWatched (s : Assigned) (rows : List (List Bool)) : Type 0 where
 abbrev pub IsWithinList : Market → List (List Bool) → ℕ → Type 0
 IsWithinList m rows a = (p r : ℕ) → p < length m.programs → rank_of m p a ≡ Some r → ranks_at rows p r ≡ true → has (list_of m a) p ≡ true
 
--- whoever isn't one of these is watched where it was
+-- each applicant that isn't one of these is watched where it was
 abbrev pub KeepsOthers : Market → List (List Bool) → List (List Bool) → List ℕ → Type 0
 KeepsOthers m old new xs = (b p r : ℕ) → has xs b ≡ false → p < length m.programs → rank_of m p b ≡ Some r → ranks_at new p r ≡ ranks_at old p r
 

@@ -42,8 +42,8 @@ fn most_placed(quota: u32, listed: usize) -> usize {
     listed.min((quota as usize).saturating_add(2))
 }
 
-/// Watches the applicant at the programs of its live list before its place, or at all where that isn't on it. The result
-/// is its rank at its place, where that was found on the way.
+/// Watches the applicant at the programs of its live list before its place, or at all of them if its place isn't on
+/// it. The result is its rank at its place, if that was found on the way.
 fn watch_wanted(
     ranks: &Ranks<'_>,
     applicant: AppNo,
@@ -68,7 +68,7 @@ fn watch_wanted(
 }
 
 /// The applicant's rank on a program's list, which may have been found before. A single that is placed there has it
-/// among its live entries, mostly near the front; where they don't have it, it is looked up.
+/// among its live entries, mostly near the front. If they don't have it, the list is asked.
 fn placed_rank(
     ranks: &Ranks<'_>,
     program: ProgNo,
@@ -86,8 +86,8 @@ fn placed_rank(
     }
 }
 
-/// The applicant's rank on a program's list. A single that moves has it among its live entries, which were gone through
-/// a moment ago, mostly near the front; where they don't have it, it is looked up.
+/// The applicant's rank on a program's list. A single that moves has the program among its live entries, mostly near
+/// the front, and these were read a moment ago. If they don't have it, the list is asked.
 fn live_rank(ranks: &Ranks<'_>, program: ProgNo, applicant: AppNo) -> Option<u32>
     requires program { program < length ranks.now.market.programs }
     requires applicant { applicant < applicants ranks.now.market }
@@ -101,9 +101,9 @@ fn live_rank(ranks: &Ranks<'_>, program: ProgNo, applicant: AppNo) -> Option<u32
     ranks.rank(program, applicant)
 }
 
-/// For each program the ranks of those that are placed there, as a set; and the singles are watched at the programs that
-/// they want more than what they have. Each applicant is asked where it is, and its live list is gone through once up to
-/// there; no program's list is.
+/// The set of the ranks that are placed at each program. The singles are also watched at the programs that they want
+/// more than what they have. Each applicant is asked where it is, and its live list is read once up to there. No
+/// program's list is read.
 fn placed_ranks(
     alloc: Global,
     roster: &Roster,
@@ -348,7 +348,7 @@ impl<'a> Assignment<'a> {
         }
     }
 
-    /// Whether fewer than so many of those at the program have a rank below this one.
+    /// Whether fewer than `most` of those at the program have a rank below this one.
     pub(crate) fn has_fewer_ahead(&self, program: ProgNo, rank: u32, most: usize) -> bool
         requires { program < length self.now.market.programs }
         ensures fewer { result ≡ nat_lt (ahead self.now program rank) most }

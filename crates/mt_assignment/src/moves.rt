@@ -105,7 +105,7 @@ impl<'a> Assignment<'a> {
         Ok(())
     }
 
-    /// Adds the programs that members of the agents of these applicants are at, where they are chosen.
+    /// Adds the programs that members of the agents of these applicants are at, if they are chosen there.
     pub(crate) fn add_left_by_partners(
         &self,
         displaced: &[AppNo],
@@ -127,9 +127,9 @@ impl<'a> Assignment<'a> {
         Ok(())
     }
 
-    /// Sends each applicant to its place, as an agent's option says that would be taken, and takes out the agents of
-    /// those that are displaced by it (Roth and Peranson 1999). The error is want of memory; some may have been sent
-    /// then.
+    /// Sends each applicant to its place, as an agent's option says that would be taken. It takes out the agents of
+    /// those that are displaced by it (Roth and Peranson 1999). The error is want of memory, and some may have been
+    /// sent then.
     pub fn move_to(
         &mut self,
         alloc: Global,

@@ -182,8 +182,7 @@ impl<'a> Assignment<'a> {
         pairs
     }
 
-    /// The pair that the couple takes: the first that would be taken of those on its list before its own, which are
-    /// so many.
+    /// The pair that the couple takes: the first of the `better` pairs before its own that would be taken.
     pub fn first_pair(&self, couple: CoupleNo, better: usize) -> Option<Pair>
         requires couple { couple < length self.now.market.couples }
         requires better { better ≡ length (better_pairs self.now couple) }

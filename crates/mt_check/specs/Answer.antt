@@ -32,7 +32,7 @@ finding_answer r finding = record { code = finding_code finding; text = finding_
 abbrev pub fault_answer : Source → Fault → Answer
 fault_answer file f = record { code = f.code; text = refused_line file f.code f.row f.id }
 
--- the answer by what is told of a market, and by the market
+-- the answer that a match gives, read or refused, beside its market
 abbrev pub told_answer : Registered → Result Told Fault → Answer
 told_answer r (Ok told) = finding_answer r (finding_of r.market told)
 told_answer r (Err f) = fault_answer Match f
@@ -49,11 +49,11 @@ answer_to market_bytes match_bytes = market_answer (market_in market_bytes) matc
 abbrev pub IsAnswer : List ℕ → List ℕ → ℕ → List ℕ → Type 0
 IsAnswer market_bytes match_bytes code text = answer_to market_bytes match_bytes ≡ record { code = code; text = text }
 
--- these are the bytes that a reader had left, where it tells them
+-- these are the bytes that a reader had left, if it tells them
 abbrev pub AreLeft : Option (List ℕ) → List ℕ → Type 0
 AreLeft left bytes = IfSome left (λ xs. bytes ≡ xs)
 
--- something is so of the bytes that two readers had left, or of some bytes where they don't tell them
+-- something is so of the bytes that two readers had left, or of some bytes if they don't tell them
 pub record OfLeft (P : List ℕ → List ℕ → ℕ → List ℕ → Type 0) (market told : Option (List ℕ)) (code : ℕ) (text : List ℕ) : Type 0 where
   pub market_bytes : List ℕ
   pub market_left : AreLeft market market_bytes
@@ -61,15 +61,15 @@ pub record OfLeft (P : List ℕ → List ℕ → ℕ → List ℕ → Type 0) (m
   pub match_left : AreLeft told match_bytes
   pub is_so : P market_bytes match_bytes code text
 
--- the bytes that a reader had left are those of a market, or some bytes are where it doesn't tell them
+-- The bytes that a reader had left are those of a market. If the reader doesn't tell them, some bytes are.
 pub record Stands (market : Option (List ℕ)) : Type 0 where
   pub bytes : List ℕ
   pub are_left : AreLeft market bytes
   pub registered : Registered
   pub is_market : market_in bytes ≡ Ok registered
 
--- The files come in turn: a refusal names the market where no read of the match was made, and the match where the market
--- stands.
+-- The files come in turn. A refusal names the market if no read of the match was made, and the match if the market
+-- was read without a fault.
 abbrev pub IsInTurn : Option (List ℕ) → ℕ → Source → Type 0
 IsInTurn market reads Market = reads ≡ 0
 IsInTurn market reads Match = Stands market
@@ -78,10 +78,10 @@ IsInTurn market reads Match = Stands market
 abbrev pub RisesAtMost : ℕ → ℕ → ℕ → Type 0
 RisesAtMost most old new = (old ≤ new) × (new ≤ old + most)
 
--- What a check did that made this number of reads of the match: it appended the first bytes of a line, all of it where
--- the writer didn't fail. The line says what is so of the match that is told, where the code is 0 or 1, and else it is one named
--- refusal line, of the file whose turn it is; and but for want of memory and a read that failed it is the answer to the
--- bytes that were there to read.
+-- What a check did that made this number of reads of the match. It appended the first bytes of a line, and all of it
+-- if the writer didn't fail. If the code is 0 or 1, the line says what is so of the match that was read. Any other
+-- code has one named refusal line, of the file whose turn it is. But for want of memory and a read that failed, the
+-- line is the answer to the bytes that were there to read.
 pub record Answers (market told : Option (List ℕ)) (reads : ℕ) (old new : Option (List ℕ)) (code written : ℕ) (whole : Bool) : Type 0 where
   pub text : List ℕ
   pub appended : Appends old new (take written text)

@@ -1,4 +1,4 @@
--- What there is to say of a match that is told: the first finding, by the places and then by the counts.
+-- The finding on a match that was read: the first one, by the places and then by the counts.
 use Rattle.std.specs.Prelude.{◌≡◌, ℕ, ◌<◌, ◌-◌, Bool, not, ◌&&◌, ◌==◌, nat_lt, List, length, find, Option, Some, None, option_map, IsTrue}
 use Rattle.mt_terms.specs.Market.{Market, applicants, program_of}
 use Rattle.mt_terms.specs.Matching.{Places, filled, options}
@@ -29,7 +29,7 @@ first_differing_of m places counts = option_map (λ c. Counted.row c) (find (λ 
 abbrev pub first_differing : Market → Told → Option ℕ
 first_differing m told = first_differing_of m told.places told.counts
 
--- the finding: the verdict on the places, and where they are stable the first record that says other counts
+-- the finding: the verdict on the places, and if they are stable the first record that has other counts
 abbrev pub finding_by : Verdict → Option ℕ → Finding
 finding_by Stable None = Of Stable
 finding_by Stable (Some row) = Differs row
@@ -40,9 +40,10 @@ finding_by (Blocks b) differing = Of (Blocks b)
 abbrev pub finding_of : Market → Told → Finding
 finding_of m told = finding_by (verdict_of m told.places) (first_differing m told)
 
--- What a finding says: that the match is stable and no record says other counts; that it is stable, and which record is
--- the first that does; or what the verdict says, the first applicant with a place that isn't allowed, the first program
--- over its quota, or the first agent that blocks with its first option that would be taken.
+-- What a finding says. `Of Stable` says that the match is stable and no record has other counts. `Differs` says that
+-- it is stable, and which record is the first with other counts. Each other finding is the verdict: the first place
+-- that isn't allowed, the first program over its quota, or the first agent that blocks. An agent that blocks is named
+-- with its first option that would be taken.
 abbrev pub FindingSays : Market → Told → Finding → Type 0
 FindingSays m told (Of Stable) = IsTrue (stable m told.places) × (first_differing m told ≡ None)
 FindingSays m told (Of (Unlisted a)) = VerdictSays m told.places (Unlisted a)

@@ -36,9 +36,9 @@ market_in bytes = of_bytes market_of bytes
 abbrev pub told_in : Registered → List ℕ → Result Told Fault
 told_in r bytes = of_bytes (told_by r) bytes
 
--- The bytes are a market and a match that is told of it, and the line says what is so of that match: it is that of a
--- stable match exactly where the match is stable by the market's lists and no record says other counts; and else it is
--- that of the first finding.
+-- The bytes are a market and a match of its applicants, and the line says what is so of that match. The line is that
+-- of a stable match exactly if the match is stable by the market's lists and no record has other counts. Otherwise it
+-- is the line of the first finding.
 pub record IsJudged (market_bytes match_bytes : List ℕ) (code : ℕ) (text : List ℕ) : Type 0 where
   pub registered : Registered
   pub of_market : market_in market_bytes ≡ Ok registered
@@ -50,8 +50,8 @@ pub record IsJudged (market_bytes match_bytes : List ℕ) (code : ℕ) (text : L
   pub stable : (text ≡ stable_line) ↔ (IsTrue (stable registered.market told.places) × (first_differing registered.market told ≡ None))
   pub ends : (code ≡ 0) ↔ (text ≡ stable_line)
 
--- What a refusal line may say of a file: a code of its refusals; an id or none; and neither a record nor an id where
--- the code is no fault of its records.
+-- What a refusal line may say of a file. The code is one of the file's refusals, and the id is an id or none. If the
+-- code is no fault of a record, the line names neither a record nor an id.
 pub record IsNamedRefusal (file : Source) (code row : ℕ) (id : Bytes) : Type 0 where
   pub known : IsTrue (is_code_of file code)
   pub is_id : IsTrue (is_none_or_id id)

@@ -8,7 +8,8 @@ use Rattle.mt_check.specs.declared.source.Source.TheVariants.{Market, Match}
 abbrev pub is_end_code : ℕ → Bool
 is_end_code code = nat_le code 1 || is_code_of Market code || is_code_of Match code
 
--- 0: stable and wholly written; 1: a finding; 2: a file was refused; 4: want of memory; 5: a read or a write failed
+-- The exit status: 0 for a stable match that was wholly written, 1 for a finding, and 2 for a refused file. Want of
+-- memory gives 4, and a failed read or write gives 5.
 abbrev pub status_of : ℕ → Bool → ℕ
 status_of code whole =
     if not whole then 5

@@ -8,14 +8,14 @@ pub struct Checked {
     pub code: u16,
     /// How many bytes of the line were written.
     pub written: u64,
-    /// Whether the whole line was written. Where it wasn't, the writer failed.
+    /// Whether the whole line was written. If it wasn't, the writer failed.
     pub whole: bool,
 }
 
 impl Checked {
-    /// The exit status of the program: 0 for a match that is stable and whose counts fit, 1 for a finding, 2 where a
-    /// file was refused, 4 at want of memory, and 5 where a read or a write failed. A failure of the writer decides
-    /// where it applies.
+    /// The exit status of the program. Status 0 is a match that is stable and whose counts agree with it, 1 a
+    /// finding, and 2 a file that was refused. Status 4 is want of memory, and 5 a read or a write that failed. If
+    /// the writer failed, the status is 5 whatever the code.
     pub fn status(&self) -> u8
         requires { IsTrue (is_end_code self.now.code) }
         ensures { result ≡ status_of self.now.code self.now.whole }

@@ -3,10 +3,10 @@ ghost use Rattle.mt_check.specs.Answer.{finding_code};
 
 use mt_terms::Verdict;
 
-/// What there is to say of a match that is told: that it is stable and its counts fit it, or the first finding.
+/// The finding on a match: that it is stable and its counts agree with it, or the first fault.
 #[derive(Clone, Copy)]
 pub enum Finding {
-    /// What the verifier says of the places; where it is that they are stable, the counts fit them too.
+    /// What the verifier says of the places. If it says that they are stable, the counts agree with them too.
     Of(Verdict),
     /// The places are stable, and the record with this number is the first that says another count.
     Differs(u64),

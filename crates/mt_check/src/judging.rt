@@ -12,7 +12,7 @@ use mt_verify::verify;
 use std::alloc::{AllocError, Global};
 use std::thread::Threads;
 
-/// What there is to say of a match that is told.
+/// The finding on a match of the market.
 pub(crate) fn judge<T: Threads + Sync>(
     rt: &T,
     alloc: Global,

@@ -7,8 +7,8 @@ pub fn one_answer()
     ensures { OneAnswer }
 {}
 
-/// An answer says that a match is stable, and that its counts fit it, exactly where both are so; or it is the line of
-/// the first finding; or one named refusal line.
+/// An answer says that a match is stable and its counts agree with it exactly if both are so. Any other answer is the
+/// line of the first finding, or one named refusal line.
 pub fn answers_are_so()
     ensures { AnswersAreSo }
 {}

@@ -98,8 +98,8 @@ fn source_word(source: Source) -> &'static [u8]
     }
 }
 
-/// The one line of a refusal: its code and name, the file, the number of the record at fault there, 0 where there is
-/// none, and the id at fault. An empty id is absent, and prints as `-`.
+/// The one line of a refusal. It has the code and its name, the file, and the number of the record at fault, or 0 if
+/// there is none. The id at fault comes last. An empty id is absent, and prints as `-`.
 pub fn refused(source: Source, code: u16, row: u64, id: &[u8]) -> RefusalLine
     requires known { IsTrue (is_code_of source code) }
     requires short { length id.now ≤ 64 }

@@ -96,7 +96,7 @@ fn told_in(alloc: Global, bytes: &[u8], roster: &Roster) -> Result<ToldMatch, Re
     }
 }
 
-/// The market that a reader gives, or its refusal. The bytes are let go once the roster stands.
+/// The market that a reader gives, or its refusal. The bytes are freed once the roster is complete.
 fn read_market<T: Threads + Sync, R: Read>(
     rt: &T,
     alloc: Global,
@@ -115,7 +115,7 @@ fn read_market<T: Threads + Sync, R: Read>(
     }
 }
 
-/// The match that a reader gives, or its refusal. The bytes are let go once the match is told.
+/// The match that a reader gives, or its refusal. The bytes are freed once the match is read.
 fn read_match<S: Read>(
     alloc: Global,
     tap: &mut Tap<S>,
@@ -135,7 +135,7 @@ fn read_match<S: Read>(
     }
 }
 
-/// The finding on a match that is told, with its line.
+/// The finding on a match, with its line.
 fn found<T: Threads + Sync>(
     rt: &T,
     alloc: Global,
@@ -205,7 +205,7 @@ fn answer_by<T: Threads + Sync, S: Read>(
     }
 }
 
-/// The answer to a market and a match that two readers give. The match is read once the market stands.
+/// The answer to a market and a match that two readers give. The match is read once the market is complete.
 fn answer<T: Threads + Sync, R: Read, S: Read>(
     rt: &T,
     alloc: Global,
@@ -235,9 +235,10 @@ fn answer<T: Threads + Sync, R: Read, S: Read>(
     }
 }
 
-/// The whole check: reads a market and a match, and writes one line: that the match is stable by the market's lists and
-/// its counts fit it, or the first finding against it, or a refusal of one of the files. The market is read and judged
-/// first, and a market that is refused leaves the match unread. The line is complete before the first byte is written.
+/// The whole check: reads a market and a match, and writes one line. The line says that the match is stable by the
+/// market's lists and that its counts agree with it, or names the first finding against it. If a file is refused, the
+/// line names the refusal. The market is read and judged first, and a market that is refused leaves the match unread.
+/// The line is complete before the first byte is written.
 pub fn check<T: Threads + Sync, R: Read, S: Read, W: Write>(
     rt: &T,
     alloc: Global,

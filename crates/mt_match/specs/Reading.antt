@@ -12,7 +12,7 @@ use Rattle.mt_match.specs.declared.line.Line.{Line}
 use Rattle.mt_match.specs.declared.line.Line.TheVariants.{Head, Place, Counts}
 use Rattle.mt_match.specs.declared.so_far.SoFar as code
 
--- what a record tells fits so many applicants: an applicant's number is below
+-- a record fits this number of applicants: an applicant's number in it is below
 abbrev pub FitsInto : ℕ → Line → Type 0
 FitsInto n Head = Unit {0}
 FitsInto n (Place a place) = a < n
@@ -23,7 +23,7 @@ abbrev pub Gives : Result Told MatchError → Result Told Fault → Type 0
 Gives (Ok told) defined = defined ≡ Ok told
 Gives (Err e) defined = Tells e defined
 
--- After a record the reading goes on from what is told then, or it ends with the fault that was returned, whatever
+-- After a record the reading goes on from what was read up to it, or ends with the fault that was returned, whatever
 -- follows.
 abbrev pub Reads : {Y : Type 0} → Names → SoFar → SoFar → Numbered (List Bytes) → Result Y MatchError → Type 0
 Reads names old new row (Ok _) = (rest : List (Numbered (List Bytes))) → all_told names old (row ∷ rest) ≡ all_told names new rest
@@ -34,7 +34,7 @@ abbrev pub ReadsRow : {Y : Type 0} → Names → SoFar → SoFar → ℕ → Lis
 ReadsRow names old new n row (Ok _) = (rest : List (List Bytes)) → all_told names old (numbered_from n (row ∷ rest)) ≡ all_told names new (numbered_from (n + 1) rest)
 ReadsRow names old new n row (Err e) = (rest : List (List Bytes)) → Tells e (all_told names old (numbered_from n (row ∷ rest)))
 
--- What the whole reading gives: what is told, of so many applicants, or the first fault.
+-- What the whole reading gives: the places and counts of this number of applicants, or the first fault.
 abbrev pub GivesSoFar : Result code.SoFar MatchError → Result SoFar Fault → Type 0
 GivesSoFar (Ok s) told = told ≡ Ok (told_so_far s)
 GivesSoFar (Err e) told = Tells e told

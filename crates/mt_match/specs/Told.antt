@@ -1,4 +1,4 @@
--- What the records of a match tell, whoever wrote them, or their first fault. (This project's own format.)
+-- What the records of a match say, whatever program wrote them, or their first fault. (This project's own format.)
 use Rattle.std.specs.Prelude.{ℕ, Bool, not, ◌&&◌, ◌==◌, nat_lt, nat_le, List, [], ◌∷◌, ◌++◌, map, length, position, replicate, slice_index, slice_index_or, slice_set, Option, Some, None, is_some, ok_or, option_map, Result, Ok, Err, codes, bytes_eq, if◌then◌else◌}
 use Rattle.std.specs.Char.{is_ascii_digit}
 use Rattle.std.specs.List.{list_all}
@@ -22,16 +22,16 @@ pub record Told : Type 0 where
   pub places : Places
   pub counts : List Counted
 
--- what some records told: for each applicant, by number, its place, where one of them told it; and the counts
+-- what some records said: the counts, and for each applicant, by number, its place if one of them said it
 pub record SoFar : Type 0 where
   pub places : List (Option (Option ℕ))
   pub counts : List Counted
 
--- an id that may be told, and nothing where a field is none
+-- an id that may be shown, and nothing if a field is none
 abbrev pub shown : Bytes → Bytes
 shown field = if is_id LIMITS_2.id_bytes field then field else []
 
--- a fault at a field, which is told where it is an id
+-- a fault at a field, with the field as its id if it is one
 abbrev pub charge_at : ℕ → Bytes → Charge
 charge_at code field = charge code (shown field)
 
@@ -103,7 +103,7 @@ line_of names places (word ∷ fields) =
     else if bytes_eq word (codes "match") then head_line (two_of fields)
     else Err (charge_alone OTHER_RECORD)
 
--- what is told after one record more, which has this number
+-- what the records say with one more, which has this number
 abbrev pub after : ℕ → SoFar → Line → SoFar
 after n before Head = before
 after n before (Place a place) = record before { places = slice_set before.places a (Some place) }
@@ -117,7 +117,7 @@ abbrev pub all_told : Names → SoFar → List (Numbered (List Bytes)) → Resul
 all_told names before [] = Ok before
 all_told names before (row ∷ rows) = and_then (next_told names before row) (λ s. all_told names s rows)
 
--- before the first record nothing is told of so many applicants
+-- before the first record no applicant, of this number of them, has a place
 abbrev pub nothing_told : ℕ → SoFar
 nothing_told n = record { places = replicate n None; counts = [] }
 
@@ -125,7 +125,7 @@ nothing_told n = record { places = replicate n None; counts = [] }
 abbrev pub first_unplaced : SoFar → Option ℕ
 first_unplaced s = position (λ place. not (is_some place)) s.places
 
--- what is told of all applicants, or the fault that this one is told nowhere
+-- the match if each applicant has a place, or the fault that this applicant has none
 abbrev pub match_of : Names → SoFar → Option ℕ → Result Told Fault
 match_of names s (Some a) = Err (fault_at 0 (charge_at NOT_PLACED (name_of names.applicants a)))
 match_of names s None = Ok (record { places = map (λ place. unwrap_or place None) s.places; counts = s.counts })

@@ -11,7 +11,7 @@ pub fn matches_that_are_told()
     ensures places_alone { told_of ("applicant,a2,-" ∷ "" ∷ "applicant,a1,P2" ∷ []) ≡ places_alone (Some 1 ∷ None ∷ []) }
 {}
 
-/// The first fault in the order of the records is told, and in a record the first by the order of the codes.
+/// The fault is the first in the order of the records, and in one record the first by the order of the codes.
 pub fn matches_that_cannot_be_read()
     ensures other_record { told_of ("" ∷ "couple,a1,P1" ∷ []) ≡ at_fault 50 2 "" }
     ensures refusal_line { told_of ("match,1,refused,41,BudgetSpent,0,-" ∷ []) ≡ at_fault 51 1 "" }

@@ -27,7 +27,7 @@ impl From<AllocError> for MatchError {
     }
 }
 
-/// A fault of a record: its code, and the id at fault as it may be told, which is empty where there is none.
+/// A fault of a record: its code, and the id at fault as it may be shown, which is empty if there is none.
 #[derive(Clone, Copy)]
 pub(crate) struct Charge<'a> {
     code: u16,
@@ -35,7 +35,7 @@ pub(crate) struct Charge<'a> {
     ghost short: { length id.now ≤ 64 },
 }
 
-/// A field where it is an id, which may be told, and else nothing.
+/// A field if it is an id, which may be shown, and else nothing.
 fn shown(field: &[u8]) -> &[u8]
     ensures shown { result.now ≡ shown field.now }
     ensures short { length result.now ≤ 64 }
@@ -60,7 +60,7 @@ impl<'a> Charge<'a> {
         Charge { code, id: b"" }
     }
 
-    /// A fault at a field, which is told where it is an id.
+    /// A fault at a field, with the field as its id if it is one.
     pub(crate) fn of(code: u16, field: &'a [u8]) -> Charge<'a>
         ensures { charge_seen result ≡ charge_at code field.now }
     {

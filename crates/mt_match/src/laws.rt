@@ -7,7 +7,7 @@ pub fn faults_are_named()
     ensures { FaultsAreNamed }
 {}
 
-/// A match that is told has one place for each applicant of the market, a program of it or none.
+/// A match that is read has one place for each applicant of the market: a program of the market, or none.
 pub fn tells_places()
     ensures { TellsPlaces }
 {}

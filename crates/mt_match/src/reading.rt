@@ -65,9 +65,9 @@ fn read_rows(alloc: Global, ids: &Ids<'_>, rows: RowsIter<'_>) -> Result<SoFar, 
     Ok(so_far)
 }
 
-/// The match that the records of a text tell: a place for each applicant of the market, and the counts, whoever wrote
-/// them; or their first fault. A record is a list of fields without its trailing empty ones; records are counted from
-/// 1, and one without a field is passed over.
+/// The match that the records of a text say, whatever program wrote them: a place for each applicant of the market,
+/// and the counts. The error is their first fault, or want of memory. A record is a list of fields without its
+/// trailing empty ones. Records are counted from 1, and one without a field is passed over.
 pub fn told(alloc: Global, rows: &Rows<'_>, roster: &Roster) -> Result<ToldMatch, MatchError>
     ensures told { IfOk result (λ told. told_by roster.now rows.now ≡ Ok told) }
     ensures places { IfOk result (λ told. ArePlaces roster.now.market told.places) }

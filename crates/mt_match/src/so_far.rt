@@ -13,7 +13,7 @@ use mt_market::Roster;
 use mt_terms::{AppNo, Match, Places, ProgNo};
 use std::alloc::{AllocError, Global};
 
-/// What some records told: for each applicant, by number, its place, where one of them told it; and the counts.
+/// What some records said: the counts, and for each applicant, by number, its place if one of them said it.
 #[derive(Drop)]
 pub(crate) struct SoFar {
     pub(crate) places: Vec<Option<Option<ProgNo>>>,
@@ -51,7 +51,7 @@ impl SoFar {
         self.places.iter().position(|place| place.is_none())
     }
 
-    /// The places of all applicants, where each has one.
+    /// The places of all applicants. An applicant whose place no record said has none.
     fn all_places(&self, alloc: Global) -> Result<Vec<Option<ProgNo>>, AllocError>
         ensures { IfOk result (λ v. v.items ≡ map (λ place. unwrap_or place None) self.now.places.items) }
     {
@@ -62,7 +62,7 @@ impl SoFar {
         Ok(places)
     }
 
-    /// The match that is told, where each applicant has its place.
+    /// The match, if each applicant has its place. The error is the first applicant that has none, or want of memory.
     pub(crate) fn into_match(self, alloc: Global, roster: &Roster) -> Result<ToldMatch, MatchError>
         requires { length self.places.items ≡ applicants roster.now.market }
         ensures { Gives result (match_of roster.now.names (told_so_far self) (first_unplaced (told_so_far self))) }

@@ -17,8 +17,8 @@ pub record IsCheck (market matched old new : Option (List ℕ)) (status : ℕ) :
   pub answers : Answers market matched reads old new code written whole
   pub is_status : status ≡ status_of code whole
 
--- The program wrote a text, or its first bytes, and ends with this status where all of it was written, and with that
--- one where it wasn't.
+-- The program wrote a text, or its first bytes. It ends with the one status if all of the text was written, and with
+-- the other if it wasn't.
 pub record IsTold (text : List ℕ) (done undone : ℕ) (old new : Option (List ℕ)) (status : ℕ) : Type 0 where
   pub written : ℕ
   pub whole : Bool
@@ -27,8 +27,9 @@ pub record IsTold (text : List ℕ) (done undone : ℕ) (old new : Option (List 
   pub all : IsTrue whole → written ≡ length text
   pub is_status : status ≡ (if whole then done else undone)
 
--- what an exit status says of the words of the command line: 64 that they are misuse; 1 and 2 that the command takes
--- them; 0 that it does, or that they ask for help or the version; 4 and 5 nothing
+-- What an exit status says of the words of the command line. Status 64 says that they are misuse. Statuses 1 and 2
+-- say that the command takes them. Status 0 says that it takes them, or that they ask for help or the version.
+-- Statuses 4 and 5 say nothing of them.
 pub record IsExitFor (words : List Text) (status : ℕ) : Type 0 where
   pub known : IsTrue (has (0 ∷ 1 ∷ 2 ∷ 4 ∷ 5 ∷ 64 ∷ []) status)
   pub misuse : status ≡ 64 → AreMisuse words

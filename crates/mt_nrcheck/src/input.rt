@@ -30,7 +30,7 @@ impl<'a> Input<'a> {
         }
     }
 
-    /// Says on standard error why the file couldn't be opened, where a read tried to.
+    /// Says on standard error why the file couldn't be opened, if a read tried to.
     pub(crate) fn say_why(&self) {
         let Some(error) = self.unopened else {
             return;

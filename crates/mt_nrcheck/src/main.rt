@@ -66,7 +66,7 @@ fn check_match<T: Threads + Sync, R: Read + Drop, S: Read + Drop, W: Write>(
     .status()
 }
 
-/// Writes a text, and gives one exit status where it was wholly written, and the other where it wasn't.
+/// Writes a text, and gives the one exit status if it was wholly written, and the other if it wasn't.
 fn tell<W: Write>(drain: &mut Drain<W>, text: &[u8], done: u8, undone: u8) -> u8
     requires { failures_of drain.old + 1 < 2 ^ 64 }
     ensures { IsTold text.now done undone (contents_of W.contents drain.old) (contents_of W.contents drain.new) result }

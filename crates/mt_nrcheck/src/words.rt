@@ -28,8 +28,8 @@ pub(crate) enum Request {
 /// What is said of words that are taken and don't name two files.
 const NO_FILES: &str = "error: two files are needed, MARKET and MATCH\n";
 
-/// What the words after the program's name ask for, by `clap`'s definition of a simple command: a check of the two files
-/// that they name, or `clap`'s text of help, of the version or of what is wrong.
+/// What the words after the program's name ask for, by `clap`'s definition of a simple command. That is a check of
+/// the two files that they name, or `clap`'s text of help, of the version or of what is wrong.
 pub(crate) fn asked(alloc: Global, words: &[String]) -> Result<Request, AllocError>
     ensures { IfOk result (IsAskedBy (texts_of words.now)) }
 {

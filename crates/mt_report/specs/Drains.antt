@@ -1,5 +1,5 @@
--- What a clause reads of a drain: how often its writer failed, whether no byte that it took waits for a flush, and the
--- bytes that the writer holds, where it tells them.
+-- What a clause reads of a drain: how often its writer failed, and whether no byte that it took waits for a flush.
+-- The bytes that the writer holds are known only if the writer tells them.
 use Rattle.std.specs.Prelude.{ℕ, Bool, List, Option}
 use Rattle.mt_report.specs.declared.drain.Drain.{Drain}
 

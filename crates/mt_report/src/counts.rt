@@ -8,7 +8,7 @@ use mt_market::Roster;
 use mt_terms::ProgNo;
 use std::alloc::{AllocError, Global};
 
-/// How many applicants are placed at each program, of so many programs. The only error is want of memory.
+/// How many applicants are placed at each of `programs` programs. The only error is want of memory.
 pub fn filled_counts(
     alloc: Global,
     programs: usize,

@@ -78,7 +78,7 @@ fn code_name(code: u16) -> &'static [u8]
     }
 }
 
-/// An id, or `-` where it is absent.
+/// An id, or `-` if it is absent.
 pub fn id_or_dash(id: &[u8]) -> &[u8]
     ensures text { result.now ≡ id_text id.now }
     ensures short { length id.now ≤ 64 → length result.now ≤ 64 }
@@ -86,7 +86,7 @@ pub fn id_or_dash(id: &[u8]) -> &[u8]
     if id.is_empty() { b"-" } else { id }
 }
 
-/// The one line of a refusal: its code and name, the number of the record at fault, 0 where there is none,
+/// The one line of a refusal. It has the code and its name, the number of the record at fault, or 0 if there is none,
 /// and the id at fault. An empty id is absent, and prints as `-`.
 pub fn refused(code: u16, row: u64, id: &[u8]) -> RefusalLine
     requires known { IsTrue (is_known_code code) }

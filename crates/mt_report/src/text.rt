@@ -9,7 +9,7 @@ use mt_market::Roster;
 use mt_terms::{AppNo, Match, ProgNo};
 use std::alloc::{AllocError, Global};
 
-/// As many bytes as the line of an applicant or a program takes at most where ids are short.
+/// As many bytes as the line of an applicant or a program takes at most if ids are short.
 const LINE_LEN: usize = 32;
 
 /// Adds a comma and a number.
@@ -145,9 +145,9 @@ fn likely_len(roster: &Roster) -> usize {
     (roster.applicants() as usize + roster.programs() as usize) * LINE_LEN
 }
 
-/// The text of a match: every applicant with its place, every program with how many are placed there and how
-/// many proposals of singles it received, and the totals. There is one place for each applicant, each of
-/// them a program of the roster, and one number of proposals for each program.
+/// The text of a match: every applicant with its place, every program, and the totals. A program has how many are
+/// placed there and how many proposals of singles it received. There is one place for each applicant, each of them a
+/// program of the roster, and one number of proposals for each program.
 pub fn published(
     alloc: Global,
     roster: &Roster,

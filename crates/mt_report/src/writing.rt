@@ -14,7 +14,7 @@ pub struct Wrote {
     pub whole: bool,
 }
 
-/// Writes bytes in turns, and stops at the writer's first failure. It flushes once, where all were taken.
+/// Writes bytes in turns, and stops at the writer's first failure. It flushes once, if all were taken.
 pub fn put_all<W: Write>(drain: &mut Drain<W>, bytes: &[u8]) -> Wrote
     requires { failures_of drain.old + 1 < 2 ^ 64 }
     ensures bound { result.written ≤ length bytes.now }

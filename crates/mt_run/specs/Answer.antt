@@ -35,7 +35,7 @@ IsAnswer bytes budget code text =
     MatchBool (nat_lt most_bytes (length bytes)) (IsRefusedAlone TOO_LARGE code text)
     (MatchOption (records_of bytes) (IsRefusedAlone TWO_MARKS code text) (IsAnswerOfRows budget code text))
 
--- the answer to the bytes that a reader had left, or to some bytes where it doesn't tell them
+-- the answer to the bytes that a reader had left, or to some bytes if it doesn't tell them
 abbrev pub IsAnswerTo : Option (List ℕ) → ℕ → ℕ → List ℕ → Type 0
 IsAnswerTo (Some bytes) budget code text = IsAnswer bytes budget code text
 IsAnswerTo None budget code text = (bytes : List ℕ) × IsAnswer bytes budget code text
@@ -44,9 +44,9 @@ IsAnswerTo None budget code text = (bytes : List ℕ) × IsAnswer bytes budget c
 abbrev pub RisesAtMost : ℕ → ℕ → ℕ → Type 0
 RisesAtMost most old new = (old ≤ new) × (new ≤ old + most)
 
--- What a run did: it appended the first bytes of a text, all of it where the writer didn't fail. The text is one
--- named refusal line where the code isn't 0, and that of a stable match where it is; and but for want of memory
--- and a read that failed it is the answer to the bytes that were there to read.
+-- What a run did. It appended the first bytes of a text, and all of it if the writer didn't fail. If the code is 0,
+-- the text is that of a stable match. Any other code has one named refusal line. But for want of memory and a read
+-- that failed, the text is the answer to the bytes that were there to read.
 pub record Answers (left : Option (List ℕ)) (budget : ℕ) (old new : Option (List ℕ)) (code written : ℕ) (whole : Bool) : Type 0 where
   pub text : List ℕ
   pub appended : Appends old new (take written text)

@@ -17,14 +17,14 @@ IsMarketOf bytes r = (rows : List (List (List ℕ))) × (records_of bytes ≡ So
 abbrev pub GivesAtLeast : Market → Places → Places → Type 0
 GivesAtLeast m places other = (a p : ℕ) → IsTrue (at other p a) → IsFalse (has (better_programs m places a) p)
 
--- A match gives each applicant at least what every stable match gives it; and every stable match places the
--- same applicants and equally many at each program, the same ones where a post is free.
+-- A match gives each applicant at least what every stable match gives it. Every stable match places the same
+-- applicants and equally many at each program, and the same ones at a program with a free post.
 pub record IsBestOfAll (m : Market) (places : Places) : Type 0 where
   pub at_least : (other : Places) → IsTrue (stable m other) → GivesAtLeast m places other
   pub fills_alike : (other : Places) → IsTrue (stable m other) → FillsAlike m places other
 
--- The text of a match stable by the lists in the bytes; and where no couple is entered, that match is the
--- best of all stable ones.
+-- The text of a match stable by the lists in the bytes. If no couple is entered, that match is the best of all stable
+-- ones.
 pub record IsStableText (bytes text : List ℕ) : Type 0 where
   pub registered : Registered
   pub of_bytes : IsMarketOf bytes registered
@@ -34,12 +34,12 @@ pub record IsStableText (bytes text : List ℕ) : Type 0 where
   pub is_stable : IsTrue (stable registered.market places)
   pub best : registered.market.couples ≡ [] → IsBestOfAll registered.market places
 
--- the same of the bytes that a reader had left, or of some bytes where it doesn't tell them
+-- the same of the bytes that a reader had left, or of some bytes if it doesn't tell them
 abbrev pub IsStableTextOf : Option (List ℕ) → List ℕ → Type 0
 IsStableTextOf (Some bytes) text = IsStableText bytes text
 IsStableTextOf None text = (bytes : List ℕ) × IsStableText bytes text
 
--- one named refusal line: it tells no record and no id where the code is no fault of a file
+-- one named refusal line: it names no record and no id if the code is no fault of a file
 pub record IsRefusal (code : ℕ) (text : List ℕ) : Type 0 where
   pub row : ℕ
   pub id : List ℕ

@@ -10,8 +10,8 @@ use Rattle.mt_run.specs.Headline.{IsRefusal, IsStableText}
 abbrev pub OneAnswer : Type 0
 OneAnswer = (bytes : List ℕ) (budget c d : ℕ) (text other : List ℕ) → IsAnswer bytes budget c text → IsAnswer bytes budget d other → (c ≡ d) × (text ≡ other)
 
--- what is published is the text of a match stable by the lists in the bytes, and the best of all where no
--- couple is entered
+-- what is published is the text of a match stable by the lists in the bytes, and the best of all if no couple is
+-- entered
 abbrev pub PublishedIsStable : Type 0
 PublishedIsStable = (bytes : List ℕ) (budget : ℕ) (text : List ℕ) → IsAnswer bytes budget 0 text → IsStableText bytes text
 
@@ -21,6 +21,6 @@ PublishedIsNoRefusal =
     (m : Market) (names : Names) (places : Places) (received : List ℕ) (code row : ℕ) (id : List ℕ)
     → published m names places received ≢ refused code row id
 
--- a refusal line is one record of seven fields and no line of an applicant, so no place stands in it
+-- a refusal line is one record of seven fields and no line of an applicant, so it has no place
 abbrev pub RefusalIsOneRecord : Type 0
 RefusalIsOneRecord = (code : ℕ) (text : List ℕ) (r : IsRefusal code text) → IsOneRecord (refusal_fields code r.row r.id) text

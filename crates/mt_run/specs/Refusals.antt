@@ -25,7 +25,7 @@ pub record HasNoCouple (bytes : List ℕ) : Type 0 where
   pub of_bytes : IsRosterOf bytes registered
   pub none : registered.market.couples ≡ []
 
--- Where a reader had such bytes left, a run that ends with this code refused for want of memory or a failed read, or
--- not at all.
+-- If a reader had such bytes left, a run that ends with this code refused for want of memory or a failed read, or not
+-- at all.
 abbrev pub PublishesSingles : Option (List ℕ) → ℕ → Type 0
 PublishesSingles left code = (bytes : List ℕ) → left ≡ Some bytes → HasNoCouple bytes → code ≢ OUT_OF_MEMORY → code ≢ READ_FAULT → code ≡ 0

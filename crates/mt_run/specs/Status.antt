@@ -7,8 +7,8 @@ use Rattle.mt_terms.specs.Text.{is_known_code}
 abbrev pub is_end_code : ℕ → Bool
 is_end_code code = (code == 0) || is_known_code code
 
--- 0: published and wholly written; 2: the input was refused; 3: no match was published; 4: want of memory;
--- 5: a read or a write failed
+-- The exit status: 0 for a match that was wholly written, 2 for a refused input, and 3 if no match was published.
+-- Want of memory gives 4, and a failed read or write gives 5.
 abbrev pub status_of : ℕ → Bool → ℕ
 status_of code whole =
     if not whole then 5

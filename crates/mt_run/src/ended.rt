@@ -8,14 +8,14 @@ pub struct Ended {
     pub code: u16,
     /// How many bytes of the text were written.
     pub written: u64,
-    /// Whether the whole text was written. Where it wasn't, the writer failed.
+    /// Whether the whole text was written. If it wasn't, the writer failed.
     pub whole: bool,
 }
 
 impl Ended {
-    /// The exit status of the program: 0 for a match that was published and wholly written, 2 where the input
-    /// was refused, 3 where no match was published, 4 at want of memory, and 5 where a read or a write failed.
-    /// A failure of the writer decides where it applies.
+    /// The exit status of the program. Status 0 is a match that was published and wholly written, 2 an input that was
+    /// refused, and 3 a run that published no match. Status 4 is want of memory, and 5 a read or a write that failed.
+    /// If the writer failed, the status is 5 whatever the code.
     pub fn status(&self) -> u8
         requires { IsTrue (is_end_code self.now.code) }
         ensures { result ≡ status_of self.now.code self.now.whole }

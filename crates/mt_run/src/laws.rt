@@ -8,8 +8,8 @@ pub fn one_answer()
     ensures { OneAnswer }
 {}
 
-/// A published text is that of a match stable by the lists in the bytes; and where no couple is entered, the
-/// match gives each applicant at least what every stable match gives it.
+/// A published text is that of a match stable by the lists in the bytes. If no couple is entered, the match gives
+/// each applicant at least what every stable match gives it.
 pub fn published_is_stable()
     ensures { PublishedIsStable }
 {}
@@ -24,7 +24,7 @@ pub fn refusal_is_one_record()
     ensures { RefusalIsOneRecord }
 {}
 
-/// Where wishes cross, the match that is best for the programs is stable, and still no answer.
+/// If wishes cross, the match that is best for the programs is stable, and still no answer.
 pub fn program_optimal_is_no_answer()
     ensures { ProgramOptimalIsNoAnswer }
 {}

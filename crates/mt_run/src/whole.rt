@@ -48,7 +48,7 @@ fn roster_of_bytes<T: Threads + Sync>(
     }
 }
 
-/// The answer to bytes that are no more than the limit. They are let go once the roster stands.
+/// The answer to bytes that are no more than the limit. They are freed once the roster is complete.
 fn answer_to_bytes<T: Threads + Wait + Sync>(
     rt: &T,
     alloc: Global,

@@ -15,7 +15,7 @@ blocker m places g = record { agent = g; option = blocking_option m places g }
 abbrev pub leads_blocker : Market → Places → ℕ → Bool
 leads_blocker m places a = leads m a && blocks m places (agent_of m a)
 
--- the agent that an applicant leads, where it leads one and that one blocks
+-- the agent that an applicant leads, if it leads one and that one blocks
 abbrev pub blocker_led_by : Market → Places → ℕ → Option Blocker
 blocker_led_by m places a =
     if leads_blocker m places a then Some (blocker m places (agent_of m a)) else None

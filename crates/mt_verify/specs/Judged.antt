@@ -68,7 +68,7 @@ is_listed_at j p a = has (program_of j.market p).ranking a
 abbrev pub front : Judged → ℕ → ℕ → List ℕ
 front j p rank = take rank (program_of j.market p).ranking
 
--- how many of those at a program stand above a rank on its list
+-- how many of those at a program are above a rank on its list
 abbrev pub count_above : Judged → ℕ → ℕ → ℕ
 count_above j p rank = count (at j.places p) (front j p rank)
 

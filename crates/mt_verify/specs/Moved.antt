@@ -1,4 +1,4 @@
--- Who is at a program where one applicant was moved.
+-- Who is at a program once one applicant was moved.
 use Rattle.std.specs.Prelude.{ℕ, ◌==◌, Option, if◌then◌else◌}
 use Rattle.mt_terms.specs.Lists.{Set}
 use Rattle.mt_terms.specs.Matching.{Places, at, is_program}

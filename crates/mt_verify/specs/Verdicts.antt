@@ -6,6 +6,6 @@ use Rattle.mt_terms.specs.Stability.{stable}
 use Rattle.mt_terms.specs.declared.verdict.Verdict.{Verdict}
 use Rattle.mt_terms.specs.declared.verdict.Verdict.TheVariants.{Stable}
 
--- a verdict is that a match is stable exactly where it is
+-- a verdict is that a match is stable exactly if it is
 abbrev pub TellsStable : Market → Places → Verdict → Type 0
 TellsStable m places verdict = (verdict ≡ Stable) ↔ IsTrue (stable m places)

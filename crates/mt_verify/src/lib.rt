@@ -1,4 +1,5 @@
-//! Whether a match of a residency market is stable, or else the first finding against it, whoever made it.
+//! Whether a match of a residency market is stable, or else the first finding against it. Any program may have made
+//! the match.
 #![tactic(auto)]
 
 ghost use Rattle.std.specs.Prelude.{◌≡◌, IfOk};
@@ -19,13 +20,13 @@ pub use mt_terms::{Blocker, Verdict};
 use std::alloc::{AllocError, Global};
 use std::thread::Threads;
 
-/// Whether a match is stable, or else the first finding against it: an applicant whose place isn't allowed,
-/// by number; then a program over its quota, by number; then an agent that blocks, by the number of the
-/// single or of the couple's first member, with its first better option that would be taken. The match may
-/// be of any maker. The only error is want of memory.
+/// Whether a match is stable, or else the first finding against it. First come applicants whose place isn't allowed,
+/// by number, and then programs over their quotas, by number. Last come agents that block, by the number of the
+/// single or of the couple's first member. Such a finding has the agent's first better option that would be taken.
+/// Any program may have made the match. The only error is want of memory.
 ///
-/// Without couples this is the stability of Gusfield and Irving 1989 for hospitals and residents; how a
-/// couple blocks is this project's own rule.
+/// Without couples this is the stability of Gusfield and Irving 1989 for hospitals and residents. How a couple blocks
+/// is this project's own rule.
 pub fn verify<R: Threads + Sync>(
     rt: &R,
     alloc: Global,

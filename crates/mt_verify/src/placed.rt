@@ -11,7 +11,7 @@ use rayon::prelude::*;
 use std::alloc::{AllocError, Global};
 use std::thread::Threads;
 
-/// Where those that are placed at the program stand on its list, in rising order.
+/// The ranks on the program's list of those that are placed there, in rising order.
 fn placed_at(
     alloc: Global,
     roster: &Roster,
@@ -31,8 +31,8 @@ fn placed_at(
     Ok(ranks)
 }
 
-/// How many programs pay for a thread that goes through their lists: as many as there are for so many applicants
-/// as do. With few programs the lists are long.
+/// How many programs pay for a thread that reads their lists. On average they have the entries that make
+/// `LEAST_APPLICANTS` applicants pay for one. With few programs the lists are long.
 fn least_programs(roster: &Roster) -> usize {
     let programs = roster.programs() as usize;
     let applicants = roster.applicants() as usize;

@@ -21,8 +21,8 @@ use rayon::prelude::*;
 use std::alloc::{AllocError, Global};
 use std::thread::Threads;
 
-/// From twice as many applicants on, the market's are judged side by side. That a thread pays for itself with so
-/// many is an estimate.
+/// From twice as many applicants on, threads judge the market's applicants side by side. That a thread pays for
+/// itself with this number is an estimate.
 pub(crate) const LEAST_APPLICANTS: usize = 1024;
 
 /// A match beside the market that it is judged by, with the ranks of those placed at each program.
@@ -63,7 +63,7 @@ impl<'a> Verifier<'a> {
         })
     }
 
-    /// The applicant's rank on the program's list, its position from 0, where the list has it.
+    /// The applicant's rank on the program's list, its position from 0, if the list has it.
     fn rank(&self, program: ProgNo, applicant: AppNo) -> Option<u32>
         requires program { program < length (judged self.now).market.programs }
         requires applicant { applicant < applicants (judged self.now).market }
@@ -135,8 +135,8 @@ impl<'a> Verifier<'a> {
         Some(AppNo(unlisted))
     }
 
-    /// Whether nothing is found at any applicant: each one's place is allowed, and none leads an agent that blocks. Where
-    /// it is so, which is where the match is stable, threads are started once for both.
+    /// Whether nothing is found at any applicant: each one's place is allowed, and none leads an agent that blocks.
+    /// That is so if the match is stable, and then threads are started once for both.
     fn has_no_finding<R: Threads + Sync>(&self, rt: &R) -> bool
         ensures unlisted { IsTrue result → first_unlisted (judged self.now) ≡ None }
         ensures blocking { IsTrue result → first_blocking (judged self.now) ≡ None }

@@ -51,8 +51,8 @@ impl Verifier<'_> {
         None
     }
 
-    /// The agent that the applicant leads, a single itself and a first member its couple, where it blocks,
-    /// with the first option with which it does.
+    /// The agent that the applicant leads, if that agent blocks, with the first option with which it does. A single
+    /// leads itself, and a first member its couple.
     fn blocker_led_by(&self, applicant: AppNo) -> Option<Blocker>
         requires { applicant < applicants (judged self.now).market }
         ensures { let j = judged self.now in result ≡ blocker_led_by j.market j.places applicant }

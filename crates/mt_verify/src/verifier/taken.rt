@@ -10,7 +10,7 @@ use crate::verifier::Verifier;
 use mt_terms::{AppNo, ProgNo};
 
 impl Verifier<'_> {
-    /// How many of those placed at the program stand above a rank on its list.
+    /// How many of those placed at the program are above a rank on its list.
     fn count_above(&self, program: ProgNo, rank: u32) -> usize
         requires { program < length (judged self.now).market.programs }
         ensures { result ≡ count_above (judged self.now) program rank }
@@ -18,7 +18,7 @@ impl Verifier<'_> {
         count_below(self.placed_at(program), rank)
     }
 
-    /// Whether the applicant stands above a rank on the program's list.
+    /// Whether the applicant is above a rank on the program's list.
     fn is_above(&self, program: ProgNo, applicant: AppNo, rank: u32) -> bool
         requires program { program < length (judged self.now).market.programs }
         requires applicant { applicant < applicants (judged self.now).market }
@@ -51,7 +51,7 @@ impl Verifier<'_> {
         there - usize::from(leaves) + usize::from(comes)
     }
 
-    /// Whether fewer of those placed at the program than its quota stand above a rank on its list.
+    /// Whether fewer of those placed at the program than its quota are above a rank on its list.
     pub(super) fn has_post(&self, program: ProgNo, rank: u32) -> bool
         requires { program < length (judged self.now).market.programs }
         ensures { result ≡ has_post (judged self.now) program rank }
