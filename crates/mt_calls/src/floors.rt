@@ -78,7 +78,7 @@ fn is_chain(singles: &Singles) -> bool {
     is_end_of_chain(singles.matched.places.as_slice()) && is_count
 }
 
-/// Whether so many workers end in the best match.
+/// Whether this number of workers ends in the best match.
 pub fn works<T: Threads + Wait + Sync>(
     rt: &T,
     alloc: Global,

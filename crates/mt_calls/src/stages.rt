@@ -110,7 +110,7 @@ pub fn publishes<T: Threads + Sync>(rt: &T, alloc: Global) -> Result<bool, Sampl
     publishes_on(alloc, &roster)
 }
 
-/// Whether a market with couples is answered with its text, where so many workers match the singles.
+/// Whether a market with couples is answered with its text when this number of workers matches the singles.
 pub fn answers<T: Threads + Wait + Sync>(
     rt: &T,
     alloc: Global,

@@ -6,8 +6,8 @@ use mt_terms::Options;
 use std::alloc::{AllocError, Global};
 use std::test::Fail;
 
-// What words may ask for: a run of a file with options, the help, or the version; or they are not taken, with some
-// complaint or with this one.
+// What words may ask for: a run of a file with options, the help, or the version. Words that aren't taken have this
+// complaint, or any.
 enum Wanted<'a> {
     Run(Option<&'a str>, Options),
     Help,

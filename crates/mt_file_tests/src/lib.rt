@@ -1,4 +1,4 @@
-//! Tests of what stands between bytes and a market, and between a match and its text, by public calls alone.
+//! Tests of what is between bytes and a market, and between a match and its text, by public calls alone.
 #![tactic(auto)]
 
 #[cfg(test)]

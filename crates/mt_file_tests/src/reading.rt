@@ -81,7 +81,7 @@ fn spreadsheet_rows(rt: HostRuntime) {
     laws::worked_inputs();
 }
 
-// Reads twice: what comes of either, how many reads are made, and how many of them fail.
+// Reads twice: what each gives, how many reads are made, and how many of them fail.
 fn read_twice(
     source: &mut Pieces<'_>,
     buf: &mut [u8],
@@ -144,7 +144,7 @@ fn a_read_fills_the_buffer(rt: HostRuntime) {
     assert!(rt; buf == *b"01234567");
 }
 
-// Whether an input of ten bytes, so many in each read, is read whole under this limit with no failure.
+// Whether an input of ten bytes, `size` of them in each read, is read whole under this limit with no failure.
 fn reads_ten(alloc: Global, size: usize, limit: u32) -> Result<bool, ReadEnd> {
     let text = b"0123456789".as_slice();
     let mut tap = Tap::new(Pieces::new(text, size, 0, ErrorKind::Other));
@@ -184,8 +184,8 @@ fn counts_of_first(alloc: Global, input: &[u8]) -> Result<(bool, usize, usize), 
     }
 }
 
-// A row of three fields, of which the second is empty. In a file with no quote a row is a line, and else one that was
-// read.
+// A row of three fields, of which the second is empty. In a file with no quote a row is a line, and in any other one
+// it was read by `csv`.
 #[test]
 fn fields_of_a_row(rt: HostRuntime) {
     for text in [b"a,,bc,,\n".as_slice(), b"\"a\",,bc,,\n".as_slice()] {

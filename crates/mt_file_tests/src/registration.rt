@@ -14,7 +14,7 @@ use mt_terms::{Agent, AppNo, CoupleNo, ProgNo};
 use std::alloc::Global;
 use std::thread::Threads;
 
-/// Adds to a text. Where memory is refused the text lacks that, and is not the one that is wanted.
+/// Adds to a text. If memory is refused, the text lacks that, and is not the one that is wanted.
 fn add(text: &mut String, part: &str) {
     let _ = text.push_str(part);
 }

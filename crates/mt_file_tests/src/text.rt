@@ -8,7 +8,7 @@ use mt_samples::places::are_places;
 use mt_terms::{Match, Places, ProgNo};
 use std::alloc::{AllocError, Global};
 
-// Whether the match with these places, after so many proposals to each program, has this text.
+// Whether the match with these places has this text, after these numbers of proposals to the programs.
 fn has_text(
     alloc: Global,
     roster: &Roster,

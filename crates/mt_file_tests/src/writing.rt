@@ -15,13 +15,13 @@ fn put<W: Write>(writer: &mut W, text: &[u8]) -> (u64, bool, u64) {
     (wrote.written, wrote.whole, drain.failures())
 }
 
-// Whether these are the first bytes of the text, so many.
+// Whether `taken` has the first `count` bytes of the text, and no more.
 fn is_front(taken: &[u8], count: usize) -> bool {
     taken.len() == count && TEXT.starts_with(taken)
 }
 
-// Writes the text, of which the writer has to take the first bytes alone, and none after it failed. Only a text
-// that was taken whole is flushed, once. A failure is counted where it isn't written whole.
+// Writes the text. The writer has to take its first bytes alone, and none after it failed. Only a text that was taken
+// whole is flushed, once. A failure is counted if the text isn't written whole.
 fn expect_written(rt: &impl Abort, narrow: Narrow, first: usize, whole: bool) {
     let mut writer = narrow;
     let found = put(&mut writer, TEXT);
@@ -107,7 +107,7 @@ fn faltering(alloc: Global, falters_at: u32, fails: bool, flush_fails_at: u32) -
     }
 }
 
-// Writes the text, and expects the writer to be asked so many times, and to take so many bytes.
+// Writes the text, and expects how often the writer is asked, and how many bytes it takes.
 fn expect_asked(
     rt: &impl Abort,
     faltering: Faltering,

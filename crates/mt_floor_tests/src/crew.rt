@@ -35,7 +35,7 @@ struct Seen {
     proposals: AtomicU64,
 }
 
-// A gate that remembers what each worker did; and that holds the first ticket of each, where they are to meet, until
+// A gate that remembers what each worker did. If the workers are to meet, it holds the first ticket of each until
 // every one has had one.
 #[derive(Drop)]
 struct Watch {
@@ -143,9 +143,9 @@ fn expect_singles(
     same(rt, singles.proposals.as_slice(), proposals);
 }
 
-// The hall was closed once, with nothing left to be made, no desk astray and counts that agree; and the workers' passes
-// have all the proposals. If the workers were to meet, all of them started and proposed, and each began with the ticket
-// that was dealt to it first: that of the applicant of its number, in a market of singles.
+// The hall was closed once, with nothing left to be made, no desk astray and counts that agree. The workers' passes
+// have all the proposals. If the workers had to meet, all of them started and proposed. Each of them then began with
+// the ticket that was dealt to it first: the applicant of its number, in a market of singles.
 fn expect_seen(rt: &impl Abort, gate: &Watch, singles: &Singles) {
     let (proposals, each) = gate.proposals();
     same(rt, proposals, total(&singles.proposals));

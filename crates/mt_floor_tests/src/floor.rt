@@ -92,7 +92,7 @@ fn expect_chain(
     expect_chain_end(rt, alloc, &floor, ranks)
 }
 
-// Makes the events on a floor on which some are due, and expects so many of them to have been due.
+// Makes the events on a floor on which some are due, and expects `due` of them to have been due.
 fn expect_due(rt: &impl Abort, floor: &mut Floor, ranks: &Ranks, events: &[Event], due: u64)
     requires opened { IsOpenedWith ranks.now.market floor.old }
     requires recorded { IsRecorded ranks.now.market (floor_of ranks.now.market floor.old) }
@@ -120,7 +120,7 @@ fn expect_nothing_left(
     expect_chain_end(rt, alloc, floor, ranks)
 }
 
-// So many of the events are due, the floor ends as it must, and then nothing is left.
+// `due` of the events are due, the floor ends as it must, and then nothing is left.
 fn expect_run(
     rt: &impl Abort,
     alloc: Global,
@@ -199,7 +199,7 @@ fn two_orders_of_events(rt: HostRuntime) -> Result<(), Fail> {
     })
 }
 
-// From this floor finish makes so many proposals.
+// From this floor `finish` makes this number of proposals.
 pub(crate) fn expect_finished(
     rt: &impl Abort,
     alloc: Global,
@@ -215,7 +215,7 @@ pub(crate) fn expect_finished(
     expect_chain_end(rt, alloc, floor, ranks)
 }
 
-// After so many events, which are all due, finish makes so many proposals.
+// After these events, which are all due, `finish` makes this number of proposals.
 fn expect_finished_after(
     rt: &impl Abort,
     alloc: Global,
@@ -228,8 +228,8 @@ fn expect_finished_after(
     expect_finished(rt, alloc, &mut floor, ranks, proposals)
 }
 
-// After the first five events one proposal is to come: a1 has displaced a2 at P2, so a2 proposes to P1 and displaces
-// a3 there, which wants no other program.
+// After the first five events one proposal is to come. The applicant a1 has displaced a2 at P2, so a2 proposes to P1
+// and displaces a3 there, which wants no other program.
 #[test]
 fn the_chain_takes_five_proposals(rt: HostRuntime) -> Result<(), Fail> {
     on_ranks(&rt, rt.alloc(), CHAIN, |ranks| {
@@ -306,8 +306,8 @@ fn only_singles_have_events(rt: HostRuntime) -> Result<(), Fail> {
     expect_replies_from(&rt, rt.alloc(), BETWEEN, &OF_NO_SINGLE, &TO_NO_SINGLE)
 }
 
-// Where a1 stands at P1 and is held, it has nothing to propose or to learn; nobody else stands. Once a3 has displaced
-// a1, it learns that before it proposes.
+// If a1 stands at P1 and is held, it has nothing to propose or to learn, and nobody else stands. Once a3 has
+// displaced a1, it learns that before it proposes.
 const TOO_EARLY: [Event; 8] = [
     Event::Propose(AppNo(0)),
     Event::Propose(AppNo(0)),

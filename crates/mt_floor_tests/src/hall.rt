@@ -124,7 +124,7 @@ fn expect_proposed_by<K: HallName>(
     }
 }
 
-// So many proposals were made with the pass. Whoever is alone finds each lock free.
+// The pass made this number of proposals. A thread that is alone finds each lock free.
 fn expect_pass<K: HallName>(
     rt: &impl Abort,
     ranks: &Ranks,
@@ -171,7 +171,7 @@ fn expect_door<K: HallName, R: Abort + Wait>(
     same(rt, came_to(ranks, &locked), received);
 }
 
-// Each lock of a door has that program's, which has received so many proposals.
+// The lock of each door has the door of that program, which has received this number of proposals.
 fn expect_doors<K: HallName, R: Abort + Wait>(
     rt: &R,
     hall: &Hall<'_, K>,
@@ -238,13 +238,14 @@ pub(crate) type Counts<'a> = (u64, &'a [u32], &'a [u32]);
 // What is done in a hall.
 #[derive(Drop)]
 pub(crate) enum Acts<'a> {
-    // One thread takes these turns. Then the passes have these counts, and the programs have received so many proposals.
+    // One thread takes these turns. Then the passes have these counts, and the programs have received these numbers
+    // of proposals.
     ByTurns {
         turns: &'a [Turn<'a>],
         counts: &'a [Counts<'a>],
         received: &'a [u32],
     },
-    // A thread for each pass. The passes have so many proposals together.
+    // A thread for each pass. The passes have this number of proposals together.
     OnThreads {
         proposals: u128,
     },
@@ -375,7 +376,7 @@ fn each_call_gets_its_answer(rt: HostRuntime) -> Result<(), Fail> {
 }
 
 const ALONE: &[Case<'static>] = &[
-    // Whoever is displaced has to be told, and nobody else is in that call.
+    // The applicant that is displaced has to get its notice, and nobody else is in that call.
     Case {
         what: "each applicant's first wish first",
         file: CHAIN,

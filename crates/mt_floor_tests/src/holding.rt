@@ -1,4 +1,4 @@
-//! One program's holding: of all who proposed it holds the most wanted, whoever comes first.
+//! One program's holding: of all who proposed it holds the most wanted, in whatever order they come.
 ghost use Rattle.std.specs.Prelude.{◌≡◌};
 ghost use Rattle.mt_hold.specs.Holding.{ranks};
 

@@ -89,7 +89,8 @@ pub(crate) fn common_places(alloc: Global) -> Result<Vec<Option<ProgNo>>, AllocE
     Ok(places)
 }
 
-// Everybody proposes to the first program, and to each other one whoever has none of those before it.
+// Everybody proposes to the first program. To each other program those applicants propose that no program before it
+// holds.
 pub(crate) fn common_proposals(alloc: Global) -> Result<Vec<u32>, AllocError> {
     let mut proposals = Vec::with_capacity(alloc, 10)?;
     for program in 0..10u32 {

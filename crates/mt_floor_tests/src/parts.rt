@@ -19,8 +19,8 @@ pub(crate) fn sum_by_program<K: HallName>(ranks: &Ranks, pass: &Pass<K>) -> u64
     all
 }
 
-// How many applicants have come to the door: for each of them all live entries above the program are excluded, and for
-// those that it doesn't hold the program is.
+// How many applicants have come to the door. For each of them all live entries above the program are excluded. The
+// program itself is excluded for those that it doesn't hold.
 pub(crate) fn came_to<K: HallName>(ranks: &Ranks, door: &Door<K>) -> u32
     requires { ranks.now ≡ K.ranked }
     ensures above { (a : ℕ) → IsTrue (received_at K.ranked.market door.now a)

@@ -41,8 +41,8 @@ fn push_wishes(file: &mut String, programs: u32, applicant: u32) -> Result<(), A
     write!(file, "applicant,a{applicant},p{before},p{other},p{own}\n")
 }
 
-// Program p lists the applicants whose number is p or p + 1, but for a multiple of the programs' count, from the last
-// ones down, and has posts for half of them. Of an applicant's three programs the second doesn't list it.
+// Program p lists the applicants whose numbers are p or p + 1, up to a multiple of the programs' count, from the last
+// ones down. It has posts for half of them. Of an applicant's three programs the second doesn't list it.
 fn many_programs(alloc: Global, applicants: u32, programs: u32) -> Result<String, AllocError> {
     let mut file = String::from_str(alloc, "match,2\n")?;
     for program in 0..programs {
@@ -76,7 +76,7 @@ fn expect_plain_on<R: Abort + Threads + Sync>(
     Ok(())
 }
 
-// More applicants than a block of the tables has, and more programs than one thread goes through.
+// More applicants than a block of the tables has, and more programs than one thread reads.
 #[test]
 fn do_many_programs_give_the_plain_answers(rt: HostRuntime) -> Result<(), AllocError> {
     let alloc = rt.alloc();

@@ -37,8 +37,8 @@ fn entered<R: Threads + Sync>(
     enter(rt, alloc, roster, &ranks, budget)
 }
 
-// How many rounds it takes until s, a and b are at y and x and nowhere: the applicants 0, 1 and 2, and the programs 1
-// and 0.
+// How many rounds it takes until s is at y, a at x and b nowhere. The applicants s, a and b have the numbers 0, 1 and
+// 2. The programs x and y have 0 and 1.
 fn rounds_of<R: Abort + Threads + Sync>(
     rt: &R,
     alloc: Global,

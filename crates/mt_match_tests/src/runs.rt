@@ -17,7 +17,7 @@ use std::process::Abort;
 use std::sync::Wait;
 use std::thread::Threads;
 
-/// The options where nothing is said.
+/// The options of a command line that names none.
 const USUAL: Options = Options {
     workers: 4,
     budget: 1_000_000,
@@ -25,7 +25,7 @@ const USUAL: Options = Options {
 
 const READ_FAULT: &[u8] = b"match,1,refused,31,ReadFault,0,-\n";
 
-// A writer with room for so many bytes.
+// A writer with room for `room` bytes.
 fn narrow(alloc: Global, at_once: usize, room: usize, fails: bool) -> Narrow {
     Narrow {
         at_once,
@@ -144,7 +144,7 @@ fn each_exit(rt: HostRuntime) {
     );
 }
 
-// Expects this text with so many workers, read whole and in pieces of one byte.
+// Expects this text with this number of workers, read whole and in pieces of one byte.
 fn expect_with(
     rt: &(impl Abort + AllocGlobal + Threads + Wait + Sync),
     input: &[u8],
@@ -195,7 +195,7 @@ fn each_read_fails(rt: HostRuntime) {
     }
 }
 
-// 64 MiB are the most that an input may have: so many reads of 64 bytes, and one more.
+// 64 MiB are the most that an input may have: 1,048,576 reads of 64 bytes, and one more.
 #[test]
 fn a_reader_without_end(rt: HostRuntime) {
     let mut tap = Tap::new(Endless { size: 64 });

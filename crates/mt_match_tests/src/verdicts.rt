@@ -1,6 +1,6 @@
-//! Matches given by hand, and the finding against each, worked out from the rules beside it. A match is written as the
-//! places of the applicants in order of registration, `-` for none; a finding by ids, with the position from 0 of the
-//! option that would be taken.
+//! Matches given by hand, and the finding against each, worked out from the rules beside it. A match is written as
+//! the places of the applicants in order of registration, `-` for none. A finding is written by ids, with the
+//! position from 0 of the option that would be taken.
 ghost use Rattle.std.specs.Prelude.{◌≡◌};
 ghost use Rattle.mt_ranks.specs.Ranked.{ranked_of};
 
@@ -34,7 +34,7 @@ const SINGLES: &[u8] =
 const PAIRS: &[u8] =
     b"match,1\nprogram,x,1,s,a\nprogram,y,1,b\nprogram,z,1,a\nprogram,w,1,b\napplicant,s,x\ncouple,c,a,b,x,y,z,y,z,w\n";
 
-// Each has a program to itself, so whoever is unplaced blocks: the one with the lowest number first, a couple by the
+// Each has a program to itself, so each unplaced agent blocks: the one with the lowest number first, a couple by the
 // number of a. The applicants are t, a, b, s in this order.
 const ALL_FREE: &[u8] =
     b"match,1\nprogram,v,1,t\nprogram,x,1,a\nprogram,y,1,b\nprogram,z,1,s\napplicant,t,v\ncouple,c,a,b,x,y\napplicant,s,z\n";
@@ -48,11 +48,11 @@ const BEHIND: &[u8] =
 const ONE_POST: &[u8] =
     b"match,1\nprogram,x,1,a,b\nprogram,y,0,d,e\ncouple,c,a,b,x,x\ncouple,f,d,e,y,y\n";
 
-// At x the member a stands above b, and at y b stands above a. So where a is at x and b at y, neither would be taken by
-// the other's program but for both being taken out first.
+// x ranks the member a above b, and y ranks b above a. So when a is at x and b at y, neither would be taken by the
+// other's program unless both are taken out first.
 const EXCHANGE: &[u8] = b"match,1\nprogram,x,1,a,b\nprogram,y,1,b,a\ncouple,c,a,b,y,x,x,y\n";
 
-// At y the single stands above b, and x would take a alone.
+// y ranks the single above b, and x would take a alone.
 const HALF: &[u8] =
     b"match,2\nprogram,x,1,a\nprogram,y,1,s,b\napplicant,s,y\ncouple,c,a,b,x,y,x,-\n";
 
@@ -76,8 +76,8 @@ const ONE_SIDE: &[u8] = b"match,1\nprogram,x,1,s\nprogram,y,2,t\napplicant,t,y\n
 // y has no post. With s at x beside a both programs are over their quotas, and without s only y is.
 const OVER: &[u8] = b"match,1\nprogram,x,1,s,a\nprogram,y,0,b\napplicant,s,x\ncouple,c,a,b,x,y\n";
 
-// y doesn't list w. With t and u at x it is over its quota, and where s is unplaced it blocks with y: of three kinds of
-// finding the first match has all, the second two and the third one. In the fourth both s and w are at places that
+// y doesn't list w. With t and u at x it is over its quota, and an unplaced s blocks with y. There are three kinds of
+// finding: the first match has all, the second two and the third one. In the fourth both s and w are at places that
 // aren't allowed.
 const THREE_KINDS: &[u8] =
     b"match,1\nprogram,x,1,t,u\nprogram,y,1,s\napplicant,s,y\napplicant,t,x\napplicant,u,x\napplicant,w,y\n";

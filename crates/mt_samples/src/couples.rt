@@ -28,8 +28,8 @@ pub const COUPLE_DISPLACES_A_SINGLE_TEXT: &[u8] = b"match,1,published\n\
     program,x,2,2,1\n\
     totals,3,1,2,0\n";
 
-/// The single displaces b from y, and the couple then displaces the single from x, without end: s, a and b are the
-/// applicants 0, 1 and 2, x and y the programs 0 and 1.
+/// The single displaces b from y, and the couple then displaces the single from x, without end. The applicants s, a
+/// and b have the numbers 0, 1 and 2. The programs x and y have 0 and 1.
 pub const NO_STABLE_MATCH: &[u8] = b"match,1\n\
     program,x,1,a,s\n\
     program,y,1,s,b\n\

@@ -2,8 +2,8 @@
 
 use std::io::{self, ErrorKind, Read, Write};
 
-/// The bytes of a slice, `size` in each read, of which the `fails_at`th fails. The reads after it go on. It counts all
-/// reads, and keeps the length of the longest buffer.
+/// The bytes of a slice, `size` in each read. The `fails_at`th read fails, and the reads after it go on. It counts
+/// all reads, and keeps the length of the longest buffer.
 #[derive(Drop)]
 pub struct Pieces<'a> {
     left: &'a [u8],
@@ -56,8 +56,8 @@ impl Read for Endless {
     }
 }
 
-/// A writer that takes so many bytes at a time, so many in all, and then fails or takes none; its flush may fail. It
-/// counts its flushes.
+/// A writer that takes `at_once` bytes at a time and `room` bytes in all, and then fails or takes none. Its flush may
+/// fail. It counts its flushes.
 #[derive(Drop)]
 pub struct Narrow {
     pub at_once: usize,

@@ -21,8 +21,8 @@ pub const CROSSED_TEXT: &[u8] = b"match,1,published\n\
     program,P2,1,1,1\n\
     totals,2,0,2,0\n";
 
-/// A third applicant starts a chain of rejections, and is left without a place: a1, a2 and a3 are the applicants 0, 1
-/// and 2, P1 and P2 the programs 0 and 1.
+/// A third applicant starts a chain of rejections, and ends without a place. The applicants a1, a2 and a3 have the
+/// numbers 0, 1 and 2. The programs P1 and P2 have 0 and 1.
 pub const CHAIN: &[u8] = b"match,1\n\
     program,P1,1,a2,a3,a1\n\
     program,P2,1,a1,a2\n\

@@ -1,5 +1,6 @@
-//! Small markets with the text that is published for each, where another order of the work list, or another choice of
-//! who is looked at again, gives another match or another number of rounds. `tests/cases/README.md` tells the rounds.
+//! Small markets with the text that is published for each. Another order of the work list, or another choice of the
+//! agents to look at again, gives another match or another number of rounds. `tests/cases/README.md` tells the
+//! rounds.
 
 /// Those displaced at q join by q's list, and not by their numbers.
 pub const DISPLACED_BY_THE_LIST_OF_THEIR_PROGRAM: &[u8] = b"match,1\n\

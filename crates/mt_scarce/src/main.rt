@@ -1,5 +1,5 @@
-//! A program for tests: it makes each call that may want memory, and where memory was refused makes it again, then with
-//! ample memory. A test refuses its requests for memory one after another.
+//! A program for tests. It makes each call that may want memory. If memory was refused, it makes the call again, then
+//! with ample memory. A test refuses its requests for memory one after another.
 #![tactic(auto)]
 
 ghost use Rattle.std.specs.Prelude.{◌≤◌};
@@ -14,11 +14,11 @@ use std::sync::Wait;
 use std::thread::Threads;
 use std::{env, io};
 
-/// The exit status where an answer was another than it should be.
+/// The exit status if an answer was another than it should be.
 const WRONG: u8 = 255;
 
-/// How many calls by so many workers were refused memory, each counted once more where it was refused a second time; or
-/// none where an answer was another than it should be.
+/// How many calls by this number of workers were refused memory. A call that was refused a second time counts twice.
+/// The result is none if an answer was another than it should be.
 fn refusals<T: Threads + Wait + Sync>(rt: &T, alloc: Global, workers: u32) -> Option<u8>
     requires { (1 ≤ workers) × (workers ≤ 64) }
 {
@@ -40,8 +40,8 @@ fn has_word(rt: &HostRuntime) -> io::Result<bool> {
     Ok(env::args(rt)?.nth(1).is_some())
 }
 
-// The calls are made by one worker, and with a word by two. The exit status is the number of refusals, and 255 where an
-// answer was wrong.
+// The calls are made by one worker, or by two if the command line has a word. The exit status is the number of
+// refusals, or 255 if an answer was wrong.
 fn main(rt: HostRuntime) -> ExitCode {
     let Ok(is_pair) = has_word(&rt) else {
         return ExitCode::from(1);

@@ -60,7 +60,7 @@ pub(crate) enum Outcome {
     Refused,
 }
 
-/// Makes a call, by so many workers where it takes some.
+/// Makes a call, by this number of workers if it takes any.
 pub(crate) fn outcome_of<T: Threads + Wait + Sync>(
     rt: &T,
     alloc: Global,

@@ -36,7 +36,8 @@ impl Write for Page {
     }
 }
 
-/// Whether a run by so many workers writes this text. Where memory is refused it has to write the line of that.
+/// Whether a run by this number of workers writes this text. If memory is refused it has to write the line of that
+/// refusal.
 pub(crate) fn runs<T: Threads + Wait + Sync>(
     rt: &T,
     alloc: Global,

@@ -16,7 +16,7 @@ const NO_VERSION: &[(&str, Fault<'static>)] = &[
     ("program,P,1\nmatch,1\n", (12, 1, "")),
     // Records without a field keep their numbers.
     (",\n\n,\nmatch,3\n", (12, 3, "")),
-    // It is told before any other fault of the file.
+    // It comes before any other fault of the file.
     ("match,3\npost,P,1\nprogram,P\n", (12, 1, "")),
 ];
 
@@ -26,7 +26,7 @@ const UNKNOWN_KIND: &[(&str, Fault<'static>)] = &[
     ("match,1\n\"\",P\n", (13, 2, "")),
     // Not for its number of fields or its ids.
     ("match,1\n,\npost,b!\n", (13, 3, "")),
-    // A fault of an earlier record is told first.
+    // A fault of an earlier record comes first.
     ("match,1\napplicant,b!\npost,P,1\n", (15, 2, "")),
 ];
 
@@ -42,7 +42,7 @@ const FIELD_COUNT: &[(&str, Fault<'static>)] = &[
     ("match,1\ncouple,c,a,b,x,\n", (14, 2, "")),
     // Before the ids.
     ("match,1\ncouple,c!,a,b,x\n", (14, 2, "")),
-    // A fault of an earlier record is told first, whatever its code.
+    // A fault of an earlier record comes first, whatever its code.
     ("match,1\nprogram,P,1,a,a\ncouple,c,a,b,x\n", (18, 2, "P")),
 ];
 

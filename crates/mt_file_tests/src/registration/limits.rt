@@ -108,7 +108,8 @@ fn is_refused_behind_programs<R: Threads + Sync>(
     Ok(is_refused(rt, alloc, file.as_str(), fault))
 }
 
-// A program more than 20,000 is told with its record and id, but not before what comes earlier in the order of codes.
+// The refusal of a program more than 20,000 names its record and id. It comes after what is earlier in the order of
+// codes.
 #[test]
 fn one_program_too_many(rt: HostRuntime) {
     let sizes = sizes_of_most_programs(&rt, rt.alloc());

@@ -15,9 +15,9 @@ const ACCEPTED: &[(&str, &str)] = &[
     ("match,1\n", ""),
     ("match,2\n", ""),
     (",\n\nmatch,1,,\n,,,\n", ""),
-    // Two programs and two applicants, each of whom wants most what wants it least. The third file is as a spreadsheet
-    // writes it: a mark, quotes, a quota with a leading zero, empty fields at the end of records, an empty line, a record
-    // without a field, and no end to the last record.
+    // Two programs and two applicants: each wants most the one that wants it least. The third file is as a
+    // spreadsheet writes it. It has a mark, quotes, a quota with a leading zero, empty fields at the end of records
+    // and an empty line. It also has a record without a field, and no end to the last record.
     (
         "match,1\nprogram,P1,1,a2,a1\nprogram,P2,1,a1,a2\napplicant,a1,P1,P2\napplicant,a2,P2,P1\n",
         CROSSED,

@@ -22,8 +22,8 @@ pub(crate) const ACCEPTED: &[(&str, &str)] = &[
         "match,2\nprogram,x,1,a,s,e\nprogram,y,1,s,b,f\napplicant,s,x,y\ncouple,c,a,b,x,y\ncouple,d,e,f,x,y\nwithdraw,couple,c\n",
         "program x 1: 0 1\nprogram y 1: 0 2\napplicant s single 0: 0 1\napplicant e couple 0:\napplicant f couple 0:\ncouple d 1 2: 0 1,\n",
     ),
-    // Of A's pairs those with q leave the list, whoever the other member is: p,q and q,p and q,- and -,q. What stays is
-    // p,- and u,v and -,v, with u as program 1 and v as program 2.
+    // Of A's pairs those with q leave the list, whatever place the other member has: p,q and q,p and q,- and -,q.
+    // What stays is p,- and u,v and -,v, with u as program 1 and v as program 2.
     (
         "match,2\nprogram,p,1,a1\nprogram,q,1,a2\nprogram,u,1,a1\nprogram,v,1,a2\ncouple,A,a1,a2,p,q,p,-,q,p,q,-,u,v,-,q,-,v\nwithdraw,program,q\n",
         "program p 1: 0\nprogram u 1: 0\nprogram v 1: 1\napplicant a1 couple 0:\napplicant a2 couple 0:\ncouple A 0 1: 0 -, 1 2, - 2,\n",
@@ -47,7 +47,7 @@ pub(crate) const ACCEPTED: &[(&str, &str)] = &[
 pub(crate) const REFUSED: &[(&str, Fault<'static>)] = &[
     // No row is withdrawn in version 1.
     ("match,1\nprogram,P,1\nwithdraw,program,P\n", (13, 3, "")),
-    // The kind is told before the number of fields, and that before the id.
+    // The kind is judged before the number of fields, and that before the id.
     ("match,2\nprogram,P,1\nwithdraw,post,P\n", (13, 3, "")),
     ("match,2\nprogram,P,1\nwithdraw,post\n", (13, 3, "")),
     ("match,2\nwithdraw\n", (14, 2, "")),
