@@ -81,9 +81,8 @@ left_programs m v = filter (is_left m v) (below (length m.programs))
 abbrev pub blocking_on_list : Market → ℕ → Places → ℕ → List Agent
 blocking_on_list m k places p = filter (λ g. has_entered k g && blocks m places g) (map (agent_of m) (program_of m p).ranking)
 
--- The agents to look at again after a move, in order. First come the agents of the displaced applicants. The mover
--- follows, if it still blocks. Then come, for each program that is left, by number, the entered agents of its list
--- that block.
+-- The agents to look at again after a move: those of the displaced applicants, then the mover if it still blocks.
+-- Then come the entered agents that block, by the lists of the programs that are left, by number.
 abbrev pub rechecked : Market → ℕ → Agent → Placement → Move → List Agent
 rechecked m k mover sent v =
     map (agent_of m) (displaced m v.seated sent)
