@@ -1,0 +1,142 @@
+-- The numbers of a published text have ten digits at most, and the text has fewer bytes than a file may have.
+use Rattle.std.proofs.Common.{◌≡◌, ℕ, zero, suc, ◌+◌, ◌-◌, ◌*◌, ◌^◌, ◌<◌, ◌≤◌, List, [], ◌∷◌, ◌++◌, length, map, get_or, Bool, true, false, not, Some, refl, sym, ap, ◌∙◌, inl, inr, arith, length-append, eq-eqb, if◌then◌else◌}
+use Rattle.std.specs.Prelude.{codes, decimal, slice_index_or, is_some, IsTrue, flat_map}
+use Rattle.std.specs.List.{join_with_byte, range_with_len}
+use Rattle.std.proofs.lemmas.Bool.{cases_lt}
+use Rattle.std.proofs.lemmas.List.{get_or_past}
+use Rattle.std.proofs.lemmas.List.Concat.{flat_map-append}
+use Rattle.mt_terms.specs.Best.{proposals, proposed_to}
+use Rattle.mt_terms.specs.Lists.{Set, below, count_below, has, total_below}
+use Rattle.mt_terms.specs.Market.{Market, Names, Registered, applicants, program_of}
+use Rattle.mt_terms.specs.Matching.{Places, at, filled, is_program, place_of}
+use Rattle.mt_terms.specs.Places.{ArePlaces}
+use Rattle.mt_terms.specs.Registration.Accepted.{IsRegistration}
+use Rattle.mt_terms.specs.Registration.Ids.{Bytes}
+use Rattle.mt_terms.specs.Text.{all_filled, line, name_of, place_text, positions, unmatched}
+use Rattle.mt_terms.proofs.BelowFacts.{length-map_below, map_below_at}
+use Rattle.mt_terms.proofs.ListFacts.{count-le-length}
+use Rattle.mt_answer.specs.Answer.{all_proposals}
+use Rattle.mt_answer_laws.proofs.LineTexts.{text_of}
+use Rattle.mt_answer_laws.proofs.PublishedRows.{IsTellable, IsTold, applicant_fields, id_at, id_short, is_told, place_plain, program_fields, published_rows, totals_fields}
+
+-- a sum of terms that are at most so much
+total_at_most : (f : ℕ → ℕ) (most n : ℕ) → ((k : ℕ) → f k ≤ most) → total_below f n ≤ n * most
+total_at_most f most zero h = omega arith
+total_at_most f most (suc n) h =
+    let rest = total_at_most f most n h in
+    let here = h n in
+    omega arith
+
+-- no program received more proposals than there are applicants
+one_or_none : (b : Bool) → (if b then 1 else 0) ≤ 1
+one_or_none true = omega arith
+one_or_none false = omega arith
+
+proposals_at_most : (m : Market) (best : Places) (p : ℕ) → proposals m best p ≤ applicants m
+proposals_at_most m best p =
+    let most : total_below (λ a. if has (proposed_to m best a) p then 1 else 0) (applicants m) ≤ applicants m * 1 =
+    total_at_most (λ a. if has (proposed_to m best a) p then 1 else 0) 1 (applicants m) (λ a. one_or_none (has (proposed_to m best a) p)) in
+    omega arith
+
+received_at_most : (r : Registered) (best : Places) (p : ℕ) → slice_index_or (all_proposals r best) p 0 ≤ applicants r.market
+received_at_most r best p = elim (cases_lt p (length r.market.programs)) [
+  | inl low ↦ rw (map_below_at (proposals r.market best) (length r.market.programs) p 0 low) (proposals_at_most r.market best p)
+  | inr high ↦ (
+      let past : length (all_proposals r best) ≤ p = omega (arith, length-map_below (proposals r.market best) (length r.market.programs)) in
+      let none : get_or (all_proposals r best) p 0 ≡ 0 = get_or_past (all_proposals r best) p 0 past in
+      rw none (omega arith))
+]
+
+-- a match of a registered market can be told
+pub is_tellable : (r : Registered) → IsRegistration r → (best places : Places) → ArePlaces r.market places
+    → IsTellable r.market r.names places (all_proposals r best)
+is_tellable r h best places are =
+    let few : applicants r.market ≤ 100000 = h.few_applicants in
+    let each : length places ≡ applicants r.market = are.one_each in
+    let some_programs : length r.market.programs ≤ 20000 = h.few_programs in
+    let posts : positions r.market ≤ length r.market.programs * 9999 = total_at_most (λ p. (program_of r.market p).quota) 9999 (length r.market.programs) h.quotas in
+    let none : unmatched places ≤ length places = count-le-length (λ place. not (is_some place)) places in
+    record {
+      one_each = are.one_each;
+      within = λ a p is. are.within a p (rw is (eq-eqb p p refl));
+      applicant_each = h.applicant_names.one_each;
+      program_each = h.program_names.one_each;
+      applicant_ids = h.applicant_names.are_ids;
+      program_ids = h.program_names.are_ids;
+      quota = λ p. let quota : (program_of r.market p).quota ≤ 9999 = h.quotas p in is_told (program_of r.market p).quota (omega arith);
+      placed = λ p. let here : filled places p ≤ length places = count-le-length (is_program p) places in is_told (filled places p) (omega arith);
+      proposed = λ p. let here = received_at_most r best p in is_told (slice_index_or (all_proposals r best) p 0) (omega arith);
+      all = is_told (applicants r.market) (omega arith);
+      unmatched = is_told (unmatched places) (omega arith);
+      posts = is_told (positions r.market) (omega arith);
+      free = is_told (positions r.market - all_filled r.market places) (omega arith);
+    }
+
+-- how long the lines are
+length-three : (x y z : Bytes) → length (line (x ∷ y ∷ z ∷ [])) ≡ length x + length y + length z + 3
+length-three x y z =
+    omega (arith, length-append (x ++ 44 ∷ (y ++ 44 ∷ z)) (10 ∷ []), length-append x (44 ∷ (y ++ 44 ∷ z)), length-append y (44 ∷ z))
+
+length-five : (x y z v w : Bytes) → length (line (x ∷ y ∷ z ∷ v ∷ w ∷ [])) ≡ length x + length y + length z + length v + length w + 5
+length-five x y z v w =
+    omega (
+      arith,
+      length-append (x ++ 44 ∷ (y ++ 44 ∷ (z ++ 44 ∷ (v ++ 44 ∷ w)))) (10 ∷ []),
+      length-append x (44 ∷ (y ++ 44 ∷ (z ++ 44 ∷ (v ++ 44 ∷ w)))),
+      length-append y (44 ∷ (z ++ 44 ∷ (v ++ 44 ∷ w))),
+      length-append z (44 ∷ (v ++ 44 ∷ w)),
+      length-append v (44 ∷ w),
+    )
+
+lines_at_most : (f : ℕ → List Bytes) (most a n end : ℕ) → a + n ≤ end → ((k : ℕ) → k < end → length (line (f k)) ≤ most)
+    → length (text_of (map f (range_with_len a n))) ≤ n * most
+lines_at_most f most a zero end le h = omega arith
+lines_at_most f most a (suc n) end le h =
+    let rest = lines_at_most f most (a + 1) n end (omega arith) h in
+    let here = h a (omega arith) in
+    omega (arith, length-append (line (f a)) (text_of (map f (range_with_len (a + 1) n))))
+
+module _ (m : Market) (names : Names) (places : Places) (received : List ℕ) (t : IsTellable m names places received) where
+  applicant_line_short : (a : ℕ) → a < applicants m → length (line (applicant_fields names places a)) ≤ 140
+  applicant_line_short a lt =
+      let id = id_short (name_of names.applicants a) (id_at names.applicants a t.applicant_ids (omega (arith, t.applicant_each))) in
+      let place = (place_plain m names places received t (place_of places a) (t.within a)).1 in
+      omega (arith, length-three (codes "applicant") (name_of names.applicants a) (place_text names (place_of places a)))
+
+  program_line_short : (p : ℕ) → p < length m.programs → length (line (program_fields m names places received p)) ≤ 106
+  program_line_short p lt =
+      let id = id_short (name_of names.programs p) (id_at names.programs p t.program_ids (omega (arith, t.program_each))) in
+      let quota = (t.quota p).short in
+      let placed = (t.placed p).short in
+      let proposed = (t.proposed p).short in
+      omega (
+        arith,
+        length-five (codes "program") (name_of names.programs p) (decimal (program_of m p).quota) (decimal (filled places p)) (decimal (slice_index_or received p 0)),
+      )
+
+  totals_short : length (text_of (totals_fields m places ∷ [])) ≤ 51
+  totals_short =
+      let all = t.all.short in
+      let none = t.unmatched.short in
+      let posts = t.posts.short in
+      let free = t.free.short in
+      omega (
+        arith,
+        length-append (line (totals_fields m places)) [],
+        length-five (codes "totals") (decimal (applicants m)) (decimal (unmatched places)) (decimal (positions m)) (decimal (positions m - all_filled m places)),
+      )
+
+  pub text_short : length (text_of (published_rows m names places received)) ≤ 69 + applicants m * 140 + length m.programs * 106
+  text_short =
+      let first : List (List Bytes) = map (applicant_fields names places) (below (applicants m)) in
+      let second : List (List Bytes) = map (program_fields m names places received) (below (length m.programs)) in
+      let last : List (List Bytes) = totals_fields m places ∷ [] in
+      let of_first : length (text_of first) ≤ applicants m * 140 = lines_at_most (applicant_fields names places) 140 0 (applicants m) (applicants m) (omega arith) applicant_line_short in
+      let of_second : length (text_of second) ≤ length m.programs * 106 =
+      lines_at_most (program_fields m names places received) 106 0 (length m.programs) (length m.programs) (omega arith) program_line_short in
+      let of_last : length (text_of last) ≤ 51 = totals_short in
+      let whole : text_of (first ++ (second ++ last)) ≡ text_of first ++ (text_of second ++ text_of last) =
+      flat_map-append line first (second ++ last) ∙ ap (λ (rest : List ℕ). text_of first ++ rest) (flat_map-append line second last) in
+      let all : length (text_of (first ++ (second ++ last))) ≡ length (text_of first) + (length (text_of second) + length (text_of last)) =
+      ap length whole ∙ length-append (text_of first) (text_of second ++ text_of last) ∙ ap (λ (n : ℕ). length (text_of first) + n) (length-append (text_of second) (text_of last)) in
+      omega arith

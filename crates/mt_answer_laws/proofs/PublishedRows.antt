@@ -1,0 +1,182 @@
+-- A published text is the text of these rows: the head, a row for each applicant, a row for each program, the totals.
+-- Each of their fields has the bytes of ids alone, and a published number has ten digits at most.
+use Rattle.std.proofs.Common.{◌≡◌, ℕ, zero, suc, ◌+◌, ◌-◌, ◌*◌, ◌^◌, ◌<◌, ◌≤◌, List, [], ◌∷◌, ◌++◌, length, map, get_or, Bool, true, false, not, ◌==◌, ◌&&◌, nat_lt, nat_le, Option, Some, None, refl, sym, ap, ◌∙◌, inl, inr, append_assoc, arith, append-nil, length-append, lt-ltb}
+use Rattle.std.specs.Prelude.{codes, decimal, flat_map, slice_index, slice_index_or, IsTrue}
+use Rattle.std.specs.Char.{is_ascii_digit}
+use Rattle.std.specs.List.{join_with_byte, list_all, range_with_len}
+use Rattle.std.specs.Str.Parse.{AllDigits, digits_value}
+use Rattle.std.proofs.lemmas.Bool.{and_parts, and_from, cases_lt, both_ways, le-ltb, le-leb, leb-true}
+use Rattle.std.proofs.lemmas.Bool.Decides.{nat_tests}
+use Rattle.std.proofs.lemmas.Fmt.{decimal_digit, decimal_is_IsNumeral, first_decimal, length-decimal-le}
+use Rattle.std.proofs.lemmas.Str.Parse.{digit_from_value}
+use Rattle.std.proofs.lemmas.List.Concat.{flat_map-append}
+use Rattle.std.proofs.lemmas.List.Folds.{flat_map-map, list_all-append}
+use Rattle.mt_match.specs.Told.{has_leading_zero, is_number, number}
+use Rattle.mt_terms.specs.Lists.{below}
+use Rattle.mt_terms.specs.Market.{Market, Names, applicants, program_of}
+use Rattle.mt_terms.specs.Matching.{Places, filled, place_of}
+use Rattle.mt_terms.specs.Registration.Ids.{Bytes, is_dash, is_id, is_id_byte}
+use Rattle.mt_terms.specs.Text.{all_filled, applicant_lines, line, program_lines, totals_line, name_of, place_text, positions, published, unmatched}
+use Rattle.mt_answer_laws.proofs.LineTexts.{is_plain, is_plain_row, text_of}
+
+-- the digits of a number stand in ids
+digits_plain : (ds : List ℕ) → AllDigits 10 ds → (list_all is_ascii_digit ds ≡ true) × (list_all is_id_byte ds ≡ true)
+digits_plain [] h = (refl, refl)
+digits_plain (c ∷ ds) h =
+    let range = digit_from_value c h.0 in
+    let low : nat_le 48 c ≡ true = le-leb 48 c (omega arith) in
+    let high : nat_le c 57 ≡ true = le-leb c 57 (omega arith) in
+    let rest = digits_plain ds h.1 in
+    (rw (low, high) rest.0, rw (low, high) rest.1)
+
+-- only zero itself begins with a zero
+no_zero_first : (n : ℕ) → n < 2 ^ 64 → has_leading_zero (decimal n) ≡ false
+no_zero_first zero h = rw (decimal_digit 0 (omega arith)) refl
+no_zero_first (suc n) h =
+    let first : 48 < get_or (decimal (suc n)) 0 0 = first_decimal (suc n) (omega arith) h in
+    by (decimal (suc n)) first
+  where
+    by : (ds : List ℕ) → 48 < get_or ds 0 0 → has_leading_zero ds ≡ false
+    by [] k = refl
+    by (c ∷ ds) k = let other : (c == 48) ≡ false = grind (arith, nat_tests) in and_false (nat_lt 1 (length (c ∷ ds))) (c == 48) other
+      where
+        and_false : (a b : Bool) → b ≡ false → (a && b) ≡ false
+        and_false true b e = e
+        and_false false b e = refl
+
+-- a published number is read as itself
+pub record IsTold (n : ℕ) : Type 0 where
+  pub plain : is_plain (decimal n) ≡ true
+  pub is_number : is_number (decimal n) ≡ true
+  pub same : number (decimal n) ≡ n
+  pub short : length (decimal n) ≤ 10
+
+pub is_told : (n : ℕ) → n < 10 ^ 10 → IsTold n
+is_told n h =
+    let small : n < 2 ^ 64 = omega arith in
+    let numeral = decimal_is_IsNumeral n small in
+    let digits = digits_plain (decimal n) numeral.0.1 in
+    let some : nat_lt 0 (length (decimal n)) ≡ true = lt-ltb 0 (length (decimal n)) numeral.0.0 in
+    let short : length (decimal n) ≤ 10 = length-decimal-le 10 n (omega arith) h small in
+    record {
+      plain = and_from _ _ some digits.1;
+      is_number = rw (some, le-leb (length (decimal n)) 10 short, digits.0, no_zero_first n small) refl;
+      same = numeral.1;
+      short = short;
+    }
+
+-- the rows of a published text
+abbrev pub applicant_fields : Names → Places → ℕ → List Bytes
+applicant_fields names places a = codes "applicant" ∷ name_of names.applicants a ∷ place_text names (place_of places a) ∷ []
+
+abbrev pub program_fields : Market → Names → Places → List ℕ → ℕ → List Bytes
+program_fields m names places received p =
+    codes "program" ∷ name_of names.programs p ∷ decimal (program_of m p).quota ∷ decimal (filled places p) ∷ decimal (slice_index_or received p 0) ∷ []
+
+abbrev pub totals_fields : Market → Places → List Bytes
+totals_fields m places =
+    codes "totals" ∷ decimal (applicants m) ∷ decimal (unmatched places) ∷ decimal (positions m) ∷ decimal (positions m - all_filled m places) ∷ []
+
+abbrev pub head_fields : List Bytes
+head_fields = codes "match" ∷ codes "1" ∷ codes "published" ∷ []
+
+abbrev pub published_rows : Market → Names → Places → List ℕ → List (List Bytes)
+published_rows m names places received =
+    head_fields
+    ∷ (map (applicant_fields names places) (below (applicants m))
+    ++ (map (program_fields m names places received) (below (length m.programs)) ++ totals_fields m places ∷ []))
+
+pub published_is_text : (m : Market) (names : Names) (places : Places) (received : List ℕ)
+    → published m names places received ≡ text_of (published_rows m names places received)
+published_is_text m names places received =
+    let applicants_are : applicant_lines m names places ≡ text_of (map (applicant_fields names places) (below (applicants m))) =
+    sym (flat_map-map line (applicant_fields names places) (below (applicants m))) in
+    let programs_are : program_lines m names places received ≡ text_of (map (program_fields m names places received) (below (length m.programs))) =
+    sym (flat_map-map line (program_fields m names places received) (below (length m.programs))) in
+    let totals_are : totals_line m places ≡ text_of (totals_fields m places ∷ []) = sym (append-nil (line (totals_fields m places))) in
+    let ends : program_lines m names places received ++ totals_line m places ≡ text_of (map (program_fields m names places received) (below (length m.programs)) ++ totals_fields m places ∷ []) =
+    rw (programs_are, totals_are) (sym (flat_map-append line (map (program_fields m names places received) (below (length m.programs))) (totals_fields m places ∷ []))) in
+    let parts : text_of (map (applicant_fields names places) (below (applicants m))) ++ text_of (map (program_fields m names places received) (below (length m.programs)) ++ totals_fields m places ∷ [])
+    ≡ text_of (map (applicant_fields names places) (below (applicants m)) ++ (map (program_fields m names places received) (below (length m.programs)) ++ totals_fields m places ∷ [])) =
+    sym (flat_map-append line (map (applicant_fields names places) (below (applicants m))) (map (program_fields m names places received) (below (length m.programs)) ++ totals_fields m places ∷ [])) in
+    ap (λ (rest : List ℕ). line head_fields ++ rest)
+    (append_assoc (applicant_lines m names places) (program_lines m names places received) (totals_line m places)
+    ∙ ap (λ (rest : List ℕ). applicant_lines m names places ++ rest) ends
+    ∙ ap (λ (first : List ℕ). first ++ text_of (map (program_fields m names places received) (below (length m.programs)) ++ totals_fields m places ∷ [])) applicants_are
+    ∙ parts)
+
+-- ids, dashes and such numbers are plain
+four_parts : (p q r s : Bool) → (p && q && r && s) ≡ true → (p ≡ true) × (q ≡ true) × (r ≡ true) × (s ≡ true)
+four_parts true true true s h = (refl, refl, refl, h)
+four_parts true true false s h = cc
+four_parts true false r s h = cc
+four_parts false q r s h = cc
+
+id_parts : (id : Bytes) → is_id 64 id ≡ true
+    → (nat_lt 0 (length id) ≡ true) × (nat_le (length id) 64 ≡ true) × (list_all is_id_byte id ≡ true) × (not (is_dash id) ≡ true)
+id_parts id h = four_parts (nat_lt 0 (length id)) (nat_le (length id) 64) (list_all is_id_byte id) (not (is_dash id)) h
+
+pub id_plain : (id : Bytes) → is_id 64 id ≡ true → is_plain id ≡ true
+id_plain id h = let parts = id_parts id h in and_from (nat_lt 0 (length id)) (list_all is_id_byte id) parts.0 parts.2
+
+pub id_short : (id : Bytes) → is_id 64 id ≡ true → length id ≤ 64
+id_short id h = leb-true (length id) 64 (id_parts id h).1
+
+pub id_no_dash : (id : Bytes) → is_id 64 id ≡ true → is_dash id ≡ false
+id_no_dash id h = by (is_dash id) (id_parts id h).3
+  where
+    by : (b : Bool) → not b ≡ true → b ≡ false
+    by true k = cc
+    by false k = refl
+
+pub id_at : (ids : List Bytes) (i : ℕ) → list_all (is_id 64) ids ≡ true → i < length ids → is_id 64 (get_or ids i []) ≡ true
+id_at [] i h lt = absurd (omega arith)
+id_at (id ∷ ids) zero h lt = (and_parts (is_id 64 id) _ h).0
+id_at (id ∷ ids) (suc i) h lt = id_at ids i (and_parts (is_id 64 id) _ h).1 (omega arith)
+
+-- What is asked of a match so that its text can be read back.
+pub record IsTellable (m : Market) (names : Names) (places : Places) (received : List ℕ) : Type 0 where
+  pub one_each : length places ≡ applicants m
+  pub within : (a p : ℕ) → place_of places a ≡ Some p → p < length m.programs
+  pub applicant_each : length names.applicants ≡ applicants m
+  pub program_each : length names.programs ≡ length m.programs
+  pub applicant_ids : list_all (is_id 64) names.applicants ≡ true
+  pub program_ids : list_all (is_id 64) names.programs ≡ true
+  pub quota : (p : ℕ) → IsTold (program_of m p).quota
+  pub placed : (p : ℕ) → IsTold (filled places p)
+  pub proposed : (p : ℕ) → IsTold (slice_index_or received p 0)
+  pub all : IsTold (applicants m)
+  pub unmatched : IsTold (unmatched places)
+  pub posts : IsTold (positions m)
+  pub free : IsTold (positions m - all_filled m places)
+
+module _ (m : Market) (names : Names) (places : Places) (received : List ℕ) (t : IsTellable m names places received) where
+  pub place_plain : (o : Option ℕ) → ((p : ℕ) → o ≡ Some p → p < length m.programs) → (is_plain (place_text names o) ≡ true) × (length (place_text names o) ≤ 64)
+  place_plain None h = (refl, omega arith)
+  place_plain (Some p) h =
+      let lt : p < length names.programs = omega (arith, h p refl, t.program_each) in
+      let id = id_at names.programs p t.program_ids lt in
+      (id_plain (name_of names.programs p) id, id_short (name_of names.programs p) id)
+
+  applicant_plain : (a : ℕ) → a < applicants m → is_plain_row (applicant_fields names places a) ≡ true
+  applicant_plain a lt =
+      let id = id_plain (name_of names.applicants a) (id_at names.applicants a t.applicant_ids (omega (arith, t.applicant_each))) in
+      let place = (place_plain (place_of places a) (t.within a)).0 in
+      rw (id, place) refl
+
+  program_plain : (p : ℕ) → p < length m.programs → is_plain_row (program_fields m names places received p) ≡ true
+  program_plain p lt =
+      let id = id_plain (name_of names.programs p) (id_at names.programs p t.program_ids (omega (arith, t.program_each))) in
+      rw (id, (t.quota p).plain, (t.placed p).plain, (t.proposed p).plain) refl
+
+  each_plain : (f : ℕ → List Bytes) (a n end : ℕ) → a + n ≤ end → ((k : ℕ) → k < end → is_plain_row (f k) ≡ true) → list_all is_plain_row (map f (range_with_len a n)) ≡ true
+  each_plain f a zero end le h = refl
+  each_plain f a (suc n) end le h = rw (h a (omega arith)) (each_plain f (a + 1) n end (omega arith) h)
+
+  pub rows_plain : list_all is_plain_row (published_rows m names places received) ≡ true
+  rows_plain =
+      list_all-append is_plain_row (map (applicant_fields names places) (below (applicants m))) (map (program_fields m names places received) (below (length m.programs)) ++ totals_fields m places ∷ [])
+      ∙ and_from _ _ (each_plain (applicant_fields names places) 0 (applicants m) (applicants m) (omega arith) applicant_plain)
+      (list_all-append is_plain_row (map (program_fields m names places received) (below (length m.programs))) (totals_fields m places ∷ [])
+      ∙ and_from _ _ (each_plain (program_fields m names places received) 0 (length m.programs) (length m.programs) (omega arith) program_plain)
+      (rw (t.all.plain, t.unmatched.plain, t.posts.plain, t.free.plain) refl))

@@ -1,0 +1,3 @@
+pub mod ReadBack
+pub mod Laws
+pub mod Examples

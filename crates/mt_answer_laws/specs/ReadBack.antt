@@ -1,0 +1,20 @@
+-- What the judge reads in a published text.
+use Rattle.std.specs.Prelude.{◌≡◌, ℕ, List, Ok, IsTrue}
+use Rattle.mt_terms.specs.Market.{Registered}
+use Rattle.mt_terms.specs.Matching.{Places}
+use Rattle.mt_terms.specs.Stability.{stable}
+use Rattle.mt_terms.specs.Text.{published}
+use Rattle.mt_match.specs.Told.{Told}
+use Rattle.mt_check.specs.Headline.{market_in, told_in}
+
+-- A text is that of a stable match of the market in the bytes, and what it tells of that market is that match.
+pub record IsReadBack (bytes text : List ℕ) : Type 0 where
+  pub registered : Registered
+  pub of_bytes : market_in bytes ≡ Ok registered
+  pub places : Places
+  pub received : List ℕ
+  pub is_text : text ≡ published registered.market registered.names places received
+  pub is_stable : IsTrue (stable registered.market places)
+  pub told : Told
+  pub of_text : told_in registered text ≡ Ok told
+  pub same_places : told.places ≡ places
