@@ -44,10 +44,10 @@ module _ (bytes text : List ℕ) (p : PublishedOf bytes text) where
       let some_programs = p.registration.few_programs in
       le-ltb most_bytes (length text) (omega arith)
 
-  of_market : market_in bytes ≡ Ok p.registered
+  pub of_market : market_in bytes ≡ Ok p.registered
   of_market = rw (p.few, p.are_rows, p.is_market) refl
 
-  of_match : told_in p.registered text ≡ Ok told_is
+  pub of_match : told_in p.registered text ≡ Ok told_is
   of_match =
       let rows = ap records_of p.is_text ∙ records_back p.registered.market p.registered.names p.places (all_proposals p.registered p.best) tellable in
       rw (short, rows)

@@ -4,3 +4,6 @@ pub mod ToldBack
 pub mod Bounds
 pub mod PublishedFacts
 pub mod CalledStable
+pub mod RecordParts
+pub mod RecordChanges
+pub mod FileLawFacts

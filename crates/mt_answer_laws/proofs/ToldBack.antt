@@ -22,7 +22,7 @@ use Rattle.mt_check.specs.Findings.{first_differing_of, fits_count}
 use Rattle.mt_answer_laws.proofs.PublishedRows.{IsTellable, IsTold, applicant_fields, head_fields, id_at, id_no_dash, program_fields, published_rows, totals_fields}
 
 -- an id has the number of its place, where ids differ
-own_number : (ids : List Bytes) (i : ℕ) → all_differ bytes_eq ids ≡ true → i < length ids → position_or_len (bytes_eq (get_or ids i [])) ids ≡ i
+pub own_number : (ids : List Bytes) (i : ℕ) → all_differ bytes_eq ids ≡ true → i < length ids → position_or_len (bytes_eq (get_or ids i [])) ids ≡ i
 own_number [] i h lt = absurd (omega arith)
 own_number (x ∷ xs) zero h lt = rw (is_same x x refl) refl
 own_number (x ∷ xs) (suc i) h lt = by (bytes_eq (get_or xs i []) x) refl (own_number xs i (none (list_any (bytes_eq x) xs) h).1 (omega arith))
