@@ -1,13 +1,18 @@
 -- What a change of one record does to the applicants: the markets of the two files differ in that list or quota alone, and
 -- what is published for either is its best match. So the laws of the applicants give it.
-use Rattle.std.proofs.Common.{◌≡◌, ◌≢◌, ℕ, ◌<◌, ◌≤◌, Bool, true, false, ◌&&◌, List, [], ◌∷◌, ◌++◌, ◌⊎◌, inl, inr, length, get_or, Option, Some, None, Ok, refl, sym, ap, ◌∙◌, subst, arith, option_map, if◌then◌else◌}
+use Rattle.std.proofs.Common.{◌≡◌, ◌≢◌, ℕ, ◌<◌, ◌≤◌, Bool, true, false, ◌&&◌, List, [], ◌∷◌, ◌++◌, ◌⊎◌, inl, inr, length, get_or, Option, Some, None, Ok, Err, nat_lt, refl, sym, ap, ◌∙◌, subst, arith, option_map, if◌then◌else◌}
 use Rattle.std.specs.Prelude.{bytes_eq, codes, IsTrue}
 use Rattle.std.specs.List.{position_or_len}
 use Rattle.std.proofs.lemmas.Bool.{cases_lt}
 use Rattle.std.proofs.lemmas.List.{get_or_past}
 use Rattle.mt_lists.specs.Records.{records_of}
 use Rattle.mt_terms.specs.Best.{IsBest}
-use Rattle.mt_terms.specs.Market.{Market, Registered, list_of}
+use Rattle.mt_terms.specs.Market.{Market, Partners, Registered, list_of, singles_market}
+use Rattle.mt_terms.specs.Stability.{stable}
+use Rattle.mt_terms.specs.Registration.Faults.{charge_alone, fault_at}
+use Rattle.mt_terms.specs.declared.codes.TheConstants.{TOO_LARGE}
+use Rattle.mt_check.proofs.AnswerFacts.{answers_are_so_lem}
+use Rattle.mt_check.specs.Text.{stable_line}
 use Rattle.mt_terms.specs.Matching.{Places}
 use Rattle.mt_terms.specs.Registration.{market_of}
 use Rattle.mt_terms.specs.Registration.Accepted.{IsRegistration}
@@ -17,17 +22,18 @@ use Rattle.mt_terms.specs.Registration.Records.{ApplicantRecord, ProgramRecord, 
 use Rattle.mt_terms.specs.Text.{name_of}
 use Rattle.mt_match_laws.proofs.ExclusionLemmas.{best_is_at_least_lem}
 use Rattle.mt_file_laws.specs.Faultless.{draft, drafts}
-use Rattle.mt_check.specs.Headline.{market_in, told_in}
+use Rattle.mt_check.specs.Headline.{market_in, most_bytes, told_in}
 use Rattle.mt_match.specs.Told.{Told}
 use Rattle.mt_applicant_laws.specs.Changes.{HasAtLeast, with_list, with_quota}
 use Rattle.mt_applicant_laws.proofs.EasierMarkets.{more_posts_hurt_none_lem, one_less_hurts_no_other_lem}
-use Rattle.mt_applicant_laws.proofs.ListChanges.{none_gains_by_another_list_lem}
-use Rattle.mt_answer_laws.specs.FileLaws.{HigherQuotaInFileHurtsNone, NoneGainsByAnotherRecord, OneLessInFileHurtsNoOther}
-use Rattle.mt_answer_laws.specs.TwoFiles.{DifferInList, DifferInQuota, Publishes}
+use Rattle.mt_applicant_laws.proofs.ListChanges.{no_stable_match_gives_more_lem}
+use Rattle.mt_answer_laws.specs.FileLaws.{HigherQuotaInFileHurtsNone, NoCalledMatchGivesMore, NoneGainsByAnotherRecord, OneLessInFileHurtsNoOther}
+use Rattle.mt_answer_laws.specs.TwoFiles.{CalledStable, DifferInList, DifferInQuota, Publishes}
 use Rattle.mt_answer_laws.proofs.CalledStable.{of_market, of_match}
 use Rattle.mt_answer_laws.proofs.PublishedFacts.{PublishedOf, published_of}
 use Rattle.mt_answer_laws.proofs.RecordChanges.{ListChanged, QuotaChanged, list_changed, quota_changed}
-use Rattle.mt_answer_laws.proofs.RecordParts.{Parts, parts_of, with_fields}
+use Rattle.mt_answer_laws.proofs.RecordParts.{Parts, parts_of}
+use Rattle.mt_numbering.specs.Drafts.{with_fields}
 use Rattle.mt_answer_laws.proofs.ToldBack.{own_number, published_counts}
 
 -- what is published for a file: its market is registered, and without couples the match is the best one
@@ -129,32 +135,34 @@ one_number ids a k differ below_a below_k same =
 no_list : (m : Market) (a : ℕ) (places other : Places) → list_of m a ≡ [] → HasAtLeast m a places other
 no_list m a places other none p there = rw none refl
 
--- a match that is best of the same market
-same_market : (m n : Market) (places other : Places) → n ≡ m → IsBest m places → IsBest n other → (a : ℕ) → HasAtLeast m a places other
-same_market m n places other same best other_best a =
-    best_is_at_least_lem m places other best (IsBest.is_stable (subst (λ (k : Market). IsBest k other) same other_best)) a
-
-module _ (r s : Registered) (places other : Places) (registration : IsRegistration r) (best : IsBest r.market places) (other_best : IsBest s.market other) where
-  gains_nothing : (id : Bytes) (list : List Bytes) → (s.market ≡ r.market) ⊎ ListChanged r s id list → (a : ℕ) → name_of r.names.applicants a ≡ id → HasAtLeast r.market a places other
-  gains_nothing id list (inl same) a named = same_market r.market s.market places other same best other_best a
-  gains_nothing id list (inr changed) a named = elim (cases_lt a (length r.names.applicants)) [
+module _ (r s : Registered) (places other : Places) (registration : IsRegistration r) (best : IsBest r.market places) where
+  -- where the other match is stable
+  gains_nothing : IsTrue (stable (singles_market s.market) other) → (id : Bytes) (list : List Bytes) → (s.market ≡ r.market) ⊎ ListChanged r s id list
+      → (a : ℕ) → name_of r.names.applicants a ≡ id → HasAtLeast r.market a places other
+  gains_nothing is_stable id list (inl same) a named =
+      best_is_at_least_lem r.market places other best (subst (λ (m : Market). IsTrue (stable (singles_market m) other)) same is_stable) a
+  gains_nothing is_stable id list (inr changed) a named = elim (cases_lt a (length r.names.applicants)) [
     | inl low ↦
         let here : a ≡ changed.number = one_number r.names.applicants a changed.number registration.applicant_names.differ low changed.within (named ∙ sym changed.has_id) in
         let market_is : s.market ≡ with_list r.market a (numbers_of r.names.programs list) = changed.market_is ∙ ap (λ (k : ℕ). with_list r.market k (numbers_of r.names.programs list)) (sym here) in
-        none_gains_by_another_list_lem r.market a (numbers_of r.names.programs list) registration.well_formed places other best (subst (λ (m : Market). IsBest m other) market_is other_best)
+        no_stable_match_gives_more_lem r.market a (numbers_of r.names.programs list) registration.well_formed places other best
+        (subst (λ (m : Market). IsTrue (stable (singles_market m) other)) market_is is_stable)
     | inr high ↦ no_list r.market a places other (get_or_past r.market.lists a [] (omega (arith, registration.applicant_names.one_each)))
   ]
 
-  hurts_no_other : (id : Bytes) → (s.market ≡ r.market) ⊎ ListChanged r s id [] → (b : ℕ) → name_of r.names.applicants b ≢ id → HasAtLeast r.market b other places
-  hurts_no_other id (inl same) b unnamed =
-      same_market r.market r.market other places refl (subst (λ (m : Market). IsBest m other) same other_best) best b
-  hurts_no_other id (inr changed) b unnamed =
+  -- where it is the best one
+  same_market : IsBest r.market other → (a : ℕ) → HasAtLeast r.market a other places
+  same_market other_best a = best_is_at_least_lem r.market other places other_best best.is_stable a
+
+  hurts_no_other : IsBest s.market other → (id : Bytes) → (s.market ≡ r.market) ⊎ ListChanged r s id [] → (b : ℕ) → name_of r.names.applicants b ≢ id → HasAtLeast r.market b other places
+  hurts_no_other other_best id (inl same) b unnamed = same_market (subst (λ (m : Market). IsBest m other) same other_best) b
+  hurts_no_other other_best id (inr changed) b unnamed =
       one_less_hurts_no_other_lem r.market changed.number registration.well_formed places other best (subst (λ (m : Market). IsBest m other) changed.market_is other_best) b
       (λ here. unnamed (ap (λ (k : ℕ). name_of r.names.applicants k) here ∙ changed.has_id))
 
-  hurts_none : (quota more : ℕ) → quota ≤ more → (s.market ≡ r.market) ⊎ QuotaChanged r s quota more → (a : ℕ) → HasAtLeast r.market a other places
-  hurts_none quota more le (inl same) a = same_market r.market r.market other places refl (subst (λ (m : Market). IsBest m other) same other_best) best a
-  hurts_none quota more le (inr changed) a =
+  hurts_none : IsBest s.market other → (quota more : ℕ) → quota ≤ more → (s.market ≡ r.market) ⊎ QuotaChanged r s quota more → (a : ℕ) → HasAtLeast r.market a other places
+  hurts_none other_best quota more le (inl same) a = same_market (subst (λ (m : Market). IsBest m other) same other_best) a
+  hurts_none other_best quota more le (inr changed) a =
       more_posts_hurt_none_lem r.market changed.number more registration.well_formed (omega (arith, changed.quota_is)) places other best
       (subst (λ (m : Market). IsBest m other) changed.market_is other_best) a
 
@@ -167,12 +175,46 @@ couples_after_quota : (r s : Registered) (quota more : ℕ) → (s.market ≡ r.
 couples_after_quota r s quota more (inl same) none = ap (λ (m : Market). m.couples) same ∙ none
 couples_after_quota r s quota more (inr changed) none = ap (λ (m : Market). m.couples) changed.market_is ∙ none
 
+-- without couples a stable match is one of the singles
+stable_alone : (m : Market) (places : Places) → m.couples ≡ [] → IsTrue (stable m places) → IsTrue (stable (singles_market m) places)
+stable_alone m places none is_stable = subst (λ (couples : List Partners). IsTrue (stable (record m { couples = couples }) places)) none is_stable
+
+-- what is called stable is a stable match of the market of the rows
+record IsStableOf (rows : List (List Bytes)) (r : Registered) (places : Places) : Type 0 where
+  is_market : market_of rows ≡ Ok r
+  is_stable : IsTrue (stable r.market places)
+
+called : (bytes : List ℕ) (r : Registered) (places : Places) (rows : List (List Bytes)) → records_of bytes ≡ Some rows → CalledStable bytes r places → IsStableOf rows r places
+called bytes r places rows are h =
+    let judged = (answers_are_so_lem bytes h.text 0 stable_line h.is_answer).0 (omega arith) in
+    let same : judged.registered ≡ r = cc (judged.of_market, h.of_bytes) in
+    let of_text : told_in judged.registered h.text ≡ Ok (record { places = places; counts = h.counts }) = ap (λ (q : Registered). told_in q h.text) same ∙ h.of_text in
+    let told : ◌≡◌ {A = Told} judged.told (record { places = places; counts = h.counts }) = cc (judged.of_match) in
+    let same_places : judged.told.places ≡ places = ap (λ (t : Told). t.places) told in
+    record {
+      is_market = by (nat_lt most_bytes (length bytes)) (rw are at h.of_bytes);
+      is_stable = subst (λ (q : Registered). IsTrue (stable q.market places)) same (subst (λ (ps : Places). IsTrue (stable judged.registered.market ps)) same_places (judged.stable.0 refl).0);
+    }
+  where
+    by : (large : Bool) → (if large then Err (fault_at 0 (charge_alone TOO_LARGE)) else market_of rows) ≡ Ok r → market_of rows ≡ Ok r
+    by true k = cc
+    by false k = k
+
 pub none_gains_by_another_record_lem : NoneGainsByAnotherRecord
 none_gains_by_another_record_lem bytes other_bytes id list other_list d r s places other one two none =
     let p = accepted bytes r places _ d.one one in
     let q = accepted other_bytes s other _ d.two two in
     let change = lists_of_files d.before d.after r s id list other_list p.is_market q.is_market in
-    (change.0, gains_nothing r s places other p.registration (p.is_best none) (q.is_best (couples_after_list r s id other_list change.1 none)) id other_list change.1)
+    let best = q.is_best (couples_after_list r s id other_list change.1 none) in
+    (change.0, gains_nothing r s places other p.registration (p.is_best none) best.is_stable id other_list change.1)
+
+pub no_called_match_gives_more_lem : NoCalledMatchGivesMore
+no_called_match_gives_more_lem bytes other_bytes id list other_list d r s places other one two none =
+    let p = accepted bytes r places _ d.one one in
+    let q = called other_bytes s other _ d.two two in
+    let change = lists_of_files d.before d.after r s id list other_list p.is_market q.is_market in
+    let is_stable = stable_alone s.market other (couples_after_list r s id other_list change.1 none) q.is_stable in
+    (change.0, gains_nothing r s places other p.registration (p.is_best none) is_stable id other_list change.1)
 
 pub one_less_in_file_hurts_no_other_lem : OneLessInFileHurtsNoOther
 one_less_in_file_hurts_no_other_lem bytes fewer_bytes id list d r s places fewer one two none =

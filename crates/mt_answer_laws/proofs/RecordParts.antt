@@ -12,17 +12,8 @@ use Rattle.mt_terms.specs.Registration.Passes.{Numbered, contents, numbered_from
 use Rattle.mt_terms.specs.Registration.Records.{Record, Rules, rules_of}
 use Rattle.mt_file_laws.specs.Faultless.{draft, drafts, faultless_market, is_faultless}
 use Rattle.mt_file_laws.proofs.FaultlessFacts.{passes_agree}
-
--- the rows that have a field
-abbrev pub with_fields : List (List Bytes) → List (List Bytes)
-with_fields [] = []
-with_fields ([] ∷ rows) = with_fields rows
-with_fields ((word ∷ fields) ∷ rows) = (word ∷ fields) ∷ with_fields rows
-
-contents-numbered : (n : ℕ) (rows : List (List Bytes)) → contents (numbered_from n rows) ≡ with_fields rows
-contents-numbered n [] = refl
-contents-numbered n ([] ∷ rows) = contents-numbered (n + 1) rows
-contents-numbered n ((word ∷ fields) ∷ rows) = ap (λ (rest : List (List Bytes)). (word ∷ fields) ∷ rest) (contents-numbered (n + 1) rows)
+use Rattle.mt_numbering.specs.Drafts.{with_fields}
+use Rattle.mt_roster.proofs.ReadFacts.{contents-with_fields}
 
 with_fields-append : (xs ys : List (List Bytes)) → with_fields (xs ++ ys) ≡ with_fields xs ++ with_fields ys
 with_fields-append [] ys = refl
@@ -113,7 +104,7 @@ pub parts_of : (before : List (List Bytes)) (word : Bytes) (fields : List Bytes)
 parts_of before word fields after r none h =
     let found = versioned (numbered_from 1 (before ++ (word ∷ fields) ∷ after)) r h in
     let rows_are : with_fields before ++ (word ∷ fields) ∷ with_fields after ≡ found.version ∷ found.rest =
-    sym (with_fields-append before ((word ∷ fields) ∷ after)) ∙ sym (contents-numbered 1 (before ++ (word ∷ fields) ∷ after)) ∙ found.rows_are in
+    sym (with_fields-append before ((word ∷ fields) ∷ after)) ∙ sym (contents-with_fields 1 (before ++ (word ∷ fields) ∷ after)) ∙ found.rows_are in
     by found.rules found.version found.rest (with_fields before) refl rows_are found.is_version found.accepted
   where
     by_records : (rules : Rules) (version : List Bytes) (front : List (List Bytes)) → with_fields before ≡ version ∷ front → rules_of version ≡ Some rules

@@ -6,7 +6,7 @@ use Rattle.mt_terms.specs.Matching.{Places}
 use Rattle.mt_terms.specs.Registration.Ids.{Bytes}
 use Rattle.mt_terms.specs.Text.{name_of}
 use Rattle.mt_applicant_laws.specs.Changes.{HasAtLeast}
-use Rattle.mt_answer_laws.specs.TwoFiles.{DifferInList, DifferInQuota, Publishes}
+use Rattle.mt_answer_laws.specs.TwoFiles.{CalledStable, DifferInList, DifferInQuota, Publishes}
 
 -- No applicant gains by another list in its record. By the list of the first file, it has at least as much in the match
 -- that is published for this file as in the match that is published for the second. (Dubins and Freedman 1981; Roth 1982)
@@ -14,6 +14,13 @@ abbrev pub NoneGainsByAnotherRecord : Type 0
 NoneGainsByAnotherRecord =
     (bytes other_bytes : List ℕ) (id : Bytes) (list other_list : List Bytes) → DifferInList bytes other_bytes id list other_list
     → (r s : Registered) (places other : Places) → Publishes bytes r places → Publishes other_bytes s other → r.market.couples ≡ []
+    → (s.names ≡ r.names) × ((a : ℕ) → name_of r.names.applicants a ≡ id → HasAtLeast r.market a places other)
+
+-- Nor does any match give it more that is called stable for the second file. (Demange, Gale and Sotomayor 1987)
+abbrev pub NoCalledMatchGivesMore : Type 0
+NoCalledMatchGivesMore =
+    (bytes other_bytes : List ℕ) (id : Bytes) (list other_list : List Bytes) → DifferInList bytes other_bytes id list other_list
+    → (r s : Registered) (places other : Places) → Publishes bytes r places → CalledStable other_bytes s other → r.market.couples ≡ []
     → (s.names ≡ r.names) × ((a : ℕ) → name_of r.names.applicants a ≡ id → HasAtLeast r.market a places other)
 
 -- If an applicant's record lists nothing in the second file, no other applicant is hurt. (Gale and Sotomayor 1985)

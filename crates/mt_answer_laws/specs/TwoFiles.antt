@@ -6,7 +6,9 @@ use Rattle.mt_terms.specs.Matching.{Places}
 use Rattle.mt_terms.specs.Registration.Ids.{Bytes, quota_of}
 use Rattle.mt_run.specs.Answer as run
 use Rattle.mt_match.specs.declared.told_match.Counted.{Counted}
+use Rattle.mt_check.specs.Answer as check
 use Rattle.mt_check.specs.Headline.{market_in, told_in}
+use Rattle.mt_check.specs.Text.{stable_line}
 
 -- the records of two files are the same, but for the list of one applicant's record
 pub record DifferInList (bytes other_bytes : List ℕ) (id : Bytes) (list other : List Bytes) : Type 0 where
@@ -32,6 +34,15 @@ pub record Publishes (bytes : List ℕ) (r : Registered) (places : Places) : Typ
   pub budget : ℕ
   pub text : List ℕ
   pub is_answer : run.IsAnswer bytes budget 0 text
+  pub of_bytes : market_in bytes ≡ Ok r
+  pub counts : List Counted
+  pub of_text : told_in r text ≡ Ok (record { places = places; counts = counts })
+
+-- For the file in some bytes, whose market this is, a text is called stable, whoever wrote it, and these are the places
+-- that it tells.
+pub record CalledStable (bytes : List ℕ) (r : Registered) (places : Places) : Type 0 where
+  pub text : List ℕ
+  pub is_answer : check.IsAnswer bytes text 0 stable_line
   pub of_bytes : market_in bytes ≡ Ok r
   pub counts : List Counted
   pub of_text : told_in r text ≡ Ok (record { places = places; counts = counts })

@@ -1,4 +1,4 @@
-ghost use Rattle.mt_answer_laws.specs.FileLaws.{HigherQuotaInFileHurtsNone, NoneGainsByAnotherRecord, OneLessInFileHurtsNoOther};
+ghost use Rattle.mt_answer_laws.specs.FileLaws.{HigherQuotaInFileHurtsNone, NoCalledMatchGivesMore, NoneGainsByAnotherRecord, OneLessInFileHurtsNoOther};
 ghost use Rattle.mt_answer_laws.specs.Laws.{PublishedIsCalledStable, PublishedIsReadBack};
 
 /// What is published for a file is called stable for that file, and is read as the match that was published.
@@ -7,9 +7,11 @@ pub fn published_is_called_stable()
     ensures read_back { PublishedIsReadBack }
 {}
 
-/// Without couples, no applicant gains by another list in its record.
+/// Without couples, no applicant gains by another list in its record, in the match that is published or in any match
+/// that is called stable.
 pub fn none_gains_by_another_record()
-    ensures { NoneGainsByAnotherRecord }
+    ensures law { NoneGainsByAnotherRecord }
+    ensures any_stable { NoCalledMatchGivesMore }
 {}
 
 /// Without couples, an applicant whose record lists nothing any more hurts no other applicant.
