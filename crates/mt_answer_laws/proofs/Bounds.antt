@@ -1,14 +1,14 @@
 -- The numbers of a published text have ten digits at most, and the text has fewer bytes than a file may have.
-use Rattle.std.proofs.Common.{◌≡◌, ℕ, zero, suc, ◌+◌, ◌-◌, ◌*◌, ◌^◌, ◌<◌, ◌≤◌, List, [], ◌∷◌, ◌++◌, length, map, get_or, Bool, true, false, not, Some, refl, sym, ap, ◌∙◌, inl, inr, arith, length-append, eq-eqb, if◌then◌else◌}
-use Rattle.std.specs.Prelude.{codes, decimal, slice_index_or, is_some, IsTrue, flat_map}
-use Rattle.std.specs.List.{join_with_byte, range_with_len}
+use Rattle.std.proofs.Common.{◌≡◌, ℕ, zero, suc, ◌+◌, ◌-◌, ◌*◌, ◌<◌, ◌≤◌, List, [], ◌∷◌, ◌++◌, length, map, get_or, Bool, true, false, not, refl, ap, ◌∙◌, inl, inr, arith, length-append, eq-eqb, if◌then◌else◌}
+use Rattle.std.specs.Prelude.{codes, decimal, slice_index_or, is_some}
+use Rattle.std.specs.List.{range_with_len}
 use Rattle.std.proofs.lemmas.Bool.{cases_lt}
 use Rattle.std.proofs.lemmas.List.{get_or_past}
 use Rattle.std.proofs.lemmas.List.Concat.{flat_map-append}
 use Rattle.mt_terms.specs.Best.{proposals, proposed_to}
-use Rattle.mt_terms.specs.Lists.{Set, below, count_below, has, total_below}
+use Rattle.mt_terms.specs.Lists.{below, has, total_below}
 use Rattle.mt_terms.specs.Market.{Market, Names, Registered, applicants, program_of}
-use Rattle.mt_terms.specs.Matching.{Places, at, filled, is_program, place_of}
+use Rattle.mt_terms.specs.Matching.{Places, filled, is_program, place_of}
 use Rattle.mt_terms.specs.Places.{ArePlaces}
 use Rattle.mt_terms.specs.Registration.Accepted.{IsRegistration}
 use Rattle.mt_terms.specs.Registration.Ids.{Bytes}
@@ -17,7 +17,7 @@ use Rattle.mt_terms.proofs.BelowFacts.{length-map_below, map_below_at}
 use Rattle.mt_terms.proofs.ListFacts.{count-le-length}
 use Rattle.mt_answer.specs.Answer.{all_proposals}
 use Rattle.mt_answer_laws.proofs.LineTexts.{text_of}
-use Rattle.mt_answer_laws.proofs.PublishedRows.{IsTellable, IsTold, applicant_fields, id_at, id_short, is_told, place_plain, program_fields, published_rows, totals_fields}
+use Rattle.mt_answer_laws.proofs.PublishedRows.{IsTellable, applicant_fields, id_at, id_short, is_told, place_plain, program_fields, published_rows, totals_fields}
 
 -- a sum of terms that are at most so much
 total_at_most : (f : ℕ → ℕ) (most n : ℕ) → ((k : ℕ) → f k ≤ most) → total_below f n ≤ n * most

@@ -1,9 +1,9 @@
 -- What is published is called stable: the text is read back as the places and the counts of the match, which is stable.
-use Rattle.std.proofs.Common.{◌≡◌, ℕ, ◌≤◌, List, length, Some, Ok, false, refl, sym, ap, ◌∙◌, arith, nat_lt}
+use Rattle.std.proofs.Common.{◌≡◌, ℕ, List, length, Some, Ok, false, refl, ap, ◌∙◌, arith, nat_lt}
 use Rattle.std.proofs.lemmas.Bool.{le-ltb}
 use Rattle.mt_lists.specs.Records.{records_of}
 use Rattle.mt_lists.specs.Records as lists
-use Rattle.mt_terms.specs.Market.{Market, Names, Registered}
+use Rattle.mt_terms.specs.Market.{Market, Names}
 use Rattle.mt_terms.specs.Matching.{Places}
 use Rattle.mt_terms.specs.Text.{published}
 use Rattle.mt_terms.specs.Verdict.{verdict_of}
@@ -11,7 +11,7 @@ use Rattle.mt_terms.specs.declared.verdict.Verdict.TheVariants.{Stable}
 use Rattle.mt_answer.specs.Answer.{all_proposals}
 use Rattle.mt_answer.proofs.MatchFacts.{stable_are_places}
 use Rattle.mt_verdict_laws.proofs.VerdictLemmas.{stable_verdict_lem}
-use Rattle.mt_match.specs.Told.{Told, told_by}
+use Rattle.mt_match.specs.Told.{Told}
 use Rattle.mt_check.specs.Answer.{answer_to}
 use Rattle.mt_check.specs.Headline.{market_in, most_bytes, told_in}
 use Rattle.mt_check.specs.Text.{stable_line}

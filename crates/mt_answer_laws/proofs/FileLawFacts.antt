@@ -1,6 +1,6 @@
 -- What a change of one record does to the applicants: the markets of the two files differ in that list or quota alone, and
 -- what is published for either is its best match. So the laws of the applicants give it.
-use Rattle.std.proofs.Common.{◌≡◌, ◌≢◌, ℕ, ◌<◌, ◌≤◌, Bool, true, false, ◌&&◌, List, [], ◌∷◌, ◌++◌, ◌⊎◌, inl, inr, length, get_or, Option, Some, None, Ok, Err, nat_lt, refl, sym, ap, ◌∙◌, subst, arith, option_map, if◌then◌else◌}
+use Rattle.std.proofs.Common.{◌≡◌, ◌≢◌, ℕ, ◌<◌, ◌≤◌, Bool, true, false, ◌&&◌, List, [], ◌∷◌, ◌++◌, ◌⊎◌, inl, inr, length, get_or, Option, Some, None, Ok, Err, nat_lt, refl, sym, ap, ◌∙◌, subst, arith, if◌then◌else◌}
 use Rattle.std.specs.Prelude.{bytes_eq, codes, IsTrue}
 use Rattle.std.specs.List.{position_or_len}
 use Rattle.std.proofs.lemmas.Bool.{cases_lt}
@@ -24,13 +24,13 @@ use Rattle.mt_match_laws.proofs.ExclusionLemmas.{best_is_at_least_lem}
 use Rattle.mt_file_laws.specs.Faultless.{draft, drafts}
 use Rattle.mt_check.specs.Headline.{market_in, most_bytes, told_in}
 use Rattle.mt_match.specs.Told.{Told}
-use Rattle.mt_applicant_laws.specs.Changes.{HasAtLeast, with_list, with_quota}
+use Rattle.mt_applicant_laws.specs.Changes.{HasAtLeast, with_list}
 use Rattle.mt_applicant_laws.proofs.EasierMarkets.{more_posts_hurt_none_lem, one_less_hurts_no_other_lem}
 use Rattle.mt_applicant_laws.proofs.ListChanges.{no_stable_match_gives_more_lem}
 use Rattle.mt_answer_laws.specs.FileLaws.{HigherQuotaInFileHurtsNone, NoCalledMatchGivesMore, NoneGainsByAnotherRecord, OneLessInFileHurtsNoOther}
-use Rattle.mt_answer_laws.specs.TwoFiles.{CalledStable, DifferInList, DifferInQuota, Publishes}
+use Rattle.mt_answer_laws.specs.TwoFiles.{CalledStable, Publishes}
 use Rattle.mt_answer_laws.proofs.CalledStable.{of_market, of_match}
-use Rattle.mt_answer_laws.proofs.PublishedFacts.{PublishedOf, published_of}
+use Rattle.mt_answer_laws.proofs.PublishedFacts.{published_of}
 use Rattle.mt_answer_laws.proofs.RecordChanges.{ListChanged, QuotaChanged, list_changed, quota_changed}
 use Rattle.mt_answer_laws.proofs.RecordParts.{Parts, parts_of}
 use Rattle.mt_numbering.specs.Drafts.{with_fields}

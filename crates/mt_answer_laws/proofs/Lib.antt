@@ -7,3 +7,4 @@ pub mod CalledStable
 pub mod RecordParts
 pub mod RecordChanges
 pub mod FileLawFacts
+pub mod PublishedAlone

@@ -1,11 +1,11 @@
 -- A text of lines, whose fields have the bytes of ids alone, is read as the rows of these fields. A line is read at a
 -- time: it has no quote, the first byte that ends it is its line feed, and it is cut at its commas.
-use Rattle.std.proofs.Common.{◌≡◌, ℕ, zero, suc, ◌+◌, ◌-◌, ◌<◌, ◌≤◌, List, [], ◌∷◌, ◌++◌, length, take, drop, get_or, Bool, true, false, ◌==◌, ◌&&◌, nat_lt, Some, refl, sym, ap, ◌∙◌, inl, inr, append_assoc, arith, append-nil, length-append}
+use Rattle.std.proofs.Common.{◌≡◌, ℕ, zero, suc, ◌+◌, ◌-◌, ◌<◌, List, [], ◌∷◌, ◌++◌, length, take, drop, get_or, Bool, true, false, ◌==◌, ◌&&◌, nat_lt, refl, sym, ap, ◌∙◌, append_assoc, arith, append-nil, length-append}
 use Rattle.std.specs.Prelude.{flat_map}
 use Rattle.std.specs.List.{join_with_byte, list_all, list_any}
-use Rattle.std.proofs.lemmas.Bool.{and_parts, and_from, or_parts, cases_lt, both_ways}
+use Rattle.std.proofs.lemmas.Bool.{and_parts, or_parts, both_ways}
 use Rattle.std.proofs.lemmas.Bool.Decides.{nat_tests}
-use Rattle.std.proofs.lemmas.List.Folds.{list_all-append, list_any-append}
+use Rattle.std.proofs.lemmas.List.Folds.{list_any-append}
 use Rattle.mt_lists.specs.Lines.{NextLine, ends_line, fields_of_line, is_quote, split_from}
 use Rattle.mt_lists.specs.Records.{is_empty_field, rows_of, without_trailing_empty}
 use Rattle.mt_lists.proofs.LineFacts.{first_line, rows-line, rows-nothing}

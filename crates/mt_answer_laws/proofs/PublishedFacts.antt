@@ -1,11 +1,11 @@
 -- What is behind a published text: a market, its best match, and the stable match in which the couples' stage ends.
-use Rattle.std.proofs.Common.{◌≡◌, ℕ, ◌-◌, List, [], Bool, true, false, ◌==◌, Option, None, Some, Result, Ok, Err, length, refl, sym, ◌∙◌, ap, nat_lt}
+use Rattle.std.proofs.Common.{◌≡◌, ℕ, List, [], Bool, true, false, Option, None, Some, Result, Ok, Err, length, refl, sym, ◌∙◌, ap, nat_lt}
 use Rattle.std.specs.Prelude.{IsTrue, MatchOption, MatchResult}
 use Rattle.std.specs.Bool.{MatchBool}
 use Rattle.std.proofs.lemmas.Bool.{true≢false}
 use Rattle.mt_lists.specs.Records.{records_of}
 use Rattle.mt_terms.specs.Best.{IsBest}
-use Rattle.mt_terms.specs.Market.{Market, Registered}
+use Rattle.mt_terms.specs.Market.{Registered}
 use Rattle.mt_terms.specs.Matching.{Places}
 use Rattle.mt_terms.specs.Registration.{market_of}
 use Rattle.mt_terms.specs.Registration.Accepted.{IsRegistration}

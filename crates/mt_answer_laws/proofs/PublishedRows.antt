@@ -1,11 +1,11 @@
 -- A published text is the text of these rows: the head, a row for each applicant, a row for each program, the totals.
 -- Each of their fields has the bytes of ids alone, and a published number has ten digits at most.
-use Rattle.std.proofs.Common.{◌≡◌, ℕ, zero, suc, ◌+◌, ◌-◌, ◌*◌, ◌^◌, ◌<◌, ◌≤◌, List, [], ◌∷◌, ◌++◌, length, map, get_or, Bool, true, false, not, ◌==◌, ◌&&◌, nat_lt, nat_le, Option, Some, None, refl, sym, ap, ◌∙◌, inl, inr, append_assoc, arith, append-nil, length-append, lt-ltb}
-use Rattle.std.specs.Prelude.{codes, decimal, flat_map, slice_index, slice_index_or, IsTrue}
+use Rattle.std.proofs.Common.{◌≡◌, ℕ, zero, suc, ◌+◌, ◌-◌, ◌^◌, ◌<◌, ◌≤◌, List, [], ◌∷◌, ◌++◌, length, map, get_or, Bool, true, false, not, ◌==◌, ◌&&◌, nat_lt, nat_le, Option, Some, None, refl, sym, ap, ◌∙◌, append_assoc, arith, append-nil, lt-ltb}
+use Rattle.std.specs.Prelude.{codes, decimal, slice_index_or}
 use Rattle.std.specs.Char.{is_ascii_digit}
-use Rattle.std.specs.List.{join_with_byte, list_all, range_with_len}
-use Rattle.std.specs.Str.Parse.{AllDigits, digits_value}
-use Rattle.std.proofs.lemmas.Bool.{and_parts, and_from, cases_lt, both_ways, le-ltb, le-leb, leb-true}
+use Rattle.std.specs.List.{list_all, range_with_len}
+use Rattle.std.specs.Str.Parse.{AllDigits}
+use Rattle.std.proofs.lemmas.Bool.{and_parts, and_from, le-leb, leb-true}
 use Rattle.std.proofs.lemmas.Bool.Decides.{nat_tests}
 use Rattle.std.proofs.lemmas.Fmt.{decimal_digit, decimal_is_IsNumeral, first_decimal, length-decimal-le}
 use Rattle.std.proofs.lemmas.Str.Parse.{digit_from_value}

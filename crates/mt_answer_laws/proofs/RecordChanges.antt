@@ -1,13 +1,13 @@
 -- The markets of records that differ in one of them. Either both of these are withdrawn, and the markets are the same, or
 -- both stay, and the market differs where they stand.
-use Rattle.std.proofs.Common.{◌≡◌, ℕ, suc, ◌<◌, Bool, true, false, List, [], ◌∷◌, ◌++◌, ◌⊎◌, inl, inr, length, get_or, set, Option, Some, None, refl, sym, ap, ◌∙◌, subst, arith, length-append, filter, filter_map, flat_map}
+use Rattle.std.proofs.Common.{◌≡◌, ℕ, suc, ◌<◌, Bool, true, false, List, [], ◌∷◌, ◌++◌, ◌⊎◌, inl, inr, length, get_or, set, Option, refl, sym, ap, ◌∙◌, subst, arith, length-append, filter, filter_map, flat_map}
 use Rattle.std.proofs.lemmas.List.Concat.{flat_map-append}
 use Rattle.std.proofs.lemmas.List.Elements.{filter-append, filter_map-append}
-use Rattle.mt_terms.specs.Market.{Market, Names, Program, Registered, program_of}
+use Rattle.mt_terms.specs.Market.{Names, Program, Registered, program_of}
 use Rattle.mt_terms.specs.Registration.Ids.{Bytes, numbers_of}
 use Rattle.mt_terms.specs.Registration.Numbering.{couple_in, lists_in, market_by, names_of, program_in, registered}
 use Rattle.mt_terms.specs.Registration.Records.{ApplicantRecord, CoupleRecord, Kind, OfApplicant, OfCouple, OfProgram, ProgramRecord, Record, WithdrawRecord}
-use Rattle.mt_terms.specs.Registration.Rows.{applicant_ids, applicants_of, ids_of, own_id, remaining, withdrawn, withdrawn_id}
+use Rattle.mt_terms.specs.Registration.Rows.{applicant_ids, applicants_of, own_id, remaining, withdrawn, withdrawn_id}
 use Rattle.mt_terms.specs.Text.{name_of}
 use Rattle.mt_file_laws.specs.Staying.{stays_without}
 use Rattle.mt_file_laws.proofs.StayingFacts.{remaining_is}

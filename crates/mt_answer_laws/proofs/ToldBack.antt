@@ -1,25 +1,23 @@
 -- The rows of a published match tell its places and its counts: the head tells nothing, each row of an applicant its
 -- place, in turn, and each row of a program and the totals the counts.
-use Rattle.std.proofs.Common.{◌≡◌, ℕ, zero, suc, ◌+◌, ◌-◌, ◌<◌, ◌≤◌, List, [], ◌∷◌, ◌++◌, length, map, get_or, set, replicate, Bool, true, false, not, ◌==◌, ◌&&◌, Option, Some, None, Result, Ok, Err, refl, sym, ap, ◌∙◌, subst, append_assoc, arith, append-nil, length-append, position, lt-ltb, eq-eqb, if◌then◌else◌}
-use Rattle.std.specs.Prelude.{bytes_eq, codes, decimal, find, is_some, slice_index_or}
+use Rattle.std.proofs.Common.{◌≡◌, ℕ, zero, suc, ◌+◌, ◌-◌, ◌<◌, ◌≤◌, List, [], ◌∷◌, ◌++◌, length, map, get_or, set, replicate, Bool, true, false, not, ◌&&◌, Option, Some, None, Ok, refl, sym, ap, ◌∙◌, append_assoc, arith, append-nil, length-append, position, lt-ltb, eq-eqb}
+use Rattle.std.specs.Prelude.{bytes_eq, find, is_some}
 use Rattle.std.specs.Option.{unwrap_or}
 use Rattle.std.specs.List.{list_any, position_or_len, range_with_len}
 use Rattle.std.proofs.lemmas.List.Folds.{list_any_at}
 use Rattle.std.proofs.lemmas.Bool.{both_ways, le-ltb}
-use Rattle.std.proofs.lemmas.List.{map-append, length-map, length-replicate}
 use Rattle.mt_terms.specs.Lists.{below}
-use Rattle.mt_terms.specs.Market.{Market, Names, Registered, applicants, program_of}
+use Rattle.mt_terms.specs.Market.{Market, Names, applicants, program_of}
 use Rattle.mt_terms.specs.Matching.{Places, filled, place_of}
-use Rattle.mt_terms.specs.Registration.Faults.{Fault}
 use Rattle.mt_terms.specs.Registration.Ids.{Bytes, all_differ}
 use Rattle.mt_terms.specs.Registration.Passes.{numbered_from}
 use Rattle.mt_terms.specs.Text.{all_filled, name_of, place_text, positions, unmatched}
 use Rattle.mt_terms.proofs.IdFacts.{is_same, same_id}
-use Rattle.mt_match.specs.Told.{SoFar, Told, all_told, first_unplaced, match_of, nothing_told, place_named, told_by}
+use Rattle.mt_match.specs.Told.{all_told, nothing_told, place_named, told_by}
 use Rattle.mt_match.specs.declared.told_match.Count.TheVariants as count
 use Rattle.mt_match.specs.declared.told_match.Counted.{Counted}
 use Rattle.mt_check.specs.Findings.{first_differing_of, fits_count}
-use Rattle.mt_answer_laws.proofs.PublishedRows.{IsTellable, IsTold, applicant_fields, head_fields, id_at, id_no_dash, program_fields, published_rows, totals_fields}
+use Rattle.mt_answer_laws.proofs.PublishedRows.{IsTellable, applicant_fields, id_at, id_no_dash, program_fields, published_rows, totals_fields}
 
 -- an id has the number of its place, where ids differ
 pub own_number : (ids : List Bytes) (i : ℕ) → all_differ bytes_eq ids ≡ true → i < length ids → position_or_len (bytes_eq (get_or ids i [])) ids ≡ i

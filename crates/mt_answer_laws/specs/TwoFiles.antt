@@ -38,7 +38,7 @@ pub record Publishes (bytes : List ℕ) (r : Registered) (places : Places) : Typ
   pub counts : List Counted
   pub of_text : told_in r text ≡ Ok (record { places = places; counts = counts })
 
--- For the file in some bytes, whose market this is, a text is called stable, whoever wrote it, and these are the places
+-- For the file in some bytes, whose market this is, a text is called stable by the judge, and these are the places
 -- that it tells.
 pub record CalledStable (bytes : List ℕ) (r : Registered) (places : Places) : Type 0 where
   pub text : List ℕ
