@@ -1,4 +1,4 @@
--- How many rounds a stage makes, and markets in which what the laws of rounds ask for is so.
+-- How many rounds a stage makes, and markets that meet the premises of the laws of rounds.
 use Rattle.std.specs.Prelude.{◌≡◌, [], ◌∷◌, Some, None}
 use Rattle.mt_terms.specs.Market.{Market}
 use Rattle.mt_terms.specs.Matching.{Places}
@@ -17,9 +17,9 @@ StageRounds = (m : Market) (places : Places) → OfEveryEnd m places (NeedsRound
 abbrev pub single_back : Places
 single_back = Some 0 ∷ None ∷ None ∷ Some 0 ∷ Some 1 ∷ []
 
--- What the laws of rounds require holds in the market where the partner withdraws. There the match of the single
+-- The premises of the laws of rounds hold in the market where the partner withdraws. There the match of the single
 -- alone is the best one, and a stage ends. Once the second couple has moved, the first couple and the single are on
--- the work list. It also holds in the market of three couples when the second one enters, with the first one placed
+-- the work list. They also hold in the market of three couples when the second one enters, with the first one placed
 -- and the third one outside.
 pub record PremisesOfRounds : Type 0 where
   pub well_formed : IsWellFormed partner_withdraws

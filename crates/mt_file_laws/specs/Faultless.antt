@@ -1,4 +1,4 @@
--- Which files are accepted: those of whose records, taken all together, none is at fault. (This project's own format.)
+-- Which files are accepted: those whose records, taken all together, have no fault. (This project's own format.)
 use Rattle.std.specs.Prelude.{◌≡◌, ◌&&◌, ◌||◌, Bool, true, not, List, [], ◌∷◌, map, Option, Some, None, is_some, option_map, option_and_then, codes, bytes_eq, if◌then◌else◌}
 use Rattle.std.specs.List.{list_all}
 use Rattle.std.specs.Result.{result_ok}
@@ -48,7 +48,7 @@ drafts rules (row ∷ rows) = option_and_then (λ r. option_map (λ rs. r ∷ rs
 abbrev pub is_allowed : Bool → IdPair → Bool
 is_allowed half_pairs pair = (is_some pair.0 && is_some pair.1) || (half_pairs && (is_some pair.0 || is_some pair.1))
 
--- whether it is, and names none but these programs
+-- whether a pair is allowed, and names none but these programs
 abbrev pub pair_stands : Bool → List Bytes → IdPair → Bool
 pair_stands half_pairs programs pair = is_allowed half_pairs pair && names_only programs pair
 
@@ -87,6 +87,6 @@ is_faultless rules rs =
 abbrev pub faultless_market : Rules → List (List Bytes) → Option Registered
 faultless_market rules rows = option_and_then (λ rs. if is_faultless rules rs then Some (registered rs) else None) (drafts rules rows)
 
--- it is the market of the two passes
+-- the market of rows without a fault is the market of the two passes
 abbrev pub PassesAgree : Type 0
 PassesAgree = (rules : Rules) (rows : List (Numbered (List Bytes))) → result_ok (market_under rules rows) ≡ faultless_market rules (contents rows)

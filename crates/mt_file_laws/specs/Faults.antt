@@ -9,6 +9,6 @@ use Rattle.mt_terms.specs.Text.{is_fault_code, is_none_or_id}
 abbrev pub FaultCodes : Type 0
 FaultCodes = (rows : List (List Bytes)) (fault : Fault) → market_of rows ≡ Err fault → IsTrue (is_fault_code fault.code)
 
--- and its id is empty or an id
+-- the id of each fault of a file is empty or an id
 abbrev pub FaultIds : Type 0
 FaultIds = (rows : List (List Bytes)) (fault : Fault) → market_of rows ≡ Err fault → IsTrue (is_none_or_id fault.id)

@@ -5,7 +5,7 @@ use Rattle.mt_terms.specs.Registration.{market_of}
 use Rattle.mt_terms.specs.Registration.Ids.{Bytes}
 use Rattle.mt_terms.specs.Registration.Accepted.{IsRegistration}
 
--- it is a market with its names, well formed and within the limits
+-- the market of an accepted file, with its names, is well formed and within the limits
 abbrev pub AcceptedIsRegistration : Type 0
 AcceptedIsRegistration = (rows : List (List Bytes)) (r : Registered) → market_of rows ≡ Ok r → IsRegistration r
 

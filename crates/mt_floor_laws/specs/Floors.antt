@@ -13,7 +13,7 @@ use Rattle.mt_terms.specs.declared.events.Event.{Event}
 use Rattle.mt_terms.specs.declared.events.Event.TheVariants.{Propose, Notice}
 use Rattle.mt_terms.specs.declared.events.Reply.TheVariants.{NotDue}
 
--- it is the one match that is
+-- a match is the result of a floor exactly if it is the one that `result_of` gives
 abbrev pub ResultOfFloor : Type 0
 ResultOfFloor = (m : Market) (f : Floor) (places : Places) → IsResult m f places ↔ (places ≡ result_of m f)
 

@@ -20,7 +20,7 @@ pub record LiveAgrees (m : Market) : Type 0 where
   pub same_best : (places : Places) → IsBest (live_market m) places ↔ IsBest m places
   pub same_proposals : (places : Places) (p : ℕ) → proposals (live_market m) places p ≡ proposals m places p
 
--- this is so of each well-formed market
+-- the live market of each well-formed market agrees with it
 abbrev pub LiveMarketAgrees : Type 0
 LiveMarketAgrees = (m : Market) → IsWellFormed m → LiveAgrees m
 

@@ -91,7 +91,7 @@ pub fn quiet_counts()
     ensures { QuietCounts }
 {}
 
-/// Whatever the order of the events, they end in the same proposals and in the best match.
+/// In whatever order events come, they end in the same proposals and in the best match.
 pub fn order_free()
     ensures law { OrderFree }
     ensures example { ChainInTwoOrders }

@@ -10,7 +10,7 @@ use Rattle.mt_terms.specs.Best.{IsExcluded, IsBest, better_programs}
 use Rattle.mt_terms.specs.WellFormed.{IsWellFormed, is_well_formed}
 use Rattle.mt_terms.specs.Examples.Markets.{chain, two_posts}
 
--- A program chooses who is on its list, is of the set, and has fewer than quota of the set above it.
+-- A program chooses each applicant that is on its list and of the set, and has fewer than quota of the set above it.
 abbrev pub ChoiceInWords : Type 0
 ChoiceInWords =
     (p : Program) (set : Set) (a : ℕ)
@@ -47,7 +47,7 @@ Exclusion =
     → ((b q : ℕ) → IsTrue (set b) → IsTrue (has (until (λ x. x == p) (live m b)) q) → IsExcluded m b q)
     → (a : ℕ) → IsTrue (set a) → IsFalse (choice (program_of m p) set a) → IsExcluded m a p
 
--- Who has quota or more of such a set above it on the program's list is excluded there.
+-- An applicant with quota or more of such a set above it on the program's list is excluded there.
 abbrev pub ExclusionByQuota : Type 0
 ExclusionByQuota =
     (m : Market) → IsWellFormed m → (p : ℕ) (set : Set)
@@ -69,8 +69,8 @@ BestIsAtLeast =
 abbrev pub WellFormedTest : Type 0
 WellFormedTest = (m : Market) → IsTrue (is_well_formed m) ↔ IsWellFormed m
 
--- Two posts and three applicants: with the first two both are chosen, and the third one, whom the program
--- wants most, drives out whom it wants least.
+-- Two posts and three applicants: the program chooses both of the first two. The third one, whom the program wants
+-- most, displaces the one that it wants least.
 pub record ChosenForTwoPosts : Type 0 where
   pub room_for_both : choice (program_of two_posts 0) (has (0 ∷ 1 ∷ [])) 1 ≡ true
   pub newcomer : choice (program_of two_posts 0) (with_one (has (0 ∷ 1 ∷ [])) 2) 2 ≡ true

@@ -14,7 +14,7 @@ SingleTaken =
     (m : Market) (places : Places) (a p : ℕ) → a < length places
     → would_be_taken m places (single_placement a p) ≡ choice (program_of m p) (with_one (at places p) a) a
 
--- A couple is taken out first: below, who is at a program is seen with both its members unplaced.
+-- A couple is taken out first: below, the applicants at a program are seen with both its members unplaced.
 abbrev pub taken_out : Places → ℕ → ℕ → Places
 taken_out places a b = unplaced (a ∷ b ∷ []) places
 

@@ -1,6 +1,6 @@
 ghost use Rattle.mt_match_laws.specs.Singles.{ChoiceInWords, GrowingChoice, NoneComesBack, StabilityOfSingles, Exclusion, ExclusionByQuota, BestIsUnique, BestIsAtLeast, WellFormedTest, ChosenForTwoPosts, ExcludedInChain};
 
-/// A program chooses who is on its list, is of the set, and has fewer than quota of the set above it.
+/// A program chooses each applicant that is on its list and of the set, and has fewer than quota of the set above it.
 pub fn choice_in_words()
     ensures { ChoiceInWords }
 {}
@@ -27,7 +27,7 @@ pub fn exclusion()
     ensures { Exclusion }
 {}
 
-/// Who has quota or more of such a set above it is in no stable match here.
+/// An applicant with quota or more of such a set above it is in no stable match here.
 pub fn exclusion_by_quota()
     ensures { ExclusionByQuota }
 {}

@@ -21,29 +21,29 @@ Keeps Holds step = (w : Work) → Holds w → Holds (step w)
 abbrev pub OfEveryEnd : Market → Places → (ℕ → Places × ℕ → Type 0) → Type 0
 OfEveryEnd m places Holds = (budget : ℕ) (r : Places × ℕ) → stage m places budget ≡ Some r → Holds budget r
 
--- the first couple waits in that state, after the best match of the singles
+-- the first couple waits in the state between two rounds, after the best match of the singles
 abbrev pub FirstCoupleWaits : Type 0
 FirstCoupleWaits =
     (m : Market) → IsWellFormed m → (places : Places) → IsBest m places
     → 0 < length m.couples → IsRoundState m 0 (state places (Couple 0 ∷ []))
 
--- so does each next couple, once the list of the one before it is empty
+-- each next couple waits in that state, once the list of the one before it is empty
 abbrev pub NextCoupleWaits : Type 0
 NextCoupleWaits =
     (m : Market) → IsWellFormed m → (k : ℕ) (places : Places) → IsRoundState m k (state places [])
     → k + 1 < length m.couples → IsRoundState m (k + 1) (state places (Couple (k + 1) ∷ []))
 
--- and once the list of the last couple is empty, the match is stable
+-- once the list of the last couple is empty, the match is stable
 abbrev pub LastListIsStable : Type 0
 LastListIsStable =
     (m : Market) → IsWellFormed m → (k : ℕ) (places : Places) → IsRoundState m k (state places [])
     → k + 1 ≡ length m.couples → IsTrue (stable m places)
 
--- a round keeps that state
+-- a round keeps the state between two rounds
 abbrev pub RoundKeeps : Type 0
 RoundKeeps = (m : Market) → IsWellFormed m → (k : ℕ) → Keeps (IsRoundState m k) (round m k)
 
--- a round keeps that too
+-- a round keeps a match that fits, and a work list of agents of the market
 abbrev pub RoundFits : Type 0
 RoundFits = (m : Market) → IsWellFormed m → (k : ℕ) → Keeps (IsFittingState m) (round m k)
 

@@ -21,7 +21,7 @@ pub record IsBest (m : Market) (places : Places) : Type 0 where
   pub none_better : (a p : ℕ) → IsTrue (has (better_programs m places a) p) → IsExcluded m a p
 
 -- the programs to which an applicant proposes on the way to the best match: its live list up to its place, or all of
--- it if the applicant has none
+-- it without a place
 abbrev pub proposed_to : Market → Places → ℕ → List ℕ
 proposed_to m best a = through (λ p. at best p a) (live m a)
 

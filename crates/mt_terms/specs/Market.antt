@@ -1,7 +1,7 @@
--- A market: programs with quotas and rank order lists of applicants, applicants with rank order lists of
--- programs, and couples with rank order lists of pairs. Applicants, programs and couples are numbers, by
--- order of registration from 0. (Gale and Shapley 1962; couples as in Roth and Peranson 1999, with pairs
--- of which one member may be unplaced by this project's own rule.)
+-- A market: programs with quotas and rank order lists of applicants, applicants with rank order lists of programs,
+-- and couples with rank order lists of pairs. Applicants, programs and couples are numbers, by order of registration
+-- from 0. (Gale and Shapley 1962. Couples are as in Roth and Peranson 1999. By this project's own rule one member of
+-- a pair may be unplaced.)
 use Rattle.std.specs.Prelude.{ℕ, ◌+◌, Bool, true, ◌||◌, ◌==◌, List, [], ◌∷◌, map, filter, length, Option, slice_index_or, if◌then◌else◌}
 use Rattle.mt_terms.specs.Lists.{has, below, total_below}
 use Rattle.mt_terms.specs.declared.numbers.Agent.{Agent}
@@ -22,8 +22,8 @@ pub record Partners : Type 0 where
   pub second : ℕ
   pub pairs : List Pair
 
--- a market. An applicant's list has the programs that it wants, the most wanted first; a couple's member
--- has no list of its own, so its list is empty
+-- A market. An applicant's list has the programs that it wants, the most wanted first. A couple's member has no list
+-- of its own, so its list is empty.
 pub record Market : Type 0 where
   pub programs : List Program
   pub lists : List (List ℕ)

@@ -135,7 +135,7 @@ pub record IsRoundState (m : Market) (k : ℕ) (w : Work) : Type 0 where
   pub outside_unplaced : (g : Agent) → IsTrue (is_on (agents m) g) → IsFalse (has_entered k g) → IsTrue (none_placed w.places (members m g))
   pub none_blocks : (g : Agent) → IsTrue (is_on (agents m) g) → IsTrue (has_entered k g) → IsFalse (is_on w.waiting g) → IsFalse (blocks m w.places g)
 
--- What holds of it from any match that fits: the match fits, and on the work list are agents of the market.
+-- Between two rounds from any match that fits: the match fits, and on the work list are agents of the market.
 pub record IsFittingState (m : Market) (w : Work) : Type 0 where
   pub fitting : IsTrue (fits m w.places)
   pub waiting_agents : (g : Agent) → IsTrue (is_on w.waiting g) → IsTrue (is_on (agents m) g)

@@ -1,5 +1,5 @@
--- Which matches are stable. Without couples this is the stability of Gusfield and Irving 1989 for
--- hospitals and residents; how a couple blocks is this project's own rule.
+-- Which matches are stable. Without couples this is the stability of Gusfield and Irving 1989 for hospitals and
+-- residents. How a couple blocks is this project's own rule.
 use Rattle.std.specs.Prelude.{ℕ, Bool, true, not, ◌&&◌, ◌||◌, ◌==◌, nat_le, Option, Some, None, length}
 use Rattle.std.specs.List.{list_any, list_all}
 use Rattle.mt_terms.specs.Lists.{has, below}

@@ -87,7 +87,7 @@ refusals =
 abbrev pub is_known_code : ℕ → Bool
 is_known_code code = list_any (λ r. r.0 == code) refusals
 
--- the codes of the faults of a file, which are the known ones from 12 to 22: only they tell a record or an id
+-- the codes of the faults of a file, which are the known ones from 12 to 22: only their lines name a record or an id
 abbrev pub is_fault_code : ℕ → Bool
 is_fault_code code = is_known_code code && nat_le NO_VERSION code && nat_le code NOT_REGISTERED
 
@@ -128,11 +128,11 @@ lines_of text = slice_split (λ byte. byte == line_feed) text
 abbrev pub fields_of : List ℕ → List (List ℕ)
 fields_of line = slice_split (λ byte. byte == comma) line
 
--- a line that tells an applicant's place
+-- a line of an applicant's place
 abbrev pub is_applicant_line : List ℕ → Bool
 is_applicant_line line = starts_with nat_eq line (codes "applicant,")
 
--- A text is one record: one line, with a line feed at its end, of these fields; it is no line of an applicant.
+-- A text is one record: one line of these fields, with a line feed at its end. It is no line of an applicant.
 pub record IsOneRecord (fields : List (List ℕ)) (text : List ℕ) : Type 0 where
   pub line : List ℕ
   pub one_line : lines_of text ≡ line ∷ [] ∷ []

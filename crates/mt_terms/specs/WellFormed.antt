@@ -12,7 +12,7 @@ pub record IsMember (m : Market) (c a : ℕ) : Type 0 where
   pub no_list : list_of m a ≡ []
   pub belongs : agent_of m a ≡ Couple c
 
--- Lists have no repeats and name who is there, and each couple has two members of its own.
+-- Lists have no repeats and name only what the market has, and each couple has two members of its own.
 pub record IsWellFormed (m : Market) : Type 0 where
   pub lists_distinct : (a : ℕ) → IsTrue (is_distinct (list_of m a))
   pub lists_within : (a p : ℕ) → IsTrue (has (list_of m a) p) → p < length m.programs

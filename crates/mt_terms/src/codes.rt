@@ -39,7 +39,7 @@ pub const UNKNOWN_PROGRAM: u16 = 21;
 /// A withdrawal names a row that no record registers.
 pub const NOT_REGISTERED: u16 = 22;
 
-/// A growth was refused.
+/// Memory was refused.
 pub const OUT_OF_MEMORY: u16 = 30;
 
 /// A read failed.

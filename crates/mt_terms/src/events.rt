@@ -9,7 +9,7 @@ pub enum Event {
     Notice(AppNo),
 }
 
-/// What came of an event.
+/// The reply to an event.
 #[derive(Clone, Copy, Debug, PartialEq, Eq)]
 pub enum Reply {
     /// The program holds the applicant.

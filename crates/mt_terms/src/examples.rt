@@ -1,4 +1,4 @@
-//! What the definitions give on small markets. Each function does nothing; its contract is the example.
+//! What the definitions give on small markets. Each function does nothing. Its contract is the example.
 
 mod events;
 mod registration;

@@ -9,7 +9,7 @@ pub struct Limits {
     pub programs: u32,
     /// Couples.
     pub couples: u32,
-    /// Ids in all lists; a pair counts as two.
+    /// Ids in all lists. A pair counts as two.
     pub entries: u32,
     /// Bytes of an id.
     pub id_bytes: usize,

@@ -1,4 +1,4 @@
-/// What a run may be told besides its input.
+/// The options of a run.
 #[derive(Clone, Copy, Debug, PartialEq, Eq)]
 pub struct Options {
     /// How many workers match the singles, 1 to 64. The result doesn't depend on it.

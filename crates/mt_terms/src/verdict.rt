@@ -9,7 +9,7 @@ pub struct Blocker {
     pub option: u32,
 }
 
-/// What there is to say of a match: that it is stable, or the first finding against it.
+/// The verdict on a match: that it is stable, or the first finding against it.
 #[derive(Clone, Copy, Debug, PartialEq, Eq)]
 pub enum Verdict {
     /// The match is stable.

@@ -6,7 +6,7 @@ use Rattle.mt_terms.specs.declared.events.Event.{Event}
 use Rattle.mt_terms.specs.declared.events.Event.TheVariants.{Propose, Notice}
 use Rattle.mt_terms.specs.declared.events.Reply.TheVariants.{Kept, KeptInstead, Refused, Noticed, NotDue}
 
--- each applicant's first wish first, and then who was dropped
+-- each applicant's first wish first, and then those that were displaced
 abbrev pub by_wishes : List Event
 by_wishes =
     Propose 0 ∷ Propose 1 ∷ Propose 2 ∷ Notice 0 ∷ Propose 0 ∷ Notice 1 ∷ Propose 1 ∷ Notice 2 ∷ Propose 2 ∷ []
@@ -19,7 +19,7 @@ from_the_last = Propose 2 ∷ Propose 0 ∷ Propose 0 ∷ Propose 1 ∷ Propose 
 abbrev pub made_by : Floor → List ℕ
 made_by f = f.made 0 ∷ f.made 1 ∷ f.made 2 ∷ []
 
--- The replies differ with the order; the proposals made, and the quiet end, don't.
+-- The replies differ with the order. The proposals made and the quiet end don't.
 pub record TwoOrders : Type 0 where
   pub wishes : replies Markets.chain opening by_wishes
       ≡ Kept ∷ Kept ∷ KeptInstead 0 ∷ Noticed ∷ KeptInstead 1 ∷ Noticed ∷ KeptInstead 2 ∷ Noticed ∷ NotDue ∷ []

@@ -1,4 +1,4 @@
--- Which matches of the small markets are stable or best, and what there is to say of the others.
+-- Which matches of the small markets are stable or best, and the finding against each other one.
 use Rattle.std.specs.Prelude.{◌≡◌, true, false, [], ◌∷◌, Some, None}
 use Rattle.mt_terms.specs.Best.{IsBest, proposals}
 use Rattle.mt_terms.specs.Examples.Markets

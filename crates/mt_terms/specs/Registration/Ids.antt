@@ -35,7 +35,7 @@ has_id ids id = list_any (bytes_eq id) ids
 abbrev pub number_of : List Bytes → Bytes → ℕ
 number_of ids id = position_or_len (bytes_eq id) ids
 
--- a list by numbers: who is not among the ids leaves it
+-- a list by numbers: an id that is not among these leaves it
 abbrev pub numbers_of : List Bytes → List Bytes → List ℕ
 numbers_of ids list = map (number_of ids) (filter (has_id ids) list)
 

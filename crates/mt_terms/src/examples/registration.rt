@@ -6,7 +6,7 @@ ghost use Rattle.mt_terms.specs.Examples.Markets.{crossed, half_pair, three_coup
 ghost use Rattle.mt_terms.specs.Examples.Registration.{crossed_file, chain_file, chain_without_applicant, single_between_file, unstable_file, unstable_without_couple, three_couples_file, three_couples_without_program, one_applicant, each_member_alone, one_name_file, one_name_without_program, small, market_within, full_file, full};
 ghost use Rattle.mt_terms.specs.Examples.RegistrationText.{file, file_1, file_2, named, refused};
 
-/// Numbers go by the order of the records; a couple registers its two members. A record without a field is passed
+/// Numbers go by the order of the records, and a couple registers its two members. A record without a field is passed
 /// over but counted, and zeros may lead a quota. In version 2 one of the two ids of a pair may be `-`, and `x,-` is
 /// another pair than `-,x`.
 pub fn registered_files()
@@ -52,9 +52,9 @@ pub fn names_that_nobody_registers()
     ensures member_withdrawn_alone { market_of (file_2 (single_between_file ++ "withdraw,applicant,a" ∷ [])) ≡ refused NOT_REGISTERED 5 "a" }
 {}
 
-/// The withdrawn rows leave the market, and their ids all lists; the others move up. A withdrawn couple takes its
-/// members along, and a pair that names a withdrawn program leaves its list. Programs, applicants and couples are
-/// three name spaces.
+/// The withdrawn rows leave the market, their ids leave all lists, and the other rows move up. A withdrawn couple
+/// takes its members along, and a pair that names a withdrawn program leaves its list. Programs, applicants and
+/// couples are three name spaces.
 pub fn withdrawn_rows()
     ensures applicant { market_of (file_2 ("withdraw,applicant,a1" ∷ chain_file)) ≡ Ok (named chain_without_applicant "P1,P2" "a2,a3" "") }
     ensures couple { market_of (file_2 (unstable_file ++ "withdraw,couple,c" ∷ [])) ≡ Ok (named unstable_without_couple "x,y" "s" "") }
