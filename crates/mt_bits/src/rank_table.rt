@@ -55,7 +55,8 @@ fn mark(rows: &mut Rows<u64>, list: usize, rank: u32)
     rows.set(list, place, word | 1 << (rank % 64));
 }
 
-/// Sets the bit of a rank whose word isn't there. The error is want of memory, and nothing is said of the bits then.
+/// Sets the bit of a rank whose word isn't there. The error is want of memory, and then no clause says what the bits
+/// are.
 #[cold]
 fn insert_beyond(rows: &mut Rows<u64>, list: usize, rank: u32) -> Result<(), AllocError>
     requires list { list < length rows.old }
@@ -157,7 +158,7 @@ impl RankTable {
         }
     }
 
-    /// Adds a rank on a list. The error is want of memory, and nothing is said of the set then.
+    /// Adds a rank on a list. The error is want of memory, and then no clause says what the set is.
     #[inline(always)]
     pub fn insert(&mut self, list: usize, rank: u32) -> Result<(), AllocError>
         requires { list < length self.old }

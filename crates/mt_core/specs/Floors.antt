@@ -17,11 +17,12 @@ pub record Tables : Type 0 where
 abbrev pub hold_of : Tables → ℕ → Holding
 hold_of t p = slice_index_or t.holds p (opened 0 0)
 
--- whom a program with this holding has received: who is on its list, at a rank that the holding has received
+-- the applicants that a program with this holding has received: those on its list, at a rank that the holding has
+-- received
 abbrev pub received_from : Program → Holding → Set
 received_from p h a = option_map_or (has_received h) (position (λ x. x == a) p.ranking) false
 
--- whom a program has received
+-- the applicants that a program has received
 abbrev pub received_by : Market → Tables → ℕ → Set
 received_by m t p = received_from (program_of m p) (hold_of t p)
 

@@ -108,7 +108,7 @@ pub(crate) fn notice(floor: &mut Floor, ranks: &Ranks, applicant: AppNo) -> Repl
     Reply::Noticed
 }
 
-/// The reply to a proposal to the program, by what became of it there.
+/// The reply to a proposal to the program, by the answer of its holding.
 fn reply_at(ranks: &Ranks, program: ProgNo, taken: Taken) -> Reply
     requires program { program < length ranks.now.market.programs }
     requires rank { IsAnswerOn (program_of ranks.now.market program).ranking taken }

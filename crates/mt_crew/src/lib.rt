@@ -1,4 +1,4 @@
-//! Workers that match the singles: each takes tickets from its own deque or steals them, and acts on the floor behind
+//! Workers that match the singles. Each takes tickets from its own deque or steals them, and acts on the floor behind
 //! locks. Which worker acts on whom, and when, changes nothing: the match is the best one.
 #![tactic(auto)]
 

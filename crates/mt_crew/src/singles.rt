@@ -30,8 +30,8 @@ fn all_received(alloc: Global, floor: &Floor, ranks: &Ranks) -> Result<Vec<u32>,
     Ok(counts)
 }
 
-/// The best match in which a legal floor ends, and the proposals on the way to it, with the number of them that were
-/// left to be made on the floor.
+/// The best match in which a legal floor ends, and the proposals on the way to it. The number is that of the
+/// proposals that were left to be made on the floor.
 pub(crate) fn singles_of(
     alloc: Global,
     floor: &mut Floor,
@@ -51,9 +51,9 @@ pub(crate) fn singles_of(
     Ok((Singles { matched, proposals }, late))
 }
 
-/// The best match of the singles, made by the calling thread alone, and the proposals on the way to it: what `work`
-/// answers with any number of workers. It opens no hall, takes no lock and passes no gate, so for one worker it is the
-/// cheaper call. Its one error is that there isn't enough memory.
+/// The best match of the singles and the proposals on the way to it, made by the calling thread alone. It is what
+/// `work` answers with any number of workers. It opens no hall, takes no lock and passes no gate, so for one worker
+/// it is the cheaper call. Its one error is that there isn't enough memory.
 pub fn work_alone(alloc: Global, ranks: &Ranks) -> Result<Singles, AllocError>
     ensures best { IfOk result (λ s. IsBest ranks.now.market s.matched.places) }
     ensures proposals { IfOk result (λ s. s.proposals.items

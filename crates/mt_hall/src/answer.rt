@@ -1,6 +1,6 @@
 use mt_terms::{AppNo, ProgNo};
 
-/// What a call of `advance` came to.
+/// The answer to a call of `advance`.
 #[derive(Clone, Copy, Debug, PartialEq, Eq)]
 pub enum Answer {
     /// The applicant proposed. Whether the program holds it, and whom it holds no longer for that.
@@ -9,7 +9,7 @@ pub enum Answer {
         kept: bool,
         displaced: Option<AppNo>,
     },
-    /// The applicant learnt that this program, where it stood, holds it no longer.
+    /// The applicant learnt that this program, to which it proposed last, holds it no longer.
     Told {
         by: ProgNo,
     },

@@ -6,8 +6,8 @@ use mt_tally::DeskShare;
 use mt_terms::AppNo;
 use std::marker::Model;
 
-/// The desk of an applicant. It has how many proposals the applicant has made, whether the applicant believes that
-/// the last one is held, and a credit for each live entry that is left.
+/// The desk of an applicant. It has how many proposals the applicant has made, and whether the applicant believes
+/// that the last one is held. It has a credit for each live entry that is left.
 pub struct Desk<K: HallName> {
     pub(crate) applicant: AppNo,
     pub(crate) made: u32,

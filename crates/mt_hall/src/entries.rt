@@ -6,7 +6,7 @@ ghost use Rattle.mt_hall.specs.Answers.{is_single};
 use mt_ranks::{Live, Ranks};
 use mt_terms::AppNo;
 
-/// Whether the applicant is a single; a single is an applicant.
+/// Whether the applicant is a single. A single is an applicant.
 pub(crate) fn is_single(ranks: &Ranks, applicant: AppNo) -> bool
     ensures single { result ≡ is_single ranks.now applicant }
     ensures known { result ≡ true → applicant < applicants ranks.now.market }

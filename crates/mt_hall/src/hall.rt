@@ -136,7 +136,7 @@ impl<'a, K: HallName> Hall<'a, K> {
     }
 }
 
-// What a call came to whose one event had this reply of the program.
+// The answer to a call whose one event had this reply of the program.
 fn answer_to(program: ProgNo, reply: Reply) -> Answer
     ensures tells { (m : Market) (a : ℕ) → IsTrue (has (live m a) program) → Shows m a program reply → Tells m a result }
     ensures known { result ≢ Answer.Stranger }

@@ -18,7 +18,7 @@ use std::marker::PhantomData;
 use std::sync::Mutex;
 use std::sync::ledger::Blank;
 
-/// How many live entries each applicant has: as many credits its desk is dealt.
+/// How many live entries each applicant has. Its desk is dealt as many credits.
 fn credits_of(alloc: Global, ranks: &Ranks) -> Result<Vec<u32>, AllocError>
     ensures each { IfOk result (λ credits. credits.items
         ≡ map (λ a. length (live ranks.now.market a)) (below (applicants ranks.now.market))) }

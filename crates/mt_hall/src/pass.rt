@@ -54,7 +54,7 @@ impl<K: HallName> Pass<K> {
         self.by_applicant[applicant.index()] as u64
     }
 
-    /// How often a lock that was wanted was another worker's just then. It is more often if workers are in each
+    /// How often a lock that was wanted was another worker's just then. That is more often if workers are in each
     /// other's way. The number is about right, and no clause pins it.
     pub fn waits(&self) -> u32 {
         self.waits

@@ -7,10 +7,10 @@ ghost use Rattle.mt_hold.specs.Settled.{IsSettled};
 use std::alloc::{AllocError, Global};
 use std::marker::Model;
 
-/// What came of a proposal.
+/// The answer to a proposal, by ranks.
 #[derive(Clone, Copy, Debug, PartialEq, Eq)]
 pub enum Taken {
-    /// The rank is held, and nobody was dropped for it.
+    /// The rank is held, and no rank was displaced for it.
     Kept,
     /// The rank is held, and this one no longer.
     KeptInstead(u32),

@@ -89,7 +89,7 @@ impl<T> FlatLists<T> {
         piece(&self.items, &self.ends, number)
     }
 
-    /// Adds an empty list at the end.
+    /// Adds an empty list at the end. The error is want of memory.
     pub fn begin(&mut self) -> Result<(), AllocError>
         ensures ok { OnOk result (self.new ≡ self.old ++ [] ∷ []) }
         ensures err { OnErr result (self.new ≡ self.old) }
@@ -98,7 +98,7 @@ impl<T> FlatLists<T> {
         Ok(())
     }
 
-    /// Adds an element at the end of the last list.
+    /// Adds an element at the end of the last list. The error is want of memory.
     pub fn push(&mut self, item: T) -> Result<(), AllocError>
     where
         T: Drop,
@@ -112,7 +112,7 @@ impl<T> FlatLists<T> {
         Ok(())
     }
 
-    /// Adds a list with these elements at the end.
+    /// Adds a list with these elements at the end. The error is want of memory.
     pub fn push_list(&mut self, list: &[T]) -> Result<(), AllocError>
     where
         T: Copy,

@@ -144,8 +144,8 @@ impl<T: Copy> Rows<T> {
         Ok(())
     }
 
-    /// Adds an element at the end of a row. The error is want of memory, or of places, and the rows are as they were
-    /// then.
+    /// Adds an element at the end of a row. The error is want of memory, or of places, and leaves the rows as they
+    /// were.
     #[inline]
     pub fn push(&mut self, number: usize, item: T) -> Result<(), AllocError>
         requires { number < length self.old }

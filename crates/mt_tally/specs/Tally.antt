@@ -1,4 +1,4 @@
--- What a roll tells.
+-- What a roll shows.
 use Rattle.std.specs.Prelude.{ℕ}
 
 -- how many credits were dealt, how many shares were taken in, and with how many credits of desks and of passes
