@@ -72,7 +72,7 @@ impl<'a> Hash for Key<'a> {
     }
 }
 
-/// The first eight bytes of an id as a number; of a shorter one all its bytes, by reads that may overlap.
+/// The first eight bytes of an id as a number. A shorter id gives all its bytes, by reads that may overlap.
 fn head_of(id: &[u8]) -> u64
     ensures { result ≡ head_of id.now }
 {
@@ -135,7 +135,7 @@ impl<'a> IdTable<'a> {
         }
     }
 
-    /// No ids, with room for some.
+    /// No ids, with room for some. The error is want of memory.
     pub fn with_capacity(alloc: Global, capacity: usize, seed: Seed) -> Result<Self, AllocError>
         ensures { IfOk result (λ table. table ≡ []) }
     {
@@ -144,7 +144,7 @@ impl<'a> IdTable<'a> {
         })
     }
 
-    /// The ids that these names are, if they differ.
+    /// The ids that these names are, if they differ. The error is want of memory.
     pub fn of(alloc: Global, names: &'a FlatLists<u8>) -> Result<Option<Self>, AllocError>
         ensures ids { IfOk result (λ found. IfSome found (λ table. table ≡ names.now)) }
         ensures differ { IfOk result (λ found. is_some found ≡ all_differ bytes_eq names.now) }
@@ -180,7 +180,7 @@ impl<'a> IdTable<'a> {
         self.ids.get_index_of(&Key::of(id))
     }
 
-    /// Adds an id at the end, if it is none of them, and says whether it did so.
+    /// Adds an id at the end, if it is none of them, and says whether it did so. The error is want of memory.
     pub fn add(&mut self, id: &'a [u8]) -> Result<bool, AllocError>
         ensures added { IfOk result (λ added. added ≡ not (has_id self.old id.now)) }
         ensures ids { IfOk result (λ _. self.new ≡ (if has_id self.old id.now then self.old else self.old ++ id.now ∷ [])) }
@@ -189,7 +189,7 @@ impl<'a> IdTable<'a> {
         Ok(self.ids.insert(Key::of(id))?)
     }
 
-    /// Adds an id that is none of them at the end.
+    /// Adds an id that is none of them at the end. The error is want of memory.
     pub fn push(&mut self, id: &'a [u8]) -> Result<(), AllocError>
         requires { has_id self.old id.now ≡ false }
         ensures { OnOk result (self.new ≡ self.old ++ id.now ∷ []) }

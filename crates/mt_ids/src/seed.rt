@@ -34,7 +34,7 @@ impl BuildHasher for Seed {
     }
 }
 
-/// Adds a field to a digest, with its length: so the same bytes, parted in another way, give another digest.
+/// Adds a field to a digest, with its length. So the same bytes, parted in another way, give another digest.
 pub fn add_field(digest: &mut DefaultHasher, field: &[u8])
     ensures { digest.new ≡ with_field digest.old field.now }
 {

@@ -1,5 +1,5 @@
--- The records of an input. Commas, quotes and line ends are read as the crate csv defines (RFC 4180); what is said here
--- of marks and of padding is this project's own rule.
+-- The records of an input. Commas, quotes and line ends are read as the crate csv defines (RFC 4180). What is said
+-- here of marks and of padding is this project's own rule.
 use Rattle.std.specs.Prelude.{ℕ, ◌-◌, Bool, ◌==◌, List, [], ◌∷◌, ◌++◌, drop, length, map, take, nat_eq, Option, Some, None, if◌then◌else◌}
 use Rattle.std.specs.List.{starts_with, suffix_len}
 use Rattle.csv.specs.Reading.{records, default_config}

@@ -24,7 +24,7 @@ impl<'t> Lines<'t> {
         }
     }
 
-    // Does nothing: that a text has no more rows than bytes is what its contract says.
+    // Does nothing. Its contract says that a text has no more rows than bytes.
     pub(crate) fn has_few_rows(self)
         ensures { length (rows_of self.entry.text.now) ≤ 2 ^ 63 }
     {

@@ -27,10 +27,10 @@ pub enum ListFault {
 // The byte order mark, U+FEFF in UTF-8.
 const MARK: [u8; 3] = [0xEF, 0xBB, 0xBF];
 
-/// The records of an input in order, as rows of fields. One byte order mark at its start is dropped, and a second
-/// one after it is refused. The rest is read as CSV: commas, double quotes, a doubled quote in quotes for one
-/// quote, records of any length, no header row; empty lines are skipped. Each row loses the empty fields at its
-/// end, and a row with no field left stays. Memory is taken only for a text with a quote.
+/// The records of an input in order, as rows of fields. One byte order mark at its start is dropped, and a second one
+/// after it is refused. The rest is read as CSV: commas, double quotes, a doubled quote in quotes for one quote,
+/// records of any length, and no header row. Empty lines are skipped. Each row loses the empty fields at its end, and
+/// a row with no field left stays. Memory is taken only for a text with a quote.
 pub fn records<'t>(alloc: Global, bytes: &'t [u8]) -> Result<Rows<'t>, ListFault>
     ensures rows { IfOk result (λ rows. records_of bytes.now ≡ Some rows) }
     ensures two_marks { IsErrOf result ListFault.TwoMarks ↔ (records_of bytes.now ≡ None) }

@@ -36,8 +36,8 @@ impl<R: Read> Tap<R> {
         }
     }
 
-    /// Asks the reader once for the next bytes, at most as many as the buffer holds, and gives how many came. A
-    /// read that was interrupted counts as one that failed.
+    /// Asks the reader once for the next bytes, at most as many as the buffer holds, and gives how many came. The
+    /// error is a read that failed. A read that was interrupted counts as one.
     pub fn read(&mut self, buf: &mut [u8]) -> Result<usize, SourceFault>
         requires { reads_of self.old < u64.MAX }
         ensures reads { reads_of self.new ≡ reads_of self.old + 1 }

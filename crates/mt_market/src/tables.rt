@@ -75,7 +75,7 @@ impl Roster {
         Roster { tables }
     }
 
-    /// Does nothing: that its market is one of a file is what its contract says.
+    /// Does nothing. Its contract says that its market is one of a file.
     pub fn is_of_a_file(&self)
         ensures { IsRegistration self.now }
     {

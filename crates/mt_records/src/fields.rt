@@ -70,7 +70,7 @@ pub struct Pairs<'a> {
 }
 
 impl<'a> Pairs<'a> {
-    /// The pairs that some fields write, two by two: a last field that has no other is left out.
+    /// The pairs that some fields write, two by two. A last field that has no other is left out.
     pub fn new(fields: Fields<'a>) -> Pairs<'a>
         ensures { pairs_left result ≡ map pair_of (by_pairs (fields_left fields.entry)) }
     {

@@ -49,7 +49,7 @@ impl<'a> Kinds<'a> {
         }
     }
 
-    /// Adds an id, if it is none of its kind, and says whether it did so.
+    /// Adds an id, if it is none of its kind, and says whether it did so. The error is want of memory.
     pub fn add(&mut self, kind: Kind, id: &'a [u8]) -> Result<bool, AllocError>
         ensures added { IfOk result (λ added. added ≡ not (has_id (ids_in self.old (kind_seen kind)) id.now)) }
         ensures ids { IfOk result (λ added. added ≡ true → AddsId self.old self.new (kind_seen kind) id.now) }
@@ -61,7 +61,7 @@ impl<'a> Kinds<'a> {
         }
     }
 
-    /// Adds an id that is none of its kind.
+    /// Adds an id that is none of its kind. The error is want of memory.
     pub fn push(&mut self, kind: Kind, id: &'a [u8]) -> Result<(), AllocError>
         requires { has_id (ids_in self.old (kind_seen kind)) id.now ≡ false }
         ensures { OnOk result (AddsId self.old self.new (kind_seen kind) id.now) }

@@ -1,4 +1,4 @@
-//! One record parsed by itself, by the rules of its version, or its first fault; and ids of each kind.
+//! One record parsed by itself, by the rules of its version, or its first fault. It also has ids of each kind.
 #![tactic(auto)]
 
 mod fields;

@@ -214,7 +214,7 @@ fn couple_record<'a>(rules: &Rules, fields: Fields<'a>) -> Result<Record<'a>, Ch
     couple_by_pairs(rules, id, fields, list)
 }
 
-/// A withdrawal by the fields after its first.
+/// A withdrawal by the fields after its first. The error is its first fault.
 pub fn withdraw_record<'a>(rules: &Rules, fields: Fields<'a>) -> Result<Record<'a>, Charge<'a>>
     ensures { read_seen result ≡ withdraw_record rules.now (fields_left fields.entry) }
 {
