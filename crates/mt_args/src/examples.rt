@@ -1,4 +1,4 @@
-//! What the definition of the command line gives on worked words. Each function does nothing; its contract is the
+//! What the definition of the command line gives on worked words. Each function does nothing. Its contract is the
 //! example.
 
 ghost use Rattle.mt_args.specs.Examples.{AfterHyphensIsFile, AreMisuse, AskForHelp, AskForVersion, DefaultsStand, MostIsTaken};

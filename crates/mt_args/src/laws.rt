@@ -1,4 +1,4 @@
-//! What the definitions of the command line say, in words. Each function does nothing; its contract is the law.
+//! What the definitions of the command line say, in words. Each function does nothing. Its contract is the law.
 
 ghost use Rattle.mt_args.specs.Laws.{HelpIsNotTaken, RefusalIsExact};
 

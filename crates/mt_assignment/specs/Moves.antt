@@ -47,7 +47,7 @@ movers_leave s sent p = is_left_by_movers s.places sent p
 abbrev pub is_kept : Assigned → ℕ → ℕ → Bool
 is_kept s a p = is_kept_at s.market s.places p a
 
--- whether a member of these applicants' agents is
+-- whether a member of these applicants' agents is at a program that chooses it
 abbrev pub any_kept : Assigned → List ℕ → ℕ → Bool
 any_kept s xs p = list_any (is_kept_at s.market s.places p) (all_members s.market xs)
 

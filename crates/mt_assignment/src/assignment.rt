@@ -37,7 +37,8 @@ pub fn no_ranks(alloc: Global, roster: &Roster) -> Result<RankTable, AllocError>
     Ok(table)
 }
 
-/// How many may be at a program with this quota and so long a list in the midst of a round: two come before others go.
+/// How many may be at a program with this quota and a list of this length in the midst of a round. Two come before
+/// others go.
 fn most_placed(quota: u32, listed: usize) -> usize {
     listed.min((quota as usize).saturating_add(2))
 }
@@ -132,7 +133,7 @@ fn placed_ranks(
     Ok(table)
 }
 
-/// For each program the ranks of those that are placed there, in rising order; and the singles are watched.
+/// The ranks of those that are placed at each program, in rising order. The singles are also watched.
 fn placed_rows(
     alloc: Global,
     roster: &Roster,
@@ -204,7 +205,7 @@ impl<'a> Model for Assignment<'a> {
 }
 
 impl<'a> Assignment<'a> {
-    /// The match beside its market; and the singles are watched at the programs that they want more than what they have.
+    /// The match beside its market. The singles are watched at the programs that they want more than what they have.
     /// The error is want of memory.
     pub fn new(
         alloc: Global,

@@ -14,7 +14,7 @@ use Rattle.mt_check.specs.declared.finding.Finding.TheVariants.{Of, Differs}
 use Rattle.mt_check.specs.declared.source.Source.{Source}
 use Rattle.mt_check.specs.declared.source.Source.TheVariants.{Market, Match}
 
--- a code, 0 for a stable match, 1 for a finding, and else that of a refusal; and a line
+-- A code and a line. The code is 0 for a stable match, 1 for a finding, and else that of a refusal.
 pub record Answer : Type 0 where
   pub code : ℕ
   pub text : List ℕ

@@ -29,7 +29,7 @@ abbrev pub of_bytes : {X : Type 0} → (List (List Bytes) → Result X Fault) �
 of_bytes of_rows bytes =
     if nat_lt most_bytes (length bytes) then Err (fault_at 0 (charge_alone TOO_LARGE)) else by_records of_rows (records_of bytes)
 
--- the market in some bytes, and what other bytes tell of it
+-- the market in some bytes, and the match in other bytes beside a market
 abbrev pub market_in : List ℕ → Result Registered Fault
 market_in bytes = of_bytes market_of bytes
 

@@ -56,7 +56,7 @@ refusals = terms.refusals
     ++ (OTHER_RECORD, codes "OtherRecord") ∷ (OTHER_FIELDS, codes "OtherFields") ∷ (NO_SUCH_APPLICANT, codes "NoSuchApplicant")
     ∷ (PLACED_TWICE, codes "PlacedTwice") ∷ (NO_SUCH_PROGRAM, codes "NoSuchProgram") ∷ (NOT_PLACED, codes "NotPlaced") ∷ []
 
--- the codes that tell neither a record nor an id
+-- the codes whose lines name neither a record nor an id
 abbrev pub is_code_alone : ℕ → Bool
 is_code_alone code = has (TOO_LARGE ∷ TWO_MARKS ∷ OUT_OF_MEMORY ∷ READ_FAULT ∷ []) code
 

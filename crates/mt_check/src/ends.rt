@@ -1,7 +1,7 @@
 use crate::source::Source;
 use mt_terms::Refusal;
 
-/// A finding: 0 for a stable match, 1 for any other; and its line.
+/// A finding's code, 0 for a stable match and 1 for any other, and its line.
 #[derive(Drop)]
 pub(crate) struct Found {
     pub(crate) code: u16,

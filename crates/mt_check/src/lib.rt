@@ -1,4 +1,4 @@
-//! Whether a match that anybody made is stable: the bytes of a market and of a match in, one line out.
+//! Whether a match is stable, whatever program made it: the bytes of a market and of a match in, one line out.
 #![tactic(auto)]
 
 mod checked;

@@ -69,7 +69,7 @@ fn market_in<T: Threads + Sync>(rt: &T, alloc: Global, bytes: &[u8]) -> Result<R
     }
 }
 
-/// What the records of a match tell, or the match's refusal.
+/// The match that records give, or its refusal.
 fn told_of(alloc: Global, rows: &Rows<'_>, roster: &Roster) -> Result<ToldMatch, Refusal>
     ensures told { IfOk result (λ told. told_by roster.now rows.now ≡ Ok told) }
     ensures places { IfOk result (λ told. ArePlaces roster.now.market told.places) }
@@ -82,7 +82,7 @@ fn told_of(alloc: Global, rows: &Rows<'_>, roster: &Roster) -> Result<ToldMatch,
     }
 }
 
-/// The match that some bytes tell, or its refusal.
+/// The match in some bytes, or its refusal.
 fn told_in(alloc: Global, bytes: &[u8], roster: &Roster) -> Result<ToldMatch, Refusal>
     requires { length bytes.now ≤ most_bytes }
     ensures told { IfOk result (λ told. told_in roster.now bytes.now ≡ Ok told) }

@@ -1,4 +1,4 @@
--- Records of matches of a small market, and what they tell.
+-- Records of matches of a small market, and what they say.
 use Rattle.std.specs.Prelude.{ℕ, List, [], Option, Result, Ok, Err, codes}
 use Prim.Native.String.{String}
 use Rattle.mt_terms.specs.Examples.Markets.{crossed}
@@ -14,11 +14,11 @@ use Rattle.mt_match.specs.declared.told_match.Counted.{Counted}
 abbrev pub crossed_market : Registered
 crossed_market = named crossed "P1,P2" "a1,a2" ""
 
--- what the records of these lines tell of it
+-- what the records of these lines say of it
 abbrev pub told_of : List String → Result Told Fault
 told_of lines = told_by crossed_market (file lines)
 
--- these places, and no counts; and these counts
+-- these places with no counts, and a count of a record
 abbrev pub places_alone : List (Option ℕ) → Result Told Fault
 places_alone places = Ok (record { places = places; counts = [] })
 

@@ -1,4 +1,4 @@
--- Laws of what a match tells.
+-- Laws of what a match says.
 use Rattle.std.specs.Prelude.{◌≡◌, List, [], ◌∷◌, ℕ, Ok, Err, IsTrue}
 use Rattle.mt_terms.specs.Lists.{has}
 use Rattle.mt_terms.specs.Market.{Registered}
@@ -14,7 +14,7 @@ use Rattle.mt_match.specs.declared.codes.TheConstants.{OTHER_RECORD, OTHER_FIELD
 abbrev pub fault_codes : List ℕ
 fault_codes = OTHER_RECORD ∷ OTHER_FIELDS ∷ NO_SUCH_APPLICANT ∷ PLACED_TWICE ∷ NO_SUCH_PROGRAM ∷ NOT_PLACED ∷ []
 
--- a fault of a match has one of them, and the id that it tells is one, or none
+-- a fault of a match has one of these codes, and its id is an id or empty
 pub record IsMatchFault (f : Fault) : Type 0 where
   pub known : IsTrue (has fault_codes f.code)
   pub is_id : IsTrue (is_none_or_id f.id)
@@ -22,6 +22,6 @@ pub record IsMatchFault (f : Fault) : Type 0 where
 abbrev pub FaultsAreNamed : Type 0
 FaultsAreNamed = (r : Registered) (rows : List (List Bytes)) (f : Fault) → told_by r rows ≡ Err f → IsMatchFault f
 
--- what a match tells has one place for each applicant, a program of the market or none
+-- a match that is read has one place for each applicant: a program of the market, or none
 abbrev pub TellsPlaces : Type 0
 TellsPlaces = (r : Registered) → IsRegistration r → (rows : List (List Bytes)) (told : Told) → told_by r rows ≡ Ok told → ArePlaces r.market told.places

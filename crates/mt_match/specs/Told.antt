@@ -17,7 +17,8 @@ use Rattle.mt_match.specs.declared.line.Line.TheVariants.{Head, Place, Counts}
 use Rattle.mt_match.specs.declared.told_match.Count.TheVariants as count
 use Rattle.mt_match.specs.declared.told_match.Counted.{Counted}
 
--- what a match tells: a place for each applicant of a market, and the counts of its records, each with the record's number
+-- What a match says: a place for each applicant of a market, and the counts of its records. Each count has its
+-- record's number.
 pub record Told : Type 0 where
   pub places : Places
   pub counts : List Counted
@@ -74,7 +75,8 @@ abbrev pub applicant_line : Names → List (Option (Option ℕ)) → Option (Byt
 applicant_line names places None = Err (charge_alone OTHER_FIELDS)
 applicant_line names places (Some f) = placed_at names places f (position (bytes_eq f.0) names.applicants)
 
--- the quota of a program, how many are placed there and how many proposals it received; the last is no matter of a match
+-- The quota of a program, how many are placed there and how many proposals it received. The proposals are no matter
+-- of a match.
 abbrev pub counts_at : Bytes × Bytes × Bytes × Bytes → Option ℕ → Result Line Charge
 counts_at f None = Err (charge_at NO_SUCH_PROGRAM f.0)
 counts_at f (Some p) = Ok (Counts (count.Program p (number f.1) (number f.2)))
@@ -93,7 +95,7 @@ totals_line (Some f) =
     then Ok (Counts (count.Totals (number f.0) (number f.1) (number f.2) (number f.3)))
     else Err (charge_alone OTHER_FIELDS)
 
--- what a record tells after others, by its first field, or its first fault by the order of the codes
+-- what a record says after others, by its first field, or its first fault by the order of the codes
 abbrev pub line_of : Names → List (Option (Option ℕ)) → List Bytes → Result Line Charge
 line_of names places [] = Err (charge_alone OTHER_RECORD)
 line_of names places (word ∷ fields) =
@@ -112,7 +114,7 @@ after n before (Counts c) = record before { counts = before.counts ++ record { r
 abbrev pub next_told : Names → SoFar → Numbered (List Bytes) → Result SoFar Fault
 next_told names before row = at_record row.0 (and_then (line_of names before.places row.1) (λ l. Ok (after row.0 before l)))
 
--- what records tell after others, one after another up to the first fault
+-- what records say after others, one after another up to the first fault
 abbrev pub all_told : Names → SoFar → List (Numbered (List Bytes)) → Result SoFar Fault
 all_told names before [] = Ok before
 all_told names before (row ∷ rows) = and_then (next_told names before row) (λ s. all_told names s rows)
@@ -121,7 +123,7 @@ all_told names before (row ∷ rows) = and_then (next_told names before row) (λ
 abbrev pub nothing_told : ℕ → SoFar
 nothing_told n = record { places = replicate n None; counts = [] }
 
--- the first applicant whose place no record told
+-- the first applicant that no record places
 abbrev pub first_unplaced : SoFar → Option ℕ
 first_unplaced s = position (λ place. not (is_some place)) s.places
 

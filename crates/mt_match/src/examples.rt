@@ -1,10 +1,10 @@
-//! What the definition of a match's records gives on worked ones. Each function does nothing; its contract is the
+//! What the definition of a match's records gives on worked ones. Each function does nothing. Its contract is the
 //! example.
 ghost use Rattle.std.specs.Prelude.{◌≡◌, [], ◌∷◌, Some, None, Ok};
 ghost use Rattle.mt_match.specs.Examples.{at_fault, counted, places_alone, told_of};
 ghost use Rattle.mt_match.specs.declared.told_match.Count.TheVariants as count;
 
-/// Records may come in any order, with counts or without; one without a field is passed over.
+/// Records may come in any order, with counts or without. One without a field is passed over.
 pub fn matches_that_are_told()
     ensures published { told_of ("match,1,published" ∷ "applicant,a1,P1" ∷ "applicant,a2,P2" ∷ "program,P1,1,1,1" ∷ "program,P2,1,1,0" ∷ "totals,2,0,2,0" ∷ [])
         ≡ Ok (record { places = Some 0 ∷ Some 1 ∷ []; counts = counted 4 (count.Program 0 1 1) ∷ counted 5 (count.Program 1 1 1) ∷ counted 6 (count.Totals 2 0 2 0) ∷ [] }) }

@@ -6,7 +6,7 @@ use mt_terms::{IdText, LIMITS_2, Refusal};
 use std::alloc::AllocError;
 use thiserror::Error;
 
-/// Why the records of a match tell none.
+/// Why records give no match.
 #[derive(Debug, Drop, Error)]
 pub enum MatchError {
     /// The match has this fault first.

@@ -1,8 +1,8 @@
-//! Laws of what the records of a match tell: each is the contract of a function that does nothing.
+//! Laws of what the records of a match say: each is the contract of a function that does nothing.
 
 ghost use Rattle.mt_match.specs.Laws.{FaultsAreNamed, TellsPlaces};
 
-/// A fault of a match has a code of its own, and what it tells as an id is one.
+/// A fault of a match has a code of its own, and its id is an id or empty.
 pub fn faults_are_named()
     ensures { FaultsAreNamed }
 {}

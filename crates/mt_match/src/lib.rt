@@ -1,4 +1,4 @@
-//! Records to a match: where each applicant of a market is placed, by the text of a match that anybody wrote.
+//! From records to a match: where each applicant of a market is placed, by a match's text, whatever program wrote it.
 #![tactic(auto)]
 
 pub mod codes;

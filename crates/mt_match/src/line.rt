@@ -11,7 +11,7 @@ use crate::told_match::Count;
 use mt_lists::Fields;
 use mt_terms::{AppNo, ProgNo};
 
-/// What a record of a match tells.
+/// What a record of a match says.
 #[derive(Clone, Copy)]
 pub(crate) enum Line {
     /// That a match follows.
@@ -97,7 +97,7 @@ fn totals_line<'a>(fields: Fields<'a>) -> Result<Line, Charge<'a>>
     }
 }
 
-/// What a record tells after others, which gave these places, or its first fault.
+/// What a record says after others, which gave these places, or its first fault.
 pub(crate) fn line_of<'a>(
     ids: &Ids<'_>,
     places: &[Option<Option<ProgNo>>],

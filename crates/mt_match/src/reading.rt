@@ -17,7 +17,7 @@ use mt_lists::{Fields, Row, Rows, RowsIter};
 use mt_market::Roster;
 use std::alloc::Global;
 
-/// Adds what a record tells.
+/// Adds what a record says.
 fn read_fields(
     ids: &Ids<'_>,
     so_far: &mut SoFar,
@@ -37,7 +37,7 @@ fn read_fields(
     }
 }
 
-/// Adds what a row tells, if it has a field.
+/// Adds what a row says, if it has a field.
 fn read_row(ids: &Ids<'_>, so_far: &mut SoFar, number: u64, row: &Row<'_>) -> Result<(), MatchError>
     requires { length so_far.old.places.items ≡ applicants (market_of ids.now).market }
     ensures reads { ReadsRow (market_of ids.now).names (told_so_far so_far.old) (told_so_far so_far.new) number row.now result }
@@ -49,7 +49,7 @@ fn read_row(ids: &Ids<'_>, so_far: &mut SoFar, number: u64, row: &Row<'_>) -> Re
     read_fields(ids, so_far, number, row.fields())
 }
 
-/// What all rows tell.
+/// What all rows say.
 fn read_rows(alloc: Global, ids: &Ids<'_>, rows: RowsIter<'_>) -> Result<SoFar, MatchError>
     requires { length (rows_left rows) + 1 < 2 ^ 64 }
     ensures reads { GivesSoFar result (all_told (market_of ids.now).names (nothing_told (applicants (market_of ids.now).market))

@@ -21,7 +21,7 @@ pub(crate) struct SoFar {
 }
 
 impl SoFar {
-    /// Nothing of the applicants of a market.
+    /// No place and no count, for the applicants of a market.
     pub(crate) fn new(alloc: Global, roster: &Roster) -> Result<Self, AllocError>
         ensures { IfOk result (λ s. told_so_far s ≡ nothing_told (applicants roster.now.market)) }
     {
@@ -31,7 +31,7 @@ impl SoFar {
         })
     }
 
-    /// Adds what a record with this number tells.
+    /// Adds what a record with this number says.
     pub(crate) fn add(&mut self, row: u64, line: Line) -> Result<(), AllocError>
         requires { FitsInto (length self.old.places.items) line }
         ensures { OnOk result (told_so_far self.new ≡ after row (told_so_far self.old) line) }
@@ -44,7 +44,7 @@ impl SoFar {
         Ok(())
     }
 
-    /// The first applicant whose place no record told.
+    /// The first applicant that no record places.
     fn first_unplaced(&self) -> Option<usize>
         ensures { result ≡ first_unplaced (told_so_far self.now) }
     {

@@ -37,7 +37,7 @@ pub struct Counted {
     pub count: Count,
 }
 
-/// What the records of a match tell: a place for each applicant of a market, and the counts.
+/// What the records of a match say: a place for each applicant of a market, and the counts.
 pub struct ToldMatch {
     matched: Match,
     counts: Vec<Counted>,

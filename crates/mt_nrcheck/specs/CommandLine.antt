@@ -1,6 +1,6 @@
--- The command line `nrcheck MARKET MATCH`: a simple command in the terms of the crate `clap`, and what its words ask for.
--- Which words the command takes, what it reads of them and how it refuses others is `clap`'s own definition of a simple
--- command: `matches_of` and `fault_of`.
+-- The command line `nrcheck MARKET MATCH`: a simple command in the terms of the crate `clap`, and what its words ask
+-- for. Two things are `clap`'s own definition of a simple command. `matches_of` is which words the command takes and
+-- what it reads of them. `fault_of` is how it refuses others.
 use Rattle.std.specs.Prelude.{◌≡◌, ◌≢◌, ◌⊎◌, true, List, [], Option, Some, None, codes, map, String, string_bytes}
 use Rattle.std.specs.Global.{Global}
 use Rattle.clap.specs.Kinds.{IsAmong}
@@ -35,7 +35,7 @@ texts_of = map string_bytes
 abbrev pub file_of : Text → List Text → Option Text
 file_of name words = first_of name (matches_of nrcheck words)
 
--- what the matches of the command are asked to be checked: the two files that they name, if they do
+-- what the matches of the command ask for: a check of the two files that they name, or misuse if they don't name both
 abbrev pub AreFilesIn : List Row → Request → Type 0
 AreFilesIn rows (Check market matched) =
     (first_of (codes "MARKET") rows ≡ Some (string_bytes market)) × (first_of (codes "MATCH") rows ≡ Some (string_bytes matched))

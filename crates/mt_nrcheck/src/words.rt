@@ -25,7 +25,7 @@ pub(crate) enum Request {
     Misuse(String),
 }
 
-/// What is said of words that are taken and don't name two files.
+/// What is written if words are taken and don't name two files.
 const NO_FILES: &str = "error: two files are needed, MARKET and MATCH\n";
 
 /// What the words after the program's name ask for, by `clap`'s definition of a simple command. That is a check of

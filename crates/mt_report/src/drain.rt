@@ -55,7 +55,7 @@ impl<W: Write> Drain<W> {
         }
     }
 
-    /// Flushes the writer, and answers whether that succeeded.
+    /// Flushes the writer, and says whether that succeeded.
     pub(crate) fn flush(&mut self) -> bool
         requires { failures_of self.old + 1 < 2 ^ 64 }
         ensures appended { Appends (contents_of W.contents self.old) (contents_of W.contents self.new) (take 0 []) }

@@ -147,7 +147,7 @@ fn likely_len(roster: &Roster) -> usize {
 
 /// The text of a match: every applicant with its place, every program, and the totals. A program has how many are
 /// placed there and how many proposals of singles it received. There is one place for each applicant, each of them a
-/// program of the roster, and one number of proposals for each program.
+/// program of the roster, and one number of proposals for each program. The error is want of memory.
 pub fn published(
     alloc: Global,
     roster: &Roster,

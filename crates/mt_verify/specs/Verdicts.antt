@@ -1,4 +1,4 @@
--- What a verdict tells.
+-- What a verdict says.
 use Rattle.std.specs.Prelude.{◌≡◌, ◌↔◌, IsTrue}
 use Rattle.mt_terms.specs.Market.{Market}
 use Rattle.mt_terms.specs.Matching.{Places}
