@@ -1,4 +1,5 @@
-//! Calls that may want memory, for tests: each says whether it answered what it should.
+//! Calls that may want memory, for tests: each says whether it answered what it should. The error of each is that
+//! memory was refused, or that its file has a fault.
 #![tactic(auto)]
 
 mod floors;

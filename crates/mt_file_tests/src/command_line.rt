@@ -107,7 +107,7 @@ const ASKED: &[(&[&str], Wanted<'static>)] = &[
     (&["--help", "--version"], Wanted::Help),
     (&["--version"], Wanted::Version),
     (&["-V", "--none"], Wanted::Version),
-    // What is wrong is said.
+    // The complaint says what is wrong.
     (&["--workers", "65"], Wanted::Complaint(OUT_OF_RANGE)),
     (&["f", "g"], Wanted::Complaint(UNEXPECTED)),
 ];

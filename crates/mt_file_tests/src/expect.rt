@@ -1,4 +1,5 @@
-//! Comparisons. They are made here, and not in each test, where what a failure tells makes a proof ten seconds longer.
+//! Comparisons. They are made here and not in each test, whose proof the text of a failure would make ten seconds
+//! longer.
 
 use std::fmt::Debug;
 use std::process::Abort;

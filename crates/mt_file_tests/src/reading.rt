@@ -55,8 +55,8 @@ const ROWS: &[(&[u8], &[&[&[u8]]])] = &[
     ),
     (b"\xEF\xBB\xBF", &[]),
     (b"", &[]),
-    // Lines end in a line feed, a carriage return or both; a line with no byte is no row, and one of commas is an empty
-    // row.
+    // Lines end in a line feed, a carriage return or both. A line with no byte is no row, and one of commas is an
+    // empty row.
     (
         b"\r\na,b\rc\n\n,,,\r\n;\r\rd",
         &[&[b"a", b"b"], &[b"c"], &[], &[b";"], &[b"d"]],

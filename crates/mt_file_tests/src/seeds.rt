@@ -1,4 +1,4 @@
-//! Seeds of tables: nobody sees them, but what is hashed by them depends on all that a table will hold.
+//! Seeds of tables. Nobody sees them, but what is hashed by them depends on all that a table will hold.
 use crate::expect::same;
 use mt_ids::{Seed, add_field};
 use std::hash::{BuildHasher, DefaultHasher, Hasher};
@@ -13,7 +13,7 @@ fn hashed(first: &[u8], second: &[u8]) -> u64 {
     hasher.finish()
 }
 
-// The same ids give the same seed; other ones, or the same bytes parted otherwise, another.
+// The same ids give the same seed. Other ids, or the same bytes parted otherwise, give another.
 #[test]
 fn bytes_parted_otherwise_give_another_seed(rt: HostRuntime) {
     let seen = hashed(b"ab", b"c");

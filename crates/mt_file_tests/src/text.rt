@@ -76,7 +76,7 @@ const LINES: &[(u16, u64, &str, &str)] = &[
     (30, 0, "", "match,1,refused,30,OutOfMemory,0,-\n"),
     (31, 0, "", "match,1,refused,31,ReadFault,0,-\n"),
     (41, 0, "", "match,1,refused,41,BudgetSpent,0,-\n"),
-    // With ids of 64 and of 32 bytes, and the largest number of a record that an input has; and with any number.
+    // With ids of 64 and of 32 bytes, and the largest number of a record that an input has, and with any number.
     (20, 33_554_432, ID_64, LONGEST),
     (20, 33_554_432, ID_32, LONGEST_OF_VERSION_1),
     (

@@ -1,4 +1,4 @@
-//! Workers: that more than one of them acts, that none leaves anything to be finished, and what they come to.
+//! Workers: more than one of them acts, none leaves anything to be finished, and they end in the best match.
 ghost use Rattle.std.specs.Prelude.{◌≡◌, ◌≤◌};
 
 use crate::expect::{on_ranks, same};
@@ -183,7 +183,7 @@ fn two_at_the_gate(rt: HostRuntime) -> Result<(), Fail> {
     })
 }
 
-// One thread without locks comes to the same.
+// One thread without locks ends in the same.
 fn expect_alone(
     rt: &impl Abort,
     alloc: Global,
@@ -196,7 +196,7 @@ fn expect_alone(
     Ok(())
 }
 
-// One thread, and several numbers of workers, come to the same.
+// One thread, and several numbers of workers, end in the same.
 fn expect_from_all_on<R: Abort + Threads + Wait + Sync>(
     rt: &R,
     alloc: Global,
@@ -271,7 +271,7 @@ fn nothing_is_left_of_a_hundred(rt: HostRuntime) -> Result<(), Fail> {
     })
 }
 
-// The floor of one thread says what the workers have to come to.
+// The floor of one thread says what the workers have to end in.
 fn expect_as_alone<R: Abort + Threads + Wait + Sync>(
     rt: &R,
     alloc: Global,

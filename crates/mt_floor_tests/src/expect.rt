@@ -1,5 +1,5 @@
-//! Comparisons, and the rank tables of a market. They are made here, and not in each test, where what a failure tells
-//! makes a proof ten seconds longer.
+//! Comparisons, and the rank tables of a market. They are made here and not in each test, whose proof the text of a
+//! failure would make ten seconds longer.
 
 use mt_ranks::Ranks;
 use mt_samples::tables::with_ranks;

@@ -1,4 +1,4 @@
-//! Events on the floor of the singles: the reply to each, and what it comes to in two orders.
+//! Events on the floor of the singles: the reply to each, and the end in two orders.
 ghost use Rattle.mt_terms.specs.Floor.{IsRecorded};
 ghost use Rattle.mt_core.specs.Floors.{floor_of, IsOpenedWith};
 
@@ -133,7 +133,7 @@ fn expect_run(
     expect_nothing_left(rt, alloc, &mut floor, ranks, events)
 }
 
-// Each applicant's first wish first, and then who was displaced.
+// Each applicant's first wish first, and then those that were displaced.
 const BY_WISHES: [Event; 9] = [
     Event::Propose(AppNo(0)),
     Event::Propose(AppNo(1)),

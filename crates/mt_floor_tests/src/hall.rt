@@ -300,7 +300,7 @@ fn expect_acts<K: HallName + Send + Sync, R: Abort + Threads + Wait + Sync>(
     }
 }
 
-// Makes a case in a hall, and expects what it comes to of the hall's floor.
+// Makes a case in a hall, and expects how the hall's floor ends.
 fn case_in<K: HallName + Send + Sync, R: Abort + Threads + Wait + Sync>(
     rt: &R,
     alloc: Global,
@@ -448,7 +448,7 @@ fn one_thread_alone(rt: HostRuntime) -> Result<(), Fail> {
     Ok(())
 }
 
-// Advances each applicant once, and says whether anything came of it.
+// Advances each applicant once, and says whether any of them changed anything.
 fn sweep<K: HallName, R: Wait>(
     rt: &R,
     hall: &Hall<'_, K>,

@@ -91,7 +91,8 @@ fn expect_applicants(rt: &impl Abort, tables: &Ranks, expected: &Expected<'_>) {
 }
 
 const TABLES: &[(&[u8], Expected<'static>)] = &[
-    // a wants R, Q and P. R and P list it, as the second and as the third; Q doesn't, so the live list is R and P.
+    // The applicant a wants R, Q and P. R and P list it, as the second and as the third. Q doesn't, so the live list
+    // is R and P.
     (
         b"match,1\nprogram,P,3,c,b,a\nprogram,Q,0,b\nprogram,R,20,c,a\napplicant,a,R,Q,P\napplicant,b\napplicant,c,Q,R,P\n",
         Expected {

@@ -164,7 +164,7 @@ fn expect_end(
 /// What the plain rounds end with: a match and how many rounds there were, or none if the budget is spent.
 pub(crate) type Ended = Option<(Vec<Option<ProgNo>>, u32)>;
 
-/// The best match of the singles, and what the couples come to after it with this budget, are the plain ones.
+/// The best match of the singles, and how the couples' stage ends after it with this budget, are the plain ones.
 pub(crate) fn expect_stage<R: Abort + Threads + Sync>(
     rt: &R,
     alloc: Global,

@@ -13,7 +13,7 @@ use std::alloc::Global;
 use std::process::Abort;
 use std::thread::Threads;
 
-// What the couples come to, after the best match of the singles.
+// How the couples' stage ends, after the best match of the singles.
 fn enter<R: Threads + Sync>(
     rt: &R,
     alloc: Global,

@@ -25,12 +25,12 @@ type Judged = (
     &'static [(&'static str, &'static str)],
 );
 
-// x prefers t, which is there; y and z would both take s, which wants y more. At y it doesn't block with z, which
+// x prefers t, which is there. y and z would both take s, which wants y more. At y it doesn't block with z, which
 // comes later on its list.
 const SINGLES: &[u8] =
     b"match,1\nprogram,x,1,t,s\nprogram,y,1,s\nprogram,z,1,s\napplicant,t,x\napplicant,s,x,y,z\n";
 
-// x prefers s, which is there; z and y would take the couple, and so would z and w, which it wants less.
+// x prefers s, which is there. z and y would take the couple, and so would z and w, which it wants less.
 const PAIRS: &[u8] =
     b"match,1\nprogram,x,1,s,a\nprogram,y,1,b\nprogram,z,1,a\nprogram,w,1,b\napplicant,s,x\ncouple,c,a,b,x,y,z,y,z,w\n";
 
@@ -43,8 +43,8 @@ const ALL_FREE: &[u8] =
 const BEHIND: &[u8] =
     b"match,1\nprogram,x,1,a\nprogram,y,1\nprogram,z,1,s\ncouple,c,a,b,x,y\napplicant,s,z\n";
 
-// Each member alone would be the first choice of a program with one post, and of the two together only the first is;
-// without a post nobody is.
+// Each member alone would be the first choice of a program with one post, and of the two together only the first is.
+// Without a post nobody is.
 const ONE_POST: &[u8] =
     b"match,1\nprogram,x,1,a,b\nprogram,y,0,d,e\ncouple,c,a,b,x,x\ncouple,f,d,e,y,y\n";
 
@@ -70,7 +70,7 @@ const OTHER_HALF: &[u8] = b"match,2\nprogram,x,1,a,b\ncouple,c,a,b,x,-\n";
 // The pair of x and y is on the couple's list, and y doesn't list b: b is reported at its own number.
 const UNLISTED_MEMBER: &[u8] = b"match,1\nprogram,x,2,a,b\nprogram,y,1,a\ncouple,c,a,b,x,y,x,x\n";
 
-// x lists s, which doesn't list x; s lists y, which doesn't list s. So s can be nowhere.
+// x lists s, which doesn't list x. s lists y, which doesn't list s. So s can be nowhere.
 const ONE_SIDE: &[u8] = b"match,1\nprogram,x,1,s\nprogram,y,2,t\napplicant,t,y\napplicant,s,y\n";
 
 // y has no post. With s at x beside a both programs are over their quotas, and without s only y is.
@@ -93,7 +93,7 @@ fn program_called(roster: &Roster, id: &str) -> Option<ProgNo> {
     None
 }
 
-// The places that a text tells.
+// The places that a text gives.
 fn places_of(
     alloc: Global,
     roster: &Roster,

@@ -89,7 +89,7 @@ impl Write for Narrow {
 }
 
 /// A writer that takes at most `at_once` bytes in a write. The `falters_at`th write fails, or takes none, and so does
-/// the `flush_fails_at`th flush; the writes and flushes after it go on. It counts both.
+/// the `flush_fails_at`th flush. The writes and flushes after it go on. It counts both.
 #[derive(Drop)]
 pub struct Faltering {
     pub at_once: usize,

@@ -16,7 +16,7 @@ fn push_each(
     Ok(())
 }
 
-/// A program with 2,500 posts lists 5,000 applicants, and wants the last one most.
+/// A program with 2,500 posts lists 5,000 applicants, and wants the last one most. The error is want of memory.
 pub fn one_program(alloc: Global) -> Result<String, AllocError> {
     let mut file = String::from_str(alloc, "match,1\nprogram,P,2500")?;
     for back in 0..5_000u32 {
@@ -27,7 +27,7 @@ pub fn one_program(alloc: Global) -> Result<String, AllocError> {
     Ok(file)
 }
 
-/// The last 2,500 have the posts.
+/// The last 2,500 have the posts. The error is want of memory.
 pub fn one_program_text(alloc: Global) -> Result<String, AllocError> {
     let mut text = String::from_str(alloc, "match,1,published\n")?;
     push_each(&mut text, "applicant,a", 0, 2_500, ",-\n")?;
@@ -36,9 +36,9 @@ pub fn one_program_text(alloc: Global) -> Result<String, AllocError> {
     Ok(text)
 }
 
-/// Behind two couples 3,000 singles want the two posts of x. These are 3,005 rounds. D takes both posts from s1 and s2,
-/// which aren't taken again. E takes x and z and displaces D, which isn't taken again. s1 takes the post that was left.
-/// The 2,999 others aren't taken.
+/// Behind two couples 3,000 singles want the two posts of x. These are 3,005 rounds. D takes both posts from s1 and
+/// s2, which aren't taken again. E takes x and z and displaces D, which isn't taken again. s1 takes the post that was
+/// left. The 2,999 others aren't taken. The error is want of memory.
 pub fn waiting_singles(alloc: Global) -> Result<String, AllocError> {
     let mut file = String::from_str(alloc, "match,1\nprogram,x,2,c,e1,d")?;
     push_each(&mut file, ",s", 1, 3_000, "")?;

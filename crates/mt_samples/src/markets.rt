@@ -38,8 +38,8 @@ pub const CHAIN_TEXT: &[u8] = b"match,1,published\n\
     program,P2,1,1,2\n\
     totals,3,1,2,0\n";
 
-/// A couple wants both posts of a program, which wants the single between the members: s, a and b are the applicants
-/// 0, 1 and 2.
+/// A couple wants both posts of a program, which wants the single between the members. The applicants s, a and b have
+/// the numbers 0, 1 and 2.
 pub const BETWEEN: &[u8] = b"match,1\n\
     program,x,2,a,s,b\n\
     applicant,s,x\n\

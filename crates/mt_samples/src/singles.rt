@@ -9,7 +9,7 @@ use mt_ranks::Ranks;
 use mt_terms::Match;
 use std::alloc::{AllocError, Global};
 
-/// The best match of the singles, made by one thread.
+/// The best match of the singles, made by one thread. The error is want of memory.
 pub fn singles(alloc: Global, roster: &Roster, ranks: &Ranks) -> Result<Match, AllocError>
     requires { ranks.now ≡ ranked_of roster.now.market }
     ensures { IfOk result (λ m. IsTrue (fits roster.now.market m.places)) }

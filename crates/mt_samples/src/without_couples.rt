@@ -6,7 +6,8 @@ pub const NOBODY: &[u8] = b"match,1\n";
 pub const NOBODY_TEXT: &[u8] = b"match,1,published\n\
     totals,0,0,0,0\n";
 
-/// Z has no post, and is the only wish of a1: a1 and a2 are the applicants 0 and 1, Z and Y the programs 0 and 1.
+/// Z has no post, and is the only wish of a1. The applicants a1 and a2 have the numbers 0 and 1. The programs Z and Y
+/// have 0 and 1.
 pub const QUOTA_OF_ZERO: &[u8] = b"match,1\n\
     program,Z,0,a1,a2\n\
     program,Y,1,a2\n\

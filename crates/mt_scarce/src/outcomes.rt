@@ -1,4 +1,4 @@
-//! Which calls there are, and what became of one.
+//! Which calls there are, and the outcome of one.
 ghost use Rattle.std.specs.Prelude.{◌≤◌};
 
 use crate::runs::runs;
@@ -53,7 +53,7 @@ pub(crate) const CALLS: [Call; 17] = [
     Call::RunsCouples,
 ];
 
-/// What became of a call: its answer is what it should be, or another, or memory was refused.
+/// The outcome of a call: its answer is what it should be, or another, or memory was refused.
 pub(crate) enum Outcome {
     Right,
     Wrong,

@@ -81,6 +81,6 @@ pub(crate) const REFUSED: &[(&str, Fault<'static>)] = &[
     // In the second pass the record decides before the code.
     ("match,2\nwithdraw,couple,c\nprogram,P,1,z\n", (22, 2, "c")),
     ("match,2\nprogram,P,1,z\nwithdraw,couple,c\n", (20, 2, "z")),
-    // Who is withdrawn may list and be listed, but must list who is registered.
+    // A row that is withdrawn may list and be listed, but must list registered ids.
     ("match,2\nprogram,P,1,z\nwithdraw,program,P\n", (20, 2, "z")),
 ];
