@@ -3,7 +3,7 @@ ghost use Rattle.mt_check.specs.Answer.{finding_code};
 
 use mt_terms::Verdict;
 
-/// The finding on a match: that it is stable and its counts agree with it, or the first fault.
+/// What a check finds: the match is stable and its counts agree with it, or the first finding against it.
 #[derive(Clone, Copy)]
 pub enum Finding {
     /// What the verifier says of the places. If it says that they are stable, the counts agree with them too.

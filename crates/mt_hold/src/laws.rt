@@ -22,8 +22,8 @@ pub fn count_is_members()
     ensures { CountIsMembers }
 {}
 
-/// As many ranks are received as there are numbers below a bound from which a proposal was received. Only applicants
-/// on the list propose, all of them are below the bound, and the list has no applicant twice.
+/// If all applicants that propose are on the list and below a bound, as many ranks are received as there are such
+/// applicants. The list has no applicant twice.
 pub fn count_is_size()
     ensures { CountIsSize }
 {}

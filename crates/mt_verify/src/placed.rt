@@ -31,8 +31,8 @@ fn placed_at(
     Ok(ranks)
 }
 
-/// How many programs pay for a thread that reads their lists. On average they have the entries that make
-/// `LEAST_APPLICANTS` applicants pay for one. With few programs the lists are long.
+/// How many programs pay for a thread that reads their lists: as many as the market has for each `LEAST_APPLICANTS`
+/// of its applicants. With few programs the lists are long.
 fn least_programs(roster: &Roster) -> usize {
     let programs = roster.programs() as usize;
     let applicants = roster.applicants() as usize;
