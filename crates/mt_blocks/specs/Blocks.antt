@@ -22,7 +22,9 @@ abbrev pub lists_in : {X : Type 0} → Option (Block X) → List (List X)
 lists_in None = []
 lists_in (Some b) = b.lists
 
--- Blocks are joined, where each was read and there was room for all; or one wasn't, or there wasn't room.
+-- Blocks of lists, each read with the whole room, are joined. With a result, all were read, `left` is the
+-- room less all their entries, and the lists are theirs one after another. Without a result, a block wasn't
+-- read, or the entries are more than the room.
 abbrev pub Joins : {X : Type 0} → ℕ → ℕ → List (Option (Block X)) → Option (List (List X)) → Type 0
 Joins room left blocks (Some new) =
     (list_all is_some blocks ≡ true) × (left + sum_by entries_in blocks ≡ room) × (new ≡ flat_map lists_in blocks)

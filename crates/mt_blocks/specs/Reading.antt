@@ -13,11 +13,12 @@ use Rattle.mt_terms.specs.Registration.Ids.{Bytes, number_of}
 abbrev pub with_more : {X : Type 0} → List (List X) → List X → List (List X)
 with_more lists xs = fold with_last lists xs
 
--- lists of fields, some of them left out, as lists of ids
+-- a list of fields as a list of ids: empty if it is left out
 abbrev pub list_seen : Option (Bor Fields) → List Bytes
 list_seen None = []
 list_seen (Some list) = fields_left list.now
 
+-- lists of fields as lists of ids, of which each that is left out is empty
 abbrev pub lists_seen : List (Option (Bor Fields)) → List (List Bytes)
 lists_seen lists = map list_seen lists
 
@@ -49,5 +50,8 @@ ReadsAll stands count read room left lists None = list_all stands lists ≡ true
 abbrev pub ReadsList : {X : Type 0} → List Bytes → List (Option X) → ℕ → ℕ → List Bytes → List (List X) → List (List X) → Bool → Type 0
 ReadsList ids numbers = ReadsOne (stands_once ids) length (numbers_by ids numbers)
 
+-- How lists of ids are read. With a result, each list names only these ids, and none twice. `left` is the
+-- room less the number of entries, and the result is the new numbers of those ids that have one. Without a
+-- result, one of the lists is at fault, or the entries are more than the room.
 abbrev pub ReadsLists : {X : Type 0} → List Bytes → List (Option X) → ℕ → ℕ → List (List Bytes) → Option (List (List X)) → Type 0
 ReadsLists ids numbers = ReadsAll (stands_once ids) length (numbers_by ids numbers)

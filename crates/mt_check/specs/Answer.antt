@@ -19,6 +19,7 @@ pub record Answer : Type 0 where
   pub code : ℕ
   pub text : List ℕ
 
+-- the code of a finding: 0 if the match is stable and its counts fit it, and else 1
 abbrev pub finding_code : Finding → ℕ
 finding_code (Of Stable) = 0
 finding_code (Of (Unlisted a)) = 1

@@ -10,13 +10,15 @@ pub record Noted : Type 0 where
   pub rows : List (List Note)
   pub counts : List ℕ
 
+-- no notes, for this many programs and couples
 abbrev pub nothing_noted : ℕ → ℕ → Noted
 nothing_noted programs couples = record { rows = replicate programs []; counts = replicate couples 0 }
 
--- the notes of couples at a program, and how many pairs of a couple are noted
+-- the notes of couples at a program
 abbrev pub row_at : List (List Note) → ℕ → List Note
 row_at rows p = slice_index_or rows p []
 
+-- how many pairs of a couple's list are noted, from the first on
 abbrev pub noted_count : Noted → ℕ → ℕ
 noted_count n c = slice_index_or n.counts c 0
 
@@ -42,7 +44,8 @@ pub record NotesPairs (old new : List (List Note)) (c : ℕ) (pairs : List Pair)
   pub adds : (p i : ℕ) (pair : Pair) → p < length old → start ≤ i → i < end → pair ≡ slice_index_or pairs i pair → names p pair ≡ true → is_noted (row_at new p) c i ≡ true
   pub only : (p d : ℕ) → has_couple (row_at new p) d ≡ true → (has_couple (row_at old p) d ≡ true) ⊎ (c ≡ d)
 
--- those that weren't noted up to an index, and so many are noted then if they are more
+-- A couple's pairs that weren't noted are noted up to an index, at each program that they name, and no other
+-- couple is. As many are counted for it then, if they are more than before.
 pub record NotesUpTo (old new : Noted) (c : ℕ) (pairs : List Pair) (end : ℕ) : Type 0 where
   pub rows : NotesPairs old.rows new.rows c pairs (noted_count old c) end
   pub counts : new.counts ≡ slice_set old.counts c (max (noted_count old c) end)

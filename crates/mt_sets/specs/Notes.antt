@@ -12,6 +12,7 @@ greatest = 65535
 abbrev pub is_before : ℕ → ℕ → Bool
 is_before i until = nat_lt i until || nat_le greatest until
 
+-- the end that a note says, among this many pairs: the greatest number of 16 bits is no bound
 abbrev pub end_of : ℕ → ℕ → ℕ
 end_of until many = if nat_lt until greatest then min many until else many
 

@@ -8,7 +8,7 @@ use Rattle.mt_terms.specs.Matching.{Places, placed_ranks}
 use Rattle.mt_bits.specs.Members.{is_in}
 use Rattle.mt_bits.specs.Tables.{told_of}
 
--- they rise, and are those of the set
+-- The list rises, and has the ranks of the set and no others.
 pub record HasRanks (told : List Bool) (ranks : List ℕ) : Type 0 where
   pub sorted : IsStrictlySortedBy nat_cmp ranks
   pub same : (r : ℕ) → has ranks r ≡ is_in told r

@@ -10,14 +10,15 @@ pub record Waiting : Type 0 where
   pub couples : ℕ
   pub agents : List Agent
 
--- the list with other agents on it, and the one of nobody
+-- the work list with these agents on it
 abbrev pub with_agents : Waiting → List Agent → Waiting
 with_agents w gs = record w { agents = gs }
 
+-- the work list with nobody on it, for this many applicants and couples
 abbrev pub nobody : ℕ → ℕ → Waiting
 nobody applicants couples = record { applicants = applicants; couples = couples; agents = [] }
 
--- an agent waits before all others
+-- the work list with an agent before all others
 abbrev pub waiting_first : Agent → Waiting → Waiting
 waiting_first g w = with_agents w (g ∷ w.agents)
 
@@ -26,6 +27,7 @@ abbrev pub IsWithin : ℕ → ℕ → Agent → Type 0
 IsWithin applicants couples (Single a) = a < applicants
 IsWithin applicants couples (Couple c) = c < couples
 
+-- an agent's number is that of an applicant or a couple of the work list
 abbrev pub IsKnown : Waiting → Agent → Type 0
 IsKnown w g = IsWithin w.applicants w.couples g
 
