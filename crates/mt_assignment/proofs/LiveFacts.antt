@@ -11,7 +11,7 @@ use Rattle.mt_terms.specs.Stability.{would_be_taken}
 use Rattle.mt_terms.specs.declared.numbers.Agent.TheVariants.{Single, Couple}
 use Rattle.mt_terms.proofs.BelowFacts.{map_below_at}
 use Rattle.mt_terms.proofs.ListFacts.{distinct-take, has-take-position, until_position}
-use Rattle.mt_match_laws.proofs.ListLemmas.{until-map}
+use Rattle.mt_match_laws.proofs.ListLemmas.{until-map, list_any-map}
 use Rattle.mt_ranks.specs.Ranked.{rank_of, ranked_entry}
 use Rattle.mt_ranks.specs.declared.entries.Live.{Live}
 use Rattle.mt_round_laws.proofs.RoundsFits.{listing_program}
@@ -23,6 +23,7 @@ use Rattle.mt_sets.proofs.ListFacts.{is_some-find, is_some-option_map}
 use Rattle.mt_assignment.proofs.RankFacts.{has_rank, has_no_rank}
 use Rattle.mt_round_laws.proofs.SentCounts.{comes, leaves, count_sent, in_read}
 use Rattle.mt_assignment.proofs.SentFacts.{sent_there}
+use Rattle.mt_terms.proofs.AgentFacts.{holds_single}
 
 -- where what stops is kept, a filter keeps what stands before it
 until-filter : {X : Type 0} (test keep : X → Bool) (xs : List X) → ((x : X) → test x ≡ true → keep x ≡ true) → until test (filter keep xs) ≡ filter keep (until test xs)
@@ -49,10 +50,6 @@ before_stop {X} test x (y ∷ ys) i = by_head (test y) refl (before_stop test x 
 pub find-map : {X Y : Type 0} (test : Y → Bool) (f : X → Y) (xs : List X) → find test (map f xs) ≡ option_map f (find (λ x. test (f x)) xs)
 find-map test f [] = refl
 find-map test f (x ∷ xs) = elim (cases_Bool (test (f x))) [ inl t ↦ rw t refl | inr t ↦ rw t (find-map test f xs) ]
-
-pub list_any-map : {X Y : Type 0} (test : Y → Bool) (f : X → Y) (xs : List X) → list_any test (map f xs) ≡ list_any (λ x. test (f x)) xs
-list_any-map test f [] = refl
-list_any-map test f (x ∷ xs) = ap (λ (b : Bool). test (f x) || b) (list_any-map test f xs)
 
 -- a couple's better options are the pairs that it wants more than what it has
 pub better_couple : (s : Assigned) (c : ℕ) → better s.market s.places (Couple c) ≡ map (pair_of s c) (better_pairs s c)
@@ -82,16 +79,11 @@ module _ (taken keep : ℕ → Bool) (post : Live → Bool) (entry : ℕ → Liv
       is_some-find post (map entry (filter keep xs)) ∙ is_some-option_map (λ (e : Live). e.program) (find post (map entry (filter keep xs)))
       ∙ ap is_some (sym (first_kept xs same)) ∙ sym (is_some-find taken xs)
 
--- whether a single has this place, in two forms
-same_place : (q : ℕ) (v : Option ℕ) → (is_same_place v (Some q) && true) ≡ is_program q v
-same_place q None = refl
-same_place q (Some p) = and-true (p == q)
-
 -- a single's better options are the programs that it wants more than what it has
 pub better_single : (s : Assigned) (a : ℕ) → better s.market s.places (Single a) ≡ map (single_placement a) (wanted s a)
 better_single s a =
     until-map (holds s.places) (single_placement a) (list_of s.market a)
-    ∙ ap (map (single_placement a)) (same_until (λ q. holds s.places (single_placement a q)) (λ q. at s.places q a) (list_of s.market a) (λ q i. same_place q (place_of s.places a)))
+    ∙ ap (map (single_placement a)) (same_until (λ q. holds s.places (single_placement a q)) (λ q. at s.places q a) (list_of s.market a) (λ q i. holds_single q (place_of s.places a)))
 
 -- Below, a is an applicant.
 module _ (s : Assigned) (ok : IsAssigned s) (a : ℕ) (within : a < applicants s.market) where

@@ -11,19 +11,11 @@ use Rattle.mt_terms.specs.WellFormed.{IsWellFormed}
 use Rattle.mt_ranks.specs.Ranked.{Ranked, ranked_of}
 use Rattle.mt_assignment.specs.Assigned.{IsAgentOf}
 use Rattle.mt_sets.proofs.PlaceFacts.{has_read}
+pub use Rattle.mt_ranks.proofs.ListedFacts.{item_within as read_within}
 
 -- Below, r are the rank tables of the market m.
-pub ranked_programs : (r : Ranked) (m : Market) → r ≡ ranked_of m → length r.market.programs ≡ length m.programs
-ranked_programs r m is = ap (λ (x : Ranked). length x.market.programs) is
-
-pub ranked_applicants : (r : Ranked) (m : Market) → r ≡ ranked_of m → applicants r.market ≡ applicants m
-ranked_applicants r m is = ap (λ (x : Ranked). applicants x.market) is ∙ length-map_below (live m) (applicants m)
-
 pub ranked_ranking : (r : Ranked) (m : Market) (p : ℕ) → r ≡ ranked_of m → (program_of r.market p).ranking ≡ (program_of m p).ranking
 ranked_ranking r m p is = ap (λ (x : Ranked). (program_of x.market p).ranking) is
-
-pub ranked_quota : (r : Ranked) (m : Market) (p : ℕ) → r ≡ ranked_of m → (program_of r.market p).quota ≡ (program_of m p).quota
-ranked_quota r m p is = ap (λ (x : Ranked). (program_of x.market p).quota) is
 
 -- an agent of the market has a number within it
 pub number_within : (m : Market) (g : Agent) → IsAgent m g → IsAgentOf m g
@@ -33,7 +25,3 @@ number_within m (Couple c) h = couple_number m c h
 -- who an applicant of a well-formed market belongs to is of the market
 pub agent_within : (m : Market) → IsWellFormed m → (a : ℕ) → a < applicants m → IsAgentOf m (agent_of m a)
 agent_within m wf a within = number_within m (agent_of m a) (agent_of_applicant m wf a within)
-
--- an applicant that stands on a list
-pub read_within : (xs : List ℕ) (i a n : ℕ) → i < length xs → a ≡ get_or xs i a → ((b : ℕ) → IsTrue (has xs b) → b < n) → a < n
-read_within xs i a n within read all = all a (has_read xs i a within read)

@@ -17,13 +17,14 @@ use Rattle.mt_terms.specs.declared.numbers.Agent.TheVariants.{Single, Couple}
 use Rattle.mt_match_laws.proofs.ChoiceLemmas.{choice_facts}
 use Rattle.mt_round_laws.proofs.RoundsLists.{In, found, finds, has_in, in_has, in_image, of_image, in_joined, of_joined, in_below, of_below, each}
 use Rattle.mt_round_laws.proofs.RoundsPlaces.{at_none}
-use Rattle.mt_round_laws.proofs.RoundsAgents.{agent_of_applicant, agent_from_list, of_list, on_list, same_agent, member_of_agent, apart, option_movers, option_entry, option_member, option_there, option_elsewhere}
+use Rattle.mt_round_laws.proofs.RoundsAgents.{agent_of_applicant, agent_from_list, of_list, on_list, member_of_agent, apart, option_movers, option_entry, option_member, option_there, option_elsewhere}
 use Rattle.mt_round_laws.proofs.RoundsFits.{listing_program, fitting_facts}
 use Rattle.mt_round_laws.proofs.RoundsMove.{IsMove, of_displaced, displaced_agents, match_after, is_displaced, displaced_agent, goes_out, mover_stays, stays_in, was_before}
 use Rattle.mt_assignment.specs.Assigned.{AreSent, AreSentToLists}
 use Rattle.mt_assignment.specs.Moves.{is_left_by_movers, is_kept_at, all_members, IsTaking}
 use Rattle.mt_round_laws.proofs.SentCounts.{in_list}
 use Rattle.mt_sets.proofs.OrderFacts.{below_rest}
+use Rattle.mt_terms.proofs.AgentFacts.{same_agent}
 
 -- an option names two applicants at most
 option_few : (m : Market) (g : Agent) (sent : Placement) → In sent (options m g) → length sent ≤ 2

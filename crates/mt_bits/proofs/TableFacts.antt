@@ -7,6 +7,7 @@ use Rattle.mt_bits.specs.Members.{is_in}
 use Rattle.mt_bits.specs.Tables.{told_by, told_of, words_of, AddsList, AddsRank, AreFew, HaveSameFlags, TakesRank}
 use Rattle.mt_bits.proofs.BitFacts.{flags_grown, in_flags, no_flags, none_past}
 use Rattle.mt_bits.proofs.Flags.{cleared, flag-cleared, flag-marked, marked}
+use Rattle.mt_terms.proofs.AgentFacts.{eqb_sym}
 
 -- the bits of a list are those of its words
 pub told_at : (rows : List (List ℕ)) (k r : ℕ) → is_in (told_of (map told_by rows) k) r ≡ flag (words_of rows k) r
@@ -71,12 +72,6 @@ list_more rows n = record {
       ]
     ]
 
-turned : (a b : ℕ) → (a == b) ≡ (b == a)
-turned a b = elim (cases_eq a b) [
-  | inl e ↦ eq-eqb a b e ∙ sym (eq-eqb b a (sym e))
-  | inr ne ↦ ne_eqb a b ne ∙ sym (ne_eqb b a (λ e. ne (sym e)))
-]
-
 -- a bit more, after others that change nothing
 pub rank_after : (old mid new : List (List ℕ)) (k rank : ℕ) → HaveSameFlags old mid → AddsRank (map told_by mid) (map told_by new) k rank → AddsRank (map told_by old) (map told_by new) k rank
 rank_after old mid new k rank filled adds = record {
@@ -98,7 +93,7 @@ rank_more old rows k rank filled within reaches = record {
           ap (λ i. flag (words_of (set rows k (marked (words_of rows k) rank)) i) r) is
           ∙ ap (λ words. flag words r) (get_or-set_same rows k (marked (words_of rows k) rank) [] within)
           ∙ flag-marked (words_of rows k) rank reaches r
-          ∙ ap (λ (b : Bool). b || flag (words_of rows k) r) (turned r rank ∙ sym (ap (λ (b : Bool). b && rank == r) (eq-eqb k j (sym is))))
+          ∙ ap (λ (b : Bool). b || flag (words_of rows k) r) (eqb_sym r rank ∙ sym (ap (λ (b : Bool). b && rank == r) (eq-eqb k j (sym is))))
           ∙ ap (λ i. (k == j && rank == r) || flag (words_of rows i) r) (sym is)
       | inr other ↦
           ap (λ words. flag words r) (get_or-set_other rows k j (marked (words_of rows k) rank) [] other)
@@ -119,7 +114,7 @@ rank_less rows k rank within reaches = record {
           ap (λ i. flag (words_of (set rows k (cleared (words_of rows k) rank)) i) r) is
           ∙ ap (λ words. flag words r) (get_or-set_same rows k (cleared (words_of rows k) rank) [] within)
           ∙ flag-cleared (words_of rows k) rank reaches r
-          ∙ ap (λ (b : Bool). not b && flag (words_of rows k) r) (turned r rank ∙ sym (ap (λ (b : Bool). b && rank == r) (eq-eqb k j (sym is))))
+          ∙ ap (λ (b : Bool). not b && flag (words_of rows k) r) (eqb_sym r rank ∙ sym (ap (λ (b : Bool). b && rank == r) (eq-eqb k j (sym is))))
           ∙ ap (λ i. not (k == j && rank == r) && flag (words_of rows i) r) (sym is)
       | inr other ↦
           ap (λ words. flag words r) (get_or-set_other rows k j (cleared (words_of rows k) rank) [] other)

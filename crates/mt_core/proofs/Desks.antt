@@ -9,18 +9,7 @@ use Rattle.mt_floor_laws.proofs.FloorLists.{has-take-suc}
 use Rattle.mt_core.specs.Desks.{with_desk, MayHave}
 use Rattle.mt_core.specs.Floors.{Tables, floor_of, with_standing, IsOpenedWith}
 use Rattle.mt_core.proofs.FloorTables.{same_floor}
-
--- what is so of the applicant and of each other one is so of each
-of_each : (P : ℕ → Type 0) (a : ℕ) → P a → ((b : ℕ) → b ≢ a → P b) → (b : ℕ) → P b
-of_each P a here others b = elim (cases_eq b a) [ inl same ↦ subst P (sym same) here | inr other ↦ others b other ]
-
--- a floor with the desk that it has is the same
-pub with_own_desk : (m : Market) (f : Floor) (a : ℕ) → IsRecorded m f → f ≡ with_desk m f a (f.made a) (f.standing a)
-with_own_desk m f a r =
-    same_floor f (with_desk m f a (f.made a) (f.standing a))
-    (of_each (λ b. f.made b ≡ (if b == a then f.made a else f.made b)) a (rw (eq-eqb a a refl) refl) (λ b other. rw (ne_eqb b a other) refl))
-    (of_each (λ b. f.standing b ≡ (if b == a then f.standing a else f.standing b)) a (rw (eq-eqb a a refl) refl) (λ b other. rw (ne_eqb b a other) refl))
-    (λ p. of_each (λ b. f.received p b ≡ (if b == a then has (take (f.made a) (live m a)) p else f.received p b)) a (rw (eq-eqb a a refl) (r.receives a p)) (λ b other. rw (ne_eqb b a other) refl))
+use Rattle.mt_floor_laws.proofs.FloorEvents.{one_and_others}
 
 -- what such a floor says of the applicant
 pub desk_made : (m : Market) (f g : Floor) (a k : ℕ) (s : Bool) → g ≡ with_desk m f a k s → g.made a ≡ k
@@ -34,11 +23,11 @@ pub with_desk_more : (m : Market) (f g : Floor) (a k p : ℕ) (s : Bool) → g �
     → proposed_at m g a p ≡ with_desk m f a (k + 1) ((proposed_at m g a p).standing a)
 with_desk_more m f g a k p s is next =
     same_floor h (with_desk m f a (k + 1) (h.standing a))
-    (of_each (λ b. h.made b ≡ (if b == a then k + 1 else f.made b)) a
+    (one_and_others (λ b. h.made b ≡ (if b == a then k + 1 else f.made b)) a
     (rw (eq-eqb a a refl) (ap (λ n. n + 1) (desk_made m f g a k s is)))
     (λ b other. rw (ne_eqb b a other) (made_there b other)))
-    (of_each (λ b. h.standing b ≡ (if b == a then h.standing a else f.standing b)) a (rw (eq-eqb a a refl) refl) (λ b other. rw (ne_eqb b a other) (stands_there b other)))
-    (λ q. of_each (λ b. h.received q b ≡ (if b == a then has (take (k + 1) (live m a)) q else f.received q b)) a
+    (one_and_others (λ b. h.standing b ≡ (if b == a then h.standing a else f.standing b)) a (rw (eq-eqb a a refl) refl) (λ b other. rw (ne_eqb b a other) (stands_there b other)))
+    (λ q. one_and_others (λ b. h.received q b ≡ (if b == a then has (take (k + 1) (live m a)) q else f.received q b)) a
     (rw (eq-eqb a a refl) (received_here q))
     (λ b other. rw (ne_eqb b a other) (received_there q b other)))
   where
@@ -81,20 +70,17 @@ unfolding floor_of
 with_desk_standing m t f a k s now o low is =
     same_floor (floor_of m (with_standing t a now)) (with_desk m f a k now)
     (λ b. ap (λ (x : Floor). x.made b) is)
-    (of_each (λ b. get_or (set t.standing a now) b false ≡ (if b == a then now else f.standing b)) a
+    (one_and_others (λ b. get_or (set t.standing a now) b false ≡ (if b == a then now else f.standing b)) a
     (rw (eq-eqb a a refl) (get_or-set_same t.standing a now false (omega (arith, o.standing))))
     (λ b other. rw (ne_eqb b a other) (get_or-set_other t.standing a b now false other ∙ ap (λ (x : Floor). x.standing b) is ∙ ap (λ x. if x then s else f.standing b) (ne_eqb b a other))))
     (λ p b. ap (λ (x : Floor). x.received p b) is)
 
-pub with_desk_opened : (m : Market) (t : Tables) (a : ℕ) (now : Bool) → IsOpenedWith m t → IsOpenedWith m (with_standing t a now)
-with_desk_opened m t a now o = record { made = o.made; standing = length-set t.standing a now ∙ o.standing; holds = o.holds; quotas = o.quotas; lists = o.lists }
-
 -- a recorded floor with another desk is recorded
 pub with_desk_recorded : (m : Market) (f : Floor) (a k : ℕ) (s : Bool) → IsRecorded m f → MayHave m a k s → IsRecorded m (with_desk m f a k s)
 with_desk_recorded m f a k s r may = record {
-  within = of_each (λ b. g.made b ≤ length (live m b)) a (rw (eq-eqb a a refl) may.within) (λ b other. rw (ne_eqb b a other) (r.within b));
-  proposed = of_each (λ b. IsTrue (g.standing b) → 0 < g.made b) a (rw (eq-eqb a a refl) may.proposed) (λ b other. rw (ne_eqb b a other) (r.proposed b));
-  receives = of_each (λ b. (p : ℕ) → g.received p b ≡ has (tried m g b) p) a (λ p. rw (eq-eqb a a refl) refl) (λ b other p. rw (ne_eqb b a other) (r.receives b p));
+  within = one_and_others (λ b. g.made b ≤ length (live m b)) a (rw (eq-eqb a a refl) may.within) (λ b other. rw (ne_eqb b a other) (r.within b));
+  proposed = one_and_others (λ b. IsTrue (g.standing b) → 0 < g.made b) a (rw (eq-eqb a a refl) may.proposed) (λ b other. rw (ne_eqb b a other) (r.proposed b));
+  receives = one_and_others (λ b. (p : ℕ) → g.received p b ≡ has (tried m g b) p) a (λ p. rw (eq-eqb a a refl) refl) (λ b other p. rw (ne_eqb b a other) (r.receives b p));
 }
   where
     g : Floor

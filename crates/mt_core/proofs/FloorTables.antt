@@ -181,6 +181,3 @@ unseated_floor m t a o low =
     by_test : (x y : Bool) → cond x false y ≡ (not x && y)
     by_test true y = refl
     by_test false y = refl
-
-pub unseated_opened : (m : Market) (t : Tables) (a : ℕ) → IsOpenedWith m t → IsOpenedWith m (with_standing t a false)
-unseated_opened m t a o = record { made = o.made; standing = length-set t.standing a false ∙ o.standing; holds = o.holds; quotas = o.quotas; lists = o.lists }

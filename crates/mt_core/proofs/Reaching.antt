@@ -29,10 +29,6 @@ due_proposals-append : (m : Market) (f : Floor) (es fs : List Event) → due_pro
 due_proposals-append m f [] fs = omega arith
 due_proposals-append m f (e ∷ es) fs = omega (arith, due_proposals-append m (after m f e) es fs)
 
--- no events lead to the floor itself
-pub reached_none : (m : Market) (f : Floor) → IsReached m f f 0
-reached_none m f = record { events = []; floor = refl; count = refl }
-
 -- events and then others lead on
 pub reached_more : (m : Market) (f g h : Floor) (j k : ℕ) → IsReached m f g j → IsReached m g h k → IsReached m f h (j + k)
 reached_more m f g h j k first rest = record {
@@ -69,13 +65,6 @@ reached_at_most m f g k is h = made_at_most_lem m g (reached_recorded m f g k is
 -- and no more proposals are made on the way than there are live entries
 pub reached_few : (m : Market) (f g : Floor) (k : ℕ) → IsReached m f g k → IsRecorded m f → k ≤ live_entries m
 reached_few m f g k is h = omega (arith, reached_made m f g k is h, reached_at_most m f g k is h)
-
--- rank tables have fewer live entries than a machine number can count
-pub few_live_entries : (r : Ranked) → IsRanked r → live_entries r.market < 2 ^ 32
-few_live_entries r is =
-    let same : live_entries r.market ≡ total_below (λ a. length (list_of r.market a)) (applicants r.market) =
-    total_below-same (λ a. length (live r.market a)) (λ a. length (list_of r.market a)) (applicants r.market) (λ a low. ap length (is.all_live a)) in
-    omega (arith, same, is.few_entries)
 
 -- the events up to the next one
 pub after_all-next : (m : Market) (f : Floor) (es : List Event) (i : ℕ) (e : Event) → i < length es → e ≡ get_or es i e → after_all m f (take (i + 1) es) ≡ after m (after_all m f (take i es)) e

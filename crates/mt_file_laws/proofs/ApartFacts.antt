@@ -1,7 +1,7 @@
 -- Records that don't conflict with one another.
 use Rattle.std.proofs.Common.{◌≡◌, ℕ, ◌+◌, Bool, true, false, not, ◌&&◌, ◌||◌, nat_lt, List, [], ◌∷◌, ◌++◌, length, length-append, Option, Some, None, refl, ap, sym, ◌∙◌, arith, cond}
 use Rattle.std.specs.Prelude.{bytes_eq, is_none, option_to_list}
-use Rattle.std.proofs.lemmas.Bool.{and_parts}
+use Rattle.std.proofs.lemmas.Bool.{and_parts, not-true, and_from, or_parts}
 use Rattle.std.proofs.lemmas.Bool.Decides.{nat_tests}
 use Rattle.std.proofs.lemmas.List.{append-nil, append_assoc}
 use Rattle.std.proofs.lemmas.List.Elements.{filter_map-append}
@@ -15,9 +15,8 @@ use Rattle.mt_terms.specs.Registration.Rows.{own_id, ids_of, withdrawn_id, withd
 use Rattle.mt_terms.specs.Registration.Passes.{is_same_pair, registered_before, says_twice, are_too_many, first_of, first_in}
 use Rattle.mt_file_laws.specs.Faultless.{ids_differ}
 use Rattle.mt_file_laws.proofs.GrowthFacts.{applicant_ids-more, ids_of-more, withdrawn-more}
-use Rattle.mt_file_laws.proofs.IdFacts.{differ_parts, differ_join, neither}
-use Rattle.mt_terms.proofs.IdFacts.{same_id, is_same}
-use Rattle.mt_file_laws.proofs.NumberingFacts.{both}
+use Rattle.mt_file_laws.proofs.IdFacts.{differ_join}
+use Rattle.mt_terms.proofs.IdFacts.{same_id, is_same, differ_parts}
 
 -- whether nothing is withdrawn twice
 abbrev pub withdrawn_once : List Record → Bool
@@ -169,11 +168,6 @@ module _ (before : List Record) where
       by (WithdrawRecord OfApplicant id) = new (withdrawn_once before) (not (has_id applicants id)) _ (more_second programs applicants couples id)
       by (WithdrawRecord OfCouple id) = new (withdrawn_once before) (not (has_id couples id)) _ (more_third programs applicants couples id)
 
--- a test that fails
-pub no : (b : Bool) → not b ≡ true → b ≡ false
-no true h = cc
-no false h = refl
-
 -- A record that can stand after those before it: it registers no id of theirs, it says nothing twice, and with it they are not
 -- too many.
 pub record CanFollow (limits : Limits) (before : List Record) (r : Record) : Type 0 where
@@ -192,10 +186,10 @@ module _ (limits : Limits) (before : List Record) (r : Record) where
   pub can_follow : AreApart limits (before ++ r ∷ []) → lists_once r ≡ true → CanFollow limits before r
   can_follow apart once =
       let i : ids_differ before && is_none (registered_before before r) ≡ true = sym (ids_differ-more before r) ∙ apart.ids in
-      let w : withdrawn_once before && not (says_twice before r) ≡ true = sym (withdrawn_once-more before r) ∙ both _ _ apart.withdrawals once in
+      let w : withdrawn_once before && not (says_twice before r) ≡ true = sym (withdrawn_once-more before r) ∙ and_from _ _ apart.withdrawals once in
       record {
         new = none (registered_before before r) (and_parts (ids_differ before) _ i).1;
-        once = no (says_twice before r) (and_parts (withdrawn_once before) _ w).1;
+        once = not-true (says_twice before r) (and_parts (withdrawn_once before) _ w).1;
         few = apart.few;
       }
     where
@@ -208,7 +202,7 @@ differ_front : (xs ys : List Bytes) → all_differ bytes_eq (xs ++ ys) ≡ true 
 differ_front [] ys h = refl
 differ_front (x ∷ xs) ys h =
     let p : (has_id (xs ++ ys) x ≡ false) × (all_differ bytes_eq (xs ++ ys) ≡ true) = differ_parts x (xs ++ ys) h in
-    let n : (has_id xs x ≡ false) × (has_id ys x ≡ false) = neither (has_id xs x) (has_id ys x) (sym (list_any-append (bytes_eq x) xs ys) ∙ p.0) in
+    let n : (has_id xs x ≡ false) × (has_id ys x ≡ false) = or_parts (has_id xs x) (has_id ys x) (sym (list_any-append (bytes_eq x) xs ys) ∙ p.0) in
     differ_join x xs n.0 (differ_front xs ys p.1)
 
 three_front : (xs xs' ys ys' zs zs' : List Bytes) → three_differ (xs ++ xs') (ys ++ ys') (zs ++ zs') ≡ true → three_differ xs ys zs ≡ true
@@ -224,9 +218,9 @@ module _ (limits : Limits) (before rest : List Record) where
   few_before : are_too_many limits (before ++ rest) ≡ false → are_too_many limits before ≡ false
   few_before h =
       let all : List Record = before ++ rest in
-      let p = neither (nat_lt limits.applicants (length (applicant_ids all)) || nat_lt limits.programs (length (ids_of OfProgram all)) || nat_lt limits.couples (length (ids_of OfCouple all))) (nat_lt limits.entries (entry_count all)) h in
-      let q = neither (nat_lt limits.applicants (length (applicant_ids all)) || nat_lt limits.programs (length (ids_of OfProgram all))) (nat_lt limits.couples (length (ids_of OfCouple all))) p.0 in
-      let t = neither (nat_lt limits.applicants (length (applicant_ids all))) (nat_lt limits.programs (length (ids_of OfProgram all))) q.0 in
+      let p = or_parts (nat_lt limits.applicants (length (applicant_ids all)) || nat_lt limits.programs (length (ids_of OfProgram all)) || nat_lt limits.couples (length (ids_of OfCouple all))) (nat_lt limits.entries (entry_count all)) h in
+      let q = or_parts (nat_lt limits.applicants (length (applicant_ids all)) || nat_lt limits.programs (length (ids_of OfProgram all))) (nat_lt limits.couples (length (ids_of OfCouple all))) p.0 in
+      let t = or_parts (nat_lt limits.applicants (length (applicant_ids all))) (nat_lt limits.programs (length (ids_of OfProgram all))) q.0 in
       let a = few_front _ (length (applicant_ids before)) _ _ (ap length (flat_map-append applicants_of before rest) ∙ length-append (applicant_ids before) (applicant_ids rest)) t.0 in
       let b = few_front _ (length (ids_of OfProgram before)) _ _ (ap length (filter_map-append (own_id OfProgram) before rest) ∙ length-append (ids_of OfProgram before) (ids_of OfProgram rest)) t.1 in
       let c = few_front _ (length (ids_of OfCouple before)) _ _ (ap length (filter_map-append (own_id OfCouple) before rest) ∙ length-append (ids_of OfCouple before) (ids_of OfCouple rest)) q.1 in

@@ -3,14 +3,13 @@ use Rattle.std.proofs.Common.{◌≡◌, ℕ, Bool, true, false, not, ◌&&◌, 
 use Rattle.std.specs.Prelude.{if◌then◌else◌, codes, bytes_eq, option_map, ok_or}
 use Rattle.std.specs.List.{list_all}
 use Rattle.std.specs.Result.{result_ok}
-use Rattle.std.proofs.lemmas.Bool.{and_parts}
+use Rattle.std.proofs.lemmas.Bool.{and_parts, and_from}
 use Rattle.mt_terms.specs.Registration.Ids.{Bytes, is_dash, is_id, quota_of}
 use Rattle.mt_terms.specs.Registration.Faults.{Charge, charge, charge_alone}
 use Rattle.mt_terms.specs.declared.codes.TheConstants.{BAD_ID, BAD_QUOTA}
 use Rattle.mt_terms.specs.Registration.Records.{Rules, Record, ProgramRecord, ApplicantRecord, CoupleRecord, WithdrawRecord, Kind, OfProgram, OfApplicant, OfCouple, IdPair, kind_of, are_ids, is_pair, pair_of, two_by_two, record_of, record_by_kind, program_record, applicant_record, couple_by_pairs, couple_record, withdraw_by_kind, withdraw_record}
 use Rattle.mt_terms.specs.Registration.Rows.{ids_of, applicant_ids}
 use Rattle.mt_file_laws.specs.Faultless.{program_draft, applicant_draft, couple_draft, draft_by_kind, draft, is_allowed}
-use Rattle.mt_file_laws.proofs.NumberingFacts.{both}
 
 -- whether what a record registers are ids
 abbrev pub registers_ids : Rules → Record → Bool
@@ -69,9 +68,9 @@ module _ (rules : Rules) where
     where
       by : (b c : Bool) (o : Option ℕ) → is_id rules.limits.id_bytes id ≡ b → are_ids rules list ≡ c
           → IsDraft rules (if b && c then ok_or (option_map (λ n. ProgramRecord id n list) o) (charge BAD_QUOTA id) else Err (charge_alone BAD_ID)) (if b then option_map (λ n. ProgramRecord id n list) o else None)
-      by true true (Some n) i l = listed (ProgramRecord id n list) (both _ _ i refl) l
+      by true true (Some n) i l = listed (ProgramRecord id n list) (and_from _ _ i refl) l
       by true true None i l = no_draft _
-      by true false (Some n) i l = unlisted (ProgramRecord id n list) _ (both _ _ i refl) l
+      by true false (Some n) i l = unlisted (ProgramRecord id n list) _ (and_from _ _ i refl) l
       by true false None i l = no_draft _
       by false c o i l = no_draft _
 
@@ -81,8 +80,8 @@ module _ (rules : Rules) where
     where
       by : (b c : Bool) → is_id rules.limits.id_bytes id ≡ b → are_ids rules list ≡ c
           → IsDraft rules (if b && c then Ok (ApplicantRecord id list) else Err (charge_alone BAD_ID)) (if b then Some (ApplicantRecord id list) else None)
-      by true true i l = listed (ApplicantRecord id list) (both _ _ i refl) l
-      by true false i l = unlisted (ApplicantRecord id list) _ (both _ _ i refl) l
+      by true true i l = listed (ApplicantRecord id list) (and_from _ _ i refl) l
+      by true false i l = unlisted (ApplicantRecord id list) _ (and_from _ _ i refl) l
       by false c i l = no_draft _
 
   -- two fields are a pair where the places that they write are
@@ -176,7 +175,7 @@ module _ (rules : Rules) where
   programs_ids [] h = refl
   programs_ids (ProgramRecord id quota list ∷ rs) h =
       let q : (are_ids rules (id ∷ []) ≡ true) × (list_all (registers_ids rules) rs ≡ true) = and_parts (are_ids rules (id ∷ [])) _ h in
-      both _ _ (and_parts (is_id rules.limits.id_bytes id) _ q.0).0 (programs_ids rs q.1)
+      and_from _ _ (and_parts (is_id rules.limits.id_bytes id) _ q.0).0 (programs_ids rs q.1)
   programs_ids (ApplicantRecord id list ∷ rs) h = programs_ids rs (and_parts (are_ids rules (id ∷ [])) _ h).1
   programs_ids (CoupleRecord id a b pairs ∷ rs) h = programs_ids rs (and_parts (are_ids rules (id ∷ a ∷ b ∷ [])) _ h).1
   programs_ids (WithdrawRecord kind id ∷ rs) h = programs_ids rs h
@@ -186,10 +185,10 @@ module _ (rules : Rules) where
   applicants_ids (ProgramRecord id quota list ∷ rs) h = applicants_ids rs (and_parts (are_ids rules (id ∷ [])) _ h).1
   applicants_ids (ApplicantRecord id list ∷ rs) h =
       let q : (are_ids rules (id ∷ []) ≡ true) × (list_all (registers_ids rules) rs ≡ true) = and_parts (are_ids rules (id ∷ [])) _ h in
-      both _ _ (and_parts (is_id rules.limits.id_bytes id) _ q.0).0 (applicants_ids rs q.1)
+      and_from _ _ (and_parts (is_id rules.limits.id_bytes id) _ q.0).0 (applicants_ids rs q.1)
   applicants_ids (CoupleRecord id a b pairs ∷ rs) h =
       let q : (are_ids rules (id ∷ a ∷ b ∷ []) ≡ true) × (list_all (registers_ids rules) rs ≡ true) = and_parts (are_ids rules (id ∷ a ∷ b ∷ [])) _ h in
       let m : are_ids rules (a ∷ b ∷ []) ≡ true = (and_parts (is_id rules.limits.id_bytes id) _ q.0).1 in
       let n : (is_id rules.limits.id_bytes a ≡ true) × (are_ids rules (b ∷ []) ≡ true) = and_parts (is_id rules.limits.id_bytes a) _ m in
-      both _ _ n.0 (both _ _ (and_parts (is_id rules.limits.id_bytes b) _ n.1).0 (applicants_ids rs q.1))
+      and_from _ _ n.0 (and_from _ _ (and_parts (is_id rules.limits.id_bytes b) _ n.1).0 (applicants_ids rs q.1))
   applicants_ids (WithdrawRecord kind id ∷ rs) h = applicants_ids rs h

@@ -4,7 +4,7 @@ use Rattle.std.specs.Prelude.{if◌then◌else◌, codes, bytes_eq, option_map, 
 use Rattle.std.specs.Option.{option_map_or}
 use Rattle.std.specs.Bool.{then_some}
 use Rattle.std.specs.List.{list_all}
-use Rattle.std.proofs.lemmas.Bool.{and_parts}
+use Rattle.std.proofs.lemmas.Bool.{and_parts, and_from}
 use Rattle.std.proofs.lemmas.Bool.Decides.{nat_tests}
 use Rattle.std.proofs.lemmas.List.{map-append}
 use Rattle.std.proofs.lemmas.List.Folds.{list_all-append}
@@ -19,9 +19,7 @@ use Rattle.mt_terms.specs.Registration.Passes.{Numbered, numbered_from, contents
 use Rattle.mt_terms.specs.Registration.Numbering.{registered}
 use Rattle.mt_terms.specs.Text.{is_fault_code, is_none_or_id}
 use Rattle.mt_file_laws.specs.Faults.{FaultCodes, FaultIds}
-
-both : (a b : Bool) → a ≡ true → b ≡ true → (a && b) ≡ true
-both a b h k = rw (h, k) refl
+use Rattle.mt_file_laws.proofs.VersionFacts.{id_of_more, second_of_four}
 
 -- a member of a pair that isn't `-` is an id
 first_holds : (w e s t : Bool) → ((s && t) || (w && ((s && e) || (false && t)))) ≡ true → s ≡ true
@@ -133,7 +131,7 @@ module _ (rules : Rules) where
   by_pairs_fits id a b None = refl
   by_pairs_fits id a b (Some pairs) =
       if_fits (are_ids rules (id ∷ a ∷ b ∷ []) && list_all (is_pair rules) pairs) (Ok (CoupleRecord id a b (map pair_of pairs))) (Err (charge_alone BAD_ID))
-      (λ h. let q : (are_ids rules (id ∷ a ∷ b ∷ []) ≡ true) × (list_all (is_pair rules) pairs ≡ true) = and_parts (are_ids rules (id ∷ a ∷ b ∷ [])) _ h in both _ _ q.0 (pairs_fit pairs q.1))
+      (λ h. let q : (are_ids rules (id ∷ a ∷ b ∷ []) ≡ true) × (list_all (is_pair rules) pairs ≡ true) = and_parts (are_ids rules (id ∷ a ∷ b ∷ [])) _ h in and_from _ _ q.0 (pairs_fit pairs q.1))
       refl
 
   couple_fits : (fields : List Bytes) → fits (couple_record rules fields) ≡ true
@@ -196,14 +194,14 @@ module _ (rules : Rules) where
       let p : (an_id id ≡ true) × (list_all an_id (a ∷ b ∷ []) ≡ true) = and_parts (an_id id) _ (and_parts (list_all an_id (id ∷ a ∷ b ∷ [])) _ h).0 in
       let q : (an_id a ≡ true) × (list_all an_id (b ∷ []) ≡ true) = and_parts (an_id a) _ p.1 in
       some_of_first none_or_id (first_in (ids_of OfCouple before) (id ∷ []) ∷ first_in (applicant_ids before) (a ∷ []) ∷ first_in (a ∷ applicant_ids before) (b ∷ []) ∷ [])
-      (both _ _ (found_fits (ids_of OfCouple before) id p.0)
-      (both _ _ (found_fits (applicant_ids before) a q.0)
-      (both _ _ (found_fits (a ∷ applicant_ids before) b (and_parts (an_id b) _ q.1).0) refl)))
+      (and_from _ _ (found_fits (ids_of OfCouple before) id p.0)
+      (and_from _ _ (found_fits (applicant_ids before) a q.0)
+      (and_from _ _ (found_fits (a ∷ applicant_ids before) b (and_parts (an_id b) _ q.1).0) refl)))
   registered_fits before (WithdrawRecord kind id) h = refl
 
   id_charged : (code : ℕ) (id : Option Bytes) → is_fault_code code ≡ true → where_some none_or_id id ≡ true → where_some is_charge (option_map (charge code) id) ≡ true
   id_charged code None k h = refl
-  id_charged code (Some id) k h = both _ _ k h
+  id_charged code (Some id) k h = and_from _ _ k h
 
   test_charged : (b : Bool) (c : Charge) → is_charge c ≡ true → where_some is_charge (then_some b c) ≡ true
   test_charged true c h = h
@@ -216,9 +214,9 @@ module _ (rules : Rules) where
       (option_map (charge DUPLICATE_ID) (registered_before before r)
       ∷ then_some (says_twice before r) (charge DUPLICATE_ENTRY (id_of r))
       ∷ then_some (are_too_many rules.limits (before ++ r ∷ [])) (charge TOO_MANY (id_of r)) ∷ [])
-      (both _ _ (id_charged DUPLICATE_ID (registered_before before r) refl (registered_fits before r h))
-      (both _ _ (test_charged (says_twice before r) (charge DUPLICATE_ENTRY (id_of r)) own)
-      (both _ _ (test_charged (are_too_many rules.limits (before ++ r ∷ [])) (charge TOO_MANY (id_of r)) own) refl)))
+      (and_from _ _ (id_charged DUPLICATE_ID (registered_before before r) refl (registered_fits before r h))
+      (and_from _ _ (test_charged (says_twice before r) (charge DUPLICATE_ENTRY (id_of r)) own)
+      (and_from _ _ (test_charged (are_too_many rules.limits (before ++ r ∷ [])) (charge TOO_MANY (id_of r)) own) refl)))
 
   next_fits : (before : List Record) (fields : List Bytes) → fits (next_record rules before fields) ≡ true
   next_fits before fields =
@@ -251,7 +249,7 @@ module _ (rules : Rules) where
       id_charged UNKNOWN_PROGRAM (first_not_in (ids_of OfProgram all) (flat_map named pairs)) refl
       (missed_fits (ids_of OfProgram all) (flat_map named pairs) (and_parts (list_all an_id (id ∷ a ∷ b ∷ [])) _ h).1)
   unknown_charged all (WithdrawRecord kind id) h =
-      id_charged NOT_REGISTERED (first_not_in (ids_of kind all) (id ∷ [])) refl (missed_fits (ids_of kind all) (id ∷ []) (both _ _ h refl))
+      id_charged NOT_REGISTERED (first_not_in (ids_of kind all) (id ∷ [])) refl (missed_fits (ids_of kind all) (id ∷ []) (and_from _ _ h refl))
 
   fault_fits : (n : ℕ) (o : Option Charge) → where_some is_charge o ≡ true → where_some is_fault (option_map (fault_at n) o) ≡ true
   fault_fits n None h = refl
@@ -262,7 +260,7 @@ module _ (rules : Rules) where
   second_pass_fits all [] h = refl
   second_pass_fits all (r ∷ records) h =
       let p : (names_ids r.1 ≡ true) × (name_ids records ≡ true) = and_parts (names_ids r.1) _ h in
-      both _ _ (fault_fits r.0 (unknown_id all r.1) (unknown_charged all r.1 p.0)) (second_pass_fits all records p.1)
+      and_from _ _ (fault_fits r.0 (unknown_id all r.1) (unknown_charged all r.1 p.0)) (second_pass_fits all records p.1)
 
   under_fits : (rows : List (Numbered (List Bytes))) → either (λ r. true) is_fault (market_under rules rows) ≡ true
   under_fits rows =
@@ -270,17 +268,9 @@ module _ (rules : Rules) where
       (λ records h. either_unless (λ r. true) is_fault (second_pass records) (registered (contents records)) (some_of_first is_fault (map (λ r. option_map (fault_at r.0) (unknown_id (contents records) r.1)) records) (second_pass_fits (contents records) records h)) refl)
 
 -- by those of either version
-at_most : (n : ℕ) → nat_le n 32 ≡ true → nat_le n 64 ≡ true
-at_most n h = grind (arith, nat_tests)
-
-longer : (a b b' c d : Bool) → (b ≡ true → b' ≡ true) → (a && b && c && d) ≡ true → (a && b' && c && d) ≡ true
-longer true true b' c d h k = rw (h refl) k
-longer true false b' c d h k = cc
-longer false b b' c d h k = cc
-
 long_enough : (id : Bytes) → none_or_id version_1 id ≡ true → is_none_or_id id ≡ true
 long_enough [] k = refl
-long_enough (byte ∷ bytes) k = longer _ (nat_le (length (byte ∷ bytes)) 32) (nat_le (length (byte ∷ bytes)) 64) _ _ (at_most (length (byte ∷ bytes))) k
+long_enough (byte ∷ bytes) k = second_of_four _ (nat_le (length (byte ∷ bytes)) 32) (nat_le (length (byte ∷ bytes)) 64) _ _ (id_of_more (length (byte ∷ bytes))) k
 
 long : (id : Bytes) → none_or_id version_2 id ≡ true → is_none_or_id id ≡ true
 long [] k = refl
@@ -294,7 +284,7 @@ may_end o = either (λ r. true) is_known o
 
 of_version : (rules : Rules) → ((id : Bytes) → none_or_id rules id ≡ true → is_none_or_id id ≡ true) → (m : Result Registered Fault) → either (λ r. true) (is_fault rules) m ≡ true → may_end m ≡ true
 of_version rules more (Ok r) h = refl
-of_version rules more (Err f) h = let p : (is_fault_code f.code ≡ true) × (none_or_id rules f.id ≡ true) = and_parts (is_fault_code f.code) _ h in both _ _ p.0 (more f.id p.1)
+of_version rules more (Err f) h = let p : (is_fault_code f.code ≡ true) × (none_or_id rules f.id ≡ true) = and_parts (is_fault_code f.code) _ h in and_from _ _ p.0 (more f.id p.1)
 
 version_ends : (fields : List Bytes) (rows : List (Numbered (List Bytes))) (n : ℕ)
     → may_end (option_map_or (λ rules. market_under rules rows) (rules_of fields) (Err (fault_at n (charge_alone NO_VERSION)))) ≡ true

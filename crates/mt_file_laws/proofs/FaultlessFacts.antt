@@ -4,7 +4,7 @@ use Rattle.std.specs.Prelude.{option_map, option_and_then, is_none, if◌then◌
 use Rattle.std.specs.Bool.{then_some}
 use Rattle.std.specs.List.{list_all}
 use Rattle.std.specs.Result.{result_ok}
-use Rattle.std.proofs.lemmas.Bool.{and_parts}
+use Rattle.std.proofs.lemmas.Bool.{and_parts, and_from}
 use Rattle.std.proofs.lemmas.List.{append-nil, append_assoc}
 use Rattle.mt_terms.specs.declared.codes.TheConstants.{DUPLICATE_ID}
 use Rattle.mt_terms.specs.Market.{Registered}
@@ -15,7 +15,6 @@ use Rattle.mt_terms.specs.Registration.Records.{Rules, Record, record_of}
 use Rattle.mt_terms.specs.Registration.Passes.{Numbered, contents, first_of, and_then, unless, at_record, registered_before, says_twice, are_too_many, first_conflict, next_record, first_pass, second_pass, unknown_id}
 use Rattle.mt_terms.specs.Registration.Numbering.{registered}
 use Rattle.mt_file_laws.specs.Faultless.{draft, drafts, is_faultless, faultless_market, PassesAgree}
-use Rattle.mt_file_laws.proofs.NumberingFacts.{both}
 use Rattle.mt_file_laws.proofs.PassFacts.{kept_parts, contents_push}
 use Rattle.mt_file_laws.proofs.DraftFacts.{registers_ids, lists_ids, is_draft}
 use Rattle.mt_file_laws.proofs.ApartFacts.{lists_once, AreApart, none_apart, CanFollow, apart_more, can_follow, apart_front}
@@ -60,7 +59,7 @@ module _ (rules : Rules) where
   drafts_register (row ∷ rows) rs h =
       let d : HasFirst rules row rows rs = first_of_drafts row rows rs h in
       subst (λ (xs : List Record). list_all (registers_ids rules) xs ≡ true) d.all
-      (both _ _ ((is_draft rules row).registers d.first d.drafted) (drafts_register rows d.rest d.others))
+      (and_from _ _ ((is_draft rules row).registers d.first d.drafted) (drafts_register rows d.rest d.others))
 
   module _ (before : List (Numbered Record)) (n : ℕ) (row : List Bytes) where
     -- a row is read that has a record, which can follow
@@ -130,8 +129,8 @@ module _ (rules : Rules) where
             records = r ∷ g.records;
             drafted = rw (d, g.drafted) refl;
             all = g.all ∙ ap (λ (xs : List Record). xs ++ g.records) pushed ∙ append_assoc (contents before) (r ∷ []) g.records;
-            once = both _ _ a.1 g.once;
-            allowed = both _ _ (lists_allowed rules r ((is_draft rules row.1).lists r p.0)) g.allowed;
+            once = and_from _ _ a.1 g.once;
+            allowed = and_from _ _ (lists_allowed rules r ((is_draft rules row.1).lists r p.0)) g.allowed;
             apart = g.apart;
           }
 

@@ -1,5 +1,5 @@
 -- Lists of ids, and the numbers of ids on them.
-use Rattle.std.proofs.Common.{◌≡◌, ◌≢◌, suc, ◌<◌, ◌≤◌, Bool, true, false, not, ◌&&◌, ◌||◌, List, [], ◌∷◌, ◌++◌, map, length, refl, arith, sym, cond, nat_lt}
+use Rattle.std.proofs.Common.{◌≡◌, ◌≢◌, suc, ◌<◌, ◌≤◌, Bool, true, false, not, ◌&&◌, ◌||◌, List, [], ◌∷◌, ◌++◌, map, length, refl, arith, sym, cond, nat_lt, ℕ, ◌+◌, get_or}
 use Rattle.std.specs.Prelude.{filter, bytes_eq, ◌==◌}
 use Rattle.std.specs.List.{list_all}
 use Rattle.std.proofs.lemmas.Bool.Decides.{nat_tests}
@@ -8,25 +8,14 @@ use Rattle.std.proofs.lemmas.List.Folds.{list_any-append}
 use Rattle.mt_terms.specs.Lists.{has, is_distinct}
 use Rattle.mt_terms.specs.Registration.Ids.{Bytes, has_id, number_of, numbers_of, all_differ}
 use Rattle.mt_terms.proofs.IdFacts.{number_below, same_id, same_number}
+use Rattle.std.proofs.lemmas.Bool.{false_from_ne_true}
+
+-- Crates above cite these lemmas by these names.
+pub use Rattle.mt_terms.proofs.IdFacts.{differ_parts, differ_push}
+pub use Rattle.std.proofs.lemmas.Bool.{or_left, or_right, false_from_ne_true as not_true, or_parts as neither}
 
 pub itself : (x : Bytes) → bytes_eq x x ≡ true
 itself x = (bytes_eq-Decides x x).1 refl
-
-pub other_id : (x y : Bytes) → bytes_eq x y ≡ false → x ≢ y
-other_id x y h e = cc (h, (bytes_eq-Decides x y).1 e)
-
--- a Bool by its cases
-pub not_true : (b : Bool) → (b ≡ true → ⊥) → b ≡ false
-not_true true h = absurd (h refl)
-not_true false h = refl
-
-pub or_left : (a b : Bool) → a ≡ true → (a || b) ≡ true
-or_left true b h = refl
-or_left false b h = cc
-
-pub or_right : (a b : Bool) → b ≡ true → (a || b) ≡ true
-or_right true b h = refl
-or_right false b h = h
 
 -- a number on a list by numbers is one of an id of the list
 pub number_listed : (ids list : List Bytes) (x : Bytes) → has_id ids x ≡ true → has (numbers_of ids list) (number_of ids x) ≡ true → has_id list x ≡ true
@@ -41,13 +30,9 @@ number_listed ids (y ∷ ys) x h k = by (has_id ids y) refl (number_listed ids y
     by true i ih k = here (number_of ids y == number_of ids x) refl i ih k
     by false i ih k = or_right _ _ (ih k)
 
--- the first id of a list is not among the others, and those differ too
-pub differ_parts : (x : Bytes) (xs : List Bytes) → all_differ bytes_eq (x ∷ xs) ≡ true → (has_id xs x ≡ false) × (all_differ bytes_eq xs ≡ true)
-differ_parts x xs h = by (has_id xs x) h
-  where
-    by : (b : Bool) → (not b && all_differ bytes_eq xs) ≡ true → (b ≡ false) × (all_differ bytes_eq xs ≡ true)
-    by true k = cc
-    by false k = (refl, k)
+-- the place after the first
+pub next_place : {X : Type 0} → (x : X) (xs : List X) (k : ℕ) (d : X) → get_or (x ∷ xs) (1 + k) d ≡ get_or xs k d
+next_place x xs k d = let e : 1 + k ≡ suc k = omega arith in rw e refl
 
 pub differ_join : (x : Bytes) (xs : List Bytes) → has_id xs x ≡ false → all_differ bytes_eq xs ≡ true → all_differ bytes_eq (x ∷ xs) ≡ true
 differ_join x xs h k = rw (h, k) refl
@@ -58,7 +43,7 @@ numbers_distinct ids [] h = refl
 numbers_distinct ids (x ∷ xs) h = let p : (has_id xs x ≡ false) × (all_differ bytes_eq xs ≡ true) = differ_parts x xs h in by (has_id ids x) refl p.0 (numbers_distinct ids xs p.1)
   where
     by : (b : Bool) → has_id ids x ≡ b → has_id xs x ≡ false → is_distinct (numbers_of ids xs) ≡ true → is_distinct (map (number_of ids) (cond b (x ∷ filter (has_id ids) xs) (filter (has_id ids) xs))) ≡ true
-    by true i n ih = let f : has (numbers_of ids xs) (number_of ids x) ≡ false = not_true _ (λ k. cc (n, number_listed ids xs x i k)) in rw (f, ih) refl
+    by true i n ih = let f : has (numbers_of ids xs) (number_of ids x) ≡ false = false_from_ne_true _ (λ k. cc (n, number_listed ids xs x i k)) in rw (f, ih) refl
     by false i n ih = ih
 
 -- the numbers on a list are below the length
@@ -91,7 +76,7 @@ within_nil = record { listed = λ x h. h; differ = λ h. h; short = omega arith 
 pub within_cons : (z : Bytes) (xs ys : List Bytes) → Within xs ys → Within (z ∷ xs) (z ∷ ys)
 within_cons z xs ys w = record {
   listed = λ x h. either (bytes_eq x z) (has_id xs x) (has_id ys x) (w.listed x) h;
-  differ = λ h. let p : (has_id ys z ≡ false) × (all_differ bytes_eq ys ≡ true) = differ_parts z ys h in differ_join z xs (not_true _ (λ k. cc (p.0, w.listed z k))) (w.differ p.1);
+  differ = λ h. let p : (has_id ys z ≡ false) × (all_differ bytes_eq ys ≡ true) = differ_parts z ys h in differ_join z xs (false_from_ne_true _ (λ k. cc (p.0, w.listed z k))) (w.differ p.1);
   short = let s : length xs ≤ length ys = w.short in omega arith;
 }
   where
@@ -105,17 +90,3 @@ within_more z xs ys w = record {
   differ = λ h. w.differ (differ_parts z ys h).1;
   short = let s : length xs ≤ length ys = w.short in omega arith;
 }
-
-pub neither : (a b : Bool) → (a || b) ≡ false → (a ≡ false) × (b ≡ false)
-neither true b h = cc
-neither false b h = (refl, h)
-
--- an id that is new at the end
-pub differ_push : (xs : List Bytes) (x : Bytes) → has_id xs x ≡ false → all_differ bytes_eq xs ≡ true → all_differ bytes_eq (xs ++ x ∷ []) ≡ true
-differ_push [] x h k = refl
-differ_push (y ∷ ys) x h k =
-    let p : (has_id ys y ≡ false) × (all_differ bytes_eq ys ≡ true) = differ_parts y ys k in
-    let q : (bytes_eq x y ≡ false) × (has_id ys x ≡ false) = neither (bytes_eq x y) (has_id ys x) h in
-    let n : bytes_eq y x ≡ false = not_true _ (λ e. other_id x y q.0 (sym (same_id y x e))) in
-    let e : has_id (ys ++ x ∷ []) y ≡ false = rw (list_any-append, p.0, n) refl in
-    differ_join y (ys ++ x ∷ []) e (differ_push ys x q.1 p.1)

@@ -2,7 +2,7 @@
 use Rattle.std.proofs.Common.{◌≡◌, ℕ, Bool, true, false, not, ◌&&◌, ◌||◌, List, [], ◌∷◌, map, Option, Some, None, refl, ap, sym, ◌∙◌, subst, arith, cond, flat_map}
 use Rattle.std.specs.Prelude.{bytes_eq, is_none, option_map, option_to_list}
 use Rattle.std.specs.List.{list_all}
-use Rattle.std.proofs.lemmas.Bool.{and_parts}
+use Rattle.std.proofs.lemmas.Bool.{and_parts, not-true, and_from}
 use Rattle.std.proofs.lemmas.List.Folds.{list_all-append}
 use Rattle.mt_terms.specs.Registration.Ids.{Bytes, is_id, has_id, all_differ}
 use Rattle.mt_terms.specs.Registration.Faults.{Charge, charge, fault_at}
@@ -13,8 +13,7 @@ use Rattle.mt_terms.specs.Registration.Passes.{Numbered, contents, first_of, fir
 use Rattle.mt_terms.specs.Registration.Numbering.{is_none_or_in, names_only}
 use Rattle.mt_file_laws.specs.Faultless.{ids_differ, ranking_stands, list_stands, is_allowed, pair_stands, pairs_stand, withdrawals_stand, is_faultless}
 use Rattle.mt_terms.proofs.IdFacts.{same_id}
-use Rattle.mt_file_laws.proofs.NumberingFacts.{both}
-use Rattle.mt_file_laws.proofs.ApartFacts.{withdrawn_once, lists_once, AreApart, no}
+use Rattle.mt_file_laws.proofs.ApartFacts.{withdrawn_once, lists_once, AreApart}
 use Rattle.mt_file_laws.proofs.DraftFacts.{lists_ids, registers_ids, is_none_or_id, is_id_pair, programs_ids, applicants_ids}
 
 -- a list none of whose ids is unknown
@@ -235,7 +234,7 @@ module _ (rules : Rules) (rs : List Record) where
       let t : (ids_differ rs ≡ true) × (withdrawn_once rs ≡ true) = and_parts (ids_differ rs) (withdrawn_once rs) q.0 in
       let u : (list_all (is_known rs) rs && list_all lists_once rs ≡ true) × (list_all (allows_pairs rules.half_pairs) rs ≡ true) = and_parts (list_all (is_known rs) rs && list_all lists_once rs) _ p.1 in
       let v : (list_all (is_known rs) rs ≡ true) × (list_all lists_once rs ≡ true) = and_parts (list_all (is_known rs) rs) (list_all lists_once rs) u.0 in
-      record { apart = record { ids = t.0; withdrawals = t.1; few = no (are_too_many rules.limits rs) q.1 }; known = v.0; once = v.1; allowed = u.1 }
+      record { apart = record { ids = t.0; withdrawals = t.1; few = not-true (are_too_many rules.limits rs) q.1 }; known = v.0; once = v.1; allowed = u.1 }
 
   pub faultless_join : AreFaultless rules rs → is_faultless rules rs ≡ true
   faultless_join are = faultless-is rs rules ∙ rw (are.apart.ids, are.apart.withdrawals, are.apart.few, are.known, are.once, are.allowed) refl
@@ -255,7 +254,7 @@ passed_by_all : (p : Bytes → Bool) (ids list : List Bytes) → list_all p ids 
 passed_by_all p ids [] a h = refl
 passed_by_all p ids (x ∷ xs) a h =
     let q : (has_id ids x ≡ true) × (list_all (has_id ids) xs ≡ true) = and_parts (has_id ids x) _ h in
-    both _ _ (passed_by_one p ids x a q.0) (passed_by_all p ids xs a q.1)
+    and_from _ _ (passed_by_one p ids x a q.0) (passed_by_all p ids xs a q.1)
 
 -- lists of registered ids have ids alone, where what is registered are ids, and pairs that are allowed have such places
 place_is_id : (rules : Rules) (ids : List Bytes) (o : Option Bytes) → list_all (is_id rules.limits.id_bytes) ids ≡ true → is_none_or_in ids o ≡ true → is_none_or_id rules o ≡ true
@@ -269,7 +268,7 @@ pairs_are_ids rules ids (p ∷ ps) a h k =
     let n : (names_only ids p ≡ true) × (list_all (names_only ids) ps ≡ true) = and_parts (names_only ids p) _ h in
     let m : (is_none_or_in ids p.0 ≡ true) × (is_none_or_in ids p.1 ≡ true) = and_parts (is_none_or_in ids p.0) _ n.0 in
     let l : (is_allowed rules.half_pairs p ≡ true) × (list_all (is_allowed rules.half_pairs) ps ≡ true) = and_parts (is_allowed rules.half_pairs p) _ k in
-    both _ _ (both _ _ l.0 (both _ _ (place_is_id rules ids p.0 a m.0) (place_is_id rules ids p.1 a m.1))) (pairs_are_ids rules ids ps a n.1 l.1)
+    and_from _ _ (and_from _ _ l.0 (and_from _ _ (place_is_id rules ids p.0 a m.0) (place_is_id rules ids p.1 a m.1))) (pairs_are_ids rules ids ps a n.1 l.1)
 
 module _ (rules : Rules) (all : List Record) (registered : list_all (registers_ids rules) all ≡ true) where
   lists_ids_of : (r : Record) → is_known all r ≡ true → allows_pairs rules.half_pairs r ≡ true → lists_ids rules r ≡ true
@@ -283,14 +282,14 @@ module _ (rules : Rules) (all : List Record) (registered : list_all (registers_i
   all_lists_ids (r ∷ rs) h a =
       let q : (is_known all r ≡ true) × (list_all (is_known all) rs ≡ true) = and_parts (is_known all r) _ h in
       let p : (allows_pairs rules.half_pairs r ≡ true) × (list_all (allows_pairs rules.half_pairs) rs ≡ true) = and_parts (allows_pairs rules.half_pairs r) _ a in
-      both _ _ (lists_ids_of r q.0 p.0) (all_lists_ids rs q.1 p.1)
+      and_from _ _ (lists_ids_of r q.0 p.0) (all_lists_ids rs q.1 p.1)
 
 -- a list of pairs of ids that are allowed has pairs that are
 pairs_allowed : (rules : Rules) (ps : List IdPair) → list_all (is_id_pair rules) ps ≡ true → list_all (is_allowed rules.half_pairs) ps ≡ true
 pairs_allowed rules [] h = refl
 pairs_allowed rules (p ∷ ps) h =
     let q : (is_id_pair rules p ≡ true) × (list_all (is_id_pair rules) ps ≡ true) = and_parts (is_id_pair rules p) _ h in
-    both _ _ (and_parts (is_allowed rules.half_pairs p) _ q.0).0 (pairs_allowed rules ps q.1)
+    and_from _ _ (and_parts (is_allowed rules.half_pairs p) _ q.0).0 (pairs_allowed rules ps q.1)
 
 pub lists_allowed : (rules : Rules) (r : Record) → lists_ids rules r ≡ true → allows_pairs rules.half_pairs r ≡ true
 lists_allowed rules (ProgramRecord id quota list) h = refl

@@ -2,7 +2,7 @@
 use Rattle.std.proofs.Common.{◌≡◌, ℕ, zero, suc, ◌<◌, ◌≤◌, Bool, true, false, not, ◌&&◌, ◌||◌, List, [], ◌∷◌, map, length, get_or, Option, Some, None, refl, arith, cond, nat_lt, nat_le}
 use Rattle.std.specs.Prelude.{filter, bytes_eq, ◌==◌, is_some}
 use Rattle.std.specs.List.{list_all, list_any}
-use Rattle.std.proofs.lemmas.Bool.{and_parts}
+use Rattle.std.proofs.lemmas.Bool.{and_parts, and_from, false_from_ne_true, or_right, or_parts, or_left}
 use Rattle.std.proofs.lemmas.Bool.Decides.{nat_tests}
 use Rattle.std.proofs.lemmas.List.Sums.{sum_by-cons}
 use Rattle.mt_terms.specs.declared.limits.TheConstants.{LIMITS_2}
@@ -13,8 +13,11 @@ use Rattle.mt_terms.specs.Registration.Passes.{are_too_many, is_same_pair}
 use Rattle.mt_terms.specs.Registration.Numbering.{is_none_or_in, names_only, pair_by_number, pairs_by_number}
 use Rattle.mt_terms.specs.Registration.Accepted.{is_none_or_below, is_pair_below, are_same_places}
 use Rattle.std.specs.Option.{option_eq, option_map}
-use Rattle.mt_file_laws.proofs.IdFacts.{Within, within_nil, within_cons, within_more, neither, not_true, or_left, or_right}
+use Rattle.mt_file_laws.proofs.IdFacts.{Within, within_nil, within_cons, within_more}
 use Rattle.mt_terms.proofs.IdFacts.{number_below, same_number, is_same}
+
+-- Crates above cite this lemma by this name.
+pub use Rattle.std.proofs.lemmas.Bool.{and_from as both}
 
 abbrev pub names_one : IdPair → Bool
 names_one p = is_some p.0 || is_some p.1
@@ -104,9 +107,9 @@ module _ (stays : Record → Bool) where
       → (nat_lt 100_000 a || nat_lt 20_000 b || nat_lt 10_000 c || nat_lt 8_000_000 d) ≡ false
       → (nat_lt 100_000 a' || nat_lt 20_000 b' || nat_lt 10_000 c' || nat_lt 8_000_000 d') ≡ false
   few_within a b c d a' b' c' d' h i j k f =
-      let p : (nat_lt 100_000 a || nat_lt 20_000 b || nat_lt 10_000 c ≡ false) × (nat_lt 8_000_000 d ≡ false) = neither _ _ f in
-      let q : (nat_lt 100_000 a || nat_lt 20_000 b ≡ false) × (nat_lt 10_000 c ≡ false) = neither _ _ p.0 in
-      let r : (nat_lt 100_000 a ≡ false) × (nat_lt 20_000 b ≡ false) = neither _ _ q.0 in
+      let p : (nat_lt 100_000 a || nat_lt 20_000 b || nat_lt 10_000 c ≡ false) × (nat_lt 8_000_000 d ≡ false) = or_parts _ _ f in
+      let q : (nat_lt 100_000 a || nat_lt 20_000 b ≡ false) × (nat_lt 10_000 c ≡ false) = or_parts _ _ p.0 in
+      let r : (nat_lt 100_000 a ≡ false) × (nat_lt 20_000 b ≡ false) = or_parts _ _ q.0 in
       rw (below_too _ a a' r.0 h, below_too _ b b' r.1 i, below_too _ c c' q.1 j, below_too _ d d' p.1 k) refl
 
   pub sound_within : (rs : List Record) → AreSound rs → AreSound (filter stays rs)
@@ -124,9 +127,6 @@ at_each test d h [] k i = h
 at_each test d h (x ∷ xs) k zero = (and_parts (test x) _ k).0
 at_each test d h (x ∷ xs) k (suc i) = at_each test d h xs (and_parts (test x) _ k).1 i
 
-pub both : (a b : Bool) → a ≡ true → b ≡ true → (a && b) ≡ true
-both a b h k = rw (h, k) refl
-
 -- pairs by number
 place_below : (ids : List Bytes) (o : Option Bytes) → is_none_or_in ids o ≡ true → is_none_or_below (length ids) (option_map (number_of ids) o) ≡ true
 place_below ids None h = refl
@@ -141,7 +141,7 @@ pairs_below ids [] h = refl
 pairs_below ids (p ∷ ps) h = let q : (names_one p ≡ true) × (list_all names_one ps ≡ true) = and_parts (names_one p) _ h in by (names_only ids p) refl q.0 (pairs_below ids ps q.1)
   where
     by : (b : Bool) → names_only ids p ≡ b → names_one p ≡ true → list_all (is_pair_below (length ids)) (pairs_by_number ids ps) ≡ true → list_all (is_pair_below (length ids)) (map (pair_by_number ids) (cond b (p ∷ filter (names_only ids) ps) (filter (names_only ids) ps))) ≡ true
-    by true e o ih = let k : (is_none_or_in ids p.0 ≡ true) × (is_none_or_in ids p.1 ≡ true) = and_parts (is_none_or_in ids p.0) _ e in both _ _ (rw (same_some ids p.0, same_some ids p.1, o, place_below ids p.0 k.0, place_below ids p.1 k.1) refl) ih
+    by true e o ih = let k : (is_none_or_in ids p.0 ≡ true) × (is_none_or_in ids p.1 ≡ true) = and_parts (is_none_or_in ids p.0) _ e in and_from _ _ (rw (same_some ids p.0, same_some ids p.1, o, place_below ids p.0 k.0, place_below ids p.1 k.1) refl) ih
     by false e o ih = ih
 
 same_place : (ids : List Bytes) (o u : Option Bytes) → is_none_or_in ids o ≡ true → is_none_or_in ids u ≡ true → option_eq ◌==◌ (option_map (number_of ids) o) (option_map (number_of ids) u) ≡ true → option_eq bytes_eq o u ≡ true
@@ -159,7 +159,7 @@ pair_listed ids p h (q ∷ ps) k = by (names_only ids q) refl (pair_listed ids p
         let a : (is_none_or_in ids p.0 ≡ true) × (is_none_or_in ids p.1 ≡ true) = and_parts (is_none_or_in ids p.0) _ h in
         let b : (is_none_or_in ids q.0 ≡ true) × (is_none_or_in ids q.1 ≡ true) = and_parts (is_none_or_in ids q.0) _ n in
         let c : (option_eq ◌==◌ (option_map (number_of ids) p.0) (option_map (number_of ids) q.0) ≡ true) × (option_eq ◌==◌ (option_map (number_of ids) p.1) (option_map (number_of ids) q.1) ≡ true) = and_parts _ _ e in
-        both _ _ (same_place ids p.0 q.0 a.0 b.0 c.0) (same_place ids p.1 q.1 a.1 b.1 c.1)
+        and_from _ _ (same_place ids p.0 q.0 a.0 b.0 c.0) (same_place ids p.1 q.1 a.1 b.1 c.1)
 
     here : (c : Bool) → (c ≡ true → is_same_pair p q ≡ true) → (list_any (are_same_places (pair_by_number ids p)) (pairs_by_number ids ps) ≡ true → list_any (is_same_pair p) ps ≡ true) → (c || list_any (are_same_places (pair_by_number ids p)) (pairs_by_number ids ps)) ≡ true → list_any (is_same_pair p) (q ∷ ps) ≡ true
     here true s ih k = or_left _ _ (s refl)
@@ -174,7 +174,7 @@ pairs_differ ids [] h = refl
 pairs_differ ids (p ∷ ps) h = let q : (not (list_any (is_same_pair p) ps) ≡ true) × (all_differ is_same_pair ps ≡ true) = and_parts (not (list_any (is_same_pair p) ps)) _ h in by (names_only ids p) refl q.0 (pairs_differ ids ps q.1)
   where
     by : (b : Bool) → names_only ids p ≡ b → not (list_any (is_same_pair p) ps) ≡ true → all_differ are_same_places (pairs_by_number ids ps) ≡ true → all_differ are_same_places (map (pair_by_number ids) (cond b (p ∷ filter (names_only ids) ps) (filter (names_only ids) ps))) ≡ true
-    by true n h ih = let f : list_any (are_same_places (pair_by_number ids p)) (pairs_by_number ids ps) ≡ false = not_true _ (λ k. contrary _ h (pair_listed ids p n ps k)) in rw (f, ih) refl
+    by true n h ih = let f : list_any (are_same_places (pair_by_number ids p)) (pairs_by_number ids ps) ≡ false = false_from_ne_true _ (λ k. contrary _ h (pair_listed ids p n ps k)) in rw (f, ih) refl
       where
         contrary : (b : Bool) → not b ≡ true → b ≡ true → ⊥
         contrary true h k = cc

@@ -6,7 +6,7 @@ use Rattle.std.specs.Bool.{then_some}
 use Rattle.std.specs.List.{list_all}
 use Rattle.std.specs.Char.{is_ascii_digit, digit_value}
 use Rattle.std.specs.Str.Parse.{digits_value}
-use Rattle.std.proofs.lemmas.Bool.{and_parts}
+use Rattle.std.proofs.lemmas.Bool.{and_parts, and_from, or_parts, not-false}
 use Rattle.std.proofs.lemmas.Bool.Decides.{nat_tests}
 use Rattle.std.proofs.lemmas.List.{append-nil, append_assoc, map-append}
 use Rattle.std.proofs.lemmas.List.Elements.{filter_map-append}
@@ -24,10 +24,10 @@ use Rattle.mt_terms.specs.Registration.Passes.{Numbered, numbered_from, contents
 use Rattle.mt_terms.specs.Registration.Numbering.{registered}
 use Rattle.mt_terms.specs.Registration.Accepted.{IsRegistration}
 use Rattle.mt_file_laws.specs.Registration.{AcceptedIsRegistration}
-use Rattle.mt_file_laws.proofs.IdFacts.{differ_push, neither}
-use Rattle.mt_file_laws.proofs.NumberingFacts.{AreSound, sound_within, is_good, names_one, both}
+use Rattle.mt_file_laws.proofs.NumberingFacts.{AreSound, sound_within, is_good, names_one}
 use Rattle.mt_file_laws.proofs.RegisteredFacts.{registered_sound}
 use Rattle.mt_file_laws.proofs.VersionFacts.{market_of_either}
+use Rattle.mt_terms.proofs.IdFacts.{differ_push}
 
 -- a quota has at most four digits
 digit_small : (c : ℕ) → is_ascii_digit c ≡ true → digit_value c ≤ 9
@@ -91,16 +91,12 @@ pair_names_one p h = by (is_id 64 p.0) (is_id 64 p.1) (is_dash p.0) (is_dash p.1
 
 pairs_name_one : (ps : List (Bytes × Bytes)) → list_all (is_pair version_2) ps ≡ true → list_all names_one (map pair_of ps) ≡ true
 pairs_name_one [] h = refl
-pairs_name_one (p ∷ ps) h = let q : (is_pair version_2 p ≡ true) × (list_all (is_pair version_2) ps ≡ true) = and_parts (is_pair version_2 p) _ h in both _ _ (pair_names_one p q.0) (pairs_name_one ps q.1)
+pairs_name_one (p ∷ ps) h = let q : (is_pair version_2 p ≡ true) × (list_all (is_pair version_2) ps ≡ true) = and_parts (is_pair version_2 p) _ h in and_from _ _ (pair_names_one p q.0) (pairs_name_one ps q.1)
 
 -- a record that is read, and says nothing twice, is without a fault
 if_ok : (b : Bool) (o : Result Record Charge) (e : Charge) (r : Record) → (if b then o else Err e) ≡ Ok r → (b ≡ true) × (o ≡ Ok r)
 if_ok true o e r h = (refl, h)
 if_ok false o e r h = cc
-
-once : (b : Bool) → not b ≡ false → b ≡ true
-once true h = refl
-once false h = cc
 
 module _ (before : List Record) where
   good_program : (fs : List Bytes) (r : Record) → program_record version_2 fs ≡ Ok r → says_twice before r ≡ false → is_good r ≡ true
@@ -113,7 +109,7 @@ module _ (before : List Record) where
       by (Some n) f i e =
           let s : ProgramRecord id n list ≡ r = cc in
           let t : says_twice before (ProgramRecord id n list) ≡ false = subst (λ (q : Record). says_twice before q ≡ false) (sym s) k in
-          subst (λ (q : Record). is_good q ≡ true) s (both _ _ (both _ _ i (f n refl)) (once _ t))
+          subst (λ (q : Record). is_good q ≡ true) s (and_from _ _ (and_from _ _ i (f n refl)) (not-false _ t))
 
   good_applicant : (fs : List Bytes) (r : Record) → applicant_record version_2 fs ≡ Ok r → says_twice before r ≡ false → is_good r ≡ true
   good_applicant [] r h k = cc
@@ -121,7 +117,7 @@ module _ (before : List Record) where
       let p : (are_ids version_2 (id ∷ list) ≡ true) × (Ok (ApplicantRecord id list) ≡ Ok r) = if_ok _ _ _ r h in
       let s : ApplicantRecord id list ≡ r = cc in
       let t : says_twice before (ApplicantRecord id list) ≡ false = subst (λ (q : Record). says_twice before q ≡ false) (sym s) k in
-      subst (λ (q : Record). is_good q ≡ true) s (both _ _ (and_parts (is_id 64 id) _ p.0).0 (once _ t))
+      subst (λ (q : Record). is_good q ≡ true) s (and_from _ _ (and_parts (is_id 64 id) _ p.0).0 (not-false _ t))
 
   good_couple : (id a b : Bytes) (o : Option (List (Bytes × Bytes))) (r : Record) → couple_by_pairs version_2 id a b o ≡ Ok r → says_twice before r ≡ false → is_good r ≡ true
   good_couple id a b None r h k = cc
@@ -130,7 +126,7 @@ module _ (before : List Record) where
       let i : (are_ids version_2 (id ∷ a ∷ b ∷ []) ≡ true) × (list_all (is_pair version_2) ps ≡ true) = and_parts (are_ids version_2 (id ∷ a ∷ b ∷ [])) _ p.0 in
       let s : CoupleRecord id a b (map pair_of ps) ≡ r = cc in
       let t : says_twice before (CoupleRecord id a b (map pair_of ps)) ≡ false = subst (λ (q : Record). says_twice before q ≡ false) (sym s) k in
-      subst (λ (q : Record). is_good q ≡ true) s (both _ _ (both _ _ i.0 (pairs_name_one ps i.1)) (once _ t))
+      subst (λ (q : Record). is_good q ≡ true) s (and_from _ _ (and_from _ _ i.0 (pairs_name_one ps i.1)) (not-false _ t))
 
   good_withdrawal : (o : Option Kind) (fs : List Bytes) (r : Record) → withdraw_by_kind version_2 o fs ≡ Ok r → is_good r ≡ true
   good_withdrawal None fs r h = cc
@@ -172,7 +168,7 @@ kept_parts None true t c d q r h = cc
 kept_parts None false true c d q r h = cc
 kept_parts None false false c d q r h = (cc, refl, refl, refl)
 
-not_found : (b : Bool) (x : Bytes) → cond b (Some x) None ≡ None → b ≡ false
+pub not_found : (b : Bool) (x : Bytes) → cond b (Some x) None ≡ None → b ≡ false
 not_found true x h = cc
 not_found false x h = refl
 
@@ -218,7 +214,7 @@ module _ (rs : List Record) (s : AreSound rs) where
       let o : (cond (has_id (ids_of OfCouple rs) id) (Some id) None ≡ None) × (cond (has_id (applicant_ids rs) a) (Some a) None ≡ None) × (cond (has_id (a ∷ applicant_ids rs) b) (Some b) None ≡ None) = none_of _ _ _ n in
       let i : has_id (ids_of OfCouple rs) id ≡ false = not_found _ id o.0 in
       let j : has_id (applicant_ids rs) a ≡ false = not_found _ a o.1 in
-      let k : (bytes_eq b a ≡ false) × (has_id (applicant_ids rs) b ≡ false) = neither _ _ (not_found _ b o.2) in
+      let k : (bytes_eq b a ≡ false) × (has_id (applicant_ids rs) b ≡ false) = or_parts _ _ (not_found _ b o.2) in
       let l : has_id (applicant_ids rs ++ a ∷ []) b ≡ false = rw (list_any-append, k.0, k.1) refl in
       let d : all_differ bytes_eq ((applicant_ids rs ++ a ∷ []) ++ b ∷ []) ≡ true = differ_push (applicant_ids rs ++ a ∷ []) b l (differ_push (applicant_ids rs) a j s.applicants_differ) in
       record {

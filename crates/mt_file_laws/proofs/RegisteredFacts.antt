@@ -2,7 +2,7 @@
 use Rattle.std.proofs.Common.{◌≡◌, ◌≢◌, ℕ, zero, suc, ◌+◌, ◌<◌, ◌≤◌, Bool, true, false, not, ◌&&◌, ◌||◌, List, [], ◌∷◌, length, get_or, refl, ◌∙◌, arith, ap, sym, subst, cond, nat_lt, nat_le}
 use Rattle.std.specs.Prelude.{bytes_eq, ◌==◌, filter_map, flat_map}
 use Rattle.std.specs.List.{list_all, list_any}
-use Rattle.std.proofs.lemmas.Bool.{and_parts}
+use Rattle.std.proofs.lemmas.Bool.{and_parts, and_from, false_from_ne_true, or_right, or_parts, or_left}
 use Rattle.std.proofs.lemmas.Bool.Decides.{nat_tests}
 use Rattle.std.proofs.lemmas.List.Sums.{sum_by-cons}
 use Rattle.mt_terms.specs.declared.numbers.Agent.TheVariants.{Couple}
@@ -15,9 +15,9 @@ use Rattle.mt_terms.specs.Registration.Rows.{ids_of, applicant_ids, entries_of, 
 use Rattle.mt_terms.specs.Registration.Passes.{is_same_pair}
 use Rattle.mt_terms.specs.Registration.Numbering.{names_of, program_in, lists_in, couple_in, market_by, pairs_by_number}
 use Rattle.mt_terms.specs.Registration.Accepted.{is_pair_below, are_same_places, list_entries, IsRegistration}
-use Rattle.mt_file_laws.proofs.IdFacts.{numbers_distinct, numbers_below, numbers_short, differ_parts, neither, not_true, or_left, or_right, itself}
-use Rattle.mt_terms.proofs.IdFacts.{number_below, same_number, same_id, is_same}
-use Rattle.mt_file_laws.proofs.NumberingFacts.{AreSound, is_good, names_one, at_each, both, pairs_below, pairs_differ, pairs_short, not_above}
+use Rattle.mt_file_laws.proofs.IdFacts.{numbers_distinct, numbers_below, numbers_short, itself, next_place}
+use Rattle.mt_terms.proofs.IdFacts.{number_below, same_number, same_id, is_same, differ_parts}
+use Rattle.mt_file_laws.proofs.NumberingFacts.{AreSound, is_good, names_one, at_each, pairs_below, pairs_differ, pairs_short, not_above}
 
 module _ (N : Names) where
   programs_long : (rs : List Record) → length (filter_map (program_in N) rs) ≡ length (ids_of OfProgram rs)
@@ -55,7 +55,7 @@ module _ (N : Names) where
   sound_programs (ProgramRecord id quota list ∷ rs) h =
       let p : (is_good (ProgramRecord id quota list) ≡ true) × (list_all is_good rs ≡ true) = and_parts (is_good (ProgramRecord id quota list)) _ h in
       let q : (is_id 64 id && nat_le quota 9999 ≡ true) × (all_differ bytes_eq list ≡ true) = and_parts (is_id 64 id && nat_le quota 9999) _ p.0 in
-      both _ _ (both _ _ (both _ _ (numbers_distinct N.applicants list q.1) (numbers_below N.applicants list)) (and_parts (is_id 64 id) _ q.0).1) (sound_programs rs p.1)
+      and_from _ _ (and_from _ _ (and_from _ _ (numbers_distinct N.applicants list q.1) (numbers_below N.applicants list)) (and_parts (is_id 64 id) _ q.0).1) (sound_programs rs p.1)
   sound_programs (ApplicantRecord id list ∷ rs) h = sound_programs rs (and_parts (is_good (ApplicantRecord id list)) _ h).1
   sound_programs (CoupleRecord id a b pairs ∷ rs) h = sound_programs rs (and_parts (is_good (CoupleRecord id a b pairs)) _ h).1
   sound_programs (WithdrawRecord kind id ∷ rs) h = sound_programs rs h
@@ -65,7 +65,7 @@ module _ (N : Names) where
   sound_lists (ProgramRecord id quota list ∷ rs) h = sound_lists rs (and_parts (is_good (ProgramRecord id quota list)) _ h).1
   sound_lists (ApplicantRecord id list ∷ rs) h =
       let p : (is_good (ApplicantRecord id list) ≡ true) × (list_all is_good rs ≡ true) = and_parts (is_good (ApplicantRecord id list)) _ h in
-      both _ _ (both _ _ (numbers_distinct N.programs list (and_parts (is_id 64 id) _ p.0).1) (numbers_below N.programs list)) (sound_lists rs p.1)
+      and_from _ _ (and_from _ _ (numbers_distinct N.programs list (and_parts (is_id 64 id) _ p.0).1) (numbers_below N.programs list)) (sound_lists rs p.1)
   sound_lists (CoupleRecord id a b pairs ∷ rs) h = sound_lists rs (and_parts (is_good (CoupleRecord id a b pairs)) _ h).1
   sound_lists (WithdrawRecord kind id ∷ rs) h = sound_lists rs h
 
@@ -76,7 +76,7 @@ module _ (N : Names) where
   sound_couples (CoupleRecord id a b pairs ∷ rs) h =
       let p : (is_good (CoupleRecord id a b pairs) ≡ true) × (list_all is_good rs ≡ true) = and_parts (is_good (CoupleRecord id a b pairs)) _ h in
       let q : (list_all (is_id 64) (id ∷ a ∷ b ∷ []) && list_all names_one pairs ≡ true) × (all_differ is_same_pair pairs ≡ true) = and_parts (list_all (is_id 64) (id ∷ a ∷ b ∷ []) && list_all names_one pairs) _ p.0 in
-      both _ _ (both _ _ (pairs_below N.programs pairs (and_parts (list_all (is_id 64) (id ∷ a ∷ b ∷ [])) _ q.0).1) (pairs_differ N.programs pairs q.1)) (sound_couples rs p.1)
+      and_from _ _ (and_from _ _ (pairs_below N.programs pairs (and_parts (list_all (is_id 64) (id ∷ a ∷ b ∷ [])) _ q.0).1) (pairs_differ N.programs pairs q.1)) (sound_couples rs p.1)
   sound_couples (WithdrawRecord kind id ∷ rs) h = sound_couples rs h
 
   entries_short : (rs : List Record) → list_entries (market_by N rs) ≤ entry_count rs
@@ -126,16 +126,13 @@ member_registered (CoupleRecord id a b pairs ∷ rs) x h = by (bytes_eq x a) (by
     by false false ih k = ih k
 member_registered (WithdrawRecord kind id ∷ rs) x h = member_registered rs x h
 
-next_place : {X : Type 0} (x : X) (xs : List X) (n : ℕ) (d : X) → get_or (x ∷ xs) (1 + n) d ≡ get_or xs n d
-next_place x xs n d = let e : 1 + n ≡ suc n = omega arith in ap (λ k. get_or (x ∷ xs) k d) e
-
 -- a member's list is empty
 no_list : (N : Names) (rs : List Record) (x : Bytes) → all_differ bytes_eq (applicant_ids rs) ≡ true → list_any (has_member x) rs ≡ true → get_or (flat_map (lists_in N) rs) (number_of (applicant_ids rs) x) [] ≡ []
 no_list N [] x d h = cc
 no_list N (ProgramRecord id quota list ∷ rs) x d h = no_list N rs x d h
 no_list N (ApplicantRecord id list ∷ rs) x d h =
     let p : (has_id (applicant_ids rs) id ≡ false) × (all_differ bytes_eq (applicant_ids rs) ≡ true) = differ_parts id _ d in
-    let n : bytes_eq x id ≡ false = not_true _ (λ e. let m : has_id (applicant_ids rs) id ≡ true = subst (λ (y : Bytes). has_id (applicant_ids rs) y ≡ true) (same_id x id e) (member_registered rs x h) in cc) in
+    let n : bytes_eq x id ≡ false = false_from_ne_true _ (λ e. let m : has_id (applicant_ids rs) id ≡ true = subst (λ (y : Bytes). has_id (applicant_ids rs) y ≡ true) (same_id x id e) (member_registered rs x h) in cc) in
     rw (n, next_place) (no_list N rs x p.1 h)
 no_list N (CoupleRecord id a b pairs ∷ rs) x d h = by (bytes_eq x a) (bytes_eq x b) (no_list N rs x (differ_parts b (applicant_ids rs) (differ_parts a (b ∷ applicant_ids rs) d).1).1) h
   where
@@ -173,7 +170,7 @@ module _ (N : Names) (d : Partners) where
   two_members (CoupleRecord id a b pairs ∷ rs) zero f k h = λ e.
       let p : (has_id N.applicants a ≡ true) × (list_all (has_id N.applicants) (b ∷ applicant_ids rs) ≡ true) = and_parts (has_id N.applicants a) _ k in
       let s : a ≡ b = same_number N.applicants a b p.0 (and_parts (has_id N.applicants b) _ p.1).0 e in
-      let n : (bytes_eq a b ≡ false) × (has_id (applicant_ids rs) a ≡ false) = neither _ _ (differ_parts a (b ∷ applicant_ids rs) f).0 in
+      let n : (bytes_eq a b ≡ false) × (has_id (applicant_ids rs) a ≡ false) = or_parts _ _ (differ_parts a (b ∷ applicant_ids rs) f).0 in
       cc (n.0, is_same a b s)
   two_members (CoupleRecord id a b pairs ∷ rs) (suc c) f k h =
       two_members rs c (differ_parts b (applicant_ids rs) (differ_parts a (b ∷ applicant_ids rs) f).1).1 (and_parts (has_id N.applicants b) _ (and_parts (has_id N.applicants a) _ k).1).1 (omega arith)
@@ -191,7 +188,7 @@ all_listed ids (y ∷ ys) x h k = by (bytes_eq x y) (same_id x y) (and_parts (ha
 -- an id off a list has no number of one on it
 other_number : (ids xs : List Bytes) (a x : Bytes) → has_id ids a ≡ true → list_all (has_id ids) xs ≡ true → has_id xs a ≡ false → has_id xs x ≡ true → (number_of ids a == number_of ids x) ≡ false
 other_number ids xs a x h k n m =
-    not_true _
+    false_from_ne_true _
     (λ e.
     let s : number_of ids a ≡ number_of ids x = grind (arith, nat_tests) in
     let i : a ≡ x = same_number ids a x h (all_listed ids xs x k m) s in
@@ -221,7 +218,7 @@ module _ (N : Names) (d : Partners) where
       let later : c < length (filter_map (couple_in N) rs) = omega arith in
       let m : (x : Bytes) × (member_at side (get_or (filter_map (couple_in N) rs) c d) ≡ number_of N.applicants x) × (list_any (has_member x) rs ≡ true) = member_is N d side rs c later in
       let r : has_id (applicant_ids rs) m.0 ≡ true = member_registered rs m.0 m.2 in
-      let na : (number_of N.applicants a == number_of N.applicants m.0) ≡ false = other_number N.applicants (applicant_ids rs) a m.0 la.0 lb.1 (neither (bytes_eq a b) _ fa.0).1 r in
+      let na : (number_of N.applicants a == number_of N.applicants m.0) ≡ false = other_number N.applicants (applicant_ids rs) a m.0 la.0 lb.1 (or_parts (bytes_eq a b) _ fa.0).1 r in
       let nb : (number_of N.applicants b == number_of N.applicants m.0) ≡ false = other_number N.applicants (applicant_ids rs) b m.0 lb.0 lb.1 fb.0 r in
       let e : k + 1 + c ≡ k + suc c = omega arith in
       let ih : agent_from (filter_map (couple_in N) rs) (k + 1) (member_at side (get_or (filter_map (couple_in N) rs) c d)) ≡ Couple (k + 1 + c) = belongs side rs (k + 1) c fb.1 lb.1 later in
@@ -234,7 +231,7 @@ module _ (N : Names) (d : Partners) where
 -- every id on a list is on it
 all_of_itself : (xs ys : List Bytes) → ((x : Bytes) → has_id ys x ≡ true → has_id xs x ≡ true) → list_all (has_id xs) ys ≡ true
 all_of_itself xs [] h = refl
-all_of_itself xs (y ∷ ys) h = both _ _ (h y (or_left _ _ (itself y))) (all_of_itself xs ys (λ x k. h x (or_right _ _ k)))
+all_of_itself xs (y ∷ ys) h = and_from _ _ (h y (or_left _ _ (itself y))) (all_of_itself xs ys (λ x k. h x (or_right _ _ k)))
 
 has_below : (n : ℕ) (xs : List ℕ) (p : ℕ) → list_all (λ x. nat_lt x n) xs ≡ true → has xs p ≡ true → p < n
 has_below n [] p h k = cc
@@ -249,7 +246,7 @@ programs_are_ids : (rs : List Record) → list_all is_good rs ≡ true → list_
 programs_are_ids [] h = refl
 programs_are_ids (ProgramRecord id quota list ∷ rs) h =
     let p : (is_good (ProgramRecord id quota list) ≡ true) × (list_all is_good rs ≡ true) = and_parts (is_good (ProgramRecord id quota list)) _ h in
-    both _ _ (and_parts (is_id 64 id) _ (and_parts (is_id 64 id && nat_le quota 9999) _ p.0).0).0 (programs_are_ids rs p.1)
+    and_from _ _ (and_parts (is_id 64 id) _ (and_parts (is_id 64 id && nat_le quota 9999) _ p.0).0).0 (programs_are_ids rs p.1)
 programs_are_ids (ApplicantRecord id list ∷ rs) h = programs_are_ids rs (and_parts (is_good (ApplicantRecord id list)) _ h).1
 programs_are_ids (CoupleRecord id a b pairs ∷ rs) h = programs_are_ids rs (and_parts (is_good (CoupleRecord id a b pairs)) _ h).1
 programs_are_ids (WithdrawRecord kind id ∷ rs) h = programs_are_ids rs h
@@ -267,7 +264,7 @@ couples_are_ids (ProgramRecord id quota list ∷ rs) h = couples_are_ids rs (and
 couples_are_ids (ApplicantRecord id list ∷ rs) h = couples_are_ids rs (and_parts (is_good (ApplicantRecord id list)) _ h).1
 couples_are_ids (CoupleRecord id a b pairs ∷ rs) h =
     let p : (is_good (CoupleRecord id a b pairs) ≡ true) × (list_all is_good rs ≡ true) = and_parts (is_good (CoupleRecord id a b pairs)) _ h in
-    both _ _ (couple_ids id a b pairs p.0).0 (couples_are_ids rs p.1)
+    and_from _ _ (couple_ids id a b pairs p.0).0 (couples_are_ids rs p.1)
 couples_are_ids (WithdrawRecord kind id ∷ rs) h = couples_are_ids rs h
 
 applicants_are_ids : (rs : List Record) → list_all is_good rs ≡ true → list_all (is_id 64) (applicant_ids rs) ≡ true
@@ -275,11 +272,11 @@ applicants_are_ids [] h = refl
 applicants_are_ids (ProgramRecord id quota list ∷ rs) h = applicants_are_ids rs (and_parts (is_good (ProgramRecord id quota list)) _ h).1
 applicants_are_ids (ApplicantRecord id list ∷ rs) h =
     let p : (is_good (ApplicantRecord id list) ≡ true) × (list_all is_good rs ≡ true) = and_parts (is_good (ApplicantRecord id list)) _ h in
-    both _ _ (and_parts (is_id 64 id) _ p.0).0 (applicants_are_ids rs p.1)
+    and_from _ _ (and_parts (is_id 64 id) _ p.0).0 (applicants_are_ids rs p.1)
 applicants_are_ids (CoupleRecord id a b pairs ∷ rs) h =
     let p : (is_good (CoupleRecord id a b pairs) ≡ true) × (list_all is_good rs ≡ true) = and_parts (is_good (CoupleRecord id a b pairs)) _ h in
     let q : (is_id 64 id ≡ true) × (is_id 64 a ≡ true) × (is_id 64 b ≡ true) = couple_ids id a b pairs p.0 in
-    both _ _ q.1 (both _ _ q.2 (applicants_are_ids rs p.1))
+    and_from _ _ q.1 (and_from _ _ q.2 (applicants_are_ids rs p.1))
 applicants_are_ids (WithdrawRecord kind id ∷ rs) h = applicants_are_ids rs h
 
 module _ (rs : List Record) (s : AreSound rs) where
@@ -339,9 +336,9 @@ module _ (rs : List Record) (s : AreSound rs) where
 
   pub registered_sound : IsRegistration (record { market = market_by (names_of rs) rs; names = names_of rs })
   registered_sound =
-      let p : ((nat_lt 100_000 (length names.applicants) || nat_lt 20_000 (length names.programs) || nat_lt 10_000 (length names.couples)) ≡ false) × (nat_lt 8_000_000 (entry_count rs) ≡ false) = neither _ _ s.few in
-      let q : ((nat_lt 100_000 (length names.applicants) || nat_lt 20_000 (length names.programs)) ≡ false) × (nat_lt 10_000 (length names.couples) ≡ false) = neither _ _ p.0 in
-      let r : (nat_lt 100_000 (length names.applicants) ≡ false) × (nat_lt 20_000 (length names.programs) ≡ false) = neither _ _ q.0 in
+      let p : ((nat_lt 100_000 (length names.applicants) || nat_lt 20_000 (length names.programs) || nat_lt 10_000 (length names.couples)) ≡ false) × (nat_lt 8_000_000 (entry_count rs) ≡ false) = or_parts _ _ s.few in
+      let q : ((nat_lt 100_000 (length names.applicants) || nat_lt 20_000 (length names.programs)) ≡ false) × (nat_lt 10_000 (length names.couples) ≡ false) = or_parts _ _ p.0 in
+      let r : (nat_lt 100_000 (length names.applicants) ≡ false) × (nat_lt 20_000 (length names.programs) ≡ false) = or_parts _ _ q.0 in
       record {
         well_formed = well;
         pairs_below = λ c. rw long_programs (and_parts (list_all (is_pair_below (length names.programs)) (couple_of market c).pairs) _ (couple_sound c)).0;

@@ -3,7 +3,7 @@ use Rattle.std.proofs.Common.{◌≡◌, ℕ, suc, ◌+◌, Bool, true, false, n
 use Rattle.std.specs.Prelude.{filter, filter_map, bytes_eq, ◌==◌}
 use Rattle.std.specs.List.{list_all, list_any, cons_option}
 use Rattle.std.specs.Option.{option_eq, option_map}
-use Rattle.std.proofs.lemmas.Bool.{and_parts}
+use Rattle.std.proofs.lemmas.Bool.{and_parts, false_from_ne_true}
 use Rattle.std.proofs.lemmas.Bool.Decides.{nat_tests}
 use Rattle.mt_terms.specs.Market.{Pair}
 use Rattle.mt_terms.specs.Registration.Ids.{Bytes, has_id, number_of, numbers_of, all_differ}
@@ -13,8 +13,8 @@ use Rattle.mt_terms.specs.Registration.Passes.{is_same_pair}
 use Rattle.mt_terms.specs.Registration.Numbering.{is_none_or_in, names_only, pair_by_number, pairs_by_number}
 use Rattle.mt_terms.specs.Registration.Accepted.{are_same_places}
 use Rattle.mt_file_laws.specs.Staying.{flagged, new_numbers, new_place, new_pair, pair_of_places, stays_without, program_flags, applicant_flags}
-use Rattle.mt_file_laws.proofs.IdFacts.{Within, within_nil, within_cons, within_more, differ_parts, not_true}
-use Rattle.mt_terms.proofs.IdFacts.{same_id, is_same, same_number}
+use Rattle.mt_file_laws.proofs.IdFacts.{Within, within_nil, within_cons, within_more, next_place}
+use Rattle.mt_terms.proofs.IdFacts.{same_id, is_same, same_number, differ_parts}
 
 -- a filter by a test that is the same for each kind of record
 module _ (programs applicants couples : List Bytes) (stays : Record → Bool)
@@ -96,37 +96,6 @@ flagged_within (b ∷ bs) [] = within_nil
 flagged_within (true ∷ bs) (x ∷ xs) = within_cons x _ _ (flagged_within bs xs)
 flagged_within (false ∷ bs) (x ∷ xs) = within_more x _ _ (flagged_within bs xs)
 
--- ids that differ still differ without those that leave
-pub flagged_differ : (flags : List Bool) (ids : List Bytes) → all_differ bytes_eq ids ≡ true → all_differ bytes_eq (flagged flags ids) ≡ true
-flagged_differ flags ids h = (flagged_within flags ids).differ h
-
--- everything stays where each flag is set
-pub all_flagged : {X : Type 0} → (flags : List Bool) (xs : List X) → list_all (λ b. b) flags ≡ true → length flags ≡ length xs → flagged flags xs ≡ xs
-all_flagged [] [] h e = refl
-all_flagged [] (x ∷ xs) h e = absurd (omega (arith, e))
-all_flagged (b ∷ bs) [] h e = absurd (omega (arith, e))
-all_flagged (true ∷ bs) (x ∷ xs) h e = ap (λ ys. x ∷ ys) (all_flagged bs xs h (omega (arith, e)))
-all_flagged (false ∷ bs) (x ∷ xs) h e = cc
-
--- so each program has a flag where none is withdrawn, and each applicant where neither applicants nor couples are
-pub all_programs_stay : (applicants couples : List Bytes) (rs : List Record) → list_all (λ b. b) (program_flags (stays_without [] applicants couples) rs) ≡ true
-all_programs_stay applicants couples [] = refl
-all_programs_stay applicants couples (ProgramRecord id quota list ∷ rs) = all_programs_stay applicants couples rs
-all_programs_stay applicants couples (ApplicantRecord id list ∷ rs) = all_programs_stay applicants couples rs
-all_programs_stay applicants couples (CoupleRecord id a b pairs ∷ rs) = all_programs_stay applicants couples rs
-all_programs_stay applicants couples (WithdrawRecord kind id ∷ rs) = all_programs_stay applicants couples rs
-
-pub all_applicants_stay : (programs : List Bytes) (rs : List Record) → list_all (λ b. b) (applicant_flags (stays_without programs [] []) rs) ≡ true
-all_applicants_stay programs [] = refl
-all_applicants_stay programs (ProgramRecord id quota list ∷ rs) = all_applicants_stay programs rs
-all_applicants_stay programs (ApplicantRecord id list ∷ rs) = all_applicants_stay programs rs
-all_applicants_stay programs (CoupleRecord id a b pairs ∷ rs) = all_applicants_stay programs rs
-all_applicants_stay programs (WithdrawRecord kind id ∷ rs) = all_applicants_stay programs rs
-
--- the place after the first
-next_place : {X : Type 0} → (x : X) (xs : List X) (k : ℕ) (d : X) → get_or (x ∷ xs) (1 + k) d ≡ get_or xs k d
-next_place x xs k d = let e : 1 + k ≡ suc k = omega arith in rw e refl
-
 -- the new number of an id, counted from a number on
 new_number_from : (n : ℕ) (flags : List Bool) (ids : List Bytes) (id : Bytes) → all_differ bytes_eq ids ≡ true → has_id ids id ≡ true
     → get_or (new_numbers n flags) (number_of ids id) None ≡ (if has_id (flagged flags ids) id then Some (n + number_of (flagged flags ids) id) else None)
@@ -148,7 +117,7 @@ new_number_from n (false ∷ bs) (x ∷ xs) id d h = by (bytes_eq id x) (same_id
         → get_or (None ∷ new_numbers n bs) (cond (not b) (1 + number_of xs id) 0) None ≡ (if has_id (flagged bs xs) id then Some (n + number_of (flagged bs xs) id) else None)
     by true e ih k =
         let off : has_id xs id ≡ false = subst (λ (y : Bytes). has_id xs y ≡ false) (sym (e refl)) (differ_parts x xs d).0 in
-        let out : has_id (flagged bs xs) id ≡ false = not_true _ (λ on. cc (off, (flagged_within bs xs).listed id on)) in
+        let out : has_id (flagged bs xs) id ≡ false = false_from_ne_true _ (λ on. cc (off, (flagged_within bs xs).listed id on)) in
         rw out refl
     by false e ih k = next_place None (new_numbers n bs) (number_of xs id) None ∙ ih k
 
@@ -258,7 +227,7 @@ module _ (ids : List Bytes) where
       by : (b : Bool) → bytes_eq x y ≡ b → (number_of ids x == number_of ids y) ≡ b
       by true e = let s : number_of ids x ≡ number_of ids y = ap (number_of ids) (same_id x y e) in grind (arith, nat_tests)
       by false e =
-          not_true _
+          false_from_ne_true _
           (λ t.
           let s : number_of ids x ≡ number_of ids y = grind (arith, nat_tests) in
           let i : bytes_eq x y ≡ true = is_same x y (same_number ids x y h k s) in

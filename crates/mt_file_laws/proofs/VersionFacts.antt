@@ -20,16 +20,17 @@ weaker : (s t : Bool) (o : Result Record Charge) (e : Charge) (r : Record) → (
 weaker true t o e r h k = rw (h refl) k
 weaker false t o e r h k = cc
 
-second_of_four : (a b b' c d : Bool) → (b ≡ true → b' ≡ true) → (a && b && c && d) ≡ true → (a && b' && c && d) ≡ true
+-- a test of four parts, of which the second asks less
+pub second_of_four : (a b b' c d : Bool) → (b ≡ true → b' ≡ true) → (a && b && c && d) ≡ true → (a && b' && c && d) ≡ true
 second_of_four true true b' c d h k = rw (h refl) k
 second_of_four true false b' c d h k = cc
 second_of_four false b b' c d h k = cc
 
-at_most : (n : ℕ) → nat_le n 32 ≡ true → nat_le n 64 ≡ true
-at_most n h = grind (arith, nat_tests)
+pub id_of_more : (n : ℕ) → nat_le n 32 ≡ true → nat_le n 64 ≡ true
+id_of_more n h = grind (arith, nat_tests)
 
 id_of_either : (f : Bytes) → is_id 32 f ≡ true → is_id 64 f ≡ true
-id_of_either f h = second_of_four _ (nat_le (length f) 32) (nat_le (length f) 64) _ _ (at_most (length f)) h
+id_of_either f h = second_of_four _ (nat_le (length f) 32) (nat_le (length f) 64) _ _ (id_of_more (length f)) h
 
 ids_of_either : (fs : List Bytes) → are_ids version_1 fs ≡ true → are_ids version_2 fs ≡ true
 ids_of_either [] h = refl

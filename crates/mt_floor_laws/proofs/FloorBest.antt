@@ -20,6 +20,7 @@ use Rattle.mt_terms.proofs.LiveFacts.{live_parts}
 use Rattle.mt_floor_laws.proofs.FloorLists.{has-get, has-take-suc, has-until-get, has-until-filter}
 use Rattle.mt_match_laws.proofs.FloorChoices.{above-choice}
 use Rattle.mt_floor_laws.proofs.FloorEvents.{tried_from_passed, tried_from_received, passed_where_free, passed_where_standing, HasLast, last_facts}
+use Rattle.mt_terms.proofs.AgentFacts.{place_is}
 
 -- only applicants have live entries
 pub applicant_from_live : (m : Market) (a p : ℕ) → IsTrue (has (live m a) p) → a < applicants m
@@ -39,13 +40,8 @@ pub record IsPlaced (m : Market) (f : Floor) (a k p : ℕ) : Type 0 where
   pub stands : IsTrue (f.standing a)
   pub last : HasLast m f a k p
 
--- a place that is a program is that program
-program_from_place : (p : ℕ) (o : Option ℕ) → IsTrue (is_program p o) → o ≡ Some p
-program_from_place p None h = absurd (both_ways false refl h)
-program_from_place p (Some q) h = ap (λ x. Some x) (eqb-true q p h)
-
 -- what a place that there is only for who stands tells
-if_some : (b : Bool) (o : Option ℕ) (p : ℕ) → (if b then o else None) ≡ Some p → IsTrue b × (o ≡ Some p)
+pub if_some : (b : Bool) (o : Option ℕ) (p : ℕ) → (if b then o else None) ≡ Some p → IsTrue b × (o ≡ Some p)
 if_some true o p e = (refl, e)
 if_some false o p e = cc
 
@@ -56,7 +52,7 @@ placed_facts m f r places result a p there = go (cases_lt a (applicants m))
   where
     go : (a < applicants m) ⊎ (applicants m ≤ a) → (k : ℕ) × IsPlaced m f a k p
     go (inl low) =
-        let facts = if_some (f.standing a) (last_tried m f a) p (sym (result.each_place a low) ∙ program_from_place p (place_of places a) there) in
+        let facts = if_some (f.standing a) (last_tried m f a) p (sym (result.each_place a low) ∙ place_is p (place_of places a) there) in
         let l = last_facts m f r a facts.0 in
         let same : l.1 ≡ p = some_inj (sym l.2.last_is ∙ facts.1) in
         (l.0, subst (λ (q : ℕ). IsPlaced m f a l.0 q) same (record { stands = facts.0; last = l.2 }))

@@ -112,7 +112,7 @@ received_there : (m : Market) (f : Floor) (a p : ℕ) → (proposed_at m f a p).
 received_there m f a p = rw (eq-eqb p p refl) refl
 
 -- what is so of one number and of each other one is so of each
-one_and_others : (P : ℕ → Type 0) (a : ℕ) → P a → ((b : ℕ) → b ≢ a → P b) → (b : ℕ) → P b
+pub one_and_others : (P : ℕ → Type 0) (a : ℕ) → P a → ((b : ℕ) → b ≢ a → P b) → (b : ℕ) → P b
 one_and_others P a here others b = go (cases_eq b a)
   where
     go : (b ≡ a) ⊎ (b ≢ a) → P b

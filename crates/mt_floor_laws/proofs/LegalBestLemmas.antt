@@ -21,7 +21,7 @@ use Rattle.mt_match_laws.proofs.ListLemmas.{each_below, until-filter, passes_bef
 use Rattle.mt_match_laws.proofs.SinglesFacts.{IsStableForSingles, stable_facts}
 use Rattle.mt_terms.proofs.Totals.{total_below-mono, total_below-tight, count_below-mono, count_below-tight}
 use Rattle.mt_match_laws.proofs.Seats.{placed_by_program, chosen_count}
-use Rattle.mt_floor_laws.proofs.FloorBest.{strict_best_lem}
+use Rattle.mt_floor_laws.proofs.FloorBest.{strict_best_lem, if_some}
 use Rattle.mt_floor_laws.proofs.FloorRuns.{best_exists_lem}
 use Rattle.mt_floor_laws.proofs.RuralLemmas.{place_at, somewhere, filled_of, taken_where_free, placed_total}
 
@@ -37,11 +37,6 @@ if-first s x y passes h = grind arith
 
 if-second : (s x y : Bool) → IsFalse s → IsTrue (if s then x else y) → IsTrue y
 if-second s x y fails h = grind arith
-
--- there is a place where it is the one or the other, and which
-if-some : (s : Bool) (o : Option ℕ) (p : ℕ) → (if s then o else None) ≡ Some p → IsTrue s × (o ≡ Some p)
-if-some true o p h = (refl, h)
-if-some false o p h = cc
 
 if-none : (s : Bool) (o : Option ℕ) (p : ℕ) → (if s then None else o) ≡ Some p → o ≡ Some p
 if-none true o p h = cc
@@ -105,7 +100,7 @@ module _ (m : Market) (w : IsWellFormed m) (f : Floor) (legal : IsLegal m f) whe
     result_stands p a h =
         elim (cases_lt a (applicants m)) [
           | inl within ↦
-              (let stands = if-some (f.standing a) (last_tried m f a) p (sym (result.each_place a within) ∙ place_at places p a h) in
+              (let stands = if_some (f.standing a) (last_tried m f a) p (sym (result.each_place a within) ∙ place_at places p a h) in
               (within, stands.0, stands.1))
           | inr past ↦ absurd (both_ways (at places p a) (ap (is_program p) (get_or_past places a None (omega (arith, result.one_each)))) h)
         ]

@@ -17,11 +17,7 @@ use Rattle.mt_match_laws.proofs.ListLemmas.{until_nobody, until_eqb_sym, passes_
 use Rattle.mt_floor_laws.proofs.FloorRuns.{best_exists_lem}
 use Rattle.mt_terms.proofs.Totals.{total_below-mono, total_below-tight, count_below-mono, count_below-tight}
 use Rattle.mt_match_laws.proofs.Seats.{filled_by_applicant, placed_count, above-le-count}
-
--- a place that is this program
-place_is : (p : ℕ) (o : Option ℕ) → IsTrue (is_program p o) → o ≡ Some p
-place_is p None h = absurd (false≢true h)
-place_is p (Some q) h = ap Some (eqb-true q p h)
+use Rattle.mt_terms.proofs.AgentFacts.{place_is}
 
 -- whoever is at a program has it as its place
 pub place_at : (places : Places) (p a : ℕ) → IsTrue (at places p a) → place_of places a ≡ Some p

@@ -23,12 +23,6 @@ sum_map_below f (suc n) =
     let more : map f (below (suc n)) ≡ map f (below n) ++ f n ∷ [] = ap (λ k. map f (below k)) (sym (add-one n)) ∙ map-below_more f n in
     omega (arith, ap sum more, sum_by_push (λ x. x) (map f (below n)) (f n), sum_map_below f n)
 
--- rank tables have fewer live entries than 2 ^ 32
-pub few_live : (r : Ranked) → IsRanked r → live_entries r.market < 2 ^ 32
-few_live r is =
-    let same = total_below-same (λ a. length (live r.market a)) (λ a. length (list_of r.market a)) (applicants r.market) (λ a l. ap length (is.all_live a)) in
-    omega (arith, same, is.few_entries)
-
 -- the desk of an applicant that has made no proposal, with a credit for each live entry
 pub desk_opens : (m : Market) (a credits : ℕ) → credits ≡ length (live m a) → IsDesk m (record { applicant = a; made = 0; standing = false; credits = credits })
 desk_opens m a credits e = record {

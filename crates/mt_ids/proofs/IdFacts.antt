@@ -6,33 +6,14 @@ use Rattle.std.proofs.lemmas.List.{take_more}
 use Rattle.std.proofs.lemmas.List.Folds.{list_any-append}
 use Rattle.std.proofs.lemmas.Slice.Eq.{bytes_eq-Decides}
 use Rattle.mt_terms.specs.Registration.Ids.{Bytes, all_differ, has_id, number_of}
-
--- a Bool by its cases
-not_true : (b : Bool) → (b ≡ true → ⊥) → b ≡ false
-not_true true h = absurd (h refl)
-not_true false h = refl
-
-neither : (a b : Bool) → (a || b) ≡ false → (a ≡ false) × (b ≡ false)
-neither true b h = cc
-neither false b h = (refl, h)
-
--- an id that differs from another one, the other way round
-differs : (x y : Bytes) → bytes_eq x y ≡ false → bytes_eq y x ≡ false
-differs x y h = not_true _ (λ same. let e : bytes_eq x y ≡ true = (bytes_eq-Decides x y).1 (sym ((bytes_eq-Decides y x).0 same)) in cc)
-
--- the first id of a list is not among the others, and those differ too
-differ_parts : (x : Bytes) (xs : List Bytes) → all_differ bytes_eq (x ∷ xs) ≡ true → (has_id xs x ≡ false) × (all_differ bytes_eq xs ≡ true)
-differ_parts x xs h = by (has_id xs x) h
-  where
-    by : (b : Bool) → (not b && all_differ bytes_eq xs) ≡ true → (b ≡ false) × (all_differ bytes_eq xs ≡ true)
-    by true k = cc
-    by false k = (refl, k)
+use Rattle.std.proofs.lemmas.Bool.{false_from_ne_true, or_parts}
+use Rattle.mt_terms.proofs.IdFacts.{differs, differ_parts, differ_push}
 
 -- an id that is none of these is at none of their places
 none_at : (x : Bytes) (xs : List Bytes) (i : ℕ) → has_id xs x ≡ false → i < length xs → bytes_eq x (get_or xs i []) ≡ false
 none_at x [] i h k = absurd (omega arith)
-none_at x (y ∷ ys) zero h k = (neither (bytes_eq x y) (has_id ys x) h).0
-none_at x (y ∷ ys) (suc i) h k = none_at x ys i (neither (bytes_eq x y) (has_id ys x) h).1 (omega arith)
+none_at x (y ∷ ys) zero h k = (or_parts (bytes_eq x y) (has_id ys x) h).0
+none_at x (y ∷ ys) (suc i) h k = none_at x ys i (or_parts (bytes_eq x y) (has_id ys x) h).1 (omega arith)
 
 -- where ids differ, each is none of those before it
 pub new_at : (xs : List Bytes) (i : ℕ) → all_differ bytes_eq xs ≡ true → i < length xs → has_id (take i xs) (get_or xs i []) ≡ false
@@ -43,16 +24,6 @@ new_at (x ∷ xs) (suc i) h k =
     let other : bytes_eq (get_or xs i []) x ≡ false = differs x (get_or xs i []) (none_at x xs i parts.0 (omega arith)) in
     rw (other, new_at xs i parts.1 (omega arith)) refl
 
--- an id that is new at the end
-differ_push : (xs : List Bytes) (x : Bytes) → has_id xs x ≡ false → all_differ bytes_eq xs ≡ true → all_differ bytes_eq (xs ++ x ∷ []) ≡ true
-differ_push [] x h k = refl
-differ_push (y ∷ ys) x h k =
-    let p : (has_id ys y ≡ false) × (all_differ bytes_eq ys ≡ true) = differ_parts y ys k in
-    let q : (bytes_eq x y ≡ false) × (has_id ys x ≡ false) = neither (bytes_eq x y) (has_id ys x) h in
-    let n : bytes_eq y x ≡ false = differs x y q.0 in
-    let e : has_id (ys ++ x ∷ []) y ≡ false = rw (list_any-append, p.0, n) refl in
-    rw (e, differ_push ys x q.1 p.1) refl
-
 -- A table has the first so many of some ids, which differ.
 abbrev pub HasFirst : List Bytes → List Bytes → ℕ → Type 0
 HasFirst ids table i = (table ≡ take i ids) × (all_differ bytes_eq table ≡ true)
@@ -61,7 +32,7 @@ HasFirst ids table i = (table ≡ take i ids) × (all_differ bytes_eq table ≡ 
 module _ (ids table : List Bytes) (i : ℕ) (id : Bytes) (first : HasFirst ids table i) (within : i < length ids) (at : id ≡ get_or ids i [])
     (added : Bool) (said : added ≡ not (has_id table id)) where
   pub stands_twice : added ≡ false → all_differ bytes_eq ids ≡ false
-  stands_twice h = not_true _ (λ differ. new (new_at ids i differ within))
+  stands_twice h = false_from_ne_true _ (λ differ. new (new_at ids i differ within))
     where
       new : has_id (take i ids) (get_or ids i []) ≡ false → ⊥
       new n = let none : has_id table id ≡ false = ap₂ has_id first.0 at ∙ n in by (has_id table id) none (sym h ∙ said)

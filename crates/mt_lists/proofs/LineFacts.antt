@@ -156,12 +156,6 @@ none_before p (c ∷ rest) (suc at) h =
 pub none_at_all : (p : ℕ → Bool) (text : List ℕ) → ((k : ℕ) → k < length text → p (get_or text k 0) ≡ true → ⊥) → list_any p text ≡ false
 none_at_all p text h = rw (take-length text) at (none_before p text (length text) h)
 
--- what comes after a place in a text with no quote has none
-pub unquoted_after : (text : List ℕ) (n : ℕ) → list_any is_quote text ≡ false → list_any is_quote (drop n text) ≡ false
-unquoted_after text n unquoted =
-    let all : list_any is_quote (take n text ++ drop n text) ≡ false = ap (list_any is_quote) (take-append-drop n text) ∙ unquoted in
-    (or_parts _ _ (sym (list_any-append is_quote (take n text) (drop n text)) ∙ all)).1
-
 -- the first line of a text, up to the first byte that ends one
 pub first_line : (text : List ℕ) (at : ℕ) → at < length text → list_any is_quote text ≡ false → ((k : ℕ) → k < at → ends_line (get_or text k 0) ≡ true → ⊥) → ends_line (get_or text at 0) ≡ true
     → NextLine text (take at text) (drop (at + 1) text)

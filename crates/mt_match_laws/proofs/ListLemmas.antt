@@ -6,6 +6,7 @@ use Rattle.std.proofs.lemmas.Bool.Decides.{nat_tests}
 use mathlib.Core.Path.{fun_ext}
 use Rattle.mt_terms.specs.Lists.{Set, has, until, count, above, below, with_one}
 use Rattle.mt_terms.proofs.ListFacts.{with_one-other}
+use Rattle.mt_terms.proofs.AgentFacts.{eqb_sym}
 pub use Rattle.mt_terms.proofs.ListFacts.{count_agree}
 
 -- all numbers of a range pass where each of them does
@@ -159,10 +160,6 @@ one_higher (x ∷ xs) a b apart on_a on_b = grind (arith, nat_tests, one_higher 
 pub until_nobody : (xs : List ℕ) → until (λ x. false) xs ≡ xs
 until_nobody [] = refl
 until_nobody (x ∷ xs) = ap (λ ys. x ∷ ys) (until_nobody xs)
-
--- a test of two numbers, with the two exchanged
-eqb_sym : (a b : ℕ) → (a == b) ≡ (b == a)
-eqb_sym a b = grind (arith, nat_tests)
 
 -- the front of a list before a number, whichever way the test is written
 pub until_eqb_sym : (xs : List ℕ) (p : ℕ) → until (λ x. p == x) xs ≡ until (λ x. x == p) xs

@@ -1,7 +1,6 @@
 -- What is known of a record that the first pass takes.
 use Rattle.std.proofs.Common.{◌≡◌, ℕ, ◌+◌, ◌≤◌, false, nat_lt, List, [], ◌∷◌, ◌++◌, length, refl, ap, sym, ◌∙◌, Option, None, Some, Result, Ok, Err, arith}
 use Rattle.std.proofs.lemmas.Bool.Decides.{nat_tests}
-use Rattle.mt_file_laws.proofs.IdFacts.{neither}
 use Rattle.mt_file_laws.proofs.PassFacts.{kept_parts}
 use Rattle.mt_terms.specs.Registration.Ids.{Bytes}
 use Rattle.mt_records.specs.declared.refusal.Refusal.{Refusal}
@@ -15,6 +14,7 @@ use Rattle.mt_terms.specs.Registration.Faults.{Charge, Fault, fault_at}
 use Rattle.mt_terms.specs.Registration.Records.{Rules, Record, ProgramRecord, ApplicantRecord, CoupleRecord, WithdrawRecord, OfProgram, OfCouple, record_of}
 use Rattle.mt_terms.specs.Registration.Rows.{ids_of, applicant_ids, entry_count}
 use Rattle.mt_terms.specs.Registration.Passes.{registered_before, says_twice, are_too_many, first_conflict, first_pass, contents, unless, numbered_from, Numbered}
+use Rattle.std.proofs.lemmas.Bool.{or_parts}
 
 -- a record in no conflict with those before it
 pub record IsAccepted (rules : Rules) (before : List Record) (r : Record) : Type 0 where
@@ -54,9 +54,9 @@ once_said before (WithdrawRecord kind id) h = h
 -- the records with one with which they are not too many
 pub few_more : (rules : Rules) (before : List Record) (r : Record) → AreBounded rules.limits → are_too_many rules.limits (before ++ r ∷ []) ≡ false → AreFew (before ++ r ∷ [])
 few_more rules before r bound few =
-    let p = neither _ (nat_lt rules.limits.entries (entry_count (before ++ r ∷ []))) few in
-    let q = neither _ (nat_lt rules.limits.couples (length (ids_of OfCouple (before ++ r ∷ [])))) p.0 in
-    let t = neither (nat_lt rules.limits.applicants (length (applicant_ids (before ++ r ∷ [])))) (nat_lt rules.limits.programs (length (ids_of OfProgram (before ++ r ∷ [])))) q.0 in
+    let p = or_parts _ (nat_lt rules.limits.entries (entry_count (before ++ r ∷ []))) few in
+    let q = or_parts _ (nat_lt rules.limits.couples (length (ids_of OfCouple (before ++ r ∷ [])))) p.0 in
+    let t = or_parts (nat_lt rules.limits.applicants (length (applicant_ids (before ++ r ∷ [])))) (nat_lt rules.limits.programs (length (ids_of OfProgram (before ++ r ∷ [])))) q.0 in
     record {
       programs = not_above _ _ _ bound.programs t.1;
       couples = not_above _ _ _ bound.couples q.1;

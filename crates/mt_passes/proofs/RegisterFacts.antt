@@ -2,7 +2,6 @@
 use Rattle.std.proofs.Common.{subst, ◌≡◌, ◌+◌, Bool, true, false, ◌||◌, ◌||◌, List, [], ◌∷◌, ◌++◌, map, refl, ap, sym, ◌∙◌, Some, None, cond}
 use Rattle.std.specs.Prelude.{option_to_list, bytes_eq}
 use Rattle.std.proofs.lemmas.List.{map-append}
-use Rattle.mt_file_laws.proofs.IdFacts.{not_true, or_right}
 use Rattle.mt_file_laws.proofs.GrowthFacts.{ids_of-more, applicant_ids-more, withdrawn-more, entry_count-more}
 use Rattle.mt_terms.specs.Registration.Ids.{Bytes, has_id}
 use Rattle.mt_terms.specs.Registration.Records.{Record, OfApplicant, ProgramRecord, ApplicantRecord, CoupleRecord, WithdrawRecord}
@@ -13,6 +12,8 @@ use Rattle.mt_records.specs.Records.{record_seen}
 use Rattle.mt_passes.specs.declared.register.Register.{Register}
 use Rattle.mt_records.specs.Kinds.{ids_in}
 use Rattle.mt_passes.specs.Registers.{numbered_seen, contents_seen, AreFew, IsRegister, AddsRecord}
+use Rattle.std.proofs.lemmas.Bool.{false_from_ne_true, or_right}
+use Rattle.mt_file_laws.proofs.PassFacts.{not_found}
 
 -- a single is an applicant
 singles_within : (rs : List Record) (x : Bytes) → has_id (ids_of OfApplicant rs) x ≡ true → has_id (applicant_ids rs) x ≡ true
@@ -26,14 +27,10 @@ singles_within (ApplicantRecord id list ∷ rs) x h = by (bytes_eq x id) h (sing
 singles_within (CoupleRecord id a b pairs ∷ rs) x h = or_right (bytes_eq x a) _ (or_right (bytes_eq x b) _ (singles_within rs x h))
 singles_within (WithdrawRecord kind id ∷ rs) x h = singles_within rs x h
 
-not_found : (b : Bool) (x : Bytes) → cond b (Some x) None ≡ None → b ≡ false
-not_found true x h = cc
-not_found false x h = refl
-
 pub new_single : (rs : List Record) (id : Bytes) (list : List Bytes) → registered_before rs (ApplicantRecord id list) ≡ None → has_id (ids_of OfApplicant rs) id ≡ false
 new_single rs id list h =
     let n : has_id (applicant_ids rs) id ≡ false = not_found _ id h in
-    not_true _ (λ k. let m : has_id (applicant_ids rs) id ≡ true = singles_within rs id k in cc)
+    false_from_ne_true _ (λ k. let m : has_id (applicant_ids rs) id ≡ true = singles_within rs id k in cc)
 
 -- a register's tables and its records with one record more
 pub is_register_more : (old tables new : Register) (r : Record) → IsRegister old → AddsRecord old tables r

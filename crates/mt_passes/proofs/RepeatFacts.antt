@@ -3,10 +3,9 @@ use Rattle.std.proofs.Common.{◌≡◌, ℕ, ◌+◌, ◌<◌, Bool, true, fals
 use Rattle.std.specs.Prelude.{bytes_eq}
 use Rattle.std.specs.List.{list_any}
 use Rattle.std.specs.Option.{option_copied, option_eq, unwrap_or}
-use Rattle.std.proofs.lemmas.Bool.{and_parts}
+use Rattle.std.proofs.lemmas.Bool.{and_parts, false_from_ne_true, or_right, or_parts}
 use Rattle.std.proofs.lemmas.List.{append_assoc, drop_more, map-append}
 use Rattle.std.proofs.lemmas.List.Folds.{list_any-append}
-use Rattle.mt_file_laws.proofs.IdFacts.{neither, not_true, or_right}
 use Rattle.mt_terms.proofs.IdFacts.{same_id, is_same}
 use Rattle.mt_terms.specs.Registration.Ids.{Bytes, all_differ}
 use Rattle.mt_terms.specs.Registration.Records.{IdPair}
@@ -51,7 +50,7 @@ SeesEach same seen left whole = (all_differ same seen ≡ true) × (seen ++ left
 
 module _ {X : Type 0} (same : X → X → Bool) (tests : Tests same) where
   symmetric : (x y : X) → same x y ≡ false → same y x ≡ false
-  symmetric x y h = not_true _ (λ k. let e : same x y ≡ true = (tests x y).1 (sym ((tests y x).0 k)) in cc)
+  symmetric x y h = false_from_ne_true _ (λ k. let e : same x y ≡ true = (tests x y).1 (sym ((tests y x).0 k)) in cc)
 
   itself : (x : X) → same x x ≡ true
   itself x = (tests x x).1 refl
@@ -64,7 +63,7 @@ module _ {X : Type 0} (same : X → X → Bool) (tests : Tests same) where
   differ_push [] x h k = refl
   differ_push (y ∷ ys) x h k =
       let p : (list_any (same y) ys ≡ false) × (all_differ same ys ≡ true) = differ_parts same y ys k in
-      let q : (same x y ≡ false) × (list_any (same x) ys ≡ false) = neither (same x y) (list_any (same x) ys) h in
+      let q : (same x y ≡ false) × (list_any (same x) ys ≡ false) = or_parts (same x y) (list_any (same x) ys) h in
       let n : same y x ≡ false = symmetric x y q.0 in
       let e : list_any (same y) (ys ++ x ∷ []) ≡ false = rw (list_any-append, p.0, n) refl in
       differ_join y (ys ++ x ∷ []) e (differ_push ys x q.1 p.1)
@@ -102,10 +101,6 @@ module _ {X : Type 0} (same : X → X → Bool) (tests : Tests same) where
         by true e k is = cc
         by false e k is =
             subst (λ (xs : List X). SeesEach same xs left whole) (sym is) (differ_push seen x e sees.0, append_assoc seen (x ∷ []) left ∙ sees.1)
-
--- the same by the places of elements
-pub sees_at : {X : Type 0} (same : X → X → Bool) (seen xs : List X) (i : ℕ) (d x : X) → i < length xs → x ≡ get_or xs i d → SeesEach same seen (drop i xs) xs → SeesEach same seen (x ∷ drop (i + 1) xs) xs
-sees_at {X} same seen xs i d x h at = subst (λ (left : List X). SeesEach same seen left xs) (drop_more xs i d h ∙ ap (λ y. y ∷ drop (i + 1) xs) (sym at))
 
 -- keys, each of which stands for an element
 module _ {K X : Type 0} (seen : K → X) (same : X → X → Bool) (alike : K → K → Bool) (agree : (j k : K) → alike j k ≡ same (seen j) (seen k)) where

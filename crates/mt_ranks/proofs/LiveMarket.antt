@@ -4,13 +4,15 @@ use Rattle.std.specs.Option.{is_some}
 use Rattle.std.specs.List.{position}
 use Rattle.std.proofs.lemmas.Bool.{cases_Bool, eqb-true, cases_lt, or_cases, true≢false}
 use Rattle.std.proofs.lemmas.List.FromFn.{get_or-map-range_with_len, length-map-range_with_len}
-use Rattle.mt_terms.specs.Lists.{has, below}
-use Rattle.mt_terms.specs.Market.{Market, Partners, applicants, program_of, list_of, couple_of, live, live_market, is_member, agent_from}
+use Rattle.mt_terms.specs.Lists.{has, below, total_below}
+use Rattle.mt_terms.specs.Market.{Market, Partners, applicants, program_of, list_of, couple_of, live, live_market, is_member, agent_from, live_entries}
 use Rattle.mt_terms.specs.WellFormed.{IsWellFormed}
-use Rattle.mt_ranks.specs.Ranked.{IsRanked, IsEntry, IsRank, is_single, is_single_agent, ranked_of, ranked_entry, all_entries}
+use Rattle.mt_ranks.specs.Ranked.{IsRanked, IsEntry, IsRank, is_single, is_single_agent, ranked_of, ranked_entry, all_entries, Ranked}
 use Rattle.mt_ranks.proofs.Positions.{has-position, IsRank-from_position}
 use Rattle.mt_terms.proofs.LiveFacts.{live_past, live_parts, applicants-live_market, list_of-live_market, live-live_market, live_well_formed}
 use Rattle.mt_ranks.proofs.Sizes.{distinct_length, total_below-le}
+use Rattle.mt_terms.proofs.Totals.{total_below-same}
+use Rattle.mt_terms.proofs.BelowFacts.{length-map_below}
 
 -- what stands where the position is
 rank_stands : (xs : List ℕ) (a : ℕ) → has xs a ≡ true → IsRank xs a (unwrap_or (position (λ x. x == a) xs) 0)
@@ -74,3 +76,19 @@ live_market_ranked m w some_applicants some_programs =
       few_programs = some_programs;
       few_entries = few (live_market m) (live_well_formed m w) (omega arith) some_programs;
     }
+
+-- Rank tables have fewer live entries than 2 ^ 32.
+pub few_live : (r : Ranked) → IsRanked r → live_entries r.market < 2 ^ 32
+few_live r is =
+    let same = total_below-same (λ a. length (live r.market a)) (λ a. length (list_of r.market a)) (applicants r.market) (λ a low. ap length (is.all_live a)) in
+    omega (arith, same, is.few_entries)
+
+-- Below, r are the rank tables of the market m.
+pub ranked_programs : (r : Ranked) (m : Market) → r ≡ ranked_of m → length r.market.programs ≡ length m.programs
+ranked_programs r m is = ap (λ (x : Ranked). length x.market.programs) is
+
+pub ranked_applicants : (r : Ranked) (m : Market) → r ≡ ranked_of m → applicants r.market ≡ applicants m
+ranked_applicants r m is = ap (λ (x : Ranked). applicants x.market) is ∙ length-map_below (live m) (applicants m)
+
+pub ranked_program : (r : Ranked) (m : Market) (p : ℕ) → r ≡ ranked_of m → program_of r.market p ≡ program_of m p
+ranked_program r m p is = ap (λ (x : Ranked). program_of x.market p) is

@@ -7,6 +7,7 @@ use Rattle.std.proofs.lemmas.Slice.{between_is}
 use Rattle.std.proofs.lemmas.List.Sums.{sum_by-cons}
 use Rattle.mt_ranks.specs.Rows.{parts, next_start, sizes_between, ArePartsOf, starts_from, Filling, empty_rows, HasRoom, with_entry}
 use Rattle.mt_ranks.specs.declared.entries.Live.{Live}
+use Rattle.mt_rows.proofs.RowFacts.{range_push}
 
 -- Below, the parts of a list of this size begin at ss and end at es.
 pub start_within : (size : ℕ) (ss es : List ℕ) → ArePartsOf size ss es → next_start ss size ≤ size
@@ -24,10 +25,6 @@ pub length-parts : {X : Type 0} (ss es : List ℕ) (xs : List X) → ArePartsOf 
 length-parts [] es xs h = refl
 length-parts (s ∷ ss) [] xs h = absurd h
 length-parts (s ∷ ss) (e ∷ es) xs h = ap suc (length-parts ss es xs h.2)
-
-pub length-sizes_between : (ss : List ℕ) (size : ℕ) → length (sizes_between ss size) ≡ length ss
-length-sizes_between [] size = refl
-length-sizes_between (s ∷ ss) size = ap suc (length-sizes_between ss size)
 
 pub part_bounds : (size : ℕ) (ss es : List ℕ) (k : ℕ) → ArePartsOf size ss es → k < length ss → (get_or ss k 0 ≤ get_or es k 0) × (get_or es k 0 ≤ size)
 part_bounds size [] es k h i = absurd (omega arith)
@@ -77,12 +74,6 @@ range-set_below xs k x a b h = ap (take (b - a)) (drop-set-lt a xs k x h)
 range-set_above : {X : Type 0} (xs : List X) (k : ℕ) (x : X) (a b : ℕ) → b ≤ k → slice_range (set xs k x) a b ≡ slice_range xs a b
 range-set_above xs k x a b h = between_is (set xs k x) a b ∙ ap (drop a) (take-set-le b xs k x h) ∙ sym (between_is xs a b)
 
-range-set_end : {X : Type 0} (xs : List X) (x : X) (a b : ℕ) → a ≤ b → b < length xs → slice_range (set xs b x) a (b + 1) ≡ slice_range xs a b ++ x ∷ []
-range-set_end xs x a b h i =
-    between_is (set xs b x) a (b + 1) ∙ ap (drop a) (take_more_set xs b x i)
-    ∙ drop-append-le a (take b xs) (x ∷ []) (omega (arith, length-take-le b xs (omega arith)))
-    ∙ ap (λ ys. ys ++ x ∷ []) (sym (between_is xs a b))
-
 -- a write before the first part changes none
 parts-set_below : {X : Type 0} (ss es : List ℕ) (xs : List X) (k : ℕ) (x : X) (size : ℕ) → ArePartsOf size ss es → k < next_start ss size
     → parts ss es (set xs k x) ≡ parts ss es xs
@@ -101,7 +92,7 @@ parts-push [] es xs k x h i r = absurd (omega arith)
 parts-push (s ∷ ss) [] xs k x h i r = absurd h
 parts-push (s ∷ ss) (e ∷ es) xs zero x h i r =
     let within : e < length xs = omega (arith, h.0, h.1, start_within (length xs) ss es h.2) in
-    let first : slice_range (set xs e x) s (e + 1) ≡ slice_range xs s e ++ x ∷ [] = range-set_end xs x s e h.0 within in
+    let first : slice_range (set xs e x) s (e + 1) ≡ slice_range xs s e ++ x ∷ [] = range_push xs x s e h.0 within in
     let rest : parts ss es (set xs e x) ≡ parts ss es xs = parts-set_below ss es xs e x (length xs) h.2 (omega (arith, h.0, h.1)) in
     cc
 parts-push (s ∷ ss) (e ∷ es) xs (suc k) x h i r =

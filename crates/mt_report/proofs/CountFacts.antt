@@ -63,9 +63,6 @@ counts_of_all places n counts l counted =
     ext_get_or 0 counts (map (filled places) (below n)) (l ∙ sym (length-map_below (filled places) n))
     (λ p h. let b : p < n = omega arith in counted p b ∙ sym (map_below_at (filled places) n p 0 b))
 
-pub total_below-more : (f : ℕ → ℕ) (n : ℕ) → total_below f (n + 1) ≡ f n + total_below f n
-total_below-more f n = rw add-one refl
-
 -- one place more, of those that have none
 pub unmatched_more : (places : Places) (i : ℕ) → i < length places
     → unmatched (take (i + 1) places) ≡ unmatched (take i places) + (if not (is_some (get_or places i None)) then 1 else 0)

@@ -14,11 +14,6 @@ use Rattle.mt_file_laws.proofs.FaultlessFacts.{accepts, passes_agree}
 use Rattle.mt_records.specs.Limits.{AreBounded}
 use Rattle.mt_numbering.specs.Drafts.{with_fields}
 
--- rows by their numbers, of which the first has no field, and of which it has one
-pub skip_empty : (n : ℕ) (row : List Bytes) (rows : List (List Bytes)) → length row ≡ 0 → numbered_from n (row ∷ rows) ≡ numbered_from (n + 1) rows
-skip_empty n [] rows none = refl
-skip_empty n (word ∷ fields) rows none = absurd (omega (arith, none))
-
 pub take_row : (n : ℕ) (row : List Bytes) (rows : List (List Bytes)) → (length row ≡ 0 → ⊥) → numbered_from n (row ∷ rows) ≡ (n, row) ∷ numbered_from (n + 1) rows
 take_row n [] rows some = absurd (some refl)
 take_row n (word ∷ fields) rows some = refl
@@ -33,11 +28,6 @@ contents-with_fields n ((word ∷ fields) ∷ rows) = ap (λ (rs : List (List By
 pub market_at : (n : ℕ) (row : List Bytes) (rows : List (List Bytes)) (rules : Rules) → (length row ≡ 0 → ⊥) → rules_of row ≡ Some rules
     → market_of_numbered (numbered_from n (row ∷ rows)) ≡ market_under rules (numbered_from (n + 1) rows)
 market_at n row rows rules some named = ap market_of_numbered (take_row n row rows some) ∙ rw named refl
-
--- without it there is none
-pub no_market_at : (n : ℕ) (row : List Bytes) (rows : List (List Bytes)) → (length row ≡ 0 → ⊥) → rules_of row ≡ None
-    → market_of_numbered (numbered_from n (row ∷ rows)) ≡ Err (faults.fault_at n (faults.charge_alone NO_VERSION))
-no_market_at n row rows some named = ap market_of_numbered (take_row n row rows some) ∙ rw named refl
 
 -- by the rules of a version the market is that of rows without a fault, where they have none, and else there is a fault
 module _ (rules : Rules) (n : ℕ) (rows : List (List Bytes)) where

@@ -12,18 +12,7 @@ use Rattle.mt_terms.specs.declared.numbers.Agent.TheVariants.{Single, Couple}
 use Rattle.mt_round_laws.proofs.RoundsLists.{In, in_image, of_image, in_kept, of_kept, in_below, of_below, found, finds, has_in, in_has}
 use Rattle.mt_round_laws.proofs.RoundsSets.{has_head}
 use Rattle.mt_round_laws.proofs.RoundsPlaces.{movers, send_there, send_elsewhere}
-
--- the same agent is the same agent
-pub is_same_agent_refl : (g : Agent) → is_same_agent g g ≡ true
-is_same_agent_refl (Single a) = eq-eqb a a refl
-is_same_agent_refl (Couple c) = eq-eqb c c refl
-
--- agents that are tested the same are the same
-pub same_agent : (g h : Agent) → is_same_agent g h ≡ true → g ≡ h
-same_agent (Single a) (Single b) e = ap Single (eqb-true a b e)
-same_agent (Single a) (Couple d) e = absurd (false≢true e)
-same_agent (Couple c) (Single b) e = absurd (false≢true e)
-same_agent (Couple c) (Couple d) e = ap Couple (eqb-true c d e)
+pub use Rattle.mt_terms.proofs.AgentFacts.{is_same_agent_refl, same_agent}
 
 -- whether an agent stands on a list of agents
 pub on_list : (g : Agent) (gs : List Agent) → In g gs → list_any (is_same_agent g) gs ≡ true

@@ -14,11 +14,12 @@ use Rattle.mt_round_laws.specs.Rounds.{RoundKeeps, RoundFits}
 use Rattle.mt_terms.specs.declared.numbers.Agent.{Agent}
 use Rattle.mt_round_laws.proofs.RoundsLists.{In, found, finds, in_has, has_in, in_left, in_right, in_either, in_image, of_image, in_kept, of_kept, in_joined, of_joined, in_below, each, all_pass, fails_at, of_until}
 use Rattle.mt_round_laws.proofs.RoundsPlaces.{at_none}
-use Rattle.mt_round_laws.proofs.RoundsAgents.{IsAgent, is_same_agent_refl, same_agent, on_list, of_list, agent_of_applicant, member_of_agent, agent_on_list, agent_from_list, option_member, option_elsewhere, apart}
+use Rattle.mt_round_laws.proofs.RoundsAgents.{IsAgent, on_list, of_list, agent_of_applicant, member_of_agent, agent_on_list, agent_from_list, option_member, option_elsewhere, apart}
 use Rattle.mt_round_laws.proofs.RoundsFits.{fitting_facts, fits_from, listing_program, same_better}
 use Rattle.mt_match_laws.proofs.ChoiceLemmas.{choice_facts}
 use Rattle.mt_round_laws.proofs.RoundsMove.{IsMove, match_after, is_displaced, displaced_agents, displaced_agent, displaced_parts, of_displaced, goes_out, untouched, fits_after}
 use Rattle.mt_round_laws.proofs.RoundsRoom.{taken_before}
+use Rattle.mt_terms.proofs.AgentFacts.{is_same_agent_refl, same_agent}
 
 -- who is on the work list once others joined
 pub on_joined : (ws : List Agent) (g h : Agent) → is_on (joined ws g) h ≡ (is_on ws h || is_same_agent h g)

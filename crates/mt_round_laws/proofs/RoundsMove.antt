@@ -15,8 +15,9 @@ use Rattle.mt_round_laws.proofs.RoundsSets.{count_within}
 use Rattle.mt_match_laws.proofs.FloorChoices.{count-choice}
 use Rattle.mt_match_laws.proofs.ChoiceLemmas.{choice_facts}
 use Rattle.mt_round_laws.proofs.RoundsPlaces.{is_program_some, at_none, length-send, length-unplaced, unplaced_there, unplaced_elsewhere, is_same_place_refl}
-use Rattle.mt_round_laws.proofs.RoundsAgents.{IsAgent, same_agent, on_list, of_list, agent_of_applicant, member_of_agent, option_entry, option_member, option_there, option_elsewhere, apart}
+use Rattle.mt_round_laws.proofs.RoundsAgents.{IsAgent, on_list, of_list, agent_of_applicant, member_of_agent, option_entry, option_member, option_there, option_elsewhere, apart}
 use Rattle.mt_round_laws.proofs.RoundsFits.{IsFitting, same_own_option}
+use Rattle.mt_terms.proofs.AgentFacts.{same_agent}
 
 -- the programs that a placement sends somebody to
 sent_to : (sent : Placement) (a p : ℕ) → In (a, Some p) sent → In p (programs_sent_to sent)

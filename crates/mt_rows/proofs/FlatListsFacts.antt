@@ -5,6 +5,7 @@ use Rattle.std.proofs.lemmas.Grind.{common_steps}
 use Rattle.std.proofs.lemmas.List.{drop_at}
 use Rattle.std.proofs.lemmas.Slice.{between_to_end}
 use Rattle.mt_rows.specs.FlatLists.{pieces, start_of, AreEnds, with_last}
+use Rattle.mt_rows.proofs.RowFacts.{range_append}
 
 pub length-pieces : {X : Type 0} (from : ℕ) (ends : List ℕ) (xs : List X) → length (pieces from ends xs) ≡ length ends
 length-pieces from [] xs = refl
@@ -76,10 +77,6 @@ pub AreEnds-append : (from : ℕ) (ends : List ℕ) (n m : ℕ) → AreEnds from
 AreEnds-append from [] n m h i = (omega arith, refl)
 AreEnds-append from (e ∷ es) n m h i = (h.0, AreEnds-append e es n m h.1 i)
 
--- a part is as it was after elements were added behind it
-pub range-append : {X : Type 0} (xs ys : List X) (a b : ℕ) → a ≤ b → b ≤ length xs → slice_range (xs ++ ys) a b ≡ slice_range xs a b
-range-append xs ys a b h i = grind (arith, common_steps)
-
 rest_range : {X : Type 0} (xs ys : List X) (a : ℕ) → a ≡ length xs → slice_range (xs ++ ys) a (length (xs ++ ys)) ≡ ys
 rest_range xs ys a h = between_to_end (xs ++ ys) a (length (xs ++ ys)) (omega arith) ∙ drop_at xs ys a (sym h)
 
@@ -87,6 +84,6 @@ pub pieces-append : {X : Type 0} (from : ℕ) (ends : List ℕ) (xs ys : List X)
     → pieces from (ends ++ length (xs ++ ys) ∷ []) (xs ++ ys) ≡ pieces from ends xs ++ ys ∷ []
 pieces-append from [] xs ys h = ap (λ p. p ∷ []) (rest_range xs ys from h)
 pieces-append from (e ∷ es) xs ys h =
-    let first : slice_range (xs ++ ys) from e ≡ slice_range xs from e = range-append xs ys from e h.0 (ends_within e es (length xs) h.1) in
+    let first : slice_range (xs ++ ys) from e ≡ slice_range xs from e = range_append xs ys from e h.0 (ends_within e es (length xs) h.1) in
     let rest : pieces e (es ++ length (xs ++ ys) ∷ []) (xs ++ ys) ≡ pieces e es xs ++ ys ∷ [] = pieces-append e es xs ys h.1 in
     cc

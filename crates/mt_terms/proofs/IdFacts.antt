@@ -1,14 +1,38 @@
 -- Ids, and their numbers on lists.
-use Rattle.std.proofs.Common.{◌≡◌, suc, ◌+◌, ◌<◌, Bool, true, false, not, ◌||◌, List, [], ◌∷◌, length, refl, arith, cond}
+use Rattle.std.proofs.Common.{◌≡◌, suc, ◌+◌, ◌<◌, Bool, true, false, not, ◌||◌, List, [], ◌∷◌, length, refl, arith, cond, ◌&&◌, ◌++◌, sym}
 use Rattle.std.specs.Prelude.{bytes_eq}
 use Rattle.std.proofs.lemmas.Slice.Eq.{bytes_eq-Decides}
-use Rattle.mt_terms.specs.Registration.Ids.{Bytes, has_id, number_of}
+use Rattle.mt_terms.specs.Registration.Ids.{Bytes, has_id, number_of, all_differ}
+use Rattle.std.proofs.lemmas.Bool.{false_from_ne_true, or_parts}
+use Rattle.std.proofs.lemmas.List.Folds.{list_any-append}
 
 pub same_id : (x y : Bytes) → bytes_eq x y ≡ true → x ≡ y
 same_id x y h = (bytes_eq-Decides x y).0 h
 
 pub is_same : (x y : Bytes) → x ≡ y → bytes_eq x y ≡ true
 is_same x y e = (bytes_eq-Decides x y).1 e
+
+-- an id that differs from another one, the other way round
+pub differs : (x y : Bytes) → bytes_eq x y ≡ false → bytes_eq y x ≡ false
+differs x y h = false_from_ne_true _ (λ same. let e : bytes_eq x y ≡ true = (bytes_eq-Decides x y).1 (sym ((bytes_eq-Decides y x).0 same)) in cc)
+
+-- the first id of a list is not among the others, and those differ too
+pub differ_parts : (x : Bytes) (xs : List Bytes) → all_differ bytes_eq (x ∷ xs) ≡ true → (has_id xs x ≡ false) × (all_differ bytes_eq xs ≡ true)
+differ_parts x xs h = by (has_id xs x) h
+  where
+    by : (b : Bool) → (not b && all_differ bytes_eq xs) ≡ true → (b ≡ false) × (all_differ bytes_eq xs ≡ true)
+    by true k = cc
+    by false k = (refl, k)
+
+-- an id that is new at the end
+pub differ_push : (xs : List Bytes) (x : Bytes) → has_id xs x ≡ false → all_differ bytes_eq xs ≡ true → all_differ bytes_eq (xs ++ x ∷ []) ≡ true
+differ_push [] x h k = refl
+differ_push (y ∷ ys) x h k =
+    let p : (has_id ys y ≡ false) × (all_differ bytes_eq ys ≡ true) = differ_parts y ys k in
+    let q : (bytes_eq x y ≡ false) × (has_id ys x ≡ false) = or_parts (bytes_eq x y) (has_id ys x) h in
+    let n : bytes_eq y x ≡ false = differs x y q.0 in
+    let e : has_id (ys ++ x ∷ []) y ≡ false = rw (list_any-append, p.0, n) refl in
+    rw (e, differ_push ys x q.1 p.1) refl
 
 -- the number of a listed id is below the length
 pub number_below : (ids : List Bytes) (x : Bytes) → has_id ids x ≡ true → number_of ids x < length ids

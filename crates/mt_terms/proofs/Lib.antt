@@ -1,3 +1,4 @@
+pub mod AgentFacts
 pub mod BelowFacts
 pub mod IdFacts
 pub mod ListFacts

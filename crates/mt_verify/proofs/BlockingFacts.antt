@@ -13,8 +13,8 @@ use Rattle.mt_terms.specs.Lists.{below}
 use Rattle.mt_verdict_laws.proofs.VerdictLemmas.{find-map-filter}
 use Rattle.mt_verify.specs.Blocking.{blocker, blocker_led_by, leads_blocker}
 use Rattle.mt_verify.proofs.FindFacts.{NoneYet, passes_at, stops_at, none_passes, position_mapped, any_has_position, found_below}
-use Rattle.mt_verify.proofs.OptionFacts.{and-true, holds_single}
-use Rattle.mt_verify.proofs.PlacedFacts.{is_program_read}
+use Rattle.mt_verify.proofs.OptionFacts.{and-true}
+use Rattle.mt_terms.proofs.AgentFacts.{holds_single, is_program_read}
 
 -- an element that was read of a list, at any default
 pub element_read : {X : Type 0} (items list : List X) (k : ℕ) (x d : X) → x ≡ get_or items k x → items ≡ list → k < length items → x ≡ get_or list k d
@@ -138,10 +138,6 @@ module _ (m : Market) (places : Places) (a : ℕ) (g : Agent) (is : agent_of m a
 
   pub not_leading : IsFalse (leads m a) → blocker_led_by m places a ≡ None
   not_leading other = rw other refl
-
--- who of a couple leads it
-pub leads-Couple : (m : Market) (c a : ℕ) → agent_of m a ≡ Couple c → leads m a ≡ ((couple_of m c).first == a)
-leads-Couple m c a is = rw is refl
 
 -- Below, the applicants are searched for one that leads an agent that blocks.
 module _ (m : Market) (places : Places) where

@@ -31,16 +31,6 @@ pub few_pairs : (r : Registered) → IsRegistration r → (c : ℕ) → c < leng
 few_pairs r h c within =
     omega (arith, h.few_entries, get_or-le-sum_by (λ (x : Partners). length x.pairs) r.market.couples c (record { first = 0; second = 0; pairs = [] }) within)
 
--- Below, r are the rank tables of the market m.
-pub ranked_programs : (r : Ranked) (m : Market) → r ≡ ranked_of m → length r.market.programs ≡ length m.programs
-ranked_programs r m is = ap (λ (x : Ranked). length x.market.programs) is
-
-pub ranked_applicants : (r : Ranked) (m : Market) → r ≡ ranked_of m → applicants r.market ≡ applicants m
-ranked_applicants r m is = ap (λ (x : Ranked). applicants x.market) is ∙ length-map_below (live m) (applicants m)
-
-pub ranked_program : (r : Ranked) (m : Market) (p : ℕ) → r ≡ ranked_of m → program_of r.market p ≡ program_of m p
-ranked_program r m p is = ap (λ (x : Ranked). program_of x.market p) is
-
 -- where an applicant's place was read, it is there
 pub at_place : (places : Places) (a p : ℕ) (place : Option ℕ) → place ≡ place_of places a → place ≡ Some p → IsTrue (at places p a)
 at_place places a p place read is = ap (is_program p) (sym read ∙ is) ∙ eq-eqb p p refl

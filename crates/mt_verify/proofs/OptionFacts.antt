@@ -9,15 +9,11 @@ use Rattle.mt_terms.specs.declared.numbers.Agent.TheVariants.{Single, Couple}
 use Rattle.mt_verify.specs.Listed.{is_off_own_list}
 use Rattle.mt_match_laws.proofs.ListLemmas.{list_any-map}
 use Rattle.mt_verdict_laws.proofs.VerdictLemmas.{agent_cases}
+use Rattle.mt_terms.proofs.AgentFacts.{holds_single}
 
 pub and-true : (b : Bool) → (b && true) ≡ b
 and-true true = refl
 and-true false = refl
-
--- a match places a single where a placement sends it
-pub holds_single : (p : ℕ) (place : Option ℕ) → (is_same_place place (Some p) && true) ≡ is_program p place
-holds_single p None = refl
-holds_single p (Some q) = and-true (q == p)
 
 pub holds-single_placement : (places : Places) (a : ℕ) → ◌≡◌ {A = ℕ → Bool} (λ p. holds places (single_placement a p)) (λ p. is_program p (place_of places a))
 holds-single_placement places a = fun_ext λ p. holds_single p (place_of places a)

@@ -11,6 +11,7 @@ use Rattle.std.proofs.lemmas.Bool.{cases_Bool}
 use Rattle.std.proofs.lemmas.List.{take_more, length-take}
 use Rattle.mt_terms.specs.Lists.{Set, below, count}
 use Rattle.mt_terms.specs.Matching.{is_program, ranks_from}
+use Rattle.mt_terms.proofs.AgentFacts.{is_program_read}
 
 -- one place more of a list
 pub ranks_from_push : (rank : ℕ) (set : Set) (xs : List ℕ) (x : ℕ)
@@ -23,11 +24,6 @@ ranks_from_push rank set (y ∷ ys) x =
       | inl here ↦ rw here (ap (λ zs. rank ∷ zs) rest)
       | inr other ↦ rw other rest
     ]
-
--- whether a place that was read is this program
-pub is_program_read : (p : ℕ) (place : Option ℕ) → option_eq ◌==◌ place (Some p) ≡ is_program p place
-is_program_read p None = refl
-is_program_read p (Some q) = refl
 
 -- the ranks after one place more of a list, whose number was read there
 module _ (ranks : List ℕ) (set : Set) (xs : List ℕ) (i a : ℕ) (within : i < length xs) (read : a ≡ get_or xs i a) (so_far : ranks ≡ ranks_from 0 set (take i xs)) where

@@ -136,9 +136,6 @@ module _ (places : Places) (a b p : ℕ) (t : Option ℕ) (a_in : a < length pla
       ∙ ap (λ (n : ℕ). nat_lt n q.quota)
       (ap (count set) (sym (until_position q.ranking a k is_at)) ∙ same ∙ ap (count (at_moved places b t p)) (until_position q.ranking a k is_at))
 
-pub member_unranked : (m : Market) (places : Places) (a p : ℕ) → position (λ x. x == a) (program_of m p).ranking ≡ None → is_chosen m places a (Some p) ≡ false
-member_unranked m places a p none = choice_unranked (program_of m p) (at places p) a none
-
 -- both members are sent at once
 pub send_both : (places : Places) (a b : ℕ) (s t : Option ℕ) → a ≢ b → send (couple_placement b a (t, s)) places ≡ send (couple_placement a b (s, t)) places
 send_both places a b s t apart = set_comm places b a t s (λ same. apart (sym same))

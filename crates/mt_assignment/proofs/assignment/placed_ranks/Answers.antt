@@ -13,11 +13,12 @@ use Rattle.mt_sets.specs.Ranks.{HavePlaced}
 use Rattle.mt_assignment.specs.Assigned.{Assigned, assignment, IsAssigned}
 use Rattle.mt_assignment.specs.Watched.{better_entries, IsWatched, Watches}
 use Rattle.mt_assignment.proofs.EntryFacts.{first_watched, others_as_before, watched_still}
-use Rattle.mt_assignment.proofs.MarketFacts.{ranked_applicants, ranked_programs, ranked_ranking}
+use Rattle.mt_assignment.proofs.MarketFacts.{ranked_ranking}
 use Rattle.mt_assignment.proofs.RankFacts.{has_no_rank}
 use Rattle.mt_sets.proofs.PlacedFacts.{nobody_placed, placed_within, nowhere, unlisted, listed}
 use Rattle.mt_assignment.proofs.assignment.placed_ranks.Goals as goal
 use Rattle.mt_assignment.proofs.assignment.placed_ranks.Goals.{in-Some+in-Some-placed_rank+in_ok-insert, in-Some+in_default-placed_rank, in_default}
+use Rattle.mt_ranks.proofs.LiveMarket.{ranked_programs, ranked_applicants}
 
 pub loop-number-init : goal.loop-number-init
 loop-number-init c = record {

@@ -3,8 +3,9 @@ use Rattle.mt_terms.specs.Market.{applicants}
 use Rattle.mt_terms.specs.Floor.{is_settled}
 use Rattle.mt_match_laws.proofs.ListLemmas.{all_below}
 use Rattle.mt_core.specs.Floors.{floor_of}
-use Rattle.mt_core.proofs.Reaching.{reached_more, reached_legal, reached_strict, reached_made, reached_few, few_live_entries}
+use Rattle.mt_core.proofs.Reaching.{reached_more, reached_legal, reached_strict, reached_made, reached_few}
 use Rattle.mt_core.proofs.settle.finish.Goals as goal
+use Rattle.mt_ranks.proofs.LiveMarket.{few_live}
 
 pub overflow_add-proposals : goal.overflow_add-proposals
 overflow_add-proposals c =
@@ -13,7 +14,7 @@ overflow_add-proposals c =
     let g = floor_of r.market c.loop-applicant.floor in
     let h = floor_of r.market c.settle-proposals.new.floor in
     let all = reached_more r.market f g h c.loop-applicant.proposals c.settle-proposals.result c.loop-applicant.invariant.reached c.settle-proposals.ensures.reached in
-    omega (arith, reached_few r.market f h _ all c.requires.recorded, few_live_entries r c.applicants-applicant-end.ensures.ranked)
+    omega (arith, reached_few r.market f h _ all c.requires.recorded, few_live r c.applicants-applicant-end.ensures.ranked)
 
 pub loop-applicant-preserved : goal.loop-applicant-preserved
 loop-applicant-preserved c =

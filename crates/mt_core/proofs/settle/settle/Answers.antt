@@ -2,10 +2,11 @@ use Rattle.std.proofs.Common.{◌≡◌, ◌≢◌, ℕ, ◌+◌, sym, ◌∙◌
 use Rattle.mt_terms.specs.declared.events.Reply.TheVariants.{Kept, KeptInstead, Refused, NotDue}
 use Rattle.mt_core.specs.Floors.{floor_of}
 use Rattle.mt_core.specs.Ends.{IsReached}
-use Rattle.mt_core.proofs.Reaching.{reached_more, reached_recorded, reached_made, reached_at_most, reached_few, few_live_entries}
+use Rattle.mt_core.proofs.Reaching.{reached_more, reached_recorded, reached_made, reached_at_most, reached_few}
 use Rattle.mt_core.proofs.Settling.{step_reached, step_reached_none, step_kept, step_displaced, step_refused, step_not_due, named_applicant}
 use Rattle.mt_core.proofs.settle.settle.Goals as goal
 use Rattle.mt_core.proofs.settle.settle.Goals.{in-KeptInstead, in-Refused}
+use Rattle.mt_ranks.proofs.LiveMarket.{few_live}
 
 kept_differs : Kept ≢ NotDue
 kept_differs e = cc
@@ -20,13 +21,13 @@ pub overflow_add-result : goal.overflow_add-result
 overflow_add-result c =
     let r = c.args.ranks.now in
     let few = reached_few r.market (floor_of r.market c.args.floor.now) (floor_of r.market c.loop-displaced.floor) c.loop-displaced.proposals c.loop-displaced.invariant.reached c.requires.recorded in
-    omega (arith, few, few_live_entries r c.requires.ranked)
+    omega (arith, few, few_live r c.requires.ranked)
 
 pub overflow_add-proposals : goal.overflow_add-proposals
 overflow_add-proposals c =
     let r = c.args.ranks.now in
     let few = reached_few r.market (floor_of r.market c.args.floor.now) (floor_of r.market c.loop-displaced.floor) c.loop-displaced.proposals c.loop-displaced.invariant.reached c.requires.recorded in
-    omega (arith, few, few_live_entries r c.requires.ranked)
+    omega (arith, few, few_live r c.requires.ranked)
 
 pub returns-in-Kept-clause-reached : goal.returns-in-Kept-clause-reached
 returns-in-Kept-clause-reached c =

@@ -1,8 +1,9 @@
 use Rattle.std.proofs.Common.{◌≡◌, ◌++◌, ◌∷◌, [], length, sum, sym, ap, ap₂, ◌∙◌, arith}
 use Rattle.mt_terms.specs.Market.{applicants, live}
 use Rattle.mt_terms.proofs.BelowFacts.{map-below_more}
-use Rattle.mt_hall.proofs.Openings.{live_counts, sum_map_below, few_live}
+use Rattle.mt_hall.proofs.Openings.{live_counts, sum_map_below}
 use Rattle.mt_hall.proofs.opening.credits_of.Goals as goal
+use Rattle.mt_ranks.proofs.LiveMarket.{few_live}
 
 pub loop-applicant-preserved : goal.loop-applicant-preserved
 loop-applicant-preserved c =

@@ -1,9 +1,10 @@
 use Rattle.std.proofs.lemmas.Grind.{common_steps}
 use Rattle.std.proofs.Common.{arith, Vec, ap, sym, ◌∙◌, IsTrue, IsFalse}
 use Rattle.mt_terms.specs.Matching.{at, is_program}
-use Rattle.mt_verify.proofs.PlacedFacts.{is_program_read, after_member, after_other}
+use Rattle.mt_verify.proofs.PlacedFacts.{after_member, after_other}
 use Rattle.mt_verify.proofs.placed.placed_at.Goals as goal
 use Rattle.mt_verify.proofs.placed.placed_at.Goals.{then-eq+in_ok-push, else-eq}
+use Rattle.mt_terms.proofs.AgentFacts.{is_program_read}
 
 pub loop-rank-preserved : goal.loop-rank-preserved
 loop-rank-preserved c = elim c.if-eq.branch [

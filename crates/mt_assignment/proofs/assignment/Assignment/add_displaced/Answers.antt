@@ -1,16 +1,17 @@
 use Rattle.std.proofs.Common.{◌∙◌, ◌++◌, get_or, length, drop, filter, map, arith, ap, ap₂, sym}
 use Rattle.std.proofs.lemmas.Result.{on_ok_weaker}
 use Rattle.mt_terms.specs.Lists.{has}
-use Rattle.mt_terms.specs.Market.{program_of}
+use Rattle.mt_terms.specs.Market.{program_of, Program}
 use Rattle.mt_terms.specs.Matching.{at}
 use Rattle.mt_assignment.specs.Assigned.{Assigned}
 use Rattle.mt_sets.proofs.RefusedFacts.{is_refused}
-use Rattle.mt_assignment.proofs.MarketFacts.{ranked_ranking, ranked_quota}
+use Rattle.mt_assignment.proofs.MarketFacts.{ranked_ranking}
 use Rattle.mt_sets.proofs.PlaceFacts.{has-drop}
 use Rattle.mt_sets.proofs.OrderFacts.{has_at}
 use Rattle.mt_sets.proofs.RanksFacts.{ranks_are, refused_ranks}
 use Rattle.mt_assignment.proofs.TableFacts.{program_known, row_index, row_at}
 use Rattle.mt_assignment.proofs.assignment.Assignment.add_displaced.Goals as goal
+use Rattle.mt_ranks.proofs.LiveMarket.{ranked_program}
 
 pub index-row-requires : goal.index-row-requires
 index-row-requires c =
@@ -34,7 +35,7 @@ returns c =
     let m = t.roster.now.market in
     let p = c.args.program in
     let row_is = row_at t c.self.invariant p c.index.result c.index-row.result.now c.index.ensures (program_known t _ p c.self.view_is c.requires) c.index-row.ensures in
-    let quota_is = c.quota-quota.ensures ∙ ranked_quota t.ranks.now m p c.self.invariant.one_market in
+    let quota_is = c.quota-quota.ensures ∙ ap (λ (q : Program). q.quota) (ranked_program t.ranks.now m p c.self.invariant.one_market) in
     let list_is = c.by_rank.ensures ∙ ranked_ranking t.ranks.now m p c.self.invariant.one_market in
     let once = c.self.invariant.is_registration.well_formed.rankings_distinct p in
     let beyond_is = c.beyond.ensures ∙ ap₂ drop quota_is row_is in

@@ -5,10 +5,10 @@ use Rattle.mt_terms.specs.Lists.{has}
 use Rattle.mt_terms.specs.Market.{program_of}
 use Rattle.mt_terms.specs.Matching.{is_program, place_of}
 use Rattle.mt_assignment.specs.Assigned.{Assigned}
-use Rattle.mt_assignment.proofs.MarketFacts.{ranked_applicants}
 use Rattle.mt_assignment.proofs.TableFacts.{applicant_known, program_known, row_index, row_sorted, ranked_at, no_own_rank, stands_nowhere, rows_on, rows_on_unlisted, tables_after}
 use Rattle.mt_assignment.proofs.assignment.Assignment.put.Goals as goal
 use Rattle.mt_assignment.proofs.assignment.Assignment.put.Goals.{in-Some+in_ok-insert, in_default}
+use Rattle.mt_ranks.proofs.LiveMarket.{ranked_applicants}
 
 pub live_rank-requires-clause-applicant : goal.live_rank-requires-clause-applicant
 live_rank-requires-clause-applicant c =

@@ -3,10 +3,10 @@ use Rattle.std.proofs.lemmas.Bool.{false≢true}
 use Rattle.mt_terms.specs.Lists.{has}
 use Rattle.mt_terms.specs.Market.{program_of}
 use Rattle.mt_terms.specs.Matching.{is_program, place_of}
-use Rattle.mt_assignment.proofs.MarketFacts.{ranked_applicants, ranked_programs}
 use Rattle.mt_assignment.proofs.TableFacts.{applicant_known, row_index, row_sorted, ranked_at, own_rank, known_at, stands_at, rows_off, rows_off_unlisted, rows_same, tables_after}
 use Rattle.mt_assignment.proofs.assignment.Assignment.unplace.Goals as goal
 use Rattle.mt_assignment.proofs.assignment.Assignment.unplace.Goals.{in-Some+in-Some-live_rank, in-Some+in_default-live_rank, in_default}
+use Rattle.mt_ranks.proofs.LiveMarket.{ranked_programs, ranked_applicants}
 
 pub live_rank-requires-clause-program : goal.live_rank-requires-clause-program
 live_rank-requires-clause-program c =

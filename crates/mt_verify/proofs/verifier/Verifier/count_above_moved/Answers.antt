@@ -5,9 +5,9 @@ use Rattle.mt_terms.specs.Market.{program_of}
 use Rattle.mt_terms.specs.Matching.{at, is_program}
 use Rattle.mt_verify.proofs.MarketFacts.{few_ranked}
 use Rattle.mt_terms.proofs.ListFacts.{distinct-take, count-le-length}
-use Rattle.mt_verify.proofs.PlacedFacts.{is_program_read}
 use Rattle.mt_verify.proofs.TakenFacts.{count_moved, count_unmoved, one_counts, one_if, one_if-from_byte, one_if_le}
 use Rattle.mt_verify.proofs.verifier.Verifier.count_above_moved.Goals as goal
+use Rattle.mt_terms.proofs.AgentFacts.{is_program_read}
 
 pub returns-then-not-is_above : goal.returns-then-not-is_above
 returns-then-not-is_above c =

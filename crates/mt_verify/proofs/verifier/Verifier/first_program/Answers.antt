@@ -6,9 +6,10 @@ use Rattle.mt_terms.specs.Market.{list_of, program_of}
 use Rattle.mt_terms.specs.Matching.{holds, single_placement}
 use Rattle.mt_verify.proofs.BlockingFacts.{element_read, holds_program, at_own_program, at_taken_program, at_no_program, no_program_more}
 use Rattle.mt_verify.proofs.EntryFacts.{all_left, entry_taken, entry_listed, entry_within, entry_program, left_listed, left_unlisted, unlisted_not_taken}
-use Rattle.mt_verify.proofs.MarketFacts.{few_listed, ranked_applicants}
+use Rattle.mt_verify.proofs.MarketFacts.{few_listed}
 use Rattle.mt_verify.proofs.verifier.Verifier.first_program.Goals as goal
 use Rattle.mt_verify.proofs.verifier.Verifier.first_program.Goals.{then-next-live+then-eq-2+else-has_post, else-next-live, else-next-live-via-then-next-live+else-eq-2, else-next-live-via-else-next-live}
+use Rattle.mt_ranks.proofs.LiveMarket.{ranked_applicants}
 
 pub returns-then-eq : goal.returns-then-eq
 returns-then-eq c =

@@ -2,8 +2,8 @@ use Rattle.std.proofs.Common.{◌==◌, ap, ◌∙◌, arith}
 use Rattle.std.specs.List.{position}
 use Rattle.mt_terms.specs.Lists.{has}
 use Rattle.mt_terms.specs.Market.{Program}
-use Rattle.mt_verify.proofs.MarketFacts.{ranked_programs, ranked_applicants, ranked_program}
 use Rattle.mt_verify.proofs.verifier.Verifier.rank.Goals as goal
+use Rattle.mt_ranks.proofs.LiveMarket.{ranked_programs, ranked_applicants, ranked_program}
 
 pub rank-requires-clause-program : goal.rank-requires-clause-program
 rank-requires-clause-program c =
