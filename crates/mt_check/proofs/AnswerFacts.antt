@@ -13,7 +13,6 @@ use Rattle.mt_check.specs.Answer.{Answer, AreLeft, IsAnswer, OfLeft, fault_answe
 use Rattle.mt_check.specs.Ends.{IsRefused}
 use Rattle.mt_check.specs.Findings.{finding_of}
 use Rattle.mt_check.specs.Refusals.{IsRefusalOf, LeftIs}
-use Rattle.mt_check.specs.declared.finding.Finding.{Finding}
 use Rattle.mt_terms.specs.declared.refusal.Refusal.{Refusal}
 use Rattle.mt_check.specs.Headline.{IsJudged, IsNamedRefusal, IsRefusal, by_records, market_in, most_bytes, of_bytes, told_in}
 use Rattle.mt_check.specs.Laws.{AnswersAreSo}
@@ -108,14 +107,6 @@ judged_left market told code text small h = record {
 pub some_left : (left : Option (List ℕ)) → (bytes : List ℕ) × AreLeft left bytes
 some_left None = ([], tt)
 some_left (Some bytes) = (bytes, refl)
-
--- what is found in a match that is told of a market is the answer to the bytes of both
-pub judged_answer : (left : Option (List ℕ)) (r : Registered) (told : Told) (a : Answer) → LeftIs left (told_in r) (Ok told) → a ≡ finding_answer r (finding_of r.market told)
-    → LeftIs left (λ bytes. told_answer r (told_in r bytes)) a
-judged_answer left r told a h is = record { bytes = h.bytes; are_left = h.are_left; it_is = ap (told_answer r) h.it_is ∙ sym is }
-
-pub answer_small : (r : Registered) (f : Finding) (a : Answer) → a ≡ finding_answer r f → a.code ≤ 1
-answer_small r f a is = subst (λ n. n ≤ 1) (sym (ap (λ (b : Answer). b.code) is)) (code_small f)
 
 module _ (market told : Option (List ℕ)) where
   pub found_left : (r : Registered) (a : Answer) → LeftIs market market_in (Ok r) → LeftIs told (λ bytes. told_answer r (told_in r bytes)) a → OfLeft IsAnswer market told a.code a.text
