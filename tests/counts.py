@@ -20,7 +20,7 @@ CHECKS = {
     "memory": 448,
     "memory --calls": 15,
     "memory --check": 114,
-    "must_fail": 68,
+    "must_fail": 72,
     "pages": 267,
     "threads": 28,
     "words": 267,
