@@ -1,6 +1,5 @@
 -- A desk that is written into a floor, entry by entry.
-use Rattle.std.proofs.Common.{◌≡◌, ◌≢◌, ◌==◌, ◌||◌, ℕ, suc, ◌+◌, ◌<◌, ◌≤◌, Bool, true, false, Some, IsTrue, if◌then◌else◌, slice_get, take, length, set, get_or, refl, sym, ap, ◌∙◌, subst, inl, inr, arith, eq-eqb, ne_eqb, get_or-set_same, get_or-set_other, length-set, add-one}
-use Rattle.std.proofs.lemmas.Bool.{cases_eq}
+use Rattle.std.proofs.Common.{◌≡◌, ◌≢◌, ◌==◌, ◌||◌, ℕ, suc, ◌+◌, ◌<◌, ◌≤◌, Bool, true, false, Some, IsTrue, if◌then◌else◌, slice_get, take, length, set, get_or, refl, ap, ◌∙◌, arith, eq-eqb, ne_eqb, get_or-set_same, get_or-set_other, add-one}
 use Rattle.std.proofs.lemmas.Bool.Decides.{nat_tests}
 use Rattle.mt_terms.specs.Lists.{has, with_one}
 use Rattle.mt_terms.specs.Market.{Market, applicants, live}

@@ -1,12 +1,10 @@
 -- Floors that events lead to.
-use Rattle.std.proofs.Common.{◌≡◌, ℕ, ◌+◌, ◌^◌, ◌<◌, ◌≤◌, List, [], ◌∷◌, ◌++◌, length, take, get_or, if◌then◌else◌, refl, sym, ap, ◌∙◌, arith, subst}
+use Rattle.std.proofs.Common.{◌≡◌, ℕ, ◌+◌, ◌<◌, ◌≤◌, List, [], ◌∷◌, ◌++◌, length, take, get_or, if◌then◌else◌, refl, sym, ap, ◌∙◌, arith, subst}
 use Rattle.std.proofs.lemmas.List.{take_more}
-use Rattle.mt_terms.specs.Lists.{total_below}
-use Rattle.mt_terms.specs.Market.{Market, applicants, live, live_entries, list_of}
+use Rattle.mt_terms.specs.Market.{Market, live_entries}
 use Rattle.mt_terms.specs.Floor.{Floor, IsRecorded, IsLegal, IsStrict, is_due, after, after_all, due_count, proposals_made}
 use Rattle.mt_floor_laws.specs.Floors.{due_proposals}
 use Rattle.mt_terms.specs.declared.events.Event.{Event}
-use Rattle.mt_terms.proofs.Totals.{total_below-same}
 use Rattle.mt_floor_laws.proofs.FloorEvents.{events_keep_recorded_lem, events_keep_legal_lem, events_keep_strict_lem}
 use Rattle.mt_floor_laws.proofs.FloorRuns.{due_proposals_are_made_lem, made_at_most_lem}
 use Rattle.mt_ranks.specs.Ranked.{Ranked, IsRanked}

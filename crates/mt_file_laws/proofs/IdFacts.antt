@@ -1,15 +1,13 @@
 -- Lists of ids, and the numbers of ids on them.
-use Rattle.std.proofs.Common.{◌≡◌, ◌≢◌, suc, ◌<◌, ◌≤◌, Bool, true, false, not, ◌&&◌, ◌||◌, List, [], ◌∷◌, ◌++◌, map, length, refl, arith, sym, cond, nat_lt, ℕ, ◌+◌, get_or}
+use Rattle.std.proofs.Common.{◌≡◌, suc, ◌<◌, ◌≤◌, Bool, true, false, ◌||◌, List, [], ◌∷◌, map, length, refl, arith, sym, cond, nat_lt, ℕ, ◌+◌, get_or}
 use Rattle.std.specs.Prelude.{filter, bytes_eq, ◌==◌}
 use Rattle.std.specs.List.{list_all}
 use Rattle.std.proofs.lemmas.Bool.Decides.{nat_tests}
 use Rattle.std.proofs.lemmas.Slice.Eq.{bytes_eq-Decides}
-use Rattle.std.proofs.lemmas.List.Folds.{list_any-append}
 use Rattle.mt_terms.specs.Lists.{has, is_distinct}
 use Rattle.mt_terms.specs.Registration.Ids.{Bytes, has_id, number_of, numbers_of, all_differ}
-use Rattle.mt_terms.proofs.IdFacts.{number_below, same_id, same_number}
+use Rattle.mt_terms.proofs.IdFacts.{number_below, same_number}
 use Rattle.std.proofs.lemmas.Bool.{false_from_ne_true}
-
 -- Crates above cite these lemmas by these names.
 pub use Rattle.mt_terms.proofs.IdFacts.{differ_parts, differ_push}
 pub use Rattle.std.proofs.lemmas.Bool.{or_left, or_right, false_from_ne_true as not_true, or_parts as neither}

@@ -15,7 +15,6 @@ use Rattle.mt_terms.specs.Registration.Accepted.{is_none_or_below, is_pair_below
 use Rattle.std.specs.Option.{option_eq, option_map}
 use Rattle.mt_file_laws.proofs.IdFacts.{Within, within_nil, within_cons, within_more}
 use Rattle.mt_terms.proofs.IdFacts.{number_below, same_number, is_same}
-
 -- Crates above cite this lemma by this name.
 pub use Rattle.std.proofs.lemmas.Bool.{and_from as both}
 

@@ -1,6 +1,6 @@
 -- How a stable match of the singles compares with the best one.
 use Rattle.std.proofs.Common.{◌≡◌, ℕ, ◌<◌, ◌≤◌, ◌==◌, IsTrue, IsFalse, [], length, Option, Some, None, is_some, refl, sym, ◌∙◌, ap, arith, inl, inr}
-use Rattle.std.proofs.lemmas.Bool.{cases_lt, both_ways, or_left, true_from_ne_false, eqb-true, eq-eqb, false≢true}
+use Rattle.std.proofs.lemmas.Bool.{cases_lt, both_ways, or_left, true_from_ne_false, eq-eqb, false≢true}
 use Rattle.std.proofs.lemmas.List.{get_or_past}
 use Rattle.mt_terms.specs.Lists.{has, count, until, above, with_one, total_below, count_below}
 use Rattle.mt_terms.specs.Market.{Market, Program, applicants, program_of, list_of, singles_market}

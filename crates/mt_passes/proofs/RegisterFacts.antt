@@ -1,5 +1,5 @@
 -- Registers with one record more.
-use Rattle.std.proofs.Common.{subst, ◌≡◌, ◌+◌, Bool, true, false, ◌||◌, ◌||◌, List, [], ◌∷◌, ◌++◌, map, refl, ap, sym, ◌∙◌, Some, None, cond}
+use Rattle.std.proofs.Common.{subst, ◌≡◌, ◌+◌, Bool, true, false, ◌||◌, ◌||◌, List, [], ◌∷◌, ◌++◌, map, refl, ap, sym, ◌∙◌, None}
 use Rattle.std.specs.Prelude.{option_to_list, bytes_eq}
 use Rattle.std.proofs.lemmas.List.{map-append}
 use Rattle.mt_file_laws.proofs.GrowthFacts.{ids_of-more, applicant_ids-more, withdrawn-more, entry_count-more}
