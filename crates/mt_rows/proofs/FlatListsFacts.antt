@@ -28,6 +28,12 @@ pub pieces-begin : {X : Type 0} (from : ℕ) (ends : List ℕ) (xs : List X) →
 pieces-begin from [] xs h = ap (λ p. p ∷ []) (empty_range xs from (length xs) h)
 pieces-begin from (e ∷ es) xs h = ap (λ ps. slice_range xs from e ∷ ps) (pieces-begin e es xs h.1)
 
+pub start_before_end : (from : ℕ) (ends : List ℕ) (n k : ℕ) → AreEnds from ends n → k < length ends → (start_of from ends k ≤ get_or ends k 0) × (get_or ends k 0 ≤ n)
+start_before_end from [] n k h i = absurd (omega arith)
+start_before_end from (e ∷ es) n zero h i = (h.0, ends_within e es n h.1)
+start_before_end from (e ∷ es) n (suc zero) h i = start_before_end e es n zero h.1 (omega arith)
+start_before_end from (e ∷ es) n (suc (suc k)) h i = start_before_end e es n (suc k) h.1 (omega arith)
+
 pub piece_at : {X : Type 0} (from : ℕ) (ends : List ℕ) (xs : List X) (k : ℕ) → k < length ends → get_or (pieces from ends xs) k [] ≡ slice_range xs (start_of from ends k) (get_or ends k 0)
 piece_at from [] xs k i = absurd (omega arith)
 piece_at from (e ∷ es) xs zero i = refl
