@@ -6,7 +6,7 @@ use Rattle.std.proofs.Math.Bool.{and-true, or-false}
 use Rattle.std.proofs.lemmas.Bool.{cases_Bool, both_ways, and_parts, and_right, eqb-true}
 use Rattle.mt_terms.specs.Lists.{has, until, count, above}
 use Rattle.mt_terms.specs.Market.{applicants, couple_of, list_of, live, live_market, program_of}
-use Rattle.mt_terms.specs.Matching.{place_of, is_program, is_same_place, at, better, holds, send, single_placement}
+use Rattle.mt_terms.specs.Matching.{place_of, is_program, at, better, holds, send, single_placement}
 use Rattle.mt_terms.specs.Stability.{would_be_taken}
 use Rattle.mt_terms.specs.declared.numbers.Agent.TheVariants.{Single, Couple}
 use Rattle.mt_terms.proofs.BelowFacts.{map_below_at}

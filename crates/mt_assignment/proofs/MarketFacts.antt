@@ -1,8 +1,6 @@
 -- What rank tables say of the market that they are of, and who is on its lists.
-use Rattle.std.proofs.Common.{◌≡◌, ℕ, ◌<◌, List, [], length, get_or, IsTrue, ap, ◌∙◌}
-use Rattle.mt_terms.proofs.BelowFacts.{length-map_below}
-use Rattle.mt_terms.specs.Lists.{has}
-use Rattle.mt_terms.specs.Market.{Market, applicants, program_of, live, agent_of}
+use Rattle.std.proofs.Common.{◌≡◌, ℕ, ◌<◌, [], ap}
+use Rattle.mt_terms.specs.Market.{Market, applicants, program_of, agent_of}
 use Rattle.mt_terms.specs.declared.numbers.Agent.{Agent}
 use Rattle.mt_terms.specs.declared.numbers.Agent.TheVariants.{Single, Couple}
 use Rattle.mt_round_laws.proofs.RoundsAgents.{IsAgent, agent_of_applicant, couple_number}
@@ -10,7 +8,6 @@ use Rattle.mt_round_laws.proofs.RoundsSets.{has_head}
 use Rattle.mt_terms.specs.WellFormed.{IsWellFormed}
 use Rattle.mt_ranks.specs.Ranked.{Ranked, ranked_of}
 use Rattle.mt_assignment.specs.Assigned.{IsAgentOf}
-use Rattle.mt_sets.proofs.PlaceFacts.{has_read}
 pub use Rattle.mt_ranks.proofs.ListedFacts.{item_within as read_within}
 
 -- Below, r are the rank tables of the market m.

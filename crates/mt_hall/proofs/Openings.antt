@@ -1,14 +1,12 @@
 -- What is opened keeps what it is to keep.
-use Rattle.std.proofs.Common.{◌≡◌, ℕ, zero, suc, ◌+◌, ◌<◌, ◌^◌, false, List, [], ◌∷◌, ◌++◌, map, length, sum, replicate, take, IsTrue, refl, sym, ap, ◌∙◌, arith, add-one}
+use Rattle.std.proofs.Common.{◌≡◌, ℕ, zero, suc, ◌+◌, false, List, [], ◌∷◌, ◌++◌, map, length, sum, replicate, take, IsTrue, refl, sym, ap, ◌∙◌, arith, add-one}
 use Rattle.std.specs.List.{range_with_len}
 use Rattle.std.proofs.lemmas.Bool.{false≢true}
 use Rattle.std.proofs.lemmas.List.{length-replicate}
 use Rattle.std.proofs.lemmas.List.Sums.{sum_by_push}
 use Rattle.mt_terms.specs.Lists.{below, has, total_below}
-use Rattle.mt_terms.specs.Market.{Market, applicants, list_of, live, live_entries}
+use Rattle.mt_terms.specs.Market.{Market, applicants, live}
 use Rattle.mt_terms.proofs.BelowFacts.{map-below_more}
-use Rattle.mt_terms.proofs.Totals.{total_below-same}
-use Rattle.mt_ranks.specs.Ranked.{Ranked, IsRanked}
 use Rattle.mt_hall.specs.Parts.{IsDesk, IsPass}
 use Rattle.mt_hall.specs.Openings.{unused_pass}
 

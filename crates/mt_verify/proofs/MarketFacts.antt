@@ -7,7 +7,7 @@ use Rattle.std.specs.Global.{Global}
 use Rattle.std.specs.Prelude.{Vec}
 use Rattle.mt_terms.specs.Registration.Accepted.{IsRegistration}
 use Rattle.mt_terms.specs.Lists.{has, below, count_below}
-use Rattle.mt_terms.specs.Market.{Market, Program, Partners, Registered, applicants, program_of, list_of, couple_of, live}
+use Rattle.mt_terms.specs.Market.{Market, Program, Partners, Registered, applicants, program_of, list_of, couple_of}
 use Rattle.mt_terms.specs.Matching.{Places, place_of, at, filled, is_program, placed_ranks}
 use Rattle.mt_terms.proofs.BelowFacts.{length-map_below, map_below_at}
 use Rattle.mt_match_laws.proofs.Seats.{filled_by_applicant, listed_count}
@@ -17,7 +17,6 @@ use Rattle.mt_terms.specs.Verdict.{is_unlisted}
 use Rattle.mt_terms.specs.WellFormed.{IsWellFormed}
 use Rattle.mt_terms.proofs.Totals.{count_below-same}
 use Rattle.mt_verdict_laws.proofs.VerdictLemmas.{allowed_parts}
-use Rattle.mt_ranks.specs.Ranked.{Ranked, ranked_of}
 use Rattle.mt_verify.proofs.PlacedFacts.{length-ranks_from}
 
 -- Below, the market is that of an accepted file. Its lists are no longer than all of them together.

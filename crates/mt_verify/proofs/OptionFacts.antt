@@ -1,5 +1,5 @@
 -- Options of singles and of couples, in the terms of their lists.
-use Rattle.std.proofs.Common.{◌≡◌, ℕ, Bool, true, false, not, ◌&&◌, ◌||◌, ◌==◌, is_some, Option, Some, None, ◌<◌, min, length, refl, ap, sym, ◌∙◌, eq-eqb, inl, inr, arith}
+use Rattle.std.proofs.Common.{◌≡◌, ℕ, Bool, true, false, not, ◌&&◌, ◌||◌, is_some, ◌<◌, min, length, refl, ap, sym, ◌∙◌, eq-eqb, inl, inr, arith}
 use Rattle.std.specs.List.{list_any}
 use mathlib.Core.Path.{fun_ext}
 use Rattle.mt_terms.specs.Market.{Market, Pair, list_of, couple_of, agent_of}

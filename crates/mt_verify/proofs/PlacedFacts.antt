@@ -1,8 +1,7 @@
 -- Where the members of a set stand on a list: how many there are, and how many stand above another one.
-use Rattle.std.proofs.Common.{◌≡◌, ℕ, zero, suc, ◌+◌, ◌<◌, ◌≤◌, Bool, ◌==◌, List, [], ◌∷◌, ◌++◌, length, get_or, take, append-nil, Option, Some, None, IsTrue, IsFalse, refl, ap, sym, subst, ◌-◌, ◌∙◌, inl, inr, arith, if◌then◌else◌}
+use Rattle.std.proofs.Common.{◌≡◌, ℕ, zero, suc, ◌+◌, ◌<◌, ◌≤◌, Bool, List, [], ◌∷◌, ◌++◌, length, get_or, take, append-nil, IsTrue, IsFalse, refl, ap, sym, subst, ◌-◌, ◌∙◌, inl, inr, arith, if◌then◌else◌}
 use Rattle.std.specs.Global.{Global}
 use Rattle.std.specs.List.{AllZip, Contains, range_with_len}
-use Rattle.std.specs.Option.{option_eq}
 use Rattle.std.specs.Prelude.{Result, Ok, Err, IfOk, MatchResult, Vec, map}
 use Rattle.std.specs.declared.alloc.AllocError.{AllocError}
 use Rattle.rayon.specs.Numbers.{nat_range}
@@ -10,8 +9,7 @@ use Rattle.std.specs.List.Sorted.{IsNonDecreasing}
 use Rattle.std.proofs.lemmas.Bool.{cases_Bool}
 use Rattle.std.proofs.lemmas.List.{take_more, length-take}
 use Rattle.mt_terms.specs.Lists.{Set, below, count}
-use Rattle.mt_terms.specs.Matching.{is_program, ranks_from}
-use Rattle.mt_terms.proofs.AgentFacts.{is_program_read}
+use Rattle.mt_terms.specs.Matching.{ranks_from}
 
 -- one place more of a list
 pub ranks_from_push : (rank : ℕ) (set : Set) (xs : List ℕ) (x : ℕ)
