@@ -1,14 +1,12 @@
 -- The market of a file's records, by the passes over them.
-use Rattle.std.proofs.Common.{◌≡◌, ℕ, ◌+◌, Bool, true, false, ◌&&◌, List, [], ◌∷◌, length, refl, ap, ◌∙◌, arith, subst, Some, None, Ok, Err, if◌then◌else◌}
+use Rattle.std.proofs.Common.{◌≡◌, ℕ, ◌+◌, Bool, true, false, ◌&&◌, List, [], ◌∷◌, length, refl, ap, ◌∙◌, arith, subst, Some, None, Ok, if◌then◌else◌}
 use Rattle.std.specs.Prelude.{bytes_eq, codes}
 use Rattle.std.specs.Result.{result_ok}
 use Rattle.mt_terms.specs.Registration.{market_of_numbered, market_under}
 use Rattle.mt_terms.specs.Registration.Ids.{Bytes}
-use Rattle.mt_terms.specs.Registration.Faults as faults
 use Rattle.mt_terms.specs.Registration.Records.{Rules, rules_of, version_1, version_2}
 use Rattle.mt_terms.specs.Registration.Passes.{numbered_from, contents}
 use Rattle.mt_terms.specs.Market.{Registered}
-use Rattle.mt_terms.specs.declared.codes.TheConstants.{NO_VERSION}
 use Rattle.mt_file_laws.specs.Faultless.{faultless_market}
 use Rattle.mt_file_laws.proofs.FaultlessFacts.{accepts, passes_agree}
 use Rattle.mt_records.specs.Limits.{AreBounded}
