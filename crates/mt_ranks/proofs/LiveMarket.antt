@@ -4,7 +4,7 @@ use Rattle.std.specs.Option.{is_some}
 use Rattle.std.specs.List.{position}
 use Rattle.std.proofs.lemmas.Bool.{cases_Bool, eqb-true, cases_lt, or_cases, true≢false}
 use Rattle.std.proofs.lemmas.List.FromFn.{get_or-map-range_with_len, length-map-range_with_len}
-use Rattle.mt_terms.specs.Lists.{has, below, total_below}
+use Rattle.mt_terms.specs.Lists.{has, below}
 use Rattle.mt_terms.specs.Market.{Market, Partners, applicants, program_of, list_of, couple_of, live, live_market, is_member, agent_from, live_entries}
 use Rattle.mt_terms.specs.WellFormed.{IsWellFormed}
 use Rattle.mt_ranks.specs.Ranked.{IsRanked, IsEntry, IsRank, is_single, is_single_agent, ranked_of, ranked_entry, all_entries, Ranked}

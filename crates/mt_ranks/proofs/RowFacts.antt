@@ -2,7 +2,7 @@
 use Rattle.std.proofs.Common.{◌≡◌, ℕ, zero, suc, ◌+◌, ◌-◌, ◌<◌, ◌≤◌, List, [], ◌∷◌, ◌++◌, length, get_or, set, take, drop, sum, replicate, refl, sym, ap, ◌∙◌, arith}
 use Rattle.std.specs.Prelude.{slice_range}
 use Rattle.std.proofs.lemmas.Grind.{common_steps}
-use Rattle.std.proofs.lemmas.List.{drop-set-lt, take-set-le, take_more_set, drop-append-le, length-take-le, length-set, get_or_read}
+use Rattle.std.proofs.lemmas.List.{drop-set-lt, take-set-le, length-set, get_or_read}
 use Rattle.std.proofs.lemmas.Slice.{between_is}
 use Rattle.std.proofs.lemmas.List.Sums.{sum_by-cons}
 use Rattle.mt_ranks.specs.Rows.{parts, next_start, sizes_between, ArePartsOf, starts_from, Filling, empty_rows, HasRoom, with_entry}
