@@ -1,12 +1,12 @@
 -- How many places of a front of a match are a program.
-use Rattle.std.proofs.Common.{◌≡◌, ℕ, ◌+◌, ◌<◌, ◌≤◌, Bool, false, List, [], ◌∷◌, ◌++◌, Option, Some, None, map, length, get_or, set, take, refl, ap, sym, ◌∙◌, inl, inr, arith, add-one, length-take}
+use Rattle.std.proofs.Common.{◌≡◌, ℕ, ◌+◌, ◌<◌, ◌≤◌, Bool, false, List, [], ◌∷◌, ◌++◌, Option, Some, None, map, length, get_or, set, take, refl, ap, sym, ◌∙◌, inl, inr, arith, length-take}
 use Rattle.std.specs.Prelude.{if◌then◌else◌, IsTrue, is_some, not}
 use Rattle.std.proofs.lemmas.Bool.Decides.{nat_tests}
 use Rattle.std.proofs.lemmas.Bool.{cases_eq}
 use Rattle.std.proofs.lemmas.List.{take_more, get_or_read_under, get_or-set_same, get_or-set_other, ext_get_or}
 use Rattle.mt_terms.proofs.BelowFacts.{length-map_below, map_below_at}
 use Rattle.mt_terms.proofs.ListFacts.{count-le-length}
-use Rattle.mt_terms.specs.Lists.{below, count, total_below}
+use Rattle.mt_terms.specs.Lists.{below, count}
 use Rattle.mt_terms.specs.Matching.{filled, is_program, Places}
 use Rattle.mt_terms.specs.Text.{unmatched}
 
