@@ -15,7 +15,7 @@ CHECKS = {
     "cli PROGRAM": 8385,
     "cli": 8388,
     "controls": 32,
-    "edits_apply": 593,
+    "edits_apply": 597,
     "linear": 45,
     "memory": 448,
     "memory --calls": 15,
