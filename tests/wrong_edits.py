@@ -9,7 +9,7 @@ TOP = os.path.dirname(os.path.dirname(os.path.realpath(__file__)))
 LINE = re.compile(r"(file|old|test): (.*)|(new):(?: (.*))?")
 FUNCTION = re.compile(r"\s*(?:pub(?:\([a-z]+\))? )?(?:const )?fn (\w+)")
 # What a proof file says where the edit took away what it names.
-GONE = re.compile(r"(\./)?proofs/.*(has no field|is not in scope|has no `|was not admitted|: (record|module) `[^`]*`($| \(nearest))")
+GONE = re.compile(r"(\./)?proofs/.*(has no field|is not in scope|has no `|was not admitted|declarations? that depends? on |: (record|module) `[^`]*`($| \(nearest))")
 
 
 class BadEdit(Exception):
