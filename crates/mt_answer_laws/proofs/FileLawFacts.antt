@@ -37,12 +37,12 @@ use Rattle.mt_numbering.specs.Drafts.{with_fields}
 use Rattle.mt_answer_laws.proofs.ToldBack.{own_number, published_counts}
 
 -- what is published for a file: its market is registered, and without couples the match is the best one
-record IsAccepted (rows : List (List Bytes)) (r : Registered) (places : Places) : Type 0 where
-  is_market : market_of rows ≡ Ok r
-  registration : IsRegistration r
-  is_best : r.market.couples ≡ [] → IsBest r.market places
+pub record IsAccepted (rows : List (List Bytes)) (r : Registered) (places : Places) : Type 0 where
+  pub is_market : market_of rows ≡ Ok r
+  pub registration : IsRegistration r
+  pub is_best : r.market.couples ≡ [] → IsBest r.market places
 
-accepted : (bytes : List ℕ) (r : Registered) (places : Places) (rows : List (List Bytes)) → records_of bytes ≡ Some rows → Publishes bytes r places → IsAccepted rows r places
+pub accepted : (bytes : List ℕ) (r : Registered) (places : Places) (rows : List (List Bytes)) → records_of bytes ≡ Some rows → Publishes bytes r places → IsAccepted rows r places
 accepted bytes r places rows are h =
     let p = published_of bytes h.budget h.text h.is_answer in
     let market : market_in bytes ≡ Ok p.registered = of_market bytes h.text p in

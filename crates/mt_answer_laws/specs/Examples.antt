@@ -4,6 +4,7 @@ use Rattle.mt_terms.specs.Examples.Markets.{chain}
 use Rattle.mt_terms.specs.Examples.RegistrationText.{named}
 use Rattle.mt_terms.specs.Market.{Market, Registered}
 use Rattle.mt_applicant_laws.specs.Changes.{with_list, with_quota}
+use Rattle.mt_run.specs.Answer as run
 use Rattle.mt_check.specs.Answer.{answer_to}
 use Rattle.mt_check.specs.Text.{check_line, stable_line}
 use Rattle.mt_answer_laws.specs.TwoFiles.{DifferInList, DifferInQuota, Publishes}
@@ -36,6 +37,7 @@ other_count_text =
 pub record AnswersOfCrossed : Type 0 where
   pub published : answer_to crossed_bytes applicants_text ≡ record { code = 0; text = stable_line }
   pub other_stable : answer_to crossed_bytes programs_text ≡ record { code = 0; text = stable_line }
+  pub never_published : (budget : ℕ) → ¬ run.IsAnswer crossed_bytes budget 0 programs_text
   pub other_count : answer_to crossed_bytes other_count_text ≡ record { code = 1; text = check_line (codes "differs" ∷ decimal 5 ∷ []) }
 
 -- The rejection chain as a file, and this file with one record changed: the first applicant lists its first wish alone, the
