@@ -17,16 +17,16 @@ would_be_best : (budget : ℕ) → IsAnswer crossed_bytes budget 0 programs_text
 unfolding records_on_literals
 would_be_best budget h =
     let publishes : Publishes crossed_bytes crossed_file (Some 1 ∷ Some 0 ∷ []) =
-        record {
-          budget = budget;
-          text = programs_text;
-          is_answer = h;
-          of_bytes = refl;
-          counts =
-              record { row = 4; count = count.Program 0 1 1 } ∷ record { row = 5; count = count.Program 1 1 1 }
-              ∷ record { row = 6; count = count.Totals 2 0 2 0 } ∷ [];
-          of_text = refl;
-        } in
+    record {
+      budget = budget;
+      text = programs_text;
+      is_answer = h;
+      of_bytes = refl;
+      counts =
+          record { row = 4; count = count.Program 0 1 1 } ∷ record { row = 5; count = count.Program 1 1 1 }
+          ∷ record { row = 6; count = count.Totals 2 0 2 0 } ∷ [];
+      of_text = refl;
+    } in
     let rows : List (List (List ℕ)) = file_1 ("program,P1,1,a2,a1" ∷ "program,P2,1,a1,a2" ∷ "applicant,a1,P1,P2" ∷ "applicant,a2,P2,P1" ∷ []) in
     (accepted crossed_bytes crossed_file (Some 1 ∷ Some 0 ∷ []) rows refl publishes).is_best refl
 
