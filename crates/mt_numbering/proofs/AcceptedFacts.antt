@@ -9,7 +9,7 @@ use Rattle.mt_terms.specs.Registration.Accepted.{IsRegistration}
 use Rattle.mt_file_laws.specs.Faultless.{ids_differ, is_faultless, faultless_market}
 use Rattle.mt_numbering.specs.declared.drafts.Drafts.{Drafts}
 use Rattle.mt_numbering.specs.declared.names.NameLists.{NameLists}
-use Rattle.mt_numbering.specs.declared.registered.Registered.{Registered}
+use Rattle.mt_records.specs.declared.kinds.Kinds.{Kinds}
 use Rattle.mt_numbering.specs.Drafts.{drafted, with_fields, AreDraftsOf, HaveFault}
 use Rattle.mt_numbering.specs.Entries.{AreNames}
 use Rattle.mt_numbering.specs.Markets.{AcceptsRegistrations, AreIdsOfRecords, IsMarketOf}
@@ -20,21 +20,20 @@ module _ (rs : List Record) (names : NameLists) (are : AreNames rs names) where
   names_are : names_differ names ≡ ids_differ rs
   names_are = rw (are.programs, are.applicants, are.couples) refl
 
-  pub ids_found : (o : Option Registered) (ids : Registered) → MatchOption o (names_differ names ≡ false) (AreIdsOf names) → o ≡ Some ids → AreIdsOfRecords rs ids
+  pub ids_found : (o : Option Kinds) (ids : Kinds) → MatchOption o (names_differ names ≡ false) (AreIdsOf names) → o ≡ Some ids → AreIdsOfRecords rs ids
   ids_found o ids h is =
-      let of : AreIdsOf names ids = subst (λ (x : Option Registered). MatchOption x (names_differ names ≡ false) (AreIdsOf names)) is h in
+      let of : AreIdsOf names ids = subst (λ (x : Option Kinds). MatchOption x (names_differ names ≡ false) (AreIdsOf names)) is h in
       record {
         programs = of.programs ∙ are.programs;
         applicants = of.applicants ∙ are.applicants;
         couples = of.couples ∙ are.couples;
-        singles = of.singles ∙ are.singles;
         differ = sym names_are ∙ of.differ;
       }
 
   -- one of which is registered twice
-  pub ids_missing : (rules : Rules) (o : Option Registered) → MatchOption o (names_differ names ≡ false) (AreIdsOf names) → o ≡ None → is_faultless rules rs ≡ false
+  pub ids_missing : (rules : Rules) (o : Option Kinds) → MatchOption o (names_differ names ≡ false) (AreIdsOf names) → o ≡ None → is_faultless rules rs ≡ false
   ids_missing rules o h is =
-      let twice : names_differ names ≡ false = subst (λ (x : Option Registered). MatchOption x (names_differ names ≡ false) (AreIdsOf names)) is h in
+      let twice : names_differ names ≡ false = subst (λ (x : Option Kinds). MatchOption x (names_differ names ≡ false) (AreIdsOf names)) is h in
       let same : ids_differ rs ≡ false = sym names_are ∙ twice in
       rw same refl
 

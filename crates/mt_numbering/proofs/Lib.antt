@@ -1,7 +1,7 @@
 pub mod NeighbourFacts
 pub mod NameFacts
 pub mod DraftFacts
-pub mod NumberingSteps
+pub mod FilterFacts
 pub mod EntryFacts
 pub mod PairSteps
 pub mod NumberingTables

@@ -1,38 +1,36 @@
 -- The steps from records to their market: what is registered, what stands among those that stay and those that leave,
 -- and the lists of those that stay by their own numbers.
-use Rattle.std.proofs.Common.{◌≡◌, ℕ, suc, ◌+◌, ◌<◌, ◌≤◌, ◌^◌, Bool, true, false, not, ◌&&◌, ◌||◌, nat_lt, nat_le, List, [], ◌∷◌, map, length, get_or, Option, Some, None, refl, ap, ap₂, sym, subst, ◌∙◌, arith, cond, if◌then◌else◌}
-use Rattle.std.specs.Prelude.{filter, filter_map, flat_map, bytes_eq, is_some, unwrap_or, MatchOption}
-use Rattle.std.specs.List.{list_all}
+use Rattle.std.proofs.Common.{◌≡◌, ℕ, suc, ◌+◌, ◌<◌, ◌≤◌, ◌^◌, Bool, true, false, not, ◌&&◌, ◌||◌, nat_lt, nat_le, List, [], ◌∷◌, length, get_or, Option, Some, None, refl, ap, ap₂, sym, subst, ◌∙◌, arith, cond, if◌then◌else◌}
+use Rattle.std.specs.Prelude.{filter, filter_map, flat_map, bytes_eq, MatchOption}
+use Rattle.std.specs.List.{list_all, cons_option}
 use Rattle.std.proofs.lemmas.Bool.{and_parts}
 use Rattle.std.proofs.lemmas.Bool.Decides.{nat_tests}
 use Rattle.std.proofs.lemmas.List.{length-map}
-use Rattle.std.proofs.lemmas.List.Filters.{sum_by-filter_both}
-use Rattle.std.proofs.lemmas.List.Sums.{length-filter, count_by-le-length}
+use Rattle.std.proofs.lemmas.List.Sums.{sum_by-cons, length-filter, count_by-le-length}
 use Rattle.mt_terms.specs.declared.limits.Limits.{Limits}
 use Rattle.mt_terms.specs.Market.{Pair}
-use Rattle.mt_terms.specs.Registration.Ids.{Bytes, has_id, number_of, all_differ}
+use Rattle.mt_terms.specs.Registration.Ids.{Bytes, has_id, number_of, numbers_of, all_differ}
 use Rattle.mt_terms.specs.Registration.Records.{Rules, Record, ProgramRecord, ApplicantRecord, CoupleRecord, WithdrawRecord, Kind, OfProgram, OfApplicant, OfCouple}
+use Rattle.mt_terms.specs.Registration.Numbering.{pairs_by_number}
 use Rattle.mt_terms.specs.Registration.Rows.{ids_of, applicant_ids, withdrawn, remaining, entries_of, entry_count}
 use Rattle.mt_file_laws.specs.Faultless.{ids_differ, withdrawals_stand, ranking_stands, list_stands, pair_stands, pairs_stand, is_faultless}
 use Rattle.mt_file_laws.specs.Staying.{stays_without, flagged, new_numbers, program_flags, applicant_flags}
-use Rattle.mt_file_laws.proofs.IdFacts.{not_true, differ_parts, neither, itself, or_left, or_right}
+use Rattle.mt_file_laws.proofs.IdFacts.{differ_parts, neither, itself, or_left, or_right}
 use Rattle.mt_terms.proofs.IdFacts.{same_id}
 use Rattle.mt_file_laws.proofs.NumberingFacts.{both}
 use Rattle.mt_file_laws.proofs.StayingFacts.{remaining_is, program_ids_stay, applicant_ids_stay, length-program_flags, length-applicant_flags, length-new_numbers, new_number, numbers_stay, pairs_stay}
-use Rattle.mt_numbering.specs.declared.market.Unnamed.{Unnamed}
 use Rattle.mt_numbering.specs.declared.names.NameLists.{NameLists}
-use Rattle.mt_numbering.specs.declared.numbering.Entries.{Entries}
-use Rattle.mt_numbering.specs.declared.numbering.Numbers.{Numbers}
+use Rattle.mt_numbering.specs.declared.entries.Entries.{Entries}
 use Rattle.mt_records.specs.declared.record.Record.{Record as Checked}
 use Rattle.mt_records.specs.declared.kinds.Kinds.{Kinds}
-use Rattle.mt_numbering.specs.declared.registered.Registered.{Registered}
 use Rattle.mt_numbering.specs.Drafts.{has_too_many_names}
 use Rattle.mt_records.specs.Records.{record_seen}
 use Rattle.mt_numbering.specs.Entries.{single_flags, AreNames}
-use Rattle.mt_numbering.specs.Markets.{AreNewNumbers, AreIdsOfRecords, AreEntries, AreUnnamed, GivesUnnamed, Stays, fit}
+use Rattle.mt_numbering.specs.Markets.{AreIdsOfRecords, AreEntries, GivesEntries, Remains}
 use Rattle.mt_numbering.specs.Numbered.{all_seen, program_lists, applicant_lists, couple_lists, ranking_in, lists_by, members_in, pairs_in}
-use Rattle.mt_numbering.specs.Reading.{pairs_by, lists_stand, members_by, HaveNumbers, AreRead, ReadsEntries, ReadsUnnamed}
-use Rattle.mt_blocks.specs.Reading.{number_by, numbers_by}
+use Rattle.mt_numbering.specs.Reading.{pairs_by, pairs_read, lists_stand, both_there, members_by, ReadsEntries}
+use Rattle.mt_id_lists.specs.Numbering.{Numbering, number_by, numbers_by}
+use Rattle.mt_id_lists.specs.Reading.{ids_read}
 use Rattle.mt_numbering.specs.Registered.{is_registered}
 use Rattle.mt_records.specs.Limits.{AreBounded}
 use Rattle.mt_numbering.specs.Withdrawals.{stays_after, Stand}
@@ -82,61 +80,25 @@ single_is (CoupleRecord own a b pairs ∷ rs) id d =
 single_is (WithdrawRecord kind own ∷ rs) id d = single_is rs id d
 
 -- ids of all records
-module _ (rs : List Record) (r : Registered) (are : AreIdsOfRecords rs r) where
+module _ (rs : List Record) (ids : Kinds) (are : AreIdsOfRecords rs ids) where
   differ : ((all_differ bytes_eq (ids_of OfProgram rs) && all_differ bytes_eq (applicant_ids rs) ≡ true) × (all_differ bytes_eq (ids_of OfCouple rs) ≡ true))
   differ = and_parts (all_differ bytes_eq (ids_of OfProgram rs) && all_differ bytes_eq (applicant_ids rs)) _ are.differ
 
-  pub programs_differ : all_differ bytes_eq (ids_of OfProgram rs) ≡ true
+  programs_differ : all_differ bytes_eq (ids_of OfProgram rs) ≡ true
   programs_differ = (and_parts (all_differ bytes_eq (ids_of OfProgram rs)) _ differ.0).0
 
-  pub applicants_differ : all_differ bytes_eq (applicant_ids rs) ≡ true
+  applicants_differ : all_differ bytes_eq (applicant_ids rs) ≡ true
   applicants_differ = (and_parts (all_differ bytes_eq (ids_of OfProgram rs)) _ differ.0).1
 
-  pub knows_ids : (kind : Kind) (id : Bytes) → is_registered r kind id ≡ has_id (ids_of kind rs) id
-  knows_ids OfProgram id = ap (λ (ids : List Bytes). has_id ids id) are.programs
-  knows_ids OfApplicant id =
-      ap₂ (λ (ids : List Bytes) (flags : List Bool). has_id ids id && get_or flags (number_of ids id) false) are.applicants are.singles
+  pub knows_ids : (singles : List Bool) → singles ≡ single_flags rs → (kind : Kind) (id : Bytes) → is_registered ids singles kind id ≡ has_id (ids_of kind rs) id
+  knows_ids singles flags OfProgram id = ap (λ (xs : List Bytes). has_id xs id) are.programs
+  knows_ids singles flags OfApplicant id =
+      ap₂ (λ (xs : List Bytes) (fs : List Bool). has_id xs id && get_or fs (number_of xs id) false) are.applicants flags
       ∙ single_is rs id applicants_differ
-  knows_ids OfCouple id = ap (λ (ids : List Bytes). has_id ids id) are.couples
+  knows_ids singles flags OfCouple id = ap (λ (xs : List Bytes). has_id xs id) are.couples
 
-  pub length-singles : length r.singles.now ≡ length r.applicants
-  length-singles = ap length are.singles ∙ length-single_flags rs ∙ sym (ap length are.applicants)
-
--- tests of those that leave and of those that stay
-all_of_both : (t a l s : Bool) → a ≡ (l && s) → (t && a) ≡ (l && (t && s))
-all_of_both true a l s e = e
-all_of_both false a true s e = refl
-all_of_both false a false s e = refl
-
-module _ (stays : Record → Bool) where
-  abbrev leavers : List Record → List Record
-  leavers rs = filter (λ r. not (stays r)) rs
-
-  list_all-parts : (test : Record → Bool) (rs : List Record) → list_all test rs ≡ (list_all test (leavers rs) && list_all test (filter stays rs))
-  list_all-parts test [] = refl
-  list_all-parts test (r ∷ rs) = by (stays r) (list_all-parts test rs)
-    where
-      by : (b : Bool) → list_all test rs ≡ (list_all test (leavers rs) && list_all test (filter stays rs))
-          → (test r && list_all test rs) ≡ (list_all test (cond (not b) (r ∷ leavers rs) (leavers rs)) && list_all test (cond b (r ∷ filter stays rs) (filter stays rs)))
-      by true ih = all_of_both (test r) _ (list_all test (leavers rs)) (list_all test (filter stays rs)) ih
-      by false ih = first (test r) _ (list_all test (leavers rs)) (list_all test (filter stays rs)) ih
-        where
-          first : (t a l s : Bool) → a ≡ (l && s) → (t && a) ≡ ((t && l) && s)
-          first true a l s e = e
-          first false a l s e = refl
-
-  pub stand_parts : (half_pairs : Bool) (programs applicants : List Bytes) (rs : List Record)
-      → lists_stand half_pairs programs applicants rs ≡ (lists_stand half_pairs programs applicants (leavers rs) && lists_stand half_pairs programs applicants (filter stays rs))
-  stand_parts half_pairs programs applicants rs =
-      rw (list_all-parts (ranking_stands applicants) rs, list_all-parts (list_stands programs) rs, list_all-parts (pairs_stand half_pairs programs) rs)
-      (by (list_all (ranking_stands applicants) (leavers rs)) (list_all (ranking_stands applicants) (filter stays rs)) (list_all (list_stands programs) (leavers rs))
-      (list_all (list_stands programs) (filter stays rs)) (list_all (pairs_stand half_pairs programs) (leavers rs)) (list_all (pairs_stand half_pairs programs) (filter stays rs)))
-    where
-      by : (a b c d e f : Bool) → ((a && b) && (c && d) && (e && f)) ≡ ((a && c && e) && (b && d && f))
-      by a b c d e f = grind arith
-
-  pub count_parts : (rs : List Record) → entry_count (filter stays rs) + entry_count (leavers rs) ≡ entry_count rs
-  count_parts rs = sum_by-filter_both stays (λ r. not (stays r)) (λ r. refl) entries_of rs
+  pub length-singles : (singles : List Bool) → singles ≡ single_flags rs → length singles ≡ length ids.applicants
+  length-singles singles flags = ap length flags ∙ length-single_flags rs ∙ sym (ap length are.applicants)
 
 -- records have no fault among them where their ids differ, their withdrawals stand, and their lists fit
 pub faultless_by_steps : (rules : Rules) (rs : List Record) → has_too_many_names rules.limits rs ≡ false
@@ -151,35 +113,88 @@ faultless_by_steps rules rs few =
     by : (i w r l p t e f : Bool) → t ≡ false → not e ≡ f → (i && w && r && l && p && not (t || e)) ≡ (i && w && (r && l && p && f))
     by i w r l p t e f n m = grind arith
 
+-- a record that stays or not, of which a table has nothing
+module _ (stays : Record → Bool) where
+  passed_over : {X : Type 0} (f : Record → Option X) (r : Record) (rs : List Record) (ys : List X) → f r ≡ None → ys ≡ filter_map f (filter stays rs) → ys ≡ filter_map f (filter stays (r ∷ rs))
+  passed_over f r rs ys none ih = by (stays r)
+    where
+      by : (b : Bool) → ys ≡ filter_map f (cond b (r ∷ filter stays rs) (filter stays rs))
+      by true = rw none ih
+      by false = ih
+
 -- Below, some ids have flags, and those with a flag are numbered anew.
 module _ (flags : List Bool) (ids : List Bytes) (differ : all_differ bytes_eq ids ≡ true) where
-  rankings_stay : (rs : List Record) → list_all (ranking_stands ids) rs ≡ true → map (numbers_by ids (new_numbers 0 flags)) (program_lists rs) ≡ filter_map (ranking_in (flagged flags ids)) rs
-  rankings_stay [] h = refl
-  rankings_stay (ProgramRecord id quota list ∷ rs) h =
-      let p = and_parts (ranking_stands ids (ProgramRecord id quota list)) _ h in
-      ap₂ (λ (l : List ℕ) (ls : List (List ℕ)). l ∷ ls) (sym (numbers_stay flags ids differ list (and_parts (list_all (has_id ids) list) _ p.0).0)) (rankings_stay rs p.1)
-  rankings_stay (ApplicantRecord id list ∷ rs) h = rankings_stay rs h
-  rankings_stay (CoupleRecord id a b pairs ∷ rs) h = rankings_stay rs h
-  rankings_stay (WithdrawRecord kind id ∷ rs) h = rankings_stay rs h
+  abbrev anew : Numbering ℕ
+  anew = record { ids = ids; numbers = new_numbers 0 flags }
 
-  lists_stay : (rs : List Record) → list_all (list_stands ids) rs ≡ true → map (numbers_by ids (new_numbers 0 flags)) (applicant_lists rs) ≡ flat_map (lists_by (flagged flags ids)) rs
-  lists_stay [] h = refl
-  lists_stay (ProgramRecord id quota list ∷ rs) h = lists_stay rs h
-  lists_stay (ApplicantRecord id list ∷ rs) h =
-      let p = and_parts (list_stands ids (ApplicantRecord id list)) _ h in
-      ap₂ (λ (l : List ℕ) (ls : List (List ℕ)). l ∷ ls) (sym (numbers_stay flags ids differ list (and_parts (list_all (has_id ids) list) _ p.0).0)) (lists_stay rs p.1)
-  lists_stay (CoupleRecord id a b pairs ∷ rs) h = ap (λ (ls : List (List ℕ)). [] ∷ [] ∷ ls) (lists_stay rs h)
-  lists_stay (WithdrawRecord kind id ∷ rs) h = lists_stay rs h
+  module _ (stays : Record → Bool) where
+    rankings_stay : (rs : List Record) → list_all (ranking_stands ids) rs ≡ true
+        → flat_map (ids_read anew) (program_lists stays rs) ≡ filter_map (ranking_in (flagged flags ids)) (filter stays rs)
+    rankings_stay [] h = refl
+    rankings_stay (ProgramRecord id quota list ∷ rs) h =
+        let p = and_parts (ranking_stands ids (ProgramRecord id quota list)) _ h in
+        by (stays (ProgramRecord id quota list)) (sym (numbers_stay flags ids differ list (and_parts (list_all (has_id ids) list) _ p.0).0)) (rankings_stay rs p.1)
+      where
+        by : (b : Bool) → numbers_by anew list ≡ numbers_of (flagged flags ids) list
+            → flat_map (ids_read anew) (program_lists stays rs) ≡ filter_map (ranking_in (flagged flags ids)) (filter stays rs)
+            → flat_map (ids_read anew) ((b, list) ∷ program_lists stays rs)
+            ≡ filter_map (ranking_in (flagged flags ids)) (cond b (ProgramRecord id quota list ∷ filter stays rs) (filter stays rs))
+        by true e ih = ap₂ (λ (l : List ℕ) (ls : List (List ℕ)). l ∷ ls) e ih
+        by false e ih = ih
+    rankings_stay (ApplicantRecord id list ∷ rs) h = passed_over stays _ (ApplicantRecord id list) rs _ refl (rankings_stay rs h)
+    rankings_stay (CoupleRecord id a b pairs ∷ rs) h = passed_over stays _ (CoupleRecord id a b pairs) rs _ refl (rankings_stay rs h)
+    rankings_stay (WithdrawRecord kind id ∷ rs) h = passed_over stays _ (WithdrawRecord kind id) rs _ refl (rankings_stay rs h)
 
-  all_pairs_stay : (half_pairs : Bool) (rs : List Record) → list_all (pairs_stand half_pairs ids) rs ≡ true → map (pairs_by ids (new_numbers 0 flags)) (couple_lists rs) ≡ filter_map (pairs_in (flagged flags ids)) rs
-  all_pairs_stay half_pairs [] h = refl
-  all_pairs_stay half_pairs (ProgramRecord id quota list ∷ rs) h = all_pairs_stay half_pairs rs h
-  all_pairs_stay half_pairs (ApplicantRecord id list ∷ rs) h = all_pairs_stay half_pairs rs h
-  all_pairs_stay half_pairs (CoupleRecord id a b pairs ∷ rs) h =
-      let p = and_parts (pairs_stand half_pairs ids (CoupleRecord id a b pairs)) _ h in
-      let only = all_only half_pairs ids pairs (and_parts (list_all (pair_stands half_pairs ids) pairs) _ p.0).0 in
-      ap₂ (λ (l : List Pair) (ls : List (List Pair)). l ∷ ls) (sym (pairs_stay flags ids differ pairs only)) (all_pairs_stay half_pairs rs p.1)
-  all_pairs_stay half_pairs (WithdrawRecord kind id ∷ rs) h = all_pairs_stay half_pairs rs h
+    lists_stay : (rs : List Record) → list_all (list_stands ids) rs ≡ true
+        → flat_map (ids_read anew) (applicant_lists stays rs) ≡ flat_map (lists_by (flagged flags ids)) (filter stays rs)
+    lists_stay [] h = refl
+    lists_stay (ProgramRecord id quota list ∷ rs) h = by (stays (ProgramRecord id quota list)) (lists_stay rs h)
+      where
+        by : (b : Bool) → flat_map (ids_read anew) (applicant_lists stays rs) ≡ flat_map (lists_by (flagged flags ids)) (filter stays rs)
+            → flat_map (ids_read anew) (applicant_lists stays rs) ≡ flat_map (lists_by (flagged flags ids)) (cond b (ProgramRecord id quota list ∷ filter stays rs) (filter stays rs))
+        by true ih = ih
+        by false ih = ih
+    lists_stay (ApplicantRecord id list ∷ rs) h =
+        let p = and_parts (list_stands ids (ApplicantRecord id list)) _ h in
+        by (stays (ApplicantRecord id list)) (sym (numbers_stay flags ids differ list (and_parts (list_all (has_id ids) list) _ p.0).0)) (lists_stay rs p.1)
+      where
+        by : (b : Bool) → numbers_by anew list ≡ numbers_of (flagged flags ids) list
+            → flat_map (ids_read anew) (applicant_lists stays rs) ≡ flat_map (lists_by (flagged flags ids)) (filter stays rs)
+            → flat_map (ids_read anew) ((b, list) ∷ applicant_lists stays rs)
+            ≡ flat_map (lists_by (flagged flags ids)) (cond b (ApplicantRecord id list ∷ filter stays rs) (filter stays rs))
+        by true e ih = ap₂ (λ (l : List ℕ) (ls : List (List ℕ)). l ∷ ls) e ih
+        by false e ih = ih
+    lists_stay (CoupleRecord id a c pairs ∷ rs) h = by (stays (CoupleRecord id a c pairs)) (lists_stay rs h)
+      where
+        by : (b : Bool) → flat_map (ids_read anew) (applicant_lists stays rs) ≡ flat_map (lists_by (flagged flags ids)) (filter stays rs)
+            → flat_map (ids_read anew) ((b, []) ∷ (b, []) ∷ applicant_lists stays rs)
+            ≡ flat_map (lists_by (flagged flags ids)) (cond b (CoupleRecord id a c pairs ∷ filter stays rs) (filter stays rs))
+        by true ih = ap (λ (ls : List (List ℕ)). [] ∷ [] ∷ ls) ih
+        by false ih = ih
+    lists_stay (WithdrawRecord kind id ∷ rs) h = by (stays (WithdrawRecord kind id)) (lists_stay rs h)
+      where
+        by : (b : Bool) → flat_map (ids_read anew) (applicant_lists stays rs) ≡ flat_map (lists_by (flagged flags ids)) (filter stays rs)
+            → flat_map (ids_read anew) (applicant_lists stays rs) ≡ flat_map (lists_by (flagged flags ids)) (cond b (WithdrawRecord kind id ∷ filter stays rs) (filter stays rs))
+        by true ih = ih
+        by false ih = ih
+
+    all_pairs_stay : (half_pairs : Bool) (rs : List Record) → list_all (pairs_stand half_pairs ids) rs ≡ true
+        → flat_map (pairs_read anew) (couple_lists stays rs) ≡ filter_map (pairs_in (flagged flags ids)) (filter stays rs)
+    all_pairs_stay half_pairs [] h = refl
+    all_pairs_stay half_pairs (ProgramRecord id quota list ∷ rs) h = passed_over stays _ (ProgramRecord id quota list) rs _ refl (all_pairs_stay half_pairs rs h)
+    all_pairs_stay half_pairs (ApplicantRecord id list ∷ rs) h = passed_over stays _ (ApplicantRecord id list) rs _ refl (all_pairs_stay half_pairs rs h)
+    all_pairs_stay half_pairs (CoupleRecord id a c pairs ∷ rs) h =
+        let p = and_parts (pairs_stand half_pairs ids (CoupleRecord id a c pairs)) _ h in
+        let only = all_only half_pairs ids pairs (and_parts (list_all (pair_stands half_pairs ids) pairs) _ p.0).0 in
+        by (stays (CoupleRecord id a c pairs)) (sym (pairs_stay flags ids differ pairs only)) (all_pairs_stay half_pairs rs p.1)
+      where
+        by : (b : Bool) → pairs_by anew pairs ≡ pairs_by_number (flagged flags ids) pairs
+            → flat_map (pairs_read anew) (couple_lists stays rs) ≡ filter_map (pairs_in (flagged flags ids)) (filter stays rs)
+            → flat_map (pairs_read anew) ((b, pairs) ∷ couple_lists stays rs)
+            ≡ filter_map (pairs_in (flagged flags ids)) (cond b (CoupleRecord id a c pairs ∷ filter stays rs) (filter stays rs))
+        by true e ih = ap₂ (λ (l : List Pair) (ls : List (List Pair)). l ∷ ls) e ih
+        by false e ih = ih
+    all_pairs_stay half_pairs (WithdrawRecord kind id ∷ rs) h = passed_over stays _ (WithdrawRecord kind id) rs _ refl (all_pairs_stay half_pairs rs h)
 
   -- who stays is one of all, and has a new number
   flagged_listed : (bs : List Bool) (xs : List Bytes) (id : Bytes) → has_id (flagged bs xs) id ≡ true → has_id xs id ≡ true
@@ -192,7 +207,7 @@ module _ (flags : List Bool) (ids : List Bytes) (differ : all_differ bytes_eq id
       by false k ih = ih k
   flagged_listed (false ∷ bs) (x ∷ xs) id h = or_right (bytes_eq id x) _ (flagged_listed bs xs id h)
 
-  new_at : (id : Bytes) → has_id (flagged flags ids) id ≡ true → number_by ids (new_numbers 0 flags) id ≡ Some (number_of (flagged flags ids) id)
+  new_at : (id : Bytes) → has_id (flagged flags ids) id ≡ true → number_by anew id ≡ Some (number_of (flagged flags ids) id)
   new_at id h =
       let there : (if has_id (flagged flags ids) id then Some (number_of (flagged flags ids) id) else None) ≡ Some (number_of (flagged flags ids) id) = rw h refl in
       new_number flags ids id differ (flagged_listed flags ids id h) ∙ there
@@ -201,19 +216,14 @@ module _ (flags : List Bool) (ids : List Bytes) (differ : all_differ bytes_eq id
   all_pass test [] f = refl
   all_pass test (x ∷ xs) f = both _ _ (f x (or_left _ _ (itself x))) (all_pass test xs (λ id h. f id (or_right (bytes_eq id x) _ h)))
 
-  have_new : HaveNumbers ids (new_numbers 0 flags) (flagged flags ids)
-  have_new = all_pass _ (flagged flags ids) (λ id h. both _ _ (flagged_listed flags ids id h) (ap is_some (new_at id h)))
-
-  members_stay : (rs : List Record) → list_all (has_id (flagged flags ids)) (applicant_ids rs) ≡ true → filter_map (members_by ids (new_numbers 0 flags)) rs ≡ filter_map (members_in (flagged flags ids)) rs
+  members_stay : (rs : List Record) → list_all (has_id (flagged flags ids)) (applicant_ids rs) ≡ true → filter_map (members_by anew) rs ≡ filter_map (members_in (flagged flags ids)) rs
   members_stay [] h = refl
   members_stay (ProgramRecord id quota list ∷ rs) h = members_stay rs h
   members_stay (ApplicantRecord id list ∷ rs) h = members_stay rs (and_parts (has_id (flagged flags ids) id) _ h).1
   members_stay (CoupleRecord id a b pairs ∷ rs) h =
       let p = and_parts (has_id (flagged flags ids) a) _ h in
       let q = and_parts (has_id (flagged flags ids) b) _ p.1 in
-      let number = λ (o : Option ℕ). unwrap_or o 0 in
-      let m = ap₂ (λ (x y : ℕ). (x, y)) (ap number (new_at a p.0)) (ap number (new_at b q.0)) in
-      ap₂ (λ (m : ℕ × ℕ) (ms : List (ℕ × ℕ)). m ∷ ms) m (members_stay rs q.1)
+      ap₂ (λ (m : Option (ℕ × ℕ)) (ms : List (ℕ × ℕ)). cons_option m ms) (ap₂ both_there (new_at a p.0) (new_at b q.0)) (members_stay rs q.1)
   members_stay (WithdrawRecord kind id ∷ rs) h = members_stay rs h
 
 -- the records that stay where these are all that is withdrawn
@@ -241,11 +251,6 @@ names_stay records count staying names counted stay are all =
     sym (ap length stay) ∙ length-map staying record_seen ∙ all ∙ counted ∙ sym (length-map records record_seen) in
     subst (λ (rs : List Record). AreNames rs names) (sym (stay ∙ all_kept _ (all_seen records) long)) are
 
--- what the steps found of the records that stay
-pub stays_found : (rules : Rules) (rs : List Record) (o : Option Unnamed) (u : Unnamed) → Stays rules rs o → o ≡ Some u
-    → (is_faultless rules rs ≡ true) × (all_seen u.records.items ≡ remaining rs) × AreUnnamed (all_seen u.records.items) u
-stays_found rules rs o u h is = subst (Stays rules rs) is h
-
 -- records that are few have few ids
 pub few_ids : (limits : Limits) (rs : List Record) → AreBounded limits → has_too_many_names limits rs ≡ false → (length (ids_of OfProgram rs) < 2 ^ 31) × (length (applicant_ids rs) < 2 ^ 31)
 few_ids limits rs bounded few =
@@ -258,99 +263,101 @@ few_ids limits rs bounded few =
     by : (limit n : ℕ) → nat_lt limit n ≡ false → limit ≤ 100_000 → n < 2 ^ 31
     by limit n h l = let le : n ≤ limit = grind (arith, nat_tests) in omega arith
 
--- Below, records have these ids.
-module _ (rules : Rules) (rs : List Record) (r : Registered) (are : AreIdsOfRecords rs r) where
-  abbrev steps : Bool
-  steps = ids_differ rs && withdrawals_stand rs && (lists_stand rules.half_pairs (ids_of OfProgram rs) (applicant_ids rs) rs && nat_le (entry_count rs) rules.limits.entries)
+-- the entries of records, one record on
+pub entry_count-more : (left rest : List Record) (r : Record) → left ≡ r ∷ rest → entry_count left ≡ entries_of r + entry_count rest
+entry_count-more left rest r is = ap entry_count is ∙ sum_by-cons entries_of r rest
 
-  fit_is : fit rules r rs ≡ (lists_stand rules.half_pairs (ids_of OfProgram rs) (applicant_ids rs) rs && nat_le (entry_count rs) rules.limits.entries)
-  fit_is = ap₂ (λ (ps xs : List Bytes). lists_stand rules.half_pairs ps xs rs && nat_le (entry_count rs) rules.limits.entries) are.programs are.applicants
-
-  pub unfit : has_too_many_names rules.limits rs ≡ false → fit rules r rs ≡ false → is_faultless rules rs ≡ false
-  unfit few h = faultless_by_steps rules rs few ∙ by (ids_differ rs && withdrawals_stand rs) _ (sym fit_is ∙ h)
+-- a fault among records, by the step that finds it
+module _ (rules : Rules) (rs : List Record) (few : has_too_many_names rules.limits rs ≡ false) where
+  pub no_room : nat_le (entry_count rs) rules.limits.entries ≡ false → is_faultless rules rs ≡ false
+  no_room h = faultless_by_steps rules rs few ∙ by (ids_differ rs && withdrawals_stand rs) (lists_stand rules.half_pairs (ids_of OfProgram rs) (applicant_ids rs) rs) _ h
     where
-      by : (a b : Bool) → b ≡ false → (a && b) ≡ false
-      by true b e = e
-      by false b e = refl
+      by : (a b c : Bool) → c ≡ false → (a && (b && c)) ≡ false
+      by true true c e = e
+      by true false c e = refl
+      by false b c e = refl
 
-  pub not_standing : has_too_many_names rules.limits rs ≡ false → withdrawals_stand rs ≡ false → is_faultless rules rs ≡ false
-  not_standing few h = faultless_by_steps rules rs few ∙ by (ids_differ rs) (withdrawals_stand rs) _ h
+  pub not_standing : withdrawals_stand rs ≡ false → is_faultless rules rs ≡ false
+  not_standing h = faultless_by_steps rules rs few ∙ by (ids_differ rs) (withdrawals_stand rs) _ h
     where
       by : (a b c : Bool) → b ≡ false → (a && b && c) ≡ false
       by true b c e = rw e refl
       by false b c e = refl
 
-  -- and these are withdrawn, and these are the new numbers of those that stay
-  module _ (w : Kinds) (n : Numbers) (stand : Stand rs w) (new : AreNewNumbers w rs n) where
-    abbrev stay : List Record
-    stay = filter (stays_after w) rs
+  -- what remains of the records, by what their lists say
+  pub remains : nat_le (entry_count rs) rules.limits.entries ≡ true → (ids : Kinds) → AreIdsOfRecords rs ids → (w : Kinds) → Stand rs w
+      → (left : List Record) → left ≡ filter (stays_after w) rs → (o : Option Entries) → GivesEntries rules.half_pairs (stays_after w) rs o → Remains rules rs left o
+  remains room ids are w stand left is None gives = faultless_by_steps rules rs few ∙ by (ids_differ rs && withdrawals_stand rs) _ _ gives
+    where
+      by : (a b c : Bool) → b ≡ false → (a && (b && c)) ≡ false
+      by true b c e = rw e refl
+      by false b c e = refl
+  remains room ids are w stand left is (Some e) gives = (
+    faultless_by_steps rules rs few ∙ both _ _ (both _ _ are.differ stand.stand) (both _ _ gives.0 room),
+    is ∙ remaining_are rs w stand,
+    subst (λ (zs : List Record). AreEntries zs e) (sym is) gives.1,
+  )
 
-    abbrev program_stays : List Bool
-    program_stays = program_flags (stays_after w) rs
+-- what was found of the records that remain
+pub remains_found : (rules : Rules) (rs left : List Record) (o : Option Entries) (e : Entries) → Remains rules rs left o → o ≡ Some e
+    → (is_faultless rules rs ≡ true) × (left ≡ remaining rs) × AreEntries left e
+remains_found rules rs left o e h is = subst (Remains rules rs left) is h
 
-    abbrev applicant_stays : List Bool
-    applicant_stays = applicant_flags (stays_after w) rs
+-- Below, records have these ids, and the new numbers are those of the records that stay.
+module _ (rs : List Record) (ids : Kinds) (are : AreIdsOfRecords rs ids) (w : Kinds) where
+  abbrev stay : List Record
+  stay = filter (stays_after w) rs
 
-    stay_differ : all_differ bytes_eq (applicant_ids rs) ≡ true
-    stay_differ = applicants_differ rs r are
+  abbrev program_stays : List Bool
+  program_stays = program_flags (stays_after w) rs
 
-    pub long_programs : length n.programs.items ≡ length r.programs
-    long_programs = ap length new.programs ∙ length-new_numbers 0 program_stays ∙ length-program_flags (stays_after w) rs ∙ sym (ap length are.programs)
+  abbrev applicant_stays : List Bool
+  applicant_stays = applicant_flags (stays_after w) rs
 
-    pub long_applicants : length n.applicants.items ≡ length r.applicants
-    long_applicants = ap length new.applicants ∙ length-new_numbers 0 applicant_stays ∙ length-applicant_flags (stays_after w) rs ∙ sym (ap length are.applicants)
+  pub long_programs : (numbers : List (Option ℕ)) → numbers ≡ new_numbers 0 program_stays → length numbers ≡ length ids.programs
+  long_programs numbers new = ap length new ∙ length-new_numbers 0 program_stays ∙ length-program_flags (stays_after w) rs ∙ sym (ap length are.programs)
 
-    pub have_numbers : HaveNumbers r.applicants n.applicants.items (applicant_ids stay)
-    have_numbers =
-        ap₂ (λ (ids : List Bytes) (news : List (Option ℕ)). list_all (λ id. has_id ids id && is_some (number_by ids news id)) (applicant_ids stay)) are.applicants new.applicants
-        ∙ ap (list_all (λ id. has_id (applicant_ids rs) id && is_some (number_by (applicant_ids rs) (new_numbers 0 applicant_stays) id))) (applicant_ids_stay (stays_after w) rs)
-        ∙ have_new applicant_stays (applicant_ids rs) stay_differ
+  pub long_applicants : (numbers : List (Option ℕ)) → numbers ≡ new_numbers 0 applicant_stays → length numbers ≡ length ids.applicants
+  long_applicants numbers new = ap length new ∙ length-new_numbers 0 applicant_stays ∙ length-applicant_flags (stays_after w) rs ∙ sym (ap length are.applicants)
 
-    pub members_are : filter_map (members_by r.applicants n.applicants.items) stay ≡ filter_map (members_in (applicant_ids stay)) stay
-    members_are =
-        let flagged_are : applicant_ids stay ≡ flagged applicant_stays (applicant_ids rs) = applicant_ids_stay (stays_after w) rs in
-        let among : list_all (has_id (applicant_ids stay)) (applicant_ids stay) ≡ true = all_pass [] [] refl (has_id (applicant_ids stay)) (applicant_ids stay) (λ id h. h) in
-        ap₂ (λ (ids : List Bytes) (news : List (Option ℕ)). filter_map (members_by ids news) stay) are.applicants new.applicants
-        ∙ members_stay applicant_stays (applicant_ids rs) stay_differ stay (ap (λ (ids : List Bytes). list_all (has_id ids) (applicant_ids stay)) (sym flagged_are) ∙ among)
-        ∙ ap (λ (ids : List Bytes). filter_map (members_in ids) stay) (sym flagged_are)
+  module _ (programs applicants : Numbering ℕ) (p_ids : programs.ids ≡ ids.programs) (p_numbers : programs.numbers ≡ new_numbers 0 program_stays)
+      (a_ids : applicants.ids ≡ ids.applicants) (a_numbers : applicants.numbers ≡ new_numbers 0 applicant_stays) where
+    programs_are : programs ≡ anew program_stays (ids_of OfProgram rs) (programs_differ rs ids are)
+    programs_are = λ i. record { ids = (p_ids ∙ are.programs) i; numbers = p_numbers i }
 
-    module _ (fits : fit rules r rs ≡ true) where
-      fit_parts : (lists_stand rules.half_pairs (ids_of OfProgram rs) (applicant_ids rs) rs ≡ true) × (nat_le (entry_count rs) rules.limits.entries ≡ true)
-      fit_parts = and_parts (lists_stand rules.half_pairs (ids_of OfProgram rs) (applicant_ids rs) rs) _ (sym fit_is ∙ fits)
+    applicants_are : applicants ≡ anew applicant_stays (applicant_ids rs) (applicants_differ rs ids are)
+    applicants_are = λ i. record { ids = (a_ids ∙ are.applicants) i; numbers = a_numbers i }
 
-      pub faultless : has_too_many_names rules.limits rs ≡ false → is_faultless rules rs ≡ true
-      faultless few = faultless_by_steps rules rs few ∙ both _ _ (both _ _ are.differ stand.stand) (both _ _ fit_parts.0 fit_parts.1)
+    stand_is : (half_pairs : Bool) → lists_stand half_pairs programs.ids applicants.ids rs ≡ lists_stand half_pairs (ids_of OfProgram rs) (applicant_ids rs) rs
+    stand_is half_pairs = ap₂ (λ (ps xs : List Bytes). lists_stand half_pairs ps xs rs) (p_ids ∙ are.programs) (a_ids ∙ are.applicants)
 
-      pub entries_are : (e : Entries) → AreRead r n stay e → AreEntries stay e
-      entries_are e read =
-          let all : lists_stand rules.half_pairs (ids_of OfProgram rs) (applicant_ids rs) stay ≡ true = (and_parts (lists_stand rules.half_pairs (ids_of OfProgram rs) (applicant_ids rs) (leavers (stays_after w) rs)) _ (sym (stand_parts (stays_after w) rules.half_pairs (ids_of OfProgram rs) (applicant_ids rs) rs) ∙ fit_parts.0)).1 in
-          let p = and_parts (list_all (ranking_stands (applicant_ids rs)) stay && list_all (list_stands (ids_of OfProgram rs)) stay) _ all in
-          let q = and_parts (list_all (ranking_stands (applicant_ids rs)) stay) _ p.0 in
-          let programs : flagged program_stays (ids_of OfProgram rs) ≡ ids_of OfProgram stay = sym (program_ids_stay (stays_after w) rs) in
-          let applicants : flagged applicant_stays (applicant_ids rs) ≡ applicant_ids stay = sym (applicant_ids_stay (stays_after w) rs) in
+    pub entries_given : (half_pairs : Bool) (o : Option Entries) → ReadsEntries half_pairs programs applicants (stays_after w) rs o → GivesEntries half_pairs (stays_after w) rs o
+    entries_given half_pairs None reads = sym (stand_is half_pairs) ∙ reads
+    entries_given half_pairs (Some e) reads =
+        let all : lists_stand half_pairs (ids_of OfProgram rs) (applicant_ids rs) rs ≡ true = sym (stand_is half_pairs) ∙ reads.0 in
+        let p = and_parts (list_all (ranking_stands (applicant_ids rs)) rs && list_all (list_stands (ids_of OfProgram rs)) rs) _ all in
+        let q = and_parts (list_all (ranking_stands (applicant_ids rs)) rs) _ p.0 in
+        let p_flagged : flagged program_stays (ids_of OfProgram rs) ≡ ids_of OfProgram stay = sym (program_ids_stay (stays_after w) rs) in
+        let a_flagged : flagged applicant_stays (applicant_ids rs) ≡ applicant_ids stay = sym (applicant_ids_stay (stays_after w) rs) in
+        let p_differ = programs_differ rs ids are in
+        let a_differ = applicants_differ rs ids are in
+        let among : list_all (has_id (applicant_ids stay)) (applicant_ids stay) ≡ true = all_pass [] [] refl (has_id (applicant_ids stay)) (applicant_ids stay) (λ id h. h) in (
+          all,
           record {
-            rankings = read.rankings
-                ∙ ap₂ (λ (ids : List Bytes) (news : List (Option ℕ)). map (numbers_by ids news) (program_lists stay)) are.applicants new.applicants
-                ∙ rankings_stay applicant_stays (applicant_ids rs) stay_differ stay q.0
-                ∙ ap (λ (ids : List Bytes). filter_map (ranking_in ids) stay) applicants;
-            lists = read.lists
-                ∙ ap₂ (λ (ids : List Bytes) (news : List (Option ℕ)). map (numbers_by ids news) (applicant_lists stay)) are.programs new.programs
-                ∙ lists_stay program_stays (ids_of OfProgram rs) (programs_differ rs r are) stay q.1
-                ∙ ap (λ (ids : List Bytes). flat_map (lists_by ids) stay) programs;
-            pairs = read.pairs
-                ∙ ap₂ (λ (ids : List Bytes) (news : List (Option ℕ)). map (pairs_by ids news) (couple_lists stay)) are.programs new.programs
-                ∙ all_pairs_stay program_stays (ids_of OfProgram rs) (programs_differ rs r are) rules.half_pairs stay p.1
-                ∙ ap (λ (ids : List Bytes). filter_map (pairs_in ids) stay) programs;
-          }
-
-    -- what stays of the records, if they have no fault among them
-    pub stays_by : has_too_many_names rules.limits rs ≡ false → (o : Option Unnamed) → GivesUnnamed rules r w n rs o → Stays rules rs o
-    stays_by few None gives = unfit few gives
-    stays_by few (Some u) gives = (
-      faultless gives.0 few,
-      gives.1 ∙ remaining_are rs w stand,
-      subst (λ (zs : List Record). AreUnnamed zs u) (sym gives.1) (record { entries = entries_are gives.0 u.entries gives.2; members = gives.3 ∙ members_are }),
-    )
+            rankings = reads.1.rankings ∙ ap (λ (n : Numbering ℕ). flat_map (ids_read n) (program_lists (stays_after w) rs)) applicants_are
+                ∙ rankings_stay applicant_stays (applicant_ids rs) a_differ (stays_after w) rs q.0
+                ∙ ap (λ (xs : List Bytes). filter_map (ranking_in xs) stay) a_flagged;
+            lists = reads.1.lists ∙ ap (λ (n : Numbering ℕ). flat_map (ids_read n) (applicant_lists (stays_after w) rs)) programs_are
+                ∙ lists_stay program_stays (ids_of OfProgram rs) p_differ (stays_after w) rs q.1
+                ∙ ap (λ (xs : List Bytes). flat_map (lists_by xs) stay) p_flagged;
+            pairs = reads.1.pairs ∙ ap (λ (n : Numbering ℕ). flat_map (pairs_read n) (couple_lists (stays_after w) rs)) programs_are
+                ∙ all_pairs_stay program_stays (ids_of OfProgram rs) p_differ (stays_after w) half_pairs rs p.1
+                ∙ ap (λ (xs : List Bytes). filter_map (pairs_in xs) stay) p_flagged;
+            members = reads.1.members ∙ ap (λ (n : Numbering ℕ). filter_map (members_by n) stay) applicants_are
+                ∙ members_stay applicant_stays (applicant_ids rs) a_differ stay (ap (λ (xs : List Bytes). list_all (has_id xs) (applicant_ids stay)) a_flagged ∙ among)
+                ∙ ap (λ (xs : List Bytes). filter_map (members_in xs) stay) a_flagged;
+          },
+        )
 
 -- what the steps found
 pub stand_found : (given records : List Checked) (o : Option Kinds) (w : Kinds) → given ≡ records
@@ -364,67 +371,3 @@ pub stand_missing : (given records : List Checked) (o : Option Kinds) → given 
     → MatchOption o (withdrawals_stand (all_seen given) ≡ false) (Stand (all_seen given)) → o ≡ None → withdrawals_stand (all_seen records) ≡ false
 stand_missing given records None e h is = ap (λ (xs : List Checked). withdrawals_stand (all_seen xs)) (sym e) ∙ h
 stand_missing given records (Some v) e h is = cc
-
--- Below, what leaves is read, and then what stays.
-module _ (rules : Rules) (r : Registered) (w : Kinds) (n : Numbers) (rs : List Record) where
-  abbrev first : List Record
-  first = leavers (stays_after w) rs
-
-  abbrev second : List Record
-  second = filter (stays_after w) rs
-
-  record Fits : Type 0 where
-    first_stand : lists_stand rules.half_pairs r.programs r.applicants first ≡ true
-    second_stand : lists_stand rules.half_pairs r.programs r.applicants second ≡ true
-    within : entry_count second + entry_count first ≤ rules.limits.entries
-
-  fits_join : Fits → fit rules r rs ≡ true
-  fits_join are =
-      let count : entry_count second + entry_count first ≡ entry_count rs = count_parts (stays_after w) rs in
-      both _ _ (stand_parts (stays_after w) rules.half_pairs r.programs r.applicants rs ∙ both _ _ are.first_stand are.second_stand) (by (entry_count rs) rules.limits.entries (omega (arith, are.within)))
-    where
-      by : (k m : ℕ) → k ≤ m → nat_le k m ≡ true
-      by k m h = grind (arith, nat_tests)
-
-  fits_parts : fit rules r rs ≡ true → Fits
-  fits_parts h =
-      let p : (lists_stand rules.half_pairs r.programs r.applicants rs ≡ true) × (nat_le (entry_count rs) rules.limits.entries ≡ true) = and_parts (lists_stand rules.half_pairs r.programs r.applicants rs) _ h in
-      let q : (lists_stand rules.half_pairs r.programs r.applicants first ≡ true) × (lists_stand rules.half_pairs r.programs r.applicants second ≡ true) = and_parts (lists_stand rules.half_pairs r.programs r.applicants first) _ (sym (stand_parts (stays_after w) rules.half_pairs r.programs r.applicants rs) ∙ p.0) in
-      let count : entry_count second + entry_count first ≡ entry_count rs = count_parts (stays_after w) rs in
-      let few : entry_count rs ≤ rules.limits.entries = by (entry_count rs) rules.limits.entries p.1 in
-      record { first_stand = q.0; second_stand = q.1; within = omega (arith, count, few) }
-    where
-      by : (k m : ℕ) → nat_le k m ≡ true → k ≤ m
-      by k m h = grind (arith, nat_tests)
-
-  pub both_read : (room left : ℕ) (o p : Option Entries) (e : Entries) (xs ys : List Record) → xs ≡ first → ys ≡ second
-      → ReadsEntries rules.half_pairs r n rules.limits.entries room xs o → is_some o ≡ true → ReadsEntries rules.half_pairs r n room left ys p → p ≡ Some e
-      → (fit rules r rs ≡ true) × AreRead r n second e
-  both_read room left None p e xs ys i j h some k is = cc
-  both_read room left (Some d) p e xs ys i j h some k is =
-      let g : ReadsEntries rules.half_pairs r n rules.limits.entries room first (Some d) = subst (λ (zs : List Record). ReadsEntries rules.half_pairs r n rules.limits.entries room zs (Some d)) i h in
-      let l : ReadsEntries rules.half_pairs r n room left second p = subst (λ (zs : List Record). ReadsEntries rules.half_pairs r n room left zs p) j k in
-      let m : ReadsEntries rules.half_pairs r n room left second (Some e) = subst (ReadsEntries rules.half_pairs r n room left second) is l in
-      (fits_join (record { first_stand = g.0; second_stand = m.0; within = omega (arith, g.1, m.1) }), m.2)
-
-  pub first_fails : (room : ℕ) (o : Option Entries) (xs : List Record) → xs ≡ first → ReadsEntries rules.half_pairs r n rules.limits.entries room xs o → is_some o ≡ false → fit rules r rs ≡ false
-  first_fails room (Some d) xs i h none = cc
-  first_fails room None xs i h none =
-      let g : ReadsEntries rules.half_pairs r n rules.limits.entries room first None = subst (λ (zs : List Record). ReadsEntries rules.half_pairs r n rules.limits.entries room zs None) i h in
-      not_true _ (λ t. let f : Fits = fits_parts t in let over : rules.limits.entries < entry_count first = g f.first_stand in omega (arith, f.within, over))
-
-  pub second_fails : (room left : ℕ) (o p : Option Entries) (xs ys : List Record) → xs ≡ first → ys ≡ second
-      → ReadsEntries rules.half_pairs r n rules.limits.entries room xs o → is_some o ≡ true → ReadsEntries rules.half_pairs r n room left ys p → p ≡ None → fit rules r rs ≡ false
-  second_fails room left None p xs ys i j h some k none = cc
-  second_fails room left (Some d) p xs ys i j h some k none =
-      let g : ReadsEntries rules.half_pairs r n rules.limits.entries room first (Some d) = subst (λ (zs : List Record). ReadsEntries rules.half_pairs r n rules.limits.entries room zs (Some d)) i h in
-      let l : ReadsEntries rules.half_pairs r n room left second p = subst (λ (zs : List Record). ReadsEntries rules.half_pairs r n room left zs p) j k in
-      let m : ReadsEntries rules.half_pairs r n room left second None = subst (ReadsEntries rules.half_pairs r n room left second) none l in
-      not_true _ (λ t. let f : Fits = fits_parts t in let over : room < entry_count second = m f.second_stand in omega (arith, f.within, over, g.1))
-
-  pub both_given : (room left : ℕ) (o : Option Entries) (q : Option Unnamed) (xs ys : List Record) → xs ≡ first → ys ≡ second
-      → ReadsEntries rules.half_pairs r n rules.limits.entries room xs o → is_some o ≡ true → ReadsUnnamed rules.half_pairs r n room left ys q → GivesUnnamed rules r w n rs q
-  both_given room left o None xs ys i j h some k = second_fails room left o None xs ys i j h some k refl
-  both_given room left o (Some u) xs ys i j h some k =
-      let read = both_read room left o (Some u.entries) u.entries xs ys i j h some k.0 refl in
-      (read.0, k.1 ∙ j, read.1, k.2 ∙ ap (filter_map (members_by r.applicants n.applicants.items)) j)

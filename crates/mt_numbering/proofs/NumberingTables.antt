@@ -1,7 +1,7 @@
 -- The tables that are made from records none of which is withdrawn, seen as their market.
-use Rattle.std.proofs.Common.{◌≡◌, ℕ, suc, ◌+◌, ◌-◌, ◌<◌, ◌≤◌, ◌^◌, Bool, true, false, ◌||◌, ◌==◌, List, [], ◌∷◌, ◌++◌, map, filter_map, flat_map, length, get_or, set, drop, take, Vec, Global, refl, ap, sym, ◌∙◌, arith, subst, if◌then◌else◌}
+use Rattle.std.proofs.Common.{◌≡◌, ℕ, suc, ◌+◌, ◌-◌, ◌<◌, ◌≤◌, ◌^◌, Bool, true, false, ◌||◌, ◌==◌, List, [], ◌∷◌, ◌++◌, map, filter_map, flat_map, length, get_or, set, drop, take, Vec, Global, refl, ap, ap₂, sym, ◌∙◌, arith, subst, if◌then◌else◌}
 use Rattle.std.specs.Prelude.{All}
-use Rattle.std.proofs.lemmas.List.{same_lists, length-set, get_or_default, drop_more}
+use Rattle.std.proofs.lemmas.List.{append-nil, same_lists, length-set, get_or_default, drop_all, drop_more, take_all}
 use Rattle.mt_terms.specs.declared.numbers.Agent.{Agent}
 use Rattle.mt_terms.specs.declared.numbers.Agent.TheVariants.{Couple}
 use Rattle.mt_terms.specs.Lists.{below}
@@ -12,14 +12,20 @@ use Rattle.mt_terms.specs.Registration.Numbering.{names_of, program_in, lists_in
 use Rattle.mt_terms.specs.Registration.Accepted.{IsRegistration}
 use Rattle.mt_terms.proofs.BelowFacts.{length-map_below, map_below_at}
 use Rattle.mt_market.specs.Tables.{programs_with, couples_with, registered_of, AreTables}
-use Rattle.mt_numbering.specs.declared.numbering.Entries.{Entries}
+use Rattle.mt_numbering.specs.declared.entries.Entries.{Entries}
 use Rattle.mt_numbering.specs.declared.names.NameLists.{NameLists}
 use Rattle.mt_numbering.specs.Entries.{AreNames}
 use Rattle.mt_numbering.specs.Markets.{AreEntries}
 use Rattle.mt_numbering.specs.Numbered.{quota_in, ranking_in, lists_by, members_in, pairs_in, bare_couples, registered_by_all}
-use Rattle.mt_blocks.proofs.ListFacts.{get_or-set, take_whole}
+use Rattle.mt_id_lists.proofs.ListFacts.{get_or-set}
 use Rattle.mt_market.specs.declared.tables.Tables.{Tables}
 use Rattle.mt_market.proofs.TablesFacts.{length-couples_with, couple_at}
+
+-- a part that is written back to the whole is the whole
+take_whole : {X : Type 0} (xs ys : List X) (n : ℕ) → length xs ≡ length ys → n ≡ length ys → take n (xs ++ drop (length xs) ys) ≡ xs
+take_whole xs ys n h e =
+    let none : drop (length xs) ys ≡ [] = drop_all (length xs) ys (omega arith) in
+    rw (none, append-nil) (take_all n xs (omega arith))
 
 -- the tables of programs, of lists and of couples
 module _ (N : Names) where
@@ -217,14 +223,14 @@ module _ (rs : List Record) (r : IsRegistration (registered_by_all rs)) where
       registration = subst IsRegistration (sym tables_seen) r;
     }
 
--- the tables that are made from names, entries and members
-abbrev pub tables_with : NameLists → Entries → Vec ℕ Global → Vec Agent Global → Vec (ℕ × ℕ) Global → Tables
-tables_with names e quotas agents members = record {
+-- the tables that are made from names and entries
+abbrev pub tables_with : NameLists → Entries → Vec ℕ Global → Vec Agent Global → Tables
+tables_with names e quotas agents = record {
   quotas = quotas;
   rankings = e.rankings;
   lists = e.lists;
   agents = agents;
-  members = members;
+  members = e.members;
   pairs = e.pairs;
   program_ids = names.programs;
   applicant_ids = names.applicants;
@@ -232,20 +238,20 @@ tables_with names e quotas agents members = record {
 }
 
 -- with agents by the members and by the number of applicants
-pub made_by : (rs : List Record) (names : NameLists) (e : Entries) (quotas : Vec ℕ Global) (agents : Vec Agent Global) (members : Vec (ℕ × ℕ) Global) (n : ℕ)
+pub made_by : (rs : List Record) (names : NameLists) (e : Entries) (quotas : Vec ℕ Global) (agents : Vec Agent Global) (given : List (ℕ × ℕ)) (n : ℕ)
     → AreNames rs names
     → AreEntries rs e
-    → members.items ≡ filter_map (members_in (applicant_ids rs)) rs
     → quotas.items ≡ filter_map quota_in rs
     → n ≡ length names.applicants
-    → agents.items ≡ map (agent_from (bare_couples members.items) 0) (below n)
-    → AreMade (tables_with names e quotas agents members) rs
-made_by rs names e quotas agents members n are by of q count g = record {
+    → given ≡ e.members.items
+    → agents.items ≡ map (agent_from (bare_couples given) 0) (below n)
+    → AreMade (tables_with names e quotas agents) rs
+made_by rs names e quotas agents given n are by q count same g = record {
   quotas = q;
   rankings = by.rankings;
   lists = by.lists;
-  agents = g ∙ ap (λ k. map (agent_from (bare_couples members.items) 0) (below k)) (count ∙ ap length are.applicants);
-  members = of;
+  agents = g ∙ ap₂ (λ (ms : List (ℕ × ℕ)) (k : ℕ). map (agent_from (bare_couples ms) 0) (below k)) same (count ∙ ap length are.applicants);
+  members = by.members;
   pairs = by.pairs;
   program_ids = are.programs;
   applicant_ids = are.applicants;

@@ -12,27 +12,28 @@ use Rattle.mt_records.specs.Records.{record_seen}
 abbrev pub all_seen : List Checked → List Record
 all_seen records = map record_seen records
 
--- the lists of programs, of applicants and of couples, as the records have them: a couple's two members have empty ones
-abbrev pub program_lists : List Record → List (List Bytes)
-program_lists records = filter_map list_of records
+-- the lists of programs, of applicants and of couples as the records have them, and whether each is kept: a couple's two
+-- members have empty ones
+abbrev pub program_lists : (Record → Bool) → List Record → List (Bool × List Bytes)
+program_lists stays records = filter_map list_of records
   where
-    list_of : Record → Option (List Bytes)
-    list_of (ProgramRecord id quota list) = Some list
+    list_of : Record → Option (Bool × List Bytes)
+    list_of (ProgramRecord id quota list) = Some (stays (ProgramRecord id quota list), list)
     list_of _ = None
 
-abbrev pub applicant_lists : List Record → List (List Bytes)
-applicant_lists records = flat_map lists_of records
+abbrev pub applicant_lists : (Record → Bool) → List Record → List (Bool × List Bytes)
+applicant_lists stays records = flat_map lists_of records
   where
-    lists_of : Record → List (List Bytes)
-    lists_of (ApplicantRecord id list) = list ∷ []
-    lists_of (CoupleRecord id a b pairs) = [] ∷ [] ∷ []
+    lists_of : Record → List (Bool × List Bytes)
+    lists_of (ApplicantRecord id list) = (stays (ApplicantRecord id list), list) ∷ []
+    lists_of (CoupleRecord id a b pairs) = (stays (CoupleRecord id a b pairs), []) ∷ (stays (CoupleRecord id a b pairs), []) ∷ []
     lists_of _ = []
 
-abbrev pub couple_lists : List Record → List (List IdPair)
-couple_lists records = filter_map list_of records
+abbrev pub couple_lists : (Record → Bool) → List Record → List (Bool × List IdPair)
+couple_lists stays records = filter_map list_of records
   where
-    list_of : Record → Option (List IdPair)
-    list_of (CoupleRecord id a b pairs) = Some pairs
+    list_of : Record → Option (Bool × List IdPair)
+    list_of (CoupleRecord id a b pairs) = Some (stays (CoupleRecord id a b pairs), pairs)
     list_of _ = None
 
 -- where a pair sends a member, by number, if it names none but these programs

@@ -46,7 +46,8 @@ impl<'a> Drafts<'a> {
     fn push(&mut self, next: Record<'a>) -> Result<(), AllocError>
         requires { AreDrafts self.old }
         ensures drafts { OnOk result (AreDrafts self.new) }
-        ensures records { OnOk result (drafted self.new ≡ drafted self.old ++ record_seen next.entry ∷ []) }
+        ensures records { OnOk result
+            (drafted self.new ≡ drafted self.old ++ record_seen next.entry ∷ []) }
     {
         self.names.push(&next)?;
         push(&mut self.records, next)
@@ -59,7 +60,8 @@ pub(crate) fn drafts_of<'a>(
     rules: &Rules,
     rows: RowsIter<'a>,
 ) -> Result<Option<Drafts<'a>>, AllocError>
-    ensures { IfOk result (λ read. MatchOption read (HaveFault rules.now (rows_left rows.entry)) (AreDraftsOf rules.now (rows_left rows.entry))) }
+    ensures { IfOk result (λ read. MatchOption read (HaveFault rules.now (rows_left rows.entry))
+        (AreDraftsOf rules.now (rows_left rows.entry))) }
 {
     let mut drafts = Drafts::new(alloc);
     for row in rows {

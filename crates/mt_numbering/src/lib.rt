@@ -4,12 +4,13 @@
 mod draft;
 mod drafts;
 mod duplicates;
+mod entries;
 mod listed;
 mod market;
 mod names;
-mod numbering;
-mod pair_blocks;
+mod pairs;
 mod registered;
+mod tables;
 mod withdrawals;
 
 pub use market::faultless_market;

@@ -54,15 +54,15 @@ impl NameLists {
         }
         Ok(())
     }
-}
 
-/// The ids of the programs, the applicants and the couples of records.
-pub(crate) fn names_of(alloc: Global, records: &[Record<'_>]) -> Result<NameLists, AllocError>
-    ensures { IfOk result (λ names. AreNames (all_seen records.now) names) }
-{
-    let mut names = NameLists::new(alloc);
-    for one in records {
-        names.push(one)?;
+    /// The ids of the programs, the applicants and the couples of records.
+    pub(crate) fn of(alloc: Global, records: &[Record<'_>]) -> Result<Self, AllocError>
+        ensures { IfOk result (AreNames (all_seen records.now)) }
+    {
+        let mut names = NameLists::new(alloc);
+        for one in records {
+            names.push(one)?;
+        }
+        Ok(names)
     }
-    Ok(names)
 }

@@ -4,73 +4,55 @@ ghost use Rattle.mt_numbering.specs.Registered.{names_differ, is_registered, Are
 
 use crate::names::NameLists;
 use mt_ids::{IdTable, Seed};
-use mt_records::Kind;
+use mt_records::{Kind, Kinds};
 use std::alloc::{AllocError, Global};
 use std::hash::DefaultHasher;
 use std::mem::replace;
 
-/// The ids of records by number, where none is registered twice, and for each applicant whether it is a single.
-pub(crate) struct Registered<'a> {
-    pub(crate) programs: IdTable<'a>,
-    pub(crate) applicants: IdTable<'a>,
-    pub(crate) couples: IdTable<'a>,
-    singles: &'a [bool],
+/// The ids of each kind, if those of a kind differ.
+pub(crate) fn registered<'n>(
+    alloc: Global,
+    names: &'n NameLists,
+) -> Result<Option<Kinds<'n>>, AllocError>
+    ensures { IfOk result
+        (λ found. MatchOption found (names_differ names.now ≡ false) (AreIdsOf names.now)) }
+{
+    // Most of the time goes into finding ids. Those that a look-up fetches are nearer side by side than in the rows.
+    let Some(programs) = IdTable::of(alloc, &names.programs)? else {
+        return Ok(None);
+    };
+    let Some(applicants) = IdTable::of(alloc, &names.applicants)? else {
+        return Ok(None);
+    };
+    let Some(couples) = IdTable::of(alloc, &names.couples)? else {
+        return Ok(None);
+    };
+    Ok(Some(Kinds {
+        programs,
+        applicants,
+        couples,
+    }))
 }
 
-impl Drop for Registered<'_> {
-    fn drop(self) {
-        let Registered {
-            programs: _,
-            applicants: _,
-            couples: _,
-            singles: _,
-        } = self;
+/// Whether a program, a single or a couple has this id.
+pub(crate) fn is_registered(ids: &Kinds<'_>, singles: &[bool], kind: Kind, id: &[u8]) -> bool
+    requires { length singles.now ≡ length ids.now.applicants }
+    ensures { result ≡ is_registered ids.now singles.now (kind_seen kind) id.now }
+{
+    match kind {
+        Kind::Program => ids.programs.contains(id),
+        Kind::Applicant => match ids.applicants.number(id) {
+            Some(number) => singles[number],
+            None => false,
+        },
+        Kind::Couple => ids.couples.contains(id),
     }
 }
 
-impl<'a> Registered<'a> {
-    /// These ids, if those of a kind differ.
-    pub(crate) fn of(alloc: Global, names: &'a NameLists) -> Result<Option<Self>, AllocError>
-        ensures { IfOk result (λ found. MatchOption found (names_differ names.now ≡ false) (AreIdsOf names.now)) }
-    {
-        // Most of the time goes into finding ids. Those that a look-up fetches are nearer side by side than in the rows.
-        let Some(programs) = IdTable::of(alloc, &names.programs)? else {
-            return Ok(None);
-        };
-        let Some(applicants) = IdTable::of(alloc, &names.applicants)? else {
-            return Ok(None);
-        };
-        let Some(couples) = IdTable::of(alloc, &names.couples)? else {
-            return Ok(None);
-        };
-        Ok(Some(Registered {
-            programs,
-            applicants,
-            couples,
-            singles: &names.singles,
-        }))
-    }
-
-    /// Lets the applicants' table go, which is one of the largest. The programs' stays.
-    pub(crate) fn let_applicants_go(&mut self, alloc: Global)
-        ensures programs { self.new.programs ≡ self.old.programs }
-    {
-        let none = IdTable::new(alloc, Seed::of(&DefaultHasher::new()));
-        drop(replace(&mut self.applicants, none));
-    }
-
-    /// Whether a program, a single or a couple has this id.
-    pub(crate) fn has(&self, kind: Kind, id: &[u8]) -> bool
-        requires { length self.now.singles.now ≡ length self.now.applicants }
-        ensures { result ≡ is_registered self.now (kind_seen kind) id.now }
-    {
-        match kind {
-            Kind::Program => self.programs.contains(id),
-            Kind::Applicant => match self.applicants.number(id) {
-                Some(number) => self.singles[number],
-                None => false,
-            },
-            Kind::Couple => self.couples.contains(id),
-        }
-    }
+/// Takes a table, and leaves an empty one.
+pub(crate) fn take_table<'a>(alloc: Global, table: &mut IdTable<'a>) -> IdTable<'a>
+    ensures { result ≡ table.old }
+{
+    let none = IdTable::new(alloc, Seed::of(&DefaultHasher::new()));
+    replace(table, none)
 }

@@ -1,5 +1,5 @@
 //! What records withdraw, who stays, and the numbers of those that stay among themselves.
-ghost use Rattle.std.specs.Prelude.{◌≡◌, ◌<◌, ◌+◌, ◌++◌, ◌∷◌, [], ◌^◌, false, length, filter, not, IfOk, OnOk, MatchOption, if◌then◌else◌};
+ghost use Rattle.std.specs.Prelude.{◌≡◌, ◌<◌, ◌+◌, ◌++◌, ◌∷◌, [], ◌^◌, false, length, filter, IfOk, OnOk, MatchOption, if◌then◌else◌};
 ghost use Rattle.mt_file_laws.specs.Faultless.{withdrawals_stand};
 ghost use Rattle.mt_file_laws.specs.Staying.{new_numbers, program_flags, applicant_flags};
 ghost use Rattle.mt_terms.specs.Registration.Ids.{has_id};
@@ -11,7 +11,7 @@ ghost use Rattle.mt_numbering.specs.Registered.{KnowsIds};
 ghost use Rattle.mt_numbering.specs.Withdrawals.{stays_after, withdrawn_ids, Stand};
 ghost use Rattle.mt_ids.specs.Seeds.{seed_of};
 
-use crate::registered::Registered;
+use crate::registered::is_registered;
 use mt_ids::{IdTable, Seed, add_field};
 use mt_records::{Kinds, Record, push};
 use mt_terms::{AppNo, ProgNo};
@@ -31,20 +31,23 @@ fn seed_of(records: &[Record<'_>]) -> Seed
     Seed::of(&digest)
 }
 
-/// The ids that records withdraw, if each is registered and none is withdrawn twice.
-pub(crate) fn withdrawn_by<'a>(
+/// The ids that records withdraw, if each is registered and none is withdrawn twice. `singles` says for each applicant
+/// whether it is a single.
+pub(crate) fn withdrawn<'a>(
     alloc: Global,
-    registered: &Registered<'_>,
+    registered: &Kinds<'_>,
+    singles: &[bool],
     records: &[Record<'a>],
 ) -> Result<Option<Kinds<'a>>, AllocError>
-    requires long { length registered.now.singles.now ≡ length registered.now.applicants }
-    requires known { KnowsIds registered.now records.now }
-    ensures { IfOk result (λ found. MatchOption found (withdrawals_stand (all_seen records.now) ≡ false) (Stand (all_seen records.now))) }
+    requires long { length singles.now ≡ length registered.now.applicants }
+    requires known { KnowsIds registered.now singles.now records.now }
+    ensures { IfOk result (λ found. MatchOption found
+        (withdrawals_stand (all_seen records.now) ≡ false) (Stand (all_seen records.now))) }
 {
     let mut withdrawn = Kinds::new(alloc, seed_of(records));
     for one in records {
         if let Record::Withdraw { kind, id } = one {
-            if !registered.has(*kind, id) || !withdrawn.add(*kind, id)? {
+            if !is_registered(registered, singles, *kind, id) || !withdrawn.add(*kind, id)? {
                 return Ok(None);
             }
         }
@@ -71,30 +74,12 @@ pub(crate) fn stays(withdrawn: &Kinds<'_>, one: &Record<'_>) -> bool
     }
 }
 
-/// The records that don't stay where these ids are withdrawn.
-pub(crate) fn leaving<'a>(
-    alloc: Global,
-    withdrawn: &Kinds<'_>,
-    records: &[Record<'a>],
-) -> Result<Vec<Record<'a>>, AllocError>
-    ensures { IfOk result (λ v. all_seen v.items ≡ filter (λ r. not (stays_after withdrawn.now r)) (all_seen records.now)) }
+/// Takes those records out that don't stay where these ids are withdrawn.
+pub(crate) fn retain_staying(withdrawn: &Kinds<'_>, records: &mut Vec<Record<'_>>)
+    ensures { all_seen records.new.items
+        ≡ filter (stays_after withdrawn.now) (all_seen records.old.items) }
 {
-    let mut leaving = Vec::new(alloc);
-    for one in records {
-        if !stays(withdrawn, one) {
-            push(&mut leaving, *one)?;
-        }
-    }
-    Ok(leaving)
-}
-
-/// The records that stay where these ids are withdrawn.
-pub(crate) fn staying<'a>(withdrawn: &Kinds<'_>, records: Vec<Record<'a>>) -> Vec<Record<'a>>
-    ensures { all_seen result.items ≡ filter (stays_after withdrawn.now) (all_seen records.entry.items) }
-{
-    let mut staying = records;
-    staying.retain(|one| stays(withdrawn, one));
-    staying
+    records.retain(|one| stays(withdrawn, one));
 }
 
 /// For each program the number that it has among those that stay, if it stays.
@@ -104,7 +89,8 @@ pub(crate) fn program_numbers(
     records: &[Record<'_>],
 ) -> Result<Vec<Option<ProgNo>>, AllocError>
     requires { length (ids_of OfProgram (all_seen records.now)) < 2 ^ 31 }
-    ensures { IfOk result (λ v. v.items ≡ new_numbers 0 (program_flags (stays_after withdrawn.now) (all_seen records.now))) }
+    ensures { IfOk result (λ v. v.items
+        ≡ new_numbers 0 (program_flags (stays_after withdrawn.now) (all_seen records.now))) }
 {
     let mut numbers = Vec::new(alloc);
     let mut next = 0;
@@ -128,7 +114,8 @@ fn push_number(
     stays: bool,
 ) -> Result<(), AllocError>
     requires { next.old + 1 < 2 ^ 32 }
-    ensures numbers { OnOk result (numbers.new.items ≡ numbers.old.items ++ new_numbers next.old (stays ∷ [])) }
+    ensures numbers { OnOk result
+        (numbers.new.items ≡ numbers.old.items ++ new_numbers next.old (stays ∷ [])) }
     ensures next { OnOk result (next.new ≡ next.old + (if stays then 1 else 0)) }
 {
     if stays {
@@ -148,7 +135,8 @@ pub(crate) fn applicant_numbers(
     records: &[Record<'_>],
 ) -> Result<Vec<Option<AppNo>>, AllocError>
     requires { length (applicant_ids (all_seen records.now)) < 2 ^ 31 }
-    ensures { IfOk result (λ v. v.items ≡ new_numbers 0 (applicant_flags (stays_after withdrawn.now) (all_seen records.now))) }
+    ensures { IfOk result (λ v. v.items
+        ≡ new_numbers 0 (applicant_flags (stays_after withdrawn.now) (all_seen records.now))) }
 {
     let mut numbers = Vec::new(alloc);
     let mut next = 0;

@@ -1,4 +1,0 @@
-pub mod ListFacts
-pub mod StampFacts
-pub mod ReadingSteps
-pub mod BlockFacts

@@ -1,0 +1,4 @@
+pub mod ListFacts
+pub mod MetFacts
+pub mod ReadingSteps
+pub mod ChunkFacts

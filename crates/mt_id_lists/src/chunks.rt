@@ -1,0 +1,138 @@
+//! Lists read in chunks side by side.
+ghost use Rattle.std.specs.Prelude.{◌≡◌, ◌++◌, ◌<◌, flat_map, IfOk, OnOk};
+ghost use Rattle.std.specs.List.{AllZip};
+ghost use Rattle.rayon.specs.Lists.{chunks_of};
+ghost use Rattle.mt_id_lists.specs.Reading.{Joins, ReadsAll};
+
+use crate::reader::ListReader;
+use mt_rows::FlatLists;
+use rayon::current_num_threads;
+use rayon::prelude::*;
+use std::alloc::{AllocError, Global};
+use std::thread::Threads;
+
+/// The fewest entries that are worth threads.
+const FEWEST: usize = 8192;
+
+/// The most processors that chunks are made for.
+const MOST_PROCESSORS: usize = 64;
+
+/// Whether lists have so many entries that they are worth threads.
+fn are_long<L, M: Drop + Send + Sync, S: ListReader<L, M> + Sync>(reader: &S, lists: &[L]) -> bool {
+    let mut entries: usize = 0;
+    for list in lists {
+        entries = entries.saturating_add(reader.entries(list));
+        if entries >= FEWEST {
+            return true;
+        }
+    }
+    false
+}
+
+/// How many lists a chunk has: there are two chunks for each processor, but one alone if the lists are short, or if
+/// there is only one processor.
+fn chunk_size<R: Threads>(rt: &R, count: usize, are_long: bool) -> usize
+    ensures { 0 < result }
+{
+    if !are_long {
+        return count.max(1);
+    }
+    let processors = current_num_threads(rt).min(MOST_PROCESSORS);
+    if processors == 1 {
+        count.max(1)
+    } else {
+        count.div_ceil(processors * 2).max(1)
+    }
+}
+
+/// A chunk of lists by numbers, if each stands.
+fn read_chunk<L, M: Drop + Send + Sync, S: ListReader<L, M> + Sync>(
+    alloc: Global,
+    reader: &S,
+    lists: &[L],
+) -> Result<Option<FlatLists<S::Item>>, AllocError>
+    ensures { IfOk result (ReadsAll (S.stands reader.now) (S.read reader.now) lists.now) }
+{
+    let mut read = FlatLists::new(alloc);
+    let mut met = reader.new_met(alloc)?;
+    for list in lists {
+        if !reader.read_list(alloc, &mut read, &mut met, list)? {
+            return Ok(None);
+        }
+    }
+    Ok(Some(read))
+}
+
+/// The lists in chunks of this size, each read by itself.
+fn read_chunks<R: Threads + Sync, L: Sync, M: Drop + Send + Sync, S: ListReader<L, M> + Sync>(
+    rt: &R,
+    alloc: Global,
+    reader: &S,
+    lists: &[L],
+    size: usize,
+) -> Result<Vec<Option<FlatLists<S::Item>>>, AllocError>
+    requires { 0 < size }
+    ensures { IfOk result (λ chunks. AllZip (ReadsAll (S.stands reader.now) (S.read reader.now))
+        (chunks_of size lists.now) chunks.items) }
+{
+    lists
+        .par_chunks(size)
+        .with_min_len(1)
+        .map(
+            |chunk: &[L]| -> Result<Option<FlatLists<S::Item>>, AllocError>
+                ensures { IfOk result
+                    (ReadsAll (S.stands reader.entry.now) (S.read reader.entry.now) chunk.entry.now) }
+            { read_chunk(alloc, reader, chunk) },
+        )
+        .collect::<Result<Vec<Option<FlatLists<S::Item>>>, AllocError>>(rt, alloc)?
+}
+
+/// Adds lists at the end of others.
+fn append<T: Copy + Drop>(to: &mut FlatLists<T>, lists: &FlatLists<T>) -> Result<(), AllocError>
+    ensures { OnOk result (to.new ≡ to.old ++ lists.now) }
+{
+    for number in 0..lists.len() {
+        to.push_list(lists.list(number))?;
+    }
+    Ok(())
+}
+
+/// The lists of chunks one after another, if each was read. A chunk is let go once its lists are joined.
+fn join<T: Copy + Drop>(
+    alloc: Global,
+    chunks: Vec<Option<FlatLists<T>>>,
+) -> Result<Option<FlatLists<T>>, AllocError>
+    ensures { IfOk result (Joins chunks.items) }
+{
+    let mut joined = FlatLists::new(alloc);
+    for chunk in chunks {
+        let Some(lists) = chunk else {
+            return Ok(None);
+        };
+        append(&mut joined, &lists)?;
+    }
+    Ok(Some(joined))
+}
+
+/// Lists by numbers, if each stands. Long ones are read side by side, and let go before they are joined.
+pub fn read_lists<
+    R: Threads + Sync,
+    L: Sync + Drop,
+    M: Drop + Send + Sync,
+    S: ListReader<L, M> + Sync,
+>(
+    rt: &R,
+    alloc: Global,
+    reader: &S,
+    lists: Vec<L>,
+) -> Result<Option<FlatLists<S::Item>>, AllocError>
+    ensures { IfOk result (ReadsAll (S.stands reader.now) (S.read reader.now) lists.items) }
+{
+    let size = chunk_size(rt, lists.len(), are_long(reader, &lists));
+    if lists.len() <= size {
+        return read_chunk(alloc, reader, &lists);
+    }
+    let chunks = read_chunks(rt, alloc, reader, &lists, size)?;
+    drop(lists);
+    join(alloc, chunks)
+}

@@ -1,0 +1,7 @@
+use Rattle.std.proofs.lemmas.Result.{IfOk-weaker}
+use Rattle.mt_id_lists.proofs.ReadingSteps.{all_seen}
+use Rattle.mt_id_lists.specs.Reading.{list_seen, ids_stand, ids_read}
+use Rattle.mt_numbering.proofs.entries.choices.Goals as goal
+
+pub returns : goal.returns
+returns g c = IfOk-weaker c.read_lists.result _ _ (λ o reads. all_seen list_seen (ids_stand c.args.programs.now) (ids_read c.args.programs.now) _ _ o c.in_ok-lists.ensures reads) c.read_lists.ensures

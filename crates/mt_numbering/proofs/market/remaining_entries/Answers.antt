@@ -1,0 +1,35 @@
+use Rattle.std.proofs.Common.{◌∙◌, List, ap, sym, subst}
+use Rattle.mt_terms.specs.Registration.Ids.{has_id}
+use Rattle.mt_terms.specs.Registration.Records.{Rules}
+use Rattle.mt_terms.specs.Registration.Rows.{ids_of}
+use Rattle.mt_records.specs.declared.record.Record.{Record as Checked}
+use Rattle.mt_numbering.specs.Markets.{GivesEntries}
+use Rattle.mt_numbering.specs.Numbered.{all_seen}
+use Rattle.mt_numbering.specs.Withdrawals.{stays_after}
+use Rattle.mt_numbering.proofs.AcceptedFacts.{ids_found}
+use Rattle.mt_numbering.proofs.MarketFacts.{knows_ids, length-singles, remains, stand_found}
+use Rattle.mt_numbering.proofs.market.remaining_entries.Goals as goal
+
+pub withdrawn-requires-clause-long : goal.withdrawn-requires-clause-long
+withdrawn-requires-clause-long g c =
+    let rs = all_seen c.args.records.now.items in
+    let are = ids_found rs c.args.names.now c.requires.names _ c.in-Some.ids c.in_ok-ids.ensures c.in-Some.is in
+    length-singles rs c.in-Some.ids are c.deref.result.now (c.deref.ensures.value ∙ c.requires.names.singles)
+
+pub withdrawn-requires-clause-known : goal.withdrawn-requires-clause-known
+withdrawn-requires-clause-known g c = λ kind id.
+    let rs = all_seen c.args.records.now.items in
+    let are = ids_found rs c.args.names.now c.requires.names _ c.in-Some.ids c.in_ok-ids.ensures c.in-Some.is in
+    knows_ids rs c.in-Some.ids are c.deref.result.now (c.deref.ensures.value ∙ c.requires.names.singles) kind id
+    ∙ ap (λ (xs : List Checked). has_id (ids_of kind (all_seen xs)) id) (sym c.deref-2.ensures.value)
+
+pub returns : goal.returns
+returns g c =
+    let rs = all_seen c.args.records.now.items in
+    let w = c.in-Some-2.withdrawn in
+    let o = c.in_ok-entries.entries in
+    let are = ids_found rs c.args.names.now c.requires.names _ c.in-Some.ids c.in_ok-ids.ensures c.in-Some.is in
+    let stand = stand_found c.deref-2.result.now c.args.records.now.items _ w c.deref-2.ensures.value c.in_ok-withdrawn.ensures c.in-Some-2.is in
+    let here = subst (λ (xs : List Checked). GivesEntries c.rules.inside.half_pairs (stays_after w) (all_seen xs) o) c.deref-3.ensures.value c.in_ok-entries.ensures in
+    let gives = subst (λ (q : Rules). GivesEntries q.half_pairs (stays_after w) rs o) c.rules.view_is here in
+    remains c.args.rules.now rs c.requires.few c.requires.room c.in-Some.ids are w stand _ c.retain_staying.ensures o gives

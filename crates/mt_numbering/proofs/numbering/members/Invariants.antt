@@ -1,9 +1,0 @@
-use Rattle.std.proofs.Common.{◌≡◌, ◌++◌, drop}
-use Rattle.std.specs.Prelude.{filter_map}
-use Rattle.mt_numbering.specs.Numbered.{all_seen}
-use Rattle.mt_numbering.specs.Reading.{members_by}
-use Rattle.mt_numbering.proofs.numbering.members.Given as goal
-
-abbrev pub invariant-loop-one : goal.invariant-loop-one
-invariant-loop-one l =
-    l.members.items ++ filter_map (members_by l.applicants l.numbers) (all_seen (drop l.one-index l.records)) ≡ filter_map (members_by l.applicants l.numbers) (all_seen l.records)

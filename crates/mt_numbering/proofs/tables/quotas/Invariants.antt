@@ -1,0 +1,8 @@
+use Rattle.std.proofs.Common.{◌≡◌, ◌++◌, drop}
+use Rattle.std.specs.Prelude.{filter_map}
+use Rattle.mt_numbering.specs.Numbered.{all_seen, quota_in}
+use Rattle.mt_numbering.proofs.tables.quotas.Given as goal
+
+abbrev pub invariant-loop-one : goal.invariant-loop-one
+invariant-loop-one l =
+    l.quotas.items ++ filter_map quota_in (all_seen (drop l.one-index l.records)) ≡ filter_map quota_in (all_seen l.records)
