@@ -9,6 +9,6 @@ flags_of stamp stamps = map (λ s. s == stamp) stamps
 abbrev pub AreAtMost : ℕ → List ℕ → Type 0
 AreAtMost stamp stamps = (i : ℕ) → i < length stamps → slice_index_or stamps i 0 ≤ stamp
 
--- None was met.
+-- No id of a list was met yet.
 abbrev pub IsNoneMet : List Bool → Type 0
 IsNoneMet met = (i : ℕ) → i < length met → slice_index_or met i false ≡ false
