@@ -11,7 +11,7 @@ use Rattle.mt_terms.specs.declared.verdict.Verdict.TheVariants.{Stable}
 use Rattle.mt_answer.specs.Answer.{all_proposals}
 use Rattle.mt_answer.proofs.MatchFacts.{stable_are_places}
 use Rattle.mt_verdict_laws.proofs.VerdictLemmas.{stable_verdict_lem}
-use Rattle.mt_match.specs.Told.{Told}
+use Rattle.mt_match_file.specs.Told.{Told}
 use Rattle.mt_check.specs.Answer.{answer_to}
 use Rattle.mt_check.specs.Headline.{market_in, most_bytes, told_in}
 use Rattle.mt_check.specs.Text.{stable_line}

@@ -9,7 +9,7 @@ use Rattle.mt_lists.specs.Records.{records_of}
 use Rattle.mt_terms.specs.Best.{IsBest}
 use Rattle.mt_terms.specs.Market.{Market, Partners, Registered, list_of, singles_market}
 use Rattle.mt_terms.specs.Stability.{stable}
-use Rattle.mt_terms.specs.Registration.Faults.{charge_alone, fault_at}
+use Rattle.mt_terms.specs.Registration.Faults.{record_fault_alone, fault_at}
 use Rattle.mt_terms.specs.declared.codes.TheConstants.{TOO_LARGE}
 use Rattle.mt_check.proofs.AnswerFacts.{answers_are_so_lem}
 use Rattle.mt_check.specs.Text.{stable_line}
@@ -20,10 +20,10 @@ use Rattle.mt_terms.specs.Registration.Ids.{Bytes, all_differ, is_id, numbers_of
 use Rattle.mt_terms.specs.Registration.Numbering.{registered}
 use Rattle.mt_terms.specs.Registration.Records.{ApplicantRecord, ProgramRecord, Record, Rules, rules_of}
 use Rattle.mt_terms.specs.Text.{name_of}
-use Rattle.mt_match_laws.proofs.ExclusionLemmas.{best_is_at_least_lem}
+use Rattle.mt_stability_laws.proofs.ExclusionLemmas.{best_is_at_least_lem}
 use Rattle.mt_file_laws.specs.Faultless.{draft, drafts}
 use Rattle.mt_check.specs.Headline.{market_in, most_bytes, told_in}
-use Rattle.mt_match.specs.Told.{Told}
+use Rattle.mt_match_file.specs.Told.{Told}
 use Rattle.mt_applicant_laws.specs.Changes.{HasAtLeast, with_list}
 use Rattle.mt_applicant_laws.proofs.EasierMarkets.{more_posts_hurt_none_lem, one_less_hurts_no_other_lem}
 use Rattle.mt_applicant_laws.proofs.ListChanges.{no_stable_match_gives_more_lem}
@@ -196,7 +196,7 @@ called bytes r places rows are h =
       is_stable = subst (λ (q : Registered). IsTrue (stable q.market places)) same (subst (λ (ps : Places). IsTrue (stable judged.registered.market ps)) same_places (judged.stable.0 refl).0);
     }
   where
-    by : (large : Bool) → (if large then Err (fault_at 0 (charge_alone TOO_LARGE)) else market_of rows) ≡ Ok r → market_of rows ≡ Ok r
+    by : (large : Bool) → (if large then Err (fault_at 0 (record_fault_alone TOO_LARGE)) else market_of rows) ≡ Ok r → market_of rows ≡ Ok r
     by true k = cc
     by false k = k
 

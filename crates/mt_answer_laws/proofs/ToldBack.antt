@@ -13,9 +13,9 @@ use Rattle.mt_terms.specs.Registration.Ids.{Bytes, all_differ}
 use Rattle.mt_terms.specs.Registration.Passes.{numbered_from}
 use Rattle.mt_terms.specs.Text.{all_filled, name_of, place_text, positions, unmatched}
 use Rattle.mt_terms.proofs.IdFacts.{is_same, same_id}
-use Rattle.mt_match.specs.Told.{all_told, nothing_told, place_named, told_by}
-use Rattle.mt_match.specs.declared.told_match.Count.TheVariants as count
-use Rattle.mt_match.specs.declared.told_match.Counted.{Counted}
+use Rattle.mt_match_file.specs.Told.{all_told, nothing_told, place_named, told_by}
+use Rattle.mt_match_file.specs.declared.told_match.Count.TheVariants as count
+use Rattle.mt_match_file.specs.declared.told_match.Counted.{Counted}
 use Rattle.mt_check.specs.Findings.{first_differing_of, fits_count}
 use Rattle.mt_answer_laws.proofs.PublishedRows.{IsTellable, applicant_fields, id_at, id_no_dash, program_fields, published_rows, totals_fields}
 

@@ -4,7 +4,7 @@ use Rattle.mt_terms.specs.Market.{Registered}
 use Rattle.mt_terms.specs.Matching.{Places}
 use Rattle.mt_terms.specs.Stability.{stable}
 use Rattle.mt_terms.specs.Text.{published}
-use Rattle.mt_match.specs.Told.{Told}
+use Rattle.mt_match_file.specs.Told.{Told}
 use Rattle.mt_check.specs.Headline.{market_in, told_in}
 
 -- A text is that of a stable match of the market in the bytes, and what it tells of that market is that match.

@@ -5,7 +5,7 @@ use Rattle.mt_terms.specs.Market.{Registered}
 use Rattle.mt_terms.specs.Matching.{Places}
 use Rattle.mt_terms.specs.Registration.Ids.{Bytes, quota_of}
 use Rattle.mt_run.specs.Answer as run
-use Rattle.mt_match.specs.declared.told_match.Counted.{Counted}
+use Rattle.mt_match_file.specs.declared.told_match.Counted.{Counted}
 use Rattle.mt_check.specs.Answer as check
 use Rattle.mt_check.specs.Headline.{market_in, told_in}
 use Rattle.mt_check.specs.Text.{stable_line}

@@ -5,7 +5,7 @@ use Rattle.mt_terms.specs.Best.{IsBest}
 use Rattle.mt_terms.specs.WellFormed.{IsWellFormed, is_well_formed}
 use Rattle.mt_terms.specs.Floor.{Floor, opening, after_all, is_quiet, result_of}
 use Rattle.mt_terms.specs.declared.events.Event.{Event}
-use Rattle.mt_match_laws.proofs.WellFormedLemmas.{well_formed_from_test}
+use Rattle.mt_stability_laws.proofs.WellFormedLemmas.{well_formed_from_test}
 use Rattle.mt_floor_laws.proofs.FloorEvents.{events_keep_strict_lem}
 use Rattle.mt_floor_laws.proofs.FloorRuns.{opening_is_strict_lem, result_of_is_result}
 use Rattle.mt_floor_laws.proofs.FloorBest.{strict_best_lem}

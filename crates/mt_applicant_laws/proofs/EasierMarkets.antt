@@ -10,14 +10,14 @@ use Rattle.mt_terms.specs.Matching.{Places, at}
 use Rattle.mt_terms.specs.Choice.{choice}
 use Rattle.mt_terms.specs.Best.{IsExcluded, IsBest, better_programs}
 use Rattle.mt_terms.specs.WellFormed.{IsMember, IsWellFormed}
-use Rattle.mt_terms.specs.Floor.{Floor, held, passed, IsStrict, is_due, is_quiet, opening, after, after_all, proposed_at, receives_one, result_of}
+use Rattle.mt_terms.specs.Floor.{Floor, held_set, passed_programs, IsStrict, is_due, is_quiet, opening, after, after_all, proposed_at, receives_one, result_of}
 use Rattle.mt_terms.specs.declared.events.Event.{Event}
 use Rattle.mt_terms.proofs.ListFacts.{has-from_take}
 use Rattle.mt_terms.proofs.LiveFacts.{live_parts}
-use Rattle.mt_match_laws.proofs.ListLemmas.{has-until, until-filter}
-use Rattle.mt_match_laws.proofs.ChoiceLemmas.{choice_facts, choice_from_facts}
-use Rattle.mt_match_laws.proofs.SinglesFacts.{stable_facts}
-use Rattle.mt_match_laws.proofs.ExclusionLemmas.{exclusion_lem, best_is_unique_lem, best_is_at_least_lem}
+use Rattle.mt_stability_laws.proofs.ListLemmas.{has-until, until-filter}
+use Rattle.mt_stability_laws.proofs.ChoiceLemmas.{choice_facts, choice_from_facts}
+use Rattle.mt_stability_laws.proofs.SinglesFacts.{stable_facts}
+use Rattle.mt_stability_laws.proofs.ExclusionLemmas.{exclusion_lem, best_is_unique_lem, best_is_at_least_lem}
 use Rattle.mt_floor_laws.proofs.FloorLists.{has-until-take, has-until-get, has-get}
 use Rattle.mt_floor_laws.proofs.FloorEvents.{IsNext, tried_from_passed, tried_from_received, passed_from_front, passed_where_free, after_due, after_not_due, event_keeps_strict_lem, events_keep_strict_lem}
 use Rattle.mt_floor_laws.proofs.FloorRuns.{quiet_is_reached_lem, opening_is_strict_lem, result_of_is_result}
@@ -53,12 +53,12 @@ above_unfiltered kept (x ∷ xs) p q keeps before = grind (arith, nat_tests, abo
 
 -- An applicant that a program of the easier market has received and doesn't hold is excluded there in the harder one.
 pub record RefusedAreExcluded (m k : Market) (f : Floor) : Type 0 where
-  pub refused : (a p : ℕ) → IsTrue (f.received p a) → IsFalse (held k f p a) → IsExcluded m a p
+  pub refused : (a p : ℕ) → IsTrue (f.received p a) → IsFalse (held_set k f p a) → IsExcluded m a p
 
 -- Below, k is an easier market than m, and f a strict floor of k on which this is so.
 module _ (m k : Market) (w : IsWellFormed m) (easier : IsEasier m k) (f : Floor) (strict : IsStrict k f) (shown : RefusedAreExcluded m k f) where
   -- what an applicant has passed is excluded
-  passed_out : (a q : ℕ) → IsTrue (has (passed k f a) q) → IsExcluded m a q
+  passed_out : (a q : ℕ) → IsTrue (has (passed_programs k f a) q) → IsExcluded m a q
   passed_out a q past = shown.refused a q (strict.legal.recorded.receives a q ∙ tried_from_passed k f a q past) (strict.let_go a q past)
 
   -- what is above a live entry was above it
@@ -106,7 +106,7 @@ module _ (m k : Market) (w : IsWellFormed m) (easier : IsEasier m k) (f : Floor)
     shown_after_proposal = record {
       refused = λ b q on out. elim (cases_eq q p) [
         | inl there ↦
-            subst (λ (x : ℕ). IsTrue ((proposed_at k f a p).received x b) → IsFalse (held k (proposed_at k f a p) x b) → IsExcluded m b x) (sym there)
+            subst (λ (x : ℕ). IsTrue ((proposed_at k f a p).received x b) → IsFalse (held_set k (proposed_at k f a p) x b) → IsExcluded m b x) (sym there)
             (λ on_p out_p.
             refused_there b (ap (λ (set : Set). set b) (sym received_there) ∙ on_p) (ap (λ (set : Set). choice (program_of k p) set b) (sym received_there) ∙ out_p))
             on out
@@ -157,7 +157,7 @@ easier_gives_at_least m k w w_k easier best more is_best is_more a same p there 
     listed : IsTrue (has (program_of k p).ranking a)
     listed = ap (λ xs. has xs a) (easier.same_rankings p) ∙ (stable_facts m best is_best.is_stable).listed a p there
 
-    past : IsTrue (has (better_programs m more a) p) → IsTrue (has (passed k f a) p)
+    past : IsTrue (has (better_programs m more a) p) → IsTrue (has (passed_programs k f a) p)
     past better =
         passed_from_better k f strict.legal.recorded run.1 (result_of k f) (result_of_is_result k f) a p listed
         (ap (λ places. has (better_programs k places a) p) (sym is_result) ∙ ap (λ ps. has (until (λ q. at more q a) ps) p) same ∙ better)

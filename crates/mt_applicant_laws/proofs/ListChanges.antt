@@ -9,9 +9,9 @@ use Rattle.mt_terms.specs.Matching.{Places, at, place_of, is_program}
 use Rattle.mt_terms.specs.Stability.{stable}
 use Rattle.mt_terms.specs.Best.{IsBest, better_programs}
 use Rattle.mt_terms.specs.WellFormed.{IsMember, IsWellFormed}
-use Rattle.mt_match_laws.proofs.ListLemmas.{has-until, until_nobody, passes_before}
-use Rattle.mt_match_laws.proofs.SinglesFacts.{IsStableForSingles, stable_facts, stable_from_facts}
-use Rattle.mt_match_laws.proofs.ExclusionLemmas.{lt_of_there, best_is_at_least_lem, best_is_unique_lem}
+use Rattle.mt_stability_laws.proofs.ListLemmas.{has-until, until_nobody, passes_before}
+use Rattle.mt_stability_laws.proofs.SinglesFacts.{IsStableForSingles, stable_facts, stable_from_facts}
+use Rattle.mt_stability_laws.proofs.ExclusionLemmas.{lt_of_there, best_is_at_least_lem, best_is_unique_lem}
 use Rattle.mt_floor_laws.proofs.FloorRuns.{best_exists_lem}
 use Rattle.mt_floor_laws.proofs.RuralLemmas.{place_at, somewhere, singles_fill_alike}
 use Rattle.mt_applicant_laws.specs.Changes.{with_list}

@@ -11,7 +11,7 @@ use Rattle.mt_terms.specs.Stability.{would_be_taken}
 use Rattle.mt_terms.specs.declared.numbers.Agent.TheVariants.{Single, Couple}
 use Rattle.mt_terms.proofs.BelowFacts.{map_below_at}
 use Rattle.mt_terms.proofs.ListFacts.{distinct-take, has-take-position, until_position}
-use Rattle.mt_match_laws.proofs.ListLemmas.{until-map, list_any-map}
+use Rattle.mt_stability_laws.proofs.ListLemmas.{until-map, list_any-map}
 use Rattle.mt_ranks.specs.Ranked.{rank_of, ranked_entry}
 use Rattle.mt_ranks.specs.declared.entries.Live.{Live}
 use Rattle.mt_round_laws.proofs.RoundsFits.{listing_program}
@@ -19,7 +19,7 @@ use Rattle.mt_round_laws.proofs.RoundsLists.{In, found, of_image, of_kept, same_
 use Rattle.mt_assignment.specs.Assigned.{Assigned, has_post, pair_of, taken_by, AreSent, IsAssigned}
 use Rattle.mt_assignment.specs.Moves.{names_one_of, opens}
 use Rattle.mt_assignment.specs.Watched.{better_entries, better_pairs, wanted}
-use Rattle.mt_sets.proofs.ListFacts.{is_some-find, is_some-option_map}
+use Rattle.mt_stage_tables.proofs.ListFacts.{is_some-find, is_some-option_map}
 use Rattle.mt_assignment.proofs.RankFacts.{has_rank, has_no_rank}
 use Rattle.mt_round_laws.proofs.SentCounts.{comes, leaves, count_sent, in_read}
 use Rattle.mt_assignment.proofs.SentFacts.{sent_there}

@@ -14,7 +14,7 @@ use Rattle.mt_terms.specs.Rounds.{programs_sent_to, displaced, displaced_at, is_
 use Rattle.mt_terms.specs.Stability.{is_chosen}
 use Rattle.mt_terms.specs.declared.numbers.Agent.{Agent}
 use Rattle.mt_terms.specs.declared.numbers.Agent.TheVariants.{Single, Couple}
-use Rattle.mt_match_laws.proofs.ChoiceLemmas.{choice_facts}
+use Rattle.mt_stability_laws.proofs.ChoiceLemmas.{choice_facts}
 use Rattle.mt_round_laws.proofs.RoundsLists.{In, found, finds, has_in, in_has, in_image, of_image, in_joined, of_joined, in_below, of_below, each}
 use Rattle.mt_round_laws.proofs.RoundsPlaces.{at_none}
 use Rattle.mt_round_laws.proofs.RoundsAgents.{agent_of_applicant, agent_from_list, of_list, on_list, member_of_agent, apart, option_movers, option_entry, option_member, option_there, option_elsewhere}
@@ -23,7 +23,7 @@ use Rattle.mt_round_laws.proofs.RoundsMove.{IsMove, of_displaced, displaced_agen
 use Rattle.mt_assignment.specs.Assigned.{AreSent, AreSentToLists}
 use Rattle.mt_assignment.specs.Moves.{is_left_by_movers, is_kept_at, all_members, IsTaking}
 use Rattle.mt_round_laws.proofs.SentCounts.{in_list}
-use Rattle.mt_sets.proofs.OrderFacts.{below_rest}
+use Rattle.mt_stage_tables.proofs.OrderFacts.{below_rest}
 use Rattle.mt_terms.proofs.AgentFacts.{same_agent}
 
 -- an option names two applicants at most

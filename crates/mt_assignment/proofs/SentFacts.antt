@@ -8,7 +8,7 @@ use Rattle.mt_round_laws.proofs.RoundsLists.{In, in_has, in_image}
 use Rattle.mt_round_laws.proofs.RoundsPlaces.{movers, send_there, at_some}
 use Rattle.mt_round_laws.proofs.SentCounts.{one}
 use Rattle.mt_assignment.specs.Assigned.{AreSent}
-use Rattle.mt_sets.proofs.PlaceFacts.{count_more}
+use Rattle.mt_stage_tables.proofs.PlaceFacts.{count_more}
 
 -- who is sent somewhere is an applicant of the market
 pub sent_within : (m : Market) (sent : Placement) (i : ℕ) (s : ℕ × Option ℕ) → AreSent m sent → i < length sent → s ≡ get_or sent i s → s.0 < applicants m

@@ -11,7 +11,7 @@ use Rattle.mt_terms.specs.Registration.Accepted.{IsRegistration}
 use Rattle.mt_terms.specs.Lists.{has}
 use Rattle.mt_terms.specs.Market.{Market, applicants, program_of}
 use Rattle.mt_terms.specs.Matching.{Places, place_of, is_program, at, placed_ranks}
-use Rattle.mt_match_laws.proofs.TakenLemmas.{at-slice_set_same, at-slice_set_other}
+use Rattle.mt_stability_laws.proofs.TakenLemmas.{at-slice_set_same, at-slice_set_other}
 use Rattle.mt_terms.specs.Places.{ArePlaces}
 use Rattle.mt_ranks.specs.Ranked.{ranked_of}
 use Rattle.std.specs.List.Sorted.{IsStrictlySortedBy}
@@ -21,8 +21,8 @@ use Rattle.mt_assignment.specs.View.{assigned_of, AreTables}
 use Rattle.mt_assignment.specs.declared.assignment.Assignment.TheInside.{Inside}
 use Rattle.mt_assignment.proofs.MarketFacts.{ranked_ranking}
 use Rattle.mt_assignment.proofs.RankFacts.{has_no_rank}
-use Rattle.mt_sets.proofs.MatchRows.{row_count, row_read, rows_written, rows_kept, unlisted_same, elsewhere_same, comes_in, goes_off, AreRows}
-use Rattle.mt_sets.proofs.RanksFacts.{ranks_sorted, has_own_rank, has_no_own_rank}
+use Rattle.mt_stage_tables.proofs.MatchRows.{row_count, row_read, rows_written, rows_kept, unlisted_same, elsewhere_same, comes_in, goes_off, AreRows}
+use Rattle.mt_stage_tables.proofs.RanksFacts.{ranks_sorted, has_own_rank, has_no_own_rank}
 
 -- a match in which one applicant is moved to a program of the market, or to none
 places_moved : (m : Market) (places : Places) (a : ℕ) (v : Option ℕ) → ArePlaces m places → a < length places → ((p : ℕ) → is_program p v ≡ true → p < length m.programs)

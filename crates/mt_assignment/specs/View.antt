@@ -4,7 +4,7 @@ use Rattle.mt_terms.specs.Registration.Accepted.{IsRegistration}
 use Rattle.mt_ranks.specs.Ranked.{ranked_of}
 use Rattle.mt_terms.specs.Places.{ArePlaces}
 use Rattle.mt_assignment.specs.Assigned.{Assigned, AreListed}
-use Rattle.mt_sets.specs.Ranks.{rows_of}
+use Rattle.mt_stage_tables.specs.Ranks.{rows_of}
 use Rattle.mt_assignment.specs.declared.assignment.Assignment.TheInside.{Inside}
 
 abbrev pub assigned_of : Inside → Assigned

@@ -9,7 +9,7 @@ use Rattle.mt_ranks.specs.Ranked.{rank_of, ranked_list}
 use Rattle.mt_ranks.specs.declared.entries.Live.{Live}
 use Rattle.mt_bits.specs.Members.{is_in}
 use Rattle.mt_assignment.specs.Assigned.{Assigned, pair_of}
-use Rattle.mt_sets.specs.Named.{names}
+use Rattle.mt_stage_tables.specs.Named.{names}
 
 -- the programs that an applicant's list has before its place
 abbrev pub wanted : Assigned → ℕ → List ℕ

@@ -8,13 +8,13 @@ ghost use Rattle.mt_ranks.specs.Ranked.{rank_of, ranked_list, ranked_of};
 ghost use Rattle.mt_ranks.specs.declared.entries.Live.{Live};
 ghost use Rattle.mt_terms.specs.Places.{ArePlaces};
 ghost use Rattle.mt_assignment.specs.Watched.{better_entries, other_entries, AreUnwatched, AreWatched, Watches};
-ghost use Rattle.mt_sets.specs.Ranks.{rows_of, HavePlaced};
+ghost use Rattle.mt_stage_tables.specs.Ranks.{rows_of, HavePlaced};
 ghost use Rattle.mt_assignment.specs.Assigned.{ahead, assignment, displaced_from, with_place, with_ranks, AreApplicantsOf, AreListed, IsAgentOf, IsAssigned};
 
 use mt_bits::RankTable;
 use mt_market::Roster;
 use mt_ranks::{Live, Ranks};
-use mt_sets::{Pair, PlacedRanks};
+use mt_stage_tables::{Pair, PlacedRanks};
 use mt_terms::{Agent, AppNo, CoupleNo, Match, Places, ProgNo};
 use std::alloc::{AllocError, Global};
 use std::marker::Model;

@@ -2,12 +2,12 @@ ghost use Rattle.std.specs.Prelude.{◌≡◌, ◌<◌, IfOk, OnOk};
 ghost use Rattle.mt_terms.specs.Market.{applicants};
 ghost use Rattle.mt_terms.specs.declared.numbers.Agent.{Agent};
 ghost use Rattle.mt_terms.specs.Rounds.{displaced, programs_sent_to};
-ghost use Rattle.mt_sets.specs.Programs.{Adds};
+ghost use Rattle.mt_stage_tables.specs.Programs.{Adds};
 ghost use Rattle.mt_assignment.specs.Assigned.{AreApplicantsOf, AreProgramsOf, AreSent, AreSentToLists};
 ghost use Rattle.mt_assignment.specs.Moves.{any_kept, displaced_by, is_kept, left_by, moved, movers_leave, seated, without_agents, IsTaking};
 
 use crate::assignment::Assignment;
-use mt_sets::ProgramSet;
+use mt_stage_tables::ProgramSet;
 use mt_terms::{Agent, AppNo, ProgNo};
 use std::alloc::{AllocError, Global};
 

@@ -11,7 +11,7 @@ ghost use Rattle.mt_assignment.specs.Moves.{coming, leaving, opens, seated, some
 ghost use Rattle.mt_assignment.specs.Watched.{better_pairs, opens_between};
 
 use crate::assignment::Assignment;
-use mt_sets::Pair;
+use mt_stage_tables::Pair;
 use mt_terms::{Agent, AppNo, CoupleNo, ProgNo};
 
 /// Whether the program is one of these, which are few.

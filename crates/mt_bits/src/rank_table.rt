@@ -3,7 +3,7 @@ ghost use Rattle.mt_bits.specs.Flags.{flag};
 ghost use Rattle.mt_bits.specs.Members.{is_in, IsFirstFrom};
 ghost use Rattle.mt_bits.specs.Tables.{told_by, words_of, AddsList, AddsRank, AreFew, HaveSameFlags, TakesRank};
 
-use mt_rows::Rows;
+use mt_flat::GrowingLists;
 use std::alloc::{AllocError, Global};
 use std::marker::Model;
 
@@ -27,7 +27,7 @@ fn first_flag_from(words: &[u64], number: usize) -> Option<u32>
 
 /// Fills a row of words up with zeros, as far as to a place.
 #[cold]
-fn fill(rows: &mut Rows<u64>, list: usize, place: usize) -> Result<(), AllocError>
+fn fill(rows: &mut GrowingLists<u64>, list: usize, place: usize) -> Result<(), AllocError>
     requires list { list < length rows.old }
     requires place { place < 67108864 }
     requires few { AreFew rows.old }
@@ -43,7 +43,7 @@ fn fill(rows: &mut Rows<u64>, list: usize, place: usize) -> Result<(), AllocErro
 
 /// Sets the bit of a rank whose word is there.
 #[inline(always)]
-fn mark(rows: &mut Rows<u64>, list: usize, rank: u32)
+fn mark(rows: &mut GrowingLists<u64>, list: usize, rank: u32)
     requires list { list < length rows.old }
     requires place { rank / 64 < length (words_of rows.old list) }
     requires few { AreFew rows.old }
@@ -58,7 +58,7 @@ fn mark(rows: &mut Rows<u64>, list: usize, rank: u32)
 /// Sets the bit of a rank whose word isn't there. The error is want of memory, and then no clause says what the bits
 /// are.
 #[cold]
-fn insert_beyond(rows: &mut Rows<u64>, list: usize, rank: u32) -> Result<(), AllocError>
+fn insert_beyond(rows: &mut GrowingLists<u64>, list: usize, rank: u32) -> Result<(), AllocError>
     requires list { list < length rows.old }
     requires few { AreFew rows.old }
     ensures few { AreFew rows.new }
@@ -100,7 +100,7 @@ impl<'a> RankRow<'a> {
 
 /// A set of ranks for each of several lists.
 pub struct RankTable {
-    rows: Rows<u64>,
+    rows: GrowingLists<u64>,
 }
 
 impl Drop for RankTable {
@@ -127,7 +127,7 @@ impl RankTable {
         ensures { result ≡ [] }
     {
         RankTable {
-            rows: Rows::new(alloc),
+            rows: GrowingLists::new(alloc),
         }
     }
 

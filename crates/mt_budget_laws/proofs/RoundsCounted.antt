@@ -4,7 +4,7 @@ use Rattle.std.proofs.lemmas.Bool.{cases_lt}
 use Rattle.mt_terms.specs.Lists.{below}
 use Rattle.mt_terms.specs.Market.{Market}
 use Rattle.mt_terms.specs.Matching.{Places}
-use Rattle.mt_terms.specs.Rounds.{round_of, settled, entered, stage, NeedsRounds}
+use Rattle.mt_terms.specs.Rounds.{round_of, after_rounds, after_entries, stage, NeedsRounds}
 use Rattle.mt_budget_laws.specs.Budget.{StageRounds}
 use Rattle.mt_terms.specs.declared.numbers.Agent.{Agent}
 use Rattle.mt_terms.specs.declared.numbers.Agent.TheVariants.{Couple}
@@ -34,15 +34,15 @@ uses_none run left places r always e =
 
 -- a run that makes a round is spent on one round more than the run after it
 one_more : (m : Market) (k : ℕ) (places : Places) (g : Agent) (ws : List Agent) (n : ℕ)
-    → ((b : ℕ) → b < n → settled m k b (round_of m k places (g ∷ ws)).places (round_of m k places (g ∷ ws)).waiting ≡ None)
-    → (b : ℕ) → b < suc n → settled m k b places (g ∷ ws) ≡ None
+    → ((b : ℕ) → b < n → after_rounds m k b (round_of m k places (g ∷ ws)).places (round_of m k places (g ∷ ws)).waiting ≡ None)
+    → (b : ℕ) → b < suc n → after_rounds m k b places (g ∷ ws) ≡ None
 one_more m k places g ws n h zero l = refl
 one_more m k places g ws n h (suc b) l = h b (omega arith)
 
 -- the rounds of one couple
-settled_uses : (m : Market) (k left : ℕ) (places : Places) (ws : List Agent) (r : Places × ℕ) → settled m k left places ws ≡ Some r
-    → Uses (λ b. settled m k b places ws) left r
-settled_uses m k left places [] r e = uses_none (λ b. settled m k b places []) left places r (λ b. refl) e
+settled_uses : (m : Market) (k left : ℕ) (places : Places) (ws : List Agent) (r : Places × ℕ) → after_rounds m k left places ws ≡ Some r
+    → Uses (λ b. after_rounds m k b places ws) left r
+settled_uses m k left places [] r e = uses_none (λ b. after_rounds m k b places []) left places r (λ b. refl) e
 settled_uses m k zero places (g ∷ ws) r e = absurd (let both : ◌≡◌ {A = Option (Places × ℕ)} None (Some r) = e in cc)
 settled_uses m k (suc left) places (g ∷ ws) r e =
     let next = round_of m k places (g ∷ ws) in
@@ -63,24 +63,24 @@ through_none : {X Y : Type 0} (f : X → Option Y) (o : Option X) → o ≡ None
 through_none f o e = rw e refl
 
 -- the rounds of several couples
-entered_uses : (m : Market) (ks : List ℕ) (left : ℕ) (places : Places) (r : Places × ℕ) → entered m ks left places ≡ Some r
-    → Uses (λ b. entered m ks b places) left r
-entered_uses m [] left places r e = uses_none (λ b. entered m [] b places) left places r (λ b. refl) e
+entered_uses : (m : Market) (ks : List ℕ) (left : ℕ) (places : Places) (r : Places × ℕ) → after_entries m ks left places ≡ Some r
+    → Uses (λ b. after_entries m ks b places) left r
+entered_uses m [] left places r e = uses_none (λ b. after_entries m [] b places) left places r (λ b. refl) e
 entered_uses m (k ∷ ks) left places r e =
-    let w = chained (λ q. entered m ks q.1 q.0) (settled m k left places (Couple k ∷ [])) r e in
+    let w = chained (λ q. after_entries m ks q.1 q.0) (after_rounds m k left places (Couple k ∷ [])) r e in
     let one = settled_uses m k left places (Couple k ∷ []) w.0 w.1 in
     let rest = entered_uses m ks w.0.1 w.0.0 r w.2 in
     record {
       used = one.used + rest.used;
       split = (let s = one.split in let t = rest.split in omega arith);
       enough = λ more.
-          through (λ q. entered m ks q.1 q.0) (settled m k (one.used + rest.used + more) places (Couple k ∷ [])) (w.0.0, rest.used + more)
-          (ap (λ n. settled m k n places (Couple k ∷ [])) (omega arith) ∙ one.enough (rest.used + more)) ∙ rest.enough more;
+          through (λ q. after_entries m ks q.1 q.0) (after_rounds m k (one.used + rest.used + more) places (Couple k ∷ [])) (w.0.0, rest.used + more)
+          (ap (λ n. after_rounds m k n places (Couple k ∷ [])) (omega arith) ∙ one.enough (rest.used + more)) ∙ rest.enough more;
       too_few = λ b l. elim (cases_lt b one.used) [
-        | inl few ↦ through_none (λ q. entered m ks q.1 q.0) (settled m k b places (Couple k ∷ [])) (one.too_few b few)
+        | inl few ↦ through_none (λ q. after_entries m ks q.1 q.0) (after_rounds m k b places (Couple k ∷ [])) (one.too_few b few)
         | inr le ↦
-            through (λ q. entered m ks q.1 q.0) (settled m k b places (Couple k ∷ [])) (w.0.0, b - one.used)
-            (ap (λ n. settled m k n places (Couple k ∷ [])) (omega arith) ∙ one.enough (b - one.used)) ∙ rest.too_few (b - one.used) (omega arith)
+            through (λ q. after_entries m ks q.1 q.0) (after_rounds m k b places (Couple k ∷ [])) (w.0.0, b - one.used)
+            (ap (λ n. after_rounds m k n places (Couple k ∷ [])) (omega arith) ∙ one.enough (b - one.used)) ∙ rest.too_few (b - one.used) (omega arith)
       ];
     }
 
@@ -93,23 +93,23 @@ mapped_none : {X Y : Type 0} (f : X → Y) (o : Option X) → o ≡ None → opt
 mapped_none f o e = rw e refl
 
 -- what a stage gives is what its couples' rounds give
-stage_gives : (m : Market) (places : Places) (b : ℕ) (q : Places × ℕ) → entered m (below (length m.couples)) b places ≡ Some q
+stage_gives : (m : Market) (places : Places) (b : ℕ) (q : Places × ℕ) → after_entries m (below (length m.couples)) b places ≡ Some q
     → stage m places b ≡ Some (q.0, b - q.1)
-stage_gives m places b q e = mapped (λ t. (t.0, b - t.1)) (entered m (below (length m.couples)) b places) q e
+stage_gives m places b q e = mapped (λ t. (t.0, b - t.1)) (after_entries m (below (length m.couples)) b places) q e
 
 -- the rounds used are those that the stage needs
-rounds_used : (m : Market) (places : Places) (budget : ℕ) (q : Places × ℕ) → Uses (λ b. entered m (below (length m.couples)) b places) budget q
+rounds_used : (m : Market) (places : Places) (budget : ℕ) (q : Places × ℕ) → Uses (λ b. after_entries m (below (length m.couples)) b places) budget q
     → NeedsRounds m places budget (q.0, budget - q.1)
 rounds_used m places budget q u =
     let split = u.split in
     record {
       within = omega arith;
       enough = λ b l.
-          let run : entered m (below (length m.couples)) b places ≡ Some (q.0, b - u.used) =
-          ap (λ n. entered m (below (length m.couples)) n places) (omega arith) ∙ u.enough (b - u.used) in
+          let run : after_entries m (below (length m.couples)) b places ≡ Some (q.0, b - u.used) =
+          ap (λ n. after_entries m (below (length m.couples)) n places) (omega arith) ∙ u.enough (b - u.used) in
           let same : b - (b - u.used) ≡ budget - q.1 = omega arith in
           stage_gives m places b (q.0, b - u.used) run ∙ ap (λ n. Some (q.0, n)) same;
-      too_few = λ b l. mapped_none (λ t. (t.0, b - t.1)) (entered m (below (length m.couples)) b places) (u.too_few b (omega arith));
+      too_few = λ b l. mapped_none (λ t. (t.0, b - t.1)) (after_entries m (below (length m.couples)) b places) (u.too_few b (omega arith));
     }
 
 -- how many rounds a stage needs

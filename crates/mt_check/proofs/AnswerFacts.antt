@@ -4,11 +4,11 @@ use Rattle.std.proofs.lemmas.Bool.Decides.{nat_tests}
 use Rattle.mt_lists.specs.Records.{records_of}
 use Rattle.mt_terms.specs.Market.{Registered}
 use Rattle.mt_terms.specs.Registration.{market_of}
-use Rattle.mt_terms.specs.Registration.Faults.{Fault, charge_alone, fault_at}
+use Rattle.mt_terms.specs.Registration.Faults.{Fault, record_fault_alone, fault_at}
 use Rattle.mt_terms.specs.Registration.Ids.{Bytes}
 use Rattle.mt_file_laws.proofs.PassFacts.{accepted_is_registration_lem}
-use Rattle.mt_match.specs.Told.{Told, told_by}
-use Rattle.mt_match.proofs.PlaceFacts.{tells_places_lem}
+use Rattle.mt_match_file.specs.Told.{Told, told_by}
+use Rattle.mt_match_file.proofs.PlaceFacts.{tells_places_lem}
 use Rattle.mt_check.specs.Answer.{Answer, AreLeft, IsAnswer, OfLeft, fault_answer, finding_answer, finding_code, market_answer, told_answer}
 use Rattle.mt_check.specs.Ends.{IsRefused}
 use Rattle.mt_check.specs.Findings.{finding_of}
@@ -26,7 +26,7 @@ use Rattle.mt_check.proofs.FindingFacts.{code_small, finding_says, stable_ends, 
 rows_in : {X : Type 0} (of_rows : List (List Bytes) → Result X Fault) (bytes : List ℕ) (x : X) → of_bytes of_rows bytes ≡ Ok x → (rows : List (List Bytes)) × (of_rows rows ≡ Ok x)
 rows_in {X} of_rows bytes x h = by (nat_lt most_bytes (length bytes)) (records_of bytes) h
   where
-    by : (b : Bool) (o : Option (List (List Bytes))) → (if b then Err (fault_at 0 (charge_alone 10)) else by_records of_rows o) ≡ Ok x → (rows : List (List Bytes)) × (of_rows rows ≡ Ok x)
+    by : (b : Bool) (o : Option (List (List Bytes))) → (if b then Err (fault_at 0 (record_fault_alone 10)) else by_records of_rows o) ≡ Ok x → (rows : List (List Bytes)) × (of_rows rows ≡ Ok x)
     by true o k = cc
     by false None k = cc
     by false (Some rows) k = (rows, k)

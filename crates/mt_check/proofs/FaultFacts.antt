@@ -8,14 +8,14 @@ use Rattle.mt_lists.specs.Records.{records_of}
 use Rattle.mt_terms.specs.Lists.{has}
 use Rattle.mt_terms.specs.Market.{Registered}
 use Rattle.mt_terms.specs.Registration.{market_of}
-use Rattle.mt_terms.specs.Registration.Faults.{Fault, charge_alone, fault_at}
+use Rattle.mt_terms.specs.Registration.Faults.{Fault, record_fault_alone, fault_at}
 use Rattle.mt_terms.specs.Registration.Ids.{Bytes}
 use Rattle.mt_terms.specs.Text.{is_fault_code, is_known_code}
 use Rattle.mt_terms.specs.declared.refusal.Refusal.{Refusal}
 use Rattle.mt_file_laws.proofs.FaultFacts.{fault_codes_lem, fault_ids_lem}
-use Rattle.mt_match.specs.Laws.{fault_codes}
-use Rattle.mt_match.specs.Told.{told_by}
-use Rattle.mt_match.proofs.FaultFacts.{faults_are_named_lem}
+use Rattle.mt_match_file.specs.Laws.{fault_codes}
+use Rattle.mt_match_file.specs.Told.{told_by}
+use Rattle.mt_match_file.proofs.FaultFacts.{faults_are_named_lem}
 use Rattle.mt_check.specs.Headline.{IsNamedRefusal, by_records, most_bytes, of_bytes}
 use Rattle.mt_check.specs.Refusals.{AreRead, CannotRead, IsRefusalIn, IsRefusalOf, LeftIs, fault_of}
 use Rattle.mt_check.specs.Text.{is_code_alone, is_code_of}
@@ -84,16 +84,16 @@ module _ {X : Type 0} (file : Source) (of_rows : List (List Bytes) → Result X 
     (named : (rows : List (List Bytes)) (f : Fault) → of_rows rows ≡ Err f → IsNamedRefusal file f.code f.row f.id) where
   records_named : (o : Option (List (List Bytes))) (f : Fault) → by_records of_rows o ≡ Err f → IsNamedRefusal file f.code f.row f.id
   records_named None f h =
-      let same : fault_at 0 (charge_alone 11) ≡ f = cc in
+      let same : fault_at 0 (record_fault_alone 11) ≡ f = cc in
       subst (λ (g : Fault). IsNamedRefusal file g.code g.row g.id) same (alone_named file 11 marks)
   records_named (Some rows) f h = named rows f h
 
   pub bytes_named : (bytes : List ℕ) (f : Fault) → of_bytes of_rows bytes ≡ Err f → IsNamedRefusal file f.code f.row f.id
   bytes_named bytes f h = by (nat_lt most_bytes (length bytes)) h
     where
-      by : (b : Bool) → (if b then Err (fault_at 0 (charge_alone 10)) else by_records of_rows (records_of bytes)) ≡ Err f → IsNamedRefusal file f.code f.row f.id
+      by : (b : Bool) → (if b then Err (fault_at 0 (record_fault_alone 10)) else by_records of_rows (records_of bytes)) ≡ Err f → IsNamedRefusal file f.code f.row f.id
       by true k =
-          let same : fault_at 0 (charge_alone 10) ≡ f = cc in
+          let same : fault_at 0 (record_fault_alone 10) ≡ f = cc in
           subst (λ (g : Fault). IsNamedRefusal file g.code g.row g.id) same (alone_named file 10 large)
       by false k = records_named (records_of bytes) f k
 

@@ -10,7 +10,7 @@ use Rattle.mt_terms.specs.Verdict.{verdict_of}
 use Rattle.mt_terms.specs.WellFormed.{IsWellFormed}
 use Rattle.mt_terms.specs.declared.verdict.Verdict.{Verdict}
 use Rattle.mt_terms.specs.declared.verdict.Verdict.TheVariants.{Stable, Unlisted, Over, Blocks}
-use Rattle.mt_match.specs.Told.{Told}
+use Rattle.mt_match_file.specs.Told.{Told}
 use Rattle.mt_verdict_laws.specs.Verdict.{VerdictSays}
 use Rattle.mt_verdict_laws.proofs.VerdictLemmas.{stable_verdict_lem, verdict_in_words_lem}
 use Rattle.mt_check.specs.Answer.{finding_code}

@@ -5,7 +5,7 @@ use Rattle.mt_terms.specs.Market.{Registered}
 use Rattle.mt_terms.specs.Registration.Faults.{Fault}
 use Rattle.mt_terms.specs.declared.codes.TheConstants.{OUT_OF_MEMORY, READ_FAULT}
 use Rattle.mt_terms.specs.declared.verdict.Verdict.TheVariants.{Stable, Unlisted, Over, Blocks}
-use Rattle.mt_match.specs.Told.{Told}
+use Rattle.mt_match_file.specs.Told.{Told}
 use Rattle.mt_check.specs.Findings.{finding_of}
 use Rattle.mt_check.specs.Headline.{IsJudged, IsRefusal, market_in, told_in}
 use Rattle.mt_check.specs.Text.{finding_line, refused_line}

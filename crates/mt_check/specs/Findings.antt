@@ -8,10 +8,10 @@ use Rattle.mt_terms.specs.Verdict.{verdict_of}
 use Rattle.mt_terms.specs.declared.verdict.Verdict.{Verdict}
 use Rattle.mt_terms.specs.declared.verdict.Verdict.TheVariants.{Stable, Unlisted, Over, Blocks}
 use Rattle.mt_verdict_laws.specs.Verdict.{VerdictSays}
-use Rattle.mt_match.specs.Told.{Told}
-use Rattle.mt_match.specs.declared.told_match.Count.{Count}
-use Rattle.mt_match.specs.declared.told_match.Count.TheVariants as count
-use Rattle.mt_match.specs.declared.told_match.Counted.{Counted}
+use Rattle.mt_match_file.specs.Told.{Told}
+use Rattle.mt_match_file.specs.declared.told_match.Count.{Count}
+use Rattle.mt_match_file.specs.declared.told_match.Count.TheVariants as count
+use Rattle.mt_match_file.specs.declared.told_match.Counted.{Counted}
 use Rattle.mt_check.specs.declared.finding.Finding.{Finding}
 use Rattle.mt_check.specs.declared.finding.Finding.TheVariants.{Of, Differs}
 

@@ -3,13 +3,13 @@ use Rattle.std.specs.Prelude.{◌≡◌, ◌↔◌, ℕ, nat_lt, List, [], lengt
 use Rattle.mt_lists.specs.Records.{records_of}
 use Rattle.mt_terms.specs.Market.{Registered}
 use Rattle.mt_terms.specs.Registration.{market_of}
-use Rattle.mt_terms.specs.Registration.Faults.{Fault, charge_alone, fault_at}
+use Rattle.mt_terms.specs.Registration.Faults.{Fault, record_fault_alone, fault_at}
 use Rattle.mt_terms.specs.Registration.Ids.{Bytes}
 use Rattle.mt_terms.specs.Stability.{stable}
 use Rattle.mt_terms.specs.Text.{is_none_or_id}
 use Rattle.mt_terms.specs.declared.codes.TheConstants.{TOO_LARGE, TWO_MARKS}
 use Rattle.mt_terms.specs.declared.limits.TheConstants.{LIMITS_2}
-use Rattle.mt_match.specs.Told.{Told, told_by}
+use Rattle.mt_match_file.specs.Told.{Told, told_by}
 use Rattle.mt_check.specs.Findings.{FindingSays, first_differing}
 use Rattle.mt_check.specs.Text.{finding_line, is_code_alone, is_code_of, refused_line, stable_line}
 use Rattle.mt_check.specs.declared.finding.Finding.{Finding}
@@ -22,12 +22,12 @@ most_bytes = LIMITS_2.bytes
 
 -- what the bytes of a file are by their records, or the file's first fault
 abbrev pub by_records : {X : Type 0} → (List (List Bytes) → Result X Fault) → Option (List (List Bytes)) → Result X Fault
-by_records of_rows None = Err (fault_at 0 (charge_alone TWO_MARKS))
+by_records of_rows None = Err (fault_at 0 (record_fault_alone TWO_MARKS))
 by_records of_rows (Some rows) = of_rows rows
 
 abbrev pub of_bytes : {X : Type 0} → (List (List Bytes) → Result X Fault) → List ℕ → Result X Fault
 of_bytes of_rows bytes =
-    if nat_lt most_bytes (length bytes) then Err (fault_at 0 (charge_alone TOO_LARGE)) else by_records of_rows (records_of bytes)
+    if nat_lt most_bytes (length bytes) then Err (fault_at 0 (record_fault_alone TOO_LARGE)) else by_records of_rows (records_of bytes)
 
 -- the market in some bytes, and the match in other bytes beside a market
 abbrev pub market_in : List ℕ → Result Registered Fault

@@ -6,7 +6,7 @@ ghost use Rattle.mt_check.specs.Findings.{first_differing};
 ghost use Rattle.mt_terms.specs.Text.{all_filled, positions, unmatched};
 
 use mt_market::Roster;
-use mt_match::{Count, Counted, ToldMatch};
+use mt_match_file::{Count, Counted, ToldMatch};
 use mt_report::{filled_counts, filled_total, position_count, unmatched_count};
 use mt_terms::{Match, ProgNo};
 use std::alloc::{AllocError, Global};

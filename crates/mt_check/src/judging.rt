@@ -5,7 +5,7 @@ ghost use Rattle.mt_check.specs.Findings.{finding_of};
 use crate::counts::first_differing;
 use crate::finding::Finding;
 use mt_market::Roster;
-use mt_match::ToldMatch;
+use mt_match_file::ToldMatch;
 use mt_ranks::Ranks;
 use mt_terms::Verdict;
 use mt_verify::verify;

@@ -4,7 +4,7 @@ ghost use Rattle.mt_check.specs.Text.{is_code_of, refusals, refused_line, source
 
 use crate::source::Source;
 use itoa::Buffer;
-use mt_match::codes as of_match;
+use mt_match_file::codes as of_match;
 use mt_report::id_or_dash;
 use mt_terms::codes;
 use std::marker::Model;

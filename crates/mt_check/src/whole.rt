@@ -1,6 +1,6 @@
 ghost use Rattle.std.specs.Prelude.{◌≡◌, ◌⊎◌, ℕ, ◌+◌, ◌<◌, ◌≤◌, ◌-◌, ◌^◌, ◌↔◌, ◌≢◌, length, if◌then◌else◌, IfErr, IfOk, IsTrue, Ok};
 ghost use Rattle.mt_lists.specs.Tap.{bytes_left, failures_of as read_failures_of, reads_of};
-ghost use Rattle.mt_match.specs.Told.{told_by};
+ghost use Rattle.mt_match_file.specs.Told.{told_by};
 ghost use Rattle.mt_terms.specs.Registration.{market_of};
 ghost use Rattle.mt_terms.specs.Places.{ArePlaces};
 ghost use Rattle.mt_terms.specs.declared.codes.TheConstants.{READ_FAULT};
@@ -18,7 +18,7 @@ use crate::refusal::refused;
 use crate::source::Source;
 use crate::text::finding_line;
 use mt_lists::{ListFault, ReadEnd, Rows, Tap, read_all, records};
-use mt_match::{MatchError, ToldMatch, told};
+use mt_match_file::{MatchError, ToldMatch, told};
 use mt_report::{Drain, put_all};
 use mt_roster::{Roster, RosterError, roster};
 use mt_terms::codes::{OUT_OF_MEMORY, READ_FAULT, TOO_LARGE, TWO_MARKS};

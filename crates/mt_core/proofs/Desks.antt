@@ -3,7 +3,7 @@ use Rattle.std.proofs.Common.{◌≡◌, ◌≢◌, ◌==◌, ◌||◌, ℕ, suc
 use Rattle.std.proofs.lemmas.Bool.Decides.{nat_tests}
 use Rattle.mt_terms.specs.Lists.{has, with_one}
 use Rattle.mt_terms.specs.Market.{Market, applicants, live}
-use Rattle.mt_terms.specs.Floor.{Floor, IsRecorded, proposed_at, tried}
+use Rattle.mt_terms.specs.Floor.{Floor, IsRecorded, proposed_at, proposed_to_on}
 use Rattle.mt_floor_laws.proofs.FloorLists.{has-take-suc}
 use Rattle.mt_core.specs.Desks.{with_desk, MayHave}
 use Rattle.mt_core.specs.Floors.{Tables, floor_of, with_standing, IsOpenedWith}
@@ -79,7 +79,7 @@ pub with_desk_recorded : (m : Market) (f : Floor) (a k : ℕ) (s : Bool) → IsR
 with_desk_recorded m f a k s r may = record {
   within = one_and_others (λ b. g.made b ≤ length (live m b)) a (rw (eq-eqb a a refl) may.within) (λ b other. rw (ne_eqb b a other) (r.within b));
   proposed = one_and_others (λ b. IsTrue (g.standing b) → 0 < g.made b) a (rw (eq-eqb a a refl) may.proposed) (λ b other. rw (ne_eqb b a other) (r.proposed b));
-  receives = one_and_others (λ b. (p : ℕ) → g.received p b ≡ has (tried m g b) p) a (λ p. rw (eq-eqb a a refl) refl) (λ b other p. rw (ne_eqb b a other) (r.receives b p));
+  receives = one_and_others (λ b. (p : ℕ) → g.received p b ≡ has (proposed_to_on m g b) p) a (λ p. rw (eq-eqb a a refl) refl) (λ b other p. rw (ne_eqb b a other) (r.receives b p));
 }
   where
     g : Floor

@@ -4,7 +4,7 @@ use Rattle.std.proofs.lemmas.Bool.Decides.{nat_tests}
 use Rattle.std.specs.Option.{option_map, unwrap_or}
 use Rattle.mt_terms.specs.Lists.{has}
 use Rattle.mt_terms.specs.Market.{Market, applicants, program_of, list_of, live}
-use Rattle.mt_terms.specs.Floor.{Floor, IsRecorded, next_entry, last_tried}
+use Rattle.mt_terms.specs.Floor.{Floor, IsRecorded, next_entry, last_proposed_to}
 use Rattle.mt_floor_laws.proofs.FloorLists.{has-get, has-take-suc, has-take_before}
 use Rattle.mt_floor_laws.proofs.FloorEvents.{IsNext, next_facts, within_get, get_some}
 use Rattle.mt_terms.proofs.LiveFacts.{live_parts, live_distinct}
@@ -81,7 +81,7 @@ next_entry_facts r is f recorded a entry e =
     (facts.0, subst (λ (n : ℕ). IsFirstTime r.market f a entry.program n) facts.1 (first_time_facts r is f recorded a entry.program facts.0))
 
 -- the program that an applicant proposed to last is on its live list
-pub last_on_live : (m : Market) (f : Floor) (a p : ℕ) → last_tried m f a ≡ Some p → IsTrue (has (live m a) p)
+pub last_on_live : (m : Market) (f : Floor) (a p : ℕ) → last_proposed_to m f a ≡ Some p → IsTrue (has (live m a) p)
 last_on_live m f a p e = by_test (f.made a == 0) e
   where
     by_test : (b : Bool) → cond b None (slice_get (live m a) (f.made a - 1)) ≡ Some p → IsTrue (has (live m a) p)
@@ -92,7 +92,7 @@ last_on_live m f a p e = by_test (f.made a == 0) e
     by_test false h = has-get (live m a) (f.made a - 1) p h
 
 -- the program that an applicant proposed to last is one of those that it proposed to
-pub last_is_tried : (m : Market) (f : Floor) (a p : ℕ) → last_tried m f a ≡ Some p → IsTrue (has (take (f.made a) (live m a)) p)
+pub last_is_tried : (m : Market) (f : Floor) (a p : ℕ) → last_proposed_to m f a ≡ Some p → IsTrue (has (take (f.made a) (live m a)) p)
 last_is_tried m f a p e = by_made (f.made a) e
   where
     by_made : (n : ℕ) → cond (n == 0) None (slice_get (live m a) (n - 1)) ≡ Some p → IsTrue (has (take n (live m a)) p)
@@ -108,9 +108,9 @@ last_is_tried m f a p e = by_made (f.made a) e
 
 -- the same of the last entry
 pub last_entry_facts : (r : Ranked) → IsRanked r → (f : Floor) (a : ℕ) (entry : Live)
-    → option_map (ranked_entry r.market a) (last_tried r.market f a) ≡ Some entry → (last_tried r.market f a ≡ Some entry.program) × CanEnter r.market a entry.program entry.rank
+    → option_map (ranked_entry r.market a) (last_proposed_to r.market f a) ≡ Some entry → (last_proposed_to r.market f a ≡ Some entry.program) × CanEnter r.market a entry.program entry.rank
 last_entry_facts r is f a entry e =
-    let facts = entry_facts r.market a (last_tried r.market f a) entry e in
+    let facts = entry_facts r.market a (last_proposed_to r.market f a) entry e in
     (facts.0, subst (λ (n : ℕ). CanEnter r.market a entry.program n) facts.1 (entry_can_enter r is a entry.program (last_on_live r.market f a entry.program facts.0)))
 
 -- there is no entry where there is no program

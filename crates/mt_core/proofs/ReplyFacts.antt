@@ -9,7 +9,7 @@ use Rattle.mt_terms.specs.Choice.{choice}
 use Rattle.mt_terms.specs.Floor as model
 use Rattle.mt_terms.specs.Floor.{Floor, proposed_at, receives_one, kept_reply, dropped, reply_of_proposal}
 use Rattle.mt_terms.specs.declared.events.Reply.TheVariants as reply
-use Rattle.mt_match_laws.proofs.ChoiceLemmas.{choice_facts}
+use Rattle.mt_stability_laws.proofs.ChoiceLemmas.{choice_facts}
 use Rattle.mt_hold.specs.Holding.{Holding, ranks, has_received, held, receive}
 use Rattle.mt_hold.specs.Laws.{IsHoldingOf}
 use Rattle.mt_hold.specs.declared.holding.Taken.{Taken}

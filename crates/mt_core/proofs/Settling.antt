@@ -6,7 +6,7 @@ use Rattle.mt_terms.specs.Lists.{has}
 use Rattle.mt_terms.specs.WellFormed.{IsWellFormed}
 use Rattle.mt_terms.specs.Market.{Market, applicants, program_of, live}
 use Rattle.mt_terms.specs.Choice.{choice}
-use Rattle.mt_terms.specs.Floor.{Floor, held, last_tried, next_entry, is_held_by, is_settled, is_due, after, after_proposal, proposed_at, receives_one, reply_of, reply_of_proposal, dropped, kept_reply, IsRecorded}
+use Rattle.mt_terms.specs.Floor.{Floor, held_set, last_proposed_to, next_entry, is_held_by, is_settled, is_due, after, after_proposal, proposed_at, receives_one, reply_of, reply_of_proposal, dropped, kept_reply, IsRecorded}
 use Rattle.mt_terms.specs.declared.events.Event.{Event}
 use Rattle.mt_terms.specs.declared.events.Event.TheVariants.{Propose, Notice}
 use Rattle.mt_terms.specs.declared.events.Reply.{Reply}
@@ -15,21 +15,21 @@ use Rattle.mt_floor_laws.proofs.FloorEvents.{noticed, noticed_same, noticed_othe
 use Rattle.mt_core.specs.Ends.{IsReached, IsStep, AreSettled, AreSettledBut}
 
 -- whether an applicant is settled, where it stands and where it doesn't
-settled_standing : (m : Market) (f : Floor) (a : ℕ) → IsTrue (f.standing a) → is_settled m f a ≡ is_held_by m f a (last_tried m f a)
+settled_standing : (m : Market) (f : Floor) (a : ℕ) → IsTrue (f.standing a) → is_settled m f a ≡ is_held_by m f a (last_proposed_to m f a)
 settled_standing m f a e = rw e refl
 
 settled_free : (m : Market) (f : Floor) (a : ℕ) → IsFalse (f.standing a) → is_settled m f a ≡ (f.made a == length (live m a))
 settled_free m f a e = rw e refl
 
 -- the last entry depends on how many were tried
-last_tried_same : (m : Market) (f g : Floor) (a : ℕ) → g.made a ≡ f.made a → last_tried m g a ≡ last_tried m f a
+last_tried_same : (m : Market) (f g : Floor) (a : ℕ) → g.made a ≡ f.made a → last_proposed_to m g a ≡ last_proposed_to m f a
 last_tried_same m f g a makes = ap (λ (n : ℕ). if n == 0 then None else slice_get (live m a) (n - 1)) makes
 
 -- An applicant's place is kept from one floor to another: it stands where it stood, has tried as much, and who held it holds it.
 record IsLeft (m : Market) (f g : Floor) (b : ℕ) : Type 0 where
   stands : g.standing b ≡ f.standing b
   makes : g.made b ≡ f.made b
-  holds : (q : ℕ) → IsTrue (held m f q b) → IsTrue (held m g q b)
+  holds : (q : ℕ) → IsTrue (held_set m f q b) → IsTrue (held_set m g q b)
 
 -- who is settled and is left so is settled
 settled_left : (m : Market) (f g : Floor) (b : ℕ) → IsLeft m f g b → IsTrue (is_settled m f b) → IsTrue (is_settled m g b)
@@ -37,7 +37,7 @@ settled_left m f g b left settled =
     elim (cases_Bool (f.standing b)) [
       | inl on ↦
           settled_standing m g b (left.stands ∙ on) ∙ ap (is_held_by m g b) (last_tried_same m f g b left.makes)
-          ∙ still_held (last_tried m f b) (sym (settled_standing m f b on) ∙ settled)
+          ∙ still_held (last_proposed_to m f b) (sym (settled_standing m f b on) ∙ settled)
       | inr off ↦
           settled_free m g b (left.stands ∙ off) ∙ ap (λ n. n == length (live m b)) left.makes ∙ sym (settled_free m f b off) ∙ settled
     ]
@@ -56,13 +56,13 @@ left_by_notice m f a b other =
 
 -- after its notice, who stands is held
 held_after_notice : (m : Market) (f : Floor) (a : ℕ) → IsTrue ((after m f (Notice a)).standing a)
-    → IsTrue (is_held_by m (after m f (Notice a)) a (last_tried m (after m f (Notice a)) a))
+    → IsTrue (is_held_by m (after m f (Notice a)) a (last_proposed_to m (after m f (Notice a)) a))
 held_after_notice m f a = by_due (is_due m f (Notice a)) refl
   where
     by_due : (b : Bool) → is_due m f (Notice a) ≡ b
-        → IsTrue ((if b then (noticed f a) else f).standing a) → IsTrue (is_held_by m (if b then (noticed f a) else f) a (last_tried m (if b then (noticed f a) else f) a))
+        → IsTrue ((if b then (noticed f a) else f).standing a) → IsTrue (is_held_by m (if b then (noticed f a) else f) a (last_proposed_to m (if b then (noticed f a) else f) a))
     by_due true e on = absurd (both_ways _ (noticed_same f a) on)
-    by_due false e on = parts (f.standing a) (is_held_by m f a (last_tried m f a)) e on
+    by_due false e on = parts (f.standing a) (is_held_by m f a (last_proposed_to m f a)) e on
       where
         parts : (x y : Bool) → (x && not y) ≡ false → IsTrue x → IsTrue y
         parts true true h k = refl
@@ -70,7 +70,7 @@ held_after_notice m f a = by_due (is_due m f (Notice a)) refl
         parts false y h k = absurd (false≢true k)
 
 -- a notice changes nothing of who is held
-pub held_through_notice : (m : Market) (f : Floor) (a q b : ℕ) → held m (after m f (Notice a)) q b ≡ held m f q b
+pub held_through_notice : (m : Market) (f : Floor) (a q b : ℕ) → held_set m (after m f (Notice a)) q b ≡ held_set m f q b
 held_through_notice m f a q b =
     elim (cases_Bool (is_due m f (Notice a))) [ inl due ↦ rw due refl | inr not_due ↦ rw not_due refl ]
 
@@ -106,9 +106,9 @@ left_by_proposal m f h a b reply is other not_named =
     same : ((after m g (Propose a)).standing b ≡ g.standing b) × ((after m g (Propose a)).made b ≡ g.made b)
     same = same_by (next_entry m g a)
 
-    holds : (q : ℕ) → IsTrue (held m g q b) → IsTrue (held m h q b)
+    holds : (q : ℕ) → IsTrue (held_set m g q b) → IsTrue (held_set m h q b)
     holds q on =
-        elim (cases_Bool (held m h q b)) [
+        elim (cases_Bool (held_set m h q b)) [
           | inl still ↦ still
           | inr out ↦ absurd (not_named (is.displaced b q (sym (held_through_notice m f a q b) ∙ on) out))
         ]
@@ -128,7 +128,7 @@ kept_settled m g a p n chosen =
     stands : IsTrue ((proposed_at m g a p).standing a)
     stands = ap (λ b. if b then (choice (program_of m p) (receives_one g p a) a) else (g.standing a)) (eq-eqb a a refl) ∙ chosen
 
-    last : last_tried m (proposed_at m g a p) a ≡ Some p
+    last : last_proposed_to m (proposed_at m g a p) a ≡ Some p
     last = ap (λ (k : ℕ). if k == 0 then None else slice_get (live m a) (k - 1)) (made_same m g a p) ∙ at_suc
       where
         at_suc : (if suc (g.made a) == 0 then None else slice_get (live m a) (suc (g.made a) - 1)) ≡ Some p
@@ -137,7 +137,7 @@ kept_settled m g a p n chosen =
             let before : suc (g.made a) - 1 ≡ g.made a = omega arith in
             rw (some, before) n.next
 
-    there : IsTrue (held m (proposed_at m g a p) p a)
+    there : IsTrue (held_set m (proposed_at m g a p) p a)
     there = ap (λ b. choice (program_of m p) (if b then (receives_one g p a) else (g.received p)) a) (eq-eqb p p refl) ∙ chosen
 
 -- so does each step whose reply says that it is kept
@@ -158,7 +158,7 @@ reply_settled m f h a reply is not_refused not_not_due =
         ]
 
 -- an applicant without a next entry is settled after its notice
-none_next_settled : (m : Market) (f : Floor) (a : ℕ) → IsRecorded m f → next_entry m f a ≡ None → (IsTrue (f.standing a) → IsTrue (is_held_by m f a (last_tried m f a)))
+none_next_settled : (m : Market) (f : Floor) (a : ℕ) → IsRecorded m f → next_entry m f a ≡ None → (IsTrue (f.standing a) → IsTrue (is_held_by m f a (last_proposed_to m f a)))
     → IsTrue (is_settled m f a)
 none_next_settled m f a r none held_if =
     elim (cases_Bool (f.standing a)) [
@@ -281,7 +281,7 @@ named_in_market m wf f a d = by_next (next_entry m f a)
         differs : Kept ≢ KeptInstead d
         differs h = cc
     by_dropped p true (Some x) e k =
-        wf.rankings_within p d (find_has (λ b. held m f p b && not (choice (program_of m p) (receives_one f p a) b)) (program_of m p).ranking d (e ∙ ap (λ y. Some y) (inj k)))
+        wf.rankings_within p d (find_has (λ b. held_set m f p b && not (choice (program_of m p) (receives_one f p a) b)) (program_of m p).ranking d (e ∙ ap (λ y. Some y) (inj k)))
       where
         inj : {x y : ℕ} → KeptInstead x ≡ KeptInstead y → x ≡ y
         inj h = cc

@@ -1,7 +1,7 @@
 -- What it means that events led from one floor to another, and that applicants have no event left.
 use Rattle.std.specs.Prelude.{◌≡◌, ◌≢◌, ℕ, ◌<◌, List, IsTrue, IsFalse}
 use Rattle.mt_terms.specs.Market.{Market}
-use Rattle.mt_terms.specs.Floor.{Floor, held, is_settled, after, after_all, reply_of}
+use Rattle.mt_terms.specs.Floor.{Floor, held_set, is_settled, after, after_all, reply_of}
 use Rattle.mt_floor_laws.specs.Floors.{due_proposals}
 use Rattle.mt_terms.specs.declared.events.Event.{Event}
 use Rattle.mt_terms.specs.declared.events.Event.TheVariants.{Propose, Notice}
@@ -17,7 +17,7 @@ pub record IsReached (m : Market) (old new : Floor) (proposals : ℕ) : Type 0 w
 -- at most one applicant was displaced, the one that the reply names
 abbrev pub NamesDisplaced : Market → Floor → Floor → Reply → Type 0
 NamesDisplaced m old new answer =
-    (b p : ℕ) → IsTrue (held m old p b) → IsFalse (held m new p b) → answer ≡ KeptInstead b
+    (b p : ℕ) → IsTrue (held_set m old p b) → IsFalse (held_set m new p b) → answer ≡ KeptInstead b
 
 -- An applicant's notice and then its proposal, each if it is due, with the reply to the proposal. At most one
 -- applicant was displaced, the one that the reply names.

@@ -8,7 +8,7 @@ ghost use Rattle.mt_core.specs.Calls.{result_on};
 ghost use Rattle.mt_core.specs.Floors.{floor_of, IsOpenedWith};
 
 use crate::floor::{Floor, made};
-use crate::step::{is_held, last_tried};
+use crate::step::{is_held, last_proposed_to};
 use mt_ranks::Ranks;
 use mt_terms::{AppNo, Match, Places, ProgNo};
 use std::alloc::{AllocError, Global};
@@ -45,7 +45,7 @@ fn place(floor: &Floor, ranks: &Ranks, applicant: AppNo) -> Option<ProgNo>
     if !floor.stands(applicant) {
         return None;
     }
-    let entry = last_tried(floor, ranks, applicant)?;
+    let entry = last_proposed_to(floor, ranks, applicant)?;
     Some(entry.program)
 }
 

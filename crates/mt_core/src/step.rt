@@ -1,6 +1,6 @@
 ghost use Rattle.std.specs.Prelude.{◌≡◌, ◌<◌, length};
 ghost use Rattle.mt_terms.specs.Market.{applicants, program_of};
-ghost use Rattle.mt_terms.specs.Floor.{last_tried, next_entry, is_held_by, IsRecorded, reply_of};
+ghost use Rattle.mt_terms.specs.Floor.{last_proposed_to, next_entry, is_held_by, IsRecorded, reply_of};
 ghost use Rattle.mt_ranks.specs.Ranked.{IsRanked};
 ghost use Rattle.mt_core.specs.Calls.{is_due_on, IsAfter, StaysLegal, StaysStrict};
 ghost use Rattle.mt_core.specs.Ends.{NamesDisplaced};
@@ -23,12 +23,12 @@ fn entry_at(ranks: &Ranks, applicant: AppNo, place: u32) -> Option<Live>
 }
 
 /// The entry that the applicant proposed to last.
-pub(crate) fn last_tried(floor: &Floor, ranks: &Ranks, applicant: AppNo) -> Option<Live>
+pub(crate) fn last_proposed_to(floor: &Floor, ranks: &Ranks, applicant: AppNo) -> Option<Live>
     requires opened { IsOpenedWith ranks.now.market floor.now }
     requires ranked { IsRanked ranks.now }
     requires applicant { applicant < applicants ranks.now.market }
     ensures { let m = ranks.now.market in
-        result ≡ entry_of m applicant (last_tried m (floor_of m floor.now) applicant) }
+        result ≡ entry_of m applicant (last_proposed_to m (floor_of m floor.now) applicant) }
 {
     let place = made(floor, applicant).checked_sub(1)?;
     entry_at(ranks, applicant, place)
@@ -54,9 +54,9 @@ pub(crate) fn is_held(floor: &Floor, ranks: &Ranks, applicant: AppNo) -> bool
     requires ranked { IsRanked ranks.now }
     requires applicant { applicant < applicants ranks.now.market }
     ensures { let m = ranks.now.market in let f = floor_of m floor.now in
-        result ≡ is_held_by m f applicant (last_tried m f applicant) }
+        result ≡ is_held_by m f applicant (last_proposed_to m f applicant) }
 {
-    match last_tried(floor, ranks, applicant) {
+    match last_proposed_to(floor, ranks, applicant) {
         Some(entry) => floor.holds(entry.program, entry.rank),
         None => false,
     }
@@ -70,9 +70,9 @@ fn is_still_held(floor: &Floor, ranks: &Ranks, applicant: AppNo) -> bool
     requires ranked { IsRanked ranks.now }
     requires applicant { applicant < applicants ranks.now.market }
     ensures { let m = ranks.now.market in let f = floor_of m floor.now in
-        result ≡ is_held_by m f applicant (last_tried m f applicant) }
+        result ≡ is_held_by m f applicant (last_proposed_to m f applicant) }
 {
-    match last_tried(floor, ranks, applicant) {
+    match last_proposed_to(floor, ranks, applicant) {
         Some(entry) => floor.keeps(entry.program, entry.rank),
         None => false,
     }

@@ -7,12 +7,12 @@ use Rattle.mt_terms.specs.Market.{Market, applicants, agents}
 use Rattle.mt_terms.specs.Matching.{Places}
 use Rattle.mt_terms.specs.Stability.{blocks, fits}
 use Rattle.mt_terms.specs.WellFormed.{IsWellFormed}
-use Rattle.mt_terms.specs.Rounds.{settled, entered, stage, is_on, IsFittingState}
+use Rattle.mt_terms.specs.Rounds.{after_rounds, after_entries, stage, is_on, IsFittingState}
 use Rattle.mt_terms.specs.declared.numbers.Agent.{Agent}
 use Rattle.mt_terms.specs.declared.numbers.Agent.TheVariants.{Couple}
 use Rattle.mt_round_laws.proofs.RoundsLists.{In}
 use Rattle.mt_round_laws.proofs.RoundsAgents.{on_list, of_list, agent_on_list, couple_members}
-use Rattle.mt_sets.specs.Waiting.{nobody, Waiting}
+use Rattle.mt_stage_tables.specs.Waiting.{nobody, Waiting}
 use Rattle.mt_assignment.specs.Assigned.{assignment, Assigned}
 use Rattle.mt_couples.specs.Running.{is_idle, IsQuiet, IsRunning}
 use Rattle.mt_couples.specs.Waiting.{IsListOf}
@@ -33,7 +33,7 @@ pub record IsEntering (m : Market) (quiet : Bool) (start : Places) (budget numbe
   pub list : IsListOf m waiting
   pub nobody_waits : waiting.agents ≡ []
   pub is_quiet : IsTrue quiet → IsQuietBefore m number now.places
-  pub leads : entered m (couples_from m number) left now.places ≡ entered m (below (length m.couples)) budget start
+  pub leads : after_entries m (couples_from m number) left now.places ≡ after_entries m (below (length m.couples)) budget start
   pub within : left ≤ budget
 
 -- at the start no couple has entered
@@ -47,7 +47,7 @@ entering_first m quiet places budget now waiting is fit none is_quiet =
       list = record { applicants_are = ap (λ (w : Waiting). w.applicants) none; couples_are = ap (λ (w : Waiting). w.couples) none };
       nobody_waits = ap (λ (w : Waiting). w.agents) none;
       is_quiet = λ so. subst (λ (s : Assigned). IsQuietBefore m 0 s.places) (sym is) (is_quiet so);
-      leads = ap (λ (s : Assigned). entered m (couples_from m 0) budget s.places) is ∙ ap (λ n. entered m (range_with_len 0 n) budget places) e;
+      leads = ap (λ (s : Assigned). after_entries m (couples_from m 0) budget s.places) is ∙ ap (λ n. after_entries m (range_with_len 0 n) budget places) e;
       within = omega arith;
     }
 
@@ -60,7 +60,7 @@ next_waits m wf quiet k now waiting same within fit is_quiet list waits =
       fitting = subst (λ gs. IsFittingState m (record { places = now.places; waiting = gs })) (sym waits)
           (record { fitting = fit; waiting_agents = λ g on. of_it g (of_list g (Couple k ∷ []) on) });
       waiting = list;
-      is_quiet = λ so h on entered off. is_quiet so h on (before_it k h entered (sym (ap (λ gs. is_on gs h) waits) ∙ off));
+      is_quiet = λ so h on after_entries off. is_quiet so h on (before_it k h after_entries (sym (ap (λ gs. is_on gs h) waits) ∙ off));
     })
   where
     of_it : (g : Agent) → In g (Couple k ∷ []) → is_on (agents m) g ≡ true
@@ -76,16 +76,16 @@ entered_idle c number ws nobody low = subst (λ gs. is_idle number gs (Couple c)
 
 -- the next couple, out of those from its number on
 next_couple : (m : Market) (number left : ℕ) (places : Places) → number < length m.couples
-    → entered m (couples_from m number) left places
-    ≡ option_and_then (λ r. entered m (couples_from m (number + 1)) r.1 r.0) (settled m number left places (Couple number ∷ []))
+    → after_entries m (couples_from m number) left places
+    ≡ option_and_then (λ r. after_entries m (couples_from m (number + 1)) r.1 r.0) (after_rounds m number left places (Couple number ∷ []))
 next_couple m number left places within =
     let e : length m.couples - number ≡ suc (length m.couples - (number + 1)) = omega arith in
-    ap (λ n. entered m (range_with_len number n) left places) e
+    ap (λ n. after_entries m (range_with_len number n) left places) e
 
 -- it has entered
 pub entering_more : (m : Market) (quiet : Bool) (start : Places) (budget number : ℕ) (now next : Assigned) (waiting waiting' : Waiting) (left left' : ℕ)
     → IsEntering m quiet start budget number now waiting left → number < length m.couples → next.market ≡ m → fits m next.places ≡ true → IsListOf m waiting' → waiting'.agents ≡ [] → (IsTrue quiet → IsQuiet number (record { market = m; places = next.places }) waiting'.agents)
-    → settled m number left now.places (Couple number ∷ []) ≡ Some (next.places, left') → left' ≤ left → IsEntering m quiet start budget (number + 1) next waiting' left'
+    → after_rounds m number left now.places (Couple number ∷ []) ≡ Some (next.places, left') → left' ≤ left → IsEntering m quiet start budget (number + 1) next waiting' left'
 entering_more m quiet start budget number now next waiting waiting' left left' so_far within market fit list empty is_quiet settles less = record {
   market = market;
   fitting = fit;
@@ -93,31 +93,31 @@ entering_more m quiet start budget number now next waiting waiting' left left' s
   nobody_waits = empty;
   is_quiet = λ so h on before. is_quiet so h on (entered_by number h before) (ap (λ gs. is_on gs h) empty);
   leads =
-      ap (option_and_then (λ r. entered m (couples_from m (number + 1)) r.1 r.0)) (sym settles)
+      ap (option_and_then (λ r. after_entries m (couples_from m (number + 1)) r.1 r.0)) (sym settles)
       ∙ sym (next_couple m number left now.places within) ∙ so_far.leads;
   within = (let l = so_far.within in omega arith);
 }
 
 -- its rounds are more than what is left
 pub entering_spent : (m : Market) (quiet : Bool) (start : Places) (budget number : ℕ) (now : Assigned) (waiting : Waiting) (left : ℕ)
-    → IsEntering m quiet start budget number now waiting left → number < length m.couples → settled m number left now.places (Couple number ∷ []) ≡ None
+    → IsEntering m quiet start budget number now waiting left → number < length m.couples → after_rounds m number left now.places (Couple number ∷ []) ≡ None
     → stage m start budget ≡ None
 entering_spent m quiet start budget number now waiting left so_far within spent =
-    let none : entered m (below (length m.couples)) budget start ≡ None =
-    sym so_far.leads ∙ next_couple m number left now.places within ∙ ap (option_and_then (λ r. entered m (couples_from m (number + 1)) r.1 r.0)) spent in
+    let none : after_entries m (below (length m.couples)) budget start ≡ None =
+    sym so_far.leads ∙ next_couple m number left now.places within ∙ ap (option_and_then (λ r. after_entries m (couples_from m (number + 1)) r.1 r.0)) spent in
     ap (option_map (λ r. (r.0, budget - r.1))) none
 
 -- there is none to enter
 pub none_enters : (m : Market) (places : Places) (budget : ℕ) → length m.couples ≡ 0 → stage m places budget ≡ Some (places, 0)
 none_enters m places budget none =
     let all : budget - budget ≡ 0 = omega arith in
-    ap (λ n. option_map (λ r. (r.0, budget - r.1)) (entered m (below n) budget places)) none ∙ ap (λ d. Some (places, d)) all
+    ap (λ n. option_map (λ r. (r.0, budget - r.1)) (after_entries m (below n) budget places)) none ∙ ap (λ d. Some (places, d)) all
 
 -- all couples have entered
 pub entering_all : (m : Market) (quiet : Bool) (start : Places) (budget number : ℕ) (now : Assigned) (waiting : Waiting) (left : ℕ)
     → IsEntering m quiet start budget number now waiting left → length m.couples ≤ number → stage m start budget ≡ Some (now.places, budget - left)
 entering_all m quiet start budget number now waiting left so_far past =
     let none_left : length m.couples - number ≡ 0 = omega arith in
-    let all : entered m (below (length m.couples)) budget start ≡ Some (now.places, left) =
-    sym so_far.leads ∙ ap (λ n. entered m (range_with_len number n) left now.places) none_left in
+    let all : after_entries m (below (length m.couples)) budget start ≡ Some (now.places, left) =
+    sym so_far.leads ∙ ap (λ n. after_entries m (range_with_len number n) left now.places) none_left in
     ap (option_map (λ r. (r.0, budget - r.1))) all

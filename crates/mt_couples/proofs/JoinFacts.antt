@@ -7,7 +7,7 @@ use Rattle.mt_terms.specs.Rounds.{is_on, joined, all_joined}
 use Rattle.mt_terms.specs.declared.numbers.Agent.{Agent}
 use Rattle.mt_terms.specs.declared.numbers.Agent.TheVariants.{Single, Couple}
 use Rattle.mt_round_laws.proofs.RoundsKeep.{on_all_joined}
-use Rattle.mt_sets.specs.Waiting.{with_agents, IsKnown, Waiting}
+use Rattle.mt_stage_tables.specs.Waiting.{with_agents, IsKnown, Waiting}
 use Rattle.mt_assignment.specs.Assigned.{IsAgentOf}
 use Rattle.mt_couples.specs.Waiting.{IsListOf, Joins}
 

@@ -14,34 +14,34 @@ use Rattle.mt_terms.specs.Stability.{is_chosen, would_be_taken}
 use Rattle.mt_terms.specs.WellFormed.{IsWellFormed}
 use Rattle.mt_terms.specs.declared.numbers.Agent.{Agent}
 use Rattle.mt_terms.specs.declared.numbers.Agent.TheVariants.{Single, Couple}
-use Rattle.mt_match_laws.proofs.ChoiceLemmas.{choice_facts}
+use Rattle.mt_stability_laws.proofs.ChoiceLemmas.{choice_facts}
 use Rattle.mt_ranks.specs.Ranked.{rank_of}
 use Rattle.mt_round_laws.proofs.RoundsLists.{In, found, finds, each, has_in, in_has, of_image, of_until}
 use Rattle.mt_round_laws.proofs.RoundsAgents.{member_of_agent, one_of_two}
 use Rattle.mt_bits.specs.Members.{IsFirstFrom}
-use Rattle.mt_sets.specs.Waiting.{with_agents, Waiting}
+use Rattle.mt_stage_tables.specs.Waiting.{with_agents, Waiting}
 use Rattle.mt_assignment.specs.Assigned.{ahead, has_post, pair_of, Assigned, AreApplicantsOf, IsAssigned}
 use Rattle.mt_couples.specs.Looking.{is_noted_reopened, AddsCouples, AddsSingles, HaveReopened, IsWatching}
 use Rattle.mt_couples.specs.Waiting.{agents_of}
 use Rattle.mt_assignment.specs.Moves.{names_one_of, opens, some_has}
 use Rattle.mt_couples.specs.Running.{is_idle, is_reopened}
-use Rattle.mt_sets.specs.Notes.{end_of, is_before, is_noted, notes_pair}
+use Rattle.mt_stage_tables.specs.Notes.{end_of, is_before, is_noted, notes_pair}
 use Rattle.mt_assignment.specs.Watched.{better_pairs, opens_between, ranks_at, wanted}
 use Rattle.mt_couples.specs.Watching.{Covers}
-use Rattle.mt_sets.specs.Named.{names, row_at}
-use Rattle.mt_sets.proofs.NamedFacts.{any_between}
-use Rattle.mt_sets.specs.declared.couple_list.Note.{Note}
+use Rattle.mt_stage_tables.specs.Named.{names, row_at}
+use Rattle.mt_stage_tables.proofs.NamedFacts.{any_between}
+use Rattle.mt_stage_tables.specs.declared.couple_list.Note.{Note}
 use Rattle.mt_couples.specs.declared.watch.Watch.{Watch}
 use Rattle.mt_terms.specs.Lists.{is_distinct}
 use Rattle.mt_terms.proofs.ListFacts.{same_position}
 use Rattle.mt_assignment.proofs.LiveFacts.{better_single, post_for, better_couple}
-use Rattle.mt_sets.proofs.FrontFacts.{until_front}
-use Rattle.mt_sets.proofs.NoteFacts.{before_end}
+use Rattle.mt_stage_tables.proofs.FrontFacts.{until_front}
+use Rattle.mt_stage_tables.proofs.NoteFacts.{before_end}
 use Rattle.mt_couples.proofs.NoteFacts.{couple_with_pair}
-use Rattle.mt_sets.proofs.PlaceFacts.{has_read}
+use Rattle.mt_stage_tables.proofs.PlaceFacts.{has_read}
 use Rattle.mt_assignment.proofs.RankFacts.{has_rank, rank_there}
-use Rattle.mt_sets.proofs.OrderFacts.{has_at}
-use Rattle.mt_sets.proofs.GrowingFacts.{has_end, has_parts, has_still}
+use Rattle.mt_stage_tables.proofs.OrderFacts.{has_at}
+use Rattle.mt_stage_tables.proofs.GrowingFacts.{has_end, has_parts, has_still}
 use Rattle.mt_couples.proofs.WatchFacts.{index_of}
 use Rattle.mt_couples.proofs.JoinFacts.{next_mapped}
 use Rattle.mt_couples.proofs.QuietFacts.{blocking, is_agent, looking_joins, looking_skips, IsLooking}

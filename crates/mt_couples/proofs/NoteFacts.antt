@@ -16,8 +16,8 @@ use Rattle.mt_couples.specs.Looking.{AreNoted}
 use Rattle.mt_assignment.specs.Moves.{IsTaking}
 use Rattle.mt_assignment.specs.Watched.{better_pairs}
 use Rattle.mt_couples.specs.Watching.{AreCounted, CountsAll, IsCounted, IsNoted}
-use Rattle.mt_sets.specs.Named.{noted_count}
-use Rattle.mt_sets.proofs.FrontFacts.{until_within}
+use Rattle.mt_stage_tables.specs.Named.{noted_count}
+use Rattle.mt_stage_tables.proofs.FrontFacts.{until_within}
 use Rattle.mt_couples.specs.declared.watch.Watch.{Watch}
 use Rattle.mt_assignment.proofs.MoveFacts.{is_move}
 

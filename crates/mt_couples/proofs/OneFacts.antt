@@ -17,8 +17,8 @@ use Rattle.mt_ranks.specs.Ranked.{rank_of}
 use Rattle.mt_ranks.specs.declared.entries.Live.{Live}
 use Rattle.mt_round_laws.proofs.RoundsLists.{In, all_pass, each, found, finds, has_in, in_below, in_has, of_below, of_image, of_until}
 use Rattle.mt_round_laws.proofs.RoundsAgents.{IsAgent, agent_of_applicant, couple_number, member_of_agent, one_of_two}
-use Rattle.mt_sets.specs.Waiting.{with_agents, Waiting}
-use Rattle.mt_sets.proofs.OrderFacts.{has_at}
+use Rattle.mt_stage_tables.specs.Waiting.{with_agents, Waiting}
+use Rattle.mt_stage_tables.proofs.OrderFacts.{has_at}
 use Rattle.mt_assignment.specs.Assigned.{has_post, Assigned, IsAssigned}
 use Rattle.mt_couples.specs.Looking.{has_wanted_post, AddsCouples, IsClosed, IsOpenFrom}
 use Rattle.mt_couples.specs.Waiting.{blockers}
@@ -28,7 +28,7 @@ use Rattle.mt_assignment.specs.Watched.{better_entries, ranks_at, wanted, AreWat
 use Rattle.mt_assignment.proofs.EntryFacts.{entry_in, entry_wanted}
 use Rattle.mt_assignment.proofs.LiveFacts.{better_single, opens_live, post_for}
 use Rattle.mt_couples.proofs.LookFacts.{any_default, at_rank, open_at, open_single, passes_joined, passes_skipped, passing, rank_at_place, reopened_before, Rest}
-use Rattle.mt_sets.proofs.PlaceFacts.{has_read}
+use Rattle.mt_stage_tables.proofs.PlaceFacts.{has_read}
 use Rattle.mt_assignment.proofs.RankFacts.{rank_there}
 
 -- a single that wants a program more than what it has, where that has a post for it, has an option there

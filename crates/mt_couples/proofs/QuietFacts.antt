@@ -15,7 +15,7 @@ use Rattle.mt_round_laws.proofs.RoundsAgents.{same_agent, on_list, of_list, agen
 use Rattle.mt_round_laws.proofs.RoundsSets.{has_head}
 use Rattle.mt_round_laws.proofs.RoundsMove.{match_after}
 use Rattle.mt_round_laws.proofs.RoundsKeep.{IsOpened, found_none, move_from, on_joined, on_all_joined, opened_by_left, quiet_after}
-use Rattle.mt_sets.specs.Waiting.{with_agents, Waiting}
+use Rattle.mt_stage_tables.specs.Waiting.{with_agents, Waiting}
 use Rattle.mt_assignment.specs.Assigned.{Assigned}
 use Rattle.mt_assignment.specs.Moves.{names_one_of, opens, some_has, IsTaking}
 use Rattle.mt_couples.specs.Running.{is_quiet_single, is_reopened, singles_quiet, work_of, IsQuiet, IsQuietBut}

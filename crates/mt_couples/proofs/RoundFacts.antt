@@ -7,13 +7,13 @@ use Rattle.mt_terms.specs.Matching.{Places, Placement, holds, options, better}
 use Rattle.mt_terms.specs.Stability.{would_be_taken, fits}
 use Rattle.mt_terms.specs.Places.{ArePlaces}
 use Rattle.mt_terms.specs.WellFormed.{IsWellFormed}
-use Rattle.mt_terms.specs.Rounds.{is_same_agent, first_taken, round_of, settled, Work, IsFittingState, is_on}
+use Rattle.mt_terms.specs.Rounds.{is_same_agent, first_taken, round_of, after_rounds, Work, IsFittingState, is_on}
 use Rattle.mt_terms.specs.declared.numbers.Agent.{Agent}
 use Rattle.mt_round_laws.proofs.RoundsLists.{In, of_until}
 use Rattle.mt_round_laws.proofs.RoundsAgents.{is_same_agent_refl, agent_from_list, of_list}
 use Rattle.mt_round_laws.proofs.RoundsFits.{fitting_facts, listing_program}
 use Rattle.mt_round_laws.proofs.RoundsKeep.{fitting_round, found_first}
-use Rattle.mt_sets.specs.Waiting.{waiting_first, Waiting}
+use Rattle.mt_stage_tables.specs.Waiting.{waiting_first, Waiting}
 use Rattle.mt_assignment.specs.Assigned.{Assigned, AreListed, IsAgentOf}
 use Rattle.mt_assignment.specs.Moves.{IsTaking}
 use Rattle.mt_couples.specs.Running.{work_of, IsRunning}
@@ -66,17 +66,17 @@ module _ {k : ℕ} {quiet : Bool} {s : Assigned} {w : Waiting} {g : Agent} (runn
 pub record IsSettling (k : ℕ) (quiet : Bool) (budget : ℕ) (start now : Assigned) (waits waiting : Waiting) (left : ℕ) : Type 0 where
   pub market : now.market ≡ start.market
   pub running : IsRunning k quiet now waiting
-  pub leads : settled start.market k left now.places waiting.agents ≡ settled start.market k budget start.places waits.agents
+  pub leads : after_rounds start.market k left now.places waiting.agents ≡ after_rounds start.market k budget start.places waits.agents
   pub within : left ≤ budget
 
 -- one round made
 module _ (m : Market) (k : ℕ) where
   settled_more : (left : ℕ) (places : Places) (g : Agent) (rest : List Agent) (w : Work) → (left ≡ 0 → ⊥) → w ≡ round_of m k places (g ∷ rest)
-      → settled m k (left - 1) w.places w.waiting ≡ settled m k left places (g ∷ rest)
+      → after_rounds m k (left - 1) w.places w.waiting ≡ after_rounds m k left places (g ∷ rest)
   settled_more zero places g rest w some is = absurd (some refl)
   settled_more (suc n) places g rest w some is =
       let e : suc n - 1 ≡ n = omega arith in
-      ap (λ j. settled m k j w.places w.waiting) e ∙ ap (λ (x : Work). settled m k n x.places x.waiting) is
+      ap (λ j. after_rounds m k j w.places w.waiting) e ∙ ap (λ (x : Work). after_rounds m k n x.places x.waiting) is
 
 pub settling_more : (k : ℕ) (quiet : Bool) (budget : ℕ) (start now next : Assigned) (waits waiting rest waiting' : Waiting) (left : ℕ) (g : Agent)
     → IsSettling k quiet budget start now waits waiting left → waiting ≡ waiting_first g rest → (left ≡ 0 → ⊥) → next.market ≡ now.market
@@ -89,7 +89,7 @@ settling_more k quiet budget start now next waits waiting rest waiting' left g s
       running = runs_on running next waiting' same room work;
       leads =
           settled_more start.market k left now.places g rest.agents (work_of next waiting') some (work ∙ ap (λ m. round_of m k now.places (g ∷ rest.agents)) so_far.market)
-          ∙ ap (λ (w : Waiting). settled start.market k left now.places w.agents) (sym front) ∙ so_far.leads;
+          ∙ ap (λ (w : Waiting). after_rounds start.market k left now.places w.agents) (sym front) ∙ so_far.leads;
       within = (let l = so_far.within in omega arith);
     }
 

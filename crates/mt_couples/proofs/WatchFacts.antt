@@ -18,7 +18,7 @@ use Rattle.mt_assignment.specs.Watched.{wanted, AreWatched, Follows, IsWatched, 
 use Rattle.mt_couples.specs.Watching.{Counts, CountsAll, FollowsAll}
 use Rattle.mt_couples.specs.declared.watch.Watch.{Watch}
 use Rattle.mt_assignment.proofs.MoveFacts.{is_move}
-use Rattle.mt_sets.proofs.GrowingFacts.{has_parts, has_still}
+use Rattle.mt_stage_tables.proofs.GrowingFacts.{has_parts, has_still}
 use Rattle.mt_assignment.proofs.RankFacts.{has_rank}
 use Rattle.mt_assignment.proofs.EntryFacts.{watched_still}
 

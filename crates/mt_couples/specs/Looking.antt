@@ -9,11 +9,11 @@ use Rattle.mt_ranks.specs.Ranked.{rank_of}
 use Rattle.mt_bits.specs.Members.{IsFirstFrom}
 use Rattle.mt_assignment.specs.Assigned.{has_post, Assigned}
 use Rattle.mt_couples.specs.Running.{is_idle, is_reopened}
-use Rattle.mt_sets.specs.Notes.{end_of}
-use Rattle.mt_sets.specs.Named.{AreNamed}
+use Rattle.mt_stage_tables.specs.Notes.{end_of}
+use Rattle.mt_stage_tables.specs.Named.{AreNamed}
 use Rattle.mt_assignment.specs.Watched.{opens_between, ranks_at, AreWatched}
 use Rattle.mt_couples.specs.Watching.{AreCounted, IsNoted}
-use Rattle.mt_sets.specs.declared.couple_list.Note.{Note}
+use Rattle.mt_stage_tables.specs.declared.couple_list.Note.{Note}
 use Rattle.mt_couples.specs.declared.watch.Watch.{Watch}
 
 -- whoever has entered and doesn't wait has all pairs noted that it wants more than what it has

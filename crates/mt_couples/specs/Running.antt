@@ -8,7 +8,7 @@ use Rattle.mt_terms.specs.WellFormed.{IsWellFormed}
 use Rattle.mt_terms.specs.Rounds.{Work, has_entered, is_on, IsFittingState}
 use Rattle.mt_terms.specs.declared.numbers.Agent.{Agent}
 use Rattle.mt_terms.specs.declared.numbers.Agent.TheVariants.{Single, Couple}
-use Rattle.mt_sets.specs.Waiting.{Waiting}
+use Rattle.mt_stage_tables.specs.Waiting.{Waiting}
 use Rattle.mt_assignment.specs.Assigned.{Assigned}
 use Rattle.mt_assignment.specs.Moves.{opens}
 use Rattle.mt_couples.specs.Waiting.{IsListOf}

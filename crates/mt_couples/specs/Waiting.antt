@@ -5,7 +5,7 @@ use Rattle.mt_terms.specs.Market.{Market, applicants, agent_of}
 use Rattle.mt_terms.specs.Rounds.{all_joined, blocking_on_list}
 use Rattle.mt_terms.specs.Stability.{blocks}
 use Rattle.mt_terms.specs.declared.numbers.Agent.{Agent}
-use Rattle.mt_sets.specs.Waiting.{Waiting, with_agents}
+use Rattle.mt_stage_tables.specs.Waiting.{Waiting, with_agents}
 use Rattle.mt_assignment.specs.Assigned.{Assigned}
 
 -- a list of agents of a market has room for all of them

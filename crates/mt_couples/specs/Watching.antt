@@ -5,7 +5,7 @@ use Rattle.mt_terms.specs.Market.{applicants, agent_of}
 use Rattle.mt_terms.specs.declared.numbers.Agent.{Agent}
 use Rattle.mt_terms.specs.declared.numbers.Agent.TheVariants.{Couple}
 use Rattle.mt_assignment.specs.Assigned.{Assigned}
-use Rattle.mt_sets.specs.Named.{noted_count}
+use Rattle.mt_stage_tables.specs.Named.{noted_count}
 use Rattle.mt_couples.specs.declared.watch.Watch.{Watch}
 use Rattle.mt_couples.specs.Running.{is_reopened}
 use Rattle.mt_assignment.specs.Watched.{better_pairs, IsWatched, IsWithinList, KeepsOthers}

@@ -1,12 +1,12 @@
 ghost use Rattle.std.specs.Prelude.{◌≡◌, ◌<◌, ◌≤◌, ◌++◌, length, IsTrue, map, IfOk, IsErrOf, OnOk, Some, None, [], ◌∷◌};
-ghost use Rattle.mt_terms.specs.Rounds.{after_taking, round_of, settled, stage};
+ghost use Rattle.mt_terms.specs.Rounds.{after_taking, round_of, after_rounds, stage};
 ghost use Rattle.mt_terms.specs.Best.{IsBest};
 ghost use Rattle.mt_terms.specs.Market.{applicants};
 ghost use Rattle.mt_terms.specs.WellFormed.{IsWellFormed};
 ghost use Rattle.mt_terms.specs.Stability.{fits, stable};
 ghost use Rattle.mt_ranks.specs.Ranked.{ranked_of};
-ghost use Rattle.mt_sets.specs.Named.{AreNamed};
-ghost use Rattle.mt_sets.specs.Waiting.{waiting_first};
+ghost use Rattle.mt_stage_tables.specs.Named.{AreNamed};
+ghost use Rattle.mt_stage_tables.specs.Waiting.{waiting_first};
 ghost use Rattle.mt_assignment.specs.Assigned.{AreApplicantsOf, AreProgramsOf, AreSent, IsAgentOf};
 ghost use Rattle.mt_couples.specs.Looking.{has_wanted_post, IsWatching};
 ghost use Rattle.mt_couples.specs.Watching.{AreCounted, CountsAll, FollowsAll, NotesAgent};
@@ -20,7 +20,7 @@ use crate::watch::Watch;
 use mt_assignment::{Assignment, no_ranks};
 use mt_market::Roster;
 use mt_ranks::Ranks;
-use mt_sets::WorkList;
+use mt_stage_tables::WorkList;
 use mt_terms::{Agent, AppNo, CoupleNo, Match, ProgNo};
 use rayon::prelude::*;
 use std::alloc::{AllocError, Global};
@@ -316,8 +316,8 @@ fn settle<R: Threads + Sync>(
     requires running { IsRunning last quiet assignment.old waiting.old }
     requires watch { IsWatching last assignment.old waiting.old.agents watch.old }
     ensures watch { OnOk result (IsWatching last assignment.new waiting.new.agents watch.new) }
-    ensures settled { IfOk result (λ left. settled assignment.old.market last budget assignment.old.places waiting.old.agents ≡ Some (assignment.new.places, left)) }
-    ensures spent { IsErrOf result CoupleEnd.BudgetSpent → settled assignment.old.market last budget assignment.old.places waiting.old.agents ≡ None }
+    ensures settled { IfOk result (λ left. after_rounds assignment.old.market last budget assignment.old.places waiting.old.agents ≡ Some (assignment.new.places, left)) }
+    ensures spent { IsErrOf result CoupleEnd.BudgetSpent → after_rounds assignment.old.market last budget assignment.old.places waiting.old.agents ≡ None }
     ensures within { IfOk result (λ left. left ≤ budget) }
     ensures market { OnOk result (assignment.new.market ≡ assignment.old.market) }
     ensures running { OnOk result (IsRunning last quiet assignment.new waiting.new) }

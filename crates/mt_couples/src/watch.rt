@@ -2,7 +2,7 @@ ghost use Rattle.std.specs.Prelude.{◌≡◌, ◌<◌, length, slice_index_or, 
 ghost use Rattle.mt_terms.specs.Market.{applicants};
 ghost use Rattle.mt_terms.specs.Stability.{blocks};
 ghost use Rattle.mt_bits.specs.Members.{is_in};
-ghost use Rattle.mt_sets.specs.Named.{row_at, AreNamed};
+ghost use Rattle.mt_stage_tables.specs.Named.{row_at, AreNamed};
 ghost use Rattle.mt_assignment.specs.Assigned.{IsAgentOf};
 ghost use Rattle.mt_assignment.specs.Watched.{better_pairs, ranks_at, AreWatched, Follows, Unwatches, Watches};
 ghost use Rattle.mt_couples.specs.Watching.{AreCounted, Counts, CountsCouple, NotesCouple};
@@ -10,7 +10,7 @@ ghost use Rattle.mt_couples.specs.Watching.{AreCounted, Counts, CountsCouple, No
 use mt_assignment::Assignment;
 use mt_bits::{RankRow, RankTable};
 use mt_ranks::Live;
-use mt_sets::{Note, NotedPairs};
+use mt_stage_tables::{Note, NotedPairs};
 use mt_terms::{Agent, AppNo, CoupleNo, ProgNo};
 use std::alloc::{AllocError, Global};
 

@@ -56,7 +56,7 @@ fn act<K: HallName, R: Wait>(
 }
 
 /// The longest rest of a worker, in turns: some milliseconds.
-const LONGEST_REST: u32 = 1 << 18;
+const LONGEST_BACK_OFF: u32 = 1 << 18;
 
 /// After how many turns of its rest a worker lets another thread run.
 const YIELD_AFTER: u32 = 64;
@@ -66,13 +66,15 @@ const LOOK_AFTER: u32 = 1 << 11;
 
 /// How many turns a worker rests, after a rest of `last` turns. It is twice as many if the worker had to wait for
 /// another one since, and half as many if it hadn't.
-fn next_rest(last: u32, waited: bool) -> u32
-    ensures bounded { last ≤ LONGEST_REST → result ≤ LONGEST_REST }
-    ensures grows { IsTrue waited → result ≡ min (2 * last + 1) LONGEST_REST }
+fn next_back_off(last: u32, waited: bool) -> u32
+    ensures bounded { last ≤ LONGEST_BACK_OFF → result ≤ LONGEST_BACK_OFF }
+    ensures grows { IsTrue waited → result ≡ min (2 * last + 1) LONGEST_BACK_OFF }
     ensures falls { IsFalse waited → result ≡ last / 2 }
 {
     if waited {
-        last.saturating_mul(2).saturating_add(1).min(LONGEST_REST)
+        last.saturating_mul(2)
+            .saturating_add(1)
+            .min(LONGEST_BACK_OFF)
     } else {
         last / 2
     }
@@ -84,7 +86,7 @@ fn are_empty(thieves: &[Stealer<AppNo>]) -> bool {
 }
 
 /// Waits for this number of turns, or for fewer if no deque has a ticket any more.
-fn rest(turns: u32, thieves: &[Stealer<AppNo>]) {
+fn back_off(turns: u32, thieves: &[Stealer<AppNo>]) {
     for turn in 0..turns {
         if turn % LOOK_AFTER == LOOK_AFTER - 1 && are_empty(thieves) {
             return;
@@ -114,12 +116,12 @@ fn serve<K: HallName, R: Wait, G: Gate>(
             return;
         };
         gate.before(seat.number, applicant);
-        let waits = pass.waits();
+        let contended = pass.contended_locks();
         act(rt, hall, pass, seat, applicant);
         gate.after(seat.number, pass);
         if seat.number > 0 {
-            turns = next_rest(turns, pass.waits() != waits);
-            rest(turns, thieves);
+            turns = next_back_off(turns, pass.contended_locks() != contended);
+            back_off(turns, thieves);
         }
     }
 }

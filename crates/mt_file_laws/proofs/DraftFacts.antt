@@ -5,7 +5,7 @@ use Rattle.std.specs.List.{list_all}
 use Rattle.std.specs.Result.{result_ok}
 use Rattle.std.proofs.lemmas.Bool.{and_parts, and_from}
 use Rattle.mt_terms.specs.Registration.Ids.{Bytes, is_dash, is_id, quota_of}
-use Rattle.mt_terms.specs.Registration.Faults.{Charge, charge, charge_alone}
+use Rattle.mt_terms.specs.Registration.Faults.{RecordFault, record_fault, record_fault_alone}
 use Rattle.mt_terms.specs.declared.codes.TheConstants.{BAD_ID, BAD_QUOTA}
 use Rattle.mt_terms.specs.Registration.Records.{Rules, Record, ProgramRecord, ApplicantRecord, CoupleRecord, WithdrawRecord, Kind, OfProgram, OfApplicant, OfCouple, IdPair, kind_of, are_ids, is_pair, pair_of, two_by_two, record_of, record_by_kind, program_record, applicant_record, couple_by_pairs, couple_record, withdraw_by_kind, withdraw_record}
 use Rattle.mt_terms.specs.Registration.Rows.{ids_of, applicant_ids}
@@ -34,14 +34,14 @@ lists_ids rules (CoupleRecord id a b pairs) = list_all (is_id_pair rules) pairs
 lists_ids rules (WithdrawRecord kind id) = true
 
 -- a record that is read is the draft, and its list has ids alone; a draft registers ids and is read if its list has ids alone
-pub record IsDraft (rules : Rules) (read : Result Record Charge) (drafted : Option Record) : Type 0 where
+pub record IsDraft (rules : Rules) (read : Result Record RecordFault) (drafted : Option Record) : Type 0 where
   pub drafts : (r : Record) → read ≡ Ok r → drafted ≡ Some r
   pub lists : (r : Record) → read ≡ Ok r → lists_ids rules r ≡ true
   pub registers : (r : Record) → drafted ≡ Some r → registers_ids rules r ≡ true
   pub reads : (r : Record) → drafted ≡ Some r → lists_ids rules r ≡ true → read ≡ Ok r
 
 module _ (rules : Rules) where
-  no_draft : (e : Charge) → IsDraft rules (Err e) None
+  no_draft : (e : RecordFault) → IsDraft rules (Err e) None
   no_draft e = record { drafts = λ r h. cc; lists = λ r h. cc; registers = λ r h. cc; reads = λ r h l. cc }
 
   -- a draft whose list has ids alone, or has another field
@@ -53,7 +53,7 @@ module _ (rules : Rules) where
     reads = λ r h k. let s : q ≡ r = cc in cc;
   }
 
-  unlisted : (q : Record) (e : Charge) → registers_ids rules q ≡ true → lists_ids rules q ≡ false → IsDraft rules (Err e) (Some q)
+  unlisted : (q : Record) (e : RecordFault) → registers_ids rules q ≡ true → lists_ids rules q ≡ false → IsDraft rules (Err e) (Some q)
   unlisted q e i l = record {
     drafts = λ r h. cc;
     lists = λ r h. cc;
@@ -67,7 +67,7 @@ module _ (rules : Rules) where
   program_drafts (id ∷ quota ∷ list) = by (is_id rules.limits.id_bytes id) (are_ids rules list) (quota_of quota) refl refl
     where
       by : (b c : Bool) (o : Option ℕ) → is_id rules.limits.id_bytes id ≡ b → are_ids rules list ≡ c
-          → IsDraft rules (if b && c then ok_or (option_map (λ n. ProgramRecord id n list) o) (charge BAD_QUOTA id) else Err (charge_alone BAD_ID)) (if b then option_map (λ n. ProgramRecord id n list) o else None)
+          → IsDraft rules (if b && c then ok_or (option_map (λ n. ProgramRecord id n list) o) (record_fault BAD_QUOTA id) else Err (record_fault_alone BAD_ID)) (if b then option_map (λ n. ProgramRecord id n list) o else None)
       by true true (Some n) i l = listed (ProgramRecord id n list) (and_from _ _ i refl) l
       by true true None i l = no_draft _
       by true false (Some n) i l = unlisted (ProgramRecord id n list) _ (and_from _ _ i refl) l
@@ -79,7 +79,7 @@ module _ (rules : Rules) where
   applicant_drafts (id ∷ list) = by (is_id rules.limits.id_bytes id) (are_ids rules list) refl refl
     where
       by : (b c : Bool) → is_id rules.limits.id_bytes id ≡ b → are_ids rules list ≡ c
-          → IsDraft rules (if b && c then Ok (ApplicantRecord id list) else Err (charge_alone BAD_ID)) (if b then Some (ApplicantRecord id list) else None)
+          → IsDraft rules (if b && c then Ok (ApplicantRecord id list) else Err (record_fault_alone BAD_ID)) (if b then Some (ApplicantRecord id list) else None)
       by true true i l = listed (ApplicantRecord id list) (and_from _ _ i refl) l
       by true false i l = unlisted (ApplicantRecord id list) _ (and_from _ _ i refl) l
       by false c i l = no_draft _
@@ -128,7 +128,7 @@ module _ (rules : Rules) where
   couple_drafts (id ∷ a ∷ b ∷ fields) = by (two_by_two fields) (are_ids rules (id ∷ a ∷ b ∷ [])) refl
     where
       tested : (pairs : List (Bytes × Bytes)) (all : Bool) → are_ids rules (id ∷ a ∷ b ∷ []) ≡ true → list_all (is_pair rules) pairs ≡ all
-          → IsDraft rules (if all then Ok (CoupleRecord id a b (map pair_of pairs)) else Err (charge_alone BAD_ID)) (Some (CoupleRecord id a b (map pair_of pairs)))
+          → IsDraft rules (if all then Ok (CoupleRecord id a b (map pair_of pairs)) else Err (record_fault_alone BAD_ID)) (Some (CoupleRecord id a b (map pair_of pairs)))
       tested pairs true i l = listed (CoupleRecord id a b (map pair_of pairs)) i (sym (pairs_are pairs) ∙ l)
       tested pairs false i l = unlisted (CoupleRecord id a b (map pair_of pairs)) _ i (sym (pairs_are pairs) ∙ l)
 
@@ -144,7 +144,7 @@ module _ (rules : Rules) where
   withdraw_drafts (word ∷ fields) = by (kind_of word) fields
     where
       tested : (kind : Kind) (id : Bytes) (b : Bool)
-          → IsDraft rules (if b then Ok (WithdrawRecord kind id) else Err (charge_alone BAD_ID)) (result_ok (if b then Ok (WithdrawRecord kind id) else Err (charge_alone BAD_ID)))
+          → IsDraft rules (if b then Ok (WithdrawRecord kind id) else Err (record_fault_alone BAD_ID)) (result_ok (if b then Ok (WithdrawRecord kind id) else Err (record_fault_alone BAD_ID)))
       tested kind id true = listed (WithdrawRecord kind id) refl refl
       tested kind id false = no_draft _
 

@@ -11,7 +11,7 @@ use Rattle.std.proofs.lemmas.List.Folds.{list_all-append}
 use Rattle.mt_terms.specs.Market.{Registered}
 use Rattle.mt_terms.specs.Registration.{market_of_numbered, market_under}
 use Rattle.mt_terms.specs.Registration.Ids.{Bytes, is_id, is_dash, quota_of, has_id}
-use Rattle.mt_terms.specs.Registration.Faults.{Charge, Fault, charge, charge_alone, fault_at}
+use Rattle.mt_terms.specs.Registration.Faults.{RecordFault, Fault, record_fault, record_fault_alone, fault_at}
 use Rattle.mt_terms.specs.declared.codes.TheConstants.{NO_VERSION, BAD_ID, BAD_QUOTA, DUPLICATE_ID, DUPLICATE_ENTRY, TOO_MANY, UNKNOWN_APPLICANT, UNKNOWN_PROGRAM, NOT_REGISTERED}
 use Rattle.mt_terms.specs.Registration.Records.{Rules, Record, ProgramRecord, ApplicantRecord, CoupleRecord, WithdrawRecord, Kind, OfProgram, OfApplicant, OfCouple, version_1, version_2, rules_of, are_ids, is_pair, pair_of, two_by_two, record_of, record_by_kind, program_record, applicant_record, couple_record, couple_by_pairs, withdraw_by_kind, withdraw_record, kind_of}
 use Rattle.mt_terms.specs.Registration.Rows.{id_of, ids_of, applicant_ids}
@@ -79,17 +79,17 @@ module _ (rules : Rules) where
   names_ids (CoupleRecord id a b pairs) = list_all an_id (id ∷ a ∷ b ∷ []) && list_all an_id (flat_map named pairs)
   names_ids (WithdrawRecord kind id) = an_id id
 
-  -- a charge, and a fault, of a known code at an id or none
-  abbrev is_charge : Charge → Bool
-  is_charge c = is_fault_code c.0 && none_or_id c.1
+  -- a record_fault, and a fault, of a known code at an id or none
+  abbrev is_record_fault : RecordFault → Bool
+  is_record_fault c = is_fault_code c.0 && none_or_id c.1
 
   abbrev is_fault : Fault → Bool
   is_fault f = is_fault_code f.code && none_or_id f.id
 
-  abbrev fits : Result Record Charge → Bool
-  fits o = either names_ids is_charge o
+  abbrev fits : Result Record RecordFault → Bool
+  fits o = either names_ids is_record_fault o
 
-  if_fits : (b : Bool) (s t : Result Record Charge) → (b ≡ true → fits s ≡ true) → fits t ≡ true → fits (if b then s else t) ≡ true
+  if_fits : (b : Bool) (s t : Result Record RecordFault) → (b ≡ true → fits s ≡ true) → fits t ≡ true → fits (if b then s else t) ≡ true
   if_fits true s t h k = h refl
   if_fits false s t h k = k
 
@@ -97,16 +97,16 @@ module _ (rules : Rules) where
   program_fits [] = refl
   program_fits (id ∷ []) = refl
   program_fits (id ∷ quota ∷ list) =
-      if_fits (are_ids rules (id ∷ list)) (ok_or (option_map (λ n. ProgramRecord id n list) (quota_of quota)) (charge BAD_QUOTA id)) (Err (charge_alone BAD_ID))
+      if_fits (are_ids rules (id ∷ list)) (ok_or (option_map (λ n. ProgramRecord id n list) (quota_of quota)) (record_fault BAD_QUOTA id)) (Err (record_fault_alone BAD_ID))
       (λ h. by (quota_of quota) h) refl
     where
-      by : (o : Option ℕ) → list_all an_id (id ∷ list) ≡ true → fits (ok_or (option_map (λ n. ProgramRecord id n list) o) (charge BAD_QUOTA id)) ≡ true
+      by : (o : Option ℕ) → list_all an_id (id ∷ list) ≡ true → fits (ok_or (option_map (λ n. ProgramRecord id n list) o) (record_fault BAD_QUOTA id)) ≡ true
       by (Some n) h = h
       by None h = none_or id (and_parts (an_id id) _ h).0
 
   applicant_fits : (fields : List Bytes) → fits (applicant_record rules fields) ≡ true
   applicant_fits [] = refl
-  applicant_fits (id ∷ list) = if_fits (are_ids rules (id ∷ list)) (Ok (ApplicantRecord id list)) (Err (charge_alone BAD_ID)) (λ h. h) refl
+  applicant_fits (id ∷ list) = if_fits (are_ids rules (id ∷ list)) (Ok (ApplicantRecord id list)) (Err (record_fault_alone BAD_ID)) (λ h. h) refl
 
   pair_fits : (p : Bytes × Bytes) → is_pair rules p ≡ true → list_all an_id (named (pair_of p)) ≡ true
   pair_fits p h = by (is_dash p.0) (is_dash p.1) h
@@ -130,7 +130,7 @@ module _ (rules : Rules) where
   by_pairs_fits : (id a b : Bytes) (pairs : Option (List (Bytes × Bytes))) → fits (couple_by_pairs rules id a b pairs) ≡ true
   by_pairs_fits id a b None = refl
   by_pairs_fits id a b (Some pairs) =
-      if_fits (are_ids rules (id ∷ a ∷ b ∷ []) && list_all (is_pair rules) pairs) (Ok (CoupleRecord id a b (map pair_of pairs))) (Err (charge_alone BAD_ID))
+      if_fits (are_ids rules (id ∷ a ∷ b ∷ []) && list_all (is_pair rules) pairs) (Ok (CoupleRecord id a b (map pair_of pairs))) (Err (record_fault_alone BAD_ID))
       (λ h. let q : (are_ids rules (id ∷ a ∷ b ∷ []) ≡ true) × (list_all (is_pair rules) pairs ≡ true) = and_parts (are_ids rules (id ∷ a ∷ b ∷ [])) _ h in and_from _ _ q.0 (pairs_fit pairs q.1))
       refl
 
@@ -144,7 +144,7 @@ module _ (rules : Rules) where
   withdrawal_fits None fields = refl
   withdrawal_fits (Some kind) [] = refl
   withdrawal_fits (Some kind) (id ∷ []) =
-      if_fits (are_ids rules (id ∷ [])) (Ok (WithdrawRecord kind id)) (Err (charge_alone BAD_ID)) (λ h. (and_parts (an_id id) _ h).0) refl
+      if_fits (are_ids rules (id ∷ [])) (Ok (WithdrawRecord kind id)) (Err (record_fault_alone BAD_ID)) (λ h. (and_parts (an_id id) _ h).0) refl
   withdrawal_fits (Some kind) (id ∷ x ∷ xs) = refl
 
   withdraw_fits : (fields : List Bytes) → fits (withdraw_record rules fields) ≡ true
@@ -199,31 +199,31 @@ module _ (rules : Rules) where
       (and_from _ _ (found_fits (a ∷ applicant_ids before) b (and_parts (an_id b) _ q.1).0) refl)))
   registered_fits before (WithdrawRecord kind id) h = refl
 
-  id_charged : (code : ℕ) (id : Option Bytes) → is_fault_code code ≡ true → where_some none_or_id id ≡ true → where_some is_charge (option_map (charge code) id) ≡ true
+  id_charged : (code : ℕ) (id : Option Bytes) → is_fault_code code ≡ true → where_some none_or_id id ≡ true → where_some is_record_fault (option_map (record_fault code) id) ≡ true
   id_charged code None k h = refl
   id_charged code (Some id) k h = and_from _ _ k h
 
-  test_charged : (b : Bool) (c : Charge) → is_charge c ≡ true → where_some is_charge (then_some b c) ≡ true
+  test_charged : (b : Bool) (c : RecordFault) → is_record_fault c ≡ true → where_some is_record_fault (then_some b c) ≡ true
   test_charged true c h = h
   test_charged false c h = refl
 
-  conflict_fits : (before : List Record) (r : Record) → names_ids r ≡ true → where_some is_charge (first_conflict rules before r) ≡ true
+  conflict_fits : (before : List Record) (r : Record) → names_ids r ≡ true → where_some is_record_fault (first_conflict rules before r) ≡ true
   conflict_fits before r h =
       let own : none_or_id (id_of r) ≡ true = none_or (id_of r) (own_fits r h) in
-      some_of_first is_charge
-      (option_map (charge DUPLICATE_ID) (registered_before before r)
-      ∷ then_some (says_twice before r) (charge DUPLICATE_ENTRY (id_of r))
-      ∷ then_some (are_too_many rules.limits (before ++ r ∷ [])) (charge TOO_MANY (id_of r)) ∷ [])
+      some_of_first is_record_fault
+      (option_map (record_fault DUPLICATE_ID) (registered_before before r)
+      ∷ then_some (says_twice before r) (record_fault DUPLICATE_ENTRY (id_of r))
+      ∷ then_some (are_too_many rules.limits (before ++ r ∷ [])) (record_fault TOO_MANY (id_of r)) ∷ [])
       (and_from _ _ (id_charged DUPLICATE_ID (registered_before before r) refl (registered_fits before r h))
-      (and_from _ _ (test_charged (says_twice before r) (charge DUPLICATE_ENTRY (id_of r)) own)
-      (and_from _ _ (test_charged (are_too_many rules.limits (before ++ r ∷ [])) (charge TOO_MANY (id_of r)) own) refl)))
+      (and_from _ _ (test_charged (says_twice before r) (record_fault DUPLICATE_ENTRY (id_of r)) own)
+      (and_from _ _ (test_charged (are_too_many rules.limits (before ++ r ∷ [])) (record_fault TOO_MANY (id_of r)) own) refl)))
 
   next_fits : (before : List Record) (fields : List Bytes) → fits (next_record rules before fields) ≡ true
   next_fits before fields =
-      either_next names_ids names_ids is_charge (record_of rules fields) (λ r. unless (first_conflict rules before r) r) (record_fits fields)
-      (λ r h. either_unless names_ids is_charge (first_conflict rules before r) r (conflict_fits before r h) h)
+      either_next names_ids names_ids is_record_fault (record_of rules fields) (λ r. unless (first_conflict rules before r) r) (record_fits fields)
+      (λ r h. either_unless names_ids is_record_fault (first_conflict rules before r) r (conflict_fits before r h) h)
 
-  at_fits : (n : ℕ) (o : Result Record Charge) → fits o ≡ true → either names_ids is_fault (at_record n o) ≡ true
+  at_fits : (n : ℕ) (o : Result Record RecordFault) → fits o ≡ true → either names_ids is_fault (at_record n o) ≡ true
   at_fits n (Ok r) h = h
   at_fits n (Err c) h = h
 
@@ -240,7 +240,7 @@ module _ (rules : Rules) where
       (at_fits row.0 (next_record rules (contents before) row.1) (next_fits (contents before) row.1))
       (λ r k. first_pass_fits (before ++ (row.0, r) ∷ []) rows (more_fit before row.0 r h k))
 
-  unknown_charged : (all : List Record) (r : Record) → names_ids r ≡ true → where_some is_charge (unknown_id all r) ≡ true
+  unknown_charged : (all : List Record) (r : Record) → names_ids r ≡ true → where_some is_record_fault (unknown_id all r) ≡ true
   unknown_charged all (ProgramRecord id quota list) h =
       id_charged UNKNOWN_APPLICANT (first_not_in (applicant_ids all) list) refl (missed_fits (applicant_ids all) list (and_parts (an_id id) _ h).1)
   unknown_charged all (ApplicantRecord id list) h =
@@ -251,7 +251,7 @@ module _ (rules : Rules) where
   unknown_charged all (WithdrawRecord kind id) h =
       id_charged NOT_REGISTERED (first_not_in (ids_of kind all) (id ∷ [])) refl (missed_fits (ids_of kind all) (id ∷ []) (and_from _ _ h refl))
 
-  fault_fits : (n : ℕ) (o : Option Charge) → where_some is_charge o ≡ true → where_some is_fault (option_map (fault_at n) o) ≡ true
+  fault_fits : (n : ℕ) (o : Option RecordFault) → where_some is_record_fault o ≡ true → where_some is_fault (option_map (fault_at n) o) ≡ true
   fault_fits n None h = refl
   fault_fits n (Some c) h = h
 
@@ -287,12 +287,12 @@ of_version rules more (Ok r) h = refl
 of_version rules more (Err f) h = let p : (is_fault_code f.code ≡ true) × (none_or_id rules f.id ≡ true) = and_parts (is_fault_code f.code) _ h in and_from _ _ p.0 (more f.id p.1)
 
 version_ends : (fields : List Bytes) (rows : List (Numbered (List Bytes))) (n : ℕ)
-    → may_end (option_map_or (λ rules. market_under rules rows) (rules_of fields) (Err (fault_at n (charge_alone NO_VERSION)))) ≡ true
+    → may_end (option_map_or (λ rules. market_under rules rows) (rules_of fields) (Err (fault_at n (record_fault_alone NO_VERSION)))) ≡ true
 version_ends [] rows n = refl
 version_ends (word ∷ []) rows n = refl
 version_ends (word ∷ number ∷ []) rows n = by (bytes_eq word (codes "match") && bytes_eq number (codes "1")) (bytes_eq word (codes "match") && bytes_eq number (codes "2"))
   where
-    by : (b c : Bool) → may_end (option_map_or (λ rules. market_under rules rows) (if b then Some version_1 else (if c then Some version_2 else None)) (Err (fault_at n (charge_alone NO_VERSION)))) ≡ true
+    by : (b c : Bool) → may_end (option_map_or (λ rules. market_under rules rows) (if b then Some version_1 else (if c then Some version_2 else None)) (Err (fault_at n (record_fault_alone NO_VERSION)))) ≡ true
     by true c = of_version version_1 long_enough (market_under version_1 rows) (under_fits version_1 rows)
     by false true = of_version version_2 long (market_under version_2 rows) (under_fits version_2 rows)
     by false false = refl

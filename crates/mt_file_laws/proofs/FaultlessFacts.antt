@@ -10,7 +10,7 @@ use Rattle.mt_terms.specs.declared.codes.TheConstants.{DUPLICATE_ID}
 use Rattle.mt_terms.specs.Market.{Registered}
 use Rattle.mt_terms.specs.Registration.{market_under}
 use Rattle.mt_terms.specs.Registration.Ids.{Bytes}
-use Rattle.mt_terms.specs.Registration.Faults.{Charge, Fault, charge}
+use Rattle.mt_terms.specs.Registration.Faults.{RecordFault, Fault, record_fault}
 use Rattle.mt_terms.specs.Registration.Records.{Rules, Record, record_of}
 use Rattle.mt_terms.specs.Registration.Passes.{Numbered, contents, first_of, and_then, unless, at_record, registered_before, says_twice, are_too_many, first_conflict, next_record, first_pass, second_pass, unknown_id}
 use Rattle.mt_terms.specs.Registration.Numbering.{registered}
@@ -38,7 +38,7 @@ record PassGives (rules : Rules) (before : List Record) (rows : List (List Bytes
   apart : AreApart rules.limits given
 
 -- no conflict among a record and those before it
-conflict_none : (o : Option Bytes) (s t : Bool) (c d : Charge) → o ≡ None → s ≡ false → t ≡ false → first_of (option_map (charge DUPLICATE_ID) o ∷ then_some s c ∷ then_some t d ∷ []) ≡ None
+conflict_none : (o : Option Bytes) (s t : Bool) (c d : RecordFault) → o ≡ None → s ≡ false → t ≡ false → first_of (option_map (record_fault DUPLICATE_ID) o ∷ then_some s c ∷ then_some t d ∷ []) ≡ None
 conflict_none (Some x) s t c d n h k = cc
 conflict_none None true t c d n h k = cc
 conflict_none None false true c d n h k = cc
@@ -65,18 +65,18 @@ module _ (rules : Rules) where
     -- a row is read that has a record, which can follow
     row_reads : (r : Record) → record_of rules row ≡ Ok r → CanFollow rules.limits (contents before) r
         → (rest : List (Numbered (List Bytes))) → first_pass rules before ((n, row) ∷ rest) ≡ first_pass rules (before ++ (n, r) ∷ []) rest
-    row_reads r e follows rest = ap (λ (o : Result Record Charge). and_then (at_record n o) (λ q. first_pass rules (before ++ (n, q) ∷ []) rest)) next_is
+    row_reads r e follows rest = ap (λ (o : Result Record RecordFault). and_then (at_record n o) (λ q. first_pass rules (before ++ (n, q) ∷ []) rest)) next_is
       where
         next_is : next_record rules (contents before) row ≡ Ok r
         next_is =
-            ap (λ (o : Result Record Charge). and_then o (λ q. unless (first_conflict rules (contents before) q) q)) e
-            ∙ ap (λ (o : Option Charge). unless o r) (conflict_none _ _ _ _ _ follows.new follows.once follows.few)
+            ap (λ (o : Result Record RecordFault). and_then o (λ q. unless (first_conflict rules (contents before) q) q)) e
+            ∙ ap (λ (o : Option RecordFault). unless o r) (conflict_none _ _ _ _ _ follows.new follows.once follows.few)
 
     -- and no other
     next_follows : (r : Record) → next_record rules (contents before) row ≡ Ok r → (record_of rules row ≡ Ok r) × CanFollow rules.limits (contents before) r
     next_follows r h = by (record_of rules row) refl h
       where
-        by : (o : Result Record Charge) → record_of rules row ≡ o → and_then o (λ q. unless (first_conflict rules (contents before) q) q) ≡ Ok r → (record_of rules row ≡ Ok r) × CanFollow rules.limits (contents before) r
+        by : (o : Result Record RecordFault) → record_of rules row ≡ o → and_then o (λ q. unless (first_conflict rules (contents before) q) q) ≡ Ok r → (record_of rules row ≡ Ok r) × CanFollow rules.limits (contents before) r
         by (Err e) i k = cc
         by (Ok q) i k =
             let p : (q ≡ r) × (registered_before (contents before) q ≡ None) × (says_twice (contents before) q ≡ false) × (are_too_many rules.limits (contents before ++ q ∷ []) ≡ false) = kept_parts _ _ _ _ _ q r k in
@@ -116,7 +116,7 @@ module _ (rules : Rules) where
       by (λ r a. passed (before ++ (row.0, r) ∷ []) rows ns a) (next_record rules (contents before) row.1) (next_follows before row.0 row.1) h
     where
       by : ((r : Record) → AreApart rules.limits (contents (before ++ (row.0, r) ∷ [])) → first_pass rules (before ++ (row.0, r) ∷ []) rows ≡ Ok ns → PassGives rules (contents (before ++ (row.0, r) ∷ [])) (contents rows) (contents ns))
-          → (o : Result Record Charge) → ((r : Record) → o ≡ Ok r → (record_of rules row.1 ≡ Ok r) × CanFollow rules.limits (contents before) r)
+          → (o : Result Record RecordFault) → ((r : Record) → o ≡ Ok r → (record_of rules row.1 ≡ Ok r) × CanFollow rules.limits (contents before) r)
           → and_then (at_record row.0 o) (λ r. first_pass rules (before ++ (row.0, r) ∷ []) rows) ≡ Ok ns → PassGives rules (contents before) (contents (row ∷ rows)) (contents ns)
       by ih (Err e) f k = cc
       by ih (Ok r) f k =

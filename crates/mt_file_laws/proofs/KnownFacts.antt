@@ -5,7 +5,7 @@ use Rattle.std.specs.List.{list_all}
 use Rattle.std.proofs.lemmas.Bool.{and_parts, not-true, and_from}
 use Rattle.std.proofs.lemmas.List.Folds.{list_all-append}
 use Rattle.mt_terms.specs.Registration.Ids.{Bytes, is_id, has_id, all_differ}
-use Rattle.mt_terms.specs.Registration.Faults.{Charge, charge, fault_at}
+use Rattle.mt_terms.specs.Registration.Faults.{RecordFault, record_fault, fault_at}
 use Rattle.mt_terms.specs.declared.codes.TheConstants.{UNKNOWN_APPLICANT, UNKNOWN_PROGRAM, NOT_REGISTERED}
 use Rattle.mt_terms.specs.Registration.Records.{Rules, Record, ProgramRecord, ApplicantRecord, CoupleRecord, WithdrawRecord, Kind, OfProgram, OfApplicant, OfCouple, IdPair}
 use Rattle.mt_terms.specs.Registration.Rows.{ids_of, applicant_ids, withdrawn}
@@ -25,7 +25,7 @@ first_not_in-none ids (x ∷ xs) = by (has_id ids x) (first_not_in-none ids xs)
     by true ih = ih
     by false ih = refl
 
-charged-none : (code : ℕ) (o : Option Bytes) → is_none (option_map (charge code) o) ≡ is_none o
+charged-none : (code : ℕ) (o : Option Bytes) → is_none (option_map (record_fault code) o) ≡ is_none o
 charged-none code None = refl
 charged-none code (Some id) = refl
 
@@ -66,12 +66,12 @@ withdraws_known all (WithdrawRecord kind id) = has_id (ids_of kind all) id
 withdraws_known all _ = true
 
 -- the second pass finds nothing where each record does
-pub second-none : (unknown : Record → Option Charge) (ns : List (Numbered Record))
+pub second-none : (unknown : Record → Option RecordFault) (ns : List (Numbered Record))
     → is_none (first_of (map (λ r. option_map (fault_at r.0) (unknown r.1)) ns)) ≡ list_all (λ r. is_none (unknown r)) (contents ns)
 second-none unknown [] = refl
 second-none unknown (n ∷ ns) = by (unknown n.1) (second-none unknown ns)
   where
-    by : (o : Option Charge) → is_none (first_of (map (λ r. option_map (fault_at r.0) (unknown r.1)) ns)) ≡ list_all (λ r. is_none (unknown r)) (contents ns)
+    by : (o : Option RecordFault) → is_none (first_of (map (λ r. option_map (fault_at r.0) (unknown r.1)) ns)) ≡ list_all (λ r. is_none (unknown r)) (contents ns)
         → is_none (first_of (option_map (fault_at n.0) o ∷ map (λ r. option_map (fault_at r.0) (unknown r.1)) ns)) ≡ (is_none o && list_all (λ r. is_none (unknown r)) (contents ns))
     by None ih = ih
     by (Some c) ih = refl

@@ -16,7 +16,7 @@ use Rattle.mt_terms.specs.Market.{Registered}
 use Rattle.mt_terms.specs.declared.limits.TheConstants.{LIMITS_2}
 use Rattle.mt_terms.specs.Registration.{market_of_numbered, market_under}
 use Rattle.mt_terms.specs.Registration.Ids.{Bytes, is_id, is_id_byte, is_dash, quota_of, has_id, all_differ}
-use Rattle.mt_terms.specs.Registration.Faults.{Charge, Fault, charge, fault_at}
+use Rattle.mt_terms.specs.Registration.Faults.{RecordFault, Fault, record_fault, fault_at}
 use Rattle.mt_terms.specs.declared.codes.TheConstants.{DUPLICATE_ID}
 use Rattle.mt_terms.specs.Registration.Records.{Record, ProgramRecord, ApplicantRecord, CoupleRecord, WithdrawRecord, Kind, OfProgram, OfApplicant, OfCouple, version_1, version_2, rules_of, are_ids, is_pair, pair_of, two_by_two, record_of, record_by_kind, program_record, applicant_record, couple_by_pairs, withdraw_by_kind, withdraw_record, kind_of}
 use Rattle.mt_terms.specs.Registration.Rows.{ids_of, applicant_ids, own_id, applicants_of, remaining}
@@ -94,7 +94,7 @@ pairs_name_one [] h = refl
 pairs_name_one (p ∷ ps) h = let q : (is_pair version_2 p ≡ true) × (list_all (is_pair version_2) ps ≡ true) = and_parts (is_pair version_2 p) _ h in and_from _ _ (pair_names_one p q.0) (pairs_name_one ps q.1)
 
 -- a record that is read, and says nothing twice, is without a fault
-if_ok : (b : Bool) (o : Result Record Charge) (e : Charge) (r : Record) → (if b then o else Err e) ≡ Ok r → (b ≡ true) × (o ≡ Ok r)
+if_ok : (b : Bool) (o : Result Record RecordFault) (e : RecordFault) (r : Record) → (if b then o else Err e) ≡ Ok r → (b ≡ true) × (o ≡ Ok r)
 if_ok true o e r h = (refl, h)
 if_ok false o e r h = cc
 
@@ -102,9 +102,9 @@ module _ (before : List Record) where
   good_program : (fs : List Bytes) (r : Record) → program_record version_2 fs ≡ Ok r → says_twice before r ≡ false → is_good r ≡ true
   good_program [] r h k = cc
   good_program (id ∷ []) r h k = cc
-  good_program (id ∷ quota ∷ list) r h k = let p : (are_ids version_2 (id ∷ list) ≡ true) × (ok_or (option_map (λ n. ProgramRecord id n list) (quota_of quota)) (charge 16 id) ≡ Ok r) = if_ok _ _ _ r h in by (quota_of quota) (quota_small quota) (and_parts (is_id 64 id) _ p.0).0 p.1
+  good_program (id ∷ quota ∷ list) r h k = let p : (are_ids version_2 (id ∷ list) ≡ true) × (ok_or (option_map (λ n. ProgramRecord id n list) (quota_of quota)) (record_fault 16 id) ≡ Ok r) = if_ok _ _ _ r h in by (quota_of quota) (quota_small quota) (and_parts (is_id 64 id) _ p.0).0 p.1
     where
-      by : (o : Option ℕ) → ((n : ℕ) → o ≡ Some n → nat_le n 9999 ≡ true) → is_id 64 id ≡ true → ok_or (option_map (λ n. ProgramRecord id n list) o) (charge 16 id) ≡ Ok r → is_good r ≡ true
+      by : (o : Option ℕ) → ((n : ℕ) → o ≡ Some n → nat_le n 9999 ≡ true) → is_id 64 id ≡ true → ok_or (option_map (λ n. ProgramRecord id n list) o) (record_fault 16 id) ≡ Ok r → is_good r ≡ true
       by None f i e = cc
       by (Some n) f i e =
           let s : ProgramRecord id n list ≡ r = cc in
@@ -160,8 +160,8 @@ module _ (before : List Record) where
       by false e = good_kind (kind_of word) (f ∷ fs) r e k
 
 -- a record that is added keeps the records sound
-pub kept_parts : (o : Option Bytes) (s t : Bool) (c d : Charge) (q r : Record)
-    → unless (first_of (option_map (charge DUPLICATE_ID) o ∷ then_some s c ∷ then_some t d ∷ [])) q ≡ Ok r
+pub kept_parts : (o : Option Bytes) (s t : Bool) (c d : RecordFault) (q r : Record)
+    → unless (first_of (option_map (record_fault DUPLICATE_ID) o ∷ then_some s c ∷ then_some t d ∷ [])) q ≡ Ok r
     → (q ≡ r) × (o ≡ None) × (s ≡ false) × (t ≡ false)
 kept_parts (Some x) s t c d q r h = cc
 kept_parts None true t c d q r h = cc
@@ -241,7 +241,7 @@ module _ (rs : List Record) (s : AreSound rs) where
   sound_next : (fs : List Bytes) (r : Record) → next_record version_2 rs fs ≡ Ok r → AreSound (rs ++ r ∷ [])
   sound_next fs r h = by (record_of version_2 fs) refl h
     where
-      by : (o : Result Record Charge) → record_of version_2 fs ≡ o → and_then o (λ q. unless (first_conflict version_2 rs q) q) ≡ Ok r → AreSound (rs ++ r ∷ [])
+      by : (o : Result Record RecordFault) → record_of version_2 fs ≡ o → and_then o (λ q. unless (first_conflict version_2 rs q) q) ≡ Ok r → AreSound (rs ++ r ∷ [])
       by (Err e) i k = cc
       by (Ok q) i k =
           let p : (q ≡ r) × (registered_before rs q ≡ None) × (says_twice rs q ≡ false) × (are_too_many LIMITS_2 (rs ++ q ∷ []) ≡ false) = kept_parts _ _ _ _ _ q r k in
@@ -258,7 +258,7 @@ sound_pass before (row ∷ rows) rs s h =
     by (λ r t. sound_pass (before ++ (row.0, r) ∷ []) rows rs t) (next_record version_2 (contents before) row.1) (sound_next (contents before) s row.1) h
   where
     by : ((r : Record) → AreSound (contents (before ++ (row.0, r) ∷ [])) → first_pass version_2 (before ++ (row.0, r) ∷ []) rows ≡ Ok rs → AreSound (contents rs))
-        → (o : Result Record Charge) → ((r : Record) → o ≡ Ok r → AreSound (contents before ++ r ∷ []))
+        → (o : Result Record RecordFault) → ((r : Record) → o ≡ Ok r → AreSound (contents before ++ r ∷ []))
         → and_then (at_record row.0 o) (λ r. first_pass version_2 (before ++ (row.0, r) ∷ []) rows) ≡ Ok rs → AreSound (contents rs)
     by g (Ok r) f k = g r (subst AreSound (sym (contents_push before row.0 r)) (f r refl)) k
     by g (Err e) f k = cc
@@ -282,12 +282,12 @@ sound_market rows r h = by (first_pass version_2 [] rows) (λ rs. sound_pass [] 
     by (Err e) f k = cc
 
 -- by the rules of either version
-sound_version : (fields : List Bytes) (rows : List (Numbered (List Bytes))) (n : ℕ) (r : Registered) → option_map_or (λ rules. market_under rules rows) (rules_of fields) (Err (fault_at n (charge 12 []))) ≡ Ok r → IsRegistration r
+sound_version : (fields : List Bytes) (rows : List (Numbered (List Bytes))) (n : ℕ) (r : Registered) → option_map_or (λ rules. market_under rules rows) (rules_of fields) (Err (fault_at n (record_fault 12 []))) ≡ Ok r → IsRegistration r
 sound_version [] rows n r h = cc
 sound_version (word ∷ []) rows n r h = cc
 sound_version (word ∷ number ∷ []) rows n r h = by (bytes_eq word (codes "match") && bytes_eq number (codes "1")) (bytes_eq word (codes "match") && bytes_eq number (codes "2")) h
   where
-    by : (b c : Bool) → option_map_or (λ rules. market_under rules rows) (if b then Some version_1 else (if c then Some version_2 else None)) (Err (fault_at n (charge 12 []))) ≡ Ok r → IsRegistration r
+    by : (b c : Bool) → option_map_or (λ rules. market_under rules rows) (if b then Some version_1 else (if c then Some version_2 else None)) (Err (fault_at n (record_fault 12 []))) ≡ Ok r → IsRegistration r
     by true c k = sound_market rows r (market_of_either rows r k)
     by false true k = sound_market rows r k
     by false false k = cc

@@ -7,7 +7,7 @@ use Rattle.std.proofs.lemmas.Slice.Eq.{bytes_eq-Decides}
 use Rattle.mt_terms.specs.Market.{Registered}
 use Rattle.mt_terms.specs.Registration.{market_under}
 use Rattle.mt_terms.specs.Registration.Ids.{Bytes, is_id}
-use Rattle.mt_terms.specs.Registration.Faults.{Charge, Fault}
+use Rattle.mt_terms.specs.Registration.Faults.{RecordFault, Fault}
 use Rattle.mt_terms.specs.Registration.Records.{Record, version_1, version_2, are_ids, is_pair, two_by_two, record_of, program_record, applicant_record, couple_by_pairs, couple_record, withdraw_record, record_by_kind, Rules, Kind, OfProgram, OfApplicant, OfCouple, kind_of}
 use Rattle.mt_terms.specs.Registration.Passes.{Numbered, numbered_from, contents, first_of, and_then, unless, at_record, are_too_many, first_conflict, next_record, first_pass, second_pass}
 use Rattle.mt_terms.specs.Registration.Rows.{entry_count, applicant_ids, ids_of}
@@ -16,7 +16,7 @@ use Rattle.std.specs.Bool.{then_some}
 use Rattle.mt_file_laws.specs.Registration.{VersionsAgree}
 
 -- what a test that holds gives, one that it implies gives too
-weaker : (s t : Bool) (o : Result Record Charge) (e : Charge) (r : Record) → (s ≡ true → t ≡ true) → (if s then o else Err e) ≡ Ok r → (if t then o else Err e) ≡ Ok r
+weaker : (s t : Bool) (o : Result Record RecordFault) (e : RecordFault) (r : Record) → (s ≡ true → t ≡ true) → (if s then o else Err e) ≡ Ok r → (if t then o else Err e) ≡ Ok r
 weaker true t o e r h k = rw (h refl) k
 weaker false t o e r h k = cc
 
@@ -113,11 +113,11 @@ module _ {X Y E : Type 0} where
   keeps_next (Ok x) p next more y f g h = rw (f x refl) (g x h)
   keeps_next (Err e) p next more y f g h = cc
 
-keeps_at : {X : Type 0} (n : ℕ) (o p : Result X Charge) (x : X) → ((x : X) → o ≡ Ok x → p ≡ Ok x) → at_record n o ≡ Ok x → at_record n p ≡ Ok x
+keeps_at : {X : Type 0} (n : ℕ) (o p : Result X RecordFault) (x : X) → ((x : X) → o ≡ Ok x → p ≡ Ok x) → at_record n o ≡ Ok x → at_record n p ≡ Ok x
 keeps_at n (Ok y) p x f h = let e : y ≡ x = cc in rw (f y refl) (ap Ok e)
 keeps_at n (Err c) p x f h = cc
 
-kept : (o : Option Charge) (s t u : Bool) (c d : Charge) (q r : Record) → (t ≡ false → u ≡ false)
+kept : (o : Option RecordFault) (s t u : Bool) (c d : RecordFault) (q r : Record) → (t ≡ false → u ≡ false)
     → unless (first_of (o ∷ then_some s c ∷ then_some t d ∷ [])) q ≡ Ok r → unless (first_of (o ∷ then_some s c ∷ then_some u d ∷ [])) q ≡ Ok r
 kept (Some e) s t u c d q r h k = cc
 kept None true t u c d q r h k = cc
@@ -132,7 +132,7 @@ next_of_either before fs r =
 first_pass_of_either : (before : List (Numbered Record)) (rows : List (Numbered (List Bytes))) (rs : List (Numbered Record)) → first_pass version_1 before rows ≡ Ok rs → first_pass version_2 before rows ≡ Ok rs
 first_pass_of_either before [] rs h = h
 first_pass_of_either before (row ∷ rows) rs h =
-    let one : Rules → Result Record Charge = λ rules. next_record rules (contents before) row.1 in
+    let one : Rules → Result Record RecordFault = λ rules. next_record rules (contents before) row.1 in
     keeps_next (at_record row.0 (one version_1)) (at_record row.0 (one version_2))
     (λ r. first_pass version_1 (before ++ (row.0, r) ∷ []) rows) (λ r. first_pass version_2 (before ++ (row.0, r) ∷ []) rows) rs
     (λ r. keeps_at row.0 (one version_1) (one version_2) r (next_of_either (contents before) row.1))

@@ -9,16 +9,16 @@ use Rattle.mt_terms.specs.Matching.{Places, at, place_of, is_program}
 use Rattle.mt_terms.specs.Choice.{choice}
 use Rattle.mt_terms.specs.Best.{IsExcluded, better_programs}
 use Rattle.mt_terms.specs.WellFormed.{IsWellFormed}
-use Rattle.mt_terms.specs.Floor.{Floor, held, tried, passed, last_tried, is_held_by, is_settled, is_quiet, IsRecorded, IsStrict, IsResult}
+use Rattle.mt_terms.specs.Floor.{Floor, held_set, proposed_to_on, passed_programs, last_proposed_to, is_held_by, is_settled, is_quiet, IsRecorded, IsStrict, IsResult}
 use Rattle.mt_floor_laws.specs.Floors.{StrictBest}
-use Rattle.mt_match_laws.proofs.ListLemmas.{each_below, count-le, has-until}
-use Rattle.mt_match_laws.proofs.ChoiceLemmas.{choice_facts}
+use Rattle.mt_stability_laws.proofs.ListLemmas.{each_below, count-le, has-until}
+use Rattle.mt_stability_laws.proofs.ChoiceLemmas.{choice_facts}
 use Rattle.mt_terms.proofs.Totals.{count_below-mono}
-use Rattle.mt_match_laws.proofs.Seats.{chosen_count, filled_by_applicant}
-use Rattle.mt_match_laws.proofs.SinglesFacts.{stable_facts, stable_from_facts, at_past}
+use Rattle.mt_stability_laws.proofs.Seats.{chosen_count, filled_by_applicant}
+use Rattle.mt_stability_laws.proofs.SinglesFacts.{stable_facts, stable_from_facts, at_past}
 use Rattle.mt_terms.proofs.LiveFacts.{live_parts}
 use Rattle.mt_floor_laws.proofs.FloorLists.{has-get, has-take-suc, has-until-get, has-until-filter}
-use Rattle.mt_match_laws.proofs.FloorChoices.{above-choice}
+use Rattle.mt_stability_laws.proofs.FloorChoices.{above-choice}
 use Rattle.mt_floor_laws.proofs.FloorEvents.{tried_from_passed, tried_from_received, passed_where_free, passed_where_standing, HasLast, last_facts}
 use Rattle.mt_terms.proofs.AgentFacts.{place_is}
 
@@ -52,7 +52,7 @@ placed_facts m f r places result a p there = go (cases_lt a (applicants m))
   where
     go : (a < applicants m) ⊎ (applicants m ≤ a) → (k : ℕ) × IsPlaced m f a k p
     go (inl low) =
-        let facts = if_some (f.standing a) (last_tried m f a) p (sym (result.each_place a low) ∙ place_is p (place_of places a) there) in
+        let facts = if_some (f.standing a) (last_proposed_to m f a) p (sym (result.each_place a low) ∙ place_is p (place_of places a) there) in
         let l = last_facts m f r a facts.0 in
         let same : l.1 ≡ p = some_inj (sym l.2.last_is ∙ facts.1) in
         (l.0, subst (λ (q : ℕ). IsPlaced m f a l.0 q) same (record { stands = facts.0; last = l.2 }))
@@ -65,35 +65,35 @@ placed_facts m f r places result a p there = go (cases_lt a (applicants m))
 pub placed_from : (m : Market) (f : Floor) (places : Places) → IsResult m f places → (a k p : ℕ) → IsPlaced m f a k p → IsTrue (at places p a)
 placed_from m f places result a k p h =
     let low = applicant_from_live m a p (has-get (live m a) k p h.last.last) in
-    let here : place_of places a ≡ Some p = result.each_place a low ∙ ap (λ b. if b then last_tried m f a else None) h.stands ∙ h.last.last_is in
+    let here : place_of places a ≡ Some p = result.each_place a low ∙ ap (λ b. if b then last_proposed_to m f a else None) h.stands ∙ h.last.last_is in
     ap (is_program p) here ∙ eq-eqb p p refl
 
 -- on a floor on which no event is due, who is placed is held
-pub held_where_quiet : (m : Market) (f : Floor) → IsTrue (is_quiet m f) → (a k p : ℕ) → IsPlaced m f a k p → IsTrue (held m f p a)
+pub held_where_quiet : (m : Market) (f : Floor) → IsTrue (is_quiet m f) → (a k p : ℕ) → IsPlaced m f a k p → IsTrue (held_set m f p a)
 held_where_quiet m f quiet a k p h =
     let low = applicant_from_live m a p (has-get (live m a) k p h.last.last) in
     let settled = each_below (is_settled m f) (applicants m) quiet a low in
-    ap (is_held_by m f a) (sym h.last.last_is) ∙ ap (λ b. if b then is_held_by m f a (last_tried m f a) else (f.made a == length (live m a))) (sym h.stands) ∙ settled
+    ap (is_held_by m f a) (sym h.last.last_is) ∙ ap (λ b. if b then is_held_by m f a (last_proposed_to m f a) else (f.made a == length (live m a))) (sym h.stands) ∙ settled
 
 -- on a floor on which no event is due, who doesn't stand has tried its whole live list
-pub tried_where_quiet : (m : Market) (f : Floor) → IsRecorded m f → IsTrue (is_quiet m f) → (a : ℕ) → IsFalse (f.standing a) → tried m f a ≡ live m a
+pub tried_where_quiet : (m : Market) (f : Floor) → IsRecorded m f → IsTrue (is_quiet m f) → (a : ℕ) → IsFalse (f.standing a) → proposed_to_on m f a ≡ live m a
 tried_where_quiet m f r quiet a free = go (cases_lt a (applicants m))
   where
-    go : (a < applicants m) ⊎ (applicants m ≤ a) → tried m f a ≡ live m a
+    go : (a < applicants m) ⊎ (applicants m ≤ a) → proposed_to_on m f a ≡ live m a
     go (inl low) =
         let settled = each_below (is_settled m f) (applicants m) quiet a low in
-        let used : IsTrue (f.made a == length (live m a)) = ap (λ b. if b then is_held_by m f a (last_tried m f a) else (f.made a == length (live m a))) (sym free) ∙ settled in
+        let used : IsTrue (f.made a == length (live m a)) = ap (λ b. if b then is_held_by m f a (last_proposed_to m f a) else (f.made a == length (live m a))) (sym free) ∙ settled in
         take_all (f.made a) (live m a) (le_of_eq (sym (eqb-true _ _ used)))
     go (inr high) = take_all (f.made a) (live m a) (omega (arith, live_past m a high))
 
 -- on a strict floor, who is held is placed there
-placed_from_held : (m : Market) (f : Floor) → IsStrict m f → (a p : ℕ) → IsTrue (held m f p a) → (k : ℕ) × IsPlaced m f a k p
+placed_from_held : (m : Market) (f : Floor) → IsStrict m f → (a p : ℕ) → IsTrue (held_set m f p a) → (k : ℕ) × IsPlaced m f a k p
 placed_from_held m f s a p on = go (cases_Bool (f.standing a))
   where
-    has_tried : IsTrue (has (tried m f a) p)
+    has_tried : IsTrue (has (proposed_to_on m f a) p)
     has_tried = tried_from_received m f s.legal.recorded a p (choice_facts (program_of m p) (f.received p) a on).is_member
 
-    not_passed : IsFalse (has (passed m f a) p)
+    not_passed : IsFalse (has (passed_programs m f a) p)
     not_passed = false_from_ne_true _ (λ left. both_ways _ (s.let_go a p left) on)
 
     go : (IsTrue (f.standing a)) ⊎ (IsFalse (f.standing a)) → (k : ℕ) × IsPlaced m f a k p
@@ -111,13 +111,13 @@ placed_from_held m f s a p on = go (cases_Bool (f.standing a))
 
 -- a live program that an applicant wants more than its place is one that it has passed
 pub passed_from_better : (m : Market) (f : Floor) → IsRecorded m f → IsTrue (is_quiet m f) → (places : Places) → IsResult m f places
-    → (a p : ℕ) → IsTrue (has (program_of m p).ranking a) → IsTrue (has (better_programs m places a) p) → IsTrue (has (passed m f a) p)
+    → (a p : ℕ) → IsTrue (has (program_of m p).ranking a) → IsTrue (has (better_programs m places a) p) → IsTrue (has (passed_programs m f a) p)
 passed_from_better m f r quiet places result a p listed better = go (cases_Bool (f.standing a))
   where
     on_live : IsTrue (has (until (λ q. at places q a) (live m a)) p)
     on_live = has-until-filter (λ q. at places q a) (λ q. has (program_of m q).ranking a) (list_of m a) p better listed
 
-    go : (IsTrue (f.standing a)) ⊎ (IsFalse (f.standing a)) → IsTrue (has (passed m f a) p)
+    go : (IsTrue (f.standing a)) ⊎ (IsFalse (f.standing a)) → IsTrue (has (passed_programs m f a) p)
     go (inl stands) =
         let l = last_facts m f r a stands in
         let there = placed_from m f places result a l.0 l.1 (record { stands = stands; last = l.2 }) in
@@ -140,7 +140,7 @@ unchosen_if_better m wf f s quiet places result a p better = go (cases_Bool (has
         let left = passed_from_better m f s.legal.recorded quiet places result a p listed better in
         let on : IsTrue (f.received p a) = s.legal.recorded.receives a p ∙ tried_from_passed m f a p left in
         let at_least = above-choice (program_of m p) (f.received p) a (wf.rankings_distinct p) listed on (s.let_go a p left) in
-        let more = count-le (held m f p) (with_one (at places p) a) (until (λ b. b == a) (program_of m p).ranking)
+        let more = count-le (held_set m f p) (with_one (at places p) a) (until (λ b. b == a) (program_of m p).ranking)
         (λ b held_b. let placed = placed_from_held m f s b p held_b in or_right _ _ (placed_from m f places result b placed.0 p placed.1)) in
         omega (arith, at_least, more)
 
@@ -157,7 +157,7 @@ strict_best_lem m wf f s quiet places result = record {
     listed = λ a p there. (live_parts m a p (placed_live a p there)).0;
     within = λ p.
         let few = chosen_count (program_of m p) (f.received p) (applicants m) (wf.rankings_distinct p) (wf.rankings_within p) in
-        let all_held = count_below-mono (at places p) (held m f p) (applicants m)
+        let all_held = count_below-mono (at places p) (held_set m f p) (applicants m)
         (λ a low there. let placed = placed_facts m f s.legal.recorded places result a p there in held_where_quiet m f quiet a placed.0 p placed.1) in
         omega (arith, few, all_held, filled_by_applicant places p, ap (λ n. count_below (at places p) n) result.one_each);
     none_block = unchosen_if_better m wf f s quiet places result;

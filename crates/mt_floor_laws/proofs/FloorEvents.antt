@@ -7,15 +7,15 @@ use Rattle.mt_terms.specs.Market.{Market, program_of, live}
 use Rattle.mt_terms.specs.Choice.{choice}
 use Rattle.mt_terms.specs.Best.{IsExcluded}
 use Rattle.mt_terms.specs.WellFormed.{IsWellFormed}
-use Rattle.mt_terms.specs.Floor.{Floor, held, tried, passed, last_tried, next_entry, is_held_by, IsRecorded, IsLegal, IsStrict, is_due, after, after_all, after_proposal, proposed_at, receives_one}
+use Rattle.mt_terms.specs.Floor.{Floor, held_set, proposed_to_on, passed_programs, last_proposed_to, next_entry, is_held_by, IsRecorded, IsLegal, IsStrict, is_due, after, after_all, after_proposal, proposed_at, receives_one}
 use Rattle.mt_floor_laws.specs.Floors.{LegalFromPassed, EventKeepsRecorded, EventKeepsLegal, EventKeepsStrict, EventsKeepRecorded, EventsKeepLegal, EventsKeepStrict}
 use Rattle.mt_terms.specs.declared.events.Event.{Event}
 use Rattle.mt_terms.specs.declared.events.Event.TheVariants.{Propose, Notice}
 use Rattle.mt_terms.proofs.ListFacts.{has-from_take}
 use Rattle.mt_terms.proofs.LiveFacts.{live_parts, live_distinct}
 use Rattle.mt_floor_laws.proofs.FloorLists.{has-until-take, has-take-le, has-take-suc, has-take_before}
-use Rattle.mt_match_laws.proofs.FloorChoices.{choice_with_one}
-use Rattle.mt_match_laws.proofs.ExclusionLemmas.{exclusion_lem}
+use Rattle.mt_stability_laws.proofs.FloorChoices.{choice_with_one}
+use Rattle.mt_stability_laws.proofs.ExclusionLemmas.{exclusion_lem}
 
 -- who has passed programs counts them among its proposals
 passed_count : (b : Bool) (n : ℕ) → n - (if b then 1 else 0) ≤ n
@@ -27,15 +27,15 @@ front_count true n = omega arith
 front_count false n = omega arith
 
 -- whoever has passed a program has tried it
-pub tried_from_passed : (m : Market) (f : Floor) (a p : ℕ) → IsTrue (has (passed m f a) p) → IsTrue (has (tried m f a) p)
+pub tried_from_passed : (m : Market) (f : Floor) (a p : ℕ) → IsTrue (has (passed_programs m f a) p) → IsTrue (has (proposed_to_on m f a) p)
 tried_from_passed m f a p h = has-take-le (live m a) _ (f.made a) p (passed_count (f.standing a) (f.made a)) h
 
 -- the programs tried but for the last one are passed
-pub passed_from_front : (m : Market) (f : Floor) (a p : ℕ) → IsTrue (has (take (f.made a - 1) (live m a)) p) → IsTrue (has (passed m f a) p)
+pub passed_from_front : (m : Market) (f : Floor) (a p : ℕ) → IsTrue (has (take (f.made a - 1) (live m a)) p) → IsTrue (has (passed_programs m f a) p)
 passed_from_front m f a p h = has-take-le (live m a) (f.made a - 1) _ p (front_count (f.standing a) (f.made a)) h
 
 -- on a recorded floor, who is received at a program has tried it
-pub tried_from_received : (m : Market) (f : Floor) → IsRecorded m f → (a p : ℕ) → IsTrue (f.received p a) → IsTrue (has (tried m f a) p)
+pub tried_from_received : (m : Market) (f : Floor) → IsRecorded m f → (a p : ℕ) → IsTrue (f.received p a) → IsTrue (has (proposed_to_on m f a) p)
 tried_from_received m f r a p on = sym (r.receives a p) ∙ on
 
 -- All programs tried but the last are excluded.
@@ -44,7 +44,7 @@ pub record IsFrontExcluded (m : Market) (f : Floor) : Type 0 where
 
 -- where all programs tried but the last are excluded, so is where an applicant was received and isn't held
 pub refused_is_excluded : (m : Market) → IsWellFormed m → (f : Floor) → IsRecorded m f → IsFrontExcluded m f
-    → (a p : ℕ) → IsTrue (f.received p a) → IsFalse (held m f p a) → IsExcluded m a p
+    → (a p : ℕ) → IsTrue (f.received p a) → IsFalse (held_set m f p a) → IsExcluded m a p
 refused_is_excluded m wf f r excluded a p on out =
     exclusion_lem m wf p (f.received p)
     (λ b on_b. (live_parts m b p (has-from_take (live m b) (f.made b) p (tried_from_received m f r b p on_b))).1)
@@ -81,11 +81,11 @@ pub made_other : (m : Market) (f : Floor) (a p b : ℕ) → b ≢ a → (propose
 made_other m f a p b other = rw (ne_eqb b a other) refl
 
 -- after a proposal an applicant has tried the program too
-tried_same : (m : Market) (f : Floor) (a p q : ℕ) → IsNext m f a p → has (tried m (proposed_at m f a p) a) q ≡ (has (tried m f a) q || (p == q))
+tried_same : (m : Market) (f : Floor) (a p q : ℕ) → IsNext m f a p → has (proposed_to_on m (proposed_at m f a p) a) q ≡ (has (proposed_to_on m f a) q || (p == q))
 tried_same m f a p q n = rw (made_same m f a p) (has-take-suc (live m a) (f.made a) p q n.next)
 
 -- after a proposal, another applicant has tried what it had
-tried_other : (m : Market) (f : Floor) (a p b : ℕ) → b ≢ a → tried m (proposed_at m f a p) b ≡ tried m f b
+tried_other : (m : Market) (f : Floor) (a p b : ℕ) → b ≢ a → proposed_to_on m (proposed_at m f a p) b ≡ proposed_to_on m f b
 tried_other m f a p b other = ap (λ k. take k (live m b)) (made_other m f a p b other)
 
 -- who stands after a proposal: its applicant where the program chooses it, another one where it stood
@@ -134,18 +134,18 @@ proposal_keeps_recorded m f a p n r = record {
   proposed = one_and_others (λ b. IsTrue ((proposed_at m f a p).standing b) → 0 < (proposed_at m f a p).made b) a
       (λ stands. rw (made_same m f a p) (omega arith))
       (λ b other stands. rw (made_other m f a p b other) (r.proposed b (sym (standing_other m f a p b other) ∙ stands)));
-  receives = one_and_others (λ b. (q : ℕ) → (proposed_at m f a p).received q b ≡ has (tried m (proposed_at m f a p) b) q) a
+  receives = one_and_others (λ b. (q : ℕ) → (proposed_at m f a p).received q b ≡ has (proposed_to_on m (proposed_at m f a p) b) q) a
       (λ q. received_same m f a p q ∙ ap (λ t. t || (p == q)) (r.receives a q) ∙ sym (tried_same m f a p q n))
       (λ b other q. received_other m f a p q b other ∙ r.receives b q ∙ ap (λ ps. has ps q) (sym (tried_other m f a p b other)));
 }
 
 -- who doesn't stand has passed all that it has tried
-pub passed_where_free : (m : Market) (f : Floor) (a : ℕ) → IsFalse (f.standing a) → passed m f a ≡ tried m f a
+pub passed_where_free : (m : Market) (f : Floor) (a : ℕ) → IsFalse (f.standing a) → passed_programs m f a ≡ proposed_to_on m f a
 passed_where_free m f a free = let e : f.made a - (if f.standing a then 1 else 0) ≡ f.made a = rw free (omega arith) in ap (λ k. take k (live m a)) e
 
 -- after a proposal, all programs tried but the last are excluded
 proposal_keeps_front : (m : Market) (f : Floor) (a p : ℕ) → IsNext m f a p
-    → ((b q : ℕ) → IsTrue (has (passed m f b) q) → IsExcluded m b q) → IsFrontExcluded m (proposed_at m f a p)
+    → ((b q : ℕ) → IsTrue (has (passed_programs m f b) q) → IsExcluded m b q) → IsFrontExcluded m (proposed_at m f a p)
 proposal_keeps_front m f a p n excluded = record {
   front = one_and_others (λ b. (q : ℕ) → IsTrue (has (take ((proposed_at m f a p).made b - 1) (live m b)) q) → IsExcluded m b q) a
       (λ q on.
@@ -156,24 +156,24 @@ proposal_keeps_front m f a p n excluded = record {
 }
 
 -- what an applicant has passed, by whether it stands and how much it has tried
-passed_from : (m : Market) (f : Floor) (a : ℕ) (b : Bool) (k : ℕ) → f.standing a ≡ b → f.made a ≡ k → passed m f a ≡ take (k - (if b then 1 else 0)) (live m a)
+passed_from : (m : Market) (f : Floor) (a : ℕ) (b : Bool) (k : ℕ) → f.standing a ≡ b → f.made a ≡ k → passed_programs m f a ≡ take (k - (if b then 1 else 0)) (live m a)
 passed_from m f a b k stands makes = ap₂ (λ (s : Bool) (n : ℕ). take (n - (if s then 1 else 0)) (live m a)) stands makes
 
 -- an applicant that is kept at a proposal has passed what it tried before
-passed_if_kept : (m : Market) (f : Floor) (a p : ℕ) → IsTrue ((proposed_at m f a p).standing a) → passed m (proposed_at m f a p) a ≡ tried m f a
+passed_if_kept : (m : Market) (f : Floor) (a p : ℕ) → IsTrue ((proposed_at m f a p).standing a) → passed_programs m (proposed_at m f a p) a ≡ proposed_to_on m f a
 passed_if_kept m f a p kept =
     let e : suc (f.made a) - 1 ≡ f.made a = omega arith in
     passed_from m (proposed_at m f a p) a true (suc (f.made a)) kept (made_same m f a p) ∙ ap (λ k. take k (live m a)) e
 
 -- after a proposal, another applicant has passed what it had
-passed_other : (m : Market) (f : Floor) (a p b : ℕ) → b ≢ a → passed m (proposed_at m f a p) b ≡ passed m f b
+passed_other : (m : Market) (f : Floor) (a p b : ℕ) → b ≢ a → passed_programs m (proposed_at m f a p) b ≡ passed_programs m f b
 passed_other m f a p b other = passed_from m (proposed_at m f a p) b (f.standing b) (f.made b) (standing_other m f a p b other) (made_other m f a p b other)
 
 -- an applicant that isn't kept at a proposal has passed the program too
 passed_if_refused : (m : Market) (f : Floor) (a p q : ℕ) → IsNext m f a p → IsFalse ((proposed_at m f a p).standing a)
-    → IsTrue (has (passed m (proposed_at m f a p) a) q) → (IsTrue (has (tried m f a) q)) ⊎ (p ≡ q)
+    → IsTrue (has (passed_programs m (proposed_at m f a p) a) q) → (IsTrue (has (proposed_to_on m f a) q)) ⊎ (p ≡ q)
 passed_if_refused m f a p q n free on =
-    let now : IsTrue (has (tried m f a) q || (p == q)) = sym (tried_same m f a p q n) ∙ ap (λ ps. has ps q) (sym (passed_where_free m (proposed_at m f a p) a free)) ∙ on in
+    let now : IsTrue (has (proposed_to_on m f a) q || (p == q)) = sym (tried_same m f a p q n) ∙ ap (λ ps. has ps q) (sym (passed_where_free m (proposed_at m f a p) a free)) ∙ on in
     grind (arith, nat_tests)
 
 -- who has just proposed to a program is received there, and held there if it stands
@@ -181,19 +181,19 @@ is_received : (m : Market) (f : Floor) (a p : ℕ) → IsTrue ((proposed_at m f 
 is_received m f a p = received_same m f a p p ∙ or_right _ _ (eq-eqb p p refl)
 
 -- after a proposal, the program holds its applicant where this one stands
-held_same : (m : Market) (f : Floor) (a p : ℕ) → held m (proposed_at m f a p) p a ≡ (proposed_at m f a p).standing a
+held_same : (m : Market) (f : Floor) (a p : ℕ) → held_set m (proposed_at m f a p) p a ≡ (proposed_at m f a p).standing a
 held_same m f a p = ap (λ (set : Set). choice (program_of m p) set a) (received_there m f a p) ∙ sym (standing_same m f a p)
 
 -- a proposal keeps what was passed excluded
 proposal_keeps_excluded : (m : Market) → IsWellFormed m → (f : Floor) (a p : ℕ) → IsNext m f a p → IsRecorded m f
-    → ((b q : ℕ) → IsTrue (has (passed m f b) q) → IsExcluded m b q)
-    → (b q : ℕ) → IsTrue (has (passed m (proposed_at m f a p) b) q) → IsExcluded m b q
+    → ((b q : ℕ) → IsTrue (has (passed_programs m f b) q) → IsExcluded m b q)
+    → (b q : ℕ) → IsTrue (has (passed_programs m (proposed_at m f a p) b) q) → IsExcluded m b q
 proposal_keeps_excluded m wf f a p n r excluded =
-    one_and_others (λ b. (q : ℕ) → IsTrue (has (passed m (proposed_at m f a p) b) q) → IsExcluded m b q) a
+    one_and_others (λ b. (q : ℕ) → IsTrue (has (passed_programs m (proposed_at m f a p) b) q) → IsExcluded m b q) a
     (λ q on. kept_or_not q on (cases_Bool ((proposed_at m f a p).standing a)))
     (λ b other q on. excluded b q (subst (λ ps. IsTrue (has ps q)) (passed_other m f a p b other) on))
   where
-    before : (q : ℕ) → IsTrue (has (tried m f a) q) → IsExcluded m a q
+    before : (q : ℕ) → IsTrue (has (proposed_to_on m f a) q) → IsExcluded m a q
     before q on = excluded a q (rw (passed_where_free m f a n.free) on)
 
     refused : IsFalse ((proposed_at m f a p).standing a) → IsExcluded m a p
@@ -201,11 +201,11 @@ proposal_keeps_excluded m wf f a p n r excluded =
         refused_is_excluded m wf (proposed_at m f a p) (proposal_keeps_recorded m f a p n r) (proposal_keeps_front m f a p n excluded)
         a p (is_received m f a p) (held_same m f a p ∙ free)
 
-    before_or_now : (q : ℕ) → IsFalse ((proposed_at m f a p).standing a) → (IsTrue (has (tried m f a) q)) ⊎ (p ≡ q) → IsExcluded m a q
+    before_or_now : (q : ℕ) → IsFalse ((proposed_at m f a p).standing a) → (IsTrue (has (proposed_to_on m f a) q)) ⊎ (p ≡ q) → IsExcluded m a q
     before_or_now q free (inl on) = before q on
     before_or_now q free (inr same) = subst (λ (x : ℕ). IsExcluded m a x) same (refused free)
 
-    kept_or_not : (q : ℕ) → IsTrue (has (passed m (proposed_at m f a p) a) q) → (IsTrue ((proposed_at m f a p).standing a)) ⊎ (IsFalse ((proposed_at m f a p).standing a)) → IsExcluded m a q
+    kept_or_not : (q : ℕ) → IsTrue (has (passed_programs m (proposed_at m f a p) a) q) → (IsTrue ((proposed_at m f a p).standing a)) ⊎ (IsFalse ((proposed_at m f a p).standing a)) → IsExcluded m a q
     kept_or_not q on (inl kept) = before q (ap (λ ps. has ps q) (sym (passed_if_kept m f a p kept)) ∙ on)
     kept_or_not q on (inr free) = before_or_now q free (passed_if_refused m f a p q n free on)
 
@@ -215,16 +215,16 @@ proposal_keeps_legal m wf f a p n l =
     legal_from_passed_lem m wf (proposed_at m f a p) (proposal_keeps_recorded m f a p n l.recorded) (proposal_keeps_excluded m wf f a p n l.recorded l.passed_excluded)
 
 -- a proposal keeps who isn't held at a program so, but for who proposes to it
-proposal_keeps_out : (m : Market) (f : Floor) (a p b q : ℕ) → (b ≢ a) ⊎ (q ≢ p) → IsFalse (held m f q b) → IsFalse (held m (proposed_at m f a p) q b)
+proposal_keeps_out : (m : Market) (f : Floor) (a p b q : ℕ) → (b ≢ a) ⊎ (q ≢ p) → IsFalse (held_set m f q b) → IsFalse (held_set m (proposed_at m f a p) q b)
 proposal_keeps_out m f a p b q (inr elsewhere) out = ap (λ (set : Set). choice (program_of m q) set b) (received_elsewhere m f a p q elsewhere) ∙ out
 proposal_keeps_out m f a p b q (inl other) out = there_or_not (cases_eq q p)
   where
-    at_program : (x : ℕ) → x ≡ p → IsFalse (held m f x b) → IsFalse (held m (proposed_at m f a p) x b)
+    at_program : (x : ℕ) → x ≡ p → IsFalse (held_set m f x b) → IsFalse (held_set m (proposed_at m f a p) x b)
     at_program x there out_x =
         let e : (proposed_at m f a p).received x ≡ receives_one f x a = ap (λ (y : ℕ). (proposed_at m f a p).received y) there ∙ received_there m f a p ∙ ap (λ (y : ℕ). receives_one f y a) (sym there) in
         ap (λ (set : Set). choice (program_of m x) set b) e ∙ choice_with_one (program_of m x) (f.received x) a b other out_x
 
-    there_or_not : (q ≡ p) ⊎ (q ≢ p) → IsFalse (held m (proposed_at m f a p) q b)
+    there_or_not : (q ≡ p) ⊎ (q ≢ p) → IsFalse (held_set m (proposed_at m f a p) q b)
     there_or_not (inl there) = at_program q there out
     there_or_not (inr elsewhere) = ap (λ (set : Set). choice (program_of m q) set b) (received_elsewhere m f a p q elsewhere) ∙ out
 
@@ -232,21 +232,21 @@ proposal_keeps_out m f a p b q (inl other) out = there_or_not (cases_eq q p)
 proposal_keeps_strict : (m : Market) → IsWellFormed m → (f : Floor) (a p : ℕ) → IsNext m f a p → IsStrict m f → IsStrict m (proposed_at m f a p)
 proposal_keeps_strict m wf f a p n s = record {
   legal = proposal_keeps_legal m wf f a p n s.legal;
-  let_go = one_and_others (λ b. (q : ℕ) → IsTrue (has (passed m (proposed_at m f a p) b) q) → IsFalse (held m (proposed_at m f a p) q b)) a
+  let_go = one_and_others (λ b. (q : ℕ) → IsTrue (has (passed_programs m (proposed_at m f a p) b) q) → IsFalse (held_set m (proposed_at m f a p) q b)) a
       (λ q on. kept_or_not q on (cases_Bool ((proposed_at m f a p).standing a)))
       (λ b other q on. proposal_keeps_out m f a p b q (inl other) (s.let_go b q (subst (λ ps. IsTrue (has ps q)) (passed_other m f a p b other) on)));
 }
   where
-    before : (q : ℕ) → IsTrue (has (tried m f a) q) → IsFalse (held m (proposed_at m f a p) q a)
+    before : (q : ℕ) → IsTrue (has (proposed_to_on m f a) q) → IsFalse (held_set m (proposed_at m f a p) q a)
     before q on =
-        proposal_keeps_out m f a p a q (inr (λ same. both_ways _ (has-take_before (live m a) (f.made a) p (live_distinct m wf a) n.next) (subst (λ (x : ℕ). IsTrue (has (tried m f a) x)) same on)))
+        proposal_keeps_out m f a p a q (inr (λ same. both_ways _ (has-take_before (live m a) (f.made a) p (live_distinct m wf a) n.next) (subst (λ (x : ℕ). IsTrue (has (proposed_to_on m f a) x)) same on)))
         (s.let_go a q (rw (passed_where_free m f a n.free) on))
 
-    before_or_now : (q : ℕ) → IsFalse ((proposed_at m f a p).standing a) → (IsTrue (has (tried m f a) q)) ⊎ (p ≡ q) → IsFalse (held m (proposed_at m f a p) q a)
+    before_or_now : (q : ℕ) → IsFalse ((proposed_at m f a p).standing a) → (IsTrue (has (proposed_to_on m f a) q)) ⊎ (p ≡ q) → IsFalse (held_set m (proposed_at m f a p) q a)
     before_or_now q free (inl on) = before q on
-    before_or_now q free (inr same) = subst (λ (x : ℕ). IsFalse (held m (proposed_at m f a p) x a)) same (held_same m f a p ∙ free)
+    before_or_now q free (inr same) = subst (λ (x : ℕ). IsFalse (held_set m (proposed_at m f a p) x a)) same (held_same m f a p ∙ free)
 
-    kept_or_not : (q : ℕ) → IsTrue (has (passed m (proposed_at m f a p) a) q) → (IsTrue ((proposed_at m f a p).standing a)) ⊎ (IsFalse ((proposed_at m f a p).standing a)) → IsFalse (held m (proposed_at m f a p) q a)
+    kept_or_not : (q : ℕ) → IsTrue (has (passed_programs m (proposed_at m f a p) a) q) → (IsTrue ((proposed_at m f a p).standing a)) ⊎ (IsFalse ((proposed_at m f a p).standing a)) → IsFalse (held_set m (proposed_at m f a p) q a)
     kept_or_not q on (inl kept) = before q (ap (λ ps. has ps q) (sym (passed_if_kept m f a p kept)) ∙ on)
     kept_or_not q on (inr free) = before_or_now q free (passed_if_refused m f a p q n free on)
 
@@ -255,7 +255,7 @@ pub record IsDropped (m : Market) (f : Floor) (a k p : ℕ) : Type 0 where
   pub stands : IsTrue (f.standing a)
   pub made_more : f.made a ≡ suc k
   pub last : slice_get (live m a) k ≡ Some p
-  pub out : IsFalse (held m f p a)
+  pub out : IsFalse (held_set m f p a)
 
 -- an element stands at each place of a list
 pub get_some : (xs : List ℕ) (k : ℕ) → k < length xs → (p : ℕ) × (slice_get xs k ≡ Some p)
@@ -267,7 +267,7 @@ get_some (x ∷ xs) (suc k) h = get_some xs k (omega arith)
 pub record HasLast (m : Market) (f : Floor) (a k p : ℕ) : Type 0 where
   pub made_more : f.made a ≡ suc k
   pub last : slice_get (live m a) k ≡ Some p
-  pub last_is : last_tried m f a ≡ Some p
+  pub last_is : last_proposed_to m f a ≡ Some p
 
 -- on a recorded floor, who stands has such a program
 pub last_facts : (m : Market) (f : Floor) → IsRecorded m f → (a : ℕ) → IsTrue (f.standing a) → (k p : ℕ) × HasLast m f a k p
@@ -275,11 +275,11 @@ last_facts m f r a stands =
     let made_some = r.proposed a stands in
     let within = r.within a in
     let found = get_some (live m a) (f.made a - 1) (omega arith) in
-    let e : last_tried m f a ≡ slice_get (live m a) (f.made a - 1) = rw (ne_eqb (f.made a) 0 (omega arith)) refl in
+    let e : last_proposed_to m f a ≡ slice_get (live m a) (f.made a - 1) = rw (ne_eqb (f.made a) 0 (omega arith)) refl in
     (f.made a - 1, found.0, record { made_more = omega arith; last = found.1; last_is = e ∙ found.1 })
 
 -- who stands has passed all that it has tried but the last
-pub passed_where_standing : (m : Market) (f : Floor) (a k p : ℕ) → IsTrue (f.standing a) → HasLast m f a k p → passed m f a ≡ take k (live m a)
+pub passed_where_standing : (m : Market) (f : Floor) (a k p : ℕ) → IsTrue (f.standing a) → HasLast m f a k p → passed_programs m f a ≡ take k (live m a)
 passed_where_standing m f a k p stands l = passed_from m f a true (suc k) stands l.made_more ∙ ap (λ n. take n (live m a)) (omega arith)
 
 -- a notice that is due is one
@@ -287,7 +287,7 @@ dropped_facts : (m : Market) (f : Floor) → IsRecorded m f → (a : ℕ) → Is
 dropped_facts m f r a due =
     let parts = and_parts (f.standing a) _ due in
     let l = last_facts m f r a parts.0 in
-    let out : IsFalse (held m f l.1 a) = not-true _ (ap (λ o. not (is_held_by m f a o)) (sym l.2.last_is) ∙ parts.1) in
+    let out : IsFalse (held_set m f l.1 a) = not-true _ (ap (λ o. not (is_held_by m f a o)) (sym l.2.last_is) ∙ parts.1) in
     (l.0, l.1, record { stands = parts.0; made_more = l.2.made_more; last = l.2.last; out = out })
 
 -- the floor after a notice
@@ -310,10 +310,10 @@ notice_keeps_recorded m f a r = record {
 }
 
 -- after a notice the applicant has passed the program too
-passed_if_dropped : (m : Market) (f : Floor) (a k p q : ℕ) → IsDropped m f a k p → IsTrue (has (passed m (noticed f a) a) q) → (IsTrue (has (passed m f a) q)) ⊎ (p ≡ q)
+passed_if_dropped : (m : Market) (f : Floor) (a k p q : ℕ) → IsDropped m f a k p → IsTrue (has (passed_programs m (noticed f a) a) q) → (IsTrue (has (passed_programs m f a) q)) ⊎ (p ≡ q)
 passed_if_dropped m f a k p q d on =
-    let before : passed m f a ≡ take k (live m a) = passed_from m f a true (suc k) d.stands d.made_more ∙ ap (λ n. take n (live m a)) (omega arith) in
-    let now : passed m (noticed f a) a ≡ take (suc k) (live m a) = passed_where_free m (noticed f a) a (noticed_same f a) ∙ ap (λ n. take n (live m a)) d.made_more in
+    let before : passed_programs m f a ≡ take k (live m a) = passed_from m f a true (suc k) d.stands d.made_more ∙ ap (λ n. take n (live m a)) (omega arith) in
+    let now : passed_programs m (noticed f a) a ≡ take (suc k) (live m a) = passed_where_free m (noticed f a) a (noticed_same f a) ∙ ap (λ n. take n (live m a)) d.made_more in
     let both : IsTrue (has (take k (live m a)) q || (p == q)) = sym (has-take-suc (live m a) k p q d.last) ∙ ap (λ ps. has ps q) (sym now) ∙ on in
     before_or_last (ap (λ ps. has ps q) before) both
   where
@@ -321,18 +321,18 @@ passed_if_dropped m f a k p q d on =
     before_or_last e both = grind (arith, nat_tests)
 
 -- after a notice, another applicant has passed what it had
-passed_after_notice : (m : Market) (f : Floor) (a b : ℕ) → b ≢ a → passed m (noticed f a) b ≡ passed m f b
+passed_after_notice : (m : Market) (f : Floor) (a b : ℕ) → b ≢ a → passed_programs m (noticed f a) b ≡ passed_programs m f b
 passed_after_notice m f a b other = passed_from m (noticed f a) b (f.standing b) (f.made b) (noticed_other f a b other) refl
 
 -- what is so of each program that an applicant has passed, and of the one that dropped it, is so after the notice
 after_notice : (m : Market) (f : Floor) (a k p : ℕ) → IsDropped m f a k p → (P : ℕ → ℕ → Type 0)
-    → ((b q : ℕ) → IsTrue (has (passed m f b) q) → P b q) → P a p → (b q : ℕ) → IsTrue (has (passed m (noticed f a) b) q) → P b q
+    → ((b q : ℕ) → IsTrue (has (passed_programs m f b) q) → P b q) → P a p → (b q : ℕ) → IsTrue (has (passed_programs m (noticed f a) b) q) → P b q
 after_notice m f a k p d P before now =
-    one_and_others (λ b. (q : ℕ) → IsTrue (has (passed m (noticed f a) b) q) → P b q) a
+    one_and_others (λ b. (q : ℕ) → IsTrue (has (passed_programs m (noticed f a) b) q) → P b q) a
     (λ q on. before_or_now q (passed_if_dropped m f a k p q d on))
     (λ b other q on. before b q (subst (λ ps. IsTrue (has ps q)) (passed_after_notice m f a b other) on))
   where
-    before_or_now : (q : ℕ) → (IsTrue (has (passed m f a) q)) ⊎ (p ≡ q) → P a q
+    before_or_now : (q : ℕ) → (IsTrue (has (passed_programs m f a) q)) ⊎ (p ≡ q) → P a q
     before_or_now q (inl on) = before a q on
     before_or_now q (inr same) = subst (λ (x : ℕ). P a x) same now
 
@@ -351,7 +351,7 @@ notice_keeps_legal m wf f a k p d l =
 notice_keeps_strict : (m : Market) → IsWellFormed m → (f : Floor) (a k p : ℕ) → IsDropped m f a k p → IsStrict m f → IsStrict m (noticed f a)
 notice_keeps_strict m wf f a k p d s = record {
   legal = notice_keeps_legal m wf f a k p d s.legal;
-  let_go = after_notice m f a k p d (λ b q. IsFalse (held m f q b)) s.let_go d.out;
+  let_go = after_notice m f a k p d (λ b q. IsFalse (held_set m f q b)) s.let_go d.out;
 }
 
 -- what is so after each due proposal and after each due notice is so after each event that is due

@@ -7,11 +7,11 @@ use Rattle.mt_terms.specs.Market.{Market, live, applicants}
 use Rattle.mt_terms.specs.Matching.{Places, at}
 use Rattle.mt_terms.specs.Best.{IsBest, proposed_to}
 use Rattle.mt_terms.specs.WellFormed.{IsWellFormed}
-use Rattle.mt_terms.specs.Floor.{Floor, tried, is_quiet, IsRecorded, IsStrict, opening, after_all, IsResult, result_of, HasProposalsOf, EndAlike}
+use Rattle.mt_terms.specs.Floor.{Floor, proposed_to_on, is_quiet, IsRecorded, IsStrict, opening, after_all, IsResult, result_of, HasProposalsOf, EndAlike}
 use Rattle.mt_floor_laws.specs.Floors.{QuietCounts, OrderFree}
 use Rattle.mt_terms.specs.declared.events.Event.{Event}
 use Rattle.mt_terms.proofs.Totals.{count_below-same}
-use Rattle.mt_match_laws.proofs.ExclusionLemmas.{best_is_unique_lem}
+use Rattle.mt_stability_laws.proofs.ExclusionLemmas.{best_is_unique_lem}
 use Rattle.mt_terms.proofs.LiveFacts.{live_distinct}
 use Rattle.mt_floor_laws.proofs.FloorLists.{has-take_before, through-get, through_none}
 use Rattle.mt_floor_laws.proofs.FloorEvents.{last_facts, events_keep_strict_lem}
@@ -20,13 +20,13 @@ use Rattle.mt_floor_laws.proofs.FloorRuns.{opening_is_strict_lem, result_of_is_r
 
 -- on a floor on which no event is due, an applicant has tried its live list down to its place
 tried_to_place : (m : Market) → IsWellFormed m → (f : Floor) → IsRecorded m f → IsTrue (is_quiet m f)
-    → (places : Places) → IsResult m f places → (a : ℕ) → tried m f a ≡ proposed_to m places a
+    → (places : Places) → IsResult m f places → (a : ℕ) → proposed_to_on m f a ≡ proposed_to m places a
 tried_to_place m wf f r quiet places result a = go (cases_Bool (f.standing a))
   where
     some_inj : {x y : ℕ} → Some x ≡ Some y → x ≡ y
     some_inj e = cc
 
-    go : (IsTrue (f.standing a)) ⊎ (IsFalse (f.standing a)) → tried m f a ≡ proposed_to m places a
+    go : (IsTrue (f.standing a)) ⊎ (IsFalse (f.standing a)) → proposed_to_on m f a ≡ proposed_to m places a
     go (inl stands) =
         let l = last_facts m f r a stands in
         let there = placed_from m f places result a l.0 l.1 (record { stands = stands; last = l.2 }) in
@@ -66,7 +66,7 @@ end_facts m wf es quiet =
     }
 
 -- a recorded floor's proposals are as many as the programs tried
-made_is : (m : Market) (f : Floor) → IsRecorded m f → (a : ℕ) → length (tried m f a) ≡ f.made a
+made_is : (m : Market) (f : Floor) → IsRecorded m f → (a : ℕ) → length (proposed_to_on m f a) ≡ f.made a
 made_is m f r a = length-take-le (f.made a) (live m a) (r.within a)
 
 -- two such floors end alike
@@ -82,7 +82,7 @@ ends_alike m f g ef eg = record {
     same_result : result_of m f ≡ result_of m g
     same_result = best_is_unique_lem m (result_of m f) (result_of m g) ef.best eg.best
 
-    tried_alike : (a : ℕ) → tried m f a ≡ tried m g a
+    tried_alike : (a : ℕ) → proposed_to_on m f a ≡ proposed_to_on m g a
     tried_alike a = ef.on_the_way.same_tried a ∙ ap (λ places. proposed_to m places a) same_result ∙ sym (eg.on_the_way.same_tried a)
 
 -- any two lists of events until no event is due end alike

@@ -7,7 +7,7 @@ use Rattle.std.proofs.lemmas.Bool.Decides.{nat_tests}
 use Rattle.mt_terms.specs.Lists.{Set, has, total_below}
 use Rattle.mt_terms.specs.Market.{Market, live, applicants, live_entries}
 use Rattle.mt_terms.specs.Matching.{Places}
-use Rattle.mt_terms.specs.Floor.{Floor, last_tried, next_entry, is_held_by, is_settled, is_quiet, is_due, after, after_all, after_proposal, proposed_at, IsRecorded, opening, due_count, proposals_made, place_on, result_of, IsResult}
+use Rattle.mt_terms.specs.Floor.{Floor, last_proposed_to, next_entry, is_held_by, is_settled, is_quiet, is_due, after, after_all, after_proposal, proposed_at, IsRecorded, opening, due_count, proposals_made, place_on, result_of, IsResult}
 use Rattle.mt_floor_laws.specs.Floors.{OpeningIsStrict, DueAtMost, QuietIsReached, is_proposal, due_proposals, DueProposalsAreMade, MadeAtMost, ResultOfFloor, BestExists, ChainHasStrictEnd}
 use Rattle.mt_terms.specs.WellFormed.{IsWellFormed}
 use Rattle.mt_terms.specs.Examples.Markets.{chain}
@@ -15,7 +15,7 @@ use Rattle.mt_terms.specs.Examples.Events.{by_wishes}
 use Rattle.mt_terms.specs.declared.events.Event.{Event}
 use Rattle.mt_terms.specs.declared.events.Event.TheVariants.{Propose, Notice}
 use Rattle.mt_terms.proofs.Totals.{total_below-mono}
-use Rattle.mt_match_laws.proofs.WellFormedLemmas.{well_formed_from_test}
+use Rattle.mt_stability_laws.proofs.WellFormedLemmas.{well_formed_from_test}
 use Rattle.mt_floor_laws.proofs.FloorSums.{total_below-one_more, total_below-twice}
 use Rattle.mt_floor_laws.proofs.FloorLists.{has-get}
 use Rattle.mt_floor_laws.proofs.FloorEvents.{IsNext, next_facts, IsDropped, noticed, after_due, after_not_due, made_same, made_other, standing_other, noticed_same, noticed_other, within_get, get_some, event_keeps_recorded_lem, events_keep_strict_lem}
@@ -135,8 +135,8 @@ due_where_unsettled m f r a unsettled = go (cases_Bool (f.standing a))
     if_false true x y h = (λ t. h, λ e. absurd (both_ways true e refl))
     if_false false x y h = (λ t. absurd (both_ways false refl t), λ e. h)
 
-    parts : (IsTrue (f.standing a) → IsFalse (is_held_by m f a (last_tried m f a))) × (IsFalse (f.standing a) → IsFalse (f.made a == length (live m a)))
-    parts = if_false (f.standing a) (is_held_by m f a (last_tried m f a)) (f.made a == length (live m a)) unsettled
+    parts : (IsTrue (f.standing a) → IsFalse (is_held_by m f a (last_proposed_to m f a))) × (IsFalse (f.standing a) → IsFalse (f.made a == length (live m a)))
+    parts = if_false (f.standing a) (is_held_by m f a (last_proposed_to m f a)) (f.made a == length (live m a)) unsettled
 
     go : (IsTrue (f.standing a)) ⊎ (IsFalse (f.standing a)) → (e : Event) × IsTrue (is_due m f e)
     go (inl stands) = (Notice a, and_from _ _ stands (not_from_false _ (parts.0 stands)))

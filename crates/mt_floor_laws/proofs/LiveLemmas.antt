@@ -9,7 +9,7 @@ use Rattle.mt_terms.specs.Stability.{stable}
 use Rattle.mt_terms.specs.Best.{IsExcluded, IsBest, better_programs, proposed_to, proposals}
 use Rattle.mt_floor_laws.specs.Live.{LiveMarketAgrees}
 use Rattle.mt_terms.proofs.Totals.{total_below-same, count_below-same}
-use Rattle.mt_match_laws.proofs.SinglesFacts.{stable_facts, stable_from_facts}
+use Rattle.mt_stability_laws.proofs.SinglesFacts.{stable_facts, stable_from_facts}
 use Rattle.mt_terms.proofs.ListFacts.{has-filter}
 use Rattle.mt_terms.proofs.LiveFacts.{live_parts, applicants-live_market, list_of-live_market, live-live_market, live_well_formed}
 use Rattle.mt_floor_laws.proofs.FloorLists.{has-until-filter}

@@ -10,13 +10,13 @@ use Rattle.mt_terms.specs.Stability.{stable}
 use Rattle.mt_terms.specs.Best.{IsBest, better_programs}
 use Rattle.mt_terms.specs.WellFormed.{IsWellFormed}
 use Rattle.mt_floor_laws.specs.Rural.{SinglesFillAlike, FillAlikeWithoutCouples}
-use Rattle.mt_match_laws.proofs.SinglesFacts.{IsStableForSingles, stable_facts}
-use Rattle.mt_match_laws.proofs.ChoiceLemmas.{choice_from_facts}
-use Rattle.mt_match_laws.proofs.ExclusionLemmas.{count-at, best_is_at_least_lem}
-use Rattle.mt_match_laws.proofs.ListLemmas.{until_nobody, until_eqb_sym, passes_before, above-with_one}
+use Rattle.mt_stability_laws.proofs.SinglesFacts.{IsStableForSingles, stable_facts}
+use Rattle.mt_stability_laws.proofs.ChoiceLemmas.{choice_from_facts}
+use Rattle.mt_stability_laws.proofs.ExclusionLemmas.{count-at, best_is_at_least_lem}
+use Rattle.mt_stability_laws.proofs.ListLemmas.{until_nobody, until_eqb_sym, passes_before, above-with_one}
 use Rattle.mt_floor_laws.proofs.FloorRuns.{best_exists_lem}
 use Rattle.mt_terms.proofs.Totals.{total_below-mono, total_below-tight, count_below-mono, count_below-tight}
-use Rattle.mt_match_laws.proofs.Seats.{filled_by_applicant, placed_count, above-le-count}
+use Rattle.mt_stability_laws.proofs.Seats.{filled_by_applicant, placed_count, above-le-count}
 use Rattle.mt_terms.proofs.AgentFacts.{place_is}
 
 -- whoever is at a program has it as its place

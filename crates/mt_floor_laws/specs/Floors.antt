@@ -6,7 +6,7 @@ use Rattle.mt_terms.specs.Market.{Market, live_entries}
 use Rattle.mt_terms.specs.Matching.{Places}
 use Rattle.mt_terms.specs.Best.{IsExcluded, IsBest}
 use Rattle.mt_terms.specs.WellFormed.{IsWellFormed}
-use Rattle.mt_terms.specs.Floor.{Floor, IsResult, result_of, proposals_made, HasProposalsOf, EndAlike, passed, IsRecorded, IsLegal, IsStrict, opening, is_due, is_quiet, after, after_all, reply_of, due_count}
+use Rattle.mt_terms.specs.Floor.{Floor, IsResult, result_of, proposals_made, HasProposalsOf, EndAlike, passed_programs, IsRecorded, IsLegal, IsStrict, opening, is_due, is_quiet, after, after_all, reply_of, due_count}
 use Rattle.mt_terms.specs.Examples.Markets.{chain}
 use Rattle.mt_terms.specs.Examples.Events.{by_wishes, from_the_last}
 use Rattle.mt_terms.specs.declared.events.Event.{Event}
@@ -25,7 +25,7 @@ OpeningIsStrict = (m : Market) → IsStrict m opening
 abbrev pub LegalFromPassed : Type 0
 LegalFromPassed =
     (m : Market) → IsWellFormed m → (f : Floor) → IsRecorded m f
-    → ((a p : ℕ) → IsTrue (has (passed m f a) p) → IsExcluded m a p) → IsLegal m f
+    → ((a p : ℕ) → IsTrue (has (passed_programs m f a) p) → IsExcluded m a p) → IsLegal m f
 
 -- each event, and so each list of events, keeps a floor recorded, legal and strict
 abbrev pub EventKeepsRecorded : Type 0

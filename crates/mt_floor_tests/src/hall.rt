@@ -139,7 +139,7 @@ fn expect_pass<K: HallName>(
     same_for(rt, sum_by_program(ranks, pass), proposals, of);
     expect_proposed_to(rt, ranks, pass, of, to);
     expect_proposed_by(rt, ranks, pass, of, by);
-    same_for(rt, pass.waits(), 0, of);
+    same_for(rt, pass.contended_locks(), 0, of);
 }
 
 fn expect_passes<K: HallName>(

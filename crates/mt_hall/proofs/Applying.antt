@@ -6,7 +6,7 @@ use Rattle.std.proofs.lemmas.Bool.Decides.{nat_tests}
 use Rattle.mt_terms.specs.Lists.{Set, has, with_one, without}
 use Rattle.mt_terms.specs.Market.{Market, program_of, live}
 use Rattle.mt_terms.specs.Choice.{choice}
-use Rattle.mt_terms.specs.Floor.{Floor, after, after_proposal, proposed_at, receives_one, next_entry, last_tried, is_due, is_held_by, reply_of, reply_of_proposal}
+use Rattle.mt_terms.specs.Floor.{Floor, after, after_proposal, proposed_at, receives_one, next_entry, last_proposed_to, is_due, is_held_by, reply_of, reply_of_proposal}
 use Rattle.mt_terms.specs.declared.events.Event.TheVariants.{Propose, Notice}
 use Rattle.mt_terms.specs.declared.events.Reply.{Reply}
 use Rattle.mt_terms.specs.declared.events.Reply.TheVariants.{Noticed, NotDue}
@@ -135,14 +135,14 @@ noticed m d v e w f answer stands due desk same got replied some parts in_step =
     made_some : (f.made a == 0) ≡ false
     made_some = let made = parts.made in grind (arith, nat_tests)
 
-    last : last_tried m f a ≡ Some p
+    last : last_proposed_to m f a ≡ Some p
     last = ap (λ b. if b then None else slice_get (live m a) (f.made a - 1)) made_some ∙ ap (λ k. slice_get (live m a) (k - 1)) parts.made ∙ entry
 
-    held_on : is_held_by m f a (last_tried m f a) ≡ h
+    held_on : is_held_by m f a (last_proposed_to m f a) ≡ h
     held_on = ap (is_held_by m f a) last ∙ ap (λ s. choice (program_of m p) s a) (floor_set m d v f parts ∙ sym stays) ∙ ap (λ q. choice (program_of m q) (received_at m w) a) (sym same)
 
     is_due_is : is_due m f (Notice a) ≡ not h
-    is_due_is = ap (λ t. t && not (is_held_by m f a (last_tried m f a))) (parts.standing ∙ stands) ∙ ap not held_on
+    is_due_is = ap (λ t. t && not (is_held_by m f a (last_proposed_to m f a))) (parts.standing ∙ stands) ∙ ap not held_on
 
     leads : after m f (event_of d) ≡ (if not h then (record f { standing = without f.standing a }) else f)
     leads = ap (after m f) is_event ∙ ap (λ b. if b then (record f { standing = without f.standing a }) else f) is_due_is

@@ -12,9 +12,9 @@ use Rattle.mt_terms.specs.Floor.{kept_reply}
 use Rattle.mt_terms.specs.declared.events.Reply.{Reply}
 use Rattle.mt_terms.specs.declared.events.Reply.TheVariants.{Kept, Refused}
 use Rattle.mt_terms.proofs.LiveFacts.{live_parts}
-use Rattle.mt_match_laws.proofs.ChoiceLemmas.{choice_facts}
-use Rattle.mt_match_laws.proofs.ExclusionLemmas.{exclusion_lem}
-use Rattle.mt_match_laws.proofs.ListLemmas.{none_from_each, nothing_found}
+use Rattle.mt_stability_laws.proofs.ChoiceLemmas.{choice_facts}
+use Rattle.mt_stability_laws.proofs.ExclusionLemmas.{exclusion_lem}
+use Rattle.mt_stability_laws.proofs.ListLemmas.{none_from_each, nothing_found}
 use Rattle.mt_hold.specs.Holding.{receive, held, has_received}
 use Rattle.mt_ranks.specs.Ranked.{Ranked, IsRanked, IsRank, ranking_of}
 use Rattle.mt_core.specs.Replies.{reply_to}

@@ -113,7 +113,7 @@ fn take_passes<K: HallName>(roll: &mut Roll<K>, passes: Vec<Pass<K>>)
             credits,
             by_program: _,
             by_applicant: _,
-            waits: _,
+            contended_locks: _,
         } = pass;
         take_pass(roll, credits);
     }

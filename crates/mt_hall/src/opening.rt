@@ -141,7 +141,7 @@ fn seat_passes<K: HallName>(
                 credits,
                 by_program,
                 by_applicant,
-                waits: 0,
+                contended_locks: 0,
             }),
             None => unreachable!(),
         }

@@ -16,7 +16,7 @@ pub struct Pass<K: HallName> {
     pub(crate) by_program: Vec<u32>,
     pub(crate) by_applicant: Vec<u32>,
     // How often it waited for a lock. Nothing rests on it but how long a worker rests.
-    pub(crate) waits: u32,
+    pub(crate) contended_locks: u32,
 }
 
 impl<K: HallName> Model for Pass<K> {
@@ -56,8 +56,8 @@ impl<K: HallName> Pass<K> {
 
     /// How often a lock that was wanted was another worker's just then. That is more often if workers are in each
     /// other's way. The number is about right, and no clause pins it.
-    pub fn waits(&self) -> u32 {
-        self.waits
+    pub fn contended_locks(&self) -> u32 {
+        self.contended_locks
     }
 
     /// Locks, and counts if another worker has the lock.
@@ -67,7 +67,7 @@ impl<K: HallName> Pass<K> {
         match lock.try_lock() {
             Some(guard) => guard,
             None => {
-                self.waits = self.waits.wrapping_add(1);
+                self.contended_locks = self.contended_locks.wrapping_add(1);
                 lock.lock(rt)
             }
         }

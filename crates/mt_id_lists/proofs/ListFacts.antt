@@ -2,8 +2,8 @@
 use Rattle.std.proofs.Common.{◌≡◌, ◌≢◌, ◌==◌, set, ℕ, zero, suc, ◌<◌, Bool, true, false, List, [], ◌∷◌, ◌++◌, length, get_or, refl, ap, sym, ◌∙◌, arith, if◌then◌else◌}
 use Rattle.std.proofs.lemmas.Bool.Decides.{nat_tests}
 use Rattle.std.proofs.lemmas.List.{append-nil, append_assoc, get_or-set_same, get_or-set_other}
-use Rattle.mt_rows.specs.FlatLists.{with_last}
-use Rattle.mt_rows.proofs.FlatListsFacts.{with_last-append}
+use Rattle.mt_flat.specs.FlatLists.{with_last}
+use Rattle.mt_flat.proofs.FlatListsFacts.{with_last-append}
 use Rattle.mt_id_lists.specs.Met.{flags_of, IsNoneMet}
 use Rattle.mt_id_lists.specs.Reading.{with_more}
 

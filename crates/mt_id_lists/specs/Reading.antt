@@ -3,7 +3,7 @@
 use Rattle.std.specs.Prelude.{◌≡◌, Bool, true, false, List, [], ◌∷◌, ◌++◌, flat_map, fold, Option, Some, None, is_some, if◌then◌else◌}
 use Rattle.std.specs.Borrow.{Bor}
 use Rattle.std.specs.List.{list_all}
-use Rattle.mt_rows.specs.FlatLists.{with_last}
+use Rattle.mt_flat.specs.FlatLists.{with_last}
 use Rattle.mt_lists.specs.Rows.{fields_left}
 use Rattle.mt_lists.specs.declared.row.Fields.{Fields}
 use Rattle.mt_terms.specs.Registration.Ids.{Bytes, stands_once}

@@ -5,7 +5,7 @@ ghost use Rattle.rayon.specs.Lists.{chunks_of};
 ghost use Rattle.mt_id_lists.specs.Reading.{Joins, ReadsAll};
 
 use crate::reader::ListReader;
-use mt_rows::FlatLists;
+use mt_flat::FlatLists;
 use rayon::current_num_threads;
 use rayon::prelude::*;
 use std::alloc::{AllocError, Global};

@@ -6,9 +6,9 @@ ghost use Rattle.mt_id_lists.specs.Reading.{with_kept, ReadsIds};
 
 use crate::met::Met;
 use crate::reader::ListReader;
+use mt_flat::FlatLists;
 use mt_ids::IdTable;
 use mt_lists::Fields;
-use mt_rows::FlatLists;
 use std::alloc::{AllocError, Global};
 use std::marker::Model;
 

@@ -1,7 +1,7 @@
 ghost use Rattle.std.specs.Prelude.{◌≡◌, ℕ, Bool, List, IfOk, OnOk};
 ghost use Rattle.mt_id_lists.specs.Reading.{ReadsOne};
 
-use mt_rows::FlatLists;
+use mt_flat::FlatLists;
 use std::alloc::{AllocError, Global};
 
 /// What reads lists `L` by numbers. A list is read as one list of numbers, or as none if it isn't kept. `M` keeps what

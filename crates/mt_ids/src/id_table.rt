@@ -5,7 +5,7 @@ ghost use Rattle.mt_ids.specs.Seeds.{seed_of};
 
 use crate::seed::{Seed, add_field};
 use indexmap::IndexSet;
-use mt_rows::FlatLists;
+use mt_flat::FlatLists;
 use std::alloc::{AllocError, Global};
 use std::hash::{DefaultHasher, Hash, Hasher};
 use std::marker::Model;

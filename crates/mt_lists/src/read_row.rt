@@ -4,7 +4,7 @@ ghost use Rattle.csv.specs.Records.{fields_of};
 ghost use Rattle.mt_lists.specs.Records.{without_trailing_empty};
 
 use csv::ByteRecord;
-use mt_rows::FlatLists;
+use mt_flat::FlatLists;
 use std::alloc::{AllocError, Global};
 
 /// The fields of a record that `csv` has read, without the empty ones at its end. Their bytes lie in one block, and the

@@ -3,7 +3,7 @@ ghost use Rattle.std.specs.Iterator.{YieldsFirstRef, item_count};
 
 use crate::lines::LineFields;
 use crate::read_row::ReadFields;
-use mt_rows::FlatLists;
+use mt_flat::FlatLists;
 use std::marker::Model;
 
 /// A row: its fields in order, without the empty ones at its end. It is as small as a reference and a length.

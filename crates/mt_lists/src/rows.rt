@@ -3,7 +3,7 @@ ghost use Rattle.std.specs.Iterator.{YieldsFirst, item_count};
 
 use crate::lines::Lines;
 use crate::row::{Row, RowSource};
-use mt_rows::FlatLists;
+use mt_flat::FlatLists;
 use std::marker::Model;
 
 /// The rows of an input. The rows of a text without a quote are its lines, which are cut as they are lent. Those of

@@ -9,7 +9,7 @@ use crate::lines::Lines;
 use crate::read_row::trimmed_row;
 use crate::rows::{Rows, RowsSource};
 use csv::{ByteRecord, ErrorKind, Reader, ReaderBuilder};
-use mt_rows::FlatLists;
+use mt_flat::FlatLists;
 use std::alloc::Global;
 use thiserror::Error;
 

@@ -4,7 +4,7 @@ ghost use Rattle.mt_terms.specs.Market.{applicants, program_of, list_of, couple_
 ghost use Rattle.mt_terms.specs.Text.{name_of};
 ghost use Rattle.mt_market.specs.Tables.{registered_of, AreTables};
 
-use mt_rows::FlatLists;
+use mt_flat::FlatLists;
 use mt_terms::{Agent, AppNo, CoupleNo, ProgNo};
 use std::marker::Model;
 

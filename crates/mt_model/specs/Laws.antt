@@ -8,8 +8,8 @@ pub use Rattle.mt_file_laws.specs.Text
 pub use Rattle.mt_floor_laws.specs.Floors
 pub use Rattle.mt_floor_laws.specs.Live
 pub use Rattle.mt_floor_laws.specs.Rural
-pub use Rattle.mt_match_laws.specs.Singles
-pub use Rattle.mt_match_laws.specs.Taken
+pub use Rattle.mt_stability_laws.specs.Singles
+pub use Rattle.mt_stability_laws.specs.Taken
 pub use Rattle.mt_round_laws.specs.Rounds
 pub use Rattle.mt_verdict_laws.specs.Pairs
 pub use Rattle.mt_verdict_laws.specs.Verdict

@@ -15,14 +15,14 @@ pub use mt_floor_laws::{
     made_at_most, opening_is_strict, order_free, quiet_counts, quiet_is_reached, result_of_floor,
     rural, strict_best,
 };
-pub use mt_match_laws::{
+pub use mt_round_laws::{
+    first_couple_waits, last_list_is_stable, next_couple_waits, round_fits, round_keeps,
+    stage_fits, stage_is_stable,
+};
+pub use mt_stability_laws::{
     best_is_at_least, best_is_unique, choice_in_words, chosen_for_two_posts, excluded_in_chain,
     exclusion, exclusion_by_quota, growing_choice, half_pair_taken, never_twice_at_one,
     none_comes_back, pair_taken, same_program_taken, single_taken, stability_of_singles,
     taken_in_examples, well_formed_test,
-};
-pub use mt_round_laws::{
-    first_couple_waits, last_list_is_stable, next_couple_waits, round_fits, round_keeps,
-    stage_fits, stage_is_stable,
 };
 pub use mt_verdict_laws::{stability_by_pairs, stable_verdict, verdict_in_words};

@@ -3,14 +3,14 @@ use Rattle.std.proofs.Common.{◌≡◌, ℕ, ◌+◌, ◌≤◌, false, nat_lt,
 use Rattle.std.proofs.lemmas.Bool.Decides.{nat_tests}
 use Rattle.mt_file_laws.proofs.PassFacts.{kept_parts}
 use Rattle.mt_terms.specs.Registration.Ids.{Bytes}
-use Rattle.mt_records.specs.declared.refusal.Refusal.{Refusal}
-use Rattle.mt_records.specs.declared.refusal.Refusal.TheVariants as refusals
+use Rattle.mt_records.specs.declared.first_fault.FirstFault.{FirstFault}
+use Rattle.mt_records.specs.declared.first_fault.FirstFault.TheVariants as refusals
 use Rattle.mt_passes.specs.declared.register.Register.{Register}
 use Rattle.mt_records.specs.Limits.{AreBounded}
 use Rattle.mt_passes.specs.Registers.{withdraws_twice, AreFew, IsRegister}
 use Rattle.mt_passes.specs.Passes.{Reads, ReadsRow, GivesRegister}
 use Rattle.mt_records.specs.Refusals.{Refuses}
-use Rattle.mt_terms.specs.Registration.Faults.{Charge, Fault, fault_at}
+use Rattle.mt_terms.specs.Registration.Faults.{RecordFault, Fault, fault_at}
 use Rattle.mt_terms.specs.Registration.Records.{Rules, Record, ProgramRecord, ApplicantRecord, CoupleRecord, WithdrawRecord, OfProgram, OfCouple, record_of}
 use Rattle.mt_terms.specs.Registration.Rows.{ids_of, applicant_ids, entry_count}
 use Rattle.mt_terms.specs.Registration.Passes.{registered_before, says_twice, are_too_many, first_conflict, first_pass, contents, unless, numbered_from, Numbered}
@@ -24,15 +24,15 @@ pub record IsAccepted (rules : Rules) (before : List Record) (r : Record) : Type
 
 pub is_accepted : (rules : Rules) (before : List Record) (r : Record) → first_conflict rules before r ≡ None → IsAccepted rules before r
 is_accepted rules before r none =
-    let t = kept_parts _ _ _ _ _ r r (ap (λ (o : Option Charge). unless {E = Charge} o r) none) in
+    let t = kept_parts _ _ _ _ _ r r (ap (λ (o : Option RecordFault). unless {E = RecordFault} o r) none) in
     record { new = t.1; once = t.2; few = t.3 }
 
 module _ (rules : Rules) (old : List (Numbered Record)) (n : ℕ) (fields : List Bytes) (rest : List (Numbered (List Bytes))) where
   -- the pass ends with a row that has a fault by itself, or whose record has one beside those before it
-  pub ends_alone : (c : Charge) → record_of rules fields ≡ Err c → first_pass rules old ((n, fields) ∷ rest) ≡ Err (fault_at n c)
+  pub ends_alone : (c : RecordFault) → record_of rules fields ≡ Err c → first_pass rules old ((n, fields) ∷ rest) ≡ Err (fault_at n c)
   ends_alone c is = rw is refl
 
-  pub ends_beside : (r : Record) (c : Charge) → record_of rules fields ≡ Ok r → first_conflict rules (contents old) r ≡ Some c
+  pub ends_beside : (r : Record) (c : RecordFault) → record_of rules fields ≡ Ok r → first_conflict rules (contents old) r ≡ Some c
       → first_pass rules old ((n, fields) ∷ rest) ≡ Err (fault_at n c)
   ends_beside r c is fault = rw (is, fault) refl
 
@@ -65,7 +65,7 @@ few_more rules before r bound few =
     }
 
 -- a row is read, where it has a field
-pub reads_row : {Y : Type 0} (rules : Rules) (old new : Register) (n : ℕ) (row : List Bytes) (result : Result Y Refusal)
+pub reads_row : {Y : Type 0} (rules : Rules) (old new : Register) (n : ℕ) (row : List Bytes) (result : Result Y FirstFault)
     → (length row ≡ 0 → ⊥) → Reads rules old new (n, row) result → ReadsRow rules old new n row result
 reads_row rules old new n [] result some r = absurd (some refl)
 reads_row rules old new n (word ∷ fields) (Ok y) some r = (r.0, λ rest. r.1 (numbered_from (n + 1) rest))
@@ -78,10 +78,10 @@ skips_row rules old n [] y none r = (r, λ rest. refl)
 skips_row rules old n (word ∷ fields) y none r = absurd (omega (arith, none))
 
 -- the pass ends where a row is refused
-pub pass_ends : (e : Refusal) (here whole : Result (List (Numbered Record)) Fault) → Refuses e here → here ≡ whole → Refuses e whole
+pub pass_ends : (e : FirstFault) (here whole : Result (List (Numbered Record)) Fault) → Refuses e here → here ≡ whole → Refuses e whole
 pass_ends (refusals.Fault f) here whole r h = sym h ∙ r
 pass_ends refusals.Memory here whole r h = tt
 
-pub refused : {Y : Type 0} (new : Register) (result : Result Y Refusal) (e : Refusal) (whole : Result (List (Numbered Record)) Fault) → result ≡ Err e → Refuses e whole
+pub refused : {Y : Type 0} (new : Register) (result : Result Y FirstFault) (e : FirstFault) (whole : Result (List (Numbered Record)) Fault) → result ≡ Err e → Refuses e whole
     → GivesRegister new result whole
 refused new result e whole h r = rw h r

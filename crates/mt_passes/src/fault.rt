@@ -10,7 +10,7 @@ ghost use Rattle.mt_passes.specs.Registers.{records_seen, IsRegister};
 use crate::first::first_pass;
 use crate::register::Register;
 use mt_lists::RowsIter;
-use mt_records::{Refusal, Rules};
+use mt_records::{FirstFault, Rules};
 use std::alloc::Global;
 
 /// The first fault of rows that have one, by a register without records.
@@ -20,7 +20,7 @@ fn fault_by<'a>(
     register: &mut Register<'a>,
     rows: RowsIter<'a>,
     first: u64,
-) -> Refusal<'a>
+) -> FirstFault<'a>
     requires limits { AreBounded rules.now.limits }
     requires few { first + length (rows_left rows) < 2 ^ 64 }
     requires fault { result_ok (market_under rules.now (numbered_from first (rows_left rows))) ≡ None }
@@ -30,7 +30,7 @@ fn fault_by<'a>(
 {
     match first_pass(alloc, rules, register, rows, first) {
         Ok(()) => match register.second_pass() {
-            Some(fault) => Refusal::Fault(fault),
+            Some(fault) => FirstFault::Fault(fault),
             None => unreachable!(),
         },
         Err(refusal) => refusal,
@@ -40,7 +40,12 @@ fn fault_by<'a>(
 /// The first fault of rows that have one, by these rules, or want of memory. The faults of one record by itself or
 /// beside those before it come first. If there is none of these, the fault is that of the first record that names an
 /// unknown id. The first row has this number.
-pub fn first_fault<'a>(alloc: Global, rules: &Rules, rows: RowsIter<'a>, first: u64) -> Refusal<'a>
+pub fn first_fault<'a>(
+    alloc: Global,
+    rules: &Rules,
+    rows: RowsIter<'a>,
+    first: u64,
+) -> FirstFault<'a>
     requires limits { AreBounded rules.now.limits }
     requires few { first + length (rows_left rows) < 2 ^ 64 }
     requires fault { result_ok (market_under rules.now (numbered_from first (rows_left rows))) ≡ None }

@@ -8,7 +8,7 @@ ghost use Rattle.mt_passes.specs.Passes.{Reads, ReadsRecord, ReadsRow, GivesRegi
 
 use crate::register::Register;
 use mt_lists::{Fields, Row, RowsIter};
-use mt_records::{Record, Refusal, Rules, record_of};
+use mt_records::{FirstFault, Record, Rules, record_of};
 use std::alloc::Global;
 
 /// Adds a record to a register, if it has no fault beside those before it.
@@ -18,13 +18,13 @@ fn read_record<'a>(
     register: &mut Register<'a>,
     number: u64,
     next: Record<'a>,
-) -> Result<(), Refusal<'a>>
+) -> Result<(), FirstFault<'a>>
     requires limits { AreBounded rules.now.limits }
     requires register { IsRegister register.old }
     ensures { ReadsRecord rules.now register.old register.new number (record_seen next.entry) result }
 {
-    if let Some(charge) = register.first_conflict(alloc, rules, &next)? {
-        return Err(Refusal::Fault(charge.at(number)));
+    if let Some(record_fault) = register.first_conflict(alloc, rules, &next)? {
+        return Err(FirstFault::Fault(record_fault.at(number)));
     }
     register.push(number, next)?;
     Ok(())
@@ -37,14 +37,14 @@ fn read_fields<'a>(
     register: &mut Register<'a>,
     number: u64,
     fields: Fields<'a>,
-) -> Result<(), Refusal<'a>>
+) -> Result<(), FirstFault<'a>>
     requires limits { AreBounded rules.now.limits }
     requires register { IsRegister register.old }
     ensures { Reads rules.now register.old register.new (number, fields_left fields.entry) result }
 {
     match record_of(rules, fields) {
         Ok(next) => read_record(alloc, rules, register, number, next),
-        Err(charge) => Err(Refusal::Fault(charge.at(number))),
+        Err(record_fault) => Err(FirstFault::Fault(record_fault.at(number))),
     }
 }
 
@@ -55,7 +55,7 @@ fn read_row<'a>(
     register: &mut Register<'a>,
     number: u64,
     row: Row<'a>,
-) -> Result<(), Refusal<'a>>
+) -> Result<(), FirstFault<'a>>
     requires limits { AreBounded rules.now.limits }
     requires register { IsRegister register.old }
     ensures { ReadsRow rules.now register.old register.new number row.entry result }
@@ -74,7 +74,7 @@ pub(crate) fn first_pass<'a>(
     register: &mut Register<'a>,
     rows: RowsIter<'a>,
     first: u64,
-) -> Result<(), Refusal<'a>>
+) -> Result<(), FirstFault<'a>>
     requires limits { AreBounded rules.now.limits }
     requires few { first + length (rows_left rows) < 2 ^ 64 }
     requires register { IsRegister register.old }

@@ -1,7 +1,7 @@
 ghost use Rattle.std.specs.Prelude.{◌≡◌, ◌+◌, false, nat_lt, ◌++◌, [], ◌∷◌, option_map, flat_map, None, OnOk, IfOk};
 ghost use Rattle.std.specs.Option.{option_copied};
 ghost use Rattle.mt_terms.specs.Registration.Passes.{first_in, registered_before, says_twice, are_too_many, first_conflict};
-ghost use Rattle.mt_records.specs.Records.{record_seen, charge_seen};
+ghost use Rattle.mt_records.specs.Records.{record_seen, record_fault_seen};
 ghost use Rattle.mt_lists.specs.Rows.{rows_left};
 ghost use Rattle.mt_ids.specs.Seeds.{seed_of};
 ghost use Rattle.mt_passes.specs.Registers.{records_seen, contents_seen, withdraws_twice, AreFew, IsRegister, AddsRecord};
@@ -9,7 +9,7 @@ ghost use Rattle.mt_passes.specs.Registers.{records_seen, contents_seen, withdra
 use crate::repeats::{add_fields, has_repeat, has_repeated_pair};
 use mt_ids::{IdTable, Seed};
 use mt_lists::RowsIter;
-use mt_records::{Charge, Kind, Kinds, Record, Rules, are_over, push};
+use mt_records::{Kind, Kinds, Record, RecordFault, Rules, are_over, push};
 use mt_terms::Limits;
 use mt_terms::codes::{DUPLICATE_ENTRY, DUPLICATE_ID, TOO_MANY};
 use std::alloc::{AllocError, Global};
@@ -129,25 +129,25 @@ impl<'a> Register<'a> {
         alloc: Global,
         rules: &Rules,
         record: &Record<'a>,
-    ) -> Result<Option<Charge<'a>>, AllocError>
+    ) -> Result<Option<RecordFault<'a>>, AllocError>
         requires { IsRegister self.now }
-        ensures { IfOk result (λ charge. option_map charge_seen charge ≡ first_conflict rules.now (contents_seen self.now) (record_seen «record».now)) }
+        ensures { IfOk result (λ record_fault. option_map record_fault_seen record_fault ≡ first_conflict rules.now (contents_seen self.now) (record_seen «record».now)) }
     {
         if let Some(id) = self.registered_before(record) {
-            return Ok(Some(Charge {
+            return Ok(Some(RecordFault {
                 code: DUPLICATE_ID,
                 id,
             }));
         }
         let id = record.id();
         if self.says_twice(alloc, record)? {
-            return Ok(Some(Charge {
+            return Ok(Some(RecordFault {
                 code: DUPLICATE_ENTRY,
                 id,
             }));
         }
         if self.are_too_many(&rules.limits, record) {
-            return Ok(Some(Charge { code: TOO_MANY, id }));
+            return Ok(Some(RecordFault { code: TOO_MANY, id }));
         }
         Ok(None)
     }

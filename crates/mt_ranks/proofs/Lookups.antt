@@ -8,8 +8,8 @@ use Rattle.std.specs.List.Sorted.{IsNonDecreasingBy, IsPartitionPoint}
 use Rattle.std.proofs.lemmas.Bool.{eq-eqb, ne_eqb, cases_lt}
 use Rattle.std.proofs.lemmas.Bool.Decides.{nat_tests}
 use Rattle.mt_ranks.specs.Entries.{AscendFrom, rank_among, entry_among, entries_among}
-use Rattle.mt_rows.specs.FlatLists.{with_last}
-use Rattle.mt_rows.proofs.FlatListsFacts.{with_last-append}
+use Rattle.mt_flat.specs.FlatLists.{with_last}
+use Rattle.mt_flat.proofs.FlatListsFacts.{with_last-append}
 use Rattle.mt_ranks.specs.declared.entries.Live.{Live}
 
 equal_means : (a b : ℕ) → nat_cmp a b ≡ Equal → a ≡ b

@@ -7,7 +7,7 @@ use Rattle.std.proofs.lemmas.Slice.{between_is}
 use Rattle.std.proofs.lemmas.List.Sums.{sum_by-cons}
 use Rattle.mt_ranks.specs.Rows.{parts, next_start, sizes_between, ArePartsOf, starts_from, Filling, empty_rows, HasRoom, with_entry}
 use Rattle.mt_ranks.specs.declared.entries.Live.{Live}
-use Rattle.mt_rows.proofs.RowFacts.{range_push}
+use Rattle.mt_flat.proofs.RowFacts.{range_push}
 
 -- Below, the parts of a list of this size begin at ss and end at es.
 pub start_within : (size : ℕ) (ss es : List ℕ) → ArePartsOf size ss es → next_start ss size ≤ size

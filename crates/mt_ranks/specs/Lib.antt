@@ -1,5 +1,5 @@
 pub mod Entries
-pub mod Notes
+pub mod Stamps
 pub mod Parts
 pub mod Ranked
 pub mod Rows

@@ -1,9 +1,9 @@
 ghost use Rattle.std.specs.Prelude.{◌≡◌, ℕ, ◌+◌, ◌<◌, ◌++◌, ◌∷◌, [], length, IsTrue, OnOk};
 ghost use Rattle.mt_ranks.specs.Entries.{AscendFrom, rank_among, entries_among};
-ghost use Rattle.mt_ranks.specs.Notes.{AreBefore, ProgramsWithin};
+ghost use Rattle.mt_ranks.specs.Stamps.{AreBefore, ProgramsWithin};
 ghost use Rattle.mt_terms.specs.Lists.{has};
 
-use crate::notes::{Note, note_ranks, noted_at};
+use crate::stamps::{RankStamp, rank_stamped_at, stamp_ranks};
 use mt_market::FlatLists;
 use mt_terms::ProgNo;
 use std::alloc::AllocError;
@@ -31,23 +31,23 @@ pub(crate) fn rank_at(entries: &[Live], program: ProgNo) -> Option<u32>
 /// in a turn of their own.
 pub(crate) fn push_live(
     lists: &mut FlatLists<Live>,
-    notes: &mut [Note],
+    stamps: &mut [RankStamp],
     turn: u32,
     list: &[ProgNo],
     entries: &[Live],
 ) -> Result<(), AllocError>
     requires ascend { AscendFrom 0 entries.now }
-    requires entries { ProgramsWithin (length notes.old) entries.now }
-    requires list { (p : ℕ) → IsTrue (has list.now p) → p < length notes.old }
-    requires earlier { AreBefore turn notes.old }
+    requires entries { ProgramsWithin (length stamps.old) entries.now }
+    requires list { (p : ℕ) → IsTrue (has list.now p) → p < length stamps.old }
+    requires earlier { AreBefore turn stamps.old }
     ensures listed { OnOk result (lists.new ≡ lists.old ++ entries_among entries.now list.now ∷ []) }
-    ensures len { length notes.new ≡ length notes.old }
-    ensures before { AreBefore (turn + 1) notes.new }
+    ensures len { length stamps.new ≡ length stamps.old }
+    ensures before { AreBefore (turn + 1) stamps.new }
 {
-    note_ranks(notes, turn, entries);
+    stamp_ranks(stamps, turn, entries);
     lists.begin()?;
     for program in list {
-        if let Some(rank) = noted_at(notes, turn, *program) {
+        if let Some(rank) = rank_stamped_at(stamps, turn, *program) {
             lists.push(Live {
                 program: *program,
                 rank,

@@ -4,8 +4,8 @@
 
 mod blocks;
 mod entries;
-mod notes;
 mod rows;
+mod stamps;
 mod tables;
 mod transpose;
 

@@ -3,14 +3,14 @@ ghost use Rattle.mt_terms.specs.Lists.{has};
 ghost use Rattle.mt_terms.specs.Market.{applicants, program_of};
 ghost use Rattle.mt_ranks.specs.Entries.{AscendFrom, all_times};
 ghost use Rattle.mt_ranks.specs.Ranked.{IsRank, IsEntry, IsRanked, is_single_agent, rank_of, ranked_list, ranked_of, ranking_of};
-ghost use Rattle.mt_ranks.specs.Notes.{ProgramsWithin};
+ghost use Rattle.mt_ranks.specs.Stamps.{ProgramsWithin};
 ghost use Rattle.mt_ranks.specs.Parts.{live_among, row_among, AreParts, HaveApplicant, IsPart};
 ghost use Rattle.mt_ranks.specs.Rows.{listed_rows, row_of};
 
 use crate::blocks::{BLOCKS, Block, block_of, block_size};
 use crate::entries::{Live, push_live, rank_at};
-use crate::notes::Note;
 use crate::rows::Rows;
+use crate::stamps::RankStamp;
 use crate::transpose::{listed, of_block, transpose};
 use mt_market::{FlatLists, Roster};
 use mt_terms::{Agent, AppNo, ProgNo};
@@ -75,13 +75,17 @@ fn live_lists(
 {
     roster.is_of_a_file();
     let mut lists = FlatLists::new(alloc);
-    let mut notes = Vec::from_elem(alloc, Note { turn: 0, rank: 0 }, roster.programs() as usize)?;
+    let mut stamps = Vec::from_elem(
+        alloc,
+        RankStamp { turn: 0, rank: 0 },
+        roster.programs() as usize,
+    )?;
     for place in 0..block.size {
         let applicant = AppNo((block.first + place) as u32);
         let turn = place as u32 + 1;
         push_live(
             &mut lists,
-            &mut notes,
+            &mut stamps,
             turn,
             roster.single_list(applicant),
             rows.row(place),

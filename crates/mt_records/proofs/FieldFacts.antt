@@ -3,7 +3,7 @@ use Rattle.std.proofs.Common.{◌≡◌, ◌/◌, ◌%◌, Bool, true, false, �
 use Rattle.std.specs.List.{list_all}
 use Rattle.std.proofs.lemmas.List.{length-map}
 use Rattle.mt_terms.specs.Registration.Ids.{Bytes}
-use Rattle.mt_terms.specs.Registration.Faults.{charge_alone}
+use Rattle.mt_terms.specs.Registration.Faults.{record_fault_alone}
 use Rattle.mt_terms.specs.declared.codes.TheConstants.{FIELD_COUNT, BAD_ID}
 use Rattle.mt_terms.specs.Registration.Records.{Rules, CoupleRecord, are_ids, is_pair, pair_of, two_by_two, couple_by_pairs}
 use Rattle.mt_records.specs.Fields.{by_pairs}
@@ -30,7 +30,7 @@ two_by_two-by_pairs (x ∷ y ∷ xs) =
 
 -- a couple by its names and the fields of its list, whose number is odd, or even
 module _ (rules : Rules) (id a b : Bytes) (fields : List Bytes) where
-  pub odd_couple : length fields % 2 ≡ 1 → couple_by_pairs rules id a b (two_by_two fields) ≡ Err (charge_alone FIELD_COUNT)
+  pub odd_couple : length fields % 2 ≡ 1 → couple_by_pairs rules id a b (two_by_two fields) ≡ Err (record_fault_alone FIELD_COUNT)
   odd_couple h = ap (couple_by_pairs rules id a b) ((two_by_two-by_pairs fields).1 h)
 
   module _ (h : length fields % 2 ≡ 0) where
@@ -39,7 +39,7 @@ module _ (rules : Rules) (id a b : Bytes) (fields : List Bytes) where
     couple_is_read names pairs = ap (couple_by_pairs rules id a b) ((two_by_two-by_pairs fields).0 h) ∙ rw (names, pairs) refl
 
     pub couple_is_refused : are_ids rules (id ∷ a ∷ b ∷ []) && list_all (is_pair rules) (by_pairs fields) ≡ false
-        → couple_by_pairs rules id a b (two_by_two fields) ≡ Err (charge_alone BAD_ID)
+        → couple_by_pairs rules id a b (two_by_two fields) ≡ Err (record_fault_alone BAD_ID)
     couple_is_refused bad = ap (couple_by_pairs rules id a b) ((two_by_two-by_pairs fields).0 h) ∙ rw bad refl
 
 -- both of two tests don't pass where one of them fails

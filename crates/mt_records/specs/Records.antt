@@ -8,7 +8,7 @@ use Rattle.mt_records.specs.declared.record.Kind.{Kind}
 use Rattle.mt_records.specs.declared.record.Kind.TheVariants as kinds
 use Rattle.mt_records.specs.declared.record.Record.{Record}
 use Rattle.mt_records.specs.declared.record.Record.TheVariants as records
-use Rattle.mt_records.specs.declared.record.Charge.{Charge}
+use Rattle.mt_records.specs.declared.record.RecordFault.{RecordFault}
 
 -- a kind of records, as the definition's kind
 abbrev pub kind_seen : Kind → model.Kind
@@ -23,11 +23,11 @@ record_seen (records.Applicant id list) = model.ApplicantRecord id.now (fields_l
 record_seen (records.Couple id couple) = model.CoupleRecord id.now (members_in couple).0 (members_in couple).1 (pairs_after couple)
 record_seen (records.Withdraw kind id) = model.WithdrawRecord (kind_seen kind) id.now
 
--- a fault without its record's number, as the definition's charge
-abbrev pub charge_seen : Charge → faults.Charge
-charge_seen c = (c.code, c.id.now)
+-- a fault without its record's number, as the definition's record_fault
+abbrev pub record_fault_seen : RecordFault → faults.RecordFault
+record_fault_seen c = (c.code, c.id.now)
 
 -- what the reading of one record gives, the record or its fault, as the definition's result
-abbrev pub read_seen : Result Record Charge → Result model.Record faults.Charge
+abbrev pub read_seen : Result Record RecordFault → Result model.Record faults.RecordFault
 read_seen (Ok r) = Ok (record_seen r)
-read_seen (Err c) = Err (charge_seen c)
+read_seen (Err c) = Err (record_fault_seen c)

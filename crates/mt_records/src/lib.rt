@@ -2,19 +2,19 @@
 #![tactic(auto)]
 
 mod fields;
+mod first_fault;
 mod grow;
 mod kinds;
 mod limits;
 mod record;
-mod refusal;
 mod rules;
 
 pub use fields::{CoupleFields, Pairs};
+pub use first_fault::{Fault, FirstFault};
 pub use grow::push;
 pub use kinds::Kinds;
 pub use limits::are_over;
 pub use record::{
-    Charge, Kind, Record, kind_of, names_are_ids, record_of, withdraw_record, withdraws,
+    Kind, Record, RecordFault, kind_of, names_are_ids, record_of, withdraw_record, withdraws,
 };
-pub use refusal::{Fault, Refusal};
 pub use rules::{Rules, rules_of};

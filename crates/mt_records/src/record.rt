@@ -1,11 +1,11 @@
 ghost use Rattle.std.specs.Prelude.{◌≡◌, ◌&&◌, [], ◌∷◌, codes, bytes_eq, length, map, option_map, option_to_list};
 ghost use Rattle.mt_lists.specs.Rows.{fields_left};
-ghost use Rattle.mt_terms.specs.Registration.Faults.{charge_alone};
+ghost use Rattle.mt_terms.specs.Registration.Faults.{record_fault_alone};
 ghost use Rattle.mt_terms.specs.Registration.Records.{kind_of, are_ids, pair_of, two_by_two, program_record, applicant_record, couple_by_pairs, couple_record, withdraw_record, record_of};
 ghost use Rattle.mt_terms.specs.Registration.Records.{OfProgram, OfCouple};
 ghost use Rattle.mt_terms.specs.Registration.Rows.{id_of, own_id, applicants_of, entries_of};
 ghost use Rattle.mt_records.specs.Fields.{by_pairs, members_in, pairs_after};
-ghost use Rattle.mt_records.specs.Records.{kind_seen, record_seen, charge_seen, read_seen};
+ghost use Rattle.mt_records.specs.Records.{kind_seen, record_seen, record_fault_seen, read_seen};
 
 use crate::fields::{CoupleFields, are_ids, are_pairs};
 use crate::rules::Rules;
@@ -104,16 +104,16 @@ impl<'a> Record<'a> {
 
 /// A fault of a record: its code and the id at fault, which is empty if there is none.
 #[derive(Clone, Copy)]
-pub struct Charge<'a> {
+pub struct RecordFault<'a> {
     pub code: u16,
     pub id: &'a [u8],
 }
 
 /// A fault that no id is at.
-fn charge_alone<'a>(code: u16) -> Charge<'a>
-    ensures { charge_seen result ≡ charge_alone code }
+fn record_fault_alone<'a>(code: u16) -> RecordFault<'a>
+    ensures { record_fault_seen result ≡ record_fault_alone code }
 {
-    Charge { code, id: &[] }
+    RecordFault { code, id: &[] }
 }
 
 /// The kind that a field names.
@@ -132,22 +132,22 @@ pub fn kind_of(word: &[u8]) -> Option<Kind>
 }
 
 /// A program by the fields after its first.
-fn program_record<'a>(rules: &Rules, fields: Fields<'a>) -> Result<Record<'a>, Charge<'a>>
+fn program_record<'a>(rules: &Rules, fields: Fields<'a>) -> Result<Record<'a>, RecordFault<'a>>
     ensures { read_seen result ≡ program_record rules.now (fields_left fields.entry) }
 {
     let mut list = fields;
     let Some(id) = list.next() else {
-        return Err(charge_alone(FIELD_COUNT));
+        return Err(record_fault_alone(FIELD_COUNT));
     };
     let Some(quota) = list.next() else {
-        return Err(charge_alone(FIELD_COUNT));
+        return Err(record_fault_alone(FIELD_COUNT));
     };
     if !is_id(rules.limits.id_bytes, id) || !are_ids(rules, list) {
-        return Err(charge_alone(BAD_ID));
+        return Err(record_fault_alone(BAD_ID));
     }
     match quota_of(quota) {
         Some(quota) => Ok(Record::Program { quota, id, list }),
-        None => Err(Charge {
+        None => Err(RecordFault {
             code: BAD_QUOTA,
             id,
         }),
@@ -155,17 +155,17 @@ fn program_record<'a>(rules: &Rules, fields: Fields<'a>) -> Result<Record<'a>, C
 }
 
 /// An applicant by the fields after its first.
-fn applicant_record<'a>(rules: &Rules, fields: Fields<'a>) -> Result<Record<'a>, Charge<'a>>
+fn applicant_record<'a>(rules: &Rules, fields: Fields<'a>) -> Result<Record<'a>, RecordFault<'a>>
     ensures { read_seen result ≡ applicant_record rules.now (fields_left fields.entry) }
 {
     let mut list = fields;
     let Some(id) = list.next() else {
-        return Err(charge_alone(FIELD_COUNT));
+        return Err(record_fault_alone(FIELD_COUNT));
     };
     if is_id(rules.limits.id_bytes, id) && are_ids(rules, list) {
         Ok(Record::Applicant { id, list })
     } else {
-        Err(charge_alone(BAD_ID))
+        Err(record_fault_alone(BAD_ID))
     }
 }
 
@@ -183,58 +183,58 @@ fn couple_by_pairs<'a>(
     id: &'a [u8],
     fields: CoupleFields<'a>,
     list: Fields<'a>,
-) -> Result<Record<'a>, Charge<'a>>
+) -> Result<Record<'a>, RecordFault<'a>>
     requires { pairs_after fields ≡ map pair_of (by_pairs (fields_left list)) }
     ensures { read_seen result ≡ couple_by_pairs rules.now id.now (members_in fields.entry).0 (members_in fields.entry).1
         (two_by_two (fields_left list.entry)) }
 {
     if list.len() % 2 == 1 {
-        return Err(charge_alone(FIELD_COUNT));
+        return Err(record_fault_alone(FIELD_COUNT));
     }
     let (first, second) = fields.members();
     if names_are_ids(rules, id, first, second) && are_pairs(rules, list) {
         Ok(Record::Couple { id, fields })
     } else {
-        Err(charge_alone(BAD_ID))
+        Err(record_fault_alone(BAD_ID))
     }
 }
 
 /// A couple by the fields after its first.
-fn couple_record<'a>(rules: &Rules, fields: Fields<'a>) -> Result<Record<'a>, Charge<'a>>
+fn couple_record<'a>(rules: &Rules, fields: Fields<'a>) -> Result<Record<'a>, RecordFault<'a>>
     ensures { read_seen result ≡ couple_record rules.now (fields_left fields.entry) }
 {
     let mut list = fields;
     let Some(id) = list.next() else {
-        return Err(charge_alone(FIELD_COUNT));
+        return Err(record_fault_alone(FIELD_COUNT));
     };
     let fields = CoupleFields::new(list);
     if list.next().is_none() || list.next().is_none() {
-        return Err(charge_alone(FIELD_COUNT));
+        return Err(record_fault_alone(FIELD_COUNT));
     }
     couple_by_pairs(rules, id, fields, list)
 }
 
 /// A withdrawal by the fields after its first. The error is its first fault.
-pub fn withdraw_record<'a>(rules: &Rules, fields: Fields<'a>) -> Result<Record<'a>, Charge<'a>>
+pub fn withdraw_record<'a>(rules: &Rules, fields: Fields<'a>) -> Result<Record<'a>, RecordFault<'a>>
     ensures { read_seen result ≡ withdraw_record rules.now (fields_left fields.entry) }
 {
     let mut rest = fields;
     let Some(word) = rest.next() else {
-        return Err(charge_alone(FIELD_COUNT));
+        return Err(record_fault_alone(FIELD_COUNT));
     };
     let Some(kind) = kind_of(word) else {
-        return Err(charge_alone(UNKNOWN_KIND));
+        return Err(record_fault_alone(UNKNOWN_KIND));
     };
     let Some(id) = rest.next() else {
-        return Err(charge_alone(FIELD_COUNT));
+        return Err(record_fault_alone(FIELD_COUNT));
     };
     if rest.next().is_some() {
-        return Err(charge_alone(FIELD_COUNT));
+        return Err(record_fault_alone(FIELD_COUNT));
     }
     if is_id(rules.limits.id_bytes, id) {
         Ok(Record::Withdraw { kind, id })
     } else {
-        Err(charge_alone(BAD_ID))
+        Err(record_fault_alone(BAD_ID))
     }
 }
 
@@ -246,12 +246,12 @@ pub fn withdraws(rules: &Rules, word: &[u8]) -> bool
 }
 
 /// A record parsed by itself, or its first fault.
-pub fn record_of<'a>(rules: &Rules, fields: Fields<'a>) -> Result<Record<'a>, Charge<'a>>
+pub fn record_of<'a>(rules: &Rules, fields: Fields<'a>) -> Result<Record<'a>, RecordFault<'a>>
     ensures { read_seen result ≡ record_of rules.now (fields_left fields.entry) }
 {
     let mut rest = fields;
     let Some(word) = rest.next() else {
-        return Err(charge_alone(UNKNOWN_KIND));
+        return Err(record_fault_alone(UNKNOWN_KIND));
     };
     if withdraws(rules, word) {
         return withdraw_record(rules, rest);
@@ -260,6 +260,6 @@ pub fn record_of<'a>(rules: &Rules, fields: Fields<'a>) -> Result<Record<'a>, Ch
         Some(Kind::Program) => program_record(rules, rest),
         Some(Kind::Applicant) => applicant_record(rules, rest),
         Some(Kind::Couple) => couple_record(rules, rest),
-        None => Err(charge_alone(UNKNOWN_KIND)),
+        None => Err(record_fault_alone(UNKNOWN_KIND)),
     }
 }

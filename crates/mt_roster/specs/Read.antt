@@ -2,11 +2,11 @@
 use Rattle.std.specs.Prelude.{◌≡◌, ℕ, ◌+◌, ◌<◌, ◌^◌, List, length, Result, Ok, Err}
 use Rattle.mt_terms.specs.Market.{Registered}
 use Rattle.mt_terms.specs.Registration.{market_of, market_under}
-use Rattle.mt_terms.specs.Registration.Faults.{fault_at, charge_alone}
+use Rattle.mt_terms.specs.Registration.Faults.{fault_at, record_fault_alone}
 use Rattle.mt_terms.specs.declared.codes.TheConstants.{NO_VERSION}
 use Rattle.mt_terms.specs.Registration.Ids.{Bytes}
 use Rattle.mt_terms.specs.Registration.Passes.{numbered_from}
-use Rattle.mt_records.specs.declared.refusal.Refusal.{Refusal}
+use Rattle.mt_records.specs.declared.first_fault.FirstFault.{FirstFault}
 use Rattle.mt_lists.specs.Rows.{rows_left}
 use Rattle.mt_roster.specs.declared.reading.Body.{Body}
 use Rattle.mt_numbering.specs.Drafts.{with_fields}
@@ -19,8 +19,8 @@ abbrev pub same : {X : Type 0} → X → X
 same x = x
 
 -- the refusal of a file that names no version, at this record
-abbrev pub NamesNoVersion : Refusal → ℕ → Type 0
-NamesNoVersion refusal row = Refuses {Y = Registered} refusal (Err (fault_at row (charge_alone NO_VERSION)))
+abbrev pub NamesNoVersion : FirstFault → ℕ → Type 0
+NamesNoVersion refusal row = Refuses {Y = Registered} refusal (Err (fault_at row (record_fault_alone NO_VERSION)))
 
 -- Numbers do for all rows.
 abbrev pub IsShort : Body → Type 0
@@ -34,6 +34,6 @@ pub record IsBody (rows : List (List Bytes)) (b : Body) : Type 0 where
   pub accepted : AcceptsRegistrations b.rules (with_fields (rows_left b.rows))
 
 -- What the search for the version gives.
-abbrev pub GivesVersion : List (List Bytes) → Result Body Refusal → Type 0
+abbrev pub GivesVersion : List (List Bytes) → Result Body FirstFault → Type 0
 GivesVersion rows (Ok b) = IsBody rows b
 GivesVersion rows (Err e) = Refuses e (market_of rows)

@@ -1,6 +1,6 @@
 ghost use Rattle.mt_roster.specs.Faults.{HasShortId, IsErrorOf};
 
-use mt_records::{Fault, Refusal};
+use mt_records::{Fault, FirstFault};
 use mt_terms::{IdText, Refusal as RosterFault};
 use thiserror::Error;
 
@@ -16,16 +16,16 @@ pub enum RosterError {
 }
 
 /// The error that a refusal is, with an id of its own.
-pub(crate) fn error_of(refusal: &Refusal<'_>) -> RosterError
+pub(crate) fn error_of(refusal: &FirstFault<'_>) -> RosterError
     requires { HasShortId refusal.now }
     ensures { IsErrorOf refusal.now result }
 {
     match refusal {
-        Refusal::Fault(Fault { code, row, id }) => RosterError::Fault(RosterFault {
+        FirstFault::Fault(Fault { code, row, id }) => RosterError::Fault(RosterFault {
             code: *code,
             row: *row,
             id: IdText::new(id),
         }),
-        Refusal::Memory => RosterError::Memory,
+        FirstFault::Memory => RosterError::Memory,
     }
 }

@@ -14,16 +14,16 @@ use mt_lists::{Rows, RowsIter};
 use mt_market::Roster;
 use mt_numbering::faultless_market;
 use mt_passes::first_fault;
-use mt_records::{Fault, Refusal, Rules, rules_of};
+use mt_records::{Fault, FirstFault, Rules, rules_of};
 use mt_terms::codes::NO_VERSION;
 use std::alloc::Global;
 use std::thread::Threads;
 
 /// A refusal because no version is named, at this record.
-fn no_version<'a>(row: u64) -> Refusal<'a>
+fn no_version<'a>(row: u64) -> FirstFault<'a>
     ensures { NamesNoVersion result row }
 {
-    Refusal::Fault(Fault {
+    FirstFault::Fault(Fault {
         code: NO_VERSION,
         row,
         id: b"",
@@ -40,7 +40,7 @@ struct Body<'a> {
 }
 
 /// What follows the record that names a version, which is the first with a field.
-fn body_of<'a>(rows: &'a Rows<'_>) -> Result<Body<'a>, Refusal<'a>>
+fn body_of<'a>(rows: &'a Rows<'_>) -> Result<Body<'a>, FirstFault<'a>>
     ensures { GivesVersion rows.now result }
 {
     let mut rest = rows.iter();
@@ -66,7 +66,7 @@ fn read_body<'a, R: Threads + Sync>(
     rt: &R,
     alloc: Global,
     body: &Body<'a>,
-) -> Result<Roster, Refusal<'a>>
+) -> Result<Roster, FirstFault<'a>>
     requires limits { AreBounded body.now.rules.limits }
     requires short { IsShort body.now }
     requires accepted { AcceptsRegistrations body.now.rules (with_fields (rows_left body.now.rows)) }
@@ -83,7 +83,7 @@ fn read<'a, R: Threads + Sync>(
     rt: &R,
     alloc: Global,
     rows: &'a Rows<'_>,
-) -> Result<Roster, Refusal<'a>>
+) -> Result<Roster, FirstFault<'a>>
     ensures { Gives same result (market_of rows.now) }
 {
     match body_of(rows) {

@@ -10,7 +10,7 @@ use Rattle.mt_terms.specs.Stability.{is_listed, has_own_option, fits}
 use Rattle.mt_terms.specs.WellFormed.{IsWellFormed}
 use Rattle.mt_terms.specs.declared.numbers.Agent.{Agent}
 use Rattle.mt_round_laws.proofs.RoundsLists.{in_below, each, all_pass, same_any, same_until, In}
-use Rattle.mt_match_laws.proofs.ExclusionLemmas.{lt_of_there}
+use Rattle.mt_stability_laws.proofs.ExclusionLemmas.{lt_of_there}
 use Rattle.mt_round_laws.proofs.RoundsPlaces.{is_program_some, at_some, filled_is_count, holds_same, none_placed_same}
 use Rattle.mt_round_laws.proofs.RoundsAgents.{IsAgent, agent_on_list, agent_from_list, option_movers}
 

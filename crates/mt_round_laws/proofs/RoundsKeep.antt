@@ -16,7 +16,7 @@ use Rattle.mt_round_laws.proofs.RoundsLists.{In, found, finds, in_has, has_in, i
 use Rattle.mt_round_laws.proofs.RoundsPlaces.{at_none}
 use Rattle.mt_round_laws.proofs.RoundsAgents.{IsAgent, on_list, of_list, agent_of_applicant, member_of_agent, agent_on_list, agent_from_list, option_member, option_elsewhere, apart}
 use Rattle.mt_round_laws.proofs.RoundsFits.{fitting_facts, fits_from, listing_program, same_better}
-use Rattle.mt_match_laws.proofs.ChoiceLemmas.{choice_facts}
+use Rattle.mt_stability_laws.proofs.ChoiceLemmas.{choice_facts}
 use Rattle.mt_round_laws.proofs.RoundsMove.{IsMove, match_after, is_displaced, displaced_agents, displaced_agent, displaced_parts, of_displaced, goes_out, untouched, fits_after}
 use Rattle.mt_round_laws.proofs.RoundsRoom.{taken_before}
 use Rattle.mt_terms.proofs.AgentFacts.{is_same_agent_refl, same_agent}

@@ -12,8 +12,8 @@ use Rattle.mt_terms.specs.Rounds.{is_same_agent, programs_sent_to, displaced_at,
 use Rattle.mt_terms.specs.declared.numbers.Agent.{Agent}
 use Rattle.mt_round_laws.proofs.RoundsLists.{In, finds, in_has, has_in, in_image, of_image, in_kept, of_kept, in_joined, of_joined, each, all_pass}
 use Rattle.mt_round_laws.proofs.RoundsSets.{count_within}
-use Rattle.mt_match_laws.proofs.FloorChoices.{count-choice}
-use Rattle.mt_match_laws.proofs.ChoiceLemmas.{choice_facts}
+use Rattle.mt_stability_laws.proofs.FloorChoices.{count-choice}
+use Rattle.mt_stability_laws.proofs.ChoiceLemmas.{choice_facts}
 use Rattle.mt_round_laws.proofs.RoundsPlaces.{is_program_some, at_none, length-send, length-unplaced, unplaced_there, unplaced_elsewhere, is_same_place_refl}
 use Rattle.mt_round_laws.proofs.RoundsAgents.{IsAgent, on_list, of_list, agent_of_applicant, member_of_agent, option_entry, option_member, option_there, option_elsewhere, apart}
 use Rattle.mt_round_laws.proofs.RoundsFits.{IsFitting, same_own_option}

@@ -5,7 +5,7 @@ use Rattle.std.proofs.lemmas.Bool.{cases_Bool, cases_lt, and_parts, and_from, an
 use Rattle.mt_terms.specs.Lists.{has, count, is_distinct}
 use Rattle.mt_terms.specs.Matching.{Places, Placement, place_of, is_program, at, filled, is_same_place, send, holds, unplaced, none_placed}
 use Rattle.mt_round_laws.proofs.RoundsLists.{In, in_has, in_image, same_all}
-use Rattle.mt_match_laws.proofs.Seats.{filled_by_applicant, listed_count}
+use Rattle.mt_stability_laws.proofs.Seats.{filled_by_applicant, listed_count}
 use Rattle.mt_terms.proofs.Totals.{count_below-same}
 
 -- a place at a program is that program

@@ -10,9 +10,9 @@ use Rattle.mt_terms.specs.Rounds.{is_same_agent, Move, move_of, displaced_at, is
 use Rattle.mt_terms.specs.declared.numbers.Agent.{Agent}
 use Rattle.mt_round_laws.proofs.RoundsLists.{In, finds, in_below}
 use Rattle.mt_round_laws.proofs.RoundsSets.{no_fewer_above, count_shift}
-use Rattle.mt_match_laws.proofs.ChoiceLemmas.{choice_facts, choice_from_facts}
+use Rattle.mt_stability_laws.proofs.ChoiceLemmas.{choice_facts, choice_from_facts}
 use Rattle.mt_round_laws.proofs.RoundsPlaces.{at_some}
-use Rattle.mt_match_laws.proofs.ExclusionLemmas.{lt_of_there}
+use Rattle.mt_stability_laws.proofs.ExclusionLemmas.{lt_of_there}
 use Rattle.mt_round_laws.proofs.RoundsAgents.{IsAgent, option_entry, option_there, option_elsewhere}
 use Rattle.mt_round_laws.proofs.RoundsMove.{IsMove, match_after, is_displaced, displaced_parts, stays_in, mover_stays, untouched, was_before, fits_after}
 

@@ -5,9 +5,9 @@ use Rattle.std.proofs.lemmas.Bool.{cases_lt, or_left, or_right, both_ways}
 use Rattle.mt_terms.specs.Lists.{Set, has, until, count, above, is_distinct}
 use Rattle.mt_terms.specs.Market.{Program}
 use Rattle.mt_terms.specs.Choice.{choice}
-use Rattle.mt_match_laws.proofs.ListLemmas.{above-le, has-until, one_not_of}
-use Rattle.mt_match_laws.proofs.FloorChoices.{above-choice}
-use Rattle.mt_match_laws.proofs.Seats.{above-le-count}
+use Rattle.mt_stability_laws.proofs.ListLemmas.{above-le, has-until, one_not_of}
+use Rattle.mt_stability_laws.proofs.FloorChoices.{above-choice}
+use Rattle.mt_stability_laws.proofs.Seats.{above-le-count}
 
 -- the head of a list stands on it
 pub has_head : (x : ℕ) (xs : List ℕ) → has (x ∷ xs) x ≡ true

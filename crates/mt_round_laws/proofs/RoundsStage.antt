@@ -8,7 +8,7 @@ use Rattle.mt_terms.specs.Market.{Market, singles_market, members, agents}
 use Rattle.mt_terms.specs.Matching.{Places, place_of, options, holds, none_placed}
 use Rattle.mt_terms.specs.Stability.{has_own_option, fits, blocks, stable}
 use Rattle.mt_terms.specs.WellFormed.{IsMember, IsWellFormed}
-use Rattle.mt_terms.specs.Rounds.{Work, has_entered, round, round_of, settled, entered, stage, is_on, IsRoundState, IsFittingState}
+use Rattle.mt_terms.specs.Rounds.{Work, has_entered, round, round_of, after_rounds, after_entries, stage, is_on, IsRoundState, IsFittingState}
 use Rattle.mt_round_laws.specs.Rounds.{FirstCoupleWaits, NextCoupleWaits, LastListIsStable, StageIsStable, StageFits}
 use Rattle.mt_terms.specs.declared.numbers.Agent.{Agent}
 use Rattle.mt_terms.specs.declared.numbers.Agent.TheVariants.{Single, Couple}
@@ -20,10 +20,10 @@ use Rattle.mt_round_laws.proofs.RoundsKeep.{is_unplaced, are_unplaced, keep_roun
 
 -- what each round keeps holds once the work list is empty
 settled_keeps : (P : Work → Type 0) (m : Market) (k : ℕ) → ((w : Work) → P w → P (round m k w)) → (left : ℕ) (w : Work) (r : Places × ℕ)
-    → settled m k left w.places w.waiting ≡ Some r → P w → P (record { places = r.0; waiting = [] })
+    → after_rounds m k left w.places w.waiting ≡ Some r → P w → P (record { places = r.0; waiting = [] })
 settled_keeps P m k keeps left w r e holds = down left w.places w.waiting e holds
   where
-    down : (left : ℕ) (places : Places) (ws : List Agent) → settled m k left places ws ≡ Some r
+    down : (left : ℕ) (places : Places) (ws : List Agent) → after_rounds m k left places ws ≡ Some r
         → P (record { places = places; waiting = ws }) → P (record { places = r.0; waiting = [] })
     down left places [] e holds =
         let both : ◌≡◌ {A = Option (Places × ℕ)} (Some (places, left)) (Some r) = e in
@@ -41,26 +41,26 @@ chained f (Some x) y e = (x, refl, e)
 
 -- what each couple's rounds keep holds once all of these couples have entered
 entered_keeps : (P : ℕ → Places → Type 0) (m : Market)
-    → ((k left : ℕ) (places : Places) (r : Places × ℕ) → k < length m.couples → settled m k left places (Couple k ∷ []) ≡ Some r
+    → ((k left : ℕ) (places : Places) (r : Places × ℕ) → k < length m.couples → after_rounds m k left places (Couple k ∷ []) ≡ Some r
     → P k places → P (k + 1) r.0)
     → (start n left : ℕ) (places : Places) (r : Places × ℕ) → start + n ≤ length m.couples
-    → entered m (range_with_len start n) left places ≡ Some r → P start places → P (start + n) r.0
+    → after_entries m (range_with_len start n) left places ≡ Some r → P start places → P (start + n) r.0
 entered_keeps P m keeps start zero left places r l e holds =
     let both : ◌≡◌ {A = Option (Places × ℕ)} (Some (places, left)) (Some r) = e in
     let is : places ≡ r.0 = cc in
     subst (λ k. P k r.0) (omega arith) (subst (P start) is holds)
 entered_keeps P m keeps start (suc n) left places r l e holds =
-    let w = chained (λ q. entered m (range_with_len (start + 1) n) q.1 q.0) (settled m start left places (Couple start ∷ [])) r e in
+    let w = chained (λ q. after_entries m (range_with_len (start + 1) n) q.1 q.0) (after_rounds m start left places (Couple start ∷ [])) r e in
     let rest = entered_keeps P m keeps (start + 1) n w.0.1 w.0.0 r (omega arith) w.2 (keeps start left places w.0 (omega arith) w.1 holds) in
     subst (λ k. P k r.0) (omega arith) rest
 
 -- what a stage that gives something ends in
 pub stage_end : (m : Market) (places : Places) (budget : ℕ) (r : Places × ℕ) → stage m places budget ≡ Some r
-    → (q : Places × ℕ) × (entered m (below (length m.couples)) budget places ≡ Some q) × (r ≡ (q.0, budget - q.1))
-stage_end m places budget r e = ended (entered m (below (length m.couples)) budget places) refl e
+    → (q : Places × ℕ) × (after_entries m (below (length m.couples)) budget places ≡ Some q) × (r ≡ (q.0, budget - q.1))
+stage_end m places budget r e = ended (after_entries m (below (length m.couples)) budget places) refl e
   where
-    ended : (o : Option (Places × ℕ)) → entered m (below (length m.couples)) budget places ≡ o → option_map (λ q. (q.0, budget - q.1)) o ≡ Some r
-        → (q : Places × ℕ) × (entered m (below (length m.couples)) budget places ≡ Some q) × (r ≡ (q.0, budget - q.1))
+    ended : (o : Option (Places × ℕ)) → after_entries m (below (length m.couples)) budget places ≡ o → option_map (λ q. (q.0, budget - q.1)) o ≡ Some r
+        → (q : Places × ℕ) × (after_entries m (below (length m.couples)) budget places ≡ Some q) × (r ≡ (q.0, budget - q.1))
     ended None is e = absurd cc
     ended (Some q) is e = (q, is, (let both : ◌≡◌ {A = Option (Places × ℕ)} (Some (q.0, budget - q.1)) (Some r) = e in cc))
 
@@ -116,7 +116,7 @@ couple_enters m wf k places l s = record {
   fitting = s.fitting;
   waiting_entered = only_couple m wf k l;
   outside_unplaced = λ g on out. s.outside g (agent_from_list m wf g (of_list g (agents m) on)) (not_before k g out);
-  none_blocks = λ g on entered off. s.quiet g (agent_from_list m wf g (of_list g (agents m) on)) (before_entered k g entered off);
+  none_blocks = λ g on after_entries off. s.quiet g (agent_from_list m wf g (of_list g (agents m) on)) (before_entered k g after_entries off);
 }
 
 -- and its rounds end
@@ -125,7 +125,7 @@ couple_settles : (m : Market) → IsWellFormed m → (k : ℕ) (places : Places)
 couple_settles m wf k places s = record {
   fitting = s.fitting;
   outside = λ g i out. s.outside_unplaced g (on_list g (agents m) (agent_on_list m g i)) (sym (before_next k g) ∙ out);
-  quiet = λ g i entered. s.none_blocks g (on_list g (agents m) (agent_on_list m g i)) (sym (before_next k g) ∙ entered) refl;
+  quiet = λ g i after_entries. s.none_blocks g (on_list g (agents m) (agent_on_list m g i)) (sym (before_next k g) ∙ after_entries) refl;
 }
 
 -- once all couples have entered the match is stable
@@ -208,7 +208,7 @@ stage_from_stable m wf places h budget r e =
     let all : IsSettled m (length m.couples) q.0.0 = subst (λ n. IsSettled m n q.0.0) (omega arith) last in
     subst (λ x. stable m x.0 ≡ true) (sym q.2) (all_settled m wf q.0.0 all)
   where
-    couple_done : (k left : ℕ) (old : Places) (t : Places × ℕ) → k < length m.couples → settled m k left old (Couple k ∷ []) ≡ Some t
+    couple_done : (k left : ℕ) (old : Places) (t : Places × ℕ) → k < length m.couples → after_rounds m k left old (Couple k ∷ []) ≡ Some t
         → IsSettled m k old → IsSettled m (k + 1) t.0
     couple_done k left old t l done s =
         let start : Work = record { places = old; waiting = Couple k ∷ [] } in
@@ -241,7 +241,7 @@ stage_fits_lem m wf places fit budget r e =
     let last = entered_keeps (λ n old. fits m old ≡ true) m couple_done 0 (length m.couples) budget places q.0 (omega arith) q.1 fit in
     subst (λ x. fits m x.0 ≡ true) (sym q.2) last
   where
-    couple_done : (k left : ℕ) (old : Places) (t : Places × ℕ) → k < length m.couples → settled m k left old (Couple k ∷ []) ≡ Some t
+    couple_done : (k left : ℕ) (old : Places) (t : Places × ℕ) → k < length m.couples → after_rounds m k left old (Couple k ∷ []) ≡ Some t
         → fits m old ≡ true → fits m t.0 ≡ true
     couple_done k left old t l done fit =
         let start : Work = record { places = old; waiting = Couple k ∷ [] } in

@@ -3,8 +3,8 @@ use Rattle.std.proofs.Common.{◌≡◌, ◌≢◌, ℕ, zero, suc, ◌+◌, ◌
 use Rattle.std.proofs.lemmas.Bool.{cases_Bool, and_parts, or_parts, or_left, or_right, and_right, not-true, both_ways}
 use Rattle.mt_terms.specs.Lists.{Set, has, count, is_distinct}
 use Rattle.mt_terms.specs.Matching.{Places, Placement, is_program, at, send}
-use Rattle.mt_match_laws.proofs.ListLemmas.{count_agree}
-use Rattle.mt_match_laws.proofs.TakenLemmas.{at-slice_set_same, at-slice_set_other}
+use Rattle.mt_stability_laws.proofs.ListLemmas.{count_agree}
+use Rattle.mt_stability_laws.proofs.TakenLemmas.{at-slice_set_same, at-slice_set_other}
 use Rattle.mt_round_laws.proofs.RoundsLists.{In}
 use Rattle.mt_round_laws.proofs.RoundsPlaces.{movers}
 

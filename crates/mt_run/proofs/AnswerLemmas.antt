@@ -8,7 +8,7 @@ use Rattle.mt_terms.specs.Matching.{Places}
 use Rattle.mt_terms.specs.Registration.{market_of}
 use Rattle.mt_terms.specs.Registration.Faults.{Fault}
 use Rattle.mt_terms.specs.Rounds.{stage}
-use Rattle.mt_match_laws.proofs.ExclusionLemmas.{best_is_unique_lem}
+use Rattle.mt_stability_laws.proofs.ExclusionLemmas.{best_is_unique_lem}
 use Rattle.mt_answer.specs.Answer.{IsRefusedAlone, IsAnswerOfStage, IsAnswerOfMarket}
 use Rattle.mt_run.specs.Answer.{IsAnswerOfFault, IsAnswerOfRows}
 use Rattle.mt_run.specs.Laws.{OneAnswer}

@@ -11,7 +11,7 @@ use Rattle.mt_terms.specs.Market.{Registered}
 use Rattle.mt_terms.specs.Matching.{Places}
 use Rattle.mt_terms.specs.Registration.Faults.{Fault}
 use Rattle.mt_terms.specs.Text.{published}
-use Rattle.mt_match_laws.proofs.ExclusionLemmas.{best_is_unique_lem}
+use Rattle.mt_stability_laws.proofs.ExclusionLemmas.{best_is_unique_lem}
 use Rattle.mt_answer.specs.Answer.{IsRefusedAlone, IsAnswerOfStage, IsAnswerOfMarket, all_proposals}
 use Rattle.mt_run.specs.Answer.{IsAnswerOfFault, IsAnswerOfRows, most_bytes}
 use Rattle.mt_run.specs.Examples.{crossed_file, ProgramOptimalIsNoAnswer}

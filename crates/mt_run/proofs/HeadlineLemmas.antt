@@ -14,10 +14,10 @@ use Rattle.mt_terms.specs.Market.{Market, Partners, Registered}
 use Rattle.mt_terms.specs.Matching.{Places}
 use Rattle.mt_terms.specs.Registration.{market_of}
 use Rattle.mt_terms.specs.Registration.Faults.{Fault}
-use Rattle.mt_terms.specs.Rounds.{entered, stage}
+use Rattle.mt_terms.specs.Rounds.{after_entries, stage}
 use Rattle.mt_terms.specs.Stability.{stable}
 use Rattle.mt_terms.specs.WellFormed.{IsWellFormed}
-use Rattle.mt_match_laws.proofs.ExclusionLemmas.{best_is_at_least_lem}
+use Rattle.mt_stability_laws.proofs.ExclusionLemmas.{best_is_at_least_lem}
 use Rattle.mt_file_laws.proofs.FaultFacts.{fault_codes_lem}
 use Rattle.mt_file_laws.proofs.PassFacts.{accepted_is_registration_lem}
 use Rattle.mt_file_laws.proofs.RefusalLine.{refusal_is_one_record_lem}
@@ -37,7 +37,7 @@ end_of (Some s) = s.0
 -- without couples a stage ends where it begins
 pub stage_of_singles : (m : Market) (best : Places) (budget : ℕ) → m.couples ≡ [] → stage m best budget ≡ Some (best, budget - budget)
 stage_of_singles m best budget none =
-    ap (λ (couples : List Partners). option_map (λ (r : Places × ℕ). (r.0, budget - r.1)) (entered m (below (length couples)) budget best)) none
+    ap (λ (couples : List Partners). option_map (λ (r : Places × ℕ). (r.0, budget - r.1)) (after_entries m (below (length couples)) budget best)) none
 
 -- without couples a best match is the best of all stable ones
 best_of_all : (m : Market) → IsWellFormed m → m.couples ≡ [] → (best : Places) → IsBest m best → IsTrue (stable m best) → IsBestOfAll m best

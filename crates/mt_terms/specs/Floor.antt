@@ -23,21 +23,21 @@ pub record Floor : Type 0 where
   pub received : ℕ → Set
 
 -- whom a program holds: its choice of all that have proposed to it
-abbrev pub held : Market → Floor → ℕ → Set
-held m f p = choice (program_of m p) (f.received p)
+abbrev pub held_set : Market → Floor → ℕ → Set
+held_set m f p = choice (program_of m p) (f.received p)
 
 -- the programs that an applicant has proposed to: as many from the front of its live list as it made
 -- proposals
-abbrev pub tried : Market → Floor → ℕ → List ℕ
-tried m f a = take (f.made a) (live m a)
+abbrev pub proposed_to_on : Market → Floor → ℕ → List ℕ
+proposed_to_on m f a = take (f.made a) (live m a)
 
 -- the programs that an applicant has passed: all that it proposed to, but for the last one while it is standing
-abbrev pub passed : Market → Floor → ℕ → List ℕ
-passed m f a = take (f.made a - (if f.standing a then 1 else 0)) (live m a)
+abbrev pub passed_programs : Market → Floor → ℕ → List ℕ
+passed_programs m f a = take (f.made a - (if f.standing a then 1 else 0)) (live m a)
 
 -- the program that an applicant proposed to last: none before its first proposal
-abbrev pub last_tried : Market → Floor → ℕ → Option ℕ
-last_tried m f a = if f.made a == 0 then None else slice_get (live m a) (f.made a - 1)
+abbrev pub last_proposed_to : Market → Floor → ℕ → Option ℕ
+last_proposed_to m f a = if f.made a == 0 then None else slice_get (live m a) (f.made a - 1)
 
 -- the program that an applicant would propose to next: none while it stands, and none after its whole
 -- live list
@@ -47,26 +47,26 @@ next_entry m f a = if f.standing a then None else slice_get (live m a) (f.made a
 -- whether an applicant is held by the program given: never if none is
 abbrev pub is_held_by : Market → Floor → ℕ → Option ℕ → Bool
 is_held_by m f a None = false
-is_held_by m f a (Some p) = held m f p a
+is_held_by m f a (Some p) = held_set m f p a
 
 -- A floor is recorded if its parts agree. Nobody has made more proposals than it has live entries, and an
 -- applicant that stands has made one. The programs have received exactly the proposals that were made.
 pub record IsRecorded (m : Market) (f : Floor) : Type 0 where
   pub within : (a : ℕ) → f.made a ≤ length (live m a)
   pub proposed : (a : ℕ) → IsTrue (f.standing a) → 0 < f.made a
-  pub receives : (a p : ℕ) → f.received p a ≡ has (tried m f a) p
+  pub receives : (a p : ℕ) → f.received p a ≡ has (proposed_to_on m f a) p
 
 -- A floor is legal if each program that an applicant has passed is excluded for it: no stable match of the
 -- singles has the applicant there. So is each program that has its proposal and doesn't hold it.
 pub record IsLegal (m : Market) (f : Floor) : Type 0 where
   pub recorded : IsRecorded m f
-  pub passed_excluded : (a p : ℕ) → IsTrue (has (passed m f a) p) → IsExcluded m a p
-  pub refused_excluded : (a p : ℕ) → IsTrue (f.received p a) → IsFalse (held m f p a) → IsExcluded m a p
+  pub passed_excluded : (a p : ℕ) → IsTrue (has (passed_programs m f a) p) → IsExcluded m a p
+  pub refused_excluded : (a p : ℕ) → IsTrue (f.received p a) → IsFalse (held_set m f p a) → IsExcluded m a p
 
 -- A legal floor is strict if no program that an applicant has passed holds it.
 pub record IsStrict (m : Market) (f : Floor) : Type 0 where
   pub legal : IsLegal m f
-  pub let_go : (a p : ℕ) → IsTrue (has (passed m f a) p) → IsFalse (held m f p a)
+  pub let_go : (a p : ℕ) → IsTrue (has (passed_programs m f a) p) → IsFalse (held_set m f p a)
 
 -- the opening floor: nobody has proposed, and nobody stands
 abbrev pub opening : Floor
@@ -76,11 +76,11 @@ opening = record { made = λ a. 0; standing = λ a. false; received = λ p a. fa
 -- and isn't held
 abbrev pub is_due : Market → Floor → Event → Bool
 is_due m f (Propose a) = is_some (next_entry m f a)
-is_due m f (Notice a) = f.standing a && not (is_held_by m f a (last_tried m f a))
+is_due m f (Notice a) = f.standing a && not (is_held_by m f a (last_proposed_to m f a))
 
 -- whether no event is due for an applicant: it stands and is held, or has used its whole live list
 abbrev pub is_settled : Market → Floor → ℕ → Bool
-is_settled m f a = if f.standing a then is_held_by m f a (last_tried m f a) else (f.made a == length (live m a))
+is_settled m f a = if f.standing a then is_held_by m f a (last_proposed_to m f a) else (f.made a == length (live m a))
 
 -- whether no event is due
 abbrev pub is_quiet : Market → Floor → Bool
@@ -111,7 +111,7 @@ after m f (Notice a) = if is_due m f (Notice a) then (record f { standing = with
 
 -- the applicant that a program holds no longer after another one's proposal, the first such on its list
 abbrev pub dropped : Market → Floor → ℕ → ℕ → Option ℕ
-dropped m f p a = find (λ b. held m f p b && not (choice (program_of m p) (receives_one f p a) b)) (program_of m p).ranking
+dropped m f p a = find (λ b. held_set m f p b && not (choice (program_of m p) (receives_one f p a) b)) (program_of m p).ranking
 
 -- the reply to an applicant that a program holds now, with the one that it holds no longer, if any
 abbrev pub kept_reply : Option ℕ → Reply
@@ -145,7 +145,7 @@ due_count m f (e ∷ es) = (if is_due m f e then 1 else 0) + due_count m (after 
 
 -- where a floor has an applicant: at the program that it proposed to last while it stands, and else nowhere
 abbrev pub place_on : Market → Floor → ℕ → Option ℕ
-place_on m f a = if f.standing a then last_tried m f a else None
+place_on m f a = if f.standing a then last_proposed_to m f a else None
 
 -- A match is the result of a floor if it places each applicant where the floor has it.
 pub record IsResult (m : Market) (f : Floor) (places : Places) : Type 0 where
@@ -163,7 +163,7 @@ proposals_made m f = total_below f.made (applicants m)
 -- The proposals made are those on the way to a match. Each applicant has proposed to the programs of its live
 -- list down to its place, or to all of them if it has none. Each program has received as many as that makes.
 pub record HasProposalsOf (m : Market) (f : Floor) (places : Places) : Type 0 where
-  pub same_tried : (a : ℕ) → tried m f a ≡ proposed_to m places a
+  pub same_tried : (a : ℕ) → proposed_to_on m f a ≡ proposed_to m places a
   pub same_counts : (p : ℕ) → count_below (f.received p) (applicants m) ≡ proposals m places p
 
 -- Two floors end alike if they have the same proposals made and received and the same result. That result is the best

@@ -106,21 +106,21 @@ round m k w = round_of m k w.places w.waiting
 
 -- The match once the work list is empty, with the rounds that are left of the budget. There is none if the list isn't
 -- empty and no round is left.
-abbrev pub settled : Market → ℕ → ℕ → Places → List Agent → Option (Places × ℕ)
-settled m k left places [] = Some (places, left)
-settled m k zero places (g ∷ waiting) = None
-settled m k (suc left) places (g ∷ waiting) =
-    let next : Work = round_of m k places (g ∷ waiting) in settled m k left next.places next.waiting
+abbrev pub after_rounds : Market → ℕ → ℕ → Places → List Agent → Option (Places × ℕ)
+after_rounds m k left places [] = Some (places, left)
+after_rounds m k zero places (g ∷ waiting) = None
+after_rounds m k (suc left) places (g ∷ waiting) =
+    let next : Work = round_of m k places (g ∷ waiting) in after_rounds m k left next.places next.waiting
 
 -- the couples of these numbers enter in turn, each on an empty work list
-abbrev pub entered : Market → List ℕ → ℕ → Places → Option (Places × ℕ)
-entered m [] left places = Some (places, left)
-entered m (k ∷ ks) left places = option_and_then (λ r. entered m ks r.1 r.0) (settled m k left places (Couple k ∷ []))
+abbrev pub after_entries : Market → List ℕ → ℕ → Places → Option (Places × ℕ)
+after_entries m [] left places = Some (places, left)
+after_entries m (k ∷ ks) left places = option_and_then (λ r. after_entries m ks r.1 r.0) (after_rounds m k left places (Couple k ∷ []))
 
 -- The couples' stage: the match after every couple has entered, and how many rounds that took. There is none
 -- if the budget is spent before the work list is empty.
 abbrev pub stage : Market → Places → ℕ → Option (Places × ℕ)
-stage m places budget = option_map (λ r. (r.0, budget - r.1)) (entered m (below (length m.couples)) budget places)
+stage m places budget = option_map (λ r. (r.0, budget - r.1)) (after_entries m (below (length m.couples)) budget places)
 
 -- whether an agent is on a list of agents
 abbrev pub is_on : List Agent → Agent → Bool

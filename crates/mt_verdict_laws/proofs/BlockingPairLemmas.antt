@@ -9,11 +9,11 @@ use Rattle.mt_terms.specs.Choice.{choice}
 use Rattle.mt_terms.specs.Stability.{stable}
 use Rattle.mt_terms.specs.WellFormed.{IsWellFormed}
 use Rattle.mt_verdict_laws.specs.Pairs.{HasRoomFor, IsStableByPairs, StabilityByPairs}
-use Rattle.mt_match_laws.proofs.ListLemmas.{above-with_one, above-le, above-lt, count-slice_set, count-le, count_none}
-use Rattle.mt_match_laws.proofs.ChoiceLemmas.{choice_facts, choice_from_facts}
-use Rattle.mt_match_laws.proofs.TakenLemmas.{at-slice_set_same, at-slice_set_other}
-use Rattle.mt_match_laws.proofs.ExclusionLemmas.{count-at, lt_of_there}
-use Rattle.mt_match_laws.proofs.SinglesFacts.{stable_facts, stable_from_facts}
+use Rattle.mt_stability_laws.proofs.ListLemmas.{above-with_one, above-le, above-lt, count-slice_set, count-le, count_none}
+use Rattle.mt_stability_laws.proofs.ChoiceLemmas.{choice_facts, choice_from_facts}
+use Rattle.mt_stability_laws.proofs.TakenLemmas.{at-slice_set_same, at-slice_set_other}
+use Rattle.mt_stability_laws.proofs.ExclusionLemmas.{count-at, lt_of_there}
+use Rattle.mt_stability_laws.proofs.SinglesFacts.{stable_facts, stable_from_facts}
 
 -- there are no fewer on a list than on its front
 count-until-le : (set test : Set) (xs : List ℕ) → count set (until test xs) ≤ count set xs

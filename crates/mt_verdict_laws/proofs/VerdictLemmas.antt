@@ -16,7 +16,7 @@ use Rattle.mt_terms.specs.declared.numbers.Agent.{Agent}
 use Rattle.mt_terms.specs.declared.numbers.Agent.TheVariants.{Single, Couple}
 use Rattle.mt_terms.specs.declared.verdict.Verdict.{Verdict}
 use Rattle.mt_terms.specs.declared.verdict.Verdict.TheVariants.{Stable, Unlisted, Over, Blocks}
-use Rattle.mt_match_laws.proofs.ListLemmas.{all_below, each_below, each_fails_below, list_any-not}
+use Rattle.mt_stability_laws.proofs.ListLemmas.{all_below, each_below, each_fails_below, list_any-not}
 
 -- a search that finds nothing
 pub find_nothing : {X : Type 0} (test : X → Bool) (xs : List X) → find test xs ≡ None → IsFalse (list_any test xs)

@@ -4,7 +4,7 @@ use Rattle.std.specs.List.Sorted.{IsNonDecreasing}
 use Rattle.std.proofs.lemmas.Bool.{cases_lt}
 use Rattle.std.proofs.lemmas.Bool.Decides.{nat_tests}
 use Rattle.mt_terms.specs.Lists.{count}
-use Rattle.mt_match_laws.proofs.ListLemmas.{count_none}
+use Rattle.mt_stability_laws.proofs.ListLemmas.{count_none}
 
 none_fewer : (c k rank x : ℕ) → c ≡ 0 → rank ≤ x → nat_lt c (k + 1) ≡ nat_le rank x
 none_fewer c k rank x none low = grind (arith, nat_tests)

@@ -8,7 +8,7 @@ use Rattle.rayon.proofs.ToStd.{answers-by_ref, filter_by_mask-find, nat_range-Al
 use Rattle.rayon.specs.Lists.{filter_by_mask}
 use Rattle.rayon.specs.Numbers.{nat_range}
 use Rattle.mt_terms.specs.Lists.{Set, below, until}
-use Rattle.mt_match_laws.proofs.ListLemmas.{none_below, nothing_found, until-map}
+use Rattle.mt_stability_laws.proofs.ListLemmas.{none_below, nothing_found, until-map}
 
 find_in_range : (test : Set) (low n k : ℕ) → k < n → ((j : ℕ) → j < k → IsFalse (test (low + j))) → IsTrue (test (low + k)) → find test (range_with_len low n) ≡ Some (low + k)
 find_in_range test low zero k within before here = absurd (omega arith)

@@ -10,7 +10,7 @@ use Rattle.mt_terms.specs.Lists.{has, below, count_below}
 use Rattle.mt_terms.specs.Market.{Market, Program, Partners, Registered, applicants, program_of, list_of, couple_of}
 use Rattle.mt_terms.specs.Matching.{Places, place_of, at, filled, is_program, placed_ranks}
 use Rattle.mt_terms.proofs.BelowFacts.{length-map_below, map_below_at}
-use Rattle.mt_match_laws.proofs.Seats.{filled_by_applicant, listed_count}
+use Rattle.mt_stability_laws.proofs.Seats.{filled_by_applicant, listed_count}
 use Rattle.mt_terms.specs.Places.{ArePlaces}
 use Rattle.mt_terms.specs.Stability.{is_listed}
 use Rattle.mt_terms.specs.Verdict.{is_unlisted}

@@ -7,7 +7,7 @@ use Rattle.mt_terms.specs.Matching.{Places, place_of, is_program, is_same_place,
 use Rattle.mt_terms.specs.Stability.{has_own_option}
 use Rattle.mt_terms.specs.declared.numbers.Agent.TheVariants.{Single, Couple}
 use Rattle.mt_verify.specs.Listed.{is_off_own_list}
-use Rattle.mt_match_laws.proofs.ListLemmas.{list_any-map}
+use Rattle.mt_stability_laws.proofs.ListLemmas.{list_any-map}
 use Rattle.mt_verdict_laws.proofs.VerdictLemmas.{agent_cases}
 use Rattle.mt_terms.proofs.AgentFacts.{holds_single}
 

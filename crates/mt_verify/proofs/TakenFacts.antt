@@ -9,8 +9,8 @@ use Rattle.mt_terms.specs.Market.{Market, Program, program_of}
 use Rattle.mt_terms.specs.Matching.{Places, at, is_program, send, couple_placement, single_placement}
 use Rattle.mt_terms.specs.Choice.{choice}
 use Rattle.mt_terms.specs.Stability.{would_be_taken, is_chosen}
-use Rattle.mt_match_laws.proofs.ListLemmas.{count_agree, count_has, until-itself, above-with_one}
-use Rattle.mt_match_laws.proofs.TakenLemmas.{single_taken_lem}
+use Rattle.mt_stability_laws.proofs.ListLemmas.{count_agree, count_has, until-itself, above-with_one}
+use Rattle.mt_stability_laws.proofs.TakenLemmas.{single_taken_lem}
 use Rattle.mt_ranks.proofs.Positions.{has-position}
 use Rattle.mt_verify.specs.Moved.{at_moved}
 use Rattle.mt_terms.proofs.ListFacts.{until_position, has-from_take}

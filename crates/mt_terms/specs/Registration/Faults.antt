@@ -10,16 +10,16 @@ pub record Fault : Type 0 where
   pub id : Bytes
 
 -- a fault without its record: the code and the id
-abbrev pub Charge : Type 0
-Charge = ℕ × Bytes
+abbrev pub RecordFault : Type 0
+RecordFault = ℕ × Bytes
 
-abbrev pub charge : ℕ → Bytes → Charge
-charge code id = (code, id)
+abbrev pub record_fault : ℕ → Bytes → RecordFault
+record_fault code id = (code, id)
 
 -- a fault that no id is at
-abbrev pub charge_alone : ℕ → Charge
-charge_alone code = charge code []
+abbrev pub record_fault_alone : ℕ → RecordFault
+record_fault_alone code = record_fault code []
 
 -- a fault of record n
-abbrev pub fault_at : ℕ → Charge → Fault
+abbrev pub fault_at : ℕ → RecordFault → Fault
 fault_at n c = record { code = c.0; row = n; id = c.1 }

@@ -4,7 +4,7 @@ use Rattle.std.specs.Bool.{then_some}
 use Rattle.std.specs.Option.{option_eq}
 use Rattle.mt_terms.specs.declared.limits.Limits.{Limits}
 use Rattle.mt_terms.specs.Registration.Ids.{Bytes, has_id, all_differ}
-use Rattle.mt_terms.specs.Registration.Faults.{Fault, Charge, charge, fault_at}
+use Rattle.mt_terms.specs.Registration.Faults.{Fault, RecordFault, record_fault, fault_at}
 use Rattle.mt_terms.specs.declared.codes.TheConstants.{DUPLICATE_ID, DUPLICATE_ENTRY, TOO_MANY, UNKNOWN_APPLICANT, UNKNOWN_PROGRAM, NOT_REGISTERED}
 use Rattle.mt_terms.specs.Registration.Records.{Rules, Record, ProgramRecord, ApplicantRecord, CoupleRecord, WithdrawRecord, OfProgram, OfCouple, IdPair, record_of}
 use Rattle.mt_terms.specs.Registration.Rows.{id_of, ids_of, withdrawn, applicant_ids, entry_count}
@@ -70,19 +70,19 @@ abbrev pub named : IdPair → List Bytes
 named p = option_to_list p.0 ++ option_to_list p.1
 
 -- the first id that a record names and that none of all the records registers
-abbrev pub unknown_id : List Record → Record → Option Charge
-unknown_id all (ProgramRecord id quota list) = option_map (charge UNKNOWN_APPLICANT) (first_not_in (applicant_ids all) list)
-unknown_id all (ApplicantRecord id list) = option_map (charge UNKNOWN_PROGRAM) (first_not_in (ids_of OfProgram all) list)
-unknown_id all (CoupleRecord id a b pairs) = option_map (charge UNKNOWN_PROGRAM) (first_not_in (ids_of OfProgram all) (flat_map named pairs))
-unknown_id all (WithdrawRecord kind id) = option_map (charge NOT_REGISTERED) (first_not_in (ids_of kind all) (id ∷ []))
+abbrev pub unknown_id : List Record → Record → Option RecordFault
+unknown_id all (ProgramRecord id quota list) = option_map (record_fault UNKNOWN_APPLICANT) (first_not_in (applicant_ids all) list)
+unknown_id all (ApplicantRecord id list) = option_map (record_fault UNKNOWN_PROGRAM) (first_not_in (ids_of OfProgram all) list)
+unknown_id all (CoupleRecord id a b pairs) = option_map (record_fault UNKNOWN_PROGRAM) (first_not_in (ids_of OfProgram all) (flat_map named pairs))
+unknown_id all (WithdrawRecord kind id) = option_map (record_fault NOT_REGISTERED) (first_not_in (ids_of kind all) (id ∷ []))
 
 -- the first conflict of a record with those before it
-abbrev pub first_conflict : Rules → List Record → Record → Option Charge
+abbrev pub first_conflict : Rules → List Record → Record → Option RecordFault
 first_conflict rules before r =
     first_of
-    (option_map (charge DUPLICATE_ID) (registered_before before r)
-    ∷ then_some (says_twice before r) (charge DUPLICATE_ENTRY (id_of r))
-    ∷ then_some (are_too_many rules.limits (before ++ r ∷ [])) (charge TOO_MANY (id_of r))
+    (option_map (record_fault DUPLICATE_ID) (registered_before before r)
+    ∷ then_some (says_twice before r) (record_fault DUPLICATE_ENTRY (id_of r))
+    ∷ then_some (are_too_many rules.limits (before ++ r ∷ [])) (record_fault TOO_MANY (id_of r))
     ∷ [])
 
 -- what comes next, if there is no fault
@@ -95,13 +95,13 @@ abbrev pub unless : {X E : Type 0} → Option E → X → Result X E
 unless None x = Ok x
 unless (Some e) x = Err e
 
--- a charge as the fault of record n
-abbrev pub at_record : {X : Type 0} → ℕ → Result X Charge → Result X Fault
+-- a record_fault as the fault of record n
+abbrev pub at_record : {X : Type 0} → ℕ → Result X RecordFault → Result X Fault
 at_record n (Ok x) = Ok x
 at_record n (Err c) = Err (fault_at n c)
 
 -- the next record: read by itself, and then in no conflict with those before it
-abbrev pub next_record : Rules → List Record → List Bytes → Result Record Charge
+abbrev pub next_record : Rules → List Record → List Bytes → Result Record RecordFault
 next_record rules before fields = and_then (record_of rules fields) (λ r. unless (first_conflict rules before r) r)
 
 -- the first pass: each record after those before it, up to the first fault

@@ -4,7 +4,7 @@ use Rattle.std.specs.List.{list_all}
 use Rattle.mt_terms.specs.declared.limits.Limits.{Limits}
 use Rattle.mt_terms.specs.declared.limits.TheConstants.{LIMITS, LIMITS_2}
 use Rattle.mt_terms.specs.Registration.Ids.{Bytes, is_dash, is_id, quota_of}
-use Rattle.mt_terms.specs.Registration.Faults.{Charge, charge, charge_alone}
+use Rattle.mt_terms.specs.Registration.Faults.{RecordFault, record_fault, record_fault_alone}
 use Rattle.mt_terms.specs.declared.codes.TheConstants.{UNKNOWN_KIND, FIELD_COUNT, BAD_ID, BAD_QUOTA}
 
 -- what a version of the format allows: the limits, whether rows may be withdrawn, and whether one of the
@@ -79,48 +79,48 @@ pair_of p = (place p.0, place p.1)
     place field = if is_dash field then None else Some field
 
 -- a record by the fields after its first, for each kind of record: its faults in the order of their codes
-abbrev pub program_record : Rules → List Bytes → Result Record Charge
+abbrev pub program_record : Rules → List Bytes → Result Record RecordFault
 program_record rules (id ∷ quota ∷ list) =
-    if are_ids rules (id ∷ list) then ok_or (option_map (λ n. ProgramRecord id n list) (quota_of quota)) (charge BAD_QUOTA id)
-    else Err (charge_alone BAD_ID)
-program_record rules _ = Err (charge_alone FIELD_COUNT)
+    if are_ids rules (id ∷ list) then ok_or (option_map (λ n. ProgramRecord id n list) (quota_of quota)) (record_fault BAD_QUOTA id)
+    else Err (record_fault_alone BAD_ID)
+program_record rules _ = Err (record_fault_alone FIELD_COUNT)
 
-abbrev pub applicant_record : Rules → List Bytes → Result Record Charge
-applicant_record rules (id ∷ list) = if are_ids rules (id ∷ list) then Ok (ApplicantRecord id list) else Err (charge_alone BAD_ID)
-applicant_record rules [] = Err (charge_alone FIELD_COUNT)
+abbrev pub applicant_record : Rules → List Bytes → Result Record RecordFault
+applicant_record rules (id ∷ list) = if are_ids rules (id ∷ list) then Ok (ApplicantRecord id list) else Err (record_fault_alone BAD_ID)
+applicant_record rules [] = Err (record_fault_alone FIELD_COUNT)
 
-abbrev pub couple_by_pairs : Rules → Bytes → Bytes → Bytes → Option (List (Bytes × Bytes)) → Result Record Charge
-couple_by_pairs rules id a b None = Err (charge_alone FIELD_COUNT)
+abbrev pub couple_by_pairs : Rules → Bytes → Bytes → Bytes → Option (List (Bytes × Bytes)) → Result Record RecordFault
+couple_by_pairs rules id a b None = Err (record_fault_alone FIELD_COUNT)
 couple_by_pairs rules id a b (Some pairs) =
     if are_ids rules (id ∷ a ∷ b ∷ []) && list_all (is_pair rules) pairs then Ok (CoupleRecord id a b (map pair_of pairs))
-    else Err (charge_alone BAD_ID)
+    else Err (record_fault_alone BAD_ID)
 
-abbrev pub couple_record : Rules → List Bytes → Result Record Charge
+abbrev pub couple_record : Rules → List Bytes → Result Record RecordFault
 couple_record rules (id ∷ a ∷ b ∷ fields) = couple_by_pairs rules id a b (two_by_two fields)
-couple_record rules _ = Err (charge_alone FIELD_COUNT)
+couple_record rules _ = Err (record_fault_alone FIELD_COUNT)
 
 -- a withdrawal by its kind, if its word names one, and by the fields after that word
-abbrev pub withdraw_by_kind : Rules → Option Kind → List Bytes → Result Record Charge
-withdraw_by_kind rules None fields = Err (charge_alone UNKNOWN_KIND)
-withdraw_by_kind rules (Some kind) (id ∷ []) = if are_ids rules (id ∷ []) then Ok (WithdrawRecord kind id) else Err (charge_alone BAD_ID)
-withdraw_by_kind rules (Some kind) _ = Err (charge_alone FIELD_COUNT)
+abbrev pub withdraw_by_kind : Rules → Option Kind → List Bytes → Result Record RecordFault
+withdraw_by_kind rules None fields = Err (record_fault_alone UNKNOWN_KIND)
+withdraw_by_kind rules (Some kind) (id ∷ []) = if are_ids rules (id ∷ []) then Ok (WithdrawRecord kind id) else Err (record_fault_alone BAD_ID)
+withdraw_by_kind rules (Some kind) _ = Err (record_fault_alone FIELD_COUNT)
 
 -- a withdrawal by the fields after its first, which are the kind and the id of what it withdraws; or its
 -- first fault
-abbrev pub withdraw_record : Rules → List Bytes → Result Record Charge
-withdraw_record rules [] = Err (charge_alone FIELD_COUNT)
+abbrev pub withdraw_record : Rules → List Bytes → Result Record RecordFault
+withdraw_record rules [] = Err (record_fault_alone FIELD_COUNT)
 withdraw_record rules (word ∷ fields) = withdraw_by_kind rules (kind_of word) fields
 
 -- a record by its first field: a withdrawal, or else one of a kind
-abbrev pub record_by_kind : Rules → Option Kind → List Bytes → Result Record Charge
+abbrev pub record_by_kind : Rules → Option Kind → List Bytes → Result Record RecordFault
 record_by_kind rules (Some OfProgram) fields = program_record rules fields
 record_by_kind rules (Some OfApplicant) fields = applicant_record rules fields
 record_by_kind rules (Some OfCouple) fields = couple_record rules fields
-record_by_kind rules None fields = Err (charge_alone UNKNOWN_KIND)
+record_by_kind rules None fields = Err (record_fault_alone UNKNOWN_KIND)
 
 -- a record by all its fields, or its first fault if it is judged by itself. It has at least one field
-abbrev pub record_of : Rules → List Bytes → Result Record Charge
-record_of rules [] = Err (charge_alone UNKNOWN_KIND)
+abbrev pub record_of : Rules → List Bytes → Result Record RecordFault
+record_of rules [] = Err (record_fault_alone UNKNOWN_KIND)
 record_of rules (word ∷ fields) =
     if rules.withdrawals && bytes_eq word (codes "withdraw") then withdraw_record rules fields
     else record_by_kind rules (kind_of word) fields

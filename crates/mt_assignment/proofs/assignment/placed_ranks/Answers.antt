@@ -9,13 +9,13 @@ use Rattle.mt_terms.specs.Matching.{is_program, place_of}
 use Rattle.mt_ranks.specs.declared.entries.Live.{Live}
 use Rattle.mt_ranks.specs.Ranked.{Ranked, ranked_list}
 use Rattle.mt_bits.specs.Tables.{AddsRank}
-use Rattle.mt_sets.specs.Ranks.{HavePlaced}
+use Rattle.mt_stage_tables.specs.Ranks.{HavePlaced}
 use Rattle.mt_assignment.specs.Assigned.{Assigned, assignment, IsAssigned}
 use Rattle.mt_assignment.specs.Watched.{better_entries, IsWatched, Watches}
 use Rattle.mt_assignment.proofs.EntryFacts.{first_watched, others_as_before, watched_still}
 use Rattle.mt_assignment.proofs.MarketFacts.{ranked_ranking}
 use Rattle.mt_assignment.proofs.RankFacts.{has_no_rank}
-use Rattle.mt_sets.proofs.PlacedFacts.{nobody_placed, placed_within, nowhere, unlisted, listed}
+use Rattle.mt_stage_tables.proofs.PlacedFacts.{nobody_placed, placed_within, nowhere, unlisted, listed}
 use Rattle.mt_assignment.proofs.assignment.placed_ranks.Goals as goal
 use Rattle.mt_assignment.proofs.assignment.placed_ranks.Goals.{in-Some+in-Some-placed_rank+in_ok-insert, in-Some+in_default-placed_rank, in_default}
 use Rattle.mt_ranks.proofs.LiveMarket.{ranked_programs, ranked_applicants}

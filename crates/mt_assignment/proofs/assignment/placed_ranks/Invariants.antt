@@ -1,6 +1,6 @@
 use Rattle.std.proofs.Common.{◌≡◌, ◌≤◌, ◌<◌, ℕ, Some, false, take, length}
 use Rattle.mt_ranks.specs.Ranked.{rank_of}
-use Rattle.mt_sets.specs.Ranks.{HavePlaced}
+use Rattle.mt_stage_tables.specs.Ranks.{HavePlaced}
 use Rattle.mt_assignment.specs.Assigned.{assignment}
 use Rattle.mt_assignment.specs.Watched.{ranks_at, IsWatched}
 use Rattle.mt_assignment.proofs.assignment.placed_ranks.Given as goal

@@ -2,8 +2,8 @@ use Rattle.std.proofs.Common.{◌∙◌, ◌<◌, ◌++◌, ◌∷◌, [], lengt
 use Rattle.mt_terms.specs.Matching.{placed_ranks}
 use Rattle.mt_terms.proofs.BelowFacts.{map-below_more}
 use Rattle.mt_bits.specs.Tables.{told_of}
-use Rattle.mt_sets.specs.Ranks.{HasRanks}
-use Rattle.mt_sets.proofs.PlacedFacts.{row_is}
+use Rattle.mt_stage_tables.specs.Ranks.{HasRanks}
+use Rattle.mt_stage_tables.proofs.PlacedFacts.{row_is}
 use Rattle.mt_assignment.proofs.assignment.placed_rows.Goals as goal
 
 pub loop-number-preserved : goal.loop-number-preserved

@@ -11,7 +11,7 @@ use Rattle.mt_terms.specs.declared.numbers.Agent.{Agent}
 use Rattle.mt_terms.specs.declared.numbers.Agent.TheVariants.{Single, Couple}
 use Rattle.mt_round_laws.proofs.RoundsAgents.{of_list}
 use Rattle.mt_round_laws.proofs.RoundsLists.{In}
-use Rattle.mt_match_laws.proofs.WellFormedLemmas.{well_formed_from_test}
+use Rattle.mt_stability_laws.proofs.WellFormedLemmas.{well_formed_from_test}
 use Rattle.mt_budget_laws.proofs.rounds.premises_of_rounds.Goals as goal
 
 -- the single has the one program that it wants, and members want nothing

@@ -1,5 +1,5 @@
 use Rattle.mt_lists.specs.Tap.{bytes_left}
-use Rattle.mt_match.specs.Told.{told_by}
+use Rattle.mt_match_file.specs.Told.{told_by}
 use Rattle.mt_check.specs.Headline.{told_in}
 use Rattle.mt_check.proofs.FaultFacts.{cannot_read, left_refused}
 use Rattle.mt_check.specs.declared.source.Source.TheVariants.{Match}

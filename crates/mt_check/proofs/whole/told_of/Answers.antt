@@ -1,7 +1,7 @@
 use Rattle.std.proofs.Common.{subst}
-use Rattle.mt_match.specs.Errors.{Tells}
-use Rattle.mt_match.specs.Told.{told_by}
-use Rattle.mt_match.specs.declared.fault.MatchError.{MatchError}
+use Rattle.mt_match_file.specs.Errors.{Tells}
+use Rattle.mt_match_file.specs.Told.{told_by}
+use Rattle.mt_match_file.specs.declared.fault.MatchError.{MatchError}
 use Rattle.mt_check.proofs.FaultFacts.{match_refusal}
 use Rattle.mt_check.proofs.whole.told_of.Goals as goal
 

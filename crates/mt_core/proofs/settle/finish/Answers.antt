@@ -1,7 +1,7 @@
 use Rattle.std.proofs.Common.{◌+◌, arith}
 use Rattle.mt_terms.specs.Market.{applicants}
 use Rattle.mt_terms.specs.Floor.{is_settled}
-use Rattle.mt_match_laws.proofs.ListLemmas.{all_below}
+use Rattle.mt_stability_laws.proofs.ListLemmas.{all_below}
 use Rattle.mt_core.specs.Floors.{floor_of}
 use Rattle.mt_core.proofs.Reaching.{reached_more, reached_legal, reached_strict, reached_made, reached_few}
 use Rattle.mt_core.proofs.settle.finish.Goals as goal

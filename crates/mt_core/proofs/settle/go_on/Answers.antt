@@ -1,5 +1,5 @@
 use Rattle.std.proofs.Common.{sym, ap, ◌∙◌, subst}
-use Rattle.mt_terms.specs.Floor.{Floor, IsRecorded, held, after, reply_of}
+use Rattle.mt_terms.specs.Floor.{Floor, IsRecorded, held_set, after, reply_of}
 use Rattle.mt_terms.specs.declared.events.Event.TheVariants.{Propose, Notice}
 use Rattle.mt_floor_laws.proofs.FloorEvents.{event_keeps_recorded_lem}
 use Rattle.mt_core.specs.Floors.{floor_of}
@@ -19,5 +19,5 @@ returns-clause-step c =
       floor = c.propose.ensures.floor ∙ ap (λ f. after m f (Propose a)) c.notice.ensures.floor;
       reply = c.propose.ensures.reply ∙ ap (λ f. reply_of m f (Propose a)) c.notice.ensures.floor;
       displaced = λ b p on out. c.propose.ensures.displaced b p
-          (ap (λ f. held m f p b) c.notice.ensures.floor ∙ held_through_notice m (floor_of m c.args.floor.now) a p b ∙ on) out;
+          (ap (λ f. held_set m f p b) c.notice.ensures.floor ∙ held_through_notice m (floor_of m c.args.floor.now) a p b ∙ on) out;
     }

@@ -5,7 +5,7 @@ use Rattle.mt_terms.specs.Market.{agent_of, applicants, program_of}
 use Rattle.mt_bits.specs.Members.{is_in}
 use Rattle.mt_couples.specs.Running.{is_reopened}
 use Rattle.mt_assignment.proofs.MarketFacts.{read_within}
-use Rattle.mt_sets.proofs.GrowingFacts.{has_still}
+use Rattle.mt_stage_tables.proofs.GrowingFacts.{has_still}
 use Rattle.mt_couples.proofs.LookFacts.{at_rank, closed_at, found_at, found_below, passed_at, within_more}
 use Rattle.mt_couples.proofs.look.add_by_rank.Goals as goal
 

@@ -7,10 +7,10 @@ use Rattle.mt_terms.specs.Market.{applicants}
 use Rattle.mt_terms.specs.declared.numbers.Agent.TheVariants.{Couple}
 use Rattle.mt_couples.specs.Looking.{is_noted_reopened}
 use Rattle.mt_round_laws.proofs.RoundsLists.{In}
-use Rattle.mt_sets.specs.declared.couple_list.Note.{Note}
-use Rattle.mt_sets.proofs.FrontFacts.{each_next, read_any}
-use Rattle.mt_sets.proofs.NamedFacts.{note_within}
-use Rattle.mt_sets.proofs.GrowingFacts.{has_still}
+use Rattle.mt_stage_tables.specs.declared.couple_list.Note.{Note}
+use Rattle.mt_stage_tables.proofs.FrontFacts.{each_next, read_any}
+use Rattle.mt_stage_tables.proofs.NamedFacts.{note_within}
+use Rattle.mt_stage_tables.proofs.GrowingFacts.{has_still}
 use Rattle.mt_couples.proofs.WatchFacts.{index_of}
 use Rattle.mt_couples.proofs.LookFacts.{found_both, no_note, open_note, within_more, AreFoundBy}
 use Rattle.mt_couples.proofs.look.add_many_members.Goals as goal

@@ -1,5 +1,5 @@
 use Rattle.std.proofs.Common.{arith}
-use Rattle.mt_sets.proofs.NoteFacts.{end_within}
+use Rattle.mt_stage_tables.proofs.NoteFacts.{end_within}
 use Rattle.mt_couples.proofs.NoteFacts.{counted_within}
 use Rattle.mt_couples.proofs.look.is_noted_reopened.Goals as goal
 

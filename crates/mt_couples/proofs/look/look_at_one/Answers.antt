@@ -4,12 +4,12 @@ use Rattle.mt_terms.specs.Market.{applicants, program_of}
 use Rattle.mt_terms.specs.Rounds.{all_joined, is_on}
 use Rattle.mt_terms.specs.declared.numbers.Agent.TheVariants.{Single}
 use Rattle.mt_round_laws.proofs.RoundsKeep.{on_joined}
-use Rattle.mt_sets.specs.Waiting.{with_agents, Waiting}
+use Rattle.mt_stage_tables.specs.Waiting.{with_agents, Waiting}
 use Rattle.mt_couples.specs.Looking.{IsClosed, IsOpenFrom}
 use Rattle.mt_couples.specs.Waiting.{agents_of, blockers}
 use Rattle.mt_couples.proofs.JoinFacts.{joining_list}
 use Rattle.mt_couples.proofs.QuietFacts.{blocking}
-use Rattle.mt_sets.proofs.ListFacts.{drop_past}
+use Rattle.mt_stage_tables.proofs.ListFacts.{drop_past}
 use Rattle.mt_couples.proofs.LookFacts.{Rest}
 use Rattle.mt_assignment.proofs.MarketFacts.{read_within}
 use Rattle.mt_couples.proofs.OneFacts.{no_couples, passes_last, passes_next}

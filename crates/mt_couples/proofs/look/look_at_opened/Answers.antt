@@ -1,6 +1,6 @@
 use Rattle.std.proofs.lemmas.Grind.{common_steps}
 use Rattle.std.proofs.Common.{arith}
-use Rattle.mt_sets.proofs.PlaceFacts.{has_read}
+use Rattle.mt_stage_tables.proofs.PlaceFacts.{has_read}
 use Rattle.mt_couples.proofs.look.look_at_opened.Goals as goal
 
 pub look_at_one-requires-clause-program : goal.look_at_one-requires-clause-program

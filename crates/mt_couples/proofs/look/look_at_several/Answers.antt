@@ -6,10 +6,10 @@ use Rattle.mt_terms.specs.Lists.{has}
 use Rattle.mt_terms.specs.Market.{agent_of}
 use Rattle.mt_terms.specs.Rounds.{is_on}
 use Rattle.mt_round_laws.proofs.RoundsKeep.{on_all_joined}
-use Rattle.mt_sets.specs.Waiting.{Waiting}
+use Rattle.mt_stage_tables.specs.Waiting.{Waiting}
 use Rattle.mt_couples.specs.Looking.{HaveReopened}
 use Rattle.mt_couples.specs.Waiting.{blockers, reopened}
-use Rattle.mt_sets.proofs.PlaceFacts.{has_read}
+use Rattle.mt_stage_tables.proofs.PlaceFacts.{has_read}
 use Rattle.mt_couples.proofs.QuietFacts.{looking_some, IsLooking}
 use Rattle.mt_couples.proofs.LookFacts.{reopened_before}
 use Rattle.mt_couples.proofs.look.look_at_several.Goals as goal

@@ -3,8 +3,8 @@ use Rattle.std.proofs.Common.{arith, ◌≡◌, ◌∙◌, ◌==◌, ℕ, Some, 
 use Rattle.std.proofs.lemmas.List.Sorted.{IsNonDecreasingBy-from_sort, list_any-IsPermutation}
 use Rattle.mt_terms.specs.Lists.{has}
 use Rattle.mt_ranks.specs.Ranked.{rank_of}
-use Rattle.mt_sets.proofs.PlaceFacts.{has_read}
-use Rattle.mt_sets.proofs.GrowingFacts.{each_all}
+use Rattle.mt_stage_tables.proofs.PlaceFacts.{has_read}
+use Rattle.mt_stage_tables.proofs.GrowingFacts.{each_all}
 use Rattle.mt_couples.proofs.look.ranks_of.Goals as goal
 
 pub rank-requires : goal.rank-requires

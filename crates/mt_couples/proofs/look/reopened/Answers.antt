@@ -1,8 +1,8 @@
 use Rattle.std.proofs.lemmas.Grind.{common_steps}
 use Rattle.std.proofs.Common.{arith, ◌∷◌, []}
 use Rattle.mt_couples.specs.Watching.{Covers}
-use Rattle.mt_sets.proofs.PlaceFacts.{has_read}
-use Rattle.mt_sets.proofs.GrowingFacts.{each_all}
+use Rattle.mt_stage_tables.proofs.PlaceFacts.{has_read}
+use Rattle.mt_stage_tables.proofs.GrowingFacts.{each_all}
 use Rattle.mt_couples.proofs.LookFacts.{covers_all}
 use Rattle.mt_couples.proofs.look.reopened.Goals as goal
 

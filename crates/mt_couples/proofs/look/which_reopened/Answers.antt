@@ -6,10 +6,10 @@ use Rattle.std.proofs.lemmas.List.{get_or_default}
 use Rattle.rayon.proofs.ListFacts.{IfOk-then}
 use Rattle.rayon.proofs.ToStd.{slice-map}
 use Rattle.rayon.specs.Lists.{iter_slice, min_len_base}
-use Rattle.mt_sets.specs.Named.{row_at}
-use Rattle.mt_sets.specs.Waiting.{Waiting}
-use Rattle.mt_sets.specs.declared.couple_list.Note.{Note}
-use Rattle.mt_sets.proofs.NamedFacts.{note_within}
+use Rattle.mt_stage_tables.specs.Named.{row_at}
+use Rattle.mt_stage_tables.specs.Waiting.{Waiting}
+use Rattle.mt_stage_tables.specs.declared.couple_list.Note.{Note}
+use Rattle.mt_stage_tables.proofs.NamedFacts.{note_within}
 use Rattle.mt_assignment.specs.Assigned.{Assigned}
 use Rattle.mt_couples.specs.declared.watch.Watch.{Watch}
 use Rattle.mt_couples.specs.Looking.{is_noted_reopened}

@@ -1,10 +1,10 @@
 use Rattle.std.proofs.lemmas.Grind.{common_steps}
 use Rattle.std.proofs.Common.{◌≡◌, ◌∙◌, ◌∷◌, ◌-◌, [], true, Result, Some, Err, IsErrAnd, sym, ap, ap₂, subst, arith}
 use Rattle.mt_terms.specs.Stability.{fits}
-use Rattle.mt_terms.specs.Rounds.{settled}
+use Rattle.mt_terms.specs.Rounds.{after_rounds}
 use Rattle.mt_terms.specs.declared.numbers.Agent.TheVariants.{Couple}
 use Rattle.mt_round_laws.proofs.RoundsStage.{stage_is_stable_lem}
-use Rattle.mt_sets.specs.Waiting.{nobody}
+use Rattle.mt_stage_tables.specs.Waiting.{nobody}
 use Rattle.mt_couples.specs.Waiting.{IsListOf}
 use Rattle.mt_couples.specs.Running.{singles_quiet, IsQuiet}
 use Rattle.mt_couples.specs.Looking.{AreNoted}
@@ -41,7 +41,7 @@ returns-in_err-left-clause-spent g c = λ is.
     let same : BudgetSpent ≡ c.in_err-left.field-0.0 = err_is _ c.from_residual-in_err-left.result BudgetSpent c.from_residual-in_err-left.ensures.1 is in
     entering_spent c.args.roster.now.market c.are_singles_quiet-quiet.result c.args.singles.places c.args.budget c.loop-number.number c.loop-number.assignment c.loop-number.waiting c.loop-number.left so_far
     (omega (arith, c.couples-couples.ensures.count))
-    (ap₂ (λ x w. settled x c.loop-number.number c.loop-number.left c.loop-number.assignment.places w) (sym so_far.market) (sym waits) ∙ c.in_err-left.ensures.spent (ap Err (sym same)))
+    (ap₂ (λ x w. after_rounds x c.loop-number.number c.loop-number.left c.loop-number.assignment.places w) (sym so_far.market) (sym waits) ∙ c.in_err-left.ensures.spent (ap Err (sym same)))
 
 pub loop-number-preserved : goal.loop-number-preserved
 loop-number-preserved g c =
@@ -56,7 +56,7 @@ loop-number-preserved g c =
           (subst (λ x. fits x c.settle.new.assignment.places ≡ true) same c.in_ok-left.ensures.running.fitting.fitting)
           (subst (λ x. IsListOf x c.settle.new.waiting) same c.in_ok-left.ensures.running.waiting) c.in_ok-left.ensures.empty
           (λ so. subst (λ x. IsQuiet c.loop-number.number (record { market = x; places = c.settle.new.assignment.places }) c.settle.new.waiting.agents) same (c.in_ok-left.ensures.running.is_quiet so))
-          (ap₂ (λ x w. settled x c.loop-number.number c.loop-number.left c.loop-number.assignment.places w) (sym so_far.market) (sym waits) ∙ c.in_ok-left.ensures.settled)
+          (ap₂ (λ x w. after_rounds x c.loop-number.number c.loop-number.left c.loop-number.assignment.places w) (sym so_far.market) (sym waits) ∙ c.in_ok-left.ensures.settled)
           c.in_ok-left.ensures.within;
       watched = c.in_ok-left.ensures.watch.watched;
       named = c.in_ok-left.ensures.watch.named;

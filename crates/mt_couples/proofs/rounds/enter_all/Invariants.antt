@@ -1,5 +1,5 @@
 use Rattle.std.proofs.Common.{◌<◌, ℕ}
-use Rattle.mt_sets.specs.Named.{AreNamed}
+use Rattle.mt_stage_tables.specs.Named.{AreNamed}
 use Rattle.mt_couples.specs.Watching.{AreCounted, IsNoted}
 use Rattle.mt_assignment.specs.Watched.{AreWatched}
 use Rattle.mt_couples.proofs.EnteringFacts.{IsEntering}

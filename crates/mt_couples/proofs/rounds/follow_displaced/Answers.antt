@@ -1,7 +1,7 @@
 use Rattle.std.proofs.Common.{◌≡◌, ◌∙◌, ◌∷◌, ◌++◌, ◌+◌, [], take, ap, sym, subst}
 use Rattle.std.proofs.lemmas.List.{take_more}
 use Rattle.mt_couples.specs.Watching.{CountsAll, FollowsAll}
-use Rattle.mt_sets.proofs.PlaceFacts.{has_read}
+use Rattle.mt_stage_tables.proofs.PlaceFacts.{has_read}
 use Rattle.mt_couples.proofs.WatchFacts.{counts_more, follows_more}
 use Rattle.mt_couples.proofs.rounds.follow_displaced.Goals as goal
 

@@ -4,7 +4,7 @@ use Rattle.mt_terms.specs.Market.{applicants, agent_of}
 use Rattle.mt_terms.specs.Stability.{blocks}
 use Rattle.mt_terms.specs.Rounds.{all_joined}
 use Rattle.mt_terms.specs.declared.numbers.Agent.{Agent}
-use Rattle.mt_sets.specs.Waiting.{with_agents, Waiting}
+use Rattle.mt_stage_tables.specs.Waiting.{with_agents, Waiting}
 use Rattle.mt_assignment.specs.Assigned.{Assigned}
 use Rattle.mt_couples.specs.Waiting.{agents_of, if_blocking, Joins}
 use Rattle.mt_couples.proofs.JoinFacts.{all_joined-append, AreJoining, joining_list, joining_more, known_to, next_mapped}

@@ -2,7 +2,7 @@ use Rattle.std.proofs.Common.{◌≡◌, ◌∙◌, ◌++◌, ◌+◌, drop, ap,
 use Rattle.std.proofs.lemmas.List.{drop_more}
 use Rattle.mt_couples.specs.Waiting.{blockers, reopened}
 use Rattle.mt_couples.proofs.JoinFacts.{AreJoining, joining_list, joining_some}
-use Rattle.mt_sets.proofs.PlaceFacts.{has_read}
+use Rattle.mt_stage_tables.proofs.PlaceFacts.{has_read}
 use Rattle.mt_couples.proofs.rounds.look_at_each.Goals as goal
 
 pub look_at-requires-clause-program : goal.look_at-requires-clause-program

@@ -1,6 +1,6 @@
 use Rattle.std.proofs.Common.{◌≡◌, ◌∙◌, ap₂, sym, subst}
-use Rattle.mt_terms.specs.Rounds.{settled}
-use Rattle.mt_sets.specs.Waiting.{Waiting}
+use Rattle.mt_terms.specs.Rounds.{after_rounds}
+use Rattle.mt_stage_tables.specs.Waiting.{Waiting}
 use Rattle.mt_couples.specs.Looking.{IsWatching}
 use Rattle.mt_couples.proofs.RoundFacts.{settling_more}
 use Rattle.mt_couples.proofs.rounds.settle.Goals as goal
@@ -21,4 +21,4 @@ pub returns-then-left-eq0-clause-spent : goal.returns-then-left-eq0-clause-spent
 returns-then-left-eq0-clause-spent g c = λ spent.
     let none : c.loop-agent.left ≡ 0 = c.if-left-eq0.true in
     sym c.loop-agent.invariant.settling.leads
-    ∙ ap₂ (λ left (w : Waiting). settled c.args.assignment.now.market c.args.last left c.loop-agent.assignment.places w.agents) none c.in-Some.ensures.taken
+    ∙ ap₂ (λ left (w : Waiting). after_rounds c.args.assignment.now.market c.args.last left c.loop-agent.assignment.places w.agents) none c.in-Some.ensures.taken

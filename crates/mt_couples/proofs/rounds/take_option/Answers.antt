@@ -8,7 +8,7 @@ use Rattle.mt_terms.specs.Market.{applicants}
 use Rattle.mt_terms.specs.Rounds.{all_joined, is_on, is_same_agent}
 use Rattle.mt_terms.specs.declared.numbers.Agent.{Agent}
 use Rattle.mt_round_laws.proofs.RoundsLists.{has_in, of_kept, of_below}
-use Rattle.mt_sets.specs.Waiting.{with_agents, Waiting}
+use Rattle.mt_stage_tables.specs.Waiting.{with_agents, Waiting}
 use Rattle.mt_assignment.specs.Assigned.{Assigned, AreSent, IsAgentOf}
 use Rattle.mt_couples.specs.Waiting.{agents_of, if_blocking, reopened, IsListOf, Joins}
 use Rattle.mt_assignment.specs.Moves.{displaced_by, moved, IsTaking}
@@ -18,7 +18,7 @@ use Rattle.mt_couples.proofs.QuietFacts.{quiet_but_left, waits_after}
 use Rattle.mt_terms.specs.WellFormed.{IsWellFormed}
 use Rattle.mt_couples.specs.Looking.{IsWatching}
 use Rattle.mt_terms.specs.Matching.{Placement}
-use Rattle.mt_sets.specs.Named.{noted_count, AreNamed, Noted}
+use Rattle.mt_stage_tables.specs.Named.{noted_count, AreNamed, Noted}
 use Rattle.mt_couples.specs.declared.watch.Watch.{Watch}
 use Rattle.mt_couples.specs.Watching.{AreCounted, CountsAll, FollowsAll, NotesAgent}
 use Rattle.mt_assignment.specs.Watched.{AreWatched}

@@ -1,25 +1,25 @@
 use Rattle.std.proofs.Common.{◌≡◌, ◌∙◌, ◌<◌, length, arith}
 use Rattle.mt_ranks.specs.Entries.{rank_among}
-use Rattle.mt_ranks.specs.Notes.{rank_noted}
+use Rattle.mt_ranks.specs.Stamps.{rank_stamped}
 use Rattle.mt_ranks.proofs.ListedFacts.{item_within}
 use Rattle.mt_ranks.proofs.Lookups.{live_more_some, live_more_none}
 use Rattle.mt_ranks.proofs.entries.push_live.Goals as goal
 use Rattle.mt_ranks.proofs.entries.push_live.Goals.{in-Some+in_ok-push, in_default}
 
-pub noted_at-requires : goal.noted_at-requires
-noted_at-requires c =
+pub rank_stamped_at-requires : goal.rank_stamped_at-requires
+rank_stamped_at-requires c =
     omega (
       arith,
-      c.note_ranks.ensures.len,
-      item_within c.args.list.now c.loop-program.program-index c.program-item.result (length c.args.notes.now) c.loop-program-test.true c.program-item.is c.requires.list,
+      c.stamp_ranks.ensures.len,
+      item_within c.args.list.now c.loop-program.program-index c.program-item.result (length c.args.stamps.now) c.loop-program-test.true c.program-item.is c.requires.list,
     )
 
 pub loop-program-preserved : goal.loop-program-preserved
 loop-program-preserved c =
-    let within : c.program-item.result < length c.args.notes.now =
-    item_within c.args.list.now c.loop-program.program-index c.program-item.result (length c.args.notes.now) c.loop-program-test.true c.program-item.is c.requires.list in
-    let noted : rank_noted c.note_ranks.new.notes c.args.turn c.program-item.result ≡ rank_among c.args.entries.now c.program-item.result = c.note_ranks.ensures.noted c.program-item.result within in
-    elim c.match-noted_at.branch [
+    let within : c.program-item.result < length c.args.stamps.now =
+    item_within c.args.list.now c.loop-program.program-index c.program-item.result (length c.args.stamps.now) c.loop-program-test.true c.program-item.is c.requires.list in
+    let noted : rank_stamped c.stamp_ranks.new.stamps c.args.turn c.program-item.result ≡ rank_among c.args.entries.now c.program-item.result = c.stamp_ranks.ensures.noted c.program-item.result within in
+    elim c.match-rank_stamped_at.branch [
       | in-Some+in_ok-push w ↦
           rw (w.lists-is, w.in_ok-push.ensures.ok)
           (live_more_some c.loop-program.lists c.args.lists.now c.args.entries.now c.args.list.now c.loop-program.program-index c.program-item.result w.in-Some.rank

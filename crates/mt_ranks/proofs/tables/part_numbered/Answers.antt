@@ -5,10 +5,10 @@ use Rattle.mt_terms.specs.Lists.{below}
 use Rattle.mt_terms.specs.Market.{Program, applicants}
 use Rattle.mt_ranks.specs.Entries.{own_entries}
 use Rattle.mt_ranks.specs.Parts.{block_first, block_size}
-use Rattle.mt_ranks.specs.Notes.{ProgramsWithin}
+use Rattle.mt_ranks.specs.Stamps.{ProgramsWithin}
 use Rattle.mt_ranks.specs.Rows.{listed_rows, row_of}
 use Rattle.mt_ranks.specs.declared.entries.Live.{Live}
-use Rattle.mt_ranks.proofs.NoteFacts.{row_within}
+use Rattle.mt_ranks.proofs.StampFacts.{row_within}
 use Rattle.mt_ranks.proofs.PartsFacts.{sum-range, many_times, block_within, times_of_block, block_ascends}
 use Rattle.mt_ranks.proofs.tables.part_numbered.Goals as goal
 

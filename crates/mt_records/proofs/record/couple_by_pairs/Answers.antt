@@ -10,7 +10,7 @@ use Rattle.mt_records.proofs.record.couple_by_pairs.Goals.{else-names_are_ids-vi
 pub returns-then-len-eq1 : goal.returns-then-len-eq1
 returns-then-len-eq1 c =
     let names = members_in c.args.fields in
-    ap Err c.charge_alone.ensures ∙ sym (odd_couple c.args.rules.now c.args.id.now names.0 names.1 (fields_left c.args.list) (omega (arith, c.len.ensures, c.if-len-eq1.true)))
+    ap Err c.record_fault_alone.ensures ∙ sym (odd_couple c.args.rules.now c.args.id.now names.0 names.1 (fields_left c.args.list) (omega (arith, c.len.ensures, c.if-len-eq1.true)))
 
 pub returns-then-are_pairs : goal.returns-then-are_pairs
 returns-then-are_pairs c =
@@ -26,7 +26,7 @@ returns-else-names_are_ids c =
     let ids : are_ids c.args.rules.now (c.args.id.now ∷ names.0 ∷ names.1 ∷ []) ≡ c.names_are_ids.result =
     ap (λ (m : Bytes × Bytes). are_ids c.args.rules.now (c.args.id.now ∷ m.0 ∷ m.1 ∷ [])) (sym c.members.ensures) ∙ sym c.names_are_ids.ensures
     in
-    ap Err c.charge_alone-else-names_are_ids.ensures
+    ap Err c.record_fault_alone-else-names_are_ids.ensures
     ∙ sym (couple_is_refused c.args.rules.now c.args.id.now names.0 names.1 (fields_left c.args.list) (omega (arith, c.len.ensures, c.if-len-eq1.false))
     (elim c.else-names_are_ids.branch [
       | else-names_are_ids-via-then-names_are_ids+else-are_pairs w ↦ right_fails _ _ (sym w.are_pairs.ensures ∙ w.if-are_pairs.false)

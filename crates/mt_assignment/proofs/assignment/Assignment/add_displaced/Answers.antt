@@ -4,11 +4,11 @@ use Rattle.mt_terms.specs.Lists.{has}
 use Rattle.mt_terms.specs.Market.{program_of, Program}
 use Rattle.mt_terms.specs.Matching.{at}
 use Rattle.mt_assignment.specs.Assigned.{Assigned}
-use Rattle.mt_sets.proofs.RefusedFacts.{is_refused}
+use Rattle.mt_stage_tables.proofs.RefusedFacts.{is_refused}
 use Rattle.mt_assignment.proofs.MarketFacts.{ranked_ranking}
-use Rattle.mt_sets.proofs.PlaceFacts.{has-drop}
-use Rattle.mt_sets.proofs.OrderFacts.{has_at}
-use Rattle.mt_sets.proofs.RanksFacts.{ranks_are, refused_ranks}
+use Rattle.mt_stage_tables.proofs.PlaceFacts.{has-drop}
+use Rattle.mt_stage_tables.proofs.OrderFacts.{has_at}
+use Rattle.mt_stage_tables.proofs.RanksFacts.{ranks_are, refused_ranks}
 use Rattle.mt_assignment.proofs.TableFacts.{program_known, row_index, row_at}
 use Rattle.mt_assignment.proofs.assignment.Assignment.add_displaced.Goals as goal
 use Rattle.mt_ranks.proofs.LiveMarket.{ranked_program}

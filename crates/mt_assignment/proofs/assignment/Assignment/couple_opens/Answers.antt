@@ -8,7 +8,7 @@ use Rattle.mt_assignment.specs.Moves.{names_one_of}
 use Rattle.mt_assignment.specs.Watched.{better_pairs}
 use Rattle.mt_assignment.proofs.LiveFacts.{better_couple}
 use Rattle.mt_assignment.proofs.assignment.Assignment.couple_opens.Goals as goal
-use Rattle.mt_match_laws.proofs.ListLemmas.{list_any-map}
+use Rattle.mt_stability_laws.proofs.ListLemmas.{list_any-map}
 
 pub loop-pair-init : goal.loop-pair-init
 loop-pair-init c =

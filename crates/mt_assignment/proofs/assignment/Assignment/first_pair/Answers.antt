@@ -8,7 +8,7 @@ use Rattle.mt_terms.specs.Stability.{would_be_taken}
 use Rattle.mt_assignment.specs.Assigned.{pair_of}
 use Rattle.mt_assignment.specs.Watched.{better_pairs}
 use Rattle.mt_assignment.proofs.LiveFacts.{find-map, better_couple}
-use Rattle.mt_sets.proofs.FrontFacts.{until_take}
+use Rattle.mt_stage_tables.proofs.FrontFacts.{until_take}
 use Rattle.mt_assignment.proofs.assignment.Assignment.first_pair.Goals as goal
 
 -- the pairs that are gone through are the better ones

@@ -3,7 +3,7 @@ use Rattle.mt_terms.specs.Lists.{count}
 use Rattle.mt_terms.specs.Market.{program_of}
 use Rattle.mt_terms.specs.Matching.{at, send}
 use Rattle.mt_terms.proofs.ListFacts.{distinct-take}
-use Rattle.mt_sets.proofs.OrderFacts.{count-le_length, same_lt}
+use Rattle.mt_stage_tables.proofs.OrderFacts.{count-le_length, same_lt}
 use Rattle.mt_round_laws.proofs.SentCounts.{leaves, count_sent}
 use Rattle.mt_assignment.proofs.assignment.Assignment.has_post_after.Goals as goal
 

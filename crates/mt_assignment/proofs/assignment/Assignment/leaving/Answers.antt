@@ -3,7 +3,7 @@ use Rattle.std.proofs.lemmas.Bool.{and_left, and_right, and_from}
 use Rattle.mt_terms.specs.Lists.{has}
 use Rattle.mt_terms.specs.Market.{program_of}
 use Rattle.mt_terms.specs.Matching.{at}
-use Rattle.mt_sets.proofs.PlaceFacts.{at_read}
+use Rattle.mt_stage_tables.proofs.PlaceFacts.{at_read}
 use Rattle.mt_round_laws.proofs.SentCounts.{leaves}
 use Rattle.mt_assignment.proofs.SentFacts.{sent_within, seat_more}
 use Rattle.mt_assignment.proofs.assignment.Assignment.leaving.Goals as goal

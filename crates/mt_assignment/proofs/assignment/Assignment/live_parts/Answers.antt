@@ -6,7 +6,7 @@ use Rattle.mt_ranks.specs.declared.entries.Live.{Live}
 use Rattle.mt_ranks.specs.Ranked.{Ranked, ranked_list, ranked_of}
 use Rattle.mt_assignment.specs.Assigned.{Assigned}
 use Rattle.mt_assignment.specs.Watched.{better_entries}
-use Rattle.mt_sets.proofs.ListFacts.{drop_past, going_all, going_more, going_stops, until_never}
+use Rattle.mt_stage_tables.proofs.ListFacts.{drop_past, going_all, going_more, going_stops, until_never}
 use Rattle.mt_assignment.proofs.assignment.Assignment.live_parts.Goals as goal
 use Rattle.mt_ranks.proofs.LiveMarket.{ranked_applicants}
 

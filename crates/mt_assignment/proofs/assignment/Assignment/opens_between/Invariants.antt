@@ -2,7 +2,7 @@ use Rattle.std.proofs.Common.{◌≡◌, ◌&&◌, drop}
 use Rattle.std.specs.List.{list_any}
 use Rattle.mt_terms.specs.Stability.{would_be_taken}
 use Rattle.mt_assignment.specs.Assigned.{pair_of}
-use Rattle.mt_sets.specs.Named.{names}
+use Rattle.mt_stage_tables.specs.Named.{names}
 use Rattle.mt_assignment.specs.Watched.{opens_between}
 use Rattle.mt_assignment.proofs.assignment.Assignment.opens_between.Given as goal
 

@@ -3,7 +3,7 @@ use Rattle.mt_terms.specs.Market.{couple_of}
 use Rattle.mt_terms.specs.Matching.{single_placement, couple_placement, better}
 use Rattle.mt_terms.specs.Stability.{would_be_taken, blocks}
 use Rattle.mt_terms.specs.declared.numbers.Agent.TheVariants.{Single, Couple}
-use Rattle.mt_sets.proofs.ListFacts.{is_some-find, is_some-option_map}
+use Rattle.mt_stage_tables.proofs.ListFacts.{is_some-find, is_some-option_map}
 use Rattle.mt_couples.proofs.watch.Watch.blocks.Goals as goal
 
 pub returns-in-Single : goal.returns-in-Single

@@ -1,6 +1,6 @@
 use Rattle.std.proofs.Common.{◌∙◌, length, ap}
 use Rattle.mt_terms.specs.Market.{Market}
-use Rattle.mt_sets.proofs.NamedFacts.{named_first}
+use Rattle.mt_stage_tables.proofs.NamedFacts.{named_first}
 use Rattle.mt_couples.proofs.watch.Watch.new.Goals as goal
 
 pub returns-clause-named : goal.returns-clause-named

@@ -1,5 +1,0 @@
-use Rattle.mt_match.proofs.FaultFacts.{faults_are_named_lem}
-use Rattle.mt_match.proofs.laws.faults_are_named.Goals as goal
-
-pub returns : goal.returns
-returns c = faults_are_named_lem

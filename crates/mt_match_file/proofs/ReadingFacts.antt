@@ -1,0 +1,53 @@
+-- How the reading of a match goes on after a record.
+use Rattle.std.proofs.Common.{◌≡◌, ℕ, List, ◌∷◌, length, map, Option, Result, Ok, Err, None, ap, sym, ◌∙◌, subst, arith}
+use Rattle.std.specs.Option.{unwrap_or}
+use Rattle.std.specs.Prelude.{IfOk}
+use Rattle.mt_terms.specs.Market.{Names, Registered, applicants}
+use Rattle.mt_terms.specs.Places.{ArePlaces}
+use Rattle.mt_terms.specs.Registration.Accepted.{IsRegistration}
+use Rattle.mt_terms.specs.Registration.Faults.{RecordFault, fault_at}
+use Rattle.mt_terms.specs.Registration.Ids.{Bytes}
+use Rattle.mt_terms.specs.Registration.Passes.{Numbered, numbered_from}
+use Rattle.mt_match_file.specs.Errors.{IsFault, Tells}
+use Rattle.mt_match_file.specs.Reading.{FitsInto, Gives}
+use Rattle.mt_match_file.specs.Told.{SoFar, Told, after, all_told, first_unplaced, line_of, match_of, nothing_told}
+use Rattle.mt_match_file.specs.declared.fault.MatchError.{MatchError}
+use Rattle.mt_match_file.specs.declared.fault.MatchError.TheVariants as errors
+use Rattle.mt_match_file.specs.declared.line.Line.{Line}
+use Rattle.mt_match_file.specs.declared.line.Line.TheVariants.{Counts, Head, Place}
+use Rattle.mt_match_file.proofs.PlaceFacts.{FitsLine, LineFits, line_fits, tells_places_lem}
+
+-- what a record tells fits the market's applicants
+pub fits_into : (names : Names) (n : ℕ) (l : Line) → length names.applicants ≡ n → FitsLine names l → FitsInto n l
+fits_into names n Head e h = tt
+fits_into names n (Place a place) e h = omega (arith, h.0)
+fits_into names n (Counts c) e h = tt
+
+pub line_fits_into : (r : Registered) → IsRegistration r → (places : List (Option (Option ℕ))) (fields : List Bytes) (l : Line) (n : ℕ) → line_of r.names places fields ≡ Ok l → n ≡ applicants r.market
+    → FitsInto n l
+line_fits_into r h places fields l n is e =
+    fits_into r.names n l (h.applicant_names.one_each ∙ sym e) (subst (λ (o : Result Line RecordFault). LineFits r.names o) is (line_fits r.names places fields))
+
+module _ (names : Names) (old new : SoFar) (n : ℕ) (fields : List Bytes) where
+  pub reads_line : (l : Line) → line_of names old.places fields ≡ Ok l → new ≡ after n old l
+      → (rest : List (Numbered (List Bytes))) → all_told names old ((n, fields) ∷ rest) ≡ all_told names new rest
+  reads_line l is told rest = rw is (ap (λ (s : SoFar). all_told names s rest) (sym told))
+
+  pub reads_fault : (c : RecordFault) (e : MatchError) → line_of names old.places fields ≡ Err c → IsFault e (fault_at n c)
+      → (rest : List (Numbered (List Bytes))) → Tells e (all_told names old ((n, fields) ∷ rest))
+  reads_fault c (errors.Fault f) is told rest = rw is (ap Err (sym told))
+  reads_fault c errors.Memory is told rest = absurd told
+
+-- what is told of all applicants
+pub match_is : (names : Names) (s : SoFar) (o : Option ℕ) (told : Told) → o ≡ None → told.places ≡ map (λ place. unwrap_or place None) s.places → told.counts ≡ s.counts
+    → match_of names s o ≡ Ok told
+match_is names s o told none places counts =
+    let whole : told ≡ record { places = map (λ place. unwrap_or place None) s.places; counts = s.counts } = λ i. record { places = places i; counts = counts i } in
+    ap (match_of names s) none ∙ ap Ok (sym whole)
+
+-- a match that is told has places of the market
+pub places_are : (r : Registered) → IsRegistration r → (rows : List (List Bytes)) (s : SoFar)
+    → all_told r.names (nothing_told (applicants r.market)) (numbered_from 1 rows) ≡ Ok s
+    → (result : Result Told MatchError) → Gives result (match_of r.names s (first_unplaced s)) → IfOk result (λ told. ArePlaces r.market told.places)
+places_are r h rows s is (Ok told) gives = tells_places_lem r h rows told (rw is gives)
+places_are r h rows s is (Err e) gives = tt

@@ -1,0 +1,123 @@
+ghost use Rattle.std.specs.Prelude.{◌≡◌, ◌&&◌, slice_index_or, Some, None};
+ghost use Rattle.mt_lists.specs.Rows.{fields_left};
+ghost use Rattle.mt_match_file.specs.Told.{applicant_line, counts_at, four_of, head_line, is_number, line_of, placed_at, program_line, totals_line, two_of};
+ghost use Rattle.mt_match_file.specs.View.{line_seen, market_of};
+
+use crate::codes::{NO_SUCH_APPLICANT, NO_SUCH_PROGRAM, OTHER_FIELDS, OTHER_RECORD, PLACED_TWICE};
+use crate::fault::RecordFault;
+use crate::fields::{four, is_number, number, two};
+use crate::ids::Ids;
+use crate::told_match::Count;
+use mt_lists::Fields;
+use mt_terms::{AppNo, ProgNo};
+
+/// What a record of a match says.
+#[derive(Clone, Copy)]
+pub(crate) enum Line {
+    /// That a match follows.
+    Head,
+    /// An applicant's place.
+    Place(AppNo, Option<ProgNo>),
+    /// Counts of a program, or of all.
+    Counts(Count),
+}
+
+/// The record that says that a match follows, by the fields after its first.
+fn head_line<'a>(fields: Fields<'a>) -> Result<Line, RecordFault<'a>>
+    ensures { line_seen result ≡ head_line (two_of (fields_left fields.entry)) }
+{
+    match two(fields) {
+        Some((version, word)) if version == b"1".as_slice() && word == b"published".as_slice() => {
+            Ok(Line::Head)
+        }
+        _ => Err(RecordFault::alone(OTHER_FIELDS)),
+    }
+}
+
+/// The place of an applicant, by the fields after its first.
+fn applicant_line<'a>(
+    ids: &Ids<'_>,
+    places: &[Option<Option<ProgNo>>],
+    fields: Fields<'a>,
+) -> Result<Line, RecordFault<'a>>
+    ensures { line_seen result ≡ applicant_line (market_of ids.now).names places.now (two_of (fields_left fields.entry)) }
+{
+    let Some((id, field)) = two(fields) else {
+        return Err(RecordFault::alone(OTHER_FIELDS));
+    };
+    let Some(applicant) = ids.applicant(id) else {
+        return Err(RecordFault::of(NO_SUCH_APPLICANT, id));
+    };
+    if places.get(applicant.index()).copied().flatten().is_some() {
+        return Err(RecordFault::of(PLACED_TWICE, id));
+    }
+    match ids.place(field) {
+        Some(place) => Ok(Line::Place(applicant, place)),
+        None => Err(RecordFault::of(NO_SUCH_PROGRAM, field)),
+    }
+}
+
+/// The counts of a program, by the fields after its first.
+fn program_line<'a>(ids: &Ids<'_>, fields: Fields<'a>) -> Result<Line, RecordFault<'a>>
+    ensures { line_seen result ≡ program_line (market_of ids.now).names (four_of (fields_left fields.entry)) }
+{
+    let Some((id, quota, filled, received)) = four(fields) else {
+        return Err(RecordFault::alone(OTHER_FIELDS));
+    };
+    if !(is_number(quota) && is_number(filled) && is_number(received)) {
+        return Err(RecordFault::alone(OTHER_FIELDS));
+    }
+    match ids.program(id) {
+        Some(program) => Ok(Line::Counts(Count::Program {
+            program,
+            quota: number(quota),
+            filled: number(filled),
+        })),
+        None => Err(RecordFault::of(NO_SUCH_PROGRAM, id)),
+    }
+}
+
+/// The totals, by the fields after their first.
+fn totals_line<'a>(fields: Fields<'a>) -> Result<Line, RecordFault<'a>>
+    ensures { line_seen result ≡ totals_line (four_of (fields_left fields.entry)) }
+{
+    let Some((applicants, unmatched, positions, unfilled)) = four(fields) else {
+        return Err(RecordFault::alone(OTHER_FIELDS));
+    };
+    let are_people = is_number(applicants) && is_number(unmatched);
+    if are_people && is_number(positions) && is_number(unfilled) {
+        Ok(Line::Counts(Count::Totals {
+            applicants: number(applicants),
+            unmatched: number(unmatched),
+            positions: number(positions),
+            unfilled: number(unfilled),
+        }))
+    } else {
+        Err(RecordFault::alone(OTHER_FIELDS))
+    }
+}
+
+/// What a record says after others, which gave these places, or its first fault.
+pub(crate) fn line_of<'a>(
+    ids: &Ids<'_>,
+    places: &[Option<Option<ProgNo>>],
+    fields: Fields<'a>,
+) -> Result<Line, RecordFault<'a>>
+    ensures { line_seen result ≡ line_of (market_of ids.now).names places.now (fields_left fields.entry) }
+{
+    let mut rest = fields;
+    let Some(word) = rest.next() else {
+        return Err(RecordFault::alone(OTHER_RECORD));
+    };
+    if word == b"applicant".as_slice() {
+        applicant_line(ids, places, rest)
+    } else if word == b"program".as_slice() {
+        program_line(ids, rest)
+    } else if word == b"totals".as_slice() {
+        totals_line(rest)
+    } else if word == b"match".as_slice() {
+        head_line(rest)
+    } else {
+        Err(RecordFault::alone(OTHER_RECORD))
+    }
+}

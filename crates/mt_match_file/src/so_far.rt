@@ -1,0 +1,78 @@
+ghost use Rattle.std.specs.Prelude.{◌≡◌, ◌<◌, length, map, None, IfOk, OnOk};
+ghost use Rattle.std.specs.Option.{unwrap_or};
+ghost use Rattle.mt_terms.specs.Market.{applicants};
+ghost use Rattle.mt_match_file.specs.Told.{after, match_of, first_unplaced, nothing_told};
+ghost use Rattle.mt_match_file.specs.Reading.{FitsInto, Gives};
+ghost use Rattle.mt_match_file.specs.View.{told_so_far};
+
+use crate::codes::NOT_PLACED;
+use crate::fault::{MatchError, RecordFault};
+use crate::line::Line;
+use crate::told_match::{Counted, ToldMatch};
+use mt_market::Roster;
+use mt_terms::{AppNo, Match, Places, ProgNo};
+use std::alloc::{AllocError, Global};
+
+/// What some records said: the counts, and for each applicant, by number, its place if one of them said it.
+#[derive(Drop)]
+pub(crate) struct SoFar {
+    pub(crate) places: Vec<Option<Option<ProgNo>>>,
+    counts: Vec<Counted>,
+}
+
+impl SoFar {
+    /// No place and no count, for the applicants of a market.
+    pub(crate) fn new(alloc: Global, roster: &Roster) -> Result<Self, AllocError>
+        ensures { IfOk result (λ s. told_so_far s ≡ nothing_told (applicants roster.now.market)) }
+    {
+        Ok(SoFar {
+            places: vec![in alloc; None; roster.applicants() as usize]?,
+            counts: Vec::new(alloc),
+        })
+    }
+
+    /// Adds what a record with this number says.
+    pub(crate) fn add(&mut self, row: u64, line: Line) -> Result<(), AllocError>
+        requires { FitsInto (length self.old.places.items) line }
+        ensures { OnOk result (told_so_far self.new ≡ after row (told_so_far self.old) line) }
+    {
+        match line {
+            Line::Head => {}
+            Line::Place(applicant, place) => self.places[applicant.index()] = Some(place),
+            Line::Counts(count) => self.counts.push(Counted { row, count })?,
+        }
+        Ok(())
+    }
+
+    /// The first applicant that no record places.
+    fn first_unplaced(&self) -> Option<usize>
+        ensures { result ≡ first_unplaced (told_so_far self.now) }
+    {
+        self.places.iter().position(|place| place.is_none())
+    }
+
+    /// The places of all applicants. An applicant whose place no record said has none.
+    fn all_places(&self, alloc: Global) -> Result<Vec<Option<ProgNo>>, AllocError>
+        ensures { IfOk result (λ v. v.items ≡ map (λ place. unwrap_or place None) self.now.places.items) }
+    {
+        let mut places = Vec::with_capacity(alloc, self.places.len())?;
+        for place in &self.places {
+            places.push((*place).flatten())?;
+        }
+        Ok(places)
+    }
+
+    /// The match, if each applicant has its place. The error is the first applicant that has none, or want of memory.
+    pub(crate) fn into_match(self, alloc: Global, roster: &Roster) -> Result<ToldMatch, MatchError>
+        requires { length self.places.items ≡ applicants roster.now.market }
+        ensures { Gives result (match_of roster.now.names (told_so_far self) (first_unplaced (told_so_far self))) }
+    {
+        if let Some(missing) = self.first_unplaced() {
+            roster.is_of_a_file();
+            let id = roster.applicant_id(AppNo(missing as u32));
+            return Err(RecordFault::of(NOT_PLACED, id).at(0));
+        }
+        let places = Places::new(self.all_places(alloc)?);
+        Ok(ToldMatch::new(Match { places }, self.counts))
+    }
+}

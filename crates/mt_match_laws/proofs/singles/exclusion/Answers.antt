@@ -1,5 +1,0 @@
-use Rattle.mt_match_laws.proofs.ExclusionLemmas.{exclusion_lem}
-use Rattle.mt_match_laws.proofs.singles.exclusion.Goals as goal
-
-pub returns : goal.returns
-returns c = exclusion_lem

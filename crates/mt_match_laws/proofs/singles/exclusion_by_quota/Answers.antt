@@ -1,5 +1,0 @@
-use Rattle.mt_match_laws.proofs.ExclusionLemmas.{exclusion_by_quota_lem}
-use Rattle.mt_match_laws.proofs.singles.exclusion_by_quota.Goals as goal
-
-pub returns : goal.returns
-returns c = exclusion_by_quota_lem

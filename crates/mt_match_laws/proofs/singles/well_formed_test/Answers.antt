@@ -1,5 +1,0 @@
-use Rattle.mt_match_laws.proofs.WellFormedLemmas.{well_formed_test_lem}
-use Rattle.mt_match_laws.proofs.singles.well_formed_test.Goals as goal
-
-pub returns : goal.returns
-returns c = well_formed_test_lem

@@ -1,5 +1,0 @@
-use Rattle.mt_match_laws.proofs.TakenLemmas.{pair_taken_lem}
-use Rattle.mt_match_laws.proofs.taken.pair_taken.Goals as goal
-
-pub returns : goal.returns
-returns c = pair_taken_lem

@@ -1,5 +1,0 @@
-use Rattle.mt_match_laws.proofs.TakenLemmas.{same_program_taken_lem}
-use Rattle.mt_match_laws.proofs.taken.same_program_taken.Goals as goal
-
-pub returns : goal.returns
-returns c = same_program_taken_lem

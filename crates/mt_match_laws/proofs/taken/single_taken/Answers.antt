@@ -1,5 +1,0 @@
-use Rattle.mt_match_laws.proofs.TakenLemmas.{single_taken_lem}
-use Rattle.mt_match_laws.proofs.taken.single_taken.Goals as goal
-
-pub returns : goal.returns
-returns c = single_taken_lem

@@ -1,6 +1,0 @@
-use Rattle.std.proofs.Common.{sym}
-use Rattle.mt_rows.proofs.FlatListsFacts.{piece_at}
-use Rattle.mt_rows.proofs.flat_lists.piece.Goals as goal
-
-pub returns : goal.returns
-returns g c = rw c.start_of_list-start.ensures (sym (piece_at 0 c.args.ends.now c.args.items.now c.args.number c.requires.within))

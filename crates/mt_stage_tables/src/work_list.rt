@@ -1,0 +1,113 @@
+ghost use Rattle.std.specs.Prelude.{◌≡◌, [], drop, IfOk, IfSome, IfNone};
+ghost use Rattle.mt_terms.specs.Rounds.{is_on, joined};
+ghost use Rattle.mt_stage_tables.specs.Waiting.{nobody, waiting_first, with_agents, IsKnown};
+
+use indexmap::IndexSet;
+use mt_terms::Agent;
+use std::alloc::{AllocError, Global};
+use std::marker::Model;
+use std::mem::swap;
+
+/// The agents that are to be looked at, first in first out, each at most once.
+///
+/// Agents are read from one ordered set and join at the end of another. Where all of the first are taken, the second takes
+/// its place. Room for every agent of a market is taken in both at the start, so joining takes no memory. An agent that is
+/// taken stays in the first set, passed over, until all are: `IndexSet::pop` doesn't promise that the place is free again.
+///
+/// The sets hash with the fixed seed of `indexmap`. Whoever writes a file chooses which agents wait, but no other keys:
+/// the numbers of all agents together are what the sets have room for.
+pub struct WorkList {
+    applicants: u32,
+    couples: u32,
+    front: IndexSet<Agent>,
+    /// How many of the front are taken, from the first on.
+    taken: usize,
+    back: IndexSet<Agent>,
+}
+
+impl Drop for WorkList {
+    fn drop(self) {
+        let WorkList {
+            applicants: _,
+            couples: _,
+            front: _,
+            taken: _,
+            back: _,
+        } = self;
+    }
+}
+
+impl Model for WorkList {
+    ghost use Rattle.mt_stage_tables.specs.Waiting.{waiting_first, Waiting};
+
+    ghost Value = { Waiting };
+
+    ghost use Rattle.mt_stage_tables.specs.View.{waiting_in, IsWorkList};
+
+    ghost view = { waiting_in };
+
+    ghost invariant = { IsWorkList };
+}
+
+/// Whether an agent is one of a set but so many, from the first on.
+fn is_beyond(agents: &IndexSet<Agent>, first: usize, agent: &Agent) -> bool
+    ensures { result ≡ is_on (drop first agents.now.keys) agent.now }
+{
+    if first >= agents.len() {
+        return false;
+    }
+    match agents.get_index_of(agent) {
+        Some(index) => first <= index,
+        None => false,
+    }
+}
+
+impl WorkList {
+    /// An empty work list for so many applicants and couples.
+    pub fn new(alloc: Global, applicants: u32, couples: u32) -> Result<Self, AllocError>
+        ensures { IfOk result (λ w. w ≡ nobody applicants couples) }
+    {
+        let agents = applicants as usize + couples as usize;
+        Ok(WorkList {
+            applicants,
+            couples,
+            front: IndexSet::with_capacity(alloc, agents)?,
+            taken: 0,
+            back: IndexSet::with_capacity(alloc, agents)?,
+        })
+    }
+
+    /// Whether the agent waits.
+    pub fn waits(&self, agent: &Agent) -> bool
+        requires { IsKnown self.now agent.now }
+        ensures { result ≡ is_on self.now.agents agent.now }
+    {
+        is_beyond(&self.front, self.taken, agent) || is_beyond(&self.back, 0, agent)
+    }
+
+    /// Takes the agent at the front, or none where nobody waits.
+    pub fn take(&mut self) -> Option<Agent>
+        ensures taken { IfSome result (λ g. self.old ≡ waiting_first g self.new) }
+        ensures empty { IfNone result (self.old.agents ≡ []) }
+        ensures still_empty { IfNone result (self.new ≡ self.old) }
+    {
+        if self.taken == self.front.len() {
+            self.front.truncate(0);
+            swap(&mut self.front, &mut self.back);
+            self.taken = 0;
+        }
+        let agent = *self.front.get_index(self.taken)?;
+        self.taken += 1;
+        Some(agent)
+    }
+
+    /// Puts the agent at the end, unless it waits already.
+    pub fn join(&mut self, agent: Agent)
+        requires { IsKnown self.old agent }
+        ensures { self.new ≡ with_agents self.old (joined self.old.agents agent) }
+    {
+        if !self.waits(&agent) {
+            let _added = self.back.insert(agent).unwrap();
+        }
+    }
+}
