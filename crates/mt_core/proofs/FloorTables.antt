@@ -68,7 +68,7 @@ count_is m wf t o p =
 
 -- a rank is held exactly where the applicant that has it is
 pub held_by_rank : (m : Market) (t : Tables) (p a r : ℕ) → IsTrue (is_distinct (program_of m p).ranking) → IsOpenedWith m t
-    → IsRank (program_of m p).ranking a r → held (hold_of t p) r ≡ model.held m (floor_of m t) p a
+    → IsRank (program_of m p).ranking a r → held (hold_of t p) r ≡ model.held_set m (floor_of m t) p a
 held_by_rank m t p a r d o is =
     held_is_choice (program_of m p) ((floor_of m t).received p) (hold_of t p) d (is_holding_of m t p d o) r is.within
     ∙ ap (choice (program_of m p) ((floor_of m t).received p)) is.stands

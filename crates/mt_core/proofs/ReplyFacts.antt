@@ -162,19 +162,19 @@ may_receive m t a p r o can = record { distinct = can.distinct; holding = is_hol
 
 -- who was held at any program of a floor and is so no longer is the one that the reply names
 pub displaced_is : (m : Market) (t : Tables) (a p r : ℕ) (answer : Taken) → IsOpenedWith m t → CanEnter m a p r → IsAnswer (hold_of t p) r answer
-    → (b q : ℕ) → IsTrue (model.held m (floor_of m t) q b) → IsFalse (model.held m (proposed_at m (floor_of m t) a p) q b)
+    → (b q : ℕ) → IsTrue (model.held_set m (floor_of m t) q b) → IsFalse (model.held_set m (proposed_at m (floor_of m t) a p) q b)
     → reply_from (program_of m p).ranking answer ≡ reply.KeptInstead b
 displaced_is m t a p r answer o can is b q on out =
     elim (cases_eq q p) [
       | inl same ↦
-          let there : IsTrue (model.held m (floor_of m t) p b) = subst (λ (x : ℕ). IsTrue (model.held m (floor_of m t) x b)) same on in
-          let gone : IsFalse (model.held m (proposed_at m (floor_of m t) a p) p b) = subst (λ (x : ℕ). IsFalse (model.held m (proposed_at m (floor_of m t) a p) x b)) same out in
+          let there : IsTrue (model.held_set m (floor_of m t) p b) = subst (λ (x : ℕ). IsTrue (model.held_set m (floor_of m t) x b)) same on in
+          let gone : IsFalse (model.held_set m (proposed_at m (floor_of m t) a p) p b) = subst (λ (x : ℕ). IsFalse (model.held_set m (proposed_at m (floor_of m t) a p) x b)) same out in
           displaced_there (program_of m p) ((floor_of m t).received p) (hold_of t p) a r answer (may_receive m t a p r o can) is b there (sym (received_at p (eq-eqb p p refl)) ∙ gone)
       | inr other ↦ absurd (both_ways _ out (elsewhere (ne_eqb q p other) ∙ on))
     ]
   where
-    received_at : (x : ℕ) → (x == p) ≡ true → model.held m (proposed_at m (floor_of m t) a p) x b ≡ choice (program_of m x) (receives_one (floor_of m t) p a) b
+    received_at : (x : ℕ) → (x == p) ≡ true → model.held_set m (proposed_at m (floor_of m t) a p) x b ≡ choice (program_of m x) (receives_one (floor_of m t) p a) b
     received_at x e = rw e refl
 
-    elsewhere : (q == p) ≡ false → model.held m (proposed_at m (floor_of m t) a p) q b ≡ model.held m (floor_of m t) q b
+    elsewhere : (q == p) ≡ false → model.held_set m (proposed_at m (floor_of m t) a p) q b ≡ model.held_set m (floor_of m t) q b
     elsewhere e = rw e refl

@@ -78,7 +78,7 @@ returns-clause-displaced c b p on out =
     let now = ap (floor_of r.market) c.enter-taken.ensures.tables ∙ entered_floor r.market t a entry.program entry.rank c.requires.opened facts.1.can in
     c.reply_at.ensures
     ∙ displaced_is r.market t a entry.program entry.rank c.enter-taken.result c.requires.opened facts.1.can (record { refused = c.enter-taken.ensures.refused; dropped = c.enter-taken.ensures.dropped }) b p on
-    (ap (λ f. model.held r.market f p b) (sym now) ∙ out)
+    (ap (λ f. model.held_set r.market f p b) (sym now) ∙ out)
 
 pub returns-clause-not_due : goal.returns-clause-not_due
 returns-clause-not_due c e = absurd (reply_differs (program_of c.args.ranks.now.market c.in-Some.entry.program).ranking c.enter-taken.result (sym c.reply_at.ensures ∙ e))
