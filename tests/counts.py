@@ -15,7 +15,7 @@ CHECKS = {
     "cli PROGRAM": 8385,
     "cli": 8388,
     "controls": 32,
-    "edits_apply": 595,
+    "edits_apply": 598,
     "linear": 45,
     "memory": 448,
     "memory --calls": 15,
@@ -23,8 +23,8 @@ CHECKS = {
     "must_fail": 74,
     "pages": 267,
     "threads": 28,
-    "words": 267,
-    "wrong_bodies --release": 42,
+    "words": 284,
+    "wrong_bodies --release": 44,
 }
 # The sweeps of the forms of tests/memory, by the number of workers and whether all requests from one on are refused.
 SWEEPS = {

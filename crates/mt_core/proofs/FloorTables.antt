@@ -1,5 +1,5 @@
 -- What tables say of a floor, and how a proposal changes both.
-use Rattle.std.proofs.Common.{◌≡◌, ◌≢◌, ◌==◌, ℕ, ◌+◌, ◌<◌, List, Bool, true, false, not, ◌||◌, ◌&&◌, Option, Some, None, IsTrue, length, get_or, set, refl, sym, ap, ◌∙◌, inl, inr, arith, eq-eqb, ne_eqb, get_or-set_same, get_or-set_other, length-set, cond}
+use Rattle.std.proofs.Common.{◌≡◌, ◌≢◌, ◌==◌, ℕ, ◌+◌, ◌<◌, List, Bool, true, false, not, ◌&&◌, Option, Some, None, IsTrue, length, get_or, set, refl, ap, ◌∙◌, inl, inr, arith, eq-eqb, ne_eqb, get_or-set_same, get_or-set_other, length-set, cond}
 use Rattle.std.specs.List.{position}
 use Rattle.std.specs.Option.{option_map_or, is_some}
 use Rattle.std.proofs.Math.Path.{fun_ext}
@@ -10,13 +10,13 @@ use Rattle.mt_terms.specs.Choice.{choice}
 use Rattle.mt_terms.specs.WellFormed.{IsWellFormed}
 use Rattle.mt_terms.specs.Floor as model
 use Rattle.mt_terms.specs.Floor.{Floor, proposed_at, receives_one}
-use Rattle.mt_hold.specs.Holding.{Holding, ranks, has_received, received_count, held, opened, receive}
+use Rattle.mt_hold.specs.Holding.{Holding, ranks, has_received, received_count, held, opened, receive, received_from}
 use Rattle.mt_hold.specs.Laws.{IsHoldingOf}
 use Rattle.mt_hold.proofs.Lists.{held_is_choice, receive_adds_one, count_is_size}
 use Rattle.mt_ranks.specs.Ranked.{IsRank, rank_of}
-use Rattle.mt_ranks.proofs.Positions.{has-position, IsRank-from_position}
-use Rattle.mt_core.specs.Floors.{Tables, hold_of, received_from, received_by, floor_of, IsOpenedWith, entered, with_standing}
-use Rattle.mt_core.proofs.RankFacts.{position_at}
+use Rattle.mt_ranks.proofs.Positions.{has-position}
+use Rattle.mt_core.specs.Floors.{Tables, hold_of, received_by, floor_of, IsOpenedWith, entered, with_standing}
+use Rattle.mt_hold.proofs.ReceivedFacts.{holding_of_received, received_at_rank, received_more}
 
 -- floors that agree at each number are the same
 pub same_floor : (f g : Floor) → ((a : ℕ) → f.made a ≡ g.made a) → ((a : ℕ) → f.standing a ≡ g.standing a) → ((p a : ℕ) → f.received p a ≡ g.received p a) → f ≡ g
@@ -33,14 +33,6 @@ made_of m t a = refl
 pub standing_of : (m : Market) (t : Tables) (a : ℕ) → (floor_of m t).standing a ≡ get_or t.standing a false
 unfolding floor_of
 standing_of m t a = refl
-
--- a holding with the program's quota and a rank for each on its list is that of whom it has received
-pub holding_of_received : (p : Program) (h : Holding) → IsTrue (is_distinct p.ranking) → h.quota ≡ p.quota → ranks h ≡ length p.ranking → IsHoldingOf p (received_from p h) h
-holding_of_received p h d quota listed = record {
-  quota = quota;
-  listed = listed;
-  received = λ k low. sym (ap (λ r. option_map_or (has_received h) r false) (position_at p.ranking k d low));
-}
 
 -- a program's holding is its holding on the floor
 pub is_holding_of : (m : Market) (t : Tables) (p : ℕ) → IsTrue (is_distinct (program_of m p).ranking) → IsOpenedWith m t
@@ -73,13 +65,10 @@ held_by_rank m t p a r d o is =
     held_is_choice (program_of m p) ((floor_of m t).received p) (hold_of t p) d (is_holding_of m t p d o) r is.within
     ∙ ap (choice (program_of m p) ((floor_of m t).received p)) is.stands
 
--- a rank is received exactly where the applicant that has it is
-pub received_at_rank : (p : Program) (h : Holding) (a r : ℕ) → IsRank p.ranking a r → received_from p h a ≡ has_received h r
-received_at_rank p h a r is = ap (λ o. option_map_or (has_received h) o false) is.found
-
+-- a rank is received on the floor exactly where the applicant that has it is
 pub received_by_rank : (m : Market) (t : Tables) (p a r : ℕ) → IsRank (program_of m p).ranking a r → (floor_of m t).received p a ≡ has_received (hold_of t p) r
 unfolding floor_of
-received_by_rank m t p a r is = received_at_rank (program_of m p) (hold_of t p) a r is
+received_by_rank m t p a r is = received_at_rank (program_of m p) (hold_of t p) a r is.found
 
 -- the holding of a program after a proposal there, and of another one
 hold_there : (t : Tables) (a p r : ℕ) → p < length t.holds → hold_of (entered t a p r) p ≡ receive (hold_of t p) r
@@ -115,29 +104,6 @@ set_cases xs i y d within k =
       | inr other ↦ rw (ne_eqb k i other) (get_or-set_other xs i k y d other)
     ]
 
--- a proposal from a rank adds the applicant that has it to those received, and no other
-pub received_more : (p : Program) (h : Holding) (a r : ℕ) → r < ranks h → IsRank p.ranking a r
-    → (b : ℕ) → received_from p (receive h r) b ≡ ((b == a) || received_from p h b)
-received_more p h a r within is b = by_rank (position (λ x. x == b) p.ranking) refl
-  where
-    by_rank : (o : Option ℕ) → position (λ x. x == b) p.ranking ≡ o → option_map_or (has_received (receive h r)) o false ≡ ((b == a) || option_map_or (has_received h) o false)
-    by_rank None e = rw (ne_eqb b a (λ same. none_some (sym e ∙ ap (λ x. position (λ y. y == x) p.ranking) same ∙ is.found))) refl
-      where
-        none_some : None ≡ Some r → ⊥
-        none_some f = cc
-    by_rank (Some k) e =
-        let stands = (IsRank-from_position p.ranking b k e).stands in
-        elim (cases_eq k r) [
-          | inl same ↦
-              let is_a : b ≡ a = sym stands ∙ ap (λ n. get_or p.ranking n 0) same ∙ is.stands in
-              rw (same, get_or-set_same h.received r true false within, eq-eqb b a is_a) refl
-          | inr other ↦
-              rw (get_or-set_other h.received r k true false other, ne_eqb b a (λ is_a. other (some_inj (sym e ∙ ap (λ x. position (λ y. y == x) p.ranking) is_a ∙ is.found)))) refl
-        ]
-      where
-        some_inj : {x y : ℕ} → Some x ≡ Some y → x ≡ y
-        some_inj f = cc
-
 -- A proposal that can be made: the applicant and the program are in the market, and the applicant has this rank
 -- on the program's list.
 pub record CanEnter (m : Market) (a p r : ℕ) : Type 0 where
@@ -165,7 +131,7 @@ entered_floor m t a p r o can =
     (λ q b.
     hold_cases t a p r (omega (arith, o.holds, can.program))
     (λ q h. option_map_or (has_received h) (rank_of m q b) false ≡ cond (q == p) (receives_one (floor_of m t) p a) (received_by m t q) b)
-    (rw (eq-eqb p p refl) (received_more (program_of m p) (hold_of t p) a r (omega (arith, o.lists p, can.is_rank.within)) can.is_rank b))
+    (rw (eq-eqb p p refl) (received_more (program_of m p) (hold_of t p) a r (omega (arith, o.lists p, can.is_rank.within)) can.is_rank.found b))
     (λ q other. rw (ne_eqb q p other) refl) q)
 
 -- the tables after a notice show the floor after it

@@ -1,9 +1,9 @@
 -- A proposal that is due can be made.
-use Rattle.std.proofs.Common.{◌≡◌, ◌==◌, ℕ, zero, suc, List, [], ◌∷◌, map, get_or, sym, ◌-◌, ◌<◌, ◌≤◌, length, Bool, true, false, cond, Option, Some, None, IsTrue, IsFalse, slice_get, take, ne_eqb, refl, ap, ◌∙◌, arith, subst}
+use Rattle.std.proofs.Common.{◌≡◌, ◌==◌, ℕ, zero, suc, List, [], ◌∷◌, map, get_or, sym, ◌-◌, ◌<◌, length, Bool, true, false, cond, Option, Some, None, IsTrue, IsFalse, slice_get, take, ne_eqb, refl, ap, ◌∙◌, arith, subst}
 use Rattle.std.proofs.lemmas.Bool.Decides.{nat_tests}
 use Rattle.std.specs.Option.{option_map, unwrap_or}
 use Rattle.mt_terms.specs.Lists.{has}
-use Rattle.mt_terms.specs.Market.{Market, applicants, program_of, list_of, live}
+use Rattle.mt_terms.specs.Market.{Market, list_of, live}
 use Rattle.mt_terms.specs.Floor.{Floor, IsRecorded, next_entry, last_proposed_to}
 use Rattle.mt_floor_laws.proofs.FloorLists.{has-get, has-take-suc, has-take_before}
 use Rattle.mt_floor_laws.proofs.FloorEvents.{IsNext, next_facts, within_get, get_some}
@@ -11,7 +11,7 @@ use Rattle.mt_terms.proofs.LiveFacts.{live_parts, live_distinct}
 use Rattle.mt_floor_laws.proofs.FloorBest.{applicant_from_live}
 use Rattle.mt_ranks.specs.Ranked.{Ranked, IsRanked, rank_of, ranked_entry, ranked_list}
 use Rattle.mt_ranks.specs.declared.entries.Live.{Live}
-use Rattle.mt_ranks.proofs.Sizes.{distinct_length}
+use Rattle.mt_ranks.proofs.LiveMarket.{live_few}
 use Rattle.mt_core.proofs.FloorTables.{CanEnter}
 
 -- an entry of a live list can be proposed to
@@ -19,12 +19,6 @@ pub entry_can_enter : (r : Ranked) → IsRanked r → (a p : ℕ) → IsTrue (ha
 entry_can_enter r is a p on =
     let entry = is.all_ranked a p (live_parts r.market a p on).1 in
     record { applicant = applicant_from_live r.market a p on; program = entry.program; distinct = is.well_formed.rankings_distinct p; is_rank = entry.rank }
-
--- a live list has no more entries than there may be programs
-pub live_few : (r : Ranked) → IsRanked r → (a : ℕ) → length (live r.market a) ≤ 20000
-live_few r is a =
-    let same : length (live r.market a) ≡ length (list_of r.market a) = ap length (is.all_live a) in
-    omega (arith, same, distinct_length (list_of r.market a) (length r.market.programs) (is.well_formed.lists_distinct a) (is.well_formed.lists_within a), is.few_programs)
 
 -- The next entry of an applicant's live list, which it can propose to and hasn't proposed to yet.
 pub record IsFirstTime (m : Market) (f : Floor) (a p r : ℕ) : Type 0 where
@@ -120,8 +114,3 @@ no_entry m a (Some p) e = absurd (some_none e)
   where
     some_none : {x : Live} → Some x ≡ None → ⊥
     some_none k = cc
-
--- a program's list has no more applicants than there may be
-pub ranking_few : (r : Ranked) → IsRanked r → (p : ℕ) → length (program_of r.market p).ranking ≤ 100000
-ranking_few r is p =
-    omega (arith, distinct_length (program_of r.market p).ranking (applicants r.market) (is.well_formed.rankings_distinct p) (is.well_formed.rankings_within p), is.few_applicants)

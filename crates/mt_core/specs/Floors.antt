@@ -1,11 +1,9 @@
 -- How a floor is kept, and which floor of a market that is.
-use Rattle.std.specs.Prelude.{◌≡◌, ℕ, ◌+◌, ◌==◌, Bool, false, List, length, map, slice_index_or, slice_set}
-use Rattle.std.specs.List.{position}
-use Rattle.std.specs.Option.{option_map_or}
+use Rattle.std.specs.Prelude.{◌≡◌, ℕ, ◌+◌, Bool, false, List, length, map, slice_index_or, slice_set}
 use Rattle.mt_terms.specs.Lists.{Set, below}
-use Rattle.mt_terms.specs.Market.{Market, Program, applicants, program_of}
+use Rattle.mt_terms.specs.Market.{Market, applicants, program_of}
 use Rattle.mt_terms.specs.Floor.{Floor}
-use Rattle.mt_hold.specs.Holding.{Holding, ranks, has_received, held, opened, receive}
+use Rattle.mt_hold.specs.Holding.{Holding, ranks, held, opened, receive, received_from}
 
 -- for each applicant how many proposals it has made and whether it stands, and for each program its holding
 pub record Tables : Type 0 where
@@ -16,11 +14,6 @@ pub record Tables : Type 0 where
 -- the holding of a program: a number that no program has gives a holding that has received nothing
 abbrev pub hold_of : Tables → ℕ → Holding
 hold_of t p = slice_index_or t.holds p (opened 0 0)
-
--- the applicants that a program with this holding has received: those on its list, at a rank that the holding has
--- received
-abbrev pub received_from : Program → Holding → Set
-received_from p h a = option_map_or (has_received h) (position (λ x. x == a) p.ranking) false
 
 -- the applicants that a program has received
 abbrev pub received_by : Market → Tables → ℕ → Set

@@ -6,4 +6,3 @@ pub mod Examples
 pub mod Floors
 pub mod FloorsView
 pub mod Order
-pub mod Replies

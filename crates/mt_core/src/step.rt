@@ -6,7 +6,7 @@ ghost use Rattle.mt_core.specs.Calls.{is_due_on, IsAfter, StaysLegal, StaysStric
 ghost use Rattle.mt_core.specs.Ends.{NamesDisplaced};
 ghost use Rattle.mt_core.specs.Entries.{entry_of, live_entry};
 ghost use Rattle.mt_core.specs.Floors.{floor_of, IsOpenedWith};
-ghost use Rattle.mt_core.specs.Replies.{reply_from, IsAnswerOn};
+ghost use Rattle.mt_hold.specs.Replies.{reply_from, IsAnswerOn};
 
 use crate::floor::{Floor, made};
 use mt_hold::Taken;

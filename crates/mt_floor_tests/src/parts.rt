@@ -1,6 +1,6 @@
 //! What a caller with threads of its own knows of the parts of a hall that it has in hand, from public clauses alone.
 ghost use Rattle.std.specs.Prelude.{◌≡◌, ℕ, IsTrue};
-ghost use Rattle.mt_hall.specs.Parts.{AllAboveExcluded, RefusedAreExcluded, received_at};
+ghost use Rattle.mt_desks.specs.Parts.{AllAboveExcluded, RefusedAreExcluded, received_at};
 
 use mt_hall::{Door, HallName, Pass};
 use mt_ranks::Ranks;

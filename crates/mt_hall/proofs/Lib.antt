@@ -1,5 +1,1 @@
-pub mod Applying
 pub mod Auditing
-pub mod Keeping
-pub mod Meeting
-pub mod Openings

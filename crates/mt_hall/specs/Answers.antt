@@ -6,13 +6,9 @@ use Rattle.mt_terms.specs.Best.{IsExcluded}
 use Rattle.mt_terms.specs.declared.events.Reply.{Reply}
 use Rattle.mt_terms.specs.declared.events.Reply.TheVariants.{Kept, KeptInstead, Refused, Noticed, NotDue}
 use Rattle.mt_ranks.specs.Ranked.{Ranked}
-use Rattle.mt_hall.specs.Parts.{PassView, AllAboveExcluded, one_more}
+use Rattle.mt_desks.specs.Parts.{PassView, AllAboveExcluded, one_more}
 use Rattle.mt_hall.specs.declared.answer.Answer.{Answer}
 use Rattle.mt_hall.specs.declared.answer.Answer.TheVariants.{Moved, Told, At, Out, Stranger}
-
--- whether an applicant is a single
-abbrev pub is_single : Ranked → ℕ → Bool
-is_single r a = slice_index_or r.singles a false
 
 -- A proposal went to a live entry. If it was refused, the program is excluded for the applicant. If it displaced
 -- another applicant, the program is excluded for that one.

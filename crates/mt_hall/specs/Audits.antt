@@ -5,8 +5,8 @@ use Rattle.mt_terms.specs.Lists.{below, count_below, total_below}
 use Rattle.mt_terms.specs.Market.{Market, applicants, live}
 use Rattle.mt_terms.specs.Floor.{Floor}
 use Rattle.mt_ranks.specs.Ranked.{Ranked}
-use Rattle.mt_hall.specs.Parts.{PassView, IsRow}
-use Rattle.mt_hall.specs.Answers.{is_single}
+use Rattle.mt_desks.specs.Parts.{PassView, IsRow}
+use Rattle.mt_desks.specs.Singles.{is_single}
 use Rattle.mt_hall.specs.declared.audit.Row.{Row}
 
 -- how many proposals were made with all the passes

@@ -1,18 +1,15 @@
-ghost use Rattle.std.specs.Prelude.{◌≡◌, ◌||◌, not, ◌^◌, ◌≢◌, ◌+◌, ◌==◌, ◌<◌, ℕ, IfNone, IfSome, IsNone, IsSome, length, slice_index, vec_len};
+ghost use Rattle.std.specs.Prelude.{◌≡◌, ◌||◌, not, ◌^◌, ◌≢◌, ◌+◌, ◌==◌, ◌<◌, ℕ, IfNone, IfSome, IsNone, IsSome, length, vec_len};
 ghost use Rattle.mt_terms.specs.Lists.{count_below, total_below};
 ghost use Rattle.mt_terms.specs.Market.{applicants, live, live_entries};
 ghost use Rattle.mt_terms.specs.Floor.{IsLegal, opening, proposals_made};
 ghost use Rattle.mt_ranks.specs.Ranked.{IsRanked};
 ghost use Rattle.mt_core.specs.Floors.{floor_of, IsOpenedWith};
-ghost use Rattle.mt_hall.specs.Answers.{is_single};
+ghost use Rattle.mt_desks.specs.Singles.{is_single};
 ghost use Rattle.mt_hall.specs.Audits.{all_agree, all_for, all_proposals, all_to, made_in, noted, programs_agree, singles_agree, AreRows};
 
-use crate::desk::Desk;
 use crate::hall::Hall;
-use crate::name::HallName;
-use crate::pass::Pass;
-use crate::till::Till;
 use mt_core::{Floor, made, received};
+use mt_desks::{Desk, HallName, Pass};
 use mt_ranks::Ranks;
 use mt_tally::{DeskShare, Roll, settle, take_desk, take_pass};
 use mt_terms::{AppNo, ProgNo};
@@ -55,12 +52,10 @@ fn note<K: HallName>(
         ≡ total_below (made_in rows.old.items) place + length (live K.ranked.market place)) }
     ensures astray { IfSome astray.new (λ numbers. numbers.0 ≢ numbers.1) }
 {
-    let Desk {
-        applicant,
-        made,
-        standing,
-        credits,
-    } = desk;
+    let applicant = desk.applicant();
+    let made = desk.made();
+    let standing = desk.standing();
+    let credits = desk.into_credits();
     if applicant == AppNo(place) {
         rows[place as usize] = Row { made, standing };
     } else if astray.is_none() {
@@ -83,9 +78,11 @@ fn take_desks<K: HallName>(
     ensures total { roll.new.total ≡ roll.old.total }
     ensures passes { roll.new.pass_credits ≡ roll.old.pass_credits }
     ensures len { vec_len rows.new ≡ vec_len rows.old }
-    ensures rows { IfNone result (AreRows K.ranked.market rows.new.items (applicants K.ranked.market)) }
-    ensures credits { IfNone result (roll.new.desk_credits + total_below (made_in rows.new.items) (applicants K.ranked.market)
-        ≡ live_entries K.ranked.market) }
+    ensures rows { let m = K.ranked.market in
+        IfNone result (AreRows m rows.new.items (applicants m)) }
+    ensures credits { let m = K.ranked.market in
+        IfNone result (roll.new.desk_credits + total_below (made_in rows.new.items) (applicants m)
+        ≡ live_entries m) }
     ensures astray { IfSome result (λ numbers. numbers.0 ≢ numbers.1) }
 {
     let mut astray: Option<(AppNo, AppNo)> = None;
@@ -109,13 +106,7 @@ fn take_passes<K: HallName>(roll: &mut Roll<K>, passes: Vec<Pass<K>>)
 {
     let mut passes = passes.into_iter();
     'passes: while let Some(pass) = passes.next() {
-        let Pass {
-            credits,
-            by_program: _,
-            by_applicant: _,
-            contended_locks: _,
-        } = pass;
-        take_pass(roll, credits);
+        take_pass(roll, pass.into_credits());
     }
     passes.destroy_empty();
 }
@@ -178,7 +169,8 @@ fn single_agrees<K: HallName>(
     requires opened { IsOpenedWith ranks.now.market floor.now }
     requires applicant { applicant < applicants ranks.now.market }
     ensures { let f = floor_of ranks.now.market floor.now in
-        result ≡ (not (is_single ranks.now applicant) || (all_for passes.now applicant == f.made applicant)) }
+        result ≡ (not (is_single ranks.now applicant)
+        || (all_for passes.now applicant == f.made applicant)) }
 {
     !ranks.is_single(applicant) || made_with(passes, applicant, made(floor, applicant))
 }
@@ -195,7 +187,8 @@ fn program_agrees<K: HallName>(
     requires opened { IsOpenedWith ranks.now.market floor.now }
     requires program { program < length ranks.now.market.programs }
     ensures { let f = floor_of ranks.now.market floor.now in
-        result ≡ (all_to passes.now program == count_below (f.received program) (applicants ranks.now.market)) }
+        result ≡ (all_to passes.now program
+        == count_below (f.received program) (applicants ranks.now.market)) }
 {
     received_with(passes, program, received(floor, program))
 }
@@ -237,7 +230,8 @@ impl<'a, K: HallName> Hall<'a, K> {
 
         // As many proposals were made as there are credits in the passes.
         ensures total { let m = K.ranked.market in
-            IfNone result.astray (proposals_made m (floor_of m result.floor) ≡ all_proposals passes.items) }
+            IfNone result.astray
+            (proposals_made m (floor_of m result.floor) ≡ all_proposals passes.items) }
         ensures astray { IfSome result.astray (λ numbers. numbers.0 ≢ numbers.1) }
         ensures opening { IsSome result.astray → floor_of K.ranked.market result.floor ≡ opening }
         ensures agrees { let m = K.ranked.market in
@@ -251,7 +245,7 @@ impl<'a, K: HallName> Hall<'a, K> {
             mut floor,
             mut rows,
         } = self;
-        let Till { mut roll } = till.into_inner();
+        let mut roll = till.into_inner().into_roll();
         ranks.applicants();
         let astray = take_desks(&mut roll, &mut rows, desks);
         if astray.is_none() {

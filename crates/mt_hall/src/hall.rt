@@ -1,24 +1,20 @@
-ghost use Rattle.std.specs.Prelude.{◌≡◌, ◌≢◌, ◌↔◌, ◌+◌, ◌<◌, ◌≤◌, All, IfOk, IsTrue, ℕ, false, if◌then◌else◌, length, slice_index_or, vec_len};
+ghost use Rattle.std.specs.Prelude.{◌≡◌, ◌≢◌, ◌↔◌, ◌+◌, ◌<◌, ◌≤◌, All, IfOk, IsTrue, ℕ, false, if◌then◌else◌, length, vec_len};
 ghost use Rattle.mt_terms.specs.Lists.{has};
 ghost use Rattle.mt_terms.specs.Market.{Market, applicants, live};
 ghost use Rattle.mt_terms.specs.Floor.{opening};
 ghost use Rattle.mt_core.specs.Floors.{floor_of, IsOpenedWith};
-ghost use Rattle.mt_hall.specs.Answers.{Tells, is_of_proposal, is_single, pass_after};
-ghost use Rattle.mt_hall.specs.Openings.{unused_pass};
-ghost use Rattle.mt_hall.specs.Parts.{one_more};
-ghost use Rattle.mt_hall.specs.Steps.{Shows};
+ghost use Rattle.mt_hall.specs.Answers.{Tells, is_of_proposal, pass_after};
+ghost use Rattle.mt_desks.specs.Singles.{is_single};
+ghost use Rattle.mt_desks.specs.Openings.{unused_pass};
+ghost use Rattle.mt_desks.specs.Parts.{one_more};
+ghost use Rattle.mt_desks.specs.Steps.{Shows};
 
 use crate::answer::Answer;
 use crate::audit::Row;
-use crate::desk::Desk;
-use crate::door::Door;
-use crate::entries::{entry_at, is_single, live_len};
-use crate::name::HallName;
-use crate::opening::{deal_out, open_doors};
-use crate::pass::Pass;
-use crate::steps::step;
-use crate::till::Till;
 use mt_core::Floor;
+use mt_desks::{
+    Desk, Door, HallName, Pass, Till, deal_out, entry_at, is_single, live_len, open_doors, step,
+};
 use mt_ranks::Ranks;
 use mt_terms::{AppNo, ProgNo, Reply};
 use std::alloc::{AllocError, Global};
@@ -56,10 +52,12 @@ impl<'a, K: HallName> Hall<'a, K> {
     ) -> Result<(Hall<'a, K>, Vec<Pass<K>>), AllocError>
         requires ranks { ranks.now ≡ K.ranked }
         requires name { blank.name ≡ K.name }
-        requires parts { (blank.parts ≡ K.parts) × (K.parts ≡ applicants K.ranked.market + workers) }
+        requires parts { (blank.parts ≡ K.parts)
+            × (K.parts ≡ applicants K.ranked.market + workers) }
         requires workers { (1 ≤ workers) × (workers ≤ 64) }
         ensures passes { IfOk result (λ opened. vec_len opened.1 ≡ workers) }
-        ensures unused { IfOk result (λ opened. All (λ pass. pass ≡ unused_pass K.ranked.market) opened.1.items) }
+        ensures unused { IfOk result
+            (λ opened. All (λ pass. pass ≡ unused_pass K.ranked.market) opened.1.items) }
     {
         let applicants = ranks.applicants();
         let floor = Floor::open(alloc, ranks)?;
@@ -138,9 +136,11 @@ impl<'a, K: HallName> Hall<'a, K> {
 
 // The answer to a call whose one event had this reply of the program.
 fn answer_to(program: ProgNo, reply: Reply) -> Answer
-    ensures tells { (m : Market) (a : ℕ) → IsTrue (has (live m a) program) → Shows m a program reply → Tells m a result }
+    ensures tells { (m : Market) (a : ℕ) → IsTrue (has (live m a) program)
+        → Shows m a program reply → Tells m a result }
     ensures known { result ≢ Answer.Stranger }
-    ensures pass { (s : _) (a : ℕ) → pass_after s a result ≡ (if is_of_proposal reply then one_more s program a else s) }
+    ensures pass { (s : _) (a : ℕ) → pass_after s a result
+        ≡ (if is_of_proposal reply then one_more s program a else s) }
 {
     match reply {
         Reply::Kept => Answer::Moved {

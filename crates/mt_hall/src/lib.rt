@@ -4,22 +4,9 @@
 
 mod answer;
 mod audit;
-mod desk;
-mod door;
-mod entries;
 mod hall;
-mod name;
-mod opening;
-mod pass;
-mod steps;
-mod till;
 
 pub use answer::Answer;
 pub use audit::Audit;
-pub use desk::Desk;
-pub use door::Door;
 pub use hall::Hall;
-pub use name::HallName;
-pub use pass::Pass;
-pub use steps::step;
-pub use till::Till;
+pub use mt_desks::{Desk, Door, HallName, Pass, Till, step};

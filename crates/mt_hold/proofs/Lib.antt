@@ -5,3 +5,5 @@ pub mod Ends
 pub mod LastFlag
 pub mod Lists
 pub mod Proposing
+pub mod ReceivedFacts
+pub mod ReplyFacts

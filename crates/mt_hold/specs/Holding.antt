@@ -1,6 +1,8 @@
 -- What a program has received and whom it holds, by the ranks of applicants on its list. A rank is the position from
 -- 0, so the applicant that the program wants most has rank 0.
-use Rattle.std.specs.Prelude.{ℕ, Bool, true, false, List, length, replicate, slice_index_or, slice_set}
+use Rattle.std.specs.Prelude.{ℕ, ◌==◌, Bool, true, false, List, length, replicate, slice_index_or, slice_set}
+use Rattle.std.specs.List.{position}
+use Rattle.std.specs.Option.{option_map_or}
 use Rattle.mt_terms.specs.Lists.{Set, below, count}
 use Rattle.mt_terms.specs.Market.{Program}
 use Rattle.mt_terms.specs.Choice.{choice}
@@ -37,3 +39,8 @@ opened quota n = record { quota = quota; received = replicate n false }
 -- the holding after a proposal from one rank more
 abbrev pub receive : Holding → ℕ → Holding
 receive h rank = record h { received = slice_set h.received rank true }
+
+-- the applicants that a program with this holding has received: those on its list, at a rank that the holding has
+-- received
+abbrev pub received_from : Program → Holding → Set
+received_from p h a = option_map_or (has_received h) (position (λ x. x == a) p.ranking) false

@@ -83,6 +83,17 @@ few_live r is =
     let same = total_below-same (λ a. length (live r.market a)) (λ a. length (list_of r.market a)) (applicants r.market) (λ a low. ap length (is.all_live a)) in
     omega (arith, same, is.few_entries)
 
+-- a live list has no more entries than there may be programs
+pub live_few : (r : Ranked) → IsRanked r → (a : ℕ) → length (live r.market a) ≤ 20000
+live_few r is a =
+    let same : length (live r.market a) ≡ length (list_of r.market a) = ap length (is.all_live a) in
+    omega (arith, same, distinct_length (list_of r.market a) (length r.market.programs) (is.well_formed.lists_distinct a) (is.well_formed.lists_within a), is.few_programs)
+
+-- a program's list has no more applicants than there may be
+pub ranking_few : (r : Ranked) → IsRanked r → (p : ℕ) → length (program_of r.market p).ranking ≤ 100000
+ranking_few r is p =
+    omega (arith, distinct_length (program_of r.market p).ranking (applicants r.market) (is.well_formed.rankings_distinct p) (is.well_formed.rankings_within p), is.few_applicants)
+
 -- Below, r are the rank tables of the market m.
 pub ranked_programs : (r : Ranked) (m : Market) → r ≡ ranked_of m → length r.market.programs ≡ length m.programs
 ranked_programs r m is = ap (λ (x : Ranked). length x.market.programs) is

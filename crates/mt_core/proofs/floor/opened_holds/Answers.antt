@@ -2,7 +2,7 @@ use Rattle.std.proofs.Common.{◌++◌, ◌∷◌, [], length, sym, ap, ap₂, �
 use Rattle.mt_hold.specs.Holding.{opened}
 use Rattle.mt_core.specs.Floors.{opened_for}
 use Rattle.mt_terms.proofs.BelowFacts.{map-below_more}
-use Rattle.mt_core.proofs.NextFacts.{ranking_few}
+use Rattle.mt_ranks.proofs.LiveMarket.{ranking_few}
 use Rattle.mt_core.proofs.floor.opened_holds.Goals as goal
 
 pub overflow_cast-list_len : goal.overflow_cast-list_len

@@ -5,10 +5,11 @@ use Rattle.mt_terms.specs.declared.events.Reply.TheVariants.{NotDue}
 use Rattle.mt_hold.specs.declared.holding.Taken.{Taken}
 use Rattle.mt_hold.specs.declared.holding.Taken.TheVariants as taken
 use Rattle.mt_core.specs.Floors.{IsOpenedWith, Tables, floor_of, hold_of}
-use Rattle.mt_core.specs.Replies.{reply_from}
+use Rattle.mt_hold.specs.Replies.{reply_from}
 use Rattle.mt_core.proofs.FloorTables.{made_of, received_by_rank, entered_floor, entered_opened}
 use Rattle.mt_core.proofs.NextFacts.{next_entry_facts, IsFirstTime}
-use Rattle.mt_core.proofs.ReplyFacts.{reply_is, displaced_is, held_within, may_receive}
+use Rattle.mt_core.proofs.ReplyFacts.{displaced_is, may_receive}
+use Rattle.mt_hold.proofs.ReplyFacts.{reply_is, held_within}
 use Rattle.mt_core.proofs.step.propose.Goals as goal
 use Rattle.mt_core.proofs.step.propose.Goals.{In-Some}
 

@@ -1,6 +1,6 @@
 use Rattle.std.proofs.Common.{◌<◌, arith, slice_index_or, subst}
 use Rattle.std.proofs.lemmas.Grind.{common_steps}
-use Rattle.mt_hall.specs.Parts.{PassView}
+use Rattle.mt_desks.specs.Parts.{PassView}
 use Rattle.mt_hall.proofs.Auditing.{too_many}
 use Rattle.mt_hall.proofs.audit.made_with.Goals as goal
 

@@ -14,5 +14,5 @@ invariant-loop-applicant l =
       opened : IsOpenedWith m l.floor;
       recorded : IsRecorded m f;
       made : (b : ℕ) → f.made b ≡ (if nat_lt b l.applicant then made_in l.rows b else 0);
-      passed_programs : (b p : ℕ) → IsTrue (has (passed_programs m f b) p) → IsExcluded m b p;
+      passed : (b p : ℕ) → IsTrue (has (passed_programs m f b) p) → IsExcluded m b p;
     }

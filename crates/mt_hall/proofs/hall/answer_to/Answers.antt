@@ -1,7 +1,7 @@
 use Rattle.std.proofs.Common.{subst}
 use Rattle.std.proofs.lemmas.Bool.{true≢false}
 use Rattle.mt_terms.specs.declared.events.Reply.{Reply}
-use Rattle.mt_hall.specs.Steps.{Shows}
+use Rattle.mt_desks.specs.Steps.{Shows}
 use Rattle.mt_hall.proofs.hall.answer_to.Goals as goal
 
 pub returns-in-Kept-clause-tells : goal.returns-in-Kept-clause-tells

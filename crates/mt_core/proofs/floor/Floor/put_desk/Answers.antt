@@ -8,7 +8,8 @@ use Rattle.mt_core.specs.Desks.{with_desk}
 use Rattle.mt_core.specs.Floors.{Tables, floor_of, IsOpenedWith}
 use Rattle.mt_core.proofs.Desks.{desk_made, desk_received, with_desk_more, with_desk_standing, with_desk_recorded}
 use Rattle.mt_core.proofs.FloorTables.{made_of, received_by_rank, entered_floor, entered_opened}
-use Rattle.mt_core.proofs.NextFacts.{entry_there, live_few}
+use Rattle.mt_core.proofs.NextFacts.{entry_there}
+use Rattle.mt_ranks.proofs.LiveMarket.{live_few}
 use Rattle.mt_core.proofs.floor.Floor.put_desk.Goals as goal
 
 pub enter-requires-clause-fits : goal.enter-requires-clause-fits

@@ -4,15 +4,16 @@ use Rattle.std.proofs.lemmas.Bool.{eqb-true, false≢true, true≢false}
 use Rattle.mt_terms.specs.Lists.{has, with_one}
 use Rattle.mt_terms.specs.Market.{Market, applicants, live, program_of}
 use Rattle.mt_terms.specs.Choice.{choice}
-use Rattle.mt_core.specs.Replies.{reply_to}
+use Rattle.mt_hold.specs.Replies.{reply_to}
 use Rattle.mt_terms.specs.Floor.{kept_reply}
 use Rattle.mt_ranks.specs.Ranked.{Ranked}
 use Rattle.mt_floor_laws.proofs.FloorLists.{has-get}
-use Rattle.mt_hall.specs.Answers.{is_of_proposal, is_single}
+use Rattle.mt_hall.specs.Answers.{is_of_proposal}
+use Rattle.mt_desks.specs.Singles.{is_single}
 use Rattle.mt_terms.specs.declared.events.Reply.{Reply}
 use Rattle.mt_terms.specs.declared.events.Reply.TheVariants.{Refused, Noticed, NotDue}
-use Rattle.mt_hall.specs.Parts.{DeskView, DoorView, PassView, one_more, received_at}
-use Rattle.mt_hall.specs.Steps.{Shows}
+use Rattle.mt_desks.specs.Parts.{DeskView, DoorView, PassView, one_more, received_at}
+use Rattle.mt_desks.specs.Steps.{Shows}
 use Rattle.mt_hall.proofs.hall.Hall.advance.Goals as goal
 
 -- what a lock holds bears the number that it was asked for

@@ -21,8 +21,8 @@ returns-clause-total g c =
           subst (λ (r : Ranked). (a : ℕ) → a < applicants r.market → (floor_of r.market c.if-is_none.floor).made a ≡ made_in rows a) c.args.self.its_ranks
           (λ a low. ap (λ t. (floor_of c.args.self.ranks.now.market t).made a) w.floor-is ∙ w.write_rows.ensures.made a low ∙ ap (λ xs. made_in xs a) w.deref.ensures.value) in
           let same : proposals_made m (floor_of m c.if-is_none.floor) ≡ total_below (made_in rows) (applicants m) = total_below-same _ (made_in rows) (applicants m) made in
-          let dealt = ap Tally.total c.into_inner-roll.result.whole in
-          let none = ap Tally.pass_credits c.into_inner-roll.result.whole in
+          let dealt = ap Tally.total c.into_roll-roll.ensures in
+          let none = ap Tally.pass_credits c.into_roll-roll.ensures in
           let took = c.take_desks-astray.ensures in
           let taken = c.take_passes.ensures in
           if_none_then c.take_desks-astray.result

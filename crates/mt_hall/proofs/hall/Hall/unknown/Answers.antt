@@ -2,7 +2,7 @@ use Rattle.std.proofs.Common.{◌≡◌, Some, slice_get, subst}
 use Rattle.mt_terms.specs.Market.{live}
 use Rattle.mt_ranks.specs.Ranked.{Ranked}
 use Rattle.mt_floor_laws.proofs.FloorLists.{has-get}
-use Rattle.mt_hall.proofs.Keeping.{first_comes}
+use Rattle.mt_desks.proofs.Keeping.{first_comes}
 use Rattle.mt_hall.proofs.hall.Hall.unknown.Goals as goal
 
 pub returns-clause-tells : goal.returns-clause-tells

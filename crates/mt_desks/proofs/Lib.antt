@@ -1,0 +1,4 @@
+pub mod Applying
+pub mod Keeping
+pub mod Meeting
+pub mod Openings

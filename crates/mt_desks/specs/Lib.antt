@@ -1,0 +1,4 @@
+pub mod Openings
+pub mod Parts
+pub mod Singles
+pub mod Steps
