@@ -12,7 +12,7 @@ use Rattle.mt_terms.specs.Registration.Rows.{ids_of, applicant_ids, withdrawn, r
 use Rattle.mt_terms.specs.Registration.Passes.{is_same_pair}
 use Rattle.mt_terms.specs.Registration.Numbering.{is_none_or_in, names_only, pair_by_number, pairs_by_number}
 use Rattle.mt_terms.specs.Registration.Accepted.{are_same_places}
-use Rattle.mt_file_laws.specs.Staying.{flagged, new_numbers, new_place, new_pair, pair_of_places, stays_without, program_flags, applicant_flags}
+use Rattle.mt_file_laws.specs.Staying.{flagged, new_numbers, new_place, new_pair, both_there, stays_without, program_flags, applicant_flags}
 use Rattle.mt_file_laws.proofs.IdFacts.{Within, within_nil, within_cons, within_more, next_place}
 use Rattle.mt_terms.proofs.IdFacts.{same_id, is_same, same_number, differ_parts}
 
@@ -172,7 +172,7 @@ module _ (flags : List Bool) (ids : List Bytes) (differ : all_differ bytes_eq id
       let q : (is_none_or_in ids p.0 ≡ true) × (is_none_or_in ids p.1 ≡ true) = and_parts (is_none_or_in ids p.0) _ h in
       rw (new_place_is p.0 q.0, new_place_is p.1 q.1) (by (is_none_or_in (flagged flags ids) p.0) (is_none_or_in (flagged flags ids) p.1))
     where
-      by : (b c : Bool) → pair_of_places (if b then Some (option_map (number_of (flagged flags ids)) p.0) else None) (if c then Some (option_map (number_of (flagged flags ids)) p.1) else None)
+      by : (b c : Bool) → both_there (if b then Some (option_map (number_of (flagged flags ids)) p.0) else None) (if c then Some (option_map (number_of (flagged flags ids)) p.1) else None)
           ≡ (if b && c then Some (pair_by_number (flagged flags ids) p) else None)
       by true true = refl
       by true false = refl

@@ -23,14 +23,14 @@ abbrev pub new_place : List (Option ℕ) → Option ℕ → Option (Option ℕ)
 new_place news None = Some None
 new_place news (Some n) = option_map Some (slice_index_or news n None)
 
--- a pair of two places that are both there
-abbrev pub pair_of_places : Option (Option ℕ) → Option (Option ℕ) → Option Pair
-pair_of_places (Some x) (Some y) = Some (x, y)
-pair_of_places _ _ = None
+-- the two of a pair, if both are there
+abbrev pub both_there : {X : Type 0} → Option X → Option X → Option (X × X)
+both_there (Some x) (Some y) = Some (x, y)
+both_there _ _ = None
 
 -- a pair by new numbers: none if a program that it names has none
 abbrev pub new_pair : List (Option ℕ) → Pair → Option Pair
-new_pair news p = pair_of_places (new_place news p.0) (new_place news p.1)
+new_pair news p = both_there (new_place news p.0) (new_place news p.1)
 
 -- Whether a record stays if these ids are withdrawn. A withdrawal itself doesn't stay.
 abbrev pub stays_without : (programs applicants couples : List Bytes) → Record → Bool
@@ -39,9 +39,10 @@ stays_without programs applicants couples (ApplicantRecord id list) = not (has_i
 stays_without programs applicants couples (CoupleRecord id a b pairs) = not (has_id couples id)
 stays_without programs applicants couples (WithdrawRecord kind id) = false
 
--- for each program, and for each applicant, whether its record stays: one flag for a single, two for a couple
+-- for each program whether its record stays
 abbrev pub program_flags : (Record → Bool) → List Record → List Bool
 program_flags stays records = filter_map (λ r. option_map (λ id. stays r) (own_id OfProgram r)) records
 
+-- for each applicant whether its record stays: one flag for a single, two for a couple
 abbrev pub applicant_flags : (Record → Bool) → List Record → List Bool
 applicant_flags stays records = flat_map (λ r. map (λ id. stays r) (applicants_of r)) records

@@ -1,11 +1,6 @@
 pub mod NeighbourFacts
-pub mod NameFacts
-pub mod DraftFacts
-pub mod FilterFacts
 pub mod EntryFacts
 pub mod PairSteps
 pub mod NumberingTables
-pub mod WithdrawalFacts
 pub mod MarketFacts
 pub mod AcceptedFacts
-pub mod CoupleFacts

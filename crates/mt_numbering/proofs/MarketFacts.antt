@@ -14,31 +14,27 @@ use Rattle.mt_terms.specs.Registration.Records.{Rules, Record, ProgramRecord, Ap
 use Rattle.mt_terms.specs.Registration.Numbering.{pairs_by_number}
 use Rattle.mt_terms.specs.Registration.Rows.{ids_of, applicant_ids, withdrawn, remaining, entries_of, entry_count}
 use Rattle.mt_file_laws.specs.Faultless.{ids_differ, withdrawals_stand, ranking_stands, list_stands, pair_stands, pairs_stand, is_faultless}
-use Rattle.mt_file_laws.specs.Staying.{stays_without, flagged, new_numbers, program_flags, applicant_flags}
-use Rattle.mt_file_laws.proofs.IdFacts.{differ_parts, neither, itself, or_left, or_right}
+use Rattle.mt_file_laws.specs.Staying.{both_there, stays_without, flagged, new_numbers, program_flags, applicant_flags}
+use Rattle.mt_file_laws.proofs.IdFacts.{differ_parts, neither, itself, or_left, or_right, next_place}
 use Rattle.mt_terms.proofs.IdFacts.{same_id}
 use Rattle.mt_file_laws.proofs.NumberingFacts.{both}
 use Rattle.mt_file_laws.proofs.StayingFacts.{remaining_is, program_ids_stay, applicant_ids_stay, length-program_flags, length-applicant_flags, length-new_numbers, new_number, numbers_stay, pairs_stay}
-use Rattle.mt_numbering.specs.declared.names.NameLists.{NameLists}
+use Rattle.mt_drafts.specs.declared.names.NameLists.{NameLists}
 use Rattle.mt_numbering.specs.declared.entries.Entries.{Entries}
 use Rattle.mt_records.specs.declared.record.Record.{Record as Checked}
 use Rattle.mt_records.specs.declared.kinds.Kinds.{Kinds}
-use Rattle.mt_numbering.specs.Drafts.{has_too_many_names}
-use Rattle.mt_records.specs.Records.{record_seen}
-use Rattle.mt_numbering.specs.Entries.{single_flags, AreNames}
+use Rattle.mt_drafts.specs.Drafts.{has_too_many_names}
+use Rattle.mt_records.specs.Records.{record_seen, all_seen}
+use Rattle.mt_drafts.specs.Names.{single_flags, AreNames}
 use Rattle.mt_numbering.specs.Markets.{AreIdsOfRecords, AreEntries, GivesEntries, Remains}
-use Rattle.mt_numbering.specs.Numbered.{all_seen, program_lists, applicant_lists, couple_lists, ranking_in, lists_by, members_in, pairs_in}
-use Rattle.mt_numbering.specs.Reading.{pairs_by, pairs_read, lists_stand, both_there, members_by, ReadsEntries}
+use Rattle.mt_numbering.specs.Numbered.{program_lists, applicant_lists, couple_lists, ranking_in, lists_by, members_in, pairs_in}
+use Rattle.mt_numbering.specs.Reading.{pairs_by, pairs_read, lists_stand, members_by, ReadsEntries}
 use Rattle.mt_id_lists.specs.Numbering.{Numbering, number_by, numbers_by}
 use Rattle.mt_id_lists.specs.Reading.{ids_read}
-use Rattle.mt_numbering.specs.Registered.{is_registered}
+use Rattle.mt_drafts.specs.Registered.{is_registered}
 use Rattle.mt_records.specs.Limits.{AreBounded}
-use Rattle.mt_numbering.specs.Withdrawals.{stays_after, Stand}
+use Rattle.mt_drafts.specs.Withdrawals.{stays_after, Stand}
 use Rattle.mt_numbering.proofs.PairSteps.{all_only}
-
--- the place after the first
-next_place : {X : Type 0} → (x : X) (xs : List X) (k : ℕ) (d : X) → get_or (x ∷ xs) (1 + k) d ≡ get_or xs k d
-next_place x xs k d = let e : 1 + k ≡ suc k = omega arith in rw e refl
 
 -- there is a flag for each applicant whether it is a single
 pub length-single_flags : (rs : List Record) → length (single_flags rs) ≡ length (applicant_ids rs)
@@ -251,18 +247,6 @@ names_stay records count staying names counted stay are all =
     sym (ap length stay) ∙ length-map staying record_seen ∙ all ∙ counted ∙ sym (length-map records record_seen) in
     subst (λ (rs : List Record). AreNames rs names) (sym (stay ∙ all_kept _ (all_seen records) long)) are
 
--- records that are few have few ids
-pub few_ids : (limits : Limits) (rs : List Record) → AreBounded limits → has_too_many_names limits rs ≡ false → (length (ids_of OfProgram rs) < 2 ^ 31) × (length (applicant_ids rs) < 2 ^ 31)
-few_ids limits rs bounded few =
-    let p = neither (nat_lt limits.applicants (length (applicant_ids rs)) || nat_lt limits.programs (length (ids_of OfProgram rs))) _ few in
-    let q = neither (nat_lt limits.applicants (length (applicant_ids rs))) _ p.0 in
-    let programs : limits.programs ≤ 20_000 = bounded.programs in
-    let applicants : limits.applicants ≤ 100_000 = bounded.applicants in
-    (by limits.programs (length (ids_of OfProgram rs)) q.1 (omega arith), by limits.applicants (length (applicant_ids rs)) q.0 applicants)
-  where
-    by : (limit n : ℕ) → nat_lt limit n ≡ false → limit ≤ 100_000 → n < 2 ^ 31
-    by limit n h l = let le : n ≤ limit = grind (arith, nat_tests) in omega arith
-
 -- the entries of records, one record on
 pub entry_count-more : (left rest : List Record) (r : Record) → left ≡ r ∷ rest → entry_count left ≡ entries_of r + entry_count rest
 entry_count-more left rest r is = ap entry_count is ∙ sum_by-cons entries_of r rest
@@ -366,8 +350,3 @@ stand_found given records None w e h is = cc
 stand_found given records (Some v) w e h is =
     let same : v ≡ w = cc in
     subst (λ (k : Kinds). Stand (all_seen records) k) same (subst (λ (xs : List Checked). Stand (all_seen xs) v) e h)
-
-pub stand_missing : (given records : List Checked) (o : Option Kinds) → given ≡ records
-    → MatchOption o (withdrawals_stand (all_seen given) ≡ false) (Stand (all_seen given)) → o ≡ None → withdrawals_stand (all_seen records) ≡ false
-stand_missing given records None e h is = ap (λ (xs : List Checked). withdrawals_stand (all_seen xs)) (sym e) ∙ h
-stand_missing given records (Some v) e h is = cc

@@ -13,8 +13,8 @@ use Rattle.mt_terms.specs.Registration.Accepted.{IsRegistration}
 use Rattle.mt_terms.proofs.BelowFacts.{length-map_below, map_below_at}
 use Rattle.mt_market.specs.Tables.{programs_with, couples_with, registered_of, AreTables}
 use Rattle.mt_numbering.specs.declared.entries.Entries.{Entries}
-use Rattle.mt_numbering.specs.declared.names.NameLists.{NameLists}
-use Rattle.mt_numbering.specs.Entries.{AreNames}
+use Rattle.mt_drafts.specs.declared.names.NameLists.{NameLists}
+use Rattle.mt_drafts.specs.Names.{AreNames}
 use Rattle.mt_numbering.specs.Markets.{AreEntries}
 use Rattle.mt_numbering.specs.Numbered.{quota_in, ranking_in, lists_by, members_in, pairs_in, bare_couples, registered_by_all}
 use Rattle.mt_id_lists.proofs.ListFacts.{get_or-set}

@@ -5,12 +5,6 @@ use Rattle.mt_terms.specs.Registration.Ids.{Bytes, number_of, numbers_of}
 use Rattle.mt_terms.specs.Registration.Records.{Record, ProgramRecord, ApplicantRecord, CoupleRecord, IdPair}
 use Rattle.mt_file_laws.specs.Faultless.{pair_stands}
 use Rattle.mt_terms.specs.Registration.Numbering.{is_none_or_in, pair_by_number, pairs_by_number, names_of, market_by}
-use Rattle.mt_records.specs.declared.record.Record.{Record as Checked}
-use Rattle.mt_records.specs.Records.{record_seen}
-
--- records as those of the definition
-abbrev pub all_seen : List Checked → List Record
-all_seen records = map record_seen records
 
 -- the lists of programs, of applicants and of couples as the records have them, and whether each is kept: a couple's two
 -- members have empty ones

@@ -2,7 +2,7 @@
 use Rattle.std.specs.Prelude.{◌≡◌, ℕ, ◌&&◌, Bool, true, false, List, [], ◌∷◌, filter, filter_map, flat_map, Option, Some, None, if◌then◌else◌}
 use Rattle.std.specs.List.{list_all}
 use Rattle.mt_file_laws.specs.Faultless.{ranking_stands, list_stands, pair_stands, pairs_stand}
-use Rattle.mt_file_laws.specs.Staying.{new_pair}
+use Rattle.mt_file_laws.specs.Staying.{both_there, new_pair}
 use Rattle.mt_terms.specs.Market.{Pair}
 use Rattle.mt_terms.specs.Registration.Ids.{Bytes, all_differ}
 use Rattle.mt_terms.specs.Registration.Records.{Record, CoupleRecord, IdPair}
@@ -45,10 +45,6 @@ lists_stand half_pairs programs applicants rs =
     list_all (ranking_stands applicants) rs && list_all (list_stands programs) rs && list_all (pairs_stand half_pairs programs) rs
 
 -- a couple's members by new numbers, if both have one
-abbrev pub both_there : Option ℕ → Option ℕ → Option (ℕ × ℕ)
-both_there (Some x) (Some y) = Some (x, y)
-both_there _ _ = None
-
 abbrev pub members_by : Numbering ℕ → Record → Option (ℕ × ℕ)
 members_by n (CoupleRecord id a b pairs) = both_there (number_by n a) (number_by n b)
 members_by n _ = None

@@ -1,13 +1,14 @@
 //! What the lists of records say by new numbers.
 ghost use Rattle.std.specs.Prelude.{◌≡◌, filter, filter_map, IfOk};
 ghost use Rattle.mt_id_lists.specs.Reading.{ids_read, ids_stand, ReadsAll};
-ghost use Rattle.mt_numbering.specs.Numbered.{all_seen, program_lists, applicant_lists, couple_lists};
+ghost use Rattle.mt_records.specs.Records.{all_seen};
+ghost use Rattle.mt_numbering.specs.Numbered.{program_lists, applicant_lists, couple_lists};
 ghost use Rattle.mt_numbering.specs.Reading.{members_by, pairs_read, pairs_stand_in, ReadsEntries};
-ghost use Rattle.mt_numbering.specs.Withdrawals.{stays_after};
+ghost use Rattle.mt_drafts.specs.Withdrawals.{stays_after};
 
 use crate::listed::{applicant_lists, couple_lists, program_lists};
 use crate::pairs::PairReader;
-use crate::withdrawals::stays;
+use mt_drafts::stays;
 use mt_id_lists::{Numbered, read_lists};
 use mt_market::FlatLists;
 use mt_records::{Kinds, Record};

@@ -1,26 +1,26 @@
 //! The market of rows without a fault: all records are taken apart, all ids numbered, each entry looked up once, and by
 //! then it is known whether any record has a fault. Which one, and what it is, the passes over the records tell.
-ghost use Rattle.std.specs.Prelude.{◌≡◌, ◌<◌, ◌^◌, true, false, length, nat_le, IfOk};
+ghost use Rattle.std.specs.Prelude.{◌≡◌, true, false, length, nat_le, IfOk};
 ghost use Rattle.mt_lists.specs.Rows.{rows_left};
 ghost use Rattle.mt_file_laws.specs.Faultless.{faultless_market, is_faultless};
 ghost use Rattle.mt_terms.specs.Registration.Accepted.{IsRegistration};
 ghost use Rattle.mt_terms.specs.Registration.Numbering.{registered};
-ghost use Rattle.mt_terms.specs.Registration.Records.{OfProgram};
-ghost use Rattle.mt_terms.specs.Registration.Rows.{ids_of, applicant_ids, entry_count};
-ghost use Rattle.mt_numbering.specs.Drafts.{drafted, has_too_many_names, with_fields, AreDrafts};
-ghost use Rattle.mt_numbering.specs.Entries.{AreNames};
+ghost use Rattle.mt_terms.specs.Registration.Rows.{entry_count};
+ghost use Rattle.mt_drafts.specs.Drafts.{drafted, has_too_many_names, with_fields, AreDrafts};
+ghost use Rattle.mt_drafts.specs.Names.{AreNames};
 ghost use Rattle.mt_numbering.specs.Markets.{AcceptsRegistrations, AreEntries, AreIdsOfRecords, GivesEntries, IsMarketOf, Remains};
-ghost use Rattle.mt_numbering.specs.Numbered.{all_seen, registered_by_all};
-ghost use Rattle.mt_numbering.specs.Withdrawals.{stays_after, Stand};
+ghost use Rattle.mt_records.specs.Records.{all_seen};
+ghost use Rattle.mt_numbering.specs.Numbered.{registered_by_all};
+ghost use Rattle.mt_drafts.specs.Withdrawals.{stays_after, HaveFewApplicants, HaveFewPrograms};
 ghost use Rattle.mt_records.specs.Limits.{AreBounded};
 
-use crate::drafts::{Drafts, drafts_of};
 use crate::entries::{Entries, read_entries};
-use crate::names::NameLists;
 use crate::pairs::PairReader;
-use crate::registered::{registered, take_table};
 use crate::tables::{agents, quotas};
-use crate::withdrawals::{applicant_numbers, program_numbers, retain_staying, withdrawn};
+use mt_drafts::{
+    Drafts, NameLists, applicant_numbers, drafts_of, program_numbers, registered, retain_staying,
+    take_table, withdrawn,
+};
 use mt_id_lists::Numbered;
 use mt_lists::RowsIter;
 use mt_market::{Roster, Tables};
@@ -51,8 +51,8 @@ fn entries_by_number<R: Threads + Sync>(
     withdrawn: &Kinds<'_>,
     records: &[Record<'_>],
 ) -> Result<Option<Entries>, AllocError>
-    requires programs { length (ids_of OfProgram (all_seen records.now)) < 2 ^ 31 }
-    requires applicants { length (applicant_ids (all_seen records.now)) < 2 ^ 31 }
+    requires programs { HaveFewPrograms (all_seen records.now) }
+    requires applicants { HaveFewApplicants (all_seen records.now) }
     requires ids { AreIdsOfRecords (all_seen records.now) ids.old }
     ensures { IfOk result
         (GivesEntries half_pairs (stays_after withdrawn.now) (all_seen records.now)) }
@@ -176,7 +176,8 @@ pub fn faultless_market<R: Threads + Sync>(
 ) -> Result<Option<Roster>, AllocError>
     requires limits { AreBounded rules.now.limits }
     requires accepted { AcceptsRegistrations rules.now (with_fields (rows_left rows)) }
-    ensures { IfOk result (λ found. found ≡ faultless_market rules.now (with_fields (rows_left rows.entry))) }
+    ensures { IfOk result
+        (λ found. found ≡ faultless_market rules.now (with_fields (rows_left rows.entry))) }
 {
     match drafts_of(alloc, rules, rows)? {
         Some(drafts) => market_of_drafts(rt, alloc, rules, drafts),

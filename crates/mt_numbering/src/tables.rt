@@ -2,7 +2,8 @@
 ghost use Rattle.std.specs.Prelude.{◌≡◌, ◌<◌, ◌^◌, [], map, filter_map, length, All, IfOk, slice_set};
 ghost use Rattle.mt_terms.specs.Lists.{below};
 ghost use Rattle.mt_terms.specs.Market.{agent_from};
-ghost use Rattle.mt_numbering.specs.Numbered.{all_seen, quota_in, bare_couples};
+ghost use Rattle.mt_records.specs.Records.{all_seen};
+ghost use Rattle.mt_numbering.specs.Numbered.{quota_in, bare_couples};
 
 use mt_records::Record;
 use mt_terms::{Agent, AppNo, CoupleNo};

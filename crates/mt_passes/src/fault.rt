@@ -23,7 +23,8 @@ fn fault_by<'a>(
 ) -> FirstFault<'a>
     requires limits { AreBounded rules.now.limits }
     requires few { first + length (rows_left rows) < 2 ^ 64 }
-    requires fault { result_ok (market_under rules.now (numbered_from first (rows_left rows))) ≡ None }
+    requires fault { let all = numbered_from first (rows_left rows) in
+        result_ok (market_under rules.now all) ≡ None }
     requires register { IsRegister register.old }
     requires none { records_seen register.old ≡ [] }
     ensures { Refuses result (market_under rules.now (numbered_from first (rows_left rows.entry))) }
@@ -48,7 +49,8 @@ pub fn first_fault<'a>(
 ) -> FirstFault<'a>
     requires limits { AreBounded rules.now.limits }
     requires few { first + length (rows_left rows) < 2 ^ 64 }
-    requires fault { result_ok (market_under rules.now (numbered_from first (rows_left rows))) ≡ None }
+    requires fault { let all = numbered_from first (rows_left rows) in
+        result_ok (market_under rules.now all) ≡ None }
     ensures { Refuses result (market_under rules.now (numbered_from first (rows_left rows.entry))) }
 {
     let mut register = Register::new(alloc, rows);

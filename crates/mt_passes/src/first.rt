@@ -21,7 +21,8 @@ fn read_record<'a>(
 ) -> Result<(), FirstFault<'a>>
     requires limits { AreBounded rules.now.limits }
     requires register { IsRegister register.old }
-    ensures { ReadsRecord rules.now register.old register.new number (record_seen next.entry) result }
+    ensures { let r = record_seen next.entry in
+        ReadsRecord rules.now register.old register.new number r result }
 {
     if let Some(record_fault) = register.first_conflict(alloc, rules, &next)? {
         return Err(FirstFault::Fault(record_fault.at(number)));
@@ -79,7 +80,8 @@ pub(crate) fn first_pass<'a>(
     requires few { first + length (rows_left rows) < 2 ^ 64 }
     requires register { IsRegister register.old }
     requires none { records_seen register.old ≡ [] }
-    ensures { GivesRegister register.new result (first_pass rules.now [] (numbered_from first (rows_left rows.entry))) }
+    ensures { let all = numbered_from first (rows_left rows.entry) in
+        GivesRegister register.new result (first_pass rules.now [] all) }
 {
     let mut number = first;
     for row in rows {

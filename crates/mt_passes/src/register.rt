@@ -77,7 +77,8 @@ impl<'a> Register<'a> {
     /// The first id of a record, in the order own, first member, second member, that is registered already.
     pub(crate) fn registered_before(&self, record: &Record<'a>) -> Option<&'a [u8]>
         requires { IsRegister self.now }
-        ensures { option_copied result ≡ registered_before (contents_seen self.now) (record_seen «record».now) }
+        ensures { option_copied result
+            ≡ registered_before (contents_seen self.now) (record_seen «record».now) }
     {
         match record {
             Record::Program { id, .. } => found(&self.registered.programs, id),
@@ -101,7 +102,8 @@ impl<'a> Register<'a> {
     /// Whether a record's list has an id or a pair twice, or the record withdraws what was withdrawn before.
     fn says_twice(&self, alloc: Global, record: &Record<'a>) -> Result<bool, AllocError>
         requires { IsRegister self.now }
-        ensures { IfOk result (λ twice. twice ≡ says_twice (contents_seen self.now) (record_seen «record».now)) }
+        ensures { IfOk result
+            (λ twice. twice ≡ says_twice (contents_seen self.now) (record_seen «record».now)) }
     {
         match record {
             Record::Program { list, .. } => has_repeat(alloc, *list),
@@ -114,7 +116,8 @@ impl<'a> Register<'a> {
     /// Whether the records with this one are more than a version takes.
     pub(crate) fn are_too_many(&self, limits: &Limits, record: &Record<'a>) -> bool
         requires { IsRegister self.now }
-        ensures { result ≡ are_too_many limits.now (contents_seen self.now ++ record_seen «record».now ∷ []) }
+        ensures { result
+            ≡ are_too_many limits.now (contents_seen self.now ++ record_seen «record».now ∷ []) }
     {
         let applicants = self.applicants.len() + record.applicant_count();
         let programs = self.registered.programs.len() + record.program_count();
@@ -131,7 +134,9 @@ impl<'a> Register<'a> {
         record: &Record<'a>,
     ) -> Result<Option<RecordFault<'a>>, AllocError>
         requires { IsRegister self.now }
-        ensures { IfOk result (λ record_fault. option_map record_fault_seen record_fault ≡ first_conflict rules.now (contents_seen self.now) (record_seen «record».now)) }
+        ensures { let r = record_seen «record».now in
+            IfOk result (λ fault. option_map record_fault_seen fault
+            ≡ first_conflict rules.now (contents_seen self.now) r) }
     {
         if let Some(id) = self.registered_before(record) {
             return Ok(Some(RecordFault {
@@ -157,8 +162,10 @@ impl<'a> Register<'a> {
     /// Adds what a record registers, or what it withdraws.
     fn push_ids(&mut self, record: &Record<'a>) -> Result<(), AllocError>
         requires register { IsRegister self.old }
-        requires new { registered_before (contents_seen self.old) (record_seen «record».now) ≡ None }
-        requires once { withdraws_twice (contents_seen self.old) (record_seen «record».now) ≡ false }
+        requires new { let r = record_seen «record».now in
+            registered_before (contents_seen self.old) r ≡ None }
+        requires once { let r = record_seen «record».now in
+            withdraws_twice (contents_seen self.old) r ≡ false }
         ensures { OnOk result (AddsRecord self.old self.new (record_seen «record».now)) }
     {
         match record {
@@ -184,7 +191,8 @@ impl<'a> Register<'a> {
         requires once { withdraws_twice (contents_seen self.old) (record_seen next) ≡ false }
         requires few { AreFew (contents_seen self.old ++ record_seen next ∷ []) }
         ensures register { OnOk result (IsRegister self.new) }
-        ensures records { OnOk result (records_seen self.new ≡ records_seen self.old ++ (row, record_seen next.entry) ∷ []) }
+        ensures records { OnOk result
+            (records_seen self.new ≡ records_seen self.old ++ (row, record_seen next.entry) ∷ []) }
     {
         self.push_ids(&next)?;
         self.entries += next.entry_count();

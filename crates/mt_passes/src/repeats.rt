@@ -1,12 +1,11 @@
 ghost use Rattle.std.specs.Prelude.{◌≡◌, ◌++◌, [], ◌∷◌, not, bytes_eq, flat_map, OnErr, IfOk, if◌then◌else◌};
 ghost use Rattle.std.specs.List.{list_any};
-ghost use Rattle.std.specs.Option.{option_copied};
 ghost use Rattle.mt_lists.specs.Rows.{fields_left};
 ghost use Rattle.mt_ids.specs.Seeds.{seed_of, with_fields};
 ghost use Rattle.mt_passes.specs.Seeds.{pair_fields};
 ghost use Rattle.mt_terms.specs.Registration.Ids.{all_differ};
 ghost use Rattle.mt_terms.specs.Registration.Passes.{is_same_pair};
-ghost use Rattle.mt_records.specs.Fields.{pairs_left};
+ghost use Rattle.mt_records.specs.Fields.{pair_seen, pairs_left};
 
 use indexmap::IndexSet;
 use mt_ids::{IdTable, Seed, add_field};
@@ -79,8 +78,11 @@ impl<'a> PairTable<'a> {
 
     /// Adds a pair at the end, if it is none of them, and says whether it did so.
     fn add(&mut self, pair: (Option<&'a [u8]>, Option<&'a [u8]>)) -> Result<bool, AllocError>
-        ensures added { IfOk result (λ added. added ≡ not (list_any (is_same_pair (option_copied pair.entry.0, option_copied pair.entry.1)) self.old)) }
-        ensures pairs { IfOk result (λ _. self.new ≡ (if list_any (is_same_pair (option_copied pair.entry.0, option_copied pair.entry.1)) self.old then self.old else self.old ++ (option_copied pair.entry.0, option_copied pair.entry.1) ∷ [])) }
+        ensures added { let p = pair_seen pair.entry in
+            IfOk result (λ added. added ≡ not (list_any (is_same_pair p) self.old)) }
+        ensures pairs { let p = pair_seen pair.entry in
+            IfOk result (λ _. self.new
+            ≡ (if list_any (is_same_pair p) self.old then self.old else self.old ++ p ∷ [])) }
         ensures err { OnErr result (self.new ≡ self.old) }
     {
         Ok(self.pairs.insert(pair)?)
@@ -101,7 +103,8 @@ fn pairs_seed(pairs: Pairs<'_>) -> Seed
 
 /// Whether a couple's list has a pair twice.
 pub(crate) fn has_repeated_pair(alloc: Global, pairs: Pairs<'_>) -> Result<bool, AllocError>
-    ensures { IfOk result (λ repeats. repeats ≡ not (all_differ is_same_pair (pairs_left pairs.entry))) }
+    ensures { IfOk result
+        (λ repeats. repeats ≡ not (all_differ is_same_pair (pairs_left pairs.entry))) }
 {
     let mut seen = PairTable::with_capacity(alloc, pairs.len(), pairs_seed(pairs))?;
     for pair in pairs {

@@ -13,7 +13,8 @@ use mt_terms::codes::{NOT_REGISTERED, UNKNOWN_APPLICANT, UNKNOWN_PROGRAM};
 
 /// A fault with this code at an id, if there is one.
 fn record_fault_of<'a>(code: u16, id: Option<&'a [u8]>) -> Option<RecordFault<'a>>
-    ensures { option_map record_fault_seen result ≡ option_map (record_fault code) (option_copied id.entry) }
+    ensures { option_map record_fault_seen result
+        ≡ option_map (record_fault code) (option_copied id.entry) }
 {
     let id = id?;
     Some(RecordFault { code, id })
@@ -23,7 +24,8 @@ impl<'a> Register<'a> {
     /// The first id that a record names and that no record registers.
     fn unknown_id(&self, record: &Record<'a>) -> Option<RecordFault<'a>>
         requires { IsRegister self.now }
-        ensures { option_map record_fault_seen result ≡ unknown_id (contents_seen self.now) (record_seen «record».now) }
+        ensures { option_map record_fault_seen result
+            ≡ unknown_id (contents_seen self.now) (record_seen «record».now) }
     {
         match record {
             Record::Program { list, .. } => {

@@ -3,7 +3,7 @@ ghost use Rattle.std.specs.List.{flat_map};
 ghost use Rattle.std.specs.Option.{option_copied};
 ghost use Rattle.mt_lists.specs.Rows.{fields_left};
 ghost use Rattle.mt_terms.specs.Registration.Passes.{first_not_in, named};
-ghost use Rattle.mt_records.specs.Fields.{pairs_left};
+ghost use Rattle.mt_records.specs.Fields.{pair_seen, pairs_left};
 
 use mt_ids::IdTable;
 use mt_lists::Fields;
@@ -23,7 +23,8 @@ pub(crate) fn first_unknown<'a>(all: &IdTable<'_>, list: Fields<'a>) -> Option<&
 
 /// The id of a place that is none of these.
 fn unknown_place<'a>(all: &IdTable<'_>, place: Option<&'a [u8]>) -> Option<&'a [u8]>
-    ensures { option_copied result ≡ first_not_in all.now (option_to_list (option_copied place.entry)) }
+    ensures { option_copied result
+        ≡ first_not_in all.now (option_to_list (option_copied place.entry)) }
 {
     let id = place?;
     if all.contains(id) { None } else { Some(id) }
@@ -34,7 +35,7 @@ fn unknown_of_pair<'a>(
     all: &IdTable<'_>,
     pair: (Option<&'a [u8]>, Option<&'a [u8]>),
 ) -> Option<&'a [u8]>
-    ensures { option_copied result ≡ first_not_in all.now (named (option_copied pair.entry.0, option_copied pair.entry.1)) }
+    ensures { option_copied result ≡ first_not_in all.now (named (pair_seen pair.entry)) }
 {
     match unknown_place(all, pair.0) {
         Some(id) => Some(id),

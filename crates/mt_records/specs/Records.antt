@@ -1,5 +1,5 @@
 -- How the records that are parsed from rows are seen as those of the definition.
-use Rattle.std.specs.Prelude.{Result, Ok, Err}
+use Rattle.std.specs.Prelude.{List, Result, Ok, Err, map}
 use Rattle.mt_lists.specs.Rows.{fields_left}
 use Rattle.mt_terms.specs.Registration.Faults as faults
 use Rattle.mt_terms.specs.Registration.Records as model
@@ -23,7 +23,11 @@ record_seen (records.Applicant id list) = model.ApplicantRecord id.now (fields_l
 record_seen (records.Couple id couple) = model.CoupleRecord id.now (members_in couple).0 (members_in couple).1 (pairs_after couple)
 record_seen (records.Withdraw kind id) = model.WithdrawRecord (kind_seen kind) id.now
 
--- a fault without its record's number, as the definition's record_fault
+-- records that were read, as the definition's records
+abbrev pub all_seen : List Record → List model.Record
+all_seen records = map record_seen records
+
+-- a fault without its record's number, as the definition's
 abbrev pub record_fault_seen : RecordFault → faults.RecordFault
 record_fault_seen c = (c.code, c.id.now)
 

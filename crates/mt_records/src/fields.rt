@@ -35,8 +35,9 @@ fn is_pair(rules: &Rules, first: &[u8], second: &[u8]) -> bool
 
 /// The next two fields, which are taken. None if there aren't two.
 fn next_two<'a>(fields: &mut Fields<'a>) -> Option<(&'a [u8], &'a [u8])>
-    ensures { MatchOption result ((by_pairs (fields_left fields.old) ≡ []) × (by_pairs (fields_left fields.new) ≡ []))
-        (λ two. by_pairs (fields_left fields.old) ≡ (two.0.now, two.1.now) ∷ by_pairs (fields_left fields.new)) }
+    ensures { let old = by_pairs (fields_left fields.old) in
+        let new = by_pairs (fields_left fields.new) in
+        MatchOption result ((old ≡ []) × (new ≡ [])) (λ two. old ≡ (two.0.now, two.1.now) ∷ new) }
 {
     let first = fields.next()?;
     let second = fields.next()?;
@@ -118,7 +119,8 @@ impl<'a> CoupleFields<'a> {
     /// The fields of a couple's record after its id.
     pub fn new(fields: Fields<'a>) -> CoupleFields<'a>
         ensures members { members_in result ≡ first_two (by_pairs (fields_left fields.entry)) }
-        ensures pairs { pairs_after result ≡ map pair_of (drop 1 (by_pairs (fields_left fields.entry))) }
+        ensures pairs { pairs_after result
+            ≡ map pair_of (drop 1 (by_pairs (fields_left fields.entry))) }
     {
         CoupleFields { fields }
     }

@@ -51,8 +51,10 @@ impl<'a> Kinds<'a> {
 
     /// Adds an id, if it is none of its kind, and says whether it did so. The error is want of memory.
     pub fn add(&mut self, kind: Kind, id: &'a [u8]) -> Result<bool, AllocError>
-        ensures added { IfOk result (λ added. added ≡ not (has_id (ids_in self.old (kind_seen kind)) id.now)) }
-        ensures ids { IfOk result (λ added. added ≡ true → AddsId self.old self.new (kind_seen kind) id.now) }
+        ensures added { IfOk result
+            (λ added. added ≡ not (has_id (ids_in self.old (kind_seen kind)) id.now)) }
+        ensures ids { IfOk result
+            (λ added. added ≡ true → AddsId self.old self.new (kind_seen kind) id.now) }
     {
         match kind {
             Kind::Program => self.programs.add(id),

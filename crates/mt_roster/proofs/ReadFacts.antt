@@ -10,7 +10,7 @@ use Rattle.mt_terms.specs.Market.{Registered}
 use Rattle.mt_file_laws.specs.Faultless.{faultless_market}
 use Rattle.mt_file_laws.proofs.FaultlessFacts.{accepts, passes_agree}
 use Rattle.mt_records.specs.Limits.{AreBounded}
-use Rattle.mt_numbering.specs.Drafts.{with_fields}
+use Rattle.mt_drafts.specs.Drafts.{with_fields}
 
 pub take_row : (n : ℕ) (row : List Bytes) (rows : List (List Bytes)) → (length row ≡ 0 → ⊥) → numbered_from n (row ∷ rows) ≡ (n, row) ∷ numbered_from (n + 1) rows
 take_row n [] rows some = absurd (some refl)

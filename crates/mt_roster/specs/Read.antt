@@ -9,7 +9,7 @@ use Rattle.mt_terms.specs.Registration.Passes.{numbered_from}
 use Rattle.mt_records.specs.declared.first_fault.FirstFault.{FirstFault}
 use Rattle.mt_lists.specs.Rows.{rows_left}
 use Rattle.mt_roster.specs.declared.reading.Body.{Body}
-use Rattle.mt_numbering.specs.Drafts.{with_fields}
+use Rattle.mt_drafts.specs.Drafts.{with_fields}
 use Rattle.mt_numbering.specs.Markets.{AcceptsRegistrations}
 use Rattle.mt_records.specs.Refusals.{Refuses}
 use Rattle.mt_records.specs.Limits.{AreBounded}

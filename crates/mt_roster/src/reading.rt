@@ -2,7 +2,7 @@ ghost use Rattle.std.specs.Prelude.{◌≡◌, IfErr, IfOk, Ok};
 ghost use Rattle.mt_lists.specs.Rows.{rows_left};
 ghost use Rattle.mt_terms.specs.Registration.{market_of, market_under};
 ghost use Rattle.mt_terms.specs.Registration.Passes.{numbered_from};
-ghost use Rattle.mt_numbering.specs.Drafts.{with_fields};
+ghost use Rattle.mt_drafts.specs.Drafts.{with_fields};
 ghost use Rattle.mt_numbering.specs.Markets.{AcceptsRegistrations};
 ghost use Rattle.mt_roster.specs.Faults.{Tells};
 ghost use Rattle.mt_records.specs.Refusals.{Gives};

@@ -1,6 +1,6 @@
 use Rattle.std.proofs.Common.{◌∙◌, ap, sym, length}
 use Rattle.std.proofs.lemmas.Result.{IfOk-weaker}
-use Rattle.mt_numbering.specs.Numbered.{all_seen}
+use Rattle.mt_records.specs.Records.{all_seen}
 use Rattle.mt_numbering.proofs.MarketFacts.{long_programs, long_applicants, entries_given}
 use Rattle.mt_numbering.proofs.market.entries_by_number.Goals as goal
 

@@ -2,8 +2,7 @@ use Rattle.std.proofs.Common.{◌≡◌, ◌<◌, ◌≤◌, ◌+◌, ℕ, true,
 use Rattle.std.proofs.lemmas.Bool.Decides.{nat_tests}
 use Rattle.std.proofs.lemmas.Grind.{common_steps}
 use Rattle.mt_terms.specs.Registration.Rows.{entry_count}
-use Rattle.mt_records.specs.Records.{record_seen}
-use Rattle.mt_numbering.specs.Numbered.{all_seen}
+use Rattle.mt_records.specs.Records.{record_seen, all_seen}
 use Rattle.mt_numbering.proofs.MarketFacts.{entry_count-more}
 use Rattle.mt_numbering.proofs.market.have_room.Goals as goal
 

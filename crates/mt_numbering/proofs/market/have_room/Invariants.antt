@@ -1,6 +1,6 @@
 use Rattle.std.proofs.Common.{◌≡◌, ◌+◌, drop}
 use Rattle.mt_terms.specs.Registration.Rows.{entry_count}
-use Rattle.mt_numbering.specs.Numbered.{all_seen}
+use Rattle.mt_records.specs.Records.{all_seen}
 use Rattle.mt_numbering.proofs.market.have_room.Given as goal
 
 abbrev pub invariant-loop-one : goal.invariant-loop-one

@@ -1,6 +1,6 @@
 use Rattle.std.proofs.Common.{◌≡◌, ◌∙◌, ap, arith, length}
 use Rattle.mt_terms.specs.Registration.Rows.{applicant_ids}
-use Rattle.mt_numbering.specs.Numbered.{all_seen}
+use Rattle.mt_records.specs.Records.{all_seen}
 use Rattle.mt_numbering.proofs.NumberingTables.{few_applicants, few_members, members_within, made_by, tables_are, tables_seen}
 use Rattle.mt_numbering.proofs.market.make_roster.Goals as goal
 

@@ -1,9 +1,10 @@
 use Rattle.std.proofs.Common.{◌∙◌, List, ap, sym, subst}
 use Rattle.mt_terms.specs.Registration.Records.{Record}
 use Rattle.mt_terms.specs.Registration.Accepted.{IsRegistration}
-use Rattle.mt_numbering.specs.Drafts.{drafted}
+use Rattle.mt_drafts.specs.Drafts.{drafted}
 use Rattle.mt_numbering.specs.Markets.{AreEntries}
-use Rattle.mt_numbering.specs.Numbered.{all_seen, registered_by_all}
+use Rattle.mt_records.specs.Records.{all_seen}
+use Rattle.mt_numbering.specs.Numbered.{registered_by_all}
 use Rattle.mt_numbering.proofs.MarketFacts.{names_stay, remains_found}
 use Rattle.mt_numbering.proofs.market.market_of_drafts.Goals as goal
 

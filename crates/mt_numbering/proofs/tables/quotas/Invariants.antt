@@ -1,6 +1,7 @@
 use Rattle.std.proofs.Common.{◌≡◌, ◌++◌, drop}
 use Rattle.std.specs.Prelude.{filter_map}
-use Rattle.mt_numbering.specs.Numbered.{all_seen, quota_in}
+use Rattle.mt_records.specs.Records.{all_seen}
+use Rattle.mt_numbering.specs.Numbered.{quota_in}
 use Rattle.mt_numbering.proofs.tables.quotas.Given as goal
 
 abbrev pub invariant-loop-one : goal.invariant-loop-one

@@ -1,0 +1,5 @@
+pub mod NameFacts
+pub mod DraftFacts
+pub mod FilterFacts
+pub mod WithdrawalFacts
+pub mod CoupleFacts

@@ -1,0 +1,4 @@
+pub mod Names
+pub mod Drafts
+pub mod Registered
+pub mod Withdrawals

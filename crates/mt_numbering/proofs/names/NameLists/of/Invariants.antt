@@ -1,7 +1,0 @@
-use Rattle.std.proofs.Common.{take}
-use Rattle.mt_numbering.specs.Entries.{AreNames}
-use Rattle.mt_numbering.specs.Numbered.{all_seen}
-use Rattle.mt_numbering.proofs.names.NameLists.of.Given as goal
-
-abbrev pub invariant-loop-one : goal.invariant-loop-one
-invariant-loop-one l = AreNames (all_seen (take l.one-index l.records)) l.names
