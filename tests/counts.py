@@ -21,7 +21,7 @@ CHECKS = {
     "memory --calls": 15,
     "memory --check": 114,
     "must_fail": 74,
-    "pages": 267,
+    "pages": 277,
     "threads": 28,
     "words": 284,
     "wrong_bodies --release": 44,
