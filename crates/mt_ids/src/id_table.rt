@@ -1,7 +1,8 @@
-ghost use Rattle.std.specs.Prelude.{◌≡◌, ◌<◌, ◌≤◌, ◌+◌, ◌^◌, ◌++◌, [], ◌∷◌, not, length, position, bytes_eq, true, false, OnOk, OnErr, IfOk, IfSome, is_some, if◌then◌else◌};
+ghost use Rattle.std.specs.Prelude.{◌≡◌, ◌<◌, ◌≤◌, ◌+◌, ◌^◌, ◌++◌, [], ◌∷◌, not, length, map, position, bytes_eq, true, false, OnOk, OnErr, IfOk, IfSome, is_some, if◌then◌else◌};
 ghost use Rattle.mt_terms.specs.Registration.Ids.{has_id, all_differ};
 ghost use Rattle.mt_ids.specs.Keys.{AreBytes, four_from, head_of};
 ghost use Rattle.mt_ids.specs.Seeds.{seed_of};
+ghost use Rattle.indexmap.specs.IndexSet.{hasher_of};
 
 use crate::seed::{Seed, add_field};
 use indexmap::IndexSet;
@@ -106,6 +107,36 @@ fn seed_of(names: &FlatLists<u8>) -> Seed
     Seed::of(&digest)
 }
 
+/// Adds an id at the end of a set, if it is none of its ids, and says whether it did so. The error is want of memory.
+fn add_to<'a>(set: &mut IndexSet<Key<'a>, Seed>, id: &'a [u8]) -> Result<bool, AllocError>
+    ensures added { let ids = map (λ key. key.id.now) set.old.keys in
+        IfOk result (λ added. added ≡ not (has_id ids id.now)) }
+    ensures ids { let ids = map (λ key. key.id.now) set.old.keys in IfOk result (λ _.
+        map (λ key. key.id.now) set.new.keys ≡ (if has_id ids id.now then ids else ids ++ id.now ∷ [])) }
+    ensures err { OnErr result (map (λ key. key.id.now) set.new.keys ≡ map (λ key. key.id.now) set.old.keys) }
+    ensures seed { hasher_of set.new ≡ hasher_of set.old }
+{
+    Ok(set.insert(Key::of(id))?)
+}
+
+/// The set of the ids that these names are, if they differ. It hashes by their seed. The error is want of memory.
+fn set_of<'a>(
+    alloc: Global,
+    names: &'a FlatLists<u8>,
+) -> Result<Option<IndexSet<Key<'a>, Seed>>, AllocError>
+    ensures ids { IfOk result (λ found. IfSome found (λ set. map (λ key. key.id.now) set.keys ≡ names.now)) }
+    ensures differ { IfOk result (λ found. is_some found ≡ all_differ bytes_eq names.now) }
+    ensures seed { IfOk result (λ found. IfSome found (λ set. hasher_of set ≡ seed_of names.now)) }
+{
+    let mut set = IndexSet::with_capacity_and_hasher(alloc, names.len(), seed_of(names))?;
+    for i in 0..names.len() {
+        if !add_to(&mut set, names.list(i))? {
+            return Ok(None);
+        }
+    }
+    Ok(Some(set))
+}
+
 /// Ids in the order in which they came, each of them once. The number of an id is its place, from 0.
 pub struct IdTable<'a> {
     ids: IndexSet<Key<'a>, Seed>,
@@ -149,13 +180,10 @@ impl<'a> IdTable<'a> {
         ensures ids { IfOk result (λ found. IfSome found (λ table. table ≡ names.now)) }
         ensures differ { IfOk result (λ found. is_some found ≡ all_differ bytes_eq names.now) }
     {
-        let mut table = IdTable::with_capacity(alloc, names.len(), seed_of(names))?;
-        for i in 0..names.len() {
-            if !table.add(names.list(i))? {
-                return Ok(None);
-            }
+        match set_of(alloc, names)? {
+            Some(ids) => Ok(Some(IdTable { ids })),
+            None => Ok(None),
         }
-        Ok(Some(table))
     }
 
     /// How many ids there are.
@@ -186,7 +214,7 @@ impl<'a> IdTable<'a> {
         ensures ids { IfOk result (λ _. self.new ≡ (if has_id self.old id.now then self.old else self.old ++ id.now ∷ [])) }
         ensures err { OnErr result (self.new ≡ self.old) }
     {
-        Ok(self.ids.insert(Key::of(id))?)
+        add_to(&mut self.ids, id)
     }
 
     /// Adds an id that is none of them at the end. The error is want of memory.

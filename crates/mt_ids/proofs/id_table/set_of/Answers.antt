@@ -1,0 +1,14 @@
+use Rattle.std.proofs.Common.{sym, arith, map, ◌∙◌}
+use Rattle.mt_ids.specs.declared.id_table.Key.{Key}
+use Rattle.mt_ids.proofs.IdFacts.{stands_twice, has_next}
+use Rattle.mt_ids.proofs.id_table.set_of.Goals as goal
+
+pub returns-then-not-branch-clause-differ : goal.returns-then-not-branch-clause-differ
+returns-then-not-branch-clause-differ c =
+    sym (stands_twice c.args.names.now (map (λ (key : Key). key.id.now) c.loop-i.set.keys) c.loop-i.i c.list.result.now c.loop-i.invariant.0 (omega arith) c.list.ensures _ c.in_ok-add_to.ensures.added c.if-not-branch.true)
+
+pub loop-i-preserved : goal.loop-i-preserved
+loop-i-preserved c = (
+  has_next c.args.names.now (map (λ (key : Key). key.id.now) c.loop-i.set.keys) c.loop-i.i c.list.result.now c.loop-i.invariant.0 (omega arith) c.list.ensures _ c.in_ok-add_to.ensures.added (map (λ (key : Key). key.id.now) c.add_to.new.set.keys) c.in_ok-add_to.ensures.ids c.if-not-branch.false,
+  c.in_ok-add_to.ensures.seed ∙ c.loop-i.invariant.1,
+)
