@@ -38,7 +38,7 @@ END
 # The ids of a file with colliding ones: as many as it has singles.
 ids() {
     local count=$1
-    [ -x "$scratch/collide" ] || cc -O2 -o "$scratch/collide" "$here/collide.c"
+    [ -x "$scratch/collide" ] || cc -O2 -o "$scratch/collide" "$here/../tests/collide.c"
     [ -s "$scratch/files/ids$count" ] || "$scratch/collide" "$count" > "$scratch/files/ids$count"
     echo "$scratch/files/ids$count"
 }

@@ -15,7 +15,7 @@ Shapes:
            a program is left that all singles list last; each of them is at home, and before its home it lists as many
            programs without a post as --list.
 
-With --withdraw every program is withdrawn. With --names the ids are the lines of a file, as bench/collide.c makes.
+With --withdraw every program is withdrawn. With --names the ids are the lines of a file, as tests/collide.c makes.
 """
 import argparse
 import random
