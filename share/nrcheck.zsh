@@ -1,0 +1,7 @@
+#compdef nrcheck
+# Completes the words of nrcheck in zsh: its options, and names of files.
+_arguments \
+    '(- :)'{-h,--help}'[print help]' \
+    '(- :)'{-V,--version}'[print version]' \
+    '1:file of the market:_files' \
+    '2:file of the match:_files'
