@@ -1,0 +1,136 @@
+"""What the package does beside the programs. Expected values are worked out by hand."""
+import os
+import tempfile
+import unittest
+
+import nrmatch
+from nrmatch import Couple, Filled, Market, Program, Totals, Verdict
+
+HERE = os.path.dirname(os.path.abspath(__file__))
+EXAMPLES = os.path.join(os.path.dirname(HERE), "examples")
+
+
+def tables():
+    return [os.path.join(EXAMPLES, f"{name}.csv") for name in ("quotas", "programs", "applicants", "couples")]
+
+
+def small():
+    """City has one post and wants Ann more. Both want City alone."""
+    return Market(programs={"City": Program(1, ["Ann", "Bob"])}, applicants={"Bob": ["City"], "Ann": ["City"]})
+
+
+class Markets(unittest.TestCase):
+    def test_do_tables_give_the_lists(self):
+        market = Market.from_tables(*tables())
+        self.assertEqual(market.programs["General"], Program(1, ["Ann", "Dan", "Cleo"]))
+        self.assertEqual(market.applicants, {"Ann": ["City", "General"], "Bob": ["City"]})
+        self.assertEqual(market.couples, {"CleoDan": Couple("Cleo", "Dan", [("General", "City"), ("City", None)])})
+
+    def test_are_rows_in_any_order_sorted_by_rank(self):
+        with tempfile.TemporaryDirectory() as room:
+            paths = []
+            for name, text in (
+                ("q", "id,quota\nP,2\n"),
+                ("p", "id,rank,other\nP,2,b\nP,1,a\n"),
+                ("a", "id,rank,other\nb,1,P\na,1,P\nc,,\n"),
+            ):
+                paths.append(os.path.join(room, name))
+                with open(paths[-1], "w", encoding="utf-8") as file:
+                    file.write(text)
+            market = Market.from_tables(*paths)
+        self.assertEqual(market.programs, {"P": Program(2, ["a", "b"])})
+        self.assertEqual(market.applicants, {"b": ["P"], "a": ["P"], "c": []})
+
+    def test_are_two_entries_of_one_rank_an_error(self):
+        with self.assertRaisesRegex(ValueError, "two entries of one rank"):
+            Market._of_rows([{"id": "P", "quota": "1"}], [{"id": "P", "rank": "1", "other": "a"}] * 2, [], [])
+
+    def test_is_a_missing_column_an_error(self):
+        with self.assertRaisesRegex(ValueError, "no column 'quota'"):
+            Market._of_rows([{"id": "P"}], [], [], [])
+
+    def test_is_a_list_without_a_quota_an_error(self):
+        with self.assertRaisesRegex(ValueError, "without a quota"):
+            Market._of_rows([], [{"id": "P", "rank": "1", "other": "a"}], [], [])
+
+    def test_does_a_dict_give_the_lists(self):
+        market = Market.from_dict(
+            {
+                "programs": {"P": {"quota": 1, "ranking": ["a"]}},
+                "couples": {"c": {"members": ["a", "b"], "pairs": [["P", None]]}},
+                "withdrawn": [["couple", "c"]],
+            }
+        )
+        self.assertEqual(market.text(), "match,2\nprogram,P,1,a\ncouple,c,a,b,P,-\nwithdraw,couple,c\n")
+
+    def test_is_an_unknown_part_an_error(self):
+        with self.assertRaisesRegex(ValueError, "unknown parts"):
+            Market.from_dict({"program": {}})
+
+    def test_is_a_comma_in_an_id_quoted(self):
+        self.assertEqual(Market(applicants={"a,b": []}).text(), 'match,2\napplicant,"a,b"\n')
+
+    def test_is_a_line_end_in_an_id_an_error(self):
+        with self.assertRaisesRegex(ValueError, "line end"):
+            Market(applicants={"a\nb": []}).text()
+
+
+class Matches(unittest.TestCase):
+    def test_is_the_match_that_of_the_lists(self):
+        match = nrmatch.match(small())
+        self.assertEqual(match.places, {"Bob": None, "Ann": "City"})
+        self.assertEqual(match.programs, {"City": Filled(1, 1, 2)})
+        self.assertEqual(match.totals, Totals(2, 1, 1, 0))
+
+    def test_is_the_match_the_same_for_one_worker(self):
+        market = Market.from_tables(*tables())
+        self.assertEqual(nrmatch.match(market, workers=1), nrmatch.match(market, workers=8))
+
+    def test_is_a_refusal_an_exception(self):
+        with self.assertRaises(nrmatch.Refused) as caught:
+            nrmatch.match(Market(applicants={"Ann": ["Citty"]}))
+        it = caught.exception
+        self.assertEqual((it.code, it.name, it.record, it.line, it.id), (21, "UnknownProgram", 2, 2, "Citty"))
+
+    def test_is_a_spent_budget_its_own_exception(self):
+        market = Market(
+            programs={"P": Program(1, ["a", "s", "b"]), "Q": Program(1, ["s", "b", "a"])},
+            applicants={"s": ["P", "Q"]},
+            couples={"c": Couple("a", "b", [("P", "Q")])},
+        )
+        with self.assertRaises(nrmatch.BudgetSpent) as caught:
+            nrmatch.match(market, budget=100)
+        self.assertEqual((caught.exception.code, caught.exception.record), (41, None))
+
+    def test_is_a_wrong_option_an_error(self):
+        with self.assertRaises(nrmatch.ProgramFailed) as caught:
+            nrmatch.match(small(), workers=65)
+        self.assertEqual(caught.exception.status, 64)
+
+    def test_is_a_missing_program_an_error(self):
+        before = os.environ["NRMATCH_BIN"]
+        os.environ["NRMATCH_BIN"] = os.path.join(HERE, "nowhere")
+        try:
+            with self.assertRaises(nrmatch.ProgramMissing):
+                nrmatch.match(small())
+        finally:
+            os.environ["NRMATCH_BIN"] = before
+
+
+class Checks(unittest.TestCase):
+    def test_is_a_published_match_stable(self):
+        market = small()
+        self.assertEqual(nrmatch.check(market, nrmatch.match(market)), Verdict("stable"))
+
+    def test_does_the_first_finding_say_who_blocks(self):
+        verdict = nrmatch.check(small(), "applicant,Bob,City\napplicant,Ann,-\n")
+        self.assertEqual(verdict, Verdict("blocks", ("applicant", "Ann", "City")))
+
+    def test_is_a_refused_match_an_exception(self):
+        with self.assertRaises(nrmatch.Refused) as caught:
+            nrmatch.check(small(), "applicant,Ann,City\n")
+        self.assertEqual((caught.exception.code, caught.exception.refusal.file, caught.exception.id), (55, "match", "Bob"))
+
+
+if __name__ == "__main__":
+    unittest.main()
