@@ -7,7 +7,7 @@ use Rattle.mt_terms.specs.Market.{Market, program_of}
 use Rattle.mt_terms.specs.Matching.{Places, Placement, place_of, at, is_program, send}
 use Rattle.mt_terms.specs.Choice.{choice}
 use Rattle.std.specs.Option.{option_eq}
-use Rattle.mt_stage_tables.proofs.PlaceFacts.{is_program_read}
+use Rattle.mt_terms.proofs.AgentFacts.{is_program_read}
 use Rattle.mt_terms.specs.Rounds.{programs_sent_to}
 use Rattle.std.proofs.lemmas.Bool.{or_left, or_right, eq-eqb, eqb-true, cases_Bool, and_from, and_left, and_right, not_from_false, not_from_true}
 use Rattle.mt_assignment.specs.Assigned.{Assigned, with_place, with_places}

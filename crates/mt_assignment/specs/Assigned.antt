@@ -29,13 +29,13 @@ assignment m places = record { market = m; places = places }
 abbrev pub with_ranks : List ℕ → List ℕ → List ℕ
 with_ranks list ranks = map (λ r. slice_index list r) ranks
 
--- those on a program's list that have a rank below this one
-abbrev pub front_of : Assigned → ℕ → ℕ → List ℕ
-front_of s p rank = take rank (program_of s.market p).ranking
-
--- how many of those at a program have a rank below this one
+-- how many of those at a program have a rank below this one, and so are on the front of its list
 abbrev pub ahead : Assigned → ℕ → ℕ → ℕ
-ahead s p rank = count (at s.places p) (front_of s p rank)
+ahead s p rank = count (at s.places p) (take rank (program_of s.market p).ranking)
+
+-- whether an applicant is on a program's list with a rank below this one
+abbrev pub is_ahead : Assigned → ℕ → ℕ → ℕ → Bool
+is_ahead s p rank a = has (take rank (program_of s.market p).ranking) a
 
 -- whether fewer than its quota of those at a program have a rank below this one
 abbrev pub has_post : Assigned → ℕ → ℕ → Bool

@@ -9,7 +9,7 @@ use Rattle.mt_terms.specs.Stability.{fits, would_be_taken}
 use Rattle.mt_terms.specs.WellFormed.{IsWellFormed}
 use Rattle.mt_terms.specs.Rounds.{is_on, move_of, displaced, left_programs}
 use Rattle.mt_terms.specs.declared.numbers.Agent.{Agent}
-use Rattle.mt_assignment.specs.Assigned.{Assigned, with_places, front_of}
+use Rattle.mt_assignment.specs.Assigned.{is_ahead, with_places, Assigned}
 
 -- the match with everybody sent
 abbrev pub seated : Assigned → Placement → Assigned
@@ -17,11 +17,11 @@ seated s sent = with_places s (send sent s.places)
 
 -- how many of those that are sent are at a program now, with a rank below this one
 abbrev pub leaving : Assigned → ℕ → ℕ → Placement → ℕ
-leaving s p rank sent = count (λ x. at s.places p x.0 && has (front_of s p rank) x.0) sent
+leaving s p rank sent = count (λ x. at s.places p x.0 && is_ahead s p rank x.0) sent
 
 -- how many are sent to a program that have a rank below this one there
 abbrev pub coming : Assigned → ℕ → ℕ → Placement → ℕ
-coming s p rank sent = count (λ x. is_program p x.1 && has (front_of s p rank) x.0) sent
+coming s p rank sent = count (λ x. is_program p x.1 && is_ahead s p rank x.0) sent
 
 -- whether one of those that are sent is at a program now, and is sent elsewhere
 abbrev pub is_left_by_movers : Places → Placement → ℕ → Bool

@@ -1,9 +1,9 @@
 -- What an agent wants more than what it has, and where applicants are watched for it.
-use Rattle.std.specs.Prelude.{◌≡◌, ℕ, ◌<◌, Bool, true, false, not, ◌&&◌, ◌||◌, ◌==◌, List, [], ◌∷◌, drop, length, Some, slice_index_or, slice_range}
+use Rattle.std.specs.Prelude.{◌≡◌, ℕ, ◌<◌, Bool, true, false, not, ◌&&◌, ◌||◌, ◌==◌, List, [], ◌∷◌, drop, length, Option, Some, slice_index_or, slice_range}
 use Rattle.std.specs.List.{list_any}
 use Rattle.mt_terms.specs.Lists.{Set, has, until}
 use Rattle.mt_terms.specs.Market.{Market, Pair, applicants, couple_of, list_of, live_market}
-use Rattle.mt_terms.specs.Matching.{at, holds}
+use Rattle.mt_terms.specs.Matching.{at, holds, is_program}
 use Rattle.mt_terms.specs.Stability.{would_be_taken}
 use Rattle.mt_ranks.specs.Ranked.{rank_of, ranked_list}
 use Rattle.mt_ranks.specs.declared.entries.Live.{Live}
@@ -23,6 +23,18 @@ better_entries s a = until (λ (e : Live). at s.places e.program a) (ranked_list
 -- an applicant's live entries from its place on: none if none of them is its place
 abbrev pub other_entries : Assigned → ℕ → List Live
 other_entries s a = drop (length (better_entries s a)) (ranked_list (live_market s.market) a)
+
+-- an applicant's live entries before a place, each with its rank there: all of them if none of them is that place
+abbrev pub entries_until : Market → ℕ → Option ℕ → List Live
+entries_until m a place = until (λ (e : Live). is_program e.program place) (ranked_list m a)
+
+-- whether an applicant has a live entry at a place
+abbrev pub has_entry_at : Market → ℕ → Option ℕ → Bool
+has_entry_at m a place = list_any (λ (e : Live). is_program e.program place) (ranked_list m a)
+
+-- if a place is a program, the applicant has this rank there
+abbrev pub IsRankAtPlace : Market → ℕ → Option ℕ → ℕ → Type 0
+IsRankAtPlace m a place r = (p : ℕ) → place ≡ Some p → rank_of m p a ≡ Some r
 
 -- the pairs of a couple's list before the one that it has: all of them if it has none
 abbrev pub better_pairs : Assigned → ℕ → List Pair
@@ -59,11 +71,12 @@ IsWithinList m rows a = (p r : ℕ) → p < length m.programs → rank_of m p a 
 abbrev pub KeepsOthers : Market → List (List Bool) → List (List Bool) → List ℕ → Type 0
 KeepsOthers m old new xs = (b p r : ℕ) → has xs b ≡ false → p < length m.programs → rank_of m p b ≡ Some r → ranks_at new p r ≡ ranks_at old p r
 
--- each of these entries is watched too, or isn't any more
+-- each of these entries is watched too
 pub record Watches (old new : List (List Bool)) (entries : List Live) : Type 0 where
   pub as_many : length new ≡ length old
   pub now : (p r : ℕ) → p < length old → ranks_at new p r ≡ (is_entry entries p r || ranks_at old p r)
 
+-- none of these entries is watched any more
 pub record Unwatches (old new : List (List Bool)) (entries : List Live) : Type 0 where
   pub as_many : length new ≡ length old
   pub now : (p r : ℕ) → p < length old → ranks_at new p r ≡ (not (is_entry entries p r) && ranks_at old p r)

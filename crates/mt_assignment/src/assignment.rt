@@ -1,13 +1,11 @@
 ghost use Rattle.std.specs.Prelude.{◌≡◌, ◌++◌, ◌<◌, ℕ, Some, None, [], is_some, length, slice_index, IfOk, IfSome, IsTrue, OnOk, nat_lt};
-ghost use Rattle.std.specs.List.{list_any};
 ghost use Rattle.mt_terms.specs.Registration.Accepted.{IsRegistration};
-ghost use Rattle.mt_terms.specs.Lists.{has, until};
+ghost use Rattle.mt_terms.specs.Lists.{has};
 ghost use Rattle.mt_terms.specs.Market.{agent_of, applicants, couple_of, program_of};
-ghost use Rattle.mt_terms.specs.Matching.{is_program, place_of};
-ghost use Rattle.mt_ranks.specs.Ranked.{rank_of, ranked_list, ranked_of};
-ghost use Rattle.mt_ranks.specs.declared.entries.Live.{Live};
+ghost use Rattle.mt_terms.specs.Matching.{place_of};
+ghost use Rattle.mt_ranks.specs.Ranked.{rank_of, ranked_of};
 ghost use Rattle.mt_terms.specs.Places.{ArePlaces};
-ghost use Rattle.mt_assignment.specs.Watched.{better_entries, other_entries, AreUnwatched, AreWatched, Watches};
+ghost use Rattle.mt_assignment.specs.Watched.{better_entries, entries_until, has_entry_at, other_entries, AreUnwatched, AreWatched, IsRankAtPlace, Watches};
 ghost use Rattle.mt_stage_tables.specs.Ranks.{rows_of, HavePlaced};
 ghost use Rattle.mt_assignment.specs.Assigned.{ahead, assignment, displaced_from, with_place, with_ranks, AreApplicantsOf, AreListed, IsAgentOf, IsAssigned};
 
@@ -52,9 +50,9 @@ fn watch_wanted(
     watched: &mut RankTable,
 ) -> Result<Option<u32>, AllocError>
     requires { applicant < applicants ranks.now.market }
-    ensures watched { OnOk result (Watches watched.old watched.new (until (λ (e : Live). is_program e.program place) (ranked_list ranks.now.market applicant))) }
-    ensures is_found { IfOk result (λ o. is_some o ≡ list_any (λ (e : Live). is_program e.program place) (ranked_list ranks.now.market applicant)) }
-    ensures found { IfOk result (λ o. IfSome o (λ r. (p : ℕ) → place ≡ Some p → rank_of ranks.now.market p applicant ≡ Some r)) }
+    ensures watched { OnOk result (Watches watched.old watched.new (entries_until ranks.now.market applicant place)) }
+    ensures is_found { IfOk result (λ o. is_some o ≡ has_entry_at ranks.now.market applicant place) }
+    ensures found { IfOk result (λ o. IfSome o (IsRankAtPlace ranks.now.market applicant place)) }
 {
     for entry in ranks.live(applicant) {
         if place == Some(entry.program) {

@@ -5,7 +5,7 @@ ghost use Rattle.mt_terms.specs.Market.{applicants, couple_of};
 ghost use Rattle.mt_terms.specs.Matching.{at, single_placement};
 ghost use Rattle.mt_terms.specs.Stability.{would_be_taken};
 ghost use Rattle.mt_terms.specs.declared.numbers.Agent.TheVariants.{Single, Couple};
-ghost use Rattle.mt_assignment.specs.Assigned.{chooses, front_of, has_post, pair_of, taken_by, AreSent, IsAgentOf, IsAssigned};
+ghost use Rattle.mt_assignment.specs.Assigned.{chooses, has_post, is_ahead, pair_of, taken_by, AreSent, IsAgentOf, IsAssigned};
 ghost use Rattle.mt_ranks.specs.Ranked.{rank_of};
 ghost use Rattle.mt_assignment.specs.Moves.{coming, leaving, opens, seated, some_has};
 ghost use Rattle.mt_assignment.specs.Watched.{better_pairs, opens_between};
@@ -40,7 +40,7 @@ impl<'a> Assignment<'a> {
     /// Whether the applicant has a rank below this one at the program.
     fn is_ahead(&self, program: ProgNo, applicant: AppNo, rank: u32) -> bool
         requires { applicant < applicants self.now.market }
-        ensures { result ≡ has (front_of self.now program rank) applicant }
+        ensures { result ≡ is_ahead self.now program rank applicant }
     {
         match self.rank(program, applicant) {
             Some(other) => other < rank,

@@ -1,20 +1,14 @@
 -- What threads answer that ask at each number below one.
-use Rattle.std.proofs.Common.{◌≡◌, ℕ, ◌<◌, ◌-◌, Bool, true, false, not, List, [], ◌∷◌, length, get_or, Option, is_some, refl, ap, sym, subst, ◌∙◌, inl, inr, arith}
+use Rattle.std.proofs.Common.{◌≡◌, ℕ, ◌-◌, Bool, true, false, not, List, [], ◌∷◌, Option, is_some, refl, ap, ◌∙◌, inl, inr, arith}
 use Rattle.std.specs.Borrow.{Bor}
 use Rattle.std.specs.List.{AllZip, find, list_all, range_with_len, slice_get}
 use Rattle.std.proofs.lemmas.Bool.{cases_Bool}
-use Rattle.rayon.proofs.ToStd.{answers-by_ref, filter_by_mask-find, nat_range-All}
+use Rattle.rayon.proofs.ToStd.{answers-by_ref, filter_by_mask-find}
 use Rattle.rayon.specs.Lists.{filter_by_mask}
 use Rattle.rayon.specs.Numbers.{nat_range}
 use Rattle.mt_terms.specs.Lists.{below}
 
--- each number that they ask at is one of them
-pub asked_below : (P : ℕ → Type 0) (start end n : ℕ) → start ≡ 0 → end ≡ n → ((a : ℕ) → a < n → P a)
-    → (k d : ℕ) → k < length (nat_range start end) → (p : Bor ℕ) → p.now ≡ get_or (nat_range start end) k d → P p.now
-asked_below P start end n from to each k d within p read =
-    subst P (sym read) (nat_range-All P start end (λ i low high. each i (omega arith)) k d within)
-
--- where nothing is found, all fail
+-- if nothing is found, all fail
 none_found : (test pass : ℕ → Bool) → ((a : ℕ) → test a ≡ not (pass a)) → (xs : List ℕ) → not (is_some (find test xs)) ≡ list_all pass xs
 none_found test pass are [] = refl
 none_found test pass are (x ∷ xs) = elim (cases_Bool (pass x)) [
@@ -22,7 +16,7 @@ none_found test pass are (x ∷ xs) = elim (cases_Bool (pass x)) [
   | inr not_it ↦ let here : test x ≡ true = are x ∙ ap not not_it in rw (here, not_it) refl
 ]
 
--- they find nothing where all fail
+-- they find nothing if all fail
 pub none_found_by_threads : (test pass : ℕ → Bool) → ((a : ℕ) → test a ≡ not (pass a)) → (start end n : ℕ) (xs : List ℕ) (answers : List Bool) (r : Option ℕ) → start ≡ 0 → end ≡ n
     → xs ≡ nat_range start end → AllZip (λ x b. (p : Bor ℕ) × (p.now ≡ x) × (b ≡ test p.now)) xs answers → r ≡ slice_get (filter_by_mask xs answers) 0
     → not (is_some r) ≡ list_all pass (below n)

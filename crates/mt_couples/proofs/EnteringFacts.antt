@@ -67,7 +67,7 @@ next_waits m wf quiet k now waiting same within fit is_quiet list waits =
     of_it g (inl is) = subst (λ x. is_on (agents m) x ≡ true) is (on_list (Couple k) (agents m) (agent_on_list m (Couple k) (couple_members m wf k within)))
     of_it g (inr none) = absurd none
 
--- who doesn't wait then has entered before, and once nobody waits whoever has entered doesn't
+-- a couple that doesn't wait then has entered before, and if nobody waits, no couple that has entered does
 pub idle_before : (c number : ℕ) → is_idle number (Couple number ∷ []) (Couple c) ≡ true → c < number
 idle_before c number idle = grind (arith, nat_tests, idle)
 

@@ -2,7 +2,7 @@ pub mod AskFacts
 pub mod EnteringFacts
 pub mod JoinFacts
 pub mod LookFacts
-pub mod NoteFacts
+pub mod IndexFacts
 pub mod OneFacts
 pub mod QuietFacts
 pub mod RoundFacts

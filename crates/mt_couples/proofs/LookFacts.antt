@@ -1,4 +1,4 @@
--- Who is found when programs that were left are looked at, and who is passed over.
+-- Who is found when programs that were left are rechecked, and who is passed over.
 use Rattle.std.proofs.Common.{◌≡◌, ◌∙◌, ℕ, zero, suc, ◌+◌, ◌<◌, ◌≤◌, Bool, true, false, not, ◌&&◌, ◌||◌, ◌==◌, nat_le, nat_lt, List, [], ◌∷◌, ◌++◌, filter, take, drop, length, get_or, Option, Some, None, refl, ap, sym, subst, inl, inr, arith, Result, Ok, Err, OnOk}
 use Rattle.std.specs.List.{position}
 use Rattle.std.proofs.lemmas.List.{drop_more}
@@ -21,23 +21,24 @@ use Rattle.mt_round_laws.proofs.RoundsAgents.{member_of_agent, one_of_two}
 use Rattle.mt_bits.specs.Members.{IsFirstFrom}
 use Rattle.mt_stage_tables.specs.Waiting.{with_agents, Waiting}
 use Rattle.mt_assignment.specs.Assigned.{ahead, has_post, pair_of, Assigned, AreApplicantsOf, IsAssigned}
-use Rattle.mt_couples.specs.Looking.{is_noted_reopened, AddsCouples, AddsSingles, HaveReopened, IsWatching}
+use Rattle.mt_couples.specs.Looking.{is_couple_reopened, AddsCouples, AddsSingles, AreIndexed, HaveReopened, IsWatching}
 use Rattle.mt_couples.specs.Waiting.{agents_of}
 use Rattle.mt_assignment.specs.Moves.{names_one_of, opens, some_has}
 use Rattle.mt_couples.specs.Running.{is_idle, is_reopened}
-use Rattle.mt_stage_tables.specs.Notes.{end_of, is_before, is_noted, notes_pair}
+use Rattle.mt_stage_tables.specs.Indexing.{end_of, is_before, is_indexed, names_pair}
 use Rattle.mt_assignment.specs.Watched.{better_pairs, opens_between, ranks_at, wanted}
 use Rattle.mt_couples.specs.Watching.{Covers}
 use Rattle.mt_stage_tables.specs.Named.{names, row_at}
 use Rattle.mt_stage_tables.proofs.NamedFacts.{any_between}
-use Rattle.mt_stage_tables.specs.declared.couple_list.Note.{Note}
+use Rattle.mt_stage_tables.specs.declared.couple_list.NamedPairs.{NamedPairs}
+use Rattle.mt_couples.specs.declared.recheck.Recheck.{Recheck}
 use Rattle.mt_couples.specs.declared.watch.Watch.{Watch}
 use Rattle.mt_terms.specs.Lists.{is_distinct}
 use Rattle.mt_terms.proofs.ListFacts.{same_position}
 use Rattle.mt_assignment.proofs.LiveFacts.{better_single, post_for, better_couple}
 use Rattle.mt_stage_tables.proofs.FrontFacts.{until_front}
-use Rattle.mt_stage_tables.proofs.NoteFacts.{before_end}
-use Rattle.mt_couples.proofs.NoteFacts.{couple_with_pair}
+use Rattle.mt_stage_tables.proofs.IndexFacts.{before_end}
+use Rattle.mt_couples.proofs.IndexFacts.{couple_with_pair}
 use Rattle.mt_stage_tables.proofs.PlaceFacts.{has_read}
 use Rattle.mt_assignment.proofs.RankFacts.{has_rank, rank_there}
 use Rattle.mt_stage_tables.proofs.OrderFacts.{has_at}
@@ -91,12 +92,16 @@ open_couple s p c o =
     ] in
     (w.0, w.1, and_from _ _ at_p (subst (λ x. would_be_taken s.market s.places x ≡ true) (sym w.2) o.taken))
 
--- The note by which a couple is found that is reopened by an option at a program: of a pair there that stands no
--- later than the option.
-pub open_note : (k : ℕ) (s : Assigned) (w : Watch) (p : ℕ) (ws : List Agent) (c : ℕ) → IsWatching k s ws w → p < length s.market.programs
-    → is_reopened k s (p ∷ []) ws (Couple c) ≡ true → (n : Note) × In n (row_at w.couples.rows p) × (n.couple ≡ c) × (is_noted_reopened k s w p ws n ≡ true)
-open_note k s w p ws c watching known reopened =
-    let notes = row_at w.couples.rows p in
+-- what the index and the work list of a recheck have to be together
+pub watching_by : (t : Recheck) (ws : List Agent) → AreIndexed t.last ws t.watch.now → IsWatching t.last t.assignment.now ws t.watch.now
+watching_by t ws indexed = record { watched = t.watched; named = t.named; counted = t.counted; indexed = indexed }
+
+-- The indexed pairs by which a couple is found that is reopened by an option at a program: they begin no later than the
+-- option.
+pub open_pairs : (k : ℕ) (s : Assigned) (w : Watch) (p : ℕ) (ws : List Agent) (c : ℕ) → IsWatching k s ws w → p < length s.market.programs
+    → is_reopened k s (p ∷ []) ws (Couple c) ≡ true → (n : NamedPairs) × In n (row_at w.couples.rows p) × (n.couple ≡ c) × (is_couple_reopened k s w p ws n ≡ true)
+open_pairs k s w p ws c watching known reopened =
+    let named = row_at w.couples.rows p in
     let counts = w.better.items in
     let parts = and_parts (nat_le c k && not (is_on ws (Couple c))) (opens s (p ∷ []) (Couple c)) reopened in
     let pair = open_couple s p c (open_at s p (Couple c) parts.1) in
@@ -106,9 +111,9 @@ open_note k s w p ws c watching known reopened =
     let front = until_front (λ x. holds s.places (pair_of s c x)) pairs i pair.0 place.1 in
     let at_p = and_parts (names p pair.0) (would_be_taken s.market s.places (pair_of s c pair.0)) pair.2 in
     let counted = watching.counted.each c (couple_with_pair s.market c pair.0 (of_until (λ x. holds s.places (pair_of s c x)) pair.0 pairs pair.1)) in
-    let noted : is_noted notes c i ≡ true =
-    watching.named.each c p i pair.0 known (omega (arith, watching.noted c parts.0, counted, place.1)) front.0 (place.2 ∙ front.1) at_p.0 in
-    let n = found (notes_pair c i) notes noted in
+    let indexed : is_indexed named c i ≡ true =
+    watching.named.each c p i pair.0 known (omega (arith, watching.indexed c parts.0, counted, place.1)) front.0 (place.2 ∙ front.1) at_p.0 in
+    let n = found (names_pair c i) named indexed in
     let is = and_parts (n.0.couple == c) (nat_le n.0.from i && is_before i n.0.until) n.2 in
     let between = and_parts (nat_le n.0.from i) (is_before i n.0.until) is.1 in
     let of_couple : n.0.couple ≡ c = eqb-true n.0.couple c is.0 in
@@ -126,9 +131,9 @@ open_note k s w p ws c watching known reopened =
     no_later : (a b : ℕ) → nat_le a b ≡ true → a ≤ b
     no_later a b le = grind (arith, nat_tests, le)
 
--- Whoever is reopened by an option at a program is found there.
+-- Each agent that is reopened by an option at a program is found there.
 pub covers_one : (k : ℕ) (s : Assigned) (w : Watch) (p : ℕ) (ws : List Agent) (mid new : List ℕ) → IsWatching k s ws w → p < length s.market.programs
-    → AddsSingles k s p ws (ranks_at w.singles p) mid → ((a : ℕ) → has mid a ≡ true → has new a ≡ true) → AddsCouples k s p ws new → Covers k s (p ∷ []) ws new
+    → AddsSingles s p (ranks_at w.singles p) mid → ((a : ℕ) → has mid a ≡ true → has new a ≡ true) → AddsCouples k s p ws new → Covers k s (p ∷ []) ws new
 covers_one k s w p ws mid new watching known singles keeps couples a within reopened = by_agent (agent_of s.market a) refl
   where
     by_agent : (g : Agent) → agent_of s.market a ≡ g → has new a ≡ true
@@ -140,12 +145,12 @@ covers_one k s w p ws mid new watching known singles keeps couples a within reop
         let wants : has (wanted s a) p ≡ true = subst (λ x. has (wanted s x) p ≡ true) here o.0 in
         let rank = rank_there (program_of s.market p).ranking a (subst (λ x. has (program_of s.market p).ranking x ≡ true) here o.1) in
         let single : agent_of s.market a ≡ Single a = is ∙ ap Single here in
-        keeps a (singles rank.0 a (watching.watched.each a within p rank.0 known rank.1 ∙ wants) rank.1 single (subst (λ g. is_reopened k s (p ∷ []) ws g ≡ true) single reopened))
+        keeps a (singles rank.0 a (watching.watched.each a within p rank.0 known rank.1 ∙ wants) rank.1 single (subst (λ x. opens s (p ∷ []) (Single x) ≡ true) here parts.1))
     by_agent (Couple c) is =
         let now : is_reopened k s (p ∷ []) ws (Couple c) ≡ true = subst (λ g. is_reopened k s (p ∷ []) ws g ≡ true) is reopened in
         couples c a now is
 
--- whoever is reopened by an option at some of these programs is so by one at one of them
+-- an agent that is reopened by an option at some of these programs is so by one at one of them
 pub covers_all : (k : ℕ) (s : Assigned) (ps : List ℕ) (ws : List Agent) (xs : List ℕ) → ((p : ℕ) → has ps p ≡ true → Covers k s (p ∷ []) ws xs) → Covers k s ps ws xs
 covers_all k s ps ws xs at_each a within reopened =
     let g = agent_of s.market a in
@@ -189,7 +194,7 @@ rank_at_place xs i a distinct within read =
     let same : w.0 ≡ i = same_position xs w.0 i distinct there.0 within (there.1 ∙ read ∙ any_default xs i a 0 within) in
     w.1 ∙ ap Some same
 
--- Below, a program's list is gone through from one place to another: who stands between them isn't reopened.
+-- Below, a program's list is rechecked from one place to another. The agents between them aren't reopened.
 module _ (k : ℕ) (s : Assigned) (ps : List ℕ) (wf : IsWellFormed s.market) (start : Waiting) (all : List Agent) where
   abbrev pub Rest : List ℕ → Waiting → ℕ → Type 0
   Rest xs now i = IsLooking k s ps start now (filter (blocking k s) (agents_of s (drop i xs))) all
@@ -207,7 +212,7 @@ module _ (k : ℕ) (s : Assigned) (ps : List ℕ) (wf : IsWellFormed s.market) (
       let e : i + 1 + n ≡ i + suc n = omega arith in
       subst (Rest xs now) e (passing xs known now n (i + 1) (omega arith) (λ x low high. none x (omega arith) (omega arith)) next)
 
-  -- the one at a place is looked at, and joins or doesn't
+  -- the one at a place is rechecked, and joins or doesn't
   pub passes_joined : (xs : List ℕ) → (now new : Waiting) (i a : ℕ) → i < length xs → a ≡ get_or xs i a → Rest xs now i → is_reopened k s ps now.agents (agent_of s.market a) ≡ true
       → new ≡ with_agents now (joined now.agents (agent_of s.market a)) → Rest xs new (i + 1)
   passes_joined xs now new i a within read looking reopened is =
@@ -246,7 +251,7 @@ pub both_ok : {T X : Type 0} {A B C : Type 0} (r : Result T X) → OnOk r A → 
 both_ok (Ok x) a b f = f a b
 both_ok (Err e) a b f = tt
 
--- where a program has no post for a rank, it has none for a later one
+-- if a program has no post for a rank, it has none for a later one
 pub later_closed : (s : Assigned) (p r q : ℕ) → r ≤ q → has_post s p r ≡ false → has_post s p q ≡ false
 later_closed s p r q later none = more (ahead s p r) (ahead s p q) (program_of s.market p).quota (counts (at s.places p) (program_of s.market p).ranking r q later) none
   where
@@ -259,50 +264,44 @@ later_closed s p r q later none = more (ahead s p r) (ahead s p q) (program_of s
     more : (a b quota : ℕ) → a ≤ b → nat_lt a quota ≡ false → nat_lt b quota ≡ false
     more a b quota le none = grind (arith, nat_tests, le, none)
 
--- what stands past the end of a list of notes
-abbrev pub no_note : Note
-no_note = record { couple = 0; from = 0; until = 0 }
+-- what is past the end of a list of entries
+abbrev pub no_pairs : NamedPairs
+no_pairs = record { couple = 0; from = 0; until = 0 }
 
--- Below, who stands at a rank of a program's list is found where it is reopened by an option there.
-module _ (k : ℕ) (s : Assigned) (p : ℕ) (ws : List Agent) where
+-- Below, a single at a rank of a program's list is found if it has a better option there that would be taken.
+module _ (s : Assigned) (p : ℕ) where
   abbrev pub IsFoundAt : List ℕ → ℕ → Type 0
-  IsFoundAt found r = (a : ℕ) → rank_of s.market p a ≡ Some r → agent_of s.market a ≡ Single a → is_reopened k s (p ∷ []) ws (Single a) ≡ true → has found a ≡ true
+  IsFoundAt found r = (a : ℕ) → rank_of s.market p a ≡ Some r → agent_of s.market a ≡ Single a → opens s (p ∷ []) (Single a) ≡ true → has found a ≡ true
 
   same_there : (r x a : ℕ) → r < length (program_of s.market p).ranking → x ≡ get_or (program_of s.market p).ranking r x → rank_of s.market p a ≡ Some r → x ≡ a
   same_there r x a within read ranked = read ∙ any_default (program_of s.market p).ranking r x 0 within ∙ (at_rank (program_of s.market p).ranking a r ranked).1
 
   pub found_at : (found : List ℕ) (r x : ℕ) → r < length (program_of s.market p).ranking → x ≡ get_or (program_of s.market p).ranking r x → IsFoundAt (found ++ x ∷ []) r
-  found_at found r x within read a ranked single reopened = subst (λ y. has (found ++ x ∷ []) y ≡ true) (same_there r x a within read ranked) (has_end found x)
-
-  pub passed_at : (found : List ℕ) (r x : ℕ) → r < length (program_of s.market p).ranking → x ≡ get_or (program_of s.market p).ranking r x
-      → is_reopened k s (p ∷ []) ws (agent_of s.market x) ≡ false → IsFoundAt found r
-  passed_at found r x within read other a ranked single reopened =
-      let out = subst (λ y. is_reopened k s (p ∷ []) ws (agent_of s.market y) ≡ false) (same_there r x a within read ranked) other in
-      absurd (both_ways (is_reopened k s (p ∷ []) ws (Single a)) (subst (λ g. is_reopened k s (p ∷ []) ws g ≡ false) single out) reopened)
+  found_at found r x within read a ranked single opened = subst (λ y. has (found ++ x ∷ []) y ≡ true) (same_there r x a within read ranked) (has_end found x)
 
   -- what is found at each rank of a set below a number, and below one past its next rank
   pub found_below : (ranks : Set) (found more : List ℕ) (number r : ℕ) → IsFirstFrom ranks number r → ((a : ℕ) → has found a ≡ true → has more a ≡ true)
       → ((q : ℕ) → ranks q ≡ true → q < number → IsFoundAt found q) → IsFoundAt more r → (q : ℕ) → ranks q ≡ true → q < r + 1 → IsFoundAt more q
   found_below ranks found more number r next keeps before here q on low = elim (cases_lt q number) [
-    | inl earlier ↦ (λ a ranked single reopened. keeps a (before q on earlier a ranked single reopened))
+    | inl earlier ↦ (λ a ranked single opened. keeps a (before q on earlier a ranked single opened))
     | inr later ↦ elim (cases_lt q r) [
       | inl between ↦ absurd (both_ways (ranks q) (next.first q later between) on)
       | inr past ↦ (let e : r ≡ q = omega arith in subst (IsFoundAt more) e here)
     ]
   ]
 
-  -- a single with a rank for which the program has no post isn't reopened by it
+  -- a single with a rank for which the program has no post has no such option there
   pub closed_at : (found : List ℕ) (r : ℕ) → IsAssigned s → has_post s p r ≡ false → IsFoundAt found r
-  closed_at found r ok none a ranked single reopened =
-      let parts = and_parts (has_entered k (Single a) && not (is_on ws (Single a))) (opens s (p ∷ []) (Single a)) reopened in
-      absurd (both_ways (has_post s p r) none (post_for s ok a (within_at a ranked) p r ranked parts.1))
+  closed_at found r ok none a ranked single opened = absurd (both_ways (has_post s p r) none (post_for s ok a (within_at a ranked) p r ranked opened))
     where
       within_at : (a : ℕ) → rank_of s.market p a ≡ Some r → a < applicants s.market
       within_at a ranked = ok.well_formed.rankings_within p a (has_rank (program_of s.market p).ranking a r ranked)
 
-  -- the members of a note's couple are found where that is reopened
-  abbrev pub AreFoundBy : Watch → List ℕ → Note → Type 0
-  AreFoundBy w found n = is_noted_reopened k s w p ws n ≡ true → (a : ℕ) → agent_of s.market a ≡ Couple n.couple → has found a ≡ true
+-- Below, the members of a couple are found that is indexed at a program.
+module _ (k : ℕ) (s : Assigned) (p : ℕ) (ws : List Agent) where
+  -- they are found if it is reopened
+  abbrev pub AreFoundBy : Watch → List ℕ → NamedPairs → Type 0
+  AreFoundBy w found n = is_couple_reopened k s w p ws n ≡ true → (a : ℕ) → agent_of s.market a ≡ Couple n.couple → has found a ≡ true
 
   pub found_both : (found : List ℕ) (c x y : ℕ) → x ≡ (couple_of s.market c).first → y ≡ (couple_of s.market c).second
       → (a : ℕ) → agent_of s.market a ≡ Couple c → has ((found ++ x ∷ []) ++ y ∷ []) a ≡ true

@@ -1,4 +1,4 @@
--- Who joins where one program was left and no couple is reopened by it: the singles at the ranks that are watched there.
+-- Who joins if one program was left and no couple is reopened by it: the singles at the ranks that are watched there.
 use Rattle.std.proofs.Common.{◌≡◌, ◌∙◌, ℕ, ◌+◌, ◌-◌, ◌<◌, ◌≤◌, Bool, true, false, not, ◌&&◌, ◌==◌, List, [], ◌∷◌, length, get_or, Option, Some, None, is_some, refl, ap, ap₂, sym, subst, inl, inr, arith, vec_len, Vec}
 use Rattle.std.specs.List.{list_all}
 use Rattle.std.specs.Prelude.{IfNone, IfSome}
@@ -31,7 +31,7 @@ use Rattle.mt_couples.proofs.LookFacts.{any_default, at_rank, open_at, open_sing
 use Rattle.mt_stage_tables.proofs.PlaceFacts.{has_read}
 use Rattle.mt_assignment.proofs.RankFacts.{rank_there}
 
--- a single that wants a program more than what it has, where that has a post for it, has an option there
+-- a single that wants a program more than what it has, and that has a post for it, has an option there
 pub opens_there : (s : Assigned) → IsAssigned s → (a p r : ℕ) → a < applicants s.market → has (wanted s a) p ≡ true → rank_of s.market p a ≡ Some r
     → has_post s p r ≡ true → opens s (p ∷ []) (Single a) ≡ true
 opens_there s ok a p r within wants ranked post =
@@ -55,7 +55,7 @@ wanted_post_is s rows p None opened none = sym (false_from_ne_true _ (λ h.
     let parts = and_parts (ranks_at rows p w.0) (has_post s p w.0) w.2 in
     both_ways (has_post s p w.0) (none w.0 (omega arith) parts.0 (of_below w.0 _ w.1)) parts.1))
 
--- where no program has one, no single blocks
+-- if no program has one, no single blocks
 pub quiet_by_posts : (s : Assigned) → IsAssigned s → (rows : List (List Bool)) → AreWatched s rows
     → list_all (λ p. not (has_wanted_post s rows p)) (below (length s.market.programs)) ≡ true → singles_quiet s ≡ true
 quiet_by_posts s ok rows watched none =
@@ -85,7 +85,7 @@ quiet_by_posts s ok rows watched none =
     by_agent a within (Single b) is = subst (λ g. is_quiet_single s g ≡ true) (sym (single_itself s.market a b is) ∙ is) (single a within)
     by_agent a within (Couple c) is = refl
 
--- whoever wants a program is a single: a couple's members have no lists
+-- an applicant that wants a program is a single: a couple's members have no lists
 pub wants_single : (s : Assigned) → IsWellFormed s.market → (a p : ℕ) → a < applicants s.market → has (wanted s a) p ≡ true → agent_of s.market a ≡ Single a
 wants_single s wf a p within wants = by_agent (agent_of s.market a) refl
   where
@@ -106,7 +106,7 @@ wants_single s wf a p within wants = by_agent (agent_of s.market a) refl
 joins_again : (w : Waiting) (g : Agent) → is_on w.agents g ≡ true → with_agents w (joined w.agents g) ≡ w
 joins_again w g waits = rw waits refl
 
--- a single at a place of a list that has an option is put on the list of who waits, where it doesn't wait yet
+-- a single at a place of a list that has an option is put on the list of who waits, if it doesn't wait yet
 passes_found : (k : ℕ) (s : Assigned) (ps : List ℕ) (wf : IsWellFormed s.market) (start : Waiting) (all : List Agent) (xs : List ℕ)
     → (now new : Waiting) (i a : ℕ) → i < length xs → a ≡ get_or xs i a → a < applicants s.market → Rest k s ps wf start all xs now i
     → agent_of s.market a ≡ Single a → opens s ps (Single a) ≡ true → new ≡ with_agents now (joined now.agents (Single a))
@@ -124,7 +124,7 @@ passes_found k s ps wf start all xs now new i a within read a_in looking single 
       passes_joined k s ps wf start all xs now new i a within read looking reopened (is ∙ ap (λ g. with_agents now (joined now.agents g)) (sym single))
 ]
 
--- where no member of a couple is found, no couple is reopened
+-- if no member of a couple is found, no couple is reopened
 pub no_couples : {Z : Type 0} (k : ℕ) (s : Assigned) (p : ℕ) (ws : List Agent) (found : Vec ℕ Z) (is_none : Bool)
     → is_none ≡ (vec_len found == 0) → is_none ≡ true → AddsCouples k s p ws found.items → AddsCouples k s p ws []
 no_couples k s p ws found is_none is none adds =

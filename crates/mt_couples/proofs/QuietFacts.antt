@@ -1,4 +1,4 @@
--- Who blocks between two rounds, and where that was opened.
+-- Who blocks between two rounds, and at which program that was opened.
 use Rattle.std.proofs.Common.{◌≡◌, ℕ, ◌+◌, ◌<◌, Bool, true, false, not, ◌&&◌, ◌||◌, ◌==◌, nat_lt, List, [], ◌∷◌, ◌++◌, map, filter, length, Option, Some, None, refl, ap, sym, ◌∙◌, inl, inr, arith, subst, flat_map, if◌then◌else◌}
 use Rattle.std.proofs.lemmas.Bool.{cases_Bool, and_parts, and_from, or_parts, or_from, or_left, both_ways, not-true, not_from_false}
 use Rattle.std.proofs.lemmas.Bool.Decides.{nat_tests}
@@ -27,7 +27,7 @@ use Rattle.mt_assignment.proofs.MoveFacts.{is_move, left_within}
 abbrev pub blocking : ℕ → Assigned → Agent → Bool
 blocking k s g = has_entered k g && blocks s.market s.places g
 
--- Agents are looked at one after another, and who is not looked at yet joins in the end if it blocks.
+-- Agents are rechecked one after another, and one that isn't rechecked yet joins in the end if it blocks.
 pub record IsLooking (k : ℕ) (s : Assigned) (ps : List ℕ) (start now : Waiting) (rest all : List Agent) : Type 0 where
   pub joining : AreJoining start now rest all
   pub quiet : IsQuietBut k s ps now.agents
@@ -47,7 +47,7 @@ pub is_agent : (m : Market) → IsWellFormed m → (a : ℕ) → a < applicants 
 is_agent m wf a within = on_list (agent_of m a) (agents m) (agent_on_list m (agent_of m a) (agent_of_applicant m wf a within))
 
 module _ (k : ℕ) (s : Assigned) (ps : List ℕ) where
-  -- one is looked at and joins
+  -- one is rechecked and joins
   pub looking_joins : (start now new : Waiting) (g : Agent) (rest all : List Agent) → IsLooking k s ps start now (filter (blocking k s) (g ∷ rest)) all
       → is_reopened k s ps now.agents g ≡ true → new ≡ with_agents now (joined now.agents g) → IsLooking k s ps start new (filter (blocking k s) rest) all
   looking_joins start now new g rest all looking reopened is =
@@ -61,7 +61,7 @@ module _ (k : ℕ) (s : Assigned) (ps : List ℕ) where
             looking.quiet h on entered (or_parts (is_on now.agents h) (is_same_agent h g) off').0;
       }
 
-  -- one is looked at and doesn't join
+  -- one is rechecked and doesn't join
   pub looking_skips : (start now : Waiting) (g : Agent) (rest all : List Agent) → IsLooking k s ps start now (filter (blocking k s) (g ∷ rest)) all
       → is_on (agents s.market) g ≡ true → is_reopened k s ps now.agents g ≡ false → IsLooking k s ps start now (filter (blocking k s) rest) all
   looking_skips start now g rest all looking on skipped = elim (cases_Bool (blocking k s g)) [
@@ -79,7 +79,7 @@ module _ (k : ℕ) (s : Assigned) (ps : List ℕ) where
         ]
   ]
 
-  -- some were looked at
+  -- some were rechecked
   pub looking_some : (start now new : Waiting) (gs rest all : List Agent) → IsLooking k s ps start now (gs ++ rest) all → Joins now new gs
       → IsLooking k s ps start new rest all
   looking_some start now new gs rest all looking is = record {
@@ -177,7 +177,7 @@ pub entered_by : (number : ℕ) (h : Agent) → entered_before (number + 1) h �
 entered_by number (Single a) before = refl
 entered_by number (Couple c) before = grind (arith, nat_tests, before)
 
--- where no single blocks, nobody does that has entered before the first couple
+-- if no single blocks, nobody does that has entered before the first couple
 pub quiet_at_first : (m : Market) → IsWellFormed m → (places : Places) → singles_quiet (record { market = m; places = places }) ≡ true
     → (h : Agent) → is_on (agents m) h ≡ true → entered_before 0 h ≡ true → blocks m places h ≡ false
 quiet_at_first m wf places all (Single a) on before =

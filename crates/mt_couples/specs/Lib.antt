@@ -1,4 +1,6 @@
 pub mod Looking
+pub mod Rechecks
 pub mod Running
+pub mod Staged
 pub mod Waiting
 pub mod Watching

@@ -45,8 +45,8 @@ is_quiet_single s (Couple c) = true
 abbrev pub singles_quiet : Assigned → Bool
 singles_quiet s = list_all (λ a. is_quiet_single s (agent_of s.market a)) (below (applicants s.market))
 
--- The market is well formed, the match fits, the agents that wait are of the market, and where it is said that
--- it is quiet, it is.
+-- The market is well formed, the match fits, and the agents that wait are of the market. After a quiet start no idle
+-- agent blocks.
 pub record IsRunning (k : ℕ) (quiet : Bool) (s : Assigned) (w : Waiting) : Type 0 where
   pub well_formed : IsWellFormed s.market
   pub fitting : IsFittingState s.market (work_of s w)

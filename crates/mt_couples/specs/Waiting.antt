@@ -13,7 +13,7 @@ pub record IsListOf (m : Market) (w : Waiting) : Type 0 where
   pub applicants_are : w.applicants ≡ applicants m
   pub couples_are : w.couples ≡ length m.couples
 
--- the room stays, whoever waits
+-- the room stays the same
 abbrev pub KeepsRoom : Waiting → Waiting → Type 0
 KeepsRoom old new = new ≡ with_agents old new.agents
 
@@ -25,13 +25,14 @@ Joins old new gs = new ≡ with_agents old (all_joined old.agents gs)
 abbrev pub agents_of : Assigned → List ℕ → List Agent
 agents_of s xs = map (agent_of s.market) xs
 
--- an agent, where it blocks
+-- an agent, if it blocks
 abbrev pub if_blocking : Assigned → Agent → List Agent
 if_blocking s g = if blocks s.market s.places g then (g ∷ []) else []
 
--- the agents of a program's list that have entered and block, and those of several programs' lists
+-- the agents of a program's list that have entered and block
 abbrev pub blockers : Assigned → ℕ → ℕ → List Agent
 blockers s k p = blocking_on_list s.market k s.places p
 
-abbrev pub reopened : Assigned → ℕ → List ℕ → List Agent
-reopened s k ps = flat_map (blockers s k) ps
+-- those of several programs' lists, one list after another
+abbrev pub blockers_of : Assigned → ℕ → List ℕ → List Agent
+blockers_of s k ps = flat_map (blockers s k) ps

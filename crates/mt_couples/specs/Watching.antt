@@ -1,14 +1,19 @@
--- Where it is watched that an option may be opened, once several have moved, and what is counted and noted of couples.
-use Rattle.std.specs.Prelude.{◌≡◌, ℕ, ◌<◌, ◌≤◌, Bool, true, List, length, slice_index_or}
+-- Where applicants are watched once several have moved, and what is counted and indexed of couples.
+use Rattle.std.specs.Prelude.{◌≡◌, ℕ, ◌<◌, ◌≤◌, Bool, true, List, length, map, slice_index_or}
 use Rattle.mt_terms.specs.Lists.{has}
 use Rattle.mt_terms.specs.Market.{applicants, agent_of}
+use Rattle.mt_terms.specs.Matching.{Placement}
 use Rattle.mt_terms.specs.declared.numbers.Agent.{Agent}
 use Rattle.mt_terms.specs.declared.numbers.Agent.TheVariants.{Couple}
 use Rattle.mt_assignment.specs.Assigned.{Assigned}
-use Rattle.mt_stage_tables.specs.Named.{noted_count}
+use Rattle.mt_stage_tables.specs.Named.{indexed_count}
 use Rattle.mt_couples.specs.declared.watch.Watch.{Watch}
 use Rattle.mt_couples.specs.Running.{is_reopened}
 use Rattle.mt_assignment.specs.Watched.{better_pairs, IsWatched, IsWithinList, KeepsOthers}
+
+-- those that a placement sends somewhere
+abbrev pub sent_ones : Placement → List ℕ
+sent_ones sent = map (λ s. s.0) sent
 
 -- some applicants are watched by where they are now, and nobody else is watched otherwise
 pub record FollowsAll (s : Assigned) (old new : List (List Bool)) (xs : List ℕ) : Type 0 where
@@ -16,44 +21,47 @@ pub record FollowsAll (s : Assigned) (old new : List (List Bool)) (xs : List ℕ
   pub others : length old ≡ length s.market.programs → KeepsOthers s.market old new xs
   pub watched : length old ≡ length s.market.programs → ((a : ℕ) → has xs a ≡ true → IsWithinList s.market old a) → (a : ℕ) → has xs a ≡ true → IsWatched s new a
 
--- it is counted how many pairs a couple wants more than what it has, and so it is for each couple
+-- it is counted how many pairs a couple wants more than what it has
 abbrev pub IsCounted : Assigned → List ℕ → ℕ → Type 0
 IsCounted s counts c = slice_index_or counts c 0 ≡ length (better_pairs s c)
 
+-- so it is for each couple of the market
 pub record AreCounted (s : Assigned) (counts : List ℕ) : Type 0 where
   pub one_each : length counts ≡ length s.market.couples
   pub each : (c : ℕ) → c < length s.market.couples → IsCounted s counts c
 
--- it is counted again for a couple, for the couple of an applicant, and for the couples of several
+-- it is counted again for a couple, and the counts of the others are as right as before
 pub record CountsCouple (s : Assigned) (old new : List ℕ) (c : ℕ) : Type 0 where
   pub as_many : length new ≡ length old
   pub keeps : (d : ℕ) → IsCounted s old d → IsCounted s new d
   pub counted : c < length old → IsCounted s new c
 
+-- so it is for the couple of an applicant
 pub record Counts (s : Assigned) (old new : Watch) (a : ℕ) : Type 0 where
   pub as_many : length new.better.items ≡ length old.better.items
   pub keeps : (c : ℕ) → IsCounted s old.better.items c → IsCounted s new.better.items c
   pub counted : (c : ℕ) → agent_of s.market a ≡ Couple c → c < length old.better.items → IsCounted s new.better.items c
 
+-- so it is for the couples of several applicants
 pub record CountsAll (s : Assigned) (old new : Watch) (xs : List ℕ) : Type 0 where
   pub as_many : length new.better.items ≡ length old.better.items
   pub keeps : (c : ℕ) → IsCounted s old.better.items c → IsCounted s new.better.items c
   pub counted : (a : ℕ) → has xs a ≡ true → (c : ℕ) → agent_of s.market a ≡ Couple c → c < length old.better.items → IsCounted s new.better.items c
 
--- all pairs are noted that a couple wants more than what it has
-abbrev pub IsNoted : Watch → ℕ → Type 0
-IsNoted w c = slice_index_or w.better.items c 0 ≤ noted_count w.couples c
+-- all pairs are indexed that a couple wants more than what it has
+abbrev pub IsIndexed : Watch → ℕ → Type 0
+IsIndexed w c = slice_index_or w.better.items c 0 ≤ indexed_count w.couples c
 
--- so they are for a couple now, and of no couple are fewer pairs noted than before
-pub record NotesCouple (old new : Watch) (c : ℕ) : Type 0 where
-  pub noted : IsNoted new c
-  pub keeps : (d : ℕ) → noted_count old.couples d ≤ noted_count new.couples d
+-- so they are for a couple now, and no couple has fewer pairs indexed than before
+pub record IndexesCouple (old new : Watch) (c : ℕ) : Type 0 where
+  pub indexed : IsIndexed new c
+  pub keeps : (d : ℕ) → indexed_count old.couples d ≤ indexed_count new.couples d
 
--- so they are where an agent is a couple, and the same of the others
-pub record NotesAgent (old new : Watch) (g : Agent) : Type 0 where
-  pub noted : (c : ℕ) → g ≡ Couple c → IsNoted new c
-  pub keeps : (d : ℕ) → noted_count old.couples d ≤ noted_count new.couples d
+-- so they are if an agent is a couple, and no couple has fewer pairs indexed than before
+pub record IndexesAgent (old new : Watch) (g : Agent) : Type 0 where
+  pub indexed : (c : ℕ) → g ≡ Couple c → IsIndexed new c
+  pub keeps : (d : ℕ) → indexed_count old.couples d ≤ indexed_count new.couples d
 
--- whoever is reopened is among these applicants
+-- each applicant whose agent is reopened is one of these
 abbrev pub Covers : ℕ → Assigned → List ℕ → List Agent → List ℕ → Type 0
 Covers k s ps waiting found = (a : ℕ) → a < applicants s.market → is_reopened k s ps waiting (agent_of s.market a) ≡ true → has found a ≡ true

@@ -1,7 +1,7 @@
 //! How couples enter the match of the singles, one at a time.
 #![tactic(auto)]
 
-mod look;
+mod recheck;
 mod rounds;
 mod watch;
 

@@ -1,21 +1,16 @@
-ghost use Rattle.std.specs.Prelude.{◌≡◌, ◌<◌, ◌≤◌, ◌++◌, length, IsTrue, map, IfOk, IsErrOf, OnOk, Some, None, [], ◌∷◌};
-ghost use Rattle.mt_terms.specs.Rounds.{after_taking, round_of, after_rounds, stage};
+ghost use Rattle.std.specs.Prelude.{◌≡◌, ◌<◌, ◌≤◌, length, IsTrue, IfOk, IsErrOf, OnOk, Some, None, []};
+ghost use Rattle.mt_terms.specs.Rounds.{stage};
 ghost use Rattle.mt_terms.specs.Best.{IsBest};
-ghost use Rattle.mt_terms.specs.Market.{applicants};
-ghost use Rattle.mt_terms.specs.WellFormed.{IsWellFormed};
+ghost use Rattle.mt_terms.specs.Places.{ArePlaces};
 ghost use Rattle.mt_terms.specs.Stability.{fits, stable};
 ghost use Rattle.mt_ranks.specs.Ranked.{ranked_of};
-ghost use Rattle.mt_stage_tables.specs.Named.{AreNamed};
-ghost use Rattle.mt_stage_tables.specs.Waiting.{waiting_first};
-ghost use Rattle.mt_assignment.specs.Assigned.{AreApplicantsOf, AreProgramsOf, AreSent, IsAgentOf};
-ghost use Rattle.mt_couples.specs.Looking.{has_wanted_post, IsWatching};
-ghost use Rattle.mt_couples.specs.Watching.{AreCounted, CountsAll, FollowsAll, NotesAgent};
-ghost use Rattle.mt_assignment.specs.Watched.{AreWatched};
-ghost use Rattle.mt_couples.specs.Running.{singles_quiet, work_of, IsQuietBut, IsRunning};
-ghost use Rattle.mt_couples.specs.Waiting.{IsListOf, Joins, KeepsRoom, agents_of, blockers, if_blocking, reopened};
+ghost use Rattle.mt_assignment.specs.Assigned.{AreListed};
 ghost use Rattle.mt_assignment.specs.Moves.{IsTaking};
+ghost use Rattle.mt_assignment.specs.Watched.{AreWatched};
+ghost use Rattle.mt_couples.specs.Looking.{has_wanted_post};
+ghost use Rattle.mt_couples.specs.Running.{singles_quiet};
 
-use crate::look::{has_entered, has_wanted_post, look_at_opened};
+use crate::recheck::{Recheck, has_wanted_post};
 use crate::watch::Watch;
 use mt_assignment::{Assignment, no_ranks};
 use mt_market::Roster;
@@ -61,68 +56,6 @@ pub struct Entered {
     pub rounds: u32,
 }
 
-/// Puts the agents of displaced applicants on the work list, and then the agent that moved, where it has a better
-/// option still.
-fn join_moved(
-    assignment: &Assignment<'_>,
-    watch: &Watch,
-    displaced: &[AppNo],
-    agent: Agent,
-    waiting: &mut WorkList,
-)
-    requires displaced { AreApplicantsOf assignment.now.market displaced.now }
-    requires agent { IsAgentOf assignment.now.market agent }
-    requires counted { AreCounted assignment.now watch.now.better.items }
-    requires waiting { IsListOf assignment.now.market waiting.old }
-    ensures { Joins waiting.old waiting.new (agents_of assignment.now displaced.now ++ if_blocking assignment.now agent) }
-{
-    for applicant in displaced {
-        waiting.join(assignment.agent_of(*applicant));
-    }
-    if watch.blocks(assignment, &agent) {
-        waiting.join(agent);
-    }
-}
-
-/// Puts those agents of a program's list on the work list that have entered and block now.
-fn look_at(
-    assignment: &Assignment<'_>,
-    watch: &Watch,
-    program: ProgNo,
-    last: CoupleNo,
-    waiting: &mut WorkList,
-)
-    requires program { program < length assignment.now.market.programs }
-    requires counted { AreCounted assignment.now watch.now.better.items }
-    requires waiting { IsListOf assignment.now.market waiting.old }
-    ensures { Joins waiting.old waiting.new (blockers assignment.now last program) }
-{
-    for applicant in assignment.ranking(program) {
-        let agent = assignment.agent_of(*applicant);
-        if has_entered(&agent, last) && watch.blocks(assignment, &agent) {
-            waiting.join(agent);
-        }
-    }
-}
-
-/// The same for several programs.
-fn look_at_each(
-    assignment: &Assignment<'_>,
-    watch: &Watch,
-    left: &[ProgNo],
-    last: CoupleNo,
-    waiting: &mut WorkList,
-)
-    requires counted { AreCounted assignment.now watch.now.better.items }
-    requires programs { AreProgramsOf assignment.now.market left.now }
-    requires waiting { IsListOf assignment.now.market waiting.old }
-    ensures { Joins waiting.old waiting.new (reopened assignment.now last left.now) }
-{
-    for program in left {
-        look_at(assignment, watch, *program, last, waiting);
-    }
-}
-
 /// Whether no single blocks: no program has a post for one that is watched there.
 fn are_singles_quiet<R: Threads + Sync>(rt: &R, assignment: &Assignment<'_>, watch: &Watch) -> bool
     requires { AreWatched assignment.now watch.now.singles }
@@ -134,226 +67,201 @@ fn are_singles_quiet<R: Threads + Sync>(rt: &R, assignment: &Assignment<'_>, wat
         .find_first(
             rt,
             |number: &u32| -> bool
-                requires { (number.now < length assignment.now.market.programs) × AreWatched assignment.now watch.now.singles }
+                requires { (number.now < length assignment.now.market.programs)
+                    × AreWatched assignment.now watch.now.singles }
                 ensures { result ≡ has_wanted_post assignment.entry.now watch.entry.now.singles number.now }
             { has_wanted_post(assignment, watch, ProgNo(*number)) },
         );
     wanted.is_none()
 }
 
-/// Puts those agents of the lists of the programs that were left on the work list that have entered and block
-/// now. Where it is quiet, only options at these programs can have been opened.
-fn look_at_left<R: Threads + Sync>(
-    rt: &R,
-    alloc: Global,
-    assignment: &Assignment<'_>,
-    watch: &Watch,
-    left: &[ProgNo],
+/// The couples' stage: a match beside its market, the index of who may block in it, the agents that are to be rechecked,
+/// and the couple that entered last. A round that fails for want of memory leaves it half changed, and nobody uses it then.
+pub(crate) struct Stage<'a> {
+    assignment: Assignment<'a>,
+    watch: Watch,
+    waiting: WorkList,
     last: CoupleNo,
+    /// Whether no single blocked before the first couple entered.
     quiet: bool,
-    waiting: &mut WorkList,
-) -> Result<(), AllocError>
-    requires market { IsWellFormed assignment.now.market }
-    requires programs { AreProgramsOf assignment.now.market left.now }
-    requires watch { IsWatching last assignment.now waiting.old.agents watch.now }
-    requires waiting { IsListOf assignment.now.market waiting.old }
-    requires quiet { IsTrue quiet → IsQuietBut last assignment.now left.now waiting.old.agents }
-    ensures { OnOk result (Joins waiting.old waiting.new (reopened assignment.now last left.now)) }
-{
-    if quiet {
-        return look_at_opened(rt, alloc, assignment, watch, left, last, waiting);
-    }
-    look_at_each(assignment, watch, left, last, waiting);
-    Ok(())
 }
 
-/// Watches the applicants that are sent somewhere.
-fn follow_sent(
-    assignment: &Assignment<'_>,
-    watch: &mut Watch,
-    sent: &[(AppNo, Option<ProgNo>)],
-) -> Result<(), AllocError>
-    requires { AreSent assignment.now.market sent.now }
-    ensures couples { OnOk result (watch.new.couples ≡ watch.old.couples) }
-    ensures singles { OnOk result (FollowsAll assignment.now watch.old.singles watch.new.singles (map (λ s. s.0) sent.now)) }
-    ensures better { OnOk result (CountsAll assignment.now watch.old watch.new (map (λ s. s.0) sent.now)) }
-{
-    for seat in sent {
-        watch.follow(assignment, seat.0)?;
-    }
-    Ok(())
-}
-
-/// Watches these applicants, which are displaced.
-fn follow_displaced(
-    assignment: &Assignment<'_>,
-    watch: &mut Watch,
-    applicants: &[AppNo],
-) -> Result<(), AllocError>
-    requires { AreApplicantsOf assignment.now.market applicants.now }
-    ensures couples { OnOk result (watch.new.couples ≡ watch.old.couples) }
-    ensures singles { OnOk result (FollowsAll assignment.now watch.old.singles watch.new.singles applicants.now) }
-    ensures better { OnOk result (CountsAll assignment.now watch.old watch.new applicants.now) }
-{
-    for applicant in applicants {
-        watch.follow(assignment, *applicant)?;
-    }
-    Ok(())
-}
-
-/// Notes the pairs that the agent which moved wants more than what it has, where it is a couple.
-fn note_mover(
-    assignment: &Assignment<'_>,
-    watch: &mut Watch,
-    agent: &Agent,
-) -> Result<(), AllocError>
-    requires agent { IsAgentOf assignment.now.market agent.now }
-    requires counted { AreCounted assignment.now watch.old.better.items }
-    requires named { AreNamed assignment.now.market watch.old.couples }
-    ensures singles { OnOk result (watch.new.singles ≡ watch.old.singles) }
-    ensures better { OnOk result (watch.new.better ≡ watch.old.better) }
-    ensures named { OnOk result (AreNamed assignment.now.market watch.new.couples) }
-    ensures noted { OnOk result (NotesAgent watch.old watch.new agent.now) }
-{
-    match agent {
-        Agent::Single(_) => Ok(()),
-        Agent::Couple(couple) => watch.note_better(assignment, *couple),
+impl Drop for Stage<'_> {
+    fn drop(self) {
+        let Stage {
+            assignment: _,
+            watch: _,
+            waiting: _,
+            last: _,
+            quiet: _,
+        } = self;
     }
 }
 
-/// Moves the agent to an option that would be taken, and puts on the work list who is to be looked at then:
-/// the displaced agents, the agent itself where it blocks now, and for each program that was left the agents
-/// of its list that block now.
-fn take_option<R: Threads + Sync>(
-    rt: &R,
-    alloc: Global,
-    assignment: &mut Assignment<'_>,
-    watch: &mut Watch,
-    waiting: &mut WorkList,
-    last: CoupleNo,
-    quiet: bool,
-    agent: Agent,
-    sent: &[(AppNo, Option<ProgNo>)],
-) -> Result<(), AllocError>
-    requires taking { IsTaking assignment.old.market assignment.old.places agent sent.now }
-    requires watch { IsWatching last assignment.old (agent ∷ waiting.old.agents) watch.old }
-    requires running { IsRunning last quiet assignment.old (waiting_first agent waiting.old) }
-    ensures watch { OnOk result (IsWatching last assignment.new waiting.new.agents watch.new) }
-    ensures market { OnOk result (assignment.new.market ≡ assignment.old.market) }
-    ensures room { OnOk result (KeepsRoom waiting.old waiting.new) }
-    ensures work { OnOk result (work_of assignment.new waiting.new ≡ after_taking assignment.old.market last assignment.old.places agent waiting.old.agents (Some sent.now)) }
-{
-    let moved = assignment.move_to(alloc, sent)?;
-    follow_sent(assignment, watch, sent)?;
-    follow_displaced(assignment, watch, &moved.displaced)?;
-    note_mover(assignment, watch, &agent)?;
-    join_moved(assignment, watch, &moved.displaced, agent, waiting);
-    look_at_left(
-        rt,
-        alloc,
-        assignment,
-        watch,
-        &moved.left,
-        last,
-        quiet,
-        waiting,
-    )
-}
+impl<'a> Stage<'a> {
+    ghost use Rattle.mt_couples.specs.Staged.{after_round, after_move, settled_within, state_of, Begins, IsBeforeRoundOf, IsBetweenRounds, IsWatched, IsWatchedBut, KeepsStage};
 
-/// One round: the agent at the front of the work list, which was taken off it, takes its first better option
-/// that would be taken.
-fn round<R: Threads + Sync>(
-    rt: &R,
-    alloc: Global,
-    assignment: &mut Assignment<'_>,
-    watch: &mut Watch,
-    waiting: &mut WorkList,
-    last: CoupleNo,
-    quiet: bool,
-    agent: Agent,
-) -> Result<(), AllocError>
-    requires running { IsRunning last quiet assignment.old (waiting_first agent waiting.old) }
-    requires watch { IsWatching last assignment.old (agent ∷ waiting.old.agents) watch.old }
-    ensures watch { OnOk result (IsWatching last assignment.new waiting.new.agents watch.new) }
-    ensures market { OnOk result (assignment.new.market ≡ assignment.old.market) }
-    ensures room { OnOk result (KeepsRoom waiting.old waiting.new) }
-    ensures work { OnOk result (work_of assignment.new waiting.new ≡ round_of assignment.old.market last assignment.old.places (agent ∷ waiting.old.agents)) }
-{
-    match &agent {
-        Agent::Single(applicant) => {
-            let Some(program) = assignment.first_program(*applicant) else {
-                return Ok(());
-            };
-            let sent = [(*applicant, Some(program))];
-            take_option(
-                rt, alloc, assignment, watch, waiting, last, quiet, agent, &sent,
-            )
-        }
-        Agent::Couple(couple) => {
-            let Some(pair) = assignment.first_pair(*couple, watch.better(*couple)) else {
-                return watch.note_better(assignment, *couple);
-            };
-            let (first, second) = assignment.members(*couple);
-            let sent = [(first, pair.0), (second, pair.1)];
-            take_option(
-                rt, alloc, assignment, watch, waiting, last, quiet, agent, &sent,
-            )
+    /// A stage that no couple has entered. The error is want of memory.
+    fn new<R: Threads + Sync>(
+        rt: &R,
+        alloc: Global,
+        roster: &'a Roster,
+        ranks: &'a Ranks<'a>,
+        singles: Match,
+    ) -> Result<Self, AllocError>
+        requires ranks { ranks.now ≡ ranked_of roster.now.market }
+        requires places { ArePlaces roster.now.market singles.places }
+        requires listed { AreListed roster.now.market singles.places }
+        ensures { IfOk result (Begins roster.entry.now.market singles.places) }
+    {
+        let mut watched = no_ranks(alloc, roster)?;
+        let assignment = Assignment::new(alloc, roster, ranks, singles, &mut watched)?;
+        let watch = Watch::new(alloc, &assignment, watched)?;
+        let waiting = WorkList::new(alloc, roster.applicants(), roster.couples())?;
+        let quiet = are_singles_quiet(rt, &assignment, &watch);
+        Ok(Stage {
+            assignment,
+            watch,
+            waiting,
+            last: CoupleNo(0),
+            quiet,
+        })
+    }
+
+    /// The match alone.
+    fn into_match(self) -> Match
+        ensures { result.places ≡ self.entry.assignment.places }
+    {
+        let Stage {
+            assignment,
+            watch: _,
+            waiting: _,
+            last: _,
+            quiet: _,
+        } = self;
+        assignment.into_match()
+    }
+
+    /// Moves the agent to an option that would be taken, and puts on the work list who is to be rechecked then: the
+    /// displaced agents, the agent itself if it blocks now, and for each program that was left the agents of its list
+    /// that block now.
+    fn take_option<R: Threads + Sync>(
+        &mut self,
+        rt: &R,
+        alloc: Global,
+        agent: Agent,
+        sent: &[(AppNo, Option<ProgNo>)],
+    ) -> Result<(), AllocError>
+        requires taking { IsTaking self.old.assignment.market self.old.assignment.places agent sent.now }
+        requires running { IsBeforeRoundOf agent self.old }
+        requires watched { IsWatchedBut agent self.old }
+        ensures keeps { OnOk result (KeepsStage self.old self.new) }
+        ensures watched { OnOk result (IsWatched self.new) }
+        ensures work { OnOk result (state_of self.new ≡ after_move self.old agent sent.now) }
+    {
+        let moved = self.assignment.move_to(alloc, sent)?;
+        self.watch.follow_sent(&self.assignment, sent)?;
+        self.watch
+            .follow_displaced(&self.assignment, &moved.displaced)?;
+        self.watch.index_mover(&self.assignment, &agent)?;
+        let recheck = Recheck {
+            assignment: &self.assignment,
+            watch: &self.watch,
+            alloc,
+            last: self.last,
+            quiet: self.quiet,
+        };
+        recheck.join_moved(&moved.displaced, agent, &mut self.waiting);
+        recheck.recheck_left(rt, &moved.left, &mut self.waiting)
+    }
+
+    /// One round: the agent at the front of the work list, which was taken off it, takes its first better option
+    /// that would be taken.
+    fn round<R: Threads + Sync>(
+        &mut self,
+        rt: &R,
+        alloc: Global,
+        agent: Agent,
+    ) -> Result<(), AllocError>
+        requires running { IsBeforeRoundOf agent self.old }
+        requires watched { IsWatchedBut agent self.old }
+        ensures keeps { OnOk result (KeepsStage self.old self.new) }
+        ensures watched { OnOk result (IsWatched self.new) }
+        ensures work { OnOk result (state_of self.new ≡ after_round self.old agent) }
+    {
+        match &agent {
+            Agent::Single(applicant) => {
+                let Some(program) = self.assignment.first_program(*applicant) else {
+                    return Ok(());
+                };
+                let sent = [(*applicant, Some(program))];
+                self.take_option(rt, alloc, agent, &sent)
+            }
+            Agent::Couple(couple) => {
+                let better = self.watch.better(*couple);
+                let Some(pair) = self.assignment.first_pair(*couple, better) else {
+                    return self.watch.index_better(&self.assignment, *couple);
+                };
+                let (first, second) = self.assignment.members(*couple);
+                let sent = [(first, pair.0), (second, pair.1)];
+                self.take_option(rt, alloc, agent, &sent)
+            }
         }
     }
-}
 
-/// Makes rounds until the work list is empty. The result is how many rounds of the budget are left.
-fn settle<R: Threads + Sync>(
-    rt: &R,
-    alloc: Global,
-    assignment: &mut Assignment<'_>,
-    watch: &mut Watch,
-    waiting: &mut WorkList,
-    last: CoupleNo,
-    quiet: bool,
-    budget: u32,
-) -> Result<u32, CoupleEnd>
-    requires running { IsRunning last quiet assignment.old waiting.old }
-    requires watch { IsWatching last assignment.old waiting.old.agents watch.old }
-    ensures watch { OnOk result (IsWatching last assignment.new waiting.new.agents watch.new) }
-    ensures settled { IfOk result (λ left. after_rounds assignment.old.market last budget assignment.old.places waiting.old.agents ≡ Some (assignment.new.places, left)) }
-    ensures spent { IsErrOf result CoupleEnd.BudgetSpent → after_rounds assignment.old.market last budget assignment.old.places waiting.old.agents ≡ None }
-    ensures within { IfOk result (λ left. left ≤ budget) }
-    ensures market { OnOk result (assignment.new.market ≡ assignment.old.market) }
-    ensures running { OnOk result (IsRunning last quiet assignment.new waiting.new) }
-    ensures empty { OnOk result (waiting.new.agents ≡ []) }
-{
-    let mut left = budget;
-    while let Some(agent) = waiting.take() {
-        if left == 0 {
-            return Err(CoupleEnd::BudgetSpent);
+    /// Makes rounds until the work list is empty. The result is how many rounds of the budget are left.
+    fn settle<R: Threads + Sync>(
+        &mut self,
+        rt: &R,
+        alloc: Global,
+        budget: u32,
+    ) -> Result<u32, CoupleEnd>
+        requires running { IsBetweenRounds self.old }
+        requires watched { IsWatched self.old }
+        ensures settled { IfOk result (λ left.
+            settled_within self.old budget ≡ Some (self.new.assignment.places, left)) }
+        ensures spent { IsErrOf result CoupleEnd.BudgetSpent
+            → settled_within self.old budget ≡ None }
+        ensures within { IfOk result (λ left. left ≤ budget) }
+        ensures keeps { OnOk result (KeepsStage self.old self.new) }
+        ensures running { OnOk result (IsBetweenRounds self.new) }
+        ensures watched { OnOk result (IsWatched self.new) }
+        ensures empty { OnOk result (self.new.waiting.agents ≡ []) }
+    {
+        let mut left = budget;
+        while let Some(agent) = self.waiting.take() {
+            if left == 0 {
+                return Err(CoupleEnd::BudgetSpent);
+            }
+            left -= 1;
+            self.round(rt, alloc, agent)?;
         }
-        left -= 1;
-        round(rt, alloc, assignment, watch, waiting, last, quiet, agent)?;
+        Ok(left)
     }
-    Ok(left)
 }
 
-/// Lets the couples enter a match of the singles, in order of their numbers, in the manner of Roth and
-/// Peranson (1999); the order of the rounds is this project's own rule. A couple is put on the empty work
-/// list, and rounds are made until the list is empty: the agent at the front takes its first better option
-/// that would be taken, whom it displaces goes with its whole couple, and the agents to whom that may matter
-/// are looked at again. The errors are that more rounds than `budget` would be needed, and want of memory; in
-/// both the given match is gone.
-pub fn enter_all<R: Threads + Sync>(
+/// Lets the couples enter a match of the singles, in order of their numbers, in the manner of Roth and Peranson (1999).
+/// The order of the rounds is this project's own rule. A couple is put on the empty work list, and rounds are made until
+/// the list is empty. The agent at the front takes its first better option that would be taken. An applicant that it
+/// displaces leaves with its whole couple, and the agents to whom that may matter are rechecked. The errors are that more
+/// rounds than `budget` would be needed, and want of memory. In both the given match is gone.
+pub fn enter_all<'a, R: Threads + Sync>(
     rt: &R,
     alloc: Global,
-    roster: &Roster,
-    ranks: &Ranks,
+    roster: &'a Roster,
+    ranks: &'a Ranks<'a>,
     singles: Match,
     budget: u32,
 ) -> Result<Entered, CoupleEnd>
     requires ranks { ranks.now ≡ ranked_of roster.now.market }
     requires fits { IsTrue (fits roster.now.market singles.places) }
-    ensures entered { IfOk result (λ e. stage roster.now.market singles.places budget ≡ Some (e.matched.places, e.rounds)) }
-    ensures spent { IsErrOf result CoupleEnd.BudgetSpent → stage roster.now.market singles.places budget ≡ None }
+    ensures entered { IfOk result (λ e.
+        stage roster.now.market singles.places budget ≡ Some (e.matched.places, e.rounds)) }
+    ensures spent { IsErrOf result CoupleEnd.BudgetSpent
+        → stage roster.now.market singles.places budget ≡ None }
     ensures fits { IfOk result (λ e. IsTrue (fits roster.now.market e.matched.places)) }
-    ensures stable { IsBest roster.now.market singles.places → IfOk result (λ e. IsTrue (stable roster.now.market e.matched.places)) }
+    ensures stable { IsBest roster.now.market singles.places
+        → IfOk result (λ e. IsTrue (stable roster.now.market e.matched.places)) }
 {
     let couples = roster.couples();
     if couples == 0 {
@@ -362,28 +270,16 @@ pub fn enter_all<R: Threads + Sync>(
             rounds: 0,
         });
     }
-    let mut watched = no_ranks(alloc, roster)?;
-    let mut assignment = Assignment::new(alloc, roster, ranks, singles, &mut watched)?;
-    let mut watch = Watch::new(alloc, &assignment, watched)?;
-    let mut waiting = WorkList::new(alloc, roster.applicants(), couples)?;
-    let quiet = are_singles_quiet(rt, &assignment, &watch);
+    let mut stage = Stage::new(rt, alloc, roster, ranks, singles)?;
     let mut left = budget;
     for number in 0..couples {
         let couple = CoupleNo(number);
-        waiting.join(Agent::Couple(couple));
-        left = settle(
-            rt,
-            alloc,
-            &mut assignment,
-            &mut watch,
-            &mut waiting,
-            couple,
-            quiet,
-            left,
-        )?;
+        stage.last = couple;
+        stage.waiting.join(Agent::Couple(couple));
+        left = stage.settle(rt, alloc, left)?;
     }
     Ok(Entered {
-        matched: assignment.into_match(),
+        matched: stage.into_match(),
         rounds: budget - left,
     })
 }

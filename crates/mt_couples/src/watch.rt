@@ -3,22 +3,22 @@ ghost use Rattle.mt_terms.specs.Market.{applicants};
 ghost use Rattle.mt_terms.specs.Stability.{blocks};
 ghost use Rattle.mt_bits.specs.Members.{is_in};
 ghost use Rattle.mt_stage_tables.specs.Named.{row_at, AreNamed};
-ghost use Rattle.mt_assignment.specs.Assigned.{IsAgentOf};
+ghost use Rattle.mt_assignment.specs.Assigned.{AreApplicantsOf, AreSent, IsAgentOf};
 ghost use Rattle.mt_assignment.specs.Watched.{better_pairs, ranks_at, AreWatched, Follows, Unwatches, Watches};
-ghost use Rattle.mt_couples.specs.Watching.{AreCounted, Counts, CountsCouple, NotesCouple};
+ghost use Rattle.mt_couples.specs.Watching.{sent_ones, AreCounted, Counts, CountsAll, CountsCouple, FollowsAll, IndexesAgent, IndexesCouple};
 
 use mt_assignment::Assignment;
 use mt_bits::{RankRow, RankTable};
 use mt_ranks::Live;
-use mt_stage_tables::{Note, NotedPairs};
+use mt_stage_tables::{NamedPairs, PairIndex};
 use mt_terms::{Agent, AppNo, CoupleNo, ProgNo};
 use std::alloc::{AllocError, Global};
 
-/// Where to look for an option that is opened once somebody leaves a program: for each program the ranks of the
-/// singles that want it more than what they have, and the couples that have a noted pair there.
+/// An index of who may block once somebody leaves a program: for each program the ranks of the singles that want it more
+/// than what they have, and the couples that have an indexed pair there.
 pub(crate) struct Watch {
     singles: RankTable,
-    couples: NotedPairs,
+    couples: PairIndex,
     /// For each couple how many pairs it wants more than what it has.
     better: Vec<usize>,
 }
@@ -84,7 +84,7 @@ impl Watch {
         let roster = assignment.roster();
         Ok(Watch {
             singles,
-            couples: NotedPairs::new(alloc, roster.programs(), roster.couples())?,
+            couples: PairIndex::new(alloc, roster.programs(), roster.couples())?,
             better: better_counts(alloc, assignment)?,
         })
     }
@@ -97,8 +97,8 @@ impl Watch {
         self.singles.row(program.index())
     }
 
-    /// The notes of the couples that name a program.
-    pub(crate) fn couples(&self, program: ProgNo) -> &[Note]
+    /// The couples of which indexed pairs name a program.
+    pub(crate) fn couples(&self, program: ProgNo) -> &[NamedPairs]
         ensures { result.now ≡ row_at self.now.couples.rows program }
     {
         self.couples.row(program)
@@ -158,8 +158,8 @@ impl Watch {
         Ok(())
     }
 
-    /// Notes the pairs that a couple wants more than what it has, as far as they aren't noted.
-    pub(crate) fn note_better(
+    /// Indexes the pairs that a couple wants more than what it has, as far as they aren't indexed.
+    pub(crate) fn index_better(
         &mut self,
         assignment: &Assignment<'_>,
         couple: CoupleNo,
@@ -170,10 +170,64 @@ impl Watch {
         ensures singles { OnOk result (self.new.singles ≡ self.old.singles) }
         ensures better { OnOk result (self.new.better ≡ self.old.better) }
         ensures named { OnOk result (AreNamed assignment.now.market self.new.couples) }
-        ensures noted { OnOk result (NotesCouple self.old self.new couple) }
+        ensures indexed { OnOk result (IndexesCouple self.old self.new couple) }
     {
         let end = self.better(couple);
         self.couples
-            .note_up_to(couple, assignment.pairs(couple), end)
+            .index_up_to(couple, assignment.pairs(couple), end)
+    }
+
+    /// Watches the applicants that are sent somewhere.
+    pub(crate) fn follow_sent(
+        &mut self,
+        assignment: &Assignment<'_>,
+        sent: &[(AppNo, Option<ProgNo>)],
+    ) -> Result<(), AllocError>
+        requires { AreSent assignment.now.market sent.now }
+        ensures couples { OnOk result (self.new.couples ≡ self.old.couples) }
+        ensures singles { OnOk result (FollowsAll assignment.now self.old.singles self.new.singles (sent_ones sent.now)) }
+        ensures better { OnOk result (CountsAll assignment.now self.old self.new (sent_ones sent.now)) }
+    {
+        for seat in sent {
+            self.follow(assignment, seat.0)?;
+        }
+        Ok(())
+    }
+
+    /// Watches these applicants, which are displaced.
+    pub(crate) fn follow_displaced(
+        &mut self,
+        assignment: &Assignment<'_>,
+        applicants: &[AppNo],
+    ) -> Result<(), AllocError>
+        requires { AreApplicantsOf assignment.now.market applicants.now }
+        ensures couples { OnOk result (self.new.couples ≡ self.old.couples) }
+        ensures singles { OnOk result (FollowsAll assignment.now self.old.singles self.new.singles applicants.now) }
+        ensures better { OnOk result (CountsAll assignment.now self.old self.new applicants.now) }
+    {
+        for applicant in applicants {
+            self.follow(assignment, *applicant)?;
+        }
+        Ok(())
+    }
+
+    /// Indexes the pairs that the agent which moved wants more than what it has, if it is a couple.
+    pub(crate) fn index_mover(
+        &mut self,
+        assignment: &Assignment<'_>,
+        agent: &Agent,
+    ) -> Result<(), AllocError>
+        requires agent { IsAgentOf assignment.now.market agent.now }
+        requires counted { AreCounted assignment.now self.old.better.items }
+        requires named { AreNamed assignment.now.market self.old.couples }
+        ensures singles { OnOk result (self.new.singles ≡ self.old.singles) }
+        ensures better { OnOk result (self.new.better ≡ self.old.better) }
+        ensures named { OnOk result (AreNamed assignment.now.market self.new.couples) }
+        ensures indexed { OnOk result (IndexesAgent self.old self.new agent.now) }
+    {
+        match agent {
+            Agent::Single(_) => Ok(()),
+            Agent::Couple(couple) => self.index_better(assignment, *couple),
+        }
     }
 }

@@ -50,9 +50,3 @@ until_take {X} test (x ∷ xs) = by_head (test x) refl (until_take test xs)
     by_head : (t : Bool) → test x ≡ t → take (length (until test xs)) xs ≡ until test xs → take (length (until test (x ∷ xs))) (x ∷ xs) ≡ until test (x ∷ xs)
     by_head true stops later = rw stops refl
     by_head false goes later = rw goes (ap (λ ys. x ∷ ys) later)
-
--- nothing is found between a place and one that isn't after it
-pub none_between_same : {X : Type 0} (test : X → Bool) (xs : List X) (from end : ℕ) → end ≤ from → list_any test (slice_range xs from end) ≡ false
-none_between_same test xs from end past =
-    let none : end - from ≡ 0 = omega arith in
-    ap (λ n. list_any test (take n (drop from xs))) none ∙ refl

@@ -6,23 +6,9 @@ use Rattle.std.proofs.lemmas.Bool.{or_cases, or_left, or_right, eq-eqb, eqb-true
 use Rattle.std.proofs.Math.Bool.{or-false}
 use Rattle.mt_terms.specs.Lists.{has}
 
--- what holds of each number of a front holds of those of a longer front, and of all
-pub each_more : (P : ℕ → Type 0) (xs : List ℕ) (i x : ℕ) → i < length xs → x ≡ get_or xs i x → ((y : ℕ) → has (take i xs) y ≡ true → P y) → P x
-    → (y : ℕ) → has (take (i + 1) xs) y ≡ true → P y
-each_more P xs i x within read before here y on =
-    let split : has (take (i + 1) xs) y ≡ (has (take i xs) y || has (x ∷ []) y) =
-    ap (λ ys. has ys y) (take_more xs i x within) ∙ list_any-append (λ z. z == y) (take i xs) (get_or xs i x ∷ []) ∙ ap (λ z. has (take i xs) y || has (z ∷ []) y) (sym read) in
-    elim (or_cases (has (take i xs) y) (has (x ∷ []) y) (sym split ∙ on)) [
-      | inl earlier ↦ before y earlier
-      | inr now ↦ subst P (eqb-true x y (sym (or-false (x == y)) ∙ now)) here
-    ]
-
+-- what holds of each number of a front that is the whole list holds of each number of the list
 pub each_all : (P : ℕ → Type 0) (xs : List ℕ) (i : ℕ) → length xs ≤ i → ((y : ℕ) → has (take i xs) y ≡ true → P y) → (y : ℕ) → has xs y ≡ true → P y
 each_all P xs i past all y on = all y (ap (λ ys. has ys y) (take_all i xs past) ∙ on)
-
-pub each_none : (P : ℕ → Type 0) (xs : List ℕ) → (y : ℕ) → has (take 0 xs) y ≡ true → P y
-each_none P [] y on = absurd (false≢true on)
-each_none P (x ∷ xs) y on = absurd (false≢true on)
 
 -- a number more at the end of a list
 pub has_end : (xs : List ℕ) (x : ℕ) → has (xs ++ x ∷ []) x ≡ true

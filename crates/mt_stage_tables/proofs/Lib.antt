@@ -3,7 +3,7 @@ pub mod GrowingFacts
 pub mod ListFacts
 pub mod MatchRows
 pub mod NamedFacts
-pub mod NoteFacts
+pub mod IndexFacts
 pub mod OrderFacts
 pub mod PlaceFacts
 pub mod PlacedFacts

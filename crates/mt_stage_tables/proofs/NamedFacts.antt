@@ -1,13 +1,13 @@
--- Which pairs of couples' lists are noted once more are noted.
+-- Which pairs of couples' lists are indexed once more are.
 use Rattle.std.proofs.Common.{◌≡◌, ◌∙◌, ℕ, zero, suc, ◌+◌, ◌-◌, ◌<◌, ◌≤◌, Bool, true, ◌==◌, List, [], ◌∷◌, drop, length, get_or, slice_range, min, replicate, refl, ap, sym, subst, inl, inr, arith}
 use Rattle.std.proofs.lemmas.Bool.{cases_lt, eq-eqb, false≢true, or_cases, or_left, or_right}
 use Rattle.std.proofs.lemmas.List.{get_or-drop, get_or-take, get_or_default, length-drop, length-replicate, length-take}
 use Rattle.std.specs.List.{list_any}
 use Rattle.mt_terms.specs.Market.{Market, Pair}
 use Rattle.mt_terms.specs.Matching.{is_program}
-use Rattle.mt_stage_tables.specs.Named.{names, noted_count, nothing_noted, row_at, AreNamed, Noted, Notes, NotesPairs}
-use Rattle.mt_stage_tables.specs.Notes.{greatest, has_couple}
-use Rattle.mt_stage_tables.specs.declared.couple_list.Note.{Note}
+use Rattle.mt_stage_tables.specs.Named.{names, indexed_count, nothing_indexed, row_at, AreNamed, Index, Indexes, IndexesPairs}
+use Rattle.mt_stage_tables.specs.Indexing.{greatest, has_couple}
+use Rattle.mt_stage_tables.specs.declared.couple_list.NamedPairs.{NamedPairs}
 
 -- what passes at a place is found
 any_at : {X : Type 0} (test : X → Bool) (xs : List X) (i : ℕ) (x : X) → i < length xs → x ≡ get_or xs i x → test x ≡ true → list_any test xs ≡ true
@@ -26,25 +26,25 @@ any_between test xs x i from end low high within read passes =
     let inside : j < length ys = omega (arith, length-take (end - from) (drop from xs), length-drop from xs) in
     any_at test ys j x inside (read ∙ sym at) passes
 
--- only couples of the market are noted
-pub note_within : (m : Market) (noted : Noted) (p : ℕ) (notes : List Note) (i : ℕ) (n : Note) → AreNamed m noted → notes ≡ row_at noted.rows p → i < length notes
-    → n ≡ get_or notes i n → n.couple < length m.couples
-note_within m noted p notes i n named is within read =
-    let on : has_couple notes n.couple ≡ true = any_at (λ (x : Note). x.couple == n.couple) notes i n within read (eq-eqb n.couple n.couple refl) in
-    named.within p n.couple (subst (λ xs. has_couple xs n.couple ≡ true) is on)
+-- only couples of the market are indexed
+pub named_within : (m : Market) (indexed : Index) (p : ℕ) (named : List NamedPairs) (i : ℕ) (n : NamedPairs) → AreNamed m indexed → named ≡ row_at indexed.rows p → i < length named
+    → n ≡ get_or named i n → n.couple < length m.couples
+named_within m indexed p named i n are_named is within read =
+    let on : has_couple named n.couple ≡ true = any_at (λ (x : NamedPairs). x.couple == n.couple) named i n within read (eq-eqb n.couple n.couple refl) in
+    are_named.within p n.couple (subst (λ xs. has_couple xs n.couple ≡ true) is on)
 
--- no pairs are noted yet, one more is, and all are
-pub pairs_noted_first : (rows : List (List Note)) (c : ℕ) (pairs : List Pair) (start : ℕ) → NotesPairs rows rows c pairs start start
-pairs_noted_first rows c pairs start = record {
+-- no pairs are indexed yet, one more is, and all are
+pub pairs_indexed_first : (rows : List (List NamedPairs)) (c : ℕ) (pairs : List Pair) (start : ℕ) → IndexesPairs rows rows c pairs start start
+pairs_indexed_first rows c pairs start = record {
   as_many = refl;
   keeps = λ p d i on. on;
   adds = λ p i pair known low high. absurd (omega arith);
   only = λ p d on. inl on;
 }
 
-pub pairs_noted_more : (old mid first second : List (List Note)) (c : ℕ) (pairs : List Pair) (start index from : ℕ) (x : Pair) → NotesPairs old mid c pairs start index
-    → index < length pairs → x ≡ get_or pairs index x → from ≡ min index greatest → Notes mid first x.0 c from → Notes first second x.1 c from → NotesPairs old second c pairs start (index + 1)
-pairs_noted_more old mid first second c pairs start index from x so_far within read is one two = record {
+pub pairs_indexed_more : (old mid first second : List (List NamedPairs)) (c : ℕ) (pairs : List Pair) (start index from : ℕ) (x : Pair) → IndexesPairs old mid c pairs start index
+    → index < length pairs → x ≡ get_or pairs index x → from ≡ min index greatest → Indexes mid first x.0 c from → Indexes first second x.1 c from → IndexesPairs old second c pairs start (index + 1)
+pairs_indexed_more old mid first second c pairs start index from x so_far within read is one two = record {
   as_many = two.as_many ∙ one.as_many ∙ so_far.as_many;
   keeps = λ p d i on. two.keeps p d i (one.keeps p d i (so_far.keeps p d i on));
   adds = λ p i pair known low high at_pair named. elim (cases_lt i index) [
@@ -68,21 +68,21 @@ pairs_noted_more old mid first second c pairs start index from x so_far within r
   ];
 }
 
-pub pairs_noted : (old new : List (List Note)) (c : ℕ) (pairs : List Pair) (start index end : ℕ) → end ≤ index → NotesPairs old new c pairs start index → NotesPairs old new c pairs start end
-pairs_noted old new c pairs start index end past all = record {
+pub pairs_indexed : (old new : List (List NamedPairs)) (c : ℕ) (pairs : List Pair) (start index end : ℕ) → end ≤ index → IndexesPairs old new c pairs start index → IndexesPairs old new c pairs start end
+pairs_indexed old new c pairs start index end past all = record {
   as_many = all.as_many;
   keeps = all.keeps;
   adds = λ p i pair known low high. all.adds p i pair known low (omega arith);
   only = all.only;
 }
 
--- nothing is noted
-pub named_first : (m : Market) (n : Noted) (programs couples : ℕ) → n ≡ nothing_noted programs couples → programs ≡ length m.programs → couples ≡ length m.couples → AreNamed m n
+-- nothing is indexed
+pub named_first : (m : Market) (n : Index) (programs couples : ℕ) → n ≡ nothing_indexed programs couples → programs ≡ length m.programs → couples ≡ length m.couples → AreNamed m n
 named_first m n programs couples is of_programs of_couples = record {
-  one_each = ap (λ (x : Noted). length x.rows) is ∙ length-replicate programs [] ∙ of_programs;
-  counts = ap (λ (x : Noted). length x.counts) is ∙ length-replicate couples 0 ∙ of_couples;
-  each = λ c p i pair known low. absurd (omega (arith, ap (λ (x : Noted). noted_count x c) is, same_each {X = ℕ} couples c 0));
-  within = λ p c on. absurd (false≢true (ap (λ notes. has_couple notes c) (sym (ap (λ (x : Noted). row_at x.rows p) is ∙ same_each programs p [])) ∙ on));
+  one_each = ap (λ (x : Index). length x.rows) is ∙ length-replicate programs [] ∙ of_programs;
+  counts = ap (λ (x : Index). length x.counts) is ∙ length-replicate couples 0 ∙ of_couples;
+  each = λ c p i pair known low. absurd (omega (arith, ap (λ (x : Index). indexed_count x c) is, same_each {X = ℕ} couples c 0));
+  within = λ p c on. absurd (false≢true (ap (λ named. has_couple named c) (sym (ap (λ (x : Index). row_at x.rows p) is ∙ same_each programs p [])) ∙ on));
 }
   where
     same_each : {X : Type 0} (n p : ℕ) (x : X) → get_or (replicate n x) p x ≡ x

@@ -18,15 +18,6 @@ has_at [] i d within = absurd (omega arith)
 has_at (x ∷ xs) zero d within = or_left _ _ (eq-eqb x x refl)
 has_at (x ∷ xs) (suc i) d within = or_right _ _ (has_at xs i d (omega arith))
 
--- no more pass than there are
-pub count-le_length : {X : Type 0} (test : X → Bool) (xs : List X) → count test xs ≤ length xs
-count-le_length {X} test [] = omega arith
-count-le_length {X} test (x ∷ xs) = one_or_none (test x) (count-le_length test xs)
-  where
-    one_or_none : (b : Bool) → count test xs ≤ length xs → (if b then 1 else 0) + count test xs ≤ suc (length xs)
-    one_or_none true h = omega arith
-    one_or_none false h = omega arith
-
 -- a number is below all of a list
 abbrev pub IsBelowAll : ℕ → List ℕ → Type 0
 IsBelowAll k ks = (p : ℕ) → has ks p ≡ true → k < p
@@ -59,7 +50,7 @@ same_lt a b c d to from = elim (cases_lt a b) [
   | inr h ↦ le-ltb a b h ∙ sym (elim (cases_lt c d) [ inl k ↦ (let l = from k in absurd (omega arith)) | inr g ↦ le-ltb c d g ])
 ]
 
--- whether fewer than so many of a list are below a number, by the one at a place
+-- whether fewer than this many of a list are below a number, by the one at a place
 pub fewer_at : (ks : List ℕ) (k i : ℕ) → IsStrictlySortedBy nat_cmp ks → i < length ks → nat_le k (get_or ks i 0) ≡ nat_lt (count (λ r. nat_lt r k) ks) (i + 1)
 fewer_at [] k i sorted within = absurd (omega arith)
 fewer_at (x ∷ xs) k i sorted within = elim (cases_lt x k) [

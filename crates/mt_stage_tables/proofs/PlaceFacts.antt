@@ -6,6 +6,7 @@ use Rattle.std.proofs.lemmas.List.{take_more}
 use Rattle.mt_terms.specs.Lists.{has, count, until, is_distinct}
 use Rattle.mt_stage_tables.proofs.OrderFacts.{has_at}
 use Rattle.mt_terms.specs.Matching.{Places, place_of, at, is_program}
+use Rattle.mt_terms.proofs.AgentFacts.{is_program_read}
 
 -- what is read at a place of a list is on it
 pub has_read : (xs : List ℕ) (i a : ℕ) → i < length xs → a ≡ get_or xs i a → IsTrue (has xs a)
@@ -24,11 +25,6 @@ pub has-drop : (xs : List ℕ) (i a : ℕ) → IsTrue (has (drop i xs) a) → Is
 has-drop xs zero a on = on
 has-drop [] (suc i) a on = on
 has-drop (x ∷ xs) (suc i) a on = or_right _ _ (has-drop xs i a on)
-
--- whether a place that was read is this program
-pub is_program_read : (p : ℕ) (place : Option ℕ) → option_eq ◌==◌ place (Some p) ≡ is_program p place
-is_program_read p None = refl
-is_program_read p (Some q) = refl
 
 -- on a list without repeats, what stands above the element at a place is the front of the list
 pub until_at : (xs : List ℕ) (i d : ℕ) → IsTrue (is_distinct xs) → i < length xs → until (λ x. x == get_or xs i d) xs ≡ take i xs

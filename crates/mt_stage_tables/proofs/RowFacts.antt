@@ -10,27 +10,18 @@ use Rattle.std.proofs.lemmas.Map.Keys.{sorted_tail}
 use Rattle.mt_terms.specs.Lists.{has}
 use Rattle.mt_bits.specs.Members.{is_in, IsFirstFrom}
 use Rattle.mt_stage_tables.specs.Ranks.{HasRanks}
+use Rattle.mt_stage_tables.proofs.GrowingFacts.{has_parts}
 use Rattle.mt_stage_tables.proofs.OrderFacts.{all_above, below_rest}
-
--- a rank of a set is one that is told of
-pub told_within : (told : List Bool) (r : ℕ) → is_in told r ≡ true → r < length told
-told_within told r on = elim (cases_lt r (length told)) [
-  | inl low ↦ low
-  | inr past ↦ absurd (false≢true (sym (get_or_past told r false past) ∙ on))
-]
 
 -- a number more at the end
 has_push : (ks : List ℕ) (k r : ℕ) → has (ks ++ k ∷ []) r ≡ (has ks r || (k == r))
 has_push ks k r = list_any-append (λ x. x == r) ks (k ∷ []) ∙ ap (λ (b : Bool). has ks r || b) (or-false (k == r))
 
-pushed : (ks : List ℕ) (k r : ℕ) → has (ks ++ k ∷ []) r ≡ true → (has ks r ≡ true) ⊎ (k ≡ r)
-pushed ks k r on = elim (or_cases (has ks r) (k == r) (sym (has_push ks k r) ∙ on)) [ inl before ↦ inl before | inr here ↦ inr (eqb-true k r here) ]
-
 sorted_push : (ks : List ℕ) (k : ℕ) → IsStrictlySortedBy nat_cmp ks → ((r : ℕ) → has ks r ≡ true → r < k) → IsStrictlySortedBy nat_cmp (ks ++ k ∷ [])
 unfolding IsStrictlySortedBy
 sorted_push [] k sorted below = (tt, tt)
 sorted_push (x ∷ xs) k sorted below = (
-  all_above x (xs ++ k ∷ []) (λ r on. elim (pushed xs k r on) [
+  all_above x (xs ++ k ∷ []) (λ r on. elim (has_parts xs k r on) [
     | inl before ↦ below_rest x xs sorted r before
     | inr here ↦ subst (λ n. x < n) here (below x (or_left (x == x) _ (eq-eqb x x refl)))
   ]),
@@ -50,7 +41,7 @@ front_none told = record { sorted = tt; below = λ r on. absurd (false≢true on
 pub front_more : (told : List Bool) (next r : ℕ) (ranks : List ℕ) → HasFront told next ranks → IsFirstFrom (is_in told) next r → HasFront told (r + 1) (ranks ++ r ∷ [])
 front_more told next r ranks so_far is = record {
   sorted = sorted_push ranks r so_far.sorted (λ q on. let a = so_far.below q on in let b = is.not_below in omega arith);
-  below = λ q on. elim (pushed ranks r q on) [
+  below = λ q on. elim (has_parts ranks r q on) [
     | inl before ↦ (let a = so_far.below q before in let b = is.not_below in omega arith)
     | inr here ↦ omega arith
   ];
@@ -68,15 +59,6 @@ front_more told next r ranks so_far is = record {
         | inr after ↦ late q after ∙ sym (is.first q after (omega arith))
       ]
     ]
-
-pub front_all : (told : List Bool) (next : ℕ) (ranks : List ℕ) → HasFront told next ranks → ((r : ℕ) → next ≤ r → is_in told r ≡ false) → HasRanks told ranks
-front_all told next ranks so_far none = record {
-  sorted = so_far.sorted;
-  same = λ r. elim (cases_lt r next) [
-    | inl before ↦ so_far.same r before
-    | inr after ↦ false_from_ne_true _ (λ on. let a = so_far.below r on in absurd (omega arith)) ∙ sym (none r after)
-  ];
-}
 
 -- two lists that rise and have the same numbers are the same
 pub same_members : (xs ys : List ℕ) → IsStrictlySortedBy nat_cmp xs → IsStrictlySortedBy nat_cmp ys → ((r : ℕ) → has xs r ≡ has ys r) → xs ≡ ys

@@ -12,18 +12,8 @@ use Rattle.mt_terms.specs.Rounds.{is_same_agent, is_on}
 use Rattle.mt_terms.specs.declared.numbers.Agent.{Agent}
 use Rattle.mt_terms.specs.declared.numbers.Agent.TheVariants.{Single, Couple}
 use Rattle.mt_terms.specs.contracts.numbers.AgentPartialEq.TheImpl.{eq-value}
+use Rattle.mt_terms.proofs.AgentFacts.{is_same_agent_refl, same_agent}
 use Rattle.mt_stage_tables.specs.Waiting.{IsWithin, WaitOnce}
-
--- each agent is the same as itself, and as no other
-is_same_agent_refl : (g : Agent) → is_same_agent g g ≡ true
-is_same_agent_refl (Single a) = eq-eqb a a refl
-is_same_agent_refl (Couple c) = eq-eqb c c refl
-
-same_agent : (g h : Agent) → is_same_agent g h ≡ true → g ≡ h
-same_agent (Single a) (Single b) e = ap Single (eqb-true a b e)
-same_agent (Single a) (Couple d) e = absurd (false≢true e)
-same_agent (Couple c) (Single b) e = absurd (false≢true e)
-same_agent (Couple c) (Couple d) e = ap Couple (eqb-true c d e)
 
 -- agents of different numbers or kinds have different places: singles are before couples
 abbrev place_for : ℕ → Agent → ℕ
@@ -50,11 +40,6 @@ same_back g h other = false_from_ne_true _ (λ same. both_ways (is_same_agent g 
 first_off : (g : Agent) (gs : List Agent) → AllByRecursion (λ y. is_same_agent g y ≡ false) gs → is_on gs g ≡ false
 first_off g [] h = refl
 first_off g (x ∷ xs) h = or_from _ _ h.0 (first_off g xs h.1)
-
--- the one in front waits no longer
-front_off : (g : Agent) (gs : List Agent) → IsDistinct is_same_agent (g ∷ gs) → is_on gs g ≡ false
-unfolding IsDistinct
-front_off g gs once = first_off g gs once.0
 
 -- one more at the end
 apart_more : (x g : Agent) (xs : List Agent) → AllByRecursion (λ y. is_same_agent x y ≡ false) xs → is_same_agent x g ≡ false
@@ -124,11 +109,6 @@ wait_rest n c g gs h = record {
   once = IsDistinct-tail is_same_agent g gs h.once;
   known = λ x on. h.known x (or_right (is_same_agent x g) (is_on gs x) on);
 }
-
--- nobody waits at the start
-pub wait_nobody : (n c : ℕ) → WaitOnce n c []
-unfolding IsDistinct
-wait_nobody n c = record { once = tt; known = λ g on. absurd (false≢true on) }
 
 -- what is left of a list begins with the one at the place to which it is passed over
 pub next_out : {X : Type 0} (xs : List X) (i : ℕ) (x : X) → slice_get xs i ≡ Some x → drop i xs ≡ x ∷ drop (i + 1) xs

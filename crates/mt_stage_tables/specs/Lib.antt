@@ -1,5 +1,5 @@
 pub mod Named
-pub mod Notes
+pub mod Indexing
 pub mod Programs
 pub mod Ranks
 pub mod View

@@ -2,10 +2,10 @@
 use Rattle.std.specs.Prelude.{◌≤◌, ◌+◌, ◌++◌, ℕ, List, drop}
 use Rattle.std.specs.List.Sorted.{IsStrictlySortedBy}
 use Rattle.std.specs.Ordering.{nat_cmp}
-use Rattle.mt_stage_tables.specs.Named.{Noted}
+use Rattle.mt_stage_tables.specs.Named.{Index}
 use Rattle.indexmap.specs.IndexSet.{index_set_len, spare}
 use Rattle.mt_stage_tables.specs.Waiting.{Waiting, WaitOnce}
-use Rattle.mt_stage_tables.specs.declared.noted_pairs.NotedPairs.TheInside.{Inside as Pairs}
+use Rattle.mt_stage_tables.specs.declared.pair_index.PairIndex.TheInside.{Inside as Pairs}
 use Rattle.mt_stage_tables.specs.declared.program_set.ProgramSet.TheInside.{Inside as Programs}
 use Rattle.mt_stage_tables.specs.declared.work_list.WorkList.TheInside.{Inside as Queue}
 
@@ -27,5 +27,5 @@ programs_in s = s.programs.items
 pub record AreInOrder (s : Programs) : Type 0 where
   pub sorted : IsStrictlySortedBy nat_cmp s.programs.items
 
-abbrev pub noted_in : Pairs → Noted
-noted_in n = record { rows = n.rows; counts = n.counts.items }
+abbrev pub index_in : Pairs → Index
+index_in n = record { rows = n.rows; counts = n.counts.items }

@@ -31,7 +31,7 @@ IsWithin applicants couples (Couple c) = c < couples
 abbrev pub IsKnown : Waiting → Agent → Type 0
 IsKnown w g = IsWithin w.applicants w.couples g
 
--- Of so many applicants and couples each agent waits once at most.
+-- of this many applicants and couples each agent waits once at most
 pub record WaitOnce (applicants couples : ℕ) (agents : List Agent) : Type 0 where
   pub once : IsDistinct is_same_agent agents
   pub known : (g : Agent) → IsTrue (is_on agents g) → IsWithin applicants couples g

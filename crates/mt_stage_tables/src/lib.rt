@@ -1,15 +1,15 @@
 //! What changes while couples enter: the ranks of those that are placed at a program, sets of programs, the agents that
-//! wait, and notes of couples.
+//! wait, and an index from programs to the couples that name them.
 #![tactic(auto)]
 
 mod couple_list;
-mod noted_pairs;
+mod pair_index;
 mod placed;
 mod program_set;
 mod work_list;
 
-pub use couple_list::Note;
-pub use noted_pairs::{NotedPairs, Pair};
+pub use couple_list::NamedPairs;
+pub use pair_index::{Pair, PairIndex};
 pub use placed::PlacedRanks;
 pub use program_set::ProgramSet;
 pub use work_list::WorkList;

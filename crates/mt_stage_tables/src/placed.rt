@@ -24,7 +24,7 @@ impl Model for PlacedRanks {
 }
 
 impl PlacedRanks {
-    /// The ranks of a row, with room for so many. The error is want of memory.
+    /// The ranks of a row, with room for this many. The error is want of memory.
     pub fn of_row(alloc: Global, row: &RankRow<'_>, room: usize) -> Result<Self, AllocError>
         ensures { IfOk result (HasRanks row.now) }
     {
@@ -45,7 +45,7 @@ impl PlacedRanks {
         self.ranks.partition_point(|other| *other < rank)
     }
 
-    /// Whether fewer than so many ranks are below this one.
+    /// Whether fewer than `most` ranks are below this one.
     pub fn has_fewer_below(&self, rank: u32, most: usize) -> bool
         requires { IsStrictlySortedBy nat_cmp self.now }
         ensures { result ≡ nat_lt (count (λ r. nat_lt r rank) self.now) most }
@@ -81,7 +81,7 @@ impl PlacedRanks {
         let _ = self.ranks.remove(place);
     }
 
-    /// All ranks but the first ones, so many of them.
+    /// All ranks but this many of the first.
     pub fn beyond(&self, first: usize) -> &[u32]
         ensures { result.now ≡ drop first self.now }
     {

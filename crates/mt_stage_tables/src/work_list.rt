@@ -8,14 +8,15 @@ use std::alloc::{AllocError, Global};
 use std::marker::Model;
 use std::mem::swap;
 
-/// The agents that are to be looked at, first in first out, each at most once.
+/// The agents that are to be rechecked, first in first out, each at most once.
 ///
-/// Agents are read from one ordered set and join at the end of another. Where all of the first are taken, the second takes
-/// its place. Room for every agent of a market is taken in both at the start, so joining takes no memory. An agent that is
-/// taken stays in the first set, passed over, until all are: `IndexSet::pop` doesn't promise that the place is free again.
+/// Agents are read from one ordered set. An agent that is taken stays in it, passed over, until all are. An agent joins at
+/// the end of that set, unless it was taken from it: then it joins a second set, and so do all that join later. When all of
+/// the first set are taken, the second takes its place. Both have room for every agent from the start, so joining takes no
+/// memory.
 ///
-/// The sets hash with the fixed seed of `indexmap`. Whoever writes a file chooses which agents wait, but no other keys:
-/// the numbers of all agents together are what the sets have room for.
+/// The sets hash with the fixed seed of `indexmap`. The author of a file chooses which agents wait, but the keys are only
+/// the numbers of agents, for which both sets have room.
 pub struct WorkList {
     applicants: u32,
     couples: u32,
@@ -49,7 +50,7 @@ impl Model for WorkList {
     ghost invariant = { IsWorkList };
 }
 
-/// Whether an agent is one of a set but so many, from the first on.
+/// Whether an agent is in a set, at this index or a later one.
 fn is_beyond(agents: &IndexSet<Agent>, first: usize, agent: &Agent) -> bool
     ensures { result ≡ is_on (drop first agents.now.keys) agent.now }
 {
@@ -63,7 +64,7 @@ fn is_beyond(agents: &IndexSet<Agent>, first: usize, agent: &Agent) -> bool
 }
 
 impl WorkList {
-    /// An empty work list for so many applicants and couples.
+    /// An empty work list for this many applicants and couples.
     pub fn new(alloc: Global, applicants: u32, couples: u32) -> Result<Self, AllocError>
         ensures { IfOk result (λ w. w ≡ nobody applicants couples) }
     {
@@ -78,14 +79,13 @@ impl WorkList {
     }
 
     /// Whether the agent waits.
-    pub fn waits(&self, agent: &Agent) -> bool
-        requires { IsKnown self.now agent.now }
+    pub fn is_waiting(&self, agent: &Agent) -> bool
         ensures { result ≡ is_on self.now.agents agent.now }
     {
         is_beyond(&self.front, self.taken, agent) || is_beyond(&self.back, 0, agent)
     }
 
-    /// Takes the agent at the front, or none where nobody waits.
+    /// Takes the agent at the front. There is none if nobody waits.
     pub fn take(&mut self) -> Option<Agent>
         ensures taken { IfSome result (λ g. self.old ≡ waiting_first g self.new) }
         ensures empty { IfNone result (self.old.agents ≡ []) }
@@ -106,7 +106,7 @@ impl WorkList {
         requires { IsKnown self.old agent }
         ensures { self.new ≡ with_agents self.old (joined self.old.agents agent) }
     {
-        if !self.waits(&agent) {
+        if !self.is_waiting(&agent) {
             let _added = self.back.insert(agent).unwrap();
         }
     }

@@ -1,10 +1,11 @@
-use Rattle.std.proofs.Common.{◌∙◌, ◌<◌, not, length, ap, sym}
+use Rattle.std.proofs.Common.{◌≡◌, ◌∙◌, ◌<◌, not, length, ap, arith, sym, subst}
 use Rattle.std.proofs.Math.Bool.{not-not}
+use Rattle.rayon.proofs.ToStd.{nat_range-All}
 use Rattle.rayon.specs.Lists.{range_start, range_end}
 use Rattle.mt_terms.specs.Market.{Market}
 use Rattle.mt_couples.specs.Looking.{has_wanted_post}
 use Rattle.mt_assignment.specs.Watched.{AreWatched}
-use Rattle.mt_couples.proofs.AskFacts.{asked_below, none_found_by_threads}
+use Rattle.mt_couples.proofs.AskFacts.{none_found_by_threads}
 use Rattle.mt_couples.proofs.OneFacts.{quiet_by_posts}
 use Rattle.mt_couples.proofs.rounds.are_singles_quiet.Goals as goal
 
@@ -13,8 +14,10 @@ find_first-wanted-requires-clause-items g c κs within =
     let s = c.args.assignment.now in
     let range = c.with_min_len.result.base in
     let many = length s.market.programs in
-    asked_below (λ p. (p < many) × AreWatched s c.args.watch.now.singles) range.start range.end many (ap range_start c.with_min_len.ensures.base ∙ c.into_par_iter.ensures.0)
-    (ap range_end c.with_min_len.ensures.base ∙ c.into_par_iter.ensures.1 ∙ c.programs.ensures.count ∙ ap (λ (m : Market). length m.programs) c.roster.ensures.market) (λ p known. (known, c.requires))
+    let end : range.end ≡ many = ap range_end c.with_min_len.ensures.base ∙ c.into_par_iter.ensures.1 ∙ c.programs.ensures.count ∙ ap (λ (m : Market). length m.programs) c.roster.ensures.market in
+    λ k d low p read.
+    subst (λ q. (q < many) × AreWatched s c.args.watch.now.singles) (sym read)
+    (nat_range-All (λ q. (q < many) × AreWatched s c.args.watch.now.singles) range.start range.end (λ i low high. (omega (arith, end), c.requires)) k d low)
 
 pub returns : goal.returns
 returns g c = λ quiet.

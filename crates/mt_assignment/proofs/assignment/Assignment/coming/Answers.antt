@@ -4,7 +4,7 @@ use Rattle.mt_terms.specs.Lists.{has}
 use Rattle.mt_terms.specs.Market.{program_of}
 use Rattle.mt_terms.specs.Matching.{is_program}
 use Rattle.mt_terms.proofs.ListFacts.{has-take-position}
-use Rattle.mt_stage_tables.proofs.PlaceFacts.{is_program_read}
+use Rattle.mt_terms.proofs.AgentFacts.{is_program_read}
 use Rattle.mt_round_laws.proofs.SentCounts.{comes}
 use Rattle.mt_assignment.proofs.SentFacts.{sent_within, seat_more}
 use Rattle.mt_assignment.proofs.assignment.Assignment.coming.Goals as goal

@@ -2,8 +2,8 @@ use Rattle.std.proofs.Common.{◌≡◌, ◌∙◌, ◌+◌, take, arith}
 use Rattle.mt_terms.specs.Lists.{count}
 use Rattle.mt_terms.specs.Market.{program_of}
 use Rattle.mt_terms.specs.Matching.{at, send}
-use Rattle.mt_terms.proofs.ListFacts.{distinct-take}
-use Rattle.mt_stage_tables.proofs.OrderFacts.{count-le_length, same_lt}
+use Rattle.mt_terms.proofs.ListFacts.{count-le-length, distinct-take}
+use Rattle.mt_stage_tables.proofs.OrderFacts.{same_lt}
 use Rattle.mt_round_laws.proofs.SentCounts.{leaves, count_sent}
 use Rattle.mt_assignment.proofs.assignment.Assignment.has_post_after.Goals as goal
 
@@ -14,7 +14,7 @@ overflow_add-posts c =
       arith,
       c.quota.type_inv,
       c.leaving.ensures,
-      count-le_length (leaves c.args.self.now.places c.args.program front) c.args.sent.now,
+      count-le-length (leaves c.args.self.now.places c.args.program front) c.args.sent.now,
       c.requires.sent.few,
     )
 

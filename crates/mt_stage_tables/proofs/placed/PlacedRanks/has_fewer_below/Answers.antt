@@ -2,7 +2,8 @@ use Rattle.std.proofs.Common.{◌≡◌, ◌∙◌, ◌+◌, ◌-◌, ◌<◌, �
 use Rattle.std.proofs.lemmas.Bool.{ltb-false}
 use Rattle.std.proofs.lemmas.List.{get_or_read}
 use Rattle.mt_terms.specs.Lists.{count}
-use Rattle.mt_stage_tables.proofs.OrderFacts.{count-le_length, fewer_at}
+use Rattle.mt_stage_tables.proofs.OrderFacts.{fewer_at}
+use Rattle.mt_terms.proofs.ListFacts.{count-le-length}
 use Rattle.mt_stage_tables.proofs.placed.PlacedRanks.has_fewer_below.Goals as goal
 
 pub returns-in-Some : goal.returns-in-Some
@@ -21,4 +22,4 @@ returns-in-None c =
     let xs = c.deref.result.now in
     let is : xs ≡ c.args.self.now = c.deref.ensures.value ∙ c.self.view_is in
     let past : length xs ≤ c.args.most - 1 = ltb-false _ _ (sym c.in-None.ensures.lookup.0) in
-    sym (lt-ltb _ _ (omega (arith, past, ap length is, c.if-most-eq0.false, count-le_length (λ r. nat_lt r c.args.rank) c.args.self.now)))
+    sym (lt-ltb _ _ (omega (arith, past, ap length is, c.if-most-eq0.false, count-le-length (λ r. nat_lt r c.args.rank) c.args.self.now)))

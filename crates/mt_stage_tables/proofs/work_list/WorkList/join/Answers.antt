@@ -16,7 +16,7 @@ unwrap-added-requires c =
     let all = drop t.taken t.front.keys ++ t.back.keys in
     let g = c.args.agent in
     let within : IsKnown (waiting_in t) g = subst (λ (w : Waiting). IsKnown w g) (sym c.self.view_is) c.requires in
-    let off : is_on all g ≡ false = ap (λ (w : Waiting). is_on w.agents g) c.self.view_is ∙ sym c.waits.ensures ∙ c.if-not-waits.true in
+    let off : is_on all g ≡ false = ap (λ (w : Waiting). is_on w.agents g) c.self.view_is ∙ sym c.is_waiting.ensures ∙ c.if-not-is_waiting.true in
     let few = room_left t.applicants t.couples g all within c.self.invariant.waiting.known c.self.invariant.waiting.once off in
     c.insert.ensures.succeeds (omega (arith, few, length-append (drop t.taken t.front.keys) t.back.keys, c.self.invariant.back_room))
 
@@ -26,7 +26,7 @@ behind c =
     let t = c.self.inside in
     let front = drop t.taken t.front.keys in
     let g = c.args.agent in
-    let off : is_on (front ++ t.back.keys) g ≡ false = ap (λ (w : Waiting). is_on w.agents g) c.self.view_is ∙ sym c.waits.ensures ∙ c.if-not-waits.true in
+    let off : is_on (front ++ t.back.keys) g ≡ false = ap (λ (w : Waiting). is_on w.agents g) c.self.view_is ∙ sym c.is_waiting.ensures ∙ c.if-not-is_waiting.true in
     let off_back : is_on t.back.keys g ≡ false = (or_parts (is_on front g) (is_on t.back.keys g) (sym (list_any-append (is_same_agent g) front t.back.keys) ∙ off)).1 in
     IfOk-at_ok _ c.unwrap-added.ensures c.insert.ensures.keys
     ∙ ap (λ b. if b then t.back.keys else (t.back.keys ++ g ∷ [])) (on_by_eq g t.back.keys ∙ off_back)
@@ -37,7 +37,7 @@ invariant_of-self c =
     let front = drop t.taken t.front.keys in
     let g = c.args.agent in
     let within : IsKnown (waiting_in t) g = subst (λ (w : Waiting). IsKnown w g) (sym c.self.view_is) c.requires in
-    let off : is_on (front ++ t.back.keys) g ≡ false = ap (λ (w : Waiting). is_on w.agents g) c.self.view_is ∙ sym c.waits.ensures ∙ c.if-not-waits.true in
+    let off : is_on (front ++ t.back.keys) g ≡ false = ap (λ (w : Waiting). is_on w.agents g) c.self.view_is ∙ sym c.is_waiting.ensures ∙ c.if-not-is_waiting.true in
     record {
       waiting = subst (WaitOnce t.applicants t.couples) (append_assoc front t.back.keys (g ∷ []) ∙ ap (λ gs. front ++ gs) (sym (behind c)))
           (wait_joined t.applicants t.couples g (front ++ t.back.keys) c.self.invariant.waiting within off);

@@ -1,8 +1,0 @@
-use Rattle.std.proofs.Common.{drop}
-use Rattle.mt_couples.specs.Waiting.{agents_of}
-use Rattle.mt_couples.proofs.JoinFacts.{AreJoining}
-use Rattle.mt_couples.proofs.rounds.join_moved.Given as goal
-
-abbrev pub invariant-loop-applicant : goal.invariant-loop-applicant
-invariant-loop-applicant l =
-    AreJoining l.fn.waiting l.waiting (agents_of l.assignment (drop l.applicant-index l.displaced)) (agents_of l.assignment l.displaced)
