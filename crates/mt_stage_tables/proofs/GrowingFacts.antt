@@ -1,8 +1,8 @@
 -- What holds of each number of a list's front, and of a list that a number more is put at the end of.
-use Rattle.std.proofs.Common.{◌≡◌, ◌∙◌, ℕ, ◌+◌, ◌<◌, ◌≤◌, true, false, ◌||◌, ◌==◌, List, [], ◌∷◌, ◌++◌, take, length, get_or, refl, ap, sym, subst, inl, inr, ◌⊎◌}
-use Rattle.std.proofs.lemmas.List.{take_more, take_all}
+use Rattle.std.proofs.Common.{◌≡◌, ◌∙◌, ℕ, ◌≤◌, true, false, ◌==◌, List, [], ◌∷◌, ◌++◌, take, length, refl, ap, sym, inl, inr, ◌⊎◌}
+use Rattle.std.proofs.lemmas.List.{take_all}
 use Rattle.std.proofs.lemmas.List.Folds.{list_any-append}
-use Rattle.std.proofs.lemmas.Bool.{or_cases, or_left, or_right, eq-eqb, eqb-true, false≢true}
+use Rattle.std.proofs.lemmas.Bool.{or_cases, or_left, or_right, eq-eqb, eqb-true}
 use Rattle.std.proofs.Math.Bool.{or-false}
 use Rattle.mt_terms.specs.Lists.{has}
 

@@ -5,7 +5,7 @@ use Rattle.std.proofs.lemmas.Bool.Decides.{nat_tests}
 use Rattle.std.proofs.lemmas.List.Folds.{list_any-append}
 use Rattle.std.specs.List.{list_any}
 use Rattle.std.proofs.Math.Bool.{or-false}
-use Rattle.mt_stage_tables.specs.Indexing.{end_of, greatest, has_couple, is_before, is_indexed, names_pair, AddsPair}
+use Rattle.mt_stage_tables.specs.Indexing.{end_of, greatest, is_before, is_indexed, names_pair, AddsPair}
 use Rattle.mt_stage_tables.specs.declared.couple_list.NamedPairs.{NamedPairs}
 
 -- an index that is before an end, and within this many, is before the end among these

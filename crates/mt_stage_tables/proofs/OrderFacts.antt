@@ -1,5 +1,5 @@
 -- Numbers in rising order.
-use Rattle.std.proofs.Common.{IsTrue, if◌then◌else◌, ◌≡◌, ℕ, zero, suc, ◌+◌, ◌<◌, ◌≤◌, Bool, true, false, not, ◌||◌, ◌==◌, nat_lt, List, [], ◌∷◌, filter, length, get_or, nat_le, insert, remove, refl, ap, sym, ◌∙◌, inl, inr, arith, lt-ltb, le-ltb, le-leb, ltb-true}
+use Rattle.std.proofs.Common.{IsTrue, ◌≡◌, ℕ, zero, suc, ◌+◌, ◌<◌, ◌≤◌, Bool, true, false, not, ◌||◌, ◌==◌, nat_lt, List, [], ◌∷◌, filter, length, get_or, nat_le, insert, remove, refl, ap, sym, ◌∙◌, inl, inr, arith, lt-ltb, le-ltb, le-leb, ltb-true}
 use Rattle.std.specs.List.{AllByRecursion}
 use Rattle.std.specs.List.Sorted.{IsStrictlySortedBy}
 use Rattle.std.specs.Ordering.{nat_cmp, match_ordering}
