@@ -111,7 +111,7 @@ none_passes stop test (y ∷ ys) d none =
     rw first.0 (position_later test y (until stop ys) None first.1 (none_passes stop test ys d (λ j less. none (suc j) (omega arith))))
 
 -- the same search through a list of which each element stands for another
-position-map : {X Y : Type 0} (test : X → Bool) (f : Y → X) (ys : List Y) → position test (map f ys) ≡ position (λ y. test (f y)) ys
+pub position-map : {X Y : Type 0} (test : X → Bool) (f : Y → X) (ys : List Y) → position test (map f ys) ≡ position (λ y. test (f y)) ys
 position-map test f [] = refl
 position-map test f (y ∷ ys) = elim (cases_Bool (test (f y))) [
   | inl here ↦ rw (here, lt-ltb 0 (suc (length (map f ys))) (omega arith), lt-ltb 0 (suc (length ys)) (omega arith)) refl

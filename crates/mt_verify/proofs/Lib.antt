@@ -5,4 +5,5 @@ pub mod FindFacts
 pub mod MarketFacts
 pub mod OptionFacts
 pub mod PlacedFacts
+pub mod ProspectFacts
 pub mod TakenFacts

@@ -113,7 +113,7 @@ module _ (places : Places) (a b p : ℕ) (t : Option ℕ) (a_in : a < length pla
       ap (is_program p) (get_or-set_other (slice_set places a (Some p)) b a t None apart ∙ get_or-set_same places a (Some p) None a_in) ∙ eq-eqb p p refl
 
   -- and of the others just those who would be there with the partner moved
-  others_there : (c : ℕ) → c ≢ a → at (send (couple_placement a b (Some p, t)) places) p c ≡ at_moved places b t p c
+  pub others_there : (c : ℕ) → c ≢ a → at (send (couple_placement a b (Some p, t)) places) p c ≡ at_moved places b t p c
   others_there c other = elim (cases_eq c b) [
     | inl same ↦
         let room : b < length (slice_set places a (Some p)) = rw length-set b_in in

@@ -2,5 +2,6 @@ pub mod Blocking
 pub mod Judged
 pub mod Listed
 pub mod Moved
+pub mod Prospects
 pub mod Verdicts
 pub mod View

@@ -10,8 +10,12 @@ ghost use Rattle.mt_verify.specs.Verdicts.{TellsStable};
 
 mod listed;
 mod placed;
+mod prospect;
+mod tables;
 mod verifier;
 
+pub use crate::prospect::Prospect;
+pub use crate::tables::MatchTables;
 use crate::verifier::Verifier;
 use mt_market::Roster;
 use mt_ranks::Ranks;

@@ -10,6 +10,7 @@ ghost use Rattle.mt_verify.specs.Judged.{AreAllowed, first_blocking, first_over,
 ghost use Rattle.mt_verify.specs.Listed.{HoldRanks, is_off_own_list};
 
 mod blocking;
+mod prospects;
 mod taken;
 
 use crate::listed::{is_own_pair, is_own_place};
@@ -156,7 +157,7 @@ impl<'a> Verifier<'a> {
     }
 
     /// The ranks of those that are placed at the program, in rising order.
-    fn placed_at(&self, program: ProgNo) -> &[u32]
+    pub(crate) fn placed_at(&self, program: ProgNo) -> &[u32]
         requires { program < length (judged self.now).market.programs }
         ensures { let j = judged self.now in result.now ≡ placed_ranks j.market j.places program }
     {

@@ -11,7 +11,7 @@ use mt_terms::{AppNo, ProgNo};
 
 impl Verifier<'_> {
     /// How many of those placed at the program are above a rank on its list.
-    fn count_above(&self, program: ProgNo, rank: u32) -> usize
+    pub(super) fn count_above(&self, program: ProgNo, rank: u32) -> usize
         requires { program < length (judged self.now).market.programs }
         ensures { result ≡ count_above (judged self.now) program rank }
     {
@@ -31,7 +31,7 @@ impl Verifier<'_> {
     }
 
     /// How many would be at the program above a rank on its list, with an applicant moved to a place.
-    fn count_above_moved(
+    pub(super) fn count_above_moved(
         &self,
         program: ProgNo,
         rank: u32,

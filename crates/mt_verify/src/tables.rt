@@ -1,0 +1,87 @@
+ghost use Rattle.std.specs.Prelude.{◌≡◌, ◌≢◌, ◌<◌, length, IfOk, Some};
+ghost use Rattle.mt_terms.specs.Market.{applicants};
+ghost use Rattle.mt_terms.specs.Matching.{couple_placement, placed_ranks, send, single_placement};
+ghost use Rattle.mt_terms.specs.Places.{ArePlaces};
+ghost use Rattle.mt_ranks.specs.Ranked.{ranked_of};
+ghost use Rattle.mt_verify.specs.Prospects.{prospect};
+
+use crate::prospect::Prospect;
+use crate::verifier::Verifier;
+use mt_market::Roster;
+use mt_ranks::Ranks;
+use mt_terms::{AppNo, Match, ProgNo};
+use std::alloc::{AllocError, Global};
+use std::marker::Model;
+use std::thread::Threads;
+
+/// A match beside its market, with the ranks of those placed at each program. It says how an applicant would fare.
+#[derive(Drop)]
+pub struct MatchTables<'a> {
+    verifier: Verifier<'a>,
+}
+
+impl<'a> Model for MatchTables<'a> {
+    ghost use Rattle.mt_verify.specs.Judged.{Judged};
+    ghost use Rattle.mt_verify.specs.View.{judged};
+
+    ghost Value = { Judged };
+
+    ghost view = { λ t. judged t.verifier };
+}
+
+impl<'a> MatchTables<'a> {
+    /// The tables of a match of the market. The only error is want of memory.
+    pub fn new<R: Threads + Sync>(
+        rt: &R,
+        alloc: Global,
+        roster: &'a Roster,
+        ranks: &'a Ranks<'a>,
+        matched: &'a Match,
+    ) -> Result<Self, AllocError>
+        requires ranks { ranks.now ≡ ranked_of roster.now.market }
+        requires places { ArePlaces roster.now.market matched.now.places }
+        ensures market { IfOk result (λ t. t.market ≡ roster.now.market) }
+        ensures places { IfOk result (λ t. t.places ≡ matched.now.places) }
+    {
+        let verifier = Verifier::new(rt, alloc, roster, ranks, matched)?;
+        Ok(MatchTables { verifier })
+    }
+
+    /// The ranks on the program's list of those that are placed there, in rising order.
+    pub fn placed_at(&self, program: ProgNo) -> &[u32]
+        requires { program < length self.now.market.programs }
+        ensures { result.now ≡ placed_ranks self.now.market self.now.places program }
+    {
+        self.verifier.placed_at(program)
+    }
+
+    /// How a single would fare at a program that it is sent to, or none if the program doesn't list it.
+    pub fn single_prospect(&self, applicant: AppNo, program: ProgNo) -> Option<Prospect>
+        requires applicant { applicant < applicants self.now.market }
+        requires program { program < length self.now.market.programs }
+        ensures { let moved = send (single_placement applicant program) self.now.places in
+            result ≡ prospect self.now.market moved program applicant }
+    {
+        self.verifier.single_prospect(applicant, program)
+    }
+
+    /// How a couple's member would fare at a program that it is sent to, its partner sent to a place of its own. None
+    /// if the program doesn't list the member.
+    pub fn member_prospect(
+        &self,
+        member: AppNo,
+        program: ProgNo,
+        partner: AppNo,
+        partner_place: Option<ProgNo>,
+    ) -> Option<Prospect>
+        requires member { member < applicants self.now.market }
+        requires program { program < length self.now.market.programs }
+        requires partner { partner < applicants self.now.market }
+        requires apart { member ≢ partner }
+        ensures { let sent = couple_placement member partner (Some program, partner_place) in
+            result ≡ prospect self.now.market (send sent self.now.places) program member }
+    {
+        self.verifier
+            .member_prospect(member, program, partner, partner_place)
+    }
+}
