@@ -2,6 +2,7 @@ pub mod BlockingFacts
 pub mod EntryFacts
 pub mod FewerFacts
 pub mod FindFacts
+pub mod HeldFacts
 pub mod MarketFacts
 pub mod OptionFacts
 pub mod PlacedFacts

@@ -1,4 +1,5 @@
 pub mod Blocking
+pub mod Held
 pub mod Judged
 pub mod Listed
 pub mod Moved

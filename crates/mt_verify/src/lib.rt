@@ -8,6 +8,7 @@ ghost use Rattle.mt_terms.specs.Verdict.{verdict_of};
 ghost use Rattle.mt_ranks.specs.Ranked.{ranked_of};
 ghost use Rattle.mt_verify.specs.Verdicts.{TellsStable};
 
+mod held;
 mod listed;
 mod placed;
 mod prospect;

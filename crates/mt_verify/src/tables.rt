@@ -1,15 +1,16 @@
 ghost use Rattle.std.specs.Prelude.{◌≡◌, ◌≢◌, ◌<◌, length, IfOk, Some};
 ghost use Rattle.mt_terms.specs.Market.{applicants};
-ghost use Rattle.mt_terms.specs.Matching.{couple_placement, placed_ranks, send, single_placement};
+ghost use Rattle.mt_terms.specs.Matching.{better, couple_placement, place_of, placed_ranks, send, single_placement};
 ghost use Rattle.mt_terms.specs.Places.{ArePlaces};
 ghost use Rattle.mt_ranks.specs.Ranked.{ranked_of};
+ghost use Rattle.mt_verify.specs.Held.{IsNumbered, held_option, rank_at};
 ghost use Rattle.mt_verify.specs.Prospects.{prospect};
 
 use crate::prospect::Prospect;
 use crate::verifier::Verifier;
 use mt_market::Roster;
 use mt_ranks::Ranks;
-use mt_terms::{AppNo, Match, ProgNo};
+use mt_terms::{Agent, AppNo, Match, ProgNo};
 use std::alloc::{AllocError, Global};
 use std::marker::Model;
 use std::thread::Threads;
@@ -53,6 +54,30 @@ impl<'a> MatchTables<'a> {
         ensures { result.now ≡ placed_ranks self.now.market self.now.places program }
     {
         self.verifier.placed_at(program)
+    }
+
+    /// The number from 0 of the option that the agent has, if it has one of its list.
+    pub fn held_option(&self, agent: Agent) -> Option<u32>
+        requires { IsNumbered self.now.market agent }
+        ensures { result ≡ held_option self.now.market self.now.places agent }
+    {
+        self.verifier.held_option(agent)
+    }
+
+    /// How many options the agent wants more than what it has. They are the first ones of its list.
+    pub fn better_options(&self, agent: Agent) -> u32
+        requires { IsNumbered self.now.market agent }
+        ensures { result ≡ length (better self.now.market self.now.places agent) }
+    {
+        self.verifier.better_options(agent)
+    }
+
+    /// The applicant's rank at its place, from 0, if it is placed and its program lists it.
+    pub fn rank_at_place(&self, applicant: AppNo) -> Option<u32>
+        requires { applicant < applicants self.now.market }
+        ensures { result ≡ rank_at self.now.market applicant (place_of self.now.places applicant) }
+    {
+        self.verifier.rank_at_place(applicant)
     }
 
     /// How a single would fare at a program that it is sent to, or none if the program doesn't list it.

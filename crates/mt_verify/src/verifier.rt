@@ -10,6 +10,7 @@ ghost use Rattle.mt_verify.specs.Judged.{AreAllowed, first_blocking, first_over,
 ghost use Rattle.mt_verify.specs.Listed.{HoldRanks, is_off_own_list};
 
 mod blocking;
+mod options;
 mod prospects;
 mod taken;
 
