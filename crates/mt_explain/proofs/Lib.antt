@@ -1,0 +1,3 @@
+pub mod LineFacts
+pub mod OptionFacts
+pub mod LawFacts

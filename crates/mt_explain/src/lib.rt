@@ -1,0 +1,11 @@
+//! Why each applicant and couple of a residency match has what it has: a line for each place that a better option names,
+//! in numbers that are in the lists. Any program may have made the match.
+#![tactic(auto)]
+
+pub mod examples;
+mod explainer;
+pub mod laws;
+mod line;
+
+pub use explainer::{Explainer, OptionLines};
+pub use line::{Line, Why};

@@ -1,0 +1,87 @@
+-- The numbers of a match that services publish. Which numbers these are is this project's own choice.
+use Rattle.std.specs.Prelude.{ℕ, zero, suc, ◌+◌, ◌-◌, Bool, true, false, not, ◌&&◌, ◌==◌, nat_le, List, [], ◌∷◌, length, max, Option, Some, None, is_some, if◌then◌else◌}
+use Rattle.mt_terms.specs.Lists.{count_below, total_below}
+use Rattle.mt_terms.specs.Market.{Market, agent_of, applicants, couple_of, program_of}
+use Rattle.mt_terms.specs.Matching.{Places, filled, is_program, place_of, placed_ranks}
+use Rattle.mt_terms.specs.declared.numbers.Agent.TheVariants.{Couple, Single}
+use Rattle.mt_ranks.specs.Ranked.{is_single}
+use Rattle.mt_verify.specs.Held.{held_option}
+
+-- how many singles there are
+abbrev pub singles : Market → ℕ
+singles m = count_below (is_single m) (applicants m)
+
+-- whether a single has the option with this number from 0 of its list
+abbrev pub has_choice : Market → Places → ℕ → ℕ → Bool
+has_choice m places k a = is_single m a && is_program k (held_option m places (Single a))
+
+-- how many singles do
+abbrev pub at_choice : Market → Places → ℕ → ℕ
+at_choice m places k = count_below (has_choice m places k) (applicants m)
+
+-- how many singles have no place
+abbrev pub unmatched_singles : Market → Places → ℕ
+unmatched_singles m places = count_below (λ a. is_single m a && not (is_some (place_of places a))) (applicants m)
+
+-- how many couples have the pair with this number from 0 of their lists
+abbrev pub at_pair : Market → Places → ℕ → ℕ
+at_pair m places k = count_below (λ c. is_program k (held_option m places (Couple c))) (length m.couples)
+
+-- how many members of a couple are placed
+abbrev pub placed_members : Market → Places → ℕ → ℕ
+placed_members m places c =
+    (if is_some (place_of places (couple_of m c).first) then 1 else 0) + (if is_some (place_of places (couple_of m c).second) then 1 else 0)
+
+-- how many couples have this number of members placed
+abbrev pub couples_with : Market → Places → ℕ → ℕ
+couples_with m places n = count_below (λ c. placed_members m places c == n) (length m.couples)
+
+-- whether a program has no open post. One without posts has none
+abbrev pub is_full : Market → Places → ℕ → Bool
+is_full m places p = nat_le (program_of m p).quota (filled places p)
+
+-- whether nobody is placed at a program
+abbrev pub has_nobody : Places → ℕ → Bool
+has_nobody places p = filled places p == 0
+
+-- how many programs are full, how many are partly filled, and how many with posts have nobody
+abbrev pub full_programs : Market → Places → ℕ
+full_programs m places = count_below (is_full m places) (length m.programs)
+
+abbrev pub partly_filled_programs : Market → Places → ℕ
+partly_filled_programs m places = count_below (λ p. not (is_full m places p) && not (has_nobody places p)) (length m.programs)
+
+abbrev pub empty_programs : Market → Places → ℕ
+empty_programs m places = count_below (λ p. not (is_full m places p) && has_nobody places p) (length m.programs)
+
+-- how many posts are open: at each program those that its applicants leave, and none if it has too many applicants
+abbrev pub open_posts : Market → Places → ℕ
+open_posts m places = total_below (λ p. (program_of m p).quota - filled places p) (length m.programs)
+
+-- the last element of a list
+abbrev pub last_of : List ℕ → Option ℕ
+last_of [] = None
+last_of (x ∷ []) = Some x
+last_of (x ∷ y ∷ xs) = last_of (y ∷ xs)
+
+-- the rank from 0 of the last one in: of those placed at a program, the one that it ranks lowest
+abbrev pub last_rank : Market → Places → ℕ → Option ℕ
+last_rank m places p = last_of (placed_ranks m places p)
+
+-- the largest value of a function below n, where each value is at least 0
+abbrev pub greatest_below : (ℕ → ℕ) → ℕ → ℕ
+greatest_below f zero = 0
+greatest_below f (suc n) = max (f n) (greatest_below f n)
+
+-- one more than a number, or 0 if there is none
+abbrev pub ordinal : Option ℕ → ℕ
+ordinal None = 0
+ordinal (Some k) = k + 1
+
+-- the largest choice that a single has, counted from 1, or 0 if none has one of its list
+abbrev pub most_choices : Market → Places → ℕ
+most_choices m places = greatest_below (λ a. ordinal (held_option m places (Single a))) (applicants m)
+
+-- the same of couples and their pairs
+abbrev pub most_pairs : Market → Places → ℕ
+most_pairs m places = greatest_below (λ c. ordinal (held_option m places (Couple c))) (length m.couples)
