@@ -1,0 +1,5 @@
+pub mod Reordered
+pub mod Orders
+pub mod Aside
+pub mod Examples
+pub mod Laws
