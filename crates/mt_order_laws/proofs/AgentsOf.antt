@@ -1,14 +1,13 @@
 -- Whose member an applicant is, among couples that are named by number. Such a couple is the one that the market gives
 -- the applicant, so its place in the list is the number of the agent.
-use Rattle.std.proofs.Common.{◌≡◌, ℕ, zero, suc, ◌+◌, ◌<◌, ◌≤◌, true, false, ◌==◌, ◌||◌, List, [], ◌∷◌, ◌++◌, map, length, ◌⊎◌, inl, inr, refl, ap, sym, ◌∙◌, arith, subst, get_or, eq-eqb, eqb-true, IsTrue, IsFalse}
-use Rattle.std.proofs.lemmas.Bool.{cases_Bool, cases_eq, or_cases, or_left, or_right, both_ways, false_from_ne_true}
+use Rattle.std.proofs.Common.{◌≡◌, ℕ, zero, suc, ◌+◌, ◌<◌, true, false, ◌==◌, List, [], ◌∷◌, map, length, inl, inr, refl, ap, sym, ◌∙◌, arith, subst, get_or, eq-eqb}
+use Rattle.std.proofs.lemmas.Bool.{or_cases, or_left, or_right, false_from_ne_true}
 use Rattle.mt_terms.specs.Lists.{has, is_distinct}
-use Rattle.mt_terms.specs.Market.{Market, Partners, applicants, couple_of, is_member, agent_from, agent_of, members}
-use Rattle.mt_terms.specs.WellFormed.{IsMember, IsWellFormed}
-use Rattle.mt_terms.specs.declared.numbers.Agent.{Agent}
+use Rattle.mt_terms.specs.Market.{Market, Partners, couple_of, is_member, agent_from, agent_of, members}
+use Rattle.mt_terms.specs.WellFormed.{IsWellFormed}
 use Rattle.mt_terms.specs.declared.numbers.Agent.TheVariants.{Single, Couple}
 use Rattle.mt_terms.proofs.ListFacts.{head_differs, tail_distinct}
-use Rattle.mt_round_laws.proofs.RoundsAgents.{IsAgent, couple_members, member_of_agent, one_of_two, couple_number, agent_of_applicant}
+use Rattle.mt_round_laws.proofs.RoundsAgents.{IsAgent, couple_members, member_of_agent, one_of_two}
 
 -- who is a member is on the list of the two
 pub member_has : (p : Partners) (a : ℕ) → is_member p a ≡ true → has (p.first ∷ p.second ∷ []) a ≡ true

@@ -1,10 +1,9 @@
 -- The couples up to a place in an order enter alike whatever couples come after them. The later couples are unplaced until
 -- they enter, so they are neither displaced nor looked at.
-use Rattle.std.proofs.Common.{◌≡◌, ℕ, zero, suc, ◌+◌, ◌<◌, ◌≤◌, Bool, true, false, ◌&&◌, List, [], ◌∷◌, ◌++◌, map, length, Option, Some, None, inl, inr, refl, ap, ap₂, sym, ◌∙◌, arith, subst, flat_map, leb-true, leb-false, length-append, if◌then◌else◌, option_and_then}
+use Rattle.std.proofs.Common.{◌≡◌, ℕ, zero, suc, ◌+◌, ◌<◌, ◌≤◌, Bool, true, false, ◌&&◌, List, [], ◌∷◌, ◌++◌, map, length, Option, Some, None, inl, inr, refl, ap, ap₂, sym, ◌∙◌, arith, subst, flat_map, leb-true, length-append, if◌then◌else◌, option_and_then}
 use Rattle.std.specs.List.{list_any, find, range_with_len}
 use Rattle.std.proofs.lemmas.Bool.{cases_Bool, cases_lt, and_parts, and_left, or_left, both_ways, false≢true, true_from_ne_false, false_from_ne_true}
 use Rattle.std.proofs.lemmas.List.{get_or_append_left, length-map, map-append}
-use Rattle.mt_terms.specs.Best.{IsBest}
 use Rattle.mt_terms.specs.Lists.{has, below, until}
 use Rattle.mt_terms.specs.Market.{Market, Partners, program_of, list_of, couple_of, is_member, agent_from, agent_of, members, agents}
 use Rattle.mt_terms.specs.Matching.{Places, Placement, at, single_placement, couple_placement, options, send, holds, unplaced}
@@ -17,13 +16,13 @@ use Rattle.mt_terms.proofs.AgentFacts.{is_same_agent_refl, same_agent}
 use Rattle.mt_round_laws.specs.Rounds.{state}
 use Rattle.mt_round_laws.proofs.RoundsLists.{In}
 use Rattle.mt_round_laws.proofs.RoundsPlaces.{at_none}
-use Rattle.mt_round_laws.proofs.RoundsAgents.{IsAgent, on_list, agent_on_list, member_of_agent, one_of_two, option_elsewhere, apart}
+use Rattle.mt_round_laws.proofs.RoundsAgents.{on_list, agent_on_list, member_of_agent, one_of_two, option_elsewhere, apart}
 use Rattle.mt_round_laws.proofs.RoundsMove.{IsMove, of_displaced, displaced_parts, displaced_agent}
 use Rattle.mt_round_laws.proofs.RoundsKeep.{is_unplaced, move_from, keep_round}
 use Rattle.mt_round_laws.proofs.RoundsStage.{first_couple_waits_lem, next_couple_waits_lem}
 use Rattle.mt_order_laws.specs.Reordered.{reordered, IsOrderOfSome}
 use Rattle.mt_order_laws.specs.Laws.{EntriesBeforeAlike, AnewIsGoingOn}
-use Rattle.mt_order_laws.proofs.OrderLists.{distinct_front, has_front, distinct_without, has_put, same_map, same_flat_map, same_kept}
+use Rattle.mt_order_laws.proofs.OrderLists.{distinct_without, has_put, same_map, same_flat_map, same_kept}
 use Rattle.mt_order_laws.proofs.FormedFacts.{couple_at, couple_within, well_formed_reordered}
 use Rattle.mt_order_laws.proofs.StableFacts.{best_in_any_order_lem}
 
@@ -56,6 +55,14 @@ front_later (x ∷ xs) ys k a c e l = elim (cases_Bool (is_member x a)) [
   | inl t ↦ absurd (let both : Couple k ≡ Couple c = rw t at e in let is : k ≡ c = cc in omega arith)
   | inr t ↦ rw t (front_later xs ys (k + 1) a c (rw t at e) (omega arith))
 ]
+
+-- the move of a placement that takes out these applicants
+abbrev move_without : Places → Placement → List ℕ → Move
+move_without old sent out = record { before = old; seated = send sent old; after = unplaced out (send sent old) }
+
+-- the agent that moved, if it blocks
+abbrev again : Agent → Bool → List Agent
+again g blocking = if blocking then (g ∷ []) else []
 
 -- what an agent is asked goes by its options
 abbrev asked : Market → Places → List Placement → Bool
@@ -139,11 +146,12 @@ module _ (m : Market) (wf : IsWellFormed m) (before after : List ℕ) (o : IsOrd
       (λ g. has_entered k g && blocks (reordered (before ++ after) m) places g) (λ g. has_entered k g && blocks (reordered before m) places g)
       (program_of m p).ranking (λ a. elim (cases_Bool (has_entered k (agent_of (reordered (before ++ after) m) a))) [
         | inl in_turn ↦
-            let is = agent_alike k a l in_turn in
-            (subst (λ g. (has_entered k (agent_of (reordered (before ++ after) m) a) && blocks (reordered (before ++ after) m) places (agent_of (reordered (before ++ after) m) a))
-                ≡ (has_entered k g && blocks (reordered before m) places g)) (sym is)
-                (ap (λ (b : Bool). has_entered k (agent_of (reordered (before ++ after) m) a) && b) (blocks_alike k (agent_of (reordered (before ++ after) m) a) places l in_turn)),
-              (λ h. sym is))
+            let is = agent_alike k a l in_turn in (
+              subst (λ g. (has_entered k (agent_of (reordered (before ++ after) m) a) && blocks (reordered (before ++ after) m) places (agent_of (reordered (before ++ after) m) a))
+                  ≡ (has_entered k g && blocks (reordered before m) places g)) (sym is)
+                  (ap (λ (b : Bool). has_entered k (agent_of (reordered (before ++ after) m) a) && b) (blocks_alike k (agent_of (reordered (before ++ after) m) a) places l in_turn)),
+              (λ h. sym is),
+            )
         | inr later ↦ (
           and_left (has_entered k (agent_of (reordered (before ++ after) m) a)) _ later ∙ sym (later_unasked k a places l later),
           (λ h. absurd (both_ways (has_entered k (agent_of (reordered (before ++ after) m) a)) later (and_parts _ _ h).0)),
@@ -177,10 +185,7 @@ module _ (m : Market) (wf : IsWellFormed m) (before after : List ℕ) (o : IsOrd
         ∙ ap (members (reordered before m)) (sym (agent_alike k z l (displaced_in z i))))
 
     move_alike : move_of (reordered (before ++ after) m) old sent ≡ move_of (reordered before m) old sent
-    move_alike = ap (λ (xs : List ℕ). move_without xs) gone_alike
-      where
-        abbrev move_without : List ℕ → Move
-        move_without xs = record { before = old; seated = send sent old; after = unplaced xs (send sent old) }
+    move_alike = ap (move_without old sent) gone_alike
 
     looked_alike : rechecked (reordered (before ++ after) m) k g sent (move_of (reordered (before ++ after) m) old sent)
         ≡ rechecked (reordered before m) k g sent (move_of (reordered (before ++ after) m) old sent)
@@ -190,12 +195,9 @@ module _ (m : Market) (wf : IsWellFormed m) (before after : List ℕ) (o : IsOrd
         (ap₂ ◌++◌
         (same_map (agent_of (reordered (before ++ after) m)) (agent_of (reordered before m)) (displaced m (send sent old) sent)
         (λ z i. sym (agent_alike k z l (displaced_in z i))))
-        (ap (λ (b : Bool). again b) (blocks_alike k g v.after l g_in)))
+        (ap (again g) (blocks_alike k g v.after l g_in)))
         (same_flat_map (blocking_on_list (reordered (before ++ after) m) k v.after) (blocking_on_list (reordered before m) k v.after) (left_programs m v)
         (λ p i. blocking_alike k v.after p l))
-      where
-        abbrev again : Bool → List Agent
-        again b = if b then (g ∷ []) else []
 
     taking_alike : after_taking (reordered (before ++ after) m) k old g ws (Some sent) ≡ after_taking (reordered before m) k old g ws (Some sent)
     taking_alike = ap₂ state (ap Move.after move_alike) (ap (all_joined ws) (looked_alike ∙ ap (rechecked (reordered before m) k g sent) move_alike))
@@ -241,14 +243,17 @@ module _ (m : Market) (wf : IsWellFormed m) (before after : List ℕ) (o : IsOrd
   entries_alike start zero left places l st = refl
   entries_alike start (suc n) left places l st =
       chain (after_rounds (reordered (before ++ after) m) start left places (Couple start ∷ [])) refl
+      (λ more next waits. entries_alike (start + 1) n more next (omega arith) waits)
       ∙ ap (option_and_then (λ r. after_entries (reordered before m) (range_with_len (start + 1) n) r.1 r.0))
       (rounds_alike start left places (Couple start ∷ []) (omega arith) (st (omega arith)))
     where
       chain : (o : Option (Places × ℕ)) → after_rounds (reordered (before ++ after) m) start left places (Couple start ∷ []) ≡ o
+          → ((more : ℕ) (next : Places) → (0 < n → IsRoundState (reordered (before ++ after) m) (start + 1) (state next (Couple (start + 1) ∷ [])))
+          → after_entries (reordered (before ++ after) m) (range_with_len (start + 1) n) more next ≡ after_entries (reordered before m) (range_with_len (start + 1) n) more next)
           → option_and_then (λ r. after_entries (reordered (before ++ after) m) (range_with_len (start + 1) n) r.1 r.0) o
           ≡ option_and_then (λ r. after_entries (reordered before m) (range_with_len (start + 1) n) r.1 r.0) o
-      chain None e = refl
-      chain (Some r) e = entries_alike (start + 1) n r.1 r.0 (omega arith) (λ more.
+      chain None e rest = refl
+      chain (Some r) e rest = rest r.1 r.0 (λ some.
           let room : start + 1 < length (map (couple_of m) (before ++ after)) = omega (arith, length-map (before ++ after) (couple_of m), length-append before after) in
           next_couple_waits_lem (reordered (before ++ after) m) formed start r.0
           (rounds_end start left places (Couple start ∷ []) r e (st (omega arith))) room)
@@ -264,14 +269,17 @@ entries_before_alike_lem m before after wf o best is_best budget =
 entries_go_on : (m : Market) (ks js : List ℕ) (left : ℕ) (places : Places)
     → after_entries m (ks ++ js) left places ≡ option_and_then (λ r. after_entries m js r.1 r.0) (after_entries m ks left places)
 entries_go_on m [] js left places = refl
-entries_go_on m (k ∷ ks) js left places = chain (after_rounds m k left places (Couple k ∷ []))
+entries_go_on m (k ∷ ks) js left places = chain (after_rounds m k left places (Couple k ∷ [])) (λ r. entries_go_on m ks js r.1 r.0)
   where
-    chain : (o : Option (Places × ℕ)) → option_and_then (λ r. after_entries m (ks ++ js) r.1 r.0) o
+    chain : (o : Option (Places × ℕ))
+        → ((r : Places × ℕ) → after_entries m (ks ++ js) r.1 r.0 ≡ option_and_then (λ q. after_entries m js q.1 q.0) (after_entries m ks r.1 r.0))
+        → option_and_then (λ r. after_entries m (ks ++ js) r.1 r.0) o
         ≡ option_and_then (λ r. after_entries m js r.1 r.0) (option_and_then (λ r. after_entries m ks r.1 r.0) o)
-    chain None = refl
-    chain (Some r) = entries_go_on m ks js r.1 r.0
+    chain None rest = refl
+    chain (Some r) rest = rest r
 
-range_append : (start a b : ℕ) → range_with_len start (a + b) ≡ range_with_len start a ++ range_with_len (start + a) b
+-- a range in two parts
+pub range_append : (start a b : ℕ) → range_with_len start (a + b) ≡ range_with_len start a ++ range_with_len (start + a) b
 range_append start zero b = let none : 0 + b ≡ b = omega arith in let here : start + 0 ≡ start = omega arith in rw (none, here) refl
 range_append start (suc a) b =
     let more : suc a + b ≡ suc (a + b) = omega arith in

@@ -1,19 +1,18 @@
 -- A market with some couples in an order, or with some of them set aside, is well formed. An applicant's agent is its
 -- couple's place in the order, or the applicant itself if its couple is not there.
-use Rattle.std.proofs.Common.{◌≡◌, ℕ, zero, suc, ◌+◌, ◌<◌, ◌≤◌, Bool, true, false, not, ◌&&◌, ◌||◌, ◌==◌, nat_lt, List, [], ◌∷◌, map, filter, length, ◌⊎◌, inl, inr, refl, ap, sym, ◌∙◌, arith, subst, get_or, eq-eqb, eqb-true, ltb-true, lt-ltb, if◌then◌else◌}
-use Rattle.std.specs.List.{range_with_len}
-use Rattle.std.proofs.lemmas.Bool.{cases_Bool, and_parts, and_from, or_cases, false≢true, both_ways, not-true, not_from_false}
+use Rattle.std.proofs.Common.{◌≡◌, ℕ, ◌+◌, ◌<◌, ◌≤◌, Bool, true, false, not, ◌&&◌, ◌==◌, nat_lt, List, [], ◌∷◌, map, length, inl, inr, refl, ap, sym, ◌∙◌, arith, subst, get_or, eqb-true, ltb-true, if◌then◌else◌}
+use Rattle.std.proofs.lemmas.Bool.{cases_Bool, and_parts, or_cases, false≢true}
 use Rattle.std.proofs.lemmas.List.{get_or-map, length-map, ext_get_or}
-use Rattle.std.proofs.lemmas.List.FromFn.{get_or-range_with_len, length-map-range_with_len}
-use Rattle.mt_terms.specs.Lists.{has, below, is_distinct}
-use Rattle.mt_terms.specs.Market.{Market, Partners, applicants, couple_of, is_member, agent_from, agent_of, members}
+use Rattle.std.proofs.lemmas.List.FromFn.{get_or-range_with_len}
+use Rattle.mt_terms.specs.Lists.{has, below}
+use Rattle.mt_terms.specs.Market.{Market, Partners, couple_of, is_member, agent_from, agent_of, members}
 use Rattle.mt_terms.specs.WellFormed.{IsMember, IsWellFormed}
 use Rattle.mt_terms.specs.declared.numbers.Agent.{Agent}
 use Rattle.mt_terms.specs.declared.numbers.Agent.TheVariants.{Single, Couple}
 use Rattle.mt_terms.proofs.BelowFacts.{length-map_below, map_below_at}
 use Rattle.mt_terms.proofs.ListFacts.{has_item, has-filter, distinct-filter}
 use Rattle.mt_round_laws.proofs.RoundsAgents.{member_of_agent}
-use Rattle.mt_order_laws.specs.Reordered.{reordered, unless_aside, set_aside, others, IsOrderOfSome, IsOrderWithout}
+use Rattle.mt_order_laws.specs.Reordered.{reordered, unless_aside, set_aside, IsOrderOfSome, IsOrderWithout}
 use Rattle.mt_order_laws.specs.Laws.{WellFormedInAnyOrder, WellFormedAside, NoneAside, OthersAreOrder}
 use Rattle.mt_order_laws.proofs.AgentsOf.{single_among, couple_among}
 use Rattle.mt_order_laws.proofs.OrderLists.{and_swap, below_distinct, has_below, length_below}

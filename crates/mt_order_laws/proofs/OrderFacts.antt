@@ -1,6 +1,6 @@
 -- Each numbered order is a permutation of the couples' numbers: each step of the shuffle is a swap.
-use Rattle.std.proofs.Common.{◌≡◌, ◌≢◌, ℕ, zero, suc, ◌+◌, ◌-◌, ◌%◌, ◌<◌, ◌≤◌, Bool, true, false, not, ◌&&◌, ◌==◌, nat_lt, List, [], ◌∷◌, length, inl, inr, refl, ap, sym, ◌∙◌, arith, subst, get_or, eq-eqb, eqb-true, if◌then◌else◌}
-use Rattle.std.specs.List.{swap, list_any}
+use Rattle.std.proofs.Common.{◌≡◌, ℕ, zero, suc, ◌+◌, ◌-◌, ◌%◌, ◌<◌, ◌≤◌, true, false, not, ◌==◌, nat_lt, List, [], ◌∷◌, length, inl, inr, refl, sym, ◌∙◌, arith, get_or, eq-eqb, if◌then◌else◌}
+use Rattle.std.specs.List.{swap}
 use Rattle.std.specs.List.Sorted.{IsPermutation}
 use Rattle.std.proofs.lemmas.Bool.{cases_Bool, cases_eq, and_from, ne_eqb, false_from_ne_true, not_from_false}
 use Rattle.std.proofs.lemmas.Bool.Decides.{nat_tests}
@@ -10,9 +10,7 @@ use Rattle.std.proofs.Math.Bool.{and-true}
 use Rattle.rand_pcg.specs.Lcg.{Lcg}
 use Rattle.rand_pcg.specs.Pcg.{pcg32}
 use Rattle.mt_terms.specs.Lists.{has, below, is_distinct}
-use Rattle.mt_terms.specs.Market.{Market}
 use Rattle.mt_terms.proofs.ListFacts.{same_position}
-use Rattle.mt_order_laws.specs.Reordered.{IsOrderWithout}
 use Rattle.mt_order_laws.specs.Orders.{generator_of, shuffled, order_of}
 use Rattle.mt_order_laws.specs.Laws.{OrdersAreOrders}
 use Rattle.mt_order_laws.proofs.OrderLists.{below_distinct, has_below, place_in, length_below}

@@ -1,8 +1,8 @@
 -- Lists of numbers without repeats: the numbers below n, a filter of them, and a list with one number taken out.
 -- Also tests that agree, and images that agree on a list.
-use Rattle.std.proofs.Common.{◌≡◌, ◌≢◌, ℕ, zero, suc, ◌+◌, ◌<◌, ◌≤◌, Bool, true, false, not, ◌&&◌, ◌||◌, ◌==◌, nat_lt, List, [], ◌∷◌, ◌++◌, map, filter, length, flat_map, ◌⊎◌, inl, inr, refl, ap, ap₂, sym, ◌∙◌, arith, subst, get_or, eq-eqb, eqb-true, ne_eqb, lt-ltb, le-ltb}
-use Rattle.std.specs.List.{list_any, list_all, range_with_len}
-use Rattle.std.proofs.lemmas.Bool.{cases_Bool, cases_lt, and_parts, and_from, or_cases, or_left, or_right, or_from, or_parts, both_ways, false≢true, false_from_ne_true, not-true, not_from_false}
+use Rattle.std.proofs.Common.{◌≡◌, ◌≢◌, ℕ, zero, suc, ◌+◌, ◌<◌, Bool, true, false, not, ◌&&◌, ◌==◌, nat_lt, List, [], ◌∷◌, ◌++◌, map, filter, length, flat_map, inl, inr, refl, ap₂, sym, ◌∙◌, arith, get_or, eqb-true, ne_eqb, lt-ltb, le-ltb}
+use Rattle.std.specs.List.{range_with_len}
+use Rattle.std.proofs.lemmas.Bool.{cases_Bool, cases_lt, and_parts, and_from, or_cases, or_left, or_right, or_from, both_ways, false≢true, false_from_ne_true, not-true, not_from_false}
 use Rattle.std.proofs.lemmas.List.{length-map}
 use Rattle.std.proofs.lemmas.List.Folds.{list_any-append}
 use Rattle.mt_terms.specs.Lists.{has, below, is_distinct}

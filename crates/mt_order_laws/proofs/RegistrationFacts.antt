@@ -1,11 +1,11 @@
 -- A market of a file stays one with some of its couples in an order, or with some of them set aside. Its lists don't
 -- become longer: a sum over couples without repeats is at most the sum over all.
-use Rattle.std.proofs.Common.{◌≡◌, ℕ, zero, suc, ◌+◌, ◌*◌, ◌<◌, ◌≤◌, Bool, true, false, not, ◌&&◌, ◌==◌, nat_lt, List, [], ◌∷◌, map, length, sum_by, inl, inr, refl, ap, sym, ◌∙◌, arith, subst, get_or, eq-eqb, ne_eqb, if◌then◌else◌, IsTrue}
+use Rattle.std.proofs.Common.{◌≡◌, ℕ, zero, suc, ◌+◌, ◌*◌, ◌<◌, ◌≤◌, Bool, true, false, not, ◌==◌, nat_lt, List, [], ◌∷◌, map, length, sum_by, inl, inr, refl, ap, sym, ◌∙◌, arith, subst, get_or, eq-eqb, ne_eqb, if◌then◌else◌, IsTrue}
 use Rattle.std.specs.Prelude.{bytes_eq}
 use Rattle.std.specs.List.{list_any, list_all}
-use Rattle.std.proofs.lemmas.Bool.{cases_Bool, cases_eq, cases_lt, and_parts, and_from, or_left, or_right, both_ways, false≢true, false_from_ne_true, not-true, not_from_false}
+use Rattle.std.proofs.lemmas.Bool.{cases_eq, cases_lt, and_parts, and_from, or_left, or_right, both_ways, false_from_ne_true, not-true, not_from_false}
 use Rattle.std.proofs.lemmas.Bool.Decides.{nat_tests}
-use Rattle.std.proofs.lemmas.List.{get_or_past, get_or-map, length-map}
+use Rattle.std.proofs.lemmas.List.{get_or_past, length-map}
 use Rattle.std.proofs.lemmas.List.Sums.{sum_by-cons}
 use Rattle.mt_terms.specs.Lists.{has, below, is_distinct, total_below}
 use Rattle.mt_terms.specs.Market.{Market, Program, Pair, Partners, Registered, couple_of}
@@ -14,9 +14,8 @@ use Rattle.mt_terms.specs.Registration.Ids.{Bytes, is_id, has_id, all_differ}
 use Rattle.mt_terms.specs.Text.{name_of}
 use Rattle.mt_terms.specs.declared.limits.TheConstants.{LIMITS_2}
 use Rattle.mt_terms.proofs.IdFacts.{same_id, is_same, differ_parts}
-use Rattle.mt_terms.proofs.ListFacts.{has_item}
-use Rattle.mt_terms.proofs.Totals.{total_below-mono, total_below-same, total_below-add, total_below-front}
-use Rattle.mt_round_laws.proofs.RoundsLists.{In, found, all_pass, of_image, in_has}
+use Rattle.mt_terms.proofs.Totals.{total_below-mono, total_below-same, total_below-add, total_below-front, total_below-zero}
+use Rattle.mt_round_laws.proofs.RoundsLists.{found, all_pass, of_image, in_has}
 use Rattle.mt_order_laws.specs.Reordered.{reordered, unless_aside, set_aside, IsOrderOfSome}
 use Rattle.mt_order_laws.specs.Laws.{RegistrationInAnyOrder, RegistrationAside}
 use Rattle.mt_order_laws.proofs.FormedFacts.{no_couple, couple_at, couple_aside, couples_aside, well_formed_reordered, well_formed_set_aside}
@@ -46,7 +45,10 @@ one_term h x (suc n) = elim (cases_eq x n) [
       let rest = one_term h x n in
       let is_not : (x == n) ≡ false = ne_eqb x n other in
       let alike : nat_lt x n ≡ nat_lt x (suc n) = grind (arith, nat_tests) in
-      rw is_not (rest ∙ ap (λ (b : Bool). if b then h x else 0) alike)
+      let last : total_below (λ a. if x == a then h a else 0) n ≡ (if nat_lt x (suc n) then h x else 0) =
+      rest ∙ ap (λ (b : Bool). if b then h x else 0) alike in
+      let same : 0 + total_below (λ a. if x == a then h a else 0) n ≡ total_below (λ a. if x == a then h a else 0) n = omega arith in
+      rw is_not (same ∙ last)
 ]
 
 -- a term of a list with one number more
@@ -63,11 +65,7 @@ one_more h x xs a out = elim (cases_eq x a) [
 -- a sum over numbers below n without repeats goes over the numbers below n
 sum_of_some : (h : ℕ → ℕ) (xs : List ℕ) (n : ℕ) → is_distinct xs ≡ true → ((a : ℕ) → has xs a ≡ true → a < n)
     → sum_by h xs ≡ total_below (λ a. if has xs a then h a else 0) n
-sum_of_some h [] n d within = sym (nothing n)
-  where
-    nothing : (n : ℕ) → total_below (λ a. 0) n ≡ 0
-    nothing zero = refl
-    nothing (suc n) = nothing n
+sum_of_some h [] n d within = sym (total_below-zero n)
 sum_of_some h (x ∷ xs) n d within =
     let parts = and_parts (not (has xs x)) (is_distinct xs) d in
     let out = not-true (has xs x) parts.0 in

@@ -1,14 +1,13 @@
 -- A test of an agent's options and members passes for all agents of a market in an order if it does for all agents
 -- of the market with the others set aside. Fitting and blocking are such tests.
-use Rattle.std.proofs.Common.{◌≡◌, ℕ, zero, suc, ◌+◌, ◌<◌, ◌≤◌, Bool, true, false, not, ◌&&◌, ◌||◌, ◌==◌, nat_lt, nat_le, List, [], ◌∷◌, map, length, Option, ◌⊎◌, inl, inr, refl, ap, ap₂, sym, ◌∙◌, arith, subst, get_or, lt-ltb, if◌then◌else◌}
+use Rattle.std.proofs.Common.{◌≡◌, ℕ, ◌<◌, Bool, true, false, not, ◌&&◌, ◌||◌, ◌==◌, nat_lt, nat_le, List, [], ◌∷◌, map, length, inl, inr, refl, ap, ap₂, sym, ◌∙◌, arith, subst, get_or, lt-ltb, if◌then◌else◌}
 use Rattle.std.specs.List.{list_any, list_all}
-use Rattle.std.proofs.lemmas.Bool.{cases_Bool, and_parts, and_from, false≢true, both_ways, not-true, not-false, not_from_false, not_from_true}
+use Rattle.std.proofs.lemmas.Bool.{cases_Bool, and_parts, and_from, both_ways, not-true, not-false}
 use Rattle.std.proofs.lemmas.List.{length-map}
-use Rattle.std.proofs.Math.Bool.{and-true}
 use Rattle.mt_terms.specs.Lists.{has, below, until}
 use Rattle.mt_terms.specs.Market.{Market, Partners, applicants, program_of, list_of, couple_of, agent_of, members, agents}
 use Rattle.mt_terms.specs.Matching.{Places, Placement, place_of, filled, couple_placement, single_placement, options, holds, none_placed}
-use Rattle.mt_terms.specs.Stability.{is_listed, would_be_taken, has_own_option, blocks, fits, stable}
+use Rattle.mt_terms.specs.Stability.{is_listed, would_be_taken, blocks}
 use Rattle.mt_terms.specs.WellFormed.{IsMember, IsWellFormed}
 use Rattle.mt_terms.specs.declared.numbers.Agent.{Agent}
 use Rattle.mt_terms.specs.declared.numbers.Agent.TheVariants.{Single, Couple}
@@ -18,7 +17,7 @@ use Rattle.mt_round_laws.proofs.RoundsSets.{has_head}
 use Rattle.mt_round_laws.proofs.RoundsAgents.{IsAgent, agent_on_list, agent_from_list, couple_members, couple_number, single_member, one_of_two, member_of_agent}
 use Rattle.mt_terms.proofs.ListFacts.{has_item}
 use Rattle.mt_order_laws.specs.Reordered.{reordered, unless_aside, set_aside, IsOrderOfSome, IsOrderWithout}
-use Rattle.mt_order_laws.specs.Laws.{FitsInAnyOrder, StableInAnyOrder, BestInAnyOrder, CoupleBlocksInAnyOrder, SingleBlocksInAnyOrder}
+use Rattle.mt_order_laws.specs.Laws.{FitsInAnyOrder, StableInAnyOrder, BestInAnyOrder, CoupleBlocksInAnyOrder}
 use Rattle.mt_order_laws.proofs.OrderLists.{same_bool, place_in}
 use Rattle.mt_order_laws.proofs.FormedFacts.{couple_at, places_of_order, single_is, couple_within, no_single, single_in_order, couple_in_order, well_formed_reordered, couple_aside, couples_aside, agent_aside, well_formed_set_aside, order_of_some}
 

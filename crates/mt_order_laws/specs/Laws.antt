@@ -1,19 +1,18 @@
 -- What does not depend on the order of couples, and what holds once some are set aside.
-use Rattle.std.specs.Prelude.{◌≡◌, ◌≢◌, ℕ, ◌<◌, List, [], ◌∷◌, ◌++◌, length, slice_index, Option, Some, None, IsTrue}
+use Rattle.std.specs.Prelude.{◌≡◌, ◌≢◌, ◌↔◌, ℕ, ◌<◌, List, [], ◌∷◌, ◌++◌, length, slice_index, Some, None}
 use Rattle.std.specs.List.{range_with_len}
 use Rattle.mt_terms.specs.Best.{IsBest}
 use Rattle.mt_terms.specs.Lists.{below}
 use Rattle.mt_terms.specs.Market.{Market, Registered}
 use Rattle.mt_terms.specs.Matching.{Places}
 use Rattle.mt_terms.specs.Registration.Accepted.{IsRegistration}
-use Rattle.mt_terms.specs.Rounds.{after_entries, stage}
+use Rattle.mt_terms.specs.Rounds.{after_entries, after_rounds, stage}
 use Rattle.mt_terms.specs.Stability.{fits, blocks, stable}
 use Rattle.mt_terms.specs.WellFormed.{IsWellFormed}
-use Rattle.mt_terms.specs.declared.numbers.Agent.{Agent}
 use Rattle.mt_terms.specs.declared.numbers.Agent.TheVariants.{Single, Couple}
 use Rattle.mt_order_laws.specs.Reordered.{reordered, reordered_registered, set_aside, set_aside_registered, others, IsOrderOfSome, IsOrderWithout}
 use Rattle.mt_order_laws.specs.Orders.{order_of}
-use Rattle.mt_order_laws.specs.Aside.{market_of_others, aside_in_turn}
+use Rattle.mt_order_laws.specs.Aside.{entering_at_end, market_of_others, aside_in_turn}
 
 -- a market stays well formed with its couples in another order
 abbrev pub WellFormedInAnyOrder : Type 0
@@ -87,6 +86,15 @@ AnewIsGoingOn =
     → after_entries (reordered (before ++ c ∷ after) m) (below (length before)) budget best ≡ Some r
     → after_entries (reordered (before ++ after) m) (below (length (before ++ after))) budget best
     ≡ after_entries (reordered (before ++ after) m) (range_with_len (length before) (length after)) r.1 r.0
+
+-- The couple that is entering at the end is one whose rounds don't end within what the couples before it leave of the
+-- budget.
+abbrev pub EnteringInWords : Type 0
+EnteringInWords =
+    (m : Market) (places : Places) (budget k : ℕ)
+    → (entering_at_end m places budget ≡ Some k)
+    ↔ ((k < length m.couples)
+    × ((r : Places × ℕ) × (after_entries m (below k) budget places ≡ Some r) × (after_rounds m k r.1 r.0 (Couple k ∷ []) ≡ None)))
 
 -- Once these couples are set aside in turn, the rounds of the others end.
 abbrev pub OthersEnd : Type 0

@@ -1,4 +1,4 @@
-ghost use Rattle.mt_order_laws.specs.Laws.{AnewIsGoingOn, EntriesBeforeAlike, NoneAside, OthersAreOrder, OthersEnd, RegistrationAside, WellFormedAside};
+ghost use Rattle.mt_order_laws.specs.Laws.{AnewIsGoingOn, EnteringInWords, EntriesBeforeAlike, NoneAside, OthersAreOrder, OthersEnd, RegistrationAside, WellFormedAside};
 
 /// A market stays well formed if couples are set aside.
 pub fn well_formed_aside()
@@ -28,6 +28,12 @@ pub fn entries_before_alike()
 /// To begin anew without a couple gives what going on from the match before its entry gives.
 pub fn anew_is_going_on()
     ensures { AnewIsGoingOn }
+{}
+
+/// The couple that is entering at the end is one whose rounds don't end within what the couples before it leave of the
+/// budget.
+pub fn entering_in_words()
+    ensures { EnteringInWords }
 {}
 
 /// Once couples are set aside in turn, the rounds of the others end.

@@ -7,8 +7,8 @@ mod examples;
 mod order;
 
 pub use aside::{
-    anew_is_going_on, entries_before_alike, none_aside, others_are_order, others_end,
-    registration_aside, well_formed_aside,
+    anew_is_going_on, entering_in_words, entries_before_alike, none_aside, others_are_order,
+    others_end, registration_aside, well_formed_aside,
 };
 pub use examples::{aside_in_examples, orders_in_examples};
 pub use order::{
