@@ -1,5 +1,5 @@
--- A test of an agent's options and members passes for all agents of a market in an order if it does for all agents
--- of the market with the others set aside. Fitting and blocking are such tests.
+-- A test goes by an agent's options and members. It passes for all agents of a market in an order if it does once the
+-- others are set aside. Fitting and blocking are such tests.
 use Rattle.std.proofs.Common.{◌≡◌, ℕ, ◌<◌, Bool, true, false, not, ◌&&◌, ◌||◌, ◌==◌, nat_lt, nat_le, List, [], ◌∷◌, map, length, inl, inr, refl, ap, ap₂, sym, ◌∙◌, arith, subst, get_or, lt-ltb, if◌then◌else◌}
 use Rattle.std.specs.List.{list_any, list_all}
 use Rattle.std.proofs.lemmas.Bool.{cases_Bool, and_parts, and_from, both_ways, not-true, not-false}

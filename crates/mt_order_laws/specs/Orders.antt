@@ -32,6 +32,6 @@ in_order number m = reordered (order_of number (length m.couples)) m
 abbrev pub ends_in_order : Market → Places → ℕ → ℕ → Bool
 ends_in_order m places budget number = is_some (stage (in_order number m) places budget)
 
--- the first of so many orders in which the rounds end within the budget, if there is one
+-- of the orders from 1 to `orders`, the first in which the rounds end within the budget, if there is one
 abbrev pub first_order : Market → Places → ℕ → ℕ → Option ℕ
 first_order m places budget orders = find (ends_in_order m places budget) (range_with_len 1 orders)

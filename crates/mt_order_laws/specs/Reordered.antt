@@ -10,10 +10,11 @@ use Rattle.mt_terms.specs.Text.{name_of}
 abbrev pub reordered : List ℕ → Market → Market
 reordered order m = record m { couples = map (couple_of m) order }
 
--- the same with the ids of the couples
+-- the ids that go with it: those of the couples of the list, in its order
 abbrev pub reordered_names : List ℕ → Names → Names
 reordered_names order names = record names { couples = map (name_of names.couples) order }
 
+-- the same market with its ids
 abbrev pub reordered_registered : List ℕ → Registered → Registered
 reordered_registered order r = record { market = reordered order r.market; names = reordered_names order r.names }
 
