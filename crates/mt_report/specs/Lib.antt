@@ -1,1 +1,2 @@
 pub mod Drains
+pub mod Status

@@ -3,12 +3,16 @@
 
 mod counts;
 mod drain;
+mod ended;
+mod line;
 mod refusal;
 mod text;
 mod writing;
 
 pub use counts::{filled_counts, filled_total, position_count, unmatched_count};
 pub use drain::Drain;
-pub use refusal::{RefusalLine, id_or_dash, refused};
+pub use ended::{Ended, end};
+pub use line::RefusalLine;
+pub use refusal::{code_name, id_or_dash, refused};
 pub use text::published;
 pub use writing::{Wrote, put_all};

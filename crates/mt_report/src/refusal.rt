@@ -1,58 +1,12 @@
-ghost use Rattle.std.specs.Prelude.{◌≡◌, ◌+◌, ◌≤◌, ◌++◌, [], length, IsTrue};
-ghost use Rattle.mt_terms.specs.Text.{id_text, is_known_code, name_among, refusals, refused as refused_text};
+ghost use Rattle.std.specs.Prelude.{◌≡◌, [], ◌∷◌, ◌+◌, ◌≤◌, codes, length, IsTrue};
+ghost use Rattle.mt_terms.specs.Text.{id_text, is_known_code, line, name_among, refusals, refused as refused_text};
 
+use crate::line::RefusalLine;
 use itoa::Buffer;
 use mt_terms::codes;
-use std::marker::Model;
-
-/// The line of a refusal, of at most 128 bytes, without memory of its own.
-#[derive(Drop)]
-pub struct RefusalLine {
-    bytes: [u8; 128],
-    len: usize,
-}
-
-impl Model for RefusalLine {
-    ghost use Rattle.std.specs.Prelude.{ℕ, List, take, ◌≤◌};
-
-    ghost Value = { List ℕ };
-
-    ghost view = { λ l. take l.len l.bytes };
-
-    ghost invariant = { λ l. l.len ≤ 128 };
-}
-
-impl RefusalLine {
-    /// The bytes of the line, its line feed included.
-    pub fn as_bytes(&self) -> &[u8]
-        ensures { result.now ≡ self.now }
-    {
-        &self.bytes[..self.len]
-    }
-
-    // A line with nothing on it.
-    fn new() -> Self
-        ensures { result ≡ [] }
-    {
-        RefusalLine {
-            bytes: [0; 128],
-            len: 0,
-        }
-    }
-
-    // Adds bytes at the end, for which there is room.
-    fn push(&mut self, text: &[u8])
-        requires { length self.old + length text.now ≤ 128 }
-        ensures { self.new ≡ self.old ++ text.now }
-    {
-        let end = self.len + text.len();
-        self.bytes[self.len..end].copy_from_slice(text);
-        self.len = end;
-    }
-}
 
 /// The name of a refusal's code.
-fn code_name(code: u16) -> &'static [u8]
+pub fn code_name(code: u16) -> &'static [u8]
     requires { IsTrue (is_known_code code) }
     ensures name { result.now ≡ name_among refusals code }
     ensures short { length result.now ≤ 16 }
@@ -86,6 +40,15 @@ pub fn id_or_dash(id: &[u8]) -> &[u8]
     if id.is_empty() { b"-" } else { id }
 }
 
+// The line of a refusal by its fields after the first three.
+fn by_fields<'a>(code: &'a [u8], name: &'a [u8], row: &'a [u8], id: &'a [u8]) -> RefusalLine
+    requires { length code.now + length name.now + length row.now + length id.now ≤ 115 }
+    ensures { result ≡ line (codes "match" ∷ codes "1" ∷ codes "refused" ∷ code.now ∷ name.now ∷ row.now ∷ id.now ∷ []) }
+{
+    let fields = [b"1".as_slice(), b"refused".as_slice(), code, name, row, id];
+    RefusalLine::of(b"match", &fields)
+}
+
 /// The one line of a refusal. It has the code and its name, the number of the record at fault, or 0 if there is none,
 /// and the id at fault. An empty id is absent, and prints as `-`.
 pub fn refused(code: u16, row: u64, id: &[u8]) -> RefusalLine
@@ -93,16 +56,9 @@ pub fn refused(code: u16, row: u64, id: &[u8]) -> RefusalLine
     requires short { length id.now ≤ 64 }
     ensures { result ≡ refused_text code row id.now }
 {
-    let mut digits = Buffer::new();
-    let mut line = RefusalLine::new();
-    line.push(b"match,1,refused,");
-    line.push(digits.format(code).as_bytes());
-    line.push(b",");
-    line.push(code_name(code));
-    line.push(b",");
-    line.push(digits.format(row).as_bytes());
-    line.push(b",");
-    line.push(id_or_dash(id));
-    line.push(b"\n");
-    line
+    let mut of_code = Buffer::new();
+    let mut of_row = Buffer::new();
+    let code_text = of_code.format(code).as_bytes();
+    let row_text = of_row.format(row).as_bytes();
+    by_fields(code_text, code_name(code), row_text, id_or_dash(id))
 }

@@ -1,6 +1,5 @@
-ghost use Rattle.std.specs.Prelude.{◌≡◌, ◌+◌, ◌<◌, ◌≤◌, ◌^◌, length, take, if◌then◌else◌, IsTrue};
-ghost use Rattle.std.specs.Io.KnownBytes.{Appends};
-ghost use Rattle.mt_report.specs.Drains.{contents_of, failures_of, is_flushed};
+ghost use Rattle.std.specs.Prelude.{◌≡◌, ◌+◌, ◌<◌, ◌^◌, if◌then◌else◌, IsTrue};
+ghost use Rattle.mt_report.specs.Drains.{IsWritten, contents_of, failures_of, is_flushed};
 
 use crate::drain::Drain;
 use std::io::Write;
@@ -17,9 +16,8 @@ pub struct Wrote {
 /// Writes bytes in turns, and stops at the writer's first failure. It flushes once, if all were taken.
 pub fn put_all<W: Write>(drain: &mut Drain<W>, bytes: &[u8]) -> Wrote
     requires { failures_of drain.old + 1 < 2 ^ 64 }
-    ensures bound { result.written ≤ length bytes.now }
-    ensures all { IsTrue result.whole → result.written ≡ length bytes.now }
-    ensures appended { Appends (contents_of W.contents drain.old) (contents_of W.contents drain.new) (take result.written bytes.now) }
+    ensures written { IsWritten bytes.now (contents_of W.contents drain.old) (contents_of W.contents drain.new)
+        result.written result.whole }
     ensures failures { failures_of drain.new ≡ failures_of drain.old + (if result.whole then 0 else 1) }
     ensures flushed { IsTrue result.whole → IsTrue (is_flushed drain.new) }
 {

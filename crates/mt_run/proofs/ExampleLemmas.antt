@@ -1,9 +1,7 @@
 -- The match that is best for the programs is not what a run may write.
-use Rattle.std.proofs.Common.{◌≡◌, ℕ, zero, suc, ◌==◌, List, [], ◌∷◌, Bool, true, false, Option, Some, Result, refl, ◌∙◌, ap, subst}
-use Rattle.std.specs.Prelude.{IsTrue, slice_index_or, MatchOption, MatchResult, nat_lt, length}
-use Rattle.std.specs.Bool.{MatchBool}
+use Rattle.std.proofs.Common.{◌≡◌, ℕ, zero, suc, ◌==◌, List, [], ◌∷◌, Option, Some, Result, refl, ◌∙◌, ap, subst}
+use Rattle.std.specs.Prelude.{IsTrue, slice_index_or, MatchResult}
 use Rattle.std.proofs.lemmas.Bool.{true≢false}
-use Rattle.mt_lists.specs.Records.{records_of}
 use Rattle.mt_terms.specs.Best.{IsBest, IsExcluded, better_programs}
 use Rattle.mt_terms.specs.Examples.Markets.{crossed}
 use Rattle.mt_terms.specs.Lists.{has}
@@ -12,10 +10,10 @@ use Rattle.mt_terms.specs.Matching.{Places}
 use Rattle.mt_terms.specs.Registration.Faults.{Fault}
 use Rattle.mt_terms.specs.Text.{published}
 use Rattle.mt_stability_laws.proofs.ExclusionLemmas.{best_is_unique_lem}
-use Rattle.mt_answer.specs.Answer.{IsRefusedAlone, IsAnswerOfStage, IsAnswerOfMarket, all_proposals}
-use Rattle.mt_run.specs.Answer.{IsAnswerOfFault, IsAnswerOfRows, most_bytes}
+use Rattle.mt_answer.specs.Answer.{IsAnswerOfStage, IsAnswerOfMarket, all_proposals}
+use Rattle.mt_run.specs.Answer.{IsAnswerOfFault}
 use Rattle.mt_run.specs.Examples.{crossed_file, ProgramOptimalIsNoAnswer}
-use Rattle.mt_run.proofs.HeadlineLemmas.{not_zero, stage_of_singles}
+use Rattle.mt_run.proofs.HeadlineLemmas.{stage_of_singles}
 
 -- each applicant has its first wish, so nothing is better
 none_better : (a p : ℕ) → IsTrue (has (better_programs crossed (Some 0 ∷ Some 1 ∷ []) a) p) → IsExcluded crossed a p
@@ -41,15 +39,7 @@ of_market budget received h =
     (ends.1 ∙ ap (λ (places : Places). published crossed crossed_file.names places (all_proposals crossed_file h.best)) same)
 
 pub program_optimal_is_no_answer_lem : ProgramOptimalIsNoAnswer
-program_optimal_is_no_answer_lem bytes received budget is_market h = of_large (nat_lt most_bytes (length bytes)) h
-  where
-    text : List ℕ
-    text = published crossed crossed_file.names (Some 1 ∷ Some 0 ∷ []) received
-
-    of_large : (large : Bool)
-        → MatchBool large (IsRefusedAlone 10 0 text) (MatchOption (records_of bytes) (IsRefusedAlone 11 0 text) (IsAnswerOfRows budget 0 text)) → ⊥
-    of_large true k = not_zero 10 refl k.0
-    of_large false k =
-        let rows = subst (λ (o : Option (List (List (List ℕ)))). MatchOption o (IsRefusedAlone 11 0 text) (IsAnswerOfRows budget 0 text)) is_market.1 k in
-        of_market budget received
-        (subst (λ (m : Result Registered Fault). MatchResult m (λ r. IsAnswerOfMarket r budget 0 text) (λ f. IsAnswerOfFault f 0 text)) is_market.2 rows)
+program_optimal_is_no_answer_lem bytes received budget is_market h =
+    let text : List ℕ = published crossed crossed_file.names (Some 1 ∷ Some 0 ∷ []) received in
+    of_market budget received
+    (subst (λ (m : Result Registered Fault). MatchResult m (λ r. IsAnswerOfMarket r budget 0 text) (λ f. IsAnswerOfFault f 0 text)) is_market h)

@@ -1,30 +1,27 @@
 -- What is published is the text of a stable match, and without couples of the best one.
-use Rattle.std.proofs.Common.{◌≡◌, ℕ, ◌-◌, List, [], Bool, true, false, ◌==◌, Option, None, Some, Result, Ok, Err, length, refl, sym, ◌∙◌, ap, subst, arith, nat_lt}
-use Rattle.std.proofs.lemmas.Bool.Decides.{nat_tests}
-use Rattle.std.specs.Prelude.{◌≢◌, IsTrue, slice_index_or, MatchOption, MatchResult}
-use Rattle.std.specs.Bool.{MatchBool}
+use Rattle.std.proofs.Common.{◌≡◌, ℕ, ◌-◌, List, [], false, ◌==◌, Option, None, Some, Result, Ok, Err, length, refl, sym, ◌∙◌, ap, subst}
+use Rattle.std.specs.Prelude.{◌≢◌, IfSome, IsTrue, slice_index_or, MatchResult}
 use Rattle.std.specs.Option.{option_map}
 use Rattle.std.proofs.lemmas.Bool.{true≢false}
-use Rattle.mt_lists.specs.Records.{records_of}
 use Rattle.mt_terms.specs.Best.{IsBest}
 use Rattle.mt_terms.specs.Registration.Accepted.{IsRegistration}
-use Rattle.mt_terms.specs.Text.{IsOneRecord, refusal_fields, is_fault_code}
+use Rattle.mt_terms.specs.Text.{IsOneRecord, refusal_fields}
 use Rattle.mt_terms.specs.Lists.{below}
 use Rattle.mt_terms.specs.Market.{Market, Partners, Registered}
 use Rattle.mt_terms.specs.Matching.{Places}
-use Rattle.mt_terms.specs.Registration.{market_of}
 use Rattle.mt_terms.specs.Registration.Faults.{Fault}
 use Rattle.mt_terms.specs.Rounds.{after_entries, stage}
 use Rattle.mt_terms.specs.Stability.{stable}
 use Rattle.mt_terms.specs.WellFormed.{IsWellFormed}
 use Rattle.mt_stability_laws.proofs.ExclusionLemmas.{best_is_at_least_lem}
-use Rattle.mt_file_laws.proofs.FaultFacts.{fault_codes_lem}
-use Rattle.mt_file_laws.proofs.PassFacts.{accepted_is_registration_lem}
 use Rattle.mt_file_laws.proofs.RefusalLine.{refusal_is_one_record_lem}
 use Rattle.mt_round_laws.proofs.RoundsStage.{stage_is_stable_lem}
 use Rattle.mt_floor_laws.proofs.RuralLemmas.{fill_alike_without_couples}
-use Rattle.mt_answer.specs.Answer.{IsRefusedAlone, IsAnswerOfStage, IsAnswerOfMarket, all_proposals}
-use Rattle.mt_run.specs.Answer.{IsAnswer, most_bytes, IsAnswerOfFault, IsAnswerOfRows, IsAnswerTo}
+use Rattle.mt_answer.specs.Answer.{IsAnswerOfStage, IsAnswerOfMarket, all_proposals}
+use Rattle.mt_input.specs.Files.{market_in}
+use Rattle.mt_input.proofs.LeftFacts.{of_left}
+use Rattle.mt_input.proofs.MarketFacts.{market_fault, registration_of}
+use Rattle.mt_run.specs.Answer.{IsAnswer, IsAnswerOfFault, IsAnswerTo}
 use Rattle.mt_run.specs.Refusals.{HasNoCouple, PublishesSingles}
 use Rattle.mt_run.specs.Headline.{IsBestOfAll, IsStableText, IsStableTextOf}
 use Rattle.mt_run.specs.Laws.{PublishedIsNoRefusal, PublishedIsStable, RefusalIsOneRecord}
@@ -51,16 +48,15 @@ pub not_zero : (code : ℕ) → (code == 0) ≡ false → 0 ≢ code
 not_zero code h e = true≢false (ap (λ n. n == 0) e ∙ h)
 
 module _ (bytes : List ℕ) (budget : ℕ) (text : List ℕ) where
-  of_stage : (rows : List (List (List ℕ))) (r : Registered) → records_of bytes ≡ Some rows → market_of rows ≡ Ok r
-      → (best : Places) → IsBest r.market best → (s : Option (Places × ℕ)) → stage r.market best budget ≡ s
+  of_stage : (r : Registered) → market_in bytes ≡ Ok r → (best : Places) → IsBest r.market best → (s : Option (Places × ℕ)) → stage r.market best budget ≡ s
       → IsAnswerOfStage r best s 0 text → IsStableText bytes text
-  of_stage rows r are_rows is_market best is_best None ends h = absurd (not_zero 41 refl h.0)
-  of_stage rows r are_rows is_market best is_best (Some s) ends h =
-      let well_formed = IsRegistration.well_formed (accepted_is_registration_lem rows r is_market) in
+  of_stage r is_market best is_best None ends h = absurd (not_zero 41 refl h.0)
+  of_stage r is_market best is_best (Some s) ends h =
+      let well_formed = IsRegistration.well_formed (registration_of bytes r is_market) in
       let is_stable = stage_is_stable_lem r.market well_formed best is_best budget s ends in
       record {
         registered = r;
-        of_bytes = (rows, are_rows, is_market);
+        of_bytes = is_market;
         places = s.0;
         proposals = all_proposals r best;
         is_text = h.1;
@@ -70,45 +66,32 @@ module _ (bytes : List ℕ) (budget : ℕ) (text : List ℕ) where
             best_of_all r.market well_formed none s.0 (subst (IsBest r.market) same is_best) is_stable;
       }
 
-  of_rows : (rows : List (List (List ℕ))) → records_of bytes ≡ Some rows → (m : Result Registered Fault) → market_of rows ≡ m
+  of_bytes : (m : Result Registered Fault) → market_in bytes ≡ m
       → MatchResult m (λ r. IsAnswerOfMarket r budget 0 text) (λ f. IsAnswerOfFault f 0 text) → IsStableText bytes text
-  of_rows rows are_rows (Ok r) is_market h = of_stage rows r are_rows is_market h.best h.is_best (stage r.market h.best budget) refl h.ends
-  of_rows rows are_rows (Err f) is_fault h =
-      absurd (true≢false (sym (fault_codes_lem rows f is_fault) ∙ sym (ap is_fault_code h.same_code)))
-
-  of_records : (rows : Option (List (List (List ℕ)))) → records_of bytes ≡ rows
-      → MatchOption rows (IsRefusedAlone 11 0 text) (IsAnswerOfRows budget 0 text) → IsStableText bytes text
-  of_records None are_rows h = absurd (not_zero 11 refl h.0)
-  of_records (Some rows) are_rows h = of_rows rows are_rows (market_of rows) refl h
-
-  of_bytes : (large : Bool)
-      → MatchBool large (IsRefusedAlone 10 0 text) (MatchOption (records_of bytes) (IsRefusedAlone 11 0 text) (IsAnswerOfRows budget 0 text))
-      → IsStableText bytes text
-  of_bytes true h = absurd (not_zero 10 refl h.0)
-  of_bytes false h = of_records (records_of bytes) refl h
+  of_bytes (Ok r) is_market h = of_stage r is_market h.best h.is_best (stage r.market h.best budget) refl h.ends
+  of_bytes (Err f) is_fault h = absurd ((market_fault bytes f is_fault).some (sym h.same_code))
 
 pub published_is_stable_lem : PublishedIsStable
-published_is_stable_lem bytes budget text h = of_bytes bytes budget text _ h
+published_is_stable_lem bytes budget text h = of_bytes bytes budget text (market_in bytes) refl h
 
 -- the answer to a file that no couple enters is published
 published_alone : (bytes : List ℕ) (budget code : ℕ) (text : List ℕ) → HasNoCouple bytes → IsAnswer bytes budget code text → code ≡ 0
 published_alone bytes budget code text h a =
-    let few : nat_lt most_bytes (length bytes) ≡ false = grind (arith, nat_tests, h.few) in
-    let read : records_of bytes ≡ Some h.of_bytes.0 = h.of_bytes.1 in
-    let taken : market_of h.of_bytes.0 ≡ Ok h.registered = h.of_bytes.2 in
-    let here : IsAnswerOfMarket h.registered budget code text = rw (few, read, taken) at a in
+    let is_market : market_in bytes ≡ Ok h.registered = h.of_bytes in
+    let here : IsAnswerOfMarket h.registered budget code text = rw is_market at a in
     (rw (stage_of_singles h.registered.market here.best budget h.none) at here.ends).0
 
 -- so a run of such a file refuses for want of memory, or a failed read, alone
 pub publishes_singles : (left : Option (List ℕ)) (budget code : ℕ) (text : List ℕ)
     → (code ≢ 30 → code ≢ 31 → IsAnswerTo left budget code text) → PublishesSingles left code
 publishes_singles left budget code text answer bytes same h m r =
-    published_alone bytes budget code text h (subst (λ (x : Option (List ℕ)). IsAnswerTo x budget code text) same (answer m r))
+    let a = answer m r in
+    let are : a.bytes ≡ bytes = subst (λ (x : Option (List ℕ)). IfSome x (λ xs. a.bytes ≡ xs)) same a.are_left in
+    published_alone bytes budget code text h (subst (λ (xs : List ℕ). IsAnswer xs budget code text) are a.is_so)
 
 -- the same of what a reader had left
 pub published_to : (left : Option (List ℕ)) (budget : ℕ) (text : List ℕ) → IsAnswerTo left budget 0 text → IsStableTextOf left text
-published_to (Some bytes) budget text h = published_is_stable_lem bytes budget text h
-published_to None budget text h = (h.0, published_is_stable_lem h.0 budget text h.1)
+published_to left budget text h = of_left left (λ bytes a. published_is_stable_lem bytes budget text a) h
 
 -- the first byte of the word after the second comma tells them apart
 pub published_is_no_refusal_lem : PublishedIsNoRefusal

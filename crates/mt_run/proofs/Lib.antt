@@ -2,4 +2,3 @@ pub mod AnswerLemmas
 pub mod ExampleLemmas
 pub mod FaultFacts
 pub mod HeadlineLemmas
-pub mod LargeFacts

@@ -4,7 +4,7 @@ use Rattle.mt_terms.specs.Examples.Markets.{crossed}
 use Rattle.mt_terms.specs.Market.{Registered}
 use Rattle.mt_terms.specs.Text.{published}
 use Rattle.mt_run.specs.Answer.{IsAnswer}
-use Rattle.mt_run.specs.Headline.{IsMarketOf}
+use Rattle.mt_input.specs.Files.{IsMarketOf}
 
 -- Two programs and two applicants of crossed wishes.
 --     program,P1,1,a2,a1    program,P2,1,a1,a2    applicant,a1,P1,P2    applicant,a2,P2,P1

@@ -1,17 +1,13 @@
 -- The headline in its own words: what a published text is, by the lists in the bytes.
-use Rattle.std.specs.Prelude.{◌≡◌, ℕ, List, [], Option, None, Some, Ok, IsTrue, IsFalse}
-use Rattle.mt_lists.specs.Records.{records_of}
+use Rattle.std.specs.Prelude.{◌≡◌, ℕ, List, [], Option, IsTrue, IsFalse}
 use Rattle.mt_terms.specs.Best.{better_programs}
 use Rattle.mt_terms.specs.Matching.{FillsAlike, Places, at}
 use Rattle.mt_terms.specs.Lists.{has}
 use Rattle.mt_terms.specs.Market.{Market, Registered}
-use Rattle.mt_terms.specs.Registration.{market_of}
 use Rattle.mt_terms.specs.Stability.{stable}
 use Rattle.mt_terms.specs.Text.{IsNamedRefusal, published, refused}
-
--- the bytes are a file with this market
-abbrev pub IsMarketOf : List ℕ → Registered → Type 0
-IsMarketOf bytes r = (rows : List (List (List ℕ))) × (records_of bytes ≡ Some rows) × (market_of rows ≡ Ok r)
+use Rattle.mt_input.specs.Files.{IsMarketOf}
+use Rattle.mt_input.specs.Left.{OfLeft}
 
 -- a match gives each applicant at least what another one gives it: nobody wants its place there more
 abbrev pub GivesAtLeast : Market → Places → Places → Type 0
@@ -36,8 +32,7 @@ pub record IsStableText (bytes text : List ℕ) : Type 0 where
 
 -- the same of the bytes that a reader had left, or of some bytes if it doesn't tell them
 abbrev pub IsStableTextOf : Option (List ℕ) → List ℕ → Type 0
-IsStableTextOf (Some bytes) text = IsStableText bytes text
-IsStableTextOf None text = (bytes : List ℕ) × IsStableText bytes text
+IsStableTextOf left text = OfLeft left (λ bytes. IsStableText bytes text)
 
 -- one named refusal line: it names no record and no id if the code is no fault of a file
 pub record IsRefusal (code : ℕ) (text : List ℕ) : Type 0 where

@@ -1,4 +1,3 @@
-pub mod Status
 pub mod Headline
 pub mod Answer
 pub mod Laws

@@ -1,16 +1,12 @@
--- What the end of a step of a run is for a market, or for a file's records, or for its bytes: a text, or a refusal.
-use Rattle.std.specs.Prelude.{◌≡◌, ◌≢◌, ◌≤◌, ℕ, List, [], length, Result, Ok, Err, Option, Some}
+-- What the end of a run's step is for the bytes that were left, if it is a refusal.
+use Rattle.std.specs.Prelude.{◌≡◌, ◌≢◌, ℕ, List, [], Option, Some}
 use Rattle.mt_terms.specs.Text.{IsNamedRefusal}
 use Rattle.mt_terms.specs.declared.codes.TheConstants.{OUT_OF_MEMORY, READ_FAULT}
+use Rattle.mt_terms.specs.declared.refusal.Refusal.{Refusal}
 use Rattle.mt_terms.specs.Market.{Registered}
 use Rattle.mt_answer.specs.Refusals.{line_of}
-use Rattle.mt_run.specs.Answer.{IsAnswerTo, IsRosterOf, most_bytes}
-use Rattle.mt_terms.specs.declared.refusal.Refusal.{Refusal}
-
--- the code with which a step ends
-abbrev pub code_of : {X : Type 0} → Result X Refusal → ℕ
-code_of (Ok x) = 0
-code_of (Err e) = e.code
+use Rattle.mt_input.specs.Files.{IsMarketOf}
+use Rattle.mt_run.specs.Answer.{IsAnswerTo}
 
 -- A named refusal, which is the answer to the bytes that were there to read, but for want of memory
 -- and a read that failed.
@@ -20,9 +16,8 @@ pub record IsRefusalTo (left : Option (List ℕ)) (budget : ℕ) (e : Refusal) :
 
 -- the bytes are a file, and no couple enters its market
 pub record HasNoCouple (bytes : List ℕ) : Type 0 where
-  pub few : length bytes ≤ most_bytes
   pub registered : Registered
-  pub of_bytes : IsRosterOf bytes registered
+  pub of_bytes : IsMarketOf bytes registered
   pub none : registered.market.couples ≡ []
 
 -- If a reader had such bytes left, a run that ends with this code refused for want of memory or a failed read, or not

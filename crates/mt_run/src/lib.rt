@@ -1,10 +1,9 @@
 //! The whole run: bytes in, the text of a match or one refusal line out.
 #![tactic(auto)]
 
-mod ended;
 pub mod laws;
-mod whole;
+mod run;
 
-pub use ended::Ended;
+pub use mt_report::Ended;
 pub use mt_terms::Options;
-pub use whole::run;
+pub use run::run;
