@@ -11,16 +11,16 @@ use Rattle.mt_terms.specs.declared.verdict.Verdict.TheVariants.{Stable}
 use Rattle.mt_answer.specs.Answer.{all_proposals}
 use Rattle.mt_answer.proofs.MatchFacts.{stable_are_places}
 use Rattle.mt_verdict_laws.proofs.VerdictLemmas.{stable_verdict_lem}
-use Rattle.mt_match_file.specs.Told.{Told}
+use Rattle.mt_match_file.specs.Submitted.{Submitted}
 use Rattle.mt_check.specs.Answer.{answer_to}
-use Rattle.mt_check.specs.Headline.{market_in, most_bytes, told_in}
+use Rattle.mt_check.specs.Headline.{market_in, most_bytes, submitted_in}
 use Rattle.mt_check.specs.Text.{stable_line}
 use Rattle.mt_answer_laws.specs.Laws.{PublishedIsCalledStable, PublishedIsReadBack}
 use Rattle.mt_answer_laws.proofs.Bounds.{is_tellable, text_short}
 use Rattle.mt_answer_laws.proofs.LineTexts.{rows_of_text, text_of}
 use Rattle.mt_answer_laws.proofs.PublishedFacts.{PublishedOf, published_of}
 use Rattle.mt_answer_laws.proofs.PublishedRows.{IsTellable, published_is_text, published_rows, rows_plain}
-use Rattle.mt_answer_laws.proofs.ToldBack.{none_differs, published_counts, told_back}
+use Rattle.mt_answer_laws.proofs.ReadBackFacts.{none_differs, published_counts, read_back}
 
 records_back : (m : Market) (names : Names) (places : Places) (received : List ℕ) → IsTellable m names places received
     → records_of (published m names places received) ≡ Some (published_rows m names places received)
@@ -29,8 +29,8 @@ records_back m names places received t =
     ap Some (ap lists.rows_of (published_is_text m names places received) ∙ rows_of_text (published_rows m names places received) (rows_plain m names places received t))
 
 module _ (bytes text : List ℕ) (p : PublishedOf bytes text) where
-  abbrev told_is : Told
-  told_is = record { places = p.places; counts = published_counts p.registered.market p.places }
+  abbrev submitted_is : Submitted
+  submitted_is = record { places = p.places; counts = published_counts p.registered.market p.places }
 
   tellable : IsTellable p.registered.market p.registered.names p.places (all_proposals p.registered p.best)
   tellable = is_tellable p.registered p.registration p.best p.places (stable_are_places p.registered.market p.registration.well_formed p.places p.is_stable)
@@ -47,11 +47,11 @@ module _ (bytes text : List ℕ) (p : PublishedOf bytes text) where
   pub of_market : market_in bytes ≡ Ok p.registered
   of_market = rw (p.few, p.are_rows, p.is_market) refl
 
-  pub of_match : told_in p.registered text ≡ Ok told_is
+  pub of_match : submitted_in p.registered text ≡ Ok submitted_is
   of_match =
       let rows = ap records_of p.is_text ∙ records_back p.registered.market p.registered.names p.places (all_proposals p.registered p.best) tellable in
       rw (short, rows)
-      (told_back p.registered.market p.registered.names p.places (all_proposals p.registered p.best) tellable
+      (read_back p.registered.market p.registered.names p.places (all_proposals p.registered p.best) tellable
       p.registration.applicant_names.differ p.registration.program_names.differ)
 
   pub called_stable : answer_to bytes text ≡ record { code = 0; text = stable_line }
@@ -73,7 +73,7 @@ published_is_read_back_lem bytes budget text h =
       received = all_proposals p.registered p.best;
       is_text = p.is_text;
       is_stable = p.is_stable;
-      told = told_is bytes text p;
+      submitted = submitted_is bytes text p;
       of_text = of_match bytes text p;
       same_places = refl;
     }

@@ -22,8 +22,8 @@ use Rattle.mt_terms.specs.Registration.Records.{ApplicantRecord, ProgramRecord, 
 use Rattle.mt_terms.specs.Text.{name_of}
 use Rattle.mt_stability_laws.proofs.ExclusionLemmas.{best_is_at_least_lem}
 use Rattle.mt_file_laws.specs.Faultless.{draft, drafts}
-use Rattle.mt_check.specs.Headline.{market_in, most_bytes, told_in}
-use Rattle.mt_match_file.specs.Told.{Told}
+use Rattle.mt_check.specs.Headline.{market_in, most_bytes, submitted_in}
+use Rattle.mt_match_file.specs.Submitted.{Submitted}
 use Rattle.mt_applicant_laws.specs.Changes.{HasAtLeast, with_list}
 use Rattle.mt_applicant_laws.proofs.EasierMarkets.{more_posts_hurt_none_lem, one_less_hurts_no_other_lem}
 use Rattle.mt_applicant_laws.proofs.ListChanges.{no_stable_match_gives_more_lem}
@@ -46,12 +46,12 @@ pub accepted : (bytes : List ℕ) (r : Registered) (places : Places) (rows : Lis
 accepted bytes r places rows are h =
     let p = published_of bytes h.budget h.text h.is_answer in
     let market : market_in bytes ≡ Ok p.registered = of_market bytes h.text p in
-    let tells : told_in p.registered h.text ≡ Ok (record { places = p.places; counts = published_counts p.registered.market p.places }) = of_match bytes h.text p in
+    let tells : submitted_in p.registered h.text ≡ Ok (record { places = p.places; counts = published_counts p.registered.market p.places }) = of_match bytes h.text p in
     let same : p.registered ≡ r = cc (h.of_bytes) in
     let same_rows : p.rows ≡ rows = cc (p.are_rows) in
-    let of_text : told_in p.registered h.text ≡ Ok (record { places = places; counts = h.counts }) = ap (λ (q : Registered). told_in q h.text) same ∙ h.of_text in
-    let both : ◌≡◌ {A = Told} (record { places = p.places; counts = published_counts p.registered.market p.places }) (record { places = places; counts = h.counts }) = cc in
-    let same_places : p.places ≡ places = ap (λ (told : Told). told.places) both in
+    let of_text : submitted_in p.registered h.text ≡ Ok (record { places = places; counts = h.counts }) = ap (λ (q : Registered). submitted_in q h.text) same ∙ h.of_text in
+    let both : ◌≡◌ {A = Submitted} (record { places = p.places; counts = published_counts p.registered.market p.places }) (record { places = places; counts = h.counts }) = cc in
+    let same_places : p.places ≡ places = ap (λ (submitted : Submitted). submitted.places) both in
     record {
       is_market = sym (ap market_of same_rows) ∙ p.is_market ∙ ap Ok same;
       registration = subst IsRegistration same p.registration;
@@ -188,9 +188,9 @@ called : (bytes : List ℕ) (r : Registered) (places : Places) (rows : List (Lis
 called bytes r places rows are h =
     let judged = (answers_are_so_lem bytes h.text 0 stable_line h.is_answer).0 (omega arith) in
     let same : judged.registered ≡ r = cc (judged.of_market, h.of_bytes) in
-    let of_text : told_in judged.registered h.text ≡ Ok (record { places = places; counts = h.counts }) = ap (λ (q : Registered). told_in q h.text) same ∙ h.of_text in
-    let told : ◌≡◌ {A = Told} judged.told (record { places = places; counts = h.counts }) = cc (judged.of_match) in
-    let same_places : judged.told.places ≡ places = ap (λ (t : Told). t.places) told in
+    let of_text : submitted_in judged.registered h.text ≡ Ok (record { places = places; counts = h.counts }) = ap (λ (q : Registered). submitted_in q h.text) same ∙ h.of_text in
+    let submitted : ◌≡◌ {A = Submitted} judged.submitted (record { places = places; counts = h.counts }) = cc (judged.of_match) in
+    let same_places : judged.submitted.places ≡ places = ap (λ (t : Submitted). t.places) submitted in
     record {
       is_market = by (nat_lt most_bytes (length bytes)) (rw are at h.of_bytes);
       is_stable = subst (λ (q : Registered). IsTrue (stable q.market places)) same (subst (λ (ps : Places). IsTrue (stable judged.registered.market ps)) same_places (judged.stable.0 refl).0);

@@ -1,6 +1,6 @@
 pub mod LineTexts
 pub mod PublishedRows
-pub mod ToldBack
+pub mod ReadBackFacts
 pub mod Bounds
 pub mod PublishedFacts
 pub mod CalledStable

@@ -15,7 +15,7 @@ use Rattle.mt_run.proofs.HeadlineLemmas.{stage_of_singles}
 use Rattle.mt_answer_laws.specs.TwoFiles.{Publishes}
 use Rattle.mt_answer_laws.proofs.CalledStable.{of_market, of_match}
 use Rattle.mt_answer_laws.proofs.PublishedFacts.{PublishedOf}
-use Rattle.mt_answer_laws.proofs.ToldBack.{published_counts}
+use Rattle.mt_answer_laws.proofs.ReadBackFacts.{published_counts}
 
 module _ (bytes : List ℕ) (rows : List (List (List ℕ))) (r : Registered) (best : Places) (few : nat_lt most_bytes (length bytes) ≡ false)
     (are_rows : records_of bytes ≡ Some rows) (is_market : market_of rows ≡ Ok r) (is_best : IsBest r.market best) (none : r.market.couples ≡ []) where

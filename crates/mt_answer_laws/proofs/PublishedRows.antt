@@ -11,7 +11,7 @@ use Rattle.std.proofs.lemmas.Fmt.{decimal_digit, decimal_is_IsNumeral, first_dec
 use Rattle.std.proofs.lemmas.Str.Parse.{digit_from_value}
 use Rattle.std.proofs.lemmas.List.Concat.{flat_map-append}
 use Rattle.std.proofs.lemmas.List.Folds.{flat_map-map, list_all-append}
-use Rattle.mt_match_file.specs.Told.{has_leading_zero, is_number, number}
+use Rattle.mt_match_file.specs.Submitted.{has_leading_zero, is_number, number}
 use Rattle.mt_terms.specs.Lists.{below}
 use Rattle.mt_terms.specs.Market.{Market, Names, applicants, program_of}
 use Rattle.mt_terms.specs.Matching.{Places, filled, place_of}

@@ -4,8 +4,8 @@ use Rattle.mt_terms.specs.Market.{Registered}
 use Rattle.mt_terms.specs.Matching.{Places}
 use Rattle.mt_terms.specs.Stability.{stable}
 use Rattle.mt_terms.specs.Text.{published}
-use Rattle.mt_match_file.specs.Told.{Told}
-use Rattle.mt_check.specs.Headline.{market_in, told_in}
+use Rattle.mt_match_file.specs.Submitted.{Submitted}
+use Rattle.mt_check.specs.Headline.{market_in, submitted_in}
 
 -- A text is that of a stable match of the market in the bytes, and what it tells of that market is that match.
 pub record IsReadBack (bytes text : List ℕ) : Type 0 where
@@ -15,6 +15,6 @@ pub record IsReadBack (bytes text : List ℕ) : Type 0 where
   pub received : List ℕ
   pub is_text : text ≡ published registered.market registered.names places received
   pub is_stable : IsTrue (stable registered.market places)
-  pub told : Told
-  pub of_text : told_in registered text ≡ Ok told
-  pub same_places : told.places ≡ places
+  pub submitted : Submitted
+  pub of_text : submitted_in registered text ≡ Ok submitted
+  pub same_places : submitted.places ≡ places

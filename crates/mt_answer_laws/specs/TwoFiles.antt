@@ -5,9 +5,9 @@ use Rattle.mt_terms.specs.Market.{Registered}
 use Rattle.mt_terms.specs.Matching.{Places}
 use Rattle.mt_terms.specs.Registration.Ids.{Bytes, quota_of}
 use Rattle.mt_run.specs.Answer as run
-use Rattle.mt_match_file.specs.declared.told_match.Counted.{Counted}
+use Rattle.mt_match_file.specs.declared.submitted_match.Counted.{Counted}
 use Rattle.mt_check.specs.Answer as check
-use Rattle.mt_check.specs.Headline.{market_in, told_in}
+use Rattle.mt_check.specs.Headline.{market_in, submitted_in}
 use Rattle.mt_check.specs.Text.{stable_line}
 
 -- the records of two files are the same, but for the list of one applicant's record
@@ -36,7 +36,7 @@ pub record Publishes (bytes : List ℕ) (r : Registered) (places : Places) : Typ
   pub is_answer : run.IsAnswer bytes budget 0 text
   pub of_bytes : market_in bytes ≡ Ok r
   pub counts : List Counted
-  pub of_text : told_in r text ≡ Ok (record { places = places; counts = counts })
+  pub of_text : submitted_in r text ≡ Ok (record { places = places; counts = counts })
 
 -- For the file in some bytes, whose market this is, a text is called stable by the judge, and these are the places
 -- that it tells.
@@ -45,4 +45,4 @@ pub record CalledStable (bytes : List ℕ) (r : Registered) (places : Places) : 
   pub is_answer : check.IsAnswer bytes text 0 stable_line
   pub of_bytes : market_in bytes ≡ Ok r
   pub counts : List Counted
-  pub of_text : told_in r text ≡ Ok (record { places = places; counts = counts })
+  pub of_text : submitted_in r text ≡ Ok (record { places = places; counts = counts })

@@ -2,13 +2,12 @@
 -- and what its words ask for. Three things are `clap`'s own definition of a simple command. `takes` is which words
 -- the command takes. `matches_of` is what it reads of them, defaults included. `fault_of` is how it refuses others.
 -- The command, its limits and its defaults are this project's own.
-use Rattle.std.specs.Prelude.{◌≡◌, ◌≢◌, ◌≤◌, ℕ, Bool, true, List, [], ◌∷◌, Option, Some, ⊤}
-use Rattle.std.specs.Prelude.{option_map, codes, pos, map, String, string_bytes}
-use Rattle.std.specs.Global.{Global}
+use Rattle.std.specs.Prelude.{◌≡◌, ◌≢◌, ◌≤◌, ℕ, Bool, List, [], ◌∷◌, Option, Some, ⊤}
+use Rattle.std.specs.Prelude.{option_map, codes, pos, string_bytes}
 use Rattle.std.specs.Str.Parse.{IsNumeral, digits_value, without_leading_plus}
-use Rattle.clap.specs.Words.{App, Row, Rule, Text, fault_of, first_of, matches_of, new_app}
+use Rattle.clap.specs.Words.{App, Row, Rule, Text, fault_of, first_of, matches_of}
 use Rattle.clap.specs.Words.{new_rule, one_of, takes, with_rule}
-use Rattle.clap.specs.Simple.{on_top}
+use Rattle.mt_program.specs.CommandLine.{plain_app}
 use Rattle.clap.specs.declared.builder.action.ArgAction.TheVariants.{Set}
 use Rattle.clap.specs.declared.builder.value_parser.ValueParser.{ValueParser}
 use Rattle.clap.specs.declared.builder.value_parser.ValueParser.TheVariants.{Signed}
@@ -44,14 +43,9 @@ workers_rule = option_rule (codes "workers") (Signed (pos 1) (pos 64)) (codes "4
 abbrev pub budget_rule : Rule
 budget_rule = option_rule (codes "budget") (Signed (pos 1) (pos 4294967295)) (codes "1000000")
 
--- the command without its arguments, whose words begin after the program's name; `--help`, `-h`, `--version` and `-V` are
--- added by `clap`
-abbrev pub plain : App
-plain = on_top (λ s. record s { no_binary_name = true; has_version = true }) (new_app (codes "nrmatch"))
-
 -- the command: FILE, `--workers` and `--budget`
 abbrev pub nrmatch : App
-nrmatch = with_rule (with_rule (with_rule plain file_rule) workers_rule) budget_rule
+nrmatch = with_rule (with_rule (with_rule (plain_app (codes "nrmatch")) file_rule) workers_rule) budget_rule
 
 -- ---- what the words ask for
 
@@ -92,10 +86,6 @@ abbrev pub IsMisuse : List Text → Type 0
 IsMisuse words = (kind : ErrorKind) × (kind ≢ DisplayHelp) × (kind ≢ DisplayVersion) × (fault_of nrmatch words ≡ kind ∷ [])
 
 -- ---- answers
-
--- the words of a command line, each as its bytes
-abbrev pub texts_of : List (String Global) → List Text
-texts_of = map string_bytes
 
 -- If the answer is a run, P holds of its file and its options. Any other answer meets this.
 abbrev pub IfRun : Asked → (Option Text → Options → Type 0) → Type 0

@@ -1,10 +1,10 @@
 ghost use Rattle.std.specs.Prelude.{◌≡◌, IfOk, false};
 ghost use Rattle.clap.specs.Words.{app_of, rule_of};
-ghost use Rattle.mt_args.specs.CommandLine.{budget_rule, nrmatch, option_rule, plain, workers_rule};
+ghost use Rattle.mt_args.specs.CommandLine.{budget_rule, nrmatch, option_rule, workers_rule};
 
-use crate::version::VERSION;
 use clap::builder::ValueParser;
 use clap::{Arg, ArgAction, Command, value_parser};
+use mt_program::plain_command;
 use std::alloc::{AllocError, Global};
 
 const ABOUT: &str = "\
@@ -70,22 +70,11 @@ fn budget<'a>(alloc: Global) -> Arg<'a>
     option(alloc, "budget", range, "1000000", BUDGET_HELP)
 }
 
-/// The command `nrmatch` with no argument, whose words begin after the program's name.
-fn plain<'a>(alloc: Global) -> Command<'a>
-    ensures { app_of result ≡ plain }
-{
-    Command::new(alloc, "nrmatch")
-        .no_binary_name(true)
-        .version(VERSION)
-        .about(ABOUT)
-        .after_help(EXIT_STATUSES)
-}
-
 /// The command `nrmatch [FILE] [--workers N] [--budget N]`, whose words begin after the program's name.
 pub(crate) fn command<'a>(alloc: Global) -> Result<Command<'a>, AllocError>
     ensures { IfOk result (λ c. app_of c ≡ nrmatch) }
 {
     let file = Arg::new(alloc, "FILE").help(FILE_HELP);
-    let with_file = plain(alloc).arg(file)?;
+    let with_file = plain_command(alloc, "nrmatch", ABOUT, EXIT_STATUSES).arg(file)?;
     with_file.arg(workers(alloc))?.arg(budget(alloc))
 }

@@ -6,7 +6,6 @@ mod command;
 pub mod examples;
 pub mod laws;
 mod parsing;
-mod version;
 
 pub use answer::{AskEnd, Asked};
 pub use parsing::asked;

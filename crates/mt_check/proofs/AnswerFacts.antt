@@ -1,45 +1,35 @@
--- What an answer says.
-use Rattle.std.proofs.Common.{◌≡◌, ℕ, ◌<◌, ◌≤◌, Bool, true, false, List, [], length, Option, None, Some, Result, Ok, Err, refl, sym, ap, ◌∙◌, subst, arith, nat_lt, if◌then◌else◌}
-use Rattle.std.proofs.lemmas.Bool.Decides.{nat_tests}
-use Rattle.mt_lists.specs.Records.{records_of}
+-- What an answer says: the finding is so, or the refusal is named.
+use Rattle.std.proofs.Common.{◌≡◌, ℕ, ◌<◌, ◌≤◌, true, ◌↔◌, List, [], Option, Result, Ok, Err, IfErr, IfOk, refl, sym, ap, ◌∙◌, subst, arith}
 use Rattle.mt_terms.specs.Market.{Registered}
-use Rattle.mt_terms.specs.Registration.{market_of}
-use Rattle.mt_terms.specs.Registration.Faults.{Fault, record_fault_alone, fault_at}
-use Rattle.mt_terms.specs.Registration.Ids.{Bytes}
-use Rattle.mt_file_laws.proofs.PassFacts.{accepted_is_registration_lem}
-use Rattle.mt_match_file.specs.Told.{Told, told_by}
+use Rattle.mt_terms.specs.Registration.Faults.{Fault}
+use Rattle.mt_match_file.specs.Submitted.{Submitted, submitted_by}
 use Rattle.mt_match_file.proofs.PlaceFacts.{tells_places_lem}
-use Rattle.mt_check.specs.Answer.{Answer, AreLeft, IsAnswer, OfLeft, fault_answer, finding_answer, finding_code, market_answer, told_answer}
-use Rattle.mt_check.specs.Ends.{IsRefused}
+use Rattle.mt_input.specs.Files.{market_in}
+use Rattle.mt_input.proofs.FileFacts.{rows_in}
+use Rattle.mt_input.proofs.LeftFacts.{of_left}
+use Rattle.mt_input.proofs.MarketFacts.{registration_of}
+use Rattle.mt_input.specs.Refusals.{fault_of}
+use Rattle.mt_files.specs.Files.{files_by, files_in, submitted_in, with_match}
+use Rattle.mt_files.specs.Refusals.{AreFilesIn, IsInTurn, IsNamedRefusalOf, IsRefused, OfBoth, end_code}
+use Rattle.mt_files.specs.declared.files.Files.{Files}
+use Rattle.mt_files.specs.declared.refused.Refused.{Refused}
+use Rattle.mt_files.specs.declared.source.Source.{Source}
+use Rattle.mt_files.specs.declared.source.Source.TheVariants.{Market, Match}
+use Rattle.mt_files.proofs.FileFacts.{market_there}
+use Rattle.mt_files.proofs.NameFacts.{alone_named, codes_large, market_named, match_named}
+use Rattle.mt_check.specs.declared.found.Found.{Found}
+use Rattle.mt_check.specs.Answer.{Answer, IsAnswer, answer_of, answer_seen, fault_answer, finding_answer, finding_code}
 use Rattle.mt_check.specs.Findings.{finding_of}
-use Rattle.mt_check.specs.Refusals.{IsRefusalOf, LeftIs}
-use Rattle.mt_terms.specs.declared.refusal.Refusal.{Refusal}
-use Rattle.mt_check.specs.Headline.{IsJudged, IsNamedRefusal, IsRefusal, by_records, market_in, most_bytes, of_bytes, told_in}
+use Rattle.mt_check.specs.Headline.{IsJudged, IsRefusal}
 use Rattle.mt_check.specs.Laws.{AnswersAreSo}
-use Rattle.mt_check.specs.Text.{finding_line, is_code_of, refused_line}
-use Rattle.mt_check.specs.declared.source.Source.{Source}
-use Rattle.mt_check.specs.declared.source.Source.TheVariants.{Market, Match}
-use Rattle.mt_check.proofs.FaultFacts.{bytes_named, market_named, match_named}
+use Rattle.mt_check.specs.Text.{finding_line, refused_line}
 use Rattle.mt_check.proofs.FindingFacts.{code_small, finding_says, stable_ends, stable_line_is}
-
--- what the bytes of a file are, their records are
-rows_in : {X : Type 0} (of_rows : List (List Bytes) → Result X Fault) (bytes : List ℕ) (x : X) → of_bytes of_rows bytes ≡ Ok x → (rows : List (List Bytes)) × (of_rows rows ≡ Ok x)
-rows_in {X} of_rows bytes x h = by (nat_lt most_bytes (length bytes)) (records_of bytes) h
-  where
-    by : (b : Bool) (o : Option (List (List Bytes))) → (if b then Err (fault_at 0 (record_fault_alone 10)) else by_records of_rows o) ≡ Ok x → (rows : List (List Bytes)) × (of_rows rows ≡ Ok x)
-    by true o k = cc
-    by false None k = cc
-    by false (Some rows) k = (rows, k)
-
-pub codes_large : (file : Source) (code : ℕ) → is_code_of file code ≡ true → 1 < code
-codes_large Market code h = grind (arith, nat_tests)
-codes_large Match code h = grind (arith, nat_tests)
 
 module _ (market_bytes match_bytes : List ℕ) (code : ℕ) (text : List ℕ) where
   IsSo : Type 0
   IsSo = (code ≤ 1 → IsJudged market_bytes match_bytes code text) × (1 < code → IsRefusal code text)
 
-  refused : (file : Source) (f : Fault) → IsNamedRefusal file f.code f.row f.id → fault_answer file f ≡ record { code = code; text = text } → IsSo
+  refused : (file : Source) (f : Fault) → IsNamedRefusalOf file f.code f.row f.id → fault_answer file f ≡ record { code = code; text = text } → IsSo
   unfolding IsSo
   refused file f named is =
       let same : f.code ≡ code = ap (λ (a : Answer). a.code) is in
@@ -49,101 +39,98 @@ module _ (market_bytes match_bytes : List ℕ) (code : ℕ) (text : List ℕ) wh
           file = file;
           row = f.row;
           id = f.id;
-          named = subst (λ c. IsNamedRefusal file c f.row f.id) same named;
+          named = subst (λ c. IsNamedRefusalOf file c f.row f.id) same named;
           line = sym (ap (λ (a : Answer). a.text) is) ∙ ap (λ c. refused_line file c f.row f.id) same;
         },
       )
 
-  judged : (r : Registered) (told : Told) → market_in market_bytes ≡ Ok r → told_in r match_bytes ≡ Ok told
-      → finding_answer r (finding_of r.market told) ≡ record { code = code; text = text } → IsSo
+  judged : (r : Registered) (submitted : Submitted) → market_in market_bytes ≡ Ok r → submitted_in r match_bytes ≡ Ok submitted
+      → finding_answer r (finding_of r.market submitted) ≡ record { code = code; text = text } → IsSo
   unfolding IsSo
-  judged r told of_market of_match is =
-      let market_rows = rows_in market_of market_bytes r of_market in
-      let match_rows = rows_in (told_by r) match_bytes told of_match in
-      let registration = accepted_is_registration_lem market_rows.0 r market_rows.1 in
-      let places = tells_places_lem r registration match_rows.0 told match_rows.1 in
-      let same : finding_code (finding_of r.market told) ≡ code = ap (λ (a : Answer). a.code) is in
-      let is_line : text ≡ finding_line r (finding_of r.market told) = sym (ap (λ (a : Answer). a.text) is) in
-      let line = stable_line_is r registration.well_formed told places.one_each in
-      let ends = stable_ends r (finding_of r.market told) in
-      let small = code_small (finding_of r.market told) in (
+  judged r submitted of_market of_match is =
+      let match_rows = rows_in (submitted_by r) match_bytes submitted of_match in
+      let registration = registration_of market_bytes r of_market in
+      let places = tells_places_lem r registration match_rows.0 submitted match_rows.2 in
+      let same : finding_code (finding_of r.market submitted) ≡ code = ap (λ (a : Answer). a.code) is in
+      let is_line : text ≡ finding_line r (finding_of r.market submitted) = sym (ap (λ (a : Answer). a.text) is) in
+      let line = stable_line_is r registration.well_formed submitted places.one_each in
+      let ends = stable_ends r (finding_of r.market submitted) in
+      let small = code_small (finding_of r.market submitted) in (
         λ _. record {
           registered = r;
           of_market = of_market;
-          told = told;
+          submitted = submitted;
           of_match = of_match;
-          finding = finding_of r.market told;
+          finding = finding_of r.market submitted;
           is_text = is_line;
-          is_so = finding_says r.market registration.well_formed told places.one_each;
+          is_so = finding_says r.market registration.well_formed submitted places.one_each;
           stable = (λ stable. line.0 (sym is_line ∙ stable), λ both. is_line ∙ line.1 both);
           ends = (λ none. is_line ∙ ends.0 (same ∙ none), λ stable. sym same ∙ ends.1 (sym is_line ∙ stable));
         },
         λ large. absurd (omega arith),
       )
 
-  of_told : (r : Registered) → market_in market_bytes ≡ Ok r → (told : Result Told Fault) → told_in r match_bytes ≡ told → told_answer r told ≡ record { code = code; text = text } → IsSo
-  of_told r of_market (Ok told) of_match is = judged r told of_market of_match is
-  of_told r of_market (Err f) of_match is = refused Match f (bytes_named Match (told_by r) refl refl (match_named r) match_bytes f of_match) is
+  of_match : (r : Registered) → market_in market_bytes ≡ Ok r → (s : Result Submitted Fault) → submitted_in r match_bytes ≡ s
+      → answer_of (with_match r s) ≡ record { code = code; text = text } → IsSo
+  of_match r of_market (Ok submitted) of_match is = judged r submitted of_market of_match is
+  of_match r of_market (Err f) of_match is = refused Match f (match_named r match_bytes f of_match) is
 
-  of_the_market : (market : Result Registered Fault) → market_in market_bytes ≡ market → market_answer market match_bytes ≡ record { code = code; text = text } → IsSo
-  of_the_market (Ok r) of_market is = of_told r of_market (told_in r match_bytes) refl is
-  of_the_market (Err f) of_market is = refused Market f (bytes_named Market market_of refl refl market_named market_bytes f of_market) is
+  of_the_market : (market : Result Registered Fault) → market_in market_bytes ≡ market → answer_of (files_by market match_bytes) ≡ record { code = code; text = text } → IsSo
+  of_the_market (Ok r) of_market is = of_match r of_market (submitted_in r match_bytes) refl is
+  of_the_market (Err f) of_market is = refused Market f (market_named market_bytes f of_market) is
 
 pub answers_are_so_lem : AnswersAreSo
 unfolding IsSo
 answers_are_so_lem market_bytes match_bytes code text h = of_the_market market_bytes match_bytes code text (market_in market_bytes) refl h
 
+-- what is so of all bytes of two files is so of what two readers had left
+pub of_both : {P Q : List ℕ → List ℕ → Type 0} (market matched : Option (List ℕ)) → ((xs ys : List ℕ) → P xs ys → Q xs ys) → OfBoth market matched P → OfBoth market matched Q
+of_both market matched next h = of_left market (λ xs inner. of_left matched (λ ys is. next xs ys is) inner) h
+
 -- so the answer to what two readers had left says what is so of that
-pub judged_left : (market told : Option (List ℕ)) (code : ℕ) (text : List ℕ) → code ≤ 1 → OfLeft IsAnswer market told code text → OfLeft IsJudged market told code text
-judged_left market told code text small h = record {
-  market_bytes = h.market_bytes;
-  market_left = h.market_left;
-  match_bytes = h.match_bytes;
-  match_left = h.match_left;
-  is_so = (answers_are_so_lem h.market_bytes h.match_bytes code text h.is_so).0 small;
-}
+pub judged_left : (market matched : Option (List ℕ)) (code : ℕ) (text : List ℕ) → code ≤ 1 → OfBoth market matched (λ xs ys. IsAnswer xs ys code text)
+    → OfBoth market matched (λ xs ys. IsJudged xs ys code text)
+judged_left market matched code text small h = of_both market matched (λ xs ys is. (answers_are_so_lem xs ys code text is).0 small) h
 
--- some bytes that a reader may have had left
-pub some_left : (left : Option (List ℕ)) → (bytes : List ℕ) × AreLeft left bytes
-some_left None = ([], tt)
-some_left (Some bytes) = (bytes, refl)
+-- ---- what was read, and what was found of it
 
-module _ (market told : Option (List ℕ)) where
-  pub found_left : (r : Registered) (a : Answer) → LeftIs market market_in (Ok r) → LeftIs told (λ bytes. told_answer r (told_in r bytes)) a → OfLeft IsAnswer market told a.code a.text
-  found_left r a of_market of_match = record {
-    market_bytes = of_market.bytes;
-    market_left = of_market.are_left;
-    match_bytes = of_match.bytes;
-    match_left = of_match.are_left;
-    is_so = ap (λ (x : Result Registered Fault). market_answer x of_match.bytes) of_market.it_is ∙ of_match.it_is;
-  }
+module _ (market matched : Option (List ℕ)) (files : Files) (are : AreFilesIn market matched files) where
+  pub found_there : (result : Result Found Refused)
+      → IfOk result (λ found. answer_seen found ≡ finding_answer files.roster (finding_of files.roster.market files.submitted))
+      → IfOk result (λ found. OfBoth market matched (λ xs ys. IsAnswer xs ys found.code found.text.items))
+  found_there (Ok found) h = of_both market matched (λ xs ys is. ap answer_of is ∙ sym h) are
+  found_there (Err e) h = tt
 
-  -- and so is a refusal of either file
-  pub market_refused : (e : Refusal) → IsRefusalOf Market market market_in e → IsRefused market told (record { source = Market; refusal = e })
-  market_refused e h = record {
-    named = h.named;
-    answer = λ m r.
-        let f = h.fault m r in
-        let some = some_left told in
-        record {
-          market_bytes = f.bytes;
-          market_left = f.are_left;
-          match_bytes = some.0;
-          match_left = some.1;
-          is_so = ap (λ (x : Result Registered Fault). market_answer x some.0) f.it_is;
-        };
-  }
+  pub match_in_turn : (reads : ℕ) (result : Result Found Refused) → IfErr result (λ e. e.source ≡ Match) → IfErr result (λ e. IsInTurn market reads e.source)
+  match_in_turn reads (Ok found) file = tt
+  match_in_turn reads (Err e) file =
+      subst (IsInTurn market reads) (sym file)
+      (of_left market (λ xs inner. (files.roster, market_there xs inner.bytes files.roster files.submitted inner.is_so)) are)
 
-  pub match_refused : (r : Registered) (e : Refusal) → LeftIs market market_in (Ok r) → IsRefusalOf Match told (told_in r) e → IsRefused market told (record { source = Match; refusal = e })
-  match_refused r e of_market h = record {
-    named = h.named;
-    answer = λ m reads.
-        let f = h.fault m reads in
-        record {
-          market_bytes = of_market.bytes;
-          market_left = of_market.are_left;
-          match_bytes = f.bytes;
-          match_left = f.are_left;
-          is_so = ap (λ (x : Result Registered Fault). market_answer x f.bytes) of_market.it_is ∙ ap (told_answer r) f.it_is;
-        };
-  }
+-- want of memory, which the line says of the match
+abbrev IsMemory : Refused → Type 0
+IsMemory e = fault_of e.refusal ≡ record { code = 30; row = 0; id = [] }
+
+pub memory_refused : (market matched : Option (List ℕ)) (result : Result Found Refused) → IfErr result (λ e. e.source ≡ Match) → IfErr result (λ e. IsMemory e)
+    → IfErr result (IsRefused market matched)
+memory_refused market matched (Ok found) file is = tt
+memory_refused market matched (Err e) file is =
+    let code : e.refusal.code ≡ 30 = ap (λ (f : Fault). f.code) is in
+    record {
+      named = subst (λ (s : Source). IsNamedRefusalOf s e.refusal.code e.refusal.row e.refusal.id) (sym file)
+          (subst (λ (f : Fault). IsNamedRefusalOf Match f.code f.row f.id) (sym is) (alone_named Match 30 refl));
+      fault = λ m. absurd (m code);
+    }
+
+pub no_read_fault : (result : Result Found Refused) → IfErr result (λ e. IsMemory e) → end_code result ≡ 31 → ⊥
+no_read_fault (Ok found) is e = omega arith
+no_read_fault (Err e) is read = let code : e.refusal.code ≡ 30 = ap (λ (f : Fault). f.code) is in omega arith
+
+-- no read failed, and the code says so
+pub none_failed : {X : Type 0} (code : ℕ) → ((0 ≡ 31) ↔ X) → (code ≡ 31 → ⊥) → (code ≡ 31) ↔ X
+none_failed code none no = (λ e. absurd (no e), λ x. absurd (omega (arith, none.1 x)))
+
+pub refused_answer : (market matched : Option (List ℕ)) (e : Refused)
+    → OfBoth market matched (λ xs ys. files_in xs ys ≡ Err (e.source, fault_of e.refusal))
+    → OfBoth market matched (λ xs ys. IsAnswer xs ys e.refusal.code (refused_line e.source e.refusal.code e.refusal.row e.refusal.id))
+refused_answer market matched e h = of_both market matched (λ xs ys is. ap answer_of is) h

@@ -3,7 +3,7 @@ use Rattle.std.proofs.Common.{◌≡◌, ℕ, ◌+◌, ◌<◌, true, false, Lis
 use Rattle.std.proofs.lemmas.List.{drop_more}
 use Rattle.mt_terms.specs.Market.{Market}
 use Rattle.mt_terms.specs.Matching.{Places}
-use Rattle.mt_match_file.specs.declared.told_match.Counted.{Counted}
+use Rattle.mt_match_file.specs.declared.submitted_match.Counted.{Counted}
 use Rattle.mt_check.specs.Findings.{first_differing_of, fits_count}
 
 module _ (m : Market) (places : Places) (counts : List Counted) (i : ℕ) (x : Counted) (within : i < length counts) (is : x ≡ get_or counts i x) where

@@ -10,7 +10,7 @@ use Rattle.mt_terms.specs.Verdict.{verdict_of}
 use Rattle.mt_terms.specs.WellFormed.{IsWellFormed}
 use Rattle.mt_terms.specs.declared.verdict.Verdict.{Verdict}
 use Rattle.mt_terms.specs.declared.verdict.Verdict.TheVariants.{Stable, Unlisted, Over, Blocks}
-use Rattle.mt_match_file.specs.Told.{Told}
+use Rattle.mt_match_file.specs.Submitted.{Submitted}
 use Rattle.mt_verdict_laws.specs.Verdict.{VerdictSays}
 use Rattle.mt_verdict_laws.proofs.VerdictLemmas.{stable_verdict_lem, verdict_in_words_lem}
 use Rattle.mt_check.specs.Answer.{finding_code}
@@ -19,25 +19,25 @@ use Rattle.mt_check.specs.Text.{finding_line, stable_line}
 use Rattle.mt_check.specs.declared.finding.Finding.{Finding}
 use Rattle.mt_check.specs.declared.finding.Finding.TheVariants.{Of, Differs}
 
-by_verdict : (m : Market) (told : Told) (v : Verdict) (differing : Option ℕ) → VerdictSays m told.places v → first_differing m told ≡ differing → FindingSays m told (finding_by v differing)
-by_verdict m told Stable None says is = (says, is)
-by_verdict m told Stable (Some row) says is = (says, is)
-by_verdict m told (Unlisted a) differing says is = says
-by_verdict m told (Over p) differing says is = says
-by_verdict m told (Blocks b) differing says is = says
+by_verdict : (m : Market) (submitted : Submitted) (v : Verdict) (differing : Option ℕ) → VerdictSays m submitted.places v → first_differing m submitted ≡ differing → FindingSays m submitted (finding_by v differing)
+by_verdict m submitted Stable None says is = (says, is)
+by_verdict m submitted Stable (Some row) says is = (says, is)
+by_verdict m submitted (Unlisted a) differing says is = says
+by_verdict m submitted (Over p) differing says is = says
+by_verdict m submitted (Blocks b) differing says is = says
 
-pub finding_says : (m : Market) → IsWellFormed m → (told : Told) → length told.places ≡ applicants m → FindingSays m told (finding_of m told)
-finding_says m h told one_each = by_verdict m told (verdict_of m told.places) (first_differing m told) (verdict_in_words_lem m h told.places one_each) refl
+pub finding_says : (m : Market) → IsWellFormed m → (submitted : Submitted) → length submitted.places ≡ applicants m → FindingSays m submitted (finding_of m submitted)
+finding_says m h submitted one_each = by_verdict m submitted (verdict_of m submitted.places) (first_differing m submitted) (verdict_in_words_lem m h submitted.places one_each) refl
 
-says_there : (m : Market) (told : Told) (f : Finding) → FindingSays m told f → IsThere m f
-says_there m told (Of Stable) says = tt
-says_there m told (Of (Unlisted a)) says = says.is_first.within
-says_there m told (Of (Over p)) says = says.is_first.within
-says_there m told (Of (Blocks b)) says = says.with_option.within
-says_there m told (Differs row) says = tt
+says_there : (m : Market) (submitted : Submitted) (f : Finding) → FindingSays m submitted f → IsThere m f
+says_there m submitted (Of Stable) says = tt
+says_there m submitted (Of (Unlisted a)) says = says.is_first.within
+says_there m submitted (Of (Over p)) says = says.is_first.within
+says_there m submitted (Of (Blocks b)) says = says.with_option.within
+says_there m submitted (Differs row) says = tt
 
-pub finding_there : (m : Market) → IsWellFormed m → (told : Told) → length told.places ≡ applicants m → IsThere m (finding_of m told)
-finding_there m h told one_each = says_there m told (finding_of m told) (finding_says m h told one_each)
+pub finding_there : (m : Market) → IsWellFormed m → (submitted : Submitted) → length submitted.places ≡ applicants m → IsThere m (finding_of m submitted)
+finding_there m h submitted one_each = says_there m submitted (finding_of m submitted) (finding_says m h submitted one_each)
 
 pub code_small : (f : Finding) → finding_code f ≤ 1
 code_small (Of Stable) = omega arith
@@ -75,9 +75,9 @@ pub stable_ends : (r : Registered) (f : Finding) → (finding_code f ≡ 0) ↔ 
 stable_ends r f = (λ zero. ap (finding_line r) (zero_is_stable f zero), λ line. ap finding_code (line_is_stable r f line))
 
 -- the line is that of a stable match exactly where the match is stable and its counts fit
-pub stable_line_is : (r : Registered) → IsWellFormed r.market → (told : Told) → length told.places ≡ applicants r.market
-    → (finding_line r (finding_of r.market told) ≡ stable_line) ↔ (IsTrue (stable r.market told.places) × (first_differing r.market told ≡ None))
-stable_line_is r h told one_each = (
-  λ line. subst (λ (f : Finding). FindingSays r.market told f) (line_is_stable r (finding_of r.market told) line) (finding_says r.market h told one_each),
-  λ both. let is : verdict_of r.market told.places ≡ Stable = (stable_verdict_lem r.market h told.places one_each).1 both.0 in rw (is, both.1) refl,
+pub stable_line_is : (r : Registered) → IsWellFormed r.market → (submitted : Submitted) → length submitted.places ≡ applicants r.market
+    → (finding_line r (finding_of r.market submitted) ≡ stable_line) ↔ (IsTrue (stable r.market submitted.places) × (first_differing r.market submitted ≡ None))
+stable_line_is r h submitted one_each = (
+  λ line. subst (λ (f : Finding). FindingSays r.market submitted f) (line_is_stable r (finding_of r.market submitted) line) (finding_says r.market h submitted one_each),
+  λ both. let is : verdict_of r.market submitted.places ≡ Stable = (stable_verdict_lem r.market h submitted.places one_each).1 both.0 in rw (is, both.1) refl,
 )

@@ -1,24 +1,11 @@
--- Lines made piece by piece.
+-- A line of a check, field by field, each after a comma.
 use Rattle.std.proofs.Common.{◌≡◌, ℕ, ◌+◌, ◌<◌, List, [], ◌∷◌, ◌++◌, length, map, take, get_or, Bor, ap, sym, ◌∙◌, append_assoc}
 use Rattle.std.specs.Prelude.{codes}
 use Rattle.std.specs.List.{flat_map, join_with_byte}
 use Rattle.std.proofs.lemmas.Grind.{flat_map-append}
 use Rattle.std.proofs.lemmas.List.{append-nil, map-append, take_more}
 use Rattle.mt_check.specs.Text.{check_line}
-
--- the pieces of a refusal
-pub refusal_pieces : (code name file row id : List ℕ)
-    → (((((((((([] ++ codes "check,1,refused,") ++ code) ++ codes ",") ++ name) ++ codes ",") ++ file) ++ codes ",") ++ row) ++ codes ",") ++ id) ++ codes "\n"
-    ≡ check_line (codes "refused" ∷ code ∷ name ∷ file ∷ row ∷ id ∷ [])
-refusal_pieces code name file row id = simp append_assoc
-
--- a field after a comma
-abbrev pub after_comma : List ℕ → List ℕ
-after_comma field = 44 ∷ field
-
-joined : (x : List ℕ) (xs : List (List ℕ)) → join_with_byte 44 (x ∷ xs) ≡ x ++ flat_map after_comma xs
-joined x [] = sym (append-nil x)
-joined x (y ∷ ys) = ap (λ rest. x ++ (44 ∷ rest)) (joined y ys)
+use Rattle.mt_report.proofs.LineFacts.{after_comma, joined}
 
 -- a line by its fields, each after a comma
 pub by_commas : (fields : List (List ℕ)) → (codes "check,1" ++ flat_map after_comma fields) ++ 10 ∷ [] ≡ check_line fields

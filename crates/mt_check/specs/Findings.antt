@@ -8,10 +8,10 @@ use Rattle.mt_terms.specs.Verdict.{verdict_of}
 use Rattle.mt_terms.specs.declared.verdict.Verdict.{Verdict}
 use Rattle.mt_terms.specs.declared.verdict.Verdict.TheVariants.{Stable, Unlisted, Over, Blocks}
 use Rattle.mt_verdict_laws.specs.Verdict.{VerdictSays}
-use Rattle.mt_match_file.specs.Told.{Told}
-use Rattle.mt_match_file.specs.declared.told_match.Count.{Count}
-use Rattle.mt_match_file.specs.declared.told_match.Count.TheVariants as count
-use Rattle.mt_match_file.specs.declared.told_match.Counted.{Counted}
+use Rattle.mt_match_file.specs.Submitted.{Submitted}
+use Rattle.mt_match_file.specs.declared.submitted_match.Count.{Count}
+use Rattle.mt_match_file.specs.declared.submitted_match.Count.TheVariants as count
+use Rattle.mt_match_file.specs.declared.submitted_match.Counted.{Counted}
 use Rattle.mt_check.specs.declared.finding.Finding.{Finding}
 use Rattle.mt_check.specs.declared.finding.Finding.TheVariants.{Of, Differs}
 
@@ -26,8 +26,8 @@ fits_count m places (count.Totals all none posts free) =
 abbrev pub first_differing_of : Market → Places → List Counted → Option ℕ
 first_differing_of m places counts = option_map (λ c. Counted.row c) (find (λ c. not (fits_count m places (Counted.count c))) counts)
 
-abbrev pub first_differing : Market → Told → Option ℕ
-first_differing m told = first_differing_of m told.places told.counts
+abbrev pub first_differing : Market → Submitted → Option ℕ
+first_differing m submitted = first_differing_of m submitted.places submitted.counts
 
 -- the finding: the verdict on the places, and if they are stable the first record that has other counts
 abbrev pub finding_by : Verdict → Option ℕ → Finding
@@ -37,19 +37,19 @@ finding_by (Unlisted a) differing = Of (Unlisted a)
 finding_by (Over p) differing = Of (Over p)
 finding_by (Blocks b) differing = Of (Blocks b)
 
-abbrev pub finding_of : Market → Told → Finding
-finding_of m told = finding_by (verdict_of m told.places) (first_differing m told)
+abbrev pub finding_of : Market → Submitted → Finding
+finding_of m submitted = finding_by (verdict_of m submitted.places) (first_differing m submitted)
 
 -- What a finding says. `Of Stable` says that the match is stable and no record has other counts. `Differs` says that
 -- it is stable, and which record is the first with other counts. Each other finding is the verdict: the first place
 -- that isn't allowed, the first program over its quota, or the first agent that blocks. An agent that blocks is named
 -- with its first option that would be taken.
-abbrev pub FindingSays : Market → Told → Finding → Type 0
-FindingSays m told (Of Stable) = IsTrue (stable m told.places) × (first_differing m told ≡ None)
-FindingSays m told (Of (Unlisted a)) = VerdictSays m told.places (Unlisted a)
-FindingSays m told (Of (Over p)) = VerdictSays m told.places (Over p)
-FindingSays m told (Of (Blocks b)) = VerdictSays m told.places (Blocks b)
-FindingSays m told (Differs row) = IsTrue (stable m told.places) × (first_differing m told ≡ Some row)
+abbrev pub FindingSays : Market → Submitted → Finding → Type 0
+FindingSays m submitted (Of Stable) = IsTrue (stable m submitted.places) × (first_differing m submitted ≡ None)
+FindingSays m submitted (Of (Unlisted a)) = VerdictSays m submitted.places (Unlisted a)
+FindingSays m submitted (Of (Over p)) = VerdictSays m submitted.places (Over p)
+FindingSays m submitted (Of (Blocks b)) = VerdictSays m submitted.places (Blocks b)
+FindingSays m submitted (Differs row) = IsTrue (stable m submitted.places) × (first_differing m submitted ≡ Some row)
 
 -- what a finding names is there
 abbrev pub IsThere : Market → Finding → Type 0

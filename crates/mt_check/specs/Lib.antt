@@ -1,9 +1,6 @@
 pub mod Text
-pub mod Status
 pub mod Findings
 pub mod Headline
 pub mod Answer
-pub mod Refusals
-pub mod Ends
 pub mod View
 pub mod Laws

@@ -6,7 +6,7 @@ ghost use Rattle.mt_check.specs.Findings.{first_differing};
 ghost use Rattle.mt_terms.specs.Text.{all_filled, positions, unmatched};
 
 use mt_market::Roster;
-use mt_match_file::{Count, Counted, ToldMatch};
+use mt_match_file::{Count, Counted, SubmittedMatch};
 use mt_report::{filled_counts, filled_total, position_count, unmatched_count};
 use mt_terms::{Match, ProgNo};
 use std::alloc::{AllocError, Global};
@@ -104,11 +104,11 @@ impl<'a> Tally<'a> {
 pub(crate) fn first_differing(
     alloc: Global,
     roster: &Roster,
-    told: &ToldMatch,
+    submitted: &SubmittedMatch,
 ) -> Result<Option<u64>, AllocError>
-    requires { ArePlaces roster.now.market told.now.places }
-    ensures { IfOk result (λ row. row ≡ first_differing roster.now.market told.now) }
+    requires { ArePlaces roster.now.market submitted.now.places }
+    ensures { IfOk result (λ row. row ≡ first_differing roster.now.market submitted.now) }
 {
-    let tally = Tally::of(alloc, roster, told.matched())?;
-    Ok(tally.first_differing(told.counts()))
+    let tally = Tally::of(alloc, roster, submitted.matched())?;
+    Ok(tally.first_differing(submitted.counts()))
 }

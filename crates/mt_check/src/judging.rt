@@ -5,7 +5,7 @@ ghost use Rattle.mt_check.specs.Findings.{finding_of};
 use crate::counts::first_differing;
 use crate::finding::Finding;
 use mt_market::Roster;
-use mt_match_file::ToldMatch;
+use mt_match_file::SubmittedMatch;
 use mt_ranks::Ranks;
 use mt_terms::Verdict;
 use mt_verify::verify;
@@ -17,16 +17,16 @@ pub(crate) fn judge<T: Threads + Sync>(
     rt: &T,
     alloc: Global,
     roster: &Roster,
-    told: &ToldMatch,
+    submitted: &SubmittedMatch,
 ) -> Result<Finding, AllocError>
-    requires { ArePlaces roster.now.market told.now.places }
-    ensures { IfOk result (λ finding. finding ≡ finding_of roster.now.market told.now) }
+    requires { ArePlaces roster.now.market submitted.now.places }
+    ensures { IfOk result (λ finding. finding ≡ finding_of roster.now.market submitted.now) }
 {
     roster.is_of_a_file();
     let ranks = Ranks::build(rt, alloc, roster)?;
-    let verdict = verify(rt, alloc, roster, &ranks, told.matched())?;
+    let verdict = verify(rt, alloc, roster, &ranks, submitted.matched())?;
     let differing = match verdict {
-        Verdict::Stable => first_differing(alloc, roster, told)?,
+        Verdict::Stable => first_differing(alloc, roster, submitted)?,
         _ => None,
     };
     Ok(match differing {

@@ -1,19 +1,15 @@
 //! Whether a match is stable, whatever program made it: the bytes of a market and of a match in, one line out.
 #![tactic(auto)]
 
-mod checked;
+mod check;
 mod counts;
-mod ends;
 mod finding;
+mod found;
 mod judging;
 pub mod laws;
-mod refusal;
-mod source;
 mod text;
-mod whole;
 
-pub use checked::Checked;
+pub use check::check;
 pub use finding::Finding;
-pub use refusal::{RefusalLine, refused};
-pub use source::Source;
-pub use whole::check;
+pub use mt_files::{Source, refused};
+pub use mt_report::Ended;

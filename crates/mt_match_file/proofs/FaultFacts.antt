@@ -9,10 +9,10 @@ use Rattle.mt_terms.specs.Registration.Ids.{Bytes, is_id}
 use Rattle.mt_terms.specs.Registration.Passes.{Numbered, and_then, at_record, numbered_from}
 use Rattle.mt_terms.specs.Text.{is_none_or_id, name_of}
 use Rattle.mt_match_file.specs.Laws.{FaultsAreNamed, fault_codes}
-use Rattle.mt_match_file.specs.Told.{SoFar, after, all_told, record_fault_at, applicant_line, counts_at, first_unplaced, four_of, head_line, is_number, line_of, match_of, nothing_told, number, place_named, placed_at, program_line, shown, told_by, totals_line, two_of}
+use Rattle.mt_match_file.specs.Submitted.{SoFar, after, all_read, record_fault_at, applicant_line, counts_at, first_unplaced, four_of, head_line, is_number, line_of, match_of, nothing_read, number, place_named, placed_at, program_line, shown, submitted_by, totals_line, two_of}
 use Rattle.mt_match_file.specs.declared.line.Line.{Line}
 use Rattle.mt_match_file.specs.declared.line.Line.TheVariants.{Counts, Head, Place}
-use Rattle.mt_match_file.specs.declared.told_match.Count.TheVariants as count
+use Rattle.mt_match_file.specs.declared.submitted_match.Count.TheVariants as count
 
 -- a result that is no fault, or a fault that is told by its code and an id
 abbrev is_named : ℕ → Bytes → Bool
@@ -94,12 +94,12 @@ module _ (names : Names) (places : List (Option (Option ℕ))) where
       one_of (bytes_eq word (codes "applicant")) (bytes_eq word (codes "program")) (bytes_eq word (codes "totals")) (bytes_eq word (codes "match")) _ _ _ _
       (applicant_named (two_of fields)) (program_named (four_of fields)) (totals_named (four_of fields)) (head_named (two_of fields))
 
-all_named : (names : Names) (before : SoFar) (rows : List (Numbered (List Bytes))) → fault_is_named (all_told names before rows) ≡ true
+all_named : (names : Names) (before : SoFar) (rows : List (Numbered (List Bytes))) → fault_is_named (all_read names before rows) ≡ true
 all_named names before [] = refl
 all_named names before (row ∷ rows) = by (line_of names before.places row.1) (line_named names before.places row.1) (λ l. all_named names (after row.0 before l) rows)
   where
-    by : (o : Result Line RecordFault) → record_fault_is_named o ≡ true → ((l : Line) → fault_is_named (all_told names (after row.0 before l) rows) ≡ true)
-        → fault_is_named (and_then (at_record row.0 (and_then o (λ l. Ok (after row.0 before l)))) (λ s. all_told names s rows)) ≡ true
+    by : (o : Result Line RecordFault) → record_fault_is_named o ≡ true → ((l : Line) → fault_is_named (all_read names (after row.0 before l) rows) ≡ true)
+        → fault_is_named (and_then (at_record row.0 (and_then o (λ l. Ok (after row.0 before l)))) (λ s. all_read names s rows)) ≡ true
     by (Ok l) h rest = rest l
     by (Err c) h rest = h
 
@@ -107,8 +107,8 @@ match_named : (names : Names) (s : SoFar) (o : Option ℕ) → fault_is_named (m
 match_named names s None = refl
 match_named names s (Some a) = rw (shown_is (name_of names.applicants a)) refl
 
-told_named : (r : Registered) (rows : List (List Bytes)) → fault_is_named (told_by r rows) ≡ true
-told_named r rows = by (all_told r.names (nothing_told (applicants r.market)) (numbered_from 1 rows)) (all_named r.names (nothing_told (applicants r.market)) (numbered_from 1 rows))
+told_named : (r : Registered) (rows : List (List Bytes)) → fault_is_named (submitted_by r rows) ≡ true
+told_named r rows = by (all_read r.names (nothing_read (applicants r.market)) (numbered_from 1 rows)) (all_named r.names (nothing_read (applicants r.market)) (numbered_from 1 rows))
   where
     by : (o : Result SoFar Fault) → fault_is_named o ≡ true → fault_is_named (and_then o (λ s. match_of r.names s (first_unplaced s))) ≡ true
     by (Ok s) h = match_named r.names s (first_unplaced s)

@@ -12,10 +12,10 @@ use Rattle.mt_terms.specs.Registration.Faults.{RecordFault, Fault, record_fault_
 use Rattle.mt_terms.specs.Registration.Ids.{Bytes, is_dash}
 use Rattle.mt_terms.specs.Registration.Passes.{Numbered, and_then, at_record, numbered_from}
 use Rattle.mt_match_file.specs.Laws.{TellsPlaces}
-use Rattle.mt_match_file.specs.Told.{SoFar, Told, after, all_told, applicant_line, record_fault_at, counts_at, first_unplaced, four_of, head_line, is_number, line_of, match_of, nothing_told, number, place_named, placed_at, program_line, totals_line, two_of}
+use Rattle.mt_match_file.specs.Submitted.{SoFar, Submitted, after, all_read, applicant_line, record_fault_at, counts_at, first_unplaced, four_of, head_line, is_number, line_of, match_of, nothing_read, number, place_named, placed_at, program_line, totals_line, two_of}
 use Rattle.mt_match_file.specs.declared.line.Line.{Line}
 use Rattle.mt_match_file.specs.declared.line.Line.TheVariants.{Counts, Head, Place}
-use Rattle.mt_match_file.specs.declared.told_match.Count.TheVariants as count
+use Rattle.mt_match_file.specs.declared.submitted_match.Count.TheVariants as count
 use Rattle.mt_ids.proofs.IdFacts.{found_below}
 
 -- what a record tells is of these ids: an applicant, and a place that is a program or none
@@ -37,8 +37,8 @@ abbrev SoFarFits : ℕ → ℕ → Result SoFar Fault → Type 0
 SoFarFits n k (Ok s) = FitsSoFar n k s
 SoFarFits n k (Err f) = Unit {0}
 
-abbrev PlacesFit : Market → Result Told Fault → Type 0
-PlacesFit m (Ok told) = ArePlaces m told.places
+abbrev PlacesFit : Market → Result Submitted Fault → Type 0
+PlacesFit m (Ok submitted) = ArePlaces m submitted.places
 PlacesFit m (Err f) = Unit {0}
 
 named_within : (ids : List Bytes) (field : Bytes) (p : ℕ) → place_named ids field ≡ Some (Some p) → p < length ids
@@ -132,17 +132,17 @@ after_fits names row s (Place a place) h fits =
     }
 
 all_fit : (names : Names) (s : SoFar) (rows : List (Numbered (List Bytes))) → FitsSoFar (length names.applicants) (length names.programs) s
-    → SoFarFits (length names.applicants) (length names.programs) (all_told names s rows)
+    → SoFarFits (length names.applicants) (length names.programs) (all_read names s rows)
 all_fit names s [] h = h
 all_fit names s (row ∷ rows) h = by (line_of names s.places row.1) (line_fits names s.places row.1) (λ l fits. all_fit names (after row.0 s l) rows (after_fits names row.0 s l h fits))
   where
     by : (o : Result Line RecordFault) → LineFits names o
-        → ((l : Line) → FitsLine names l → SoFarFits (length names.applicants) (length names.programs) (all_told names (after row.0 s l) rows))
-        → SoFarFits (length names.applicants) (length names.programs) (and_then (at_record row.0 (and_then o (λ l. Ok (after row.0 s l)))) (λ t. all_told names t rows))
+        → ((l : Line) → FitsLine names l → SoFarFits (length names.applicants) (length names.programs) (all_read names (after row.0 s l) rows))
+        → SoFarFits (length names.applicants) (length names.programs) (and_then (at_record row.0 (and_then o (λ l. Ok (after row.0 s l)))) (λ t. all_read names t rows))
     by (Ok l) fits rest = rest l fits
     by (Err c) fits rest = tt
 
-nothing_fits : (n k : ℕ) → FitsSoFar n k (nothing_told n)
+nothing_fits : (n k : ℕ) → FitsSoFar n k (nothing_read n)
 nothing_fits n k = record { one_each = length-replicate n None; within = λ a p is. absurd (not_told (sym (none_at a) ∙ is)) }
   where
     not_told : {p : Option ℕ} → None ≡ Some p → ⊥
@@ -179,14 +179,14 @@ match_fits m names s None h = record { one_each = length-map s.places (λ (place
         h.within a p (is ∙ ap (λ k. Some (Some k)) same)
 
 pub tells_places_lem : TellsPlaces
-tells_places_lem r h rows told is = subst (λ (o : Result Told Fault). PlacesFit r.market o) is (of (all_told r.names (nothing_told (applicants r.market)) (numbered_from 1 rows)) all)
+tells_places_lem r h rows submitted is = subst (λ (o : Result Submitted Fault). PlacesFit r.market o) is (of (all_read r.names (nothing_read (applicants r.market)) (numbered_from 1 rows)) all)
   where
-    all : SoFarFits (applicants r.market) (length r.market.programs) (all_told r.names (nothing_told (applicants r.market)) (numbered_from 1 rows))
+    all : SoFarFits (applicants r.market) (length r.market.programs) (all_read r.names (nothing_read (applicants r.market)) (numbered_from 1 rows))
     all =
-        subst (λ n. SoFarFits n (length r.market.programs) (all_told r.names (nothing_told (applicants r.market)) (numbered_from 1 rows))) h.applicant_names.one_each
-        (subst (λ k. SoFarFits (length r.names.applicants) k (all_told r.names (nothing_told (applicants r.market)) (numbered_from 1 rows))) h.program_names.one_each
-        (all_fit r.names (nothing_told (applicants r.market)) (numbered_from 1 rows)
-        (subst (λ n. FitsSoFar n (length r.names.programs) (nothing_told (applicants r.market))) (sym h.applicant_names.one_each) (nothing_fits (applicants r.market) (length r.names.programs)))))
+        subst (λ n. SoFarFits n (length r.market.programs) (all_read r.names (nothing_read (applicants r.market)) (numbered_from 1 rows))) h.applicant_names.one_each
+        (subst (λ k. SoFarFits (length r.names.applicants) k (all_read r.names (nothing_read (applicants r.market)) (numbered_from 1 rows))) h.program_names.one_each
+        (all_fit r.names (nothing_read (applicants r.market)) (numbered_from 1 rows)
+        (subst (λ n. FitsSoFar n (length r.names.programs) (nothing_read (applicants r.market))) (sym h.applicant_names.one_each) (nothing_fits (applicants r.market) (length r.names.programs)))))
 
     of : (o : Result SoFar Fault) → SoFarFits (applicants r.market) (length r.market.programs) o → PlacesFit r.market (and_then o (λ s. match_of r.names s (first_unplaced s)))
     of (Ok s) fits = match_fits r.market r.names s (first_unplaced s) fits

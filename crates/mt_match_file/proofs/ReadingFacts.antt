@@ -10,7 +10,7 @@ use Rattle.mt_terms.specs.Registration.Ids.{Bytes}
 use Rattle.mt_terms.specs.Registration.Passes.{Numbered, numbered_from}
 use Rattle.mt_match_file.specs.Errors.{IsFault, Tells}
 use Rattle.mt_match_file.specs.Reading.{FitsInto, Gives}
-use Rattle.mt_match_file.specs.Told.{SoFar, Told, after, all_told, first_unplaced, line_of, match_of, nothing_told}
+use Rattle.mt_match_file.specs.Submitted.{SoFar, Submitted, after, all_read, first_unplaced, line_of, match_of, nothing_read}
 use Rattle.mt_match_file.specs.declared.fault.MatchError.{MatchError}
 use Rattle.mt_match_file.specs.declared.fault.MatchError.TheVariants as errors
 use Rattle.mt_match_file.specs.declared.line.Line.{Line}
@@ -30,24 +30,24 @@ line_fits_into r h places fields l n is e =
 
 module _ (names : Names) (old new : SoFar) (n : ℕ) (fields : List Bytes) where
   pub reads_line : (l : Line) → line_of names old.places fields ≡ Ok l → new ≡ after n old l
-      → (rest : List (Numbered (List Bytes))) → all_told names old ((n, fields) ∷ rest) ≡ all_told names new rest
-  reads_line l is told rest = rw is (ap (λ (s : SoFar). all_told names s rest) (sym told))
+      → (rest : List (Numbered (List Bytes))) → all_read names old ((n, fields) ∷ rest) ≡ all_read names new rest
+  reads_line l is submitted rest = rw is (ap (λ (s : SoFar). all_read names s rest) (sym submitted))
 
   pub reads_fault : (c : RecordFault) (e : MatchError) → line_of names old.places fields ≡ Err c → IsFault e (fault_at n c)
-      → (rest : List (Numbered (List Bytes))) → Tells e (all_told names old ((n, fields) ∷ rest))
-  reads_fault c (errors.Fault f) is told rest = rw is (ap Err (sym told))
-  reads_fault c errors.Memory is told rest = absurd told
+      → (rest : List (Numbered (List Bytes))) → Tells e (all_read names old ((n, fields) ∷ rest))
+  reads_fault c (errors.Fault f) is submitted rest = rw is (ap Err (sym submitted))
+  reads_fault c errors.Memory is submitted rest = absurd submitted
 
 -- what is told of all applicants
-pub match_is : (names : Names) (s : SoFar) (o : Option ℕ) (told : Told) → o ≡ None → told.places ≡ map (λ place. unwrap_or place None) s.places → told.counts ≡ s.counts
-    → match_of names s o ≡ Ok told
-match_is names s o told none places counts =
-    let whole : told ≡ record { places = map (λ place. unwrap_or place None) s.places; counts = s.counts } = λ i. record { places = places i; counts = counts i } in
+pub match_is : (names : Names) (s : SoFar) (o : Option ℕ) (submitted : Submitted) → o ≡ None → submitted.places ≡ map (λ place. unwrap_or place None) s.places → submitted.counts ≡ s.counts
+    → match_of names s o ≡ Ok submitted
+match_is names s o submitted none places counts =
+    let whole : submitted ≡ record { places = map (λ place. unwrap_or place None) s.places; counts = s.counts } = λ i. record { places = places i; counts = counts i } in
     ap (match_of names s) none ∙ ap Ok (sym whole)
 
 -- a match that is told has places of the market
 pub places_are : (r : Registered) → IsRegistration r → (rows : List (List Bytes)) (s : SoFar)
-    → all_told r.names (nothing_told (applicants r.market)) (numbered_from 1 rows) ≡ Ok s
-    → (result : Result Told MatchError) → Gives result (match_of r.names s (first_unplaced s)) → IfOk result (λ told. ArePlaces r.market told.places)
-places_are r h rows s is (Ok told) gives = tells_places_lem r h rows told (rw is gives)
+    → all_read r.names (nothing_read (applicants r.market)) (numbered_from 1 rows) ≡ Ok s
+    → (result : Result Submitted MatchError) → Gives result (match_of r.names s (first_unplaced s)) → IfOk result (λ submitted. ArePlaces r.market submitted.places)
+places_are r h rows s is (Ok submitted) gives = tells_places_lem r h rows submitted (rw is gives)
 places_are r h rows s is (Err e) gives = tt

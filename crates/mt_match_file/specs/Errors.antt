@@ -6,8 +6,8 @@ use Rattle.mt_match_file.specs.declared.fault.MatchError.TheVariants as errors
 
 -- a fault is the first one of the records, and want of memory says nothing of them
 abbrev pub Tells : {X : Type 0} → MatchError → Result X Fault → Type 0
-Tells (errors.Fault f) told = told ≡ Err (record { code = f.code; row = f.row; id = f.id })
-Tells errors.Memory told = Unit {0}
+Tells (errors.Fault f) submitted = submitted ≡ Err (record { code = f.code; row = f.row; id = f.id })
+Tells errors.Memory submitted = Unit {0}
 
 -- an error is this fault
 abbrev pub IsFault : MatchError → Fault → Type 0

@@ -5,9 +5,9 @@ use Rattle.mt_terms.specs.Examples.Markets.{crossed}
 use Rattle.mt_terms.specs.Examples.RegistrationText.{file, named}
 use Rattle.mt_terms.specs.Market.{Registered}
 use Rattle.mt_terms.specs.Registration.Faults.{Fault}
-use Rattle.mt_match_file.specs.Told.{Told, told_by}
-use Rattle.mt_match_file.specs.declared.told_match.Count.{Count}
-use Rattle.mt_match_file.specs.declared.told_match.Counted.{Counted}
+use Rattle.mt_match_file.specs.Submitted.{Submitted, submitted_by}
+use Rattle.mt_match_file.specs.declared.submitted_match.Count.{Count}
+use Rattle.mt_match_file.specs.declared.submitted_match.Counted.{Counted}
 
 -- Two programs with one post each, and two applicants of crossed wishes.
 --     program,P1,1,a2,a1    program,P2,1,a1,a2    applicant,a1,P1,P2    applicant,a2,P2,P1
@@ -15,16 +15,16 @@ abbrev pub crossed_market : Registered
 crossed_market = named crossed "P1,P2" "a1,a2" ""
 
 -- what the records of these lines say of it
-abbrev pub told_of : List String → Result Told Fault
-told_of lines = told_by crossed_market (file lines)
+abbrev pub submitted_of : List String → Result Submitted Fault
+submitted_of lines = submitted_by crossed_market (file lines)
 
 -- these places with no counts, and a count of a record
-abbrev pub places_alone : List (Option ℕ) → Result Told Fault
+abbrev pub places_alone : List (Option ℕ) → Result Submitted Fault
 places_alone places = Ok (record { places = places; counts = [] })
 
 abbrev pub counted : ℕ → Count → Counted
 counted n c = record { row = n; count = c }
 
 -- a fault with this code, at this record, with this id
-abbrev pub at_fault : ℕ → ℕ → String → Result Told Fault
+abbrev pub at_fault : ℕ → ℕ → String → Result Submitted Fault
 at_fault code row id = Err (record { code = code; row = row; id = codes id })

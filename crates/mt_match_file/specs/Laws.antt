@@ -7,7 +7,7 @@ use Rattle.mt_terms.specs.Registration.Accepted.{IsRegistration}
 use Rattle.mt_terms.specs.Registration.Faults.{Fault}
 use Rattle.mt_terms.specs.Registration.Ids.{Bytes}
 use Rattle.mt_terms.specs.Text.{is_none_or_id}
-use Rattle.mt_match_file.specs.Told.{Told, told_by}
+use Rattle.mt_match_file.specs.Submitted.{Submitted, submitted_by}
 use Rattle.mt_match_file.specs.declared.codes.TheConstants.{OTHER_RECORD, OTHER_FIELDS, NO_SUCH_APPLICANT, PLACED_TWICE, NO_SUCH_PROGRAM, NOT_PLACED}
 
 -- the codes of the faults of a match
@@ -20,8 +20,8 @@ pub record IsMatchFault (f : Fault) : Type 0 where
   pub is_id : IsTrue (is_none_or_id f.id)
 
 abbrev pub FaultsAreNamed : Type 0
-FaultsAreNamed = (r : Registered) (rows : List (List Bytes)) (f : Fault) → told_by r rows ≡ Err f → IsMatchFault f
+FaultsAreNamed = (r : Registered) (rows : List (List Bytes)) (f : Fault) → submitted_by r rows ≡ Err f → IsMatchFault f
 
 -- a match that is read has one place for each applicant: a program of the market, or none
 abbrev pub TellsPlaces : Type 0
-TellsPlaces = (r : Registered) → IsRegistration r → (rows : List (List Bytes)) (told : Told) → told_by r rows ≡ Ok told → ArePlaces r.market told.places
+TellsPlaces = (r : Registered) → IsRegistration r → (rows : List (List Bytes)) (submitted : Submitted) → submitted_by r rows ≡ Ok submitted → ArePlaces r.market submitted.places

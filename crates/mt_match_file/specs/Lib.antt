@@ -1,4 +1,4 @@
-pub mod Told
+pub mod Submitted
 pub mod Errors
 pub mod View
 pub mod Reading

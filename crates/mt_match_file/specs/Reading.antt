@@ -5,8 +5,8 @@ use Rattle.mt_terms.specs.Registration.Faults.{Fault}
 use Rattle.mt_terms.specs.Registration.Ids.{Bytes}
 use Rattle.mt_terms.specs.Registration.Passes.{Numbered, numbered_from}
 use Rattle.mt_match_file.specs.Errors.{Tells}
-use Rattle.mt_match_file.specs.Told.{SoFar, Told, all_told}
-use Rattle.mt_match_file.specs.View.{told_so_far}
+use Rattle.mt_match_file.specs.Submitted.{SoFar, Submitted, all_read}
+use Rattle.mt_match_file.specs.View.{read_so_far}
 use Rattle.mt_match_file.specs.declared.fault.MatchError.{MatchError}
 use Rattle.mt_match_file.specs.declared.line.Line.{Line}
 use Rattle.mt_match_file.specs.declared.line.Line.TheVariants.{Head, Place, Counts}
@@ -19,22 +19,22 @@ FitsInto n (Place a place) = a < n
 FitsInto n (Counts c) = Unit {0}
 
 -- What a step returned is what the definition gives, unless memory ran out.
-abbrev pub Gives : Result Told MatchError → Result Told Fault → Type 0
-Gives (Ok told) defined = defined ≡ Ok told
+abbrev pub Gives : Result Submitted MatchError → Result Submitted Fault → Type 0
+Gives (Ok submitted) defined = defined ≡ Ok submitted
 Gives (Err e) defined = Tells e defined
 
 -- After a record the reading goes on from what was read up to it, or ends with the fault that was returned, whatever
 -- follows.
 abbrev pub Reads : {Y : Type 0} → Names → SoFar → SoFar → Numbered (List Bytes) → Result Y MatchError → Type 0
-Reads names old new row (Ok _) = (rest : List (Numbered (List Bytes))) → all_told names old (row ∷ rest) ≡ all_told names new rest
-Reads names old new row (Err e) = (rest : List (Numbered (List Bytes))) → Tells e (all_told names old (row ∷ rest))
+Reads names old new row (Ok _) = (rest : List (Numbered (List Bytes))) → all_read names old (row ∷ rest) ≡ all_read names new rest
+Reads names old new row (Err e) = (rest : List (Numbered (List Bytes))) → Tells e (all_read names old (row ∷ rest))
 
 -- The same of a row with this number, which may have no field.
 abbrev pub ReadsRow : {Y : Type 0} → Names → SoFar → SoFar → ℕ → List Bytes → Result Y MatchError → Type 0
-ReadsRow names old new n row (Ok _) = (rest : List (List Bytes)) → all_told names old (numbered_from n (row ∷ rest)) ≡ all_told names new (numbered_from (n + 1) rest)
-ReadsRow names old new n row (Err e) = (rest : List (List Bytes)) → Tells e (all_told names old (numbered_from n (row ∷ rest)))
+ReadsRow names old new n row (Ok _) = (rest : List (List Bytes)) → all_read names old (numbered_from n (row ∷ rest)) ≡ all_read names new (numbered_from (n + 1) rest)
+ReadsRow names old new n row (Err e) = (rest : List (List Bytes)) → Tells e (all_read names old (numbered_from n (row ∷ rest)))
 
 -- What the whole reading gives: the places and counts of this number of applicants, or the first fault.
 abbrev pub GivesSoFar : Result code.SoFar MatchError → Result SoFar Fault → Type 0
-GivesSoFar (Ok s) told = told ≡ Ok (told_so_far s)
-GivesSoFar (Err e) told = Tells e told
+GivesSoFar (Ok s) submitted = submitted ≡ Ok (read_so_far s)
+GivesSoFar (Err e) submitted = Tells e submitted

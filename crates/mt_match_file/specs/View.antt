@@ -2,7 +2,7 @@
 use Rattle.std.specs.Prelude.{Result, Ok, Err}
 use Rattle.mt_terms.specs.Market.{Registered}
 use Rattle.mt_terms.specs.Registration.Faults as faults
-use Rattle.mt_match_file.specs.Told as model
+use Rattle.mt_match_file.specs.Submitted as model
 use Rattle.mt_match_file.specs.declared.fault.RecordFault.{RecordFault}
 use Rattle.mt_match_file.specs.declared.ids.Ids.{Ids}
 use Rattle.mt_match_file.specs.declared.line.Line.{Line}
@@ -20,5 +20,5 @@ abbrev pub line_seen : Result Line RecordFault → Result Line faults.RecordFaul
 line_seen (Ok l) = Ok l
 line_seen (Err c) = Err (record_fault_seen c)
 
-abbrev pub told_so_far : SoFar → model.SoFar
-told_so_far s = record { places = s.places.items; counts = s.counts.items }
+abbrev pub read_so_far : SoFar → model.SoFar
+read_so_far s = record { places = s.places.items; counts = s.counts.items }

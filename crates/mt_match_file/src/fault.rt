@@ -1,5 +1,5 @@
 ghost use Rattle.std.specs.Prelude.{◌≡◌, ◌≤◌, [], length};
-ghost use Rattle.mt_match_file.specs.Told.{shown};
+ghost use Rattle.mt_match_file.specs.Submitted.{shown};
 
 use mt_ids::is_id;
 use mt_terms::{IdText, LIMITS_2, Refusal};
@@ -50,7 +50,7 @@ fn shown(field: &[u8]) -> &[u8]
 impl<'a> RecordFault<'a> {
     ghost use Rattle.mt_terms.specs.Registration.Faults.{record_fault_alone, fault_at};
     ghost use Rattle.mt_match_file.specs.Errors.{IsFault};
-    ghost use Rattle.mt_match_file.specs.Told.{record_fault_at};
+    ghost use Rattle.mt_match_file.specs.Submitted.{record_fault_at};
     ghost use Rattle.mt_match_file.specs.View.{record_fault_seen};
 
     /// A fault that no id is at.

@@ -3,7 +3,7 @@ ghost use Rattle.std.specs.List.{list_all};
 ghost use Rattle.std.specs.Char.{is_ascii_digit};
 ghost use Rattle.std.specs.Str.Parse.{digits_value};
 ghost use Rattle.mt_lists.specs.Rows.{fields_left};
-ghost use Rattle.mt_match_file.specs.Told.{four_of, has_leading_zero, is_number, two_of};
+ghost use Rattle.mt_match_file.specs.Submitted.{four_of, has_leading_zero, is_number, two_of};
 
 use mt_ids::{are_digits, value_of};
 use mt_lists::Fields;

@@ -1,7 +1,7 @@
 ghost use Rattle.std.specs.Prelude.{◌≡◌, ◌<◌, ◌++◌, [], ◌∷◌, length, position, bytes_eq, false, OnOk, IfOk};
 ghost use Rattle.mt_terms.specs.Registration.Accepted.{IsRegistration};
 ghost use Rattle.mt_terms.specs.Registration.Ids.{has_id};
-ghost use Rattle.mt_match_file.specs.Told.{place_named};
+ghost use Rattle.mt_match_file.specs.Submitted.{place_named};
 ghost use Rattle.mt_ids.specs.Seeds.{seed_of};
 
 use mt_ids::{IdTable, Seed, add_field, is_dash};

@@ -10,9 +10,9 @@ pub mod laws;
 mod line;
 mod reading;
 mod so_far;
-mod told_match;
+mod submitted_match;
 
 pub use fault::MatchError;
 pub use mt_terms::{IdText, Refusal as MatchFault};
-pub use reading::told;
-pub use told_match::{Count, Counted, ToldMatch};
+pub use reading::read_match;
+pub use submitted_match::{Count, Counted, SubmittedMatch};

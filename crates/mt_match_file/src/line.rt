@@ -1,13 +1,13 @@
 ghost use Rattle.std.specs.Prelude.{◌≡◌, ◌&&◌, slice_index_or, Some, None};
 ghost use Rattle.mt_lists.specs.Rows.{fields_left};
-ghost use Rattle.mt_match_file.specs.Told.{applicant_line, counts_at, four_of, head_line, is_number, line_of, placed_at, program_line, totals_line, two_of};
+ghost use Rattle.mt_match_file.specs.Submitted.{applicant_line, counts_at, four_of, head_line, is_number, line_of, placed_at, program_line, totals_line, two_of};
 ghost use Rattle.mt_match_file.specs.View.{line_seen, market_of};
 
 use crate::codes::{NO_SUCH_APPLICANT, NO_SUCH_PROGRAM, OTHER_FIELDS, OTHER_RECORD, PLACED_TWICE};
 use crate::fault::RecordFault;
 use crate::fields::{four, is_number, number, two};
 use crate::ids::Ids;
-use crate::told_match::Count;
+use crate::submitted_match::Count;
 use mt_lists::Fields;
 use mt_terms::{AppNo, ProgNo};
 

@@ -5,14 +5,14 @@ ghost use Rattle.mt_terms.specs.Places.{ArePlaces};
 ghost use Rattle.mt_terms.specs.Registration.Passes.{numbered_from};
 ghost use Rattle.mt_match_file.specs.Errors.{Tells};
 ghost use Rattle.mt_match_file.specs.Reading.{Gives, GivesSoFar, Reads, ReadsRow};
-ghost use Rattle.mt_match_file.specs.Told.{all_told, nothing_told, told_by};
-ghost use Rattle.mt_match_file.specs.View.{market_of, told_so_far};
+ghost use Rattle.mt_match_file.specs.Submitted.{all_read, nothing_read, submitted_by};
+ghost use Rattle.mt_match_file.specs.View.{market_of, read_so_far};
 
 use crate::fault::MatchError;
 use crate::ids::Ids;
 use crate::line::line_of;
 use crate::so_far::SoFar;
-use crate::told_match::ToldMatch;
+use crate::submitted_match::SubmittedMatch;
 use mt_lists::{Fields, Row, Rows, RowsIter};
 use mt_market::Roster;
 use std::alloc::Global;
@@ -25,7 +25,7 @@ fn read_fields(
     fields: Fields<'_>,
 ) -> Result<(), MatchError>
     requires { length so_far.old.places.items ≡ applicants (market_of ids.now).market }
-    ensures reads { Reads (market_of ids.now).names (told_so_far so_far.old) (told_so_far so_far.new) (number, fields_left fields.entry) result }
+    ensures reads { Reads (market_of ids.now).names (read_so_far so_far.old) (read_so_far so_far.new) (number, fields_left fields.entry) result }
     ensures places { IfOk result (λ _. length so_far.new.places.items ≡ length so_far.old.places.items) }
 {
     match line_of(ids, &so_far.places, fields) {
@@ -40,7 +40,7 @@ fn read_fields(
 /// Adds what a row says, if it has a field.
 fn read_row(ids: &Ids<'_>, so_far: &mut SoFar, number: u64, row: &Row<'_>) -> Result<(), MatchError>
     requires { length so_far.old.places.items ≡ applicants (market_of ids.now).market }
-    ensures reads { ReadsRow (market_of ids.now).names (told_so_far so_far.old) (told_so_far so_far.new) number row.now result }
+    ensures reads { ReadsRow (market_of ids.now).names (read_so_far so_far.old) (read_so_far so_far.new) number row.now result }
     ensures places { IfOk result (λ _. length so_far.new.places.items ≡ length so_far.old.places.items) }
 {
     if row.is_empty() {
@@ -52,7 +52,7 @@ fn read_row(ids: &Ids<'_>, so_far: &mut SoFar, number: u64, row: &Row<'_>) -> Re
 /// What all rows say.
 fn read_rows(alloc: Global, ids: &Ids<'_>, rows: RowsIter<'_>) -> Result<SoFar, MatchError>
     requires { length (rows_left rows) + 1 < 2 ^ 64 }
-    ensures reads { GivesSoFar result (all_told (market_of ids.now).names (nothing_told (applicants (market_of ids.now).market))
+    ensures reads { GivesSoFar result (all_read (market_of ids.now).names (nothing_read (applicants (market_of ids.now).market))
         (numbered_from 1 (rows_left rows.entry))) }
     ensures places { IfOk result (λ s. length s.places.items ≡ applicants (market_of ids.now).market) }
 {
@@ -68,10 +68,10 @@ fn read_rows(alloc: Global, ids: &Ids<'_>, rows: RowsIter<'_>) -> Result<SoFar, 
 /// The match that the records of a text say, whatever program wrote them: a place for each applicant of the market,
 /// and the counts. The error is their first fault, or want of memory. A record is a list of fields without its
 /// trailing empty ones. Records are counted from 1, and one without a field is passed over.
-pub fn told(alloc: Global, rows: &Rows<'_>, roster: &Roster) -> Result<ToldMatch, MatchError>
-    ensures told { IfOk result (λ told. told_by roster.now rows.now ≡ Ok told) }
-    ensures places { IfOk result (λ told. ArePlaces roster.now.market told.places) }
-    ensures fault { IfErr result (λ error. Tells error (told_by roster.now rows.now)) }
+pub fn read_match(alloc: Global, rows: &Rows<'_>, roster: &Roster) -> Result<SubmittedMatch, MatchError>
+    ensures submitted { IfOk result (λ submitted. submitted_by roster.now rows.now ≡ Ok submitted) }
+    ensures places { IfOk result (λ submitted. ArePlaces roster.now.market submitted.places) }
+    ensures fault { IfErr result (λ error. Tells error (submitted_by roster.now rows.now)) }
 {
     roster.is_of_a_file();
     let ids = Ids::of(alloc, roster)?;

@@ -1,14 +1,14 @@
 ghost use Rattle.std.specs.Prelude.{◌≡◌, ◌<◌, length, map, None, IfOk, OnOk};
 ghost use Rattle.std.specs.Option.{unwrap_or};
 ghost use Rattle.mt_terms.specs.Market.{applicants};
-ghost use Rattle.mt_match_file.specs.Told.{after, match_of, first_unplaced, nothing_told};
+ghost use Rattle.mt_match_file.specs.Submitted.{after, match_of, first_unplaced, nothing_read};
 ghost use Rattle.mt_match_file.specs.Reading.{FitsInto, Gives};
-ghost use Rattle.mt_match_file.specs.View.{told_so_far};
+ghost use Rattle.mt_match_file.specs.View.{read_so_far};
 
 use crate::codes::NOT_PLACED;
 use crate::fault::{MatchError, RecordFault};
 use crate::line::Line;
-use crate::told_match::{Counted, ToldMatch};
+use crate::submitted_match::{Counted, SubmittedMatch};
 use mt_market::Roster;
 use mt_terms::{AppNo, Match, Places, ProgNo};
 use std::alloc::{AllocError, Global};
@@ -23,7 +23,7 @@ pub(crate) struct SoFar {
 impl SoFar {
     /// No place and no count, for the applicants of a market.
     pub(crate) fn new(alloc: Global, roster: &Roster) -> Result<Self, AllocError>
-        ensures { IfOk result (λ s. told_so_far s ≡ nothing_told (applicants roster.now.market)) }
+        ensures { IfOk result (λ s. read_so_far s ≡ nothing_read (applicants roster.now.market)) }
     {
         Ok(SoFar {
             places: vec![in alloc; None; roster.applicants() as usize]?,
@@ -34,7 +34,7 @@ impl SoFar {
     /// Adds what a record with this number says.
     pub(crate) fn add(&mut self, row: u64, line: Line) -> Result<(), AllocError>
         requires { FitsInto (length self.old.places.items) line }
-        ensures { OnOk result (told_so_far self.new ≡ after row (told_so_far self.old) line) }
+        ensures { OnOk result (read_so_far self.new ≡ after row (read_so_far self.old) line) }
     {
         match line {
             Line::Head => {}
@@ -46,7 +46,7 @@ impl SoFar {
 
     /// The first applicant that no record places.
     fn first_unplaced(&self) -> Option<usize>
-        ensures { result ≡ first_unplaced (told_so_far self.now) }
+        ensures { result ≡ first_unplaced (read_so_far self.now) }
     {
         self.places.iter().position(|place| place.is_none())
     }
@@ -63,9 +63,9 @@ impl SoFar {
     }
 
     /// The match, if each applicant has its place. The error is the first applicant that has none, or want of memory.
-    pub(crate) fn into_match(self, alloc: Global, roster: &Roster) -> Result<ToldMatch, MatchError>
+    pub(crate) fn into_match(self, alloc: Global, roster: &Roster) -> Result<SubmittedMatch, MatchError>
         requires { length self.places.items ≡ applicants roster.now.market }
-        ensures { Gives result (match_of roster.now.names (told_so_far self) (first_unplaced (told_so_far self))) }
+        ensures { Gives result (match_of roster.now.names (read_so_far self) (first_unplaced (read_so_far self))) }
     {
         if let Some(missing) = self.first_unplaced() {
             roster.is_of_a_file();
@@ -73,6 +73,6 @@ impl SoFar {
             return Err(RecordFault::of(NOT_PLACED, id).at(0));
         }
         let places = Places::new(self.all_places(alloc)?);
-        Ok(ToldMatch::new(Match { places }, self.counts))
+        Ok(SubmittedMatch::new(Match { places }, self.counts))
     }
 }

@@ -1,12 +1,17 @@
 -- What an exit status says of the words.
-use Rattle.std.proofs.Common.{◌≡◌, ℕ, zero, suc, Bool, true, false, List, [], ◌∷◌, refl, sym, subst, inl, inr, nat_le, arith, ◌≤◌}
+use Rattle.std.proofs.Common.{◌≡◌, ◌∙◌, ℕ, zero, suc, ◌<◌, Bool, true, false, List, [], ◌∷◌, Option, refl, sym, subst, inl, inr, nat_le, arith, ◌≤◌}
 use Rattle.std.specs.Prelude.{◌==◌, if◌then◌else◌}
+use Rattle.std.proofs.lemmas.Bool.{cases_eq, true≢false}
 use Rattle.std.proofs.lemmas.Bool.Decides.{nat_tests}
 use Rattle.clap.specs.Words.{Text, fault_of}
 use Rattle.mt_terms.specs.Lists.{has}
-use Rattle.mt_check.specs.Status.{status_of}
+use Rattle.mt_report.specs.Status.{status_of}
+use Rattle.mt_check.specs.Headline.{IsRefusal}
+use Rattle.mt_files.specs.Text.{is_code_of}
+use Rattle.mt_files.specs.declared.source.Source.{Source}
+use Rattle.mt_files.specs.declared.source.Source.TheVariants.{Market, Match}
 use Rattle.mt_nrcheck.specs.CommandLine.{AreMisuse, AskToBeTold, nrcheck}
-use Rattle.mt_nrcheck.specs.Program.{IsExitFor}
+use Rattle.mt_nrcheck.specs.Program.{IsCheck, IsExitFor}
 
 -- a status of a check
 record IsOfCheck (status : ℕ) : Type 0 where
@@ -21,19 +26,31 @@ at_most_one zero h = record { known = refl; small = omega arith }
 at_most_one (suc zero) h = record { known = refl; small = omega arith }
 at_most_one (suc (suc code)) h = let low : suc (suc code) ≤ 1 = small_is (suc (suc code)) h in absurd (omega arith)
 
-of_check : (code : ℕ) (whole : Bool) → IsOfCheck (status_of code whole)
-of_check code false = record { known = refl; small = omega arith }
-of_check code true = by (nat_le code 1) (code == 30) (code == 31) (at_most_one code)
+-- no file is refused for a budget
+not_spent : (code : ℕ) (text : List ℕ) → (1 < code → IsRefusal code text) → (code == 41) ≡ false
+not_spent code text refusal = elim (cases_eq code 41) [
+  | inl is ↦ let refused = refusal (omega arith) in absurd (true≢false (sym (subst (λ (c : ℕ). is_code_of refused.file c ≡ true) is refused.named.known) ∙ neither refused.file))
+  | inr no ↦ grind (arith, nat_tests)
+]
   where
-    by : (a b c : Bool) → (a ≡ true → IsOfCheck code) → IsOfCheck (if a then code else if b then 4 else if c then 5 else 2)
-    by true b c h = h refl
-    by false true c h = record { known = refl; small = omega arith }
-    by false false true h = record { known = refl; small = omega arith }
-    by false false false h = record { known = refl; small = omega arith }
+    neither : (file : Source) → is_code_of file 41 ≡ false
+    neither Market = refl
+    neither Match = refl
 
-pub exit_of_check : (words : List Text) (code status : ℕ) (whole : Bool) → status ≡ status_of code whole → fault_of nrcheck words ≡ [] → IsExitFor words status
-exit_of_check words code status whole is taken =
-    let of : IsOfCheck status = subst IsOfCheck (sym is) (of_check code whole) in
+of_check : (code : ℕ) (whole : Bool) → (code == 41) ≡ false → IsOfCheck (status_of code whole)
+of_check code false h = record { known = refl; small = omega arith }
+of_check code true h = by (nat_le code 1) (code == 30) (code == 31) (code == 41) h (at_most_one code)
+  where
+    by : (a b c d : Bool) → d ≡ false → (a ≡ true → IsOfCheck code) → IsOfCheck (if a then code else if b then 4 else if c then 5 else if d then 3 else 2)
+    by true b c d e k = k refl
+    by false true c d e k = record { known = refl; small = omega arith }
+    by false false true d e k = record { known = refl; small = omega arith }
+    by false false false true e k = cc
+    by false false false false e k = record { known = refl; small = omega arith }
+
+pub exit_of_check : (words : List Text) (market matched old new : Option (List ℕ)) (status : ℕ) → IsCheck market matched old new status → fault_of nrcheck words ≡ [] → IsExitFor words status
+exit_of_check words market matched old new status is taken =
+    let of : IsOfCheck status = subst IsOfCheck (sym is.is_status) (of_check is.code is.whole (not_spent is.code is.answers.text is.answers.says.refusal)) in
     let small : status ≤ 5 = of.small in
     record { known = of.known; misuse = λ h. absurd (omega arith); taken = λ h. taken; done = λ h. inl taken }
 

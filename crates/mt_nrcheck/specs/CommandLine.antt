@@ -1,11 +1,10 @@
 -- The command line `nrcheck MARKET MATCH`: a simple command in the terms of the crate `clap`, and what its words ask
 -- for. Two things are `clap`'s own definition of a simple command. `matches_of` is which words the command takes and
 -- what it reads of them. `fault_of` is how it refuses others.
-use Rattle.std.specs.Prelude.{◌≡◌, ◌≢◌, ◌⊎◌, true, List, [], Option, Some, None, codes, map, String, string_bytes}
-use Rattle.std.specs.Global.{Global}
+use Rattle.std.specs.Prelude.{◌≡◌, ◌≢◌, ◌⊎◌, true, List, [], Option, Some, None, codes, string_bytes}
 use Rattle.clap.specs.Kinds.{IsAmong}
-use Rattle.clap.specs.Simple.{on_top}
-use Rattle.clap.specs.Words.{App, Row, Rule, Text, fault_of, first_of, matches_of, new_app, new_rule, with_rule}
+use Rattle.mt_program.specs.CommandLine.{plain_app}
+use Rattle.clap.specs.Words.{App, Row, Rule, Text, fault_of, first_of, matches_of, new_rule, with_rule}
 use Rattle.clap.specs.declared.error.kind.ErrorKind.{ErrorKind}
 use Rattle.clap.specs.declared.error.kind.ErrorKind.TheVariants.{DisplayHelp, DisplayVersion, OutOfMemory}
 use Rattle.mt_nrcheck.specs.declared.words.Request.{Request}
@@ -18,18 +17,9 @@ market_rule = record (new_rule (codes "MARKET")) { required = true }
 abbrev pub match_rule : Rule
 match_rule = record (new_rule (codes "MATCH")) { required = true }
 
--- the command without arguments, whose words begin after the program's name; `--help`, `-h`, `--version` and `-V` are
--- added by `clap`
-abbrev pub plain : App
-plain = on_top (λ s. record s { no_binary_name = true; has_version = true }) (new_app (codes "nrcheck"))
-
 -- the command: MARKET and MATCH
 abbrev pub nrcheck : App
-nrcheck = with_rule (with_rule plain market_rule) match_rule
-
--- the words of a command line, each as its bytes
-abbrev pub texts_of : List (String Global) → List Text
-texts_of = map string_bytes
+nrcheck = with_rule (with_rule (plain_app (codes "nrcheck")) market_rule) match_rule
 
 -- the file that the words name by an argument, if any
 abbrev pub file_of : Text → List Text → Option Text

@@ -1,10 +1,9 @@
 -- What the program does with two readers and a writer, and how it ends.
-use Rattle.std.specs.Prelude.{◌≡◌, ◌⊎◌, ℕ, ◌≤◌, Bool, List, [], ◌∷◌, length, take, Option, IsTrue, if◌then◌else◌}
-use Rattle.std.specs.Io.KnownBytes.{Appends}
+use Rattle.std.specs.Prelude.{◌≡◌, ◌⊎◌, ℕ, Bool, List, [], ◌∷◌, Option, IsTrue}
 use Rattle.clap.specs.Words.{Text, fault_of}
 use Rattle.mt_terms.specs.Lists.{has}
 use Rattle.mt_check.specs.Answer.{Answers}
-use Rattle.mt_check.specs.Status.{status_of}
+use Rattle.mt_report.specs.Status.{status_of}
 use Rattle.mt_nrcheck.specs.CommandLine.{AreMisuse, AskToBeTold, nrcheck}
 
 -- The program checked a match: what it did to its writer answers what its readers had left, and it ends with the status
@@ -16,16 +15,6 @@ pub record IsCheck (market matched old new : Option (List ℕ)) (status : ℕ) :
   pub whole : Bool
   pub answers : Answers market matched reads old new code written whole
   pub is_status : status ≡ status_of code whole
-
--- The program wrote a text, or its first bytes. It ends with the one status if all of the text was written, and with
--- the other if it wasn't.
-pub record IsTold (text : List ℕ) (done undone : ℕ) (old new : Option (List ℕ)) (status : ℕ) : Type 0 where
-  pub written : ℕ
-  pub whole : Bool
-  pub appended : Appends old new (take written text)
-  pub within : written ≤ length text
-  pub all : IsTrue whole → written ≡ length text
-  pub is_status : status ≡ (if whole then done else undone)
 
 -- What an exit status says of the words of the command line. Status 64 says that they are misuse. Statuses 1 and 2
 -- say that the command takes them. Status 0 says that it takes them, or that they ask for help or the version.

@@ -1,14 +1,10 @@
 ghost use Rattle.std.specs.Prelude.{◌≡◌, IfOk, false};
 ghost use Rattle.clap.specs.Words.{app_of, rule_of};
-ghost use Rattle.mt_nrcheck.specs.CommandLine.{market_rule, match_rule, nrcheck, plain};
+ghost use Rattle.mt_nrcheck.specs.CommandLine.{market_rule, match_rule, nrcheck};
 
 use clap::{Arg, Command};
+use mt_program::plain_command;
 use std::alloc::{AllocError, Global};
-
-/// The version of the program, and the logic of the toolchain that it was proved with.
-const VERSION: &str = "\
-1.0.0
-Proved with Rattle, logic dac8208d650f15bf.";
 
 const ABOUT: &str = "\
 Whether a residency match is stable by the rank order lists of a market,
@@ -50,20 +46,11 @@ fn matched<'a>(alloc: Global) -> Arg<'a>
     Arg::new(alloc, "MATCH").required(true).help(MATCH_HELP)
 }
 
-// The command `nrcheck` with no argument, whose words begin after the program's name.
-fn plain<'a>(alloc: Global) -> Command<'a>
-    ensures { app_of result ≡ plain }
-{
-    Command::new(alloc, "nrcheck")
-        .no_binary_name(true)
-        .version(VERSION)
-        .about(ABOUT)
-        .after_help(EXIT_STATUSES)
-}
-
 /// The command `nrcheck MARKET MATCH`.
 pub(crate) fn command<'a>(alloc: Global) -> Result<Command<'a>, AllocError>
     ensures { IfOk result (λ c. app_of c ≡ nrcheck) }
 {
-    plain(alloc).arg(market(alloc))?.arg(matched(alloc))
+    plain_command(alloc, "nrcheck", ABOUT, EXIT_STATUSES)
+        .arg(market(alloc))?
+        .arg(matched(alloc))
 }

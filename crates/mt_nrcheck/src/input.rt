@@ -1,14 +1,7 @@
-use mt_report::{Drain, put_all};
+ghost use Rattle.std.specs.Prelude.{◌≡◌, None};
+
 use std::fs::File;
 use std::io::{self, Error, Read};
-
-/// The system's words in the text of an error, without the number after them.
-fn words_in(said: &str) -> &str {
-    match said.split_once(" (os error ") {
-        Some((words, _)) => words,
-        None => said,
-    }
-}
 
 /// A file that its first read opens. So nothing waits for the other end of a pipe before the file's turn.
 #[derive(Drop)]
@@ -21,7 +14,10 @@ pub(crate) struct Input<'a> {
 
 impl<'a> Input<'a> {
     /// The file at a path, not opened yet.
-    pub(crate) fn at(rt: &'a HostRuntime, path: &'a str) -> Self {
+    pub(crate) fn at(rt: &'a HostRuntime, path: &'a str) -> Self
+        ensures path { result.path.now ≡ path.entry.now }
+        ensures unopened { result.unopened ≡ None }
+    {
         Input {
             rt,
             path,
@@ -30,20 +26,18 @@ impl<'a> Input<'a> {
         }
     }
 
-    /// Says on standard error why the file couldn't be opened, if a read tried to.
-    pub(crate) fn say_why(&self) {
-        let Some(error) = self.unopened else {
-            return;
-        };
-        let alloc = self.rt.alloc();
-        let Ok(said) = format!(in alloc; "{error}") else {
-            return;
-        };
-        let words = words_in(said.as_str());
-        let path = self.path;
-        if let Ok(line) = format!(in alloc; "nrcheck: {path}: {words}\n") {
-            put_all(&mut Drain::new(self.rt.stderr()), line.as_bytes());
-        }
+    /// The path of the file.
+    pub(crate) fn path(&self) -> &'a str
+        ensures { result.now ≡ self.now.path.now }
+    {
+        self.path
+    }
+
+    /// Why the file couldn't be opened, if a read tried to.
+    pub(crate) fn unopened(&self) -> Option<Error>
+        ensures { result ≡ self.now.unopened }
+    {
+        self.unopened
     }
 }
 

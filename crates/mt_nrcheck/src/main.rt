@@ -4,8 +4,9 @@
 ghost use Rattle.std.specs.Prelude.{◌+◌, ◌<◌, ◌^◌, []};
 ghost use Rattle.mt_check.specs.Text.{refused_line};
 ghost use Rattle.mt_terms.specs.declared.codes.TheConstants.{OUT_OF_MEMORY};
-ghost use Rattle.mt_nrcheck.specs.CommandLine.{texts_of};
-ghost use Rattle.mt_nrcheck.specs.Program.{IsCheck, IsExitFor, IsTold};
+ghost use Rattle.mt_program.specs.CommandLine.{texts_of};
+ghost use Rattle.mt_program.specs.Told.{IsTold};
+ghost use Rattle.mt_nrcheck.specs.Program.{IsCheck, IsExitFor};
 ghost use Rattle.mt_report.specs.Drains.{contents_of, failures_of};
 
 mod command;
@@ -15,35 +16,14 @@ mod words;
 use input::Input;
 use mt_check::{Source, check, refused};
 use mt_lists::Tap;
-use mt_report::{Drain, put_all};
+use mt_program::{MISUSE, NO_MEMORY, NO_TEXT, UNWRITTEN, say_why, tell, words_of};
+use mt_report::Drain;
 use mt_terms::codes::OUT_OF_MEMORY;
 use std::alloc::Global;
-use std::env;
-use std::io::{self, ErrorKind, Read, Write};
+use std::io::{ErrorKind, Read, Write};
 use std::process::ExitCode;
 use std::thread::Threads;
 use words::{Request, asked};
-
-/// The exit status of a command line that is wrong.
-const MISUSE: u8 = 64;
-
-/// The exit status of want of memory.
-const NO_MEMORY: u8 = 4;
-
-/// The exit status of a text that couldn't be written.
-const UNWRITTEN: u8 = 5;
-
-/// What a word that is no text is answered with.
-const NO_TEXT: &str = "error: invalid UTF-8 was detected in one or more arguments\n";
-
-/// The words after the program's name. One that is not UTF-8 is an error.
-fn words_of(rt: &HostRuntime) -> io::Result<Vec<String>> {
-    let mut words = Vec::new(rt.alloc());
-    for word in env::args(rt)?.skip(1) {
-        words.push(word)?;
-    }
-    Ok(words)
-}
 
 /// Checks the match that one reader gives by the market that another gives, and gives the exit status.
 fn check_match<T: Threads + Sync, R: Read + Drop, S: Read + Drop, W: Write>(
@@ -54,7 +34,8 @@ fn check_match<T: Threads + Sync, R: Read + Drop, S: Read + Drop, W: Write>(
     drain: &mut Drain<W>,
 ) -> u8
     requires { failures_of drain.old + 1 < 2 ^ 64 }
-    ensures { IsCheck (R.remaining market) (S.remaining matched) (contents_of W.contents drain.old) (contents_of W.contents drain.new) result }
+    ensures { IsCheck (R.remaining market) (S.remaining matched)
+        (contents_of W.contents drain.old) (contents_of W.contents drain.new) result }
 {
     check(
         rt,
@@ -66,22 +47,22 @@ fn check_match<T: Threads + Sync, R: Read + Drop, S: Read + Drop, W: Write>(
     .status()
 }
 
-/// Writes a text, and gives the one exit status if it was wholly written, and the other if it wasn't.
-fn tell<W: Write>(drain: &mut Drain<W>, text: &[u8], done: u8, undone: u8) -> u8
-    requires { failures_of drain.old + 1 < 2 ^ 64 }
-    ensures { IsTold text.now done undone (contents_of W.contents drain.old) (contents_of W.contents drain.new) result }
-{
-    let wrote = put_all(drain, text);
-    if wrote.whole { done } else { undone }
-}
-
 /// Writes the refusal of a check for which there is no memory, and gives the exit status.
 fn refuse<W: Write>(drain: &mut Drain<W>) -> u8
     requires { failures_of drain.old + 1 < 2 ^ 64 }
-    ensures { IsTold (refused_line Source.Market OUT_OF_MEMORY 0 []) 4 5 (contents_of W.contents drain.old) (contents_of W.contents drain.new) result }
+    ensures { IsTold (refused_line Source.Market OUT_OF_MEMORY 0 []) 4 5
+        (contents_of W.contents drain.old) (contents_of W.contents drain.new) result }
 {
-    let line = refused(Source::Market, OUT_OF_MEMORY, 0, b"");
+    let line = refused(b"check", Source::Market, OUT_OF_MEMORY, 0, b"");
     tell(drain, line.as_bytes(), NO_MEMORY, UNWRITTEN)
+}
+
+/// Says on standard error why a file couldn't be opened, if a read tried to.
+fn say_why_unopened(rt: &HostRuntime, input: &Input<'_>) {
+    if let Some(error) = input.unopened() {
+        let mut err = Drain::new(rt.stderr());
+        say_why(&mut err, rt.alloc(), "nrcheck", input.path(), &error);
+    }
 }
 
 /// Does what the words ask for, and gives the exit status. `crew` is `rt` too: only `main` may take it for a handle that
@@ -96,8 +77,8 @@ fn obey<T: Threads + Sync>(rt: &HostRuntime, crew: &T, words: &[String]) -> u8
             let mut market = Input::at(rt, market.as_str());
             let mut matched = Input::at(rt, matched.as_str());
             let status = check_match(crew, alloc, &mut market, &mut matched, &mut out);
-            market.say_why();
-            matched.say_why();
+            say_why_unopened(rt, &market);
+            say_why_unopened(rt, &matched);
             status
         }
         Ok(Request::Told(text)) => tell(&mut out, text.as_bytes(), 0, UNWRITTEN),

@@ -2,7 +2,8 @@ ghost use Rattle.std.specs.Prelude.{IfOk};
 ghost use Rattle.std.specs.Prelude.{◌≡◌};
 ghost use Rattle.clap.specs.Kinds.{FailsBy};
 ghost use Rattle.clap.specs.Words.{fault_of, found_of, kind_of, matches_of, rows_of};
-ghost use Rattle.mt_nrcheck.specs.CommandLine.{AreFilesIn, IsAskedBy, IsEndOf, nrcheck, texts_of};
+ghost use Rattle.mt_nrcheck.specs.CommandLine.{AreFilesIn, IsAskedBy, IsEndOf, nrcheck};
+ghost use Rattle.mt_program.specs.CommandLine.{texts_of};
 
 use crate::command::command;
 use clap::error::ErrorKind;

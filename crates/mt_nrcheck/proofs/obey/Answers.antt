@@ -1,6 +1,7 @@
 use Rattle.std.proofs.Common.{subst}
 use Rattle.std.specs.Prelude.{string_bytes}
-use Rattle.mt_nrcheck.specs.CommandLine.{AreMisuse, AskToBeTold, IsAskedBy, NameFiles, texts_of}
+use Rattle.mt_nrcheck.specs.CommandLine.{AreMisuse, AskToBeTold, IsAskedBy, NameFiles}
+use Rattle.mt_program.specs.CommandLine.{texts_of}
 use Rattle.mt_nrcheck.specs.declared.words.Request.{Request}
 use Rattle.mt_nrcheck.proofs.StatusFacts.{exit_of_check, exit_of_misuse, exit_of_told, exit_without_memory}
 use Rattle.mt_nrcheck.proofs.obey.Goals as goal
@@ -10,7 +11,7 @@ returns-in-Ok-Check g c =
     let words = texts_of c.args.words.now in
     let named : NameFiles words (string_bytes c.in-Ok-Check.market) (string_bytes c.in-Ok-Check.matched) =
     subst (λ (asked : Request). IsAskedBy words asked) c.in-Ok-Check.field-0-is c.in-Ok-Check.ensures in
-    exit_of_check words c.check_match-status.ensures.code c.check_match-status.result c.check_match-status.ensures.whole c.check_match-status.ensures.is_status named.taken
+    exit_of_check words _ _ _ _ c.check_match-status.result c.check_match-status.ensures named.taken
 
 pub returns-in-Ok-Told : goal.returns-in-Ok-Told
 returns-in-Ok-Told g c =

@@ -1,6 +1,6 @@
 use Rattle.std.proofs.Common.{◌≡◌, ◌∙◌, []}
 use Rattle.mt_check.specs.Text.{refused_line}
-use Rattle.mt_check.specs.declared.source.Source.TheVariants.{Market}
+use Rattle.mt_files.specs.declared.source.Source.TheVariants.{Market}
 use Rattle.mt_nrcheck.proofs.refuse.Goals as goal
 
 pub returns : goal.returns

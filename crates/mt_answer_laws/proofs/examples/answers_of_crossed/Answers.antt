@@ -4,7 +4,7 @@ use Rattle.mt_lists.proofs.OnLiterals.{records_on_literals}
 use Rattle.mt_terms.specs.Best.{IsBest}
 use Rattle.mt_terms.specs.Examples.Markets.{crossed}
 use Rattle.mt_terms.specs.Examples.RegistrationText.{file_1}
-use Rattle.mt_match_file.specs.declared.told_match.Count.TheVariants as count
+use Rattle.mt_match_file.specs.declared.submitted_match.Count.TheVariants as count
 use Rattle.mt_run.specs.Answer.{IsAnswer}
 use Rattle.mt_run.specs.Examples.{crossed_file}
 use Rattle.mt_answer_laws.specs.Examples.{crossed_bytes, programs_text}

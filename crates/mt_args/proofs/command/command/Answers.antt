@@ -10,6 +10,6 @@ returns c =
     (λ r added. added.shape c.budget.ensures.local
     ∙ ap₂ with_rule (c.in_ok-arg.ensures.shape c.workers.ensures.local
     ∙ ap₂ with_rule (c.in_ok-with_file.ensures.shape (ap (λ (a : Arg). a.global) c.help-file.ensures ∙ c.new.ensures.optional.1)
-    ∙ ap₂ with_rule c.plain.ensures (ap rule_of c.help-file.ensures ∙ c.new.ensures.rule))
+    ∙ ap₂ with_rule c.plain_command.ensures (ap rule_of c.help-file.ensures ∙ c.new.ensures.rule))
     c.workers.ensures.rule) c.budget.ensures.rule)
     c.arg-3.ensures

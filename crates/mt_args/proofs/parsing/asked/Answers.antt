@@ -2,7 +2,8 @@ use Rattle.std.proofs.Common.{◌≡◌, ◌≢◌, true, false, List, [], ◌�
 use Rattle.clap.specs.Words.{Row, Text, fault_of, kind_of}
 use Rattle.clap.specs.declared.error.kind.ErrorKind.{ErrorKind}
 use Rattle.clap.specs.declared.error.kind.ErrorKind.TheVariants.{DisplayHelp, DisplayVersion, OutOfMemory}
-use Rattle.mt_args.specs.CommandLine.{AsksForHelp, AsksForVersion, IfRun, IsMisuse, IsWithinLimits, OnHelp, OnUsage, OnVersion, file_in, file_of, is_taken, nrmatch, number_in, number_of, texts_of}
+use Rattle.mt_args.specs.CommandLine.{AsksForHelp, AsksForVersion, IfRun, IsMisuse, IsWithinLimits, OnHelp, OnUsage, OnVersion, file_in, file_of, is_taken, nrmatch, number_in, number_of}
+use Rattle.mt_program.specs.CommandLine.{texts_of}
 use Rattle.mt_args.specs.declared.answer.Asked.{Asked}
 use Rattle.mt_args.specs.declared.answer.Asked.TheVariants.{Run, Help, Version}
 use Rattle.mt_args.specs.declared.answer.AskEnd.{AskEnd}

@@ -3,7 +3,8 @@ use Rattle.std.proofs.lemmas.Grind.{common_steps}
 use Rattle.std.specs.Prelude.{codes}
 use Rattle.std.specs.List.{flat_map}
 use Rattle.std.proofs.lemmas.List.{take_all}
-use Rattle.mt_check.proofs.LineFacts.{after_comma, by_commas}
+use Rattle.mt_report.proofs.LineFacts.{after_comma}
+use Rattle.mt_check.proofs.LineFacts.{by_commas}
 use Rattle.mt_check.proofs.text.check_line.Goals as goal
 
 pub returns : goal.returns

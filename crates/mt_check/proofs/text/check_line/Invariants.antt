@@ -1,7 +1,7 @@
 use Rattle.std.proofs.Common.{◌≡◌, ◌++◌, take, map, Bor, List, ℕ}
 use Rattle.std.specs.Prelude.{codes}
 use Rattle.std.specs.List.{flat_map}
-use Rattle.mt_check.proofs.LineFacts.{after_comma}
+use Rattle.mt_report.proofs.LineFacts.{after_comma}
 use Rattle.mt_check.proofs.text.check_line.Given as goal
 
 -- the fields so far, each after a comma

@@ -7,5 +7,5 @@ pub returns : goal.returns
 returns c =
     IfOk-weaker c.arg-2.result _ _
     (λ r added. added.shape c.matched.ensures.local
-    ∙ ap₂ with_rule (c.in_ok-arg.ensures.shape c.market.ensures.local ∙ ap₂ with_rule c.plain.ensures c.market.ensures.rule) c.matched.ensures.rule)
+    ∙ ap₂ with_rule (c.in_ok-arg.ensures.shape c.market.ensures.local ∙ ap₂ with_rule c.plain_command.ensures c.market.ensures.rule) c.matched.ensures.rule)
     c.arg-2.ensures

@@ -1,5 +1,5 @@
 use Rattle.clap.specs.Words.{found_of, rows_of}
-use Rattle.mt_nrcheck.specs.CommandLine.{texts_of}
+use Rattle.mt_program.specs.CommandLine.{texts_of}
 use Rattle.mt_nrcheck.proofs.WordFacts.{asked_by_kind, asked_by_rows}
 use Rattle.mt_nrcheck.proofs.words.asked.Goals as goal
 

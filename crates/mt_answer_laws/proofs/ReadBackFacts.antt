@@ -1,0 +1,178 @@
+-- The rows of a published match tell its places and its counts: the head tells nothing, each row of an applicant its
+-- place, in turn, and each row of a program and the totals the counts.
+use Rattle.std.proofs.Common.{◌≡◌, ℕ, zero, suc, ◌+◌, ◌-◌, ◌<◌, ◌≤◌, List, [], ◌∷◌, ◌++◌, length, map, get_or, set, replicate, Bool, true, false, not, ◌&&◌, Option, Some, None, Ok, refl, sym, ap, ◌∙◌, append_assoc, arith, append-nil, length-append, position, lt-ltb, eq-eqb}
+use Rattle.std.specs.Prelude.{bytes_eq, find, is_some}
+use Rattle.std.specs.Option.{unwrap_or}
+use Rattle.std.specs.List.{list_any, position_or_len, range_with_len}
+use Rattle.std.proofs.lemmas.List.Folds.{list_any_at}
+use Rattle.std.proofs.lemmas.Bool.{both_ways, le-ltb}
+use Rattle.mt_terms.specs.Lists.{below}
+use Rattle.mt_terms.specs.Market.{Market, Names, applicants, program_of}
+use Rattle.mt_terms.specs.Matching.{Places, filled, place_of}
+use Rattle.mt_terms.specs.Registration.Ids.{Bytes, all_differ}
+use Rattle.mt_terms.specs.Registration.Passes.{numbered_from}
+use Rattle.mt_terms.specs.Text.{all_filled, name_of, place_text, positions, unmatched}
+use Rattle.mt_terms.proofs.IdFacts.{is_same, same_id}
+use Rattle.mt_match_file.specs.Submitted.{all_read, nothing_read, place_named, submitted_by}
+use Rattle.mt_match_file.specs.declared.submitted_match.Count.TheVariants as count
+use Rattle.mt_match_file.specs.declared.submitted_match.Counted.{Counted}
+use Rattle.mt_check.specs.Findings.{first_differing_of, fits_count}
+use Rattle.mt_answer_laws.proofs.PublishedRows.{IsTellable, applicant_fields, id_at, id_no_dash, program_fields, published_rows, totals_fields}
+
+-- an id has the number of its place, where ids differ
+pub own_number : (ids : List Bytes) (i : ℕ) → all_differ bytes_eq ids ≡ true → i < length ids → position_or_len (bytes_eq (get_or ids i [])) ids ≡ i
+own_number [] i h lt = absurd (omega arith)
+own_number (x ∷ xs) zero h lt = rw (is_same x x refl) refl
+own_number (x ∷ xs) (suc i) h lt = by (bytes_eq (get_or xs i []) x) refl (own_number xs i (none (list_any (bytes_eq x) xs) h).1 (omega arith))
+  where
+    there : bytes_eq (get_or xs i []) x ≡ true → list_any (bytes_eq x) xs ≡ true
+    there e = list_any_at (bytes_eq x) xs i [] (omega arith) (is_same x (get_or xs i []) (sym (same_id (get_or xs i []) x e)))
+
+    none : (b : Bool) → (not b && all_differ bytes_eq xs) ≡ true → (b ≡ false) × (all_differ bytes_eq xs ≡ true)
+    none true k = cc
+    none false k = (refl, k)
+
+    by : (b : Bool) → bytes_eq (get_or xs i []) x ≡ b → position_or_len (bytes_eq (get_or xs i [])) xs ≡ i
+        → position_or_len (bytes_eq (get_or xs i [])) (x ∷ xs) ≡ suc i
+    by true e rest = absurd (both_ways _ (none (list_any (bytes_eq x) xs) h).0 (there e))
+    by false e rest = let one_more : 1 + i ≡ suc i = omega arith in rw (e, rest) one_more
+
+-- an id that stands at a place among ids that differ is found there
+pub position_own : (ids : List Bytes) (i : ℕ) → all_differ bytes_eq ids ≡ true → i < length ids → position (bytes_eq (get_or ids i [])) ids ≡ Some i
+position_own ids i h lt = rw (own_number ids i h lt, lt-ltb i (length ids) lt) refl
+
+-- the counts that rows from the i-th on tell, of programs from p on
+abbrev pub counts_from : Market → Places → ℕ → ℕ → ℕ → List Counted
+counts_from m places i p zero = []
+counts_from m places i p (suc k) =
+    record { row = i; count = count.Program p (program_of m p).quota (filled places p) } ∷ counts_from m places (i + 1) (p + 1) k
+
+abbrev pub totals_count : Market → Places → ℕ → Counted
+totals_count m places i = record { row = i; count = count.Totals (applicants m) (unmatched places) (positions m) (positions m - all_filled m places) }
+
+abbrev pub published_counts : Market → Places → List Counted
+published_counts m places =
+    counts_from m places (2 + applicants m) 0 (length m.programs) ++ totals_count m places (2 + applicants m + length m.programs) ∷ []
+
+module _ (m : Market) (names : Names) (places : Places) (received : List ℕ) (t : IsTellable m names places received)
+    (applicants_differ : all_differ bytes_eq names.applicants ≡ true) (programs_differ : all_differ bytes_eq names.programs ≡ true) where
+  named_back : (o : Option ℕ) → ((p : ℕ) → o ≡ Some p → p < length m.programs) → place_named names.programs (place_text names o) ≡ Some o
+  named_back None h = refl
+  named_back (Some p) h =
+      let lt : p < length names.programs = omega (arith, h p refl, t.program_each) in
+      rw (id_no_dash (name_of names.programs p) (id_at names.programs p t.program_ids lt), position_own names.programs p programs_differ lt) refl
+
+  -- the places told after those of the front
+  abbrev told_front : Places → ℕ → List (Option (Option ℕ))
+  told_front front left = map Some front ++ replicate left None
+
+  here_untold : (front : Places) (left : ℕ) → get_or (told_front front (suc left)) (length front) None ≡ None
+  here_untold [] left = refl
+  here_untold (x ∷ front) left = here_untold front left
+
+  set_next : (front : Places) (left : ℕ) (x : Option ℕ) → set (told_front front (suc left)) (length front) (Some x) ≡ told_front (front ++ x ∷ []) left
+  set_next [] left x = refl
+  set_next (y ∷ front) left x = ap (λ (xs : List (Option (Option ℕ))). Some y ∷ xs) (set_next front left x)
+
+  place_next : (front back : Places) (x : Option ℕ) → get_or (front ++ x ∷ back) (length front) None ≡ x
+  place_next [] back x = refl
+  place_next (y ∷ front) back x = place_next front back x
+
+  one_applicant : (front back : Places) (x : Option ℕ) (counts : List Counted) (i : ℕ) (rest : List (List Bytes)) → front ++ x ∷ back ≡ places
+      → all_read names (record { places = told_front front (suc (length back)); counts = counts }) (numbered_from i (applicant_fields names places (length front) ∷ rest))
+      ≡ all_read names (record { places = told_front (front ++ x ∷ []) (length back); counts = counts }) (numbered_from (i + 1) rest)
+  one_applicant front back x counts i rest whole =
+      let here : length front < length names.applicants = omega (arith, t.applicant_each, t.one_each, ap length whole, length-append front (x ∷ back)) in
+      let place : place_of places (length front) ≡ x = ap (λ (ps : Places). place_of ps (length front)) (sym whole) ∙ place_next front back x in
+      rw (
+        position_own names.applicants (length front) applicants_differ here,
+        here_untold front (length back),
+        named_back (place_of places (length front)) (t.within (length front)),
+        place,
+        set_next front (length back) x,
+      ) refl
+
+  all_applicants : (front back : Places) (counts : List Counted) (i : ℕ) (rest : List (List Bytes)) → front ++ back ≡ places
+      → all_read names (record { places = told_front front (length back); counts = counts }) (numbered_from i (map (applicant_fields names places) (range_with_len (length front) (length back)) ++ rest))
+      ≡ all_read names (record { places = map Some places; counts = counts }) (numbered_from (i + length back) rest)
+  all_applicants front [] counts i rest whole =
+      let same : front ≡ places = sym (append-nil front) ∙ whole in
+      let zero_more : i + 0 ≡ i = omega arith in
+      rw (zero_more, append-nil (map Some front), same) refl
+  all_applicants front (x ∷ back) counts i rest whole =
+      let longer : length front + 1 ≡ length (front ++ x ∷ []) = omega (arith, length-append front (x ∷ [])) in
+      let further : i + suc (length back) ≡ i + 1 + length back = omega arith in
+      one_applicant front back x counts i (map (applicant_fields names places) (range_with_len (length front + 1) (length back)) ++ rest) whole
+      ∙ rw (longer, further) (all_applicants (front ++ x ∷ []) back counts (i + 1) rest (append_assoc front (x ∷ []) back ∙ whole))
+
+  one_program : (submitted : List (Option (Option ℕ))) (counts : List Counted) (i p : ℕ) (rest : List (List Bytes)) → p < length m.programs
+      → all_read names (record { places = submitted; counts = counts }) (numbered_from i (program_fields m names places received p ∷ rest))
+      ≡ all_read names (record { places = submitted; counts = counts ++ record { row = i; count = count.Program p (program_of m p).quota (filled places p) } ∷ [] }) (numbered_from (i + 1) rest)
+  one_program submitted counts i p rest lt =
+      rw (
+        (t.quota p).is_number,
+        (t.placed p).is_number,
+        (t.proposed p).is_number,
+        position_own names.programs p programs_differ (omega (arith, t.program_each)),
+        (t.quota p).same,
+        (t.placed p).same,
+      ) refl
+
+  all_programs : (submitted : List (Option (Option ℕ))) (counts : List Counted) (i p k : ℕ) (rest : List (List Bytes)) → p + k ≤ length m.programs
+      → all_read names (record { places = submitted; counts = counts }) (numbered_from i (map (program_fields m names places received) (range_with_len p k) ++ rest))
+      ≡ all_read names (record { places = submitted; counts = counts ++ counts_from m places i p k }) (numbered_from (i + k) rest)
+  all_programs submitted counts i p zero rest le =
+      let zero_more : i + 0 ≡ i = omega arith in
+      rw (zero_more, append-nil counts) refl
+  all_programs submitted counts i p (suc k) rest le =
+      let further : i + suc k ≡ i + 1 + k = omega arith in
+      one_program submitted counts i p (map (program_fields m names places received) (range_with_len (p + 1) k) ++ rest) (omega arith)
+      ∙ all_programs submitted (counts ++ record { row = i; count = count.Program p (program_of m p).quota (filled places p) } ∷ []) (i + 1) (p + 1) k rest (omega arith)
+      ∙ rw (further, append_assoc counts (record { row = i; count = count.Program p (program_of m p).quota (filled places p) } ∷ []) (counts_from m places (i + 1) (p + 1) k)) refl
+
+  the_totals : (submitted : List (Option (Option ℕ))) (counts : List Counted) (i : ℕ)
+      → all_read names (record { places = submitted; counts = counts }) (numbered_from i (totals_fields m places ∷ []))
+      ≡ Ok (record { places = submitted; counts = counts ++ totals_count m places i ∷ [] })
+  the_totals submitted counts i =
+      rw (t.all.is_number, t.unmatched.is_number, t.posts.is_number, t.free.is_number, t.all.same, t.unmatched.same, t.posts.same, t.free.same) refl
+
+  all_rows : all_read names (nothing_read (applicants m)) (numbered_from 1 (published_rows m names places received))
+      ≡ Ok (record { places = map Some places; counts = published_counts m places })
+  all_rows =
+      let ends : List (List Bytes) = map (program_fields m names places received) (below (length m.programs)) ++ totals_fields m places ∷ [] in
+      let applicants_told = rw t.one_each at (all_applicants [] places [] 2 ends refl) in
+      applicants_told
+      ∙ all_programs (map Some places) [] (2 + applicants m) 0 (length m.programs) (totals_fields m places ∷ []) (omega arith)
+      ∙ the_totals (map Some places) (counts_from m places (2 + applicants m) 0 (length m.programs)) (2 + applicants m + length m.programs)
+
+  none_found : (ps : Places) → position_or_len (λ place. not (is_some place)) (map Some ps) ≡ length (map Some ps)
+  none_found [] = refl
+  none_found (p ∷ ps) = omega (arith, none_found ps)
+
+  none_unplaced : (ps : Places) → position (λ place. not (is_some place)) (map Some ps) ≡ None
+  none_unplaced ps = rw (none_found ps, le-ltb (length (map Some ps)) (length (map Some ps)) (omega arith)) refl
+
+  whole_places : (ps : Places) → map (λ place. unwrap_or place None) (map Some ps) ≡ ps
+  whole_places [] = refl
+  whole_places (p ∷ ps) = ap (λ (qs : Places). p ∷ qs) (whole_places ps)
+
+  pub read_back : submitted_by (record { market = m; names = names }) (published_rows m names places received) ≡ Ok (record { places = places; counts = published_counts m places })
+  read_back = rw (all_rows, none_unplaced places, whole_places places) refl
+
+-- these counts fit
+counts_fit : (m : Market) (places : Places) (i p k : ℕ) (more : List Counted) → p + k ≤ length m.programs
+    → find (λ c. not (fits_count m places (Counted.count c))) (counts_from m places i p k ++ more) ≡ find (λ c. not (fits_count m places (Counted.count c))) more
+counts_fit m places i p zero more le = refl
+counts_fit m places i p (suc k) more le =
+    rw (lt-ltb p (length m.programs) (omega arith), eq-eqb (program_of m p).quota (program_of m p).quota refl, eq-eqb (filled places p) (filled places p) refl)
+    (counts_fit m places (i + 1) (p + 1) k more (omega arith))
+
+pub none_differs : (m : Market) (places : Places) → first_differing_of m places (published_counts m places) ≡ None
+none_differs m places =
+    rw (
+      counts_fit m places (2 + applicants m) 0 (length m.programs) (totals_count m places (2 + applicants m + length m.programs) ∷ []) (omega arith),
+      eq-eqb (applicants m) (applicants m) refl,
+      eq-eqb (unmatched places) (unmatched places) refl,
+      eq-eqb (positions m) (positions m) refl,
+      eq-eqb (positions m - all_filled m places) (positions m - all_filled m places) refl,
+    ) refl

@@ -1,0 +1,128 @@
+ghost use Rattle.std.specs.Prelude.{◌≡◌, ◌⊎◌, ◌+◌, ◌<◌, ◌≤◌, ◌-◌, ◌^◌, ◌↔◌, [], if◌then◌else◌, IfErr, IfOk, IsTrue};
+ghost use Rattle.mt_lists.specs.Tap.{bytes_left, failures_of as read_failures_of, reads_of};
+ghost use Rattle.mt_terms.specs.Places.{ArePlaces};
+ghost use Rattle.mt_terms.specs.declared.codes.TheConstants.{OUT_OF_MEMORY, READ_FAULT};
+ghost use Rattle.mt_report.specs.Drains.{contents_of, failures_of, is_flushed};
+ghost use Rattle.mt_input.specs.Files.{most_bytes};
+ghost use Rattle.mt_input.specs.Left.{TakesFile};
+ghost use Rattle.mt_input.specs.Refusals.{fault_of};
+ghost use Rattle.mt_files.specs.Refusals.{IsInTurn, IsRefused, OfBoth, end_code};
+ghost use Rattle.mt_check.specs.Answer.{Answers, IsAnswer, answer_seen, finding_answer};
+ghost use Rattle.mt_check.specs.Findings.{finding_of};
+
+use crate::found::Found;
+use crate::judging::judge;
+use crate::text::finding_line;
+use mt_files::{Files, Refused, Source, read_files, refused};
+use mt_lists::Tap;
+use mt_market::Roster;
+use mt_match_file::SubmittedMatch;
+use mt_report::{Drain, Ended, end};
+use mt_terms::Refusal;
+use mt_terms::codes::OUT_OF_MEMORY;
+use std::alloc::{AllocError, Global};
+use std::io::{Read, Write};
+use std::thread::Threads;
+
+/// The finding on a match, with its line.
+fn found<T: Threads + Sync>(
+    rt: &T,
+    alloc: Global,
+    roster: &Roster,
+    submitted: &SubmittedMatch,
+) -> Result<Found, AllocError>
+    requires { ArePlaces roster.now.market submitted.now.places }
+    ensures answer { IfOk result (λ found.
+        answer_seen found ≡ finding_answer roster.now (finding_of roster.now.market submitted.now)) }
+    ensures code { IfOk result (λ found. found.code ≤ 1) }
+{
+    roster.is_of_a_file();
+    let finding = judge(rt, alloc, roster, submitted)?;
+    Ok(Found {
+        code: finding.code(),
+        text: finding_line(alloc, roster, &finding)?,
+    })
+}
+
+/// The answer to a market and a match. The error is want of memory, which the line says of the match.
+fn answer_to_files<T: Threads + Sync>(rt: &T, alloc: Global, files: &Files) -> Result<Found, Refused>
+    requires { ArePlaces files.now.roster.market files.now.submitted.places }
+    ensures answer { IfOk result (λ found. answer_seen found
+        ≡ finding_answer files.now.roster (finding_of files.now.roster.market files.now.submitted)) }
+    ensures code { IfOk result (λ found. found.code ≤ 1) }
+    ensures source { IfErr result (λ e. e.source ≡ Source.Match) }
+    ensures memory { IfErr result (λ e. fault_of e.refusal ≡ record { code = OUT_OF_MEMORY; row = 0; id = [] }) }
+{
+    match found(rt, alloc, &files.roster, &files.submitted) {
+        Ok(found) => Ok(found),
+        Err(_) => Err(Refused {
+            source: Source::Match,
+            refusal: Refusal::alone(OUT_OF_MEMORY),
+        }),
+    }
+}
+
+/// The answer to a market and a match that two readers give.
+fn answer<T: Threads + Sync, R: Read, S: Read>(
+    rt: &T,
+    alloc: Global,
+    market: &mut Tap<R>,
+    matched: &mut Tap<S>,
+) -> Result<Found, Refused>
+    requires market { reads_of market.old + most_bytes < u64.MAX }
+    requires matched { reads_of matched.old + most_bytes < u64.MAX }
+    ensures found { IfOk result (λ found. OfBoth (bytes_left R.remaining market.old) (bytes_left S.remaining matched.old)
+        (λ market_bytes match_bytes. IsAnswer market_bytes match_bytes found.code found.text.items)) }
+    ensures code { IfOk result (λ found. found.code ≤ 1) }
+    ensures refused { IfErr result (IsRefused (bytes_left R.remaining market.old) (bytes_left S.remaining matched.old)) }
+    ensures in_turn { IfErr result (λ e. IsInTurn (bytes_left R.remaining market.old)
+        (reads_of matched.new - reads_of matched.old) e.source) }
+    ensures fault { (end_code result ≡ READ_FAULT) ↔ ((read_failures_of market.old < read_failures_of market.new)
+        ⊎ (read_failures_of matched.old < read_failures_of matched.new)) }
+    ensures market_tap { TakesFile R.remaining market.old market.new }
+    ensures match_tap { TakesFile S.remaining matched.old matched.new }
+{
+    match read_files(rt, alloc, market, matched) {
+        Ok(files) => answer_to_files(rt, alloc, &files),
+        Err(refused) => Err(refused),
+    }
+}
+
+/// The whole check: reads a market and a match, and writes one line. The line says that the match is stable by the
+/// market's lists and that its counts agree with it, or names the first finding against it. If a file is refused, the
+/// line names the refusal. The market is read and judged first, and a market that is refused leaves the match unread.
+/// The line is complete before the first byte is written.
+pub fn check<T: Threads + Sync, R: Read, S: Read, W: Write>(
+    rt: &T,
+    alloc: Global,
+    market: &mut Tap<R>,
+    matched: &mut Tap<S>,
+    drain: &mut Drain<W>,
+) -> Ended
+    requires market { reads_of market.old + most_bytes < u64.MAX }
+    requires matched { reads_of matched.old + most_bytes < u64.MAX }
+    requires failures { failures_of drain.old + 1 < 2 ^ 64 }
+    ensures answers { Answers (bytes_left R.remaining market.old)
+        (bytes_left S.remaining matched.old) (reads_of matched.new - reads_of matched.old)
+        (contents_of W.contents drain.old) (contents_of W.contents drain.new) result.code result.written result.whole }
+    ensures writer { failures_of drain.new ≡ failures_of drain.old + (if result.whole then 0 else 1) }
+    ensures flushed { IsTrue result.whole → IsTrue (is_flushed drain.new) }
+    ensures fault { (result.code ≡ READ_FAULT) ↔ ((read_failures_of market.old < read_failures_of market.new)
+        ⊎ (read_failures_of matched.old < read_failures_of matched.new)) }
+    ensures market_taken { TakesFile R.remaining market.old market.new }
+    ensures match_taken { TakesFile S.remaining matched.old matched.new }
+{
+    match answer(rt, alloc, market, matched) {
+        Ok(found) => end(drain, found.code, &found.text),
+        Err(Refused { source, refusal }) => {
+            let line = refused(
+                b"check",
+                source,
+                refusal.code,
+                refusal.row,
+                refusal.id.as_bytes(),
+            );
+            end(drain, refusal.code, line.as_bytes())
+        }
+    }
+}

@@ -1,0 +1,70 @@
+-- What two readers had left: the market first, and then the match beside it.
+use Rattle.std.proofs.Common.{◌≡◌, ℕ, List, Option, Result, Ok, Err, IfErr, IfOk, sym, ap, ◌∙◌, subst}
+use Rattle.mt_terms.specs.Market.{Registered}
+use Rattle.mt_terms.specs.Registration.Faults.{Fault}
+use Rattle.mt_terms.specs.declared.refusal.Refusal.{Refusal}
+use Rattle.mt_match_file.specs.Submitted.{Submitted}
+use Rattle.mt_input.specs.Files.{IsMarketOf, market_in}
+use Rattle.mt_input.specs.Left.{OfLeft}
+use Rattle.mt_input.specs.Refusals.{IsRefusalOf, fault_of}
+use Rattle.mt_input.proofs.LeftFacts.{of_left, some_left}
+use Rattle.mt_files.specs.Files.{files_by, files_in, submitted_in, with_match}
+use Rattle.mt_files.specs.Refusals.{AreFilesIn, IsInTurn, IsRefused, OfBoth}
+use Rattle.mt_files.specs.declared.files.Files.{Files}
+use Rattle.mt_files.specs.declared.refused.Refused.{Refused}
+use Rattle.mt_files.specs.declared.source.Source.{Source}
+use Rattle.mt_files.specs.declared.source.Source.TheVariants.{Market, Match}
+use Rattle.mt_files.proofs.NameFacts.{market_refusal_named, match_refusal_named}
+
+-- files that are read have a market
+pub market_there : (market_bytes match_bytes : List ℕ) (r : Registered) (s : Submitted) → files_in market_bytes match_bytes ≡ Ok (r, s) → IsMarketOf market_bytes r
+market_there market_bytes match_bytes r s h = by (market_in market_bytes) h
+  where
+    of_match : (q : Registered) (m : Result Submitted Fault) → with_match q m ≡ Ok (r, s) → q ≡ r
+    of_match q (Ok x) k = cc
+    of_match q (Err f) k = cc
+
+    by : (m : Result Registered Fault) → files_by m match_bytes ≡ Ok (r, s) → m ≡ Ok r
+    by (Ok q) k = ap Ok (of_match q (submitted_in q match_bytes) k)
+    by (Err f) k = cc
+
+module _ (market matched : Option (List ℕ)) where
+  pub market_refused : (e : Refusal) → IsRefusalOf market market_in e → IsRefused market matched (record { source = Market; refusal = e })
+  market_refused e h = record {
+    named = market_refusal_named market e h;
+    fault = λ m r.
+        let some = some_left matched in
+        of_left market (λ bytes is. record { bytes = some.0; are_left = some.1; is_so = ap (λ (x : Result Registered Fault). files_by x some.0) is }) (h.fault m r);
+  }
+
+  module _ (r : Registered) (of_market : OfLeft market (λ bytes. IsMarketOf bytes r)) where
+    pub files_there : (files : Files) → files.roster ≡ r → OfLeft matched (λ bytes. submitted_in r bytes ≡ Ok files.submitted) → AreFilesIn market matched files
+    files_there files same of_match =
+        of_left market (λ bytes is. of_left matched (λ match_bytes read.
+        ap (λ (x : Result Registered Fault). files_by x match_bytes) is ∙ ap (with_match r) read ∙ ap (λ (q : Registered). Ok (q, files.submitted)) (sym same)) of_match) of_market
+
+    pub match_refused : (e : Refusal) → IsRefusalOf matched (submitted_in r) e → IsRefused market matched (record { source = Match; refusal = e })
+    match_refused e h = record {
+      named = match_refusal_named matched e r h;
+      fault = λ m reads.
+          let f = h.fault m reads in
+          of_left market (λ bytes is. of_left matched (λ match_bytes fault.
+          ap (λ (x : Result Registered Fault). files_by x match_bytes) is ∙ ap (with_match r) fault) f) of_market;
+    }
+
+    pub stands : OfLeft market (λ bytes. (q : Registered) × IsMarketOf bytes q)
+    stands = of_left market (λ bytes is. (r, is)) of_market
+
+    -- the same of the results of a call
+    pub files_are : (result : Result Files Refused) → IfOk result (λ files. files.roster ≡ r)
+        → IfOk result (λ files. OfLeft matched (λ bytes. submitted_in r bytes ≡ Ok files.submitted)) → IfOk result (AreFilesIn market matched)
+    files_are (Ok files) same h = files_there files same h
+    files_are (Err e) same h = tt
+
+    pub refused_are : (result : Result Files Refused) → IfErr result (λ e. e.source ≡ Match) → IfErr result (λ e. IsRefusalOf matched (submitted_in r) e.refusal) → IfErr result (IsRefused market matched)
+    refused_are (Ok files) file h = tt
+    refused_are (Err e) file h = subst (λ (s : Source). IsRefused market matched (record { source = s; refusal = e.refusal })) (sym file) (match_refused e.refusal h)
+
+    pub match_in_turn : (reads : ℕ) (result : Result Files Refused) → IfErr result (λ e. e.source ≡ Match) → IfErr result (λ e. IsInTurn market reads e.source)
+    match_in_turn reads (Ok files) file = tt
+    match_in_turn reads (Err e) file = subst (IsInTurn market reads) (sym file) stands

@@ -1,0 +1,3 @@
+pub mod FileFacts
+pub mod NameFacts
+pub mod TapFacts

@@ -1,0 +1,84 @@
+ghost use Rattle.std.specs.Prelude.{◌≡◌, [], ◌∷◌, ◌+◌, ◌≤◌, codes, length, IsTrue};
+ghost use Rattle.mt_terms.specs.Text.{line, name_among};
+ghost use Rattle.mt_files.specs.Text.{is_code_of, refusals, refused_line, source_word};
+
+use crate::source::Source;
+use itoa::Buffer;
+use mt_match_file::codes as of_match;
+use mt_report::{RefusalLine, id_or_dash, code_name as known_name};
+
+/// The name of a refusal's code.
+fn code_name(source: Source, code: u16) -> &'static [u8]
+    requires { IsTrue (is_code_of source code) }
+    ensures name { result.now ≡ name_among refusals code }
+    ensures short { length result.now ≤ 16 }
+{
+    match code {
+        of_match::OTHER_RECORD => b"OtherRecord",
+        of_match::OTHER_FIELDS => b"OtherFields",
+        of_match::NO_SUCH_APPLICANT => b"NoSuchApplicant",
+        of_match::PLACED_TWICE => b"PlacedTwice",
+        of_match::NO_SUCH_PROGRAM => b"NoSuchProgram",
+        of_match::NOT_PLACED => b"NotPlaced",
+        _ => known_name(code),
+    }
+}
+
+/// The word for a file.
+fn source_word(source: Source) -> &'static [u8]
+    ensures word { result.now ≡ source_word source }
+    ensures short { length result.now ≤ 6 }
+{
+    match source {
+        Source::Market => b"market",
+        Source::Match => b"match",
+    }
+}
+
+// What a refusal line says of a record: its number, and the id at fault.
+#[derive(Clone, Copy)]
+struct AtRecord<'a> {
+    row: &'a [u8],
+    id: &'a [u8],
+}
+
+// The line of a refusal by its fields, but for those that all such lines have.
+fn by_fields<'a>(
+    word: &'a [u8],
+    code: &'a [u8],
+    name: &'a [u8],
+    source: &'a [u8],
+    at: AtRecord<'a>,
+) -> RefusalLine
+    requires { length word.now + length code.now + length name.now + length source.now + length at.row.now + length at.id.now ≤ 119 }
+    ensures { result ≡ line (word.now ∷ codes "1" ∷ codes "refused" ∷ code.now ∷ name.now ∷ source.now ∷ at.row.now ∷ at.id.now ∷ []) }
+{
+    let fields = [
+        b"1".as_slice(),
+        b"refused".as_slice(),
+        code,
+        name,
+        source,
+        at.row,
+        at.id,
+    ];
+    RefusalLine::of(word, &fields)
+}
+
+/// The one line of a refusal, which begins with this word. It has the code and its name, the file, and the number of
+/// the record at fault, or 0 if there is none. The id at fault comes last. An empty id is absent, and prints as `-`.
+pub fn refused(word: &[u8], source: Source, code: u16, row: u64, id: &[u8]) -> RefusalLine
+    requires word { length word.now ≤ 7 }
+    requires known { IsTrue (is_code_of source code) }
+    requires short { length id.now ≤ 64 }
+    ensures { result ≡ refused_line word.now source code row id.now }
+{
+    let mut of_code = Buffer::new();
+    let mut of_row = Buffer::new();
+    let code_text = of_code.format(code).as_bytes();
+    let at = AtRecord {
+        row: of_row.format(row).as_bytes(),
+        id: id_or_dash(id),
+    };
+    by_fields(word, code_text, code_name(source, code), source_word(source), at)
+}

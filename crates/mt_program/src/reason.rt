@@ -1,0 +1,36 @@
+ghost use Rattle.std.specs.Prelude.{◌+◌, ◌<◌, ◌^◌};
+ghost use Rattle.std.specs.Prelude.{◌≤◌};
+ghost use Rattle.mt_report.specs.Drains.{failures_of};
+
+use mt_report::{Drain, put_all};
+use std::alloc::Global;
+use std::io::{self, Write};
+
+/// The system's words in the text of an error, without the number after them.
+fn words_in(said: &str) -> &str {
+    match said.split_once(" (os error ") {
+        Some((words, _)) => words,
+        None => said,
+    }
+}
+
+/// Says why a file can't be opened, in the system's words, after the program's name and the file's path. If there is
+/// no memory for the line, it says nothing. The writer fails once, at the most.
+pub fn say_why<W: Write>(
+    drain: &mut Drain<W>,
+    alloc: Global,
+    program: &str,
+    path: &str,
+    error: &io::Error,
+)
+    requires { failures_of drain.old + 1 < 2 ^ 64 }
+    ensures { failures_of drain.new ≤ failures_of drain.old + 1 }
+{
+    let Ok(said) = format!(in alloc; "{error}") else {
+        return;
+    };
+    let words = words_in(said.as_str());
+    if let Ok(line) = format!(in alloc; "{program}: {path}: {words}\n") {
+        put_all(drain, line.as_bytes());
+    }
+}

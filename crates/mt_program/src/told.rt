@@ -1,0 +1,37 @@
+ghost use Rattle.std.specs.Prelude.{◌+◌, ◌<◌, ◌^◌};
+ghost use Rattle.mt_report.specs.Drains.{contents_of, failures_of};
+ghost use Rattle.mt_program.specs.Told.{IsTold};
+
+use mt_report::{Drain, put_all};
+use std::env;
+use std::io::{self, Write};
+
+/// The exit status of a command line that is wrong.
+pub const MISUSE: u8 = 64;
+
+/// The exit status of want of memory.
+pub const NO_MEMORY: u8 = 4;
+
+/// The exit status of a text that couldn't be written.
+pub const UNWRITTEN: u8 = 5;
+
+/// What a word that is no text is answered with.
+pub const NO_TEXT: &str = "error: invalid UTF-8 was detected in one or more arguments\n";
+
+/// The words after the program's name. One that is not UTF-8 is an error.
+pub fn words_of(rt: &HostRuntime) -> io::Result<Vec<String>> {
+    let mut words = Vec::new(rt.alloc());
+    for word in env::args(rt)?.skip(1) {
+        words.push(word)?;
+    }
+    Ok(words)
+}
+
+/// Writes a text, and gives the one exit status if it was wholly written, and the other if it wasn't.
+pub fn tell<W: Write>(drain: &mut Drain<W>, text: &[u8], done: u8, undone: u8) -> u8
+    requires { failures_of drain.old + 1 < 2 ^ 64 }
+    ensures { IsTold text.now done undone (contents_of W.contents drain.old) (contents_of W.contents drain.new) result }
+{
+    let wrote = put_all(drain, text);
+    if wrote.whole { done } else { undone }
+}
