@@ -1,35 +1,36 @@
 -- What a change of one record does to the applicants: the markets of the two files differ in that list or quota alone, and
 -- what is published for either is its best match. So the laws of the applicants give it.
-use Rattle.std.proofs.Common.{◌≡◌, ◌≢◌, ℕ, ◌<◌, ◌≤◌, Bool, true, false, ◌&&◌, List, [], ◌∷◌, ◌++◌, ◌⊎◌, inl, inr, length, get_or, Option, Some, None, Ok, Err, nat_lt, refl, sym, ap, ◌∙◌, subst, arith, if◌then◌else◌}
-use Rattle.std.specs.Prelude.{bytes_eq, codes, IsTrue}
+use Rattle.std.proofs.Common.{◌≡◌, ◌≢◌, ℕ, ◌<◌, ◌≤◌, true, List, [], ◌⊎◌, inl, inr, length, get_or, Some, Ok, refl, sym, ap, ◌∙◌, subst, arith}
+use Rattle.std.specs.Prelude.{bytes_eq, IsTrue}
 use Rattle.std.specs.List.{position_or_len}
 use Rattle.std.proofs.lemmas.Bool.{cases_lt}
 use Rattle.std.proofs.lemmas.List.{get_or_past}
 use Rattle.mt_lists.specs.Records.{records_of}
 use Rattle.mt_terms.specs.Best.{IsBest}
 use Rattle.mt_terms.specs.Market.{Market, Partners, Registered, list_of, singles_market}
-use Rattle.mt_terms.specs.Stability.{stable}
-use Rattle.mt_terms.specs.Registration.Faults.{record_fault_alone, fault_at}
-use Rattle.mt_terms.specs.declared.codes.TheConstants.{TOO_LARGE}
-use Rattle.mt_check.proofs.AnswerFacts.{answers_are_so_lem}
-use Rattle.mt_check.specs.Text.{stable_line}
 use Rattle.mt_terms.specs.Matching.{Places}
 use Rattle.mt_terms.specs.Registration.{market_of}
 use Rattle.mt_terms.specs.Registration.Accepted.{IsRegistration}
-use Rattle.mt_terms.specs.Registration.Ids.{Bytes, all_differ, is_id, numbers_of, quota_of}
-use Rattle.mt_terms.specs.Registration.Numbering.{registered}
-use Rattle.mt_terms.specs.Registration.Records.{ApplicantRecord, ProgramRecord, Record, Rules, rules_of}
+use Rattle.mt_terms.specs.Registration.Ids.{Bytes, all_differ, numbers_of}
+use Rattle.mt_terms.specs.Stability.{stable}
 use Rattle.mt_terms.specs.Text.{name_of}
 use Rattle.mt_stability_laws.proofs.ExclusionLemmas.{best_is_at_least_lem}
-use Rattle.mt_file_laws.specs.Faultless.{draft, drafts}
-use Rattle.mt_check.specs.Headline.{market_in, most_bytes, submitted_in}
+use Rattle.mt_input.specs.Files.{market_in}
+use Rattle.mt_input.proofs.MarketFacts.{market_of_rows, registration_of}
 use Rattle.mt_match_file.specs.Submitted.{Submitted}
+use Rattle.mt_files.specs.Files.{submitted_in}
+use Rattle.mt_check.proofs.AnswerFacts.{answers_are_so_lem}
+use Rattle.mt_check.specs.Text.{stable_line}
 use Rattle.mt_applicant_laws.specs.Changes.{HasAtLeast, with_list}
 use Rattle.mt_applicant_laws.proofs.EasierMarkets.{more_posts_hurt_none_lem, one_less_hurts_no_other_lem}
 use Rattle.mt_applicant_laws.proofs.ListChanges.{no_stable_match_gives_more_lem}
+use Rattle.mt_change_laws.specs.Changes.{ListChanged, QuotaChanged}
+use Rattle.mt_change_laws.proofs.FileChanges.{lists_of_files, quotas_of_files}
+use Rattle.mt_text_laws.specs.Counts.{published_counts}
+use Rattle.mt_text_laws.proofs.ReadBackFacts.{own_number}
 use Rattle.mt_answer_laws.specs.FileLaws.{HigherQuotaInFileHurtsNone, NoCalledMatchGivesMore, NoneGainsByAnotherRecord, OneLessInFileHurtsNoOther}
 use Rattle.mt_answer_laws.specs.TwoFiles.{CalledStable, Publishes}
-use Rattle.mt_answer_laws.proofs.CalledStable.{of_market, of_match}
+use Rattle.mt_answer_laws.proofs.CalledStable.{of_match}
 use Rattle.mt_answer_laws.proofs.PublishedFacts.{published_of}
 use Rattle.mt_answer_laws.proofs.RecordChanges.{ListChanged, QuotaChanged, list_changed, quota_changed}
 use Rattle.mt_answer_laws.proofs.RecordParts.{Parts, parts_of}
@@ -45,86 +46,19 @@ pub record IsAccepted (rows : List (List Bytes)) (r : Registered) (places : Plac
 pub accepted : (bytes : List ℕ) (r : Registered) (places : Places) (rows : List (List Bytes)) → records_of bytes ≡ Some rows → Publishes bytes r places → IsAccepted rows r places
 accepted bytes r places rows are h =
     let p = published_of bytes h.budget h.text h.is_answer in
-    let market : market_in bytes ≡ Ok p.registered = of_market bytes h.text p in
-    let tells : submitted_in p.registered h.text ≡ Ok (record { places = p.places; counts = published_counts p.registered.market p.places }) = of_match bytes h.text p in
+    let market : market_in bytes ≡ Ok p.registered = p.is_market in
+    let read : submitted_in p.registered h.text ≡ Ok (record { places = p.places; counts = published_counts p.registered.market p.places }) = of_match bytes h.text p in
     let same : p.registered ≡ r = cc (h.of_bytes) in
-    let same_rows : p.rows ≡ rows = cc (p.are_rows) in
     let of_text : submitted_in p.registered h.text ≡ Ok (record { places = places; counts = h.counts }) = ap (λ (q : Registered). submitted_in q h.text) same ∙ h.of_text in
     let both : ◌≡◌ {A = Submitted} (record { places = p.places; counts = published_counts p.registered.market p.places }) (record { places = places; counts = h.counts }) = cc in
     let same_places : p.places ≡ places = ap (λ (submitted : Submitted). submitted.places) both in
     record {
-      is_market = sym (ap market_of same_rows) ∙ p.is_market ∙ ap Ok same;
-      registration = subst IsRegistration same p.registration;
+      is_market = market_of_rows bytes r rows h.of_bytes are;
+      registration = registration_of bytes r h.of_bytes;
       is_best = λ none.
           let none_there : p.registered.market.couples ≡ [] = ap (λ (q : Registered). q.market.couples) same ∙ none in
           subst (λ (q : Registered). IsBest q.market places) same (subst (λ (ps : Places). IsBest p.registered.market ps) (p.same_alone none_there ∙ same_places) p.is_best);
     }
-
--- the records of the two rows
-no_version : (id : Bytes) (list : List Bytes) → rules_of (codes "applicant" ∷ id ∷ list) ≡ None
-no_version id [] = refl
-no_version id (x ∷ list) = refl
-
-applicant_drafted : (rules : Rules) (id : Bytes) (list : List Bytes) (here : Record) → draft rules (codes "applicant" ∷ id ∷ list) ≡ Some here → here ≡ ApplicantRecord id list
-applicant_drafted rules id list here h = by rules.withdrawals (is_id rules.limits.id_bytes id) _ h
-  where
-    by : (w b : Bool) (withdrawal : Option Record) → (if w && false then withdrawal else if b then Some (ApplicantRecord id list) else None) ≡ Some here → here ≡ ApplicantRecord id list
-    by true true withdrawal k = cc
-    by true false withdrawal k = cc
-    by false true withdrawal k = cc
-    by false false withdrawal k = cc
-
-program_drafted : (rules : Rules) (id field : Bytes) (quota : ℕ) (list : List Bytes) (here : Record) → quota_of field ≡ Some quota
-    → draft rules (codes "program" ∷ id ∷ field ∷ list) ≡ Some here → here ≡ ProgramRecord id quota list
-program_drafted rules id field quota list here is h = by rules.withdrawals (is_id rules.limits.id_bytes id) _ (rw is at h)
-  where
-    by : (w b : Bool) (withdrawal : Option Record) → (if w && false then withdrawal else if b then Some (ProgramRecord id quota list) else None) ≡ Some here → here ≡ ProgramRecord id quota list
-    by true true withdrawal k = cc
-    by true false withdrawal k = cc
-    by false true withdrawal k = cc
-    by false false withdrawal k = cc
-
--- the other records of the two files are the same
-same_others : (before : List (List Bytes)) (row other : List Bytes) (after : List (List Bytes)) (r s : Registered) (p : Parts before row after r) (q : Parts before other after s)
-    → (p.earlier ≡ q.earlier) × (p.later ≡ q.later)
-same_others before row other after r s p q =
-    let starts : p.version ∷ p.front ≡ q.version ∷ q.front = sym p.head ∙ q.head in
-    let version : p.version ≡ q.version = cc in
-    let front : p.front ≡ q.front = cc in
-    let both_rules : Some p.rules ≡ Some q.rules = sym p.is_version ∙ ap rules_of version ∙ q.is_version in
-    let rules : p.rules ≡ q.rules = cc in
-    let earlier : Some p.earlier ≡ Some q.earlier = sym p.earlier_is ∙ same_drafts p.rules q.rules p.front q.front rules front ∙ q.earlier_is in
-    let later : Some p.later ≡ Some q.later = sym p.later_is ∙ same_drafts p.rules q.rules (with_fields after) (with_fields after) rules refl ∙ q.later_is in
-    (cc, cc)
-  where
-    same_drafts : (rules others : Rules) (xs ys : List (List Bytes)) → rules ≡ others → xs ≡ ys → drafts rules xs ≡ drafts others ys
-    same_drafts rules others xs ys e f = rw (e, f) refl
-
-around : (earlier later more rest : List Record) (here there : Record) → earlier ≡ more → later ≡ rest → here ≡ there → earlier ++ here ∷ later ≡ more ++ there ∷ rest
-around earlier later more rest here there e f g = rw (e, f, g) refl
-
--- so the markets of two files that differ in one record are those of records that do
-module _ (before after : List (List Bytes)) (r s : Registered) where
-  lists_of_files : (id : Bytes) (list other : List Bytes) → market_of (before ++ (codes "applicant" ∷ id ∷ list) ∷ after) ≡ Ok r → market_of (before ++ (codes "applicant" ∷ id ∷ other) ∷ after) ≡ Ok s
-      → (s.names ≡ r.names) × ((s.market ≡ r.market) ⊎ ListChanged r s id other)
-  lists_of_files id list other one two =
-      let p = parts_of before (codes "applicant") (id ∷ list) after r (no_version id list) one in
-      let q = parts_of before (codes "applicant") (id ∷ other) after s (no_version id other) two in
-      let same = same_others before (codes "applicant" ∷ id ∷ list) (codes "applicant" ∷ id ∷ other) after r s p q in
-      list_changed id list other p.earlier p.later r s
-      (ap registered (around p.earlier p.later p.earlier p.later (ApplicantRecord id list) p.here refl refl (sym (applicant_drafted p.rules id list p.here p.here_is))) ∙ p.market_is)
-      (ap registered (around p.earlier p.later q.earlier q.later (ApplicantRecord id other) q.here same.0 same.1 (sym (applicant_drafted q.rules id other q.here q.here_is))) ∙ q.market_is)
-
-  quotas_of_files : (id field other_field : Bytes) (quota other : ℕ) (list : List Bytes) → quota_of field ≡ Some quota → quota_of other_field ≡ Some other
-      → market_of (before ++ (codes "program" ∷ id ∷ field ∷ list) ∷ after) ≡ Ok r → market_of (before ++ (codes "program" ∷ id ∷ other_field ∷ list) ∷ after) ≡ Ok s
-      → (s.names ≡ r.names) × ((s.market ≡ r.market) ⊎ QuotaChanged r s quota other)
-  quotas_of_files id field other_field quota other list is other_is one two =
-      let p = parts_of before (codes "program") (id ∷ field ∷ list) after r refl one in
-      let q = parts_of before (codes "program") (id ∷ other_field ∷ list) after s refl two in
-      let same = same_others before (codes "program" ∷ id ∷ field ∷ list) (codes "program" ∷ id ∷ other_field ∷ list) after r s p q in
-      quota_changed id quota other list p.earlier p.later r s
-      (ap registered (around p.earlier p.later p.earlier p.later (ProgramRecord id quota list) p.here refl refl (sym (program_drafted p.rules id field quota list p.here is p.here_is))) ∙ p.market_is)
-      (ap registered (around p.earlier p.later q.earlier q.later (ProgramRecord id other list) q.here same.0 same.1 (sym (program_drafted q.rules id other_field other list q.here other_is q.here_is))) ∙ q.market_is)
 
 -- an id has one number
 one_number : (ids : List Bytes) (a k : ℕ) → all_differ bytes_eq ids ≡ true → a < length ids → k < length ids → get_or ids a [] ≡ get_or ids k [] → a ≡ k
@@ -192,13 +126,9 @@ called bytes r places rows are h =
     let submitted : ◌≡◌ {A = Submitted} judged.submitted (record { places = places; counts = h.counts }) = cc (judged.of_match) in
     let same_places : judged.submitted.places ≡ places = ap (λ (t : Submitted). t.places) submitted in
     record {
-      is_market = by (nat_lt most_bytes (length bytes)) (rw are at h.of_bytes);
+      is_market = market_of_rows bytes r rows h.of_bytes are;
       is_stable = subst (λ (q : Registered). IsTrue (stable q.market places)) same (subst (λ (ps : Places). IsTrue (stable judged.registered.market ps)) same_places (judged.stable.0 refl).0);
     }
-  where
-    by : (large : Bool) → (if large then Err (fault_at 0 (record_fault_alone TOO_LARGE)) else market_of rows) ≡ Ok r → market_of rows ≡ Ok r
-    by true k = cc
-    by false k = k
 
 pub none_gains_by_another_record_lem : NoneGainsByAnotherRecord
 none_gains_by_another_record_lem bytes other_bytes id list other_list d r s places other one two none =

@@ -1,10 +1,4 @@
-pub mod LineTexts
-pub mod PublishedRows
-pub mod ReadBackFacts
-pub mod Bounds
 pub mod PublishedFacts
 pub mod CalledStable
-pub mod RecordParts
-pub mod RecordChanges
 pub mod FileLawFacts
 pub mod PublishedAlone

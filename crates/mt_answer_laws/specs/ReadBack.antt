@@ -5,7 +5,8 @@ use Rattle.mt_terms.specs.Matching.{Places}
 use Rattle.mt_terms.specs.Stability.{stable}
 use Rattle.mt_terms.specs.Text.{published}
 use Rattle.mt_match_file.specs.Submitted.{Submitted}
-use Rattle.mt_check.specs.Headline.{market_in, submitted_in}
+use Rattle.mt_input.specs.Files.{market_in}
+use Rattle.mt_files.specs.Files.{submitted_in}
 
 -- A text is that of a stable match of the market in the bytes, and what it tells of that market is that match.
 pub record IsReadBack (bytes text : List ℕ) : Type 0 where

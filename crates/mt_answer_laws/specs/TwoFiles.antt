@@ -7,7 +7,8 @@ use Rattle.mt_terms.specs.Registration.Ids.{Bytes, quota_of}
 use Rattle.mt_run.specs.Answer as run
 use Rattle.mt_match_file.specs.declared.submitted_match.Counted.{Counted}
 use Rattle.mt_check.specs.Answer as check
-use Rattle.mt_check.specs.Headline.{market_in, submitted_in}
+use Rattle.mt_input.specs.Files.{market_in}
+use Rattle.mt_files.specs.Files.{submitted_in}
 use Rattle.mt_check.specs.Text.{stable_line}
 
 -- the records of two files are the same, but for the list of one applicant's record

@@ -37,15 +37,11 @@ returns c = record {
     one = refl;
     two = refl;
   };
-  honest = publishes chain_bytes (file_1 ("program,P1,1,a2,a3,a1" ∷ "program,P2,1,a1,a2" ∷ "applicant,a1,P1,P2" ∷ "applicant,a2,P2,P1" ∷ "applicant,a3,P1" ∷ []))
-      (chain_names chain) (Some 1 ∷ Some 0 ∷ None ∷ []) refl refl refl (best_by_events chain by_wishes refl refl) refl;
-  lie = publishes lie_bytes (file_1 ("program,P1,1,a2,a3,a1" ∷ "program,P2,1,a1,a2" ∷ "applicant,a1,P1" ∷ "applicant,a2,P2,P1" ∷ "applicant,a3,P1" ∷ []))
-      (chain_names (with_list chain 0 (0 ∷ []))) (None ∷ Some 1 ∷ Some 0 ∷ []) refl refl refl
+  honest = publishes chain_bytes (chain_names chain) (Some 1 ∷ Some 0 ∷ None ∷ []) refl (best_by_events chain by_wishes refl refl) refl;
+  lie = publishes lie_bytes (chain_names (with_list chain 0 (0 ∷ []))) (None ∷ Some 1 ∷ Some 0 ∷ []) refl
       (best_by_events (with_list chain 0 (0 ∷ [])) (Propose 0 ∷ Propose 1 ∷ Propose 2 ∷ Notice 0 ∷ []) refl refl) refl;
-  one_less = publishes one_less_bytes (file_1 ("program,P1,1,a2,a3,a1" ∷ "program,P2,1,a1,a2" ∷ "applicant,a1,P1,P2" ∷ "applicant,a2,P2,P1" ∷ "applicant,a3" ∷ []))
-      (chain_names (with_list chain 2 [])) (Some 0 ∷ Some 1 ∷ None ∷ []) refl refl refl
+  one_less = publishes one_less_bytes (chain_names (with_list chain 2 [])) (Some 0 ∷ Some 1 ∷ None ∷ []) refl
       (best_by_events (with_list chain 2 []) (Propose 0 ∷ Propose 1 ∷ []) refl refl) refl;
-  one_post_more = publishes one_post_more_bytes (file_1 ("program,P1,2,a2,a3,a1" ∷ "program,P2,1,a1,a2" ∷ "applicant,a1,P1,P2" ∷ "applicant,a2,P2,P1" ∷ "applicant,a3,P1" ∷ []))
-      (chain_names (with_quota chain 0 2)) (Some 0 ∷ Some 1 ∷ Some 0 ∷ []) refl refl refl
+  one_post_more = publishes one_post_more_bytes (chain_names (with_quota chain 0 2)) (Some 0 ∷ Some 1 ∷ Some 0 ∷ []) refl
       (best_by_events (with_quota chain 0 2) (Propose 0 ∷ Propose 1 ∷ Propose 2 ∷ []) refl refl) refl;
 }

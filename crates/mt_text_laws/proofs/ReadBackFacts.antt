@@ -16,8 +16,8 @@ use Rattle.mt_terms.proofs.IdFacts.{is_same, same_id}
 use Rattle.mt_match_file.specs.Submitted.{all_read, nothing_read, place_named, submitted_by}
 use Rattle.mt_match_file.specs.declared.submitted_match.Count.TheVariants as count
 use Rattle.mt_match_file.specs.declared.submitted_match.Counted.{Counted}
-use Rattle.mt_check.specs.Findings.{first_differing_of, fits_count}
-use Rattle.mt_answer_laws.proofs.PublishedRows.{IsTellable, applicant_fields, id_at, id_no_dash, program_fields, published_rows, totals_fields}
+use Rattle.mt_text_laws.specs.Counts.{counts_from, published_counts, totals_count}
+use Rattle.mt_text_laws.proofs.PublishedRows.{IsTellable, applicant_fields, id_at, id_no_dash, program_fields, published_rows, totals_fields}
 
 -- an id has the number of its place, where ids differ
 pub own_number : (ids : List Bytes) (i : ℕ) → all_differ bytes_eq ids ≡ true → i < length ids → position_or_len (bytes_eq (get_or ids i [])) ids ≡ i
@@ -40,19 +40,6 @@ own_number (x ∷ xs) (suc i) h lt = by (bytes_eq (get_or xs i []) x) refl (own_
 -- an id that stands at a place among ids that differ is found there
 pub position_own : (ids : List Bytes) (i : ℕ) → all_differ bytes_eq ids ≡ true → i < length ids → position (bytes_eq (get_or ids i [])) ids ≡ Some i
 position_own ids i h lt = rw (own_number ids i h lt, lt-ltb i (length ids) lt) refl
-
--- the counts that rows from the i-th on tell, of programs from p on
-abbrev pub counts_from : Market → Places → ℕ → ℕ → ℕ → List Counted
-counts_from m places i p zero = []
-counts_from m places i p (suc k) =
-    record { row = i; count = count.Program p (program_of m p).quota (filled places p) } ∷ counts_from m places (i + 1) (p + 1) k
-
-abbrev pub totals_count : Market → Places → ℕ → Counted
-totals_count m places i = record { row = i; count = count.Totals (applicants m) (unmatched places) (positions m) (positions m - all_filled m places) }
-
-abbrev pub published_counts : Market → Places → List Counted
-published_counts m places =
-    counts_from m places (2 + applicants m) 0 (length m.programs) ++ totals_count m places (2 + applicants m + length m.programs) ∷ []
 
 module _ (m : Market) (names : Names) (places : Places) (received : List ℕ) (t : IsTellable m names places received)
     (applicants_differ : all_differ bytes_eq names.applicants ≡ true) (programs_differ : all_differ bytes_eq names.programs ≡ true) where
@@ -158,21 +145,3 @@ module _ (m : Market) (names : Names) (places : Places) (received : List ℕ) (t
 
   pub read_back : submitted_by (record { market = m; names = names }) (published_rows m names places received) ≡ Ok (record { places = places; counts = published_counts m places })
   read_back = rw (all_rows, none_unplaced places, whole_places places) refl
-
--- these counts fit
-counts_fit : (m : Market) (places : Places) (i p k : ℕ) (more : List Counted) → p + k ≤ length m.programs
-    → find (λ c. not (fits_count m places (Counted.count c))) (counts_from m places i p k ++ more) ≡ find (λ c. not (fits_count m places (Counted.count c))) more
-counts_fit m places i p zero more le = refl
-counts_fit m places i p (suc k) more le =
-    rw (lt-ltb p (length m.programs) (omega arith), eq-eqb (program_of m p).quota (program_of m p).quota refl, eq-eqb (filled places p) (filled places p) refl)
-    (counts_fit m places (i + 1) (p + 1) k more (omega arith))
-
-pub none_differs : (m : Market) (places : Places) → first_differing_of m places (published_counts m places) ≡ None
-none_differs m places =
-    rw (
-      counts_fit m places (2 + applicants m) 0 (length m.programs) (totals_count m places (2 + applicants m + length m.programs) ∷ []) (omega arith),
-      eq-eqb (applicants m) (applicants m) refl,
-      eq-eqb (unmatched places) (unmatched places) refl,
-      eq-eqb (positions m) (positions m) refl,
-      eq-eqb (positions m - all_filled m places) (positions m - all_filled m places) refl,
-    ) refl

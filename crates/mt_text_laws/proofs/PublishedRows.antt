@@ -17,7 +17,7 @@ use Rattle.mt_terms.specs.Market.{Market, Names, applicants, program_of}
 use Rattle.mt_terms.specs.Matching.{Places, filled, place_of}
 use Rattle.mt_terms.specs.Registration.Ids.{Bytes, is_dash, is_id, is_id_byte}
 use Rattle.mt_terms.specs.Text.{all_filled, applicant_lines, line, program_lines, totals_line, name_of, place_text, positions, published, unmatched}
-use Rattle.mt_answer_laws.proofs.LineTexts.{is_plain, is_plain_row, text_of}
+use Rattle.mt_text_laws.proofs.LineTexts.{is_plain, is_plain_row, text_of}
 
 -- the digits of a number stand in ids
 digits_plain : (ds : List ℕ) → AllDigits 10 ds → (list_all is_ascii_digit ds ≡ true) × (list_all is_id_byte ds ≡ true)
@@ -106,15 +106,16 @@ published_is_text m names places received =
     ∙ parts)
 
 -- ids, dashes and such numbers are plain
-four_parts : (p q r s : Bool) → (p && q && r && s) ≡ true → (p ≡ true) × (q ≡ true) × (r ≡ true) × (s ≡ true)
-four_parts true true true s h = (refl, refl, refl, h)
-four_parts true true false s h = cc
-four_parts true false r s h = cc
-four_parts false q r s h = cc
-
 id_parts : (id : Bytes) → is_id 64 id ≡ true
     → (nat_lt 0 (length id) ≡ true) × (nat_le (length id) 64 ≡ true) × (list_all is_id_byte id ≡ true) × (not (is_dash id) ≡ true)
-id_parts id h = four_parts (nat_lt 0 (length id)) (nat_le (length id) 64) (list_all is_id_byte id) (not (is_dash id)) h
+id_parts id h =
+    let some = nat_lt 0 (length id) in
+    let short = nat_le (length id) 64 in
+    let bytes = list_all is_id_byte id in
+    let all = and_parts (some && short && bytes) (not (is_dash id)) h in
+    let three = and_parts (some && short) bytes all.0 in
+    let two = and_parts some short three.0 in
+    (two.0, two.1, three.1, all.1)
 
 pub id_plain : (id : Bytes) → is_id 64 id ≡ true → is_plain id ≡ true
 id_plain id h = let parts = id_parts id h in and_from (nat_lt 0 (length id)) (list_all is_id_byte id) parts.0 parts.2

@@ -12,6 +12,7 @@ use Rattle.mt_terms.specs.Text.{name_of}
 use Rattle.mt_file_laws.specs.Staying.{stays_without}
 use Rattle.mt_file_laws.proofs.StayingFacts.{remaining_is}
 use Rattle.mt_applicant_laws.specs.Changes.{with_list, with_quota}
+use Rattle.mt_change_laws.specs.Changes.{ListChanged, QuotaChanged}
 
 -- the market of the records that stay, with its names
 abbrev of_staying : List Record → Registered
@@ -95,13 +96,6 @@ module _ (before after : List Record) (x y : Record) where
     couples = swap_filter_map (own_id OfCouple) (alike.own_alike OfCouple) i;
   }
 
--- A market whose list of the applicant with an id may be another one.
-pub record ListChanged (r s : Registered) (id : Bytes) (other : List Bytes) : Type 0 where
-  pub number : ℕ
-  pub within : number < length r.names.applicants
-  pub has_id : name_of r.names.applicants number ≡ id
-  pub market_is : s.market ≡ with_list r.market number (numbers_of r.names.programs other)
-
 lists_long : (names : Names) (rs : List Record) → length (flat_map (lists_in names) rs) ≡ length (applicant_ids rs)
 lists_long names [] = refl
 lists_long names (ProgramRecord id quota list ∷ rs) = lists_long names rs
@@ -176,12 +170,6 @@ module _ (id : Bytes) (list other : List Bytes) where
                   (subst (λ (q : Registered). ListChanged (of_staying (both.front ++ ApplicantRecord id list ∷ both.back)) q id other) second (list_in both.front both.back))),
             )
       ]
-
--- A market whose quota of one program may be another one.
-pub record QuotaChanged (r s : Registered) (quota other : ℕ) : Type 0 where
-  pub number : ℕ
-  pub quota_is : (program_of r.market number).quota ≡ quota
-  pub market_is : s.market ≡ with_quota r.market number other
 
 module _ (id : Bytes) (quota other : ℕ) (list : List Bytes) where
   programs_are_alike : (before after : List Record) → AreAlike before after (ProgramRecord id quota list) (ProgramRecord id other list)

@@ -5,52 +5,29 @@ use Rattle.std.specs.List.{range_with_len}
 use Rattle.std.proofs.lemmas.Bool.{cases_lt}
 use Rattle.std.proofs.lemmas.List.{get_or_past}
 use Rattle.std.proofs.lemmas.List.Concat.{flat_map-append}
-use Rattle.mt_terms.specs.Best.{proposals, proposed_to}
-use Rattle.mt_terms.specs.Lists.{below, has, total_below}
+use Rattle.mt_terms.specs.Lists.{below, total_below}
 use Rattle.mt_terms.specs.Market.{Market, Names, Registered, applicants, program_of}
 use Rattle.mt_terms.specs.Matching.{Places, filled, is_program, place_of}
 use Rattle.mt_terms.specs.Places.{ArePlaces}
 use Rattle.mt_terms.specs.Registration.Accepted.{IsRegistration}
 use Rattle.mt_terms.specs.Registration.Ids.{Bytes}
 use Rattle.mt_terms.specs.Text.{all_filled, line, name_of, place_text, positions, unmatched}
-use Rattle.mt_terms.proofs.BelowFacts.{length-map_below, map_below_at}
 use Rattle.mt_terms.proofs.ListFacts.{count-le-length}
-use Rattle.mt_answer.specs.Answer.{all_proposals}
-use Rattle.mt_answer_laws.proofs.LineTexts.{text_of}
-use Rattle.mt_answer_laws.proofs.PublishedRows.{IsTellable, applicant_fields, id_at, id_short, is_told, place_plain, program_fields, published_rows, totals_fields}
+use Rattle.mt_text_laws.proofs.LineTexts.{text_of}
+use Rattle.mt_text_laws.proofs.PublishedRows.{IsTellable, applicant_fields, id_at, id_short, is_told, place_plain, program_fields, published_rows, totals_fields}
 
 -- a sum of terms that are at most so much
-total_at_most : (f : ℕ → ℕ) (most n : ℕ) → ((k : ℕ) → f k ≤ most) → total_below f n ≤ n * most
+pub total_at_most : (f : ℕ → ℕ) (most n : ℕ) → ((k : ℕ) → f k ≤ most) → total_below f n ≤ n * most
 total_at_most f most zero h = omega arith
 total_at_most f most (suc n) h =
     let rest = total_at_most f most n h in
     let here = h n in
     omega arith
 
--- no program received more proposals than there are applicants
-one_or_none : (b : Bool) → (if b then 1 else 0) ≤ 1
-one_or_none true = omega arith
-one_or_none false = omega arith
-
-proposals_at_most : (m : Market) (best : Places) (p : ℕ) → proposals m best p ≤ applicants m
-proposals_at_most m best p =
-    let most : total_below (λ a. if has (proposed_to m best a) p then 1 else 0) (applicants m) ≤ applicants m * 1 =
-    total_at_most (λ a. if has (proposed_to m best a) p then 1 else 0) 1 (applicants m) (λ a. one_or_none (has (proposed_to m best a) p)) in
-    omega arith
-
-received_at_most : (r : Registered) (best : Places) (p : ℕ) → slice_index_or (all_proposals r best) p 0 ≤ applicants r.market
-received_at_most r best p = elim (cases_lt p (length r.market.programs)) [
-  | inl low ↦ rw (map_below_at (proposals r.market best) (length r.market.programs) p 0 low) (proposals_at_most r.market best p)
-  | inr high ↦ (
-      let past : length (all_proposals r best) ≤ p = omega (arith, length-map_below (proposals r.market best) (length r.market.programs)) in
-      let none : get_or (all_proposals r best) p 0 ≡ 0 = get_or_past (all_proposals r best) p 0 past in
-      rw none (omega arith))
-]
-
 -- a match of a registered market can be told
-pub is_tellable : (r : Registered) → IsRegistration r → (best places : Places) → ArePlaces r.market places
-    → IsTellable r.market r.names places (all_proposals r best)
-is_tellable r h best places are =
+pub is_tellable : (r : Registered) → IsRegistration r → (received : List ℕ) → ((p : ℕ) → slice_index_or received p 0 ≤ applicants r.market)
+    → (places : Places) → ArePlaces r.market places → IsTellable r.market r.names places received
+is_tellable r h received few_received places are =
     let few : applicants r.market ≤ 100000 = h.few_applicants in
     let each : length places ≡ applicants r.market = are.one_each in
     let some_programs : length r.market.programs ≤ 20000 = h.few_programs in
@@ -65,7 +42,7 @@ is_tellable r h best places are =
       program_ids = h.program_names.are_ids;
       quota = λ p. let quota : (program_of r.market p).quota ≤ 9999 = h.quotas p in is_told (program_of r.market p).quota (omega arith);
       placed = λ p. let here : filled places p ≤ length places = count-le-length (is_program p) places in is_told (filled places p) (omega arith);
-      proposed = λ p. let here = received_at_most r best p in is_told (slice_index_or (all_proposals r best) p 0) (omega arith);
+      proposed = λ p. let here = few_received p in is_told (slice_index_or received p 0) (omega arith);
       all = is_told (applicants r.market) (omega arith);
       unmatched = is_told (unmatched places) (omega arith);
       posts = is_told (positions r.market) (omega arith);

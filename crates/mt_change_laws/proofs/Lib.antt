@@ -1,0 +1,3 @@
+pub mod RecordParts
+pub mod RecordChanges
+pub mod FileChanges

@@ -1,0 +1,6 @@
+//! A law of published texts: a text is read back as the match that it publishes.
+#![tactic(auto)]
+
+mod laws;
+
+pub use laws::published_is_read;
