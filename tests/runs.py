@@ -7,10 +7,10 @@ FORMAT, CHECK = "docs/FORMAT.md", "docs/CHECK.md"
 NRMATCH, NRCHECK = "share/nrmatch.1", "share/nrcheck.1"
 # Of each program: the page and the manual page that have its facts, the crate that has its exit statuses, and the crate
 # of the codes that they list.
-PROGRAMS = {"nrmatch": (FORMAT, NRMATCH, "mt_run", "mt_terms"), "nrcheck": (CHECK, NRCHECK, "mt_check", "mt_match_file")}
+PROGRAMS = {"nrmatch": (FORMAT, NRMATCH, "mt_report", "mt_terms"), "nrcheck": (CHECK, NRCHECK, "mt_report", "mt_match_file")}
 # The crates that have codes, and the crate that has the exit statuses, by the first field of an answer.
 CODE_CRATES = ("mt_terms", "mt_match_file")
-ANSWERS = {"match": "mt_run", "check": "mt_check"}
+ANSWERS = {"match": "mt_report", "check": "mt_report"}
 # The codes of mt_terms that a program never has: only rounds spend a budget.
 NOT_CODES_OF = {"nrmatch": set(), "nrcheck": {41}}
 
