@@ -81,4 +81,3 @@ received_at_most r best p = elim (cases_lt p (length r.market.programs)) [
       let none : get_or (all_proposals r best) p 0 ≡ 0 = get_or_past (all_proposals r best) p 0 past in
       rw none (omega arith))
 ]
-

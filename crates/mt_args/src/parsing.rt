@@ -29,7 +29,8 @@ pub fn asked(alloc: Global, words: &[String]) -> Result<Asked, AskEnd>
     ensures help { IfOk result (λ a. OnHelp a (AsksForHelp (texts_of words.now))) }
     ensures help_untaken { IfOk result (λ a. OnHelp a (is_taken (texts_of words.now) ≡ false)) }
     ensures version { IfOk result (λ a. OnVersion a (AsksForVersion (texts_of words.now))) }
-    ensures version_untaken { IfOk result (λ a. OnVersion a (is_taken (texts_of words.now) ≡ false)) }
+    ensures version_untaken { IfOk result
+        (λ a. OnVersion a (is_taken (texts_of words.now) ≡ false)) }
     ensures usage { IfErr result (λ e. OnUsage e (IsMisuse (texts_of words.now))) }
     ensures usage_untaken { IfErr result (λ e. OnUsage e (is_taken (texts_of words.now) ≡ false)) }
 {
@@ -41,7 +42,8 @@ pub fn asked(alloc: Global, words: &[String]) -> Result<Asked, AskEnd>
 
 // The matches of the command, or `clap`'s error.
 fn parsed<'a>(alloc: Global, words: &'a [String]) -> Result<ArgMatches<'a>, Error>
-    ensures rows { IfOk result (λ m. rows_of (found_of m) ≡ matches_of nrmatch (texts_of words.entry.now)) }
+    ensures rows { IfOk result (λ m. rows_of (found_of m)
+        ≡ matches_of nrmatch (texts_of words.entry.now)) }
     ensures options { IfOk result (λ m. HasOptions (rows_of (found_of m))) }
     ensures taken { IfOk result (λ _. is_taken (texts_of words.entry.now) ≡ true) }
     ensures err { IfErr result (λ e. kind_of e ≢ OutOfMemory
@@ -57,7 +59,8 @@ fn run_of(alloc: Global, matches: &ArgMatches<'_>) -> Result<Asked, AskEnd>
     requires { HasOptions (rows_of (found_of matches.now)) }
     ensures run { IfOk result (λ a. OnHelp a ⊥) }
     ensures no_version { IfOk result (λ a. OnVersion a ⊥) }
-    ensures file { IfOk result (λ a. IfRun a (λ file _. file ≡ file_in (rows_of (found_of matches.now)))) }
+    ensures file { IfOk result (λ a. IfRun a
+        (λ file _. file ≡ file_in (rows_of (found_of matches.now)))) }
     ensures workers { IfOk result (λ a. IfRun a (λ _ options.
         Some options.workers ≡ number_in (codes "workers") (rows_of (found_of matches.now)))) }
     ensures budget { IfOk result (λ a. IfRun a (λ _ options.

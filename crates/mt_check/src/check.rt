@@ -32,8 +32,8 @@ fn found<T: Threads + Sync>(
     submitted: &SubmittedMatch,
 ) -> Result<Found, AllocError>
     requires { ArePlaces roster.now.market submitted.now.places }
-    ensures answer { IfOk result (λ found.
-        answer_seen found ≡ finding_answer roster.now (finding_of roster.now.market submitted.now)) }
+    ensures answer { IfOk result (λ found. answer_seen found
+        ≡ finding_answer roster.now (finding_of roster.now.market submitted.now)) }
     ensures code { IfOk result (λ found. found.code ≤ 1) }
 {
     roster.is_of_a_file();
@@ -45,13 +45,19 @@ fn found<T: Threads + Sync>(
 }
 
 /// The answer to a market and a match. The error is want of memory, which the line says of the match.
-fn answer_to_files<T: Threads + Sync>(rt: &T, alloc: Global, files: &Files) -> Result<Found, Refused>
+fn answer_to_files<T: Threads + Sync>(
+    rt: &T,
+    alloc: Global,
+    files: &Files,
+) -> Result<Found, Refused>
     requires { ArePlaces files.now.roster.market files.now.submitted.places }
     ensures answer { IfOk result (λ found. answer_seen found
-        ≡ finding_answer files.now.roster (finding_of files.now.roster.market files.now.submitted)) }
+        ≡ finding_answer files.now.roster
+        (finding_of files.now.roster.market files.now.submitted)) }
     ensures code { IfOk result (λ found. found.code ≤ 1) }
     ensures source { IfErr result (λ e. e.source ≡ Source.Match) }
-    ensures memory { IfErr result (λ e. fault_of e.refusal ≡ record { code = OUT_OF_MEMORY; row = 0; id = [] }) }
+    ensures memory { IfErr result (λ e. fault_of e.refusal
+        ≡ record { code = OUT_OF_MEMORY; row = 0; id = [] }) }
 {
     match found(rt, alloc, &files.roster, &files.submitted) {
         Ok(found) => Ok(found),
@@ -71,13 +77,16 @@ fn answer<T: Threads + Sync, R: Read, S: Read>(
 ) -> Result<Found, Refused>
     requires market { reads_of market.old + most_bytes < u64.MAX }
     requires matched { reads_of matched.old + most_bytes < u64.MAX }
-    ensures found { IfOk result (λ found. OfBoth (bytes_left R.remaining market.old) (bytes_left S.remaining matched.old)
-        (λ market_bytes match_bytes. IsAnswer market_bytes match_bytes found.code found.text.items)) }
+    ensures found { IfOk result (λ found. OfBoth
+        (bytes_left R.remaining market.old) (bytes_left S.remaining matched.old)
+        (λ xs ys. IsAnswer xs ys found.code found.text.items)) }
     ensures code { IfOk result (λ found. found.code ≤ 1) }
-    ensures refused { IfErr result (IsRefused (bytes_left R.remaining market.old) (bytes_left S.remaining matched.old)) }
+    ensures refused { IfErr result (IsRefused (bytes_left R.remaining market.old)
+        (bytes_left S.remaining matched.old)) }
     ensures in_turn { IfErr result (λ e. IsInTurn (bytes_left R.remaining market.old)
         (reads_of matched.new - reads_of matched.old) e.source) }
-    ensures fault { (end_code result ≡ READ_FAULT) ↔ ((read_failures_of market.old < read_failures_of market.new)
+    ensures fault { (end_code result ≡ READ_FAULT)
+        ↔ ((read_failures_of market.old < read_failures_of market.new)
         ⊎ (read_failures_of matched.old < read_failures_of matched.new)) }
     ensures market_tap { TakesFile R.remaining market.old market.new }
     ensures match_tap { TakesFile S.remaining matched.old matched.new }
@@ -102,12 +111,16 @@ pub fn check<T: Threads + Sync, R: Read, S: Read, W: Write>(
     requires market { reads_of market.old + most_bytes < u64.MAX }
     requires matched { reads_of matched.old + most_bytes < u64.MAX }
     requires failures { failures_of drain.old + 1 < 2 ^ 64 }
-    ensures answers { Answers (bytes_left R.remaining market.old)
-        (bytes_left S.remaining matched.old) (reads_of matched.new - reads_of matched.old)
-        (contents_of W.contents drain.old) (contents_of W.contents drain.new) result.code result.written result.whole }
-    ensures writer { failures_of drain.new ≡ failures_of drain.old + (if result.whole then 0 else 1) }
+    ensures answers { Answers
+        (bytes_left R.remaining market.old) (bytes_left S.remaining matched.old)
+        (reads_of matched.new - reads_of matched.old)
+        (contents_of W.contents drain.old) (contents_of W.contents drain.new)
+        result.code result.written result.whole }
+    ensures writer { failures_of drain.new
+        ≡ failures_of drain.old + (if result.whole then 0 else 1) }
     ensures flushed { IsTrue result.whole → IsTrue (is_flushed drain.new) }
-    ensures fault { (result.code ≡ READ_FAULT) ↔ ((read_failures_of market.old < read_failures_of market.new)
+    ensures fault { (result.code ≡ READ_FAULT)
+        ↔ ((read_failures_of market.old < read_failures_of market.new)
         ⊎ (read_failures_of matched.old < read_failures_of matched.new)) }
     ensures market_taken { TakesFile R.remaining market.old market.new }
     ensures match_taken { TakesFile S.remaining matched.old matched.new }

@@ -37,7 +37,6 @@ impl<'a> Tally<'a> {
         ensures market { IfOk result (λ tally. market_of tally ≡ roster.entry.now.market) }
         ensures places { IfOk result (λ tally. places_of tally ≡ matched.entry.now.places) }
     {
-        roster.is_of_a_file();
         let places = matched.places.as_slice();
         let at_programs = filled_counts(alloc, roster.programs() as usize, places)?;
         let posts = position_count(roster);

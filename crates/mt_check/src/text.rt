@@ -44,7 +44,8 @@ fn blocker_line(
     option: u32,
 ) -> Result<Vec<u8>, AllocError>
     requires { option < length (options roster.now.market agent) }
-    ensures { IfOk result (λ text. text.items ≡ finding_line roster.now (Of (Blocks (record { agent = agent; option = option })))) }
+    ensures { IfOk result (λ text. text.items
+        ≡ finding_line roster.now (Of (Blocks (record { agent = agent; option = option })))) }
 {
     let word = b"blocks".as_slice();
     let option = option as usize;

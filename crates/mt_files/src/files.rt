@@ -46,7 +46,8 @@ fn match_of(alloc: Global, rows: &Rows<'_>, roster: &Roster) -> Result<Submitted
 /// The match in some bytes, or its refusal.
 fn submitted_in(alloc: Global, bytes: &[u8], roster: &Roster) -> Result<SubmittedMatch, Refusal>
     requires { length bytes.now ≤ most_bytes }
-    ensures submitted { IfOk result (λ submitted. submitted_in roster.now bytes.now ≡ Ok submitted) }
+    ensures submitted { IfOk result (λ submitted. submitted_in roster.now bytes.now
+        ≡ Ok submitted) }
     ensures places { IfOk result (λ submitted. ArePlaces roster.now.market submitted.places) }
     ensures refused { IfErr result (IsRefusalIn (submitted_in roster.now bytes.now)) }
 {
@@ -67,7 +68,8 @@ fn read_submitted<S: Read>(
     ensures submitted { IfOk result (λ submitted. OfLeft (bytes_left S.remaining tap.old)
         (λ bytes. submitted_in roster.now bytes ≡ Ok submitted)) }
     ensures places { IfOk result (λ submitted. ArePlaces roster.now.market submitted.places) }
-    ensures refused { IfErr result (IsRefusalOf (bytes_left S.remaining tap.old) (submitted_in roster.now)) }
+    ensures refused { IfErr result (IsRefusalOf (bytes_left S.remaining tap.old)
+        (submitted_in roster.now)) }
     ensures fault { (code_of result ≡ READ_FAULT) ↔ (failures_of tap.old < failures_of tap.new) }
     ensures tap { TakesFile S.remaining tap.old tap.new }
 {
@@ -85,7 +87,8 @@ fn with_match<S: Read>(alloc: Global, roster: Roster, tap: &mut Tap<S>) -> Resul
         (λ bytes. submitted_in roster bytes ≡ Ok files.submitted)) }
     ensures places { IfOk result (λ files. ArePlaces roster.market files.submitted.places) }
     ensures source { IfErr result (λ e. e.source ≡ Source.Match) }
-    ensures refused { IfErr result (λ e. IsRefusalOf (bytes_left S.remaining tap.old) (submitted_in roster) e.refusal) }
+    ensures refused { IfErr result (λ e. IsRefusalOf (bytes_left S.remaining tap.old)
+        (submitted_in roster) e.refusal) }
     ensures fault { (end_code result ≡ READ_FAULT) ↔ (failures_of tap.old < failures_of tap.new) }
     ensures tap { TakesFile S.remaining tap.old tap.new }
 {
@@ -108,13 +111,16 @@ pub fn read_files<T: Threads + Sync, R: Read, S: Read>(
 ) -> Result<Files, Refused>
     requires market { reads_of market.old + most_bytes < u64.MAX }
     requires matched { reads_of matched.old + most_bytes < u64.MAX }
-    ensures files { IfOk result (AreFilesIn (bytes_left R.remaining market.old) (bytes_left S.remaining matched.old)) }
+    ensures files { IfOk result (AreFilesIn (bytes_left R.remaining market.old)
+        (bytes_left S.remaining matched.old)) }
     ensures places { IfOk result (λ files. ArePlaces files.roster.market files.submitted.places) }
-    ensures refused { IfErr result (IsRefused (bytes_left R.remaining market.old) (bytes_left S.remaining matched.old)) }
+    ensures refused { IfErr result (IsRefused (bytes_left R.remaining market.old)
+        (bytes_left S.remaining matched.old)) }
     ensures in_turn { IfErr result (λ e. IsInTurn (bytes_left R.remaining market.old)
         (reads_of matched.new - reads_of matched.old) e.source) }
     ensures fault { (end_code result ≡ READ_FAULT)
-        ↔ ((failures_of market.old < failures_of market.new) ⊎ (failures_of matched.old < failures_of matched.new)) }
+        ↔ ((failures_of market.old < failures_of market.new)
+        ⊎ (failures_of matched.old < failures_of matched.new)) }
     ensures market_tap { TakesFile R.remaining market.old market.new }
     ensures match_tap { TakesFile S.remaining matched.old matched.new }
 {

@@ -5,7 +5,7 @@ ghost use Rattle.mt_files.specs.Text.{is_code_of, refusals, refused_line, source
 use crate::source::Source;
 use itoa::Buffer;
 use mt_match_file::codes as of_match;
-use mt_report::{RefusalLine, id_or_dash, code_name as known_name};
+use mt_report::{RefusalLine, code_name as known_name, id_or_dash};
 
 /// The name of a refusal's code.
 fn code_name(source: Source, code: u16) -> &'static [u8]
@@ -50,8 +50,10 @@ fn by_fields<'a>(
     source: &'a [u8],
     at: AtRecord<'a>,
 ) -> RefusalLine
-    requires { length word.now + length code.now + length name.now + length source.now + length at.row.now + length at.id.now ≤ 119 }
-    ensures { result ≡ line (word.now ∷ codes "1" ∷ codes "refused" ∷ code.now ∷ name.now ∷ source.now ∷ at.row.now ∷ at.id.now ∷ []) }
+    requires { length word.now + length code.now + length name.now + length source.now
+        + length at.row.now + length at.id.now ≤ 119 }
+    ensures { result ≡ line (word.now ∷ codes "1" ∷ codes "refused" ∷ code.now ∷ name.now
+        ∷ source.now ∷ at.row.now ∷ at.id.now ∷ []) }
 {
     let fields = [
         b"1".as_slice(),
@@ -80,5 +82,11 @@ pub fn refused(word: &[u8], source: Source, code: u16, row: u64, id: &[u8]) -> R
         row: of_row.format(row).as_bytes(),
         id: id_or_dash(id),
     };
-    by_fields(word, code_text, code_name(source, code), source_word(source), at)
+    by_fields(
+        word,
+        code_text,
+        code_name(source, code),
+        source_word(source),
+        at,
+    )
 }

@@ -49,7 +49,8 @@ pub fn read_market<T: Threads + Sync, R: Read>(
     tap: &mut Tap<R>,
 ) -> Result<Roster, Refusal>
     requires { reads_of tap.old + most_bytes < u64.MAX }
-    ensures market { IfOk result (λ roster. OfLeft (bytes_left R.remaining tap.old) (λ bytes. IsMarketOf bytes roster)) }
+    ensures market { IfOk result (λ roster. OfLeft (bytes_left R.remaining tap.old)
+        (λ bytes. IsMarketOf bytes roster)) }
     ensures refused { IfErr result (IsRefusalOf (bytes_left R.remaining tap.old) market_in) }
     ensures fault { (code_of result ≡ READ_FAULT) ↔ (failures_of tap.old < failures_of tap.new) }
     ensures tap { TakesFile R.remaining tap.old tap.new }

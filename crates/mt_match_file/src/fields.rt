@@ -48,7 +48,8 @@ pub(crate) fn two<'a>(fields: Fields<'a>) -> Option<(&'a [u8], &'a [u8])>
 /// The fields, if there are just four.
 pub(crate) fn four<'a>(fields: Fields<'a>) -> Option<(&'a [u8], &'a [u8], &'a [u8], &'a [u8])>
     ensures { MatchOption result (four_of (fields_left fields.entry) ≡ None)
-        (λ four. four_of (fields_left fields.entry) ≡ Some (four.0.now, four.1.now, four.2.now, four.3.now)) }
+        (λ four. four_of (fields_left fields.entry)
+        ≡ Some (four.0.now, four.1.now, four.2.now, four.3.now)) }
 {
     let mut rest = fields;
     let first = rest.next()?;

@@ -40,7 +40,8 @@ fn applicant_line<'a>(
     places: &[Option<Option<ProgNo>>],
     fields: Fields<'a>,
 ) -> Result<Line, RecordFault<'a>>
-    ensures { line_seen result ≡ applicant_line (market_of ids.now).names places.now (two_of (fields_left fields.entry)) }
+    ensures { line_seen result ≡ applicant_line (market_of ids.now).names places.now
+        (two_of (fields_left fields.entry)) }
 {
     let Some((id, field)) = two(fields) else {
         return Err(RecordFault::alone(OTHER_FIELDS));
@@ -59,7 +60,8 @@ fn applicant_line<'a>(
 
 /// The counts of a program, by the fields after its first.
 fn program_line<'a>(ids: &Ids<'_>, fields: Fields<'a>) -> Result<Line, RecordFault<'a>>
-    ensures { line_seen result ≡ program_line (market_of ids.now).names (four_of (fields_left fields.entry)) }
+    ensures { line_seen result ≡ program_line (market_of ids.now).names
+        (four_of (fields_left fields.entry)) }
 {
     let Some((id, quota, filled, received)) = four(fields) else {
         return Err(RecordFault::alone(OTHER_FIELDS));
@@ -103,7 +105,8 @@ pub(crate) fn line_of<'a>(
     places: &[Option<Option<ProgNo>>],
     fields: Fields<'a>,
 ) -> Result<Line, RecordFault<'a>>
-    ensures { line_seen result ≡ line_of (market_of ids.now).names places.now (fields_left fields.entry) }
+    ensures { line_seen result ≡ line_of (market_of ids.now).names places.now
+        (fields_left fields.entry) }
 {
     let mut rest = fields;
     let Some(word) = rest.next() else {

@@ -25,8 +25,10 @@ fn read_fields(
     fields: Fields<'_>,
 ) -> Result<(), MatchError>
     requires { length so_far.old.places.items ≡ applicants (market_of ids.now).market }
-    ensures reads { Reads (market_of ids.now).names (read_so_far so_far.old) (read_so_far so_far.new) (number, fields_left fields.entry) result }
-    ensures places { IfOk result (λ _. length so_far.new.places.items ≡ length so_far.old.places.items) }
+    ensures reads { Reads (market_of ids.now).names (read_so_far so_far.old)
+        (read_so_far so_far.new) (number, fields_left fields.entry) result }
+    ensures places { IfOk result (λ _. length so_far.new.places.items
+        ≡ length so_far.old.places.items) }
 {
     match line_of(ids, &so_far.places, fields) {
         Ok(line) => {
@@ -40,8 +42,10 @@ fn read_fields(
 /// Adds what a row says, if it has a field.
 fn read_row(ids: &Ids<'_>, so_far: &mut SoFar, number: u64, row: &Row<'_>) -> Result<(), MatchError>
     requires { length so_far.old.places.items ≡ applicants (market_of ids.now).market }
-    ensures reads { ReadsRow (market_of ids.now).names (read_so_far so_far.old) (read_so_far so_far.new) number row.now result }
-    ensures places { IfOk result (λ _. length so_far.new.places.items ≡ length so_far.old.places.items) }
+    ensures reads { ReadsRow (market_of ids.now).names (read_so_far so_far.old)
+        (read_so_far so_far.new) number row.now result }
+    ensures places { IfOk result (λ _. length so_far.new.places.items
+        ≡ length so_far.old.places.items) }
 {
     if row.is_empty() {
         return Ok(());
@@ -52,9 +56,11 @@ fn read_row(ids: &Ids<'_>, so_far: &mut SoFar, number: u64, row: &Row<'_>) -> Re
 /// What all rows say.
 fn read_rows(alloc: Global, ids: &Ids<'_>, rows: RowsIter<'_>) -> Result<SoFar, MatchError>
     requires { length (rows_left rows) + 1 < 2 ^ 64 }
-    ensures reads { GivesSoFar result (all_read (market_of ids.now).names (nothing_read (applicants (market_of ids.now).market))
+    ensures reads { GivesSoFar result (all_read (market_of ids.now).names
+        (nothing_read (applicants (market_of ids.now).market))
         (numbered_from 1 (rows_left rows.entry))) }
-    ensures places { IfOk result (λ s. length s.places.items ≡ applicants (market_of ids.now).market) }
+    ensures places { IfOk result (λ s. length s.places.items
+        ≡ applicants (market_of ids.now).market) }
 {
     let mut so_far = SoFar::new(alloc, ids.roster())?;
     let mut number = 1;
@@ -68,7 +74,11 @@ fn read_rows(alloc: Global, ids: &Ids<'_>, rows: RowsIter<'_>) -> Result<SoFar, 
 /// The match that the records of a text say, whatever program wrote them: a place for each applicant of the market,
 /// and the counts. The error is their first fault, or want of memory. A record is a list of fields without its
 /// trailing empty ones. Records are counted from 1, and one without a field is passed over.
-pub fn read_match(alloc: Global, rows: &Rows<'_>, roster: &Roster) -> Result<SubmittedMatch, MatchError>
+pub fn read_match(
+    alloc: Global,
+    rows: &Rows<'_>,
+    roster: &Roster,
+) -> Result<SubmittedMatch, MatchError>
     ensures submitted { IfOk result (λ submitted. submitted_by roster.now rows.now ≡ Ok submitted) }
     ensures places { IfOk result (λ submitted. ArePlaces roster.now.market submitted.places) }
     ensures fault { IfErr result (λ error. Tells error (submitted_by roster.now rows.now)) }

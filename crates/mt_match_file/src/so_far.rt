@@ -53,7 +53,8 @@ impl SoFar {
 
     /// The places of all applicants. An applicant whose place no record said has none.
     fn all_places(&self, alloc: Global) -> Result<Vec<Option<ProgNo>>, AllocError>
-        ensures { IfOk result (λ v. v.items ≡ map (λ place. unwrap_or place None) self.now.places.items) }
+        ensures { IfOk result (λ v. v.items
+            ≡ map (λ place. unwrap_or place None) self.now.places.items) }
     {
         let mut places = Vec::with_capacity(alloc, self.places.len())?;
         for place in &self.places {
@@ -63,9 +64,14 @@ impl SoFar {
     }
 
     /// The match, if each applicant has its place. The error is the first applicant that has none, or want of memory.
-    pub(crate) fn into_match(self, alloc: Global, roster: &Roster) -> Result<SubmittedMatch, MatchError>
+    pub(crate) fn into_match(
+        self,
+        alloc: Global,
+        roster: &Roster,
+    ) -> Result<SubmittedMatch, MatchError>
         requires { length self.places.items ≡ applicants roster.now.market }
-        ensures { Gives result (match_of roster.now.names (read_so_far self) (first_unplaced (read_so_far self))) }
+        ensures { Gives result (match_of roster.now.names (read_so_far self)
+            (first_unplaced (read_so_far self))) }
     {
         if let Some(missing) = self.first_unplaced() {
             roster.is_of_a_file();

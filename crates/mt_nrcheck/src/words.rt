@@ -42,7 +42,8 @@ pub(crate) fn asked(alloc: Global, words: &[String]) -> Result<Request, AllocErr
 
 /// The matches of the command, or `clap`'s error.
 fn parsed<'a>(alloc: Global, words: &'a [String]) -> Result<ArgMatches<'a>, Error>
-    ensures rows { IfOk result (λ m. rows_of (found_of m) ≡ matches_of nrcheck (texts_of words.entry.now)) }
+    ensures rows { IfOk result (λ m. rows_of (found_of m)
+        ≡ matches_of nrcheck (texts_of words.entry.now)) }
     ensures kinds { FailsBy (fault_of nrcheck (texts_of words.entry.now)) result }
 {
     command(alloc)?.try_get_matches_from(words)

@@ -30,7 +30,8 @@ pub fn words_of(rt: &HostRuntime) -> io::Result<Vec<String>> {
 /// Writes a text, and gives the one exit status if it was wholly written, and the other if it wasn't.
 pub fn tell<W: Write>(drain: &mut Drain<W>, text: &[u8], done: u8, undone: u8) -> u8
     requires { failures_of drain.old + 1 < 2 ^ 64 }
-    ensures { IsTold text.now done undone (contents_of W.contents drain.old) (contents_of W.contents drain.new) result }
+    ensures { IsTold text.now done undone (contents_of W.contents drain.old)
+        (contents_of W.contents drain.new) result }
 {
     let wrote = put_all(drain, text);
     if wrote.whole { done } else { undone }

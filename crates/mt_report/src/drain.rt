@@ -39,8 +39,10 @@ impl<W: Write> Drain<W> {
         requires room { failures_of self.old + 1 < 2 ^ 64 }
         requires some { 0 < length piece.now }
         ensures bound { result ≤ length piece.now }
-        ensures appended { Appends (contents_of W.contents self.old) (contents_of W.contents self.new) (take result piece.now) }
-        ensures failures { failures_of self.new ≡ failures_of self.old + (if result == 0 then 1 else 0) }
+        ensures appended { Appends (contents_of W.contents self.old)
+            (contents_of W.contents self.new) (take result piece.now) }
+        ensures failures { failures_of self.new
+            ≡ failures_of self.old + (if result == 0 then 1 else 0) }
         ensures flushed { is_flushed self.new ≡ ((result == 0) && is_flushed self.old) }
     {
         match self.writer.write(piece) {
@@ -58,7 +60,8 @@ impl<W: Write> Drain<W> {
     /// Flushes the writer, and says whether that succeeded.
     pub(crate) fn flush(&mut self) -> bool
         requires { failures_of self.old + 1 < 2 ^ 64 }
-        ensures appended { Appends (contents_of W.contents self.old) (contents_of W.contents self.new) (take 0 []) }
+        ensures appended { Appends (contents_of W.contents self.old)
+            (contents_of W.contents self.new) (take 0 []) }
         ensures failures { failures_of self.new ≡ failures_of self.old + (if result then 0 else 1) }
         ensures flushed { is_flushed self.new ≡ (result || is_flushed self.old) }
     {

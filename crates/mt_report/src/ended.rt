@@ -42,9 +42,11 @@ impl Ended {
 pub fn end<W: Write>(drain: &mut Drain<W>, code: u16, text: &[u8]) -> Ended
     requires { failures_of drain.old + 1 < 2 ^ 64 }
     ensures code { result.code ≡ code }
-    ensures written { IsWritten text.now (contents_of W.contents drain.old) (contents_of W.contents drain.new)
+    ensures written { IsWritten text.now (contents_of W.contents drain.old)
+        (contents_of W.contents drain.new)
         result.written result.whole }
-    ensures failures { failures_of drain.new ≡ failures_of drain.old + (if result.whole then 0 else 1) }
+    ensures failures { failures_of drain.new
+        ≡ failures_of drain.old + (if result.whole then 0 else 1) }
     ensures flushed { IsTrue result.whole → IsTrue (is_flushed drain.new) }
 {
     let wrote = put_all(drain, text);

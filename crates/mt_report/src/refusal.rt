@@ -43,7 +43,8 @@ pub fn id_or_dash(id: &[u8]) -> &[u8]
 // The line of a refusal by its fields after the first three.
 fn by_fields<'a>(code: &'a [u8], name: &'a [u8], row: &'a [u8], id: &'a [u8]) -> RefusalLine
     requires { length code.now + length name.now + length row.now + length id.now ≤ 115 }
-    ensures { result ≡ line (codes "match" ∷ codes "1" ∷ codes "refused" ∷ code.now ∷ name.now ∷ row.now ∷ id.now ∷ []) }
+    ensures { result ≡ line (codes "match" ∷ codes "1" ∷ codes "refused" ∷ code.now ∷ name.now
+        ∷ row.now ∷ id.now ∷ []) }
 {
     let fields = [b"1".as_slice(), b"refused".as_slice(), code, name, row, id];
     RefusalLine::of(b"match", &fields)

@@ -41,7 +41,8 @@ fn push_program(
     filled: u32,
     received: u32,
 ) -> Result<(), AllocError>
-    ensures ok { OnOk result (text.new.items ≡ text.old.items ++ counts_line id.now quota filled received) }
+    ensures ok { OnOk result (text.new.items
+        ≡ text.old.items ++ counts_line id.now quota filled received) }
 {
     text.extend_from_slice(b"program,")?;
     text.extend_from_slice(id)?;
@@ -66,7 +67,8 @@ fn place_id<'a>(roster: &'a Roster, matched: &Match, applicant: AppNo) -> &'a [u
 /// Adds the lines of all applicants.
 fn push_applicants(text: &mut Vec<u8>, roster: &Roster, matched: &Match) -> Result<(), AllocError>
     requires { ArePlaces roster.now.market matched.now.places }
-    ensures ok { OnOk result (text.new.items ≡ text.old.items ++ applicant_lines roster.now.market roster.now.names matched.now.places) }
+    ensures ok { OnOk result (text.new.items
+        ≡ text.old.items ++ applicant_lines roster.now.market roster.now.names matched.now.places) }
 {
     for number in 0..roster.applicants() {
         let applicant = AppNo(number);
@@ -86,7 +88,8 @@ fn push_programs(
 ) -> Result<(), AllocError>
     requires counts { counts.now ≡ filled_counts roster.now.market matched.now.places }
     requires received { length received.now ≡ length roster.now.market.programs }
-    ensures ok { OnOk result (text.new.items ≡ text.old.items ++ program_lines roster.now.market roster.now.names matched.now.places received.now) }
+    ensures ok { OnOk result (text.new.items ≡ text.old.items
+        ++ program_lines roster.now.market roster.now.names matched.now.places received.now) }
 {
     for number in 0..roster.programs() {
         let program = ProgNo(number);
@@ -110,7 +113,8 @@ fn push_numbers(
     positions: u64,
     unfilled: u64,
 ) -> Result<(), AllocError>
-    ensures ok { OnOk result (text.new.items ≡ text.old.items ++ sums_line applicants unmatched positions unfilled) }
+    ensures ok { OnOk result (text.new.items
+        ≡ text.old.items ++ sums_line applicants unmatched positions unfilled) }
 {
     text.extend_from_slice(b"totals")?;
     push_number(text, u64::from(applicants))?;
@@ -130,7 +134,8 @@ fn push_totals(
 ) -> Result<(), AllocError>
     requires places { ArePlaces roster.now.market matched.now.places }
     requires counts { counts.now ≡ filled_counts roster.now.market matched.now.places }
-    ensures ok { OnOk result (text.new.items ≡ text.old.items ++ totals_line roster.now.market matched.now.places) }
+    ensures ok { OnOk result (text.new.items
+        ≡ text.old.items ++ totals_line roster.now.market matched.now.places) }
 {
     let applicants = roster.applicants();
     let unmatched = unmatched_count(matched.places.as_slice());
@@ -156,7 +161,8 @@ pub fn published(
 ) -> Result<Vec<u8>, AllocError>
     requires places { ArePlaces roster.now.market matched.now.places }
     requires received { length received.now ≡ length roster.now.market.programs }
-    ensures { IfOk result (λ v. v.items ≡ published_text roster.now.market roster.now.names matched.now.places received.now) }
+    ensures { IfOk result (λ v. v.items
+        ≡ published_text roster.now.market roster.now.names matched.now.places received.now) }
 {
     let counts = filled_counts(alloc, roster.programs() as usize, matched.places.as_slice())?;
     let mut text = Vec::with_capacity(alloc, likely_len(roster))?;

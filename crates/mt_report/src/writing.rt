@@ -16,9 +16,11 @@ pub struct Wrote {
 /// Writes bytes in turns, and stops at the writer's first failure. It flushes once, if all were taken.
 pub fn put_all<W: Write>(drain: &mut Drain<W>, bytes: &[u8]) -> Wrote
     requires { failures_of drain.old + 1 < 2 ^ 64 }
-    ensures written { IsWritten bytes.now (contents_of W.contents drain.old) (contents_of W.contents drain.new)
+    ensures written { IsWritten bytes.now (contents_of W.contents drain.old)
+        (contents_of W.contents drain.new)
         result.written result.whole }
-    ensures failures { failures_of drain.new ≡ failures_of drain.old + (if result.whole then 0 else 1) }
+    ensures failures { failures_of drain.new
+        ≡ failures_of drain.old + (if result.whole then 0 else 1) }
     ensures flushed { IsTrue result.whole → IsTrue (is_flushed drain.new) }
 {
     let mut written = 0;

@@ -27,9 +27,11 @@ fn answer_to_input<T: Threads + Wait + Sync, R: Read>(
 ) -> Result<Vec<u8>, Refusal>
     requires reads { reads_of tap.old + most_bytes < u64.MAX }
     requires workers { (1 ≤ options.workers) × (options.workers ≤ 64) }
-    ensures text { IfOk result (λ text. IsAnswerTo (bytes_left R.remaining tap.old) options.budget 0 text.items) }
+    ensures text { IfOk result (λ text. IsAnswerTo
+        (bytes_left R.remaining tap.old) options.budget 0 text.items) }
     ensures refused { IfErr result (IsRefusalTo (bytes_left R.remaining tap.old) options.budget) }
-    ensures fault { (code_of result ≡ READ_FAULT) ↔ (read_failures_of tap.old < read_failures_of tap.new) }
+    ensures fault { (code_of result ≡ READ_FAULT)
+        ↔ (read_failures_of tap.old < read_failures_of tap.new) }
     ensures tap { TakesFile R.remaining tap.old tap.new }
 {
     match read_market(rt, alloc, tap) {
@@ -51,12 +53,16 @@ pub fn run<T: Threads + Wait + Sync, R: Read, W: Write>(
     requires failures { failures_of drain.old + 1 < 2 ^ 64 }
     requires workers { (1 ≤ options.workers) × (options.workers ≤ 64) }
     ensures answers { Answers (bytes_left R.remaining tap.old) options.budget
-        (contents_of W.contents drain.old) (contents_of W.contents drain.new) result.code result.written result.whole }
+        (contents_of W.contents drain.old) (contents_of W.contents drain.new)
+        result.code result.written result.whole }
     ensures singles { PublishesSingles (bytes_left R.remaining tap.old) result.code }
-    ensures writer { failures_of drain.new ≡ failures_of drain.old + (if result.whole then 0 else 1) }
+    ensures writer { failures_of drain.new
+        ≡ failures_of drain.old + (if result.whole then 0 else 1) }
     ensures flushed { IsTrue result.whole → IsTrue (is_flushed drain.new) }
-    ensures fault { (result.code ≡ READ_FAULT) ↔ (read_failures_of tap.old < read_failures_of tap.new) }
-    ensures taken { LosesAtMost (most_bytes + 1) (bytes_left R.remaining tap.old) (bytes_left R.remaining tap.new) }
+    ensures fault { (result.code ≡ READ_FAULT)
+        ↔ (read_failures_of tap.old < read_failures_of tap.new) }
+    ensures taken { LosesAtMost (most_bytes + 1) (bytes_left R.remaining tap.old)
+        (bytes_left R.remaining tap.new) }
     ensures reads { RisesAtMost (most_bytes + 1) (reads_of tap.old) (reads_of tap.new) }
     ensures failures { RisesAtMost 1 (read_failures_of tap.old) (read_failures_of tap.new) }
 {

@@ -15,7 +15,7 @@ filled_total-requires c =
       ap length c.in_ok-at_programs.ensures,
       length-map_below (filled c.as_slice-places.result.now) c.programs.result,
       c.programs.ensures.count,
-      c.is_of_a_file.ensures.few_programs,
+      c.programs.ensures.registration.few_programs,
     )
 
 pub invariant_of-result : goal.invariant_of-result
@@ -31,7 +31,7 @@ invariant_of-result c =
     ∙ ap (total_below (slice_index counts)) (length-map_below (filled places) n)
     ∙ total_below-same (slice_index counts) (filled places) n (λ p h. map_below_at (filled places) n p 0 h) in
     record {
-      of_a_file = c.is_of_a_file.ensures;
+      of_a_file = c.programs.ensures.registration;
       are_at_programs = at;
       are_unplaced = c.unmatched_count.ensures ∙ ap unmatched c.as_slice-places.ensures;
       are_posts = c.position_count-posts.ensures;
