@@ -1,2 +1,3 @@
 pub mod Drains
 pub mod Status
+pub mod Names

@@ -1,5 +1,6 @@
 ghost use Rattle.std.specs.Prelude.{◌≡◌, [], ◌∷◌, ◌+◌, ◌≤◌, codes, length, IsTrue};
-ghost use Rattle.mt_terms.specs.Text.{id_text, is_known_code, line, name_among, refusals, refused as refused_text};
+ghost use Rattle.mt_terms.specs.Text.{id_text, is_known_code, line, refused as refused_text};
+ghost use Rattle.mt_report.specs.Names.{name_of_code};
 
 use crate::line::RefusalLine;
 use itoa::Buffer;
@@ -8,7 +9,7 @@ use mt_terms::codes;
 /// The name of a refusal's code.
 pub fn code_name(code: u16) -> &'static [u8]
     requires { IsTrue (is_known_code code) }
-    ensures name { result.now ≡ name_among refusals code }
+    ensures name { result.now ≡ name_of_code code }
     ensures short { length result.now ≤ 16 }
 {
     match code {
