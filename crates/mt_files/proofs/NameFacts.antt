@@ -1,7 +1,7 @@
 -- Each refusal of a file is named: by the codes of its faults, which are no code of a failed read or of want of memory.
-use Rattle.std.proofs.Common.{◌≡◌, ◌≢◌, ℕ, ◌<◌, ◌≤◌, Bool, true, false, ◌||◌, List, [], Option, Some, Ok, Err, refl, sym, ap, ◌∙◌, subst, arith, inl, inr}
+use Rattle.std.proofs.Common.{◌≡◌, ◌≢◌, ℕ, ◌<◌, ◌≤◌, Bool, true, false, ◌&&◌, ◌||◌, List, [], Option, Some, Ok, Err, refl, sym, ap, ◌∙◌, subst, arith, inl, inr, nat_le}
 use Rattle.std.specs.Prelude.{◌==◌}
-use Rattle.std.proofs.lemmas.Bool.{cases_eq, true≢false}
+use Rattle.std.proofs.lemmas.Bool.{and_parts, cases_eq, true≢false}
 use Rattle.std.proofs.lemmas.Bool.Decides.{nat_tests}
 use Rattle.mt_terms.specs.Lists.{has}
 use Rattle.mt_terms.specs.Market.{Registered}
@@ -27,9 +27,27 @@ market_codes code h low =
     let other : (code == 41) ≡ false = grind (arith, nat_tests) in
     rw (h, other) refl
 
--- of the codes up to 22, those whose lines name nothing are no fault of a record
-no_fault : (code : ℕ) → is_code_alone code ≡ true → is_fault_code code ≡ false
-no_fault code h = grind (arith, nat_tests)
+-- the codes of a market's records are 12 to 22, and their lines name the record
+record IsInRange (code : ℕ) : Type 0 where
+  low : 12 ≤ code
+  high : code ≤ 22
+
+range_of : (code : ℕ) → is_fault_code code ≡ true → IsInRange code
+range_of code h =
+    let outer = and_parts (is_known_code code && nat_le 12 code) (nat_le code 22) h in
+    let low : nat_le 12 code ≡ true = (and_parts (is_known_code code) (nat_le 12 code) outer.0).1 in
+    let high : nat_le code 22 ≡ true = outer.1 in
+    record { low = grind (arith, nat_tests); high = grind (arith, nat_tests) }
+
+not_alone_in_market : (code : ℕ) → 12 ≤ code → code ≤ 22 → is_code_alone code ≡ false
+not_alone_in_market code low high = grind (arith, nat_tests)
+
+alone_in_market : (f : Fault) → IsNamedRefusal f.code f.row f.id → is_code_alone f.code ≡ true → (f.row ≡ 0) × (f.id ≡ [])
+alone_in_market f named no = by (is_fault_code f.code) refl
+  where
+    by : (b : Bool) → is_fault_code f.code ≡ b → (f.row ≡ 0) × (f.id ≡ [])
+    by false is = named.alone is
+    by true is = let range = range_of f.code is in absurd (true≢false (sym no ∙ not_alone_in_market f.code range.low range.high))
 
 match_codes : (code : ℕ) → has fault_codes code ≡ true → 50 ≤ code
 match_codes code h = grind (arith, nat_tests)
@@ -61,7 +79,7 @@ market_named bytes f h =
     record {
       known = market_codes f.code fault.named.known fault.low;
       is_id = fault.named.is_id;
-      alone = λ no. fault.named.alone (no_fault f.code no);
+      alone = alone_in_market f fault.named;
     }
 
 rows_named : (r : Registered) (rows : List (List Bytes)) (f : Fault) → submitted_by r rows ≡ Err f → IsNamedRefusalOf Match f.code f.row f.id

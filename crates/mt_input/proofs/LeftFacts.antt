@@ -35,7 +35,7 @@ module _ {X : Type 0} (of_rows : List (List Bytes) → Result X Fault) where
     memory = λ is. (h.no_record, h.no_id);
     fault = λ m r.
         let t = h.too_large m r in
-        let is : fault_at 0 (record_fault_alone 10) ≡ fault_of e = cc (t.0, h.no_record, h.no_id) in
+        let is : fault_at 0 (record_fault_alone 10) ≡ fault_of e = λ i. record { code = sym t.0 i; row = sym h.no_record i; id = sym h.no_id i } in
         too_large left (fault_of e) is t.1;
   }
 
