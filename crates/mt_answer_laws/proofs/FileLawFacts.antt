@@ -32,10 +32,6 @@ use Rattle.mt_answer_laws.specs.FileLaws.{HigherQuotaInFileHurtsNone, NoCalledMa
 use Rattle.mt_answer_laws.specs.TwoFiles.{CalledStable, Publishes}
 use Rattle.mt_answer_laws.proofs.CalledStable.{of_match}
 use Rattle.mt_answer_laws.proofs.PublishedFacts.{published_of}
-use Rattle.mt_answer_laws.proofs.RecordChanges.{ListChanged, QuotaChanged, list_changed, quota_changed}
-use Rattle.mt_answer_laws.proofs.RecordParts.{Parts, parts_of}
-use Rattle.mt_drafts.specs.Drafts.{with_fields}
-use Rattle.mt_answer_laws.proofs.ToldBack.{own_number, published_counts}
 
 -- what is published for a file: its market is registered, and without couples the match is the best one
 pub record IsAccepted (rows : List (List Bytes)) (r : Registered) (places : Places) : Type 0 where
