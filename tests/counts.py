@@ -15,7 +15,7 @@ CHECKS = {
     "cli PROGRAM": 8417,
     "cli": 8420,
     "controls": 36,
-    "edits_apply": 600,
+    "edits_apply": 606,
     "linear": 45,
     "memory": 448,
     "memory --calls": 15,
@@ -25,7 +25,7 @@ CHECKS = {
     "python": 28,
     "seeds": 7,
     "threads": 54,
-    "words": 284,
+    "words": 316,
     "wrong_bodies --release": 44,
 }
 # The sweeps of the forms of tests/memory, by the number of workers and whether all requests from one on are refused.
