@@ -3,7 +3,8 @@ ghost use Rattle.std.specs.Option.{option_copied};
 ghost use Rattle.clap.specs.Words.{fault_of, found_of, kind_of, matches_of, rows_of};
 ghost use Rattle.clap.specs.declared.error.kind.ErrorKind.TheVariants.{DisplayHelp, DisplayVersion, OutOfMemory};
 ghost use Rattle.mt_args.specs.CommandLine.{AsksForHelp, AsksForVersion, HasOptions, IfRun, IsMisuse, IsWithinLimits, OnHelp, OnUsage, OnVersion};
-ghost use Rattle.mt_args.specs.CommandLine.{file_in, file_of, is_taken, nrmatch, number_in, number_of, texts_of};
+ghost use Rattle.mt_args.specs.CommandLine.{file_in, file_of, is_taken, nrmatch, number_in, number_of};
+ghost use Rattle.mt_program.specs.CommandLine.{texts_of};
 
 use crate::command::command;
 use crate::{AskEnd, Asked};

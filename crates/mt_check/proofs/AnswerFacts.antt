@@ -12,7 +12,7 @@ use Rattle.mt_input.specs.Refusals.{fault_of}
 use Rattle.mt_files.specs.Files.{files_by, files_in, submitted_in, with_match}
 use Rattle.mt_files.specs.Refusals.{AreFilesIn, IsInTurn, IsNamedRefusalOf, IsRefused, OfBoth, end_code}
 use Rattle.mt_files.specs.declared.files.Files.{Files}
-use Rattle.mt_files.specs.declared.refused.Refused.{Refused}
+use Rattle.mt_files.specs.declared.refused_file.Refused.{Refused}
 use Rattle.mt_files.specs.declared.source.Source.{Source}
 use Rattle.mt_files.specs.declared.source.Source.TheVariants.{Market, Match}
 use Rattle.mt_files.proofs.FileFacts.{market_there}

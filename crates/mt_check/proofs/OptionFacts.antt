@@ -2,10 +2,9 @@
 use Rattle.std.proofs.Common.{◌≡◌, ℕ, zero, suc, ◌<◌, Bool, true, false, ◌||◌, List, [], ◌∷◌, length, get_or, Option, Some, None, refl, ap, sym, ◌∙◌, arith}
 use Rattle.std.specs.Prelude.{◌==◌, codes, IfSome, IsTrue, is_some, slice_index_or}
 use Rattle.std.specs.List.{list_all}
-use Rattle.std.proofs.lemmas.Bool.{and_parts}
+use Rattle.std.proofs.lemmas.Bool.{and_parts, or_right}
 use Rattle.std.proofs.lemmas.Bool.Decides.{nat_tests}
 use Rattle.std.proofs.lemmas.List.{get_or-map, length-map}
-use Rattle.mt_file_laws.proofs.IdFacts.{or_right}
 use Rattle.mt_ids.proofs.DigitFacts.{passes_at}
 use Rattle.mt_terms.specs.Lists.{has}
 use Rattle.mt_terms.specs.Market.{Pair, Registered, couple_of, list_of}

@@ -11,7 +11,7 @@ use Rattle.mt_input.proofs.LeftFacts.{of_left, some_left}
 use Rattle.mt_files.specs.Files.{files_by, files_in, submitted_in, with_match}
 use Rattle.mt_files.specs.Refusals.{AreFilesIn, IsInTurn, IsRefused, OfBoth}
 use Rattle.mt_files.specs.declared.files.Files.{Files}
-use Rattle.mt_files.specs.declared.refused.Refused.{Refused}
+use Rattle.mt_files.specs.declared.refused_file.Refused.{Refused}
 use Rattle.mt_files.specs.declared.source.Source.{Source}
 use Rattle.mt_files.specs.declared.source.Source.TheVariants.{Market, Match}
 use Rattle.mt_files.proofs.NameFacts.{market_refusal_named, match_refusal_named}

@@ -10,7 +10,7 @@ use Rattle.mt_input.specs.Refusals.{fault_of}
 use Rattle.mt_files.specs.Files.{files_in}
 use Rattle.mt_files.specs.Text.{is_code_alone, is_code_of}
 use Rattle.mt_files.specs.declared.files.Files.{Files}
-use Rattle.mt_files.specs.declared.refused.Refused.{Refused}
+use Rattle.mt_files.specs.declared.refused_file.Refused.{Refused}
 use Rattle.mt_files.specs.declared.source.Source.{Source}
 use Rattle.mt_files.specs.declared.source.Source.TheVariants.{Market, Match}
 

@@ -9,7 +9,7 @@ ghost use Rattle.mt_input.specs.Refusals.{IsRefusalIn, IsRefusalOf, code_of};
 ghost use Rattle.mt_files.specs.Files.{submitted_in};
 ghost use Rattle.mt_files.specs.Refusals.{AreFilesIn, IsInTurn, IsRefused, end_code};
 
-use crate::refused::Refused;
+use crate::refused_file::Refused;
 use crate::source::Source;
 use mt_input::{bytes_of, read_market};
 use mt_lists::{ListFault, Rows, Tap, records};

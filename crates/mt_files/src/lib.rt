@@ -3,10 +3,10 @@
 
 mod files;
 mod refusal;
-mod refused;
+mod refused_file;
 mod source;
 
 pub use files::{Files, read_files};
 pub use refusal::refused;
-pub use refused::Refused;
+pub use refused_file::Refused;
 pub use source::Source;

@@ -2,8 +2,8 @@
 #![tactic(auto)]
 
 pub mod laws;
-mod run;
+mod whole;
 
 pub use mt_report::Ended;
 pub use mt_terms::Options;
-pub use run::run;
+pub use whole::run;

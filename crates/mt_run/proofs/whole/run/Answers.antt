@@ -4,7 +4,7 @@ use Rattle.mt_terms.specs.Text.{refused}
 use Rattle.mt_answer.specs.Refusals.{line_of}
 use Rattle.mt_run.proofs.FaultFacts.{refusals_are_not_zero}
 use Rattle.mt_run.proofs.HeadlineLemmas.{published_to, publishes_singles}
-use Rattle.mt_run.proofs.run.run.Goals as goal
+use Rattle.mt_run.proofs.whole.run.Goals as goal
 
 pub returns-in-Ok-clause-answers : goal.returns-in-Ok-clause-answers
 returns-in-Ok-clause-answers g c =
