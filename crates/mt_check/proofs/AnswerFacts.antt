@@ -128,7 +128,7 @@ no_read_fault (Err e) is read = let code : e.refusal.code ≡ 30 = ap (λ (f : F
 
 -- no read failed, and the code says so
 pub none_failed : {X : Type 0} (code : ℕ) → ((0 ≡ 31) ↔ X) → (code ≡ 31 → ⊥) → (code ≡ 31) ↔ X
-none_failed code none no = (λ e. absurd (no e), λ x. absurd (omega (arith, none.1 x)))
+none_failed code none other = (λ e. absurd (other e), λ x. absurd (omega (arith, none.1 x)))
 
 pub refused_answer : (market matched : Option (List ℕ)) (e : Refused)
     → OfBoth market matched (λ xs ys. files_in xs ys ≡ Err (e.source, fault_of e.refusal))

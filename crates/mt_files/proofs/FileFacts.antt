@@ -16,17 +16,22 @@ use Rattle.mt_files.specs.declared.source.Source.{Source}
 use Rattle.mt_files.specs.declared.source.Source.TheVariants.{Market, Match}
 use Rattle.mt_files.proofs.NameFacts.{market_refusal_named, match_refusal_named}
 
+-- the market of two files, or another one if a file is refused
+registered_or : Registered → Result (Registered × Submitted) (Source × Fault) → Registered
+registered_or q (Ok files) = files.0
+registered_or q (Err fault) = q
+
+same_market : (q r : Registered) (s : Submitted) (m : Result Submitted Fault) → with_match q m ≡ Ok (r, s) → q ≡ r
+same_market q r s (Ok x) h = ap (registered_or q) h
+same_market q r s (Err f) h = ap (registered_or q) h
+
+market_by : (match_bytes : List ℕ) (r : Registered) (s : Submitted) (m : Result Registered Fault) → files_by m match_bytes ≡ Ok (r, s) → m ≡ Ok r
+market_by match_bytes r s (Ok q) h = ap Ok (same_market q r s (submitted_in q match_bytes) h)
+market_by match_bytes r s (Err f) h = cc
+
 -- files that are read have a market
 pub market_there : (market_bytes match_bytes : List ℕ) (r : Registered) (s : Submitted) → files_in market_bytes match_bytes ≡ Ok (r, s) → IsMarketOf market_bytes r
-market_there market_bytes match_bytes r s h = by (market_in market_bytes) h
-  where
-    of_match : (q : Registered) (m : Result Submitted Fault) → with_match q m ≡ Ok (r, s) → q ≡ r
-    of_match q (Ok x) k = cc
-    of_match q (Err f) k = cc
-
-    by : (m : Result Registered Fault) → files_by m match_bytes ≡ Ok (r, s) → m ≡ Ok r
-    by (Ok q) k = ap Ok (of_match q (submitted_in q match_bytes) k)
-    by (Err f) k = cc
+market_there market_bytes match_bytes r s h = market_by match_bytes r s (market_in market_bytes) h
 
 module _ (market matched : Option (List ℕ)) where
   pub market_refused : (e : Refusal) → IsRefusalOf market market_in e → IsRefused market matched (record { source = Market; refusal = e })

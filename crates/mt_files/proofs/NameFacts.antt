@@ -43,11 +43,11 @@ not_alone_in_market : (code : ℕ) → 12 ≤ code → code ≤ 22 → is_code_a
 not_alone_in_market code low high = grind (arith, nat_tests)
 
 alone_in_market : (f : Fault) → IsNamedRefusal f.code f.row f.id → is_code_alone f.code ≡ true → (f.row ≡ 0) × (f.id ≡ [])
-alone_in_market f named no = by (is_fault_code f.code) refl
+alone_in_market f named alone = by (is_fault_code f.code) refl
   where
     by : (b : Bool) → is_fault_code f.code ≡ b → (f.row ≡ 0) × (f.id ≡ [])
     by false is = named.alone is
-    by true is = let range = range_of f.code is in absurd (true≢false (sym no ∙ not_alone_in_market f.code range.low range.high))
+    by true is = let range = range_of f.code is in absurd (true≢false (sym alone ∙ not_alone_in_market f.code range.low range.high))
 
 match_codes : (code : ℕ) → has fault_codes code ≡ true → 50 ≤ code
 match_codes code h = grind (arith, nat_tests)

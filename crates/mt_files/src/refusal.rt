@@ -35,25 +35,19 @@ fn source_word(source: Source) -> &'static [u8]
     }
 }
 
-// What a refusal line says of a record: its number, and the id at fault.
-#[derive(Clone, Copy)]
-struct AtRecord<'a> {
-    row: &'a [u8],
-    id: &'a [u8],
-}
-
 // The line of a refusal by its fields, but for those that all such lines have.
 fn by_fields<'a>(
     word: &'a [u8],
     code: &'a [u8],
     name: &'a [u8],
     source: &'a [u8],
-    at: AtRecord<'a>,
+    row: &'a [u8],
+    id: &'a [u8],
 ) -> RefusalLine
     requires { length word.now + length code.now + length name.now + length source.now
-        + length at.row.now + length at.id.now ≤ 119 }
+        + length row.now + length id.now ≤ 119 }
     ensures { result ≡ line (word.now ∷ codes "1" ∷ codes "refused" ∷ code.now ∷ name.now
-        ∷ source.now ∷ at.row.now ∷ at.id.now ∷ []) }
+        ∷ source.now ∷ row.now ∷ id.now ∷ []) }
 {
     let fields = [
         b"1".as_slice(),
@@ -61,8 +55,8 @@ fn by_fields<'a>(
         code,
         name,
         source,
-        at.row,
-        at.id,
+        row,
+        id,
     ];
     RefusalLine::of(word, &fields)
 }
@@ -78,15 +72,13 @@ pub fn refused(word: &[u8], source: Source, code: u16, row: u64, id: &[u8]) -> R
     let mut of_code = Buffer::new();
     let mut of_row = Buffer::new();
     let code_text = of_code.format(code).as_bytes();
-    let at = AtRecord {
-        row: of_row.format(row).as_bytes(),
-        id: id_or_dash(id),
-    };
+    let row_text = of_row.format(row).as_bytes();
     by_fields(
         word,
         code_text,
         code_name(source, code),
         source_word(source),
-        at,
+        row_text,
+        id_or_dash(id),
     )
 }

@@ -30,7 +30,7 @@ at_most_one (suc (suc code)) h = let low : suc (suc code) ≤ 1 = small_is (suc 
 not_spent : (code : ℕ) (text : List ℕ) → (1 < code → IsRefusal code text) → (code == 41) ≡ false
 not_spent code text refusal = elim (cases_eq code 41) [
   | inl is ↦ let refused = refusal (omega arith) in absurd (true≢false (sym (subst (λ (c : ℕ). is_code_of refused.file c ≡ true) is refused.named.known) ∙ neither refused.file))
-  | inr no ↦ grind (arith, nat_tests)
+  | inr other ↦ grind (arith, nat_tests)
 ]
   where
     neither : (file : Source) → is_code_of file 41 ≡ false
