@@ -17,7 +17,7 @@ use Rattle.mt_files.specs.declared.source.Source.TheVariants.{Market, Match}
 use Rattle.mt_files.proofs.NameFacts.{market_refusal_named, match_refusal_named}
 
 -- the market of two files, or another one if a file is refused
-registered_or : Registered → Result (Registered × Submitted) (Source × Fault) → Registered
+abbrev registered_or : Registered → Result (Registered × Submitted) (Source × Fault) → Registered
 registered_or q (Ok files) = files.0
 registered_or q (Err fault) = q
 
