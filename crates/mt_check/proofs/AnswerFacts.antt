@@ -72,8 +72,8 @@ module _ (market_bytes match_bytes : List ℕ) (code : ℕ) (text : List ℕ) wh
 
   of_match : (r : Registered) → market_in market_bytes ≡ Ok r → (s : Result Submitted Fault) → submitted_in r match_bytes ≡ s
       → answer_of (with_match r s) ≡ record { code = code; text = text } → IsSo
-  of_match r of_market (Ok submitted) of_match is = judged r submitted of_market of_match is
-  of_match r of_market (Err f) of_match is = refused Match f (match_named r match_bytes f of_match) is
+  of_match r of_market (Ok submitted) read is = judged r submitted of_market read is
+  of_match r of_market (Err f) read is = refused Match f (match_named r match_bytes f read) is
 
   of_the_market : (market : Result Registered Fault) → market_in market_bytes ≡ market → answer_of (files_by market match_bytes) ≡ record { code = code; text = text } → IsSo
   of_the_market (Ok r) of_market is = of_match r of_market (submitted_in r match_bytes) refl is
@@ -127,7 +127,7 @@ no_read_fault (Ok found) is e = omega arith
 no_read_fault (Err e) is read = let code : e.refusal.code ≡ 30 = ap (λ (f : Fault). f.code) is in omega arith
 
 -- no read failed, and the code says so
-pub none_failed : {X : Type 0} (code : ℕ) → ((0 ≡ 31) ↔ X) → (code ≡ 31 → ⊥) → (code ≡ 31) ↔ X
+pub none_failed : {X : Type 0} (code : ℕ) → ((◌≡◌ {A = ℕ} 0 31) ↔ X) → (code ≡ 31 → ⊥) → (code ≡ 31) ↔ X
 none_failed code none other = (λ e. absurd (other e), λ x. absurd (omega (arith, none.1 x)))
 
 pub refused_answer : (market matched : Option (List ℕ)) (e : Refused)
