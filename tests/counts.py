@@ -25,7 +25,7 @@ CHECKS = {
     "python": 28,
     "seeds": 7,
     "threads": 54,
-    "words": 317,
+    "words": 319,
     "wrong_bodies --release": 44,
 }
 # The sweeps of the forms of tests/memory, by the number of workers and whether all requests from one on are refused.

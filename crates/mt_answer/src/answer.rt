@@ -60,7 +60,7 @@ fn with_couples<T: Threads + Sync>(
     roster.is_of_a_file();
     match enter_all(rt, alloc, roster, ranks, singles, budget) {
         Ok(entered) => Ok(entered.matched),
-        Err(CoupleEnd::BudgetSpent) => Err(Refusal::alone(BUDGET_SPENT)),
+        Err(CoupleEnd::BudgetSpent(_)) => Err(Refusal::alone(BUDGET_SPENT)),
         Err(CoupleEnd::Memory) => Err(Refusal::alone(OUT_OF_MEMORY)),
     }
 }

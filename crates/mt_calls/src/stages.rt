@@ -40,7 +40,7 @@ fn enters_on<T: Threads + Sync>(
             ];
             Ok(entered.matched.places.as_slice() == places.as_slice() && entered.rounds == 5)
         }
-        Err(CoupleEnd::BudgetSpent) => Ok(false),
+        Err(CoupleEnd::BudgetSpent(_)) => Ok(false),
         Err(CoupleEnd::Memory) => Err(AllocError),
     }
 }

@@ -1,5 +1,5 @@
 -- The couples on their way into a match, one after another.
-use Rattle.std.proofs.Common.{◌≡◌, ℕ, suc, ◌+◌, ◌-◌, ◌<◌, ◌≤◌, Bool, true, false, List, [], ◌∷◌, length, Some, None, IsTrue, ap, sym, ◌∙◌, inl, inr, arith, subst, option_map, option_and_then}
+use Rattle.std.proofs.Common.{◌≡◌, ℕ, zero, suc, Option, refl, ◌+◌, ◌-◌, ◌<◌, ◌≤◌, Bool, true, false, List, [], ◌∷◌, length, Some, None, IsTrue, ap, sym, ◌∙◌, inl, inr, arith, subst, option_map, option_and_then}
 use Rattle.std.specs.List.{range_with_len}
 use Rattle.std.proofs.lemmas.Bool.Decides.{nat_tests}
 use Rattle.mt_terms.specs.Lists.{below}
@@ -7,10 +7,13 @@ use Rattle.mt_terms.specs.Market.{Market, applicants, agents}
 use Rattle.mt_terms.specs.Matching.{Places}
 use Rattle.mt_terms.specs.Stability.{blocks, fits}
 use Rattle.mt_terms.specs.WellFormed.{IsWellFormed}
-use Rattle.mt_terms.specs.Rounds.{after_rounds, after_entries, stage, is_on, IsFittingState}
+use Rattle.mt_terms.specs.Rounds.{after_rounds, after_entries, round_of, stage, is_on, IsFittingState}
 use Rattle.mt_terms.specs.declared.numbers.Agent.{Agent}
 use Rattle.mt_terms.specs.declared.numbers.Agent.TheVariants.{Couple}
 use Rattle.mt_round_laws.proofs.RoundsLists.{In}
+use Rattle.mt_round_laws.proofs.RoundsStage.{chained, stage_end}
+use Rattle.mt_order_laws.specs.Aside.{entering_at_end}
+use Rattle.mt_order_laws.proofs.EndFacts.{entering_in_words_lem}
 use Rattle.mt_round_laws.proofs.RoundsAgents.{on_list, of_list, agent_on_list, couple_members}
 use Rattle.mt_stage_tables.specs.Waiting.{nobody, Waiting}
 use Rattle.mt_assignment.specs.Assigned.{assignment, Assigned}
@@ -26,13 +29,14 @@ couples_from m number = range_with_len number (length m.couples - number)
 abbrev pub IsQuietBefore : Market → ℕ → Places → Type 0
 IsQuietBefore m number places = (h : Agent) → is_on (agents m) h ≡ true → entered_before number h ≡ true → blocks m places h ≡ false
 
--- Couples below a number have entered: what is left of the way leads where the whole does.
+-- Couples below a number have entered within the budget. What is left of the way leads where the whole does.
 pub record IsEntering (m : Market) (quiet : Bool) (start : Places) (budget number : ℕ) (now : Assigned) (waiting : Waiting) (left : ℕ) : Type 0 where
   pub market : now.market ≡ m
   pub fitting : IsTrue (fits m now.places)
   pub list : IsListOf m waiting
   pub nobody_waits : waiting.agents ≡ []
   pub is_quiet : IsTrue quiet → IsQuietBefore m number now.places
+  pub reached : after_entries m (below number) budget start ≡ Some (now.places, left)
   pub leads : after_entries m (couples_from m number) left now.places ≡ after_entries m (below (length m.couples)) budget start
   pub within : left ≤ budget
 
@@ -47,6 +51,7 @@ entering_first m quiet places budget now waiting is fit none is_quiet =
       list = record { applicants_are = ap (λ (w : Waiting). w.applicants) none; couples_are = ap (λ (w : Waiting). w.couples) none };
       nobody_waits = ap (λ (w : Waiting). w.agents) none;
       is_quiet = λ so. subst (λ (s : Assigned). IsQuietBefore m 0 s.places) (sym is) (is_quiet so);
+      reached = ap (λ (s : Assigned). Some (s.places, budget)) (sym is);
       leads = ap (λ (s : Assigned). after_entries m (couples_from m 0) budget s.places) is ∙ ap (λ n. after_entries m (range_with_len 0 n) budget places) e;
       within = omega arith;
     }
@@ -82,6 +87,46 @@ next_couple m number left places within =
     let e : length m.couples - number ≡ suc (length m.couples - (number + 1)) = omega arith in
     ap (λ n. after_entries m (range_with_len number n) left places) e
 
+-- one couple more, after those of a range
+range_entered : (m : Market) (start n left : ℕ) (places : Places) (r q : Places × ℕ) → after_entries m (range_with_len start n) left places ≡ Some r
+    → after_rounds m (start + n) r.1 r.0 (Couple (start + n) ∷ []) ≡ Some q → after_entries m (range_with_len start (suc n)) left places ≡ Some q
+range_entered m start zero left places r q e more =
+    let some : ◌≡◌ {A = Option (Places × ℕ)} (Some (places, left)) (Some r) = e in
+    let is : r ≡ (places, left) = cc in
+    let here : start + 0 ≡ start = omega arith in
+    let one : after_rounds m start left places (Couple start ∷ []) ≡ Some q =
+    subst (λ j. after_rounds m j left places (Couple j ∷ []) ≡ Some q) here (subst (λ (t : Places × ℕ). after_rounds m (start + 0) t.1 t.0 (Couple (start + 0) ∷ []) ≡ Some q) is more) in
+    rw one refl
+range_entered m start (suc n) left places r q e more =
+    let w = chained (λ t. after_entries m (range_with_len (start + 1) n) t.1 t.0) (after_rounds m start left places (Couple start ∷ [])) r e in
+    let there : start + suc n ≡ start + 1 + n = omega arith in
+    rw w.1 (range_entered m (start + 1) n w.0.1 w.0.0 r q w.2 (subst (λ j. after_rounds m j r.1 r.0 (Couple j ∷ []) ≡ Some q) there more))
+
+-- the couples of a range have entered, and those after it then
+first_entered : (m : Market) (start n k left : ℕ) (places : Places) (q : Places × ℕ) → after_entries m (range_with_len start (n + k)) left places ≡ Some q
+    → (r : Places × ℕ) × (after_entries m (range_with_len start n) left places ≡ Some r) × (after_entries m (range_with_len (start + n) k) r.1 r.0 ≡ Some q)
+first_entered m start zero k left places q e =
+    let here : start + 0 ≡ start = omega arith in
+    let none : 0 + k ≡ k = omega arith in
+    ((places, left), refl, ap (λ j. after_entries m (range_with_len j k) left places) here ∙ sym (ap (λ j. after_entries m (range_with_len start j) left places) none) ∙ e)
+first_entered m start (suc n) k left places q e =
+    let more : suc n + k ≡ suc (n + k) = omega arith in
+    by_end (after_rounds m start left places (Couple start ∷ [])) (λ t. first_entered m (start + 1) n k t.1 t.0 q)
+    (sym (ap (λ j. after_entries m (range_with_len start j) left places) more) ∙ e)
+  where
+    there : start + 1 + n ≡ start + suc n
+    there = omega arith
+
+    by_end : (o : Option (Places × ℕ))
+        → ((t : Places × ℕ) → after_entries m (range_with_len (start + 1) (n + k)) t.1 t.0 ≡ Some q
+        → (r : Places × ℕ) × (after_entries m (range_with_len (start + 1) n) t.1 t.0 ≡ Some r) × (after_entries m (range_with_len (start + 1 + n) k) r.1 r.0 ≡ Some q))
+        → option_and_then (λ t. after_entries m (range_with_len (start + 1) (n + k)) t.1 t.0) o ≡ Some q
+        → (r : Places × ℕ) × (option_and_then (λ t. after_entries m (range_with_len (start + 1) n) t.1 t.0) o ≡ Some r)
+        × (after_entries m (range_with_len (start + suc n) k) r.1 r.0 ≡ Some q)
+    by_end None rest h = absurd (let none : ◌≡◌ {A = Option (Places × ℕ)} None (Some q) = h in cc)
+    by_end (Some t) rest h =
+        let v = rest t h in (v.0, v.1, subst (λ j. after_entries m (range_with_len j k) v.0.1 v.0.0 ≡ Some q) there v.2)
+
 -- it has entered
 pub entering_more : (m : Market) (quiet : Bool) (start : Places) (budget number : ℕ) (now next : Assigned) (waiting waiting' : Waiting) (left left' : ℕ)
     → IsEntering m quiet start budget number now waiting left → number < length m.couples → next.market ≡ m → fits m next.places ≡ true → IsListOf m waiting' → waiting'.agents ≡ [] → (IsTrue quiet → IsQuiet number (record { market = m; places = next.places }) waiting'.agents)
@@ -92,6 +137,9 @@ entering_more m quiet start budget number now next waiting waiting' left left' s
   list = list;
   nobody_waits = empty;
   is_quiet = λ so h on before. is_quiet so h on (entered_by number h before) (ap (λ gs. is_on gs h) empty);
+  reached = (let more : number + 1 ≡ suc number = omega arith in let here : number ≡ 0 + number = omega arith in
+      ap (λ n. after_entries m (below n) budget start) more ∙ range_entered m 0 number budget start (now.places, left) (next.places, left') so_far.reached
+      (subst (λ j. after_rounds m j left now.places (Couple j ∷ []) ≡ Some (next.places, left')) here settles));
   leads =
       ap (option_and_then (λ r. after_entries m (couples_from m (number + 1)) r.1 r.0)) (sym settles)
       ∙ sym (next_couple m number left now.places within) ∙ so_far.leads;
@@ -106,6 +154,67 @@ entering_spent m quiet start budget number now waiting left so_far within spent 
     let none : after_entries m (below (length m.couples)) budget start ≡ None =
     sym so_far.leads ∙ next_couple m number left now.places within ∙ ap (option_and_then (λ r. after_entries m (couples_from m (number + 1)) r.1 r.0)) spent in
     ap (option_map (λ r. (r.0, budget - r.1))) none
+
+-- it is the one that is entering then
+pub entering_ends : (m : Market) (quiet : Bool) (start : Places) (budget number : ℕ) (now : Assigned) (waiting : Waiting) (left : ℕ)
+    → IsEntering m quiet start budget number now waiting left → number < length m.couples → after_rounds m number left now.places (Couple number ∷ []) ≡ None
+    → entering_at_end m start budget ≡ Some number
+entering_ends m quiet start budget number now waiting left so_far within spent =
+    (entering_in_words_lem m start budget number).1 (within, ((now.places, left), so_far.reached, spent))
+
+-- rounds that end do so in one match, whatever the budget
+one_match : (m : Market) (k b b' : ℕ) (places : Places) (ws : List Agent) (r r' : Places × ℕ) → after_rounds m k b places ws ≡ Some r
+    → after_rounds m k b' places ws ≡ Some r' → r.0 ≡ r'.0
+one_match m k b b' places [] r r' e e' =
+    let some : ◌≡◌ {A = Option (Places × ℕ)} (Some (places, b)) (Some r) = e in
+    let some' : ◌≡◌ {A = Option (Places × ℕ)} (Some (places, b')) (Some r') = e' in
+    let is : (places, b) ≡ r = cc in
+    let is' : (places, b') ≡ r' = cc in
+    sym (ap (λ t. t.0) is) ∙ ap (λ t. t.0) is'
+one_match m k zero b' places (g ∷ ws) r r' e e' = absurd (let none : ◌≡◌ {A = Option (Places × ℕ)} None (Some r) = e in cc)
+one_match m k (suc b) zero places (g ∷ ws) r r' e e' = absurd (let none : ◌≡◌ {A = Option (Places × ℕ)} None (Some r') = e' in cc)
+one_match m k (suc b) (suc b') places (g ∷ ws) r r' e e' =
+    let next = round_of m k places (g ∷ ws) in
+    one_match m k b b' next.places next.waiting r r' e e'
+
+one_match_entered : (m : Market) (ks : List ℕ) (b b' : ℕ) (places : Places) (r r' : Places × ℕ) → after_entries m ks b places ≡ Some r
+    → after_entries m ks b' places ≡ Some r' → r.0 ≡ r'.0
+one_match_entered m [] b b' places r r' e e' = one_match m 0 b b' places [] r r' e e'
+one_match_entered m (k ∷ ks) b b' places r r' e e' =
+    let w = chained (λ t. after_entries m ks t.1 t.0) (after_rounds m k b places (Couple k ∷ [])) r e in
+    let w' = chained (λ t. after_entries m ks t.1 t.0) (after_rounds m k b' places (Couple k ∷ [])) r' e' in
+    let same : w'.0.0 ≡ w.0.0 = one_match m k b' b places (Couple k ∷ []) w'.0 w.0 w'.1 w.1 in
+    one_match_entered m ks w.0.1 w'.0.1 w.0.0 r r' w.2 (subst (λ x. after_entries m ks w'.0.1 x ≡ Some r') same w'.2)
+
+-- if its rounds end within no budget, it has entered within none
+never_entered : (m : Market) (start now : Places) (budget number n left b : ℕ) (q : Places × ℕ) → after_entries m (below number) budget start ≡ Some (now, left)
+    → ((b : ℕ) → after_rounds m number b now (Couple number ∷ []) ≡ None) → after_entries m (below (number + suc n)) b start ≡ Some q → ⊥
+never_entered m start now budget number n left b q reached endless all =
+    let w = first_entered m 0 number (suc n) b start q all in
+    let here : 0 + number ≡ number = omega arith in
+    let same : w.0.0 ≡ now = one_match_entered m (below number) b budget start w.0 (now, left) w.1 reached in
+    let rest : after_entries m (range_with_len number (suc n)) w.0.1 w.0.0 ≡ Some q = subst (λ j. after_entries m (range_with_len j (suc n)) w.0.1 w.0.0 ≡ Some q) here w.2 in
+    let v = chained (λ t. after_entries m (range_with_len (number + 1) n) t.1 t.0) (after_rounds m number w.0.1 w.0.0 (Couple number ∷ [])) q rest in
+    let none : ◌≡◌ {A = Option (Places × ℕ)} None (Some v.0) = sym (endless w.0.1) ∙ ap (λ x. after_rounds m number w.0.1 x (Couple number ∷ [])) (sym same) ∙ v.1 in
+    cc
+
+-- and no budget is enough for the stage
+pub entering_endless : (m : Market) (quiet : Bool) (start : Places) (budget number : ℕ) (now : Assigned) (waiting : Waiting) (left : ℕ)
+    → IsEntering m quiet start budget number now waiting left → number < length m.couples
+    → ((b : ℕ) → after_rounds m number b now.places (Couple number ∷ []) ≡ None) → (b : ℕ) → stage m start b ≡ None
+entering_endless m quiet start budget number now waiting left so_far within endless b = by_end (stage m start b) refl
+  where
+    n : ℕ
+    n = length m.couples - number - 1
+
+    parts : length m.couples ≡ number + suc n
+    parts = omega arith
+
+    by_end : (o : Option (Places × ℕ)) → stage m start b ≡ o → o ≡ None
+    by_end None e = refl
+    by_end (Some r) e =
+        let q = stage_end m start b r e in
+        absurd (never_entered m start now.places budget number n left b q.0 so_far.reached endless (sym (ap (λ j. after_entries m (below j) b start) parts) ∙ q.1))
 
 -- there is none to enter
 pub none_enters : (m : Market) (places : Places) (budget : ℕ) → length m.couples ≡ 0 → stage m places budget ≡ Some (places, 0)

@@ -1,3 +1,4 @@
+pub mod Ended
 pub mod Looking
 pub mod Rechecks
 pub mod Running

@@ -5,4 +5,4 @@ mod recheck;
 mod rounds;
 mod watch;
 
-pub use rounds::{CoupleEnd, Entered, enter_all};
+pub use rounds::{CoupleEnd, Entered, Spent, enter_all};

@@ -1,4 +1,4 @@
-ghost use Rattle.std.specs.Prelude.{◌≡◌, ◌<◌, ◌≤◌, length, IsTrue, IfOk, IsErrOf, OnOk, Some, None, []};
+ghost use Rattle.std.specs.Prelude.{◌≡◌, ◌<◌, ◌≤◌, length, IsTrue, IfErr, IfOk, OnOk, Some, None, []};
 ghost use Rattle.mt_terms.specs.Rounds.{stage};
 ghost use Rattle.mt_terms.specs.Best.{IsBest};
 ghost use Rattle.mt_terms.specs.Places.{ArePlaces};
@@ -7,6 +7,7 @@ ghost use Rattle.mt_ranks.specs.Ranked.{ranked_of};
 ghost use Rattle.mt_assignment.specs.Assigned.{AreListed};
 ghost use Rattle.mt_assignment.specs.Moves.{IsTaking};
 ghost use Rattle.mt_assignment.specs.Watched.{AreWatched};
+ghost use Rattle.mt_couples.specs.Ended.{IfSpent, IsSpent};
 ghost use Rattle.mt_couples.specs.Looking.{has_wanted_post};
 ghost use Rattle.mt_couples.specs.Running.{singles_quiet};
 
@@ -26,12 +27,23 @@ use thiserror::Error;
 /// With fewer that takes less time than the start of a thread.
 const LEAST_PROGRAMS: usize = 8192;
 
+/// How far the rounds went when the budget was spent.
+#[derive(Clone, Copy, Debug, PartialEq, Eq)]
+pub struct Spent {
+    /// The couple that was entering.
+    pub couple: CoupleNo,
+    /// How many rounds were made, over all couples.
+    pub rounds: u32,
+    /// Whether a state came back, so that no budget is enough.
+    pub comes_back: bool,
+}
+
 /// Why the couples' stage did not end with a match.
 #[derive(Clone, Copy, Debug, PartialEq, Eq, Error)]
 pub enum CoupleEnd {
     /// The rounds would be more than the budget.
     #[error("the couples' rounds would exceed the budget")]
-    BudgetSpent,
+    BudgetSpent(Spent),
     /// Memory was refused.
     #[error("out of memory")]
     Memory,
@@ -99,6 +111,7 @@ impl Drop for Stage<'_> {
 }
 
 impl<'a> Stage<'a> {
+    ghost use Rattle.mt_couples.specs.Ended.{IsSpentFrom};
     ghost use Rattle.mt_couples.specs.Staged.{after_round, after_move, settled_within, state_of, Begins, IsBeforeRoundOf, IsBetweenRounds, IsWatched, IsWatchedBut, KeepsStage};
 
     /// A stage that no couple has entered. The error is want of memory.
@@ -209,42 +222,50 @@ impl<'a> Stage<'a> {
         }
     }
 
-    /// Makes rounds until the work list is empty. The result is how many rounds of the budget are left.
+    /// Makes rounds until the work list is empty, at most as many as are left of the budget. The result is how many are
+    /// left then.
     fn settle<R: Threads + Sync>(
         &mut self,
         rt: &R,
         alloc: Global,
         budget: u32,
+        left: u32,
     ) -> Result<u32, CoupleEnd>
         requires running { IsBetweenRounds self.old }
         requires watched { IsWatched self.old }
-        ensures settled { IfOk result (λ left.
-            settled_within self.old budget ≡ Some (self.new.assignment.places, left)) }
-        ensures spent { IsErrOf result CoupleEnd.BudgetSpent
-            → settled_within self.old budget ≡ None }
-        ensures within { IfOk result (λ left. left ≤ budget) }
+        requires within { left ≤ budget }
+        ensures settled { IfOk result (λ rest.
+            settled_within self.old left ≡ Some (self.new.assignment.places, rest)) }
+        ensures spent { IfErr result (λ e. IfSpent e (IsSpentFrom self.old budget left)) }
+        ensures within { IfOk result (λ rest. rest ≤ left) }
         ensures keeps { OnOk result (KeepsStage self.old self.new) }
         ensures running { OnOk result (IsBetweenRounds self.new) }
         ensures watched { OnOk result (IsWatched self.new) }
         ensures empty { OnOk result (self.new.waiting.agents ≡ []) }
     {
-        let mut left = budget;
+        let mut rest = left;
         while let Some(agent) = self.waiting.take() {
-            if left == 0 {
-                return Err(CoupleEnd::BudgetSpent);
+            if rest == 0 {
+                return Err(CoupleEnd::BudgetSpent(Spent {
+                    couple: self.last,
+                    rounds: budget,
+                    comes_back: false,
+                }));
             }
-            left -= 1;
+            rest -= 1;
             self.round(rt, alloc, agent)?;
         }
-        Ok(left)
+        Ok(rest)
     }
 }
 
 /// Lets the couples enter a match of the singles, in order of their numbers, in the manner of Roth and Peranson (1999).
 /// The order of the rounds is this project's own rule. A couple is put on the empty work list, and rounds are made until
 /// the list is empty. The agent at the front takes its first better option that would be taken. An applicant that it
-/// displaces leaves with its whole couple, and the agents to whom that may matter are rechecked. The errors are that more
-/// rounds than `budget` would be needed, and want of memory. In both the given match is gone.
+/// displaces leaves with its whole couple, and the agents to whom that may matter are rechecked.
+///
+/// The errors are that more rounds than `budget` would be needed, and want of memory. In both the given match is gone.
+/// The first error names the couple that was entering.
 pub fn enter_all<'a, R: Threads + Sync>(
     rt: &R,
     alloc: Global,
@@ -257,8 +278,9 @@ pub fn enter_all<'a, R: Threads + Sync>(
     requires fits { IsTrue (fits roster.now.market singles.places) }
     ensures entered { IfOk result (λ e.
         stage roster.now.market singles.places budget ≡ Some (e.matched.places, e.rounds)) }
-    ensures spent { IsErrOf result CoupleEnd.BudgetSpent
-        → stage roster.now.market singles.places budget ≡ None }
+    ensures spent { IfErr result (λ e.
+        IfSpent e (λ _. stage roster.now.market singles.places budget ≡ None)) }
+    ensures far { IfErr result (λ e. IfSpent e (IsSpent roster.now.market singles.places budget)) }
     ensures fits { IfOk result (λ e. IsTrue (fits roster.now.market e.matched.places)) }
     ensures stable { IsBest roster.now.market singles.places
         → IfOk result (λ e. IsTrue (stable roster.now.market e.matched.places)) }
@@ -276,7 +298,7 @@ pub fn enter_all<'a, R: Threads + Sync>(
         let couple = CoupleNo(number);
         stage.last = couple;
         stage.waiting.join(Agent::Couple(couple));
-        left = stage.settle(rt, alloc, left)?;
+        left = stage.settle(rt, alloc, budget, left)?;
     }
     Ok(Entered {
         matched: stage.into_match(),

@@ -156,7 +156,7 @@ fn expect_end(
             same_for(rt, found, places.as_slice(), (of, budget));
             same_for(rt, entered.rounds, *rounds, (of, budget));
         }
-        (Err(end), None) => same_for(rt, *end, CoupleEnd::BudgetSpent, (of, budget)),
+        (Err(CoupleEnd::BudgetSpent(_)), None) => {}
         _ => same_for(rt, found.is_ok(), wanted.is_some(), (of, budget)),
     }
 }

@@ -3,12 +3,12 @@ ghost use Rattle.std.specs.Prelude.{◌≡◌};
 ghost use Rattle.mt_ranks.specs.Ranked.{ranked_of};
 
 use crate::expect::same_for;
-use mt_couples::{CoupleEnd, Entered, enter_all};
+use mt_couples::{CoupleEnd, Entered, Spent, enter_all};
 use mt_ranks::Ranks;
 use mt_roster::Roster;
 use mt_samples::markets::{HALF_PAIR, roster_of};
 use mt_samples::singles::singles;
-use mt_terms::ProgNo;
+use mt_terms::{CoupleNo, ProgNo};
 use std::alloc::Global;
 use std::process::Abort;
 use std::thread::Threads;
@@ -68,5 +68,10 @@ fn a_couple_takes_half_a_pair_in_four_rounds(rt: HostRuntime) {
     let roster = roster_of(&rt, alloc, HALF_PAIR).expect(&rt, "a market");
     expect_rounds(&rt, alloc, &roster, 1_000_000, Ok(4));
     expect_rounds(&rt, alloc, &roster, 4, Ok(4));
-    expect_rounds(&rt, alloc, &roster, 3, Err(CoupleEnd::BudgetSpent));
+    let spent = Spent {
+        couple: CoupleNo(0),
+        rounds: 3,
+        comes_back: false,
+    };
+    expect_rounds(&rt, alloc, &roster, 3, Err(CoupleEnd::BudgetSpent(spent)));
 }

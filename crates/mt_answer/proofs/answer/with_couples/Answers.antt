@@ -1,4 +1,4 @@
-use Rattle.std.proofs.Common.{Err, ap, arith, refl}
+use Rattle.std.proofs.Common.{arith, refl}
 use Rattle.mt_round_laws.proofs.RoundsStage.{singles_fit}
 use Rattle.mt_answer.proofs.RefusalFacts.{no_memory}
 use Rattle.mt_answer.proofs.answer.with_couples.Goals as goal
@@ -18,6 +18,6 @@ returns-in-Err-BudgetSpent-clause-refused g c =
       answer = λ m. record {
         best = c.args.singles.places;
         is_best = c.requires.best;
-        ends = rw (c.in-Err-BudgetSpent.ensures.spent (ap Err c.in-Err-BudgetSpent.field-0-is), c.alone.ensures.code, c.alone.ensures.row, c.alone.ensures.id) (refl, refl);
+        ends = rw (c.in-Err-BudgetSpent.ensures.spent, c.alone.ensures.code, c.alone.ensures.row, c.alone.ensures.id) (refl, refl);
       };
     }

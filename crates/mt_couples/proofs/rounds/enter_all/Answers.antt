@@ -1,9 +1,9 @@
 -- Before each couple enters, all couples below its number have entered and are indexed, and nobody waits. What is left of
 -- the way leads where the whole stage does.
 use Rattle.std.proofs.lemmas.Grind.{common_steps}
-use Rattle.std.proofs.Common.{◌≡◌, ◌∙◌, ◌∷◌, ◌+◌, ◌-◌, [], true, Result, Some, Err, IsErrAnd, sym, ap, ap₂, subst, arith}
+use Rattle.std.proofs.Common.{◌≡◌, ◌∙◌, ◌∷◌, ◌+◌, ◌-◌, ◌<◌, length, [], true, None, Result, Some, Ok, Err, IfErr, IsErrAnd, sym, ap, ap₂, subst, arith}
 use Rattle.mt_terms.specs.Stability.{fits}
-use Rattle.mt_terms.specs.Rounds.{after_rounds}
+use Rattle.mt_terms.specs.Rounds.{after_rounds, stage as stage_of}
 use Rattle.mt_terms.specs.declared.numbers.Agent.TheVariants.{Couple}
 use Rattle.mt_round_laws.proofs.RoundsStage.{stage_is_stable_lem}
 use Rattle.mt_couples.specs.Waiting.{IsListOf}
@@ -11,9 +11,12 @@ use Rattle.mt_couples.specs.Running.{singles_quiet, IsQuiet, IsRunning}
 use Rattle.mt_couples.specs.Looking.{AreIndexed, IsWatching}
 use Rattle.mt_couples.proofs.QuietFacts.{quiet_at_first}
 use Rattle.mt_couples.proofs.JoinFacts.{joined_list, known_joins}
-use Rattle.mt_couples.specs.declared.rounds.CoupleEnd.TheVariants.{BudgetSpent}
+use Rattle.mt_couples.specs.Ended.{IfSpent, IsSpent}
+use Rattle.mt_couples.specs.declared.rounds.CoupleEnd.{CoupleEnd}
+use Rattle.mt_couples.specs.declared.rounds.CoupleEnd.TheVariants.{BudgetSpent, Memory}
+use Rattle.mt_couples.specs.declared.rounds.Spent.{Spent}
 use Rattle.mt_couples.proofs.RoundFacts.{listed_of_fitting, places_of_fitting}
-use Rattle.mt_couples.proofs.EnteringFacts.{entered_idle, entering_first, idle_before, next_waits, entering_more, entering_spent, entering_all, none_enters, IsEntering}
+use Rattle.mt_couples.proofs.EnteringFacts.{entered_idle, entering_first, idle_before, next_waits, entering_more, entering_spent, entering_ends, entering_endless, entering_all, none_enters, IsEntering}
 use Rattle.mt_couples.proofs.rounds.enter_all.Goals as goal
 
 pub new-requires-clause-places : goal.new-requires-clause-places
@@ -44,20 +47,54 @@ settle-requires-clause-watched g c κs within =
       indexed = subst (λ gs. AreIndexed number gs stage.watch) (sym joins.1) (λ d idle. c.loop-number.invariant.indexed d (idle_before d number idle));
     }
 
--- the error of a result
-err_is : {T E : Type 0} (P : E → Type 0) (r : Result T E) (y : E) → IsErrAnd r P → r ≡ Err y → P y
-err_is P r y h is = subst (λ x. IsErrAnd x P) is h
+-- the error of a result is one of which this holds
+error_is : {T E : Type 0} (P : E → Type 0) (r : Result T E) (e : E) → IsErrAnd r (λ y. y ≡ e) → P e → IfErr r P
+error_is P (Ok x) e h holds = absurd h
+error_is P (Err y) e h holds = subst P (sym h) holds
+
+-- what is so of how far the rounds went says something else, too
+spent_too : {P Q : Spent → Type 0} (e : CoupleEnd) → ((s : Spent) → P s → Q s) → IfSpent e P → IfSpent e Q
+spent_too (BudgetSpent s) more h = more s h
+spent_too Memory more h = h
 
 pub returns-in_err-left-clause-spent : goal.returns-in_err-left-clause-spent
-returns-in_err-left-clause-spent g c = λ is.
+returns-in_err-left-clause-spent g c =
     let so_far = c.loop-number.invariant.entering in
+    let m = c.args.roster.now.market in
     let number = c.loop-number.number in
     let stage = c.loop-number.stage in
     let joins = known_joins stage.waiting c.join.new.self number so_far.nobody_waits c.join.ensures in
-    let same : BudgetSpent ≡ c.in_err-left.field-0.0 = err_is _ c.from_residual-in_err-left.result BudgetSpent c.from_residual-in_err-left.ensures.1 is in
-    entering_spent c.args.roster.now.market stage.quiet c.args.singles.places c.args.budget number stage.assignment stage.waiting c.loop-number.left so_far
-    (omega (arith, c.couples-couples.ensures.count))
-    (ap₂ (λ x w. after_rounds x number c.loop-number.left stage.assignment.places w) (sym so_far.market) (sym joins.1) ∙ c.in_err-left.ensures.spent (ap Err (sym same)))
+    let room : number < length m.couples = omega (arith, c.couples-couples.ensures.count) in
+    let end = c.in_err-left.field-0.0 in
+    error_is (λ e. IfSpent e (λ _. stage_of m c.args.singles.places c.args.budget ≡ None)) c.from_residual-in_err-left.result end c.from_residual-in_err-left.ensures.1
+    (spent_too end
+    (λ s from. entering_spent m stage.quiet c.args.singles.places c.args.budget number stage.assignment stage.waiting c.loop-number.left so_far room
+    (ap₂ (λ x w. after_rounds x number c.loop-number.left stage.assignment.places w) (sym so_far.market) (sym joins.1) ∙ from.unsettled))
+    c.in_err-left.ensures.spent)
+
+pub returns-in_err-left-clause-far : goal.returns-in_err-left-clause-far
+returns-in_err-left-clause-far g c =
+    let so_far = c.loop-number.invariant.entering in
+    let m = c.args.roster.now.market in
+    let number = c.loop-number.number in
+    let stage = c.loop-number.stage in
+    let joins = known_joins stage.waiting c.join.new.self number so_far.nobody_waits c.join.ensures in
+    let room : number < length m.couples = omega (arith, c.couples-couples.ensures.count) in
+    let end = c.in_err-left.field-0.0 in
+    error_is (λ e. IfSpent e (IsSpent m c.args.singles.places c.args.budget)) c.from_residual-in_err-left.result end c.from_residual-in_err-left.ensures.1
+    (spent_too end
+    (λ s from. record {
+      entering =
+          entering_ends m stage.quiet c.args.singles.places c.args.budget number stage.assignment stage.waiting c.loop-number.left so_far room
+          (ap₂ (λ x w. after_rounds x number c.loop-number.left stage.assignment.places w) (sym so_far.market) (sym joins.1) ∙ from.unsettled)
+          ∙ ap Some (sym from.couple);
+      within = from.within;
+      all_made = from.all_made;
+      endless = λ back.
+          entering_endless m stage.quiet c.args.singles.places c.args.budget number stage.assignment stage.waiting c.loop-number.left so_far room
+          (λ b. ap₂ (λ x w. after_rounds x number b stage.assignment.places w) (sym so_far.market) (sym joins.1) ∙ from.endless back b);
+    })
+    c.in_err-left.ensures.spent)
 
 pub loop-number-preserved : goal.loop-number-preserved
 loop-number-preserved g c =

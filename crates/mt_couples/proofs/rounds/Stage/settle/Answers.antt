@@ -1,5 +1,6 @@
 -- Each round leads from a state that is on the way to the next one, and the stage keeps what no round changes.
-use Rattle.std.proofs.Common.{◌∙◌, ◌∷◌, ap, ap₂, sym, subst}
+use Rattle.std.proofs.Common.{◌∙◌, ◌∷◌, ap, ap₂, arith, refl, sym, subst}
+use Rattle.std.proofs.lemmas.Bool.{false≢true}
 use Rattle.mt_terms.specs.Rounds.{after_rounds, round_of}
 use Rattle.mt_stage_tables.specs.Waiting.{waiting_first, with_agents, Waiting}
 use Rattle.mt_couples.specs.Looking.{IsWatching}
@@ -17,8 +18,8 @@ loop-agent-preserved g c =
     let kept = c.in_ok-round.ensures.keeps in
     let taken = c.in-Some.ensures.taken in
     record {
-      settling = settling_more start.last start.quiet c.args.budget start.assignment now.assignment new.assignment start.waiting now.waiting rest new.waiting c.loop-agent.left c.in-Some.agent
-          so_far.settling taken c.if-left-eq0.false kept.market kept.room
+      settling = settling_more start.last start.quiet c.args.left start.assignment now.assignment new.assignment start.waiting now.waiting rest new.waiting c.loop-agent.rest c.in-Some.agent
+          so_far.settling taken c.if-rest-eq0.false kept.market kept.room
           (c.in_ok-round.ensures.work ∙ ap (λ k. round_of now.assignment.market k now.assignment.places (c.in-Some.agent ∷ rest.agents)) so_far.keeps.last);
       watched = c.in_ok-round.ensures.watched;
       keeps = record {
@@ -44,8 +45,15 @@ round-requires-clause-watched g c κs within =
     let now = c.loop-agent.self in
     subst (λ (w : Waiting). IsWatching now.last now.assignment w.agents now.watch) c.in-Some.ensures.taken c.loop-agent.invariant.watched
 
-pub returns-then-left-eq0-clause-spent : goal.returns-then-left-eq0-clause-spent
-returns-then-left-eq0-clause-spent g c = λ spent.
+pub returns-then-rest-eq0-clause-spent : goal.returns-then-rest-eq0-clause-spent
+returns-then-rest-eq0-clause-spent g c =
     let start = c.args.self.now in
-    sym c.loop-agent.invariant.settling.leads
-    ∙ ap₂ (λ left (w : Waiting). after_rounds start.assignment.market start.last left c.loop-agent.self.assignment.places w.agents) c.if-left-eq0.true c.in-Some.ensures.taken
+    record {
+      unsettled =
+          sym c.loop-agent.invariant.settling.leads
+          ∙ ap₂ (λ rest (w : Waiting). after_rounds start.assignment.market start.last rest c.loop-agent.self.assignment.places w.agents) c.if-rest-eq0.true c.in-Some.ensures.taken;
+      couple = c.loop-agent.invariant.keeps.last;
+      within = omega arith;
+      all_made = λ none. refl;
+      endless = λ back. absurd (false≢true back);
+    }
