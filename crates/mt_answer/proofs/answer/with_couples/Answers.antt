@@ -1,4 +1,6 @@
-use Rattle.std.proofs.Common.{arith, refl}
+use Rattle.std.proofs.Common.{◌≡◌, None, arith, refl, subst}
+use Rattle.mt_terms.specs.Rounds.{stage}
+use Rattle.mt_couples.specs.Ended.{IfSpent}
 use Rattle.mt_round_laws.proofs.RoundsStage.{singles_fit}
 use Rattle.mt_answer.proofs.RefusalFacts.{no_memory}
 use Rattle.mt_answer.proofs.answer.with_couples.Goals as goal
@@ -12,12 +14,15 @@ returns-in-Err-Memory-clause-refused g c = no_memory c.alone-in-Err-Memory.resul
 
 pub returns-in-Err-BudgetSpent-clause-refused : goal.returns-in-Err-BudgetSpent-clause-refused
 returns-in-Err-BudgetSpent-clause-refused g c =
+    let m = c.args.roster.now.market in
+    let spent : stage m c.args.singles.places c.args.budget ≡ None =
+    subst (λ e. IfSpent e (λ _. stage m c.args.singles.places c.args.budget ≡ None)) c.in-Err-BudgetSpent.field-0-is c.in-Err-BudgetSpent.ensures.spent in
     record {
       named = c.alone.ensures.named;
       reads_did = λ read. omega (arith, c.alone.ensures.code);
       answer = λ m. record {
         best = c.args.singles.places;
         is_best = c.requires.best;
-        ends = rw (c.in-Err-BudgetSpent.ensures.spent, c.alone.ensures.code, c.alone.ensures.row, c.alone.ensures.id) (refl, refl);
+        ends = rw (spent, c.alone.ensures.code, c.alone.ensures.row, c.alone.ensures.id) (refl, refl);
       };
     }
