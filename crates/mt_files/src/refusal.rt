@@ -5,7 +5,34 @@ ghost use Rattle.mt_files.specs.Text.{is_code_of, refusals, refused_line, source
 use crate::source::Source;
 use itoa::Buffer;
 use mt_match_file::codes as of_match;
-use mt_report::{RefusalLine, code_name as known_name, id_or_dash};
+use mt_report::{code_name as known_name, id_or_dash, write_line};
+use std::marker::Model;
+
+/// The line of a refusal of one of two files, of at most 136 bytes, without memory of its own.
+#[derive(Drop)]
+pub struct FileRefusalLine {
+    bytes: [u8; 136],
+    len: usize,
+}
+
+impl Model for FileRefusalLine {
+    ghost use Rattle.std.specs.Prelude.{ℕ, List, take, ◌≤◌};
+
+    ghost Value = { List ℕ };
+
+    ghost view = { λ l. take l.len l.bytes };
+
+    ghost invariant = { λ l. l.len ≤ 136 };
+}
+
+impl FileRefusalLine {
+    /// The bytes of the line, its line feed included.
+    pub fn as_bytes(&self) -> &[u8]
+        ensures { result.now ≡ self.now }
+    {
+        &self.bytes[..self.len]
+    }
+}
 
 /// The name of a refusal's code.
 fn code_name(source: Source, code: u16) -> &'static [u8]
@@ -43,7 +70,7 @@ fn by_fields<'a>(
     source: &'a [u8],
     row: &'a [u8],
     id: &'a [u8],
-) -> RefusalLine
+) -> FileRefusalLine
     requires { length word.now + length code.now + length name.now + length source.now
         + length row.now + length id.now ≤ 119 }
     ensures { result ≡ line (word.now ∷ codes "1" ∷ codes "refused" ∷ code.now ∷ name.now
@@ -58,12 +85,14 @@ fn by_fields<'a>(
         row,
         id,
     ];
-    RefusalLine::of(word, &fields)
+    let mut bytes = [0; 136];
+    let len = write_line(&mut bytes, word, &fields);
+    FileRefusalLine { bytes, len }
 }
 
 /// The one line of a refusal, which begins with this word. It has the code and its name, the file, and the number of
 /// the record at fault, or 0 if there is none. The id at fault comes last. An empty id is absent, and prints as `-`.
-pub fn refused(word: &[u8], source: Source, code: u16, row: u64, id: &[u8]) -> RefusalLine
+pub fn refused(word: &[u8], source: Source, code: u16, row: u64, id: &[u8]) -> FileRefusalLine
     requires word { length word.now ≤ 7 }
     requires known { IsTrue (is_code_of source code) }
     requires short { length id.now ≤ 64 }

@@ -25,6 +25,11 @@ Completes at_hand fields i whole = (at_hand ++ flat_map after_comma (texts (drop
 pub begins : (first : List ℕ) (fields : List (Bor (List ℕ))) → Completes first fields 0 (line (first ∷ texts fields))
 begins first fields = ap (λ (text : List ℕ). text ++ 10 ∷ []) (sym (joined first (texts fields)))
 
+pub first_within : (first : List ℕ) (fields : List (Bor (List ℕ))) → length first ≤ length (line (first ∷ texts fields))
+first_within first fields =
+    let rest : List ℕ = flat_map after_comma (texts (drop 0 fields)) in
+    omega (arith, ap length (begins first fields), length-append (first ++ rest) (10 ∷ []), length-append first rest)
+
 module _ (at_hand : List ℕ) (fields : List (Bor (List ℕ))) (i : ℕ) (x : Bor (List ℕ)) (whole : List ℕ)
     (within : i < length fields) (is : x ≡ get_or fields i x) (left : Completes at_hand fields i whole) where
   here : drop i fields ≡ x ∷ drop (i + 1) fields

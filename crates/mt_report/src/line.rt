@@ -1,65 +1,29 @@
-ghost use Rattle.std.specs.Prelude.{◌≡◌, ◌∷◌, ◌+◌, ◌≤◌, ◌++◌, [], map, length};
+ghost use Rattle.std.specs.Prelude.{◌≡◌, ◌∷◌, ◌+◌, ◌≤◌, ◌++◌, map, length, take};
 ghost use Rattle.mt_terms.specs.Text.{line};
 
-use std::marker::Model;
-
-/// The line of a refusal, of at most 136 bytes, without memory of its own.
-#[derive(Drop)]
-pub struct RefusalLine {
-    bytes: [u8; 136],
-    len: usize,
+/// Writes the line of a first field and those after it at the start of a buffer, which has room for it. It gives the
+/// number of the line's bytes, its line feed included.
+pub fn write_line(buffer: &mut [u8], first: &[u8], fields: &[&[u8]]) -> usize
+    requires { length (line (first.now ∷ map (λ field. field.now) fields.now)) ≤ length buffer.old }
+    ensures text { take result buffer.new ≡ line (first.now ∷ map (λ field. field.now) fields.now) }
+    ensures within { result ≤ length buffer.old }
+{
+    let mut end = put(buffer, 0, first);
+    for field in fields {
+        end = put(buffer, end, b",");
+        end = put(buffer, end, field);
+    }
+    put(buffer, end, b"\n")
 }
 
-impl Model for RefusalLine {
-    ghost use Rattle.std.specs.Prelude.{ℕ, List, take, ◌≤◌};
-
-    ghost Value = { List ℕ };
-
-    ghost view = { λ l. take l.len l.bytes };
-
-    ghost invariant = { λ l. l.len ≤ 136 };
-}
-
-impl RefusalLine {
-    /// The line of a first field and those after it, for which there is room.
-    pub fn of(first: &[u8], fields: &[&[u8]]) -> Self
-        requires { length (line (first.now ∷ map (λ field. field.now) fields.now)) ≤ 136 }
-        ensures { result ≡ line (first.now ∷ map (λ field. field.now) fields.now) }
-    {
-        let mut line = RefusalLine::new();
-        line.push(first);
-        for field in fields {
-            line.push(b",");
-            line.push(field);
-        }
-        line.push(b"\n");
-        line
-    }
-
-    /// The bytes of the line, its line feed included.
-    pub fn as_bytes(&self) -> &[u8]
-        ensures { result.now ≡ self.now }
-    {
-        &self.bytes[..self.len]
-    }
-
-    // A line with nothing on it.
-    fn new() -> Self
-        ensures { result ≡ [] }
-    {
-        RefusalLine {
-            bytes: [0; 136],
-            len: 0,
-        }
-    }
-
-    // Adds bytes at the end, for which there is room.
-    fn push(&mut self, text: &[u8])
-        requires { length self.old + length text.now ≤ 136 }
-        ensures { self.new ≡ self.old ++ text.now }
-    {
-        let end = self.len + text.len();
-        self.bytes[self.len..end].copy_from_slice(text);
-        self.len = end;
-    }
+// Writes bytes at a place of a buffer, where there is room for them. It gives the place after them.
+fn put(buffer: &mut [u8], at: usize, bytes: &[u8]) -> usize
+    requires { at + length bytes.now ≤ length buffer.old }
+    ensures end { result ≡ at + length bytes.now }
+    ensures text { take result buffer.new ≡ take at buffer.old ++ bytes.now }
+    ensures len { length buffer.new ≡ length buffer.old }
+{
+    let end = at + bytes.len();
+    buffer[at..end].copy_from_slice(bytes);
+    end
 }

@@ -2,9 +2,36 @@ ghost use Rattle.std.specs.Prelude.{◌≡◌, [], ◌∷◌, ◌+◌, ◌≤◌
 ghost use Rattle.mt_terms.specs.Text.{id_text, is_known_code, line, refused as refused_text};
 ghost use Rattle.mt_report.specs.Names.{name_of_code};
 
-use crate::line::RefusalLine;
+use crate::line::write_line;
 use itoa::Buffer;
 use mt_terms::codes;
+use std::marker::Model;
+
+/// The line of a refusal, of at most 128 bytes, without memory of its own.
+#[derive(Drop)]
+pub struct RefusalLine {
+    bytes: [u8; 128],
+    len: usize,
+}
+
+impl Model for RefusalLine {
+    ghost use Rattle.std.specs.Prelude.{ℕ, List, take, ◌≤◌};
+
+    ghost Value = { List ℕ };
+
+    ghost view = { λ l. take l.len l.bytes };
+
+    ghost invariant = { λ l. l.len ≤ 128 };
+}
+
+impl RefusalLine {
+    /// The bytes of the line, its line feed included.
+    pub fn as_bytes(&self) -> &[u8]
+        ensures { result.now ≡ self.now }
+    {
+        &self.bytes[..self.len]
+    }
+}
 
 /// The name of a refusal's code.
 pub fn code_name(code: u16) -> &'static [u8]
@@ -43,12 +70,14 @@ pub fn id_or_dash(id: &[u8]) -> &[u8]
 
 // The line of a refusal by its fields after the first three.
 fn by_fields<'a>(code: &'a [u8], name: &'a [u8], row: &'a [u8], id: &'a [u8]) -> RefusalLine
-    requires { length code.now + length name.now + length row.now + length id.now ≤ 115 }
+    requires { length code.now + length name.now + length row.now + length id.now ≤ 108 }
     ensures { result ≡ line (codes "match" ∷ codes "1" ∷ codes "refused" ∷ code.now ∷ name.now
         ∷ row.now ∷ id.now ∷ []) }
 {
     let fields = [b"1".as_slice(), b"refused".as_slice(), code, name, row, id];
-    RefusalLine::of(b"match", &fields)
+    let mut bytes = [0; 128];
+    let len = write_line(&mut bytes, b"match", &fields);
+    RefusalLine { bytes, len }
 }
 
 /// The one line of a refusal. It has the code and its name, the number of the record at fault, or 0 if there is none,
