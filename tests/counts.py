@@ -15,7 +15,7 @@ CHECKS = {
     "cli PROGRAM": 8417,
     "cli": 8420,
     "controls": 36,
-    "edits_apply": 608,
+    "edits_apply": 610,
     "linear": 45,
     "memory": 448,
     "memory --calls": 15,

@@ -1,3 +1,4 @@
 pub mod AppendsFacts
 pub mod LineFacts
 pub mod CountFacts
+pub mod AsideFacts

@@ -1,3 +1,4 @@
 pub mod Drains
 pub mod Status
 pub mod Names
+pub mod Aside

@@ -1,6 +1,7 @@
 //! The text of a match, the line of a refusal, and how either is written.
 #![tactic(auto)]
 
+mod aside;
 mod counts;
 mod drain;
 mod ended;
@@ -9,6 +10,7 @@ mod refusal;
 mod text;
 mod writing;
 
+pub use aside::published_aside;
 pub use counts::{filled_counts, filled_total, position_count, unmatched_count};
 pub use drain::Drain;
 pub use ended::{Ended, end};

@@ -65,7 +65,11 @@ fn place_id<'a>(roster: &'a Roster, matched: &Match, applicant: AppNo) -> &'a [u
 }
 
 /// Adds the lines of all applicants.
-fn push_applicants(text: &mut Vec<u8>, roster: &Roster, matched: &Match) -> Result<(), AllocError>
+pub(crate) fn push_applicants(
+    text: &mut Vec<u8>,
+    roster: &Roster,
+    matched: &Match,
+) -> Result<(), AllocError>
     requires { ArePlaces roster.now.market matched.now.places }
     ensures ok { OnOk result (text.new.items
         ≡ text.old.items ++ applicant_lines roster.now.market roster.now.names matched.now.places) }
@@ -79,7 +83,7 @@ fn push_applicants(text: &mut Vec<u8>, roster: &Roster, matched: &Match) -> Resu
 }
 
 /// Adds the lines of all programs, with how many are placed at each and how many proposals each received.
-fn push_programs(
+pub(crate) fn push_programs(
     text: &mut Vec<u8>,
     roster: &Roster,
     matched: &Match,
@@ -126,7 +130,7 @@ fn push_numbers(
 }
 
 /// Adds the line of the totals.
-fn push_totals(
+pub(crate) fn push_totals(
     text: &mut Vec<u8>,
     roster: &Roster,
     matched: &Match,
@@ -146,7 +150,7 @@ fn push_totals(
 
 /// How much room a text is given at once, for its lines of applicants and programs. A longer one takes more as it
 /// grows.
-fn likely_len(roster: &Roster) -> usize {
+pub(crate) fn likely_len(roster: &Roster) -> usize {
     (roster.applicants() as usize + roster.programs() as usize) * LINE_LEN
 }
 
