@@ -21,7 +21,7 @@ CHECKS = {
     "memory --calls": 15,
     "memory --check": 114,
     "must_fail": 74,
-    "pages": 282,
+    "pages": 285,
     "python": 28,
     "seeds": 7,
     "threads": 54,

@@ -108,6 +108,11 @@ NOT_UTF_8 = r"$'\xff.csv'"
 LONGEST_ID = "a" * 64
 UNKNOWN_KIND, READ_FAULT = ["match,1,refused,13,UnknownKind,2,-"], ["match,1,refused,31,ReadFault,0,-"]
 STABLE = ["check,1,stable"]
+# Files with @ for a comma, and the codes by which they are refused if it is a semicolon, and if it is a tab.
+OTHER_COMMAS = r"""
+for file in match@1 'match,1\nprogram@P' 'match,1\ncouple,c@a@b' 'match,1\napplicant,a@P' 'match,1\nprogram,P,1@a'
+do for comma in ';' '\t'; do printf "${file//@/$comma}" | nrmatch | cut -d, -f4; done; done"""
+OTHER_COMMAS_CODES = ["12", "12", "13", "13", "14", "14", "15", "15", "16", "16"]
 # Sentences, each with its page, a command, what that writes, and its exit status.
 BEHAVIOUR = [
     (FORMAT, "`-` as FILE is a file of that name", f"cp unknown_kind.csv ./-; nrmatch - < {NOBODY}", UNKNOWN_KIND, 2),
@@ -172,6 +177,8 @@ BEHAVIOUR = [
         ["XFSZ"],
         0,
     ),
+    (FORMAT, "Semicolons or tabs for commas give 12 to 16.", OTHER_COMMAS, OTHER_COMMAS_CODES, 0),
+    (NRMATCH, "Semicolons or tabs for commas give 12 to 16.", OTHER_COMMAS, OTHER_COMMAS_CODES, 0),
     (FORMAT, "The status is 5 if XFSZ is ignored.", f"{LARGE} trap '' XFSZ; ulimit -f 1; nrmatch large.csv > short", [], 5),
     (FORMAT, "A standard input that doesn't block fails at once if it has nothing yet.", f"{NOT_BLOCKING} 0 nrmatch", READ_FAULT, 5),
     (
