@@ -1,1 +1,2 @@
+pub mod ReturningFacts
 pub mod RoundsCounted

@@ -12,11 +12,11 @@ use Rattle.mt_round_laws.proofs.RoundsStage.{chained, stage_end}
 
 -- A run that is given a budget and leaves some of it: it used this many rounds, which any budget of at least
 -- as many lets it make, and no smaller one.
-record Uses (run : ℕ → Option (Places × ℕ)) (left : ℕ) (r : Places × ℕ) : Type 0 where
-  used : ℕ
-  split : left ≡ used + r.1
-  enough : (more : ℕ) → run (used + more) ≡ Some (r.0, more)
-  too_few : (b : ℕ) → b < used → run b ≡ None
+pub record Uses (run : ℕ → Option (Places × ℕ)) (left : ℕ) (r : Places × ℕ) : Type 0 where
+  pub used : ℕ
+  pub split : left ≡ used + r.1
+  pub enough : (more : ℕ) → run (used + more) ≡ Some (r.0, more)
+  pub too_few : (b : ℕ) → b < used → run b ≡ None
 
 -- a run that makes no round
 uses_none : (run : ℕ → Option (Places × ℕ)) (left : ℕ) (places : Places) (r : Places × ℕ) → ((b : ℕ) → run b ≡ Some (places, b))
@@ -63,7 +63,7 @@ through_none : {X Y : Type 0} (f : X → Option Y) (o : Option X) → o ≡ None
 through_none f o e = rw e refl
 
 -- the rounds of several couples
-entered_uses : (m : Market) (ks : List ℕ) (left : ℕ) (places : Places) (r : Places × ℕ) → after_entries m ks left places ≡ Some r
+pub entered_uses : (m : Market) (ks : List ℕ) (left : ℕ) (places : Places) (r : Places × ℕ) → after_entries m ks left places ≡ Some r
     → Uses (λ b. after_entries m ks b places) left r
 entered_uses m [] left places r e = uses_none (λ b. after_entries m [] b places) left places r (λ b. refl) e
 entered_uses m (k ∷ ks) left places r e =

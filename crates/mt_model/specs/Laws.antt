@@ -2,6 +2,7 @@
 pub use Rattle.mt_applicant_laws.specs.Changes
 pub use Rattle.mt_applicant_laws.specs.Laws as ApplicantLaws
 pub use Rattle.mt_budget_laws.specs.Budget
+pub use Rattle.mt_budget_laws.specs.Returning
 pub use Rattle.mt_file_laws.specs.Faults
 pub use Rattle.mt_file_laws.specs.Registration
 pub use Rattle.mt_file_laws.specs.Text

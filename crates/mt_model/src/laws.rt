@@ -4,7 +4,10 @@ pub use mt_applicant_laws::{
     longer_list_keeps_best, more_posts_hurt_none, none_gains_by_another_list,
     shorter_list_hurts_no_other,
 };
-pub use mt_budget_laws::{premises_of_rounds, stage_rounds};
+pub use mt_budget_laws::{
+    premises_of_rounds, returning_in_examples, returning_never_ends, returning_stage_never_ends,
+    stage_rounds,
+};
 pub use mt_file_laws::{
     accepted_is_registration, fault_codes, fault_ids, refusal_is_one_record, versions_agree,
 };
