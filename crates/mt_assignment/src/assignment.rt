@@ -272,6 +272,13 @@ impl<'a> Assignment<'a> {
         self.roster.members(couple)
     }
 
+    /// Where each applicant is placed, by number.
+    pub fn places(&self) -> &[Option<ProgNo>]
+        ensures { result.now ≡ self.now.places }
+    {
+        &self.places
+    }
+
     /// Where the applicant is placed.
     pub(crate) fn place(&self, applicant: AppNo) -> Option<ProgNo>
         ensures { result ≡ place_of self.now.places applicant }

@@ -7,11 +7,12 @@ use Rattle.mt_terms.specs.Market.{Market, applicants, agents}
 use Rattle.mt_terms.specs.Matching.{Places}
 use Rattle.mt_terms.specs.Stability.{blocks, fits}
 use Rattle.mt_terms.specs.WellFormed.{IsWellFormed}
-use Rattle.mt_terms.specs.Rounds.{after_rounds, after_entries, round_of, stage, is_on, IsFittingState}
+use Rattle.mt_terms.specs.Rounds.{after_rounds, after_entries, stage, is_on, IsFittingState}
 use Rattle.mt_terms.specs.declared.numbers.Agent.{Agent}
 use Rattle.mt_terms.specs.declared.numbers.Agent.TheVariants.{Couple}
 use Rattle.mt_round_laws.proofs.RoundsLists.{In}
-use Rattle.mt_round_laws.proofs.RoundsStage.{chained, stage_end}
+use Rattle.mt_round_laws.proofs.RoundsStage.{chained}
+use Rattle.mt_budget_laws.proofs.ReturningFacts.{endless_stage}
 use Rattle.mt_order_laws.specs.Aside.{entering_at_end}
 use Rattle.mt_order_laws.proofs.EndFacts.{entering_in_words_lem}
 use Rattle.mt_round_laws.proofs.RoundsAgents.{on_list, of_list, agent_on_list, couple_members}
@@ -102,31 +103,6 @@ range_entered m start (suc n) left places r q e more =
     let there : start + suc n ≡ start + 1 + n = omega arith in
     rw w.1 (range_entered m (start + 1) n w.0.1 w.0.0 r q w.2 (subst (λ j. after_rounds m j r.1 r.0 (Couple j ∷ []) ≡ Some q) there more))
 
--- the couples of a range have entered, and those after it then
-first_entered : (m : Market) (start n k left : ℕ) (places : Places) (q : Places × ℕ) → after_entries m (range_with_len start (n + k)) left places ≡ Some q
-    → (r : Places × ℕ) × (after_entries m (range_with_len start n) left places ≡ Some r) × (after_entries m (range_with_len (start + n) k) r.1 r.0 ≡ Some q)
-first_entered m start zero k left places q e =
-    let here : start + 0 ≡ start = omega arith in
-    let none : 0 + k ≡ k = omega arith in
-    ((places, left), refl, ap (λ j. after_entries m (range_with_len j k) left places) here ∙ sym (ap (λ j. after_entries m (range_with_len start j) left places) none) ∙ e)
-first_entered m start (suc n) k left places q e =
-    let more : suc n + k ≡ suc (n + k) = omega arith in
-    by_end (after_rounds m start left places (Couple start ∷ [])) (λ t. first_entered m (start + 1) n k t.1 t.0 q)
-    (sym (ap (λ j. after_entries m (range_with_len start j) left places) more) ∙ e)
-  where
-    there : start + 1 + n ≡ start + suc n
-    there = omega arith
-
-    by_end : (o : Option (Places × ℕ))
-        → ((t : Places × ℕ) → after_entries m (range_with_len (start + 1) (n + k)) t.1 t.0 ≡ Some q
-        → (r : Places × ℕ) × (after_entries m (range_with_len (start + 1) n) t.1 t.0 ≡ Some r) × (after_entries m (range_with_len (start + 1 + n) k) r.1 r.0 ≡ Some q))
-        → option_and_then (λ t. after_entries m (range_with_len (start + 1) (n + k)) t.1 t.0) o ≡ Some q
-        → (r : Places × ℕ) × (option_and_then (λ t. after_entries m (range_with_len (start + 1) n) t.1 t.0) o ≡ Some r)
-        × (after_entries m (range_with_len (start + suc n) k) r.1 r.0 ≡ Some q)
-    by_end None rest h = absurd (let none : ◌≡◌ {A = Option (Places × ℕ)} None (Some q) = h in cc)
-    by_end (Some t) rest h =
-        let v = rest t h in (v.0, v.1, subst (λ j. after_entries m (range_with_len j k) v.0.1 v.0.0 ≡ Some q) there v.2)
-
 -- it has entered
 pub entering_more : (m : Market) (quiet : Bool) (start : Places) (budget number : ℕ) (now next : Assigned) (waiting waiting' : Waiting) (left left' : ℕ)
     → IsEntering m quiet start budget number now waiting left → number < length m.couples → next.market ≡ m → fits m next.places ≡ true → IsListOf m waiting' → waiting'.agents ≡ [] → (IsTrue quiet → IsQuiet number (record { market = m; places = next.places }) waiting'.agents)
@@ -162,59 +138,12 @@ pub entering_ends : (m : Market) (quiet : Bool) (start : Places) (budget number 
 entering_ends m quiet start budget number now waiting left so_far within spent =
     (entering_in_words_lem m start budget number).1 (within, ((now.places, left), so_far.reached, spent))
 
--- rounds that end do so in one match, whatever the budget
-one_match : (m : Market) (k b b' : ℕ) (places : Places) (ws : List Agent) (r r' : Places × ℕ) → after_rounds m k b places ws ≡ Some r
-    → after_rounds m k b' places ws ≡ Some r' → r.0 ≡ r'.0
-one_match m k b b' places [] r r' e e' =
-    let some : ◌≡◌ {A = Option (Places × ℕ)} (Some (places, b)) (Some r) = e in
-    let some' : ◌≡◌ {A = Option (Places × ℕ)} (Some (places, b')) (Some r') = e' in
-    let is : (places, b) ≡ r = cc in
-    let is' : (places, b') ≡ r' = cc in
-    sym (ap (λ t. t.0) is) ∙ ap (λ t. t.0) is'
-one_match m k zero b' places (g ∷ ws) r r' e e' = absurd (let none : ◌≡◌ {A = Option (Places × ℕ)} None (Some r) = e in cc)
-one_match m k (suc b) zero places (g ∷ ws) r r' e e' = absurd (let none : ◌≡◌ {A = Option (Places × ℕ)} None (Some r') = e' in cc)
-one_match m k (suc b) (suc b') places (g ∷ ws) r r' e e' =
-    let next = round_of m k places (g ∷ ws) in
-    one_match m k b b' next.places next.waiting r r' e e'
-
-one_match_entered : (m : Market) (ks : List ℕ) (b b' : ℕ) (places : Places) (r r' : Places × ℕ) → after_entries m ks b places ≡ Some r
-    → after_entries m ks b' places ≡ Some r' → r.0 ≡ r'.0
-one_match_entered m [] b b' places r r' e e' = one_match m 0 b b' places [] r r' e e'
-one_match_entered m (k ∷ ks) b b' places r r' e e' =
-    let w = chained (λ t. after_entries m ks t.1 t.0) (after_rounds m k b places (Couple k ∷ [])) r e in
-    let w' = chained (λ t. after_entries m ks t.1 t.0) (after_rounds m k b' places (Couple k ∷ [])) r' e' in
-    let same : w'.0.0 ≡ w.0.0 = one_match m k b' b places (Couple k ∷ []) w'.0 w.0 w'.1 w.1 in
-    one_match_entered m ks w.0.1 w'.0.1 w.0.0 r r' w.2 (subst (λ x. after_entries m ks w'.0.1 x ≡ Some r') same w'.2)
-
--- if its rounds end within no budget, it has entered within none
-never_entered : (m : Market) (start now : Places) (budget number n left b : ℕ) (q : Places × ℕ) → after_entries m (below number) budget start ≡ Some (now, left)
-    → ((b : ℕ) → after_rounds m number b now (Couple number ∷ []) ≡ None) → after_entries m (below (number + suc n)) b start ≡ Some q → ⊥
-never_entered m start now budget number n left b q reached endless all =
-    let w = first_entered m 0 number (suc n) b start q all in
-    let here : 0 + number ≡ number = omega arith in
-    let same : w.0.0 ≡ now = one_match_entered m (below number) b budget start w.0 (now, left) w.1 reached in
-    let rest : after_entries m (range_with_len number (suc n)) w.0.1 w.0.0 ≡ Some q = subst (λ j. after_entries m (range_with_len j (suc n)) w.0.1 w.0.0 ≡ Some q) here w.2 in
-    let v = chained (λ t. after_entries m (range_with_len (number + 1) n) t.1 t.0) (after_rounds m number w.0.1 w.0.0 (Couple number ∷ [])) q rest in
-    let none : ◌≡◌ {A = Option (Places × ℕ)} None (Some v.0) = sym (endless w.0.1) ∙ ap (λ x. after_rounds m number w.0.1 x (Couple number ∷ [])) (sym same) ∙ v.1 in
-    cc
-
--- and no budget is enough for the stage
+-- if its rounds end within no budget, no budget is enough for the stage
 pub entering_endless : (m : Market) (quiet : Bool) (start : Places) (budget number : ℕ) (now : Assigned) (waiting : Waiting) (left : ℕ)
     → IsEntering m quiet start budget number now waiting left → number < length m.couples
     → ((b : ℕ) → after_rounds m number b now.places (Couple number ∷ []) ≡ None) → (b : ℕ) → stage m start b ≡ None
-entering_endless m quiet start budget number now waiting left so_far within endless b = by_end (stage m start b) refl
-  where
-    n : ℕ
-    n = length m.couples - number - 1
-
-    parts : length m.couples ≡ number + suc n
-    parts = omega arith
-
-    by_end : (o : Option (Places × ℕ)) → stage m start b ≡ o → o ≡ None
-    by_end None e = refl
-    by_end (Some r) e =
-        let q = stage_end m start b r e in
-        absurd (never_entered m start now.places budget number n left b q.0 so_far.reached endless (sym (ap (λ j. after_entries m (below j) b start) parts) ∙ q.1))
+entering_endless m quiet start budget number now waiting left so_far within endless =
+    endless_stage m start number budget (now.places, left) within so_far.reached endless
 
 -- there is none to enter
 pub none_enters : (m : Market) (places : Places) (budget : ℕ) → length m.couples ≡ 0 → stage m places budget ≡ Some (places, 0)

@@ -5,5 +5,6 @@ pub mod LookFacts
 pub mod IndexFacts
 pub mod OneFacts
 pub mod QuietFacts
+pub mod ReturningFacts
 pub mod RoundFacts
 pub mod WatchFacts

@@ -1,5 +1,5 @@
 -- How far the rounds went when they ended without a match.
-use Rattle.std.specs.Prelude.{◌≡◌, ◌≤◌, ℕ, None, Some, IsFalse, IsTrue, ⊤}
+use Rattle.std.specs.Prelude.{◌≡◌, ◌≤◌, ℕ, Bool, None, Some, IsFalse, IsTrue, ⊤}
 use Rattle.mt_terms.specs.Market.{Market}
 use Rattle.mt_terms.specs.Matching.{Places}
 use Rattle.mt_terms.specs.Rounds.{stage}
@@ -14,6 +14,10 @@ use Rattle.mt_couples.specs.declared.rounds.Stage.{Stage}
 abbrev pub IfSpent : CoupleEnd → (Spent → Type 0) → Type 0
 IfSpent (BudgetSpent s) P = P s
 IfSpent Memory P = ⊤
+
+-- the end of the rounds while a couple was entering
+abbrev pub spent_by : ℕ → ℕ → Bool → CoupleEnd
+spent_by k rounds comes_back = BudgetSpent (record { couple = k; rounds = rounds; comes_back = comes_back })
 
 -- When the budget was spent, this couple was entering. All rounds of the budget were made, unless a state came back.
 -- Then no budget is enough.

@@ -2,6 +2,7 @@
 #![tactic(auto)]
 
 mod recheck;
+mod returning;
 mod rounds;
 mod watch;
 

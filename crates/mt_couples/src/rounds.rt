@@ -12,6 +12,7 @@ ghost use Rattle.mt_couples.specs.Looking.{has_wanted_post};
 ghost use Rattle.mt_couples.specs.Running.{singles_quiet};
 
 use crate::recheck::{Recheck, has_wanted_post};
+use crate::returning::Returning;
 use crate::watch::Watch;
 use mt_assignment::{Assignment, no_ranks};
 use mt_market::Roster;
@@ -111,7 +112,7 @@ impl Drop for Stage<'_> {
 }
 
 impl<'a> Stage<'a> {
-    ghost use Rattle.mt_couples.specs.Ended.{IsSpentFrom};
+    ghost use Rattle.mt_couples.specs.Ended.{spent_by, IsSpentFrom};
     ghost use Rattle.mt_couples.specs.Staged.{after_round, after_move, settled_within, state_of, Begins, IsBeforeRoundOf, IsBetweenRounds, IsWatched, IsWatchedBut, KeepsStage};
 
     /// A stage that no couple has entered. The error is want of memory.
@@ -222,8 +223,19 @@ impl<'a> Stage<'a> {
         }
     }
 
+    /// The end of the rounds while the couple that entered last was entering.
+    fn spent(&self, rounds: u32, comes_back: bool) -> CoupleEnd
+        ensures { result ≡ spent_by self.now.last rounds comes_back }
+    {
+        CoupleEnd::BudgetSpent(Spent {
+            couple: self.last,
+            rounds,
+            comes_back,
+        })
+    }
+
     /// Makes rounds until the work list is empty, at most as many as are left of the budget. The result is how many are
-    /// left then.
+    /// left then. If a state comes back the rounds end at once, since they would never end.
     fn settle<R: Threads + Sync>(
         &mut self,
         rt: &R,
@@ -244,16 +256,16 @@ impl<'a> Stage<'a> {
         ensures empty { OnOk result (self.new.waiting.agents ≡ []) }
     {
         let mut rest = left;
+        let mut returning = Returning::new();
         while let Some(agent) = self.waiting.take() {
             if rest == 0 {
-                return Err(CoupleEnd::BudgetSpent(Spent {
-                    couple: self.last,
-                    rounds: budget,
-                    comes_back: false,
-                }));
+                return Err(self.spent(budget, false));
             }
             rest -= 1;
             self.round(rt, alloc, agent)?;
+            if returning.comes_back(alloc, &self.assignment, &self.waiting)? {
+                return Err(self.spent(budget - rest, true));
+            }
         }
         Ok(rest)
     }
@@ -265,7 +277,7 @@ impl<'a> Stage<'a> {
 /// displaces leaves with its whole couple, and the agents to whom that may matter are rechecked.
 ///
 /// The errors are that more rounds than `budget` would be needed, and want of memory. In both the given match is gone.
-/// The first error names the couple that was entering.
+/// The first error names the couple that was entering. It comes at once if a state of its rounds comes back.
 pub fn enter_all<'a, R: Threads + Sync>(
     rt: &R,
     alloc: Global,

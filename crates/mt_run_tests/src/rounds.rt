@@ -13,6 +13,22 @@ use std::alloc::Global;
 use std::process::Abort;
 use std::thread::Threads;
 
+// The couple drives the single out, and the single the couple. After four rounds all is as before.
+const UNSTABLE: &[u8] = b"match,1\n\
+    program,x,1,a,s\n\
+    program,y,1,s,b\n\
+    applicant,s,x,y\n\
+    couple,c,a,b,x,y\n";
+
+// The first couple was entering when the budget was spent.
+fn spent(rounds: u32, comes_back: bool) -> CoupleEnd {
+    CoupleEnd::BudgetSpent(Spent {
+        couple: CoupleNo(0),
+        rounds,
+        comes_back,
+    })
+}
+
 // How the couples' stage ends, after the best match of the singles.
 fn enter<R: Threads + Sync>(
     rt: &R,
@@ -68,10 +84,15 @@ fn a_couple_takes_half_a_pair_in_four_rounds(rt: HostRuntime) {
     let roster = roster_of(&rt, alloc, HALF_PAIR).expect(&rt, "a market");
     expect_rounds(&rt, alloc, &roster, 1_000_000, Ok(4));
     expect_rounds(&rt, alloc, &roster, 4, Ok(4));
-    let spent = Spent {
-        couple: CoupleNo(0),
-        rounds: 3,
-        comes_back: false,
-    };
-    expect_rounds(&rt, alloc, &roster, 3, Err(CoupleEnd::BudgetSpent(spent)));
+    expect_rounds(&rt, alloc, &roster, 3, Err(spent(3, false)));
+}
+
+// A state is kept after 1,024 rounds. It comes back four rounds later.
+#[test]
+fn rounds_that_come_back_to_a_state_end(rt: HostRuntime) {
+    let alloc = rt.alloc();
+    let roster = roster_of(&rt, alloc, UNSTABLE).expect(&rt, "a market");
+    expect_rounds(&rt, alloc, &roster, 1_027, Err(spent(1_027, false)));
+    expect_rounds(&rt, alloc, &roster, 1_028, Err(spent(1_028, true)));
+    expect_rounds(&rt, alloc, &roster, u32::MAX, Err(spent(1_028, true)));
 }

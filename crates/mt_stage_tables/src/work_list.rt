@@ -1,4 +1,4 @@
-ghost use Rattle.std.specs.Prelude.{◌≡◌, [], drop, IfOk, IfSome, IfNone};
+ghost use Rattle.std.specs.Prelude.{◌≡◌, ◌++◌, [], drop, IfOk, IfSome, IfNone};
 ghost use Rattle.mt_terms.specs.Rounds.{is_on, joined};
 ghost use Rattle.mt_stage_tables.specs.Waiting.{nobody, waiting_first, with_agents, IsKnown};
 
@@ -83,6 +83,13 @@ impl WorkList {
         ensures { result ≡ is_on self.now.agents agent.now }
     {
         is_beyond(&self.front, self.taken, agent) || is_beyond(&self.back, 0, agent)
+    }
+
+    /// The agents that wait, in order, in two parts.
+    pub fn parts(&self) -> (&[Agent], &[Agent])
+        ensures { self.now.agents ≡ result.0.now ++ result.1.now }
+    {
+        (&self.front.as_slice()[self.taken..], self.back.as_slice())
     }
 
     /// Takes the agent at the front. There is none if nobody waits.
