@@ -6,10 +6,10 @@ use Rattle.mt_terms.specs.declared.refusal.Refusal.{Refusal}
 use Rattle.mt_match_file.specs.Submitted.{Submitted}
 use Rattle.mt_input.specs.Files.{IsMarketOf, market_in}
 use Rattle.mt_input.specs.Left.{OfLeft}
-use Rattle.mt_input.specs.Refusals.{IsRefusalOf, fault_of}
+use Rattle.mt_input.specs.Refusals.{IsRefusalOf}
 use Rattle.mt_input.proofs.LeftFacts.{of_left, some_left}
 use Rattle.mt_files.specs.Files.{files_by, files_in, submitted_in, with_match}
-use Rattle.mt_files.specs.Refusals.{AreFilesIn, IsInTurn, IsRefused, OfBoth}
+use Rattle.mt_files.specs.Refusals.{AreFilesIn, IsInTurn, IsRefused}
 use Rattle.mt_files.specs.declared.files.Files.{Files}
 use Rattle.mt_files.specs.declared.refused_file.Refused.{Refused}
 use Rattle.mt_files.specs.declared.source.Source.{Source}

@@ -1,7 +1,7 @@
 -- A reader that isn't asked, and which of two readers failed.
 use Rattle.std.proofs.Common.{◌≡◌, ℕ, ◌<◌, ◌⊎◌, ◌↔◌, [], List, Option, Some, None, refl, inl, inr, arith}
 use Rattle.std.specs.Io.KnownBytes.{Consumes}
-use Rattle.mt_lists.specs.Tap.{LosesAtMost, bytes_left}
+use Rattle.mt_lists.specs.Tap.{bytes_left}
 use Rattle.mt_lists.specs.declared.tap.Tap.{Tap}
 use Rattle.mt_input.specs.Left.{TakesFile}
 
