@@ -1,7 +1,8 @@
-ghost use Rattle.std.specs.Prelude.{◌≡◌, ◌+◌, ◌*◌, ◌≤◌, ◌/◌, map, min, length, IfOk, IsFalse, IsTrue};
+ghost use Rattle.std.specs.Prelude.{◌≡◌, ◌+◌, ◌*◌, ◌≤◌, ◌/◌, map, min, length, vec_len, IfOk, IsFalse, IsTrue};
 ghost use Rattle.mt_terms.specs.Best.{IsBest, proposals};
 ghost use Rattle.mt_terms.specs.Lists.{below};
 ghost use Rattle.mt_terms.specs.Market.{applicants};
+ghost use Rattle.mt_crew.specs.Closings.{IsClosing};
 
 use crate::gate::{Closing, Gate};
 use crate::seats::{Seat, dealt_seats, next_ticket, thieves};
@@ -148,6 +149,31 @@ fn serve_all<K: HallName + Send + Sync, R: Threads + Wait + Sync, G: Gate + Sync
     });
 }
 
+/// Closes the hall, and finishes the floor that the workers left.
+fn audited_singles<K: HallName>(
+    alloc: Global,
+    ranks: &Ranks,
+    hall: Hall<'_, K>,
+    passes: Vec<Pass<K>>,
+) -> Result<(Singles, Closing), AllocError>
+    requires ranks { ranks.now ≡ K.ranked }
+    requires all { K.parts ≡ applicants K.ranked.market + vec_len passes }
+    ensures best { IfOk result (λ s. IsBest ranks.now.market s.0.matched.places) }
+    ensures proposals { IfOk result (λ s. s.0.proposals.items
+        ≡ map (proposals ranks.now.market s.0.matched.places) (below (length ranks.now.market.programs))) }
+    ensures closing { IfOk result
+        (λ s. IsClosing ranks.now passes.items s.0.matched.places s.1) }
+{
+    let mut audit = hall.close(passes);
+    let (singles, late) = singles_of(alloc, &mut audit.floor, ranks)?;
+    let closing = Closing {
+        agrees: audit.agrees,
+        astray: audit.astray,
+        late,
+    };
+    Ok((singles, closing))
+}
+
 fn work_in<K: HallName + Send + Sync, R: Threads + Wait + Sync, G: Gate + Sync>(
     rt: &R,
     alloc: Global,
@@ -168,13 +194,8 @@ fn work_in<K: HallName + Send + Sync, R: Threads + Wait + Sync, G: Gate + Sync>(
     let thieves = thieves(alloc, &seats)?;
     let (hall, mut passes) = Hall::<K>::open(alloc, ranks, workers, blank)?;
     serve_all(rt, &hall, gate, &thieves, &mut seats, &mut passes);
-    let mut audit = hall.close(passes);
-    let (singles, late) = singles_of(alloc, &mut audit.floor, ranks)?;
-    gate.closed(&Closing {
-        agrees: audit.agrees,
-        astray: audit.astray,
-        late,
-    });
+    let (singles, closing) = audited_singles(alloc, ranks, hall, passes)?;
+    gate.closed(&closing);
     Ok(singles)
 }
 

@@ -4,6 +4,7 @@ ghost use Rattle.mt_terms.specs.Best.{IsBest, proposals};
 ghost use Rattle.mt_terms.specs.Floor.{IsLegal, proposals_made};
 ghost use Rattle.mt_terms.specs.Lists.{below, count_below};
 ghost use Rattle.mt_terms.specs.Market.{applicants};
+ghost use Rattle.mt_crew.specs.Closings.{all_on_the_way};
 
 use mt_core::{Floor, finish, received, result};
 use mt_ranks::Ranks;
@@ -43,7 +44,7 @@ pub(crate) fn singles_of(
     ensures proposals { IfOk result (λ s. s.0.proposals.items
         ≡ map (proposals ranks.now.market s.0.matched.places) (below (length ranks.now.market.programs))) }
     ensures late { let m = ranks.now.market in IfOk result (λ s.
-        proposals_made m (floor_of m floor.new) ≡ proposals_made m (floor_of m floor.old) + s.1) }
+        all_on_the_way m s.0.matched.places ≡ proposals_made m (floor_of m floor.old) + s.1) }
 {
     let late = finish(floor, ranks);
     let matched = result(alloc, floor, ranks)?;
