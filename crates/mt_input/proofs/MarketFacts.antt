@@ -72,7 +72,3 @@ market_refusal_named left e h = elim (cases_eq e.code 30) [
     | inr r ↦ let f = h.fault m r in (market_fault f.bytes (fault_of e) f.is_so).named
   ]
 ]
-
--- its code is 22 at the most, or that of want of memory or of a failed read
-pub market_refusal_code : (left : Option (List ℕ)) (e : Refusal) → IsRefusalOf left market_in e → e.code ≢ 30 → e.code ≢ 31 → e.code ≤ 22
-market_refusal_code left e h m r = let f = h.fault m r in (market_fault f.bytes (fault_of e) f.is_so).low

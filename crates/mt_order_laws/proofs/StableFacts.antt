@@ -17,7 +17,7 @@ use Rattle.mt_round_laws.proofs.RoundsSets.{has_head}
 use Rattle.mt_round_laws.proofs.RoundsAgents.{IsAgent, agent_on_list, agent_from_list, couple_members, couple_number, single_member, one_of_two, member_of_agent}
 use Rattle.mt_terms.proofs.ListFacts.{has_item}
 use Rattle.mt_order_laws.specs.Reordered.{reordered, unless_aside, set_aside, IsOrderOfSome, IsOrderWithout}
-use Rattle.mt_order_laws.specs.Laws.{FitsInAnyOrder, StableInAnyOrder, BestInAnyOrder, CoupleBlocksInAnyOrder}
+use Rattle.mt_order_laws.specs.Laws.{FitsInAnyOrder, StableInAnyOrder, BestInAnyOrder}
 use Rattle.mt_order_laws.proofs.OrderLists.{same_bool, place_in}
 use Rattle.mt_order_laws.proofs.FormedFacts.{couple_at, places_of_order, single_is, couple_within, no_single, single_in_order, couple_in_order, well_formed_reordered, couple_aside, couples_aside, agent_aside, well_formed_set_aside, order_of_some}
 
@@ -178,7 +178,3 @@ stable_in_any_order_lem m aside order wf o places =
 -- the best match is one of the singles alone
 pub best_in_any_order_lem : BestInAnyOrder
 best_in_any_order_lem m order places best = record { is_stable = best.is_stable; none_better = best.none_better }
-
--- a couple blocks by its own options and members
-pub couple_blocks_in_any_order_lem : CoupleBlocksInAnyOrder
-couple_blocks_in_any_order_lem m order places i l = ap (of_couple (λ opts xs. list_any (would_be_taken m places) (until (holds places) opts))) (couple_at m order i l)

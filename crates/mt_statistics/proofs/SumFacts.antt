@@ -1,13 +1,12 @@
 -- Sums over numbers below n of counts that share out one each: each law adds its terms at one number, where they are
 -- one altogether. The choices are summed by singles in place of by numbers.
-use Rattle.std.proofs.Common.{◌≡◌, ℕ, zero, suc, ◌+◌, ◌-◌, ◌<◌, ◌≤◌, Bool, true, false, not, ◌&&◌, ◌||◌, ◌==◌, nat_le, nat_lt, List, [], ◌∷◌, length, max, Option, Some, None, is_some, IsTrue, IsFalse, refl, ap, sym, ◌∙◌, inl, inr, arith, if◌then◌else◌}
-use Rattle.std.specs.List.{list_any, position}
-use Rattle.std.proofs.lemmas.Bool.{both_ways, cases_Bool, cases_lt, lt-ltb}
-use Rattle.std.proofs.lemmas.Bool.Decides.{nat_tests}
-use Rattle.mt_terms.specs.Lists.{count_below, total_below}
-use Rattle.mt_terms.specs.Market.{Market, agent_of, applicants, couple_of, list_of, program_of}
+use Rattle.std.proofs.Common.{◌≡◌, ℕ, zero, suc, ◌+◌, ◌-◌, ◌<◌, ◌≤◌, Bool, true, false, not, ◌&&◌, ◌||◌, ◌==◌, List, [], ◌∷◌, length, Option, Some, None, is_some, IsTrue, IsFalse, refl, ap, sym, ◌∙◌, inl, inr, arith, if◌then◌else◌}
+use Rattle.std.specs.List.{list_any}
+use Rattle.std.proofs.lemmas.Bool.{both_ways, cases_lt, lt-ltb}
+use Rattle.mt_terms.specs.Lists.{total_below}
+use Rattle.mt_terms.specs.Market.{Market, applicants, couple_of, list_of, program_of}
 use Rattle.mt_terms.specs.Matching.{Places, filled, holds, is_program, options, place_of, single_placement}
-use Rattle.mt_terms.specs.declared.numbers.Agent.TheVariants.{Couple, Single}
+use Rattle.mt_terms.specs.declared.numbers.Agent.TheVariants.{Single}
 use Rattle.mt_terms.proofs.Totals.{count_below-one, total_below-add, total_below-same, total_below-swap, total_below-zero}
 use Rattle.mt_terms.specs.Stability.{has_own_option}
 use Rattle.mt_stability_laws.proofs.ListLemmas.{list_any-map}

@@ -1,8 +1,8 @@
 -- The numbers of a match that services publish. Which numbers these are is this project's own choice.
-use Rattle.std.specs.Prelude.{ℕ, zero, suc, ◌+◌, ◌-◌, Bool, true, false, not, ◌&&◌, ◌==◌, nat_le, List, [], ◌∷◌, length, max, Option, Some, None, is_some, if◌then◌else◌}
+use Rattle.std.specs.Prelude.{ℕ, zero, suc, ◌+◌, ◌-◌, Bool, not, ◌&&◌, ◌==◌, nat_le, length, max, Option, Some, None, is_some, if◌then◌else◌}
 use Rattle.mt_terms.specs.Lists.{count_below, total_below}
-use Rattle.mt_terms.specs.Market.{Market, agent_of, applicants, couple_of, program_of}
-use Rattle.mt_terms.specs.Matching.{Places, filled, is_program, place_of, placed_ranks}
+use Rattle.mt_terms.specs.Market.{Market, applicants, couple_of, program_of}
+use Rattle.mt_terms.specs.Matching.{Places, filled, is_program, place_of}
 use Rattle.mt_terms.specs.declared.numbers.Agent.TheVariants.{Couple, Single}
 use Rattle.mt_ranks.specs.Ranked.{is_single}
 use Rattle.mt_verify.specs.Held.{held_option}
@@ -58,16 +58,6 @@ empty_programs m places = count_below (λ p. not (is_full m places p) && has_nob
 abbrev pub open_posts : Market → Places → ℕ
 open_posts m places = total_below (λ p. (program_of m p).quota - filled places p) (length m.programs)
 
--- the last element of a list
-abbrev pub last_of : List ℕ → Option ℕ
-last_of [] = None
-last_of (x ∷ []) = Some x
-last_of (x ∷ y ∷ xs) = last_of (y ∷ xs)
-
--- the rank from 0 of the last one in: of those placed at a program, the one that it ranks lowest
-abbrev pub last_rank : Market → Places → ℕ → Option ℕ
-last_rank m places p = last_of (placed_ranks m places p)
-
 -- the largest value of a function below n, where each value is at least 0
 abbrev pub greatest_below : (ℕ → ℕ) → ℕ → ℕ
 greatest_below f zero = 0
@@ -81,7 +71,3 @@ ordinal (Some k) = k + 1
 -- the largest choice that a single has, counted from 1, or 0 if none has one of its list
 abbrev pub most_choices : Market → Places → ℕ
 most_choices m places = greatest_below (λ a. ordinal (held_option m places (Single a))) (applicants m)
-
--- the same of couples and their pairs
-abbrev pub most_pairs : Market → Places → ℕ
-most_pairs m places = greatest_below (λ c. ordinal (held_option m places (Couple c))) (length m.couples)
