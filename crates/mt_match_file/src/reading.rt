@@ -83,7 +83,6 @@ pub fn read_match(
     ensures places { IfOk result (λ submitted. ArePlaces roster.now.market submitted.places) }
     ensures fault { IfErr result (λ error. Tells error (submitted_by roster.now rows.now)) }
 {
-    roster.is_of_a_file();
     let ids = Ids::of(alloc, roster)?;
     let so_far = read_rows(alloc, &ids, rows.iter())?;
     so_far.into_match(alloc, roster)
