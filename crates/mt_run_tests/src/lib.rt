@@ -8,6 +8,8 @@ mod expect;
 #[cfg(test)]
 mod finding;
 #[cfg(test)]
+mod orders;
+#[cfg(test)]
 mod parallel;
 #[cfg(test)]
 mod plain;

@@ -1,5 +1,6 @@
 //! The best match of the singles, which the couples enter after.
 ghost use Rattle.std.specs.Prelude.{◌≡◌, IfOk, IsTrue};
+ghost use Rattle.mt_terms.specs.Best.{IsBest};
 ghost use Rattle.mt_terms.specs.Stability.{fits};
 ghost use Rattle.mt_ranks.specs.Ranked.{ranked_of};
 
@@ -12,7 +13,8 @@ use std::alloc::{AllocError, Global};
 /// The best match of the singles, made by one thread. The error is want of memory.
 pub fn singles(alloc: Global, roster: &Roster, ranks: &Ranks) -> Result<Match, AllocError>
     requires { ranks.now ≡ ranked_of roster.now.market }
-    ensures { IfOk result (λ m. IsTrue (fits roster.now.market m.places)) }
+    ensures fits { IfOk result (λ m. IsTrue (fits roster.now.market m.places)) }
+    ensures best { IfOk result (λ m. IsBest roster.now.market m.places) }
 {
     roster.is_of_a_file();
     let mut floor = Floor::open(alloc, ranks)?;

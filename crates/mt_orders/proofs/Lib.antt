@@ -1,0 +1,4 @@
+pub mod MarketFacts
+pub mod ShuffleFacts
+pub mod TriedFacts
+pub mod WithoutFacts

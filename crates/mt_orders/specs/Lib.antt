@@ -1,0 +1,3 @@
+pub mod Laws
+pub mod Tried
+pub mod Without

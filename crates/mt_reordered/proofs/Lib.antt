@@ -1,0 +1,3 @@
+pub mod ColumnFacts
+pub mod MarketFacts
+pub mod PlaceFacts

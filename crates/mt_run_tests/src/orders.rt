@@ -1,0 +1,123 @@
+//! The couples enter in other orders, and without some of them.
+ghost use Rattle.std.specs.Prelude.{◌≡◌, ◌≤◌};
+ghost use Rattle.mt_terms.specs.Best.{IsBest};
+ghost use Rattle.mt_ranks.specs.Ranked.{ranked_of};
+
+use crate::expect::same_for;
+use mt_couples::{CoupleEnd, Spent};
+use mt_orders::{Aside, Tries, enter_aside, enter_in_orders};
+use mt_ranks::Ranks;
+use mt_roster::Roster;
+use mt_samples::couples::NO_STABLE_MATCH;
+use mt_samples::markets::{THREE_COUPLES, roster_of};
+use mt_samples::singles::singles;
+use mt_terms::{CoupleNo, Match, ProgNo};
+use std::alloc::{AllocError, Global};
+use std::process::Abort;
+use std::thread::Threads;
+
+// The match of the couples in some orders, after the best match of the singles.
+fn in_orders<R: Threads + Sync>(
+    rt: &R,
+    alloc: Global,
+    roster: &Roster,
+    tries: Tries,
+) -> Result<Match, CoupleEnd>
+    requires some { 1 ≤ tries.orders }
+    requires few { tries.orders ≤ 1000 }
+{
+    let ranks = Ranks::build(rt, alloc, roster)?;
+    let singles = singles(alloc, roster, &ranks)?;
+    enter_in_orders(rt, alloc, roster, &ranks, &singles, tries)
+}
+
+// The match of the others once couples are set aside in turn.
+fn aside<R: Threads + Sync>(
+    rt: &R,
+    alloc: Global,
+    roster: &Roster,
+    budget: u32,
+) -> Result<Aside, AllocError> {
+    let ranks = Ranks::build(rt, alloc, roster)?;
+    let singles = singles(alloc, roster, &ranks)?;
+    enter_aside(rt, alloc, roster, &singles, budget)
+}
+
+// Of the three couples D, A and E the first one stays unplaced. A is at p and q, and E at r and t.
+const LAST_TWO_PLACED: [Option<ProgNo>; 6] = [
+    None,
+    None,
+    Some(ProgNo(0)),
+    Some(ProgNo(1)),
+    Some(ProgNo(2)),
+    Some(ProgNo(3)),
+];
+
+// How the couples of the three couples' market end in this number of rounds and orders: in the match above, or while the
+// third couple is entering.
+fn expect_orders<R: Abort + Threads + Sync>(rt: &R, alloc: Global, tries: Tries, ends: bool)
+    requires some { 1 ≤ tries.orders }
+    requires few { tries.orders ≤ 1000 }
+{
+    let roster = roster_of(rt, alloc, THREE_COUPLES).expect(rt, "a market");
+    match in_orders(rt, alloc, &roster, tries) {
+        Ok(found) => {
+            same_for(rt, found.places.as_slice(), &LAST_TWO_PLACED, tries);
+            same_for(rt, true, ends, tries);
+        }
+        Err(end) => {
+            let spent = Spent {
+                couple: CoupleNo(2),
+                rounds: tries.budget,
+                comes_back: false,
+            };
+            same_for(rt, end, CoupleEnd::BudgetSpent(spent), tries);
+            same_for(rt, false, ends, tries);
+        }
+    }
+}
+
+// That these couples are set aside, and that the match of the others is this one.
+fn expect_aside<R: Abort + Threads + Sync>(
+    rt: &R,
+    alloc: Global,
+    file: &[u8],
+    budget: u32,
+    couples: &[CoupleNo],
+    wanted: &[Option<ProgNo>],
+) {
+    let roster = roster_of(rt, alloc, file).expect(rt, "a market");
+    let found = aside(rt, alloc, &roster, budget).expect(rt, "a match");
+    same_for(rt, found.couples.as_slice(), couples, budget);
+    same_for(rt, found.matched.places.as_slice(), wanted, budget);
+}
+
+// The third order of the three couples needs three rounds, the first two orders need more, and that of registration five.
+#[test]
+fn three_rounds_are_enough_in_the_third_order(rt: HostRuntime) {
+    let alloc = rt.alloc();
+    let within = |budget: u32, orders: u32| Tries { budget, orders };
+    expect_orders(&rt, alloc, within(5, 1), true);
+    expect_orders(&rt, alloc, within(4, 1), false);
+    expect_orders(&rt, alloc, within(3, 2), false);
+    expect_orders(&rt, alloc, within(3, 3), true);
+    expect_orders(&rt, alloc, within(3, 10), true);
+    expect_orders(&rt, alloc, within(2, 10), false);
+    expect_orders(&rt, alloc, within(2, 1000), false);
+}
+
+// The couple without which there is a stable match, and then one or two of the three couples. A plain program gives the
+// same.
+#[test]
+fn couples_are_set_aside_until_the_others_end(rt: HostRuntime) {
+    let alloc = rt.alloc();
+    let single_at_x = [Some(ProgNo(0)), None, None];
+    expect_aside(&rt, alloc, NO_STABLE_MATCH, 1000, &[CoupleNo(0)], &single_at_x);
+    expect_aside(&rt, alloc, THREE_COUPLES, 5, &[], &LAST_TWO_PLACED);
+    let (p, r) = (Some(ProgNo(0)), Some(ProgNo(2)));
+    let (u, v) = (Some(ProgNo(4)), Some(ProgNo(5)));
+    let first_two = [p, r, u, v, None, None];
+    expect_aside(&rt, alloc, THREE_COUPLES, 4, &[CoupleNo(2)], &first_two);
+    let first_one = [p, r, None, None, None, None];
+    expect_aside(&rt, alloc, THREE_COUPLES, 1, &[CoupleNo(1), CoupleNo(2)], &first_one);
+}
