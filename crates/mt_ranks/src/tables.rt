@@ -73,7 +73,6 @@ fn live_lists(
     requires within { (k : ℕ) → ProgramsWithin (length roster.now.market.programs) (row_of rows.now k) }
     ensures { IfOk result (λ lists. lists ≡ listed_rows roster.now.market block.first block.size rows.now) }
 {
-    roster.is_of_a_file();
     let mut lists = FlatLists::new(alloc);
     let mut stamps = Vec::from_elem(
         alloc,
@@ -176,7 +175,6 @@ impl<'m> Ranks<'m> {
     ) -> Result<Ranks<'m>, AllocError>
         ensures { IfOk result (λ ranks. ranks ≡ ranked_of roster.now.market) }
     {
-        roster.is_of_a_file();
         let size = block_size(roster.applicants() as usize);
         let parts = all_parts(rt, alloc, roster, size)?;
         Ok(Ranks {

@@ -21,7 +21,7 @@ push_live-requires-clause-entries c =
 
 pub push_live-requires-clause-list : goal.push_live-requires-clause-list
 push_live-requires-clause-list c p listed =
-    let within = c.is_of_a_file.ensures.well_formed.lists_within (c.args.block.first + c.loop-place.place) p (rw c.single_list.ensures at listed) in
+    let within = c.programs.ensures.registration.well_formed.lists_within (c.args.block.first + c.loop-place.place) p (rw c.single_list.ensures at listed) in
     omega (arith, within, ap length c.deref_mut.ensures.value, c.loop-place.invariant.len)
 
 pub push_live-requires-clause-earlier : goal.push_live-requires-clause-earlier
