@@ -10,16 +10,16 @@ import sys
 
 CHECKS = {
     "bytes": 6088,
-    "check": 20517,
+    "check": 20532,
     # tests/cli with the path of a program, where bin/nrmatch isn't run.
     "cli PROGRAM": 8417,
     "cli": 8420,
-    "controls": 36,
-    "edits_apply": 631,
+    "controls": 37,
+    "edits_apply": 639,
     "linear": 45,
     "memory": 448,
     "memory --calls": 15,
-    "memory --check": 114,
+    "memory --check": 117,
     "must_fail": 82,
     "pages": 285,
     "python": 28,
@@ -32,7 +32,7 @@ CHECKS = {
 SWEEPS = {
     "memory": {(1, False): 71, (1, True): 71, (4, False): 71, (4, True): 71},
     "memory --calls": {(1, False): 1, (1, True): 1, (2, False): 1, (2, True): 1},
-    "memory --check": {(1, False): 35, (1, True): 35},
+    "memory --check": {(1, False): 36, (1, True): 36},
 }
 
 

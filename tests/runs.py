@@ -40,7 +40,7 @@ STATUSES = {
         ),
         1: ("a finding against the match", [f"sed s/a3,-/a3,P1/ {ONE_MATCH} | nrcheck {ONE} /dev/stdin"]),
         2: (
-            "a refusal with code 10 to 22 or 50 to 55: a file is at fault",
+            "a refusal with code 10 to 22, or 50 to 55, or 57 or 58: a file is at fault",
             [f"nrcheck unknown_kind.csv {NOBODY}", f"nrcheck {NOBODY} {NOBODY}"],
         ),
         4: ("a refusal with code 30: memory ran out", [f"{FEW_KIB} nrcheck large.csv {NOBODY_MATCH}"]),

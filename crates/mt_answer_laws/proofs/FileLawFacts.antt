@@ -19,8 +19,9 @@ use Rattle.mt_input.specs.Files.{market_in}
 use Rattle.mt_input.proofs.MarketFacts.{market_of_rows, registration_of}
 use Rattle.mt_match_file.specs.Submitted.{Submitted}
 use Rattle.mt_files.specs.Files.{submitted_in}
-use Rattle.mt_check.proofs.AnswerFacts.{answers_are_so_lem}
-use Rattle.mt_check.specs.Text.{stable_line}
+use Rattle.mt_check.proofs.AnswerFacts.{answers_are_so_lem, by_all_lists}
+use Rattle.mt_check.specs.Findings.{judged}
+use Rattle.mt_check.specs.Text.{stable_line, stable_line_with}
 use Rattle.mt_applicant_laws.specs.Changes.{HasAtLeast, with_list}
 use Rattle.mt_applicant_laws.proofs.EasierMarkets.{more_posts_hurt_none_lem, one_less_hurts_no_other_lem}
 use Rattle.mt_applicant_laws.proofs.ListChanges.{no_stable_match_gives_more_lem}
@@ -43,10 +44,10 @@ pub accepted : (bytes : List ℕ) (r : Registered) (places : Places) (rows : Lis
 accepted bytes r places rows are h =
     let p = published_of bytes h.budget h.text h.is_answer in
     let market : market_in bytes ≡ Ok p.registered = p.is_market in
-    let read : submitted_in p.registered h.text ≡ Ok (record { places = p.places; counts = published_counts p.registered.market p.places }) = of_match bytes h.text p in
+    let read : submitted_in p.registered h.text ≡ Ok (record { places = p.places; counts = published_counts p.registered.market p.places; aside = [] }) = of_match bytes h.text p in
     let same : p.registered ≡ r = cc (h.of_bytes) in
-    let of_text : submitted_in p.registered h.text ≡ Ok (record { places = places; counts = h.counts }) = ap (λ (q : Registered). submitted_in q h.text) same ∙ h.of_text in
-    let both : ◌≡◌ {A = Submitted} (record { places = p.places; counts = published_counts p.registered.market p.places }) (record { places = places; counts = h.counts }) = cc in
+    let of_text : submitted_in p.registered h.text ≡ Ok (record { places = places; counts = h.counts; aside = [] }) = ap (λ (q : Registered). submitted_in q h.text) same ∙ h.of_text in
+    let both : ◌≡◌ {A = Submitted} (record { places = p.places; counts = published_counts p.registered.market p.places; aside = [] }) (record { places = places; counts = h.counts; aside = [] }) = cc in
     let same_places : p.places ≡ places = ap (λ (submitted : Submitted). submitted.places) both in
     record {
       is_market = market_of_rows bytes r rows h.of_bytes are;
@@ -116,14 +117,19 @@ record IsStableOf (rows : List (List Bytes)) (r : Registered) (places : Places) 
 
 called : (bytes : List ℕ) (r : Registered) (places : Places) (rows : List (List Bytes)) → records_of bytes ≡ Some rows → CalledStable bytes r places → IsStableOf rows r places
 called bytes r places rows are h =
-    let judged = (answers_are_so_lem bytes h.text 0 stable_line h.is_answer).0 (omega arith) in
-    let same : judged.registered ≡ r = cc (judged.of_market, h.of_bytes) in
-    let of_text : submitted_in judged.registered h.text ≡ Ok (record { places = places; counts = h.counts }) = ap (λ (q : Registered). submitted_in q h.text) same ∙ h.of_text in
-    let submitted : ◌≡◌ {A = Submitted} judged.submitted (record { places = places; counts = h.counts }) = cc (judged.of_match) in
-    let same_places : judged.submitted.places ≡ places = ap (λ (t : Submitted). t.places) submitted in
+    let answer = (answers_are_so_lem bytes h.text 0 stable_line h.is_answer).0 (omega arith) in
+    let same : answer.registered ≡ r = cc (answer.of_market, h.of_bytes) in
+    let of_text : submitted_in answer.registered h.text ≡ Ok (record { places = places; counts = h.counts; aside = [] }) = ap (λ (q : Registered). submitted_in q h.text) same ∙ h.of_text in
+    let submitted : ◌≡◌ {A = Submitted} answer.submitted (record { places = places; counts = h.counts; aside = [] }) = cc (answer.of_match) in
+    let same_places : answer.submitted.places ≡ places = ap (λ (t : Submitted). t.places) submitted in
+    let none : answer.submitted.aside ≡ [] = ap (λ (t : Submitted). t.aside) submitted in
+    let line : stable_line ≡ stable_line_with (length answer.submitted.aside) = ap (λ (aside : List ℕ). stable_line_with (length aside)) (sym none) in
+    let by_all : judged answer.registered answer.submitted ≡ answer.registered = by_all_lists answer.registered answer.submitted none in
+    let is_stable : IsTrue (stable answer.registered.market answer.submitted.places) =
+    subst (λ (q : Registered). IsTrue (stable q.market answer.submitted.places)) by_all (answer.stable.0 line).0 in
     record {
       is_market = market_of_rows bytes r rows h.of_bytes are;
-      is_stable = subst (λ (q : Registered). IsTrue (stable q.market places)) same (subst (λ (ps : Places). IsTrue (stable judged.registered.market ps)) same_places (judged.stable.0 refl).0);
+      is_stable = subst (λ (q : Registered). IsTrue (stable q.market places)) same (subst (λ (ps : Places). IsTrue (stable answer.registered.market ps)) same_places is_stable);
     }
 
 pub none_gains_by_another_record_lem : NoneGainsByAnotherRecord

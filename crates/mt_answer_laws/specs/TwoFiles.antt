@@ -1,5 +1,5 @@
 -- Two files that differ in one record, and the match that is published for a file.
-use Rattle.std.specs.Prelude.{◌≡◌, ℕ, List, ◌∷◌, ◌++◌, Ok, Some, codes}
+use Rattle.std.specs.Prelude.{◌≡◌, ℕ, List, [], ◌∷◌, ◌++◌, Ok, Some, codes}
 use Rattle.mt_lists.specs.Records.{records_of}
 use Rattle.mt_terms.specs.Market.{Registered}
 use Rattle.mt_terms.specs.Matching.{Places}
@@ -37,13 +37,13 @@ pub record Publishes (bytes : List ℕ) (r : Registered) (places : Places) : Typ
   pub is_answer : run.IsAnswer bytes budget 0 text
   pub of_bytes : market_in bytes ≡ Ok r
   pub counts : List Counted
-  pub of_text : submitted_in r text ≡ Ok (record { places = places; counts = counts })
+  pub of_text : submitted_in r text ≡ Ok (record { places = places; counts = counts; aside = [] })
 
 -- For the file in some bytes, whose market this is, a text is called stable by the judge, and these are the places
--- that it tells.
+-- that it tells. It sets no couple aside.
 pub record CalledStable (bytes : List ℕ) (r : Registered) (places : Places) : Type 0 where
   pub text : List ℕ
   pub is_answer : check.IsAnswer bytes text 0 stable_line
   pub of_bytes : market_in bytes ≡ Ok r
   pub counts : List Counted
-  pub of_text : submitted_in r text ≡ Ok (record { places = places; counts = counts })
+  pub of_text : submitted_in r text ≡ Ok (record { places = places; counts = counts; aside = [] })

@@ -7,5 +7,5 @@ mod laws;
 pub use examples::{answers_of_crossed, changes_of_chain};
 pub use laws::{
     higher_quota_in_file_hurts_none, none_gains_by_another_record, one_less_in_file_hurts_no_other,
-    published_is_called_stable,
+    published_aside_is_judged, published_is_called_stable,
 };

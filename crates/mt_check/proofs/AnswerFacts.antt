@@ -1,6 +1,11 @@
 -- What an answer says: the finding is so, or the refusal is named.
-use Rattle.std.proofs.Common.{◌≡◌, ℕ, ◌<◌, ◌≤◌, true, ◌↔◌, List, [], Option, Result, Ok, Err, IfErr, IfOk, refl, sym, ap, ◌∙◌, subst, arith}
-use Rattle.mt_terms.specs.Market.{Registered}
+use Rattle.std.proofs.Common.{◌≡◌, ℕ, ◌<◌, ◌≤◌, Bool, true, ◌==◌, ◌↔◌, List, [], ◌∷◌, length, Option, Result, Ok, Err, IfErr, IfOk, refl, sym, ap, ◌∙◌, subst, arith}
+use Rattle.std.proofs.lemmas.Bool.{eqb-true}
+use Rattle.std.proofs.lemmas.Result.{IfOk-weaker}
+use Rattle.mt_terms.specs.Market.{Market, Registered}
+use Rattle.mt_terms.specs.WellFormed.{IsWellFormed}
+use Rattle.mt_order_laws.specs.Reordered.{set_aside_registered}
+use Rattle.mt_order_laws.proofs.FormedFacts.{none_aside_lem, well_formed_aside_lem}
 use Rattle.mt_terms.specs.Registration.Faults.{Fault}
 use Rattle.mt_match_file.specs.Submitted.{Submitted, submitted_by}
 use Rattle.mt_match_file.proofs.PlaceFacts.{tells_places_lem}
@@ -14,16 +19,53 @@ use Rattle.mt_files.specs.Refusals.{AreFilesIn, IsInTurn, IsNamedRefusalOf, IsRe
 use Rattle.mt_files.specs.declared.files.Files.{Files}
 use Rattle.mt_files.specs.declared.refused_file.Refused.{Refused}
 use Rattle.mt_files.specs.declared.source.Source.{Source}
-use Rattle.mt_files.specs.declared.source.Source.TheVariants.{Market, Match}
+use Rattle.mt_files.specs.declared.source.Source.TheVariants as sources
 use Rattle.mt_files.proofs.FileFacts.{market_there}
 use Rattle.mt_files.proofs.NameFacts.{alone_named, codes_large, market_named, match_named}
 use Rattle.mt_check.specs.declared.found.Found.{Found}
-use Rattle.mt_check.specs.Answer.{Answer, IsAnswer, answer_of, answer_seen, fault_answer, finding_answer, finding_code}
-use Rattle.mt_check.specs.Findings.{finding_of}
+use Rattle.mt_check.specs.Answer.{Answer, IsAnswer, answer_of, answer_seen, fault_answer, finding_answer, finding_code, judged_answer}
+use Rattle.mt_check.specs.Findings.{finding_of, judged}
 use Rattle.mt_check.specs.Headline.{IsJudged, IsRefusal}
-use Rattle.mt_check.specs.Laws.{AnswersAreSo}
+use Rattle.mt_check.specs.Laws.{AnswersAreSo, JudgedByAllLists}
+use Rattle.mt_check.specs.declared.finding.Finding.{Finding}
 use Rattle.mt_check.specs.Text.{finding_line, refused_line}
 use Rattle.mt_check.proofs.FindingFacts.{code_small, finding_says, stable_ends, stable_line_is}
+
+-- with no couple set aside, the market is as it was
+pub none_aside_registered : (r : Registered) → set_aside_registered [] r ≡ r
+none_aside_registered r = ap (λ (m : Market). record { market = m; names = r.names }) (none_aside_lem r.market)
+
+pub by_all_lists : (r : Registered) (submitted : Submitted) → submitted.aside ≡ [] → judged r submitted ≡ r
+by_all_lists r submitted none = ap (λ (aside : List ℕ). set_aside_registered aside r) none ∙ none_aside_registered r
+
+pub judged_by_all_lists_lem : JudgedByAllLists
+judged_by_all_lists_lem r submitted none =
+    ap (λ (q : Registered). finding_answer q (length submitted.aside) (finding_of q.market submitted)) (by_all_lists r submitted none)
+    ∙ ap (λ (aside : List ℕ). finding_answer r (length aside) (finding_of r.market submitted)) none
+
+pub none_of : (xs ys : List ℕ) (b : Bool) → xs ≡ ys → b ≡ (length xs == 0) → b ≡ true → ys ≡ []
+none_of xs [] b same is empty = refl
+none_of xs (y ∷ ys) b same is empty =
+    let none : length xs ≡ 0 = eqb-true (length xs) 0 (sym is ∙ empty) in
+    absurd (omega (arith, none, ap length same))
+
+-- what is found by all lists is the answer if no couple is set aside, and else what is found without the others' wishes
+module _ {E : Type 0} (r : Registered) (submitted : Submitted) (result : Result Found E) where
+  pub answer_by_all_lists : submitted.aside ≡ [] → IfOk result (λ found. answer_seen found ≡ finding_answer r (length submitted.aside) (finding_of r.market submitted))
+      → IfOk result (λ found. answer_seen found ≡ judged_answer r submitted)
+  answer_by_all_lists none h =
+      IfOk-weaker result _ _
+      (λ found is. is ∙ sym (ap (λ (q : Registered). finding_answer q (length submitted.aside) (finding_of q.market submitted)) (by_all_lists r submitted none))) h
+
+  pub answer_by_others : (q : Registered) → q ≡ judged r submitted
+      → IfOk result (λ found. answer_seen found ≡ finding_answer q (length submitted.aside) (finding_of q.market submitted))
+      → IfOk result (λ found. answer_seen found ≡ judged_answer r submitted)
+  answer_by_others q same h =
+      IfOk-weaker result _ _
+      (λ found is. is ∙ ap (λ (x : Registered). finding_answer x (length submitted.aside) (finding_of x.market submitted)) same) h
+
+pub judged_is : (r : Registered) (submitted : Submitted) (q : Registered) (aside : List ℕ) → aside ≡ submitted.aside → q ≡ set_aside_registered aside r → q ≡ judged r submitted
+judged_is r submitted q aside same is = is ∙ ap (λ (xs : List ℕ). set_aside_registered xs r) same
 
 module _ (market_bytes match_bytes : List ℕ) (code : ℕ) (text : List ℕ) where
   IsSo : Type 0
@@ -44,26 +86,30 @@ module _ (market_bytes match_bytes : List ℕ) (code : ℕ) (text : List ℕ) wh
         },
       )
 
-  judged : (r : Registered) (submitted : Submitted) → market_in market_bytes ≡ Ok r → submitted_in r match_bytes ≡ Ok submitted
-      → finding_answer r (finding_of r.market submitted) ≡ record { code = code; text = text } → IsSo
+  judged_so : (r : Registered) (submitted : Submitted) → market_in market_bytes ≡ Ok r → submitted_in r match_bytes ≡ Ok submitted
+      → judged_answer r submitted ≡ record { code = code; text = text } → IsSo
   unfolding IsSo
-  judged r submitted of_market of_match is =
+  judged_so r submitted of_market of_match is =
       let match_rows = rows_in (submitted_by r) match_bytes submitted of_match in
       let registration = registration_of market_bytes r of_market in
       let places = tells_places_lem r registration match_rows.0 submitted match_rows.2 in
-      let same : finding_code (finding_of r.market submitted) ≡ code = ap (λ (a : Answer). a.code) is in
-      let is_line : text ≡ finding_line r (finding_of r.market submitted) = sym (ap (λ (a : Answer). a.text) is) in
-      let line = stable_line_is r registration.well_formed submitted places.one_each in
-      let ends = stable_ends r (finding_of r.market submitted) in
-      let small = code_small (finding_of r.market submitted) in (
+      let others : Registered = judged r submitted in
+      let formed : IsWellFormed others.market = well_formed_aside_lem r.market submitted.aside registration.well_formed in
+      let n : ℕ = length submitted.aside in
+      let found : Finding = finding_of others.market submitted in
+      let same : finding_code found ≡ code = ap (λ (a : Answer). a.code) is in
+      let is_line : text ≡ finding_line others n found = sym (ap (λ (a : Answer). a.text) is) in
+      let line = stable_line_is others n formed submitted places.one_each in
+      let ends = stable_ends others n found in
+      let small = code_small found in (
         λ _. record {
           registered = r;
           of_market = of_market;
           submitted = submitted;
           of_match = of_match;
-          finding = finding_of r.market submitted;
+          finding = found;
           is_text = is_line;
-          is_so = finding_says r.market registration.well_formed submitted places.one_each;
+          is_so = finding_says others.market formed submitted places.one_each;
           stable = (λ stable. line.0 (sym is_line ∙ stable), λ both. is_line ∙ line.1 both);
           ends = (λ none. is_line ∙ ends.0 (same ∙ none), λ stable. sym same ∙ ends.1 (sym is_line ∙ stable));
         },
@@ -72,12 +118,12 @@ module _ (market_bytes match_bytes : List ℕ) (code : ℕ) (text : List ℕ) wh
 
   of_match : (r : Registered) → market_in market_bytes ≡ Ok r → (s : Result Submitted Fault) → submitted_in r match_bytes ≡ s
       → answer_of (with_match r s) ≡ record { code = code; text = text } → IsSo
-  of_match r of_market (Ok submitted) read is = judged r submitted of_market read is
-  of_match r of_market (Err f) read is = refused Match f (match_named r match_bytes f read) is
+  of_match r of_market (Ok submitted) read is = judged_so r submitted of_market read is
+  of_match r of_market (Err f) read is = refused sources.Match f (match_named r match_bytes f read) is
 
   of_the_market : (market : Result Registered Fault) → market_in market_bytes ≡ market → answer_of (files_by market match_bytes) ≡ record { code = code; text = text } → IsSo
   of_the_market (Ok r) of_market is = of_match r of_market (submitted_in r match_bytes) refl is
-  of_the_market (Err f) of_market is = refused Market f (market_named market_bytes f of_market) is
+  of_the_market (Err f) of_market is = refused sources.Market f (market_named market_bytes f of_market) is
 
 pub answers_are_so_lem : AnswersAreSo
 unfolding IsSo
@@ -96,12 +142,12 @@ judged_left market matched code text small h = of_both market matched (λ xs ys 
 
 module _ (market matched : Option (List ℕ)) (files : Files) (are : AreFilesIn market matched files) where
   pub found_there : (result : Result Found Refused)
-      → IfOk result (λ found. answer_seen found ≡ finding_answer files.roster (finding_of files.roster.market files.submitted))
+      → IfOk result (λ found. answer_seen found ≡ judged_answer files.roster files.submitted)
       → IfOk result (λ found. OfBoth market matched (λ xs ys. IsAnswer xs ys found.code found.text.items))
   found_there (Ok found) h = of_both market matched (λ xs ys is. ap answer_of is ∙ sym h) are
   found_there (Err e) h = tt
 
-  pub match_in_turn : (reads : ℕ) (result : Result Found Refused) → IfErr result (λ e. e.source ≡ Match) → IfErr result (λ e. IsInTurn market reads e.source)
+  pub match_in_turn : (reads : ℕ) (result : Result Found Refused) → IfErr result (λ e. e.source ≡ sources.Match) → IfErr result (λ e. IsInTurn market reads e.source)
   match_in_turn reads (Ok found) file = tt
   match_in_turn reads (Err e) file =
       subst (IsInTurn market reads) (sym file)
@@ -111,14 +157,14 @@ module _ (market matched : Option (List ℕ)) (files : Files) (are : AreFilesIn 
 abbrev IsMemory : Refused → Type 0
 IsMemory e = fault_of e.refusal ≡ record { code = 30; row = 0; id = [] }
 
-pub memory_refused : (market matched : Option (List ℕ)) (result : Result Found Refused) → IfErr result (λ e. e.source ≡ Match) → IfErr result (λ e. IsMemory e)
+pub memory_refused : (market matched : Option (List ℕ)) (result : Result Found Refused) → IfErr result (λ e. e.source ≡ sources.Match) → IfErr result (λ e. IsMemory e)
     → IfErr result (IsRefused market matched)
 memory_refused market matched (Ok found) file is = tt
 memory_refused market matched (Err e) file is =
     let code : e.refusal.code ≡ 30 = ap (λ (f : Fault). f.code) is in
     record {
       named = subst (λ (s : Source). IsNamedRefusalOf s e.refusal.code e.refusal.row e.refusal.id) (sym file)
-          (subst (λ (f : Fault). IsNamedRefusalOf Match f.code f.row f.id) (sym is) (alone_named Match 30 refl));
+          (subst (λ (f : Fault). IsNamedRefusalOf sources.Match f.code f.row f.id) (sym is) (alone_named sources.Match 30 refl));
       fault = λ m. absurd (m code);
     }
 

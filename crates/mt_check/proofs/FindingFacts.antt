@@ -1,5 +1,5 @@
 -- What a finding says, and that what it names is there.
-use Rattle.std.proofs.Common.{◌≡◌, ℕ, ◌≤◌, Bool, List, length, Option, None, Some, refl, sym, ap, subst, arith}
+use Rattle.std.proofs.Common.{◌≡◌, ℕ, zero, suc, ◌≤◌, Bool, true, false, ◌∙◌, List, length, Option, None, Some, refl, sym, ap, subst, arith}
 use Rattle.std.specs.Prelude.{◌↔◌, ◌==◌, IsTrue, slice_index_or}
 use Rattle.mt_terms.specs.Market.{Market, Registered, applicants}
 use Rattle.mt_terms.specs.declared.numbers.Agent.{Agent}
@@ -15,7 +15,7 @@ use Rattle.mt_verdict_laws.specs.Verdict.{VerdictSays}
 use Rattle.mt_verdict_laws.proofs.VerdictLemmas.{stable_verdict_lem, verdict_in_words_lem}
 use Rattle.mt_check.specs.Answer.{finding_code}
 use Rattle.mt_check.specs.Findings.{FindingSays, IsThere, finding_by, finding_of, first_differing}
-use Rattle.mt_check.specs.Text.{finding_line, stable_line}
+use Rattle.mt_check.specs.Text.{finding_line, stable_line_with}
 use Rattle.mt_check.specs.declared.finding.Finding.{Finding}
 use Rattle.mt_check.specs.declared.finding.Finding.TheVariants.{Of, Differs}
 
@@ -58,26 +58,35 @@ zero_is_stable (Differs row) h = absurd (omega arith)
 word_is_stable : List ℕ → Bool
 word_is_stable text = slice_index_or text 8 0 == 115
 
-blocks_is_not_stable : (r : Registered) (g : Agent) (option : ℕ) → finding_line r (Of (Blocks (record { agent = g; option = option }))) ≡ stable_line → ⊥
+stable_word : (n : ℕ) → word_is_stable (stable_line_with n) ≡ true
 unfolding word_is_stable
-blocks_is_not_stable r (Single a) option h = true≢false (sym (ap word_is_stable h))
-blocks_is_not_stable r (Couple c) option h = true≢false (sym (ap word_is_stable h))
+stable_word zero = refl
+stable_word (suc n) = refl
 
-line_is_stable : (r : Registered) (f : Finding) → finding_line r f ≡ stable_line → f ≡ Of Stable
+-- a line with another word is none of a stable match
+other_word : (n : ℕ) (text : List ℕ) → word_is_stable text ≡ false → text ≡ stable_line_with n → ⊥
+other_word n text other h = true≢false (sym (stable_word n) ∙ sym (ap word_is_stable h) ∙ other)
+
+blocks_is_not_stable : (r : Registered) (n : ℕ) (g : Agent) (option : ℕ) → finding_line r n (Of (Blocks (record { agent = g; option = option }))) ≡ stable_line_with n → ⊥
 unfolding word_is_stable
-line_is_stable r (Of Stable) h = refl
-line_is_stable r (Of (Unlisted a)) h = absurd (true≢false (sym (ap word_is_stable h)))
-line_is_stable r (Of (Over p)) h = absurd (true≢false (sym (ap word_is_stable h)))
-line_is_stable r (Of (Blocks b)) h = absurd (blocks_is_not_stable r b.agent b.option h)
-line_is_stable r (Differs row) h = absurd (true≢false (sym (ap word_is_stable h)))
+blocks_is_not_stable r n (Single a) option h = other_word n (finding_line r n (Of (Blocks (record { agent = Single a; option = option })))) refl h
+blocks_is_not_stable r n (Couple c) option h = other_word n (finding_line r n (Of (Blocks (record { agent = Couple c; option = option })))) refl h
 
-pub stable_ends : (r : Registered) (f : Finding) → (finding_code f ≡ 0) ↔ (finding_line r f ≡ stable_line)
-stable_ends r f = (λ zero. ap (finding_line r) (zero_is_stable f zero), λ line. ap finding_code (line_is_stable r f line))
+line_is_stable : (r : Registered) (n : ℕ) (f : Finding) → finding_line r n f ≡ stable_line_with n → f ≡ Of Stable
+unfolding word_is_stable
+line_is_stable r n (Of Stable) h = refl
+line_is_stable r n (Of (Unlisted a)) h = absurd (other_word n (finding_line r n (Of (Unlisted a))) refl h)
+line_is_stable r n (Of (Over p)) h = absurd (other_word n (finding_line r n (Of (Over p))) refl h)
+line_is_stable r n (Of (Blocks b)) h = absurd (blocks_is_not_stable r n b.agent b.option h)
+line_is_stable r n (Differs row) h = absurd (other_word n (finding_line r n (Differs row)) refl h)
+
+pub stable_ends : (r : Registered) (n : ℕ) (f : Finding) → (finding_code f ≡ 0) ↔ (finding_line r n f ≡ stable_line_with n)
+stable_ends r n f = (λ zero. ap (finding_line r n) (zero_is_stable f zero), λ line. ap finding_code (line_is_stable r n f line))
 
 -- the line is that of a stable match exactly where the match is stable and its counts fit
-pub stable_line_is : (r : Registered) → IsWellFormed r.market → (submitted : Submitted) → length submitted.places ≡ applicants r.market
-    → (finding_line r (finding_of r.market submitted) ≡ stable_line) ↔ (IsTrue (stable r.market submitted.places) × (first_differing r.market submitted ≡ None))
-stable_line_is r h submitted one_each = (
-  λ line. subst (λ (f : Finding). FindingSays r.market submitted f) (line_is_stable r (finding_of r.market submitted) line) (finding_says r.market h submitted one_each),
+pub stable_line_is : (r : Registered) (n : ℕ) → IsWellFormed r.market → (submitted : Submitted) → length submitted.places ≡ applicants r.market
+    → (finding_line r n (finding_of r.market submitted) ≡ stable_line_with n) ↔ (IsTrue (stable r.market submitted.places) × (first_differing r.market submitted ≡ None))
+stable_line_is r n h submitted one_each = (
+  λ line. subst (λ (f : Finding). FindingSays r.market submitted f) (line_is_stable r n (finding_of r.market submitted) line) (finding_says r.market h submitted one_each),
   λ both. let is : verdict_of r.market submitted.places ≡ Stable = (stable_verdict_lem r.market h submitted.places one_each).1 both.0 in rw (is, both.1) refl,
 )

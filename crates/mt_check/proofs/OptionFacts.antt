@@ -70,7 +70,7 @@ module _ (r : Registered) (agent : Agent) (option : ℕ) (within : option < leng
     -- the line of a couple that blocks
     pub couple_line : (word kind id first second : List ℕ) (pair other : Pair) → word ≡ codes "blocks" → kind ≡ codes "couple" → id ≡ name_of r.names.couples c
         → first ≡ place_text r.names (slice_index_or pairs option pair).0 → second ≡ place_text r.names (slice_index_or pairs option other).1
-        → check_line (word ∷ kind ∷ id ∷ first ∷ second ∷ []) ≡ finding_line r (Of (Blocks (record { agent = agent; option = option })))
+        → check_line (word ∷ kind ∷ id ∷ first ∷ second ∷ []) ≡ finding_line r 0 (Of (Blocks (record { agent = agent; option = option })))
     couple_line word kind id first second pair other are_blocks are_couple is_id is_first is_second =
         let fields : option_fields r.names (slice_index_or (options r.market (Couple c)) option [])
         ≡ place_text r.names (slice_index_or (couple_of r.market c).pairs option pair).0 ∷ place_text r.names (slice_index_or (couple_of r.market c).pairs option pair).1 ∷ [] =
@@ -82,4 +82,4 @@ module _ (r : Registered) (agent : Agent) (option : ℕ) (within : option < leng
         ∙ ap (λ (p : Pair). place_text r.names p.1) (same_at (couple_of r.market c).pairs option other pair low) in
         let line : List Bytes → Bytes = λ rest. check_line (codes "blocks" ∷ codes "couple" ∷ name_of r.names.couples c ∷ rest) in
         rw (are_blocks, are_couple, is_id, one, two)
-        (ap line (sym fields) ∙ ap (λ (g : Agent). finding_line r (Of (Blocks (record { agent = g; option = option })))) (sym is))
+        (ap line (sym fields) ∙ ap (λ (g : Agent). finding_line r 0 (Of (Blocks (record { agent = g; option = option })))) (sym is))

@@ -1,5 +1,5 @@
 -- The answer to the bytes of a market and of a match, and what a check did.
-use Rattle.std.specs.Prelude.{◌≡◌, ◌≢◌, ℕ, ◌<◌, ◌≤◌, Bool, List, Option, Result, Ok, Err}
+use Rattle.std.specs.Prelude.{◌≡◌, ◌≢◌, ℕ, ◌<◌, ◌≤◌, Bool, List, length, Option, Result, Ok, Err}
 use Rattle.mt_terms.specs.Market.{Registered}
 use Rattle.mt_terms.specs.Registration.Faults.{Fault}
 use Rattle.mt_terms.specs.declared.codes.TheConstants.{OUT_OF_MEMORY, READ_FAULT}
@@ -9,7 +9,7 @@ use Rattle.mt_match_file.specs.Submitted.{Submitted}
 use Rattle.mt_files.specs.Files.{files_in}
 use Rattle.mt_files.specs.Refusals.{IsInTurn, OfBoth}
 use Rattle.mt_files.specs.declared.source.Source.{Source}
-use Rattle.mt_check.specs.Findings.{finding_of}
+use Rattle.mt_check.specs.Findings.{finding_of, judged}
 use Rattle.mt_check.specs.Headline.{IsJudged, IsRefusal}
 use Rattle.mt_check.specs.Text.{finding_line, refused_line}
 use Rattle.mt_check.specs.declared.finding.Finding.{Finding}
@@ -33,16 +33,21 @@ finding_code (Of (Over p)) = 1
 finding_code (Of (Blocks b)) = 1
 finding_code (Differs row) = 1
 
--- the answer that is a finding, and that which is a fault of a file
-abbrev pub finding_answer : Registered → Finding → Answer
-finding_answer r finding = record { code = finding_code finding; text = finding_line r finding }
+-- the answer that is a finding on a match which sets this number of couples aside, and that which is a fault of a file
+abbrev pub finding_answer : Registered → ℕ → Finding → Answer
+finding_answer r aside finding = record { code = finding_code finding; text = finding_line r aside finding }
 
 abbrev pub fault_answer : Source → Fault → Answer
 fault_answer file f = record { code = f.code; text = refused_line file f.code f.row f.id }
 
+-- The answer to a market and a match: the finding in the market in which the couples that the match sets aside want
+-- nothing.
+abbrev pub judged_answer : Registered → Submitted → Answer
+judged_answer r submitted = finding_answer (judged r submitted) (length submitted.aside) (finding_of (judged r submitted).market submitted)
+
 -- the answer to a market and a match, or to the fault of a file
 abbrev pub answer_of : Result (Registered × Submitted) (Source × Fault) → Answer
-answer_of (Ok files) = finding_answer files.0 (finding_of files.0.market files.1)
+answer_of (Ok files) = judged_answer files.0 files.1
 answer_of (Err fault) = fault_answer fault.0 fault.1
 
 -- The answer to the bytes of a market and of a match: the first finding, or the first fault of the market, or else of

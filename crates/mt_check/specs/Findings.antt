@@ -1,12 +1,13 @@
 -- The finding on a match that was read: the first one, by the places and then by the counts.
 use Rattle.std.specs.Prelude.{◌≡◌, ℕ, ◌<◌, ◌-◌, Bool, not, ◌&&◌, ◌==◌, nat_lt, List, length, find, Option, Some, None, option_map, IsTrue}
-use Rattle.mt_terms.specs.Market.{Market, applicants, program_of}
+use Rattle.mt_terms.specs.Market.{Market, Registered, applicants, program_of}
 use Rattle.mt_terms.specs.Matching.{Places, filled, options}
 use Rattle.mt_terms.specs.Stability.{stable}
 use Rattle.mt_terms.specs.Text.{all_filled, positions, unmatched}
 use Rattle.mt_terms.specs.Verdict.{verdict_of}
 use Rattle.mt_terms.specs.declared.verdict.Verdict.{Verdict}
 use Rattle.mt_terms.specs.declared.verdict.Verdict.TheVariants.{Stable, Unlisted, Over, Blocks}
+use Rattle.mt_order_laws.specs.Reordered.{set_aside_registered}
 use Rattle.mt_verdict_laws.specs.Verdict.{VerdictSays}
 use Rattle.mt_match_file.specs.Submitted.{Submitted}
 use Rattle.mt_match_file.specs.declared.submitted_match.Count.{Count}
@@ -14,6 +15,11 @@ use Rattle.mt_match_file.specs.declared.submitted_match.Count.TheVariants as cou
 use Rattle.mt_match_file.specs.declared.submitted_match.Counted.{Counted}
 use Rattle.mt_check.specs.declared.finding.Finding.{Finding}
 use Rattle.mt_check.specs.declared.finding.Finding.TheVariants.{Of, Differs}
+
+-- The market in which a match is judged, with its ids. It is that of the file, but the couples that the match sets
+-- aside want nothing.
+abbrev pub judged : Registered → Submitted → Registered
+judged r submitted = set_aside_registered submitted.aside r
 
 -- whether a record says the counts that a market and the places of a match have
 abbrev pub fits_count : Market → Places → Count → Bool

@@ -1,6 +1,9 @@
 -- Laws of the answer.
-use Rattle.std.specs.Prelude.{◌≡◌, ◌≤◌, ◌<◌, ℕ, List}
-use Rattle.mt_check.specs.Answer.{IsAnswer}
+use Rattle.std.specs.Prelude.{◌≡◌, ◌≤◌, ◌<◌, ℕ, List, []}
+use Rattle.mt_terms.specs.Market.{Registered}
+use Rattle.mt_match_file.specs.Submitted.{Submitted}
+use Rattle.mt_check.specs.Answer.{IsAnswer, finding_answer, judged_answer}
+use Rattle.mt_check.specs.Findings.{finding_of}
 use Rattle.mt_check.specs.Headline.{IsJudged, IsRefusal}
 
 -- the bytes of two files have one answer
@@ -12,3 +15,7 @@ OneAnswer = (market_bytes match_bytes : List ℕ) (c d : ℕ) (text other : List
 abbrev pub AnswersAreSo : Type 0
 AnswersAreSo = (market_bytes match_bytes : List ℕ) (code : ℕ) (text : List ℕ) → IsAnswer market_bytes match_bytes code text
     → (code ≤ 1 → IsJudged market_bytes match_bytes code text) × (1 < code → IsRefusal code text)
+
+-- a match that sets no couple aside is judged by all lists of the market, and its line is one without such couples
+abbrev pub JudgedByAllLists : Type 0
+JudgedByAllLists = (r : Registered) (submitted : Submitted) → submitted.aside ≡ [] → judged_answer r submitted ≡ finding_answer r 0 (finding_of r.market submitted)

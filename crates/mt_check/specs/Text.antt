@@ -1,5 +1,5 @@
 -- What a check writes: one line. This project's own format.
-use Rattle.std.specs.Prelude.{ℕ, List, [], ◌∷◌, ◌++◌, map, slice_index_or, codes, decimal}
+use Rattle.std.specs.Prelude.{ℕ, zero, suc, List, [], ◌∷◌, ◌++◌, map, slice_index_or, codes, decimal}
 use Rattle.mt_terms.specs.Market.{Names, Registered}
 use Rattle.mt_terms.specs.Matching.{Placement, options}
 use Rattle.mt_terms.specs.Registration.Ids.{Bytes}
@@ -20,6 +20,15 @@ check_line fields = line (codes "check" ∷ codes "1" ∷ fields)
 abbrev pub stable_line : Bytes
 stable_line = check_line (codes "stable" ∷ [])
 
+-- the fields of such a match that sets this number of couples aside
+abbrev pub stable_fields : ℕ → List Bytes
+stable_fields zero = codes "stable" ∷ []
+stable_fields (suc n) = codes "stable" ∷ codes "aside" ∷ decimal (suc n) ∷ []
+
+-- the line of such a match: the line of a stable match if it sets none aside
+abbrev pub stable_line_with : ℕ → Bytes
+stable_line_with aside = check_line (stable_fields aside)
+
 -- an agent by its kind and its id, and where an option sends its members
 abbrev pub agent_fields : Names → Agent → List Bytes
 agent_fields names (Single a) = codes "applicant" ∷ name_of names.applicants a ∷ []
@@ -28,17 +37,17 @@ agent_fields names (Couple c) = codes "couple" ∷ name_of names.couples c ∷ [
 abbrev pub option_fields : Names → Placement → List Bytes
 option_fields names sent = map (λ s. place_text names s.1) sent
 
-abbrev pub finding_fields : Registered → Finding → List Bytes
-finding_fields r (Of Stable) = codes "stable" ∷ []
-finding_fields r (Of (Unlisted a)) = codes "unlisted" ∷ codes "applicant" ∷ name_of r.names.applicants a ∷ []
-finding_fields r (Of (Over p)) = codes "over" ∷ codes "program" ∷ name_of r.names.programs p ∷ []
-finding_fields r (Of (Blocks b)) =
+abbrev pub finding_fields : Registered → ℕ → Finding → List Bytes
+finding_fields r aside (Of Stable) = stable_fields aside
+finding_fields r aside (Of (Unlisted a)) = codes "unlisted" ∷ codes "applicant" ∷ name_of r.names.applicants a ∷ []
+finding_fields r aside (Of (Over p)) = codes "over" ∷ codes "program" ∷ name_of r.names.programs p ∷ []
+finding_fields r aside (Of (Blocks b)) =
     codes "blocks" ∷ (agent_fields r.names b.agent ++ option_fields r.names (slice_index_or (options r.market b.agent) b.option []))
-finding_fields r (Differs row) = codes "differs" ∷ decimal row ∷ []
+finding_fields r aside (Differs row) = codes "differs" ∷ decimal row ∷ []
 
--- the line of a finding
-abbrev pub finding_line : Registered → Finding → Bytes
-finding_line r finding = check_line (finding_fields r finding)
+-- the line of a finding on a match that sets this number of couples aside
+abbrev pub finding_line : Registered → ℕ → Finding → Bytes
+finding_line r aside finding = check_line (finding_fields r aside finding)
 
 -- the one line of a refusal
 abbrev pub refused_line : Source → ℕ → ℕ → Bytes → Bytes

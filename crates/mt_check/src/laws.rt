@@ -1,6 +1,6 @@
 //! Laws of the answer: each is the contract of a function that does nothing.
 
-ghost use Rattle.mt_check.specs.Laws.{AnswersAreSo, OneAnswer};
+ghost use Rattle.mt_check.specs.Laws.{AnswersAreSo, JudgedByAllLists, OneAnswer};
 
 /// The answer depends on the bytes of the two files alone.
 pub fn one_answer()
@@ -11,4 +11,9 @@ pub fn one_answer()
 /// line of the first finding, or one named refusal line.
 pub fn answers_are_so()
     ensures { AnswersAreSo }
+{}
+
+/// A match that sets no couple aside is judged by all lists of the market.
+pub fn judged_by_all_lists()
+    ensures { JudgedByAllLists }
 {}

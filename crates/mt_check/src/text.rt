@@ -3,7 +3,7 @@ ghost use Rattle.mt_terms.specs.Matching.{options};
 ghost use Rattle.mt_terms.specs.Text.{place_text};
 ghost use Rattle.mt_terms.specs.declared.verdict.Verdict.TheVariants.{Blocks};
 ghost use Rattle.mt_check.specs.Findings.{IsThere};
-ghost use Rattle.mt_check.specs.Text.{check_line, finding_line};
+ghost use Rattle.mt_check.specs.Text.{check_line, finding_line, stable_line_with};
 ghost use Rattle.mt_check.specs.declared.finding.Finding.TheVariants.{Of};
 
 use crate::finding::Finding;
@@ -45,7 +45,7 @@ fn blocker_line(
 ) -> Result<Vec<u8>, AllocError>
     requires { option < length (options roster.now.market agent) }
     ensures { IfOk result (λ text. text.items
-        ≡ finding_line roster.now (Of (Blocks (record { agent = agent; option = option })))) }
+        ≡ finding_line roster.now 0 (Of (Blocks (record { agent = agent; option = option })))) }
 {
     let word = b"blocks".as_slice();
     let option = option as usize;
@@ -66,17 +66,30 @@ fn blocker_line(
     }
 }
 
-/// The line of a finding.
+/// The line of a stable match that sets so many couples aside.
+fn stable_line(alloc: Global, aside: usize) -> Result<Vec<u8>, AllocError>
+    ensures { IfOk result (λ text. text.items ≡ stable_line_with aside) }
+{
+    if aside == 0 {
+        return check_line(alloc, &[b"stable".as_slice()]);
+    }
+    let mut digits = Buffer::new();
+    let count = digits.format(aside as u64).as_bytes();
+    check_line(alloc, &[b"stable".as_slice(), b"aside".as_slice(), count])
+}
+
+/// The line of a finding on a match that sets so many couples aside.
 pub(crate) fn finding_line(
     alloc: Global,
     roster: &Roster,
+    aside: usize,
     finding: &Finding,
 ) -> Result<Vec<u8>, AllocError>
     requires { IsThere roster.now.market finding.now }
-    ensures { IfOk result (λ text. text.items ≡ finding_line roster.now finding.now) }
+    ensures { IfOk result (λ text. text.items ≡ finding_line roster.now aside finding.now) }
 {
     match finding {
-        Finding::Of(Verdict::Stable) => check_line(alloc, &[b"stable".as_slice()]),
+        Finding::Of(Verdict::Stable) => stable_line(alloc, aside),
         Finding::Of(Verdict::Unlisted(applicant)) => {
             let id = roster.applicant_id(*applicant);
             check_line(

@@ -1,4 +1,4 @@
-ghost use Rattle.std.specs.Prelude.{◌≡◌, ◌⊎◌, ◌+◌, ◌<◌, ◌≤◌, ◌-◌, ◌^◌, ◌↔◌, [], if◌then◌else◌, IfErr, IfOk, IsTrue};
+ghost use Rattle.std.specs.Prelude.{◌≡◌, ◌⊎◌, ◌+◌, ◌<◌, ◌≤◌, ◌-◌, ◌^◌, ◌↔◌, [], if◌then◌else◌, IfErr, IfOk, IsTrue, length};
 ghost use Rattle.mt_lists.specs.Tap.{bytes_left, failures_of as read_failures_of, reads_of};
 ghost use Rattle.mt_terms.specs.Places.{ArePlaces};
 ghost use Rattle.mt_terms.specs.declared.codes.TheConstants.{OUT_OF_MEMORY, READ_FAULT};
@@ -7,7 +7,7 @@ ghost use Rattle.mt_input.specs.Files.{most_bytes};
 ghost use Rattle.mt_input.specs.Left.{TakesFile};
 ghost use Rattle.mt_input.specs.Refusals.{fault_of};
 ghost use Rattle.mt_files.specs.Refusals.{IsInTurn, IsRefused, OfBoth, end_code};
-ghost use Rattle.mt_check.specs.Answer.{Answers, IsAnswer, answer_seen, finding_answer};
+ghost use Rattle.mt_check.specs.Answer.{Answers, IsAnswer, answer_seen, finding_answer, judged_answer};
 ghost use Rattle.mt_check.specs.Findings.{finding_of};
 
 use crate::found::Found;
@@ -17,6 +17,7 @@ use mt_files::{Files, Refused, Source, read_files, refused};
 use mt_lists::Tap;
 use mt_market::Roster;
 use mt_match_file::SubmittedMatch;
+use mt_reordered::set_aside;
 use mt_report::{Drain, Ended, end};
 use mt_terms::Refusal;
 use mt_terms::codes::OUT_OF_MEMORY;
@@ -24,7 +25,7 @@ use std::alloc::{AllocError, Global};
 use std::io::{Read, Write};
 use std::thread::Threads;
 
-/// The finding on a match, with its line.
+/// The finding on a match by all lists of a market, with its line.
 fn found<T: Threads + Sync>(
     rt: &T,
     alloc: Global,
@@ -33,15 +34,36 @@ fn found<T: Threads + Sync>(
 ) -> Result<Found, AllocError>
     requires { ArePlaces roster.now.market submitted.now.places }
     ensures answer { IfOk result (λ found. answer_seen found
-        ≡ finding_answer roster.now (finding_of roster.now.market submitted.now)) }
+        ≡ finding_answer roster.now (length submitted.now.aside)
+        (finding_of roster.now.market submitted.now)) }
     ensures code { IfOk result (λ found. found.code ≤ 1) }
 {
     roster.is_of_a_file();
     let finding = judge(rt, alloc, roster, submitted)?;
     Ok(Found {
         code: finding.code(),
-        text: finding_line(alloc, roster, &finding)?,
+        text: finding_line(alloc, roster, submitted.aside().len(), &finding)?,
     })
+}
+
+/// The finding on a match, with its line. The couples that the match sets aside want nothing.
+fn judged<T: Threads + Sync>(
+    rt: &T,
+    alloc: Global,
+    roster: &Roster,
+    submitted: &SubmittedMatch,
+) -> Result<Found, AllocError>
+    requires { ArePlaces roster.now.market submitted.now.places }
+    ensures answer { IfOk result (λ found. answer_seen found
+        ≡ judged_answer roster.now submitted.now) }
+    ensures code { IfOk result (λ found. found.code ≤ 1) }
+{
+    let aside = submitted.aside();
+    if aside.is_empty() {
+        return found(rt, alloc, roster, submitted);
+    }
+    let others = set_aside(alloc, roster, aside)?;
+    found(rt, alloc, &others, submitted)
 }
 
 /// The answer to a market and a match. The error is want of memory, which the line says of the match.
@@ -52,14 +74,13 @@ fn answer_to_files<T: Threads + Sync>(
 ) -> Result<Found, Refused>
     requires { ArePlaces files.now.roster.market files.now.submitted.places }
     ensures answer { IfOk result (λ found. answer_seen found
-        ≡ finding_answer files.now.roster
-        (finding_of files.now.roster.market files.now.submitted)) }
+        ≡ judged_answer files.now.roster files.now.submitted) }
     ensures code { IfOk result (λ found. found.code ≤ 1) }
     ensures source { IfErr result (λ e. e.source ≡ Source.Match) }
     ensures memory { IfErr result (λ e. fault_of e.refusal
         ≡ record { code = OUT_OF_MEMORY; row = 0; id = [] }) }
 {
-    match found(rt, alloc, &files.roster, &files.submitted) {
+    match judged(rt, alloc, &files.roster, &files.submitted) {
         Ok(found) => Ok(found),
         Err(_) => Err(Refused {
             source: Source::Match,

@@ -1,11 +1,11 @@
 //! The text of a match and the lines of refusals, byte for byte.
 
 use crate::expect::{holds_for, same};
-use mt_report::{published, refused};
+use mt_report::{published, published_aside, refused};
 use mt_roster::Roster;
 use mt_samples::markets::{CHAIN, CHAIN_TEXT, SampleError, roster_of};
 use mt_samples::places::are_places;
-use mt_terms::{Match, Places, ProgNo};
+use mt_terms::{CoupleNo, Match, Places, ProgNo};
 use std::alloc::{AllocError, Global};
 
 // Whether the match with these places has this text, after these numbers of proposals to the programs.
@@ -32,6 +32,42 @@ fn a_match_as_a_text(rt: HostRuntime) -> Result<(), SampleError> {
     let places = [Some(ProgNo(1)), Some(ProgNo(0)), None];
     let has_text = has_text(rt.alloc(), &roster, &places, &[3, 2], CHAIN_TEXT);
     same(&rt, has_text, Ok(true));
+    Ok(())
+}
+
+// A single and a couple, and the text of the single's match if the couple is set aside.
+const COUPLE: &[u8] = b"match,2\n\
+program,x,1,a,s\n\
+program,y,1,s,b\n\
+applicant,s,x,y\n\
+couple,c,a,b,x,y\n";
+
+const COUPLE_ASIDE_TEXT: &[u8] = b"match,2,published\n\
+applicant,s,x\n\
+applicant,a,-\n\
+applicant,b,-\n\
+program,x,1,1,1\n\
+program,y,1,0,0\n\
+aside,c\n\
+totals,3,2,2,1\n";
+
+// Whether that match has that text.
+fn has_text_aside(alloc: Global, roster: &Roster) -> Result<bool, AllocError> {
+    let places = [Some(ProgNo(0)), None, None];
+    if !are_places(roster, &places) || roster.programs() != 2 || roster.couples() != 1 {
+        return Ok(false);
+    }
+    let matched = Match {
+        places: Places::new(places.to_vec(alloc)?),
+    };
+    let found = published_aside(alloc, roster, &matched, &[1, 0], &[CoupleNo(0)])?;
+    Ok(found.as_slice() == COUPLE_ASIDE_TEXT)
+}
+
+#[test]
+fn a_match_with_a_couple_set_aside_as_a_text(rt: HostRuntime) -> Result<(), SampleError> {
+    let roster = roster_of(&rt, rt.alloc(), COUPLE)?;
+    same(&rt, has_text_aside(rt.alloc(), &roster), Ok(true));
     Ok(())
 }
 

@@ -6,7 +6,7 @@ use Rattle.mt_terms.specs.Text as terms
 use Rattle.mt_terms.specs.Text.{id_text, is_known_code, line, name_among}
 use Rattle.mt_terms.specs.declared.codes.TheConstants.{TOO_LARGE, TWO_MARKS, OUT_OF_MEMORY, READ_FAULT, BUDGET_SPENT}
 use Rattle.mt_match_file.specs.Laws.{fault_codes}
-use Rattle.mt_match_file.specs.declared.codes.TheConstants.{OTHER_RECORD, OTHER_FIELDS, NO_SUCH_APPLICANT, PLACED_TWICE, NO_SUCH_PROGRAM, NOT_PLACED}
+use Rattle.mt_match_file.specs.declared.codes.TheConstants.{OTHER_RECORD, OTHER_FIELDS, NO_SUCH_APPLICANT, PLACED_TWICE, NO_SUCH_PROGRAM, NOT_PLACED, NO_SUCH_COUPLE, ASIDE_TWICE}
 use Rattle.mt_files.specs.declared.source.Source.{Source}
 use Rattle.mt_files.specs.declared.source.Source.TheVariants as source
 
@@ -19,7 +19,8 @@ source_word source.Match = codes "match"
 abbrev pub refusals : List (ℕ × Bytes)
 refusals = terms.refusals
     ++ (OTHER_RECORD, codes "OtherRecord") ∷ (OTHER_FIELDS, codes "OtherFields") ∷ (NO_SUCH_APPLICANT, codes "NoSuchApplicant")
-    ∷ (PLACED_TWICE, codes "PlacedTwice") ∷ (NO_SUCH_PROGRAM, codes "NoSuchProgram") ∷ (NOT_PLACED, codes "NotPlaced") ∷ []
+    ∷ (PLACED_TWICE, codes "PlacedTwice") ∷ (NO_SUCH_PROGRAM, codes "NoSuchProgram") ∷ (NOT_PLACED, codes "NotPlaced")
+    ∷ (NO_SUCH_COUPLE, codes "NoSuchCouple") ∷ (ASIDE_TWICE, codes "AsideTwice") ∷ []
 
 -- the codes whose lines name neither a record nor an id
 abbrev pub is_code_alone : ℕ → Bool

@@ -47,6 +47,8 @@ fn code_name(source: Source, code: u16) -> &'static [u8]
         of_match::PLACED_TWICE => b"PlacedTwice",
         of_match::NO_SUCH_PROGRAM => b"NoSuchProgram",
         of_match::NOT_PLACED => b"NotPlaced",
+        of_match::NO_SUCH_COUPLE => b"NoSuchCouple",
+        of_match::ASIDE_TWICE => b"AsideTwice",
         _ => known_name(code),
     }
 }

@@ -1,5 +1,5 @@
 -- The faults of a match, and what they tell.
-use Rattle.std.proofs.Common.{◌≡◌, ℕ, Bool, true, false, ◌&&◌, List, [], ◌∷◌, Option, Some, None, Result, Ok, Err, refl, ap, sym, ◌∙◌, position, if◌then◌else◌}
+use Rattle.std.proofs.Common.{◌≡◌, ℕ, Bool, true, false, ◌&&◌, ◌||◌, List, [], ◌∷◌, Option, Some, None, Result, Ok, Err, refl, ap, sym, ◌∙◌, position, if◌then◌else◌}
 use Rattle.std.specs.Prelude.{bytes_eq, codes, is_some, ok_or, option_map, slice_index_or}
 use Rattle.std.proofs.lemmas.Bool.{and_parts}
 use Rattle.mt_terms.specs.Lists.{has}
@@ -9,9 +9,9 @@ use Rattle.mt_terms.specs.Registration.Ids.{Bytes, is_id}
 use Rattle.mt_terms.specs.Registration.Passes.{Numbered, and_then, at_record, numbered_from}
 use Rattle.mt_terms.specs.Text.{is_none_or_id, name_of}
 use Rattle.mt_match_file.specs.Laws.{FaultsAreNamed, fault_codes}
-use Rattle.mt_match_file.specs.Submitted.{SoFar, after, all_read, record_fault_at, applicant_line, counts_at, first_unplaced, four_of, head_line, is_number, line_of, match_of, nothing_read, number, place_named, placed_at, program_line, shown, submitted_by, totals_line, two_of}
+use Rattle.mt_match_file.specs.Submitted.{SoFar, after, all_read, record_fault_at, applicant_line, aside_at, aside_line, counts_at, first_unplaced, four_of, head_line, is_number, line_of, match_of, nothing_read, number, one_of, place_named, placed_at, program_line, shown, submitted_by, totals_line, two_of}
 use Rattle.mt_match_file.specs.declared.line.Line.{Line}
-use Rattle.mt_match_file.specs.declared.line.Line.TheVariants.{Counts, Head, Place}
+use Rattle.mt_match_file.specs.declared.line.Line.TheVariants.{Aside, Counts, Head, Place}
 use Rattle.mt_match_file.specs.declared.submitted_match.Count.TheVariants as count
 
 -- a result that is no fault, or a fault that is told by its code and an id
@@ -37,7 +37,7 @@ shown_is (b ∷ bytes) = by (is_id 64 (b ∷ bytes)) refl
 
 head_named : (f : Option (Bytes × Bytes)) → record_fault_is_named (head_line f) ≡ true
 head_named None = refl
-head_named (Some f) = by (bytes_eq f.0 (codes "1") && bytes_eq f.1 (codes "published"))
+head_named (Some f) = by ((bytes_eq f.0 (codes "1") || bytes_eq f.0 (codes "2")) && bytes_eq f.1 (codes "published"))
   where
     by : (b : Bool) → record_fault_is_named (if b then Ok Head else Err (record_fault_alone 51)) ≡ true
     by true = refl
@@ -47,16 +47,28 @@ place_is_named : (a : ℕ) (field : Bytes) (o : Option (Option ℕ)) → record_
 place_is_named a field None = rw (shown_is field) refl
 place_is_named a field (Some place) = refl
 
-module _ (names : Names) (places : List (Option (Option ℕ))) where
-  placed_named : (f : Bytes × Bytes) (o : Option ℕ) → record_fault_is_named (placed_at names places f o) ≡ true
+aside_named : (aside : List ℕ) (id : Bytes) (o : Option ℕ) → record_fault_is_named (aside_at aside id o) ≡ true
+aside_named aside id None = rw (shown_is id) refl
+aside_named aside id (Some c) = by (has aside c)
+  where
+    by : (b : Bool) → record_fault_is_named (if b then Err (record_fault_at 58 id) else Ok (Aside c)) ≡ true
+    by true = rw (shown_is id) refl
+    by false = refl
+
+aside_line_named : (names : Names) (aside : List ℕ) (f : Option Bytes) → record_fault_is_named (aside_line names aside f) ≡ true
+aside_line_named names aside None = refl
+aside_line_named names aside (Some id) = aside_named aside id (position (bytes_eq id) names.couples)
+
+module _ (names : Names) (before : SoFar) where
+  placed_named : (f : Bytes × Bytes) (o : Option ℕ) → record_fault_is_named (placed_at names before.places f o) ≡ true
   placed_named f None = rw (shown_is f.0) refl
-  placed_named f (Some a) = by (is_some (slice_index_or places a None))
+  placed_named f (Some a) = by (is_some (slice_index_or before.places a None))
     where
       by : (b : Bool) → record_fault_is_named (if b then Err (record_fault_at 53 f.0) else ok_or (option_map (Place a) (place_named names.programs f.1)) (record_fault_at 54 f.1)) ≡ true
       by true = rw (shown_is f.0) refl
       by false = place_is_named a f.1 (place_named names.programs f.1)
 
-  applicant_named : (f : Option (Bytes × Bytes)) → record_fault_is_named (applicant_line names places f) ≡ true
+  applicant_named : (f : Option (Bytes × Bytes)) → record_fault_is_named (applicant_line names before.places f) ≡ true
   applicant_named None = refl
   applicant_named (Some f) = placed_named f (position (bytes_eq f.0) names.applicants)
 
@@ -80,23 +92,27 @@ module _ (names : Names) (places : List (Option (Option ℕ))) where
       by true = refl
       by false = refl
 
-  one_of : (a b c d : Bool) (x y z w : Result Line RecordFault) → record_fault_is_named x ≡ true → record_fault_is_named y ≡ true → record_fault_is_named z ≡ true → record_fault_is_named w ≡ true
-      → record_fault_is_named (if a then x else if b then y else if c then z else if d then w else Err (record_fault_alone 50)) ≡ true
-  one_of true b c d x y z w h i j k = h
-  one_of false true c d x y z w h i j k = i
-  one_of false false true d x y z w h i j k = j
-  one_of false false false true x y z w h i j k = k
-  one_of false false false false x y z w h i j k = refl
+  one_kind : (a b c d e : Bool) (x y z w v : Result Line RecordFault)
+      → record_fault_is_named x ≡ true → record_fault_is_named y ≡ true → record_fault_is_named z ≡ true → record_fault_is_named w ≡ true → record_fault_is_named v ≡ true
+      → record_fault_is_named (if a then x else if b then y else if c then z else if d then w else if e then v else Err (record_fault_alone 50)) ≡ true
+  one_kind true b c d e x y z w v h i j k l = h
+  one_kind false true c d e x y z w v h i j k l = i
+  one_kind false false true d e x y z w v h i j k l = j
+  one_kind false false false true e x y z w v h i j k l = k
+  one_kind false false false false true x y z w v h i j k l = l
+  one_kind false false false false false x y z w v h i j k l = refl
 
-  line_named : (fields : List Bytes) → record_fault_is_named (line_of names places fields) ≡ true
+  line_named : (fields : List Bytes) → record_fault_is_named (line_of names before fields) ≡ true
   line_named [] = refl
   line_named (word ∷ fields) =
-      one_of (bytes_eq word (codes "applicant")) (bytes_eq word (codes "program")) (bytes_eq word (codes "totals")) (bytes_eq word (codes "match")) _ _ _ _
+      one_kind (bytes_eq word (codes "applicant")) (bytes_eq word (codes "program")) (bytes_eq word (codes "totals")) (bytes_eq word (codes "match"))
+      (bytes_eq word (codes "aside")) _ _ _ _ _
       (applicant_named (two_of fields)) (program_named (four_of fields)) (totals_named (four_of fields)) (head_named (two_of fields))
+      (aside_line_named names before.aside (one_of fields))
 
 all_named : (names : Names) (before : SoFar) (rows : List (Numbered (List Bytes))) → fault_is_named (all_read names before rows) ≡ true
 all_named names before [] = refl
-all_named names before (row ∷ rows) = by (line_of names before.places row.1) (line_named names before.places row.1) (λ l. all_named names (after row.0 before l) rows)
+all_named names before (row ∷ rows) = by (line_of names before row.1) (line_named names before row.1) (λ l. all_named names (after row.0 before l) rows)
   where
     by : (o : Result Line RecordFault) → record_fault_is_named o ≡ true → ((l : Line) → fault_is_named (all_read names (after row.0 before l) rows) ≡ true)
         → fault_is_named (and_then (at_record row.0 (and_then o (λ l. Ok (after row.0 before l)))) (λ s. all_read names s rows)) ≡ true

@@ -1,4 +1,5 @@
 pub mod Submitted
+pub mod Marks
 pub mod Errors
 pub mod View
 pub mod Reading

@@ -1,6 +1,6 @@
 -- What a step of the reading of a match gives.
-use Rattle.std.specs.Prelude.{◌≡◌, ℕ, ◌+◌, ◌<◌, List, ◌∷◌, Result, Ok, Err}
-use Rattle.mt_terms.specs.Market.{Names}
+use Rattle.std.specs.Prelude.{◌≡◌, ℕ, ◌+◌, ◌<◌, List, ◌∷◌, length, Result, Ok, Err}
+use Rattle.mt_terms.specs.Market.{Market, Names, applicants}
 use Rattle.mt_terms.specs.Registration.Faults.{Fault}
 use Rattle.mt_terms.specs.Registration.Ids.{Bytes}
 use Rattle.mt_terms.specs.Registration.Passes.{Numbered, numbered_from}
@@ -9,14 +9,20 @@ use Rattle.mt_match_file.specs.Submitted.{SoFar, Submitted, all_read}
 use Rattle.mt_match_file.specs.View.{read_so_far}
 use Rattle.mt_match_file.specs.declared.fault.MatchError.{MatchError}
 use Rattle.mt_match_file.specs.declared.line.Line.{Line}
-use Rattle.mt_match_file.specs.declared.line.Line.TheVariants.{Head, Place, Counts}
+use Rattle.mt_match_file.specs.declared.line.Line.TheVariants.{Head, Place, Counts, Aside}
 use Rattle.mt_match_file.specs.declared.so_far.SoFar as code
 
--- a record fits this number of applicants: an applicant's number in it is below
-abbrev pub FitsInto : ℕ → Line → Type 0
-FitsInto n Head = Unit {0}
-FitsInto n (Place a place) = a < n
-FitsInto n (Counts c) = Unit {0}
+-- what was read has room for each applicant and each couple of a market
+pub record HasRoomFor (m : Market) (s : code.SoFar) : Type 0 where
+  pub applicants : length s.places.items ≡ applicants m
+  pub couples : length s.aside.marks.items ≡ length m.couples
+
+-- a record fits this number of applicants and of couples: a number in it is below
+abbrev pub FitsInto : ℕ → ℕ → Line → Type 0
+FitsInto n k Head = Unit {0}
+FitsInto n k (Place a place) = a < n
+FitsInto n k (Counts c) = Unit {0}
+FitsInto n k (Aside c) = c < k
 
 -- What a step returned is what the definition gives, unless memory ran out.
 abbrev pub Gives : Result Submitted MatchError → Result Submitted Fault → Type 0

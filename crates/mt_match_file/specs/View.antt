@@ -21,4 +21,4 @@ line_seen (Ok l) = Ok l
 line_seen (Err c) = Err (record_fault_seen c)
 
 abbrev pub read_so_far : SoFar → model.SoFar
-read_so_far s = record { places = s.places.items; counts = s.counts.items }
+read_so_far s = record { places = s.places.items; counts = s.counts.items; aside = s.aside.couples.items }

@@ -17,3 +17,9 @@ pub const NO_SUCH_PROGRAM: u16 = 54;
 
 /// An applicant of the market that no record places.
 pub const NOT_PLACED: u16 = 55;
+
+/// A couple that is none of the market.
+pub const NO_SUCH_COUPLE: u16 = 57;
+
+/// A couple that a record before set aside already.
+pub const ASIDE_TWICE: u16 = 58;

@@ -1,7 +1,7 @@
 //! What the definition of a match's records gives on worked ones. Each function does nothing. Its contract is the
 //! example.
 ghost use Rattle.std.specs.Prelude.{◌≡◌, [], ◌∷◌, Some, None, Ok};
-ghost use Rattle.mt_match_file.specs.Examples.{at_fault, counted, places_alone, submitted_of};
+ghost use Rattle.mt_match_file.specs.Examples.{at_fault, counted, places_alone, submitted_beside_couple, submitted_of};
 ghost use Rattle.mt_match_file.specs.declared.submitted_match.Count.TheVariants as count;
 
 /// Records may come in any order, with counts or without. One without a field is passed over.
@@ -12,6 +12,7 @@ pub fn matches_that_are_read()
           places = Some 0 ∷ Some 1 ∷ [];
           counts = counted 4 (count.Program 0 1 1) ∷ counted 5 (count.Program 1 1 1)
               ∷ counted 6 (count.Totals 2 0 2 0) ∷ [];
+          aside = [];
         }) }
     ensures places_alone { submitted_of ("applicant,a2,-" ∷ "" ∷ "applicant,a1,P2" ∷ [])
         ≡ places_alone (Some 1 ∷ None ∷ []) }
@@ -30,4 +31,19 @@ pub fn matches_that_cannot_be_read()
     ensures no_such_program { submitted_of ("applicant,a1,P3" ∷ []) ≡ at_fault 54 1 "P3" }
     ensures not_placed { submitted_of ("applicant,a1,P1" ∷ "totals,2,0,2,0" ∷ [])
         ≡ at_fault 55 0 "a2" }
+{}
+
+/// A record sets one couple of the market aside, wherever it is.
+pub fn matches_with_couples_set_aside()
+    ensures aside { submitted_beside_couple ("match,2,published" ∷ "aside,c" ∷ "applicant,s,x"
+        ∷ "applicant,a,-" ∷ "applicant,b,-" ∷ []) ≡ Ok (record {
+          places = Some 0 ∷ None ∷ None ∷ [];
+          counts = [];
+          aside = 0 ∷ [];
+        }) }
+    ensures no_such_couple { submitted_beside_couple ("aside,s" ∷ []) ≡ at_fault 57 1 "s" }
+    ensures aside_twice { submitted_beside_couple ("aside,c" ∷ "aside,c" ∷ [])
+        ≡ at_fault 58 2 "c" }
+    ensures two_ids { submitted_beside_couple ("aside,c,c" ∷ []) ≡ at_fault 51 1 "" }
+    ensures other_version { submitted_beside_couple ("match,3,published" ∷ []) ≡ at_fault 51 1 "" }
 {}

@@ -3,7 +3,7 @@ ghost use Rattle.std.specs.List.{list_all};
 ghost use Rattle.std.specs.Char.{is_ascii_digit};
 ghost use Rattle.std.specs.Str.Parse.{digits_value};
 ghost use Rattle.mt_lists.specs.Rows.{fields_left};
-ghost use Rattle.mt_match_file.specs.Submitted.{four_of, has_leading_zero, is_number, two_of};
+ghost use Rattle.mt_match_file.specs.Submitted.{four_of, has_leading_zero, is_number, one_of, two_of};
 
 use mt_ids::{are_digits, value_of};
 use mt_lists::Fields;
@@ -29,6 +29,19 @@ pub(crate) fn number(field: &[u8]) -> u64
     ensures { result ≡ digits_value 10 field.now }
 {
     value_of(field)
+}
+
+/// The field, if there is just one.
+pub(crate) fn one<'a>(fields: Fields<'a>) -> Option<&'a [u8]>
+    ensures { MatchOption result (one_of (fields_left fields.entry) ≡ None)
+        (λ field. one_of (fields_left fields.entry) ≡ Some field.now) }
+{
+    let mut rest = fields;
+    let first = rest.next()?;
+    match rest.next() {
+        Some(_) => None,
+        None => Some(first),
+    }
 }
 
 /// The fields, if there are just two.

@@ -6,7 +6,7 @@ ghost use Rattle.mt_ids.specs.Seeds.{seed_of};
 
 use mt_ids::{IdTable, Seed, add_field, is_dash};
 use mt_market::Roster;
-use mt_terms::{AppNo, ProgNo};
+use mt_terms::{AppNo, CoupleNo, ProgNo};
 use std::alloc::{AllocError, Global};
 use std::hash::DefaultHasher;
 
@@ -28,6 +28,17 @@ fn applicants_seed(roster: &Roster) -> Seed
     let mut digest = DefaultHasher::new();
     for number in 0..roster.applicants() {
         add_field(&mut digest, roster.applicant_id(AppNo(number)));
+    }
+    Seed::of(&digest)
+}
+
+/// The seed of a table of the couples' ids.
+fn couples_seed(roster: &Roster) -> Seed
+    ensures { result ≡ seed_of roster.now.names.couples }
+{
+    let mut digest = DefaultHasher::new();
+    for number in 0..roster.couples() {
+        add_field(&mut digest, roster.couple_id(CoupleNo(number)));
     }
     Seed::of(&digest)
 }
@@ -62,14 +73,27 @@ fn applicants(alloc: Global, roster: &Roster) -> Result<IdTable<'_>, AllocError>
     Ok(table)
 }
 
-/// A market with its ids, by which its programs and applicants are found.
+/// The ids of the couples.
+fn couples(alloc: Global, roster: &Roster) -> Result<IdTable<'_>, AllocError>
+    ensures { IfOk result (λ table. table ≡ roster.entry.now.names.couples) }
+{
+    let mut table = IdTable::with_capacity(alloc, roster.couples() as usize, couples_seed(roster))?;
+    for number in 0..roster.couples() {
+        table.push(roster.couple_id(CoupleNo(number)))?;
+    }
+    Ok(table)
+}
+
+/// A market with its ids, by which its programs, applicants and couples are found.
 pub(crate) struct Ids<'a> {
     roster: &'a Roster,
     programs: IdTable<'a>,
     applicants: IdTable<'a>,
+    couples: IdTable<'a>,
     pub ghost of_a_file: { IsRegistration roster.now },
     pub ghost of_programs: { programs ≡ roster.now.names.programs },
     pub ghost of_applicants: { applicants ≡ roster.now.names.applicants },
+    pub ghost of_couples: { couples ≡ roster.now.names.couples },
 }
 
 impl Drop for Ids<'_> {
@@ -78,6 +102,7 @@ impl Drop for Ids<'_> {
             roster: _,
             programs: _,
             applicants: _,
+            couples: _,
         } = self;
     }
 }
@@ -94,6 +119,7 @@ impl<'a> Ids<'a> {
             roster,
             programs: programs(alloc, roster)?,
             applicants: applicants(alloc, roster)?,
+            couples: couples(alloc, roster)?,
         })
     }
 
@@ -118,6 +144,14 @@ impl<'a> Ids<'a> {
     {
         let number = self.programs.number(id)?;
         Some(ProgNo(number as u32))
+    }
+
+    /// The couple with an id.
+    pub(crate) fn couple(&self, id: &[u8]) -> Option<CoupleNo>
+        ensures { result ≡ position (bytes_eq id.now) (market_of self.now).names.couples }
+    {
+        let number = self.couples.number(id)?;
+        Some(CoupleNo(number as u32))
     }
 
     /// The place that a field names: a program by its id, or none by `-`.

@@ -1,6 +1,7 @@
 //! From records to a match: where each applicant of a market is placed, by a match's text, whatever program wrote it.
 #![tactic(auto)]
 
+mod aside;
 pub mod codes;
 pub mod examples;
 mod fault;

@@ -1,15 +1,19 @@
-ghost use Rattle.std.specs.Prelude.{◌≡◌, ◌&&◌, slice_index_or, Some, None};
+ghost use Rattle.std.specs.Prelude.{◌≡◌, ◌&&◌, ◌||◌, bytes_eq, codes, slice_index_or, Some, None};
 ghost use Rattle.mt_lists.specs.Rows.{fields_left};
-ghost use Rattle.mt_match_file.specs.Submitted.{applicant_line, counts_at, four_of, head_line, is_number, line_of, placed_at, program_line, totals_line, two_of};
-ghost use Rattle.mt_match_file.specs.View.{line_seen, market_of};
+ghost use Rattle.mt_match_file.specs.Submitted.{applicant_line, aside_at, aside_line, counts_at, four_of, head_line, is_number, line_of, one_of, placed_at, program_line, totals_line, two_of};
+ghost use Rattle.mt_match_file.specs.View.{line_seen, market_of, read_so_far};
 
-use crate::codes::{NO_SUCH_APPLICANT, NO_SUCH_PROGRAM, OTHER_FIELDS, OTHER_RECORD, PLACED_TWICE};
+use crate::codes::{
+    ASIDE_TWICE, NO_SUCH_APPLICANT, NO_SUCH_COUPLE, NO_SUCH_PROGRAM, OTHER_FIELDS, OTHER_RECORD,
+    PLACED_TWICE,
+};
 use crate::fault::RecordFault;
-use crate::fields::{four, is_number, number, two};
+use crate::fields::{four, is_number, number, one, two};
 use crate::ids::Ids;
+use crate::so_far::SoFar;
 use crate::submitted_match::Count;
 use mt_lists::Fields;
-use mt_terms::{AppNo, ProgNo};
+use mt_terms::{AppNo, CoupleNo, ProgNo};
 
 /// What a record of a match says.
 #[derive(Clone, Copy)]
@@ -20,6 +24,15 @@ pub(crate) enum Line {
     Place(AppNo, Option<ProgNo>),
     /// Counts of a program, or of all.
     Counts(Count),
+    /// That a couple is set aside.
+    Aside(CoupleNo),
+}
+
+/// Whether a field is the version of a match's text.
+fn is_version(field: &[u8]) -> bool
+    ensures { result ≡ (bytes_eq field.now (codes "1") || bytes_eq field.now (codes "2")) }
+{
+    field == b"1".as_slice() || field == b"2".as_slice()
 }
 
 /// The record that says that a match follows, by the fields after its first.
@@ -27,7 +40,7 @@ fn head_line<'a>(fields: Fields<'a>) -> Result<Line, RecordFault<'a>>
     ensures { line_seen result ≡ head_line (two_of (fields_left fields.entry)) }
 {
     match two(fields) {
-        Some((version, word)) if version == b"1".as_slice() && word == b"published".as_slice() => {
+        Some((version, word)) if is_version(version) && word == b"published".as_slice() => {
             Ok(Line::Head)
         }
         _ => Err(RecordFault::alone(OTHER_FIELDS)),
@@ -99,13 +112,34 @@ fn totals_line<'a>(fields: Fields<'a>) -> Result<Line, RecordFault<'a>>
     }
 }
 
-/// What a record says after others, which gave these places, or its first fault.
-pub(crate) fn line_of<'a>(
+/// The couple that is set aside, by the fields after the first.
+fn aside_line<'a>(
     ids: &Ids<'_>,
-    places: &[Option<Option<ProgNo>>],
+    so_far: &SoFar,
     fields: Fields<'a>,
 ) -> Result<Line, RecordFault<'a>>
-    ensures { line_seen result ≡ line_of (market_of ids.now).names places.now
+    ensures { line_seen result ≡ aside_line (market_of ids.now).names
+        (read_so_far so_far.now).aside (one_of (fields_left fields.entry)) }
+{
+    let Some(id) = one(fields) else {
+        return Err(RecordFault::alone(OTHER_FIELDS));
+    };
+    let Some(couple) = ids.couple(id) else {
+        return Err(RecordFault::of(NO_SUCH_COUPLE, id));
+    };
+    if so_far.aside.has(couple) {
+        return Err(RecordFault::of(ASIDE_TWICE, id));
+    }
+    Ok(Line::Aside(couple))
+}
+
+/// What a record says after others, or its first fault.
+pub(crate) fn line_of<'a>(
+    ids: &Ids<'_>,
+    so_far: &SoFar,
+    fields: Fields<'a>,
+) -> Result<Line, RecordFault<'a>>
+    ensures { line_seen result ≡ line_of (market_of ids.now).names (read_so_far so_far.now)
         (fields_left fields.entry) }
 {
     let mut rest = fields;
@@ -113,13 +147,15 @@ pub(crate) fn line_of<'a>(
         return Err(RecordFault::alone(OTHER_RECORD));
     };
     if word == b"applicant".as_slice() {
-        applicant_line(ids, places, rest)
+        applicant_line(ids, &so_far.places, rest)
     } else if word == b"program".as_slice() {
         program_line(ids, rest)
     } else if word == b"totals".as_slice() {
         totals_line(rest)
     } else if word == b"match".as_slice() {
         head_line(rest)
+    } else if word == b"aside".as_slice() {
+        aside_line(ids, so_far, rest)
     } else {
         Err(RecordFault::alone(OTHER_RECORD))
     }

@@ -1,10 +1,11 @@
-ghost use Rattle.std.specs.Prelude.{◌≡◌, ◌+◌, ◌<◌, ◌^◌, length, IfErr, IfOk, Ok};
+ghost use Rattle.std.specs.Prelude.{◌≡◌, ◌+◌, ◌<◌, ◌^◌, length, IfErr, IfOk, Ok, OnOk};
 ghost use Rattle.mt_lists.specs.Rows.{fields_left, rows_left};
 ghost use Rattle.mt_terms.specs.Market.{applicants};
 ghost use Rattle.mt_terms.specs.Places.{ArePlaces};
 ghost use Rattle.mt_terms.specs.Registration.Passes.{numbered_from};
+ghost use Rattle.mt_order_laws.specs.Reordered.{IsOrderOfSome};
 ghost use Rattle.mt_match_file.specs.Errors.{Tells};
-ghost use Rattle.mt_match_file.specs.Reading.{Gives, GivesSoFar, Reads, ReadsRow};
+ghost use Rattle.mt_match_file.specs.Reading.{Gives, GivesSoFar, HasRoomFor, Reads, ReadsRow};
 ghost use Rattle.mt_match_file.specs.Submitted.{all_read, nothing_read, submitted_by};
 ghost use Rattle.mt_match_file.specs.View.{market_of, read_so_far};
 
@@ -24,13 +25,12 @@ fn read_fields(
     number: u64,
     fields: Fields<'_>,
 ) -> Result<(), MatchError>
-    requires { length so_far.old.places.items ≡ applicants (market_of ids.now).market }
+    requires { HasRoomFor (market_of ids.now).market so_far.old }
     ensures reads { Reads (market_of ids.now).names (read_so_far so_far.old)
         (read_so_far so_far.new) (number, fields_left fields.entry) result }
-    ensures places { IfOk result (λ _. length so_far.new.places.items
-        ≡ length so_far.old.places.items) }
+    ensures room { OnOk result (HasRoomFor (market_of ids.now).market so_far.new) }
 {
-    match line_of(ids, &so_far.places, fields) {
+    match line_of(ids, so_far, fields) {
         Ok(line) => {
             so_far.add(number, line)?;
             Ok(())
@@ -41,11 +41,10 @@ fn read_fields(
 
 /// Adds what a row says, if it has a field.
 fn read_row(ids: &Ids<'_>, so_far: &mut SoFar, number: u64, row: &Row<'_>) -> Result<(), MatchError>
-    requires { length so_far.old.places.items ≡ applicants (market_of ids.now).market }
+    requires { HasRoomFor (market_of ids.now).market so_far.old }
     ensures reads { ReadsRow (market_of ids.now).names (read_so_far so_far.old)
         (read_so_far so_far.new) number row.now result }
-    ensures places { IfOk result (λ _. length so_far.new.places.items
-        ≡ length so_far.old.places.items) }
+    ensures room { OnOk result (HasRoomFor (market_of ids.now).market so_far.new) }
 {
     if row.is_empty() {
         return Ok(());
@@ -59,8 +58,7 @@ fn read_rows(alloc: Global, ids: &Ids<'_>, rows: RowsIter<'_>) -> Result<SoFar, 
     ensures reads { GivesSoFar result (all_read (market_of ids.now).names
         (nothing_read (applicants (market_of ids.now).market))
         (numbered_from 1 (rows_left rows.entry))) }
-    ensures places { IfOk result (λ s. length s.places.items
-        ≡ applicants (market_of ids.now).market) }
+    ensures room { IfOk result (HasRoomFor (market_of ids.now).market) }
 {
     let mut so_far = SoFar::new(alloc, ids.roster())?;
     let mut number = 1;
@@ -72,7 +70,7 @@ fn read_rows(alloc: Global, ids: &Ids<'_>, rows: RowsIter<'_>) -> Result<SoFar, 
 }
 
 /// The match that the records of a text say, whatever program wrote them: a place for each applicant of the market,
-/// and the counts. The error is their first fault, or want of memory. A record is a list of fields without its
+/// the counts, and the couples that are set aside. The error is their first fault, or want of memory. A record is a list of fields without its
 /// trailing empty ones. Records are counted from 1, and one without a field is passed over.
 pub fn read_match(
     alloc: Global,
@@ -81,6 +79,7 @@ pub fn read_match(
 ) -> Result<SubmittedMatch, MatchError>
     ensures submitted { IfOk result (λ submitted. submitted_by roster.now rows.now ≡ Ok submitted) }
     ensures places { IfOk result (λ submitted. ArePlaces roster.now.market submitted.places) }
+    ensures aside { IfOk result (λ submitted. IsOrderOfSome roster.now.market submitted.aside) }
     ensures fault { IfErr result (λ error. Tells error (submitted_by roster.now rows.now)) }
 {
     let ids = Ids::of(alloc, roster)?;

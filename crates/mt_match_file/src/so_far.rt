@@ -2,9 +2,10 @@ ghost use Rattle.std.specs.Prelude.{◌≡◌, ◌<◌, length, map, None, IfOk,
 ghost use Rattle.std.specs.Option.{unwrap_or};
 ghost use Rattle.mt_terms.specs.Market.{applicants};
 ghost use Rattle.mt_match_file.specs.Submitted.{after, match_of, first_unplaced, nothing_read};
-ghost use Rattle.mt_match_file.specs.Reading.{FitsInto, Gives};
+ghost use Rattle.mt_match_file.specs.Reading.{FitsInto, Gives, HasRoomFor};
 ghost use Rattle.mt_match_file.specs.View.{read_so_far};
 
+use crate::aside::AsideCouples;
 use crate::codes::NOT_PLACED;
 use crate::fault::{MatchError, RecordFault};
 use crate::line::Line;
@@ -13,33 +14,44 @@ use mt_market::Roster;
 use mt_terms::{AppNo, Match, Places, ProgNo};
 use std::alloc::{AllocError, Global};
 
-/// What some records said: the counts, and for each applicant, by number, its place if one of them said it.
+/// What some records said: the counts, the couples set aside, and for each applicant, by number, its place if one of
+/// them said it.
 #[derive(Drop)]
 pub(crate) struct SoFar {
     pub(crate) places: Vec<Option<Option<ProgNo>>>,
     counts: Vec<Counted>,
+    pub(crate) aside: AsideCouples,
 }
 
 impl SoFar {
-    /// No place and no count, for the applicants of a market.
+    /// No place, no count and no couple set aside, for a market.
     pub(crate) fn new(alloc: Global, roster: &Roster) -> Result<Self, AllocError>
-        ensures { IfOk result (λ s. read_so_far s ≡ nothing_read (applicants roster.now.market)) }
+        ensures nothing { IfOk result (λ s. read_so_far s
+            ≡ nothing_read (applicants roster.now.market)) }
+        ensures room { IfOk result (HasRoomFor roster.now.market) }
     {
         Ok(SoFar {
             places: vec![in alloc; None; roster.applicants() as usize]?,
             counts: Vec::new(alloc),
+            aside: AsideCouples::none(alloc, roster.couples() as usize)?,
         })
     }
 
     /// Adds what a record with this number says.
     pub(crate) fn add(&mut self, row: u64, line: Line) -> Result<(), AllocError>
-        requires { FitsInto (length self.old.places.items) line }
-        ensures { OnOk result (read_so_far self.new ≡ after row (read_so_far self.old) line) }
+        requires { FitsInto (length self.old.places.items)
+            (length self.old.aside.marks.items) line }
+        ensures after { OnOk result (read_so_far self.new ≡ after row (read_so_far self.old) line) }
+        ensures applicants { OnOk result (length self.new.places.items
+            ≡ length self.old.places.items) }
+        ensures couples { OnOk result (length self.new.aside.marks.items
+            ≡ length self.old.aside.marks.items) }
     {
         match line {
             Line::Head => {}
             Line::Place(applicant, place) => self.places[applicant.index()] = Some(place),
             Line::Counts(count) => self.counts.push(Counted { row, count })?,
+            Line::Aside(couple) => self.aside.add(couple)?,
         }
         Ok(())
     }
@@ -79,6 +91,6 @@ impl SoFar {
             return Err(RecordFault::of(NOT_PLACED, id).at(0));
         }
         let places = Places::new(self.all_places(alloc)?);
-        Ok(SubmittedMatch::new(Match { places }, self.counts))
+        Ok(SubmittedMatch::new(Match { places }, self.counts, self.aside.into_couples()))
     }
 }

@@ -1,6 +1,6 @@
 ghost use Rattle.std.specs.Prelude.{◌≡◌};
 
-use mt_terms::{Match, ProgNo};
+use mt_terms::{CoupleNo, Match, ProgNo};
 use std::marker::Model;
 
 /// What a record of a match says besides places.
@@ -37,10 +37,12 @@ pub struct Counted {
     pub count: Count,
 }
 
-/// What the records of a match say: a place for each applicant of a market, and the counts.
+/// What the records of a match say: a place for each applicant of a market, the counts, and the couples that are set
+/// aside.
 pub struct SubmittedMatch {
     matched: Match,
     counts: Vec<Counted>,
+    aside: Vec<CoupleNo>,
 }
 
 impl Drop for SubmittedMatch {
@@ -48,6 +50,7 @@ impl Drop for SubmittedMatch {
         let SubmittedMatch {
             matched: _,
             counts: _,
+            aside: _,
         } = self;
     }
 }
@@ -57,15 +60,20 @@ impl Model for SubmittedMatch {
 
     ghost Value = { Submitted };
 
-    ghost view = { λ submitted. record { places = submitted.matched.places; counts = submitted.counts.items } };
+    ghost view = { λ submitted. record { places = submitted.matched.places; counts = submitted.counts.items; aside = submitted.aside.items } };
 }
 
 impl SubmittedMatch {
-    pub(crate) fn new(matched: Match, counts: Vec<Counted>) -> Self
+    pub(crate) fn new(matched: Match, counts: Vec<Counted>, aside: Vec<CoupleNo>) -> Self
         ensures places { result.places ≡ matched.places }
         ensures counts { result.counts ≡ counts.items }
+        ensures aside { result.aside ≡ aside.items }
     {
-        SubmittedMatch { matched, counts }
+        SubmittedMatch {
+            matched,
+            counts,
+            aside,
+        }
     }
 
     /// The match that the places are.
@@ -80,5 +88,12 @@ impl SubmittedMatch {
         ensures { result.now ≡ self.now.counts }
     {
         &self.counts
+    }
+
+    /// The couples that are set aside, in the order of their records.
+    pub fn aside(&self) -> &[CoupleNo]
+        ensures { result.now ≡ self.now.aside }
+    {
+        &self.aside
     }
 }

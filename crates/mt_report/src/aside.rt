@@ -4,7 +4,7 @@ ghost use Rattle.mt_terms.specs.Places.{ArePlaces};
 ghost use Rattle.mt_report.specs.Aside.{aside_lines, couple_aside_line, published_aside as published_aside_text};
 
 use crate::counts::filled_counts;
-use crate::text::{likely_len, push_applicants, push_programs, push_totals};
+use crate::text::{push_applicants, push_programs, push_totals, text_of};
 use mt_market::Roster;
 use mt_terms::{CoupleNo, Match};
 use std::alloc::{AllocError, Global};
@@ -47,8 +47,7 @@ pub fn published_aside(
         matched.now.places received.now aside.now) }
 {
     let counts = filled_counts(alloc, roster.programs() as usize, matched.places.as_slice())?;
-    let mut text = Vec::with_capacity(alloc, likely_len(roster))?;
-    text.extend_from_slice(b"match,2,published\n")?;
+    let mut text = text_of(alloc, roster, b"match,2,published\n")?;
     push_applicants(&mut text, roster, matched)?;
     push_programs(&mut text, roster, matched, &counts, received)?;
     push_couples(&mut text, roster, aside)?;

@@ -150,8 +150,17 @@ pub(crate) fn push_totals(
 
 /// How much room a text is given at once, for its lines of applicants and programs. A longer one takes more as it
 /// grows.
-pub(crate) fn likely_len(roster: &Roster) -> usize {
+fn likely_len(roster: &Roster) -> usize {
     (roster.applicants() as usize + roster.programs() as usize) * LINE_LEN
+}
+
+/// A text of this line so far, with room for the others.
+pub(crate) fn text_of(alloc: Global, roster: &Roster, head: &[u8]) -> Result<Vec<u8>, AllocError>
+    ensures { IfOk result (λ v. v.items ≡ head.now) }
+{
+    let mut text = Vec::with_capacity(alloc, likely_len(roster))?;
+    text.extend_from_slice(head)?;
+    Ok(text)
 }
 
 /// The text of a match: every applicant with its place, every program, and the totals. A program has how many are
@@ -169,8 +178,7 @@ pub fn published(
         ≡ published_text roster.now.market roster.now.names matched.now.places received.now) }
 {
     let counts = filled_counts(alloc, roster.programs() as usize, matched.places.as_slice())?;
-    let mut text = Vec::with_capacity(alloc, likely_len(roster))?;
-    text.extend_from_slice(b"match,1,published\n")?;
+    let mut text = text_of(alloc, roster, b"match,1,published\n")?;
     push_applicants(&mut text, roster, matched)?;
     push_programs(&mut text, roster, matched, &counts, received)?;
     push_totals(&mut text, roster, matched, &counts)?;

@@ -1,11 +1,11 @@
 -- The numbers of a published text have ten digits at most, and the text has fewer bytes than a file may have.
-use Rattle.std.proofs.Common.{◌≡◌, ℕ, zero, suc, ◌+◌, ◌-◌, ◌*◌, ◌<◌, ◌≤◌, List, [], ◌∷◌, ◌++◌, length, map, get_or, Bool, true, false, not, refl, ap, ◌∙◌, inl, inr, arith, length-append, eq-eqb, if◌then◌else◌}
-use Rattle.std.specs.Prelude.{codes, decimal, slice_index_or, is_some}
+use Rattle.std.proofs.Common.{◌≡◌, ℕ, zero, suc, ◌+◌, ◌-◌, ◌*◌, ◌<◌, ◌≤◌, List, [], ◌∷◌, ◌++◌, length, map, Bool, true, not, ◌||◌, refl, ap, ◌∙◌, arith, length-append, eq-eqb}
+use Rattle.std.specs.Prelude.{◌==◌, codes, decimal, slice_index_or, is_some}
 use Rattle.std.specs.List.{range_with_len}
-use Rattle.std.proofs.lemmas.Bool.{cases_lt}
-use Rattle.std.proofs.lemmas.List.{get_or_past}
+use Rattle.std.proofs.lemmas.Bool.{or_right}
+use Rattle.std.proofs.lemmas.Bool.Decides.{nat_tests}
 use Rattle.std.proofs.lemmas.List.Concat.{flat_map-append}
-use Rattle.mt_terms.specs.Lists.{below, total_below}
+use Rattle.mt_terms.specs.Lists.{below, has, total_below}
 use Rattle.mt_terms.specs.Market.{Market, Names, Registered, applicants, program_of}
 use Rattle.mt_terms.specs.Matching.{Places, filled, is_program, place_of}
 use Rattle.mt_terms.specs.Places.{ArePlaces}
@@ -14,7 +14,7 @@ use Rattle.mt_terms.specs.Registration.Ids.{Bytes}
 use Rattle.mt_terms.specs.Text.{all_filled, line, name_of, place_text, positions, unmatched}
 use Rattle.mt_terms.proofs.ListFacts.{count-le-length}
 use Rattle.mt_text_laws.proofs.LineTexts.{text_of}
-use Rattle.mt_text_laws.proofs.PublishedRows.{IsTellable, applicant_fields, id_at, id_short, is_told, place_plain, program_fields, published_rows, totals_fields}
+use Rattle.mt_text_laws.proofs.PublishedRows.{AreTellable, IsTellable, applicant_fields, aside_fields, head_fields, id_at, id_short, is_told, place_plain, program_fields, rows_with, totals_fields}
 
 -- a sum of terms that are at most so much
 pub total_at_most : (f : ℕ → ℕ) (most n : ℕ) → ((k : ℕ) → f k ≤ most) → total_below f n ≤ n * most
@@ -53,6 +53,9 @@ is_tellable r h received few_received places are =
 length-three : (x y z : Bytes) → length (line (x ∷ y ∷ z ∷ [])) ≡ length x + length y + length z + 3
 length-three x y z =
     omega (arith, length-append (x ++ 44 ∷ (y ++ 44 ∷ z)) (10 ∷ []), length-append x (44 ∷ (y ++ 44 ∷ z)), length-append y (44 ∷ z))
+
+length-two : (x y : Bytes) → length (line (x ∷ y ∷ [])) ≡ length x + length y + 2
+length-two x y = omega (arith, length-append (x ++ 44 ∷ y) (10 ∷ []), length-append x (44 ∷ y))
 
 length-five : (x y z v w : Bytes) → length (line (x ∷ y ∷ z ∷ v ∷ w ∷ [])) ≡ length x + length y + length z + length v + length w + 5
 length-five x y z v w =
@@ -103,17 +106,37 @@ module _ (m : Market) (names : Names) (places : Places) (received : List ℕ) (t
         length-five (codes "totals") (decimal (applicants m)) (decimal (unmatched places)) (decimal (positions m)) (decimal (positions m - all_filled m places)),
       )
 
-  pub text_short : length (text_of (published_rows m names places received)) ≤ 69 + applicants m * 140 + length m.programs * 106
-  text_short =
+  couple_lines_short : (aside : List ℕ) → AreTellable names aside → (cs : List ℕ) → ((c : ℕ) → has cs c ≡ true → has aside c ≡ true)
+      → length (text_of (map (aside_fields names) cs)) ≤ length cs * 71
+  couple_lines_short aside are [] h = omega arith
+  couple_lines_short aside are (c ∷ cs) h =
+      let rest = couple_lines_short aside are cs (λ d is. h d (or_right (c == d) (has cs d) is)) in
+      let id = id_short (name_of names.couples c) (id_at names.couples c are.couple_ids (are.within c (h c (here c (has cs c))))) in
+      omega (arith, length-append (line (aside_fields names c)) (text_of (map (aside_fields names) cs)), length-two (codes "aside") (name_of names.couples c))
+    where
+      here : (c : ℕ) (b : Bool) → (c == c || b) ≡ true
+      here c b = grind (arith, nat_tests)
+
+  pub text_short : (version : Bytes) (aside : List ℕ) → length version ≡ 1 → AreTellable names aside
+      → length (text_of (rows_with version m names places received aside)) ≤ 69 + applicants m * 140 + length m.programs * 106 + length aside * 71
+  text_short version aside one are =
       let first : List (List Bytes) = map (applicant_fields names places) (below (applicants m)) in
       let second : List (List Bytes) = map (program_fields m names places received) (below (length m.programs)) in
+      let third : List (List Bytes) = map (aside_fields names) aside in
       let last : List (List Bytes) = totals_fields m places ∷ [] in
+      let head : length (line (head_fields version)) ≡ 18 = omega (arith, one, length-three (codes "match") version (codes "published")) in
       let of_first : length (text_of first) ≤ applicants m * 140 = lines_at_most (applicant_fields names places) 140 0 (applicants m) (applicants m) (omega arith) applicant_line_short in
       let of_second : length (text_of second) ≤ length m.programs * 106 =
       lines_at_most (program_fields m names places received) 106 0 (length m.programs) (length m.programs) (omega arith) program_line_short in
+      let of_third : length (text_of third) ≤ length aside * 71 = couple_lines_short aside are aside (λ c is. is) in
       let of_last : length (text_of last) ≤ 51 = totals_short in
-      let whole : text_of (first ++ (second ++ last)) ≡ text_of first ++ (text_of second ++ text_of last) =
-      flat_map-append line first (second ++ last) ∙ ap (λ (rest : List ℕ). text_of first ++ rest) (flat_map-append line second last) in
-      let all : length (text_of (first ++ (second ++ last))) ≡ length (text_of first) + (length (text_of second) + length (text_of last)) =
-      ap length whole ∙ length-append (text_of first) (text_of second ++ text_of last) ∙ ap (λ (n : ℕ). length (text_of first) + n) (length-append (text_of second) (text_of last)) in
-      omega arith
+      let whole : text_of (first ++ (second ++ (third ++ last))) ≡ text_of first ++ (text_of second ++ (text_of third ++ text_of last)) =
+      flat_map-append line first (second ++ (third ++ last))
+      ∙ ap (λ (rest : List ℕ). text_of first ++ rest)
+      (flat_map-append line second (third ++ last) ∙ ap (λ (rest : List ℕ). text_of second ++ rest) (flat_map-append line third last)) in
+      let rows : List (List Bytes) = first ++ (second ++ (third ++ last)) in
+      let all : length (text_of rows) ≡ length (text_of first) + (length (text_of second) + (length (text_of third) + length (text_of last))) =
+      ap length whole ∙ length-append (text_of first) (text_of second ++ (text_of third ++ text_of last))
+      ∙ ap (λ (n : ℕ). length (text_of first) + n)
+      (length-append (text_of second) (text_of third ++ text_of last) ∙ ap (λ (n : ℕ). length (text_of second) + n) (length-append (text_of third) (text_of last))) in
+      omega (arith, length-append (line (head_fields version)) (text_of rows))

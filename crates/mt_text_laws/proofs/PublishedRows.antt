@@ -1,22 +1,24 @@
--- A published text is the text of these rows: the head, a row for each applicant, a row for each program, the totals.
+-- A published text is the text of these rows: the head, a row for each applicant, a row for each program, a row for each
+-- couple that is set aside, the totals.
 -- Each of their fields has the bytes of ids alone, and a published number has ten digits at most.
-use Rattle.std.proofs.Common.{◌≡◌, ℕ, zero, suc, ◌+◌, ◌-◌, ◌^◌, ◌<◌, ◌≤◌, List, [], ◌∷◌, ◌++◌, length, map, get_or, Bool, true, false, not, ◌==◌, ◌&&◌, nat_lt, nat_le, Option, Some, None, refl, sym, ap, ◌∙◌, append_assoc, arith, append-nil, lt-ltb}
-use Rattle.std.specs.Prelude.{codes, decimal, slice_index_or}
+use Rattle.std.proofs.Common.{◌≡◌, ℕ, zero, suc, ◌+◌, ◌-◌, ◌^◌, ◌<◌, ◌≤◌, List, [], ◌∷◌, ◌++◌, length, map, get_or, Bool, true, false, not, ◌==◌, ◌&&◌, ◌||◌, nat_lt, nat_le, Option, Some, None, refl, sym, ap, ◌∙◌, append_assoc, arith, append-nil, lt-ltb}
+use Rattle.std.specs.Prelude.{bytes_eq, codes, decimal, slice_index_or}
 use Rattle.std.specs.Char.{is_ascii_digit}
 use Rattle.std.specs.List.{list_all, range_with_len}
 use Rattle.std.specs.Str.Parse.{AllDigits}
-use Rattle.std.proofs.lemmas.Bool.{and_parts, and_from, le-leb, leb-true}
+use Rattle.std.proofs.lemmas.Bool.{and_parts, and_from, false≢true, le-leb, leb-true, or_right}
 use Rattle.std.proofs.lemmas.Bool.Decides.{nat_tests}
 use Rattle.std.proofs.lemmas.Fmt.{decimal_digit, decimal_is_IsNumeral, first_decimal, length-decimal-le}
 use Rattle.std.proofs.lemmas.Str.Parse.{digit_from_value}
 use Rattle.std.proofs.lemmas.List.Concat.{flat_map-append}
 use Rattle.std.proofs.lemmas.List.Folds.{flat_map-map, list_all-append}
 use Rattle.mt_match_file.specs.Submitted.{has_leading_zero, is_number, number}
-use Rattle.mt_terms.specs.Lists.{below}
+use Rattle.mt_terms.specs.Lists.{below, has, is_distinct}
 use Rattle.mt_terms.specs.Market.{Market, Names, applicants, program_of}
 use Rattle.mt_terms.specs.Matching.{Places, filled, place_of}
-use Rattle.mt_terms.specs.Registration.Ids.{Bytes, is_dash, is_id, is_id_byte}
+use Rattle.mt_terms.specs.Registration.Ids.{Bytes, all_differ, is_dash, is_id, is_id_byte}
 use Rattle.mt_terms.specs.Text.{all_filled, applicant_lines, line, program_lines, totals_line, name_of, place_text, positions, published, unmatched}
+use Rattle.mt_report.specs.Aside.{aside_lines}
 use Rattle.mt_text_laws.proofs.LineTexts.{is_plain, is_plain_row, text_of}
 
 -- the digits of a number stand in ids
@@ -77,33 +79,53 @@ abbrev pub totals_fields : Market → Places → List Bytes
 totals_fields m places =
     codes "totals" ∷ decimal (applicants m) ∷ decimal (unmatched places) ∷ decimal (positions m) ∷ decimal (positions m - all_filled m places) ∷ []
 
-abbrev pub head_fields : List Bytes
-head_fields = codes "match" ∷ codes "1" ∷ codes "published" ∷ []
+abbrev pub aside_fields : Names → ℕ → List Bytes
+aside_fields names c = codes "aside" ∷ name_of names.couples c ∷ []
 
-abbrev pub published_rows : Market → Names → Places → List ℕ → List (List Bytes)
-published_rows m names places received =
-    head_fields
+abbrev pub head_fields : Bytes → List Bytes
+head_fields version = codes "match" ∷ version ∷ codes "published" ∷ []
+
+-- the rows of a text of this version that sets these couples aside
+abbrev pub rows_with : Bytes → Market → Names → Places → List ℕ → List ℕ → List (List Bytes)
+rows_with version m names places received aside =
+    head_fields version
     ∷ (map (applicant_fields names places) (below (applicants m))
-    ++ (map (program_fields m names places received) (below (length m.programs)) ++ totals_fields m places ∷ []))
+    ++ (map (program_fields m names places received) (below (length m.programs)) ++ (map (aside_fields names) aside ++ totals_fields m places ∷ [])))
 
+-- the text, whose rows these are
+abbrev pub text_with : Bytes → Market → Names → Places → List ℕ → List ℕ → List ℕ
+text_with version m names places received aside =
+    line (head_fields version)
+    ++ applicant_lines m names places ++ program_lines m names places received ++ aside_lines names aside ++ totals_line m places
+
+regrouped : (h a p s t b q u v : List ℕ) → a ≡ b → p ≡ q → s ≡ u → t ≡ v → h ++ a ++ p ++ s ++ t ≡ h ++ (b ++ (q ++ (u ++ v)))
+regrouped h a p s t b q u v first second third last = rw (first, second, third, last) (simp append_assoc)
+
+pub text_is_rows : (version : Bytes) (m : Market) (names : Names) (places : Places) (received aside : List ℕ)
+    → text_with version m names places received aside ≡ text_of (rows_with version m names places received aside)
+text_is_rows version m names places received aside =
+    let first : List (List Bytes) = map (applicant_fields names places) (below (applicants m)) in
+    let second : List (List Bytes) = map (program_fields m names places received) (below (length m.programs)) in
+    let third : List (List Bytes) = map (aside_fields names) aside in
+    let last : List (List Bytes) = totals_fields m places ∷ [] in
+    let applicants_are : applicant_lines m names places ≡ text_of first = sym (flat_map-map line (applicant_fields names places) (below (applicants m))) in
+    let programs_are : program_lines m names places received ≡ text_of second = sym (flat_map-map line (program_fields m names places received) (below (length m.programs))) in
+    let aside_are : aside_lines names aside ≡ text_of third = sym (flat_map-map line (aside_fields names) aside) in
+    let totals_are : totals_line m places ≡ text_of last = sym (append-nil (line (totals_fields m places))) in
+    let whole : text_of (first ++ (second ++ (third ++ last))) ≡ text_of first ++ (text_of second ++ (text_of third ++ text_of last)) =
+    flat_map-append line first (second ++ (third ++ last))
+    ∙ ap (λ (rest : List ℕ). text_of first ++ rest)
+    (flat_map-append line second (third ++ last) ∙ ap (λ (rest : List ℕ). text_of second ++ rest) (flat_map-append line third last)) in
+    regrouped (line (head_fields version)) (applicant_lines m names places) (program_lines m names places received) (aside_lines names aside) (totals_line m places)
+    (text_of first) (text_of second) (text_of third) (text_of last) applicants_are programs_are aside_are totals_are
+    ∙ ap (λ (rest : List ℕ). line (head_fields version) ++ rest) (sym whole)
+
+-- a text without such couples is that of version 1
 pub published_is_text : (m : Market) (names : Names) (places : Places) (received : List ℕ)
-    → published m names places received ≡ text_of (published_rows m names places received)
+    → published m names places received ≡ text_with (codes "1") m names places received []
 published_is_text m names places received =
-    let applicants_are : applicant_lines m names places ≡ text_of (map (applicant_fields names places) (below (applicants m))) =
-    sym (flat_map-map line (applicant_fields names places) (below (applicants m))) in
-    let programs_are : program_lines m names places received ≡ text_of (map (program_fields m names places received) (below (length m.programs))) =
-    sym (flat_map-map line (program_fields m names places received) (below (length m.programs))) in
-    let totals_are : totals_line m places ≡ text_of (totals_fields m places ∷ []) = sym (append-nil (line (totals_fields m places))) in
-    let ends : program_lines m names places received ++ totals_line m places ≡ text_of (map (program_fields m names places received) (below (length m.programs)) ++ totals_fields m places ∷ []) =
-    rw (programs_are, totals_are) (sym (flat_map-append line (map (program_fields m names places received) (below (length m.programs))) (totals_fields m places ∷ []))) in
-    let parts : text_of (map (applicant_fields names places) (below (applicants m))) ++ text_of (map (program_fields m names places received) (below (length m.programs)) ++ totals_fields m places ∷ [])
-    ≡ text_of (map (applicant_fields names places) (below (applicants m)) ++ (map (program_fields m names places received) (below (length m.programs)) ++ totals_fields m places ∷ [])) =
-    sym (flat_map-append line (map (applicant_fields names places) (below (applicants m))) (map (program_fields m names places received) (below (length m.programs)) ++ totals_fields m places ∷ [])) in
-    ap (λ (rest : List ℕ). line head_fields ++ rest)
-    (append_assoc (applicant_lines m names places) (program_lines m names places received) (totals_line m places)
-    ∙ ap (λ (rest : List ℕ). applicant_lines m names places ++ rest) ends
-    ∙ ap (λ (first : List ℕ). first ++ text_of (map (program_fields m names places received) (below (length m.programs)) ++ totals_fields m places ∷ [])) applicants_are
-    ∙ parts)
+    ap (λ (front : List ℕ). front ++ totals_line m places)
+    (sym (append-nil (line (head_fields (codes "1")) ++ applicant_lines m names places ++ program_lines m names places received)))
 
 -- ids, dashes and such numbers are plain
 id_parts : (id : Bytes) → is_id 64 id ≡ true
@@ -151,6 +173,27 @@ pub record IsTellable (m : Market) (names : Names) (places : Places) (received :
   pub posts : IsTold (positions m)
   pub free : IsTold (positions m - all_filled m places)
 
+-- What is asked of couples that are set aside, so that they can be read back.
+pub record AreTellable (names : Names) (aside : List ℕ) : Type 0 where
+  pub distinct : is_distinct aside ≡ true
+  pub within : (c : ℕ) → has aside c ≡ true → c < length names.couples
+  pub couple_ids : list_all (is_id 64) names.couples ≡ true
+  pub couples_differ : all_differ bytes_eq names.couples ≡ true
+
+-- no couple is set aside
+pub none_tellable : (names : Names) → list_all (is_id 64) names.couples ≡ true → all_differ bytes_eq names.couples ≡ true → AreTellable names []
+none_tellable names ids differ = record { distinct = refl; within = λ c is. absurd (false≢true is); couple_ids = ids; couples_differ = differ }
+
+couples_plain : (names : Names) (aside : List ℕ) → AreTellable names aside → (cs : List ℕ) → ((c : ℕ) → has cs c ≡ true → has aside c ≡ true)
+    → list_all is_plain_row (map (aside_fields names) cs) ≡ true
+couples_plain names aside are [] h = refl
+couples_plain names aside are (c ∷ cs) h =
+    let id = id_plain (name_of names.couples c) (id_at names.couples c are.couple_ids (are.within c (h c (here c (has cs c))))) in
+    rw id (couples_plain names aside are cs (λ d is. h d (or_right (c == d) (has cs d) is)))
+  where
+    here : (c : ℕ) (b : Bool) → (c == c || b) ≡ true
+    here c b = grind (arith, nat_tests)
+
 module _ (m : Market) (names : Names) (places : Places) (received : List ℕ) (t : IsTellable m names places received) where
   pub place_plain : (o : Option ℕ) → ((p : ℕ) → o ≡ Some p → p < length m.programs) → (is_plain (place_text names o) ≡ true) × (length (place_text names o) ≤ 64)
   place_plain None h = (refl, omega arith)
@@ -174,10 +217,20 @@ module _ (m : Market) (names : Names) (places : Places) (received : List ℕ) (t
   each_plain f a zero end le h = refl
   each_plain f a (suc n) end le h = rw (h a (omega arith)) (each_plain f (a + 1) n end (omega arith) h)
 
-  pub rows_plain : list_all is_plain_row (published_rows m names places received) ≡ true
-  rows_plain =
-      list_all-append is_plain_row (map (applicant_fields names places) (below (applicants m))) (map (program_fields m names places received) (below (length m.programs)) ++ totals_fields m places ∷ [])
-      ∙ and_from _ _ (each_plain (applicant_fields names places) 0 (applicants m) (applicants m) (omega arith) applicant_plain)
-      (list_all-append is_plain_row (map (program_fields m names places received) (below (length m.programs))) (totals_fields m places ∷ [])
-      ∙ and_from _ _ (each_plain (program_fields m names places received) 0 (length m.programs) (length m.programs) (omega arith) program_plain)
-      (rw (t.all.plain, t.unmatched.plain, t.posts.plain, t.free.plain) refl))
+  pub rows_plain : (version : Bytes) (aside : List ℕ) → is_plain version ≡ true → AreTellable names aside
+      → list_all is_plain_row (rows_with version m names places received aside) ≡ true
+  rows_plain version aside plain are =
+      let first : List (List Bytes) = map (applicant_fields names places) (below (applicants m)) in
+      let second : List (List Bytes) = map (program_fields m names places received) (below (length m.programs)) in
+      let third : List (List Bytes) = map (aside_fields names) aside in
+      let last : List (List Bytes) = totals_fields m places ∷ [] in
+      let ends : list_all is_plain_row last ≡ true = rw (t.all.plain, t.unmatched.plain, t.posts.plain, t.free.plain) refl in
+      let couples : list_all is_plain_row (third ++ last) ≡ true =
+      list_all-append is_plain_row third last ∙ and_from _ _ (couples_plain names aside are aside (λ c is. is)) ends in
+      let programs : list_all is_plain_row (second ++ (third ++ last)) ≡ true =
+      list_all-append is_plain_row second (third ++ last)
+      ∙ and_from _ _ (each_plain (program_fields m names places received) 0 (length m.programs) (length m.programs) (omega arith) program_plain) couples in
+      let all : list_all is_plain_row (first ++ (second ++ (third ++ last))) ≡ true =
+      list_all-append is_plain_row first (second ++ (third ++ last))
+      ∙ and_from _ _ (each_plain (applicant_fields names places) 0 (applicants m) (applicants m) (omega arith) applicant_plain) programs in
+      rw plain all

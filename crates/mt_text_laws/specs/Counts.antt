@@ -20,3 +20,8 @@ totals_count m places i = record { row = i; count = count.Totals (applicants m) 
 abbrev pub published_counts : Market → Places → List Counted
 published_counts m places =
     counts_from m places (2 + applicants m) 0 (length m.programs) ++ totals_count m places (2 + applicants m + length m.programs) ∷ []
+
+-- the counts of a text that sets this number of couples aside, whose lines are before the totals
+abbrev pub counts_aside : Market → Places → ℕ → List Counted
+counts_aside m places aside =
+    counts_from m places (2 + applicants m) 0 (length m.programs) ++ totals_count m places (2 + applicants m + length m.programs + aside) ∷ []

@@ -3,4 +3,4 @@
 
 mod laws;
 
-pub use laws::published_is_read;
+pub use laws::{published_aside_is_read, published_is_read};

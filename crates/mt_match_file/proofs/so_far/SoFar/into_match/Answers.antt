@@ -7,7 +7,7 @@ use Rattle.mt_match_file.proofs.so_far.SoFar.into_match.Goals as goal
 pub returns : goal.returns
 returns c =
     match_is c.args.roster.now.names (read_so_far c.args.self) (first_unplaced (read_so_far c.args.self)) c.new.result
-    (sym c.first_unplaced.ensures ∙ c.in_default.is) (c.new.ensures.places ∙ c.new-places.ensures ∙ c.in_ok-all_places.ensures) c.new.ensures.counts
+    (sym c.first_unplaced.ensures ∙ c.in_default.is) (c.new.ensures.places ∙ c.new-places.ensures ∙ c.in_ok-all_places.ensures) c.new.ensures.counts (c.new.ensures.aside ∙ c.into_couples.ensures)
 
 pub applicant_id-id-requires : goal.applicant_id-id-requires
 applicant_id-id-requires c = grind arith
