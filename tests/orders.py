@@ -2,7 +2,8 @@
 program, over tests/rules.py.
 
 `order_of` gives the order of couples with a number. `first_order` and `aside_in_turn` say which order is used and which
-couples are set aside. Run as a program, it tries both on random markets and compares what should be the same.
+couples are set aside. `answer` gives the whole text for the bytes of an input. Run as a program, it tries both on random
+markets and compares what should be the same.
 """
 import collections
 import copy
@@ -125,8 +126,43 @@ def blockers(matching, aside):
     return [agent for agent in range(len(matching.market.agents)) if agent not in gone and matching.better(agent) is not None]
 
 
-def random_market(source, applicants, share, posts):
-    """A market of so many applicants, a share of them in couples, with so many posts for each."""
+def couple_names(rows):
+    """The ids of the couples that aren't withdrawn, by number."""
+    gone = {row[2] for row in rows if row[:2] == ["withdraw", "couple"]}
+    return [row[1] for row in rows if row[0] == "couple" and row[1] not in gone]
+
+
+def text_aside(matching, names):
+    """What is published if the couples with these ids are set aside."""
+    *lines, totals = matching.text().splitlines()
+    lines[0] = "match,2,published"
+    return "".join(f"{line}\n" for line in [*lines, *(f"aside,{name}" for name in names), totals])
+
+
+def answer(data, budget, orders, sets_aside):
+    """The text for an input, a budget of rounds, a number of orders, and whether couples may be set aside."""
+    try:
+        rows = rules.accepted(data)
+    except rules.Refused as refused:
+        return refused.text()
+    singles = singles_of(rules.Market(rows))
+    found = first_order(singles, budget, orders)
+    if found:
+        return found[1].text()
+    if not sets_aside:
+        return rules.Refused(41).text()
+    aside, matching = aside_in_turn(singles, budget)
+    names = couple_names(rows)
+    return text_aside(matching, [names[number] for number in aside])
+
+
+def status_of(text):
+    """The exit status that goes with a text."""
+    return 6 if text.startswith("match,2,") else rules.status_of(text)
+
+
+def random_rows(source, applicants, share, posts):
+    """The records of a market of so many applicants, a share of them in couples, with so many posts for each."""
     names = [f"a{number}" for number in range(applicants)]
     programs = [f"P{number}" for number in range(max(2, applicants // 3))]
     rows = [["program", name, "0", *source.sample(names, source.randint(1, applicants))] for name in programs]
@@ -140,7 +176,7 @@ def random_market(source, applicants, share, posts):
         wishes = source.sample(sorted(both), min(len(both), 6))
         rows.append(["couple", f"c{number}", names[2 * number], names[2 * number + 1], *(place for it in wishes for place in it)])
     rows += [["applicant", name, *some()] for name in names[2 * pairs :]]
-    return rules.Market(rows)
+    return rows
 
 
 def singles_of(market):
@@ -152,7 +188,7 @@ def singles_of(market):
 
 def compare(source, budget=2000):
     """Compares on one random market what should be the same. Gives the orders that end, and how many are set aside."""
-    singles = singles_of(random_market(source, source.randint(6, 24), 0.5, source.uniform(0.7, 1.1)))
+    singles = singles_of(rules.Market(random_rows(source, source.randint(6, 24), 0.5, source.uniform(0.7, 1.1))))
     couples = len(couples_of(singles.market))
     by_rules = copy.deepcopy(singles)
     try:
