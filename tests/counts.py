@@ -26,6 +26,7 @@ CHECKS = {
     "seeds": 7,
     "threads": 54,
     "words": 328,
+    "ways": 1551,
     "wrong_bodies --release": 44,
 }
 # The sweeps of the forms of tests/memory, by the number of workers and whether all requests from one on are refused.
