@@ -14,7 +14,7 @@ CHECKS = {
     # tests/cli with the path of a program, where bin/nrmatch isn't run.
     "cli PROGRAM": 8417,
     "cli": 8420,
-    "controls": 37,
+    "controls": 39,
     "edits_apply": 639,
     "linear": 45,
     "memory": 448,
