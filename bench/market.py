@@ -11,7 +11,7 @@ Shapes:
   steep    Every single lists the same programs in the same order, as many as --list, and each of these programs
            wants the singles in the opposite order of their numbers. As singles propose in order of their numbers,
            each of them is driven down its whole list: with few posts nearly every entry is proposed to.
-  cycle    One single and one couple drive each other out for ever, so the rounds end by their budget. Again and again
+  cycle    One single and one couple drive each other out for ever, so a state of the rounds comes back. Again and again
            a program is left that all singles list last; each of them is at home, and before its home it lists as many
            programs without a post as --list.
 
