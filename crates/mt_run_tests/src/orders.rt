@@ -53,6 +53,23 @@ const LAST_TWO_PLACED: [Option<ProgNo>; 6] = [
     Some(ProgNo(3)),
 ];
 
+// D is at p and r, and A at u and v.
+const FIRST_TWO_PLACED: [Option<ProgNo>; 6] = [
+    Some(ProgNo(0)),
+    Some(ProgNo(2)),
+    Some(ProgNo(4)),
+    Some(ProgNo(5)),
+    None,
+    None,
+];
+
+// D is at p and r.
+const FIRST_PLACED: [Option<ProgNo>; 6] =
+    [Some(ProgNo(0)), Some(ProgNo(2)), None, None, None, None];
+
+// The single is at x.
+const SINGLE_PLACED: [Option<ProgNo>; 3] = [Some(ProgNo(0)), None, None];
+
 // How the couples of the three couples' market end in this number of rounds and orders: in the match above, or while the
 // third couple is entering.
 fn expect_orders<R: Abort + Threads + Sync>(rt: &R, alloc: Global, tries: Tries, ends: bool)
@@ -111,13 +128,9 @@ fn three_rounds_are_enough_in_the_third_order(rt: HostRuntime) {
 #[test]
 fn couples_are_set_aside_until_the_others_end(rt: HostRuntime) {
     let alloc = rt.alloc();
-    let single_at_x = [Some(ProgNo(0)), None, None];
-    expect_aside(&rt, alloc, NO_STABLE_MATCH, 1000, &[CoupleNo(0)], &single_at_x);
+    expect_aside(&rt, alloc, NO_STABLE_MATCH, 1000, &[CoupleNo(0)], &SINGLE_PLACED);
     expect_aside(&rt, alloc, THREE_COUPLES, 5, &[], &LAST_TWO_PLACED);
-    let (p, r) = (Some(ProgNo(0)), Some(ProgNo(2)));
-    let (u, v) = (Some(ProgNo(4)), Some(ProgNo(5)));
-    let first_two = [p, r, u, v, None, None];
-    expect_aside(&rt, alloc, THREE_COUPLES, 4, &[CoupleNo(2)], &first_two);
-    let first_one = [p, r, None, None, None, None];
-    expect_aside(&rt, alloc, THREE_COUPLES, 1, &[CoupleNo(1), CoupleNo(2)], &first_one);
+    expect_aside(&rt, alloc, THREE_COUPLES, 4, &[CoupleNo(2)], &FIRST_TWO_PLACED);
+    let last_two = [CoupleNo(1), CoupleNo(2)];
+    expect_aside(&rt, alloc, THREE_COUPLES, 1, &last_two, &FIRST_PLACED);
 }
