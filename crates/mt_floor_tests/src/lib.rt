@@ -4,6 +4,8 @@
 #[cfg(test)]
 mod crew;
 #[cfg(test)]
+mod dealing;
+#[cfg(test)]
 mod expect;
 #[cfg(test)]
 mod floor;

@@ -18,6 +18,7 @@ pub const UNWRITTEN: u8 = 5;
 /// What a word that is no text is answered with.
 pub const NO_TEXT: &str = "error: invalid UTF-8 was detected in one or more arguments\n";
 
+// No clause can say which words these are, since std says nothing of what it gives.
 /// The words after the program's name. One that is not UTF-8 is an error.
 pub fn words_of(rt: &HostRuntime) -> io::Result<Vec<String>> {
     let mut words = Vec::new(rt.alloc());
