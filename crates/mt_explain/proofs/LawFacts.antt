@@ -1,21 +1,18 @@
 -- The laws of explanations, from the facts on lines and on options. The last law sums the third one over all agents.
-use Rattle.std.proofs.Common.{◌≡◌, ℕ, zero, suc, ◌+◌, ◌<◌, Bool, not, ◌&&◌, List, [], ◌∷◌, length, get_or, refl, ap, sym, ◌∙◌, inl, inr, arith}
-use Rattle.std.specs.List.{list_all, list_any}
-use mathlib.Core.Path.{fun_ext}
-use Rattle.mt_terms.specs.Lists.{below}
-use Rattle.mt_terms.specs.Market.{Market, Registered, agent_of, agents, applicants, leads}
+use Rattle.std.proofs.Common.{◌≡◌, ℕ, ◌+◌, ◌<◌, Bool, not, ◌&&◌, [], length, get_or, ap, sym, ◌∙◌, inl, inr, arith}
+use Rattle.std.specs.List.{list_all}
+use Rattle.std.proofs.lemmas.List.{get_or_default}
+use Rattle.mt_terms.specs.Market.{Market, Registered, agent_of, applicants, leads}
 use Rattle.mt_terms.specs.Matching.{Places, Placement, better, holds, options}
 use Rattle.mt_terms.specs.Places.{ArePlaces}
 use Rattle.mt_terms.specs.Registration.Accepted.{IsRegistration}
 use Rattle.mt_terms.specs.Stability.{blocks, fits, would_be_taken}
 use Rattle.mt_terms.specs.declared.numbers.Agent.{Agent}
-use Rattle.mt_terms.specs.declared.numbers.Agent.TheVariants.{Couple, Single}
 use Rattle.mt_verdict_laws.proofs.VerdictLemmas.{agent_cases}
 use Rattle.mt_verify.specs.Held.{IsNumbered}
 use Rattle.mt_verify.proofs.HeldFacts.{until-le}
 use Rattle.mt_explain.specs.Laws.{EachBetterOptionOnce, OpenIfBlocks, OpenIfTaken, StableIfNoneOpen}
-use Rattle.mt_explain.specs.Lines.{explanation, has_open_option, is_open, lines_from, lines_of, option_lines}
-use Rattle.mt_explain.specs.declared.line.Line.{Line}
+use Rattle.mt_explain.specs.Lines.{explanation, has_open_option, is_open, lines_of, option_lines}
 use Rattle.mt_explain.proofs.LineFacts.{any_of_options, lines_with_number, names_program}
 use Rattle.mt_explain.proofs.OptionFacts.{any_agree, front_has, open_if_option_taken, option_names}
 
@@ -34,12 +31,6 @@ agent_numbered m a a_in = elim (agent_cases m a) [
   | inr w ↦ rw w.1 (omega (arith, w.2))
 ]
 
--- what is at a place of a list, whatever is said for none
-same_at : {X : Type 0} (xs : List X) (i : ℕ) (d e : X) → i < length xs → get_or xs i d ≡ get_or xs i e
-same_at [] i d e within = absurd (omega arith)
-same_at (x ∷ xs) zero d e within = refl
-same_at (x ∷ xs) (suc i) d e within = same_at xs i d e (omega arith)
-
 pub open_if_taken_lem : OpenIfTaken
 open_if_taken_lem m formed places are a k a_in = λ i d within.
     open_at i d within
@@ -47,9 +38,9 @@ open_if_taken_lem m formed places are a k a_in = λ i d within.
     open_at : (i : ℕ) (d : Placement) → i < length (options m (agent_of m a))
         → list_all is_open (option_lines m places k (get_or (options m (agent_of m a)) i d)) ≡ would_be_taken m places (get_or (options m (agent_of m a)) i d)
     open_at i d within =
-        ap (λ (sent : Placement). list_all is_open (option_lines m places k sent)) (same_at (options m (agent_of m a)) i d [] within)
+        ap (λ (sent : Placement). list_all is_open (option_lines m places k sent)) (get_or_default (options m (agent_of m a)) i d [] within)
         ∙ open_if_option_taken m formed places are (agent_of m a) (agent_numbered m a a_in) k i within
-        ∙ ap (would_be_taken m places) (same_at (options m (agent_of m a)) i [] d within)
+        ∙ ap (would_be_taken m places) (get_or_default (options m (agent_of m a)) i [] d within)
 
 open_if_agent_blocks : (r : Registered) → IsRegistration r → (places : Places) → ArePlaces r.market places → (g : Agent) → IsNumbered r.market g
     → has_open_option (explanation r.market places g) ≡ blocks r.market places g

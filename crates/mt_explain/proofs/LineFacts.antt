@@ -1,18 +1,17 @@
 -- The lines of options one after another: each line has its option's number, so the lines with a number are those of
 -- one option. A line's place is open exactly if the program would choose the member, so an option's lines are.
-use Rattle.std.proofs.Common.{◌≡◌, ◌≢◌, ℕ, zero, suc, ◌+◌, ◌<◌, ◌≤◌, Bool, true, false, ◌&&◌, ◌||◌, ◌==◌, nat_lt, List, [], ◌∷◌, ◌++◌, filter, length, get_or, Option, Some, None, is_some, IsTrue, IsFalse, refl, ap, sym, ◌∙◌, inl, inr, arith, eq-eqb, ne_eqb}
+use Rattle.std.proofs.Common.{◌≡◌, ◌≢◌, ℕ, zero, suc, ◌+◌, ◌<◌, Bool, true, false, ◌&&◌, ◌||◌, ◌==◌, nat_lt, List, [], ◌∷◌, ◌++◌, length, get_or, Option, Some, None, is_some, IsTrue, refl, ap, sym, ◌∙◌, inl, inr, arith, eq-eqb, ne_eqb}
 use Rattle.std.specs.List.{flat_map, list_all, list_any, position}
 use Rattle.std.specs.Option.{option_map}
 use Rattle.std.proofs.lemmas.Bool.{cases_Bool}
 use Rattle.std.proofs.lemmas.List.Elements.{filter-append}
-use Rattle.std.proofs.lemmas.List.Folds.{list_all-append, list_any-append}
+use Rattle.std.proofs.lemmas.List.Folds.{list_any-append}
 use Rattle.mt_terms.specs.Lists.{Set, above, has}
-use Rattle.mt_terms.specs.Market.{Market, Program, program_of}
+use Rattle.mt_terms.specs.Market.{Market, program_of}
 use Rattle.mt_terms.specs.Matching.{Places, Placement, at, send}
 use Rattle.mt_terms.specs.Choice.{choice}
-use Rattle.mt_terms.specs.Stability.{is_chosen, would_be_taken}
+use Rattle.mt_terms.specs.Stability.{is_chosen}
 use Rattle.mt_ranks.proofs.Positions.{has-position}
-use Rattle.mt_verify.specs.declared.prospect.Prospect.{Prospect}
 use Rattle.mt_explain.specs.Lines.{is_open, line_at, lines_at, lines_from, lines_of, option_lines, says_open, why}
 use Rattle.mt_explain.specs.declared.line.Line.{Line}
 

@@ -1,13 +1,13 @@
 -- What an agent's list says of its options: each names a program, sends each of its members where the lines have it,
 -- and would be taken exactly if its lines are all open.
-use Rattle.std.proofs.Common.{◌≡◌, ◌≢◌, ℕ, zero, suc, ◌+◌, ◌<◌, ◌≤◌, Bool, true, false, ◌&&◌, ◌||◌, ◌==◌, List, [], ◌∷◌, ◌++◌, map, filter, length, get_or, Option, Some, None, is_some, IsTrue, IsFalse, IfSome, refl, ap, sym, ◌∙◌, subst, inl, inr, arith, slice_set, eq-eqb, get_or-set_same, get_or-set_other, length-set}
-use Rattle.std.specs.List.{list_all, list_any, position, position_or_len, range_with_len}
-use Rattle.std.proofs.lemmas.Bool.{and_parts, cases_Bool, cases_lt, le-ltb, lt-ltb}
+use Rattle.std.proofs.Common.{◌≡◌, ◌≢◌, ℕ, zero, suc, ◌+◌, ◌<◌, ◌≤◌, Bool, true, false, ◌&&◌, ◌||◌, List, [], ◌∷◌, ◌++◌, map, filter, length, get_or, Option, Some, None, is_some, IsTrue, IfSome, refl, ap, sym, ◌∙◌, subst, inl, inr, arith, slice_set, eq-eqb, get_or-set_same, get_or-set_other, length-set}
+use Rattle.std.specs.List.{list_all, list_any, range_with_len}
+use Rattle.std.proofs.lemmas.Bool.{and_parts, cases_Bool}
 use Rattle.std.proofs.lemmas.Bool.Decides.{nat_tests}
 use Rattle.std.proofs.lemmas.List.{append-nil, get_or-map, length-map}
 use Rattle.mt_terms.specs.Lists.{Set, has, until}
-use Rattle.mt_terms.specs.Market.{Market, Pair, Registered, agent_of, applicants, couple_of, list_of}
-use Rattle.mt_terms.specs.Matching.{Places, Placement, at, better, couple_placement, holds, is_program, options, place_of, send, single_placement}
+use Rattle.mt_terms.specs.Market.{Market, Pair, Registered, couple_of, list_of}
+use Rattle.mt_terms.specs.Matching.{Places, Placement, couple_placement, is_program, options, send, single_placement}
 use Rattle.mt_terms.specs.Places.{ArePlaces}
 use Rattle.mt_terms.specs.Registration.Accepted.{IsRegistration, is_none_or_below, is_pair_below}
 use Rattle.mt_terms.specs.Stability.{would_be_taken}

@@ -1,8 +1,7 @@
 -- What the explanations say of small markets and their matches.
-use Rattle.std.specs.Prelude.{◌≡◌, ℕ, false, true, List, [], ◌∷◌, Option, Some, None}
+use Rattle.std.specs.Prelude.{◌≡◌, ℕ, false, true, [], ◌∷◌, Some, None}
 use Rattle.mt_terms.specs.Examples.Markets
 use Rattle.mt_terms.specs.declared.numbers.Agent.TheVariants.{Couple, Single}
-use Rattle.mt_verify.specs.declared.prospect.Prospect.{Prospect}
 use Rattle.mt_explain.specs.Lines.{explanation, has_open_option}
 use Rattle.mt_verify.specs.Held.{held_option}
 use Rattle.mt_explain.specs.declared.line.Line.{Line}

@@ -1,4 +1,4 @@
-use Rattle.std.proofs.Common.{◌≡◌, ◌<◌, length, ap, sym, subst, arith}
+use Rattle.std.proofs.Common.{◌<◌, length, ap, sym, subst, arith}
 use Rattle.mt_terms.specs.Market.{list_of}
 use Rattle.mt_explain.specs.Explained.{Explained}
 use Rattle.mt_explain.proofs.OptionFacts.{listed_program}
