@@ -1,2 +1,3 @@
 pub mod Answer
 pub mod Refusals
+pub mod Words

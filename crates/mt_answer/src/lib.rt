@@ -2,6 +2,7 @@
 #![tactic(auto)]
 
 mod answer;
+pub mod laws;
 mod singles;
 
 pub use answer::answer_to_market;
