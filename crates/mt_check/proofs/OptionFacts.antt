@@ -4,7 +4,7 @@ use Rattle.std.specs.Prelude.{◌==◌, codes, IfSome, IsTrue, is_some, slice_in
 use Rattle.std.specs.List.{list_all}
 use Rattle.std.proofs.lemmas.Bool.{and_parts, or_right}
 use Rattle.std.proofs.lemmas.Bool.Decides.{nat_tests}
-use Rattle.std.proofs.lemmas.List.{get_or-map, length-map}
+use Rattle.std.proofs.lemmas.List.{get_or-map, get_or_default, length-map}
 use Rattle.mt_ids.proofs.DigitFacts.{passes_at}
 use Rattle.mt_terms.specs.Lists.{has}
 use Rattle.mt_terms.specs.Market.{Pair, Registered, couple_of, list_of}
@@ -42,12 +42,6 @@ pair_below n pairs i pair h within =
     let inner = and_parts (is_some (get_or pairs i pair).0 || is_some (get_or pairs i pair).1) (is_none_or_below n (get_or pairs i pair).0) outer.0 in
     (some_below n (get_or pairs i pair).0 inner.1, some_below n (get_or pairs i pair).1 outer.1)
 
--- what stands at a place, whatever stands for none
-same_at : {X : Type 0} (xs : List X) (i : ℕ) (d e : X) → i < length xs → get_or xs i d ≡ get_or xs i e
-same_at [] i d e within = absurd (omega arith)
-same_at (x ∷ xs) zero d e within = refl
-same_at (x ∷ xs) (suc i) d e within = same_at xs i d e (omega arith)
-
 module _ (r : Registered) (agent : Agent) (option : ℕ) (within : option < length (options r.market agent)) where
   -- a program that a single lists
   pub program_below : IsWellFormed r.market → (a p : ℕ) (list : List ℕ) → agent ≡ Single a → list ≡ list_of r.market a → p ≡ get_or list option p → p < length r.market.programs
@@ -79,7 +73,7 @@ module _ (r : Registered) (agent : Agent) (option : ℕ) (within : option < leng
         is_first ∙ ap (λ (ps : List Pair). place_text r.names (slice_index_or ps option pair).0) same in
         let two : second ≡ place_text r.names (slice_index_or (couple_of r.market c).pairs option pair).1 =
         is_second ∙ ap (λ (ps : List Pair). place_text r.names (slice_index_or ps option other).1) same
-        ∙ ap (λ (p : Pair). place_text r.names p.1) (same_at (couple_of r.market c).pairs option other pair low) in
+        ∙ ap (λ (p : Pair). place_text r.names p.1) (get_or_default (couple_of r.market c).pairs option other pair low) in
         let line : List Bytes → Bytes = λ rest. check_line (codes "blocks" ∷ codes "couple" ∷ name_of r.names.couples c ∷ rest) in
         rw (are_blocks, are_couple, is_id, one, two)
         (ap line (sym fields) ∙ ap (λ (g : Agent). finding_line r 0 (Of (Blocks (record { agent = g; option = option })))) (sym is))
