@@ -19,6 +19,7 @@ LARGE = "{ echo match,1; seq -f applicant,a%.0f 100000; } > large.csv;"
 FEW_KIB = f"{LARGE} ulimit -v 8192;"
 ONE, ONE_MATCH = "one_post_too_few.csv", "one_post_too_few.csv.stdout"
 NOBODY, NOBODY_MATCH = "nobody.csv", "nobody.csv.stdout"
+COUPLE, COUPLE_MATCH = "couple_displaces_a_single.csv", "couple_displaces_a_single.csv.stdout"
 
 # Of each program and exit status: how its words begin, and commands that end with it.
 STATUSES = {
@@ -191,9 +192,16 @@ BEHAVIOUR = [
     (FORMAT, "or a standard output that doesn't block was full", f"{LARGE} {NOT_BLOCKING} 1 nrmatch large.csv", [], 5),
     (
         CHECK,
-        "Each other record may be there more than once, and each is compared.",
+        "Each `program` and `totals` record may be there more than once, and each is compared.",
         f"{{ grep -v applicant {ONE_MATCH}; cat {ONE_MATCH}; echo program,P1,1,0,3; }} | nrcheck {ONE} /dev/stdin",
         ["check,1,differs,12"],
+        1,
+    ),
+    (
+        CHECK,
+        "All others are judged by their lists.",
+        f"sed 's/^match.*/aside,c/; s/a,x/a,-/; s/b,x/b,-/' {COUPLE_MATCH} | nrcheck {COUPLE} /dev/stdin",
+        ["check,1,blocks,applicant,s,x"],
         1,
     ),
     (

@@ -1,6 +1,6 @@
 -- What is published is called stable: the text is read back as the places and the counts of the match, which is stable.
-use Rattle.std.proofs.Common.{◌≡◌, ℕ, ◌+◌, ◌-◌, ◌≤◌, zero, suc, List, [], ◌∷◌, ◌++◌, length, Ok, Result, None, not, sym, refl, ap, ◌∙◌, arith, lt-ltb, eq-eqb}
-use Rattle.std.specs.Prelude.{◌↔◌, find, slice_index_or, IsTrue}
+use Rattle.std.proofs.Common.{◌≡◌, ℕ, ◌+◌, ◌-◌, ◌≤◌, zero, suc, List, [], ◌∷◌, ◌++◌, length, Ok, None, not, sym, refl, ap, ◌∙◌, arith, lt-ltb, eq-eqb}
+use Rattle.std.specs.Prelude.{find, slice_index_or, IsTrue}
 use Rattle.mt_terms.specs.Market.{Market, Registered, applicants, program_of}
 use Rattle.mt_terms.specs.Matching.{Places, filled}
 use Rattle.mt_terms.specs.Places.{ArePlaces}
@@ -20,8 +20,8 @@ use Rattle.mt_match_file.specs.Submitted.{Submitted}
 use Rattle.mt_match_file.specs.declared.submitted_match.Counted.{Counted}
 use Rattle.mt_input.specs.Files.{market_in}
 use Rattle.mt_input.proofs.MarketFacts.{registration_of}
-use Rattle.mt_files.specs.Files.{files_by, submitted_in, with_match}
-use Rattle.mt_check.specs.Answer.{Answer, answer_of, answer_to, finding_answer, judged_answer}
+use Rattle.mt_files.specs.Files.{submitted_in}
+use Rattle.mt_check.specs.Answer.{Answer, answer_to, finding_answer, judged_answer}
 use Rattle.mt_check.specs.Findings.{finding_of, first_differing_of, fits_count, judged}
 use Rattle.mt_check.specs.Text.{finding_line, stable_line, stable_line_with}
 use Rattle.mt_check.proofs.AnswerFacts.{judged_by_all_lists_lem}
