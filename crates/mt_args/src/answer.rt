@@ -10,6 +10,10 @@ pub enum Asked {
         file: Option<String>,
         /// The options of the run: 1 to 64 workers, and a budget of at least 1.
         options: Options,
+        /// How many orders of the couples are tried, 1 to 1,000.
+        orders: u32,
+        /// Whether couples are set aside if no order ends.
+        set_aside: bool,
     },
     /// The help text, which goes to the standard output.
     Help(String),

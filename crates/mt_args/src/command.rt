@@ -1,6 +1,6 @@
 ghost use Rattle.std.specs.Prelude.{◌≡◌, IfOk, false};
 ghost use Rattle.clap.specs.Words.{app_of, rule_of};
-ghost use Rattle.mt_args.specs.CommandLine.{budget_rule, nrmatch, option_rule, workers_rule};
+ghost use Rattle.mt_args.specs.CommandLine.{budget_rule, nrmatch, option_rule, orders_rule, set_aside_rule, workers_rule};
 
 use clap::builder::ValueParser;
 use clap::{Arg, ArgAction, Command, value_parser};
@@ -23,6 +23,10 @@ const WORKERS_HELP: &str = "Worker threads, 1 to 64; the match is the same for a
 
 const BUDGET_HELP: &str = "Most rounds for the couples, 1 to 4294967295";
 
+const ORDERS_HELP: &str = "Most orders of the couples to try, 1 to 1000";
+
+const SET_ASIDE_HELP: &str = "Set couples aside, one by one, if no order ends";
+
 const EXIT_STATUSES: &str = "\
 Exit status:
   0   the match was published and wholly written
@@ -30,6 +34,7 @@ Exit status:
   3   the couples' rounds exceed the budget
   4   memory ran out
   5   a read or a write failed
+  6   a match was published with couples set aside
   64  the command line is wrong";
 
 // An option `--NAME N`, with the range of N and its default.
@@ -70,11 +75,33 @@ fn budget<'a>(alloc: Global) -> Arg<'a>
     option(alloc, "budget", range, "1000000", BUDGET_HELP)
 }
 
-/// The command `nrmatch [FILE] [--workers N] [--budget N]`, whose words begin after the program's name.
+// `[--orders N]`.
+fn orders<'a>(alloc: Global) -> Arg<'a>
+    ensures rule { rule_of result ≡ orders_rule }
+    ensures local { result.global ≡ false }
+{
+    let range = value_parser!(u32).range(1..=1000);
+    option(alloc, "orders", range, "1", ORDERS_HELP)
+}
+
+// `[--set-aside]`.
+fn set_aside<'a>(alloc: Global) -> Arg<'a>
+    ensures rule { rule_of result ≡ set_aside_rule }
+    ensures local { result.global ≡ false }
+{
+    Arg::new(alloc, "set-aside")
+        .long("set-aside")
+        .action(ArgAction::SetTrue)
+        .value_parser(value_parser!(bool))
+        .help(SET_ASIDE_HELP)
+}
+
+/// The command `nrmatch`, whose words begin after the program's name: FILE and the options.
 pub(crate) fn command<'a>(alloc: Global) -> Result<Command<'a>, AllocError>
     ensures { IfOk result (λ c. app_of c ≡ nrmatch) }
 {
     let file = Arg::new(alloc, "FILE").help(FILE_HELP);
     let with_file = plain_command(alloc, "nrmatch", ABOUT, EXIT_STATUSES).arg(file)?;
-    with_file.arg(workers(alloc))?.arg(budget(alloc))
+    let with_limits = with_file.arg(workers(alloc))?.arg(budget(alloc))?;
+    with_limits.arg(orders(alloc))?.arg(set_aside(alloc))
 }

@@ -1,7 +1,7 @@
 //! What the definition of the command line gives on worked words. Each function does nothing. Its contract is the
 //! example.
 
-ghost use Rattle.mt_args.specs.Examples.{AfterHyphensIsFile, AreMisuse, AskForHelp, AskForVersion, DefaultsStand, MostIsTaken};
+ghost use Rattle.mt_args.specs.Examples.{AfterHyphensIsFile, AreMisuse, AreWrongWays, AskForHelp, AskForVersion, DefaultsStand, ManyWaysAreTaken, MostIsTaken, OneWayByDefault};
 
 /// No words give no file, 4 workers and a budget of 1,000,000.
 pub fn no_words()
@@ -11,6 +11,22 @@ pub fn no_words()
 /// The largest values of both options, and a file.
 pub fn largest_values()
     ensures { MostIsTaken }
+{}
+
+/// No words give one order of the couples, and none is set aside.
+pub fn one_way_by_default()
+    ensures { OneWayByDefault }
+{}
+
+/// The most orders, and couples set aside.
+pub fn many_ways()
+    ensures { ManyWaysAreTaken }
+{}
+
+/// Numbers of orders outside their limits, a word that is no number, an option without a value, a flag that is given
+/// twice and one with a value are misuse.
+pub fn wrong_ways()
+    ensures { AreWrongWays }
 {}
 
 /// After `--` each word is a file, whatever it looks like.

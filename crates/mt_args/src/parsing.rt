@@ -2,8 +2,8 @@ ghost use Rattle.std.specs.Prelude.{◌≡◌, ◌≢◌, [], ◌∷◌, IfErr, 
 ghost use Rattle.std.specs.Option.{option_copied};
 ghost use Rattle.clap.specs.Words.{fault_of, found_of, kind_of, matches_of, rows_of};
 ghost use Rattle.clap.specs.declared.error.kind.ErrorKind.TheVariants.{DisplayHelp, DisplayVersion, OutOfMemory};
-ghost use Rattle.mt_args.specs.CommandLine.{AsksForHelp, AsksForVersion, HasOptions, IfRun, IsMisuse, IsWithinLimits, OnHelp, OnUsage, OnVersion};
-ghost use Rattle.mt_args.specs.CommandLine.{file_in, file_of, is_taken, nrmatch, number_in, number_of};
+ghost use Rattle.mt_args.specs.CommandLine.{AreOrders, AsksForHelp, AsksForVersion, HasOptions, IfRun, IfRunInWays, IsMisuse, IsWithinLimits, OnHelp, OnUsage, OnVersion};
+ghost use Rattle.mt_args.specs.CommandLine.{file_in, file_of, is_set, is_set_in, is_taken, nrmatch, number_in, number_of};
 ghost use Rattle.mt_program.specs.CommandLine.{texts_of};
 
 use crate::command::command;
@@ -14,8 +14,9 @@ use mt_terms::Options;
 use std::alloc::{AllocError, Global};
 
 /// What the words after the program's name ask for, by `clap`'s definition of a simple command. The command is
-/// `nrmatch [FILE] [--workers N] [--budget N]`. If it takes the words, the result is the file and the options that
-/// they name, or the defaults. If it doesn't, the result is `clap`'s text of help or of the version.
+/// `nrmatch [FILE] [--workers N] [--budget N] [--orders N] [--set-aside]`. If it takes the words, the result is the file
+/// and the options that they name, or the defaults. If it doesn't, the result is `clap`'s text of help or of the
+/// version.
 ///
 /// `AskEnd::Usage` has `clap`'s text of what is wrong, if the words ask for neither. `AskEnd::Memory` comes if memory
 /// was refused.
@@ -27,6 +28,11 @@ pub fn asked(alloc: Global, words: &[String]) -> Result<Asked, AskEnd>
     ensures budget { IfOk result (λ a. IfRun a (λ _ options.
         Some options.budget ≡ number_of (codes "budget") (texts_of words.now))) }
     ensures limits { IfOk result (λ a. IfRun a (λ _ options. IsWithinLimits options)) }
+    ensures orders { IfOk result (λ a. IfRunInWays a (λ orders _.
+        Some orders ≡ number_of (codes "orders") (texts_of words.now))) }
+    ensures set_aside { IfOk result (λ a. IfRunInWays a (λ _ set_aside.
+        set_aside ≡ is_set (codes "set-aside") (texts_of words.now))) }
+    ensures within { IfOk result (λ a. IfRunInWays a (λ orders _. AreOrders orders)) }
     ensures help { IfOk result (λ a. OnHelp a (AsksForHelp (texts_of words.now))) }
     ensures help_untaken { IfOk result (λ a. OnHelp a (is_taken (texts_of words.now) ≡ false)) }
     ensures version { IfOk result (λ a. OnVersion a (AsksForVersion (texts_of words.now))) }
@@ -67,6 +73,11 @@ fn run_of(alloc: Global, matches: &ArgMatches<'_>) -> Result<Asked, AskEnd>
     ensures budget { IfOk result (λ a. IfRun a (λ _ options.
         Some options.budget ≡ number_in (codes "budget") (rows_of (found_of matches.now)))) }
     ensures limits { IfOk result (λ a. IfRun a (λ _ options. IsWithinLimits options)) }
+    ensures orders { IfOk result (λ a. IfRunInWays a (λ orders _.
+        Some orders ≡ number_in (codes "orders") (rows_of (found_of matches.now)))) }
+    ensures set_aside { IfOk result (λ a. IfRunInWays a (λ _ set_aside.
+        set_aside ≡ is_set_in (codes "set-aside") (rows_of (found_of matches.now)))) }
+    ensures within { IfOk result (λ a. IfRunInWays a (λ orders _. AreOrders orders)) }
     ensures err { IfErr result (λ e. OnUsage e ⊥) }
 {
     let file = owned(alloc, matches.get_str("FILE")).map_err(|_| AskEnd::Memory)?;
@@ -74,7 +85,12 @@ fn run_of(alloc: Global, matches: &ArgMatches<'_>) -> Result<Asked, AskEnd>
         workers: matches.get_one("workers").unwrap(),
         budget: matches.get_one("budget").unwrap(),
     };
-    Ok(Asked::Run { file, options })
+    Ok(Asked::Run {
+        file,
+        options,
+        orders: matches.get_one("orders").unwrap(),
+        set_aside: matches.get_flag("set-aside"),
+    })
 }
 
 // A text of its own.

@@ -10,6 +10,8 @@ use std::test::Fail;
 // complaint, or any.
 enum Wanted<'a> {
     Run(Option<&'a str>, Options),
+    // The default options, with orders of couples and whether couples are set aside.
+    InWays(u32, bool),
     Help,
     Version,
     NotTaken,
@@ -27,8 +29,33 @@ fn is_file(file: &Option<String>, wanted: Option<&str>) -> bool {
 // Whether this is the answer that is wanted. The version's own words are compared in the program's tests.
 fn is_wanted(answer: &Result<Asked, AskEnd>, wanted: &Wanted<'_>) -> bool {
     match (answer, wanted) {
-        (Ok(Asked::Run { file, options }), Wanted::Run(wanted_file, wanted_options)) => {
-            is_file(file, *wanted_file) && *options == *wanted_options
+        (
+            Ok(Asked::Run {
+                file,
+                options,
+                orders,
+                set_aside,
+            }),
+            Wanted::Run(wanted_file, wanted_options),
+        ) => {
+            is_file(file, *wanted_file)
+                && *options == *wanted_options
+                && *orders == 1
+                && !*set_aside
+        }
+        (
+            Ok(Asked::Run {
+                file,
+                options,
+                orders,
+                set_aside,
+            }),
+            Wanted::InWays(wanted_orders, wanted_aside),
+        ) => {
+            file.is_none()
+                && *options == USUAL
+                && *orders == *wanted_orders
+                && *set_aside == *wanted_aside
         }
         (Ok(Asked::Help(_)), Wanted::Help) => true,
         (Ok(Asked::Version(text)), Wanted::Version) => text.as_str().starts_with("nrmatch "),
@@ -86,6 +113,20 @@ const ASKED: &[(&[&str], Wanted<'static>)] = &[
         &["f", "--workers=1", "--budget=+01"],
         Wanted::Run(Some("f"), LEAST),
     ),
+    (&["--orders", "1"], Wanted::InWays(1, false)),
+    (&["--orders=1000"], Wanted::InWays(1000, false)),
+    (&["--set-aside"], Wanted::InWays(1, true)),
+    (
+        &["--set-aside", "--orders", "7"],
+        Wanted::InWays(7, true),
+    ),
+    (&["--orders", "0"], Wanted::NotTaken),
+    (&["--orders", "1001"], Wanted::NotTaken),
+    (&["--orders", "x"], Wanted::NotTaken),
+    (&["--orders"], Wanted::NotTaken),
+    (&["--orders", "2", "--orders", "2"], Wanted::NotTaken),
+    (&["--set-aside", "--set-aside"], Wanted::NotTaken),
+    (&["--set-aside=true"], Wanted::NotTaken),
     // After two hyphens each word is a file.
     (&["--", "--help"], Wanted::Run(Some("--help"), USUAL)),
     (&["--workers", "0"], Wanted::NotTaken),

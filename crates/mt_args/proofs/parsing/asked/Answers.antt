@@ -1,8 +1,8 @@
-use Rattle.std.proofs.Common.{◌≡◌, ◌≢◌, true, false, List, [], ◌∷◌, Option, Some, Result, Ok, Err, IfOk, IfErr, codes, sym, ap, ◌∙◌, subst}
+use Rattle.std.proofs.Common.{◌≡◌, ◌≢◌, ℕ, Bool, true, false, List, [], ◌∷◌, Option, Some, Result, Ok, Err, IfOk, IfErr, codes, sym, ap, ◌∙◌, subst}
 use Rattle.clap.specs.Words.{Row, Text, fault_of, kind_of}
 use Rattle.clap.specs.declared.error.kind.ErrorKind.{ErrorKind}
 use Rattle.clap.specs.declared.error.kind.ErrorKind.TheVariants.{DisplayHelp, DisplayVersion, OutOfMemory}
-use Rattle.mt_args.specs.CommandLine.{AsksForHelp, AsksForVersion, IfRun, IsMisuse, IsWithinLimits, OnHelp, OnUsage, OnVersion, file_in, file_of, is_taken, nrmatch, number_in, number_of}
+use Rattle.mt_args.specs.CommandLine.{AreOrders, AsksForHelp, AsksForVersion, IfRun, IfRunInWays, IsMisuse, IsWithinLimits, OnHelp, OnUsage, OnVersion, file_in, file_of, is_set, is_set_in, is_taken, nrmatch, number_in, number_of}
 use Rattle.mt_program.specs.CommandLine.{texts_of}
 use Rattle.mt_args.specs.declared.answer.Asked.{Asked}
 use Rattle.mt_args.specs.declared.answer.Asked.TheVariants.{Run, Help, Version}
@@ -13,25 +13,31 @@ use Rattle.mt_args.proofs.parsing.asked.Goals as goal
 
 -- an answer that is a run, or is none, and one that follows from another
 run_says : (P : Type 0) → P → (end : Result Asked AskEnd) → IfOk end (λ a. IfRun a (λ _ _. P))
-run_says P p (Ok (Run file options)) = p
+run_says P p (Ok (Run file options orders set_aside)) = p
 run_says P p (Ok (Help text)) = tt
 run_says P p (Ok (Version text)) = tt
 run_says P p (Err e) = tt
 
+no_ways : (Q : ℕ → Bool → Type 0) (end : Result Asked AskEnd) → IfOk end (λ a. IfRun a (λ _ _. ⊥)) → IfOk end (λ a. IfRunInWays a Q)
+no_ways Q (Ok (Run file options orders set_aside)) h = absurd h
+no_ways Q (Ok (Help text)) h = tt
+no_ways Q (Ok (Version text)) h = tt
+no_ways Q (Err e) h = tt
+
 no_run : (Q : Option Text → Options → Type 0) (end : Result Asked AskEnd) → IfOk end (λ a. IfRun a (λ _ _. ⊥)) → IfOk end (λ a. IfRun a Q)
-no_run Q (Ok (Run file options)) h = absurd h
+no_run Q (Ok (Run file options orders set_aside)) h = absurd h
 no_run Q (Ok (Help text)) h = tt
 no_run Q (Ok (Version text)) h = tt
 no_run Q (Err e) h = tt
 
 help_so : (P Q : Type 0) → (P → Q) → (end : Result Asked AskEnd) → IfOk end (λ a. OnHelp a P) → IfOk end (λ a. OnHelp a Q)
-help_so P Q f (Ok (Run file options)) h = tt
+help_so P Q f (Ok (Run file options orders set_aside)) h = tt
 help_so P Q f (Ok (Help text)) h = f h
 help_so P Q f (Ok (Version text)) h = tt
 help_so P Q f (Err e) h = tt
 
 version_so : (P Q : Type 0) → (P → Q) → (end : Result Asked AskEnd) → IfOk end (λ a. OnVersion a P) → IfOk end (λ a. OnVersion a Q)
-version_so P Q f (Ok (Run file options)) h = tt
+version_so P Q f (Ok (Run file options orders set_aside)) h = tt
 version_so P Q f (Ok (Help text)) h = tt
 version_so P Q f (Ok (Version text)) h = f h
 version_so P Q f (Err e) h = tt
@@ -71,6 +77,15 @@ returns-in-Ok-clause-budget c = subst (λ (rows : List Row). IfOk c.run_of.resul
 pub returns-in-Ok-clause-limits : goal.returns-in-Ok-clause-limits
 returns-in-Ok-clause-limits c = c.run_of.ensures.limits
 
+pub returns-in-Ok-clause-orders : goal.returns-in-Ok-clause-orders
+returns-in-Ok-clause-orders c = subst (λ (rows : List Row). IfOk c.run_of.result (λ a. IfRunInWays a (λ orders _. Some orders ≡ number_in (codes "orders") rows))) c.in-Ok.ensures.rows c.run_of.ensures.orders
+
+pub returns-in-Ok-clause-set_aside : goal.returns-in-Ok-clause-set_aside
+returns-in-Ok-clause-set_aside c = subst (λ (rows : List Row). IfOk c.run_of.result (λ a. IfRunInWays a (λ _ set_aside. set_aside ≡ is_set_in (codes "set-aside") rows))) c.in-Ok.ensures.rows c.run_of.ensures.set_aside
+
+pub returns-in-Ok-clause-within : goal.returns-in-Ok-clause-within
+returns-in-Ok-clause-within c = c.run_of.ensures.within
+
 pub returns-in-Ok-clause-help : goal.returns-in-Ok-clause-help
 returns-in-Ok-clause-help c = help_so ⊥ (AsksForHelp (texts_of c.args.words.now)) (λ none. absurd none) c.run_of.result c.run_of.ensures.run
 
@@ -103,6 +118,15 @@ returns-in-Err-clause-budget c = no_run (λ _ options. Some options.budget ≡ n
 
 pub returns-in-Err-clause-limits : goal.returns-in-Err-clause-limits
 returns-in-Err-clause-limits c = no_run (λ _ options. IsWithinLimits options) c.end_of.result c.end_of.ensures.run
+
+pub returns-in-Err-clause-orders : goal.returns-in-Err-clause-orders
+returns-in-Err-clause-orders c = no_ways (λ orders _. Some orders ≡ number_of (codes "orders") (texts_of c.args.words.now)) c.end_of.result c.end_of.ensures.run
+
+pub returns-in-Err-clause-set_aside : goal.returns-in-Err-clause-set_aside
+returns-in-Err-clause-set_aside c = no_ways (λ _ set_aside. set_aside ≡ is_set (codes "set-aside") (texts_of c.args.words.now)) c.end_of.result c.end_of.ensures.run
+
+pub returns-in-Err-clause-within : goal.returns-in-Err-clause-within
+returns-in-Err-clause-within c = no_ways (λ orders _. AreOrders orders) c.end_of.result c.end_of.ensures.run
 
 pub returns-in-Err-clause-help : goal.returns-in-Err-clause-help
 returns-in-Err-clause-help c = help_so (kind_of c.in-Err.error ≡ DisplayHelp) (AsksForHelp (texts_of c.args.words.now)) (asks_by (kind_of c.in-Err.error) DisplayHelp (fault_of nrmatch (texts_of c.args.words.now)) help_differs c.in-Err.ensures.err) c.end_of.result c.end_of.ensures.help
