@@ -26,31 +26,38 @@ at_most_one zero h = record { known = refl; small = omega arith }
 at_most_one (suc zero) h = record { known = refl; small = omega arith }
 at_most_one (suc (suc code)) h = let low : suc (suc code) ≤ 1 = small_is (suc (suc code)) h in absurd (omega arith)
 
--- no file is refused for a budget
-not_spent : (code : ℕ) (text : List ℕ) → (1 < code → IsRefusal code text) → (code == 41) ≡ false
-not_spent code text refusal = elim (cases_eq code 41) [
+-- no file is refused with a code that is neither file's
+not_this : (n code : ℕ) (text : List ℕ) → 1 < n → ((file : Source) → is_code_of file n ≡ false) → (1 < code → IsRefusal code text) → (code == n) ≡ false
+not_this n code text large neither refusal = elim (cases_eq code n) [
   | inl is ↦ let refused = refusal (omega arith) in absurd (true≢false (sym (subst (λ (c : ℕ). is_code_of refused.file c ≡ true) is refused.named.known) ∙ neither refused.file))
   | inr other ↦ grind (arith, nat_tests)
 ]
-  where
-    neither : (file : Source) → is_code_of file 41 ≡ false
-    neither Market = refl
-    neither Match = refl
 
-of_check : (code : ℕ) (whole : Bool) → (code == 41) ≡ false → IsOfCheck (status_of code whole)
-of_check code false h = record { known = refl; small = omega arith }
-of_check code true h = by (nat_le code 1) (code == 30) (code == 31) (code == 41) h (at_most_one code)
+-- none is refused for a budget, and no couple is set aside
+not_spent : (file : Source) → is_code_of file 41 ≡ false
+not_spent Market = refl
+not_spent Match = refl
+
+not_aside : (file : Source) → is_code_of file 6 ≡ false
+not_aside Market = refl
+not_aside Match = refl
+
+of_check : (code : ℕ) (whole : Bool) → (code == 6) ≡ false → (code == 41) ≡ false → IsOfCheck (status_of code whole)
+of_check code false g h = record { known = refl; small = omega arith }
+of_check code true g h = by (nat_le code 1) (code == 6) (code == 30) (code == 31) (code == 41) g h (at_most_one code)
   where
-    by : (a b c d : Bool) → d ≡ false → (a ≡ true → IsOfCheck code) → IsOfCheck (if a then code else if b then 4 else if c then 5 else if d then 3 else 2)
-    by true b c d e k = k refl
-    by false true c d e k = record { known = refl; small = omega arith }
-    by false false true d e k = record { known = refl; small = omega arith }
-    by false false false true e k = cc
-    by false false false false e k = record { known = refl; small = omega arith }
+    by : (a s b c d : Bool) → s ≡ false → d ≡ false → (a ≡ true → IsOfCheck code)
+        → IsOfCheck (if a then code else if s then 6 else if b then 4 else if c then 5 else if d then 3 else 2)
+    by true s b c d f e k = k refl
+    by false true b c d f e k = cc
+    by false false true c d f e k = record { known = refl; small = omega arith }
+    by false false false true d f e k = record { known = refl; small = omega arith }
+    by false false false false true f e k = cc
+    by false false false false false f e k = record { known = refl; small = omega arith }
 
 pub exit_of_check : (words : List Text) (market matched old new : Option (List ℕ)) (status : ℕ) → IsCheck market matched old new status → fault_of nrcheck words ≡ [] → IsExitFor words status
 exit_of_check words market matched old new status is taken =
-    let of : IsOfCheck status = subst IsOfCheck (sym is.is_status) (of_check is.code is.whole (not_spent is.code is.answers.text is.answers.says.refusal)) in
+    let of : IsOfCheck status = subst IsOfCheck (sym is.is_status) (of_check is.code is.whole (not_this 6 is.code is.answers.text (omega arith) not_aside is.answers.says.refusal) (not_this 41 is.code is.answers.text (omega arith) not_spent is.answers.says.refusal)) in
     let small : status ≤ 5 = of.small in
     record { known = of.known; misuse = λ h. absurd (omega arith); taken = λ h. taken; done = λ h. inl taken }
 

@@ -6,10 +6,14 @@ use crate::drain::Drain;
 use crate::writing::put_all;
 use std::io::Write;
 
+/// The code of a run that published a match in which some couples are set aside.
+pub const SET_ASIDE: u16 = 6;
+
 /// How a run or a check ended.
 #[derive(Clone, Copy, Debug, PartialEq, Eq)]
 pub struct Ended {
-    /// 0 for a published match or a stable one, 1 for a finding, otherwise the code of the refusal line.
+    /// 0 for a published match or a stable one, and 1 for a finding. [`SET_ASIDE`] is a match with couples set aside. Any
+    /// other code is that of the refusal line.
     pub code: u16,
     /// How many bytes of the text were written.
     pub written: u64,
@@ -20,7 +24,8 @@ pub struct Ended {
 impl Ended {
     /// The exit status of the program. Status 0 is a match that was published, or one that is stable, and 1 a finding
     /// against one. Status 2 is a file that was refused, and 3 a run whose budget was spent. Status 4 is want of memory,
-    /// and 5 a read or a write that failed. If the writer failed, the status is 5 whatever the code.
+    /// and 5 a read or a write that failed. Status 6 is a match that was published with couples set aside. If the writer
+    /// failed, the status is 5 whatever the code.
     pub fn status(&self) -> u8
         ensures { result ≡ status_of self.now.code self.now.whole }
     {
@@ -30,6 +35,7 @@ impl Ended {
         match self.code {
             0 => 0,
             1 => 1,
+            6 => 6,
             30 => 4,
             31 => 5,
             41 => 3,

@@ -13,7 +13,7 @@ mod writing;
 pub use aside::published_aside;
 pub use counts::{filled_counts, filled_total, position_count, unmatched_count};
 pub use drain::Drain;
-pub use ended::{Ended, end};
+pub use ended::{Ended, SET_ASIDE, end};
 pub use line::write_line;
 pub use refusal::{RefusalLine, code_name, id_or_dash, refused};
 pub use text::published;
