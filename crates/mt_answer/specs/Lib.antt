@@ -1,3 +1,5 @@
 pub mod Answer
 pub mod Refusals
+pub mod Ways
+pub mod WayLaws
 pub mod Words

@@ -19,7 +19,7 @@ use std::sync::Wait;
 use std::thread::Threads;
 
 /// Whether the verifier calls a match stable.
-fn is_stable<T: Threads + Sync>(
+pub(crate) fn is_stable<T: Threads + Sync>(
     rt: &T,
     alloc: Global,
     roster: &Roster,
@@ -66,7 +66,7 @@ fn with_couples<T: Threads + Sync>(
 }
 
 /// The text of a match, if the verifier calls it stable.
-fn publish<T: Threads + Sync>(
+pub(crate) fn publish<T: Threads + Sync>(
     rt: &T,
     alloc: Global,
     roster: &Roster,
