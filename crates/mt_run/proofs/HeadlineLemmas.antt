@@ -37,7 +37,7 @@ stage_of_singles m best budget none =
     ap (λ (couples : List Partners). option_map (λ (r : Places × ℕ). (r.0, budget - r.1)) (after_entries m (below (length couples)) budget best)) none
 
 -- without couples a best match is the best of all stable ones
-best_of_all : (m : Market) → IsWellFormed m → m.couples ≡ [] → (best : Places) → IsBest m best → IsTrue (stable m best) → IsBestOfAll m best
+pub best_of_all : (m : Market) → IsWellFormed m → m.couples ≡ [] → (best : Places) → IsBest m best → IsTrue (stable m best) → IsBestOfAll m best
 best_of_all m wf none best is_best is_stable =
     record {
       at_least = λ other o. best_is_at_least_lem m best other is_best (rw none at o);

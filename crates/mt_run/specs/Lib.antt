@@ -3,3 +3,6 @@ pub mod Answer
 pub mod Laws
 pub mod Refusals
 pub mod Examples
+pub mod Ways
+pub mod WayLaws
+pub mod Unmatched

@@ -2,6 +2,7 @@
 
 ghost use Rattle.mt_run.specs.Examples.{ProgramOptimalIsNoAnswer};
 ghost use Rattle.mt_run.specs.Laws.{OneAnswer, PublishedIsNoRefusal, PublishedIsStable, RefusalIsOneRecord};
+ghost use Rattle.mt_run.specs.WayLaws.{OneAnswerIn, OneWayIsAnswer, PublishedInIsStable};
 
 /// The answer depends on the bytes and the budget alone.
 pub fn one_answer()
@@ -27,4 +28,20 @@ pub fn refusal_is_one_record()
 /// If wishes cross, the match that is best for the programs is stable, and still no answer.
 pub fn program_optimal_is_no_answer()
     ensures { ProgramOptimalIsNoAnswer }
+{}
+
+/// The answer depends on the bytes, the budget and the ways in which couples may enter alone.
+pub fn one_answer_in()
+    ensures { OneAnswerIn }
+{}
+
+/// With one order, and no couple set aside, the answer is the usual one.
+pub fn one_way_is_answer()
+    ensures { OneWayIsAnswer }
+{}
+
+/// A published text is that of a match stable by the lists in the bytes. If couples are set aside, they want nothing
+/// in it.
+pub fn published_in_is_stable()
+    ensures { PublishedInIsStable }
 {}
