@@ -12,12 +12,12 @@ CHECKS = {
     "bytes": 6088,
     "check": 20532,
     # tests/cli with the path of a program, where bin/nrmatch isn't run.
-    "cli PROGRAM": 8417,
-    "cli": 8420,
-    "controls": 39,
-    "edits_apply": 639,
+    "cli PROGRAM": 8424,
+    "cli": 8427,
+    "controls": 40,
+    "edits_apply": 648,
     "linear": 45,
-    "memory": 448,
+    "memory": 472,
     "memory --calls": 15,
     "memory --check": 117,
     "must_fail": 82,
@@ -25,13 +25,13 @@ CHECKS = {
     "python": 28,
     "seeds": 7,
     "threads": 54,
-    "words": 328,
+    "words": 338,
     "ways": 1551,
     "wrong_bodies --release": 44,
 }
 # The sweeps of the forms of tests/memory, by the number of workers and whether all requests from one on are refused.
 SWEEPS = {
-    "memory": {(1, False): 71, (1, True): 71, (4, False): 71, (4, True): 71},
+    "memory": {(1, False): 75, (1, True): 75, (4, False): 75, (4, True): 75},
     "memory --calls": {(1, False): 1, (1, True): 1, (2, False): 1, (2, True): 1},
     "memory --check": {(1, False): 36, (1, True): 36},
 }

@@ -32,6 +32,7 @@ STATUSES = {
             "a refusal with code 31: the input can't be opened or read; or, with any answer, the output couldn't be wholly written",
             ["nrmatch missing.csv", f"nrmatch {NOBODY} > /dev/full", "nrmatch unknown_kind.csv > /dev/full"],
         ),
+        6: ("a match was published with couples set aside", ["nrmatch --budget 9 --set-aside no_stable_match.csv"]),
         64: ("the command line is wrong", ["nrmatch --none", f"nrmatch {NOBODY} {NOBODY}"]),
     },
     "nrcheck": {
@@ -67,8 +68,9 @@ LIMITS = {
 # Sentences with limits, without separators of thousands.
 LIMIT_SENTENCES = {
     FORMAT: [
-        "`--workers` is 1 to {workers}, and {default_workers} if it isn't given",
+        "1 to {workers}, and {default_workers} if it isn't given;",
         "1 to {most_budget}, and {default_budget} if it isn't given",
+        "1 to {most_orders}, and {default_orders} if it isn't given",
         "An id has 1 to {id_bytes} bytes (version 2: {id_bytes_2})",
         "A quota is one to four ASCII digits, 0 to {quota};",
         "| the input has more than {bytes} bytes |",
@@ -76,6 +78,7 @@ LIMIT_SENTENCES = {
     NRMATCH: [
         "1 to {workers}; {default_workers} if it isn't given",
         "1 to {most_budget}; {default_budget} if it isn't given",
+        "1 to {most_orders}; {default_orders} if it isn't given",
         "An id has 1 to {id_bytes} bytes, in version 2 up to {id_bytes_2},",
         "The input has more than {bytes} bytes.",
         "{bytes} bytes of input; {applicants} applicants, members of couples included; {programs} programs; {couples} couples; "

@@ -1,7 +1,9 @@
 //! The program `nrmatch`: the residency match of one CSV file.
 #![tactic(auto)]
 
-ghost use Rattle.std.specs.Prelude.{◌+◌, ◌<◌, ◌≤◌, ◌^◌, [], false, true, IsTrue};
+mod spent;
+
+ghost use Rattle.std.specs.Prelude.{◌≡◌, ◌+◌, ◌<◌, ◌≤◌, ◌^◌, [], false, true, IsTrue};
 ghost use Rattle.mt_app.specs.Program.{IsExitFor, IsRun};
 ghost use Rattle.mt_program.specs.CommandLine.{texts_of};
 ghost use Rattle.mt_program.specs.Told.{IsTold};
@@ -15,7 +17,8 @@ use mt_args::{AskEnd, Asked, asked};
 use mt_lists::Tap;
 use mt_program::{MISUSE, NO_TEXT, UNWRITTEN, say_why, tell, words_of};
 use mt_report::{Drain, end, refused};
-use mt_run::{Options, run};
+use mt_run::{EndedInWays, Options, Ways, run_in_ways};
+use crate::spent::say_spent;
 use mt_terms::codes::{OUT_OF_MEMORY, READ_FAULT};
 use std::alloc::Global;
 use std::fs::File;
@@ -24,38 +27,59 @@ use std::process::ExitCode;
 use std::sync::Wait;
 use std::thread::Threads;
 
-/// Runs the match of what the tap gives, and gives the exit status.
+/// Runs the match of what the tap gives, in the ways in which couples may enter.
 fn run_tap<T: Threads + Wait + Sync, R: Read, W: Write>(
     rt: &T,
     alloc: Global,
     tap: &mut Tap<R>,
     drain: &mut Drain<W>,
     options: Options,
-) -> u8
+    ways: Ways,
+) -> EndedInWays
     requires reads { reads_of tap.old + most_bytes < u64.MAX }
     requires failures { failures_of drain.old + 1 < 2 ^ 64 }
     requires workers { (1 ≤ options.workers) × (options.workers ≤ 64) }
-    ensures { IsRun (bytes_left R.remaining tap.old) options.budget
+    requires orders { (1 ≤ ways.orders) × (ways.orders ≤ 1000) }
+    ensures { IsRun (bytes_left R.remaining tap.old) options.budget ways
         (contents_of W.contents drain.old) (contents_of W.contents drain.new) result }
 {
-    run(rt, alloc, tap, drain, options).status()
+    run_in_ways(rt, alloc, tap, drain, options, ways)
 }
 
-/// Runs the match of what the reader gives, and gives the exit status.
+/// Runs the match of what the reader gives, in the ways in which couples may enter.
 fn run_match<T: Threads + Wait + Sync, R: Read + Drop, W: Write>(
     rt: &T,
     alloc: Global,
     reader: R,
     drain: &mut Drain<W>,
     options: Options,
-) -> u8
+    ways: Ways,
+) -> EndedInWays
     requires failures { failures_of drain.old + 1 < 2 ^ 64 }
     requires workers { (1 ≤ options.workers) × (options.workers ≤ 64) }
-    ensures { IsRun (R.remaining reader) options.budget
+    requires orders { (1 ≤ ways.orders) × (ways.orders ≤ 1000) }
+    ensures { IsRun (R.remaining reader) options.budget ways
         (contents_of W.contents drain.old) (contents_of W.contents drain.new) result }
 {
     let mut tap = Tap::new(reader);
-    run_tap(rt, alloc, &mut tap, drain, options)
+    run_tap(rt, alloc, &mut tap, drain, options, ways)
+}
+
+/// The exit status of a run. If its budget was spent, the couple that was entering is named on standard error.
+fn status_told<W: Write>(
+    err: &mut Drain<W>,
+    alloc: Global,
+    ended: &EndedInWays,
+    options: Options,
+    ways: Ways,
+) -> u8
+    requires { failures_of err.old + 1 < 2 ^ 64 }
+    ensures { result ≡ status_of ended.now.ended.code ended.now.ended.whole }
+{
+    if let Some(entering) = &ended.entering {
+        say_spent(err, alloc, entering, options, ways);
+    }
+    ended.ended.status()
 }
 
 /// Writes the refusal of a run that can't begin, and gives the exit status.
@@ -78,17 +102,26 @@ fn obey<T: Threads + Wait + Sync>(rt: &HostRuntime, crew: &T, words: &[String]) 
     let mut out = Drain::new(rt.stdout());
     let mut err = Drain::new(rt.stderr());
     match asked(alloc, words) {
-        Ok(Asked::Run { file, options }) => match file {
-            Some(path) => match File::open(rt, path.as_str()) {
-                Ok(file) => run_match(crew, alloc, file, &mut out, options),
-                Err(error) => {
-                    let status = refuse(&mut out, READ_FAULT);
-                    say_why(&mut err, alloc, "nrmatch", path.as_str(), &error);
-                    status
-                }
-            },
-            None => run_match(crew, alloc, rt.stdin(), &mut out, options),
-        },
+        Ok(Asked::Run {
+            file,
+            options,
+            orders,
+            set_aside,
+        }) => {
+            let ways = Ways { orders, set_aside };
+            let ended = match file {
+                Some(path) => match File::open(rt, path.as_str()) {
+                    Ok(file) => run_match(crew, alloc, file, &mut out, options, ways),
+                    Err(error) => {
+                        let status = refuse(&mut out, READ_FAULT);
+                        say_why(&mut err, alloc, "nrmatch", path.as_str(), &error);
+                        return status;
+                    }
+                },
+                None => run_match(crew, alloc, rt.stdin(), &mut out, options, ways),
+            };
+            status_told(&mut err, alloc, &ended, options, ways)
+        }
         Ok(Asked::Help(text) | Asked::Version(text)) => {
             tell(&mut out, text.as_bytes(), 0, UNWRITTEN)
         }
