@@ -64,8 +64,14 @@ const FIRST_TWO_PLACED: [Option<ProgNo>; 6] = [
 ];
 
 // D is at p and r.
-const FIRST_PLACED: [Option<ProgNo>; 6] =
-    [Some(ProgNo(0)), Some(ProgNo(2)), None, None, None, None];
+const FIRST_PLACED: [Option<ProgNo>; 6] = [
+    Some(ProgNo(0)),
+    Some(ProgNo(2)),
+    None,
+    None,
+    None,
+    None,
+];
 
 // The single is at x.
 const SINGLE_PLACED: [Option<ProgNo>; 3] = [Some(ProgNo(0)), None, None];
@@ -128,9 +134,23 @@ fn three_rounds_are_enough_in_the_third_order(rt: HostRuntime) {
 #[test]
 fn couples_are_set_aside_until_the_others_end(rt: HostRuntime) {
     let alloc = rt.alloc();
-    expect_aside(&rt, alloc, NO_STABLE_MATCH, 1000, &[CoupleNo(0)], &SINGLE_PLACED);
+    expect_aside(
+        &rt,
+        alloc,
+        NO_STABLE_MATCH,
+        1000,
+        &[CoupleNo(0)],
+        &SINGLE_PLACED,
+    );
     expect_aside(&rt, alloc, THREE_COUPLES, 5, &[], &LAST_TWO_PLACED);
-    expect_aside(&rt, alloc, THREE_COUPLES, 4, &[CoupleNo(2)], &FIRST_TWO_PLACED);
+    expect_aside(
+        &rt,
+        alloc,
+        THREE_COUPLES,
+        4,
+        &[CoupleNo(2)],
+        &FIRST_TWO_PLACED,
+    );
     let last_two = [CoupleNo(1), CoupleNo(2)];
     expect_aside(&rt, alloc, THREE_COUPLES, 1, &last_two, &FIRST_PLACED);
 }
