@@ -119,8 +119,9 @@ fn answer<T: Threads + Sync, R: Read, S: Read>(
 }
 
 /// The whole check: reads a market and a match, and writes one line. The line says that the match is stable by the
-/// market's lists and that its counts agree with it, or names the first finding against it. If a file is refused, the
-/// line names the refusal. The market is read and judged first, and a market that is refused leaves the match unread.
+/// market's lists and that its counts agree with it, or names the first finding against it. Couples that the match sets
+/// aside want nothing, and the line of a stable match says how many they are. If a file is refused, the line names the
+/// refusal. The market is read and judged first, and a market that is refused leaves the match unread.
 /// The line is complete before the first byte is written.
 pub fn check<T: Threads + Sync, R: Read, S: Read, W: Write>(
     rt: &T,

@@ -4,9 +4,6 @@ use Rattle.mt_report.proofs.text.published.Goals as goal
 pub push_totals-requires-clause-places : goal.push_totals-requires-clause-places
 push_totals-requires-clause-places c = grind arith
 
-pub returns : goal.returns
-returns c = grind arith
-
 pub push_programs-requires-clause-received : goal.push_programs-requires-clause-received
 push_programs-requires-clause-received c = omega arith
 
