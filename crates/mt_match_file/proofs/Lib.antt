@@ -1,4 +1,4 @@
 pub mod FaultFacts
-pub mod MarkFacts
 pub mod PlaceFacts
 pub mod ReadingFacts
+pub mod PushFacts

@@ -19,7 +19,7 @@ use Rattle.mt_match_file.specs.Submitted.{SoFar, Submitted, after, all_read, app
 use Rattle.mt_match_file.specs.declared.line.Line.{Line}
 use Rattle.mt_match_file.specs.declared.line.Line.TheVariants.{Aside, Counts, Head, Place}
 use Rattle.mt_match_file.specs.declared.submitted_match.Count.TheVariants as count
-use Rattle.mt_match_file.proofs.MarkFacts.{distinct_push, has_push}
+use Rattle.mt_match_file.proofs.PushFacts.{distinct_push, has_push}
 use Rattle.mt_ids.proofs.IdFacts.{found_below}
 
 -- What a record tells after others is of these ids: an applicant, and a place that is a program or none. Or it is a
