@@ -1,0 +1,2 @@
+pub mod PageFacts
+pub mod NameFacts

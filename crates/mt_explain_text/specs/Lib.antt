@@ -1,0 +1,3 @@
+pub mod Here
+pub mod Text
+pub mod View

@@ -1,0 +1,16 @@
+-- What the lines of a match are made of.
+use Rattle.std.specs.Prelude.{Bool}
+use Rattle.mt_terms.specs.Market.{Registered}
+use Rattle.mt_terms.specs.Matching.{Places}
+use Rattle.mt_explain_text.specs.declared.lines.AgentLines.{AgentLines}
+
+-- the market with its ids, and the match
+abbrev pub registered_of : AgentLines → Registered
+registered_of t = t.explainer.registered
+
+abbrev pub places_of : AgentLines → Places
+places_of t = t.explainer.places
+
+-- whether the lines are public ones
+abbrev pub is_public_of : AgentLines → Bool
+is_public_of t = t.is_public

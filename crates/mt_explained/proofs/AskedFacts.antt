@@ -1,0 +1,134 @@
+-- The agents that are asked for are agents of the market.
+use Rattle.std.proofs.Common.{◌≡◌, ℕ, zero, suc, ◌+◌, ◌<◌, ◌≤◌, Bool, true, false, List, [], ◌∷◌, ◌++◌, length, map, filter, get_or, take, drop, Option, Some, None, IfSome, refl, sym, ap, ◌∙◌, inl, inr, arith}
+use Rattle.std.specs.Prelude.{String, bytes_eq, filter_map, find, is_some, not, option_map, position, string_bytes}
+use Rattle.std.specs.Global.{Global}
+use Rattle.std.specs.List.{All, cons_option, range_with_len}
+use Rattle.std.proofs.lemmas.Bool.{cases_Bool}
+use Rattle.std.proofs.lemmas.List.{append-nil, drop_more, map-append, take-append-drop, take_more}
+use Rattle.std.proofs.lemmas.List.Elements.{All-cons, filter-append, filter_map-append}
+use Rattle.mt_ids.proofs.IdFacts.{found_below}
+use Rattle.mt_terms.specs.Lists.{Set, below}
+use Rattle.mt_terms.specs.Market.{Market, Registered, agent_of, agents, applicants, leads}
+use Rattle.mt_terms.specs.Registration.Accepted.{IsRegistration}
+use Rattle.mt_terms.specs.Registration.Ids.{Bytes}
+use Rattle.mt_terms.specs.declared.numbers.Agent.{Agent}
+use Rattle.mt_terms.specs.declared.numbers.Agent.TheVariants.{Couple}
+use Rattle.mt_verify.specs.Held.{IsNumbered}
+use Rattle.mt_explain.proofs.LawFacts.{agent_numbered}
+use Rattle.mt_terms.proofs.BelowFacts.{below_more}
+use Rattle.mt_explained.specs.Asked.{agent_by, agent_named, agents_asked, first_unknown}
+
+all_none : {X : Type 0} (P : X → Type 0) → All P []
+all_none P = λ i d h. absurd (omega arith)
+
+-- the agents of a range of applicants
+among_range : (m : Market) (keep : Set) (low n : ℕ) → low + n ≤ applicants m → All (IsNumbered m) (map (agent_of m) (filter keep (range_with_len low n)))
+among_range m keep low zero h = all_none (IsNumbered m)
+among_range m keep low (suc n) h =
+    let later = among_range m keep (low + 1) n (omega arith) in
+    elim (cases_Bool (keep low)) [
+      | inl kept ↦ rw kept (All-cons (IsNumbered m) (agent_of m low) (map (agent_of m) (filter keep (range_with_len (low + 1) n))) (agent_numbered m low (omega arith)) later)
+      | inr dropped ↦ rw dropped later
+    ]
+
+position_below : (ids : List Bytes) (id : Bytes) → IfSome (position (bytes_eq id) ids) (λ n. n < length ids)
+position_below ids id = go (position (bytes_eq id) ids) refl
+  where
+    go : (o : Option ℕ) → position (bytes_eq id) ids ≡ o → IfSome o (λ n. n < length ids)
+    go None is = tt
+    go (Some n) is = found_below ids id n (sym is)
+
+module _ (r : Registered) (registration : IsRegistration r) where
+  numbered_by : (a c : Option ℕ) → IfSome a (λ n. n < applicants r.market) → IfSome c (λ n. n < length r.market.couples)
+      → IfSome (agent_by r.market a c) (IsNumbered r.market)
+  numbered_by (Some a) c a_in c_in = agent_numbered r.market a a_in
+  numbered_by None (Some c) a_in c_in = c_in
+  numbered_by None None a_in c_in = tt
+
+  some_below : (o : Option ℕ) (n k : ℕ) → n ≡ k → IfSome o (λ i. i < n) → IfSome o (λ i. i < k)
+  some_below None n k same h = tt
+  some_below (Some i) n k same h = omega (arith, same, h)
+
+  pub named_numbered : (id : Bytes) → IfSome (agent_named r id) (IsNumbered r.market)
+  named_numbered id =
+      numbered_by (position (bytes_eq id) r.names.applicants) (position (bytes_eq id) r.names.couples)
+      (some_below (position (bytes_eq id) r.names.applicants) (length r.names.applicants) (applicants r.market) registration.applicant_names.one_each (position_below r.names.applicants id))
+      (some_below (position (bytes_eq id) r.names.couples) (length r.names.couples) (length r.market.couples) registration.couple_names.one_each (position_below r.names.couples id))
+
+  with_option : (o : Option Agent) (gs : List Agent) → IfSome o (IsNumbered r.market) → All (IsNumbered r.market) gs → All (IsNumbered r.market) (cons_option o gs)
+  with_option None gs h all = all
+  with_option (Some g) gs h all = All-cons (IsNumbered r.market) g gs h all
+
+  all_named : (ids : List Bytes) → All (IsNumbered r.market) (filter_map (agent_named r) ids)
+  all_named [] = all_none (IsNumbered r.market)
+  all_named (id ∷ ids) = with_option (agent_named r id) (filter_map (agent_named r) ids) (named_numbered id) (all_named ids)
+
+  pub asked_numbered : (ids : List Bytes) → All (IsNumbered r.market) (agents_asked r ids)
+  asked_numbered [] = among_range r.market (leads r.market) 0 (applicants r.market) (omega arith)
+  asked_numbered (id ∷ ids) = all_named (id ∷ ids)
+
+-- the agents of one applicant more
+module _ (m : Market) (n : ℕ) where
+  so_many : ℕ → List Agent
+  so_many k = map (agent_of m) (filter (leads m) (below k))
+
+  agents_next : so_many (n + 1) ≡ so_many n ++ map (agent_of m) (filter (leads m) (n ∷ []))
+  unfolding so_many
+  agents_next =
+      ap (λ (xs : List ℕ). map (agent_of m) (filter (leads m) xs)) (below_more n)
+      ∙ ap (map (agent_of m)) (filter-append (leads m) (below n) (n ∷ []))
+      ∙ map-append (agent_of m) (filter (leads m) (below n)) (filter (leads m) (n ∷ []))
+
+  pub agents_with : (gs : List Agent) → leads m n ≡ true → gs ≡ map (agent_of m) (filter (leads m) (below n))
+      → gs ++ agent_of m n ∷ [] ≡ map (agent_of m) (filter (leads m) (below (n + 1)))
+  unfolding so_many
+  agents_with gs leading is =
+      let one : map (agent_of m) (filter (leads m) (n ∷ [])) ≡ agent_of m n ∷ [] = rw leading refl in
+      ap (λ (xs : List Agent). xs ++ agent_of m n ∷ []) is ∙ sym (agents_next ∙ ap (λ (xs : List Agent). map (agent_of m) (filter (leads m) (below n)) ++ xs) one)
+
+  pub agents_without : (gs : List Agent) → leads m n ≡ false → gs ≡ map (agent_of m) (filter (leads m) (below n))
+      → gs ≡ map (agent_of m) (filter (leads m) (below (n + 1)))
+  unfolding so_many
+  agents_without gs following is =
+      let none : map (agent_of m) (filter (leads m) (n ∷ [])) ≡ [] = rw following refl in
+      is ∙ sym (agents_next ∙ ap (λ (xs : List Agent). map (agent_of m) (filter (leads m) (below n)) ++ xs) none ∙ append-nil (map (agent_of m) (filter (leads m) (below n))))
+
+-- a search after elements that don't pass
+find_after : {X : Type 0} (test : X → Bool) (xs ys : List X) → find test xs ≡ None → find test (xs ++ ys) ≡ find test ys
+find_after test [] ys h = refl
+find_after test (x ∷ xs) ys h = elim (cases_Bool (test x)) [
+  | inl here ↦ (let found : Some x ≡ None = rw here at h in cc)
+  | inr other ↦ (let rest : find test xs ≡ None = rw other at h in rw other (find_after test xs ys rest))
+]
+
+-- one word more
+module _ (r : Registered) (words : List (String Global)) (i : ℕ) (w : String Global) (within : i < length words) (is : w ≡ get_or words i w)
+    (known : first_unknown r (map string_bytes (take i words)) ≡ None) where
+  words_more : map string_bytes (take (i + 1) words) ≡ map string_bytes (take i words) ++ string_bytes w ∷ []
+  words_more =
+      ap (map string_bytes) (take_more words i w within ∙ ap (λ (x : String Global). take i words ++ x ∷ []) (sym is))
+      ∙ map-append string_bytes (take i words) (w ∷ [])
+
+  pub known_more : (g : Agent) → agent_named r (string_bytes w) ≡ Some g → first_unknown r (map string_bytes (take (i + 1) words)) ≡ None
+  known_more g named =
+      let one : first_unknown r (string_bytes w ∷ []) ≡ None = rw named refl in
+      ap (first_unknown r) words_more ∙ find_after (λ id. not (is_some (agent_named r id))) (map string_bytes (take i words)) (string_bytes w ∷ []) known ∙ one
+
+  pub named_more : (g : Agent) (gs : List Agent) → agent_named r (string_bytes w) ≡ Some g → gs ≡ filter_map (agent_named r) (map string_bytes (take i words))
+      → gs ++ g ∷ [] ≡ filter_map (agent_named r) (map string_bytes (take (i + 1) words))
+  named_more g gs named so_far =
+      let one : filter_map (agent_named r) (string_bytes w ∷ []) ≡ g ∷ [] = rw named refl in
+      ap (λ (xs : List Agent). xs ++ g ∷ []) so_far
+      ∙ sym (ap (filter_map (agent_named r)) words_more
+      ∙ filter_map-append (agent_named r) (map string_bytes (take i words)) (string_bytes w ∷ [])
+      ∙ ap (λ (xs : List Agent). filter_map (agent_named r) (map string_bytes (take i words)) ++ xs) one)
+
+  pub unknown_here : agent_named r (string_bytes w) ≡ None → first_unknown r (map string_bytes words) ≡ Some (string_bytes w)
+  unknown_here none =
+      let rest : drop i words ≡ w ∷ drop (i + 1) words = drop_more words i w within ∙ ap (λ (x : String Global). x ∷ drop (i + 1) words) (sym is) in
+      let all : words ≡ take i words ++ (w ∷ drop (i + 1) words) = sym (take-append-drop i words) ∙ ap (λ (xs : List (String Global)). take i words ++ xs) rest in
+      let here : first_unknown r (string_bytes w ∷ map string_bytes (drop (i + 1) words)) ≡ Some (string_bytes w) = rw none refl in
+      ap (λ (xs : List (String Global)). first_unknown r (map string_bytes xs)) all
+      ∙ ap (first_unknown r) (map-append string_bytes (take i words) (w ∷ drop (i + 1) words))
+      ∙ find_after (λ id. not (is_some (agent_named r id))) (map string_bytes (take i words)) (string_bytes w ∷ map string_bytes (drop (i + 1) words)) known
+      ∙ here

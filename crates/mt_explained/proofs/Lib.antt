@@ -1,0 +1,4 @@
+pub mod SendingFacts
+pub mod LineFacts
+pub mod AskedFacts
+pub mod AnswerFacts

@@ -1,0 +1,13 @@
+use Rattle.std.proofs.Common.{map, string_bytes}
+use Rattle.mt_explained.proofs.AnswerFacts.{answers_fault, answers_files}
+use Rattle.mt_explained.proofs.whole.explain.Goals as goal
+
+pub returns-in-Ok-clause-answers : goal.returns-in-Ok-clause-answers
+returns-in-Ok-clause-answers g c =
+    answers_files (map string_bytes c.args.asked.ids.now) c.args.asked.is_public _ _ _ _ _ c.explain_files.result.code c.explain_files.result.whole c.in-Ok.files c.in-Ok.ensures.files
+    c.explain_files.ensures.given
+
+pub returns-in-Err-clause-answers : goal.returns-in-Err-clause-answers
+returns-in-Err-clause-answers g c =
+    answers_fault (map string_bytes c.args.asked.ids.now) c.args.asked.is_public _ _ _ _ _ c.refuse_file.result.code c.refuse_file.result.whole c.in-Err.field-0 c.in-Err.ensures.refused
+    c.in-Err.ensures.in_turn c.refuse_file.ensures.given

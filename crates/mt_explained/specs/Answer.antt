@@ -1,0 +1,79 @@
+-- The answer to the bytes of a market and of a match, and what an explanation did.
+use Rattle.std.specs.Prelude.{◌≡◌, ◌≢◌, ◌⊎◌, ℕ, Bool, List, [], Option, Some, None, Result, Ok, Err}
+use Rattle.mt_terms.specs.Market.{Registered}
+use Rattle.mt_terms.specs.Matching.{Places}
+use Rattle.mt_terms.specs.Registration.Faults.{Fault}
+use Rattle.mt_terms.specs.Registration.Ids.{Bytes}
+use Rattle.mt_terms.specs.declared.codes.TheConstants.{OUT_OF_MEMORY, READ_FAULT}
+use Rattle.mt_report.specs.Drains.{IsWritten}
+use Rattle.mt_match_file.specs.Submitted.{Submitted}
+use Rattle.mt_files.specs.Files.{files_in}
+use Rattle.mt_files.specs.Refusals.{IsInTurn, OfBoth}
+use Rattle.mt_files.specs.declared.source.Source.{Source}
+use Rattle.mt_files.specs.declared.source.Source.TheVariants.{Match}
+use Rattle.mt_explain_text.specs.Text.{agents_text}
+use Rattle.mt_explained.specs.Asked.{agents_asked, first_unknown}
+use Rattle.mt_explained.specs.Headline.{IsExplained, IsRefusal}
+use Rattle.mt_explained.specs.Text.{refused_line, unknown_line}
+use Rattle.mt_explained.specs.declared.codes.TheConstants.{NO_SUCH_AGENT}
+
+-- a code and a text: 0 and the lines of agents, or the code of a refusal and its line
+pub record Answer : Type 0 where
+  pub code : ℕ
+  pub text : List ℕ
+
+-- the refusal of a word that names no agent, or the lines of the agents
+abbrev pub answer_by : Option Bytes → List ℕ → Answer
+answer_by (Some word) text = record { code = NO_SUCH_AGENT; text = unknown_line word }
+answer_by None text = record { code = 0; text = text }
+
+-- the answer to a market and a match
+abbrev pub match_answer : Registered → Places → List Bytes → Bool → Answer
+match_answer r places ids is_public = answer_by (first_unknown r ids) (agents_text r places is_public (agents_asked r ids))
+
+-- the answer to the fault of a file
+abbrev pub fault_answer : Source → Fault → Answer
+fault_answer file f = record { code = f.code; text = refused_line file f.code f.row f.id }
+
+abbrev pub answer_of : List Bytes → Bool → Result (Registered × Submitted) (Source × Fault) → Answer
+answer_of ids is_public (Ok files) = match_answer files.0 files.1.places ids is_public
+answer_of ids is_public (Err fault) = fault_answer fault.0 fault.1
+
+-- The answer to the bytes of a market and of a match: the lines of the agents asked for, or the refusal of a word that
+-- names none, or the first fault of the market, or else of the match.
+abbrev pub answer_to : List Bytes → Bool → List ℕ → List ℕ → Answer
+answer_to ids is_public market_bytes match_bytes = answer_of ids is_public (files_in market_bytes match_bytes)
+
+abbrev pub IsAnswer : List Bytes → Bool → List ℕ → List ℕ → ℕ → List ℕ → Type 0
+IsAnswer ids is_public market_bytes match_bytes code text = answer_to ids is_public market_bytes match_bytes ≡ record { code = code; text = text }
+
+-- What a text says that was written after this number of reads of the match. With code 0 it explains the match that was
+-- read. With any other code it is one refusal line, which names the file whose turn it is. But for want of memory and a
+-- read that failed, it is the answer to the bytes that were there to read.
+pub record Says (ids : List Bytes) (is_public : Bool) (market matched : Option (List ℕ)) (reads code : ℕ) (text : List ℕ) : Type 0 where
+  pub explained : code ≡ 0 → OfBoth market matched (λ market_bytes match_bytes. IsExplained ids is_public market_bytes match_bytes text)
+  pub refusal : code ≢ 0 → IsRefusal ids code text
+  pub in_turn : (refused : code ≢ 0) → IsInTurn market reads (refusal refused).file
+  pub answer : code ≢ OUT_OF_MEMORY → code ≢ READ_FAULT
+      → OfBoth market matched (λ market_bytes match_bytes. IsAnswer ids is_public market_bytes match_bytes code text)
+
+-- What an explanation did. It wrote the first bytes of a text, and all of it if the writer didn't fail.
+pub record Answers (ids : List Bytes) (is_public : Bool) (market matched : Option (List ℕ)) (reads : ℕ) (old new : Option (List ℕ)) (code : ℕ) (whole : Bool) : Type 0 where
+  pub text : List ℕ
+  pub written : ℕ
+  pub is_written : IsWritten text old new written whole
+  pub says : Says ids is_public market matched reads code text
+
+-- an answer was written, or its first bytes
+pub record IsGiven (answer : Answer) (old new : Option (List ℕ)) (code : ℕ) (whole : Bool) : Type 0 where
+  pub is_code : code ≡ answer.code
+  pub written : ℕ
+  pub is_written : IsWritten answer.text old new written whole
+
+-- the answer that the files have in want of memory
+abbrev pub memory_answer : Answer
+memory_answer = fault_answer Match (record { code = OUT_OF_MEMORY; row = 0; id = [] })
+
+-- This answer was written, or its first bytes. If memory ran out, it was the refusal line for that.
+abbrev pub IsGivenOrMemory : Answer → Option (List ℕ) → Option (List ℕ) → ℕ → Bool → Type 0
+IsGivenOrMemory answer old new code whole = IsGiven answer old new code whole ⊎ IsGiven memory_answer old new code whole

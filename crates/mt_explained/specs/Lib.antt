@@ -1,0 +1,7 @@
+pub mod Asked
+pub mod Text
+pub mod Answer
+pub mod Found
+pub mod Headline
+pub mod Sending
+pub mod View

@@ -1,0 +1,14 @@
+//! Why each agent of a match has what it has: the bytes of a market and of a match in, the lines of the agents out.
+#![tactic(auto)]
+
+mod agents;
+mod asked;
+pub mod codes;
+mod ids;
+mod outcome;
+mod sending;
+mod whole;
+
+pub use asked::Asked;
+pub use outcome::Outcome;
+pub use whole::explain;
