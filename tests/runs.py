@@ -1,15 +1,15 @@
 """What tests/pages runs and looks for: the commands behind the pages' exit statuses, rows and sentences.
 
-A command is one of bash. It is run among the cases of tests/cases with both programs on its path, and a row of
+A command is one of bash. It is run among the cases of tests/cases with the programs on its path, and a row of
 docs/CHECK.md where the pages are installed.
 """
-FORMAT, CHECK = "docs/FORMAT.md", "docs/CHECK.md"
-NRMATCH, NRCHECK = "share/nrmatch.1", "share/nrcheck.1"
+FORMAT, CHECK, EXPLAIN = "docs/FORMAT.md", "docs/CHECK.md", "docs/EXPLAIN.md"
+NRMATCH, NRCHECK, NREXPLAIN = "share/nrmatch.1", "share/nrcheck.1", "share/nrexplain.1"
 # Of each program: the page and the manual page that have its facts, the crate that has its exit statuses, and the crate
 # of the codes that they list.
 PROGRAMS = {"nrmatch": (FORMAT, NRMATCH, "mt_report", "mt_terms"), "nrcheck": (CHECK, NRCHECK, "mt_report", "mt_match_file")}
 # The crates that have codes, and the crate that has the exit statuses, by the first field of an answer.
-CODE_CRATES = ("mt_terms", "mt_match_file")
+CODE_CRATES = ("mt_terms", "mt_match_file", "mt_explained")
 ANSWERS = {"match": "mt_report", "check": "mt_report"}
 # The codes of mt_terms that a program never has: only rounds spend a budget.
 NOT_CODES_OF = {"nrmatch": set(), "nrcheck": {41}}

@@ -37,15 +37,15 @@ agent_id names (Couple c) = name_of names.couples c
 abbrev pub own_line : Registered → Places → Bool → Agent → Bytes
 own_line r places is_public (Single a) =
     line (
-      codes "applicant" ∷ name_of r.names.applicants a ∷ place_text r.names (place_of places a)
-      ∷ number_text (number_of (held_option r.market places (Single a)))
-      ∷ told_text is_public (number_of (rank_at r.market a (place_of places a))) ∷ [] ∷ [] ∷ [] ∷ [] ∷ []
+    codes "applicant" ∷ name_of r.names.applicants a ∷ place_text r.names (place_of places a)
+    ∷ number_text (number_of (held_option r.market places (Single a)))
+    ∷ told_text is_public (number_of (rank_at r.market a (place_of places a))) ∷ [] ∷ [] ∷ [] ∷ [] ∷ []
     )
 own_line r places is_public (Couple c) =
     line (
-      codes "couple" ∷ name_of r.names.couples c ∷ place_text r.names (place_of places (couple_of r.market c).first)
-      ∷ place_text r.names (place_of places (couple_of r.market c).second)
-      ∷ number_text (number_of (held_option r.market places (Couple c))) ∷ [] ∷ [] ∷ [] ∷ [] ∷ []
+    codes "couple" ∷ name_of r.names.couples c ∷ place_text r.names (place_of places (couple_of r.market c).first)
+    ∷ place_text r.names (place_of places (couple_of r.market c).second)
+    ∷ number_text (number_of (held_option r.market places (Couple c))) ∷ [] ∷ [] ∷ [] ∷ [] ∷ []
     )
 
 -- the word for why a program would take a member, or wouldn't
@@ -67,10 +67,10 @@ ahead_of l = option_map (λ x. x.ahead) l.prospect
 abbrev pub above_line : Registered → Bool → Agent → Line → Bytes
 above_line r is_public g l =
     line (
-      codes "above" ∷ agent_id r.names g ∷ decimal (l.option + 1) ∷ name_of r.names.programs l.program
-      ∷ name_of r.names.applicants l.member ∷ told_text is_public (rank_of l)
-      ∷ told_text is_public (Some l.quota) ∷ told_text is_public (ahead_of l)
-      ∷ why_text (why l.quota l.prospect) ∷ []
+    codes "above" ∷ agent_id r.names g ∷ decimal (l.option + 1) ∷ name_of r.names.programs l.program
+    ∷ name_of r.names.applicants l.member ∷ told_text is_public (rank_of l)
+    ∷ told_text is_public (Some l.quota) ∷ told_text is_public (ahead_of l)
+    ∷ why_text (why l.quota l.prospect) ∷ []
     )
 
 -- the lines of some places, one after another

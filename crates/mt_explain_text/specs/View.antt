@@ -4,10 +4,11 @@ use Rattle.mt_terms.specs.Market.{Registered}
 use Rattle.mt_terms.specs.Matching.{Places}
 use Rattle.mt_explain_text.specs.declared.lines.AgentLines.{AgentLines}
 
--- the market with its ids, and the match
+-- the market with its ids
 abbrev pub registered_of : AgentLines → Registered
 registered_of t = t.explainer.registered
 
+-- the places of the match
 abbrev pub places_of : AgentLines → Places
 places_of t = t.explainer.places
 

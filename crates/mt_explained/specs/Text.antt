@@ -17,6 +17,6 @@ refused_line = files.refused_line (codes "check")
 abbrev pub unknown_line : Bytes → Bytes
 unknown_line word =
     line (
-      codes "check" ∷ codes "1" ∷ codes "refused" ∷ decimal NO_SUCH_AGENT ∷ codes "NoSuchAgent" ∷ source_word Market ∷ codes "0"
-      ∷ id_text (shown word) ∷ []
+    codes "check" ∷ codes "1" ∷ codes "refused" ∷ decimal NO_SUCH_AGENT ∷ codes "NoSuchAgent" ∷ source_word Market ∷ codes "0"
+    ∷ id_text (shown word) ∷ []
     )

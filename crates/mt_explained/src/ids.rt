@@ -37,8 +37,7 @@ fn applicants_seed(roster: &Roster) -> Seed
 fn couples(alloc: Global, roster: &Roster) -> Result<IdTable<'_>, AllocError>
     ensures { IfOk result (λ table. table ≡ roster.entry.now.names.couples) }
 {
-    let mut table =
-        IdTable::with_capacity(alloc, roster.couples() as usize, couples_seed(roster))?;
+    let mut table = IdTable::with_capacity(alloc, roster.couples() as usize, couples_seed(roster))?;
     for number in 0..roster.couples() {
         table.push(roster.couple_id(CoupleNo(number)))?;
     }

@@ -1,4 +1,4 @@
-ghost use Rattle.std.specs.Prelude.{◌≡◌, ◌≢◌, ◌⊎◌, ◌+◌, ◌<◌, ◌≤◌, ◌-◌, ◌^◌, ◌↔◌, [], ◌∷◌, codes, length, All, if◌then◌else◌, IfOk, IsTrue, OnErr, is_ok};
+ghost use Rattle.std.specs.Prelude.{◌≡◌, ◌⊎◌, ◌+◌, ◌<◌, ◌≤◌, ◌-◌, ◌^◌, ◌↔◌, [], ◌∷◌, codes, length, All, if◌then◌else◌, IfOk, IsTrue, OnErr, is_ok};
 ghost use Rattle.mt_lists.specs.Tap.{bytes_left, failures_of as read_failures_of, reads_of};
 ghost use Rattle.mt_terms.specs.Places.{ArePlaces};
 ghost use Rattle.mt_terms.specs.Text.{line};
@@ -100,8 +100,11 @@ fn write_all<W: Write>(
     requires page { page.old ≡ [] }
     requires agents { All (IsNumbered (registered_of lines.now).market) agents.now }
     requires failures { failures_of drain.old + 1 < 2 ^ 64 }
-    ensures given { IsGiven (record { code = 0; text = agents_text
-        (registered_of lines.now) (places_of lines.now) (is_public_of lines.now) agents.now })
+    ensures given { IsGiven (record {
+      code = 0;
+      text = agents_text
+          (registered_of lines.now) (places_of lines.now) (is_public_of lines.now) agents.now;
+    })
         (contents_of W.contents drain.old) (contents_of W.contents drain.new) 0 (is_ok result) }
     ensures writer { failures_of drain.new
         ≡ failures_of drain.old + (if is_ok result then 0 else 1) }
@@ -123,8 +126,11 @@ fn write_lines<T: Threads + Sync, W: Write>(
     requires places { ArePlaces files.now.roster.market files.now.submitted.places }
     requires agents { All (IsNumbered files.now.roster.market) agents.now }
     requires failures { failures_of drain.old + 1 < 2 ^ 64 }
-    ensures given { IfOk result (λ o. IsGiven (record { code = 0; text = agents_text
-        files.now.roster files.now.submitted.places is_public agents.now })
+    ensures given { IfOk result (λ o. IsGiven (record {
+      code = 0;
+      text = agents_text
+          files.now.roster files.now.submitted.places is_public agents.now;
+    })
         (contents_of W.contents drain.old) (contents_of W.contents drain.new) o.code o.whole) }
     ensures writer { IfOk result (λ o. failures_of drain.new
         ≡ failures_of drain.old + (if o.whole then 0 else 1)) }

@@ -10,13 +10,11 @@ ghost use Rattle.mt_nrcheck.specs.Program.{IsCheck, IsExitFor};
 ghost use Rattle.mt_report.specs.Drains.{contents_of, failures_of};
 
 mod command;
-mod input;
 mod words;
 
-use input::Input;
 use mt_check::{Source, check, refused};
 use mt_lists::Tap;
-use mt_program::{MISUSE, NO_MEMORY, NO_TEXT, UNWRITTEN, say_why, tell, words_of};
+use mt_program::{Input, MISUSE, NO_MEMORY, NO_TEXT, UNWRITTEN, say_why, tell, words_of};
 use mt_report::Drain;
 use mt_terms::codes::OUT_OF_MEMORY;
 use std::alloc::Global;

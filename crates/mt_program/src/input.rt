@@ -5,7 +5,7 @@ use std::io::{self, Error, Read};
 
 /// A file that its first read opens. So nothing waits for the other end of a pipe before the file's turn.
 #[derive(Drop)]
-pub(crate) struct Input<'a> {
+pub struct Input<'a> {
     rt: &'a HostRuntime,
     path: &'a str,
     file: Option<File>,
@@ -14,7 +14,7 @@ pub(crate) struct Input<'a> {
 
 impl<'a> Input<'a> {
     /// The file at a path, not opened yet.
-    pub(crate) fn at(rt: &'a HostRuntime, path: &'a str) -> Self
+    pub fn at(rt: &'a HostRuntime, path: &'a str) -> Self
         ensures path { result.path.now ≡ path.entry.now }
         ensures unopened { result.unopened ≡ None }
     {
@@ -27,14 +27,14 @@ impl<'a> Input<'a> {
     }
 
     /// The path of the file.
-    pub(crate) fn path(&self) -> &'a str
+    pub fn path(&self) -> &'a str
         ensures { result.now ≡ self.now.path.now }
     {
         self.path
     }
 
     /// Why the file couldn't be opened, if a read tried to.
-    pub(crate) fn unopened(&self) -> Option<Error>
+    pub fn unopened(&self) -> Option<Error>
         ensures { result ≡ self.now.unopened }
     {
         self.unopened
