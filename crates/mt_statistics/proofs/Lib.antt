@@ -1,1 +1,2 @@
 pub mod SumFacts
+pub mod HeldFacts

@@ -65,7 +65,7 @@ posts_add_up_lem m places within =
     (λ p p_in. let room = within p p_in in omega arith)
 
 -- a value is at most the greatest one
-greatest-le : (f : ℕ → ℕ) (n a : ℕ) → a < n → f a ≤ greatest_below f n
+pub greatest-le : (f : ℕ → ℕ) (n a : ℕ) → a < n → f a ≤ greatest_below f n
 greatest-le f zero a within = absurd (omega arith)
 greatest-le f (suc n) a within = elim (cases_lt a n) [
   | inl lower ↦ (let rest = greatest-le f n a lower in omega arith)

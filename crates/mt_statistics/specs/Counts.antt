@@ -1,8 +1,8 @@
 -- The numbers of a match that services publish. Which numbers these are is this project's own choice.
-use Rattle.std.specs.Prelude.{ℕ, zero, suc, ◌+◌, ◌-◌, Bool, not, ◌&&◌, ◌==◌, nat_le, length, max, Option, Some, None, is_some, if◌then◌else◌}
-use Rattle.mt_terms.specs.Lists.{count_below, total_below}
+use Rattle.std.specs.Prelude.{ℕ, zero, suc, ◌+◌, ◌-◌, Bool, not, ◌&&◌, ◌==◌, nat_le, List, [], ◌∷◌, length, map, max, Option, Some, None, is_some, if◌then◌else◌}
+use Rattle.mt_terms.specs.Lists.{below, count_below, total_below}
 use Rattle.mt_terms.specs.Market.{Market, applicants, couple_of, program_of}
-use Rattle.mt_terms.specs.Matching.{Places, filled, is_program, place_of}
+use Rattle.mt_terms.specs.Matching.{Places, filled, is_program, place_of, placed_ranks}
 use Rattle.mt_terms.specs.declared.numbers.Agent.TheVariants.{Couple, Single}
 use Rattle.mt_ranks.specs.Ranked.{is_single}
 use Rattle.mt_verify.specs.Held.{held_option}
@@ -19,9 +19,13 @@ has_choice m places k a = is_single m a && is_program k (held_option m places (S
 abbrev pub at_choice : Market → Places → ℕ → ℕ
 at_choice m places k = count_below (has_choice m places k) (applicants m)
 
+-- whether an applicant is a single that has no place
+abbrev pub is_unmatched_single : Market → Places → ℕ → Bool
+is_unmatched_single m places a = is_single m a && not (is_some (place_of places a))
+
 -- how many singles have no place
 abbrev pub unmatched_singles : Market → Places → ℕ
-unmatched_singles m places = count_below (λ a. is_single m a && not (is_some (place_of places a))) (applicants m)
+unmatched_singles m places = count_below (is_unmatched_single m places) (applicants m)
 
 -- how many couples have the pair with this number from 0 of their lists
 abbrev pub at_pair : Market → Places → ℕ → ℕ
@@ -44,19 +48,43 @@ is_full m places p = nat_le (program_of m p).quota (filled places p)
 abbrev pub has_nobody : Places → ℕ → Bool
 has_nobody places p = filled places p == 0
 
--- how many programs are full, how many are partly filled, and how many with posts have nobody
+-- whether a program has an open post, and somebody is placed there
+abbrev pub is_partly_filled : Market → Places → ℕ → Bool
+is_partly_filled m places p = not (is_full m places p) && not (has_nobody places p)
+
+-- whether a program has an open post, and nobody is placed there
+abbrev pub is_empty : Market → Places → ℕ → Bool
+is_empty m places p = not (is_full m places p) && has_nobody places p
+
+-- how many programs have no open post
 abbrev pub full_programs : Market → Places → ℕ
 full_programs m places = count_below (is_full m places) (length m.programs)
 
+-- how many programs have an open post and somebody
 abbrev pub partly_filled_programs : Market → Places → ℕ
-partly_filled_programs m places = count_below (λ p. not (is_full m places p) && not (has_nobody places p)) (length m.programs)
+partly_filled_programs m places = count_below (is_partly_filled m places) (length m.programs)
 
+-- how many programs have an open post and nobody
 abbrev pub empty_programs : Market → Places → ℕ
-empty_programs m places = count_below (λ p. not (is_full m places p) && has_nobody places p) (length m.programs)
+empty_programs m places = count_below (is_empty m places) (length m.programs)
 
--- how many posts are open: at each program those that its applicants leave, and none if it has too many applicants
+-- how many posts of a program are open: those that its applicants leave, and none if it has too many applicants
+abbrev pub open_at : Market → Places → ℕ → ℕ
+open_at m places p = (program_of m p).quota - filled places p
+
+-- how many posts are open at all programs together
 abbrev pub open_posts : Market → Places → ℕ
-open_posts m places = total_below (λ p. (program_of m p).quota - filled places p) (length m.programs)
+open_posts m places = total_below (open_at m places) (length m.programs)
+
+-- the last element of a list
+abbrev pub last_of : List ℕ → Option ℕ
+last_of [] = None
+last_of (x ∷ []) = Some x
+last_of (x ∷ y ∷ xs) = last_of (y ∷ xs)
+
+-- the rank from 0 of the last one in: of those placed at a program, the one that it ranks lowest
+abbrev pub last_rank : Market → Places → ℕ → Option ℕ
+last_rank m places p = last_of (placed_ranks m places p)
 
 -- the largest value of a function below n, where each value is at least 0
 abbrev pub greatest_below : (ℕ → ℕ) → ℕ → ℕ
@@ -71,3 +99,15 @@ ordinal (Some k) = k + 1
 -- the largest choice that a single has, counted from 1, or 0 if none has one of its list
 abbrev pub most_choices : Market → Places → ℕ
 most_choices m places = greatest_below (λ a. ordinal (held_option m places (Single a))) (applicants m)
+
+-- the same of couples and their pairs
+abbrev pub most_pairs : Market → Places → ℕ
+most_pairs m places = greatest_below (λ c. ordinal (held_option m places (Couple c))) (length m.couples)
+
+-- for each choice from 1 to the largest one that a single has, how many singles have it
+abbrev pub choice_counts : Market → Places → List ℕ
+choice_counts m places = map (at_choice m places) (below (most_choices m places))
+
+-- for each pair's number from 1 to the largest one that a couple has, how many couples have it
+abbrev pub pair_counts : Market → Places → List ℕ
+pair_counts m places = map (at_pair m places) (below (most_pairs m places))

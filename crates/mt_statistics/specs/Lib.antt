@@ -1,2 +1,5 @@
 pub mod Counts
+pub mod Described
+pub mod View
+pub mod Held
 pub mod Laws
