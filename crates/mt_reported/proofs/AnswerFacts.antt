@@ -1,0 +1,125 @@
+-- What an answer says: the text has the numbers of the match, or the refusal is named.
+use Rattle.std.proofs.Common.{◌≡◌, ◌≢◌, ℕ, ◌<◌, ◌↔◌, List, [], Option, Result, Ok, Err, IfErr, IfOk, Vec, refl, sym, ap, ◌∙◌, subst, arith}
+use Rattle.std.specs.Global.{Global}
+use Rattle.mt_terms.specs.Market.{Registered}
+use Rattle.mt_terms.specs.Registration.Faults.{Fault}
+use Rattle.mt_match_file.specs.Submitted.{Submitted}
+use Rattle.mt_input.specs.Files.{market_in}
+use Rattle.mt_input.proofs.LeftFacts.{of_left}
+use Rattle.mt_input.specs.Refusals.{fault_of}
+use Rattle.mt_files.specs.Files.{files_by, files_in, submitted_in, with_match}
+use Rattle.mt_files.specs.Refusals.{AreFilesIn, IsInTurn, IsNamedRefusalOf, IsRefused, OfBoth, end_code}
+use Rattle.mt_files.specs.declared.files.Files.{Files}
+use Rattle.mt_files.specs.declared.refused_file.Refused.{Refused}
+use Rattle.mt_files.specs.declared.source.Source.{Source}
+use Rattle.mt_files.specs.declared.source.Source.TheVariants.{Market, Match}
+use Rattle.mt_files.proofs.FileFacts.{market_there}
+use Rattle.mt_files.proofs.NameFacts.{alone_named, codes_large, market_named, match_named}
+use Rattle.mt_statistics.proofs.SumFacts.{couples_add_up_lem, posts_add_up_lem, programs_add_up_lem, singles_add_up_lem}
+use Rattle.mt_statistics_text.specs.Text.{report_text}
+use Rattle.mt_reported.specs.Answer.{Answer, IsAnswer, answer_of, fault_answer}
+use Rattle.mt_reported.specs.Headline.{IsRefusal, IsReported}
+use Rattle.mt_reported.specs.Laws.{AnswersAreSo}
+use Rattle.mt_reported.specs.Text.{refused_line}
+
+module _ (market_bytes match_bytes : List ℕ) (code : ℕ) (text : List ℕ) where
+  IsSo : Type 0
+  IsSo = (code ≡ 0 → IsReported market_bytes match_bytes text) × (code ≢ 0 → IsRefusal code text)
+
+  refused : (file : Source) (f : Fault) → IsNamedRefusalOf file f.code f.row f.id → fault_answer file f ≡ record { code = code; text = text } → IsSo
+  unfolding IsSo
+  refused file f named is =
+      let same : f.code ≡ code = ap (λ (a : Answer). a.code) is in
+      let large : 1 < f.code = codes_large file f.code named.known in (
+        λ none. absurd (omega arith),
+        λ _. record {
+          file = file;
+          row = f.row;
+          id = f.id;
+          named = subst (λ c. IsNamedRefusalOf file c f.row f.id) same named;
+          line = sym (ap (λ (a : Answer). a.text) is) ∙ ap (λ c. refused_line file c f.row f.id) same;
+        },
+      )
+
+  reported : (r : Registered) (submitted : Submitted) → market_in market_bytes ≡ Ok r → submitted_in r match_bytes ≡ Ok submitted
+      → answer_of (Ok (r, submitted)) ≡ record { code = code; text = text } → IsSo
+  unfolding IsSo
+  reported r submitted of_market of_match is =
+      let same : 0 ≡ code = ap (λ (a : Answer). a.code) is in (
+        λ _. record {
+          registered = r;
+          of_market = of_market;
+          submitted = submitted;
+          of_match = of_match;
+          is_text = sym (ap (λ (a : Answer). a.text) is);
+          singles = singles_add_up_lem r.market submitted.places;
+          couples = couples_add_up_lem r.market submitted.places;
+          programs = programs_add_up_lem r.market submitted.places;
+          posts = posts_add_up_lem r.market submitted.places;
+        },
+        λ other. absurd (other (sym same)),
+      )
+
+  of_match : (r : Registered) → market_in market_bytes ≡ Ok r → (s : Result Submitted Fault) → submitted_in r match_bytes ≡ s
+      → answer_of (with_match r s) ≡ record { code = code; text = text } → IsSo
+  of_match r of_market (Ok submitted) read is = reported r submitted of_market read is
+  of_match r of_market (Err f) read is = refused Match f (match_named r match_bytes f read) is
+
+  of_the_market : (market : Result Registered Fault) → market_in market_bytes ≡ market → answer_of (files_by market match_bytes) ≡ record { code = code; text = text } → IsSo
+  of_the_market (Ok r) of_market is = of_match r of_market (submitted_in r match_bytes) refl is
+  of_the_market (Err f) of_market is = refused Market f (market_named market_bytes f of_market) is
+
+pub answers_are_so_lem : AnswersAreSo
+unfolding IsSo
+answers_are_so_lem market_bytes match_bytes code text h = of_the_market market_bytes match_bytes code text (market_in market_bytes) refl h
+
+-- what is so of all bytes of two files is so of what two readers had left
+pub of_both : {P Q : List ℕ → List ℕ → Type 0} (market matched : Option (List ℕ)) → ((xs ys : List ℕ) → P xs ys → Q xs ys) → OfBoth market matched P → OfBoth market matched Q
+of_both market matched next h = of_left market (λ xs inner. of_left matched (λ ys is. next xs ys is) inner) h
+
+-- so the answer to what two readers had left says what is so of that
+pub reported_left : (market matched : Option (List ℕ)) (text : List ℕ) → OfBoth market matched (λ xs ys. IsAnswer xs ys 0 text)
+    → OfBoth market matched (λ xs ys. IsReported xs ys text)
+reported_left market matched text h = of_both market matched (λ xs ys is. (answers_are_so_lem xs ys 0 text is).0 refl) h
+
+-- ---- what was read, and what was found of it
+
+module _ (market matched : Option (List ℕ)) (files : Files) (are : AreFilesIn market matched files) where
+  pub text_there : (result : Result (Vec ℕ Global) Refused) → IfOk result (λ text. text.items ≡ report_text files.roster files.submitted.places)
+      → IfOk result (λ text. OfBoth market matched (λ xs ys. IsAnswer xs ys 0 text.items))
+  text_there (Ok text) h = of_both market matched (λ xs ys is. ap answer_of is ∙ ap (λ (t : List ℕ). record { code = 0; text = t }) (sym h)) are
+  text_there (Err e) h = tt
+
+  pub match_in_turn : (reads : ℕ) (result : Result (Vec ℕ Global) Refused) → IfErr result (λ e. e.source ≡ Match) → IfErr result (λ e. IsInTurn market reads e.source)
+  match_in_turn reads (Ok text) file = tt
+  match_in_turn reads (Err e) file =
+      subst (IsInTurn market reads) (sym file)
+      (of_left market (λ xs inner. (files.roster, market_there xs inner.bytes files.roster files.submitted inner.is_so)) are)
+
+-- want of memory, which the line says of the match
+abbrev IsMemory : Refused → Type 0
+IsMemory e = fault_of e.refusal ≡ record { code = 30; row = 0; id = [] }
+
+pub memory_refused : (market matched : Option (List ℕ)) (result : Result (Vec ℕ Global) Refused) → IfErr result (λ e. e.source ≡ Match) → IfErr result (λ e. IsMemory e)
+    → IfErr result (IsRefused market matched)
+memory_refused market matched (Ok text) file is = tt
+memory_refused market matched (Err e) file is =
+    let code : e.refusal.code ≡ 30 = ap (λ (f : Fault). f.code) is in
+    record {
+      named = subst (λ (s : Source). IsNamedRefusalOf s e.refusal.code e.refusal.row e.refusal.id) (sym file)
+          (subst (λ (f : Fault). IsNamedRefusalOf Match f.code f.row f.id) (sym is) (alone_named Match 30 refl));
+      fault = λ m. absurd (m code);
+    }
+
+pub no_read_fault : (result : Result (Vec ℕ Global) Refused) → IfErr result (λ e. IsMemory e) → end_code result ≡ 31 → ⊥
+no_read_fault (Ok text) is e = omega arith
+no_read_fault (Err e) is read = let code : e.refusal.code ≡ 30 = ap (λ (f : Fault). f.code) is in omega arith
+
+-- no read failed, and the code says so
+pub none_failed : {X : Type 0} (code : ℕ) → ((◌≡◌ {A = ℕ} 0 31) ↔ X) → (code ≡ 31 → ⊥) → (code ≡ 31) ↔ X
+none_failed code none other = (λ e. absurd (other e), λ x. absurd (omega (arith, none.1 x)))
+
+pub refused_answer : (market matched : Option (List ℕ)) (e : Refused)
+    → OfBoth market matched (λ xs ys. files_in xs ys ≡ Err (e.source, fault_of e.refusal))
+    → OfBoth market matched (λ xs ys. IsAnswer xs ys e.refusal.code (refused_line e.source e.refusal.code e.refusal.row e.refusal.id))
+refused_answer market matched e h = of_both market matched (λ xs ys is. ap answer_of is) h

@@ -1,0 +1,4 @@
+pub mod Text
+pub mod Headline
+pub mod Answer
+pub mod Laws
