@@ -4,7 +4,7 @@ A command is one of bash. It is run among the cases of tests/cases with the prog
 docs/CHECK.md where the pages are installed.
 """
 FORMAT, CHECK, EXPLAIN = "docs/FORMAT.md", "docs/CHECK.md", "docs/EXPLAIN.md"
-NRMATCH, NRCHECK, NREXPLAIN = "share/nrmatch.1", "share/nrcheck.1", "share/nrexplain.1"
+NRMATCH, NRCHECK, NREXPLAIN, NRREPORT = "share/nrmatch.1", "share/nrcheck.1", "share/nrexplain.1", "share/nrreport.1"
 # Of each program: the page and the manual page that have its facts, the crate that has its exit statuses, and the crate
 # of the codes that they list.
 PROGRAMS = {"nrmatch": (FORMAT, NRMATCH, "mt_report", "mt_terms"), "nrcheck": (CHECK, NRCHECK, "mt_report", "mt_match_file")}

@@ -19,28 +19,38 @@ record IsOfExplanation (status : ℕ) : Type 0 where
   known : has (0 ∷ 2 ∷ 4 ∷ 5 ∷ 64 ∷ []) status ≡ true
   small : status ≤ 5
 
--- no file is refused for a budget, nor with a code as small as 1
+-- no file is refused for a budget or with couples set aside, nor with a code as small as 1
 record IsRefusalCode (code : ℕ) : Type 0 where
   large : 1 < code
+  not_aside : (code == 6) ≡ false
   not_spent : (code == 41) ≡ false
+
+-- a code that a file is refused with is none that no file is refused with
+not_this : (n : ℕ) (file : Source) (code : ℕ) → is_code_of file n ≡ false → is_code_of file code ≡ true → (code == n) ≡ false
+not_this n file code neither known = elim (cases_eq code n) [
+  | inl is ↦ absurd (true≢false (sym (subst (λ (c : ℕ). is_code_of file c ≡ true) is known) ∙ neither))
+  | inr other ↦ grind (arith, nat_tests)
+]
 
 of_file : (file : Source) (code : ℕ) → is_code_of file code ≡ true → IsRefusalCode code
 of_file file code known = record {
   large = codes_large file code known;
-  not_spent = elim (cases_eq code 41) [
-    | inl is ↦ absurd (true≢false (sym (subst (λ (c : ℕ). is_code_of file c ≡ true) is known) ∙ neither file))
-    | inr other ↦ grind (arith, nat_tests)
-  ];
+  not_aside = not_this 6 file code (aside file) known;
+  not_spent = not_this 41 file code (spent file) known;
 }
   where
-    neither : (f : Source) → is_code_of f 41 ≡ false
-    neither Market = refl
-    neither Match = refl
+    aside : (f : Source) → is_code_of f 6 ≡ false
+    aside Market = refl
+    aside Match = refl
+
+    spent : (f : Source) → is_code_of f 41 ≡ false
+    spent Market = refl
+    spent Match = refl
 
 of_refusal : (ids : List Text) (code : ℕ) (text : List ℕ) → IsRefusal ids code text → IsRefusalCode code
 of_refusal ids code text refusal = elim refusal.says [
   | inl w ↦ of_file refusal.file code w.named.known
-  | inr w ↦ subst IsRefusalCode (sym w.1.is_code) (record { large = omega arith; not_spent = refl })
+  | inr w ↦ subst IsRefusalCode (sym w.1.is_code) (record { large = omega arith; not_aside = refl; not_spent = refl })
 ]
 
 of_code : (code : ℕ) (whole : Bool) → (code ≡ 0) ⊎ IsRefusalCode code → IsOfExplanation (status_of code whole)
@@ -49,14 +59,16 @@ of_code code true (inl none) = subst (λ (c : ℕ). IsOfExplanation (status_of c
 of_code code true (inr refused) =
     let large = refused.large in
     let not_small : nat_le code 1 ≡ false = grind (arith, nat_tests) in
-    by (nat_le code 1) (code == 30) (code == 31) (code == 41) not_small refused.not_spent
+    by (nat_le code 1) (code == 6) (code == 30) (code == 31) (code == 41) not_small refused.not_aside refused.not_spent
   where
-    by : (a b c d : Bool) → a ≡ false → d ≡ false → IsOfExplanation (if a then code else if b then 4 else if c then 5 else if d then 3 else 2)
-    by true b c d e f = cc
-    by false true c d e f = record { known = refl; small = omega arith }
-    by false false true d e f = record { known = refl; small = omega arith }
-    by false false false true e f = cc
-    by false false false false e f = record { known = refl; small = omega arith }
+    by : (a s b c d : Bool) → a ≡ false → s ≡ false → d ≡ false
+        → IsOfExplanation (if a then code else if s then 6 else if b then 4 else if c then 5 else if d then 3 else 2)
+    by true s b c d e f g = cc
+    by false true b c d e f g = cc
+    by false false true c d e f g = record { known = refl; small = omega arith }
+    by false false false true d e f g = record { known = refl; small = omega arith }
+    by false false false false true e f g = cc
+    by false false false false false e f g = record { known = refl; small = omega arith }
 
 none_or_refused : (code : ℕ) (ids : List Text) (text : List ℕ) → ((code ≡ 0 → ⊥) → IsRefusal ids code text) → (code ≡ 0) ⊎ IsRefusalCode code
 none_or_refused code ids text refusal = elim (cases_eq code 0) [

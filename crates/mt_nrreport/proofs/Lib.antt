@@ -1,0 +1,2 @@
+pub mod StatusFacts
+pub mod WordFacts

@@ -1,0 +1,7 @@
+#compdef nrreport
+# Completes the words of nrreport in zsh: its options, and names of files.
+_arguments \
+    '(- :)'{-h,--help}'[print help]' \
+    '(- :)'{-V,--version}'[print version]' \
+    '1:file of the market:_files' \
+    '2:file of the match:_files'
