@@ -21,7 +21,7 @@ returns-clause-aside c =
     let submitted : all_read r.names (nothing_read (applicants r.market)) (numbered_from 1 c.args.rows.now) ≡ Ok (read_so_far c.in_ok-so_far.so_far) =
     sym (ap₂ (λ (m : Registered) (rows : List (List (List ℕ))). all_read m.names (nothing_read (applicants m.market)) (numbered_from 1 rows)) c.in_ok-ids.ensures c.iter.ensures.rows)
     ∙ c.in_ok-so_far.ensures.reads in
-    aside_are r c.is_of_a_file.ensures c.args.rows.now (read_so_far c.in_ok-so_far.so_far) submitted c.into_match.result c.into_match.ensures
+    aside_are r (subst IsRegistration c.in_ok-ids.ensures c.in_ok-ids.ids.of_a_file) c.args.rows.now (read_so_far c.in_ok-so_far.so_far) submitted c.into_match.result c.into_match.ensures
 
 pub returns-clause-fault : goal.returns-clause-fault
 returns-clause-fault c = grind arith
