@@ -228,7 +228,7 @@ module _ (r : Registered) (formed : IsWellFormed r.market) (budget : ℕ) (order
   published_without true None e h is = (
     refl,
     of_others (aside_in_turn r.market best budget) (some_aside r.market best budget orders one e) (aside_are_couples_lem r.market best budget)
-    (stage (market_of_others (aside_in_turn r.market best budget) r.market) best budget) refl h,
+        (stage (market_of_others (aside_in_turn r.market best budget) r.market) best budget) refl h,
   )
   published_without set_aside (Some number) e h is = absurd (not_of_stage (stage (in_order number r.market) best budget) h is)
 

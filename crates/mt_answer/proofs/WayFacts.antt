@@ -37,12 +37,16 @@ found_means p start (suc n) k e = by (p start) refl (λ is. found_means p (start
         let same : start ≡ k = cc in
         (omega arith, omega arith, subst (λ (x : ℕ). p x ≡ true) same passes, λ j from to. absurd (omega arith))
     by false fails next is =
-        let rest = next is in
-        (omega (arith, rest.0), omega (arith, rest.1), rest.2, λ j from to.
-        elim (cases_lt start j) [
-          | inl later ↦ rest.3 j (omega arith) to
-          | inr here ↦ (let same : start ≡ j = omega arith in subst (λ (x : ℕ). p x ≡ false) same fails)
-        ])
+        let rest = next is in (
+          omega (arith, rest.0),
+          omega (arith, rest.1),
+          rest.2,
+          λ j from to.
+              elim (cases_lt start j) [
+                | inl later ↦ rest.3 j (omega arith) to
+                | inr here ↦ (let same : start ≡ j = omega arith in subst (λ (x : ℕ). p x ≡ false) same fails)
+              ],
+        )
 
 found_from : (p : ℕ → Bool) (start n k : ℕ) → start ≤ k → k < start + n → p k ≡ true → ((j : ℕ) → start ≤ j → j < k → p j ≡ false)
     → find p (range_with_len start n) ≡ Some k
@@ -198,8 +202,7 @@ spent_by_order r best budget orders set_aside code text (Some n) e h is =
 
 pub spent_in_ways_lem : SpentInWays
 spent_in_ways_lem r budget ways code text best h is_best =
-    let ends = by_best r budget ways code text best h is_best in
-    (
+    let ends = by_best r budget ways code text best h is_best in (
       (λ is.
           let spent = spent_by_order r best budget ways.orders ways.set_aside code text (first_order r.market best budget ways.orders) refl ends is in
           (spent.0, (no_order_in_words_lem r.market best budget ways.orders).0 spent.1)),

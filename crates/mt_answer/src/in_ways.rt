@@ -75,7 +75,13 @@ fn answer_aside<T: Threads + Sync>(
     if !is_stable_aside(rt, alloc, roster, &aside)? {
         unreachable!();
     }
-    let text = published_aside(alloc, roster, &aside.matched, &singles.proposals, &aside.couples)?;
+    let text = published_aside(
+        alloc,
+        roster,
+        &aside.matched,
+        &singles.proposals,
+        &aside.couples,
+    )?;
     Ok(Answer {
         code: SET_ASIDE,
         text,

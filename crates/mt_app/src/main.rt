@@ -13,12 +13,12 @@ ghost use Rattle.mt_report.specs.Status.{status_of};
 ghost use Rattle.mt_lists.specs.Tap.{bytes_left, reads_of};
 ghost use Rattle.mt_input.specs.Files.{most_bytes};
 
+use crate::spent::say_spent;
 use mt_args::{AskEnd, Asked, asked};
 use mt_lists::Tap;
 use mt_program::{MISUSE, NO_TEXT, UNWRITTEN, say_why, tell, words_of};
 use mt_report::{Drain, end, refused};
 use mt_run::{EndedInWays, Options, Ways, run_in_ways};
-use crate::spent::say_spent;
 use mt_terms::codes::{OUT_OF_MEMORY, READ_FAULT};
 use std::alloc::Global;
 use std::fs::File;
@@ -102,12 +102,14 @@ fn obey<T: Threads + Wait + Sync>(rt: &HostRuntime, crew: &T, words: &[String]) 
     let mut out = Drain::new(rt.stdout());
     let mut err = Drain::new(rt.stderr());
     match asked(alloc, words) {
-        Ok(Asked::Run {
-            file,
-            options,
-            orders,
-            set_aside,
-        }) => {
+        Ok(
+            Asked::Run {
+                file,
+                options,
+                orders,
+                set_aside,
+            },
+        ) => {
             let ways = Ways { orders, set_aside };
             let ended = match file {
                 Some(path) => match File::open(rt, path.as_str()) {

@@ -39,7 +39,14 @@ pub fn splits(alloc: Global) -> Result<bool, SampleError> {
 // Words that ask for a run.
 fn words(alloc: Global) -> Result<Vec<String>, AllocError> {
     let mut words = Vec::new(alloc);
-    for word in ["--workers", "2", "--budget=7", "--orders=3", "--set-aside", "file"] {
+    for word in [
+        "--workers",
+        "2",
+        "--budget=7",
+        "--orders=3",
+        "--set-aside",
+        "file",
+    ] {
         words.push(String::from_str(alloc, word)?)?;
     }
     Ok(words)
@@ -49,12 +56,14 @@ fn words(alloc: Global) -> Result<Vec<String>, AllocError> {
 pub fn asks(alloc: Global) -> Result<bool, SampleError> {
     let words = words(alloc)?;
     match asked(alloc, words.as_slice()) {
-        Ok(Asked::Run {
-            file,
-            options,
-            orders,
-            set_aside,
-        }) => {
+        Ok(
+            Asked::Run {
+                file,
+                options,
+                orders,
+                set_aside,
+            },
+        ) => {
             let limits = options.workers == 2 && options.budget == 7;
             Ok(limits && orders == 3 && set_aside && file.is_some())
         }

@@ -30,12 +30,14 @@ fn is_file(file: &Option<String>, wanted: Option<&str>) -> bool {
 fn is_wanted(answer: &Result<Asked, AskEnd>, wanted: &Wanted<'_>) -> bool {
     match (answer, wanted) {
         (
-            Ok(Asked::Run {
-                file,
-                options,
-                orders,
-                set_aside,
-            }),
+            Ok(
+                Asked::Run {
+                    file,
+                    options,
+                    orders,
+                    set_aside,
+                },
+            ),
             Wanted::Run(wanted_file, wanted_options),
         ) => {
             is_file(file, *wanted_file)
@@ -44,12 +46,14 @@ fn is_wanted(answer: &Result<Asked, AskEnd>, wanted: &Wanted<'_>) -> bool {
                 && !*set_aside
         }
         (
-            Ok(Asked::Run {
-                file,
-                options,
-                orders,
-                set_aside,
-            }),
+            Ok(
+                Asked::Run {
+                    file,
+                    options,
+                    orders,
+                    set_aside,
+                },
+            ),
             Wanted::InWays(wanted_orders, wanted_aside),
         ) => {
             file.is_none()
@@ -116,10 +120,7 @@ const ASKED: &[(&[&str], Wanted<'static>)] = &[
     (&["--orders", "1"], Wanted::InWays(1, false)),
     (&["--orders=1000"], Wanted::InWays(1000, false)),
     (&["--set-aside"], Wanted::InWays(1, true)),
-    (
-        &["--set-aside", "--orders", "7"],
-        Wanted::InWays(7, true),
-    ),
+    (&["--set-aside", "--orders", "7"], Wanted::InWays(7, true)),
     (&["--orders", "0"], Wanted::NotTaken),
     (&["--orders", "1001"], Wanted::NotTaken),
     (&["--orders", "x"], Wanted::NotTaken),
