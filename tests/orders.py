@@ -15,6 +15,8 @@ import rules
 WORD = 2**64
 MULTIPLIER = 6364136223846793005
 INCREMENT = 1  # of stream 0
+# How a line on standard error ends that names the couple that was entering.
+WHEN = r"( when the budget of {budget:,} rounds was spent|; after [\d,]+ rounds all was as before, so no budget is enough)\n"
 
 
 class Pcg32:
@@ -159,6 +161,13 @@ def answer(data, budget, orders, sets_aside):
 def status_of(text):
     """The exit status that goes with a text."""
     return 6 if text.startswith("match,2,") else rules.status_of(text)
+
+
+def complaint(text, budget, couple=r"[\w.:-]+", where=""):
+    """The pattern of standard error beside a text, for a budget, where a couple is entering when the budget is spent."""
+    if ",BudgetSpent," not in text:
+        return ""
+    return f"nrmatch: couple {couple} was entering{where}" + WHEN.format(budget=budget)
 
 
 def random_rows(source, applicants, share, posts):
