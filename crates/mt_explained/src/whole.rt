@@ -1,4 +1,4 @@
-ghost use Rattle.std.specs.Prelude.{◌≡◌, ◌⊎◌, ◌+◌, ◌<◌, ◌≤◌, ◌-◌, ◌^◌, ◌↔◌, [], ◌∷◌, codes, length, All, if◌then◌else◌, IfOk, IsTrue, OnErr, is_ok};
+ghost use Rattle.std.specs.Prelude.{◌≡◌, ◌⊎◌, ◌+◌, ◌<◌, ◌≤◌, ◌-◌, ◌^◌, ◌↔◌, [], ◌∷◌, codes, length, take, All, if◌then◌else◌, IfOk, IsTrue, OnErr, is_ok};
 ghost use Rattle.mt_lists.specs.Tap.{bytes_left, failures_of as read_failures_of, reads_of};
 ghost use Rattle.mt_terms.specs.Places.{ArePlaces};
 ghost use Rattle.mt_terms.specs.Text.{line};
@@ -28,7 +28,7 @@ use mt_files::{Files, Refused, Source, read_files, refused};
 use mt_ids::is_id;
 use mt_lists::Tap;
 use mt_ranks::Ranks;
-use mt_report::{Drain, RefusalLine, id_or_dash, put_all};
+use mt_report::{Drain, id_or_dash, put_all, write_line};
 use mt_terms::codes::OUT_OF_MEMORY;
 use mt_terms::{Agent, LIMITS_2, Refusal};
 use std::alloc::{AllocError, Global};
@@ -47,11 +47,19 @@ fn shown(word: &[u8]) -> &[u8]
     }
 }
 
-/// The refusal line of a word that names no agent, by its code and the id that is shown.
-fn by_fields<'a>(code: &'a [u8], id: &'a [u8]) -> RefusalLine
+/// The refusal line of a word that names no agent: the first bytes of a buffer.
+#[derive(Drop)]
+struct UnknownLine {
+    bytes: [u8; 128],
+    len: usize,
+}
+
+/// This line, by its code and the id that is shown.
+fn by_fields<'a>(code: &'a [u8], id: &'a [u8]) -> UnknownLine
     requires { length code.now + length id.now ≤ 90 }
-    ensures { result ≡ line (codes "check" ∷ codes "1" ∷ codes "refused" ∷ code.now
+    ensures text { take result.len result.bytes ≡ line (codes "check" ∷ codes "1" ∷ codes "refused" ∷ code.now
         ∷ codes "NoSuchAgent" ∷ codes "market" ∷ codes "0" ∷ id.now ∷ []) }
+    ensures within { result.len ≤ 128 }
 {
     let fields = [
         b"1".as_slice(),
@@ -62,12 +70,15 @@ fn by_fields<'a>(code: &'a [u8], id: &'a [u8]) -> RefusalLine
         b"0".as_slice(),
         id,
     ];
-    RefusalLine::of(b"check", &fields)
+    let mut bytes = [0; 128];
+    let len = write_line(&mut bytes, b"check", &fields);
+    UnknownLine { bytes, len }
 }
 
 /// The refusal line of a word that names no agent.
-fn unknown_line(word: &[u8]) -> RefusalLine
-    ensures { result ≡ unknown_line word.now }
+fn unknown_line(word: &[u8]) -> UnknownLine
+    ensures text { take result.len result.bytes ≡ unknown_line word.now }
+    ensures within { result.len ≤ 128 }
 {
     let mut digits = Buffer::new();
     let code = digits.format(NO_SUCH_AGENT).as_bytes();
@@ -167,7 +178,7 @@ fn explain_match<T: Threads + Sync, W: Write>(
     match agents_asked(alloc, &files.roster, asked.ids)? {
         Found::Unknown(word) => {
             let line = unknown_line(word.as_bytes());
-            Ok(refuse(drain, NO_SUCH_AGENT, line.as_bytes()))
+            Ok(refuse(drain, NO_SUCH_AGENT, &line.bytes[..line.len]))
         }
         Found::Agents(agents) => write_lines(rt, alloc, files, &agents, asked.is_public, drain),
     }
