@@ -1,12 +1,16 @@
 -- What an answer says: the lines are so, or the refusal is named.
-use Rattle.std.proofs.Common.{◌≡◌, ◌≢◌, ℕ, ◌<◌, ◌≤◌, Bool, true, List, [], Option, Some, None, Result, Ok, Err, refl, sym, ap, ◌∙◌, subst, inl, inr, arith}
-use Rattle.std.specs.Prelude.{◌↔◌, ◌⊎◌}
-use Rattle.mt_terms.specs.Market.{Registered}
+use Rattle.std.proofs.Common.{◌≡◌, ◌≢◌, ℕ, ◌<◌, Bool, true, ◌==◌, List, [], ◌∷◌, length, Option, Some, None, Result, Ok, Err, refl, sym, ap, ◌∙◌, subst, inl, inr, arith}
+use Rattle.std.specs.Prelude.{◌↔◌}
+use Rattle.std.proofs.lemmas.Bool.{eqb-true}
+use Rattle.mt_terms.specs.Market.{Market, Registered}
 use Rattle.mt_terms.specs.Matching.{Places}
 use Rattle.mt_terms.specs.Places.{ArePlaces}
 use Rattle.mt_terms.specs.Registration.Accepted.{IsRegistration}
 use Rattle.mt_terms.specs.Registration.Faults.{Fault}
 use Rattle.mt_terms.specs.Registration.Ids.{Bytes}
+use Rattle.mt_order_laws.specs.Reordered.{set_aside, set_aside_registered}
+use Rattle.mt_order_laws.proofs.FormedFacts.{none_aside_lem}
+use Rattle.mt_order_laws.proofs.RegistrationFacts.{registration_aside_lem}
 use Rattle.mt_match_file.specs.Submitted.{Submitted, submitted_by}
 use Rattle.mt_match_file.proofs.PlaceFacts.{tells_places_lem}
 use Rattle.mt_input.specs.Files.{market_in}
@@ -14,20 +18,40 @@ use Rattle.mt_input.proofs.FileFacts.{rows_in}
 use Rattle.mt_input.proofs.LeftFacts.{of_left}
 use Rattle.mt_input.proofs.MarketFacts.{registration_of}
 use Rattle.mt_input.specs.Refusals.{fault_of}
-use Rattle.mt_files.specs.Files.{files_by, files_in, submitted_in, with_match}
+use Rattle.mt_files.specs.Files.{files_by, submitted_in, with_match}
 use Rattle.mt_files.specs.Refusals.{AreFilesIn, IsInTurn, IsNamedRefusalOf, IsRefused, OfBoth}
 use Rattle.mt_files.specs.declared.files.Files.{Files}
 use Rattle.mt_files.specs.declared.refused_file.Refused.{Refused}
 use Rattle.mt_files.specs.declared.source.Source.{Source}
-use Rattle.mt_files.specs.declared.source.Source.TheVariants.{Market, Match}
+use Rattle.mt_files.specs.declared.source.Source.TheVariants.{Market as MarketFile, Match}
 use Rattle.mt_files.proofs.FileFacts.{market_there}
 use Rattle.mt_files.proofs.NameFacts.{alone_named, codes_large, market_named, match_named}
 use Rattle.mt_explain.proofs.LawFacts.{each_better_option_once_lem, open_if_blocks_lem, open_if_taken_lem, stable_if_none_open_lem}
 use Rattle.mt_explain_text.specs.Text.{agents_text}
 use Rattle.mt_explained.specs.Asked.{agents_asked, first_unknown}
-use Rattle.mt_explained.specs.Answer.{Answer, Answers, IsAnswer, IsGiven, IsGivenOrMemory, Says, answer_by, answer_of, fault_answer, match_answer, memory_answer}
-use Rattle.mt_explained.specs.Headline.{IsExplained, IsFileRefusal, IsRefusal, IsUnknown, LinesAreSo}
-use Rattle.mt_explained.specs.Text.{refused_line, unknown_line}
+use Rattle.mt_explained.specs.Answer.{Answer, Answers, IsAnswer, IsGiven, IsGivenOrMemory, answer_by, answer_of, fault_answer, match_answer, memory_answer, submitted_answer}
+use Rattle.mt_explained.specs.Headline.{IsExplained, IsUnknown, LinesAreSo}
+use Rattle.mt_explained.specs.Laws.{ExplainedByAllLists}
+use Rattle.mt_explained.specs.Text.{refused_line}
+
+-- with no couple set aside, the market is as it was
+pub none_aside_registered : (r : Registered) (aside : List ℕ) → aside ≡ [] → set_aside_registered aside r ≡ r
+none_aside_registered r aside none =
+    ap (λ (xs : List ℕ). set_aside_registered xs r) none ∙ ap (λ (m : Market). record { market = m; names = r.names }) (none_aside_lem r.market)
+
+pub explained_by_all_lists_lem : ExplainedByAllLists
+explained_by_all_lists_lem r submitted ids is_public none =
+    ap (λ (q : Registered). match_answer q submitted.places ids is_public) (none_aside_registered r submitted.aside none)
+
+pub none_of : (xs ys : List ℕ) (b : Bool) → xs ≡ ys → b ≡ (length xs == 0) → b ≡ true → ys ≡ []
+none_of xs [] b same is empty = refl
+none_of xs (y ∷ ys) b same is empty =
+    let none : length xs ≡ 0 = eqb-true (length xs) 0 (sym is ∙ empty) in
+    absurd (omega (arith, none, ap length same))
+
+-- places of a market are places of it if couples are set aside
+pub places_aside : (m : Market) (aside : List ℕ) (places : Places) → ArePlaces m places → ArePlaces (set_aside aside m) places
+places_aside m aside places are = record { one_each = are.one_each; within = are.within }
 
 -- the lines of a match say what is so of it
 pub lines_are_so : (r : Registered) → IsRegistration r → (places : Places) → ArePlaces r.market places → LinesAreSo r.market places
@@ -48,35 +72,42 @@ module _ (ids : List Bytes) (is_public : Bool) where
         absurd (omega arith)
 
     answered : (r : Registered) (submitted : Submitted) → market_in market_bytes ≡ Ok r → submitted_in r match_bytes ≡ Ok submitted
-        → (unknown : Option Bytes) → first_unknown r ids ≡ unknown
-        → answer_by unknown (agents_text r submitted.places is_public (agents_asked r ids)) ≡ record { code = code; text = text }
+        → (judged : Registered) → judged ≡ set_aside_registered submitted.aside r → (unknown : Option Bytes) → first_unknown judged ids ≡ unknown
+        → answer_by unknown (agents_text judged submitted.places is_public (agents_asked judged ids)) ≡ record { code = code; text = text }
         → IsExplained ids is_public market_bytes match_bytes text
-    answered r submitted of_market of_match None known is =
+    answered r submitted of_market of_match judged is_judged None known is =
         let match_rows = rows_in (submitted_by r) match_bytes submitted of_match in
         let registration = registration_of market_bytes r of_market in
         let places = tells_places_lem r registration match_rows.0 submitted match_rows.2 in
+        let others : Registered = set_aside_registered submitted.aside r in
+        let are_so : LinesAreSo others.market submitted.places =
+        lines_are_so others (registration_aside_lem r submitted.aside registration) submitted.places (places_aside r.market submitted.aside submitted.places places) in
         record {
           registered = r;
           of_market = of_market;
           submitted = submitted;
           of_match = of_match;
+          judged = judged;
+          is_judged = is_judged;
           all_known = known;
           is_text = sym (ap (λ (a : Answer). a.text) is);
-          are_so = lines_are_so r registration submitted.places places;
+          are_so = subst (λ (q : Registered). LinesAreSo q.market submitted.places) (sym is_judged) are_so;
         }
-    answered r submitted of_market of_match (Some word) unknown is =
+    answered r submitted of_market of_match judged is_judged (Some word) unknown is =
         let same : 56 ≡ code = ap (λ (a : Answer). a.code) is in
         absurd (omega arith)
 
     of_match : (r : Registered) → market_in market_bytes ≡ Ok r → (s : Result Submitted Fault) → submitted_in r match_bytes ≡ s
         → answer_of ids is_public (with_match r s) ≡ record { code = code; text = text } → IsExplained ids is_public market_bytes match_bytes text
-    of_match r of_market (Ok submitted) read is = answered r submitted of_market read (first_unknown r ids) refl is
+    of_match r of_market (Ok submitted) read is =
+        let judged : Registered = set_aside_registered submitted.aside r in
+        answered r submitted of_market read judged refl (first_unknown judged ids) refl is
     of_match r of_market (Err f) read is = no_fault Match f (match_named r match_bytes f read) is
 
     of_the_market : (market : Result Registered Fault) → market_in market_bytes ≡ market → answer_of ids is_public (files_by market match_bytes) ≡ record { code = code; text = text }
         → IsExplained ids is_public market_bytes match_bytes text
     of_the_market (Ok r) of_market is = of_match r of_market (submitted_in r match_bytes) refl is
-    of_the_market (Err f) of_market is = no_fault Market f (market_named market_bytes f of_market) is
+    of_the_market (Err f) of_market is = no_fault MarketFile f (market_named market_bytes f of_market) is
 
   -- an answer without a code explains the match
   explains : (market_bytes match_bytes : List ℕ) (code : ℕ) (text : List ℕ) → code ≡ 0 → IsAnswer ids is_public market_bytes match_bytes code text
@@ -104,11 +135,12 @@ small_code : (lines : List ℕ) (unknown : Option Bytes) → (answer_by unknown 
 small_code lines None e = omega arith
 small_code lines (Some word) e = omega arith
 
-pub no_read_code : (r : Registered) (places : Places) (ids : List Bytes) (is_public : Bool) (old new : Option (List ℕ)) (code : ℕ) (whole : Bool)
-    → IsGivenOrMemory (match_answer r places ids is_public) old new code whole → code ≡ 31 → ⊥
-no_read_code r places ids is_public old new code whole (inl given) e =
-    small_code (agents_text r places is_public (agents_asked r ids)) (first_unknown r ids) (sym given.is_code ∙ e)
-no_read_code r places ids is_public old new code whole (inr given) e = let is : code ≡ 30 = given.is_code in omega arith
+pub no_read_code : (r : Registered) (submitted : Submitted) (ids : List Bytes) (is_public : Bool) (old new : Option (List ℕ)) (code : ℕ) (whole : Bool)
+    → IsGivenOrMemory (submitted_answer r submitted ids is_public) old new code whole → code ≡ 31 → ⊥
+no_read_code r submitted ids is_public old new code whole (inl given) e =
+    let judged : Registered = set_aside_registered submitted.aside r in
+    small_code (agents_text judged submitted.places is_public (agents_asked judged ids)) (first_unknown judged ids) (sym given.is_code ∙ e)
+no_read_code r submitted ids is_public old new code whole (inr given) e = let is : code ≡ 30 = given.is_code in omega arith
 
 -- no read failed, and the code says so
 pub none_failed : {X : Type 0} (code : ℕ) → ((◌≡◌ {A = ℕ} 0 31) ↔ X) → (code ≡ 31 → ⊥) → (code ≡ 31) ↔ X
@@ -117,10 +149,11 @@ none_failed code none other = (λ e. absurd (other e), λ x. absurd (omega (arit
 module _ (ids : List Bytes) (is_public : Bool) (market matched : Option (List ℕ)) (reads : ℕ) (old new : Option (List ℕ)) (code : ℕ) (whole : Bool) where
   -- what was written of two files that were read
   pub answers_files : (files : Files) → AreFilesIn market matched files
-      → IsGivenOrMemory (match_answer files.roster files.submitted.places ids is_public) old new code whole → Answers ids is_public market matched reads old new code whole
+      → IsGivenOrMemory (submitted_answer files.roster files.submitted ids is_public) old new code whole → Answers ids is_public market matched reads old new code whole
   answers_files files are (inl given) =
       let r = files.roster in
-      let a : Answer = match_answer r files.submitted.places ids is_public in
+      let judged : Registered = set_aside_registered files.submitted.aside r in
+      let a : Answer = match_answer judged files.submitted.places ids is_public in
       let is : a ≡ record { code = code; text = a.text } = ap (λ (c : ℕ). record { code = c; text = a.text }) (sym given.is_code) in
       let answered : OfBoth market matched (λ xs ys. IsAnswer ids is_public xs ys code a.text) =
       of_both market matched (λ xs ys read. ap (answer_of ids is_public) read ∙ is) are in
@@ -132,7 +165,7 @@ module _ (ids : List Bytes) (is_public : Bool) (market matched : Option (List �
           explained = λ none. of_both market matched (λ xs ys h. explains ids is_public xs ys code a.text none h) answered;
           refusal = λ some. record {
             file = Match;
-            says = inr (refl, by_unknown r ids (agents_text r files.submitted.places is_public (agents_asked r ids)) code a.text (first_unknown r ids) refl is some);
+            says = inr (refl, by_unknown judged ids (agents_text judged files.submitted.places is_public (agents_asked judged ids)) code a.text (first_unknown judged ids) refl is some);
           };
           in_turn = λ some. of_left market (λ xs inner. (r, market_there xs inner.bytes r files.submitted inner.is_so)) are;
           answer = λ m reads. answered;

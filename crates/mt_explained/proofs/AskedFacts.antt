@@ -1,6 +1,6 @@
 -- The agents that are asked for are agents of the market.
 use Rattle.std.proofs.Common.{◌≡◌, ℕ, zero, suc, ◌+◌, ◌<◌, ◌≤◌, Bool, true, false, List, [], ◌∷◌, ◌++◌, length, map, filter, get_or, take, drop, Option, Some, None, IfSome, refl, sym, ap, ◌∙◌, inl, inr, arith}
-use Rattle.std.specs.Prelude.{String, bytes_eq, filter_map, find, is_some, not, option_map, position, string_bytes}
+use Rattle.std.specs.Prelude.{String, bytes_eq, filter_map, find, is_some, not, position, string_bytes}
 use Rattle.std.specs.Global.{Global}
 use Rattle.std.specs.List.{All, cons_option, range_with_len}
 use Rattle.std.proofs.lemmas.Bool.{cases_Bool}
@@ -8,11 +8,10 @@ use Rattle.std.proofs.lemmas.List.{append-nil, drop_more, map-append, take-appen
 use Rattle.std.proofs.lemmas.List.Elements.{All-cons, filter-append, filter_map-append}
 use Rattle.mt_ids.proofs.IdFacts.{found_below}
 use Rattle.mt_terms.specs.Lists.{Set, below}
-use Rattle.mt_terms.specs.Market.{Market, Registered, agent_of, agents, applicants, leads}
+use Rattle.mt_terms.specs.Market.{Market, Registered, agent_of, applicants, leads}
 use Rattle.mt_terms.specs.Registration.Accepted.{IsRegistration}
 use Rattle.mt_terms.specs.Registration.Ids.{Bytes}
 use Rattle.mt_terms.specs.declared.numbers.Agent.{Agent}
-use Rattle.mt_terms.specs.declared.numbers.Agent.TheVariants.{Couple}
 use Rattle.mt_verify.specs.Held.{IsNumbered}
 use Rattle.mt_explain.proofs.LawFacts.{agent_numbered}
 use Rattle.mt_terms.proofs.BelowFacts.{below_more}

@@ -1,13 +1,12 @@
 -- The lines of an agent and of several agents, of which some are written and some are left.
-use Rattle.std.proofs.Common.{◌≡◌, ℕ, zero, suc, ◌+◌, ◌<◌, ◌≤◌, List, [], ◌∷◌, ◌++◌, length, take, drop, get_or, Bool, refl, sym, ap, ◌∙◌, append_assoc, arith}
-use Rattle.std.specs.List.{flat_map}
+use Rattle.std.proofs.Common.{◌≡◌, ℕ, zero, suc, ◌+◌, ◌<◌, List, [], ◌∷◌, ◌++◌, length, take, drop, get_or, Bool, refl, sym, ap, ◌∙◌, append_assoc, arith}
 use Rattle.std.proofs.lemmas.Grind.{flat_map-append}
 use Rattle.std.proofs.lemmas.List.{append-nil, drop_more, take-append-drop, take_more}
 use Rattle.mt_terms.specs.Market.{Market, Registered}
-use Rattle.mt_terms.specs.Matching.{Places, Placement, better, options}
+use Rattle.mt_terms.specs.Matching.{Places, Placement, better}
 use Rattle.mt_terms.specs.Registration.Ids.{Bytes}
 use Rattle.mt_terms.specs.declared.numbers.Agent.{Agent}
-use Rattle.mt_explain.specs.Lines.{explanation, lines_from, option_lines}
+use Rattle.mt_explain.specs.Lines.{lines_from, option_lines}
 use Rattle.mt_explain.specs.declared.line.Line.{Line}
 use Rattle.mt_explain_text.specs.Text.{above_line, above_lines, agent_text, agents_text, own_line}
 

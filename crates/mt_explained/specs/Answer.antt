@@ -5,6 +5,7 @@ use Rattle.mt_terms.specs.Matching.{Places}
 use Rattle.mt_terms.specs.Registration.Faults.{Fault}
 use Rattle.mt_terms.specs.Registration.Ids.{Bytes}
 use Rattle.mt_terms.specs.declared.codes.TheConstants.{OUT_OF_MEMORY, READ_FAULT}
+use Rattle.mt_order_laws.specs.Reordered.{set_aside_registered}
 use Rattle.mt_report.specs.Drains.{IsWritten}
 use Rattle.mt_match_file.specs.Submitted.{Submitted}
 use Rattle.mt_files.specs.Files.{files_in}
@@ -27,16 +28,20 @@ abbrev pub answer_by : Option Bytes → List ℕ → Answer
 answer_by (Some word) text = record { code = NO_SUCH_AGENT; text = unknown_line word }
 answer_by None text = record { code = 0; text = text }
 
--- the answer to a market and a match
+-- the answer to a market and the places of a match
 abbrev pub match_answer : Registered → Places → List Bytes → Bool → Answer
 match_answer r places ids is_public = answer_by (first_unknown r ids) (agents_text r places is_public (agents_asked r ids))
+
+-- The answer to a market and a match: that in the market in which the couples that the match sets aside want nothing.
+abbrev pub submitted_answer : Registered → Submitted → List Bytes → Bool → Answer
+submitted_answer r submitted ids is_public = match_answer (set_aside_registered submitted.aside r) submitted.places ids is_public
 
 -- the answer to the fault of a file
 abbrev pub fault_answer : Source → Fault → Answer
 fault_answer file f = record { code = f.code; text = refused_line file f.code f.row f.id }
 
 abbrev pub answer_of : List Bytes → Bool → Result (Registered × Submitted) (Source × Fault) → Answer
-answer_of ids is_public (Ok files) = match_answer files.0 files.1.places ids is_public
+answer_of ids is_public (Ok files) = submitted_answer files.0 files.1 ids is_public
 answer_of ids is_public (Err fault) = fault_answer fault.0 fault.1
 
 -- The answer to the bytes of a market and of a match: the lines of the agents asked for, or the refusal of a word that

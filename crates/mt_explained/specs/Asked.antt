@@ -1,5 +1,5 @@
 -- Which agents are explained: those with the ids that are asked for, or all of them.
-use Rattle.std.specs.Prelude.{ℕ, Bool, not, List, [], ◌∷◌, Option, Some, None, is_some, option_map, find, filter_map, position, bytes_eq}
+use Rattle.std.specs.Prelude.{ℕ, not, List, [], ◌∷◌, Option, Some, None, is_some, option_map, find, filter_map, position, bytes_eq}
 use Rattle.mt_terms.specs.Market.{Market, Registered, agent_of, agents}
 use Rattle.mt_terms.specs.Registration.Ids.{Bytes}
 use Rattle.mt_terms.specs.declared.numbers.Agent.{Agent}

@@ -6,6 +6,7 @@ use Rattle.mt_terms.specs.Matching.{Places, better, options}
 use Rattle.mt_terms.specs.Registration.Ids.{Bytes}
 use Rattle.mt_terms.specs.Stability.{blocks, fits, stable, would_be_taken}
 use Rattle.mt_terms.specs.declared.numbers.Agent.{Agent}
+use Rattle.mt_order_laws.specs.Reordered.{set_aside_registered}
 use Rattle.mt_match_file.specs.Submitted.{Submitted}
 use Rattle.mt_input.specs.Files.{IsMarketOf}
 use Rattle.mt_files.specs.Files.{submitted_in}
@@ -28,16 +29,18 @@ pub record LinesAreSo (m : Market) (places : Places) : Type 0 where
   pub blocking : (a : ℕ) → a < applicants m → has_open_option (explanation m places (agent_of m a)) ≡ blocks m places (agent_of m a)
   pub stability : stable m places ≡ (fits m places && not (list_any (λ g. has_open_option (explanation m places g)) (agents m)))
 
--- The bytes are a market and a match of its applicants. The text has the lines of the agents asked for, and these say
--- what is so of that match.
+-- The bytes are a market and a match of its applicants. The match is judged in the market in which the couples that it
+-- sets aside want nothing. The text has the lines of the agents asked for, and these say what is so in that market.
 pub record IsExplained (ids : List Bytes) (is_public : Bool) (market_bytes match_bytes : List ℕ) (text : List ℕ) : Type 0 where
   pub registered : Registered
   pub of_market : IsMarketOf market_bytes registered
   pub submitted : Submitted
   pub of_match : submitted_in registered match_bytes ≡ Ok submitted
-  pub all_known : first_unknown registered ids ≡ None
-  pub is_text : text ≡ agents_text registered submitted.places is_public (agents_asked registered ids)
-  pub are_so : LinesAreSo registered.market submitted.places
+  pub judged : Registered
+  pub is_judged : judged ≡ set_aside_registered submitted.aside registered
+  pub all_known : first_unknown judged ids ≡ None
+  pub is_text : text ≡ agents_text judged submitted.places is_public (agents_asked judged ids)
+  pub are_so : LinesAreSo judged.market submitted.places
 
 -- a word that was asked for, on the line that says that it names no agent
 pub record IsUnknown (ids : List Bytes) (code : ℕ) (text : List ℕ) : Type 0 where

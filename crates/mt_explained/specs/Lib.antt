@@ -3,5 +3,6 @@ pub mod Text
 pub mod Answer
 pub mod Found
 pub mod Headline
+pub mod Laws
 pub mod Sending
 pub mod View

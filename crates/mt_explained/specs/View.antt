@@ -1,5 +1,5 @@
 -- How what the code holds is seen in the terms of the definitions.
-use Rattle.std.specs.Prelude.{Bool, List, map, string_bytes}
+use Rattle.std.specs.Prelude.{List, map, string_bytes}
 use Rattle.mt_terms.specs.Market.{Registered}
 use Rattle.mt_terms.specs.Registration.Ids.{Bytes}
 use Rattle.mt_explained.specs.declared.asked.Asked.{Asked}

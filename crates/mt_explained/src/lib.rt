@@ -5,6 +5,7 @@ mod agents;
 mod asked;
 pub mod codes;
 mod ids;
+pub mod laws;
 mod outcome;
 mod sending;
 mod whole;

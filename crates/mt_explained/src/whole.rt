@@ -1,10 +1,10 @@
-ghost use Rattle.std.specs.Prelude.{◌≡◌, ◌⊎◌, ◌+◌, ◌<◌, ◌≤◌, ◌-◌, ◌^◌, ◌↔◌, [], ◌∷◌, codes, length, take, All, if◌then◌else◌, IfOk, IsTrue, OnErr, is_ok};
+ghost use Rattle.std.specs.Prelude.{◌≡◌, ◌⊎◌, ◌+◌, ◌<◌, ◌≤◌, ◌-◌, ◌^◌, ◌↔◌, [], length, All, if◌then◌else◌, IfOk, IsTrue, OnErr, is_ok};
 ghost use Rattle.mt_lists.specs.Tap.{bytes_left, failures_of as read_failures_of, reads_of};
 ghost use Rattle.mt_terms.specs.Places.{ArePlaces};
-ghost use Rattle.mt_terms.specs.Text.{line};
 ghost use Rattle.mt_match_file.specs.Submitted.{shown};
 ghost use Rattle.mt_terms.specs.declared.codes.TheConstants.{READ_FAULT};
 ghost use Rattle.mt_verify.specs.Held.{IsNumbered};
+ghost use Rattle.mt_order_laws.specs.Reordered.{set_aside_registered};
 ghost use Rattle.mt_report.specs.Drains.{contents_of, failures_of, is_flushed};
 ghost use Rattle.mt_input.specs.Files.{most_bytes};
 ghost use Rattle.mt_input.specs.Left.{TakesFile};
@@ -12,7 +12,7 @@ ghost use Rattle.mt_input.specs.Refusals.{fault_of};
 ghost use Rattle.mt_files.specs.Refusals.{IsNamedRefusalOf};
 ghost use Rattle.mt_explain_text.specs.Text.{agents_text};
 ghost use Rattle.mt_explain_text.specs.View.{is_public_of, places_of, registered_of};
-ghost use Rattle.mt_explained.specs.Answer.{Answers, IsGiven, IsGivenOrMemory, fault_answer, match_answer};
+ghost use Rattle.mt_explained.specs.Answer.{Answers, IsGiven, IsGivenOrMemory, fault_answer, match_answer, submitted_answer};
 ghost use Rattle.mt_explained.specs.Text.{unknown_line};
 ghost use Rattle.mt_explained.specs.View.{ids_of};
 
@@ -24,11 +24,12 @@ use crate::sending::{Unwritten, send, write_agents};
 use itoa::Buffer;
 use mt_explain::Explainer;
 use mt_explain_text::{AgentLines, Page};
-use mt_files::{Files, Refused, Source, read_files, refused};
+use mt_files::{FileRefusalLine, Files, Refused, Source, read_files, refusal_line, refused};
 use mt_ids::is_id;
 use mt_lists::Tap;
 use mt_ranks::Ranks;
-use mt_report::{Drain, id_or_dash, put_all, write_line};
+use mt_reordered::set_aside;
+use mt_report::{Drain, id_or_dash, put_all};
 use mt_terms::codes::OUT_OF_MEMORY;
 use mt_terms::{Agent, LIMITS_2, Refusal};
 use std::alloc::{AllocError, Global};
@@ -47,42 +48,20 @@ fn shown(word: &[u8]) -> &[u8]
     }
 }
 
-/// The refusal line of a word that names no agent: the first bytes of a buffer.
-#[derive(Drop)]
-struct UnknownLine {
-    bytes: [u8; 128],
-    len: usize,
-}
-
-/// This line, by its code and the id that is shown.
-fn by_fields<'a>(code: &'a [u8], id: &'a [u8]) -> UnknownLine
-    requires { length code.now + length id.now ≤ 90 }
-    ensures text { take result.len result.bytes ≡ line (codes "check" ∷ codes "1" ∷ codes "refused" ∷ code.now
-        ∷ codes "NoSuchAgent" ∷ codes "market" ∷ codes "0" ∷ id.now ∷ []) }
-    ensures within { result.len ≤ 128 }
-{
-    let fields = [
-        b"1".as_slice(),
-        b"refused".as_slice(),
-        code,
-        b"NoSuchAgent".as_slice(),
-        b"market".as_slice(),
-        b"0".as_slice(),
-        id,
-    ];
-    let mut bytes = [0; 128];
-    let len = write_line(&mut bytes, b"check", &fields);
-    UnknownLine { bytes, len }
-}
-
 /// The refusal line of a word that names no agent.
-fn unknown_line(word: &[u8]) -> UnknownLine
-    ensures text { take result.len result.bytes ≡ unknown_line word.now }
-    ensures within { result.len ≤ 128 }
+fn unknown_line(word: &[u8]) -> FileRefusalLine
+    ensures { result ≡ unknown_line word.now }
 {
     let mut digits = Buffer::new();
     let code = digits.format(NO_SUCH_AGENT).as_bytes();
-    by_fields(code, id_or_dash(shown(word)))
+    refusal_line(
+        b"check",
+        code,
+        b"NoSuchAgent",
+        b"market",
+        b"0",
+        id_or_dash(shown(word)),
+    )
 }
 
 /// Writes the one line of a refusal.
@@ -156,8 +135,27 @@ fn write_lines<T: Threads + Sync, W: Write>(
     Ok(Outcome { code: 0, whole })
 }
 
-/// Writes the answer to a market and a match. The error is want of memory, and then nothing is written.
-fn explain_match<T: Threads + Sync, W: Write>(
+/// The files with the market in which the match is judged: the couples that it sets aside want nothing.
+fn judged(alloc: Global, files: Files) -> Result<Files, AllocError>
+    ensures roster { IfOk result (λ judged. judged.roster
+        ≡ set_aside_registered files.submitted.aside files.roster) }
+    ensures submitted { IfOk result (λ judged. judged.submitted ≡ files.submitted) }
+{
+    let Files { roster, submitted } = files;
+    let aside = submitted.aside();
+    if aside.is_empty() {
+        return Ok(Files { roster, submitted });
+    }
+    let others = set_aside(alloc, &roster, aside)?;
+    Ok(Files {
+        roster: others,
+        submitted,
+    })
+}
+
+/// Writes the answer to the places of a match by all lists of its market. The error is want of memory, and then nothing
+/// is written.
+fn explain_places<T: Threads + Sync, W: Write>(
     rt: &T,
     alloc: Global,
     files: &Files,
@@ -178,10 +176,33 @@ fn explain_match<T: Threads + Sync, W: Write>(
     match agents_asked(alloc, &files.roster, asked.ids)? {
         Found::Unknown(word) => {
             let line = unknown_line(word.as_bytes());
-            Ok(refuse(drain, NO_SUCH_AGENT, &line.bytes[..line.len]))
+            Ok(refuse(drain, NO_SUCH_AGENT, line.as_bytes()))
         }
         Found::Agents(agents) => write_lines(rt, alloc, files, &agents, asked.is_public, drain),
     }
+}
+
+/// Writes the answer to a market and a match. The couples that the match sets aside want nothing. The error is want of
+/// memory, and then nothing is written.
+fn explain_match<T: Threads + Sync, W: Write>(
+    rt: &T,
+    alloc: Global,
+    files: Files,
+    asked: Asked<'_>,
+    drain: &mut Drain<W>,
+) -> Result<Outcome, AllocError>
+    requires places { ArePlaces files.roster.market files.submitted.places }
+    requires failures { failures_of drain.old + 1 < 2 ^ 64 }
+    ensures given { IfOk result (λ o. IsGiven (submitted_answer files.roster
+        files.submitted (ids_of asked.entry) asked.entry.is_public)
+        (contents_of W.contents drain.old) (contents_of W.contents drain.new) o.code o.whole) }
+    ensures writer { IfOk result (λ o. failures_of drain.new
+        ≡ failures_of drain.old + (if o.whole then 0 else 1)) }
+    ensures flushed { IfOk result (λ o. IsTrue o.whole → IsTrue (is_flushed drain.new)) }
+    ensures kept { OnErr result (drain.new ≡ drain.old) }
+{
+    let files = judged(alloc, files)?;
+    explain_places(rt, alloc, &files, asked, drain)
 }
 
 /// Writes the refusal line of a file.
@@ -208,14 +229,14 @@ fn refuse_file<W: Write>(drain: &mut Drain<W>, file: Source, refusal: &Refusal) 
 fn explain_files<T: Threads + Sync, W: Write>(
     rt: &T,
     alloc: Global,
-    files: &Files,
+    files: Files,
     asked: Asked<'_>,
     drain: &mut Drain<W>,
 ) -> Outcome
-    requires places { ArePlaces files.now.roster.market files.now.submitted.places }
+    requires places { ArePlaces files.roster.market files.submitted.places }
     requires failures { failures_of drain.old + 1 < 2 ^ 64 }
-    ensures given { IsGivenOrMemory (match_answer files.now.roster
-        files.now.submitted.places (ids_of asked.entry) asked.entry.is_public)
+    ensures given { IsGivenOrMemory (submitted_answer files.roster
+        files.submitted (ids_of asked.entry) asked.entry.is_public)
         (contents_of W.contents drain.old) (contents_of W.contents drain.new) result.code result.whole }
     ensures writer { failures_of drain.new
         ≡ failures_of drain.old + (if result.whole then 0 else 1) }
@@ -228,9 +249,9 @@ fn explain_files<T: Threads + Sync, W: Write>(
 }
 
 /// The whole explanation: reads a market and a match, and writes the lines of the agents asked for. Each has a line for
-/// what it has, and one for each place that an option names that it wants more. If a file is refused, or a word names
-/// no agent, it writes one line that names the refusal. The market is read first, and one that is refused leaves the
-/// match unread. All memory is taken before the first byte is written.
+/// what it has, and one for each place that an option names that it wants more. Couples that the match sets aside want
+/// nothing. If a file is refused, or a word names no agent, it writes one line that names the refusal. The market is
+/// read first, and one that is refused leaves the match unread. All memory is taken before the first byte is written.
 pub fn explain<T: Threads + Sync, R: Read, S: Read, W: Write>(
     rt: &T,
     alloc: Global,
@@ -257,7 +278,7 @@ pub fn explain<T: Threads + Sync, R: Read, S: Read, W: Write>(
     ensures match_taken { TakesFile S.remaining matched.old matched.new }
 {
     match read_files(rt, alloc, market, matched) {
-        Ok(files) => explain_files(rt, alloc, &files, asked, drain),
+        Ok(files) => explain_files(rt, alloc, files, asked, drain),
         Err(Refused { source, refusal }) => refuse_file(drain, source, &refusal),
     }
 }

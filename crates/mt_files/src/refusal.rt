@@ -64,8 +64,9 @@ fn source_word(source: Source) -> &'static [u8]
     }
 }
 
-// The line of a refusal by its fields, but for those that all such lines have.
-fn by_fields<'a>(
+/// The line of a refusal by its fields, but for those that all such lines have: the word that it begins with, the code and
+/// its name, the word for the file, the number of the record and the id.
+pub fn refusal_line<'a>(
     word: &'a [u8],
     code: &'a [u8],
     name: &'a [u8],
@@ -104,7 +105,7 @@ pub fn refused(word: &[u8], source: Source, code: u16, row: u64, id: &[u8]) -> F
     let mut of_row = Buffer::new();
     let code_text = of_code.format(code).as_bytes();
     let row_text = of_row.format(row).as_bytes();
-    by_fields(
+    refusal_line(
         word,
         code_text,
         code_name(source, code),

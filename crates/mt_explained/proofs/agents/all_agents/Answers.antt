@@ -1,8 +1,7 @@
-use Rattle.std.proofs.Common.{◌≡◌, ◌++◌, ◌∷◌, [], ◌∙◌, List, map, filter, ap, sym, arith}
+use Rattle.std.proofs.Common.{◌≡◌, ◌++◌, ◌∷◌, [], ◌∙◌, ap, sym, arith}
 use Rattle.std.specs.Prelude.{Vec}
 use Rattle.std.specs.Global.{Global}
-use Rattle.mt_terms.specs.Lists.{below}
-use Rattle.mt_terms.specs.Market.{agent_of, applicants, leads}
+use Rattle.mt_terms.specs.Market.{applicants}
 use Rattle.mt_terms.specs.declared.numbers.Agent.{Agent}
 use Rattle.mt_explained.proofs.AskedFacts.{agents_with, agents_without}
 use Rattle.mt_explained.proofs.agents.all_agents.Goals.{then-leads+in_ok-push, else-leads}

@@ -1,4 +1,4 @@
-use Rattle.std.proofs.Common.{◌≡◌, ◌<◌, ◌+◌, ◌++◌, [], ◌∙◌, List, ℕ, length, get_or, ap, sym, subst, arith}
+use Rattle.std.proofs.Common.{◌≡◌, ◌<◌, ◌+◌, ◌++◌, [], ◌∙◌, length, get_or, ap, sym, arith}
 use Rattle.mt_terms.specs.Matching.{Placement, better, holds, options}
 use Rattle.mt_explain.proofs.OptionFacts.{front_has}
 use Rattle.mt_verify.proofs.HeldFacts.{until-le}

@@ -1,5 +1,5 @@
 use Rattle.std.proofs.Common.{map, string_bytes}
-use Rattle.mt_explained.proofs.AnswerFacts.{answers_fault, answers_files}
+use Rattle.mt_explained.proofs.AnswerFacts.{answers_fault, answers_files, no_read_code, none_failed}
 use Rattle.mt_explained.proofs.whole.explain.Goals as goal
 
 pub returns-in-Ok-clause-answers : goal.returns-in-Ok-clause-answers
@@ -11,3 +11,8 @@ pub returns-in-Err-clause-answers : goal.returns-in-Err-clause-answers
 returns-in-Err-clause-answers g c =
     answers_fault (map string_bytes c.args.asked.ids.now) c.args.asked.is_public _ _ _ _ _ c.refuse_file.result.code c.refuse_file.result.whole c.in-Err.field-0 c.in-Err.ensures.refused
     c.in-Err.ensures.in_turn c.refuse_file.ensures.given
+
+pub returns-in-Ok-clause-fault : goal.returns-in-Ok-clause-fault
+returns-in-Ok-clause-fault g c =
+    none_failed _ c.in-Ok.ensures.fault
+    (no_read_code c.in-Ok.files.roster c.in-Ok.files.submitted (map string_bytes c.args.asked.ids.now) c.args.asked.is_public _ _ _ _ c.explain_files.ensures.given)

@@ -7,7 +7,7 @@ use Rattle.mt_explained.specs.Found.{AreAsked}
 use Rattle.mt_explained.specs.declared.agents.Found.{Found}
 use Rattle.mt_explained.specs.declared.agents.Found.TheVariants.{Agents}
 use Rattle.mt_explained.proofs.AskedFacts.{asked_numbered}
-use Rattle.mt_explained.proofs.whole.explain_match.Goals as goal
+use Rattle.mt_explained.proofs.whole.explain_places.Goals as goal
 
 pub write_lines-requires-clause-agents : goal.write_lines-requires-clause-agents
 write_lines-requires-clause-agents g c κs within =
