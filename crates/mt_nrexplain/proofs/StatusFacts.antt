@@ -19,33 +19,33 @@ record IsOfExplanation (status : ℕ) : Type 0 where
   known : has (0 ∷ 2 ∷ 4 ∷ 5 ∷ 64 ∷ []) status ≡ true
   small : status ≤ 5
 
--- no file is refused for a budget or with couples set aside, nor with a code as small as 1
+-- no file is refused for a budget, nor with the code of couples set aside, nor with one as small as 1
 record IsRefusalCode (code : ℕ) : Type 0 where
   large : 1 < code
   not_aside : (code == 6) ≡ false
   not_spent : (code == 41) ≡ false
 
--- a code that a file is refused with is none that no file is refused with
-not_this : (n : ℕ) (file : Source) (code : ℕ) → is_code_of file n ≡ false → is_code_of file code ≡ true → (code == n) ≡ false
-not_this n file code neither known = elim (cases_eq code n) [
-  | inl is ↦ absurd (true≢false (sym (subst (λ (c : ℕ). is_code_of file c ≡ true) is known) ∙ neither))
+-- a file's code is none that is neither file's
+not_this : (n : ℕ) → ((file : Source) → is_code_of file n ≡ false) → (file : Source) (code : ℕ) → is_code_of file code ≡ true → (code == n) ≡ false
+not_this n neither file code known = elim (cases_eq code n) [
+  | inl is ↦ absurd (true≢false (sym (subst (λ (c : ℕ). is_code_of file c ≡ true) is known) ∙ neither file))
   | inr other ↦ grind (arith, nat_tests)
 ]
+
+not_aside : (file : Source) → is_code_of file 6 ≡ false
+not_aside Market = refl
+not_aside Match = refl
+
+not_spent : (file : Source) → is_code_of file 41 ≡ false
+not_spent Market = refl
+not_spent Match = refl
 
 of_file : (file : Source) (code : ℕ) → is_code_of file code ≡ true → IsRefusalCode code
 of_file file code known = record {
   large = codes_large file code known;
-  not_aside = not_this 6 file code (aside file) known;
-  not_spent = not_this 41 file code (spent file) known;
+  not_aside = not_this 6 not_aside file code known;
+  not_spent = not_this 41 not_spent file code known;
 }
-  where
-    aside : (f : Source) → is_code_of f 6 ≡ false
-    aside Market = refl
-    aside Match = refl
-
-    spent : (f : Source) → is_code_of f 41 ≡ false
-    spent Market = refl
-    spent Match = refl
 
 of_refusal : (ids : List Text) (code : ℕ) (text : List ℕ) → IsRefusal ids code text → IsRefusalCode code
 of_refusal ids code text refusal = elim refusal.says [
