@@ -22,6 +22,7 @@ CHECKS = {
     "memory --calls": 15,
     "memory --check": 117,
     "must_fail": 88,
+    "memory --explain": 126,
     "pages": 285,
     "python": 28,
     "report": 2030,
@@ -36,6 +37,7 @@ SWEEPS = {
     "memory": {(1, False): 75, (1, True): 75, (4, False): 75, (4, True): 75},
     "memory --calls": {(1, False): 1, (1, True): 1, (2, False): 1, (2, True): 1},
     "memory --check": {(1, False): 36, (1, True): 36},
+    "memory --explain": {(1, False): 39, (1, True): 39},
 }
 
 
