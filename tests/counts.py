@@ -23,7 +23,7 @@ CHECKS = {
     "memory --check": 117,
     "must_fail": 88,
     "memory --explain": 126,
-    "pages": 285,
+    "pages": 324,
     "python": 28,
     "report": 2030,
     "seeds": 7,
