@@ -4,7 +4,7 @@ import tempfile
 import unittest
 
 import nrmatch
-from nrmatch import Couple, Filled, Market, Program, Totals, Verdict
+from nrmatch import Above, Couple, Explanation, Filled, Market, Match, Program, Totals, Verdict
 
 HERE = os.path.dirname(os.path.abspath(__file__))
 EXAMPLES = os.path.join(os.path.dirname(HERE), "examples")
@@ -115,6 +115,47 @@ class Matches(unittest.TestCase):
                 nrmatch.match(small())
         finally:
             os.environ["NRMATCH_BIN"] = before
+
+
+    def test_does_a_text_tell_who_is_set_aside(self):
+        text = "match,2,published\napplicant,a,-\napplicant,b,-\nprogram,P,1,0,0\naside,c\ntotals,2,2,1,1\n"
+        self.assertEqual(Match.of_text(text).aside, ("c",))
+        self.assertEqual(Match.of_text(text).places, {"a": None, "b": None})
+
+    def test_is_nobody_set_aside_in_version_1(self):
+        text = "match,1,published\napplicant,a,-\nprogram,P,1,0,0\ntotals,1,1,1,1\n"
+        self.assertEqual(Match.of_text(text).aside, ())
+        with self.assertRaisesRegex(ValueError, "another kind"):
+            Match.of_text(text + "aside,c\n")
+
+
+class Explanations(unittest.TestCase):
+    def test_is_each_better_option_explained(self):
+        market = small()
+        bob = Explanation("applicant", "Bob", (None,), None, None, (Above(1, "City", "Bob", 2, 1, 1, "full"),))
+        ann = Explanation("applicant", "Ann", ("City",), 1, 1)
+        self.assertEqual(nrmatch.explain(market, nrmatch.match(market)), [bob, ann])
+        self.assertEqual(nrmatch.explain(market, nrmatch.match(market), ["Ann", "Bob"]), [ann, bob])
+
+    def test_does_a_public_explanation_lack_numbers(self):
+        market = small()
+        bob = Explanation("applicant", "Bob", (None,), None, None, (Above(1, "City", "Bob", None, None, None, "full"),))
+        self.assertEqual(nrmatch.explain(market, nrmatch.match(market), ["Bob"], public=True), [bob])
+
+    def test_does_a_couple_set_aside_want_nothing(self):
+        market = Market(programs={"P": Program(1, ["a"])}, couples={"c": Couple("a", "b", [("P", None)])})
+        nowhere = "applicant,a,-\napplicant,b,-\n"
+        found = Explanation("couple", "c", (None, None), None, None, (Above(1, "P", "a", 1, 1, 0, "open"),))
+        self.assertEqual(nrmatch.explain(market, nowhere), [found])
+        self.assertEqual(nrmatch.explain(market, nowhere + "aside,c\n"), [Explanation("couple", "c", (None, None), None, None)])
+
+    def test_is_an_unknown_id_an_exception(self):
+        with self.assertRaises(nrmatch.Refused) as caught:
+            nrmatch.explain(small(), nrmatch.match(small()), ["Cleo"])
+        self.assertEqual((caught.exception.code, caught.exception.name, caught.exception.id), (56, "NoSuchAgent", "Cleo"))
+
+    def test_is_a_market_of_nobody_explained_by_nothing(self):
+        self.assertEqual(nrmatch.explain(Market(), ""), [])
 
 
 class Checks(unittest.TestCase):

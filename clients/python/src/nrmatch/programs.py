@@ -7,11 +7,11 @@ import os
 import shutil
 import subprocess
 import tempfile
-from typing import List, Optional, Tuple, Union
+from typing import List, Optional, Sequence, Tuple, Union
 
 from .errors import BudgetSpent, ProgramFailed, ProgramMissing, Refusal, Refused
 from .market import Market
-from .results import Match, Verdict
+from .results import Explanation, Match, Verdict, explanations_of
 
 
 def _program(name: str) -> str:
@@ -76,6 +76,12 @@ def match(market: Market, *, workers: int = 4, budget: int = 1_000_000) -> Match
     raise ProgramFailed("nrmatch", ended[0], ended[2])
 
 
+def _both(folder: str, market: Market, matched: Union[Match, str]) -> List[str]:
+    """The paths of a market and of a match, which it writes."""
+    text = matched.text if isinstance(matched, Match) else matched
+    return [_write(folder, "market.csv", market.text()), _write(folder, "match.csv", text)]
+
+
 def check(market: Market, matched: Union[Match, str]) -> Verdict:
     """What nrcheck says of a match of a market: of a `Match`, or of a text with a record `applicant,ID,PLACE` for each applicant.
 
@@ -88,14 +94,33 @@ def check(market: Market, matched: Union[Match, str]) -> Verdict:
     Verdict(kind='blocks', who=('applicant', 'Ann', 'City'))
     """
     with tempfile.TemporaryDirectory() as folder:
-        paths = [
-            _write(folder, "market.csv", market.text()),
-            _write(folder, "match.csv", matched.text if isinstance(matched, Match) else matched),
-        ]
-        ended = _run("nrcheck", paths)
+        ended = _run("nrcheck", _both(folder, market, matched))
     fields = _fields("nrcheck", ended)
     if fields[:3] == ["check", "1", "refused"] and len(fields) == 8:
         _refuse(fields[3], fields[4], fields[5], fields[6], fields[7])
     if fields[:2] == ["check", "1"] and len(fields) > 2 and ended[0] in (0, 1):
         return Verdict(fields[2], tuple(fields[3:]))
     raise ProgramFailed("nrcheck", ended[0], ended[2])
+
+
+def explain(market: Market, matched: Union[Match, str], ids: Sequence[str] = (), *, public: bool = False) -> List[Explanation]:
+    """Why applicants and couples have what a match gives them, by nrexplain. The match is as `check` takes it.
+
+    `ids` names applicants and couples, in the order of the answer. Without any, all are explained. With `public` there are no
+    ranks, quotas and counts. Raises `Refused` if the market or the text is refused or an id names nobody, code 56,
+    `ProgramMissing` if nrexplain isn't installed, and `ProgramFailed` if it ends otherwise.
+
+    >>> from nrmatch import Market, Program
+    >>> market = Market(programs={"City": Program(1, ["Ann", "Bob"])}, applicants={"Bob": ["City"], "Ann": ["City"]})
+    >>> [bob] = explain(market, match(market), ["Bob"])
+    >>> bob.places, bob.above
+    ((None,), (Above(option=1, program='City', who='Bob', rank=2, quota=1, ahead=1, why='full'),))
+    """
+    with tempfile.TemporaryDirectory() as folder:
+        ended = _run("nrexplain", ["--public"] * public + ["--", *_both(folder, market, matched), *ids])
+    if ended[0] == 0:
+        return explanations_of(list(csv.reader(io.StringIO(ended[1]))))
+    fields = _fields("nrexplain", ended)
+    if fields[:3] == ["check", "1", "refused"] and len(fields) == 8:
+        _refuse(fields[3], fields[4], fields[5], fields[6], fields[7])
+    raise ProgramFailed("nrexplain", ended[0], ended[2])

@@ -4,7 +4,7 @@ from __future__ import annotations
 import csv
 import io
 from dataclasses import dataclass
-from typing import TYPE_CHECKING, Dict, Optional, Tuple
+from typing import TYPE_CHECKING, Dict, List, Optional, Sequence, Tuple
 
 if TYPE_CHECKING:
     import pandas
@@ -34,13 +34,15 @@ class Match:
     """A published match.
 
     `places` maps each applicant's id to the id of its program, or to None. `programs` maps each program's id to its counts. Both
-    are in the order of registration. `text` is the text that nrmatch wrote, of which a proof shows that it is stable.
+    are in the order of registration. `text` is the text that nrmatch wrote, of which a proof shows that it is stable. `aside` has
+    the ids of the couples that are set aside: the match is stable in the market in which they want nothing.
     """
 
     text: str
     places: Dict[str, Optional[str]]
     programs: Dict[str, Filled]
     totals: Totals
+    aside: Tuple[str, ...] = ()
 
     @classmethod
     def of_text(cls, text: str) -> "Match":
@@ -50,8 +52,9 @@ class Match:
         {'Ann': 'City'}
         """
         rows = list(csv.reader(io.StringIO(text)))
-        if not rows or rows[0] != ["match", "1", "published"]:
+        if not rows or rows[0] not in (["match", "1", "published"], ["match", "2", "published"]):
             raise ValueError("not the text of a published match")
+        aside: List[str] = []
         places: Dict[str, Optional[str]] = {}
         programs: Dict[str, Filled] = {}
         totals: Optional[Totals] = None
@@ -62,11 +65,13 @@ class Match:
                 programs[row[1]] = Filled(*(int(it) for it in row[2:]))
             elif row[0] == "totals" and len(row) == 5:
                 totals = Totals(*(int(it) for it in row[1:]))
+            elif row[0] == "aside" and len(row) == 2 and rows[0][1] == "2":
+                aside.append(row[1])
             else:
                 raise ValueError(f"a record of another kind: {row!r}")
         if totals is None:
             raise ValueError("a match without totals")
-        return cls(text, places, programs, totals)
+        return cls(text, places, programs, totals, tuple(aside))
 
     def to_frame(self) -> "pandas.DataFrame":
         """The places as a pandas frame with the columns applicant and program. Nobody's program is None."""
@@ -92,3 +97,64 @@ class Verdict:
     def is_stable(self) -> bool:
         """Whether the match is stable and its counts are right."""
         return self.kind == "stable"
+
+
+@dataclass(frozen=True)
+class Above:
+    """A program of an option that an applicant or a couple wants more than what it has, and who would go there.
+
+    `option` is the option's number on the list, from 1. `rank` is the number of `who` on the program's list, `quota` the program's
+    posts, and `ahead` how many there are above `who`. A number that the line lacks is None. `why` is 'unlisted', 'full' or 'open'.
+    """
+
+    option: int
+    program: str
+    who: str
+    rank: Optional[int]
+    quota: Optional[int]
+    ahead: Optional[int]
+    why: str
+
+
+@dataclass(frozen=True)
+class Explanation:
+    """What an applicant or a couple has in a match, and why it has no option that it wants more.
+
+    `kind` is 'applicant' or 'couple'. `places` has a program or None for each member. `option` is the number of what it has on its
+    list, from 1, and `rank` an applicant's number on the program's list. They are None if there is none.
+    """
+
+    kind: str
+    id: str
+    places: Tuple[Optional[str], ...]
+    option: Optional[int]
+    rank: Optional[int]
+    above: Tuple[Above, ...] = ()
+
+
+def explanations_of(rows: Sequence[Sequence[str]]) -> List[Explanation]:
+    """The explanations that the lines of nrexplain give. Lines of another form raise ValueError.
+
+    >>> explanations_of([["applicant", "Bob", "-", "", "", "", "", "", ""]])
+    [Explanation(kind='applicant', id='Bob', places=(None,), option=None, rank=None, above=())]
+    """
+    found: List[Tuple[Sequence[str], List[Above]]] = []
+    for row in rows:
+        if len(row) != 9 or row[0] not in ("applicant", "couple", "above") or row[0] == "above" and not found:
+            raise ValueError(f"no line of an explanation: {row!r}")
+        if row[0] == "above":
+            found[-1][1].append(Above(int(row[2]), row[3], row[4], _count(row[5]), _count(row[6]), _count(row[7]), row[8]))
+        else:
+            found.append((row, []))
+    return [_explanation(row, above) for row, above in found]
+
+
+def _explanation(row: Sequence[str], above: List[Above]) -> Explanation:
+    members = 1 if row[0] == "applicant" else 2
+    places = tuple(None if it == "-" else it for it in row[2 : 2 + members])
+    rank = _count(row[4]) if members == 1 else None
+    return Explanation(row[0], row[1], places, _count(row[2 + members]), rank, tuple(above))
+
+
+def _count(field: str) -> Optional[int]:
+    return int(field) if field else None
