@@ -1,7 +1,7 @@
 """What nrmatch answers if the couples enter in other orders, or if some are set aside: plain, slow, and written beside the
 program, over tests/rules.py.
 
-`order_of` gives the order of couples with a number. `first_order` and `aside_in_turn` say which order is used and which
+`order_of` gives the order of couples with a number. `first_order` and `fewest_aside` say which order is used and which
 couples are set aside. `answer` gives the whole text for the bytes of an input. Run as a program, it tries both on random
 markets and compares what should be the same.
 """
@@ -110,15 +110,22 @@ def first_order(singles, budget, orders):
     return None
 
 
-def aside_in_turn(singles, budget):
-    """The couples that are set aside in turn, and the match of the others, which enter in the order of registration."""
-    aside, couples = [], len(couples_of(singles.market))
+def aside_in_turn(singles, order, budget):
+    """The couples that are set aside in turn, and the match of the others, which enter in the order."""
+    aside = []
     while True:
-        others = [number for number in range(couples) if number not in aside]
+        others = [number for number in order if number not in aside]
         matching, place = entered(singles, others, budget)
         if matching is not None:
             return aside, matching
         aside.append(others[place])
+
+
+def fewest_aside(singles, budget, orders):
+    """The couples that are set aside, and the match of the others, in the first of so many orders with the fewest."""
+    couples = len(couples_of(singles.market))
+    found = (aside_in_turn(singles, order_of(number, couples), budget) for number in range(1, orders + 1))
+    return min(found, key=lambda one: len(one[0]))
 
 
 def blockers(matching, aside):
@@ -153,7 +160,7 @@ def answer(data, budget, orders, sets_aside):
         return found[1].text()
     if not sets_aside:
         return rules.Refused(41).text()
-    aside, matching = aside_in_turn(singles, budget)
+    aside, matching = fewest_aside(singles, budget, orders)
     names = couple_names(rows)
     return text_aside(matching, [names[number] for number in aside])
 
@@ -196,7 +203,7 @@ def singles_of(market):
 
 
 def compare(source, budget=2000):
-    """Compares on one random market what should be the same. Gives the orders that end, and how many are set aside."""
+    """Compares on one random market what should be the same. Gives how many orders end, and how many couples are set aside."""
     singles = singles_of(rules.Market(random_rows(source, source.randint(6, 24), 0.5, source.uniform(0.7, 1.1))))
     couples = len(couples_of(singles.market))
     by_rules = copy.deepcopy(singles)
@@ -214,8 +221,10 @@ def compare(source, budget=2000):
         if matching is not None:
             ends += 1
             assert not blockers(matching, [])
-    aside, matching = aside_in_turn(singles, budget)
+    aside, matching = aside_in_turn(singles, order_of(1, couples), budget)
     assert not blockers(matching, aside)
+    fewest, of_others = fewest_aside(singles, budget, 10)
+    assert not blockers(of_others, fewest) and len({*fewest}) == len(fewest) <= len(aside)
     gone = [name for number in aside for name in singles.market.agents[couples_of(singles.market)[number]][0]]
     assert all(matching.places[name] == rules.NONE for name in gone)
     assert bool(aside) == (plain is None)
@@ -225,15 +234,15 @@ def compare(source, budget=2000):
         before, _ = entered(singles, range(place), budget)
         again, _ = entered(singles, others[:place], budget)
         assert before.places == again.places
-    return ends, len(aside)
+    return ends, len(aside), len(fewest)
 
 
 def main(markets):
     """Tries so many random markets."""
     source = random.Random(1)
     seen = collections.Counter(compare(source) for _ in range(markets))
-    for (ends, aside), count in sorted(seen.items()):
-        print(f"{count} markets: {ends} of 10 orders end, {aside} couples set aside")
+    for (ends, aside, fewest), count in sorted(seen.items()):
+        print(f"{count} markets: {ends} of 10 orders end, {aside} couples set aside, and {fewest} by 10 orders")
 
 
 if __name__ == "__main__":

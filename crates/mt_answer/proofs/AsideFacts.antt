@@ -1,85 +1,35 @@
 -- Who is set aside, one after another: each time the couple that is entering, which is none of those before it. What is
 -- published is stable in the market of those that enter.
-use Rattle.std.proofs.Common.{◌≡◌, ◌≢◌, ℕ, zero, suc, ◌+◌, ◌<◌, ◌≤◌, ◌-◌, Bool, true, false, not, ◌&&◌, ◌||◌, ◌==◌, nat_lt, List, [], ◌∷◌, ◌++◌, map, filter, take, length, get_or, Option, None, Some, inl, inr, refl, sym, ◌∙◌, ap, subst, arith, eq-eqb, eqb-true, ltb-true, if◌then◌else◌}
+use Rattle.std.proofs.Common.{◌≡◌, ◌≢◌, ℕ, zero, suc, ◌≤◌, ◌-◌, Bool, true, false, not, ◌==◌, List, [], ◌∷◌, ◌++◌, map, filter, take, length, get_or, Option, None, Some, inl, inr, refl, sym, ◌∙◌, ap, subst, arith, if◌then◌else◌}
 use Rattle.std.specs.Option.{option_map_or}
 use Rattle.std.proofs.Math.Seq.{take-append_seam, get_or-append_seam}
-use Rattle.std.proofs.lemmas.Bool.{cases_Bool, cases_lt, and_from, and_parts, both_ways, not-true, not_from_false, or_cases, or_from, or_parts}
-use Rattle.std.proofs.lemmas.List.{append-nil, append_assoc, length-append, length-map}
-use Rattle.std.proofs.lemmas.List.Folds.{list_any-append}
+use Rattle.std.proofs.lemmas.Bool.{cases_lt}
+use Rattle.std.proofs.lemmas.List.{append-nil, append_assoc, length-append}
 use Rattle.mt_terms.specs.Best.{IsBest}
-use Rattle.mt_terms.specs.Lists.{has, below, is_distinct}
-use Rattle.mt_terms.specs.Market.{Market, Partners, Registered, couple_of}
+use Rattle.mt_terms.specs.Lists.{has, below}
+use Rattle.mt_terms.specs.Market.{Market, Partners, Registered}
 use Rattle.mt_terms.specs.Matching.{Places}
-use Rattle.mt_terms.specs.Registration.Accepted.{IsRegistration}
 use Rattle.mt_terms.specs.Rounds.{stage}
 use Rattle.mt_terms.specs.Stability.{stable}
 use Rattle.mt_terms.specs.WellFormed.{IsWellFormed}
-use Rattle.mt_terms.proofs.ListFacts.{has_item}
 use Rattle.mt_round_laws.proofs.RoundsStage.{stage_is_stable_lem}
 use Rattle.mt_order_laws.specs.Aside.{aside_after, aside_in_turn, entering_at_end, market_of_others}
 use Rattle.mt_order_laws.specs.Orders.{first_order, in_order, order_of}
-use Rattle.mt_order_laws.specs.Reordered.{reordered, others, set_aside, IsOrderOfSome, IsOrderWithout}
-use Rattle.mt_order_laws.proofs.EndFacts.{entering_in_words_lem, others_end_lem}
-use Rattle.mt_order_laws.proofs.FormedFacts.{none_aside_lem, order_of_some, others_are_order_lem, well_formed_in_any_order_lem}
+use Rattle.mt_order_laws.specs.Reordered.{reordered, others, set_aside, IsOrderWithout}
+use Rattle.mt_order_laws.proofs.EndFacts.{others_end_lem}
+use Rattle.mt_order_laws.proofs.FormedFacts.{none_aside_lem, order_of_some, well_formed_in_any_order_lem}
 use Rattle.mt_order_laws.proofs.OrderFacts.{orders_are_orders_lem}
 use Rattle.mt_order_laws.proofs.StableFacts.{best_in_any_order_lem, stable_in_any_order_lem}
+use Rattle.mt_orders.specs.Fewest.{aside_in_order, fewest_order, others_in_order}
+use Rattle.mt_orders.proofs.FewestFacts.{aside_in_order_are_couples, fewest_in_words_lem, stable_in_order}
 use Rattle.mt_answer.specs.Answer.{IsAnswerOfStage, all_proposals}
-use Rattle.mt_answer.specs.Ways.{IsAnswerAside, IsAnswerInWays, IsAnswerOfOrder}
+use Rattle.mt_answer.specs.Ways.{IsAnswerAside, IsAnswerInWays, IsAnswerOfNone, IsAnswerOfOrder}
 use Rattle.mt_answer.specs.WayLaws.{AsideAreCouples, AsideInWords, IsStableAside, IsStableIn, PublishedInWaysIsStable}
 use Rattle.mt_answer.proofs.WayFacts.{first_order_in_words_lem, no_order_in_words_lem, registration_is_first}
 use Rattle.mt_answer.specs.declared.ways.Ways.{Ways}
 
--- ---- each couple once
-
-distinct_more : (xs : List ℕ) (x : ℕ) → is_distinct xs ≡ true → has xs x ≡ false → is_distinct (xs ++ x ∷ []) ≡ true
-distinct_more [] x d out = refl
-distinct_more (y ∷ ys) x d out =
-    let parts = and_parts (not (has ys y)) (is_distinct ys) d in
-    let outs = or_parts (y == x) (has ys x) out in
-    let other : (x == y) ≡ false = elim (cases_Bool (x == y)) [
-      | inl same ↦ absurd (both_ways (y == x) outs.0 (eq-eqb y x (sym (eqb-true x y same))))
-      | inr differ ↦ differ
-    ] in
-    let free : has (ys ++ x ∷ []) y ≡ false =
-    list_any-append (λ z. z == y) ys (x ∷ []) ∙ or_from (has ys y) (has (x ∷ []) y) (not-true (has ys y) parts.0) (or_from (x == y) false other refl) in
-    and_from (not (has (ys ++ x ∷ []) y)) (is_distinct (ys ++ x ∷ [])) (not_from_false _ free) (distinct_more ys x parts.1 outs.1)
-
--- the couple that is set aside next is one of the others
-place_of_entering : (m : Market) (best : Places) (budget : ℕ) (aside : List ℕ) (k : ℕ) → entering_at_end (market_of_others aside m) best budget ≡ Some k
-    → k < length (others aside m)
-place_of_entering m best budget aside k e =
-    let low : k < length (map (couple_of m) (others aside m)) = ((entering_in_words_lem (market_of_others aside m) best budget k).0 e).0 in
-    omega (arith, length-map (others aside m) (couple_of m))
-
-one_more : (m : Market) (aside : List ℕ) (k : ℕ) → IsOrderOfSome m aside → k < length (others aside m)
-    → IsOrderOfSome m (aside ++ get_or (others aside m) k 0 ∷ [])
-one_more m aside k o l =
-    let x = get_or (others aside m) k 0 in
-    let on = has_item (others aside m) k l in
-    let parts = and_parts (nat_lt x (length m.couples)) (not (has aside x)) (sym (IsOrderWithout.of_others (others_are_order_lem m aside) x) ∙ on) in
-    record {
-      distinct = distinct_more aside x o.distinct (not-true (has aside x) parts.1);
-      within = λ c h. elim (or_cases (has aside c) (has (x ∷ []) c) (sym (list_any-append (λ z. z == c) aside (x ∷ [])) ∙ h)) [
-        | inl before ↦ o.within c before
-        | inr here ↦ elim (or_cases (x == c) false here) [
-          | inl same ↦ subst (λ (d : ℕ). d < length m.couples) (eqb-true x c same) (ltb-true x (length m.couples) parts.0)
-          | inr never ↦ cc
-        ]
-      ];
-    }
-
-all_couples : (m : Market) (best : Places) (budget n : ℕ) (aside : List ℕ) → IsOrderOfSome m aside → IsOrderOfSome m (aside_after m best budget n aside)
-all_couples m best budget zero aside o = o
-all_couples m best budget (suc n) aside o = by (entering_at_end (market_of_others aside m) best budget) refl (λ more q. all_couples m best budget n more q)
-  where
-    by : (e : Option ℕ) → entering_at_end (market_of_others aside m) best budget ≡ e
-        → ((more : List ℕ) → IsOrderOfSome m more → IsOrderOfSome m (aside_after m best budget n more))
-        → IsOrderOfSome m (option_map_or (λ k. aside_after m best budget n (aside ++ get_or (others aside m) k 0 ∷ [])) e aside)
-    by None is rest = o
-    by (Some k) is rest = rest (aside ++ get_or (others aside m) k 0 ∷ []) (one_more m aside k o (place_of_entering m best budget aside k is))
-
 pub aside_are_couples_lem : AsideAreCouples
-aside_are_couples_lem m best budget = all_couples m best budget (length m.couples) [] (record { distinct = refl; within = λ c h. cc })
+aside_are_couples_lem m best budget number = aside_in_order_are_couples m best budget number
 
 -- ---- who is set aside next
 
@@ -139,9 +89,9 @@ aside_in_words_lem m best budget c before after e = next_aside m best budget (le
 -- ---- what is published
 
 -- the match in which the rounds of an order end is stable in the market in which the others want nothing
-stable_in_order : (m : Market) → IsWellFormed m → (aside order : List ℕ) → IsOrderWithout m aside order → (best : Places) → IsBest m best
+stable_of_order : (m : Market) → IsWellFormed m → (aside order : List ℕ) → IsOrderWithout m aside order → (best : Places) → IsBest m best
     → (budget : ℕ) (s : Places × ℕ) → stage (reordered order m) best budget ≡ Some s → stable (set_aside aside m) s.0 ≡ true
-stable_in_order m wf aside order o best is_best budget s ends =
+stable_of_order m wf aside order o best is_best budget s ends =
     sym (stable_in_any_order_lem m aside order wf o s.0)
     ∙ stage_is_stable_lem (reordered order m) (well_formed_in_any_order_lem m order wf (order_of_some m aside order o)) best (best_in_any_order_lem m order best is_best) budget s ends
 
@@ -149,7 +99,7 @@ stable_in_all : (m : Market) → IsWellFormed m → (number : ℕ) (best : Place
     → stage (in_order number m) best budget ≡ Some s → stable m s.0 ≡ true
 stable_in_all m wf number best is_best budget s ends =
     subst (λ (x : Market). stable x s.0 ≡ true) (none_aside_lem m)
-    (stable_in_order m wf [] (order_of number (length m.couples)) (orders_are_orders_lem m number) best is_best budget s ends)
+    (stable_of_order m wf [] (order_of number (length m.couples)) (orders_are_orders_lem m number) best is_best budget s ends)
 
 -- without couples it is the best match
 no_order : (number : ℕ) → order_of number 0 ≡ []
@@ -174,12 +124,25 @@ all_kept : (xs : List ℕ) → filter (λ c. not (has [] c)) xs ≡ xs
 all_kept [] = refl
 all_kept (x ∷ xs) = ap (λ ys. x ∷ ys) (all_kept xs)
 
--- if no order ends, somebody is set aside
-some_aside : (m : Market) (best : Places) (budget orders : ℕ) → 1 ≤ orders → first_order m best budget orders ≡ None → aside_in_turn m best budget ≢ []
-some_aside m best budget orders one none empty =
-    let spent : stage (in_order 1 m) best budget ≡ None = (no_order_in_words_lem m best budget orders).0 none 1 (omega arith) one in
+-- if the rounds don't end, somebody is set aside
+some_in_turn : (m : Market) (best : Places) (budget : ℕ) → stage m best budget ≡ None → aside_in_turn m best budget ≢ []
+some_in_turn m best budget spent empty =
     let all : market_of_others [] m ≡ in_order 1 m = ap (λ (order : List ℕ). reordered order m) (all_kept (below (length m.couples))) in
-    others_end_lem m best budget (ap (λ (aside : List ℕ). stage (market_of_others aside m) best budget) empty ∙ ap (λ (x : Market). stage x best budget) all ∙ spent)
+    others_end_lem m best budget
+    (ap (λ (aside : List ℕ). stage (market_of_others aside m) best budget) empty ∙ ap (λ (x : Market). stage x best budget) (all ∙ registration_is_first m) ∙ spent)
+
+no_image : (f : ℕ → ℕ) (xs : List ℕ) → map f xs ≡ [] → xs ≡ []
+no_image f [] e = refl
+no_image f (x ∷ xs) e = absurd (let some : ◌≡◌ {A = List ℕ} (f x ∷ map f xs) [] = e in cc)
+
+-- if no order ends, somebody is set aside in each
+some_aside : (m : Market) (best : Places) (budget orders : ℕ) → 1 ≤ orders → first_order m best budget orders ≡ None
+    → aside_in_order (fewest_order m best budget orders) m best budget ≢ []
+some_aside m best budget orders one none empty =
+    let k = fewest_order m best budget orders in
+    let h = (fewest_in_words_lem m best budget orders k one).0 refl in
+    let spent : stage (in_order k m) best budget ≡ None = (no_order_in_words_lem m best budget orders).0 none k h.0 h.1 in
+    some_in_turn (in_order k m) best budget spent (no_image (λ c. get_or (order_of k (length m.couples)) c 0) (aside_in_turn (in_order k m) best budget) empty)
 
 other_code : {a b : ℕ} (code : ℕ) → code ≡ a → code ≡ b → (a ≡ b → ⊥) → ⊥
 other_code code e f differ = differ (sym e ∙ f)
@@ -199,37 +162,43 @@ module _ (r : Registered) (formed : IsWellFormed r.market) (budget : ℕ) (order
   not_of_aside aside None h is = h
   not_of_aside aside (Some s) h is = other_code code h.0 is (λ e. omega arith)
 
-  pub published_whole : (set_aside : Bool) (o : Option ℕ) → IsAnswerOfOrder r best budget set_aside o code text → code ≡ 0 → IsStableIn r text
-  published_whole false None h is = absurd (other_code code h.0 is (λ e. omega arith))
-  published_whole true None h is =
-      absurd (not_of_aside (aside_in_turn r.market best budget) (stage (market_of_others (aside_in_turn r.market best budget) r.market) best budget) h is)
+  not_of_none : (set_aside : Bool) → IsAnswerOfNone r best budget orders set_aside code text → code ≡ 0 → ⊥
+  not_of_none false h is = other_code code h.0 is (λ e. omega arith)
+  not_of_none true h is =
+      let k = fewest_order r.market best budget orders in
+      not_of_aside (aside_in_order k r.market best budget) (stage (others_in_order k r.market best budget) best budget) h is
+
+  pub published_whole : (set_aside : Bool) (o : Option ℕ) → IsAnswerOfOrder r best budget (record { orders = orders; set_aside = set_aside }) o code text → code ≡ 0 → IsStableIn r text
+  published_whole set_aside None h is = absurd (not_of_none set_aside h is)
   published_whole set_aside (Some number) h is = of_stage number (stage (in_order number r.market) best budget) refl h is
 
-  of_others : (aside : List ℕ) → aside ≢ [] → IsOrderOfSome r.market aside → (s : Option (Places × ℕ)) → stage (market_of_others aside r.market) best budget ≡ s
-      → IsAnswerAside r best aside s code text → IsStableAside r text
-  of_others aside some couples None ends h = absurd h
-  of_others aside some couples (Some s) ends h = record {
-    aside = aside;
+  of_others : (number : ℕ) → aside_in_order number r.market best budget ≢ [] → (s : Option (Places × ℕ)) → stage (others_in_order number r.market best budget) best budget ≡ s
+      → IsAnswerAside r best (aside_in_order number r.market best budget) s code text → IsStableAside r text
+  of_others number some None ends h = absurd h
+  of_others number some (Some s) ends h = record {
+    aside = aside_in_order number r.market best budget;
     some = some;
-    are_couples = couples;
+    are_couples = aside_are_couples_lem r.market best budget number;
     places = s.0;
     proposals = all_proposals r best;
     is_text = h.1;
-    is_stable = stable_in_order r.market formed aside (others aside r.market) (others_are_order_lem r.market aside) best is_best budget s ends;
+    is_stable = stable_in_order r.market formed best is_best budget number s ends;
   }
 
   not_of_stage : (s : Option (Places × ℕ)) → IsAnswerOfStage r best s code text → code ≡ 6 → ⊥
   not_of_stage None h is = other_code code h.0 is (λ e. omega arith)
   not_of_stage (Some s) h is = other_code code h.0 is (λ e. omega arith)
 
-  pub published_without : (set_aside : Bool) (o : Option ℕ) → first_order r.market best budget orders ≡ o → IsAnswerOfOrder r best budget set_aside o code text
-      → code ≡ 6 → (set_aside ≡ true) × IsStableAside r text
-  published_without false None e h is = absurd (other_code code h.0 is (λ x. omega arith))
-  published_without true None e h is = (
-    refl,
-    of_others (aside_in_turn r.market best budget) (some_aside r.market best budget orders one e) (aside_are_couples_lem r.market best budget)
-        (stage (market_of_others (aside_in_turn r.market best budget) r.market) best budget) refl h,
-  )
+  of_none : (set_aside : Bool) → first_order r.market best budget orders ≡ None → IsAnswerOfNone r best budget orders set_aside code text → code ≡ 6
+      → (set_aside ≡ true) × IsStableAside r text
+  of_none false e h is = absurd (other_code code h.0 is (λ x. omega arith))
+  of_none true e h is =
+      let k = fewest_order r.market best budget orders in
+      (refl, of_others k (some_aside r.market best budget orders one e) (stage (others_in_order k r.market best budget) best budget) refl h)
+
+  pub published_without : (set_aside : Bool) (o : Option ℕ) → first_order r.market best budget orders ≡ o
+      → IsAnswerOfOrder r best budget (record { orders = orders; set_aside = set_aside }) o code text → code ≡ 6 → (set_aside ≡ true) × IsStableAside r text
+  published_without set_aside None e h is = of_none set_aside e h is
   published_without set_aside (Some number) e h is = absurd (not_of_stage (stage (in_order number r.market) best budget) h is)
 
 -- without couples a match is published
@@ -240,8 +209,8 @@ alone_is_published r budget ways code text one none h =
     ap (λ (x : Market). stage x h.best budget) (registration_is_first m) ∙ ap (λ (cs : List Partners). stage (record m { couples = cs }) h.best budget) none in
     let first : first_order m h.best budget ways.orders ≡ Some 1 =
     (first_order_in_words_lem m h.best budget ways.orders 1).1 (omega arith, one, λ spent. not_none (sym ends ∙ spent), λ j from to. absurd (omega arith)) in
-    let of_one : IsAnswerOfOrder r h.best budget ways.set_aside (Some 1) code text =
-    subst (λ (o : Option ℕ). IsAnswerOfOrder r h.best budget ways.set_aside o code text) first h.ends in
+    let of_one : IsAnswerOfOrder r h.best budget ways (Some 1) code text =
+    subst (λ (o : Option ℕ). IsAnswerOfOrder r h.best budget ways o code text) first h.ends in
     (subst (λ (o : Option (Places × ℕ)). IsAnswerOfStage r h.best o code text) ends of_one).0
   where
     not_none : {s : Places × ℕ} → ◌≡◌ {A = Option (Places × ℕ)} (Some s) None → ⊥

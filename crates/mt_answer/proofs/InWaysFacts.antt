@@ -1,6 +1,5 @@
 -- The answer that each end of the couples' stage makes, in the ways in which they may enter.
-use Rattle.std.proofs.Common.{◌≡◌, ℕ, ◌<◌, true, false, List, [], length, Option, None, Some, refl, sym, ap, subst, ◌∙◌}
-use Rattle.std.specs.Prelude.{IsTrue}
+use Rattle.std.proofs.Common.{◌≡◌, ℕ, ◌<◌, true, false, List, [], length, Option, None, refl, sym, ap, ap₂, subst, ◌∙◌}
 use Rattle.mt_terms.specs.Best.{IsBest}
 use Rattle.mt_terms.specs.Market.{Market, Registered}
 use Rattle.mt_terms.specs.Matching.{Places}
@@ -9,12 +8,12 @@ use Rattle.mt_terms.specs.Rounds.{stage}
 use Rattle.mt_terms.specs.Text.{name_of, published, refused}
 use Rattle.mt_couples.specs.Ended.{IsSpent}
 use Rattle.mt_couples.specs.declared.rounds.Spent.{Spent}
-use Rattle.mt_order_laws.specs.Aside.{aside_in_turn, market_of_others}
 use Rattle.mt_order_laws.specs.Orders.{first_order, in_order}
 use Rattle.mt_order_laws.specs.Reordered.{set_aside}
 use Rattle.mt_order_laws.proofs.EndFacts.{entering_in_words_lem}
 use Rattle.mt_orders.specs.Tried.{EndsFirst}
-use Rattle.mt_orders.specs.Without.{OthersEndIn}
+use Rattle.mt_orders.specs.Fewest.{aside_in_order, fewest_order, IsAsideInOrder}
+use Rattle.mt_orders.specs.declared.without.Aside.{Aside}
 use Rattle.mt_report.specs.Aside.{published_aside}
 use Rattle.mt_answer.specs.Answer.{IsAnswerOfStage, all_proposals}
 use Rattle.mt_answer.specs.Ways.{IsAnswerAside, IsAnswerInWays, IsAnswerOfNone, IsAnswerOfOrder, IsEntering}
@@ -40,7 +39,7 @@ module _ (r : Registered) (best : Places) (is_best : IsBest r.market best) (budg
         let told : text ≡ published r.market r.names places (all_proposals r best) = is ∙ ap (published r.market r.names places) made in
         let of_stage : IsAnswerOfStage r best (stage (in_order h.number r.market) best budget) 0 text =
         subst (λ (s : Option (Places × ℕ)). IsAnswerOfStage r best s 0 text) (sym h.ends) (refl, told) in
-        subst (λ (o : Option ℕ). IsAnswerOfOrder r best budget ways.set_aside o 0 text) (sym h.first) of_stage;
+        subst (λ (o : Option ℕ). IsAnswerOfOrder r best budget ways o 0 text) (sym h.first) of_stage;
   }
 
   -- none ends, and none may be set aside
@@ -53,21 +52,21 @@ module _ (r : Registered) (best : Places) (is_best : IsBest r.market best) (budg
 
   -- none ends, and couples are set aside
   pub others_end : (ways : Ways) (code : ℕ) (text : List ℕ) → ways.set_aside ≡ true → first_order r.market best budget ways.orders ≡ None
-      → IsAnswerOfNone r best budget true code text → IsAnswerInWays r budget ways code text
+      → IsAnswerOfNone r best budget ways.orders true code text → IsAnswerInWays r budget ways code text
   others_end ways code text set none h = record {
     best = best;
     is_best = is_best;
     ends = rw (none, set) h;
   }
 
-  pub aside_answers : (aside : List ℕ) (places : Places) (received text : List ℕ) → aside ≡ aside_in_turn r.market best budget → OthersEndIn r.market best budget aside places
-      → received ≡ all_proposals r best → text ≡ published_aside r.market r.names places received aside → IsAnswerOfNone r best budget true 6 text
-  aside_answers aside places received text same h made is =
-      let told : text ≡ published_aside r.market r.names places (all_proposals r best) aside =
-      is ∙ ap (λ (xs : List ℕ). published_aside r.market r.names places xs aside) made in
-      let here : IsAnswerAside r best aside (stage (market_of_others aside r.market) best budget) 6 text =
-      subst (λ (s : Option (Places × ℕ)). IsAnswerAside r best aside s 6 text) (sym h.ends) (refl, told) in
-      subst (λ (xs : List ℕ). IsAnswerAside r best xs (stage (market_of_others xs r.market) best budget) 6 text) same here
+  pub aside_answers : (orders : ℕ) (a : Aside) (received text : List ℕ) → IsAsideInOrder r.market best budget (fewest_order r.market best budget orders) a
+      → received ≡ all_proposals r best → text ≡ published_aside r.market r.names a.matched.places received a.couples.items → IsAnswerOfNone r best budget orders true 6 text
+  aside_answers orders a received text h made is =
+      let k = fewest_order r.market best budget orders in
+      let aside = aside_in_order k r.market best budget in
+      let told : text ≡ published_aside r.market r.names a.matched.places (all_proposals r best) aside =
+      is ∙ ap₂ (λ (xs cs : List ℕ). published_aside r.market r.names a.matched.places xs cs) made h.couples in
+      subst (λ (s : Option (Places × ℕ)). IsAnswerAside r best aside s 6 text) (sym h.ends) (refl, told)
 
   -- which couple was entering
   pub spent_is : (s : Spent) (e : Entering) → IsSpent r.market best budget s → e.id ≡ name_of r.names.couples s.couple → e.rounds ≡ s.rounds → e.comes_back ≡ s.comes_back

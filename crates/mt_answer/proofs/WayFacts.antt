@@ -1,9 +1,9 @@
 -- The first of some orders that ends, in words. With one order the answer is the usual one. An answer is one, since the
 -- best match and the first order are.
-use Rattle.std.proofs.Common.{◌≡◌, ◌≢◌, ℕ, zero, suc, ◌+◌, ◌<◌, ◌≤◌, Bool, true, false, List, [], ◌∷◌, map, length, Option, None, Some, inl, inr, refl, sym, ◌∙◌, ap, subst, arith, is_some, if◌then◌else◌}
+use Rattle.std.proofs.Common.{◌≡◌, ◌≢◌, ℕ, zero, suc, ◌+◌, ◌<◌, ◌≤◌, Bool, true, false, List, map, length, Option, None, Some, inl, inr, refl, sym, ◌∙◌, ap, subst, arith, is_some, if◌then◌else◌}
 use Rattle.std.specs.Prelude.{◌↔◌}
 use Rattle.std.specs.List.{find, range_with_len}
-use Rattle.std.proofs.lemmas.Bool.{cases_Bool, cases_lt, both_ways, true≢false}
+use Rattle.std.proofs.lemmas.Bool.{cases_lt, true≢false}
 use Rattle.std.proofs.lemmas.List.{ext_get_or}
 use Rattle.mt_terms.specs.Best.{IsBest}
 use Rattle.mt_terms.specs.Lists.{below}
@@ -12,10 +12,10 @@ use Rattle.mt_terms.specs.Matching.{Places}
 use Rattle.mt_terms.specs.Rounds.{stage}
 use Rattle.mt_terms.proofs.BelowFacts.{length-map_below, map_below_at}
 use Rattle.mt_stability_laws.proofs.ExclusionLemmas.{best_is_unique_lem}
-use Rattle.mt_order_laws.specs.Aside.{aside_in_turn, market_of_others}
+use Rattle.mt_orders.specs.Fewest.{aside_in_order, fewest_order, others_in_order}
 use Rattle.mt_order_laws.specs.Orders.{ends_in_order, first_order, in_order}
 use Rattle.mt_order_laws.proofs.FormedFacts.{no_couple}
-use Rattle.mt_answer.specs.Answer.{IsAnswerOfMarket, IsAnswerOfStage}
+use Rattle.mt_answer.specs.Answer.{IsAnswerOfStage}
 use Rattle.mt_answer.specs.Ways.{IsAnswerAside, IsAnswerInWays, IsAnswerOfNone, IsAnswerOfOrder}
 use Rattle.mt_answer.specs.WayLaws.{FirstOrderInWords, NoOrderInWords, OneAnswerInWays, OneWayIsUsual, SpentInWays}
 use Rattle.mt_answer.specs.declared.ways.Ways.{Ways}
@@ -121,7 +121,7 @@ registration_is_first m =
 
 -- the answer by one order and by none is that of the stage
 one_order : (r : Registered) (best : Places) (budget code : ℕ) (text : List ℕ) (s : Option (Places × ℕ)) → stage (in_order 1 r.market) best budget ≡ s
-    → IsAnswerOfOrder r best budget false (if is_some s then Some 1 else None) code text ↔ IsAnswerOfStage r best s code text
+    → IsAnswerOfOrder r best budget (record { orders = 1; set_aside = false }) (if is_some s then Some 1 else None) code text ↔ IsAnswerOfStage r best s code text
 one_order r best budget code text None e = ((λ h. h), (λ h. h))
 one_order r best budget code text (Some s) e = (
   (λ h. subst (λ (o : Option (Places × ℕ)). IsAnswerOfStage r best o code text) e h),
@@ -129,10 +129,10 @@ one_order r best budget code text (Some s) e = (
 )
 
 usual : (r : Registered) (best : Places) (budget code : ℕ) (text : List ℕ)
-    → IsAnswerOfOrder r best budget false (first_order r.market best budget 1) code text ↔ IsAnswerOfStage r best (stage r.market best budget) code text
+    → IsAnswerOfOrder r best budget (record { orders = 1; set_aside = false }) (first_order r.market best budget 1) code text ↔ IsAnswerOfStage r best (stage r.market best budget) code text
 usual r best budget code text =
     let same : stage (in_order 1 r.market) best budget ≡ stage r.market best budget = ap (λ (m : Market). stage m best budget) (registration_is_first r.market) in
-    subst (λ (o : Option (Places × ℕ)). IsAnswerOfOrder r best budget false (if is_some (stage (in_order 1 r.market) best budget) then Some 1 else None) code text ↔ IsAnswerOfStage r best o code text)
+    subst (λ (o : Option (Places × ℕ)). IsAnswerOfOrder r best budget (record { orders = 1; set_aside = false }) (if is_some (stage (in_order 1 r.market) best budget) then Some 1 else None) code text ↔ IsAnswerOfStage r best o code text)
     same (one_order r best budget code text (stage (in_order 1 r.market) best budget) refl)
 
 pub one_way_is_usual_lem : OneWayIsUsual
@@ -157,27 +157,28 @@ aside_once : (r : Registered) (best : Places) (aside : List ℕ) (s : Option (Pl
 aside_once r best aside None c d text other h k = absurd h
 aside_once r best aside (Some s) c d text other h k = (h.0 ∙ sym k.0, h.1 ∙ sym k.1)
 
-none_once : (r : Registered) (best : Places) (budget : ℕ) (set_aside : Bool) (c d : ℕ) (text other : List ℕ)
-    → IsAnswerOfNone r best budget set_aside c text → IsAnswerOfNone r best budget set_aside d other → SameAnswer c d text other
-none_once r best budget false c d text other h k = (h.0 ∙ sym k.0, h.1 ∙ sym k.1)
-none_once r best budget true c d text other h k =
-    aside_once r best (aside_in_turn r.market best budget) (stage (market_of_others (aside_in_turn r.market best budget) r.market) best budget) c d text other h k
+none_once : (r : Registered) (best : Places) (budget orders : ℕ) (set_aside : Bool) (c d : ℕ) (text other : List ℕ)
+    → IsAnswerOfNone r best budget orders set_aside c text → IsAnswerOfNone r best budget orders set_aside d other → SameAnswer c d text other
+none_once r best budget orders false c d text other h k = (h.0 ∙ sym k.0, h.1 ∙ sym k.1)
+none_once r best budget orders true c d text other h k =
+    let number = fewest_order r.market best budget orders in
+    aside_once r best (aside_in_order number r.market best budget) (stage (others_in_order number r.market best budget) best budget) c d text other h k
 
-order_once : (r : Registered) (best : Places) (budget : ℕ) (set_aside : Bool) (o : Option ℕ) (c d : ℕ) (text other : List ℕ)
-    → IsAnswerOfOrder r best budget set_aside o c text → IsAnswerOfOrder r best budget set_aside o d other → SameAnswer c d text other
-order_once r best budget set_aside None c d text other h k = none_once r best budget set_aside c d text other h k
-order_once r best budget set_aside (Some n) c d text other h k = stage_once r best (stage (in_order n r.market) best budget) c d text other h k
+order_once : (r : Registered) (best : Places) (budget : ℕ) (ways : Ways) (o : Option ℕ) (c d : ℕ) (text other : List ℕ)
+    → IsAnswerOfOrder r best budget ways o c text → IsAnswerOfOrder r best budget ways o d other → SameAnswer c d text other
+order_once r best budget ways None c d text other h k = none_once r best budget ways.orders ways.set_aside c d text other h k
+order_once r best budget ways (Some n) c d text other h k = stage_once r best (stage (in_order n r.market) best budget) c d text other h k
 
 -- the answer is by any best match, since there is one
 pub by_best : (r : Registered) (budget : ℕ) (ways : Ways) (code : ℕ) (text : List ℕ) (best : Places) → IsAnswerInWays r budget ways code text → IsBest r.market best
-    → IsAnswerOfOrder r best budget ways.set_aside (first_order r.market best budget ways.orders) code text
+    → IsAnswerOfOrder r best budget ways (first_order r.market best budget ways.orders) code text
 by_best r budget ways code text best h is_best =
     let same : h.best ≡ best = best_is_unique_lem r.market h.best best h.is_best is_best in
-    subst (λ (b : Places). IsAnswerOfOrder r b budget ways.set_aside (first_order r.market b budget ways.orders) code text) same h.ends
+    subst (λ (b : Places). IsAnswerOfOrder r b budget ways (first_order r.market b budget ways.orders) code text) same h.ends
 
 pub one_answer_in_ways_lem : OneAnswerInWays
 one_answer_in_ways_lem r budget ways c d text other h k =
-    order_once r h.best budget ways.set_aside (first_order r.market h.best budget ways.orders) c d text other h.ends (by_best r budget ways d other h.best k h.is_best)
+    order_once r h.best budget ways (first_order r.market h.best budget ways.orders) c d text other h.ends (by_best r budget ways d other h.best k h.is_best)
 
 -- ---- a spent budget
 
@@ -185,16 +186,23 @@ one_answer_in_ways_lem r budget ways c d text other h k =
 two_codes : {a b : ℕ} (code : ℕ) → code ≡ a → code ≡ b → (a ≡ b → ⊥) → ⊥
 two_codes code e f differ = differ (sym e ∙ f)
 
-spent_by_order : (r : Registered) (best : Places) (budget orders : ℕ) (set_aside : Bool) (code : ℕ) (text : List ℕ) (o : Option ℕ) → first_order r.market best budget orders ≡ o
-    → IsAnswerOfOrder r best budget set_aside o code text → code ≡ 41 → (set_aside ≡ false) × (first_order r.market best budget orders ≡ None)
-spent_by_order r best budget orders false code text None e h is = (refl, e)
-spent_by_order r best budget orders true code text None e h is = absurd (by (stage (market_of_others (aside_in_turn r.market best budget) r.market) best budget) h)
+spent_by_none : (r : Registered) (best : Places) (budget orders : ℕ) (set_aside : Bool) (code : ℕ) (text : List ℕ)
+    → IsAnswerOfNone r best budget orders set_aside code text → code ≡ 41 → set_aside ≡ false
+spent_by_none r best budget orders false code text h is = refl
+spent_by_none r best budget orders true code text h is = absurd (by (stage (others_in_order k r.market best budget) best budget) h)
   where
-    by : (s : Option (Places × ℕ)) → IsAnswerAside r best (aside_in_turn r.market best budget) s code text → ⊥
-    by None k = k
-    by (Some s) k = two_codes code k.0 is (λ e. omega arith)
-spent_by_order r best budget orders set_aside code text (Some n) e h is =
-    absurd (by (stage (in_order n r.market) best budget) (((first_order_in_words_lem r.market best budget orders n).0 e).2) h)
+    k : ℕ
+    k = fewest_order r.market best budget orders
+
+    by : (s : Option (Places × ℕ)) → IsAnswerAside r best (aside_in_order (fewest_order r.market best budget orders) r.market best budget) s code text → ⊥
+    by None h = h
+    by (Some s) h = two_codes code h.0 is (λ e. omega arith)
+
+spent_by_order : (r : Registered) (best : Places) (budget : ℕ) (ways : Ways) (code : ℕ) (text : List ℕ) (o : Option ℕ) → first_order r.market best budget ways.orders ≡ o
+    → IsAnswerOfOrder r best budget ways o code text → code ≡ 41 → (ways.set_aside ≡ false) × (first_order r.market best budget ways.orders ≡ None)
+spent_by_order r best budget ways code text None e h is = (spent_by_none r best budget ways.orders ways.set_aside code text h is, e)
+spent_by_order r best budget ways code text (Some n) e h is =
+    absurd (by (stage (in_order n r.market) best budget) (((first_order_in_words_lem r.market best budget ways.orders n).0 e).2) h)
   where
     by : (s : Option (Places × ℕ)) → s ≢ None → IsAnswerOfStage r best s code text → ⊥
     by None some k = some refl
@@ -204,12 +212,12 @@ pub spent_in_ways_lem : SpentInWays
 spent_in_ways_lem r budget ways code text best h is_best =
     let ends = by_best r budget ways code text best h is_best in (
       (λ is.
-          let spent = spent_by_order r best budget ways.orders ways.set_aside code text (first_order r.market best budget ways.orders) refl ends is in
+          let spent = spent_by_order r best budget ways code text (first_order r.market best budget ways.orders) refl ends is in
           (spent.0, (no_order_in_words_lem r.market best budget ways.orders).0 spent.1)),
       (λ spent.
           let none = (no_order_in_words_lem r.market best budget ways.orders).1 spent.1 in
-          let refused : IsAnswerOfOrder r best budget false None code text =
-          subst (λ (o : Option ℕ). IsAnswerOfOrder r best budget false o code text) none
-          (subst (λ (b : Bool). IsAnswerOfOrder r best budget b (first_order r.market best budget ways.orders) code text) spent.0 ends) in
+          let refused : IsAnswerOfNone r best budget ways.orders false code text =
+          subst (λ (b : Bool). IsAnswerOfNone r best budget ways.orders b code text) spent.0
+          (subst (λ (o : Option ℕ). IsAnswerOfOrder r best budget ways o code text) none ends) in
           refused.0),
     )

@@ -1,5 +1,5 @@
 -- What the answer is in the ways in which couples may enter, in words.
-use Rattle.std.specs.Prelude.{◌≡◌, ◌≢◌, ◌↔◌, ℕ, ◌<◌, ◌≤◌, false, true, List, [], ◌∷◌, ◌++◌, slice_index, Option, None, Some, IsTrue}
+use Rattle.std.specs.Prelude.{◌≡◌, ◌≢◌, ◌↔◌, ℕ, ◌<◌, ◌≤◌, false, true, List, [], ◌∷◌, ◌++◌, slice_index, None, Some, IsTrue}
 use Rattle.mt_terms.specs.Best.{IsBest}
 use Rattle.mt_terms.specs.Market.{Market, Registered}
 use Rattle.mt_terms.specs.Matching.{Places}
@@ -11,6 +11,7 @@ use Rattle.mt_terms.specs.declared.codes.TheConstants.{BUDGET_SPENT}
 use Rattle.mt_order_laws.specs.Aside.{aside_in_turn, entering_at_end, market_of_others}
 use Rattle.mt_order_laws.specs.Orders.{first_order, in_order}
 use Rattle.mt_order_laws.specs.Reordered.{others, set_aside, IsOrderOfSome}
+use Rattle.mt_orders.specs.Fewest.{aside_in_order}
 use Rattle.mt_report.specs.Aside.{published_aside}
 use Rattle.mt_report.specs.declared.ended.TheConstants.{SET_ASIDE}
 use Rattle.mt_answer.specs.Answer.{IsAnswerOfMarket}
@@ -45,15 +46,16 @@ SpentInWays =
     → (code ≡ BUDGET_SPENT)
     ↔ ((ways.set_aside ≡ false) × ((k : ℕ) → 1 ≤ k → k ≤ ways.orders → stage (in_order k r.market) best budget ≡ None))
 
--- Each couple that is set aside is the one that is entering at the end, once those before it are set aside.
+-- Each couple that is set aside in turn is the one that is entering at the end, once those before it are set aside. In
+-- another order it is so of the market with its couples in that order.
 abbrev pub AsideInWords : Type 0
 AsideInWords =
     (m : Market) (best : Places) (budget c : ℕ) (before after : List ℕ) → aside_in_turn m best budget ≡ before ++ c ∷ after
     → (k : ℕ) × (entering_at_end (market_of_others before m) best budget ≡ Some k) × (c ≡ slice_index (others before m) k)
 
--- the couples that are set aside are couples of the market, each once
+-- the couples that are set aside in an order are couples of the market, each once
 abbrev pub AsideAreCouples : Type 0
-AsideAreCouples = (m : Market) (best : Places) (budget : ℕ) → IsOrderOfSome m (aside_in_turn m best budget)
+AsideAreCouples = (m : Market) (best : Places) (budget number : ℕ) → IsOrderOfSome m (aside_in_order number m best budget)
 
 -- the text of a match that is stable in the market of a file, and the best one if there is no couple
 pub record IsStableIn (r : Registered) (text : List ℕ) : Type 0 where

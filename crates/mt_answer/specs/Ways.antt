@@ -1,13 +1,14 @@
 -- What a run writes for a market whose couples may enter in several orders, and may be set aside. This project's own rule.
-use Rattle.std.specs.Prelude.{◌≡◌, ◌≢◌, ◌<◌, ◌≤◌, ℕ, Bool, true, false, List, length, Option, None, Some, IsFalse, IsTrue, ⊤}
+use Rattle.std.specs.Prelude.{◌≡◌, ◌≤◌, ℕ, Bool, true, false, List, Option, None, Some, IsFalse, IsTrue, ⊤}
 use Rattle.mt_terms.specs.Best.{IsBest}
-use Rattle.mt_terms.specs.Market.{Market, Registered}
+use Rattle.mt_terms.specs.Market.{Registered}
 use Rattle.mt_terms.specs.Matching.{Places}
 use Rattle.mt_terms.specs.Rounds.{stage}
 use Rattle.mt_terms.specs.Text.{name_of}
 use Rattle.mt_terms.specs.declared.codes.TheConstants.{BUDGET_SPENT}
-use Rattle.mt_order_laws.specs.Aside.{aside_in_turn, entering_at_end, market_of_others}
+use Rattle.mt_order_laws.specs.Aside.{entering_at_end}
 use Rattle.mt_order_laws.specs.Orders.{first_order, in_order}
+use Rattle.mt_orders.specs.Fewest.{aside_in_order, fewest_order, others_in_order}
 use Rattle.mt_report.specs.Aside.{published_aside}
 use Rattle.mt_report.specs.declared.ended.TheConstants.{SET_ASIDE}
 use Rattle.mt_answer.specs.Answer.{IsAnswerOfStage, IsRefusedAlone, all_proposals}
@@ -22,18 +23,18 @@ IsAnswerAside r best aside None code text = ⊥
 IsAnswerAside r best aside (Some s) code text =
     (code ≡ SET_ASIDE) × (text ≡ published_aside r.market r.names s.0 (all_proposals r best) aside)
 
--- The answer if no order ends. If couples may be set aside, they are, one after another, until the others' rounds end.
--- Else the budget is spent.
-abbrev pub IsAnswerOfNone : Registered → Places → ℕ → Bool → ℕ → List ℕ → Type 0
-IsAnswerOfNone r best budget false code text = IsRefusedAlone BUDGET_SPENT code text
-IsAnswerOfNone r best budget true code text =
-    let aside : List ℕ = aside_in_turn r.market best budget in
-    IsAnswerAside r best aside (stage (market_of_others aside r.market) best budget) code text
+-- The answer if none of the orders from 1 to `orders` ends. If couples may be set aside, they are, one after another,
+-- until the others' rounds end, in the first of these orders in which the fewest are. Else the budget is spent.
+abbrev pub IsAnswerOfNone : Registered → Places → ℕ → ℕ → Bool → ℕ → List ℕ → Type 0
+IsAnswerOfNone r best budget orders false code text = IsRefusedAlone BUDGET_SPENT code text
+IsAnswerOfNone r best budget orders true code text =
+    let k : ℕ = fewest_order r.market best budget orders in
+    IsAnswerAside r best (aside_in_order k r.market best budget) (stage (others_in_order k r.market best budget) best budget) code text
 
 -- the answer by the order that is used, if there is one: that of the couples' stage in this order
-abbrev pub IsAnswerOfOrder : Registered → Places → ℕ → Bool → Option ℕ → ℕ → List ℕ → Type 0
-IsAnswerOfOrder r best budget set_aside None code text = IsAnswerOfNone r best budget set_aside code text
-IsAnswerOfOrder r best budget set_aside (Some k) code text =
+abbrev pub IsAnswerOfOrder : Registered → Places → ℕ → Ways → Option ℕ → ℕ → List ℕ → Type 0
+IsAnswerOfOrder r best budget ways None code text = IsAnswerOfNone r best budget ways.orders ways.set_aside code text
+IsAnswerOfOrder r best budget ways (Some k) code text =
     IsAnswerOfStage r best (stage (in_order k r.market) best budget) code text
 
 -- The answer to a market, a budget, and the ways in which couples may enter. The couples enter after the best match of
@@ -41,7 +42,7 @@ IsAnswerOfOrder r best budget set_aside (Some k) code text =
 pub record IsAnswerInWays (r : Registered) (budget : ℕ) (ways : Ways) (code : ℕ) (text : List ℕ) : Type 0 where
   pub best : Places
   pub is_best : IsBest r.market best
-  pub ends : IsAnswerOfOrder r best budget ways.set_aside (first_order r.market best budget ways.orders) code text
+  pub ends : IsAnswerOfOrder r best budget ways (first_order r.market best budget ways.orders) code text
 
 -- The couple with this id was entering, in the order of registration, when the budget was spent. All rounds of the
 -- budget were made, unless a state came back. Then no budget is enough for this order.

@@ -16,7 +16,7 @@ use crate::ways::{Answer, Entering, Unanswered, Ways};
 use mt_couples::{CoupleEnd, Spent};
 use mt_crew::Singles;
 use mt_market::Roster;
-use mt_orders::{Aside, Tries, enter_aside, enter_in_orders};
+use mt_orders::{Aside, Tries, enter_aside_in_orders, enter_in_orders};
 use mt_ranks::Ranks;
 use mt_reordered::set_aside;
 use mt_report::{SET_ASIDE, published_aside};
@@ -56,22 +56,23 @@ fn is_stable_aside<T: Threads + Sync>(
     is_stable(rt, alloc, &others, &ranks, &aside.matched)
 }
 
-/// The text of the match of the others, once couples are set aside in turn.
+/// The text of the match of the others, once couples are set aside in the order in which the fewest are.
 fn answer_aside<T: Threads + Sync>(
     rt: &T,
     alloc: Global,
     roster: &Roster,
     singles: &Singles,
-    budget: u32,
+    tries: Tries,
 ) -> Result<Answer, AllocError>
+    requires orders { (1 ≤ tries.orders) × (tries.orders ≤ 1000) }
     requires best { IsBest roster.now.market singles.now.matched.places }
     requires proposals { singles.now.proposals.items
         ≡ all_proposals roster.now singles.now.matched.places }
-    ensures text { IfOk result (λ a. IsAnswerOfNone roster.now singles.now.matched.places budget true
-        a.code a.text.items) }
+    ensures text { IfOk result (λ a. IsAnswerOfNone roster.now singles.now.matched.places
+        tries.budget tries.orders true a.code a.text.items) }
     ensures code { IfOk result (λ a. a.code ≡ SET_ASIDE) }
 {
-    let aside = enter_aside(rt, alloc, roster, &singles.matched, budget)?;
+    let aside = enter_aside_in_orders(rt, alloc, roster, &singles.matched, tries)?;
     if !is_stable_aside(rt, alloc, roster, &aside)? {
         unreachable!();
     }
@@ -121,7 +122,7 @@ fn answer_by_ranks<T: Threads + Wait + Sync>(
         Err(CoupleEnd::Memory) => Err(Unanswered::Memory),
         Err(CoupleEnd::BudgetSpent(spent)) => {
             if ways.set_aside {
-                Ok(answer_aside(rt, alloc, roster, &singles, options.budget)?)
+                Ok(answer_aside(rt, alloc, roster, &singles, tries)?)
             } else {
                 Err(Unanswered::BudgetSpent(entering(roster, spent)))
             }
@@ -131,7 +132,8 @@ fn answer_by_ranks<T: Threads + Wait + Sync>(
 
 /// The text of the market's match, as [`answer_to_market`](crate::answer_to_market) gives it, if the couples may enter in
 /// several ways. They enter in the first order that ends within the budget. If none does, couples are set aside one after
-/// another, until the others' rounds end, if that may be. Their members stay unplaced.
+/// another, until the others' rounds end, if that may be. Of the orders it is the first in which the fewest are. Their
+/// members stay unplaced.
 ///
 /// The errors are that the budget is spent in each order and no couple may be set aside, and want of memory.
 pub fn answer_in_ways<T: Threads + Wait + Sync>(

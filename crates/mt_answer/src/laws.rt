@@ -34,12 +34,12 @@ pub fn spent_in_ways()
     ensures { SpentInWays }
 {}
 
-/// Each couple that is set aside is the one that is entering at the end, once those before it are set aside.
+/// Each couple that is set aside in turn is the one that is entering at the end, once those before it are set aside.
 pub fn aside_in_words()
     ensures { AsideInWords }
 {}
 
-/// The couples that are set aside are couples of the market, each once.
+/// The couples that are set aside in an order are couples of the market, each once.
 pub fn aside_are_couples()
     ensures { AsideAreCouples }
 {}

@@ -1,3 +1,5 @@
+pub mod AsideCouples
+pub mod FewestFacts
 pub mod MarketFacts
 pub mod ShuffleFacts
 pub mod TriedFacts

@@ -1,3 +1,4 @@
+pub mod Fewest
 pub mod Laws
 pub mod Tried
 pub mod Without

