@@ -12,8 +12,8 @@ CHECKS = {
     "bytes": 6088,
     "check": 20532,
     # tests/cli with the path of a program, where bin/nrmatch isn't run.
-    "cli PROGRAM": 8424,
-    "cli": 8427,
+    "cli PROGRAM": 8448,
+    "cli": 8451,
     "controls": 44,
     "edits_apply": 665,
     "explain": 3094,
