@@ -131,9 +131,9 @@ fn answer_by_ranks<T: Threads + Wait + Sync>(
 }
 
 /// The text of the market's match, as [`answer_to_market`](crate::answer_to_market) gives it, if the couples may enter in
-/// several ways. They enter in the first order that ends within the budget. If none does, couples are set aside one after
-/// another, until the others' rounds end, if that may be. Of the orders it is the first in which the fewest are. Their
-/// members stay unplaced.
+/// several ways. They enter in the first order that ends within the budget. If none does and [`Ways::set_aside`] allows
+/// it, couples are set aside one after another, until the rounds of the others end. The order is then the first in which
+/// the fewest are set aside. Their members stay unplaced.
 ///
 /// The errors are that the budget is spent in each order and no couple may be set aside, and want of memory.
 pub fn answer_in_ways<T: Threads + Wait + Sync>(

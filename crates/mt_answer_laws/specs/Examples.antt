@@ -40,8 +40,8 @@ pub record AnswersOfCrossed : Type 0 where
   pub never_published : (budget : ℕ) → ¬ run.IsAnswer crossed_bytes budget 0 programs_text
   pub other_count : answer_to crossed_bytes other_count_text ≡ record { code = 1; text = check_line (codes "differs" ∷ decimal 5 ∷ []) }
 
--- The rejection chain as a file, and this file with one record changed: the first applicant lists its first wish alone, the
--- third one lists nothing, or the first program has two posts.
+-- The rejection chain as a file, and this file with one record changed. The first applicant lists its first wish alone,
+-- the third one lists nothing, or the first program has two posts.
 abbrev pub chain_with : List ℕ → List ℕ → List ℕ → List ℕ
 chain_with program first third =
     codes "match,1\n" ++ program ++ codes "program,P2,1,a1,a2\n" ++ first ++ codes "applicant,a2,P2,P1\n" ++ third

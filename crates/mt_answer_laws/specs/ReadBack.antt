@@ -8,7 +8,7 @@ use Rattle.mt_match_file.specs.Submitted.{Submitted}
 use Rattle.mt_input.specs.Files.{market_in}
 use Rattle.mt_files.specs.Files.{submitted_in}
 
--- A text is that of a stable match of the market in the bytes, and what it tells of that market is that match.
+-- A text is that of a stable match of the market in the bytes, and it is read back as that match.
 pub record IsReadBack (bytes text : List ℕ) : Type 0 where
   pub registered : Registered
   pub of_bytes : market_in bytes ≡ Ok registered

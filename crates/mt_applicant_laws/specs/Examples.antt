@@ -45,6 +45,7 @@ pub record LongerListOfTheFirst : Type 0 where
 
 -- With a couple a single can gain by a lie. By its own list it has its last wish after the couple has entered. If it
 -- lists its second wish alone, it keeps that one: the couple finds the single's first wish open, and takes it.
+--
 --     program,x,1,s,a    program,y,1,b,s    program,z,1,a,s,b    applicant,s,z,y,x    couple,c,a,b,x,z,z,y
 abbrev pub seat_left_open : Market
 seat_left_open =

@@ -66,7 +66,7 @@ fn blocker_line(
     }
 }
 
-/// The line of a stable match that sets so many couples aside.
+/// The line of a stable match, given the number of couples that it sets aside.
 fn stable_line(alloc: Global, aside: usize) -> Result<Vec<u8>, AllocError>
     ensures { IfOk result (λ text. text.items ≡ stable_line_with aside) }
 {
@@ -78,7 +78,7 @@ fn stable_line(alloc: Global, aside: usize) -> Result<Vec<u8>, AllocError>
     check_line(alloc, &[b"stable".as_slice(), b"aside".as_slice(), count])
 }
 
-/// The line of a finding on a match that sets so many couples aside.
+/// The line of a finding on a match, given the number of couples that it sets aside.
 pub(crate) fn finding_line(
     alloc: Global,
     roster: &Roster,

@@ -57,8 +57,8 @@ AddsSingles s p ranks found =
     (r a : ℕ) → ranks r ≡ true → rank_of s.market p a ≡ Some r → agent_of s.market a ≡ Single a
     → opens s (p ∷ []) (Single a) ≡ true → has found a ≡ true
 
--- whether a couple that is indexed at a program has entered, doesn't wait, and has a pair there that would be taken, of
--- those from the first indexed one to the last that it wants more than what it has
+-- Whether a couple that is indexed at a program has entered, doesn't wait, and has a pair there that would be taken. The
+-- pairs are those from the first indexed one to the last that it wants more than what it has.
 abbrev pub is_couple_reopened : ℕ → Assigned → Watch → ℕ → List Agent → NamedPairs → Bool
 is_couple_reopened k s w p waiting n =
     is_idle k waiting (Couple n.couple) && opens_between s n.couple p n.from (end_of n.until (slice_index_or w.better.items n.couple 0))

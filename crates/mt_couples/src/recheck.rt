@@ -325,7 +325,7 @@ impl<'s, 'a> Recheck<'s, 'a> {
         }
     }
 
-    /// Rechecks the one program that was left, if no couple is reopened there: the singles that block want the program
+    /// Rechecks the one program that was left, if no couple is reopened there. The singles that block want the program
     /// more than what they have, so they have ranks that are watched there. If a couple is reopened, this does nothing,
     /// and the result is false.
     fn recheck_one_watched<R: Threads + Sync>(

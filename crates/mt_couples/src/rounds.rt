@@ -156,9 +156,9 @@ impl<'a> Stage<'a> {
         assignment.into_match()
     }
 
-    /// Moves the agent to an option that would be taken, and puts on the work list who is to be rechecked then: the
-    /// displaced agents, the agent itself if it blocks now, and for each program that was left the agents of its list
-    /// that block now.
+    /// Moves the agent to an option that would be taken, and puts on the work list who is to be rechecked then. These are
+    /// the displaced agents, and the agent itself if it blocks now. Each program that was left adds the agents of its
+    /// list that block now.
     fn take_option<R: Threads + Sync>(
         &mut self,
         rt: &R,
@@ -271,10 +271,12 @@ impl<'a> Stage<'a> {
     }
 }
 
-/// Lets the couples enter a match of the singles, in order of their numbers, in the manner of Roth and Peranson (1999).
-/// The order of the rounds is this project's own rule. A couple is put on the empty work list, and rounds are made until
-/// the list is empty. The agent at the front takes its first better option that would be taken. An applicant that it
-/// displaces leaves with its whole couple, and the agents to whom that may matter are rechecked.
+/// Lets the couples enter a match of the singles, in order of their numbers. The manner is that of Roth and Peranson, 1999.
+/// The order of the rounds is this project's own rule.
+///
+/// A couple is put on the empty work list, and rounds are made until the list is empty. The agent at the front takes its
+/// first better option that would be taken. An applicant that it displaces leaves with its whole couple, and the agents
+/// to whom that may matter are rechecked.
 ///
 /// The errors are that more rounds than `budget` would be needed, and want of memory. In both the given match is gone.
 /// The first error names the couple that was entering. It comes at once if a state of its rounds comes back.

@@ -14,8 +14,8 @@ use mt_stage_tables::{NamedPairs, PairIndex};
 use mt_terms::{Agent, AppNo, CoupleNo, ProgNo};
 use std::alloc::{AllocError, Global};
 
-/// An index of who may block once somebody leaves a program: for each program the ranks of the singles that want it more
-/// than what they have, and the couples that have an indexed pair there.
+/// An index of who may block once somebody leaves a program. For each program it has the ranks of the singles that want
+/// it more than what they have, and the couples that have an indexed pair there.
 pub(crate) struct Watch {
     singles: RankTable,
     couples: PairIndex,

@@ -1,5 +1,5 @@
-//! Records taken apart without a look at the ids of their lists: whichever of these is found among the registered ids
-//! is an id, since those are.
+//! Records split into fields, without a look at the ids of their lists. Whichever of these is found among the registered
+//! ids is an id, since those are.
 ghost use Rattle.std.specs.Prelude.{◌≡◌, option_map};
 ghost use Rattle.mt_lists.specs.Rows.{fields_left};
 ghost use Rattle.mt_file_laws.specs.Faultless.{program_draft, applicant_draft, couple_draft, draft};

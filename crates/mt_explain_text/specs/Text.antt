@@ -54,7 +54,7 @@ why_text Unlisted = codes "unlisted"
 why_text Full = codes "full"
 why_text Open = codes "open"
 
--- the rank from 1 that a line tells of its member, if the program lists it
+-- the rank from 1 that a line gives its member, if the program lists it
 abbrev pub rank_of : Line → Option ℕ
 rank_of l = option_map (λ x. x.rank + 1) l.prospect
 

@@ -45,7 +45,7 @@ pub(crate) fn push_told(page: &mut Page, is_public: bool, number: Option<u64>)
     push_number(page, told);
 }
 
-/// The rank, from 1, that a line tells of its member.
+/// The rank, from 1, that a line gives its member, if the program lists it.
 pub(crate) fn rank_of(line: &Line) -> Option<u64>
     ensures { result ≡ rank_of line.now }
 {

@@ -53,7 +53,7 @@ impl Page {
         &self.bytes[..self.len]
     }
 
-    /// Whether there is room for so many bytes more.
+    /// Whether the page has room for `more` bytes.
     pub fn has_room(&self, more: usize) -> bool
         ensures { result ≡ nat_le more (PAGE_LEN - length self.now) }
     {

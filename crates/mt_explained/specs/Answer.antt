@@ -44,8 +44,8 @@ abbrev pub answer_of : List Bytes → Bool → Result (Registered × Submitted) 
 answer_of ids is_public (Ok files) = submitted_answer files.0 files.1 ids is_public
 answer_of ids is_public (Err fault) = fault_answer fault.0 fault.1
 
--- The answer to the bytes of a market and of a match: the lines of the agents asked for, or the refusal of a word that
--- names none, or the first fault of the market, or else of the match.
+-- The answer to the bytes of a market and of a match. It is the lines of the agents asked for, the refusal of a word that
+-- names none, or a fault: the first one of the market, or else of the match.
 abbrev pub answer_to : List Bytes → Bool → List ℕ → List ℕ → Answer
 answer_to ids is_public market_bytes match_bytes = answer_of ids is_public (files_in market_bytes match_bytes)
 

@@ -64,8 +64,8 @@ fn source_word(source: Source) -> &'static [u8]
     }
 }
 
-/// The line of a refusal by its fields, but for those that all such lines have: the word that it begins with, the code and
-/// its name, the word for the file, the number of the record and the id.
+/// The line of a refusal by the fields that differ from line to line. They are the first word, the code and its name, the
+/// word for the file, the number of the record and the id.
 pub fn refusal_line<'a>(
     word: &'a [u8],
     code: &'a [u8],

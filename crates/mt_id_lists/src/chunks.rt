@@ -17,7 +17,7 @@ const FEWEST: usize = 8192;
 /// The most processors that chunks are made for.
 const MOST_PROCESSORS: usize = 64;
 
-/// Whether lists have so many entries that they are worth threads.
+/// Whether lists have enough entries to be worth threads.
 fn are_long<L, M: Drop + Send + Sync, S: ListReader<L, M> + Sync>(reader: &S, lists: &[L]) -> bool {
     let mut entries: usize = 0;
     for list in lists {
@@ -97,7 +97,7 @@ fn append<T: Copy + Drop>(to: &mut FlatLists<T>, lists: &FlatLists<T>) -> Result
     Ok(())
 }
 
-/// The lists of chunks one after another, if each was read. A chunk is let go once its lists are joined.
+/// The lists of chunks one after another, if each was read. A chunk is dropped once its lists are joined.
 fn join<T: Copy + Drop>(
     alloc: Global,
     chunks: Vec<Option<FlatLists<T>>>,

@@ -32,7 +32,7 @@ impl Model for Met {
 }
 
 impl Met {
-    /// None of so many.
+    /// The numbers below `count`, none of them met.
     pub fn new(alloc: Global, count: usize) -> Result<Self, AllocError>
         ensures { IfOk result (λ met. length met ≡ count) }
     {

@@ -15,7 +15,7 @@ pub(crate) struct AsideCouples {
 }
 
 impl AsideCouples {
-    /// None of so many couples.
+    /// No couple of `count` is set aside.
     pub(crate) fn none(alloc: Global, count: usize) -> Result<Self, AllocError>
         ensures none { IfOk result (λ aside. aside.couples.items ≡ []) }
         ensures marks { IfOk result (λ aside. length aside.marks.items ≡ count) }

@@ -33,7 +33,7 @@ pub fn matches_that_cannot_be_read()
         ≡ at_fault 55 0 "a2" }
 {}
 
-/// A record sets one couple of the market aside, wherever it is.
+/// A record sets one couple of the market aside. It may stand before or after the other records.
 pub fn matches_with_couples_set_aside()
     ensures aside { submitted_beside_couple ("match,2,published" ∷ "aside,c" ∷ "applicant,s,x"
         ∷ "applicant,a,-" ∷ "applicant,b,-" ∷ []) ≡ Ok (record {

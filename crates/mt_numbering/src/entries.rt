@@ -97,7 +97,7 @@ fn members(
     Ok(members)
 }
 
-/// What the lists of records say by new numbers, if all stand. The table of applicants is let go before the lists of
+/// What the lists of records say by new numbers, if all stand. The table of applicants is dropped before the lists of
 /// programs are looked up, as those don't need it.
 pub(crate) fn read_entries<R: Threads + Sync>(
     rt: &R,

@@ -1,5 +1,5 @@
-//! The market of rows without a fault: all records are taken apart, all ids numbered, each entry looked up once, and by
-//! then it is known whether any record has a fault. Which one, and what it is, the passes over the records tell.
+//! The market of rows without a fault. All records are split, all ids numbered, and each entry is looked up once. Then
+//! it is known whether any record has a fault. The passes over the records find which one, and what it is.
 ghost use Rattle.std.specs.Prelude.{◌≡◌, true, false, length, nat_le, IfOk};
 ghost use Rattle.mt_lists.specs.Rows.{rows_left};
 ghost use Rattle.mt_file_laws.specs.Faultless.{faultless_market, is_faultless};
@@ -96,7 +96,7 @@ fn remaining_entries<R: Threads + Sync>(
     Ok(entries)
 }
 
-/// The names of the records that remain of so many: where all remain, those of all.
+/// The names of the records that remain. If none of the records is withdrawn, these are the names of all.
 fn remaining_names(
     alloc: Global,
     names: NameLists,

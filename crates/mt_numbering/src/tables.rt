@@ -22,7 +22,7 @@ pub(crate) fn quotas(alloc: Global, records: &[Record<'_>]) -> Result<Vec<u32>, 
     Ok(quotas)
 }
 
-/// So many applicants that are singles.
+/// A list of `count` applicants, each of them a single.
 fn singles(alloc: Global, count: usize) -> Result<Vec<Agent>, AllocError>
     requires { count < 2 ^ 32 }
     ensures { IfOk result (λ agents. agents.items ≡ map (agent_from [] 0) (below count)) }
@@ -45,7 +45,7 @@ fn join(agents: &mut [Agent], first: AppNo, second: AppNo, couple: CoupleNo)
     agents[second.index()] = Agent::Couple(couple);
 }
 
-/// The agent of each of so many applicants, by the couples' members.
+/// The agent of each applicant, by the couples' members.
 pub(crate) fn agents(
     alloc: Global,
     count: usize,

@@ -19,8 +19,8 @@ fn shuffle(order: &mut [CoupleNo], number: u32)
     }
 }
 
-/// The order of so many couples with a number, from 1. Order 1 is that of registration, and each other one is a shuffle
-/// of it. The only error is want of memory.
+/// The order of a number, from 1, of the couples below `couples`. Order 1 is that of registration, and each other one is
+/// a shuffle of it. The only error is want of memory.
 pub fn order_of(alloc: Global, number: u32, couples: u32) -> Result<Vec<CoupleNo>, AllocError>
     ensures { IfOk result (λ order. order.items ≡ order_of number couples) }
 {

@@ -9,7 +9,7 @@ use mt_market::{FlatLists, Roster};
 use mt_terms::{Agent, AppNo, CoupleNo, ProgNo};
 use std::alloc::{AllocError, Global};
 
-/// So many couples, in the order of registration. The only error is want of memory.
+/// The couples below `couples`, in the order of registration. The only error is want of memory.
 pub fn all_couples(alloc: Global, couples: u32) -> Result<Vec<CoupleNo>, AllocError>
     ensures { IfOk result (λ order. order.items ≡ below couples) }
 {
@@ -77,7 +77,7 @@ fn mark(flags: &mut [bool], couple: CoupleNo)
     }
 }
 
-/// For each of so many couples whether it is on a list.
+/// For each couple below `couples` whether it is on a list.
 fn flags(alloc: Global, couples: u32, list: &[CoupleNo]) -> Result<Vec<bool>, AllocError>
     ensures { IfOk result (λ flags. flags.items ≡ map (has list.now) (below couples)) }
 {
@@ -136,7 +136,7 @@ fn note(places: &mut [Option<CoupleNo>], couple: CoupleNo, place: u32)
     places[couple.index()] = Some(CoupleNo(place));
 }
 
-/// For each of so many couples its place in an order, if it has one.
+/// For each couple below `couples` its place in an order, if it has one.
 fn places(
     alloc: Global,
     couples: u32,

@@ -165,18 +165,3 @@ module _ (left : Option (List ℕ)) (budget : ℕ) (ways : Ways) (r : Registered
     where
       other : n.refusal.code ≡ 41 → ⊥
       other spent = let same : n.refusal.code ≡ 30 = is.0.same_code in omega arith
-
--- ---- files without couples
-
-published_alone_in : (bytes : List ℕ) (budget : ℕ) (ways : Ways) (code : ℕ) (text : List ℕ) → 1 ≤ ways.orders → HasNoCouple bytes → IsAnswerIn bytes budget ways code text → code ≡ 0
-published_alone_in bytes budget ways code text one h a =
-    let is_market : market_in bytes ≡ Ok h.registered = h.of_bytes in
-    let here : IsAnswerInWays h.registered budget ways code text = rw is_market at a in
-    alone_is_published h.registered budget ways code text one h.none here
-
-pub publishes_singles_in : (left : Option (List ℕ)) (budget : ℕ) (ways : Ways) (code : ℕ) (text : List ℕ) → 1 ≤ ways.orders
-    → (code ≢ 30 → code ≢ 31 → IsAnswerInTo left budget ways code text) → PublishesSingles left code
-publishes_singles_in left budget ways code text one answer bytes same h m r =
-    let a = answer m r in
-    let are : a.bytes ≡ bytes = subst (λ (x : Option (List ℕ)). IfSome x (λ xs. a.bytes ≡ xs)) same a.are_left in
-    published_alone_in bytes budget ways code text one h (subst (λ (xs : List ℕ). IsAnswerIn xs budget ways code text) are a.is_so)

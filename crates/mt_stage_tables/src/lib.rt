@@ -1,5 +1,5 @@
-//! What changes while couples enter: the ranks of those that are placed at a program, sets of programs, the agents that
-//! wait, and an index from programs to the couples that name them.
+//! What changes while couples enter. These are the ranks of those that are placed at a program, sets of programs, and the
+//! agents that wait. An index leads from programs to the couples that name them.
 #![tactic(auto)]
 
 mod couple_list;

@@ -19,9 +19,6 @@ use Rattle.mt_statistics.specs.Counts.{choice_counts, greatest_below, has_choice
 use Rattle.mt_statistics.specs.Held.{held_counts, most_held}
 use Rattle.mt_statistics.proofs.SumFacts.{greatest-le}
 
-pub greatest_more : (f : ℕ → ℕ) (n : ℕ) → greatest_below f (n + 1) ≡ max (f n) (greatest_below f n)
-greatest_more f n = rw add-one refl
-
 greatest-same : (f g : ℕ → ℕ) (n : ℕ) → ((a : ℕ) → a < n → f a ≡ g a) → greatest_below f n ≡ greatest_below g n
 greatest-same f g zero same = refl
 greatest-same f g (suc n) same = ap₂ (λ (x y : ℕ). max x y) (same n (omega arith)) (greatest-same f g n (λ a h. same a (omega arith)))

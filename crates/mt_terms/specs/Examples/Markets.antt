@@ -68,6 +68,7 @@ abbrev pub half_pair : Market
 half_pair = market (program 1 (1 ∷ 0 ∷ []) ∷ program 1 (0 ∷ 2 ∷ []) ∷ []) ((0 ∷ 1 ∷ []) ∷ [] ∷ [] ∷ []) (couple 1 2 (both 0 1 ∷ (Some 0, None) ∷ []) ∷ [])
 
 -- Three couples. The third takes out the first, which opens a seat for the second.
+--
 --     program,p,1,d1,a1    program,q,1,a2    program,r,1,e1,d2    program,t,1,e2    program,u,1,a1    program,v,1,a2
 --     couple,D,d1,d2,p,r    couple,A,a1,a2,p,q,u,v    couple,E,e1,e2,r,t
 abbrev pub six_programs : List Program
@@ -101,6 +102,7 @@ own_seat =
     (couple 1 2 (both 0 1 ∷ both 1 2 ∷ []) ∷ [])
 
 -- Three couples. The second takes out the first, and so opens a seat for the third, which hasn't entered yet.
+--
 --     program,r,1,a2,c1    program,w,1,c2    program,x,1,b1,a1    program,z,1,b2
 --     couple,A,a1,a2,x,r    couple,B,b1,b2,x,z    couple,C,c1,c2,r,w
 abbrev pub couple_outside : Market

@@ -3,7 +3,7 @@ ghost use Rattle.std.specs.Prelude.{◌≡◌, List, [], ◌∷◌, ◌++◌, Ok
 ghost use Rattle.mt_terms.specs.Registration.{market_of};
 ghost use Rattle.mt_terms.specs.declared.codes.TheConstants.{NO_VERSION, UNKNOWN_KIND, FIELD_COUNT, BAD_ID, BAD_QUOTA, DUPLICATE_ID, DUPLICATE_ENTRY, TOO_MANY, UNKNOWN_APPLICANT, UNKNOWN_PROGRAM, NOT_REGISTERED};
 ghost use Rattle.mt_terms.specs.Examples.Markets.{crossed, half_pair, three_couples};
-ghost use Rattle.mt_terms.specs.Examples.Registration.{crossed_file, chain_file, chain_without_applicant, single_between_file, unstable_file, unstable_without_couple, three_couples_file, three_couples_without_program, one_applicant, each_member_alone, one_name_file, one_name_without_program, small, market_within, full_file, full};
+ghost use Rattle.mt_terms.specs.Examples.Registration.{crossed_file, padded_file, chain_file, chain_without_applicant, member_withdrawn_file, half_pair_file, unstable_file, unstable_without_couple, three_couples_file, program_withdrawn_file, program_withdrawn_registered, longest_id_file, longest_id_registered, each_member_alone, each_member_alone_file, one_name_withdrawn_file, one_name_registered, small, market_within, withdrawn_program_file, full_file, full};
 ghost use Rattle.mt_terms.specs.Examples.RegistrationText.{file, file_1, file_2, named, refused};
 
 /// Numbers go by the order of the records, and a couple registers its two members. A record without a field is passed
@@ -11,11 +11,11 @@ ghost use Rattle.mt_terms.specs.Examples.RegistrationText.{file, file_1, file_2,
 /// another pair than `-,x`.
 pub fn registered_files()
     ensures crossed { market_of (file_1 crossed_file) ≡ Ok (named crossed "P1,P2" "a1,a2" "") }
-    ensures padded { market_of (file ("match,1" ∷ "program,P1,1,a2,a1" ∷ "program,P2,01,a1,a2" ∷ "" ∷ "applicant,a1,P1,P2" ∷ "applicant,a2,P2,P1" ∷ [])) ≡ Ok (named crossed "P1,P2" "a1,a2" "") }
+    ensures padded { market_of (file padded_file) ≡ Ok (named crossed "P1,P2" "a1,a2" "") }
     ensures three_couples { market_of (file_1 three_couples_file) ≡ Ok (named three_couples "p,q,r,t,u,v" "d1,d2,a1,a2,e1,e2" "D,A,E") }
-    ensures half_pair { market_of (file_2 ("program,x,1,a,s" ∷ "program,y,1,s,b" ∷ "applicant,s,x,y" ∷ "couple,c,a,b,x,y,x,-" ∷ [])) ≡ Ok (named half_pair "x,y" "s,a,b" "c") }
-    ensures each_member_alone { market_of (file_2 ("program,x,1" ∷ "couple,c,a,b,x,-,-,x" ∷ [])) ≡ Ok (named each_member_alone "x" "a,b" "c") }
-    ensures longest_id { market_of (file_2 ("applicant,abcdefghijklmnopqrstuvwxyz012345abcdefghijklmnopqrstuvwxyz012345" ∷ [])) ≡ Ok (named one_applicant "" "abcdefghijklmnopqrstuvwxyz012345abcdefghijklmnopqrstuvwxyz012345" "") }
+    ensures half_pair { market_of (file_2 half_pair_file) ≡ Ok (named half_pair "x,y" "s,a,b" "c") }
+    ensures each_member_alone { market_of (file_2 each_member_alone_file) ≡ Ok (named each_member_alone "x" "a,b" "c") }
+    ensures longest_id { market_of (file_2 longest_id_file) ≡ Ok longest_id_registered }
 {}
 
 /// What a record is by itself. The first record that has a field names the version. Each kind has its own number of
@@ -40,7 +40,7 @@ pub fn records_that_do_not_go_together()
     ensures pair_twice { market_of (file_1 ("couple,c,a,b,x,y,y,x,x,y" ∷ [])) ≡ refused DUPLICATE_ENTRY 2 "c" }
     ensures limits_reached { market_within small full_file ≡ Ok (named full "x,y" "s,a,b" "c") }
     ensures too_many_programs { market_within small ("program,p1,0" ∷ "program,p2,0" ∷ "program,p3,0" ∷ []) ≡ refused TOO_MANY 4 "p3" }
-    ensures withdrawn_program_counts { market_within small ("program,p1,0" ∷ "program,p2,0" ∷ "withdraw,program,p1" ∷ "program,p3,0" ∷ []) ≡ refused TOO_MANY 5 "p3" }
+    ensures withdrawn_program_counts { market_within small withdrawn_program_file ≡ refused TOO_MANY 5 "p3" }
 {}
 
 /// What a record names is looked up once all records are registered, in the order of the records and of their fields.
@@ -49,7 +49,7 @@ pub fn names_that_nobody_registers()
     ensures applicant { market_of (file_1 ("program,P,1,a,z,y" ∷ "applicant,a" ∷ [])) ≡ refused UNKNOWN_APPLICANT 2 "z" }
     ensures both_programs_of_a_pair { market_of (file_1 ("couple,c,a,b,z,y" ∷ [])) ≡ refused UNKNOWN_PROGRAM 2 "z" }
     ensures first_pass_before_it { market_of (file_1 ("applicant,a,Q" ∷ "program,P,1,b!" ∷ [])) ≡ refused BAD_ID 3 "" }
-    ensures member_withdrawn_alone { market_of (file_2 (single_between_file ++ "withdraw,applicant,a" ∷ [])) ≡ refused NOT_REGISTERED 5 "a" }
+    ensures member_withdrawn_alone { market_of (file_2 member_withdrawn_file) ≡ refused NOT_REGISTERED 5 "a" }
 {}
 
 /// The withdrawn rows leave the market, their ids leave all lists, and the other rows move up. A withdrawn couple
@@ -58,6 +58,6 @@ pub fn names_that_nobody_registers()
 pub fn withdrawn_rows()
     ensures applicant { market_of (file_2 ("withdraw,applicant,a1" ∷ chain_file)) ≡ Ok (named chain_without_applicant "P1,P2" "a2,a3" "") }
     ensures couple { market_of (file_2 (unstable_file ++ "withdraw,couple,c" ∷ [])) ≡ Ok (named unstable_without_couple "x,y" "s" "") }
-    ensures program_of_a_pair { market_of (file_2 (three_couples_file ++ "withdraw,program,q" ∷ [])) ≡ Ok (named three_couples_without_program "p,r,t,u,v" "d1,d2,a1,a2,e1,e2" "D,A,E") }
-    ensures one_of_three_of_one_name { market_of (file_2 (one_name_file ++ "withdraw,program,n" ∷ [])) ≡ Ok (named one_name_without_program "" "n,a,b" "n") }
+    ensures program_of_a_pair { market_of (file_2 program_withdrawn_file) ≡ Ok program_withdrawn_registered }
+    ensures one_of_three_of_one_name { market_of (file_2 one_name_withdrawn_file) ≡ Ok one_name_registered }
 {}
