@@ -8,4 +8,4 @@ mod stages;
 
 pub use floors::{closes, deals, finishes, works, works_alone};
 pub use lists::{asks, holds, ranks, reads, registers, splits};
-pub use stages::{answers, enters, judges, publishes};
+pub use stages::{answers, enters, explains, judges, publishes, publishes_aside};

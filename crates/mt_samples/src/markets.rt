@@ -113,6 +113,18 @@ pub const TWO_COUPLES_TEXT: &[u8] = b"match,1,published\n\
     program,z,1,1,0\n\
     totals,5,2,3,0\n";
 
+/// The text of the match in which the second couple is set aside.
+pub const ONE_ASIDE_TEXT: &[u8] = b"match,2,published\n\
+    applicant,s,-\n\
+    applicant,c,x\n\
+    applicant,d,x\n\
+    applicant,e1,-\n\
+    applicant,e2,-\n\
+    program,x,2,2,1\n\
+    program,z,1,0,0\n\
+    aside,E\n\
+    totals,5,3,3,1\n";
+
 /// Why a file has no market: it has a fault, or memory was refused.
 #[derive(Clone, Copy, Debug, PartialEq, Eq, Error)]
 pub enum SampleError {

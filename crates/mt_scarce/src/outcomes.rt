@@ -3,8 +3,8 @@ ghost use Rattle.std.specs.Prelude.{◌≤◌};
 
 use crate::runs::runs;
 use mt_calls::{
-    answers, asks, closes, deals, enters, finishes, holds, judges, publishes, ranks, reads,
-    registers, splits, works, works_alone,
+    answers, asks, closes, deals, enters, explains, finishes, holds, judges, publishes,
+    publishes_aside, ranks, reads, registers, splits, works, works_alone,
 };
 use mt_samples::markets::{CHAIN, CHAIN_TEXT, SampleError, TWO_COUPLES, TWO_COUPLES_TEXT};
 use std::alloc::Global;
@@ -27,13 +27,15 @@ pub(crate) enum Call {
     WorksAlone,
     Enters,
     Judges,
+    Explains,
     Publishes,
+    PublishesAside,
     Answers,
     RunsSingles,
     RunsCouples,
 }
 
-pub(crate) const CALLS: [Call; 17] = [
+pub(crate) const CALLS: [Call; 19] = [
     Call::Reads,
     Call::Splits,
     Call::Asks,
@@ -47,7 +49,9 @@ pub(crate) const CALLS: [Call; 17] = [
     Call::WorksAlone,
     Call::Enters,
     Call::Judges,
+    Call::Explains,
     Call::Publishes,
+    Call::PublishesAside,
     Call::Answers,
     Call::RunsSingles,
     Call::RunsCouples,
@@ -83,7 +87,9 @@ pub(crate) fn outcome_of<T: Threads + Wait + Sync>(
         Call::WorksAlone => works_alone(rt, alloc),
         Call::Enters => enters(rt, alloc),
         Call::Judges => judges(rt, alloc),
+        Call::Explains => explains(rt, alloc),
         Call::Publishes => publishes(rt, alloc),
+        Call::PublishesAside => publishes_aside(rt, alloc),
         Call::Answers => answers(rt, alloc, workers),
         Call::RunsSingles => runs(rt, alloc, CHAIN, CHAIN_TEXT, workers),
         Call::RunsCouples => runs(rt, alloc, TWO_COUPLES, TWO_COUPLES_TEXT, workers),
