@@ -11,10 +11,6 @@ use Rattle.mt_answer.specs.declared.ways.Ways.{Ways}
 use Rattle.mt_run.specs.declared.in_ways.EndedInWays.{EndedInWays}
 use Rattle.mt_app.specs.Program.{IsExitFor, IsRun}
 
-pub either : (f : Bool → ℕ) (whole : Bool) → f whole ≡ (if whole then f true else f false)
-either f true = refl
-either f false = refl
-
 -- a status of a run
 record IsOfRun (code status : ℕ) : Type 0 where
   known : has (0 ∷ 2 ∷ 3 ∷ 4 ∷ 5 ∷ 6 ∷ 64 ∷ []) status ≡ true

@@ -3,11 +3,12 @@
 
 mod spent;
 
-ghost use Rattle.std.specs.Prelude.{◌≡◌, ◌+◌, ◌<◌, ◌≤◌, ◌^◌, [], false, true, IsTrue};
+ghost use Rattle.std.specs.Prelude.{◌≡◌, ◌+◌, ◌<◌, ◌≤◌, ◌^◌, []};
 ghost use Rattle.mt_app.specs.Program.{IsExitFor, IsRun};
 ghost use Rattle.mt_program.specs.CommandLine.{texts_of};
 ghost use Rattle.mt_program.specs.Told.{IsTold};
-ghost use Rattle.mt_terms.specs.Text.{is_known_code, refused as refused_text};
+ghost use Rattle.mt_terms.specs.Text.{refused as refused_text};
+ghost use Rattle.mt_terms.specs.declared.codes.TheConstants.{OUT_OF_MEMORY};
 ghost use Rattle.mt_report.specs.Drains.{contents_of, failures_of};
 ghost use Rattle.mt_report.specs.Status.{status_of};
 ghost use Rattle.mt_lists.specs.Tap.{bytes_left, reads_of};
@@ -16,13 +17,12 @@ ghost use Rattle.mt_input.specs.Files.{most_bytes};
 use crate::spent::say_spent;
 use mt_args::{AskEnd, Asked, asked};
 use mt_lists::Tap;
-use mt_program::{MISUSE, NO_TEXT, UNWRITTEN, say_why, tell, words_of};
-use mt_report::{Drain, end, refused};
+use mt_program::{Input, MISUSE, NO_MEMORY, UNWRITTEN, say_unopened, tell, tell_unasked, words_of};
+use mt_report::{Drain, refused};
 use mt_run::{EndedInWays, Options, Ways, run_in_ways};
-use mt_terms::codes::{OUT_OF_MEMORY, READ_FAULT};
+use mt_terms::codes::OUT_OF_MEMORY;
 use std::alloc::Global;
-use std::fs::File;
-use std::io::{ErrorKind, Read, Write};
+use std::io::{Read, Write};
 use std::process::ExitCode;
 use std::sync::Wait;
 use std::thread::Threads;
@@ -82,15 +82,14 @@ fn status_told<W: Write>(
     ended.ended.status()
 }
 
-/// Writes the refusal of a run that can't begin, and gives the exit status.
-fn refuse<W: Write>(drain: &mut Drain<W>, code: u16) -> u8
-    requires known { IsTrue (is_known_code code) }
-    requires failures { failures_of drain.old + 1 < 2 ^ 64 }
-    ensures { IsTold (refused_text code 0 []) (status_of code true) (status_of code false)
+/// Writes the refusal of a run for which there is no memory, and gives the exit status.
+fn refuse<W: Write>(drain: &mut Drain<W>) -> u8
+    requires { failures_of drain.old + 1 < 2 ^ 64 }
+    ensures { IsTold (refused_text OUT_OF_MEMORY 0 []) 4 5
         (contents_of W.contents drain.old) (contents_of W.contents drain.new) result }
 {
-    let line = refused(code, 0, b"");
-    end(drain, code, line.as_bytes()).status()
+    let line = refused(OUT_OF_MEMORY, 0, b"");
+    tell(drain, line.as_bytes(), NO_MEMORY, UNWRITTEN)
 }
 
 /// Does what the words ask for, and gives the exit status. `crew` is `rt` too: only `main` may take it for a handle that
@@ -111,39 +110,32 @@ fn obey<T: Threads + Wait + Sync>(rt: &HostRuntime, crew: &T, words: &[String]) 
             },
         ) => {
             let ways = Ways { orders, set_aside };
-            let ended = match file {
-                Some(path) => match File::open(rt, path.as_str()) {
-                    Ok(file) => run_match(crew, alloc, file, &mut out, options, ways),
-                    Err(error) => {
-                        let status = refuse(&mut out, READ_FAULT);
-                        say_why(&mut err, alloc, "nrmatch", path.as_str(), &error);
-                        return status;
-                    }
-                },
-                None => run_match(crew, alloc, rt.stdin(), &mut out, options, ways),
+            let word = match &file {
+                Some(path) => path.as_str(),
+                None => "-",
             };
+            let mut input = Input::at(rt, word);
+            let ended = run_match(crew, alloc, &mut input, &mut out, options, ways);
+            say_unopened(&mut err, alloc, "nrmatch", &input);
             status_told(&mut err, alloc, &ended, options, ways)
         }
         Ok(Asked::Help(text) | Asked::Version(text)) => {
             tell(&mut out, text.as_bytes(), 0, UNWRITTEN)
         }
         Err(AskEnd::Usage(text)) => tell(&mut err, text.as_bytes(), MISUSE, MISUSE),
-        Err(AskEnd::Memory) => refuse(&mut out, OUT_OF_MEMORY),
+        Err(AskEnd::Memory) => refuse(&mut out),
     }
 }
 
 fn main(rt: HostRuntime) -> ExitCode {
     let status = match words_of(&rt) {
         Ok(words) => obey(&rt, &rt, words.as_slice()),
-        Err(error) => match error.kind() {
-            ErrorKind::OutOfMemory => refuse(&mut Drain::new(rt.stdout()), OUT_OF_MEMORY),
-            _ => tell(
-                &mut Drain::new(rt.stderr()),
-                NO_TEXT.as_bytes(),
-                MISUSE,
-                MISUSE,
-            ),
-        },
+        Err(unasked) => tell_unasked(
+            &mut Drain::new(rt.stdout()),
+            &mut Drain::new(rt.stderr()),
+            refused(OUT_OF_MEMORY, 0, b"").as_bytes(),
+            &unasked,
+        ),
     };
     ExitCode::from(status)
 }

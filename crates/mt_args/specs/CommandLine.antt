@@ -9,7 +9,7 @@ use Rattle.std.specs.Str.{bytes_eq}
 use Rattle.std.specs.Str.Parse.{IsNumeral, digits_value, without_leading_plus}
 use Rattle.clap.specs.Words.{App, Row, Rule, Text, fault_of, first_of, matches_of}
 use Rattle.clap.specs.Words.{new_rule, one_of, takes, with_rule}
-use Rattle.mt_program.specs.CommandLine.{plain_app}
+use Rattle.mt_program.specs.CommandLine.{path_by, plain_app}
 use Rattle.clap.specs.declared.builder.action.ArgAction.TheVariants.{Set, SetTrue}
 use Rattle.clap.specs.declared.builder.value_parser.ValueParser.{ValueParser}
 use Rattle.clap.specs.declared.builder.value_parser.ValueParser.TheVariants.{Bool as AsBool, Signed}
@@ -65,9 +65,9 @@ nrmatch =
 
 -- ---- what the words ask for
 
--- the file among the matches, if any
+-- the path of the file among the matches, or none for standard input, which is left out or `-`
 abbrev pub file_in : List Row → Option Text
-file_in = first_of (codes "FILE")
+file_in rows = path_by (first_of (codes "FILE") rows)
 
 -- the number that a text of decimal digits writes, with or without a `+` before them
 abbrev pub number_at : Text → ℕ
@@ -81,7 +81,7 @@ number_in name rows = option_map number_at (one_of name rows)
 abbrev pub is_set_in : Text → List Row → Bool
 is_set_in name rows = option_map_or (bytes_eq (codes "true")) (one_of name rows) false
 
--- the file that the words name, if any
+-- the path of the file that the words name, or none for standard input
 abbrev pub file_of : List Text → Option Text
 file_of words = file_in (matches_of nrmatch words)
 

@@ -45,6 +45,12 @@ AreWrongWays = IsRefusedBy ValueValidation (codes "--orders" ∷ codes "0" ∷ [
 abbrev pub AfterHyphensIsFile : Type 0
 AfterHyphensIsFile = Gives (codes "--" ∷ codes "--help" ∷ []) (Some (codes "--help")) 4 1000000
 
+-- `-` is standard input, also after `--`, and `./-` is a file
+abbrev pub HyphenIsStandardInput : Type 0
+HyphenIsStandardInput = Gives (codes "-" ∷ []) None 4 1000000
+    × Gives (codes "--" ∷ codes "-" ∷ []) None 4 1000000
+    × Gives (codes "./-" ∷ []) (Some (codes "./-")) 4 1000000
+
 abbrev pub AreMisuse : Type 0
 AreMisuse = IsRefusedBy ValueValidation (codes "--workers" ∷ codes "0" ∷ [])
     × IsRefusedBy ValueValidation (codes "--workers" ∷ codes "65" ∷ [])

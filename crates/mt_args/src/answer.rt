@@ -6,7 +6,7 @@ use thiserror::Error;
 pub enum Asked {
     /// A run of the match.
     Run {
-        /// The path of the input. If there is none, the input is the standard input.
+        /// The path of the input. If there is none, the input is standard input: FILE is left out, or `-`.
         file: Option<String>,
         /// The options of the run: 1 to 64 workers, and a budget of at least 1.
         options: Options,

@@ -17,7 +17,7 @@ line that says why there is none.";
 
 const FILE_HELP: &str = "\
 CSV file with a record for each program, applicant and couple, and
-their rank order lists; standard input if left out";
+their rank order lists; standard input if left out or -";
 
 const WORKERS_HELP: &str = "Worker threads, 1 to 64; the match is the same for any";
 
@@ -27,7 +27,14 @@ const ORDERS_HELP: &str = "Most orders of the couples to try, 1 to 1000";
 
 const SET_ASIDE_HELP: &str = "Set couples aside, one by one, if no order ends";
 
-const EXIT_STATUSES: &str = "\
+const AFTER_HELP: &str = "\
+Records of FILE:
+  match,2                    the version, first; the others come in any order
+  program,P1,2,a1,a2         id, posts, and whom it wants, most wanted first
+  applicant,a1,P1            id, and the programs that it wants
+  couple,c,a2,a3,P1,P1,P1,-  id, two members, and the pairs that it wants
+  withdraw,applicant,a1      takes that record out
+
 Exit status:
   0   the match was published and wholly written
   2   the input was refused
@@ -101,7 +108,7 @@ pub(crate) fn command<'a>(alloc: Global) -> Result<Command<'a>, AllocError>
     ensures { IfOk result (λ c. app_of c ≡ nrmatch) }
 {
     let file = Arg::new(alloc, "FILE").help(FILE_HELP);
-    let with_file = plain_command(alloc, "nrmatch", ABOUT, EXIT_STATUSES).arg(file)?;
+    let with_file = plain_command(alloc, "nrmatch", ABOUT, AFTER_HELP).arg(file)?;
     let with_limits = with_file.arg(workers(alloc))?.arg(budget(alloc))?;
     with_limits.arg(orders(alloc))?.arg(set_aside(alloc))
 }

@@ -1,7 +1,7 @@
 //! What the definition of the command line gives on worked words. Each function does nothing. Its contract is the
 //! example.
 
-ghost use Rattle.mt_args.specs.Examples.{AfterHyphensIsFile, AreMisuse, AreWrongWays, AskForHelp, AskForVersion, DefaultsStand, ManyWaysAreTaken, MostIsTaken, OneWayByDefault};
+ghost use Rattle.mt_args.specs.Examples.{AfterHyphensIsFile, AreMisuse, AreWrongWays, AskForHelp, AskForVersion, DefaultsStand, HyphenIsStandardInput, ManyWaysAreTaken, MostIsTaken, OneWayByDefault};
 
 /// No words give no file, 4 workers and a budget of 1,000,000.
 pub fn no_words()
@@ -32,6 +32,11 @@ pub fn wrong_ways()
 /// After `--` each word is a file, whatever it looks like.
 pub fn after_two_hyphens()
     ensures { AfterHyphensIsFile }
+{}
+
+/// A single hyphen is standard input, and after `./` it is the name of a file.
+pub fn hyphen()
+    ensures { HyphenIsStandardInput }
 {}
 
 /// Numbers outside their limits, a word that is no number, two files, an unknown option, an option without a value and

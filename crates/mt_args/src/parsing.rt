@@ -10,6 +10,7 @@ use crate::command::command;
 use crate::{AskEnd, Asked};
 use clap::error::ErrorKind;
 use clap::{ArgMatches, Error};
+use mt_program::path_by;
 use mt_terms::Options;
 use std::alloc::{AllocError, Global};
 
@@ -80,7 +81,8 @@ fn run_of(alloc: Global, matches: &ArgMatches<'_>) -> Result<Asked, AskEnd>
     ensures within { IfOk result (λ a. IfRunInWays a (λ orders _. AreOrders orders)) }
     ensures err { IfErr result (λ e. OnUsage e ⊥) }
 {
-    let file = owned(alloc, matches.get_str("FILE")).map_err(|_| AskEnd::Memory)?;
+    let path = path_by(matches.get_str("FILE"));
+    let file = owned(alloc, path).map_err(|_| AskEnd::Memory)?;
     let options = Options {
         workers: matches.get_one("workers").unwrap(),
         budget: matches.get_one("budget").unwrap(),

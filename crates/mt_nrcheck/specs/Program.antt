@@ -1,10 +1,11 @@
 -- What the program does with two readers and a writer, and how it ends.
-use Rattle.std.specs.Prelude.{◌≡◌, ◌⊎◌, ℕ, Bool, List, [], ◌∷◌, Option, IsTrue}
-use Rattle.clap.specs.Words.{Text, fault_of}
-use Rattle.mt_terms.specs.Lists.{has}
+use Rattle.std.specs.Prelude.{◌≡◌, ℕ, Bool, List, [], ◌∷◌, Option}
+use Rattle.clap.specs.Words.{Text}
 use Rattle.mt_check.specs.Answer.{Answers}
 use Rattle.mt_report.specs.Status.{status_of}
-use Rattle.mt_nrcheck.specs.CommandLine.{AreMisuse, AskToBeTold, nrcheck}
+use Rattle.mt_program.specs.CommandLine.{AreMisuse}
+use Rattle.mt_program.specs.Exit.{IsExitOf}
+use Rattle.mt_nrcheck.specs.CommandLine.{nrcheck}
 
 -- The program checked a match: what it did to its writer answers what its readers had left, and it ends with the status
 -- of that.
@@ -19,8 +20,5 @@ pub record IsCheck (market matched old new : Option (List ℕ)) (status : ℕ) :
 -- What an exit status says of the words of the command line. Status 64 says that they are misuse. Statuses 1 and 2
 -- say that the command takes them. Status 0 says that it takes them, or that they ask for help or the version.
 -- Statuses 4 and 5 say nothing of them.
-pub record IsExitFor (words : List Text) (status : ℕ) : Type 0 where
-  pub known : IsTrue (has (0 ∷ 1 ∷ 2 ∷ 4 ∷ 5 ∷ 64 ∷ []) status)
-  pub misuse : status ≡ 64 → AreMisuse words
-  pub taken : IsTrue (has (1 ∷ 2 ∷ []) status) → fault_of nrcheck words ≡ []
-  pub done : status ≡ 0 → (fault_of nrcheck words ≡ []) ⊎ AskToBeTold words
+abbrev pub IsExitFor : List Text → ℕ → Type 0
+IsExitFor words status = IsExitOf nrcheck (1 ∷ 2 ∷ []) (AreMisuse nrcheck words) words status

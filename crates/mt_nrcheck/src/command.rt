@@ -1,10 +1,12 @@
-ghost use Rattle.std.specs.Prelude.{◌≡◌, IfOk, false};
-ghost use Rattle.clap.specs.Words.{app_of, rule_of};
-ghost use Rattle.mt_nrcheck.specs.CommandLine.{market_rule, match_rule, nrcheck};
+ghost use Rattle.std.specs.Prelude.{IfErr, IfOk, string_bytes};
+ghost use Rattle.mt_nrcheck.specs.CommandLine.{nrcheck};
+ghost use Rattle.mt_program.specs.CommandLine.{AreMisuse, NameFiles, texts_of};
+ghost use Rattle.mt_program.specs.Unasked.{IsUnaskedBy};
 
-use clap::{Arg, Command};
-use mt_program::plain_command;
-use std::alloc::{AllocError, Global};
+use mt_program::{
+    TwoFiles, Unasked, after_match_records, matches_of, two_files, two_files_command,
+};
+use std::alloc::Global;
 
 const ABOUT: &str = "\
 Whether a residency match is stable by the rank order lists of a market,
@@ -13,44 +15,26 @@ whoever made it.
 Writes one line of CSV to standard output: that the match is stable, or the
 first finding against it, or why it can't be judged.";
 
-const MARKET_HELP: &str = "\
-CSV file with a record for each program, applicant and couple, and
-their rank order lists, as nrmatch takes it";
-
-const MATCH_HELP: &str = "\
-CSV file with a record `applicant,ID,PLACE` for each applicant, as
-nrmatch writes it";
-
-const EXIT_STATUSES: &str = "\
+const AFTER_HELP: &str = after_match_records!(
+    "\
 Exit status:
   0   the match is stable
   1   it isn't, or its counts don't fit it
   2   a file was refused
   4   memory ran out
   5   a read or a write failed
-  64  the command line is wrong";
+  64  the command line is wrong"
+);
 
-// `MARKET`.
-fn market<'a>(alloc: Global) -> Arg<'a>
-    ensures rule { rule_of result ≡ market_rule }
-    ensures local { result.global ≡ false }
+/// The files of the check that the words after the program's name ask for. The error is `clap`'s text of help, of the
+/// version or of what is wrong, or what is wrong with the files.
+pub(crate) fn asked(alloc: Global, words: &[String]) -> Result<TwoFiles, Unasked>
+    ensures files { IfOk result (λ files. NameFiles nrcheck (texts_of words.now)
+        (string_bytes files.market) (string_bytes files.matched)) }
+    ensures unasked { IfErr result (IsUnaskedBy nrcheck
+        (AreMisuse nrcheck (texts_of words.now)) (texts_of words.now)) }
 {
-    Arg::new(alloc, "MARKET").required(true).help(MARKET_HELP)
-}
-
-// `MATCH`.
-fn matched<'a>(alloc: Global) -> Arg<'a>
-    ensures rule { rule_of result ≡ match_rule }
-    ensures local { result.global ≡ false }
-{
-    Arg::new(alloc, "MATCH").required(true).help(MATCH_HELP)
-}
-
-/// The command `nrcheck MARKET MATCH`.
-pub(crate) fn command<'a>(alloc: Global) -> Result<Command<'a>, AllocError>
-    ensures { IfOk result (λ c. app_of c ≡ nrcheck) }
-{
-    plain_command(alloc, "nrcheck", ABOUT, EXIT_STATUSES)
-        .arg(market(alloc))?
-        .arg(matched(alloc))
+    let command = two_files_command(alloc, "nrcheck", ABOUT, AFTER_HELP)?;
+    let matches = matches_of(alloc, command, words)?;
+    two_files(alloc, &matches)
 }

@@ -1,47 +1,11 @@
--- What words ask for, by the matches of the command or by its error.
-use Rattle.std.proofs.Common.{◌≡◌, ◌∙◌, Bor, List, [], Option, Result, Ok, Err, IfOk, map, sym, ap, subst, inl, inr}
-use Rattle.clap.specs.Kinds.{HasKind, IsAmong}
+-- The ids that words name, by the matches of the command.
+use Rattle.std.proofs.Common.{◌≡◌, ◌∙◌, Bor, List, [], Option, map, sym, ap}
 use Rattle.std.specs.Prelude.{codes, option_map, unwrap_or}
-use Rattle.clap.specs.Words.{Row, Text, fault_of, first_of, kind_of, matches_of, rows_of}
-use Rattle.clap.specs.Matches.{first_value, matched_of, raw_values}
-use Rattle.clap.proofs.WalkLemmas.{first_value-rows, raw_values-rows}
+use Rattle.clap.specs.Words.{Text, rows_of}
+use Rattle.clap.specs.Matches.{matched_of, raw_values}
+use Rattle.clap.proofs.WalkLemmas.{raw_values-rows}
 use Rattle.clap.specs.declared.parser.matches.Found.{Found}
-use Rattle.clap.specs.declared.error.Error.{Error}
-use Rattle.clap.specs.declared.error.kind.ErrorKind.{ErrorKind}
-use Rattle.mt_nrexplain.specs.CommandLine.{AreFilesIn, IsAskedBy, IsEndOf, ids_in, nrexplain}
-use Rattle.mt_nrexplain.specs.declared.words.Request.{Request}
-use Rattle.mt_nrexplain.specs.declared.words.Request.TheVariants.{Explain, Told, Misuse}
-
-by_rows : (words : List Text) (rows : List Row) (asked : Request) → rows ≡ matches_of nrexplain words → fault_of nrexplain words ≡ [] → AreFilesIn rows asked → IsAskedBy words asked
-by_rows words rows (Explain market matched ids is_public) is taken h =
-    record { taken = taken; names_market = rw is at h.0; names_match = rw is at h.1; names_ids = rw is at h.2; kind = rw is at h.3 }
-by_rows words rows (Told text) is taken h = absurd h
-by_rows words rows (Misuse text) is taken h = inr (rw is at h)
-
-pub asked_by_rows : {E : Type 0} (words : List Text) (rows : List Row) (result : Result Request E) → rows ≡ matches_of nrexplain words → fault_of nrexplain words ≡ []
-    → IfOk result (AreFilesIn rows) → IfOk result (IsAskedBy words)
-asked_by_rows words rows (Ok asked) is taken h = by_rows words rows asked is taken h
-asked_by_rows words rows (Err e) is taken h = tt
-
-by_kind : (words : List Text) (e : Error) (asked : Request) → HasKind (fault_of nrexplain words) e → IsEndOf (kind_of e) asked → IsAskedBy words asked
-by_kind words e (Explain market matched ids is_public) h end = absurd end
-by_kind words e (Told text) (inl memory) end = absurd (end.0 memory)
-by_kind words e (Told text) (inr among) end = elim end.1 [
-  | inl help ↦ inl (subst (λ (k : ErrorKind). IsAmong k (fault_of nrexplain words)) help among)
-  | inr version ↦ inr (subst (λ (k : ErrorKind). IsAmong k (fault_of nrexplain words)) version among)
-]
-by_kind words e (Misuse text) (inl memory) end = absurd (end.0 memory)
-by_kind words e (Misuse text) (inr among) end = inl (kind_of e, end.1, end.2, among)
-
-pub asked_by_kind : {E : Type 0} (words : List Text) (e : Error) (result : Result Request E) → HasKind (fault_of nrexplain words) e
-    → IfOk result (IsEndOf (kind_of e)) → IfOk result (IsAskedBy words)
-asked_by_kind words e (Ok asked) h end = by_kind words e asked h end
-asked_by_kind words e (Err error) h end = tt
-
--- what the matches name by an argument, a row of them has
-pub file_in : (f : Found) (id : Text) (o v : Option (Bor Text)) → option_map (λ (s : Bor Text). s.now) o ≡ first_value f id → o ≡ v
-    → first_of id (rows_of f) ≡ option_map (λ (s : Bor Text). s.now) v
-file_in f id o v read is = sym (first_value-rows f id) ∙ sym read ∙ ap (option_map (λ (s : Bor Text). s.now)) is
+use Rattle.mt_nrexplain.specs.CommandLine.{ids_in}
 
 -- the ids of the matches
 pub ids_of_rows : (f : Found) (o : Option (Bor (List (Bor Text)))) → option_map (λ s. map (λ (v : Bor Text). v.now) s.now) o ≡ option_map raw_values (matched_of f (codes "ID"))

@@ -1,10 +1,11 @@
 -- What the program does with two readers and a writer, and how it ends.
-use Rattle.std.specs.Prelude.{◌≡◌, ◌⊎◌, ℕ, Bool, List, [], ◌∷◌, Option, IsTrue}
-use Rattle.clap.specs.Words.{Text, fault_of}
-use Rattle.mt_terms.specs.Lists.{has}
+use Rattle.std.specs.Prelude.{◌≡◌, ℕ, Bool, List, [], ◌∷◌, Option}
+use Rattle.clap.specs.Words.{Text}
 use Rattle.mt_explained.specs.Answer.{Answers}
 use Rattle.mt_report.specs.Status.{status_of}
-use Rattle.mt_nrexplain.specs.CommandLine.{AreMisuse, AskToBeTold, nrexplain}
+use Rattle.mt_program.specs.CommandLine.{AreMisuse}
+use Rattle.mt_program.specs.Exit.{IsExitOf}
+use Rattle.mt_nrexplain.specs.CommandLine.{nrexplain}
 
 -- The program explained a match: what it did to its writer answers what its readers had left, and it ends with the status
 -- of that.
@@ -18,8 +19,5 @@ pub record IsExplanation (ids : List Text) (is_public : Bool) (market matched ol
 -- What an exit status says of the words of the command line. Status 64 says that they are misuse. Status 2 says that the
 -- command takes them. Status 0 says that it takes them, or that they ask for help or the version. Statuses 4 and 5 say
 -- nothing of them.
-pub record IsExitFor (words : List Text) (status : ℕ) : Type 0 where
-  pub known : IsTrue (has (0 ∷ 2 ∷ 4 ∷ 5 ∷ 64 ∷ []) status)
-  pub misuse : status ≡ 64 → AreMisuse words
-  pub taken : status ≡ 2 → fault_of nrexplain words ≡ []
-  pub done : status ≡ 0 → (fault_of nrexplain words ≡ []) ⊎ AskToBeTold words
+abbrev pub IsExitFor : List Text → ℕ → Type 0
+IsExitFor words status = IsExitOf nrexplain (2 ∷ []) (AreMisuse nrexplain words) words status

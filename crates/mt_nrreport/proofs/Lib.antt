@@ -1,2 +1,1 @@
 pub mod StatusFacts
-pub mod WordFacts

@@ -1,10 +1,11 @@
 -- What the program does with two readers and a writer, and how it ends.
-use Rattle.std.specs.Prelude.{◌≡◌, ◌⊎◌, ℕ, Bool, List, [], ◌∷◌, Option, IsTrue}
-use Rattle.clap.specs.Words.{Text, fault_of}
-use Rattle.mt_terms.specs.Lists.{has}
+use Rattle.std.specs.Prelude.{◌≡◌, ℕ, Bool, List, [], ◌∷◌, Option}
+use Rattle.clap.specs.Words.{Text}
 use Rattle.mt_reported.specs.Answer.{Answers}
 use Rattle.mt_report.specs.Status.{status_of}
-use Rattle.mt_nrreport.specs.CommandLine.{AreMisuse, AskToBeTold, nrreport}
+use Rattle.mt_program.specs.CommandLine.{AreMisuse}
+use Rattle.mt_program.specs.Exit.{IsExitOf}
+use Rattle.mt_nrreport.specs.CommandLine.{nrreport}
 
 -- The program reported on a match: what it did to its writer answers what its readers had left, and it ends with the status
 -- of that.
@@ -19,8 +20,5 @@ pub record IsReport (market matched old new : Option (List ℕ)) (status : ℕ) 
 -- What an exit status says of the words of the command line. Status 64 says that they are misuse. Status 2 says
 -- that the command takes them. Status 0 says that it takes them, or that they ask for help or the version.
 -- Statuses 4 and 5 say nothing of them.
-pub record IsExitFor (words : List Text) (status : ℕ) : Type 0 where
-  pub known : IsTrue (has (0 ∷ 2 ∷ 4 ∷ 5 ∷ 64 ∷ []) status)
-  pub misuse : status ≡ 64 → AreMisuse words
-  pub taken : status ≡ 2 → fault_of nrreport words ≡ []
-  pub done : status ≡ 0 → (fault_of nrreport words ≡ []) ⊎ AskToBeTold words
+abbrev pub IsExitFor : List Text → ℕ → Type 0
+IsExitFor words status = IsExitOf nrreport (2 ∷ []) (AreMisuse nrreport words) words status

@@ -1,0 +1,2 @@
+pub mod ExitFacts
+pub mod WordFacts

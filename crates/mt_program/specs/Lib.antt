@@ -1,2 +1,4 @@
 pub mod CommandLine
 pub mod Told
+pub mod Unasked
+pub mod Exit

@@ -1,9 +1,11 @@
 ghost use Rattle.std.specs.Prelude.{◌≡◌, None};
 
+use crate::files::is_standard;
 use std::fs::File;
 use std::io::{self, Error, Read};
 
-/// A file that its first read opens. So nothing waits for the other end of a pipe before the file's turn.
+/// A file that its first read opens, or standard input. So nothing waits for the other end of a pipe before the file's
+/// turn.
 #[derive(Drop)]
 pub struct Input<'a> {
     rt: &'a HostRuntime,
@@ -13,7 +15,7 @@ pub struct Input<'a> {
 }
 
 impl<'a> Input<'a> {
-    /// The file at a path, not opened yet.
+    /// The file at a path, not opened yet, or standard input if the path is `-`.
     pub fn at(rt: &'a HostRuntime, path: &'a str) -> Self
         ensures path { result.path.now ≡ path.entry.now }
         ensures unopened { result.unopened ≡ None }
@@ -43,6 +45,9 @@ impl<'a> Input<'a> {
 
 impl Read for Input<'_> {
     fn read(&mut self, buf: &mut [u8]) -> io::Result<usize> {
+        if is_standard(self.path) {
+            return self.rt.stdin().read(buf);
+        }
         if let Some(file) = &mut self.file {
             return file.read(buf);
         }

@@ -1,24 +1,14 @@
-use Rattle.std.proofs.Common.{◌≡◌, ◌∙◌, true, ap, subst, codes}
+use Rattle.std.proofs.Common.{◌≡◌, true, subst, codes}
 use Rattle.mt_args.specs.CommandLine.{IfRun, IfRunInWays, is_set, is_taken}
 use Rattle.mt_program.specs.CommandLine.{texts_of}
-use Rattle.mt_report.specs.Status.{status_of}
-use Rattle.mt_run.specs.declared.in_ways.EndedInWays.{EndedInWays}
 use Rattle.mt_app.proofs.Statuses.{exit_of_run}
-use Rattle.mt_app.proofs.obey.Goals.{in-Some+in-Ok, in-None}
 use Rattle.mt_app.proofs.obey.Goals as goal
 
 -- the run of the file, or of standard input
-pub returns-after-file : goal.returns-after-file
-returns-after-file g c =
+pub returns-in-Ok-Run : goal.returns-in-Ok-Run
+returns-in-Ok-Run g c =
     let words = texts_of c.args.words.now in
     let taken : is_taken words ≡ true = subst (λ a. IfRun a (λ _ _. is_taken words ≡ true)) c.in-Ok-Run.field-0-is c.in-Ok-Run.ensures.taken in
     let flag : c.in-Ok-Run.set_aside ≡ is_set (codes "set-aside") words =
     subst (λ a. IfRunInWays a (λ _ set_aside. set_aside ≡ is_set (codes "set-aside") words)) c.in-Ok-Run.field-0-is c.in-Ok-Run.ensures.set_aside in
-    elim c.match-file.branch [
-      | in-Some+in-Ok w ↦
-          exit_of_run words _ _ _ _ _ w.run_match.result c.status_told.result w.run_match.ensures
-          (c.status_told.ensures ∙ ap (λ (e : EndedInWays). status_of e.ended.code e.ended.whole) w.ended-is) taken flag
-      | in-None w ↦
-          exit_of_run words _ _ _ _ _ w.run_match-ended.result c.status_told.result w.run_match-ended.ensures
-          (c.status_told.ensures ∙ ap (λ (e : EndedInWays). status_of e.ended.code e.ended.whole) w.ended-is) taken flag
-    ]
+    exit_of_run words _ _ _ _ _ c.run_match-ended.result c.status_told.result c.run_match-ended.ensures c.status_told.ensures taken flag

@@ -3,6 +3,7 @@ use Rattle.std.specs.Prelude.{option_map, unwrap_or}
 use Rattle.std.specs.Option.{option_copied}
 use Rattle.clap.specs.Words.{found_of}
 use Rattle.clap.proofs.WalkLemmas.{first_value-rows, one_text-rows}
+use Rattle.mt_program.specs.CommandLine.{path_by}
 use Rattle.mt_args.specs.CommandLine.{number_at}
 use Rattle.mt_args.proofs.OptionReads.{flag_read}
 use Rattle.mt_args.proofs.ParsedFacts.{option_read}
@@ -63,5 +64,5 @@ returns-clause-limits c =
 
 pub returns-clause-file : goal.returns-clause-file
 returns-clause-file c =
-    let copied : option_map string_bytes c.in_ok-file.file ≡ option_copied c.get_str.result = search rules in
-    copied ∙ c.get_str.ensures ∙ first_value-rows (found_of c.args.matches.now) (codes "FILE")
+    let copied : option_map string_bytes c.in_ok-file.file ≡ option_copied c.path_by-path.result = search rules in
+    copied ∙ c.path_by-path.ensures ∙ ap path_by (c.get_str.ensures ∙ first_value-rows (found_of c.args.matches.now) (codes "FILE"))

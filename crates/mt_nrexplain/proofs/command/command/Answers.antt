@@ -5,11 +5,7 @@ use Rattle.mt_nrexplain.proofs.command.command.Goals as goal
 
 pub returns : goal.returns
 returns c =
-    IfOk-weaker c.arg-4.result _ _
-    (λ r added. added.shape c.public.ensures.local
-    ∙ ap₂ with_rule
-    (c.in_ok-arg-2.ensures.shape c.ids.ensures.local
-    ∙ ap₂ with_rule
-    (c.in_ok-with_files.ensures.shape c.matched.ensures.local
-    ∙ ap₂ with_rule (c.in_ok-arg.ensures.shape c.market.ensures.local ∙ ap₂ with_rule c.plain_command.ensures c.market.ensures.rule) c.matched.ensures.rule) c.ids.ensures.rule) c.public.ensures.rule)
-    c.arg-4.ensures
+    IfOk-weaker c.arg-2.result _ _
+    (λ r added. added.shape c.flag_arg.ensures.local
+    ∙ ap₂ with_rule (c.in_ok-arg.ensures.shape c.ids.ensures.local ∙ ap₂ with_rule c.in_ok-with_files.ensures c.ids.ensures.rule) c.flag_arg.ensures.rule)
+    c.arg-2.ensures

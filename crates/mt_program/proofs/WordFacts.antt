@@ -1,0 +1,63 @@
+-- What words ask for, by the matches of a command or by its error.
+use Rattle.std.proofs.Common.{◌≡◌, ◌∙◌, true, false, Bor, List, Option, Result, Ok, Err, IfErr, sym, ap, subst, inl, inr}
+use Rattle.std.proofs.lemmas.Slice.Eq.{bytes_eq-Decides}
+use Rattle.std.specs.Prelude.{IsErrAnd, codes, option_map}
+use Rattle.clap.specs.Kinds.{HasKind, IsAmong}
+use Rattle.clap.specs.Words.{App, Row, Text, fault_of, first_of, kind_of, matches_of, rows_of}
+use Rattle.clap.specs.Matches.{first_value}
+use Rattle.clap.proofs.WalkLemmas.{first_value-rows}
+use Rattle.clap.specs.declared.parser.matches.Found.{Found}
+use Rattle.clap.specs.declared.error.Error.{Error}
+use Rattle.clap.specs.declared.error.kind.ErrorKind.{ErrorKind}
+use Rattle.mt_program.specs.CommandLine.{AreMisuse, AreRefused, NameNoFilesIn, is_standard}
+use Rattle.mt_program.specs.Unasked.{IsEndOf, IsMisuseBy, IsUnaskedBy, is_told}
+use Rattle.mt_program.specs.declared.unasked.Unasked.{Unasked}
+use Rattle.mt_program.specs.declared.unasked.Unasked.TheVariants.{Told, Misuse, Memory}
+
+-- an error of `clap`, by its kind
+pub unasked_by_kind : (app : App) (words : List Text) (e : Error) (unasked : Unasked) → HasKind (fault_of app words) e → IsEndOf (kind_of e) unasked
+    → IsUnaskedBy app (AreRefused app words) words unasked
+unasked_by_kind app words e (Told text) (inl memory) end = absurd (end.0 memory)
+unasked_by_kind app words e (Told text) (inr among) end = elim end.1 [
+  | inl help ↦ inl (subst (λ (k : ErrorKind). IsAmong k (fault_of app words)) help among)
+  | inr version ↦ inr (subst (λ (k : ErrorKind). IsAmong k (fault_of app words)) version among)
+]
+unasked_by_kind app words e (Misuse text) (inl memory) end = absurd (end.0 memory)
+unasked_by_kind app words e (Misuse text) (inr among) end = (kind_of e, end.1, end.2, among)
+unasked_by_kind app words e Memory h end = tt
+
+-- a command's refusal is misuse of it, and so are words that name no two files
+pub misuse_by_refusal : (app : App) (words : List Text) (unasked : Unasked) → IsUnaskedBy app (AreRefused app words) words unasked → IsUnaskedBy app (AreMisuse app words) words unasked
+misuse_by_refusal app words (Told text) h = h
+misuse_by_refusal app words (Misuse text) h = inl h
+misuse_by_refusal app words Memory h = tt
+
+pub misuse_by_files : {T : Type 0} (app : App) (words : List Text) (rows : List Row) (result : Result T Unasked) → rows ≡ matches_of app words
+    → IfErr result (IsMisuseBy (NameNoFilesIn rows)) → IfErr result (IsUnaskedBy app (AreMisuse app words) words)
+misuse_by_files app words rows (Ok x) is h = tt
+misuse_by_files app words rows (Err (Told text)) is h = absurd h
+misuse_by_files app words rows (Err (Misuse text)) is h = inr (rw is at h)
+misuse_by_files app words rows (Err Memory) is h = tt
+
+-- what the matches name by an argument, a row of them has
+pub named_in : (f : Found) (id : Text) (o v : Option (Bor Text)) → option_map (λ (s : Bor Text). s.now) o ≡ first_value f id → o ≡ v
+    → first_of id (rows_of f) ≡ option_map (λ (s : Bor Text). s.now) v
+named_in f id o v read is = sym (first_value-rows f id) ∙ sym read ∙ ap (option_map (λ (s : Bor Text). s.now)) is
+
+-- words that are misuse for a reason of their own
+pub misuse_by : (wrong : Type 0) (unasked : Unasked) → is_told unasked ≡ false → wrong → IsMisuseBy wrong unasked
+misuse_by wrong (Told text) other h = cc
+misuse_by wrong (Misuse text) other h = h
+misuse_by wrong Memory other h = tt
+
+-- want of memory says nothing of the words
+pub unasked_by_memory : {T : Type 0} (app : App) (misuse : Type 0) (words : List Text) (result : Result T Unasked) → IsErrAnd result (λ e. e ≡ Memory)
+    → IfErr result (IsUnaskedBy app misuse words)
+unasked_by_memory app misuse words (Ok x) h = tt
+unasked_by_memory app misuse words (Err (Told text)) h = cc
+unasked_by_memory app misuse words (Err (Misuse text)) h = cc
+unasked_by_memory app misuse words (Err Memory) h = tt
+
+-- a word that is standard input is `-`
+pub standard_is : (word : Text) → is_standard word ≡ true → word ≡ codes "-"
+standard_is word h = (bytes_eq-Decides word (codes "-")).0 h
