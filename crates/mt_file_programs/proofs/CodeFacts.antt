@@ -1,11 +1,10 @@
--- What the code of a refused file is: none of a budget or of couples set aside, and none as small as 1. So its status is
--- one of a program over two files.
-use Rattle.std.proofs.Common.{◌≡◌, ◌∙◌, ℕ, ◌<◌, Bool, true, false, sym, subst, inl, inr, refl}
+-- What the code of a refused file is: none of a budget or of couples set aside. So its status is one of a program over
+-- two files.
+use Rattle.std.proofs.Common.{◌≡◌, ◌∙◌, ℕ, Bool, true, false, sym, subst, inl, inr, refl}
 use Rattle.std.specs.Prelude.{◌==◌}
 use Rattle.std.proofs.lemmas.Bool.{cases_eq, true≢false}
 use Rattle.std.proofs.lemmas.Bool.Decides.{nat_tests}
 use Rattle.mt_program.proofs.ExitFacts.{IsFilesCode}
-use Rattle.mt_files.proofs.NameFacts.{codes_large}
 use Rattle.mt_files.specs.Text.{is_code_of}
 use Rattle.mt_files.specs.declared.source.Source.{Source}
 use Rattle.mt_files.specs.declared.source.Source.TheVariants.{Market, Match}
@@ -30,6 +29,3 @@ refused_code file code is = record {
   not_aside = not_this 6 not_aside file code is;
   not_spent = not_this 41 not_spent file code is;
 }
-
-pub refused_large : (file : Source) (code : ℕ) → is_code_of file code ≡ true → 1 < code
-refused_large = codes_large

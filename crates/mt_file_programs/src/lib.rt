@@ -1,7 +1,9 @@
-//! What the programs over two files have in common besides their words: the line for want of memory, and the statuses
-//! that the codes of their files have.
+//! What the programs over two files have in common besides their words: the line for want of memory, what is written for
+//! words that ask for no run, and the statuses of the codes of files.
 #![tactic(auto)]
 
 mod memory;
+mod unasked;
 
 pub use memory::no_memory;
+pub use unasked::end_unasked;

@@ -10,9 +10,9 @@ mod command;
 
 use crate::command::asked;
 use mt_check::check;
-use mt_file_programs::no_memory;
+use mt_file_programs::end_unasked;
 use mt_lists::Tap;
-use mt_program::{Input, say_unopened, tell_unasked, words_of};
+use mt_program::{Input, say_unopened, words_of};
 use mt_report::Drain;
 use std::alloc::Global;
 use std::io::{Read, Write};
@@ -48,29 +48,24 @@ fn obey<T: Threads + Sync>(rt: &HostRuntime, crew: &T, words: &[String]) -> u8
 {
     let alloc = rt.alloc();
     let mut out = Drain::new(rt.stdout());
-    let mut err = Drain::new(rt.stderr());
     match asked(alloc, words) {
         Ok(files) => {
             let mut market = Input::at(rt, files.market.as_str());
             let mut matched = Input::at(rt, files.matched.as_str());
+            let mut err = Drain::new(rt.stderr());
             let status = check_match(crew, alloc, &mut market, &mut matched, &mut out);
             say_unopened(&mut err, alloc, "nrcheck", &market);
             say_unopened(&mut err, alloc, "nrcheck", &matched);
             status
         }
-        Err(unasked) => tell_unasked(&mut out, &mut err, no_memory(b"check").as_bytes(), &unasked),
+        Err(unasked) => end_unasked(rt, b"check", &unasked),
     }
 }
 
 fn main(rt: HostRuntime) -> ExitCode {
     let status = match words_of(&rt) {
         Ok(words) => obey(&rt, &rt, words.as_slice()),
-        Err(unasked) => tell_unasked(
-            &mut Drain::new(rt.stdout()),
-            &mut Drain::new(rt.stderr()),
-            no_memory(b"check").as_bytes(),
-            &unasked,
-        ),
+        Err(unasked) => end_unasked(&rt, b"check", &unasked),
     };
     ExitCode::from(status)
 }

@@ -3,7 +3,8 @@ use Rattle.std.proofs.Common.{◌≡◌, ◌≢◌, ℕ, ◌<◌, Bool, [], ◌�
 use Rattle.clap.specs.Words.{Text, fault_of}
 use Rattle.mt_program.specs.CommandLine.{AreMisuse}
 use Rattle.mt_program.proofs.ExitFacts.{AreOwn, IsFilesCode, exit_of_run, files_code}
-use Rattle.mt_file_programs.proofs.CodeFacts.{refused_code, refused_large}
+use Rattle.mt_file_programs.proofs.CodeFacts.{refused_code}
+use Rattle.mt_files.proofs.NameFacts.{codes_large}
 use Rattle.mt_explained.specs.Headline.{IsRefusal}
 use Rattle.mt_nrexplain.specs.CommandLine.{nrexplain}
 use Rattle.mt_nrexplain.specs.Program.{IsExplanation, IsExitFor}
@@ -20,7 +21,7 @@ of_refusal ids code text refusal = elim refusal.says [
 
 large_refusal : (ids : List Text) (code : ℕ) (text : List ℕ) → IsRefusal ids code text → 1 < code
 large_refusal ids code text refusal = elim refusal.says [
-  | inl w ↦ refused_large refusal.file code w.named.known
+  | inl w ↦ codes_large refusal.file code w.named.known
   | inr w ↦ let is : code ≡ 56 = w.1.is_code in omega arith
 ]
 

@@ -3,7 +3,8 @@ use Rattle.std.proofs.Common.{◌≡◌, ◌≢◌, ℕ, [], ◌∷◌, List, Op
 use Rattle.clap.specs.Words.{Text, fault_of}
 use Rattle.mt_program.specs.CommandLine.{AreMisuse}
 use Rattle.mt_program.proofs.ExitFacts.{AreOwn, exit_of_run, files_code}
-use Rattle.mt_file_programs.proofs.CodeFacts.{refused_code, refused_large}
+use Rattle.mt_file_programs.proofs.CodeFacts.{refused_code}
+use Rattle.mt_files.proofs.NameFacts.{codes_large}
 use Rattle.mt_reported.specs.Headline.{IsRefusal}
 use Rattle.mt_nrreport.specs.CommandLine.{nrreport}
 use Rattle.mt_nrreport.specs.Program.{IsReport, IsExitFor}
@@ -15,7 +16,7 @@ own = record { refused = refl; not_done = refl; not_memory = refl; not_unwritten
 not_one : (code : ℕ) (text : List ℕ) → (code ≢ 0 → IsRefusal code text) → code ≡ 1 → ⊥
 not_one code text refusal one =
     let refused = refusal (λ none. omega arith) in
-    let large = refused_large refused.file code refused.named.known in
+    let large = codes_large refused.file code refused.named.known in
     omega arith
 
 pub exit_of_report : (words : List Text) (market matched old new : Option (List ℕ)) (status : ℕ) → IsReport market matched old new status → fault_of nrreport words ≡ [] → IsExitFor words status

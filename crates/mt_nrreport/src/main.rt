@@ -9,9 +9,9 @@ ghost use Rattle.mt_report.specs.Drains.{contents_of, failures_of};
 mod command;
 
 use crate::command::asked;
-use mt_file_programs::no_memory;
+use mt_file_programs::end_unasked;
 use mt_lists::Tap;
-use mt_program::{Input, say_unopened, tell_unasked, words_of};
+use mt_program::{Input, say_unopened, words_of};
 use mt_report::Drain;
 use mt_reported::report;
 use std::alloc::Global;
@@ -48,34 +48,24 @@ fn obey<T: Threads + Sync>(rt: &HostRuntime, crew: &T, words: &[String]) -> u8
 {
     let alloc = rt.alloc();
     let mut out = Drain::new(rt.stdout());
-    let mut err = Drain::new(rt.stderr());
     match asked(alloc, words) {
         Ok(files) => {
             let mut market = Input::at(rt, files.market.as_str());
             let mut matched = Input::at(rt, files.matched.as_str());
+            let mut err = Drain::new(rt.stderr());
             let status = report_match(crew, alloc, &mut market, &mut matched, &mut out);
             say_unopened(&mut err, alloc, "nrreport", &market);
             say_unopened(&mut err, alloc, "nrreport", &matched);
             status
         }
-        Err(unasked) => tell_unasked(
-            &mut out,
-            &mut err,
-            no_memory(b"report").as_bytes(),
-            &unasked,
-        ),
+        Err(unasked) => end_unasked(rt, b"report", &unasked),
     }
 }
 
 fn main(rt: HostRuntime) -> ExitCode {
     let status = match words_of(&rt) {
         Ok(words) => obey(&rt, &rt, words.as_slice()),
-        Err(unasked) => tell_unasked(
-            &mut Drain::new(rt.stdout()),
-            &mut Drain::new(rt.stderr()),
-            no_memory(b"report").as_bytes(),
-            &unasked,
-        ),
+        Err(unasked) => end_unasked(&rt, b"report", &unasked),
     };
     ExitCode::from(status)
 }

@@ -9,7 +9,7 @@ use Rattle.mt_terms.specs.Lists.{has}
 use Rattle.mt_report.specs.Status.{status_of}
 use Rattle.mt_program.specs.CommandLine.{AskToBeTold}
 use Rattle.mt_program.specs.Exit.{IsExitOf}
-use Rattle.mt_program.specs.Unasked.{IsToldFor, IsUnaskedBy}
+use Rattle.mt_program.specs.Unasked.{IsStatusFor, IsToldFor, IsUnaskedBy}
 use Rattle.mt_program.specs.declared.unasked.Unasked.{Unasked}
 use Rattle.mt_program.specs.declared.unasked.Unasked.TheVariants.{Told, Misuse, Memory}
 
@@ -35,6 +35,21 @@ files_code (suc (suc code)) h = h (omega arith)
 small_is : (code : ℕ) → nat_le code 1 ≡ true → code ≤ 1
 small_is code h = grind (arith, nat_tests)
 
+-- a text in place of a run ends with the status of its words
+either : (a b status : ℕ) (whole : Bool) → status ≡ (if whole then a else b) → (status ≡ a) ⊎ (status ≡ b)
+either a b status true is = inl is
+either a b status false is = inr is
+
+same : (a status : ℕ) (whole : Bool) → status ≡ (if whole then a else a) → status ≡ a
+same a status true is = is
+same a status false is = is
+
+pub status_by_told : (unasked : Unasked) (line : List ℕ) (out out_new err err_new : Option (List ℕ)) (status : ℕ)
+    → IsToldFor unasked line out out_new err err_new status → IsStatusFor unasked status
+status_by_told (Told text) line out out_new err err_new status is = either 0 5 status is.0.whole is.0.is_status
+status_by_told (Misuse text) line out out_new err err_new status is = same 64 status is.0.whole is.0.is_status
+status_by_told Memory line out out_new err err_new status is = either 4 5 status is.0.whole is.0.is_status
+
 module _ (app : App) (own : List ℕ) (misuse : Type 0) (words : List Text) (are : AreOwn own) where
   done_exit : (fault_of app words ≡ []) ⊎ AskToBeTold app words → IsExitOf app own misuse words 0
   done_exit done = record { known = refl; misuse = λ h. absurd (omega arith); taken = λ h. absurd (true≢false (sym h ∙ are.not_done)); done = λ h. done }
@@ -48,23 +63,19 @@ module _ (app : App) (own : List ℕ) (misuse : Type 0) (words : List Text) (are
   misuse_exit : misuse → IsExitOf app own misuse words 64
   misuse_exit is = record { known = refl; misuse = λ h. is; taken = λ h. absurd (true≢false (sym h ∙ are.not_misuse)); done = λ h. absurd (omega arith) }
 
-  told : (whole : Bool) → AskToBeTold app words → IsExitOf app own misuse words (if whole then 0 else 5)
-  told true asks = done_exit (inr asks)
-  told false asks = unwritten_exit
+  done_or_unwritten : (status : ℕ) → (status ≡ 0) ⊎ (status ≡ 5) → AskToBeTold app words → IsExitOf app own misuse words status
+  done_or_unwritten status (inl done) asks = subst (IsExitOf app own misuse words) (sym done) (done_exit (inr asks))
+  done_or_unwritten status (inr failed) asks = subst (IsExitOf app own misuse words) (sym failed) unwritten_exit
 
-  misused : (whole : Bool) → misuse → IsExitOf app own misuse words (if whole then 64 else 64)
-  misused true is = misuse_exit is
-  misused false is = misuse_exit is
+  memory_or_unwritten : (status : ℕ) → (status ≡ 4) ⊎ (status ≡ 5) → IsExitOf app own misuse words status
+  memory_or_unwritten status (inl memory) = subst (IsExitOf app own misuse words) (sym memory) memory_exit
+  memory_or_unwritten status (inr failed) = subst (IsExitOf app own misuse words) (sym failed) unwritten_exit
 
-  without_memory : (whole : Bool) → IsExitOf app own misuse words (if whole then 4 else 5)
-  without_memory true = memory_exit
-  without_memory false = unwritten_exit
-
-  pub exit_of_unasked : (unasked : Unasked) (line : List ℕ) (out out_new err err_new : Option (List ℕ)) (status : ℕ)
-      → IsUnaskedBy app misuse words unasked → IsToldFor unasked line out out_new err err_new status → IsExitOf app own misuse words status
-  exit_of_unasked (Told text) line out out_new err err_new status asks is = subst (IsExitOf app own misuse words) (sym is.0.is_status) (told is.0.whole asks)
-  exit_of_unasked (Misuse text) line out out_new err err_new status wrong is = subst (IsExitOf app own misuse words) (sym is.0.is_status) (misused is.0.whole wrong)
-  exit_of_unasked Memory line out out_new err err_new status none is = subst (IsExitOf app own misuse words) (sym is.0.is_status) (without_memory is.0.whole)
+  -- the status of words that ask for no run
+  pub exit_of_unasked : (unasked : Unasked) (status : ℕ) → IsUnaskedBy app misuse words unasked → IsStatusFor unasked status → IsExitOf app own misuse words status
+  exit_of_unasked (Told text) status asks is = done_or_unwritten status is asks
+  exit_of_unasked (Misuse text) status wrong is = subst (IsExitOf app own misuse words) (sym is) (misuse_exit wrong)
+  exit_of_unasked Memory status none is = memory_or_unwritten status is
 
   module _ (taken : fault_of app words ≡ []) where
     refused_exit : IsExitOf app own misuse words 2

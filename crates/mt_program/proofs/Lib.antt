@@ -1,2 +1,3 @@
 pub mod ExitFacts
 pub mod WordFacts
+pub mod AskedFacts

@@ -32,12 +32,16 @@ misuse_by_refusal app words (Told text) h = h
 misuse_by_refusal app words (Misuse text) h = inl h
 misuse_by_refusal app words Memory h = tt
 
+pub misuse_by_named : (app : App) (words : List Text) (rows : List Row) (unasked : Unasked) → rows ≡ matches_of app words → IsMisuseBy (NameNoFilesIn rows) unasked
+    → IsUnaskedBy app (AreMisuse app words) words unasked
+misuse_by_named app words rows (Told text) is h = absurd h
+misuse_by_named app words rows (Misuse text) is h = inr (rw is at h)
+misuse_by_named app words rows Memory is h = tt
+
 pub misuse_by_files : {T : Type 0} (app : App) (words : List Text) (rows : List Row) (result : Result T Unasked) → rows ≡ matches_of app words
     → IfErr result (IsMisuseBy (NameNoFilesIn rows)) → IfErr result (IsUnaskedBy app (AreMisuse app words) words)
 misuse_by_files app words rows (Ok x) is h = tt
-misuse_by_files app words rows (Err (Told text)) is h = absurd h
-misuse_by_files app words rows (Err (Misuse text)) is h = inr (rw is at h)
-misuse_by_files app words rows (Err Memory) is h = tt
+misuse_by_files app words rows (Err unasked) is h = misuse_by_named app words rows unasked is h
 
 -- what the matches name by an argument, a row of them has
 pub named_in : (f : Found) (id : Text) (o v : Option (Bor Text)) → option_map (λ (s : Bor Text). s.now) o ≡ first_value f id → o ≡ v
@@ -61,3 +65,8 @@ unasked_by_memory app misuse words (Err Memory) h = tt
 -- a word that is standard input is `-`
 pub standard_is : (word : Text) → is_standard word ≡ true → word ≡ codes "-"
 standard_is word h = (bytes_eq-Decides word (codes "-")).0 h
+
+-- an error that is passed on says what it said
+pub passed_on : {T : Type 0} (P : Unasked → Type 0) (result : Result T Unasked) (e : Unasked) → IsErrAnd result (λ y. y ≡ e) → P e → IfErr result P
+passed_on P (Ok x) e h p = tt
+passed_on P (Err y) e h p = subst P (sym h) p

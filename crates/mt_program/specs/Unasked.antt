@@ -34,6 +34,12 @@ IsToldFor (Told text) line out out_new err err_new status = IsTold (string_bytes
 IsToldFor (Misuse text) line out out_new err err_new status = IsTold (string_bytes text) 64 64 err err_new status × (out_new ≡ out)
 IsToldFor Memory line out out_new err err_new status = IsTold line 4 5 out out_new status × (err_new ≡ err)
 
+-- the status with which a program ends for these words
+abbrev pub IsStatusFor : Unasked → ℕ → Type 0
+IsStatusFor (Told text) status = (status ≡ 0) ⊎ (status ≡ 5)
+IsStatusFor (Misuse text) status = status ≡ 64
+IsStatusFor Memory status = (status ≡ 4) ⊎ (status ≡ 5)
+
 -- ---- inside the crate
 
 -- what is answered to an error of this kind

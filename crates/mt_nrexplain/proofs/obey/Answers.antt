@@ -10,4 +10,4 @@ returns-in-Ok g c =
 
 pub returns-in-Err : goal.returns-in-Err
 returns-in-Err g c =
-    exit_of_unasked nrexplain _ (AreMisuse nrexplain (texts_of c.args.words.now)) (texts_of c.args.words.now) own c.in-Err.unasked _ _ _ _ _ c.tell_unasked.result c.in-Err.ensures c.tell_unasked.ensures
+    exit_of_unasked nrexplain _ (AreMisuse nrexplain (texts_of c.args.words.now)) (texts_of c.args.words.now) own c.in-Err.unasked c.end_unasked.result c.in-Err.ensures.unasked c.end_unasked.ensures
