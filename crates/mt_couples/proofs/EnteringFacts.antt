@@ -1,61 +1,59 @@
 -- The couples on their way into a match, one after another.
-use Rattle.std.proofs.Common.{◌≡◌, ℕ, zero, suc, Option, refl, ◌+◌, ◌-◌, ◌<◌, ◌≤◌, Bool, true, false, List, [], ◌∷◌, length, Some, None, IsTrue, ap, sym, ◌∙◌, inl, inr, arith, subst, option_map, option_and_then}
+use Rattle.std.proofs.Common.{◌≡◌, ℕ, zero, suc, Option, refl, ◌+◌, ◌-◌, ◌<◌, ◌≤◌, ◌≢◌, Bool, true, false, nat_lt, slice_index_or, Vec, Global, List, [], ◌∷◌, length, Some, None, IsTrue, ap, sym, ◌∙◌, inl, inr, arith, subst, option_map, option_and_then}
 use Rattle.std.specs.List.{range_with_len}
+use Rattle.std.proofs.lemmas.Bool.{cases_eq}
 use Rattle.std.proofs.lemmas.Bool.Decides.{nat_tests}
 use Rattle.mt_terms.specs.Lists.{below}
-use Rattle.mt_terms.specs.Market.{Market, applicants, agents}
+use Rattle.mt_terms.specs.Market.{Market, agents}
 use Rattle.mt_terms.specs.Matching.{Places}
 use Rattle.mt_terms.specs.Stability.{blocks, fits}
 use Rattle.mt_terms.specs.WellFormed.{IsWellFormed}
 use Rattle.mt_terms.specs.Rounds.{after_rounds, after_entries, stage, is_on, IsFittingState}
 use Rattle.mt_terms.specs.declared.numbers.Agent.{Agent}
-use Rattle.mt_terms.specs.declared.numbers.Agent.TheVariants.{Couple}
+use Rattle.mt_terms.specs.declared.numbers.Agent.TheVariants.{Single, Couple}
 use Rattle.mt_round_laws.proofs.RoundsLists.{In}
 use Rattle.mt_round_laws.proofs.RoundsStage.{chained}
 use Rattle.mt_budget_laws.proofs.ReturningFacts.{endless_stage}
 use Rattle.mt_order_laws.specs.Aside.{entering_at_end}
 use Rattle.mt_order_laws.proofs.EndFacts.{entering_in_words_lem}
 use Rattle.mt_round_laws.proofs.RoundsAgents.{on_list, of_list, agent_on_list, couple_members}
-use Rattle.mt_stage_tables.specs.Waiting.{nobody, Waiting}
-use Rattle.mt_assignment.specs.Assigned.{assignment, Assigned}
-use Rattle.mt_couples.specs.Running.{is_idle, IsQuiet, IsRunning}
+use Rattle.mt_stage_tables.specs.Waiting.{Waiting}
+use Rattle.mt_stage_tables.specs.Named.{AreNamed}
+use Rattle.mt_assignment.specs.Assigned.{Assigned}
+use Rattle.mt_assignment.specs.Watched.{AreWatched}
+use Rattle.mt_couples.specs.Running.{is_idle, singles_quiet, IsQuietBefore, IsRunning}
 use Rattle.mt_couples.specs.Waiting.{IsListOf}
-use Rattle.mt_couples.proofs.QuietFacts.{before_it, entered_before, entered_by}
+use Rattle.mt_couples.specs.Staged.{Begins, IsBetweenEntries, IsBetweenRounds, IsWatched}
+use Rattle.mt_couples.specs.Watching.{AreCounted, IndexesCouple, IsIndexed}
+use Rattle.mt_couples.specs.declared.rounds.Stage.{Stage}
+use Rattle.mt_couples.specs.declared.watch.Watch.{Watch}
+use Rattle.mt_couples.proofs.QuietFacts.{before_it, entered_by, quiet_at_first}
 
 -- the couples from a number on
 abbrev couples_from : Market → ℕ → List ℕ
 couples_from m number = range_with_len number (length m.couples - number)
 
--- who has entered before a couple doesn't block
-abbrev pub IsQuietBefore : Market → ℕ → Places → Type 0
-IsQuietBefore m number places = (h : Agent) → is_on (agents m) h ≡ true → entered_before number h ≡ true → blocks m places h ≡ false
-
--- Couples below a number have entered within the budget. What is left of the way leads where the whole does.
-pub record IsEntering (m : Market) (quiet : Bool) (start : Places) (budget number : ℕ) (now : Assigned) (waiting : Waiting) (left : ℕ) : Type 0 where
-  pub market : now.market ≡ m
-  pub fitting : IsTrue (fits m now.places)
-  pub list : IsListOf m waiting
-  pub nobody_waits : waiting.agents ≡ []
-  pub is_quiet : IsTrue quiet → IsQuietBefore m number now.places
-  pub reached : after_entries m (below number) budget start ≡ Some (now.places, left)
-  pub leads : after_entries m (couples_from m number) left now.places ≡ after_entries m (below (length m.couples)) budget start
+-- Couples from a number on have entered, up to another, within the budget.
+pub record IsEntering (m : Market) (start : Places) (first budget number : ℕ) (places : Places) (left : ℕ) : Type 0 where
+  pub low : first ≤ number
+  pub reached : after_entries m (range_with_len first (number - first)) budget start ≡ Some (places, left)
   pub within : left ≤ budget
 
--- at the start no couple has entered
-pub entering_first : (m : Market) (quiet : Bool) (places : Places) (budget : ℕ) (now : Assigned) (waiting : Waiting) → now ≡ assignment m places → fits m places ≡ true
-    → waiting ≡ nobody (applicants m) (length m.couples) → (IsTrue quiet → IsQuietBefore m 0 places) → IsEntering m quiet places budget 0 now waiting budget
-entering_first m quiet places budget now waiting is fit none is_quiet =
-    let e : length m.couples - 0 ≡ length m.couples = omega arith in
-    record {
-      market = ap (λ (s : Assigned). s.market) is;
-      fitting = subst (λ (s : Assigned). fits m s.places ≡ true) (sym is) fit;
-      list = record { applicants_are = ap (λ (w : Waiting). w.applicants) none; couples_are = ap (λ (w : Waiting). w.couples) none };
-      nobody_waits = ap (λ (w : Waiting). w.agents) none;
-      is_quiet = λ so. subst (λ (s : Assigned). IsQuietBefore m 0 s.places) (sym is) (is_quiet so);
-      reached = ap (λ (s : Assigned). Some (s.places, budget)) (sym is);
-      leads = ap (λ (s : Assigned). after_entries m (couples_from m 0) budget s.places) is ∙ ap (λ n. after_entries m (range_with_len 0 n) budget places) e;
-      within = omega arith;
-    }
+-- What is left of the way leads where the whole does.
+abbrev pub IsLeading : Market → Places → ℕ → ℕ → Places → ℕ → Type 0
+IsLeading m start budget number places left =
+    after_entries m (couples_from m number) left places ≡ after_entries m (below (length m.couples)) budget start
+
+-- at the start none of them has entered
+pub entering_first : (m : Market) (start : Places) (first budget : ℕ) → IsEntering m start first budget first start budget
+entering_first m start first budget =
+    let none : first - first ≡ 0 = omega arith in
+    record { low = omega arith; reached = ap (λ n. after_entries m (range_with_len first n) budget start) none; within = omega arith }
+
+pub leading_first : (m : Market) (start : Places) (budget : ℕ) → IsLeading m start budget 0 start budget
+leading_first m start budget =
+    let all : length m.couples - 0 ≡ length m.couples = omega arith in
+    ap (λ n. after_entries m (range_with_len 0 n) budget start) all
 
 -- the next couple is put on the empty work list
 pub next_waits : (m : Market) → IsWellFormed m → (quiet : Bool) (k : ℕ) (now : Assigned) (waiting : Waiting) → now.market ≡ m → k < length m.couples
@@ -79,6 +77,75 @@ idle_before c number idle = grind (arith, nat_tests, idle)
 
 pub entered_idle : (c number : ℕ) (ws : List Agent) → ws ≡ [] → c < number + 1 → is_idle number ws (Couple c) ≡ true
 entered_idle c number ws nobody low = subst (λ gs. is_idle number gs (Couple c) ≡ true) (sym nobody) (grind (arith, nat_tests, low))
+
+-- who has entered before the next couple: that couple's predecessor too
+quiet_more : (m : Market) (k : ℕ) (places : Places) → IsQuietBefore m k places → blocks m places (Couple k) ≡ false → IsQuietBefore m (k + 1) places
+quiet_more m k places quiet none (Single a) on before = quiet (Single a) on refl
+quiet_more m k places quiet none (Couple c) on before = elim (cases_eq c k) [
+  | inl same ↦ ap (λ d. blocks m places (Couple d)) same ∙ none
+  | inr other ↦ quiet (Couple c) on (earlier other)
+]
+  where
+    earlier : c ≢ k → nat_lt c k ≡ true
+    earlier other = grind (arith, nat_tests, before, other)
+
+-- one couple more is indexed
+indexed_more : (old new : Watch) (k : ℕ) → new.better ≡ old.better → IndexesCouple old new k → ((c : ℕ) → c < k → IsIndexed old c)
+    → (c : ℕ) → c < k + 1 → IsIndexed new c
+indexed_more old new k same index so_far c low = elim (cases_eq c k) [
+  | inl here ↦ subst (IsIndexed new) (sym here) index.indexed
+  | inr other ↦
+      let before : c < k = omega arith in
+      let was = so_far c before in
+      let more = index.keeps c in
+      omega (arith, ap (λ (v : Vec ℕ Global). slice_index_or v.items c 0) same)
+]
+
+-- A couple that has entered is noted. The stage isn't quiet any more if the couple blocks.
+pub noted : (old new : Stage) (k : ℕ) → new.assignment ≡ old.assignment → new.waiting ≡ old.waiting → new.watch.singles ≡ old.watch.singles
+    → new.watch.better ≡ old.watch.better → AreNamed old.assignment.market new.watch.couples → IndexesCouple old.watch new.watch k
+    → (IsTrue new.quiet → IsTrue old.quiet × (blocks old.assignment.market old.assignment.places (Couple k) ≡ false))
+    → IsBetweenEntries k old → IsBetweenEntries (k + 1) new
+noted old new k same waiting singles better named index quiet so_far = record {
+  fitting = subst (λ (s : Assigned). fits s.market s.places ≡ true) (sym same) so_far.fitting;
+  list = subst (λ (s : Assigned). IsListOf s.market new.waiting) (sym same) (subst (IsListOf old.assignment.market) (sym waiting) so_far.list);
+  nobody_waits = ap (λ (w : Waiting). w.agents) waiting ∙ so_far.nobody_waits;
+  is_quiet = λ so. subst (λ (s : Assigned). IsQuietBefore s.market (k + 1) s.places) (sym same)
+      (quiet_more old.assignment.market k old.assignment.places (so_far.is_quiet (quiet so).0) (quiet so).1);
+  watched = subst (λ (s : Assigned). AreWatched s new.watch.singles) (sym same) (subst (AreWatched old.assignment) (sym singles) so_far.watched);
+  named = subst (λ (s : Assigned). AreNamed s.market new.watch.couples) (sym same) named;
+  counted = subst (λ (s : Assigned). AreCounted s new.watch.better.items) (sym same)
+      (subst (λ (v : Vec ℕ Global). AreCounted old.assignment v.items) (sym better) so_far.counted);
+  indexed = indexed_more old.watch new.watch k better index so_far.indexed;
+}
+
+-- a stage that no couple has entered is between two entries
+pub at_first : (m : Market) → IsWellFormed m → (places : Places) (t : Stage) → fits m places ≡ true → Begins m places t → IsBetweenEntries 0 t
+at_first m wf places t fit begins = record {
+  fitting = subst (λ (s : Assigned). fits s.market s.places ≡ true) (sym begins.assigned) fit;
+  list = subst (λ (s : Assigned). IsListOf s.market t.waiting) (sym begins.assigned)
+      (record { applicants_are = ap (λ (w : Waiting). w.applicants) begins.nobody_waits; couples_are = ap (λ (w : Waiting). w.couples) begins.nobody_waits });
+  nobody_waits = ap (λ (w : Waiting). w.agents) begins.nobody_waits;
+  is_quiet = λ so. subst (λ (s : Assigned). IsQuietBefore s.market 0 s.places) (sym begins.assigned)
+      (quiet_at_first m wf places (sym (ap singles_quiet begins.assigned) ∙ begins.is_quiet so));
+  watched = begins.watched;
+  named = begins.named;
+  counted = begins.counted;
+  indexed = λ d low. absurd (omega arith);
+}
+
+-- Once nobody waits, a stage is between two entries.
+pub settled_between : (t : Stage) (k : ℕ) → t.last ≡ k → IsBetweenRounds t → IsWatched t → t.waiting.agents ≡ [] → IsBetweenEntries (k + 1) t
+settled_between t k last running watching empty = subst (λ j. IsBetweenEntries (j + 1) t) last (record {
+  fitting = running.fitting.fitting;
+  list = running.waiting;
+  nobody_waits = empty;
+  is_quiet = λ so h on before. running.is_quiet so h on (entered_by t.last h before) (ap (λ gs. is_on gs h) empty);
+  watched = watching.watched;
+  named = watching.named;
+  counted = watching.counted;
+  indexed = λ d low. watching.indexed d (entered_idle d t.last t.waiting.agents empty low);
+})
 
 -- the next couple, out of those from its number on
 next_couple : (m : Market) (number left : ℕ) (places : Places) → number < length m.couples
@@ -104,46 +171,55 @@ range_entered m start (suc n) left places r q e more =
     rw w.1 (range_entered m (start + 1) n w.0.1 w.0.0 r q w.2 (subst (λ j. after_rounds m j r.1 r.0 (Couple j ∷ []) ≡ Some q) there more))
 
 -- it has entered
-pub entering_more : (m : Market) (quiet : Bool) (start : Places) (budget number : ℕ) (now next : Assigned) (waiting waiting' : Waiting) (left left' : ℕ)
-    → IsEntering m quiet start budget number now waiting left → number < length m.couples → next.market ≡ m → fits m next.places ≡ true → IsListOf m waiting' → waiting'.agents ≡ [] → (IsTrue quiet → IsQuiet number (record { market = m; places = next.places }) waiting'.agents)
-    → after_rounds m number left now.places (Couple number ∷ []) ≡ Some (next.places, left') → left' ≤ left → IsEntering m quiet start budget (number + 1) next waiting' left'
-entering_more m quiet start budget number now next waiting waiting' left left' so_far within market fit list empty is_quiet settles less = record {
-  market = market;
-  fitting = fit;
-  list = list;
-  nobody_waits = empty;
-  is_quiet = λ so h on before. is_quiet so h on (entered_by number h before) (ap (λ gs. is_on gs h) empty);
-  reached = (let more : number + 1 ≡ suc number = omega arith in let here : number ≡ 0 + number = omega arith in
-      ap (λ n. after_entries m (below n) budget start) more ∙ range_entered m 0 number budget start (now.places, left) (next.places, left') so_far.reached
-      (subst (λ j. after_rounds m j left now.places (Couple j ∷ []) ≡ Some (next.places, left')) here settles));
-  leads =
-      ap (option_and_then (λ r. after_entries m (couples_from m (number + 1)) r.1 r.0)) (sym settles)
-      ∙ sym (next_couple m number left now.places within) ∙ so_far.leads;
-  within = (let l = so_far.within in omega arith);
-}
+pub entering_more : (m : Market) (start : Places) (first budget number : ℕ) (places next : Places) (left left' : ℕ)
+    → IsEntering m start first budget number places left → after_rounds m number left places (Couple number ∷ []) ≡ Some (next, left') → left' ≤ left
+    → IsEntering m start first budget (number + 1) next left'
+entering_more m start first budget number places next left left' so_far settles less =
+    let low = so_far.low in
+    let high = so_far.within in
+    let here : number ≡ first + (number - first) = omega arith in
+    let more : number + 1 - first ≡ suc (number - first) = omega arith in
+    record {
+      low = omega arith;
+      reached =
+          ap (λ n. after_entries m (range_with_len first n) budget start) more
+          ∙ range_entered m first (number - first) budget start (places, left) (next, left') so_far.reached
+          (subst (λ j. after_rounds m j left places (Couple j ∷ []) ≡ Some (next, left')) here settles);
+      within = omega arith;
+    }
+
+pub leading_more : (m : Market) (start : Places) (budget number : ℕ) (places next : Places) (left left' : ℕ) → IsLeading m start budget number places left
+    → number < length m.couples → after_rounds m number left places (Couple number ∷ []) ≡ Some (next, left') → IsLeading m start budget (number + 1) next left'
+leading_more m start budget number places next left left' leads within settles =
+    ap (option_and_then (λ r. after_entries m (couples_from m (number + 1)) r.1 r.0)) (sym settles)
+    ∙ sym (next_couple m number left places within) ∙ leads
 
 -- its rounds are more than what is left
-pub entering_spent : (m : Market) (quiet : Bool) (start : Places) (budget number : ℕ) (now : Assigned) (waiting : Waiting) (left : ℕ)
-    → IsEntering m quiet start budget number now waiting left → number < length m.couples → after_rounds m number left now.places (Couple number ∷ []) ≡ None
-    → stage m start budget ≡ None
-entering_spent m quiet start budget number now waiting left so_far within spent =
+pub entering_spent : (m : Market) (start : Places) (budget number : ℕ) (places : Places) (left : ℕ) → IsLeading m start budget number places left
+    → number < length m.couples → after_rounds m number left places (Couple number ∷ []) ≡ None → stage m start budget ≡ None
+entering_spent m start budget number places left leads within spent =
     let none : after_entries m (below (length m.couples)) budget start ≡ None =
-    sym so_far.leads ∙ next_couple m number left now.places within ∙ ap (option_and_then (λ r. after_entries m (couples_from m (number + 1)) r.1 r.0)) spent in
+    sym leads ∙ next_couple m number left places within ∙ ap (option_and_then (λ r. after_entries m (couples_from m (number + 1)) r.1 r.0)) spent in
     ap (option_map (λ r. (r.0, budget - r.1))) none
 
+-- those below a number, as the definition has them
+from_none : (m : Market) (start : Places) (budget number : ℕ) (places : Places) (left : ℕ) → IsEntering m start 0 budget number places left
+    → after_entries m (below number) budget start ≡ Some (places, left)
+from_none m start budget number places left so_far =
+    let all : number ≡ number - 0 = omega arith in
+    ap (λ n. after_entries m (range_with_len 0 n) budget start) all ∙ so_far.reached
+
 -- it is the one that is entering then
-pub entering_ends : (m : Market) (quiet : Bool) (start : Places) (budget number : ℕ) (now : Assigned) (waiting : Waiting) (left : ℕ)
-    → IsEntering m quiet start budget number now waiting left → number < length m.couples → after_rounds m number left now.places (Couple number ∷ []) ≡ None
-    → entering_at_end m start budget ≡ Some number
-entering_ends m quiet start budget number now waiting left so_far within spent =
-    (entering_in_words_lem m start budget number).1 (within, ((now.places, left), so_far.reached, spent))
+pub entering_ends : (m : Market) (start : Places) (budget number : ℕ) (places : Places) (left : ℕ) → IsEntering m start 0 budget number places left
+    → number < length m.couples → after_rounds m number left places (Couple number ∷ []) ≡ None → entering_at_end m start budget ≡ Some number
+entering_ends m start budget number places left so_far within spent =
+    (entering_in_words_lem m start budget number).1 (within, ((places, left), from_none m start budget number places left so_far, spent))
 
 -- if its rounds end within no budget, no budget is enough for the stage
-pub entering_endless : (m : Market) (quiet : Bool) (start : Places) (budget number : ℕ) (now : Assigned) (waiting : Waiting) (left : ℕ)
-    → IsEntering m quiet start budget number now waiting left → number < length m.couples
-    → ((b : ℕ) → after_rounds m number b now.places (Couple number ∷ []) ≡ None) → (b : ℕ) → stage m start b ≡ None
-entering_endless m quiet start budget number now waiting left so_far within endless =
-    endless_stage m start number budget (now.places, left) within so_far.reached endless
+pub entering_endless : (m : Market) (start : Places) (budget number : ℕ) (places : Places) (left : ℕ) → IsEntering m start 0 budget number places left
+    → number < length m.couples → ((b : ℕ) → after_rounds m number b places (Couple number ∷ []) ≡ None) → (b : ℕ) → stage m start b ≡ None
+entering_endless m start budget number places left so_far within endless =
+    endless_stage m start number budget (places, left) within (from_none m start budget number places left so_far) endless
 
 -- there is none to enter
 pub none_enters : (m : Market) (places : Places) (budget : ℕ) → length m.couples ≡ 0 → stage m places budget ≡ Some (places, 0)
@@ -152,10 +228,10 @@ none_enters m places budget none =
     ap (λ n. option_map (λ r. (r.0, budget - r.1)) (after_entries m (below n) budget places)) none ∙ ap (λ d. Some (places, d)) all
 
 -- all couples have entered
-pub entering_all : (m : Market) (quiet : Bool) (start : Places) (budget number : ℕ) (now : Assigned) (waiting : Waiting) (left : ℕ)
-    → IsEntering m quiet start budget number now waiting left → length m.couples ≤ number → stage m start budget ≡ Some (now.places, budget - left)
-entering_all m quiet start budget number now waiting left so_far past =
+pub entering_all : (m : Market) (start : Places) (budget number : ℕ) (places : Places) (left : ℕ) → IsLeading m start budget number places left
+    → length m.couples ≤ number → stage m start budget ≡ Some (places, budget - left)
+entering_all m start budget number places left leads past =
     let none_left : length m.couples - number ≡ 0 = omega arith in
-    let all : after_entries m (below (length m.couples)) budget start ≡ Some (now.places, left) =
-    sym so_far.leads ∙ ap (λ n. after_entries m (range_with_len number n) left now.places) none_left in
+    let all : after_entries m (below (length m.couples)) budget start ≡ Some (places, left) =
+    sym leads ∙ ap (λ n. after_entries m (range_with_len number n) left places) none_left in
     ap (option_map (λ r. (r.0, budget - r.1))) all

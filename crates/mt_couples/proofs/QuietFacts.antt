@@ -18,7 +18,7 @@ use Rattle.mt_round_laws.proofs.RoundsKeep.{IsOpened, found_none, move_from, on_
 use Rattle.mt_stage_tables.specs.Waiting.{with_agents, Waiting}
 use Rattle.mt_assignment.specs.Assigned.{Assigned}
 use Rattle.mt_assignment.specs.Moves.{names_one_of, opens, some_has, IsTaking}
-use Rattle.mt_couples.specs.Running.{is_quiet_single, is_reopened, singles_quiet, work_of, IsQuiet, IsQuietBut}
+use Rattle.mt_couples.specs.Running.{entered_before, is_quiet_single, is_reopened, singles_quiet, work_of, IsQuiet, IsQuietBut}
 use Rattle.mt_couples.specs.Waiting.{Joins}
 use Rattle.mt_couples.proofs.JoinFacts.{all_joined-append, AreJoining, joining_more, joining_some}
 use Rattle.mt_assignment.proofs.MoveFacts.{is_move, left_within}
@@ -161,11 +161,7 @@ quiet_round m wf k places g ws fit on_g quiet s w same is =
         quiet_after (move_from m wf places g fit on_g sent e) k ws quiet h (agent_from_list m wf h (of_list h (agents m) on)) entered parts.0
         (λ i. both_ways (is_on looked h) parts.1 (on_list h looked i))
 
--- who has entered before a couple
-abbrev pub entered_before : ℕ → Agent → Bool
-entered_before number (Single a) = true
-entered_before number (Couple c) = nat_lt c number
-
+-- who has entered once a couple has, and isn't that couple, has entered before it
 pub before_it : (number : ℕ) (h : Agent) → has_entered number h ≡ true → is_on (Couple number ∷ []) h ≡ false → entered_before number h ≡ true
 before_it number (Single a) entered off = refl
 before_it number (Couple c) entered off = before (or_parts (c == number) false off).0

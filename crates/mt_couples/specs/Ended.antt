@@ -4,7 +4,7 @@ use Rattle.mt_terms.specs.Market.{Market}
 use Rattle.mt_terms.specs.Matching.{Places}
 use Rattle.mt_terms.specs.Rounds.{stage}
 use Rattle.mt_order_laws.specs.Aside.{entering_at_end}
-use Rattle.mt_couples.specs.Staged.{settled_within}
+use Rattle.mt_couples.specs.Staged.{entered_within, settled_within}
 use Rattle.mt_couples.specs.declared.rounds.CoupleEnd.{CoupleEnd}
 use Rattle.mt_couples.specs.declared.rounds.CoupleEnd.TheVariants.{BudgetSpent, Memory}
 use Rattle.mt_couples.specs.declared.rounds.Spent.{Spent}
@@ -35,3 +35,11 @@ pub record IsSpentFrom (t : Stage) (budget left : ℕ) (s : Spent) : Type 0 wher
   pub within : s.rounds ≤ budget
   pub all_made : IsFalse s.comes_back → s.rounds ≡ budget
   pub endless : IsTrue s.comes_back → (b : ℕ) → settled_within t b ≡ None
+
+-- The same of the rounds of a couple that enters alone.
+pub record IsSpentEntering (t : Stage) (k budget left : ℕ) (s : Spent) : Type 0 where
+  pub unsettled : entered_within t k left ≡ None
+  pub couple : s.couple ≡ k
+  pub within : s.rounds ≤ budget
+  pub all_made : IsFalse s.comes_back → s.rounds ≡ budget
+  pub endless : IsTrue s.comes_back → (b : ℕ) → entered_within t k b ≡ None

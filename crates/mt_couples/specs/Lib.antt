@@ -1,5 +1,6 @@
 pub mod Ended
 pub mod Looking
+pub mod Reaching
 pub mod Rechecks
 pub mod Returning
 pub mod Running

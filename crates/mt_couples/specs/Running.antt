@@ -1,8 +1,9 @@
 -- What is asked of a match and of a work list between two rounds.
-use Rattle.std.specs.Prelude.{ℕ, Bool, true, not, ◌&&◌, List, IsTrue, IsFalse}
+use Rattle.std.specs.Prelude.{ℕ, Bool, true, not, ◌&&◌, nat_lt, List, IsTrue, IsFalse}
 use Rattle.std.specs.List.{list_all}
 use Rattle.mt_terms.specs.Lists.{below}
-use Rattle.mt_terms.specs.Market.{agent_of, agents, applicants}
+use Rattle.mt_terms.specs.Market.{Market, agent_of, agents, applicants}
+use Rattle.mt_terms.specs.Matching.{Places}
 use Rattle.mt_terms.specs.Stability.{blocks}
 use Rattle.mt_terms.specs.WellFormed.{IsWellFormed}
 use Rattle.mt_terms.specs.Rounds.{Work, has_entered, is_on, IsFittingState}
@@ -21,6 +22,16 @@ work_of s w = record { places = s.places; waiting = w.agents }
 abbrev pub IsQuiet : ℕ → Assigned → List Agent → Type 0
 IsQuiet k s waiting =
     (g : Agent) → IsTrue (is_on (agents s.market) g) → IsTrue (has_entered k g) → IsFalse (is_on waiting g) → IsFalse (blocks s.market s.places g)
+
+-- who has entered before a couple: each single, and the couples below it
+abbrev pub entered_before : ℕ → Agent → Bool
+entered_before number (Single a) = true
+entered_before number (Couple c) = nat_lt c number
+
+-- Before a couple enters, no agent blocks that has entered.
+abbrev pub IsQuietBefore : Market → ℕ → Places → Type 0
+IsQuietBefore m number places =
+    (g : Agent) → IsTrue (is_on (agents m) g) → IsTrue (entered_before number g) → IsFalse (blocks m places g)
 
 -- Such an agent blocks by an option at one of these programs alone.
 abbrev pub IsQuietBut : ℕ → Assigned → List ℕ → List Agent → Type 0

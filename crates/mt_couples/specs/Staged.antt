@@ -1,17 +1,19 @@
 -- What is asked of the stage between two rounds, and what it is after some.
-use Rattle.std.specs.Prelude.{◌≡◌, ℕ, length, Option, Some, IsTrue}
+use Rattle.std.specs.Prelude.{◌≡◌, ℕ, ◌<◌, List, [], ◌∷◌, length, Option, Some, IsTrue}
 use Rattle.mt_terms.specs.Market.{Market, applicants}
 use Rattle.mt_terms.specs.Matching.{Places, Placement}
 use Rattle.mt_terms.specs.Rounds.{Work, after_rounds, after_taking, round_of}
+use Rattle.mt_terms.specs.Stability.{fits}
 use Rattle.mt_terms.specs.declared.numbers.Agent.{Agent}
+use Rattle.mt_terms.specs.declared.numbers.Agent.TheVariants.{Couple}
 use Rattle.mt_stage_tables.specs.Named.{AreNamed}
 use Rattle.mt_stage_tables.specs.Waiting.{nobody, waiting_first}
 use Rattle.mt_assignment.specs.Assigned.{assignment}
 use Rattle.mt_assignment.specs.Watched.{AreWatched}
 use Rattle.mt_couples.specs.Looking.{IsWatching}
-use Rattle.mt_couples.specs.Running.{singles_quiet, work_of, IsRunning}
-use Rattle.mt_couples.specs.Waiting.{KeepsRoom}
-use Rattle.mt_couples.specs.Watching.{AreCounted}
+use Rattle.mt_couples.specs.Running.{singles_quiet, work_of, IsQuietBefore, IsRunning}
+use Rattle.mt_couples.specs.Waiting.{IsListOf, KeepsRoom}
+use Rattle.mt_couples.specs.Watching.{AreCounted, IsIndexed}
 use Rattle.mt_couples.specs.declared.rounds.Stage.{Stage}
 
 -- the stage's match and its work list
@@ -61,3 +63,19 @@ pub record Begins (m : Market) (places : Places) (t : Stage) : Type 0 where
   pub named : AreNamed t.assignment.market t.watch.couples
   pub counted : AreCounted t.assignment t.watch.better.items
   pub is_quiet : IsTrue t.quiet → IsTrue (singles_quiet t.assignment)
+
+-- A stage between two entries, once the couples below a number have entered: nobody waits, and the index names who may
+-- block.
+pub record IsBetweenEntries (number : ℕ) (t : Stage) : Type 0 where
+  pub fitting : IsTrue (fits t.assignment.market t.assignment.places)
+  pub list : IsListOf t.assignment.market t.waiting
+  pub nobody_waits : t.waiting.agents ≡ []
+  pub is_quiet : IsTrue t.quiet → IsQuietBefore t.assignment.market number t.assignment.places
+  pub watched : AreWatched t.assignment t.watch.singles
+  pub named : AreNamed t.assignment.market t.watch.couples
+  pub counted : AreCounted t.assignment t.watch.better.items
+  pub indexed : (c : ℕ) → c < number → IsIndexed t.watch c
+
+-- the match once a couple has entered alone, if the rounds end, and how many are left
+abbrev pub entered_within : Stage → ℕ → ℕ → Option (Places × ℕ)
+entered_within t k left = after_rounds t.assignment.market k left t.assignment.places (Couple k ∷ [])

@@ -1,9 +1,11 @@
 //! How couples enter the match of the singles, one at a time.
 #![tactic(auto)]
 
+mod entering;
 mod recheck;
 mod returning;
 mod rounds;
 mod watch;
 
-pub use rounds::{CoupleEnd, Entered, Spent, enter_all};
+pub use entering::{Reached, enter_all, enter_from};
+pub use rounds::{CoupleEnd, Entered, Spent};

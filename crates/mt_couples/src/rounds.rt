@@ -1,13 +1,11 @@
-ghost use Rattle.std.specs.Prelude.{◌≡◌, ◌<◌, ◌≤◌, length, IsTrue, IfErr, IfOk, OnOk, Some, None, []};
-ghost use Rattle.mt_terms.specs.Rounds.{stage};
-ghost use Rattle.mt_terms.specs.Best.{IsBest};
+ghost use Rattle.std.specs.Prelude.{◌≡◌, ◌+◌, ◌<◌, ◌≤◌, length, IsTrue, IfErr, IfOk, OnOk, Some, []};
 ghost use Rattle.mt_terms.specs.Places.{ArePlaces};
-ghost use Rattle.mt_terms.specs.Stability.{fits, stable};
+ghost use Rattle.mt_terms.specs.Stability.{fits};
 ghost use Rattle.mt_ranks.specs.Ranked.{ranked_of};
-ghost use Rattle.mt_assignment.specs.Assigned.{AreListed};
+ghost use Rattle.mt_assignment.specs.Assigned.{assignment, AreListed};
 ghost use Rattle.mt_assignment.specs.Moves.{IsTaking};
 ghost use Rattle.mt_assignment.specs.Watched.{AreWatched};
-ghost use Rattle.mt_couples.specs.Ended.{IfSpent, IsSpent};
+ghost use Rattle.mt_couples.specs.Ended.{IfSpent};
 ghost use Rattle.mt_couples.specs.Looking.{has_wanted_post};
 ghost use Rattle.mt_couples.specs.Running.{singles_quiet};
 
@@ -18,7 +16,7 @@ use mt_assignment::{Assignment, no_ranks};
 use mt_market::Roster;
 use mt_ranks::Ranks;
 use mt_stage_tables::WorkList;
-use mt_terms::{Agent, AppNo, CoupleNo, Match, ProgNo};
+use mt_terms::{Agent, AppNo, CoupleNo, Match, Places, ProgNo};
 use rayon::prelude::*;
 use std::alloc::{AllocError, Global};
 use std::thread::Threads;
@@ -112,8 +110,8 @@ impl Drop for Stage<'_> {
 }
 
 impl<'a> Stage<'a> {
-    ghost use Rattle.mt_couples.specs.Ended.{spent_by, IsSpentFrom};
-    ghost use Rattle.mt_couples.specs.Staged.{after_round, after_move, settled_within, state_of, Begins, IsBeforeRoundOf, IsBetweenRounds, IsWatched, IsWatchedBut, KeepsStage};
+    ghost use Rattle.mt_couples.specs.Ended.{spent_by, IsSpentEntering, IsSpentFrom};
+    ghost use Rattle.mt_couples.specs.Staged.{after_round, after_move, entered_within, settled_within, state_of, Begins, IsBeforeRoundOf, IsBetweenEntries, IsBetweenRounds, IsWatched, IsWatchedBut, KeepsStage};
 
     /// A stage that no couple has entered. The error is want of memory.
     fn new<R: Threads + Sync>(
@@ -143,7 +141,7 @@ impl<'a> Stage<'a> {
     }
 
     /// The match alone.
-    fn into_match(self) -> Match
+    pub(crate) fn into_match(self) -> Match
         ensures { result.places ≡ self.entry.assignment.places }
     {
         let Stage {
@@ -154,6 +152,53 @@ impl<'a> Stage<'a> {
             quiet: _,
         } = self;
         assignment.into_match()
+    }
+
+    /// Indexes the pairs that a couple which has entered wants more than what it has, and sees whether it blocks.
+    fn note_entered(&mut self, couple: CoupleNo) -> Result<(), AllocError>
+        requires couple { couple < length self.old.assignment.market.couples }
+        requires entered { IsBetweenEntries couple self.old }
+        ensures entered { OnOk result (IsBetweenEntries (couple + 1) self.new) }
+        ensures assignment { OnOk result (self.new.assignment ≡ self.old.assignment) }
+    {
+        self.watch.index_better(&self.assignment, couple)?;
+        if self.watch.blocks(&self.assignment, &Agent::Couple(couple)) {
+            self.quiet = false;
+        }
+        Ok(())
+    }
+
+    /// A stage of a match that the couples below a number have entered. The error is want of memory.
+    pub(crate) fn entered<R: Threads + Sync>(
+        rt: &R,
+        alloc: Global,
+        roster: &'a Roster,
+        ranks: &'a Ranks<'a>,
+        matched: Match,
+        couples: u32,
+    ) -> Result<Self, AllocError>
+        requires ranks { ranks.now ≡ ranked_of roster.now.market }
+        requires fits { IsTrue (fits roster.now.market matched.places) }
+        requires couples { couples ≤ length roster.now.market.couples }
+        ensures assignment { IfOk result (λ t. t.assignment ≡ assignment roster.entry.now.market matched.places) }
+        ensures entered { IfOk result (IsBetweenEntries couples) }
+    {
+        roster.is_of_a_file();
+        let mut stage = Stage::new(rt, alloc, roster, ranks, matched)?;
+        for number in 0..couples {
+            stage.note_entered(CoupleNo(number))?;
+        }
+        Ok(stage)
+    }
+
+    /// A copy of the match. The error is want of memory.
+    pub(crate) fn matched(&self, alloc: Global) -> Result<Match, AllocError>
+        ensures { IfOk result (λ m. m.places ≡ self.now.assignment.places) }
+    {
+        let places = Vec::from_slice(alloc, self.assignment.places())?;
+        Ok(Match {
+            places: Places::new(places),
+        })
     }
 
     /// Moves the agent to an option that would be taken, and puts on the work list who is to be rechecked then. These are
@@ -269,53 +314,30 @@ impl<'a> Stage<'a> {
         }
         Ok(rest)
     }
-}
 
-/// Lets the couples enter a match of the singles, in order of their numbers. The manner is that of Roth and Peranson, 1999.
-/// The order of the rounds is this project's own rule.
-///
-/// A couple is put on the empty work list, and rounds are made until the list is empty. The agent at the front takes its
-/// first better option that would be taken. An applicant that it displaces leaves with its whole couple, and the agents
-/// to whom that may matter are rechecked.
-///
-/// The errors are that more rounds than `budget` would be needed, and want of memory. In both the given match is gone.
-/// The first error names the couple that was entering. It comes at once if a state of its rounds comes back.
-pub fn enter_all<'a, R: Threads + Sync>(
-    rt: &R,
-    alloc: Global,
-    roster: &'a Roster,
-    ranks: &'a Ranks<'a>,
-    singles: Match,
-    budget: u32,
-) -> Result<Entered, CoupleEnd>
-    requires ranks { ranks.now ≡ ranked_of roster.now.market }
-    requires fits { IsTrue (fits roster.now.market singles.places) }
-    ensures entered { IfOk result (λ e.
-        stage roster.now.market singles.places budget ≡ Some (e.matched.places, e.rounds)) }
-    ensures spent { IfErr result (λ e.
-        IfSpent e (λ _. stage roster.now.market singles.places budget ≡ None)) }
-    ensures far { IfErr result (λ e. IfSpent e (IsSpent roster.now.market singles.places budget)) }
-    ensures fits { IfOk result (λ e. IsTrue (fits roster.now.market e.matched.places)) }
-    ensures stable { IsBest roster.now.market singles.places
-        → IfOk result (λ e. IsTrue (stable roster.now.market e.matched.places)) }
-{
-    let couples = roster.couples();
-    if couples == 0 {
-        return Ok(Entered {
-            matched: singles,
-            rounds: 0,
-        });
+    /// Lets a couple enter: it is put on the empty work list, and rounds are made until the list is empty, at most as
+    /// many as are left of the budget. The result is how many are left then.
+    pub(crate) fn let_in<R: Threads + Sync>(
+        &mut self,
+        rt: &R,
+        alloc: Global,
+        couple: CoupleNo,
+        budget: u32,
+        left: u32,
+    ) -> Result<u32, CoupleEnd>
+        requires couple { couple < length self.old.assignment.market.couples }
+        requires entered { IsBetweenEntries couple self.old }
+        requires within { left ≤ budget }
+        ensures settled { IfOk result (λ rest.
+            entered_within self.old couple left ≡ Some (self.new.assignment.places, rest)) }
+        ensures spent { IfErr result (λ e. IfSpent e (IsSpentEntering self.old couple budget left)) }
+        ensures within { IfOk result (λ rest. rest ≤ left) }
+        ensures entered { OnOk result (IsBetweenEntries (couple + 1) self.new) }
+        ensures market { OnOk result (self.new.assignment.market ≡ self.old.assignment.market) }
+    {
+        self.assignment.roster();
+        self.last = couple;
+        self.waiting.join(Agent::Couple(couple));
+        self.settle(rt, alloc, budget, left)
     }
-    let mut stage = Stage::new(rt, alloc, roster, ranks, singles)?;
-    let mut left = budget;
-    for number in 0..couples {
-        let couple = CoupleNo(number);
-        stage.last = couple;
-        stage.waiting.join(Agent::Couple(couple));
-        left = stage.settle(rt, alloc, budget, left)?;
-    }
-    Ok(Entered {
-        matched: stage.into_match(),
-        rounds: budget - left,
-    })
 }

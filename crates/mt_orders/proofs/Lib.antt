@@ -1,5 +1,6 @@
 pub mod AsideCouples
 pub mod FewestFacts
+pub mod GoingOnFacts
 pub mod MarketFacts
 pub mod ShuffleFacts
 pub mod TriedFacts

@@ -8,6 +8,8 @@ mod expect;
 #[cfg(test)]
 mod finding;
 #[cfg(test)]
+mod onward;
+#[cfg(test)]
 mod orders;
 #[cfg(test)]
 mod parallel;

@@ -47,7 +47,7 @@ fn aside<R: Threads + Sync>(
 }
 
 // Of the three couples D, A and E the first one stays unplaced. A is at p and q, and E at r and t.
-const LAST_TWO_PLACED: [Option<ProgNo>; 6] = [
+pub(crate) const LAST_TWO_PLACED: [Option<ProgNo>; 6] = [
     None,
     None,
     Some(ProgNo(0)),
@@ -57,7 +57,7 @@ const LAST_TWO_PLACED: [Option<ProgNo>; 6] = [
 ];
 
 // D is at p and r, and A at u and v.
-const FIRST_TWO_PLACED: [Option<ProgNo>; 6] = [
+pub(crate) const FIRST_TWO_PLACED: [Option<ProgNo>; 6] = [
     Some(ProgNo(0)),
     Some(ProgNo(2)),
     Some(ProgNo(4)),

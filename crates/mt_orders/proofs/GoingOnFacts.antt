@@ -1,0 +1,160 @@
+-- The first couples of an order enter alike whatever comes after them. So the others go on from the match that they have
+-- entered, and what ends there or not does so among the others alone.
+use Rattle.std.proofs.Common.{◌≡◌, ℕ, zero, suc, ◌+◌, ◌-◌, ◌<◌, ◌≤◌, Bool, true, false, not, ◌&&◌, ◌||◌, ◌==◌, nat_lt, List, [], ◌∷◌, ◌++◌, map, take, drop, length, get_or, Option, Some, None, inl, inr, refl, ap, ap₂, sym, ◌∙◌, arith, subst, eq-eqb, lt-ltb, option_map, option_and_then}
+use Rattle.std.specs.List.{range_with_len, remove}
+use Rattle.std.proofs.lemmas.Bool.{and_from, and_parts, cases_Bool, both_ways, not-true, not_from_false, or_from, or_left, or_right}
+use Rattle.std.proofs.lemmas.List.{append_assoc, length-append, length-map, length-take-le, take-append-drop, take-append-le, take_all}
+use Rattle.std.proofs.lemmas.List.Edits.{remove-append_left}
+use Rattle.std.proofs.lemmas.List.Folds.{list_any-append}
+use Rattle.mt_terms.specs.Best.{IsBest}
+use Rattle.mt_terms.specs.Lists.{has, below, is_distinct}
+use Rattle.mt_terms.specs.Market.{Market, couple_of}
+use Rattle.mt_terms.specs.Matching.{Places}
+use Rattle.mt_terms.specs.Rounds.{after_entries, after_rounds, stage}
+use Rattle.mt_terms.specs.Stability.{fits}
+use Rattle.mt_terms.specs.WellFormed.{IsWellFormed}
+use Rattle.mt_terms.specs.declared.numbers.Agent.TheVariants.{Couple}
+use Rattle.mt_order_laws.specs.Aside.{entering_at_end}
+use Rattle.mt_order_laws.specs.Reordered.{others, reordered, IsOrderOfSome, IsOrderWithout}
+use Rattle.mt_order_laws.proofs.EndFacts.{entering_in_words_lem}
+use Rattle.mt_order_laws.proofs.EntryFacts.{entries_before_alike_lem, range_append}
+use Rattle.mt_order_laws.proofs.FormedFacts.{none_aside_lem, others_are_order_lem}
+use Rattle.mt_order_laws.proofs.StableFacts.{fits_in_any_order_lem}
+
+-- The first n couples of a list have entered: this is the match, and what is left of the budget.
+abbrev pub HaveEntered : Market → Places → ℕ → List ℕ → ℕ → Places → ℕ → Type 0
+HaveEntered m best budget xs n places left = after_entries (reordered (take n xs) m) (below n) budget best ≡ Some (places, left)
+
+-- ---- numbers that enter, in two parts
+
+entries_in_two : (m : Market) (ks js : List ℕ) (left : ℕ) (places : Places)
+    → after_entries m (ks ++ js) left places ≡ option_and_then (λ r. after_entries m js r.1 r.0) (after_entries m ks left places)
+entries_in_two m [] js left places = refl
+entries_in_two m (k ∷ ks) js left places = chain (after_rounds m k left places (Couple k ∷ [])) (λ r. entries_in_two m ks js r.1 r.0)
+  where
+    chain : (o : Option (Places × ℕ))
+        → ((r : Places × ℕ) → after_entries m (ks ++ js) r.1 r.0 ≡ option_and_then (λ q. after_entries m js q.1 q.0) (after_entries m ks r.1 r.0))
+        → option_and_then (λ r. after_entries m (ks ++ js) r.1 r.0) o
+        ≡ option_and_then (λ r. after_entries m js r.1 r.0) (option_and_then (λ r. after_entries m ks r.1 r.0) o)
+    chain None rest = refl
+    chain (Some r) rest = rest r
+
+below_in_two : (n k : ℕ) → below (n + k) ≡ below n ++ range_with_len n k
+below_in_two n k = let here : 0 + n ≡ n = omega arith in range_append 0 n k ∙ ap (λ s. below n ++ range_with_len s k) here
+
+entries_on : (m : Market) (budget n k left : ℕ) (best places : Places) → after_entries m (below n) budget best ≡ Some (places, left)
+    → after_entries m (below (n + k)) budget best ≡ after_entries m (range_with_len n k) left places
+entries_on m budget n k left best places e =
+    ap (λ ks. after_entries m ks budget best) (below_in_two n k)
+    ∙ entries_in_two m (below n) (range_with_len n k) budget best
+    ∙ ap (option_and_then (λ r. after_entries m (range_with_len n k) r.1 r.0)) e
+
+-- the rounds of one couple end if its entry does
+one_ends : (o : Option (Places × ℕ)) → option_and_then (λ (r : Places × ℕ). Some (r.0, r.1)) o ≡ None → o ≡ None
+one_ends None e = refl
+one_ends (Some r) e = absurd (let no : ◌≡◌ {A = Option (Places × ℕ)} (Some (r.0, r.1)) None = e in cc)
+
+-- ---- the first couples of an order
+
+module _ (m : Market) (wf : IsWellFormed m) (best : Places) (is : IsBest m best) (budget : ℕ) where
+  first_alike : (zs : List ℕ) → IsOrderOfSome m zs → (n : ℕ) → n ≤ length zs
+      → after_entries (reordered zs m) (below n) budget best ≡ after_entries (reordered (take n zs) m) (below n) budget best
+  first_alike zs o n le =
+      let parts : take n zs ++ drop n zs ≡ zs = take-append-drop n zs in
+      let long : length (take n zs) ≡ n = length-take-le n zs le in
+      ap₂ (λ ys k. after_entries (reordered ys m) (below k) budget best) (sym parts) (sym long)
+      ∙ entries_before_alike_lem m (take n zs) (drop n zs) wf (subst (IsOrderOfSome m) (sym parts) o) best is budget
+      ∙ ap (λ k. after_entries (reordered (take n zs) m) (below k) budget best) long
+
+  -- at first none has entered
+  pub none_entered : (xs : List ℕ) → HaveEntered m best budget xs 0 best budget
+  none_entered xs = refl
+
+  module _ (xs ys : List ℕ) (o : IsOrderOfSome m (xs ++ ys)) where
+    of_whole : (k : ℕ) → k ≤ length xs
+        → after_entries (reordered (xs ++ ys) m) (below k) budget best ≡ after_entries (reordered (take k xs) m) (below k) budget best
+    of_whole k le =
+        let fits_in : k ≤ length (xs ++ ys) = omega (arith, length-append xs ys) in
+        first_alike (xs ++ ys) o k fits_in ∙ ap (λ zs. after_entries (reordered zs m) (below k) budget best) (take-append-le k xs ys le)
+
+    -- they go on in an order with others after them
+    pub more_entered : (n k : ℕ) (places next : Places) (left left' : ℕ) → n ≤ k → k ≤ length xs → HaveEntered m best budget xs n places left
+        → after_entries (reordered (xs ++ ys) m) (range_with_len n (k - n)) left places ≡ Some (next, left') → HaveEntered m best budget xs k next left'
+    more_entered n k places next left left' low high so_far on =
+        let here : after_entries (reordered (xs ++ ys) m) (below n) budget best ≡ Some (places, left) = of_whole n (omega arith) ∙ so_far in
+        let whole : n + (k - n) ≡ k = omega arith in
+        sym (of_whole k high)
+        ∙ ap (λ j. after_entries (reordered (xs ++ ys) m) (below j) budget best) (sym whole)
+        ∙ entries_on (reordered (xs ++ ys) m) budget n (k - n) left best places here ∙ on
+
+    -- if the rounds of the next one don't end, it is the one that is entering among the others alone
+    pub next_enters : IsOrderOfSome m xs → (n : ℕ) (places : Places) (left : ℕ) → n < length xs → HaveEntered m best budget xs n places left
+        → after_rounds (reordered (xs ++ ys) m) n left places (Couple n ∷ []) ≡ None → entering_at_end (reordered xs m) best budget ≡ Some n
+    next_enters among n places left low so_far stuck =
+        let whole = reordered (xs ++ ys) m in
+        let alone = reordered xs m in
+        let here : after_entries whole (below n) budget best ≡ Some (places, left) = of_whole n (omega arith) ∙ so_far in
+        let there : after_entries alone (below n) budget best ≡ Some (places, left) = first_alike xs among n (omega arith) ∙ so_far in
+        let none : after_entries alone (below (n + 1)) budget best ≡ None =
+        first_alike xs among (n + 1) (omega arith) ∙ sym (of_whole (n + 1) (omega arith))
+        ∙ entries_on whole budget n 1 left best places here ∙ ap (option_and_then (λ (r : Places × ℕ). Some (r.0, r.1))) stuck in
+        let within : n < length (map (couple_of m) xs) = omega (arith, length-map xs (couple_of m)) in
+        (entering_in_words_lem alone best budget n).1
+        (within, ((places, left), there, one_ends (after_rounds alone n left places (Couple n ∷ [])) (sym (entries_on alone budget n 1 left best places there) ∙ none)))
+
+  -- once all of them have entered, their rounds end
+  pub all_entered : (xs : List ℕ) → IsOrderOfSome m xs → (n : ℕ) (places : Places) (left : ℕ) → n ≡ length xs → HaveEntered m best budget xs n places left
+      → stage (reordered xs m) best budget ≡ Some (places, budget - left)
+  all_entered xs among n places left all so_far =
+      let many : length (map (couple_of m) xs) ≡ n = length-map xs (couple_of m) ∙ sym all in
+      ap (option_map (λ r. (r.0, budget - r.1)))
+      (ap (λ k. after_entries (reordered xs m) (below k) budget best) many ∙ first_alike xs among n (omega arith) ∙ so_far)
+
+-- ---- a couple is set aside
+
+-- those before it stay
+pub before_it_stay : (xs : List ℕ) (n : ℕ) → n < length xs → take n (remove xs n) ≡ take n xs
+before_it_stay xs n low =
+    let long : length (take n xs) ≡ n = length-take-le n xs (omega arith) in
+    take-append-le n (take n xs) (drop (suc n) xs) (omega arith) ∙ take_all n (take n xs) (omega arith)
+
+-- it goes to the end of the order
+pub to_the_end : (xs ys : List ℕ) (n x : ℕ) → n < length xs → remove (xs ++ ys) n ++ x ∷ [] ≡ remove xs n ++ (ys ++ x ∷ [])
+to_the_end xs ys n x low = ap (λ zs. zs ++ x ∷ []) (remove-append_left xs ys n low) ∙ append_assoc (remove xs n) ys (x ∷ [])
+
+-- ---- the order of the others and then those set aside
+
+distinct_both : (xs ys : List ℕ) → is_distinct xs ≡ true → is_distinct ys ≡ true → ((c : ℕ) → has xs c ≡ true → has ys c ≡ false)
+    → is_distinct (xs ++ ys) ≡ true
+distinct_both [] ys d e apart = e
+distinct_both (x ∷ xs) ys d e apart =
+    let parts = and_parts (not (has xs x)) (is_distinct xs) d in
+    let free : has (xs ++ ys) x ≡ false =
+    list_any-append (λ z. z == x) xs ys
+    ∙ or_from (has xs x) (has ys x) (not-true (has xs x) parts.0) (apart x (or_left (x == x) (has xs x) (eq-eqb x x refl))) in
+    and_from (not (has (xs ++ ys) x)) (is_distinct (xs ++ ys)) (not_from_false _ free)
+    (distinct_both xs ys parts.1 e (λ c on. apart c (or_right (x == c) (has xs c) on)))
+
+pub all_in_turn : (m : Market) (aside : List ℕ) → IsOrderOfSome m aside → IsOrderWithout m [] (others aside m ++ aside)
+all_in_turn m aside o =
+    let xs = others aside m in
+    let w = others_are_order_lem m aside in
+    record {
+      distinct = distinct_both xs aside w.distinct o.distinct (λ c on.
+          not-true (has aside c) (and_parts (nat_lt c (length m.couples)) (not (has aside c)) (sym (w.of_others c) ∙ on)).1);
+      of_others = λ c. list_any-append (λ z. z == c) xs aside ∙ elim (cases_Bool (has aside c)) [
+        | inl on ↦
+            or_right (has xs c) (has aside c) on
+            ∙ sym (and_from (nat_lt c (length m.couples)) true (lt-ltb c (length m.couples) (o.within c on)) refl)
+        | inr off ↦ ap (λ b. b || has aside c) (w.of_others c) ∙ split (nat_lt c (length m.couples)) (has aside c) off
+      ];
+    }
+  where
+    split : (p q : Bool) → q ≡ false → ((p && not q) || q) ≡ (p && true)
+    split true false e = refl
+    split false false e = refl
+    split p true e = absurd (both_ways true e refl)
+
+-- whether a match fits is the same in an order of all couples
+pub fits_in_turn : (m : Market) → IsWellFormed m → (order : List ℕ) → IsOrderWithout m [] order → (places : Places) → fits (reordered order m) places ≡ fits m places
+fits_in_turn m wf order o places = fits_in_any_order_lem m [] order wf o places ∙ ap (λ x. fits x places) (none_aside_lem m)
