@@ -1,7 +1,7 @@
 -- The couples on their way into a match, one after another.
-use Rattle.std.proofs.Common.{◌≡◌, ℕ, zero, suc, Option, refl, ◌+◌, ◌-◌, ◌<◌, ◌≤◌, ◌≢◌, Bool, true, false, nat_lt, slice_index_or, Vec, Global, List, [], ◌∷◌, length, Some, None, IsTrue, ap, sym, ◌∙◌, inl, inr, arith, subst, option_map, option_and_then}
+use Rattle.std.proofs.Common.{◌≡◌, ℕ, zero, suc, Option, refl, ◌+◌, ◌-◌, ◌<◌, ◌≤◌, Bool, true, false, get_or, Vec, Global, lt-ltb, ltb-true, List, [], ◌∷◌, length, Some, None, IsTrue, ap, sym, ◌∙◌, inl, inr, arith, subst, option_map, option_and_then}
 use Rattle.std.specs.List.{range_with_len}
-use Rattle.std.proofs.lemmas.Bool.{cases_eq}
+use Rattle.std.proofs.lemmas.Bool.{cases_lt}
 use Rattle.std.proofs.lemmas.Bool.Decides.{nat_tests}
 use Rattle.mt_terms.specs.Lists.{below}
 use Rattle.mt_terms.specs.Market.{Market, agents}
@@ -78,27 +78,25 @@ idle_before c number idle = grind (arith, nat_tests, idle)
 pub entered_idle : (c number : ℕ) (ws : List Agent) → ws ≡ [] → c < number + 1 → is_idle number ws (Couple c) ≡ true
 entered_idle c number ws nobody low = subst (λ gs. is_idle number gs (Couple c) ≡ true) (sym nobody) (grind (arith, nat_tests, low))
 
--- who has entered before the next couple: that couple's predecessor too
+-- if nobody who has entered before a couple blocks, and the couple doesn't, so it is before the next one
 quiet_more : (m : Market) (k : ℕ) (places : Places) → IsQuietBefore m k places → blocks m places (Couple k) ≡ false → IsQuietBefore m (k + 1) places
 quiet_more m k places quiet none (Single a) on before = quiet (Single a) on refl
-quiet_more m k places quiet none (Couple c) on before = elim (cases_eq c k) [
-  | inl same ↦ ap (λ d. blocks m places (Couple d)) same ∙ none
-  | inr other ↦ quiet (Couple c) on (earlier other)
+quiet_more m k places quiet none (Couple c) on before = elim (cases_lt c k) [
+  | inl earlier ↦ quiet (Couple c) on (lt-ltb c k earlier)
+  | inr past ↦
+      let low : c < k + 1 = ltb-true c (k + 1) before in
+      let here : c ≡ k = omega arith in
+      ap (λ d. blocks m places (Couple d)) here ∙ none
 ]
-  where
-    earlier : c ≢ k → nat_lt c k ≡ true
-    earlier other = grind (arith, nat_tests, before, other)
 
 -- one couple more is indexed
 indexed_more : (old new : Watch) (k : ℕ) → new.better ≡ old.better → IndexesCouple old new k → ((c : ℕ) → c < k → IsIndexed old c)
     → (c : ℕ) → c < k + 1 → IsIndexed new c
-indexed_more old new k same index so_far c low = elim (cases_eq c k) [
-  | inl here ↦ subst (IsIndexed new) (sym here) index.indexed
-  | inr other ↦
-      let before : c < k = omega arith in
-      let was = so_far c before in
-      let more = index.keeps c in
-      omega (arith, ap (λ (v : Vec ℕ Global). slice_index_or v.items c 0) same)
+indexed_more old new k same index so_far c low = elim (cases_lt c k) [
+  | inl earlier ↦
+      let counts : get_or new.better.items c 0 ≡ get_or old.better.items c 0 = ap (λ (v : Vec ℕ Global). get_or v.items c 0) same in
+      omega (arith, counts, index.keeps c, so_far c earlier)
+  | inr past ↦ (let here : c ≡ k = omega arith in subst (IsIndexed new) (sym here) index.indexed)
 ]
 
 -- A couple that has entered is noted. The stage isn't quiet any more if the couple blocks.
