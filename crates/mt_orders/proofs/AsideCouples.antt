@@ -33,7 +33,7 @@ place_of_entering m best budget aside k e =
     let low : k < length (map (couple_of m) (others aside m)) = ((entering_in_words_lem (market_of_others aside m) best budget k).0 e).0 in
     omega (arith, length-map (others aside m) (couple_of m))
 
-one_more : (m : Market) (aside : List ℕ) (k : ℕ) → IsOrderOfSome m aside → k < length (others aside m)
+pub one_more : (m : Market) (aside : List ℕ) (k : ℕ) → IsOrderOfSome m aside → k < length (others aside m)
     → IsOrderOfSome m (aside ++ get_or (others aside m) k 0 ∷ [])
 one_more m aside k o l =
     let x = get_or (others aside m) k 0 in

@@ -3,8 +3,8 @@
 use Rattle.std.proofs.Common.{◌≡◌, ℕ, zero, suc, ◌+◌, ◌-◌, ◌<◌, ◌≤◌, Bool, true, false, not, ◌&&◌, ◌||◌, ◌==◌, nat_lt, List, [], ◌∷◌, ◌++◌, map, take, drop, length, get_or, Option, Some, None, inl, inr, refl, ap, ap₂, sym, ◌∙◌, arith, subst, eq-eqb, lt-ltb, option_map, option_and_then}
 use Rattle.std.specs.List.{range_with_len, remove}
 use Rattle.std.proofs.lemmas.Bool.{and_from, and_parts, cases_Bool, both_ways, not-true, not_from_false, or_from, or_left, or_right}
-use Rattle.std.proofs.lemmas.List.{append_assoc, length-append, length-map, length-take-le, take-append-drop, take-append-le, take_all}
-use Rattle.std.proofs.lemmas.List.Edits.{remove-append_left}
+use Rattle.std.proofs.lemmas.List.{append_assoc, append-nil, get_or_append_left, get_or_default, length-append, length-map, length-take-le, take-append-drop, take-append-le, take_all}
+use Rattle.std.proofs.lemmas.List.Edits.{length-remove, remove-append_left}
 use Rattle.std.proofs.lemmas.List.Folds.{list_any-append}
 use Rattle.mt_terms.specs.Best.{IsBest}
 use Rattle.mt_terms.specs.Lists.{has, below, is_distinct}
@@ -14,12 +14,15 @@ use Rattle.mt_terms.specs.Rounds.{after_entries, after_rounds, stage}
 use Rattle.mt_terms.specs.Stability.{fits}
 use Rattle.mt_terms.specs.WellFormed.{IsWellFormed}
 use Rattle.mt_terms.specs.declared.numbers.Agent.TheVariants.{Couple}
-use Rattle.mt_order_laws.specs.Aside.{entering_at_end}
+use Rattle.mt_round_laws.proofs.RoundsStage.{singles_fit}
+use Rattle.mt_order_laws.specs.Aside.{aside_after, aside_in_turn, entering_at_end}
 use Rattle.mt_order_laws.specs.Reordered.{others, reordered, IsOrderOfSome, IsOrderWithout}
 use Rattle.mt_order_laws.proofs.EndFacts.{entering_in_words_lem}
 use Rattle.mt_order_laws.proofs.EntryFacts.{entries_before_alike_lem, range_append}
-use Rattle.mt_order_laws.proofs.FormedFacts.{none_aside_lem, others_are_order_lem}
+use Rattle.mt_order_laws.proofs.FormedFacts.{none_aside_lem, order_of_some, others_are_order_lem}
 use Rattle.mt_order_laws.proofs.StableFacts.{fits_in_any_order_lem}
+use Rattle.mt_orders.proofs.AsideCouples.{one_more}
+use Rattle.mt_orders.proofs.WithoutFacts.{all_are_others, all_turns, others_some, turn, turns_end}
 
 -- The first n couples of a list have entered: this is the match, and what is left of the budget.
 abbrev pub HaveEntered : Market → Places → ℕ → List ℕ → ℕ → Places → ℕ → Type 0
@@ -158,3 +161,80 @@ all_in_turn m aside o =
 -- whether a match fits is the same in an order of all couples
 pub fits_in_turn : (m : Market) → IsWellFormed m → (order : List ℕ) → IsOrderWithout m [] order → (places : Places) → fits (reordered order m) places ≡ fits m places
 fits_in_turn m wf order o places = fits_in_any_order_lem m [] order wf o places ∙ ap (λ x. fits x places) (none_aside_lem m)
+
+-- ---- the turns
+
+-- Some couples are set aside, and the order has the others and then these. The first n of the others have entered.
+pub record IsTurn (m : Market) (best : Places) (budget : ℕ) (order aside : List ℕ) (n : ℕ) (places : Places) (left : ℕ) : Type 0 where
+  pub some : IsOrderOfSome m aside
+  pub order_is : order ≡ others aside m ++ aside
+  pub same : aside_after m best budget (length (others aside m)) aside ≡ aside_in_turn m best budget
+  pub low : n ≤ length (others aside m)
+  pub reached : HaveEntered m best budget (others aside m) n places left
+  pub fitting : fits m places ≡ true
+
+pub order_of_turn : (m : Market) (order aside : List ℕ) → IsOrderOfSome m aside → order ≡ others aside m ++ aside → IsOrderWithout m [] order
+order_of_turn m order aside o is = subst (IsOrderWithout m []) (sym is) (all_in_turn m aside o)
+
+-- how many others there are
+pub others_many : (m : Market) (order aside : List ℕ) → order ≡ others aside m ++ aside → length order ≡ length (others aside m) + length aside
+others_many m order aside is = ap length is ∙ length-append (others aside m) aside
+
+pub first_turn : (m : Market) → IsWellFormed m → (best : Places) → IsBest m best → (budget n : ℕ) (xs none : List ℕ) → none ≡ [] → xs ≡ below n → n ≡ length m.couples
+    → IsTurn m best budget xs none 0 best budget
+first_turn m wf best is budget n xs none empty all many =
+    let own = all_are_others m n xs all many in
+    subst (λ aside. IsTurn m best budget xs aside 0 best budget) (sym empty) (record {
+      some = record { distinct = refl; within = λ c h. cc };
+      order_is = own ∙ sym (append-nil (others [] m));
+      same = ap (λ ys. aside_after m best budget (length ys) []) (sym own) ∙ all_turns m best budget n xs all many;
+      low = omega arith;
+      reached = refl;
+      fitting = singles_fit m wf best is.is_stable;
+    })
+
+module _ (m : Market) (wf : IsWellFormed m) (best : Places) (is : IsBest m best) (budget : ℕ) (order aside : List ℕ) where
+  whole_some : IsOrderOfSome m aside → IsOrderOfSome m (others aside m ++ aside)
+  whole_some o = order_of_some m [] (others aside m ++ aside) (all_in_turn m aside o)
+
+  pub turn_goes_on : (n k : ℕ) (places next : Places) (left left' : ℕ) → IsTurn m best budget order aside n places left → n ≤ k → k ≤ length (others aside m)
+      → after_entries (reordered order m) (range_with_len n (k - n)) left places ≡ Some (next, left') → fits m next ≡ true
+      → IsTurn m best budget order aside k next left'
+  turn_goes_on n k places next left left' t up high on fit = record {
+    some = t.some;
+    order_is = t.order_is;
+    same = t.same;
+    low = high;
+    reached = more_entered m wf best is budget (others aside m) aside (whole_some t.some) n k places next left left' up high t.reached
+        (ap (λ zs. after_entries (reordered zs m) (range_with_len n (k - n)) left places) (sym t.order_is) ∙ on);
+    fitting = fit;
+  }
+
+  pub turns_done : (n : ℕ) (places : Places) (left : ℕ) → IsTurn m best budget order aside n places left → n ≡ length (others aside m)
+      → stage (reordered (others aside m) m) best budget ≡ Some (places, budget - left)
+  turns_done n places left t all = all_entered m wf best is budget (others aside m) (others_some m aside (others aside m) refl) n places left all t.reached
+
+  pub all_aside : (n : ℕ) (places : Places) (left : ℕ) → IsTurn m best budget order aside n places left → n ≡ length (others aside m)
+      → aside ≡ aside_in_turn m best budget
+  all_aside n places left t all =
+      sym (turns_end m best budget (length (others aside m)) aside (others aside m) (places, budget - left) refl (turns_done n places left t all)) ∙ t.same
+
+  pub one_aside : (order' aside' : List ℕ) (k x : ℕ) (places : Places) (left : ℕ) → IsTurn m best budget order aside k places left → k < length (others aside m)
+      → after_rounds (reordered order m) k left places (Couple k ∷ []) ≡ None → x ≡ get_or order k x → order' ≡ remove order k ++ x ∷ [] → aside' ≡ aside ++ x ∷ []
+      → IsTurn m best budget order' aside' k places left
+  one_aside order' aside' k x places left t low stuck at order_is aside_is =
+      let xs = others aside m in
+      let entering = next_enters m wf best is budget xs aside (whole_some t.some) (others_some m aside xs refl) k places left low t.reached
+      (ap (λ zs. after_rounds (reordered zs m) k left places (Couple k ∷ [])) (sym t.order_is) ∙ stuck) in
+      let here : x ≡ get_or xs k x = at ∙ ap (λ zs. get_or zs k x) t.order_is ∙ get_or_append_left xs aside x k low in
+      let zero_here : get_or xs k 0 ≡ x = sym (here ∙ get_or_default xs k x 0 low) in
+      let next = turn m best budget k x aside xs (remove xs k) refl entering low here refl in
+      let long : length (remove xs k) + 1 ≡ length xs = length-remove xs k low in
+      subst (λ ys. IsTurn m best budget order' ys k places left) (sym aside_is) (record {
+        some = subst (λ y. IsOrderOfSome m (aside ++ y ∷ [])) zero_here (one_more m aside k t.some low);
+        order_is = order_is ∙ ap (λ zs. remove zs k ++ x ∷ []) t.order_is ∙ to_the_end xs aside k x low ∙ ap (λ zs. zs ++ (aside ++ x ∷ [])) next.0;
+        same = ap (λ zs. aside_after m best budget (length zs) (aside ++ x ∷ [])) (sym next.0) ∙ next.1 ∙ t.same;
+        low = subst (λ zs. k ≤ length zs) next.0 (omega arith);
+        reached = ap (λ zs. after_entries (reordered zs m) (below k) budget best) (ap (take k) (sym next.0) ∙ before_it_stay xs k low) ∙ t.reached;
+        fitting = t.fitting;
+      })

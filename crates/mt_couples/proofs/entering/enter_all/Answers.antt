@@ -1,6 +1,7 @@
 -- Before each couple enters, all couples below its number have entered and nobody waits. What is left of the way leads
 -- where the whole stage does.
 use Rattle.std.proofs.Common.{◌≡◌, ◌∙◌, ◌∷◌, ◌-◌, ◌<◌, length, [], None, Result, Some, Ok, Err, IfErr, IsErrAnd, sym, ap, subst, arith}
+use Rattle.mt_terms.specs.Market.{Market}
 use Rattle.mt_terms.specs.Rounds.{after_rounds, stage as stage_of}
 use Rattle.mt_terms.specs.declared.numbers.Agent.TheVariants.{Couple}
 use Rattle.mt_round_laws.proofs.RoundsStage.{stage_is_stable_lem}
@@ -59,6 +60,10 @@ returns-in_err-left-clause-far g c =
     })
     c.in_err-left.ensures.spent)
 
+pub let_in-requires-clause-couple : goal.let_in-requires-clause-couple
+let_in-requires-clause-couple g c κs within =
+    omega (arith, ap (λ (m : Market). length m.couples) c.loop-number.invariant.market, c.couples-couples.ensures.count)
+
 pub loop-number-init : goal.loop-number-init
 loop-number-init g c =
     let m = c.args.roster.now.market in
@@ -78,7 +83,7 @@ loop-number-preserved g c =
     let places = c.args.singles.places in
     let number = c.loop-number.number in
     let now = c.loop-number.stage.assignment in
-    let new = c.let_in.new.stage in
+    let new = c.let_in.new.self in
     let settles = ap (λ x. after_rounds x number c.loop-number.left now.places (Couple number ∷ [])) (sym so_far.market) ∙ c.in_ok-left.ensures.settled in
     record {
       market = c.in_ok-left.ensures.market ∙ so_far.market;

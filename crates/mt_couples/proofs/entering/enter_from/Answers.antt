@@ -1,10 +1,11 @@
 -- Before each couple enters, those from the first one up to it have entered and nobody waits. A copy of the match is what
 -- they lead to, and it is the end if the rounds of the couple don't end.
-use Rattle.std.proofs.Common.{◌≡◌, ◌∙◌, ℕ, ◌∷◌, [], None, Some, ap, subst, sym}
+use Rattle.std.proofs.Common.{◌≡◌, ◌∙◌, ℕ, ◌-◌, ◌∷◌, [], None, Some, ap, arith, length, subst, sym}
+use Rattle.std.specs.List.{range_with_len}
 use Rattle.mt_terms.specs.Market.{Market}
 use Rattle.mt_terms.specs.Matching.{Places}
 use Rattle.mt_terms.specs.Stability.{fits}
-use Rattle.mt_terms.specs.Rounds.{after_rounds}
+use Rattle.mt_terms.specs.Rounds.{after_entries, after_rounds}
 use Rattle.mt_terms.specs.declared.numbers.Agent.TheVariants.{Couple}
 use Rattle.mt_assignment.specs.Assigned.{Assigned}
 use Rattle.mt_couples.specs.Ended.{IfSpent, IsSpentEntering}
@@ -23,6 +24,10 @@ stuck_in m t k left end places is h market copy =
     ap (λ x. after_rounds x k left places (Couple k ∷ [])) (sym market)
     ∙ ap (λ x. after_rounds t.assignment.market k left x (Couple k ∷ [])) copy
     ∙ (subst (λ e. IfSpent e (IsSpentEntering t k left left)) is h).unsettled
+
+pub let_in-requires-clause-couple : goal.let_in-requires-clause-couple
+let_in-requires-clause-couple g c κs within =
+    omega (arith, ap (λ (m : Market). length m.couples) c.loop-number.invariant.market, c.requires.couples)
 
 pub loop-number-init : goal.loop-number-init
 loop-number-init g c =
@@ -43,7 +48,7 @@ loop-number-preserved g c =
     let m = c.args.roster.now.market in
     let number = c.loop-number.number in
     let now = c.loop-number.stage.assignment in
-    let new = c.let_in.new.stage in
+    let new = c.let_in.new.self in
     record {
       market = c.in-Ok.ensures.market ∙ so_far.market;
       between = c.in-Ok.ensures.entered;
@@ -70,7 +75,15 @@ returns-in-Err-BudgetSpent-clause-fits g c =
 pub returns-clause-leads : goal.returns-clause-leads
 returns-clause-leads g c =
     let so_far = c.loop-number.invariant.entering in
-    record { order = so_far.low; entries = so_far.reached ∙ ap (λ places. Some (places, c.loop-number.left)) (sym c.into_match.ensures) }
+    let m = c.args.roster.now.market in
+    let from = c.args.start.entered in
+    let here : c.loop-number.number ≡ c.args.until = omega (arith, c.requires.order) in
+    record {
+      order = c.requires.order;
+      entries =
+          ap (λ n. after_entries m (range_with_len from (n - from)) c.args.start.left c.args.start.matched.places) (sym here)
+          ∙ so_far.reached ∙ ap (λ places. Some (places, c.loop-number.left)) (sym c.into_match.ensures);
+    }
 
 pub returns-clause-fits : goal.returns-clause-fits
 returns-clause-fits g c =

@@ -1,5 +1,6 @@
 -- Each couple that has entered is noted in turn, and nothing else changes.
-use Rattle.std.proofs.Common.{◌∙◌}
+use Rattle.std.proofs.Common.{◌∙◌, ap, arith, length}
+use Rattle.mt_assignment.specs.Assigned.{Assigned}
 use Rattle.mt_couples.proofs.EnteringFacts.{at_first}
 use Rattle.mt_couples.proofs.RoundFacts.{listed_of_fitting, places_of_fitting}
 use Rattle.mt_couples.proofs.rounds.Stage.entered.Goals as goal
@@ -9,6 +10,16 @@ new-requires-clause-places g c κs within = places_of_fitting c.args.roster.now.
 
 pub new-requires-clause-listed : goal.new-requires-clause-listed
 new-requires-clause-listed g c κs within = listed_of_fitting c.args.roster.now.market c.args.matched.places c.is_of_a_file.ensures.well_formed c.requires.fits
+
+pub note_entered-requires-clause-couple : goal.note_entered-requires-clause-couple
+note_entered-requires-clause-couple g c =
+    omega (arith, ap (λ (s : Assigned). length s.market.couples) c.loop-number.invariant.assigned, c.requires.couples)
+
+pub loop-number-preserved : goal.loop-number-preserved
+loop-number-preserved g c = record {
+  assigned = c.in_ok-note_entered.ensures.assignment ∙ c.loop-number.invariant.assigned;
+  between = c.in_ok-note_entered.ensures.entered;
+}
 
 pub loop-number-init : goal.loop-number-init
 loop-number-init g c = record {
