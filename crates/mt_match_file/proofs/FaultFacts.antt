@@ -9,7 +9,7 @@ use Rattle.mt_terms.specs.Registration.Ids.{Bytes, is_id}
 use Rattle.mt_terms.specs.Registration.Passes.{Numbered, and_then, at_record, numbered_from}
 use Rattle.mt_terms.specs.Text.{is_none_or_id, name_of}
 use Rattle.mt_match_file.specs.Laws.{FaultsAreNamed, fault_codes}
-use Rattle.mt_match_file.specs.Submitted.{SoFar, after, all_read, record_fault_at, applicant_line, aside_at, aside_line, counts_at, first_unplaced, four_of, head_line, is_number, line_of, match_of, nothing_read, number, one_of, place_named, placed_at, program_line, shown, submitted_by, totals_line, two_of}
+use Rattle.mt_match_file.specs.Submitted.{SoFar, after, all_read, record_fault_at, applicant_line, aside_at, aside_line, counts_at, first_unplaced, four_of, head_line, is_number, line_of, match_of, nothing_read, number, one_of, place_named, placed_at, placed_of, program_line, shown, submitted_by, totals_line, two_of}
 use Rattle.mt_match_file.specs.declared.line.Line.{Line}
 use Rattle.mt_match_file.specs.declared.line.Line.TheVariants.{Aside, Counts, Head, Place}
 use Rattle.mt_match_file.specs.declared.submitted_match.Count.TheVariants as count
@@ -107,7 +107,7 @@ module _ (names : Names) (before : SoFar) where
   line_named (word ∷ fields) =
       one_kind (bytes_eq word (codes "applicant")) (bytes_eq word (codes "program")) (bytes_eq word (codes "totals")) (bytes_eq word (codes "match"))
       (bytes_eq word (codes "aside")) _ _ _ _ _
-      (applicant_named (two_of fields)) (program_named (four_of fields)) (totals_named (four_of fields)) (head_named (two_of fields))
+      (applicant_named (placed_of fields)) (program_named (four_of fields)) (totals_named (four_of fields)) (head_named (two_of fields))
       (aside_line_named names before.aside (one_of fields))
 
 all_named : (names : Names) (before : SoFar) (rows : List (Numbered (List Bytes))) → fault_is_named (all_read names before rows) ≡ true

@@ -15,7 +15,7 @@ use Rattle.mt_terms.specs.Registration.Ids.{Bytes, is_dash}
 use Rattle.mt_terms.specs.Registration.Passes.{Numbered, and_then, at_record, numbered_from}
 use Rattle.mt_order_laws.specs.Reordered.{IsOrderOfSome}
 use Rattle.mt_match_file.specs.Laws.{TellsAside, TellsPlaces}
-use Rattle.mt_match_file.specs.Submitted.{SoFar, Submitted, after, all_read, applicant_line, aside_at, aside_line, record_fault_at, counts_at, first_unplaced, four_of, head_line, is_number, line_of, match_of, nothing_read, number, one_of, place_named, placed_at, program_line, submitted_by, totals_line, two_of}
+use Rattle.mt_match_file.specs.Submitted.{SoFar, Submitted, after, all_read, applicant_line, aside_at, aside_line, record_fault_at, counts_at, first_unplaced, four_of, head_line, is_number, line_of, match_of, nothing_read, number, one_of, place_named, placed_at, placed_of, program_line, submitted_by, totals_line, two_of}
 use Rattle.mt_match_file.specs.declared.line.Line.{Line}
 use Rattle.mt_match_file.specs.declared.line.Line.TheVariants.{Aside, Counts, Head, Place}
 use Rattle.mt_match_file.specs.declared.submitted_match.Count.TheVariants as count
@@ -133,7 +133,7 @@ module _ (names : Names) (before : SoFar) where
   line_fits (word ∷ fields) =
       one_kind (bytes_eq word (codes "applicant")) (bytes_eq word (codes "program")) (bytes_eq word (codes "totals")) (bytes_eq word (codes "match"))
       (bytes_eq word (codes "aside")) _ _ _ _ _
-      (applicant_fits (two_of fields)) (program_fits (four_of fields)) (totals_fit (four_of fields)) (head_fits (two_of fields))
+      (applicant_fits (placed_of fields)) (program_fits (four_of fields)) (totals_fit (four_of fields)) (head_fits (two_of fields))
       (aside_line_fits (one_of fields))
 
 -- one record more

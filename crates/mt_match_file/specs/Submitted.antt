@@ -75,6 +75,12 @@ head_line (Some f) =
 abbrev pub place_named : List Bytes → Bytes → Option (Option ℕ)
 place_named programs field = if is_dash field then Some None else option_map Some (position (bytes_eq field) programs)
 
+-- an applicant's id and the field of its place: a record without that field says that the applicant is unplaced
+abbrev pub placed_of : List Bytes → Option (Bytes × Bytes)
+placed_of (id ∷ []) = Some (id, codes "-")
+placed_of (id ∷ place ∷ []) = Some (id, place)
+placed_of _ = None
+
 -- the place of an applicant, which is one of the market that no record before placed
 abbrev pub placed_at : Names → List (Option (Option ℕ)) → Bytes × Bytes → Option ℕ → Result Line RecordFault
 placed_at names places f None = Err (record_fault_at NO_SUCH_APPLICANT f.0)
@@ -119,7 +125,7 @@ aside_line names aside (Some id) = aside_at aside id (position (bytes_eq id) nam
 abbrev pub line_of : Names → SoFar → List Bytes → Result Line RecordFault
 line_of names before [] = Err (record_fault_alone OTHER_RECORD)
 line_of names before (word ∷ fields) =
-    if bytes_eq word (codes "applicant") then applicant_line names before.places (two_of fields)
+    if bytes_eq word (codes "applicant") then applicant_line names before.places (placed_of fields)
     else if bytes_eq word (codes "program") then program_line names (four_of fields)
     else if bytes_eq word (codes "totals") then totals_line (four_of fields)
     else if bytes_eq word (codes "match") then head_line (two_of fields)

@@ -3,7 +3,7 @@ ghost use Rattle.std.specs.List.{list_all};
 ghost use Rattle.std.specs.Char.{is_ascii_digit};
 ghost use Rattle.std.specs.Str.Parse.{digits_value};
 ghost use Rattle.mt_lists.specs.Rows.{fields_left};
-ghost use Rattle.mt_match_file.specs.Submitted.{four_of, has_leading_zero, is_number, one_of, two_of};
+ghost use Rattle.mt_match_file.specs.Submitted.{four_of, has_leading_zero, is_number, one_of, placed_of, two_of};
 
 use mt_ids::{are_digits, value_of};
 use mt_lists::Fields;
@@ -55,6 +55,22 @@ pub(crate) fn two<'a>(fields: Fields<'a>) -> Option<(&'a [u8], &'a [u8])>
     match rest.next() {
         Some(_) => None,
         None => Some((first, second)),
+    }
+}
+
+/// An applicant's id and its place, which is `-` if the record ends before it.
+pub(crate) fn id_and_place<'a>(fields: Fields<'a>) -> Option<(&'a [u8], &'a [u8])>
+    ensures { MatchOption result (placed_of (fields_left fields.entry) ≡ None)
+        (λ two. placed_of (fields_left fields.entry) ≡ Some (two.0.now, two.1.now)) }
+{
+    let mut rest = fields;
+    let id = rest.next()?;
+    let Some(place) = rest.next() else {
+        return Some((id, b"-"));
+    };
+    match rest.next() {
+        Some(_) => None,
+        None => Some((id, place)),
     }
 }
 

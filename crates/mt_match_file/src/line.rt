@@ -1,6 +1,6 @@
 ghost use Rattle.std.specs.Prelude.{◌≡◌, ◌&&◌, ◌||◌, bytes_eq, codes, slice_index_or, Some, None};
 ghost use Rattle.mt_lists.specs.Rows.{fields_left};
-ghost use Rattle.mt_match_file.specs.Submitted.{applicant_line, aside_at, aside_line, counts_at, four_of, head_line, is_number, line_of, one_of, placed_at, program_line, totals_line, two_of};
+ghost use Rattle.mt_match_file.specs.Submitted.{applicant_line, aside_at, aside_line, counts_at, four_of, head_line, is_number, line_of, one_of, placed_at, placed_of, program_line, totals_line, two_of};
 ghost use Rattle.mt_match_file.specs.View.{line_seen, market_of, read_so_far};
 
 use crate::codes::{
@@ -8,7 +8,7 @@ use crate::codes::{
     PLACED_TWICE,
 };
 use crate::fault::RecordFault;
-use crate::fields::{four, is_number, number, one, two};
+use crate::fields::{four, id_and_place, is_number, number, one, two};
 use crate::ids::Ids;
 use crate::so_far::SoFar;
 use crate::submitted_match::Count;
@@ -54,9 +54,9 @@ fn applicant_line<'a>(
     fields: Fields<'a>,
 ) -> Result<Line, RecordFault<'a>>
     ensures { line_seen result ≡ applicant_line (market_of ids.now).names places.now
-        (two_of (fields_left fields.entry)) }
+        (placed_of (fields_left fields.entry)) }
 {
-    let Some((id, field)) = two(fields) else {
+    let Some((id, field)) = id_and_place(fields) else {
         return Err(RecordFault::alone(OTHER_FIELDS));
     };
     let Some(applicant) = ids.applicant(id) else {
