@@ -13,7 +13,7 @@ use std::alloc::{AllocError, Global};
 
 /// The counts of a match, by its places and its market.
 #[derive(Drop)]
-struct Tally<'a> {
+pub struct Tally<'a> {
     roster: &'a Roster,
     matched: &'a Match,
     at_programs: Vec<u32>,
@@ -32,7 +32,7 @@ impl<'a> Tally<'a> {
     ghost use Rattle.mt_check.specs.View.{market_of, places_of};
 
     /// The counts of a match.
-    fn of(alloc: Global, roster: &'a Roster, matched: &'a Match) -> Result<Self, AllocError>
+    pub fn of(alloc: Global, roster: &'a Roster, matched: &'a Match) -> Result<Self, AllocError>
         requires { ArePlaces roster.now.market matched.now.places }
         ensures market { IfOk result (λ tally. market_of tally ≡ roster.entry.now.market) }
         ensures places { IfOk result (λ tally. places_of tally ≡ matched.entry.now.places) }
@@ -52,7 +52,7 @@ impl<'a> Tally<'a> {
     }
 
     /// How many applicants are placed at a program.
-    fn filled(&self, program: ProgNo) -> u32
+    pub fn filled(&self, program: ProgNo) -> u32
         requires { program < length (market_of self.now).programs }
         ensures { result ≡ filled (places_of self.now) program }
     {
@@ -60,7 +60,7 @@ impl<'a> Tally<'a> {
     }
 
     /// Whether a record says the counts that these are.
-    fn fits(&self, count: &Count) -> bool
+    pub fn fits(&self, count: &Count) -> bool
         ensures { result ≡ fits_count (market_of self.now) (places_of self.now) count.now }
     {
         match *count {

@@ -9,6 +9,7 @@ pub mod laws;
 mod text;
 mod whole;
 
+pub use counts::Tally;
 pub use finding::Finding;
 pub use mt_files::{Source, refused};
 pub use mt_report::Ended;

@@ -68,7 +68,7 @@ impl Page {
     }
 
     /// Adds a field after a comma, for which there is room.
-    pub(crate) fn push_field(&mut self, field: &[u8])
+    pub fn push_field(&mut self, field: &[u8])
         requires { length self.old + length field.now + 1 ≤ PAGE_LEN }
         ensures field { self.new ≡ (self.old ++ codes ",") ++ field.now }
         ensures length { length self.new ≡ length self.old + length field.now + 1 }
@@ -78,7 +78,7 @@ impl Page {
     }
 
     /// Adds bytes at the end, for which there is room.
-    pub(crate) fn push(&mut self, text: &[u8])
+    pub fn push(&mut self, text: &[u8])
         requires { length self.old + length text.now ≤ PAGE_LEN }
         ensures text { self.new ≡ self.old ++ text.now }
         ensures length { length self.new ≡ length self.old + length text.now }

@@ -29,7 +29,7 @@ fn leads(roster: &Roster, applicant: AppNo) -> bool
 }
 
 /// All agents of the market, in the order of registration.
-fn all_agents(alloc: Global, roster: &Roster) -> Result<Vec<Agent>, AllocError>
+pub fn all_agents(alloc: Global, roster: &Roster) -> Result<Vec<Agent>, AllocError>
     ensures { IfOk result (λ v. v.items ≡ agents roster.now.market) }
 {
     let mut agents = Vec::new(alloc);

@@ -10,6 +10,8 @@ mod outcome;
 mod sending;
 mod whole;
 
+pub use agents::all_agents;
 pub use asked::Asked;
 pub use outcome::Outcome;
-pub use whole::explain;
+pub use sending::{Unwritten, make_room, send};
+pub use whole::{explain, judged, refuse_file};

@@ -13,10 +13,10 @@ use std::io::Write;
 
 /// A writer failed.
 #[derive(Clone, Copy, Debug)]
-pub(crate) struct Unwritten;
+pub struct Unwritten;
 
 /// Writes what is on the page, and takes it off.
-pub(crate) fn send<W: Write>(drain: &mut Drain<W>, page: &mut Page) -> Result<(), Unwritten>
+pub fn send<W: Write>(drain: &mut Drain<W>, page: &mut Page) -> Result<(), Unwritten>
     requires { failures_of drain.old + 1 < 2 ^ 64 }
     ensures sends { OnOk result (Sends (contents_of W.contents drain.old)
         (contents_of W.contents drain.new) page.old page.new []) }
@@ -33,7 +33,7 @@ pub(crate) fn send<W: Write>(drain: &mut Drain<W>, page: &mut Page) -> Result<()
 }
 
 /// Leaves room for the lines of an option on the page: if there is too little, it writes what is on it.
-fn make_room<W: Write>(drain: &mut Drain<W>, page: &mut Page) -> Result<(), Unwritten>
+pub fn make_room<W: Write>(drain: &mut Drain<W>, page: &mut Page) -> Result<(), Unwritten>
     requires { failures_of drain.old + 1 < 2 ^ 64 }
     ensures room { OnOk result (length page.new + 2 * LINE_LEN ≤ PAGE_LEN) }
     ensures sends { OnOk result (Sends (contents_of W.contents drain.old)

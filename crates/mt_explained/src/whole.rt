@@ -136,7 +136,7 @@ fn write_lines<T: Threads + Sync, W: Write>(
 }
 
 /// The files with the market in which the match is judged: the couples that it sets aside want nothing.
-fn judged(alloc: Global, files: Files) -> Result<Files, AllocError>
+pub fn judged(alloc: Global, files: Files) -> Result<Files, AllocError>
     ensures roster { IfOk result (λ judged. judged.roster
         ≡ set_aside_registered files.submitted.aside files.roster) }
     ensures submitted { IfOk result (λ judged. judged.submitted ≡ files.submitted) }
@@ -206,7 +206,7 @@ fn explain_match<T: Threads + Sync, W: Write>(
 }
 
 /// Writes the refusal line of a file.
-fn refuse_file<W: Write>(drain: &mut Drain<W>, file: Source, refusal: &Refusal) -> Outcome
+pub fn refuse_file<W: Write>(drain: &mut Drain<W>, file: Source, refusal: &Refusal) -> Outcome
     requires named { IsNamedRefusalOf file refusal.now.code refusal.now.row refusal.now.id }
     requires failures { failures_of drain.old + 1 < 2 ^ 64 }
     ensures given { IsGiven (fault_answer file (fault_of refusal.now))

@@ -1,0 +1,3 @@
+pub mod ListFacts
+pub mod FindingFacts
+pub mod AnswerFacts
