@@ -30,13 +30,10 @@ use Rattle.mt_check.proofs.FindingFacts.{finding_says}
 use Rattle.mt_findings.specs.Findings.{blocking, blocking_by, blocking_options, differing_of, findings, first_of, is_taken, over, unlisted}
 use Rattle.mt_findings.specs.Headline.{FindingsAreSo}
 use Rattle.mt_findings.specs.Laws.{EachBlockingOption, FirstIsNamed, NoneIfStable}
-use Rattle.mt_findings.proofs.ListFacts.{BeginsWith, all_given, all_in_range, all_none, all_passing, fails_at, gives_first, gives_none, none_found, one_found}
+use Rattle.mt_findings.proofs.ListFacts.{BeginsWith, all_given, all_in_range, all_none, all_passing, fails_at, found_passes, gives_first, gives_none, none_found, one_found}
 
 -- an agent that blocks begins with the option that the verdict names, and another one has none
 module _ (m : Market) (places : Places) where
-  by_option : Agent → ℕ → Finding
-  by_option g k = Of (Blocks (record { agent = g; option = k }))
-
   blocks_first : (g : Agent) → IsTrue (blocks m places g) → BeginsWith (Of (Blocks (record { agent = g; option = blocking_option m places g }))) (blocking_by m places g)
   blocks_first g blocking_one =
       let k : ℕ = blocking_option m places g in
@@ -67,22 +64,12 @@ module _ (m : Market) (submitted : Submitted) where
   counts_found : first_of (differing_of m submitted.places submitted.counts) ≡ finding_by Stable (first_differing m submitted)
   counts_found = by_counts (find (λ (c : Counted). not (fits_count m submitted.places c.count)) submitted.counts) refl
 
-  counts : List Finding
-  counts = differing_of m submitted.places submitted.counts
-
   by_blocking : (o : Option Agent) → find (blocks m submitted.places) (agents m) ≡ o
       → first_of (blocking m submitted.places ++ differing_of m submitted.places submitted.counts) ≡ finding_by (blocks_verdict m submitted.places o) (first_differing m submitted)
   by_blocking (Some g) found =
       let first = gives_first (blocking_by m submitted.places) (blocks m submitted.places) (blocks_none m submitted.places) (agents m) g
-      (Of (Blocks (record { agent = g; option = blocking_option m submitted.places g }))) found (blocks_first m submitted.places g (found_passes (agents m) found)) in
+      (Of (Blocks (record { agent = g; option = blocking_option m submitted.places g }))) found (blocks_first m submitted.places g (found_passes (blocks m submitted.places) (agents m) g found)) in
       ap (λ (fs : List Finding). first_of (fs ++ differing_of m submitted.places submitted.counts)) first.is
-    where
-      found_passes : (gs : List Agent) → find (blocks m submitted.places) gs ≡ Some g → IsTrue (blocks m submitted.places g)
-      found_passes [] h = absurd (cc)
-      found_passes (x ∷ xs) h = elim (cases_Bool (blocks m submitted.places x)) [
-        | inl here ↦ (let e : Some x ≡ Some g = rw here at h in let same : x ≡ g = cc in subst (λ (y : Agent). IsTrue (blocks m submitted.places y)) same here)
-        | inr other ↦ found_passes xs (rw other at h)
-      ]
   by_blocking None found =
       ap (λ (fs : List Finding). first_of (fs ++ differing_of m submitted.places submitted.counts))
       (gives_none (blocking_by m submitted.places) (blocks m submitted.places) (blocks_none m submitted.places) (agents m) found)

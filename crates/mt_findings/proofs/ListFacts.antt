@@ -1,5 +1,5 @@
 -- Lists that are made of what passes a test: one element more, the first of them, and what is so of each.
-use Rattle.std.proofs.Common.{◌≡◌, ℕ, zero, suc, ◌+◌, ◌<◌, ◌≤◌, Bool, true, false, ◌||◌, List, [], ◌∷◌, ◌++◌, map, filter, length, get_or, Option, Some, None, IsTrue, IsFalse, refl, ap, sym, ◌∙◌, append_assoc, inl, inr, arith}
+use Rattle.std.proofs.Common.{◌≡◌, ℕ, zero, suc, ◌+◌, ◌<◌, ◌≤◌, Bool, true, false, ◌||◌, List, [], ◌∷◌, ◌++◌, map, filter, length, get_or, Option, Some, None, IsTrue, IsFalse, refl, ap, sym, ◌∙◌, subst, append_assoc, inl, inr, arith}
 use Rattle.std.specs.List.{All, find, flat_map, list_any, range_with_len}
 use Rattle.std.proofs.lemmas.Bool.{cases_Bool}
 use Rattle.std.proofs.lemmas.Grind.{flat_map-append}
@@ -42,12 +42,12 @@ module _ {Y : Type 0} (f : ℕ → Y) (test : Set) (old now : List Y) (n : ℕ) 
 -- what several elements give, with one element more
 pub gives_more : {X Y : Type 0} (f : X → List Y) (old now next : List Y) (xs : List X) (x : X) → now ≡ old ++ flat_map f xs → next ≡ now ++ f x
     → next ≡ old ++ flat_map f (xs ++ x ∷ [])
-gives_more f old now next xs x is more =
+gives_more {X} {Y} f old now next xs x is more =
     more
-    ∙ ap (λ ys. ys ++ f x) is
+    ∙ ap (λ (ys : List Y). ys ++ f x) is
     ∙ append_assoc old (flat_map f xs) (f x)
-    ∙ ap (λ ys. old ++ (flat_map f xs ++ ys)) (sym (append-nil (f x)))
-    ∙ ap (λ ys. old ++ ys) (sym (flat_map-append f xs (x ∷ [])))
+    ∙ ap (λ (ys : List Y). old ++ (flat_map f xs ++ ys)) (sym (append-nil (f x)))
+    ∙ ap (λ (ys : List Y). old ++ ys) (sym (flat_map-append f xs (x ∷ [])))
 
 -- a list begins with an element
 pub record BeginsWith {X : Type 0} (x : X) (xs : List X) : Type 0 where
@@ -57,14 +57,24 @@ pub record BeginsWith {X : Type 0} (x : X) (xs : List X) : Type 0 where
 -- what a search finds is the first that passes, and if it finds none, none passes
 pub one_found : {X : Type 0} (test : X → Bool) (xs : List X) (x : X) → find test xs ≡ Some x → BeginsWith x (filter test xs)
 one_found test [] x found = absurd (cc)
-one_found test (y ∷ ys) x found = elim (cases_Bool (test y)) [
+one_found {X} test (y ∷ ys) x found = elim (cases_Bool (test y)) [
   | inl here ↦
       let e : Some y ≡ Some x = rw here at found in
       let same : y ≡ x = cc in
-      record { rest = filter test ys; is = rw here (ap (λ z. z ∷ filter test ys) same) }
+      record { rest = filter test ys; is = rw here (ap (λ (z : X). z ∷ filter test ys) same) }
   | inr other ↦
       let later = one_found test ys x (rw other at found) in
       record { rest = later.rest; is = rw other later.is }
+]
+
+pub found_passes : {X : Type 0} (test : X → Bool) (xs : List X) (x : X) → find test xs ≡ Some x → IsTrue (test x)
+found_passes test [] x found = absurd (cc)
+found_passes {X} test (y ∷ ys) x found = elim (cases_Bool (test y)) [
+  | inl here ↦
+      let e : Some y ≡ Some x = rw here at found in
+      let same : y ≡ x = cc in
+      subst (λ (z : X). IsTrue (test z)) same here
+  | inr other ↦ found_passes test ys x (rw other at found)
 ]
 
 pub none_found : {X : Type 0} (test : X → Bool) (xs : List X) → find test xs ≡ None → filter test xs ≡ []
@@ -78,22 +88,22 @@ none_found test (y ∷ ys) none = elim (cases_Bool (test y)) [
 pub gives_first : {X Y : Type 0} (f : X → List Y) (test : X → Bool) → ((x : X) → test x ≡ false → f x ≡ []) → (xs : List X) (x : X) (y : Y)
     → find test xs ≡ Some x → BeginsWith y (f x) → BeginsWith y (flat_map f xs)
 gives_first f test none [] x y found first = absurd (cc)
-gives_first f test none (z ∷ zs) x y found first = elim (cases_Bool (test z)) [
+gives_first {X} {Y} f test none (z ∷ zs) x y found first = elim (cases_Bool (test z)) [
   | inl here ↦
       let e : Some z ≡ Some x = rw here at found in
       let same : z ≡ x = cc in
-      record { rest = first.rest ++ flat_map f zs; is = ap (λ w. f w ++ flat_map f zs) same ∙ ap (λ ys. ys ++ flat_map f zs) first.is }
+      record { rest = first.rest ++ flat_map f zs; is = ap (λ (w : X). f w ++ flat_map f zs) same ∙ ap (λ (ys : List Y). ys ++ flat_map f zs) first.is }
   | inr other ↦
       let later = gives_first f test none zs x y (rw other at found) first in
-      record { rest = later.rest; is = ap (λ ys. ys ++ flat_map f zs) (none z other) ∙ later.is }
+      record { rest = later.rest; is = ap (λ (ys : List Y). ys ++ flat_map f zs) (none z other) ∙ later.is }
 ]
 
 pub gives_none : {X Y : Type 0} (f : X → List Y) (test : X → Bool) → ((x : X) → test x ≡ false → f x ≡ []) → (xs : List X)
     → find test xs ≡ None → flat_map f xs ≡ []
 gives_none f test none [] found = refl
-gives_none f test none (z ∷ zs) found = elim (cases_Bool (test z)) [
+gives_none {X} {Y} f test none (z ∷ zs) found = elim (cases_Bool (test z)) [
   | inl here ↦ (let e : Some z ≡ None = rw here at found in absurd (cc))
-  | inr other ↦ ap (λ ys. ys ++ flat_map f zs) (none z other) ∙ gives_none f test none zs (rw other at found)
+  | inr other ↦ ap (λ (ys : List Y). ys ++ flat_map f zs) (none z other) ∙ gives_none f test none zs (rw other at found)
 ]
 
 -- a test that nothing passes fails at each place

@@ -1,12 +1,17 @@
-ghost use Rattle.std.specs.Prelude.{◌≡◌, ◌<◌, length};
+ghost use Rattle.std.specs.Prelude.{◌≡◌, ◌<◌, length, not};
 ghost use Rattle.mt_terms.specs.Market.{applicants, members};
 ghost use Rattle.mt_terms.specs.Matching.{none_placed, place_of};
 ghost use Rattle.mt_terms.specs.Stability.{has_own_option, is_listed};
-ghost use Rattle.mt_terms.specs.Verdict.{is_unlisted, lowest_number};
+ghost use Rattle.mt_terms.specs.Verdict.{is_over, is_unlisted, lowest_number};
 ghost use Rattle.mt_verify.specs.Held.{IsNumbered};
+ghost use Rattle.mt_check.specs.Findings.{fits_count};
+ghost use Rattle.mt_check.specs.View.{market_of, places_of};
 
+use mt_check::Tally;
 use mt_explain::Explainer;
-use mt_terms::{Agent, AppNo};
+use mt_market::Roster;
+use mt_match_file::Counted;
+use mt_terms::{Agent, AppNo, ProgNo};
 
 /// Whether none of the agent's members is placed.
 fn none_placed(explainer: &Explainer<'_>, agent: &Agent) -> bool
@@ -66,4 +71,20 @@ pub(crate) fn is_unlisted(explainer: &Explainer<'_>, applicant: AppNo) -> bool
     let agent = explainer.roster().agent_of(applicant);
     let is_lowest = lowest_number(explainer, &agent) == applicant.0;
     (is_lowest && !has_own_option(explainer, &agent)) || !is_listed(explainer, applicant)
+}
+
+/// Whether the program has more applicants than its quota.
+pub(crate) fn is_over(roster: &Roster, tally: &Tally<'_>, program: ProgNo) -> bool
+    requires market { roster.now.market ≡ market_of tally.now }
+    requires program { program < length (market_of tally.now).programs }
+    ensures { result ≡ is_over (market_of tally.now) (places_of tally.now) program }
+{
+    tally.filled(program) > roster.quota(program)
+}
+
+/// Whether a record says other counts than the match has.
+pub(crate) fn differs(tally: &Tally<'_>, counted: &Counted) -> bool
+    ensures { result ≡ not (fits_count (market_of tally.now) (places_of tally.now) counted.now.count) }
+{
+    !tally.fits(&counted.count)
 }

@@ -1,11 +1,12 @@
 ghost use Rattle.std.specs.Prelude.{◌≡◌, ◌++◌, All, IfOk, OnOk};
+ghost use Rattle.std.specs.List.{flat_map};
 ghost use Rattle.mt_terms.specs.Places.{ArePlaces};
 ghost use Rattle.mt_verify.specs.Held.{IsNumbered};
 ghost use Rattle.mt_check.specs.Findings.{IsThere};
 ghost use Rattle.mt_check.specs.View.{market_of, places_of};
-ghost use Rattle.mt_findings.specs.Findings.{blocking, blocking_by, differing_of, findings, over, unlisted};
+ghost use Rattle.mt_findings.specs.Findings.{blocking_by, differing_of, findings, over, unlisted};
 
-use crate::allowed::is_unlisted;
+use crate::allowed::{differs, is_over, is_unlisted};
 use crate::taken::is_taken;
 use mt_check::{Finding, Tally};
 use mt_explain::Explainer;
@@ -43,7 +44,7 @@ fn push_over(
 {
     for number in 0..roster.programs() {
         let program = ProgNo(number);
-        if tally.filled(program) > roster.quota(program) {
+        if is_over(roster, tally, program) {
             found.push(Finding::Of(Verdict::Over(program)))?;
         }
     }
@@ -71,17 +72,17 @@ fn push_blocking_by(
     Ok(())
 }
 
-/// Adds the agents that block, each with every option by which it does.
+/// Adds these agents, each with every option by which it blocks.
 fn push_blocking(
-    alloc: Global,
     found: &mut Vec<Finding>,
     explainer: &Explainer<'_>,
+    agents: &[Agent],
 ) -> Result<(), AllocError>
-    ensures { OnOk result (found.new.items
-        ≡ found.old.items ++ blocking explainer.now.registered.market explainer.now.places) }
+    requires { All (IsNumbered explainer.now.registered.market) agents.now }
+    ensures { OnOk result (found.new.items ≡ found.old.items
+        ++ flat_map (blocking_by explainer.now.registered.market explainer.now.places) agents.now) }
 {
-    let agents = all_agents(alloc, explainer.roster())?;
-    for agent in &agents {
+    for agent in agents {
         push_blocking_by(found, explainer, agent)?;
     }
     Ok(())
@@ -97,7 +98,7 @@ fn push_differing(
         ≡ found.old.items ++ differing_of (market_of tally.now) (places_of tally.now) counts.now) }
 {
     for counted in counts {
-        if !tally.fits(&counted.count) {
+        if differs(tally, counted) {
             found.push(Finding::Differs(counted.row))?;
         }
     }
@@ -123,7 +124,8 @@ pub fn findings<T: Threads + Sync>(
     let mut found = Vec::new(alloc);
     push_unlisted(&mut found, &explainer)?;
     push_over(&mut found, roster, &tally)?;
-    push_blocking(alloc, &mut found, &explainer)?;
+    let agents = all_agents(alloc, roster)?;
+    push_blocking(&mut found, &explainer, &agents)?;
     push_differing(&mut found, &tally, submitted.counts())?;
     Ok(found)
 }

@@ -1,12 +1,24 @@
-ghost use Rattle.std.specs.Prelude.{◌≡◌, ◌&&◌, ◌<◌, length, list_all};
+ghost use Rattle.std.specs.Prelude.{◌≡◌, ◌<◌, length};
+ghost use Rattle.std.specs.List.{list_all};
 ghost use Rattle.mt_terms.specs.Matching.{better};
 ghost use Rattle.mt_verify.specs.Held.{IsNumbered};
 ghost use Rattle.mt_explain.specs.Explained.{line_if};
-ghost use Rattle.mt_explain.specs.Lines.{is_open};
+ghost use Rattle.mt_explain.specs.Lines.{is_open, says_open};
 ghost use Rattle.mt_findings.specs.Findings.{is_taken};
 
 use mt_explain::{Explainer, Line, Why};
 use mt_terms::Agent;
+
+/// Whether this is why a post is open.
+fn says_open(why: Why) -> bool
+    ensures { result ≡ says_open why }
+{
+    match why {
+        Why::Unlisted => false,
+        Why::Full => false,
+        Why::Open => true,
+    }
+}
 
 /// Whether a line, if there is one, says that a post is open.
 fn is_open_if(line: &Option<Line>) -> bool
@@ -14,7 +26,7 @@ fn is_open_if(line: &Option<Line>) -> bool
 {
     match line {
         None => true,
-        Some(line) => matches!(line.why(), Why::Open),
+        Some(line) => says_open(line.why()),
     }
 }
 
