@@ -16,15 +16,15 @@ use Rattle.mt_files.specs.declared.source.Source.TheVariants.{Market, Match}
 use Rattle.mt_files.proofs.FileFacts.{market_there}
 use Rattle.mt_files.proofs.NameFacts.{alone_named, codes_large, market_named, match_named}
 use Rattle.mt_statistics.proofs.SumFacts.{couples_add_up_lem, posts_add_up_lem, programs_add_up_lem, singles_add_up_lem}
-use Rattle.mt_statistics_text.specs.Text.{report_text}
 use Rattle.mt_reported.specs.Answer.{Answer, IsAnswer, answer_of, fault_answer}
-use Rattle.mt_reported.specs.Headline.{IsRefusal, IsReported}
+use Rattle.mt_reported.specs.Headline.{IsRefusal, IsReported, text_in}
 use Rattle.mt_reported.specs.Laws.{AnswersAreSo}
 use Rattle.mt_reported.specs.Text.{refused_line}
+use Rattle.mt_reported.specs.declared.form.Form.{Form}
 
-module _ (market_bytes match_bytes : List ℕ) (code : ℕ) (text : List ℕ) where
+module _ (form : Form) (market_bytes match_bytes : List ℕ) (code : ℕ) (text : List ℕ) where
   IsSo : Type 0
-  IsSo = (code ≡ 0 → IsReported market_bytes match_bytes text) × (code ≢ 0 → IsRefusal code text)
+  IsSo = (code ≡ 0 → IsReported form market_bytes match_bytes text) × (code ≢ 0 → IsRefusal code text)
 
   refused : (file : Source) (f : Fault) → IsNamedRefusalOf file f.code f.row f.id → fault_answer file f ≡ record { code = code; text = text } → IsSo
   unfolding IsSo
@@ -42,7 +42,7 @@ module _ (market_bytes match_bytes : List ℕ) (code : ℕ) (text : List ℕ) wh
       )
 
   reported : (r : Registered) (submitted : Submitted) → market_in market_bytes ≡ Ok r → submitted_in r match_bytes ≡ Ok submitted
-      → answer_of (Ok (r, submitted)) ≡ record { code = code; text = text } → IsSo
+      → answer_of form (Ok (r, submitted)) ≡ record { code = code; text = text } → IsSo
   unfolding IsSo
   reported r submitted of_market of_match is =
       let same : 0 ≡ code = ap (λ (a : Answer). a.code) is in (
@@ -61,33 +61,33 @@ module _ (market_bytes match_bytes : List ℕ) (code : ℕ) (text : List ℕ) wh
       )
 
   of_match : (r : Registered) → market_in market_bytes ≡ Ok r → (s : Result Submitted Fault) → submitted_in r match_bytes ≡ s
-      → answer_of (with_match r s) ≡ record { code = code; text = text } → IsSo
+      → answer_of form (with_match r s) ≡ record { code = code; text = text } → IsSo
   of_match r of_market (Ok submitted) read is = reported r submitted of_market read is
   of_match r of_market (Err f) read is = refused Match f (match_named r match_bytes f read) is
 
-  of_the_market : (market : Result Registered Fault) → market_in market_bytes ≡ market → answer_of (files_by market match_bytes) ≡ record { code = code; text = text } → IsSo
+  of_the_market : (market : Result Registered Fault) → market_in market_bytes ≡ market → answer_of form (files_by market match_bytes) ≡ record { code = code; text = text } → IsSo
   of_the_market (Ok r) of_market is = of_match r of_market (submitted_in r match_bytes) refl is
   of_the_market (Err f) of_market is = refused Market f (market_named market_bytes f of_market) is
 
 pub answers_are_so_lem : AnswersAreSo
 unfolding IsSo
-answers_are_so_lem market_bytes match_bytes code text h = of_the_market market_bytes match_bytes code text (market_in market_bytes) refl h
+answers_are_so_lem form market_bytes match_bytes code text h = of_the_market form market_bytes match_bytes code text (market_in market_bytes) refl h
 
 -- what is so of all bytes of two files is so of what two readers had left
 pub of_both : {P Q : List ℕ → List ℕ → Type 0} (market matched : Option (List ℕ)) → ((xs ys : List ℕ) → P xs ys → Q xs ys) → OfBoth market matched P → OfBoth market matched Q
 of_both market matched next h = of_left market (λ xs inner. of_left matched (λ ys is. next xs ys is) inner) h
 
 -- so the answer to what two readers had left says what is so of that
-pub reported_left : (market matched : Option (List ℕ)) (text : List ℕ) → OfBoth market matched (λ xs ys. IsAnswer xs ys 0 text)
-    → OfBoth market matched (λ xs ys. IsReported xs ys text)
-reported_left market matched text h = of_both market matched (λ xs ys is. (answers_are_so_lem xs ys 0 text is).0 refl) h
+pub reported_left : (form : Form) (market matched : Option (List ℕ)) (text : List ℕ) → OfBoth market matched (λ xs ys. IsAnswer form xs ys 0 text)
+    → OfBoth market matched (λ xs ys. IsReported form xs ys text)
+reported_left form market matched text h = of_both market matched (λ xs ys is. (answers_are_so_lem form xs ys 0 text is).0 refl) h
 
 -- ---- what was read, and what was found of it
 
-module _ (market matched : Option (List ℕ)) (files : Files) (are : AreFilesIn market matched files) where
-  pub text_there : (result : Result (Vec ℕ Global) Refused) → IfOk result (λ text. text.items ≡ report_text files.roster files.submitted.places)
-      → IfOk result (λ text. OfBoth market matched (λ xs ys. IsAnswer xs ys 0 text.items))
-  text_there (Ok text) h = of_both market matched (λ xs ys is. ap answer_of is ∙ ap (λ (t : List ℕ). record { code = 0; text = t }) (sym h)) are
+module _ (form : Form) (market matched : Option (List ℕ)) (files : Files) (are : AreFilesIn market matched files) where
+  pub text_there : (result : Result (Vec ℕ Global) Refused) → IfOk result (λ text. text.items ≡ text_in form files.roster files.submitted.places)
+      → IfOk result (λ text. OfBoth market matched (λ xs ys. IsAnswer form xs ys 0 text.items))
+  text_there (Ok text) h = of_both market matched (λ xs ys is. ap (answer_of form) is ∙ ap (λ (t : List ℕ). record { code = 0; text = t }) (sym h)) are
   text_there (Err e) h = tt
 
   pub match_in_turn : (reads : ℕ) (result : Result (Vec ℕ Global) Refused) → IfErr result (λ e. e.source ≡ Match) → IfErr result (λ e. IsInTurn market reads e.source)
@@ -119,7 +119,7 @@ no_read_fault (Err e) is read = let code : e.refusal.code ≡ 30 = ap (λ (f : F
 pub none_failed : {X : Type 0} (code : ℕ) → ((◌≡◌ {A = ℕ} 0 31) ↔ X) → (code ≡ 31 → ⊥) → (code ≡ 31) ↔ X
 none_failed code none other = (λ e. absurd (other e), λ x. absurd (omega (arith, none.1 x)))
 
-pub refused_answer : (market matched : Option (List ℕ)) (e : Refused)
+pub refused_answer : (form : Form) (market matched : Option (List ℕ)) (e : Refused)
     → OfBoth market matched (λ xs ys. files_in xs ys ≡ Err (e.source, fault_of e.refusal))
-    → OfBoth market matched (λ xs ys. IsAnswer xs ys e.refusal.code (refused_line e.source e.refusal.code e.refusal.row e.refusal.id))
-refused_answer market matched e h = of_both market matched (λ xs ys is. ap answer_of is) h
+    → OfBoth market matched (λ xs ys. IsAnswer form xs ys e.refusal.code (refused_line e.source e.refusal.code e.refusal.row e.refusal.id))
+refused_answer form market matched e h = of_both market matched (λ xs ys is. ap (answer_of form) is) h

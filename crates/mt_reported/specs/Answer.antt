@@ -8,9 +8,9 @@ use Rattle.mt_match_file.specs.Submitted.{Submitted}
 use Rattle.mt_files.specs.Files.{files_in}
 use Rattle.mt_files.specs.Refusals.{IsInTurn, OfBoth}
 use Rattle.mt_files.specs.declared.source.Source.{Source}
-use Rattle.mt_statistics_text.specs.Text.{report_text}
-use Rattle.mt_reported.specs.Headline.{IsRefusal, IsReported}
+use Rattle.mt_reported.specs.Headline.{IsRefusal, IsReported, text_in}
 use Rattle.mt_reported.specs.Text.{refused_line}
+use Rattle.mt_reported.specs.declared.form.Form.{Form}
 
 -- A code and a text. The code is 0 for the numbers of a match, and else that of a refusal.
 pub record Answer : Type 0 where
@@ -22,29 +22,29 @@ abbrev pub fault_answer : Source → Fault → Answer
 fault_answer file f = record { code = f.code; text = refused_line file f.code f.row f.id }
 
 -- the answer to a market and a match, or to the fault of a file
-abbrev pub answer_of : Result (Registered × Submitted) (Source × Fault) → Answer
-answer_of (Ok files) = record { code = 0; text = report_text files.0 files.1.places }
-answer_of (Err fault) = fault_answer fault.0 fault.1
+abbrev pub answer_of : Form → Result (Registered × Submitted) (Source × Fault) → Answer
+answer_of form (Ok files) = record { code = 0; text = text_in form files.0 files.1.places }
+answer_of form (Err fault) = fault_answer fault.0 fault.1
 
--- The answer to the bytes of a market and of a match: the numbers of the match, or the first fault of the market, or
+-- The answer to the bytes of a market and of a match: the numbers of the match in this form, or the first fault of the market, or
 -- else of the match.
-abbrev pub answer_to : List ℕ → List ℕ → Answer
-answer_to market_bytes match_bytes = answer_of (files_in market_bytes match_bytes)
+abbrev pub answer_to : Form → List ℕ → List ℕ → Answer
+answer_to form market_bytes match_bytes = answer_of form (files_in market_bytes match_bytes)
 
-abbrev pub IsAnswer : List ℕ → List ℕ → ℕ → List ℕ → Type 0
-IsAnswer market_bytes match_bytes code text = answer_to market_bytes match_bytes ≡ record { code = code; text = text }
+abbrev pub IsAnswer : Form → List ℕ → List ℕ → ℕ → List ℕ → Type 0
+IsAnswer form market_bytes match_bytes code text = answer_to form market_bytes match_bytes ≡ record { code = code; text = text }
 
 -- What the text of a report says that made this number of reads of the match. If the code is 0, it has the numbers of
 -- the match that was read. Any other code has one named refusal line, of the file whose turn it is. But for want of
 -- memory and a read that failed, it is the answer to the bytes that were there to read.
-pub record Says (market matched : Option (List ℕ)) (reads code : ℕ) (text : List ℕ) : Type 0 where
-  pub reported : code ≡ 0 → OfBoth market matched (λ market_bytes match_bytes. IsReported market_bytes match_bytes text)
+pub record Says (form : Form) (market matched : Option (List ℕ)) (reads code : ℕ) (text : List ℕ) : Type 0 where
+  pub reported : code ≡ 0 → OfBoth market matched (λ market_bytes match_bytes. IsReported form market_bytes match_bytes text)
   pub refusal : code ≢ 0 → IsRefusal code text
   pub in_turn : (refused : code ≢ 0) → IsInTurn market reads (refusal refused).file
-  pub answer : code ≢ OUT_OF_MEMORY → code ≢ READ_FAULT → OfBoth market matched (λ market_bytes match_bytes. IsAnswer market_bytes match_bytes code text)
+  pub answer : code ≢ OUT_OF_MEMORY → code ≢ READ_FAULT → OfBoth market matched (λ market_bytes match_bytes. IsAnswer form market_bytes match_bytes code text)
 
 -- What a report did. It wrote the first bytes of a text, and all of it if the writer didn't fail.
-pub record Answers (market matched : Option (List ℕ)) (reads : ℕ) (old new : Option (List ℕ)) (code written : ℕ) (whole : Bool) : Type 0 where
+pub record Answers (form : Form) (market matched : Option (List ℕ)) (reads : ℕ) (old new : Option (List ℕ)) (code written : ℕ) (whole : Bool) : Type 0 where
   pub text : List ℕ
   pub is_written : IsWritten text old new written whole
-  pub says : Says market matched reads code text
+  pub says : Says form market matched reads code text

@@ -2,13 +2,14 @@
 use Rattle.std.specs.Prelude.{◌≡◌, ◌≢◌, ℕ, List}
 use Rattle.mt_reported.specs.Answer.{IsAnswer}
 use Rattle.mt_reported.specs.Headline.{IsRefusal, IsReported}
+use Rattle.mt_reported.specs.declared.form.Form.{Form}
 
--- the bytes of two files have one answer
+-- the bytes of two files have one answer in each form
 abbrev pub OneAnswer : Type 0
-OneAnswer = (market_bytes match_bytes : List ℕ) (c d : ℕ) (text other : List ℕ)
-    → IsAnswer market_bytes match_bytes c text → IsAnswer market_bytes match_bytes d other → (c ≡ d) × (text ≡ other)
+OneAnswer = (form : Form) (market_bytes match_bytes : List ℕ) (c d : ℕ) (text other : List ℕ)
+    → IsAnswer form market_bytes match_bytes c text → IsAnswer form market_bytes match_bytes d other → (c ≡ d) × (text ≡ other)
 
 -- an answer with code 0 has the numbers of the match, and every other one is a named refusal
 abbrev pub AnswersAreSo : Type 0
-AnswersAreSo = (market_bytes match_bytes : List ℕ) (code : ℕ) (text : List ℕ) → IsAnswer market_bytes match_bytes code text
-    → (code ≡ 0 → IsReported market_bytes match_bytes text) × (code ≢ 0 → IsRefusal code text)
+AnswersAreSo = (form : Form) (market_bytes match_bytes : List ℕ) (code : ℕ) (text : List ℕ) → IsAnswer form market_bytes match_bytes code text
+    → (code ≡ 0 → IsReported form market_bytes match_bytes text) × (code ≢ 0 → IsRefusal code text)

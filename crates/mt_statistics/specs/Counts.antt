@@ -1,5 +1,5 @@
 -- The numbers of a match that services publish. Which numbers these are is this project's own choice.
-use Rattle.std.specs.Prelude.{ℕ, zero, suc, ◌+◌, ◌-◌, Bool, not, ◌&&◌, ◌==◌, nat_le, List, [], ◌∷◌, length, map, max, Option, Some, None, is_some, if◌then◌else◌}
+use Rattle.std.specs.Prelude.{ℕ, zero, suc, ◌+◌, ◌-◌, Bool, false, not, ◌&&◌, ◌==◌, nat_le, List, [], ◌∷◌, length, map, max, Option, Some, None, is_some, if◌then◌else◌}
 use Rattle.mt_terms.specs.Lists.{below, count_below, total_below}
 use Rattle.mt_terms.specs.Market.{Market, applicants, couple_of, program_of}
 use Rattle.mt_terms.specs.Matching.{Places, filled, is_program, place_of, placed_ranks}
@@ -27,9 +27,26 @@ is_unmatched_single m places a = is_single m a && not (is_some (place_of places 
 abbrev pub unmatched_singles : Market → Places → ℕ
 unmatched_singles m places = count_below (is_unmatched_single m places) (applicants m)
 
+-- whether there is a number, and it is this one or a larger one
+abbrev pub is_from : ℕ → Option ℕ → Bool
+is_from k None = false
+is_from k (Some number) = nat_le k number
+
+-- whether a single has the option with this number from 0 of its list, or a later one
+abbrev pub has_choice_from : Market → Places → ℕ → ℕ → Bool
+has_choice_from m places k a = is_single m a && is_from k (held_option m places (Single a))
+
+-- how many singles do
+abbrev pub choices_from : Market → Places → ℕ → ℕ
+choices_from m places k = count_below (has_choice_from m places k) (applicants m)
+
 -- how many couples have the pair with this number from 0 of their lists
 abbrev pub at_pair : Market → Places → ℕ → ℕ
 at_pair m places k = count_below (λ c. is_program k (held_option m places (Couple c))) (length m.couples)
+
+-- how many couples have the pair with this number, or a later one
+abbrev pub pairs_from : Market → Places → ℕ → ℕ
+pairs_from m places k = count_below (λ c. is_from k (held_option m places (Couple c))) (length m.couples)
 
 -- how many members of a couple are placed
 abbrev pub placed_members : Market → Places → ℕ → ℕ

@@ -7,7 +7,7 @@ ghost use Rattle.mt_terms.specs.Text.{all_filled};
 ghost use Rattle.mt_terms.specs.declared.numbers.Agent.TheVariants.{Couple, Single};
 ghost use Rattle.mt_ranks.specs.Ranked.{ranked_of};
 ghost use Rattle.mt_verify.specs.Held.{IsNumbered, held_option};
-ghost use Rattle.mt_statistics.specs.Counts.{choice_counts, couples_with, empty_programs, full_programs, has_nobody, is_empty, is_full, is_partly_filled, is_unmatched_single, last_rank, open_at, open_posts, pair_counts, partly_filled_programs, placed_members, unmatched_singles};
+ghost use Rattle.mt_statistics.specs.Counts.{choice_counts, choices_from, couples_with, empty_programs, full_programs, has_choice_from, has_nobody, is_empty, is_from, is_full, is_partly_filled, is_unmatched_single, last_rank, open_at, open_posts, pair_counts, pairs_from, partly_filled_programs, placed_members, unmatched_singles};
 
 use crate::held::held_counts;
 use mt_market::Roster;
@@ -18,6 +18,16 @@ use mt_verify::MatchTables;
 use std::alloc::{AllocError, Global};
 use std::marker::Model;
 use std::thread::Threads;
+
+/// Whether there is a number, and it is this one or a larger one.
+fn is_from(least: u32, number: Option<u32>) -> bool
+    ensures { result ≡ is_from least number }
+{
+    match number {
+        Some(number) => least <= number,
+        None => false,
+    }
+}
 
 /// A match beside its market, ready to be counted.
 #[derive(Drop)]
@@ -90,6 +100,32 @@ impl<'a> Statistics<'a> {
         self.roster.is_of_a_file();
         let held = self.held_pairs(alloc)?;
         held_counts(alloc, &held)
+    }
+
+    /// How many singles have the choice with this number from 0, or a later one.
+    pub fn choices_from(&self, choice: u32) -> u32
+        ensures { result ≡ choices_from self.now.registered.market self.now.places choice }
+    {
+        let mut count = 0;
+        for number in 0..self.roster.applicants() {
+            if self.has_choice_from(AppNo(number), choice) {
+                count += 1;
+            }
+        }
+        count
+    }
+
+    /// How many couples have the pair with this number from 0, or a later one.
+    pub fn pairs_from(&self, pair: u32) -> u32
+        ensures { result ≡ pairs_from self.now.registered.market self.now.places pair }
+    {
+        let mut count = 0;
+        for number in 0..self.roster.couples() {
+            if is_from(pair, self.held_option(Agent::Couple(CoupleNo(number)))) {
+                count += 1;
+            }
+        }
+        count
     }
 
     /// How many singles have no place.
@@ -229,6 +265,17 @@ impl<'a> Statistics<'a> {
         Ok(held)
     }
 
+    /// Whether an applicant is a single that has the choice with this number from 0, or a later one.
+    fn has_choice_from(&self, applicant: AppNo, choice: u32) -> bool
+        requires { applicant < applicants self.now.registered.market }
+        ensures { result ≡ has_choice_from self.now.registered.market self.now.places choice applicant }
+    {
+        match self.roster.agent_of(applicant) {
+            Agent::Single(_) => is_from(choice, self.held_option(Agent::Single(applicant))),
+            Agent::Couple(_) => false,
+        }
+    }
+
     /// Whether an applicant is a single without a place.
     fn is_unmatched_single(&self, applicant: AppNo) -> bool
         requires { applicant < applicants self.now.registered.market }
@@ -251,7 +298,7 @@ impl<'a> Statistics<'a> {
     }
 
     /// Whether a program has no open post.
-    fn is_full(&self, program: ProgNo) -> bool
+    pub fn is_full(&self, program: ProgNo) -> bool
         requires { program < length self.now.registered.market.programs }
         ensures { result ≡ is_full self.now.registered.market self.now.places program }
     {

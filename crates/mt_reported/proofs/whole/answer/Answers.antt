@@ -4,7 +4,7 @@ use Rattle.mt_reported.proofs.whole.answer.Goals as goal
 
 pub returns-in-Ok-clause-text : goal.returns-in-Ok-clause-text
 returns-in-Ok-clause-text g c =
-    text_there (bytes_left g.R.Read.remaining c.args.market.now) (bytes_left g.S.Read.remaining c.args.matched.now) c.in-Ok.files c.in-Ok.ensures.files c.answer_to_files.result
+    text_there c.args.form (bytes_left g.R.Read.remaining c.args.market.now) (bytes_left g.S.Read.remaining c.args.matched.now) c.in-Ok.files c.in-Ok.ensures.files c.answer_to_files.result
     c.answer_to_files.ensures.text
 
 pub returns-in-Ok-clause-refused : goal.returns-in-Ok-clause-refused
@@ -14,7 +14,7 @@ returns-in-Ok-clause-refused g c =
 
 pub returns-in-Ok-clause-in_turn : goal.returns-in-Ok-clause-in_turn
 returns-in-Ok-clause-in_turn g c =
-    match_in_turn (bytes_left g.R.Read.remaining c.args.market.now) (bytes_left g.S.Read.remaining c.args.matched.now) c.in-Ok.files c.in-Ok.ensures.files _ c.answer_to_files.result
+    match_in_turn c.args.form (bytes_left g.R.Read.remaining c.args.market.now) (bytes_left g.S.Read.remaining c.args.matched.now) c.in-Ok.files c.in-Ok.ensures.files _ c.answer_to_files.result
     c.answer_to_files.ensures.source
 
 pub returns-in-Ok-clause-fault : goal.returns-in-Ok-clause-fault

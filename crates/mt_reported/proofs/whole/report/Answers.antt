@@ -13,7 +13,7 @@ returns-in-Ok-clause-answers g c =
       is_written = rw c.deref.ensures.value at c.end.ensures.written;
       says = record {
         reported = λ none.
-            reported_left (bytes_left g.R.Read.remaining c.args.market.now) (bytes_left g.S.Read.remaining c.args.matched.now) c.in-Ok.text.items c.in-Ok.ensures.text;
+            reported_left c.args.form (bytes_left g.R.Read.remaining c.args.market.now) (bytes_left g.S.Read.remaining c.args.matched.now) c.in-Ok.text.items c.in-Ok.ensures.text;
         refusal = λ other. absurd (other refl);
         in_turn = λ other. absurd (other refl);
         answer = λ m r. c.in-Ok.ensures.text;
@@ -45,6 +45,6 @@ returns-in-Err-clause-answers g c =
         reported = λ none. absurd (omega arith);
         refusal = λ _. record { file = e.source; row = e.refusal.row; id = e.refusal.id; named = refused.named; line = refl };
         in_turn = λ _. c.in-Err.ensures.in_turn;
-        answer = λ m r. refused_answer (bytes_left g.R.Read.remaining c.args.market.now) (bytes_left g.S.Read.remaining c.args.matched.now) e (refused.fault m r);
+        answer = λ m r. refused_answer c.args.form (bytes_left g.R.Read.remaining c.args.market.now) (bytes_left g.S.Read.remaining c.args.matched.now) e (refused.fault m r);
       };
     })

@@ -1,0 +1,3 @@
+pub mod Pieces
+pub mod Charts
+pub mod Page

@@ -1,0 +1,165 @@
+ghost use Rattle.std.specs.Prelude.{◌≡◌, ◌++◌, length, take, OnOk};
+ghost use Rattle.mt_statistics_page.specs.Charts.{choice_chart, choice_rows, couple_chart, couple_rows, largest_shown, later_row, number_rows, pair_chart, program_chart, program_rows, three_largest};
+ghost use Rattle.mt_statistics_page.specs.declared.markup.TheConstants.{FIRST};
+
+use crate::markup::{
+    CHOICES, COUPLES, FIRST, LATER, NO_PAIRS, PAIRS, PROGRAMS, TABLE_END,
+};
+use crate::pieces::{largest, push_bar_row, push_numbered_rows, push_text};
+use std::alloc::AllocError;
+
+/// The counts that have a row of their own.
+fn first(counts: &[u32]) -> &[u32]
+    ensures { result.now ≡ take FIRST counts.now }
+{
+    if counts.len() <= FIRST as usize {
+        return counts;
+    }
+    &counts[..FIRST as usize]
+}
+
+/// The largest count of a chart of numbers on lists.
+fn largest_shown(counts: &[u32], later: u32) -> u32
+    ensures { result ≡ largest_shown counts.now later }
+{
+    largest(first(counts)).max(later)
+}
+
+/// Adds the row of the later numbers, if there are any.
+fn push_later(text: &mut Vec<u8>, counts: &[u32], later: u32, most: u32) -> Result<(), AllocError>
+    ensures ok { OnOk result (text.new.items
+        ≡ text.old.items ++ later_row counts.now later most) }
+{
+    if counts.len() > FIRST as usize {
+        push_bar_row(text, LATER.as_bytes(), later, most)?;
+    }
+    Ok(())
+}
+
+/// Adds the rows of a chart of numbers on lists.
+fn push_numbers(text: &mut Vec<u8>, counts: &[u32], later: u32, most: u32) -> Result<(), AllocError>
+    ensures ok { OnOk result (text.new.items
+        ≡ text.old.items ++ number_rows counts.now later most) }
+{
+    push_numbered_rows(text, first(counts), most)?;
+    push_later(text, counts, later, most)?;
+    Ok(())
+}
+
+/// Adds the rows of the chart of choices.
+fn push_choice_rows(
+    text: &mut Vec<u8>,
+    counts: &[u32],
+    later: u32,
+    unmatched: u32,
+    most: u32,
+) -> Result<(), AllocError>
+    ensures ok { OnOk result (text.new.items
+        ≡ text.old.items ++ choice_rows counts.now later unmatched most) }
+{
+    push_numbers(text, counts, later, most)?;
+    push_bar_row(text, b"no place", unmatched, most)?;
+    Ok(())
+}
+
+/// Adds the chart of choices: how many singles have each, how many a later one, and how many no place.
+pub(crate) fn push_choice_chart(
+    text: &mut Vec<u8>,
+    counts: &[u32],
+    later: u32,
+    unmatched: u32,
+) -> Result<(), AllocError>
+    ensures ok { OnOk result (text.new.items
+        ≡ text.old.items ++ choice_chart counts.now later unmatched) }
+{
+    let most = largest_shown(counts, later).max(unmatched);
+    push_text(text, CHOICES)?;
+    push_choice_rows(text, counts, later, unmatched, most)?;
+    push_text(text, TABLE_END)?;
+    Ok(())
+}
+
+/// Adds the chart of pairs: how many couples have each, and how many a later one.
+pub(crate) fn push_pair_chart(text: &mut Vec<u8>, counts: &[u32], later: u32) -> Result<(), AllocError>
+    ensures ok { OnOk result (text.new.items ≡ text.old.items ++ pair_chart counts.now later) }
+{
+    if counts.len() == 0 {
+        return push_text(text, NO_PAIRS);
+    }
+    let most = largest_shown(counts, later);
+    push_text(text, PAIRS)?;
+    push_numbers(text, counts, later, most)?;
+    push_text(text, TABLE_END)?;
+    Ok(())
+}
+
+/// The largest of three counts.
+fn three_largest(first: u32, second: u32, third: u32) -> u32
+    ensures { result ≡ three_largest first second third }
+{
+    first.max(second).max(third)
+}
+
+/// Adds the rows of the chart of couples.
+fn push_couple_rows(
+    text: &mut Vec<u8>,
+    both: u32,
+    one: u32,
+    neither: u32,
+    most: u32,
+) -> Result<(), AllocError>
+    ensures ok { OnOk result (text.new.items ≡ text.old.items ++ couple_rows both one neither most) }
+{
+    push_bar_row(text, b"both", both, most)?;
+    push_bar_row(text, b"one", one, most)?;
+    push_bar_row(text, b"neither", neither, most)?;
+    Ok(())
+}
+
+/// Adds the chart of couples: how many have both members placed, one, and neither.
+pub(crate) fn push_couple_chart(
+    text: &mut Vec<u8>,
+    both: u32,
+    one: u32,
+    neither: u32,
+) -> Result<(), AllocError>
+    ensures ok { OnOk result (text.new.items ≡ text.old.items ++ couple_chart both one neither) }
+{
+    let most = three_largest(both, one, neither);
+    push_text(text, COUPLES)?;
+    push_couple_rows(text, both, one, neither, most)?;
+    push_text(text, TABLE_END)?;
+    Ok(())
+}
+
+/// Adds the rows of the chart of programs.
+fn push_program_rows(
+    text: &mut Vec<u8>,
+    full: u32,
+    partly: u32,
+    empty: u32,
+    most: u32,
+) -> Result<(), AllocError>
+    ensures ok { OnOk result (text.new.items ≡ text.old.items ++ program_rows full partly empty most) }
+{
+    push_bar_row(text, b"full", full, most)?;
+    push_bar_row(text, b"partly", partly, most)?;
+    push_bar_row(text, b"empty", empty, most)?;
+    Ok(())
+}
+
+/// Adds the chart of programs: how many are full, partly filled, and empty.
+pub(crate) fn push_program_chart(
+    text: &mut Vec<u8>,
+    full: u32,
+    partly: u32,
+    empty: u32,
+) -> Result<(), AllocError>
+    ensures ok { OnOk result (text.new.items ≡ text.old.items ++ program_chart full partly empty) }
+{
+    let most = three_largest(full, partly, empty);
+    push_text(text, PROGRAMS)?;
+    push_program_rows(text, full, partly, empty, most)?;
+    push_text(text, TABLE_END)?;
+    Ok(())
+}

@@ -1,0 +1,9 @@
+//! The page of a report: the numbers of a match as one page of HTML, with a bar beside each count.
+#![tactic(auto)]
+
+mod charts;
+mod markup;
+mod page;
+mod pieces;
+
+pub use page::report_page;

@@ -1,0 +1,161 @@
+ghost use Rattle.std.specs.Prelude.{◌≡◌, ◌<◌, ◌++◌, length, IfOk, OnOk};
+ghost use Rattle.mt_statistics_page.specs.Page.{choices, couples, first_totals, last_totals, open_row, open_rows, open_table, programs, report_page, totals};
+ghost use Rattle.mt_statistics_page.specs.Pieces.{standing_row};
+
+use crate::charts::{push_choice_chart, push_couple_chart, push_pair_chart, push_program_chart};
+use crate::markup::{FIRST, FOOT, HEAD, NO_COUPLES, NO_OPEN_POSTS, OPEN_POSTS, TABLE_END, TOTALS};
+use crate::pieces::{push_standing, push_text, push_total};
+use mt_statistics::Statistics;
+use mt_terms::ProgNo;
+use std::alloc::{AllocError, Global};
+
+/// Adds the totals of the applicants.
+fn push_first_totals(text: &mut Vec<u8>, statistics: &Statistics<'_>) -> Result<(), AllocError>
+    ensures ok { OnOk result (text.new.items ≡ text.old.items
+        ++ first_totals statistics.now.registered.market statistics.now.places) }
+{
+    let all = u64::from(statistics.roster().applicants());
+    let unmatched = u64::from(statistics.unmatched_singles());
+    push_total(text, b"applicants", all)?;
+    push_total(text, b"applicants with a place", statistics.filled_posts())?;
+    push_total(text, b"singles without a place", unmatched)?;
+    Ok(())
+}
+
+/// Adds the totals of the couples and the programs.
+fn push_last_totals(text: &mut Vec<u8>, statistics: &Statistics<'_>) -> Result<(), AllocError>
+    ensures ok { OnOk result (text.new.items ≡ text.old.items
+        ++ last_totals statistics.now.registered.market statistics.now.places) }
+{
+    let couples = u64::from(statistics.roster().couples());
+    let programs = u64::from(statistics.roster().programs());
+    push_total(text, b"couples", couples)?;
+    push_total(text, b"programs", programs)?;
+    push_total(text, b"open posts", statistics.open_posts())?;
+    Ok(())
+}
+
+/// Adds the section of the totals.
+fn push_totals(text: &mut Vec<u8>, statistics: &Statistics<'_>) -> Result<(), AllocError>
+    ensures ok { OnOk result (text.new.items ≡ text.old.items
+        ++ totals statistics.now.registered.market statistics.now.places) }
+{
+    push_text(text, TOTALS)?;
+    push_first_totals(text, statistics)?;
+    push_last_totals(text, statistics)?;
+    push_text(text, TABLE_END)?;
+    Ok(())
+}
+
+/// Adds the section of the choices.
+fn push_choices(
+    alloc: Global,
+    text: &mut Vec<u8>,
+    statistics: &Statistics<'_>,
+) -> Result<(), AllocError>
+    ensures ok { OnOk result (text.new.items ≡ text.old.items
+        ++ choices statistics.now.registered.market statistics.now.places) }
+{
+    let counts = statistics.choice_counts(alloc)?;
+    let later = statistics.choices_from(FIRST);
+    push_choice_chart(text, &counts, later, statistics.unmatched_singles())
+}
+
+/// Adds the sections of the couples and of their pairs.
+fn push_couples(
+    alloc: Global,
+    text: &mut Vec<u8>,
+    statistics: &Statistics<'_>,
+) -> Result<(), AllocError>
+    ensures ok { OnOk result (text.new.items ≡ text.old.items
+        ++ couples statistics.now.registered.market statistics.now.places) }
+{
+    if statistics.roster().couples() == 0 {
+        return push_text(text, NO_COUPLES);
+    }
+    let counts = statistics.pair_counts(alloc)?;
+    let later = statistics.pairs_from(FIRST);
+    let both = statistics.couples_with(2);
+    let one = statistics.couples_with(1);
+    let neither = statistics.couples_with(0);
+    push_couple_chart(text, both, one, neither)?;
+    push_pair_chart(text, &counts, later)?;
+    Ok(())
+}
+
+/// Adds the section of the programs.
+fn push_programs(text: &mut Vec<u8>, statistics: &Statistics<'_>) -> Result<(), AllocError>
+    ensures ok { OnOk result (text.new.items ≡ text.old.items
+        ++ programs statistics.now.registered.market statistics.now.places) }
+{
+    let full = statistics.full_programs();
+    let partly = statistics.partly_filled_programs();
+    let empty = statistics.empty_programs();
+    push_program_chart(text, full, partly, empty)
+}
+
+/// Adds the row of a program, if it has an open post.
+fn push_open_row(
+    text: &mut Vec<u8>,
+    statistics: &Statistics<'_>,
+    program: ProgNo,
+) -> Result<(), AllocError>
+    requires { program < length statistics.now.registered.market.programs }
+    ensures ok { OnOk result (text.new.items ≡ text.old.items
+        ++ open_row statistics.now.registered statistics.now.places program) }
+{
+    if statistics.is_full(program) {
+        return Ok(());
+    }
+    let roster = statistics.roster();
+    push_standing(
+        text,
+        roster.program_id(program),
+        roster.quota(program),
+        statistics.filled(program),
+        roster.program_list(program).len() as u64,
+        statistics.last_rank(program),
+    )
+}
+
+/// Adds the rows of the programs with open posts.
+fn push_open_rows(text: &mut Vec<u8>, statistics: &Statistics<'_>) -> Result<(), AllocError>
+    ensures ok { OnOk result (text.new.items ≡ text.old.items
+        ++ open_rows statistics.now.registered statistics.now.places) }
+{
+    for number in 0..statistics.roster().programs() {
+        push_open_row(text, statistics, ProgNo(number))?;
+    }
+    Ok(())
+}
+
+/// Adds the section of the programs with open posts.
+fn push_open_table(text: &mut Vec<u8>, statistics: &Statistics<'_>) -> Result<(), AllocError>
+    ensures ok { OnOk result (text.new.items ≡ text.old.items
+        ++ open_table statistics.now.registered statistics.now.places) }
+{
+    if statistics.full_programs() == statistics.roster().programs() {
+        return push_text(text, NO_OPEN_POSTS);
+    }
+    push_text(text, OPEN_POSTS)?;
+    push_open_rows(text, statistics)?;
+    push_text(text, TABLE_END)?;
+    Ok(())
+}
+
+/// The page of a report: the numbers of a match as HTML that needs no other file. The page is well-formed XML, since an
+/// id has none of the bytes of markup. The error is want of memory.
+pub fn report_page(alloc: Global, statistics: &Statistics<'_>) -> Result<Vec<u8>, AllocError>
+    ensures { IfOk result (λ v. v.items
+        ≡ report_page statistics.now.registered statistics.now.places) }
+{
+    let mut text = Vec::new(alloc);
+    push_text(&mut text, HEAD)?;
+    push_totals(&mut text, statistics)?;
+    push_choices(alloc, &mut text, statistics)?;
+    push_couples(alloc, &mut text, statistics)?;
+    push_programs(&mut text, statistics)?;
+    push_open_table(&mut text, statistics)?;
+    push_text(&mut text, FOOT)?;
+    Ok(text)
+}
