@@ -1,6 +1,9 @@
 -- Pieces that are added one after another are added as one. Each lemma is over any pieces, so that no proof computes
 -- with the text of a page.
-use Rattle.std.proofs.Common.{◌≡◌, ◌∙◌, ℕ, List, ◌++◌, ap, append_assoc}
+use Rattle.std.proofs.Common.{◌≡◌, ◌∙◌, ℕ, ◌+◌, List, ◌++◌, ap, sym, append_assoc}
+use Rattle.std.specs.List.{flat_map}
+use Rattle.mt_terms.specs.Lists.{below}
+use Rattle.mt_terms.proofs.BelowFacts.{flat_map-below_more}
 
 pub two : (t t₁ t₂ a b : List ℕ) → t₁ ≡ t ++ a → t₂ ≡ t₁ ++ b → t₂ ≡ t ++ (a ++ b)
 two t t₁ t₂ a b first second = second ∙ ap (λ (text : List ℕ). text ++ b) first ∙ append_assoc t a b
@@ -11,3 +14,17 @@ three t t₁ t₂ t₃ a b c first second third = two t t₂ t₃ (a ++ b) c (tw
 pub four : (t t₁ t₂ t₃ t₄ a b c d : List ℕ) → t₁ ≡ t ++ a → t₂ ≡ t₁ ++ b → t₃ ≡ t₂ ++ c → t₄ ≡ t₃ ++ d → t₄ ≡ t ++ (a ++ b ++ c ++ d)
 four t t₁ t₂ t₃ t₄ a b c d first second third fourth =
     two t t₃ t₄ (a ++ b ++ c) d (three t t₁ t₂ t₃ a b c first second third) fourth
+
+-- a piece that is made of a number, between two others
+pub around : (t t₁ t₂ t₃ a c : List ℕ) (f : ℕ → List ℕ) (m n : ℕ) → m ≡ n → t₁ ≡ t ++ a → t₂ ≡ t₁ ++ f m → t₃ ≡ t₂ ++ c → t₃ ≡ t ++ (a ++ f n ++ c)
+around t t₁ t₂ t₃ a c f m n same first second third =
+    three t t₁ t₂ t₃ a (f n) c first (second ∙ ap (λ (k : ℕ). t₁ ++ f k) same) third
+
+-- a piece that is made of a number, at the end
+pub ends_with : (t t₁ : List ℕ) (f : ℕ → List ℕ) (m n : ℕ) → m ≡ n → t₁ ≡ t ++ f m → t₁ ≡ t ++ f n
+ends_with t t₁ f m n same added = added ∙ ap (λ (k : ℕ). t ++ f k) same
+
+-- one piece more of a list of pieces
+pub one_more : (t t₁ t₂ : List ℕ) (f : ℕ → List ℕ) (n : ℕ) → t₁ ≡ t ++ flat_map f (below n) → t₂ ≡ t₁ ++ f n → t₂ ≡ t ++ flat_map f (below (n + 1))
+one_more t t₁ t₂ f n so_far next =
+    two t t₁ t₂ (flat_map f (below n)) (f n) so_far next ∙ ap (λ (pieces : List ℕ). t ++ pieces) (sym (flat_map-below_more f n))

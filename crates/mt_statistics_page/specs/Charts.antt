@@ -20,16 +20,21 @@ number_rows counts later most = numbered_rows (take FIRST counts) most ++ later_
 abbrev pub choice_rows : List ℕ → ℕ → ℕ → ℕ → Bytes
 choice_rows counts later unmatched most = number_rows counts later most ++ bar_row (codes "no place") unmatched most
 
+abbrev pub choice_most : List ℕ → ℕ → ℕ → ℕ
+choice_most counts later unmatched = max (largest_shown counts later) unmatched
+
 abbrev pub choice_chart : List ℕ → ℕ → ℕ → Bytes
 choice_chart counts later unmatched =
-    CHOICES.now ++ choice_rows counts later unmatched (max (largest_shown counts later) unmatched) ++ TABLE_END.now
+    CHOICES.now ++ choice_rows counts later unmatched (choice_most counts later unmatched) ++ TABLE_END.now
 
 -- the chart of pairs: how many couples have each, and how many a later one
-abbrev pub pair_chart : List ℕ → ℕ → Bytes
-pair_chart counts later =
-    if length counts == 0 then NO_PAIRS.now
-    else (PAIRS.now ++ number_rows counts later (largest_shown counts later) ++ TABLE_END.now)
+abbrev pub pair_table : List ℕ → ℕ → Bytes
+pair_table counts later = PAIRS.now ++ number_rows counts later (largest_shown counts later) ++ TABLE_END.now
 
+abbrev pub pair_chart : List ℕ → ℕ → Bytes
+pair_chart counts later = if length counts == 0 then NO_PAIRS.now else pair_table counts later
+
+-- the largest of three counts
 abbrev pub three_largest : ℕ → ℕ → ℕ → ℕ
 three_largest first second third = max (max first second) third
 

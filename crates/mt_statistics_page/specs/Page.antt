@@ -31,13 +31,13 @@ abbrev pub choices : Market → Places → Bytes
 choices m places = choice_chart (choice_counts m places) (choices_from m places FIRST) (unmatched_singles m places)
 
 -- how many couples have both members, one and neither placed, and how many have each pair
+abbrev pub couple_charts : Market → Places → Bytes
+couple_charts m places =
+    couple_chart (couples_with m places 2) (couples_with m places 1) (couples_with m places 0)
+    ++ pair_chart (pair_counts m places) (pairs_from m places FIRST)
+
 abbrev pub couples : Market → Places → Bytes
-couples m places =
-    if length m.couples == 0 then NO_COUPLES.now
-    else (
-      couple_chart (couples_with m places 2) (couples_with m places 1) (couples_with m places 0)
-      ++ pair_chart (pair_counts m places) (pairs_from m places FIRST)
-    )
+couples m places = if length m.couples == 0 then NO_COUPLES.now else couple_charts m places
 
 -- how many programs are full, partly filled and empty
 abbrev pub programs : Market → Places → Bytes
@@ -55,12 +55,14 @@ open_rows r places = flat_map (open_row r places) (below (length r.market.progra
 
 -- the programs with open posts
 abbrev pub open_table : Registered → Places → Bytes
-open_table r places =
-    if full_programs r.market places == length r.market.programs then NO_OPEN_POSTS.now
-    else (OPEN_POSTS.now ++ open_rows r places ++ TABLE_END.now)
+open_table r places = OPEN_POSTS.now ++ open_rows r places ++ TABLE_END.now
+
+abbrev pub open_programs : Registered → Places → Bytes
+open_programs r places =
+    if full_programs r.market places == length r.market.programs then NO_OPEN_POSTS.now else open_table r places
 
 -- the page of a report: the totals, the charts, and a table of the programs with open posts
 abbrev pub report_page : Registered → Places → Bytes
 report_page r places =
     HEAD.now ++ totals r.market places ++ choices r.market places ++ couples r.market places ++ programs r.market places
-    ++ open_table r places ++ FOOT.now
+    ++ open_programs r places ++ FOOT.now

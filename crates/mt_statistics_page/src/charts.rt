@@ -1,5 +1,5 @@
 ghost use Rattle.std.specs.Prelude.{◌≡◌, ◌++◌, length, take, OnOk};
-ghost use Rattle.mt_statistics_page.specs.Charts.{choice_chart, choice_rows, couple_chart, couple_rows, largest_shown, later_row, number_rows, pair_chart, program_chart, program_rows, three_largest};
+ghost use Rattle.mt_statistics_page.specs.Charts.{choice_chart, choice_most, choice_rows, couple_chart, couple_rows, largest_shown, later_row, number_rows, pair_chart, pair_table, program_chart, program_rows, three_largest};
 ghost use Rattle.mt_statistics_page.specs.declared.markup.TheConstants.{FIRST};
 
 use crate::markup::{
@@ -62,6 +62,13 @@ fn push_choice_rows(
     Ok(())
 }
 
+/// The largest count of the chart of choices.
+fn choice_most(counts: &[u32], later: u32, unmatched: u32) -> u32
+    ensures { result ≡ choice_most counts.now later unmatched }
+{
+    largest_shown(counts, later).max(unmatched)
+}
+
 /// Adds the chart of choices: how many singles have each, how many a later one, and how many no place.
 pub(crate) fn push_choice_chart(
     text: &mut Vec<u8>,
@@ -72,25 +79,37 @@ pub(crate) fn push_choice_chart(
     ensures ok { OnOk result (text.new.items
         ≡ text.old.items ++ choice_chart counts.now later unmatched) }
 {
-    let most = largest_shown(counts, later).max(unmatched);
+    let most = choice_most(counts, later, unmatched);
     push_text(text, CHOICES)?;
     push_choice_rows(text, counts, later, unmatched, most)?;
     push_text(text, TABLE_END)?;
     Ok(())
 }
 
-/// Adds the chart of pairs: how many couples have each, and how many a later one.
-pub(crate) fn push_pair_chart(text: &mut Vec<u8>, counts: &[u32], later: u32) -> Result<(), AllocError>
-    ensures ok { OnOk result (text.new.items ≡ text.old.items ++ pair_chart counts.now later) }
+/// Adds the table of pairs.
+fn push_pair_table(text: &mut Vec<u8>, counts: &[u32], later: u32) -> Result<(), AllocError>
+    ensures ok { OnOk result (text.new.items ≡ text.old.items ++ pair_table counts.now later) }
 {
-    if counts.len() == 0 {
-        return push_text(text, NO_PAIRS);
-    }
     let most = largest_shown(counts, later);
     push_text(text, PAIRS)?;
     push_numbers(text, counts, later, most)?;
     push_text(text, TABLE_END)?;
     Ok(())
+}
+
+/// Adds the chart of pairs: how many couples have each, and how many a later one.
+pub(crate) fn push_pair_chart(
+    text: &mut Vec<u8>,
+    counts: &[u32],
+    later: u32,
+) -> Result<(), AllocError>
+    ensures ok { OnOk result (text.new.items ≡ text.old.items ++ pair_chart counts.now later) }
+{
+    if counts.len() == 0 {
+        push_text(text, NO_PAIRS)
+    } else {
+        push_pair_table(text, counts, later)
+    }
 }
 
 /// The largest of three counts.

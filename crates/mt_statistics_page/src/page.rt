@@ -1,5 +1,5 @@
 ghost use Rattle.std.specs.Prelude.{◌≡◌, ◌<◌, ◌++◌, length, IfOk, OnOk};
-ghost use Rattle.mt_statistics_page.specs.Page.{choices, couples, first_totals, last_totals, open_row, open_rows, open_table, programs, report_page, totals};
+ghost use Rattle.mt_statistics_page.specs.Page.{choices, couple_charts, couples, first_totals, last_totals, open_programs, open_row, open_rows, open_table, programs, report_page, totals};
 ghost use Rattle.mt_statistics_page.specs.Pieces.{standing_row};
 
 use crate::charts::{push_choice_chart, push_couple_chart, push_pair_chart, push_program_chart};
@@ -61,7 +61,26 @@ fn push_choices(
     push_choice_chart(text, &counts, later, statistics.unmatched_singles())
 }
 
-/// Adds the sections of the couples and of their pairs.
+/// Adds the charts of the couples and of their pairs.
+fn push_couple_charts(
+    alloc: Global,
+    text: &mut Vec<u8>,
+    statistics: &Statistics<'_>,
+) -> Result<(), AllocError>
+    ensures ok { OnOk result (text.new.items ≡ text.old.items
+        ++ couple_charts statistics.now.registered.market statistics.now.places) }
+{
+    let counts = statistics.pair_counts(alloc)?;
+    let later = statistics.pairs_from(FIRST);
+    let both = statistics.couples_with(2);
+    let one = statistics.couples_with(1);
+    let neither = statistics.couples_with(0);
+    push_couple_chart(text, both, one, neither)?;
+    push_pair_chart(text, &counts, later)?;
+    Ok(())
+}
+
+/// Adds the sections of the couples.
 fn push_couples(
     alloc: Global,
     text: &mut Vec<u8>,
@@ -71,16 +90,10 @@ fn push_couples(
         ++ couples statistics.now.registered.market statistics.now.places) }
 {
     if statistics.roster().couples() == 0 {
-        return push_text(text, NO_COUPLES);
+        push_text(text, NO_COUPLES)
+    } else {
+        push_couple_charts(alloc, text, statistics)
     }
-    let counts = statistics.pair_counts(alloc)?;
-    let later = statistics.pairs_from(FIRST);
-    let both = statistics.couples_with(2);
-    let one = statistics.couples_with(1);
-    let neither = statistics.couples_with(0);
-    push_couple_chart(text, both, one, neither)?;
-    push_pair_chart(text, &counts, later)?;
-    Ok(())
 }
 
 /// Adds the section of the programs.
@@ -129,18 +142,27 @@ fn push_open_rows(text: &mut Vec<u8>, statistics: &Statistics<'_>) -> Result<(),
     Ok(())
 }
 
-/// Adds the section of the programs with open posts.
+/// Adds the table of the programs with open posts.
 fn push_open_table(text: &mut Vec<u8>, statistics: &Statistics<'_>) -> Result<(), AllocError>
     ensures ok { OnOk result (text.new.items ≡ text.old.items
         ++ open_table statistics.now.registered statistics.now.places) }
 {
-    if statistics.full_programs() == statistics.roster().programs() {
-        return push_text(text, NO_OPEN_POSTS);
-    }
     push_text(text, OPEN_POSTS)?;
     push_open_rows(text, statistics)?;
     push_text(text, TABLE_END)?;
     Ok(())
+}
+
+/// Adds the section of the programs with open posts.
+fn push_open(text: &mut Vec<u8>, statistics: &Statistics<'_>) -> Result<(), AllocError>
+    ensures ok { OnOk result (text.new.items ≡ text.old.items
+        ++ open_programs statistics.now.registered statistics.now.places) }
+{
+    if statistics.full_programs() == statistics.roster().programs() {
+        push_text(text, NO_OPEN_POSTS)
+    } else {
+        push_open_table(text, statistics)
+    }
 }
 
 /// The page of a report: the numbers of a match as HTML that needs no other file. The page is well-formed XML, since an
@@ -155,7 +177,7 @@ pub fn report_page(alloc: Global, statistics: &Statistics<'_>) -> Result<Vec<u8>
     push_choices(alloc, &mut text, statistics)?;
     push_couples(alloc, &mut text, statistics)?;
     push_programs(&mut text, statistics)?;
-    push_open_table(&mut text, statistics)?;
+    push_open(&mut text, statistics)?;
     push_text(&mut text, FOOT)?;
     Ok(text)
 }
