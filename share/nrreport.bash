@@ -2,7 +2,7 @@
 _nrreport() {
     local word=$2
     case $word in
-        -*) mapfile -t COMPREPLY < <(compgen -W '--help --version' -- "$word") ;;
+        -*) mapfile -t COMPREPLY < <(compgen -W '--html --help --version' -- "$word") ;;
         *) mapfile -t COMPREPLY < <(compgen -f -- "$word") ;;
     esac
 }

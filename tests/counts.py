@@ -22,6 +22,7 @@ CHECKS = {
     "memory --calls": 15,
     "memory --check": 117,
     "memory --explain": 126,
+    "memory --report": 126,
     "must_fail": 89,
     "pages": 324,
     "python": 35,
@@ -38,6 +39,7 @@ SWEEPS = {
     "memory --calls": {(1, False): 1, (1, True): 1, (2, False): 1, (2, True): 1},
     "memory --check": {(1, False): 36, (1, True): 36},
     "memory --explain": {(1, False): 39, (1, True): 39},
+    "memory --report": {(1, False): 39, (1, True): 39},
 }
 
 

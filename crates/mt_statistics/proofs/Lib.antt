@@ -1,2 +1,3 @@
 pub mod SumFacts
 pub mod HeldFacts
+pub mod LaterFacts

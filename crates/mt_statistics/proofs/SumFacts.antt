@@ -31,7 +31,7 @@ three_sums f g h n one =
     ∙ total_below-same (λ a. f a + g a + h a) (λ a. 1) n (λ a within. one a)
     ∙ total_of_ones n
 
-abbrev one_if : Bool → ℕ
+abbrev pub one_if : Bool → ℕ
 one_if b = if b then 1 else 0
 
 pub couples_add_up_lem : CouplesAddUp
@@ -101,7 +101,7 @@ held_if_placed m places a own =
     ∙ same_tests found (is_some (place_of places a)) (sym (own_option-Single m places a) ∙ own) (placed_if_found (place_of places a) (list_of m a))
 
 -- an option is counted at one number, which is below the largest
-counted_once : (held : Option ℕ) (top : ℕ) → ordinal held ≤ top → total_below (λ k. one_if (is_program k held)) top ≡ one_if (is_some held)
+pub counted_once : (held : Option ℕ) (top : ℕ) → ordinal held ≤ top → total_below (λ k. one_if (is_program k held)) top ≡ one_if (is_some held)
 counted_once None top low = total_below-zero top
 counted_once (Some q) top low =
     count_below-one q top ∙ ap (λ (b : Bool). if b then 1 else 0) (lt-ltb q top (omega arith))

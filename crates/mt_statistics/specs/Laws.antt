@@ -5,7 +5,7 @@ use Rattle.mt_terms.specs.Market.{Market, agent_of, applicants, program_of}
 use Rattle.mt_terms.specs.Matching.{Places, filled}
 use Rattle.mt_terms.specs.Stability.{has_own_option}
 use Rattle.mt_terms.specs.Text.{all_filled, positions}
-use Rattle.mt_statistics.specs.Counts.{at_choice, couples_with, empty_programs, full_programs, most_choices, open_posts, partly_filled_programs, singles, unmatched_singles}
+use Rattle.mt_statistics.specs.Counts.{at_choice, at_pair, choices_from, couples_with, empty_programs, full_programs, most_choices, most_pairs, open_posts, pairs_from, partly_filled_programs, singles, unmatched_singles}
 
 -- Each agent has an option of its list, or nothing.
 abbrev pub HaveOwnOptions : Market → Places → Type 0
@@ -19,6 +19,16 @@ AreWithinQuotas m places = (p : ℕ) → p < length m.programs → filled places
 abbrev pub SinglesAddUp : Type 0
 SinglesAddUp = (m : Market) (places : Places) → HaveOwnOptions m places
     → total_below (at_choice m places) (most_choices m places) + unmatched_singles m places ≡ singles m
+
+-- The singles that have the choice with number k or a later one are those of the counts from k on.
+abbrev pub LaterChoicesAddUp : Type 0
+LaterChoicesAddUp = (m : Market) (places : Places) (k : ℕ) → k ≤ most_choices m places
+    → total_below (at_choice m places) k + choices_from m places k ≡ total_below (at_choice m places) (most_choices m places)
+
+-- The couples that have the pair with number k or a later one are those of the counts from k on.
+abbrev pub LaterPairsAddUp : Type 0
+LaterPairsAddUp = (m : Market) (places : Places) (k : ℕ) → k ≤ most_pairs m places
+    → total_below (at_pair m places) k + pairs_from m places k ≡ total_below (at_pair m places) (most_pairs m places)
 
 -- Couples with both, one and none of their members placed are all couples.
 abbrev pub CouplesAddUp : Type 0

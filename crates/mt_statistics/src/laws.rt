@@ -1,10 +1,20 @@
 //! How the numbers of a match add up. Each function does nothing. Its contract is the law.
 
-ghost use Rattle.mt_statistics.specs.Laws.{CouplesAddUp, PostsAddUp, ProgramsAddUp, SinglesAddUp};
+ghost use Rattle.mt_statistics.specs.Laws.{CouplesAddUp, LaterChoicesAddUp, LaterPairsAddUp, PostsAddUp, ProgramsAddUp, SinglesAddUp};
 
 /// The singles at each choice and the unmatched ones are all singles.
 pub fn singles_add_up()
     ensures { SinglesAddUp }
+{}
+
+/// The singles with a certain choice or a later one are those of the counts from there on.
+pub fn later_choices_add_up()
+    ensures { LaterChoicesAddUp }
+{}
+
+/// The couples with a certain pair or a later one are those of the counts from there on.
+pub fn later_pairs_add_up()
+    ensures { LaterPairsAddUp }
 {}
 
 /// Couples with both, one and none of their members placed are all couples.

@@ -1,1 +1,2 @@
 pub mod AppendFacts
+pub mod IdFacts

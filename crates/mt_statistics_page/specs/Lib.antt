@@ -1,3 +1,4 @@
 pub mod Pieces
 pub mod Charts
 pub mod Page
+pub mod Laws

@@ -2,6 +2,7 @@
 #![tactic(auto)]
 
 mod charts;
+pub mod laws;
 mod markup;
 mod page;
 mod pieces;
