@@ -15,6 +15,11 @@ pub four : (t t₁ t₂ t₃ t₄ a b c d : List ℕ) → t₁ ≡ t ++ a → t�
 four t t₁ t₂ t₃ t₄ a b c d first second third fourth =
     two t t₃ t₄ (a ++ b ++ c) d (three t t₁ t₂ t₃ a b c first second third) fourth
 
+pub five : (t t₁ t₂ t₃ t₄ t₅ a b c d e : List ℕ) → t₁ ≡ t ++ a → t₂ ≡ t₁ ++ b → t₃ ≡ t₂ ++ c → t₄ ≡ t₃ ++ d → t₅ ≡ t₄ ++ e
+    → t₅ ≡ t ++ (a ++ b ++ c ++ d ++ e)
+five t t₁ t₂ t₃ t₄ t₅ a b c d e first second third fourth fifth =
+    two t t₄ t₅ (a ++ b ++ c ++ d) e (four t t₁ t₂ t₃ t₄ a b c d first second third fourth) fifth
+
 -- a piece that is made of a number, between two others
 pub around : (t t₁ t₂ t₃ a c : List ℕ) (f : ℕ → List ℕ) (m n : ℕ) → m ≡ n → t₁ ≡ t ++ a → t₂ ≡ t₁ ++ f m → t₃ ≡ t₂ ++ c → t₃ ≡ t ++ (a ++ f n ++ c)
 around t t₁ t₂ t₃ a c f m n same first second third =

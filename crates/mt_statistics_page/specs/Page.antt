@@ -61,8 +61,10 @@ abbrev pub open_programs : Registered → Places → Bytes
 open_programs r places =
     if full_programs r.market places == length r.market.programs then NO_OPEN_POSTS.now else open_table r places
 
--- the page of a report: the totals, the charts, and a table of the programs with open posts
+-- the charts of the singles, the couples and the programs
+abbrev pub charts : Market → Places → Bytes
+charts m places = choices m places ++ couples m places ++ programs m places
+
+-- the page of a report: the totals, the charts, and the programs with open posts
 abbrev pub report_page : Registered → Places → Bytes
-report_page r places =
-    HEAD.now ++ totals r.market places ++ choices r.market places ++ couples r.market places ++ programs r.market places
-    ++ open_programs r places ++ FOOT.now
+report_page r places = HEAD.now ++ totals r.market places ++ charts r.market places ++ open_programs r places ++ FOOT.now

@@ -25,7 +25,7 @@ th, td { padding: 0.2rem 1rem 0.2rem 0; text-align: left; vertical-align: baseli
 thead th { border-bottom: 1px solid #000; }
 tbody th { font-weight: normal; overflow-wrap: anywhere; }
 th.n, td.n { text-align: right; font-variant-numeric: tabular-nums; }
-td.b { width: 60%; }
+td.b { width: 60%; vertical-align: middle; }
 svg { display: block; width: 100%; height: 0.9rem; border-left: 1px solid #000; }
 rect { fill: #1d4f91; }
 @page { margin: 2cm; }

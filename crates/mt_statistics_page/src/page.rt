@@ -1,5 +1,5 @@
 ghost use Rattle.std.specs.Prelude.{◌≡◌, ◌<◌, ◌++◌, length, IfOk, OnOk};
-ghost use Rattle.mt_statistics_page.specs.Page.{choices, couple_charts, couples, first_totals, last_totals, open_programs, open_row, open_rows, open_table, programs, report_page, totals};
+ghost use Rattle.mt_statistics_page.specs.Page.{charts, choices, couple_charts, couples, first_totals, last_totals, open_programs, open_row, open_rows, open_table, programs, report_page, totals};
 ghost use Rattle.mt_statistics_page.specs.Pieces.{standing_row};
 
 use crate::charts::{push_choice_chart, push_couple_chart, push_pair_chart, push_program_chart};
@@ -165,6 +165,38 @@ fn push_open(text: &mut Vec<u8>, statistics: &Statistics<'_>) -> Result<(), Allo
     }
 }
 
+/// Adds the sections with charts.
+fn push_charts(
+    alloc: Global,
+    text: &mut Vec<u8>,
+    statistics: &Statistics<'_>,
+) -> Result<(), AllocError>
+    ensures ok { OnOk result (text.new.items ≡ text.old.items
+        ++ charts statistics.now.registered.market statistics.now.places) }
+{
+    push_choices(alloc, text, statistics)?;
+    push_couples(alloc, text, statistics)?;
+    push_programs(text, statistics)?;
+    Ok(())
+}
+
+/// Adds the page.
+fn push_page(
+    alloc: Global,
+    text: &mut Vec<u8>,
+    statistics: &Statistics<'_>,
+) -> Result<(), AllocError>
+    ensures ok { OnOk result (text.new.items ≡ text.old.items
+        ++ report_page statistics.now.registered statistics.now.places) }
+{
+    push_text(text, HEAD)?;
+    push_totals(text, statistics)?;
+    push_charts(alloc, text, statistics)?;
+    push_open(text, statistics)?;
+    push_text(text, FOOT)?;
+    Ok(())
+}
+
 /// The page of a report: the numbers of a match as HTML that needs no other file. The page is well-formed XML, since an
 /// id has none of the bytes of markup. The error is want of memory.
 pub fn report_page(alloc: Global, statistics: &Statistics<'_>) -> Result<Vec<u8>, AllocError>
@@ -172,12 +204,6 @@ pub fn report_page(alloc: Global, statistics: &Statistics<'_>) -> Result<Vec<u8>
         ≡ report_page statistics.now.registered statistics.now.places) }
 {
     let mut text = Vec::new(alloc);
-    push_text(&mut text, HEAD)?;
-    push_totals(&mut text, statistics)?;
-    push_choices(alloc, &mut text, statistics)?;
-    push_couples(alloc, &mut text, statistics)?;
-    push_programs(&mut text, statistics)?;
-    push_open(&mut text, statistics)?;
-    push_text(&mut text, FOOT)?;
+    push_page(alloc, &mut text, statistics)?;
     Ok(text)
 }
