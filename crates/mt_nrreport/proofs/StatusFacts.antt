@@ -6,6 +6,7 @@ use Rattle.mt_program.proofs.ExitFacts.{AreOwn, exit_of_run, files_code}
 use Rattle.mt_file_programs.proofs.CodeFacts.{refused_code}
 use Rattle.mt_files.proofs.NameFacts.{codes_large}
 use Rattle.mt_reported.specs.Headline.{IsRefusal}
+use Rattle.mt_reported.specs.declared.form.Form.{Form}
 use Rattle.mt_nrreport.specs.CommandLine.{nrreport}
 use Rattle.mt_nrreport.specs.Program.{IsReport, IsExitFor}
 
@@ -19,8 +20,8 @@ not_one code text refusal one =
     let large = codes_large refused.file code refused.named.known in
     omega arith
 
-pub exit_of_report : (words : List Text) (market matched old new : Option (List ℕ)) (status : ℕ) → IsReport market matched old new status → fault_of nrreport words ≡ [] → IsExitFor words status
-exit_of_report words market matched old new status is taken =
+pub exit_of_report : (words : List Text) (form : Form) (market matched old new : Option (List ℕ)) (status : ℕ) → IsReport form market matched old new status → fault_of nrreport words ≡ [] → IsExitFor words status
+exit_of_report words form market matched old new status is taken =
     let refusal = is.answers.says.refusal in
     exit_of_run nrreport (2 ∷ []) (AreMisuse nrreport words) words own taken is.code is.whole status is.is_status
     (files_code is.code (λ large. let refused = refusal (λ none. omega arith) in refused_code refused.file is.code refused.named.known))

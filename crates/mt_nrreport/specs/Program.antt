@@ -2,19 +2,20 @@
 use Rattle.std.specs.Prelude.{◌≡◌, ℕ, Bool, List, [], ◌∷◌, Option}
 use Rattle.clap.specs.Words.{Text}
 use Rattle.mt_reported.specs.Answer.{Answers}
+use Rattle.mt_reported.specs.declared.form.Form.{Form}
 use Rattle.mt_report.specs.Status.{status_of}
 use Rattle.mt_program.specs.CommandLine.{AreMisuse}
 use Rattle.mt_program.specs.Exit.{IsExitOf}
 use Rattle.mt_nrreport.specs.CommandLine.{nrreport}
 
--- The program reported on a match: what it did to its writer answers what its readers had left, and it ends with the status
+-- The program reported on a match in this form: what it did to its writer answers what its readers had left, and it ends with the status
 -- of that.
-pub record IsReport (market matched old new : Option (List ℕ)) (status : ℕ) : Type 0 where
+pub record IsReport (form : Form) (market matched old new : Option (List ℕ)) (status : ℕ) : Type 0 where
   pub reads : ℕ
   pub code : ℕ
   pub written : ℕ
   pub whole : Bool
-  pub answers : Answers market matched reads old new code written whole
+  pub answers : Answers form market matched reads old new code written whole
   pub is_status : status ≡ status_of code whole
 
 -- What an exit status says of the words of the command line. Status 64 says that they are misuse. Status 2 says

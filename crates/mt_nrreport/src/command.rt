@@ -1,12 +1,16 @@
-ghost use Rattle.std.specs.Prelude.{IfErr, IfOk, string_bytes};
-ghost use Rattle.mt_nrreport.specs.CommandLine.{nrreport};
-ghost use Rattle.mt_program.specs.CommandLine.{AreMisuse, NameFiles, texts_of};
+ghost use Rattle.std.specs.Prelude.{◌≡◌, IfErr, IfOk};
+ghost use Rattle.clap.specs.Words.{app_of};
+ghost use Rattle.mt_nrreport.specs.CommandLine.{IsAskedBy, form_by, nrreport};
+ghost use Rattle.mt_program.specs.CommandLine.{AreMisuse, texts_of};
 ghost use Rattle.mt_program.specs.Unasked.{IsUnaskedBy};
 
+use clap::Command;
 use mt_program::{
-    TwoFiles, Unasked, after_match_records, matches_of, two_files, two_files_command,
+    TwoFiles, Unasked, after_match_records, flag_arg, is_given, matches_of, two_files,
+    two_files_command,
 };
-use std::alloc::Global;
+use mt_reported::Form;
+use std::alloc::{AllocError, Global};
 
 const ABOUT: &str = "\
 The numbers of a residency match by the rank order lists of a market,
@@ -14,6 +18,8 @@ whoever made it.
 
 Writes lines of CSV to standard output: counts of choices, couples, programs
 and posts, and a line for each program, or one line why there are none.";
+
+const HTML_HELP: &str = "Write a page of HTML";
 
 const AFTER_HELP: &str = after_match_records!(
     "\
@@ -25,15 +31,41 @@ Exit status:
   64  the command line is wrong"
 );
 
-/// The files of the report that the words after the program's name ask for. The error is `clap`'s text of help, of the
-/// version or of what is wrong, or what is wrong with the files.
-pub(crate) fn asked(alloc: Global, words: &[String]) -> Result<TwoFiles, Unasked>
-    ensures files { IfOk result (λ files. NameFiles nrreport (texts_of words.now)
-        (string_bytes files.market) (string_bytes files.matched)) }
+/// A report that words ask for.
+#[derive(Drop)]
+pub(crate) struct Request {
+    /// The two files.
+    pub(crate) files: TwoFiles,
+    /// How the numbers are written.
+    pub(crate) form: Form,
+}
+
+// The command `nrreport MARKET MATCH [--html]`.
+fn command<'a>(alloc: Global) -> Result<Command<'a>, AllocError>
+    ensures { IfOk result (λ c. app_of c ≡ nrreport) }
+{
+    let with_files = two_files_command(alloc, "nrreport", ABOUT, AFTER_HELP)?;
+    with_files.arg(flag_arg(alloc, "html", HTML_HELP))
+}
+
+/// A page, or lines.
+fn form_by(is_page: bool) -> Form
+    ensures { result ≡ form_by is_page }
+{
+    if is_page { Form::Page } else { Form::Lines }
+}
+
+/// The report that the words after the program's name ask for. The error is `clap`'s text of help, of the version or of
+/// what is wrong, or what is wrong with the files.
+pub(crate) fn asked(alloc: Global, words: &[String]) -> Result<Request, Unasked>
+    ensures request { IfOk result (IsAskedBy (texts_of words.now)) }
     ensures unasked { IfErr result (IsUnaskedBy nrreport
         (AreMisuse nrreport (texts_of words.now)) (texts_of words.now)) }
 {
-    let command = two_files_command(alloc, "nrreport", ABOUT, AFTER_HELP)?;
-    let matches = matches_of(alloc, command, words)?;
-    two_files(alloc, &matches)
+    let matches = matches_of(alloc, command(alloc)?, words)?;
+    let files = two_files(alloc, &matches)?;
+    Ok(Request {
+        files,
+        form: form_by(is_given(&matches, "html")),
+    })
 }

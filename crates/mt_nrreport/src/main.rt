@@ -8,32 +8,34 @@ ghost use Rattle.mt_report.specs.Drains.{contents_of, failures_of};
 
 mod command;
 
-use crate::command::asked;
+use crate::command::{Request, asked};
 use mt_file_programs::end_unasked;
 use mt_lists::Tap;
 use mt_program::{Input, say_unopened, words_of};
 use mt_report::Drain;
-use mt_reported::report;
+use mt_reported::{Form, report};
 use std::alloc::Global;
 use std::io::{Read, Write};
 use std::process::ExitCode;
 use std::thread::Threads;
 
-/// Reports on the match that one reader gives by the market that another gives, and gives the exit status.
+/// Reports in a form on the match that one reader gives by the market that another gives, and gives the exit status.
 fn report_match<T: Threads + Sync, R: Read + Drop, S: Read + Drop, W: Write>(
     rt: &T,
     alloc: Global,
+    form: Form,
     market: R,
     matched: S,
     drain: &mut Drain<W>,
 ) -> u8
     requires { failures_of drain.old + 1 < 2 ^ 64 }
-    ensures { IsReport (R.remaining market) (S.remaining matched)
+    ensures { IsReport form (R.remaining market) (S.remaining matched)
         (contents_of W.contents drain.old) (contents_of W.contents drain.new) result }
 {
     report(
         rt,
         alloc,
+        form,
         &mut Tap::new(market),
         &mut Tap::new(matched),
         drain,
@@ -49,11 +51,11 @@ fn obey<T: Threads + Sync>(rt: &HostRuntime, crew: &T, words: &[String]) -> u8
     let alloc = rt.alloc();
     let mut out = Drain::new(rt.stdout());
     match asked(alloc, words) {
-        Ok(files) => {
+        Ok(Request { files, form }) => {
             let mut market = Input::at(rt, files.market.as_str());
             let mut matched = Input::at(rt, files.matched.as_str());
             let mut err = Drain::new(rt.stderr());
-            let status = report_match(crew, alloc, &mut market, &mut matched, &mut out);
+            let status = report_match(crew, alloc, form, &mut market, &mut matched, &mut out);
             say_unopened(&mut err, alloc, "nrreport", &market);
             say_unopened(&mut err, alloc, "nrreport", &matched);
             status

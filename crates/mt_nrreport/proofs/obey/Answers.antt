@@ -5,7 +5,7 @@ use Rattle.mt_nrreport.proofs.StatusFacts.{exit_of_report, own}
 use Rattle.mt_nrreport.proofs.obey.Goals as goal
 
 pub returns-in-Ok : goal.returns-in-Ok
-returns-in-Ok g c = exit_of_report (texts_of c.args.words.now) _ _ _ _ c.report_match-status.result c.report_match-status.ensures c.in-Ok.ensures.files.taken
+returns-in-Ok g c = exit_of_report (texts_of c.args.words.now) _ _ _ _ _ c.report_match-status.result c.report_match-status.ensures c.in-Ok.ensures.request.files.taken
 
 pub returns-in-Err : goal.returns-in-Err
 returns-in-Err g c =
