@@ -8,7 +8,7 @@ ghost use Rattle.mt_report.specs.Drains.{contents_of, failures_of};
 
 mod command;
 
-use crate::command::{Request, asked};
+use crate::command::asked;
 use mt_file_programs::end_unasked;
 use mt_lists::Tap;
 use mt_program::{Input, say_unopened, words_of};
@@ -51,11 +51,11 @@ fn obey<T: Threads + Sync>(rt: &HostRuntime, crew: &T, words: &[String]) -> u8
     let alloc = rt.alloc();
     let mut out = Drain::new(rt.stdout());
     match asked(alloc, words) {
-        Ok(Request { files, form }) => {
-            let mut market = Input::at(rt, files.market.as_str());
-            let mut matched = Input::at(rt, files.matched.as_str());
+        Ok(request) => {
+            let mut market = Input::at(rt, request.files.market.as_str());
+            let mut matched = Input::at(rt, request.files.matched.as_str());
             let mut err = Drain::new(rt.stderr());
-            let status = report_match(crew, alloc, form, &mut market, &mut matched, &mut out);
+            let status = report_match(crew, alloc, request.form, &mut market, &mut matched, &mut out);
             say_unopened(&mut err, alloc, "nrreport", &market);
             say_unopened(&mut err, alloc, "nrreport", &matched);
             status
