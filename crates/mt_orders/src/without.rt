@@ -39,8 +39,9 @@ pub(crate) fn enter_aside<T: Threads + Sync>(
     let ranks = Ranks::build(rt, alloc, roster)?;
     let mut order = all_couples(alloc, roster.couples())?;
     let mut aside = Vec::new(alloc);
+    let matched = copied(alloc, singles)?;
     let mut reached = Reached {
-        matched: copied(alloc, singles)?,
+        matched,
         entered: 0,
         left: budget,
     };

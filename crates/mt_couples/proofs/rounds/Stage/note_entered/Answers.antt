@@ -4,12 +4,12 @@ use Rattle.mt_couples.proofs.EnteringFacts.{noted}
 use Rattle.mt_couples.proofs.rounds.Stage.note_entered.Goals as goal
 
 pub returns-then-blocks-clause-entered : goal.returns-then-blocks-clause-entered
-returns-then-blocks-clause-entered g c =
+returns-then-blocks-clause-entered c =
     let index = c.in_ok-index_better.ensures in
     noted c.args.self.now _ c.args.couple refl refl index.singles index.better index.named index.indexed (λ so. absurd (false≢true so)) c.requires.entered
 
 pub returns-else-blocks-clause-entered : goal.returns-else-blocks-clause-entered
-returns-else-blocks-clause-entered g c =
+returns-else-blocks-clause-entered c =
     let index = c.in_ok-index_better.ensures in
     noted c.args.self.now _ c.args.couple refl refl index.singles index.better index.named index.indexed
     (λ so. (so, sym c.blocks.ensures ∙ c.if-blocks.false)) c.requires.entered
