@@ -1,13 +1,13 @@
 -- What an option of an agent's list names.
-use Rattle.std.proofs.Common.{◌≡◌, ℕ, zero, suc, ◌<◌, Bool, true, false, ◌||◌, List, [], ◌∷◌, length, get_or, Option, Some, None, refl, ap, sym, ◌∙◌, arith}
+use Rattle.std.proofs.Common.{◌≡◌, ℕ, zero, suc, ◌<◌, Bool, true, false, ◌||◌, List, [], ◌∷◌, length, get_or, Option, Some, None, refl, ap, sym, ◌∙◌, inl, inr, arith}
 use Rattle.std.specs.Prelude.{◌==◌, codes, IfSome, IsTrue, is_some, slice_index_or}
 use Rattle.std.specs.List.{list_all}
-use Rattle.std.proofs.lemmas.Bool.{and_parts, or_right}
+use Rattle.std.proofs.lemmas.Bool.{and_parts, cases_lt, or_right}
 use Rattle.std.proofs.lemmas.Bool.Decides.{nat_tests}
-use Rattle.std.proofs.lemmas.List.{get_or-map, get_or_default, length-map}
+use Rattle.std.proofs.lemmas.List.{get_or-map, get_or_default, get_or_past, length-map}
 use Rattle.mt_ids.proofs.DigitFacts.{passes_at}
 use Rattle.mt_terms.specs.Lists.{has}
-use Rattle.mt_terms.specs.Market.{Pair, Registered, couple_of, list_of}
+use Rattle.mt_terms.specs.Market.{Pair, Partners, Registered, applicants, couple_of, list_of}
 use Rattle.mt_terms.specs.Matching.{couple_placement, options, single_placement}
 use Rattle.mt_terms.specs.Registration.Accepted.{is_none_or_below, is_pair_below}
 use Rattle.mt_terms.specs.Registration.Ids.{Bytes}
@@ -77,3 +77,35 @@ module _ (r : Registered) (agent : Agent) (option : ℕ) (within : option < leng
         let line : List Bytes → Bytes = λ rest. check_line (codes "blocks" ∷ codes "couple" ∷ name_of r.names.couples c ∷ rest) in
         rw (are_blocks, are_couple, is_id, one, two)
         (ap line (sym fields) ∙ ap (λ (g : Agent). finding_line r 0 (Of (Blocks (record { agent = g; option = option })))) (sym is))
+
+-- an agent with this option is in the market, and the option is on its list
+module _ (r : Registered) (agent : Agent) (option : ℕ) (within : option < length (options r.market agent)) where
+  single_room : (a : ℕ) → agent ≡ Single a → option < length (list_of r.market a)
+  single_room a is =
+      let room : option < length (options r.market (Single a)) = rw is at within in
+      omega (arith, room, length-map (list_of r.market a) (single_placement a))
+
+  pub single_there : (a : ℕ) → agent ≡ Single a → a < applicants r.market
+  single_there a is =
+      elim (cases_lt a (applicants r.market)) [
+        | inl low ↦ low
+        | inr past ↦ absurd (omega (arith, single_room a is, ap length (get_or_past r.market.lists a [] past)))
+      ]
+
+  couple_room : (c : ℕ) → agent ≡ Couple c → option < length (couple_of r.market c).pairs
+  couple_room c is =
+      let room : option < length (options r.market (Couple c)) = rw is at within in
+      omega (arith, room, length-map (couple_of r.market c).pairs (couple_placement (couple_of r.market c).first (couple_of r.market c).second))
+
+  pub couple_there : (c : ℕ) → agent ≡ Couple c → c < length r.market.couples
+  couple_there c is =
+      elim (cases_lt c (length r.market.couples)) [
+        | inl low ↦ low
+        | inr past ↦ absurd (omega (arith, couple_room c is, ap (λ (p : Partners). length p.pairs) (get_or_past r.market.couples c (record { first = 0; second = 0; pairs = [] }) past)))
+      ]
+
+  pub in_list : (a : ℕ) (list : List ℕ) → agent ≡ Single a → list ≡ list_of r.market a → option < length list
+  in_list a list is same = omega (arith, single_room a is, ap length same)
+
+  pub in_pairs : (c : ℕ) (pairs : List Pair) → agent ≡ Couple c → pairs ≡ (couple_of r.market c).pairs → option < length pairs
+  in_pairs c pairs is same = omega (arith, couple_room c is, ap length same)

@@ -42,9 +42,9 @@ pub listed_by_rank : (m : Market) (a p : ℕ) (place : Option ℕ) → place ≡
 listed_by_rank m a p (Some q) is = sym (any_has_position (λ x. x == a) (program_of m q).ranking)
 listed_by_rank m a p None is = absurd (cc)
 
-pub and-true : (b : Bool) → (b && true) ≡ b
-and-true true = refl
-and-true false = refl
+pub and_true : (b : Bool) → (b && true) ≡ b
+and_true true = refl
+and_true false = refl
 
 -- more applicants than posts
 pub over_test : (quota placed : ℕ) → nat_lt quota placed ≡ not (nat_le placed quota)

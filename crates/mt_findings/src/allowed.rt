@@ -14,6 +14,7 @@ use mt_match_file::Counted;
 use mt_terms::{Agent, AppNo, ProgNo};
 
 /// Whether none of the agent's members is placed.
+#[tactic(auto, using(crate::proofs::OpenFacts::and_true))]
 fn none_placed(explainer: &Explainer<'_>, agent: &Agent) -> bool
     requires { IsNumbered explainer.now.registered.market agent.now }
     ensures { result ≡ none_placed explainer.now.places (members explainer.now.registered.market agent.now) }
@@ -29,6 +30,7 @@ fn none_placed(explainer: &Explainer<'_>, agent: &Agent) -> bool
 }
 
 /// Whether the agent has an option of its list, or none of its members is placed.
+#[tactic(auto, using(crate::proofs::OpenFacts::own_by_held))]
 fn has_own_option(explainer: &Explainer<'_>, agent: &Agent) -> bool
     requires { IsNumbered explainer.now.registered.market agent.now }
     ensures { result ≡ has_own_option explainer.now.registered.market explainer.now.places agent.now }
@@ -74,6 +76,7 @@ pub(crate) fn is_unlisted(explainer: &Explainer<'_>, applicant: AppNo) -> bool
 }
 
 /// Whether the program has more applicants than its quota.
+#[tactic(auto, using(crate::proofs::OpenFacts::over_test))]
 pub(crate) fn is_over(roster: &Roster, tally: &Tally<'_>, program: ProgNo) -> bool
     requires market { roster.now.market ≡ market_of tally.now }
     requires program { program < length (market_of tally.now).programs }

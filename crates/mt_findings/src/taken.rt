@@ -21,6 +21,7 @@ fn says_open(why: Why) -> bool
 }
 
 /// Whether a line, if there is one, says that a post is open.
+#[tactic(auto, using(crate::proofs::OpenFacts::and_true))]
 fn is_open_if(line: &Option<Line>) -> bool
     ensures { result ≡ list_all is_open (line_if line.now) }
 {
@@ -31,6 +32,7 @@ fn is_open_if(line: &Option<Line>) -> bool
 }
 
 /// Whether the agent's better option with a number would be taken.
+#[tactic(auto, using(crate::proofs::OpenFacts::taken_by_lines, crate::proofs::OpenFacts::within_list))]
 pub(crate) fn is_taken(explainer: &Explainer<'_>, agent: &Agent, option: u32) -> bool
     requires agent { IsNumbered explainer.now.registered.market agent.now }
     requires option { option < length (better explainer.now.registered.market explainer.now.places agent.now) }

@@ -1,46 +1,8 @@
-use Rattle.std.proofs.Common.{◌≡◌, ℕ, ◌<◌, List, [], length, inl, inr, ap, ◌∙◌, arith}
-use Rattle.std.proofs.lemmas.Bool.{cases_lt}
+use Rattle.std.proofs.Common.{◌∙◌, arith}
 use Rattle.std.proofs.lemmas.Grind.{common_steps}
-use Rattle.std.proofs.lemmas.List.{get_or_past, length-map}
 use Rattle.std.proofs.lemmas.Result.{IfOk-weaker}
-use Rattle.mt_terms.specs.Market.{Pair, Partners, Registered, applicants, couple_of, list_of}
-use Rattle.mt_terms.specs.Matching.{couple_placement, options, single_placement}
-use Rattle.mt_terms.specs.declared.numbers.Agent.{Agent}
-use Rattle.mt_terms.specs.declared.numbers.Agent.TheVariants.{Couple, Single}
-use Rattle.mt_check.proofs.OptionFacts.{couple_line, program_below, programs_below}
+use Rattle.mt_check.proofs.OptionFacts.{couple_line, couple_there, in_list, in_pairs, program_below, programs_below, single_there}
 use Rattle.mt_check.proofs.text.blocker_line.Goals as goal
-
--- an agent with this option is in the market, and the option is on its list
-module _ (r : Registered) (agent : Agent) (option : ℕ) (within : option < length (options r.market agent)) where
-  single_room : (a : ℕ) → agent ≡ Single a → option < length (list_of r.market a)
-  single_room a is =
-      let room : option < length (options r.market (Single a)) = rw is at within in
-      omega (arith, room, length-map (list_of r.market a) (single_placement a))
-
-  single_there : (a : ℕ) → agent ≡ Single a → a < applicants r.market
-  single_there a is =
-      elim (cases_lt a (applicants r.market)) [
-        | inl low ↦ low
-        | inr past ↦ absurd (omega (arith, single_room a is, ap length (get_or_past r.market.lists a [] past)))
-      ]
-
-  couple_room : (c : ℕ) → agent ≡ Couple c → option < length (couple_of r.market c).pairs
-  couple_room c is =
-      let room : option < length (options r.market (Couple c)) = rw is at within in
-      omega (arith, room, length-map (couple_of r.market c).pairs (couple_placement (couple_of r.market c).first (couple_of r.market c).second))
-
-  couple_there : (c : ℕ) → agent ≡ Couple c → c < length r.market.couples
-  couple_there c is =
-      elim (cases_lt c (length r.market.couples)) [
-        | inl low ↦ low
-        | inr past ↦ absurd (omega (arith, couple_room c is, ap (λ (p : Partners). length p.pairs) (get_or_past r.market.couples c (record { first = 0; second = 0; pairs = [] }) past)))
-      ]
-
-  in_list : (a : ℕ) (list : List ℕ) → agent ≡ Single a → list ≡ list_of r.market a → option < length list
-  in_list a list is same = omega (arith, single_room a is, ap length same)
-
-  in_pairs : (c : ℕ) (pairs : List Pair) → agent ≡ Couple c → pairs ≡ (couple_of r.market c).pairs → option < length pairs
-  in_pairs c pairs is same = omega (arith, couple_room c is, ap length same)
 
 pub place_id-place-requires : goal.place_id-place-requires
 place_id-place-requires c =
