@@ -55,7 +55,14 @@ fn obey<T: Threads + Sync>(rt: &HostRuntime, crew: &T, words: &[String]) -> u8
             let mut market = Input::at(rt, request.files.market.as_str());
             let mut matched = Input::at(rt, request.files.matched.as_str());
             let mut err = Drain::new(rt.stderr());
-            let status = report_match(crew, alloc, request.form, &mut market, &mut matched, &mut out);
+            let status = report_match(
+                crew,
+                alloc,
+                request.form,
+                &mut market,
+                &mut matched,
+                &mut out,
+            );
             say_unopened(&mut err, alloc, "nrreport", &market);
             say_unopened(&mut err, alloc, "nrreport", &matched);
             status

@@ -26,11 +26,7 @@ use std::io::{Read, Write};
 use std::thread::Threads;
 
 /// The numbers of a match in this form.
-fn written_in(
-    alloc: Global,
-    form: Form,
-    statistics: &Statistics<'_>,
-) -> Result<Vec<u8>, AllocError>
+fn written_in(alloc: Global, form: Form, statistics: &Statistics<'_>) -> Result<Vec<u8>, AllocError>
     ensures { IfOk result (λ text. text.items
         ≡ text_in form statistics.now.registered statistics.now.places) }
 {

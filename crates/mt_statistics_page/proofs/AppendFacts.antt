@@ -25,9 +25,13 @@ pub around : (t t₁ t₂ t₃ a c : List ℕ) (f : ℕ → List ℕ) (m n : ℕ
 around t t₁ t₂ t₃ a c f m n same first second third =
     three t t₁ t₂ t₃ a (f n) c first (second ∙ ap (λ (k : ℕ). t₁ ++ f k) same) third
 
--- a piece that is made of a number, at the end
-pub ends_with : (t t₁ : List ℕ) (f : ℕ → List ℕ) (m n : ℕ) → m ≡ n → t₁ ≡ t ++ f m → t₁ ≡ t ++ f n
-ends_with t t₁ f m n same added = added ∙ ap (λ (k : ℕ). t ++ f k) same
+-- three pieces that are others
+pub three_same : (t t₁ t₂ t₃ a a' b b' c c' : List ℕ) → a ≡ a' → b ≡ b' → c ≡ c' → t₁ ≡ t ++ a → t₂ ≡ t₁ ++ b → t₃ ≡ t₂ ++ c
+    → t₃ ≡ t ++ (a' ++ b' ++ c')
+three_same t t₁ t₂ t₃ a a' b b' c c' same_a same_b same_c first second third =
+    three t t₁ t₂ t₃ a b c first second third
+    ∙ ap (λ (x : List ℕ). t ++ (x ++ b ++ c)) same_a ∙ ap (λ (x : List ℕ). t ++ (a' ++ x ++ c)) same_b
+    ∙ ap (λ (x : List ℕ). t ++ (a' ++ b' ++ x)) same_c
 
 -- one piece more of a list of pieces
 pub one_more : (t t₁ t₂ : List ℕ) (f : ℕ → List ℕ) (n : ℕ) → t₁ ≡ t ++ flat_map f (below n) → t₂ ≡ t₁ ++ f n → t₂ ≡ t ++ flat_map f (below (n + 1))

@@ -30,11 +30,17 @@ totals m places = TOTALS.now ++ first_totals m places ++ last_totals m places ++
 abbrev pub choices : Market → Places → Bytes
 choices m places = choice_chart (choice_counts m places) (choices_from m places FIRST) (unmatched_singles m places)
 
--- how many couples have both members, one and neither placed, and how many have each pair
+-- how many couples have both members, one and neither placed
+abbrev pub members : Market → Places → Bytes
+members m places = couple_chart (couples_with m places 2) (couples_with m places 1) (couples_with m places 0)
+
+-- how many couples have each pair
+abbrev pub pairs : Market → Places → Bytes
+pairs m places = pair_chart (pair_counts m places) (pairs_from m places FIRST)
+
+-- the sections of the couples
 abbrev pub couple_charts : Market → Places → Bytes
-couple_charts m places =
-    couple_chart (couples_with m places 2) (couples_with m places 1) (couples_with m places 0)
-    ++ pair_chart (pair_counts m places) (pairs_from m places FIRST)
+couple_charts m places = members m places ++ pairs m places
 
 abbrev pub couples : Market → Places → Bytes
 couples m places = if length m.couples == 0 then NO_COUPLES.now else couple_charts m places
@@ -48,7 +54,7 @@ abbrev pub open_row : Registered → Places → ℕ → Bytes
 open_row r places p =
     if is_full r.market places p then []
     else standing_row (name_of r.names.programs p) (program_of r.market p).quota (filled places p) (length (program_of r.market p).ranking)
-      (last_rank r.market places p)
+    (last_rank r.market places p)
 
 abbrev pub open_rows : Registered → Places → Bytes
 open_rows r places = flat_map (open_row r places) (below (length r.market.programs))

@@ -2,9 +2,7 @@ ghost use Rattle.std.specs.Prelude.{◌≡◌, ◌++◌, length, take, OnOk};
 ghost use Rattle.mt_statistics_page.specs.Charts.{choice_chart, choice_most, choice_rows, couple_chart, couple_rows, largest_shown, later_row, number_rows, pair_chart, pair_table, program_chart, program_rows, three_largest};
 ghost use Rattle.mt_statistics_page.specs.declared.markup.TheConstants.{FIRST};
 
-use crate::markup::{
-    CHOICES, COUPLES, FIRST, LATER, NO_PAIRS, PAIRS, PROGRAMS, TABLE_END,
-};
+use crate::markup::{CHOICES, COUPLES, FIRST, LATER, NO_PAIRS, PAIRS, PROGRAMS, TABLE_END};
 use crate::pieces::{largest, push_bar_row, push_numbered_rows, push_text};
 use std::alloc::AllocError;
 
@@ -30,10 +28,10 @@ fn push_later(text: &mut Vec<u8>, counts: &[u32], later: u32, most: u32) -> Resu
     ensures ok { OnOk result (text.new.items
         ≡ text.old.items ++ later_row counts.now later most) }
 {
-    if counts.len() > FIRST as usize {
-        push_bar_row(text, LATER.as_bytes(), later, most)?;
+    if counts.len() <= FIRST as usize {
+        return Ok(());
     }
-    Ok(())
+    push_bar_row(text, LATER.as_bytes(), later, most)
 }
 
 /// Adds the rows of a chart of numbers on lists.

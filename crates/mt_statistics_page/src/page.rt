@@ -1,5 +1,5 @@
 ghost use Rattle.std.specs.Prelude.{◌≡◌, ◌<◌, ◌++◌, length, IfOk, OnOk};
-ghost use Rattle.mt_statistics_page.specs.Page.{charts, choices, couple_charts, couples, first_totals, last_totals, open_programs, open_row, open_rows, open_table, programs, report_page, totals};
+ghost use Rattle.mt_statistics_page.specs.Page.{charts, choices, couple_charts, couples, first_totals, last_totals, members, open_programs, open_row, open_rows, open_table, pairs, programs, report_page, totals};
 ghost use Rattle.mt_statistics_page.specs.Pieces.{standing_row};
 
 use crate::charts::{push_choice_chart, push_couple_chart, push_pair_chart, push_program_chart};
@@ -61,6 +61,31 @@ fn push_choices(
     push_choice_chart(text, &counts, later, statistics.unmatched_singles())
 }
 
+/// Adds the chart of the couples.
+fn push_members(text: &mut Vec<u8>, statistics: &Statistics<'_>) -> Result<(), AllocError>
+    ensures ok { OnOk result (text.new.items ≡ text.old.items
+        ++ members statistics.now.registered.market statistics.now.places) }
+{
+    let both = statistics.couples_with(2);
+    let one = statistics.couples_with(1);
+    let neither = statistics.couples_with(0);
+    push_couple_chart(text, both, one, neither)
+}
+
+/// Adds the chart of the pairs.
+fn push_pairs(
+    alloc: Global,
+    text: &mut Vec<u8>,
+    statistics: &Statistics<'_>,
+) -> Result<(), AllocError>
+    ensures ok { OnOk result (text.new.items ≡ text.old.items
+        ++ pairs statistics.now.registered.market statistics.now.places) }
+{
+    let counts = statistics.pair_counts(alloc)?;
+    let later = statistics.pairs_from(FIRST);
+    push_pair_chart(text, &counts, later)
+}
+
 /// Adds the charts of the couples and of their pairs.
 fn push_couple_charts(
     alloc: Global,
@@ -70,13 +95,8 @@ fn push_couple_charts(
     ensures ok { OnOk result (text.new.items ≡ text.old.items
         ++ couple_charts statistics.now.registered.market statistics.now.places) }
 {
-    let counts = statistics.pair_counts(alloc)?;
-    let later = statistics.pairs_from(FIRST);
-    let both = statistics.couples_with(2);
-    let one = statistics.couples_with(1);
-    let neither = statistics.couples_with(0);
-    push_couple_chart(text, both, one, neither)?;
-    push_pair_chart(text, &counts, later)?;
+    push_members(text, statistics)?;
+    push_pairs(alloc, text, statistics)?;
     Ok(())
 }
 

@@ -76,7 +76,12 @@ fn push_name(text: &mut Vec<u8>, count: u32) -> Result<(), AllocError>
 fn push_shape(text: &mut Vec<u8>, count: u32, most: u32) -> Result<(), AllocError>
     ensures ok { OnOk result (text.new.items ≡ text.old.items ++ bar_shape count most) }
 {
-    push_between(text, b"<rect width='", bar_length(count, most), b"' height='14'/></svg>")
+    push_between(
+        text,
+        b"<rect width='",
+        bar_length(count, most),
+        b"' height='14'/></svg>",
+    )
 }
 
 /// Adds the bar of a number.
@@ -120,7 +125,12 @@ fn push_bar_cells(text: &mut Vec<u8>, count: u32, most: u32) -> Result<(), Alloc
 }
 
 /// Adds a row of a chart: what is counted, how many there are, and the bar of that number.
-pub(crate) fn push_bar_row(text: &mut Vec<u8>, label: &[u8], count: u32, most: u32) -> Result<(), AllocError>
+pub(crate) fn push_bar_row(
+    text: &mut Vec<u8>,
+    label: &[u8],
+    count: u32,
+    most: u32,
+) -> Result<(), AllocError>
     ensures ok { OnOk result (text.new.items ≡ text.old.items ++ bar_row label.now count most) }
 {
     push_header(text, label)?;
@@ -150,7 +160,11 @@ fn push_numbered(text: &mut Vec<u8>, number: u64, count: u32, most: u32) -> Resu
 }
 
 /// Adds a row for each of these counts, which are numbered from 1.
-pub(crate) fn push_numbered_rows(text: &mut Vec<u8>, counts: &[u32], most: u32) -> Result<(), AllocError>
+pub(crate) fn push_numbered_rows(
+    text: &mut Vec<u8>,
+    counts: &[u32],
+    most: u32,
+) -> Result<(), AllocError>
     ensures ok { OnOk result (text.new.items ≡ text.old.items ++ numbered_rows counts.now most) }
 {
     for at in 0..counts.len() {

@@ -7,6 +7,8 @@ use Rattle.mt_statistics_page.proofs.charts.push_choice_rows.Goals as goal
 pub returns : goal.returns
 returns c =
     record {
-      ok = two c.args.text.now.items _ _ (number_rows c.args.counts.now c.args.later c.args.most) (bar_row (codes "no place") c.args.unmatched c.args.most)
+      ok = two c.args.text.now.items _ _
+          (number_rows c.args.counts.now c.args.later c.args.most)
+          (bar_row (codes "no place") c.args.unmatched c.args.most)
           c.in_ok-push_numbers.ensures.ok c.in_ok-push_bar_row.ensures.ok;
     }

@@ -6,6 +6,8 @@ use Rattle.mt_statistics_page.proofs.charts.push_couple_rows.Goals as goal
 pub returns : goal.returns
 returns c =
     record {
-      ok = three c.args.text.now.items _ _ _ (bar_row (codes "both") c.args.both c.args.most) (bar_row (codes "one") c.args.one c.args.most) (bar_row (codes "neither") c.args.neither c.args.most)
+      ok = three c.args.text.now.items _ _ _
+          (bar_row (codes "both") c.args.both c.args.most) (bar_row (codes "one") c.args.one c.args.most)
+          (bar_row (codes "neither") c.args.neither c.args.most)
           c.in_ok-push_bar_row.ensures.ok c.in_ok-push_bar_row-2.ensures.ok c.in_ok-push_bar_row-3.ensures.ok;
     }

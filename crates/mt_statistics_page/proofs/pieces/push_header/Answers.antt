@@ -6,5 +6,6 @@ pub returns : goal.returns
 returns c =
     record {
       ok = three c.args.text.now.items _ _ _ (codes "<tr><th scope='row'>") c.args.label.now (codes "</th>")
-          c.in_ok-extend_from_slice.ensures.items c.in_ok-extend_from_slice-2.ensures.items c.in_ok-extend_from_slice-3.ensures.items;
+          c.in_ok-extend_from_slice.ensures.items c.in_ok-extend_from_slice-2.ensures.items
+          c.in_ok-extend_from_slice-3.ensures.items;
     }

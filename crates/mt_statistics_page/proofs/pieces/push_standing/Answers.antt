@@ -6,6 +6,9 @@ use Rattle.mt_statistics_page.proofs.pieces.push_standing.Goals as goal
 pub returns : goal.returns
 returns c =
     record {
-      ok = four c.args.text.now.items _ _ _ _ (posts_cells c.args.id.now c.args.quota c.args.filled) (cell c.args.listed) (rank_cell c.args.last) (codes "</tr>\n")
-          c.in_ok-push_posts.ensures.ok c.in_ok-push_cell.ensures.ok c.in_ok-push_rank_cell.ensures.ok c.in_ok-extend_from_slice.ensures.items;
+      ok = four c.args.text.now.items _ _ _ _
+          (posts_cells c.args.id.now c.args.quota c.args.filled) (cell c.args.listed) (rank_cell c.args.last)
+          (codes "</tr>\n")
+          c.in_ok-push_posts.ensures.ok c.in_ok-push_cell.ensures.ok c.in_ok-push_rank_cell.ensures.ok
+          c.in_ok-extend_from_slice.ensures.items;
     }
