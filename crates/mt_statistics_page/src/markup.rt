@@ -61,7 +61,8 @@ pub(crate) const NO_COUPLES: &str = "<h2>Couples</h2>
 /// What begins the chart of couples.
 pub(crate) const COUPLES: &str = "<h2>Couples</h2>
 <table class='c'>
-<thead><tr><th scope='col'>Members placed</th><th scope='col' class='n'>Couples</th><th scope='col'>Bar</th></tr></thead>
+<thead><tr><th scope='col'>Members placed</th>
+<th scope='col' class='n'>Couples</th><th scope='col'>Bar</th></tr></thead>
 <tbody>
 ";
 
