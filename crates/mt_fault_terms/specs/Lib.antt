@@ -1,0 +1,4 @@
+pub mod Faults
+pub mod Parts
+pub mod OfRecord
+pub mod OfFile

@@ -1,0 +1,2 @@
+//! All faults of a file of records: their definitions are in `specs/`.
+#![tactic(auto)]
