@@ -1,11 +1,11 @@
 -- All faults of a file, record by record in its order.
-use Rattle.std.specs.Prelude.{◌≡◌, ℕ, Bool, List, [], ◌∷◌, ◌++◌, map, nat_lt, length, Option, Some, None, if◌then◌else◌}
+use Rattle.std.specs.Prelude.{List, [], ◌∷◌, ◌++◌, map}
 use Rattle.std.specs.Option.{option_map_or}
 use Rattle.mt_terms.specs.declared.codes.TheConstants.{NO_VERSION}
 use Rattle.mt_terms.specs.Registration.Ids.{Bytes}
 use Rattle.mt_terms.specs.Registration.Passes.{Numbered, numbered_from}
 use Rattle.mt_terms.specs.Registration.Records.{Rules, rules_of}
-use Rattle.mt_fault_terms.specs.Faults.{FieldFault, FileFault, fault_alone}
+use Rattle.mt_fault_terms.specs.Faults.{FileFault, fault_alone}
 use Rattle.mt_fault_terms.specs.Parts.{Parts, parts_of}
 use Rattle.mt_fault_terms.specs.OfRecord.{record_faults}
 

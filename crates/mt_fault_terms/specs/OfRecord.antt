@@ -1,10 +1,10 @@
 -- All faults of one record, by itself and beside the others, in the order of their codes.
-use Rattle.std.specs.Prelude.{ℕ, ◌+◌, Bool, not, ◌||◌, ◌&&◌, nat_lt, nat_le, List, [], ◌∷◌, ◌++◌, map, filter, flat_map, length, option_to_list, Option, Some, None, is_some, bytes_eq, if◌then◌else◌}
+use Rattle.std.specs.Prelude.{ℕ, ◌+◌, Bool, not, ◌||◌, ◌&&◌, nat_lt, nat_le, List, [], ◌∷◌, ◌++◌, map, filter, flat_map, length, option_to_list, is_some, if◌then◌else◌}
 use Rattle.std.specs.List.{list_any}
 use Rattle.mt_terms.specs.declared.codes.TheConstants.{BAD_ID, BAD_QUOTA, DUPLICATE_ID, DUPLICATE_ENTRY, TOO_MANY, UNKNOWN_APPLICANT, UNKNOWN_PROGRAM, NOT_REGISTERED}
 use Rattle.mt_terms.specs.Registration.Ids.{Bytes, has_id, is_dash, is_id, quota_of}
 use Rattle.mt_terms.specs.Registration.Passes.{is_same_pair}
-use Rattle.mt_terms.specs.Registration.Records.{Rules, Kind, OfProgram, OfApplicant, OfCouple, is_pair, pair_of}
+use Rattle.mt_terms.specs.Registration.Records.{Rules, OfProgram, OfApplicant, OfCouple, is_pair, pair_of}
 use Rattle.mt_fault_terms.specs.Faults.{Placed, FieldFault, fault_alone, fault_of}
 use Rattle.mt_fault_terms.specs.Parts.{Form, Registers, Withdraws, Unknown, Parts, PlacedPair, all_applicants, all_entries, all_own_ids, all_withdrawn, applicants_among, entries_among}
 

@@ -1,5 +1,5 @@
 -- What the fields of a record are for, by their places alone, so that a record at fault has them too.
-use Rattle.std.specs.Prelude.{ℕ, ◌+◌, ◌*◌, Bool, true, false, not, ◌||◌, ◌&&◌, ◌==◌, nat_lt, List, [], ◌∷◌, ◌++◌, map, filter, filter_map, flat_map, length, sum_by, drop, take, Option, Some, None, codes, bytes_eq, if◌then◌else◌}
+use Rattle.std.specs.Prelude.{ℕ, ◌+◌, ◌*◌, Bool, true, false, not, ◌||◌, ◌&&◌, ◌==◌, nat_lt, List, [], ◌∷◌, map, filter, flat_map, length, sum_by, drop, take, Option, Some, None, codes, bytes_eq, if◌then◌else◌}
 use Rattle.mt_terms.specs.declared.codes.TheConstants.{UNKNOWN_KIND, FIELD_COUNT}
 use Rattle.mt_terms.specs.Registration.Ids.{Bytes, is_id}
 use Rattle.mt_terms.specs.Registration.Records.{Rules, Kind, OfProgram, OfApplicant, OfCouple, kind_of}
@@ -67,14 +67,15 @@ abbrev pub withdrawal_parts : Kind → List Placed → Parts
 withdrawal_parts kind fields =
     record { form = Withdraws kind; faults = miscounted (not (length fields == 1)); names = take 1 fields; quota = None; list = []; pairs = [] }
 
+-- the parts of a withdrawal by its kind, if its word names one, and by the fields after that word
+abbrev pub withdrawal_by_kind : Option Kind → List Placed → Parts
+withdrawal_by_kind None fields = unknown_parts 2
+withdrawal_by_kind (Some kind) fields = withdrawal_parts kind fields
+
 -- the parts of a withdrawal by its fields after the first, of which the first names a kind
 abbrev pub withdraw_parts : List Placed → Parts
 withdraw_parts [] = record (unknown_parts 0) { faults = miscounted true }
-withdraw_parts (word ∷ fields) = by_kind (kind_of word.1)
-  where
-    by_kind : Option Kind → Parts
-    by_kind None = unknown_parts 2
-    by_kind (Some kind) = withdrawal_parts kind fields
+withdraw_parts (word ∷ fields) = withdrawal_by_kind (kind_of word.1) fields
 
 abbrev pub parts_by_kind : Option Kind → List Placed → Parts
 parts_by_kind (Some OfProgram) fields = program_parts fields
