@@ -1,2 +1,4 @@
-//! All faults of a file of records: their definitions are in `specs/`.
+//! All faults of a file of records: their definitions are in `specs/`, and their examples are contracts.
 #![tactic(auto)]
+
+mod examples;
