@@ -1,0 +1,11 @@
+pub mod AcceptedFacts
+pub mod Alike
+pub mod Codes
+pub mod CompleteFacts
+pub mod FormFacts
+pub mod Leading
+pub mod Reading
+pub mod ReasonFacts
+pub mod Records
+pub mod SoFacts
+pub mod Walk
