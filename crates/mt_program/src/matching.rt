@@ -17,7 +17,7 @@ pub fn matches_of<'a>(
     command: Command<'a>,
     words: &'a [String],
 ) -> Result<ArgMatches<'a>, Unasked>
-    requires { is_simple_and_free (app_of command.entry) ≡ true }
+    requires { is_simple_and_free (app_of command) ≡ true }
     ensures rows { IfOk result (λ m. rows_of (found_of m)
         ≡ matches_of (app_of command.entry) (texts_of words.entry.now)) }
     ensures taken { IfOk result (λ _. fault_of (app_of command.entry) (texts_of words.entry.now)

@@ -19,7 +19,9 @@ pub enum Unasked {
 }
 
 impl From<AllocError> for Unasked {
-    ghost from_gives = { λ _ unasked. unasked ≡ Unasked.Memory };
+    ghost use Rattle.mt_program.specs.declared.unasked.Unasked.TheVariants.{Memory};
+
+    ghost from_gives = { λ _ unasked. unasked ≡ Memory };
 
     fn from(_error: AllocError) -> Self {
         Unasked::Memory

@@ -12,7 +12,7 @@ returns-in_default-clause-unasked c =
 
 pub returns-in_default-get_str-clause-unasked : goal.returns-in_default-get_str-clause-unasked
 returns-in_default-get_str-clause-unasked c =
-    misuse_by (NameNoFilesIn (rows_of (found_of c.args.matches.now))) c.misuse-2.result c.misuse-2.ensures
+    misuse_by (NameNoFilesIn (rows_of (found_of c.args.matches.now))) c.misuse-in_default-get_str.result c.misuse-in_default-get_str.ensures
     (inr (inl (named_in (found_of c.args.matches.now) (codes "MATCH") c.get_str-2.result None c.get_str-2.ensures c.in_default-get_str.is)))
 
 pub returns-then-are_standard-clause-unasked : goal.returns-then-are_standard-clause-unasked
