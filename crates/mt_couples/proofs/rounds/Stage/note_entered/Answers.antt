@@ -12,4 +12,4 @@ pub returns-else-blocks-clause-entered : goal.returns-else-blocks-clause-entered
 returns-else-blocks-clause-entered c =
     let index = c.in_ok-index_better.ensures in
     noted c.args.self.now _ c.args.couple refl refl index.singles index.better index.named index.indexed
-    (λ so. (so, sym c.blocks.ensures ∙ c.if-blocks.false)) c.requires.entered
+    (λ so. (so, sym c.blocks-2.ensures ∙ c.if-blocks.false)) c.requires.entered
