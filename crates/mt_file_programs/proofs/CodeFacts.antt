@@ -1,6 +1,6 @@
 -- What the code of a refused file is: none of a budget or of couples set aside. So its status is one of a program over
 -- two files.
-use Rattle.std.proofs.Common.{◌≡◌, ◌∙◌, ℕ, Bool, true, false, sym, subst, inl, inr, refl}
+use Rattle.std.proofs.Common.{◌≡◌, ◌∙◌, ℕ, Bool, true, false, arith, sym, subst, inl, inr, refl}
 use Rattle.std.specs.Prelude.{◌==◌}
 use Rattle.std.proofs.lemmas.Bool.{cases_eq, true≢false}
 use Rattle.std.proofs.lemmas.Bool.Decides.{nat_tests}
@@ -13,7 +13,7 @@ use Rattle.mt_files.specs.declared.source.Source.TheVariants.{Market, Match}
 not_this : (n : ℕ) → ((file : Source) → is_code_of file n ≡ false) → (file : Source) (code : ℕ) → is_code_of file code ≡ true → (code == n) ≡ false
 not_this n neither file code is = elim (cases_eq code n) [
   | inl same ↦ absurd (true≢false (sym (subst (λ (c : ℕ). is_code_of file c ≡ true) same is) ∙ neither file))
-  | inr other ↦ grind (nat_tests)
+  | inr other ↦ grind (arith, nat_tests)
 ]
 
 not_spent : (file : Source) → is_code_of file 41 ≡ false
