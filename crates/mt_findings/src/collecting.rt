@@ -1,8 +1,8 @@
-ghost use Rattle.std.specs.Prelude.{◌≡◌, ◌++◌, All, IfOk, OnOk};
+ghost use Rattle.std.specs.Prelude.{◌≡◌, ◌++◌, All, IfOk, OnOk, Some};
 ghost use Rattle.std.specs.List.{flat_map};
 ghost use Rattle.mt_terms.specs.Places.{ArePlaces};
 ghost use Rattle.mt_verify.specs.Held.{IsNumbered};
-ghost use Rattle.mt_check.specs.Findings.{IsThere};
+ghost use Rattle.mt_check.specs.Findings.{IsThere, finding_by};
 ghost use Rattle.mt_check.specs.View.{market_of, places_of};
 ghost use Rattle.mt_findings.specs.Findings.{blocking_by, differing_of, findings, over, unlisted};
 
@@ -88,6 +88,18 @@ fn push_blocking(
     Ok(())
 }
 
+/// The finding on a match by its verdict, if the record with this number says other counts.
+fn of_record(verdict: Verdict, row: u64) -> Finding
+    ensures { result ≡ finding_by verdict (Some row) }
+{
+    match verdict {
+        Verdict::Stable => Finding::Differs(row),
+        Verdict::Unlisted(applicant) => Finding::Of(Verdict::Unlisted(applicant)),
+        Verdict::Over(program) => Finding::Of(Verdict::Over(program)),
+        Verdict::Blocks(blocker) => Finding::Of(Verdict::Blocks(blocker)),
+    }
+}
+
 /// Adds the records that say other counts.
 fn push_differing(
     found: &mut Vec<Finding>,
@@ -99,7 +111,7 @@ fn push_differing(
 {
     for counted in counts {
         if differs(tally, counted) {
-            found.push(Finding::Differs(counted.row))?;
+            found.push(of_record(Verdict::Stable, counted.row))?;
         }
     }
     Ok(())

@@ -32,7 +32,6 @@ fn is_open_if(line: &Option<Line>) -> bool
 }
 
 /// Whether the agent's better option with a number would be taken.
-#[tactic(auto, using(crate::proofs::OpenFacts::taken_by_lines, crate::proofs::OpenFacts::within_list))]
 pub(crate) fn is_taken(explainer: &Explainer<'_>, agent: &Agent, option: u32) -> bool
     requires agent { IsNumbered explainer.now.registered.market agent.now }
     requires option { option < length (better explainer.now.registered.market explainer.now.places agent.now) }

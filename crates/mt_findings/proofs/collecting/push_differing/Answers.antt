@@ -4,6 +4,7 @@ use Rattle.std.proofs.lemmas.List.{take_all, take_more}
 use Rattle.mt_match_file.specs.declared.submitted_match.Counted.{Counted}
 use Rattle.mt_check.specs.Findings.{fits_count}
 use Rattle.mt_check.specs.View.{market_of, places_of}
+use Rattle.mt_check.specs.declared.finding.Finding.{Finding}
 use Rattle.mt_check.specs.declared.finding.Finding.TheVariants.{Differs}
 use Rattle.mt_findings.specs.Findings.{differing_of}
 use Rattle.mt_findings.proofs.ListFacts.{fails_more, passes_more}
@@ -23,6 +24,7 @@ loop-counted-preserved c =
     elim c.if-differs.branch [
       | then-differs+in_ok-push w ↦
           ap Vec.items w.found-is ∙ w.in_ok-push.ensures.items
+          ∙ ap (λ (f : Finding). c.loop-counted.found.items ++ f ∷ []) w.of_record.ensures
           ∙ passes_more (λ (x : Counted). Differs x.row) test old c.loop-counted.found.items (take i counts) item c.loop-counted.invariant (sym c.differs.ensures ∙ w.if-differs.true)
           ∙ ap (λ (xs : List Counted). old ++ differing_of (market_of t) (places_of t) xs) more
       | else-differs w ↦

@@ -1,5 +1,6 @@
 use Rattle.std.proofs.Common.{◌≡◌, ◌++◌, ◌∷◌, [], ◌∙◌, refl, ap, ℕ, List}
 use Rattle.std.specs.Prelude.{codes}
+use Rattle.mt_terms.specs.Text.{name_of}
 use Rattle.mt_terms.specs.declared.numbers.Agent.TheVariants.{Single}
 use Rattle.mt_check.specs.Text.{check_line}
 use Rattle.mt_check.proofs.OptionFacts.{in_list, program_below, single_there}
@@ -30,5 +31,5 @@ returns c =
     let line = single_line c.args.roster.now c.args.applicant c.args.option c.index-single_list-option.result c.single_list.result.now c.requires.option c.single_list.ensures c.index-single_list-option.is in
     all
     ∙ ap (λ (x : List ℕ). c.args.page.now ++ check_line (codes "blocks" ∷ codes "applicant" ∷ x ∷ place ∷ [])) c.applicant_id.ensures.value
-    ∙ ap (λ (x : List ℕ). c.args.page.now ++ check_line (codes "blocks" ∷ codes "applicant" ∷ _ ∷ x ∷ [])) c.program_id.ensures.value
+    ∙ ap (λ (x : List ℕ). c.args.page.now ++ check_line (codes "blocks" ∷ codes "applicant" ∷ name_of c.args.roster.now.names.applicants c.args.applicant ∷ x ∷ [])) c.program_id.ensures.value
     ∙ ap (λ (x : List ℕ). c.args.page.now ++ x) line
