@@ -1,0 +1,3 @@
+pub mod LineEnds
+pub mod Records
+pub mod Within

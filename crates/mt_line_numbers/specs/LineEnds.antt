@@ -1,0 +1,23 @@
+-- The line ends of a text: a line feed, a carriage return, or both in this order, each of which is one.
+use Rattle.std.specs.Prelude.{ℕ, ◌+◌, Bool, false, ◌==◌, ◌||◌, ◌&&◌, not, List, [], ◌∷◌, if◌then◌else◌}
+use Rattle.csv.specs.Machine.{line_feed, carriage_return}
+use Rattle.mt_lists.specs.Lines.{ends_line}
+
+-- whether a text begins with a line feed
+abbrev pub begins_with_feed : List ℕ → Bool
+begins_with_feed [] = false
+begins_with_feed (c ∷ rest) = c == line_feed
+
+-- whether a byte is the last of a line end, by the text after it
+abbrev pub closes_line : ℕ → List ℕ → Bool
+closes_line c rest = (c == line_feed) || ((c == carriage_return) && not (begins_with_feed rest))
+
+-- how many line ends a text has
+unfoldable pub line_ends : List ℕ → ℕ
+line_ends [] = 0
+line_ends (c ∷ rest) = (if closes_line c rest then 1 else 0) + line_ends rest
+
+-- a text without the line ends at its start
+unfoldable pub without_line_ends : List ℕ → List ℕ
+without_line_ends [] = []
+without_line_ends (c ∷ rest) = if ends_line c then without_line_ends rest else c ∷ rest

@@ -1,0 +1,114 @@
+ghost use Rattle.std.specs.Prelude.{◌≡◌, ◌+◌, ◌<◌, ◌^◌, ◌∷◌, ◌==◌, length};
+ghost use Rattle.mt_line_numbers.specs.LineEnds.{closes_line as closes_line_by, line_ends, without_line_ends};
+ghost use Rattle.mt_line_numbers.specs.Records.{after_record};
+
+use crate::within::Within;
+use memchr::{memchr, memchr2};
+
+/// A place in a text: what comes after it, and the number of its line.
+#[derive(Clone, Copy)]
+pub(crate) struct Place<'t> {
+    pub(crate) rest: &'t [u8],
+    pub(crate) line: u64,
+    pub ghost few: { line + line_ends rest.now < 2 ^ 64 },
+}
+
+impl<'t> Place<'t> {
+    // Where the first record of a text begins.
+    pub(crate) fn at_start(text: &'t [u8]) -> Place<'t>
+        ensures rest { result.rest.now ≡ without_line_ends text.now }
+        ensures lines { result.line + line_ends result.rest.now ≡ line_ends text.now + 1 }
+    {
+        let start = Place {
+            rest: text,
+            line: 1,
+        };
+        start.past_line_ends()
+    }
+
+    // Whether it is the end of the text.
+    pub(crate) fn is_at_end(self) -> bool
+        ensures { result ≡ (length self.rest.now == 0) }
+    {
+        self.rest.is_empty()
+    }
+
+    // Where the next record begins, from where one begins.
+    pub(crate) fn next_record(self) -> Place<'t>
+        requires { without_line_ends self.rest.now ≡ self.rest.now }
+        ensures rest { result.rest.now ≡ without_line_ends (after_record self.entry.rest.now) }
+        ensures lines { result.line + line_ends result.rest.now ≡ self.entry.line + line_ends self.entry.rest.now }
+    {
+        let end = match memchr2(b'\n', b'\r', self.rest) {
+            Some(at) => at,
+            None => self.rest.len(),
+        };
+        let (line, rest) = self.rest.split_at(end);
+        let record_end = match memchr(b'"', line) {
+            Some(_) => self.record_end(),
+            None => Place {
+                rest,
+                line: self.line,
+            },
+        };
+        record_end.past_line_ends()
+    }
+
+    // Where the record ends that begins here: before the line end after it, or at the end of the text.
+    fn record_end(self) -> Place<'t>
+        requires { without_line_ends self.rest.now ≡ self.rest.now }
+        ensures rest { without_line_ends result.rest.now ≡ without_line_ends (after_record self.entry.rest.now) }
+        ensures lines { result.line + line_ends result.rest.now ≡ self.entry.line + line_ends self.entry.rest.now }
+    {
+        let mut place = self;
+        let mut within = Within::FieldStart;
+        while let Some((byte, rest)) = place.rest.split_first() {
+            match within.after(*byte) {
+                None => return place,
+                Some(next) => within = next,
+            }
+            place = place.past_byte(*byte, rest);
+        }
+        place
+    }
+
+    // The place after all line ends that come here.
+    fn past_line_ends(self) -> Place<'t>
+        ensures rest { result.rest.now ≡ without_line_ends self.entry.rest.now }
+        ensures lines { result.line + line_ends result.rest.now ≡ self.entry.line + line_ends self.entry.rest.now }
+    {
+        let mut place = self;
+        while let Some((byte, rest)) = place.rest.split_first() {
+            if !matches!(*byte, b'\n' | b'\r') {
+                return place;
+            }
+            place = place.past_byte(*byte, rest);
+        }
+        place
+    }
+
+    // The place after the byte that comes here.
+    fn past_byte(self, byte: u8, rest: &'t [u8]) -> Place<'t>
+        requires { self.rest.now ≡ byte ∷ rest.now }
+        ensures rest { result.rest.now ≡ rest.now }
+        ensures lines { result.line + line_ends rest.now ≡ self.entry.line + line_ends self.entry.rest.now }
+    {
+        let line = if closes_line(byte, rest) {
+            self.line + 1
+        } else {
+            self.line
+        };
+        Place { rest, line }
+    }
+}
+
+// Whether a byte is the last of a line end, by the text after it.
+fn closes_line(byte: u8, rest: &[u8]) -> bool
+    ensures { result ≡ closes_line_by byte rest.now }
+{
+    match byte {
+        b'\n' => true,
+        b'\r' => rest.first() != Some(&b'\n'),
+        _ => false,
+    }
+}
