@@ -17,6 +17,11 @@ unfoldable pub line_ends : List ℕ → ℕ
 line_ends [] = 0
 line_ends (c ∷ rest) = (if closes_line c rest then 1 else 0) + line_ends rest
 
+-- whether a text begins with a line end
+abbrev pub begins_with_line_end : List ℕ → Bool
+begins_with_line_end [] = false
+begins_with_line_end (c ∷ rest) = ends_line c
+
 -- a text without the line ends at its start
 unfoldable pub without_line_ends : List ℕ → List ℕ
 without_line_ends [] = []

@@ -2,6 +2,7 @@
 //! Empty lines and line ends in quotes count as lines.
 #![tactic(auto)]
 
+pub mod laws;
 mod numbers;
 mod place;
 mod within;

@@ -5,8 +5,8 @@ ghost use Rattle.mt_line_numbers.specs.Records.{line_of_record};
 use crate::place::Place;
 use std::marker::Model;
 
-/// The numbers of the lines on which the records of a text begin. It goes along with the records: it takes linear time
-/// for all of them if they are asked for in order, and no memory.
+/// The numbers of the lines on which the records of a text begin. It goes along with the records. So it takes linear
+/// time for all of them if they are asked for in order. It takes no memory.
 #[derive(Drop)]
 pub struct LineNumbers<'t> {
     text: &'t [u8],
@@ -16,30 +16,31 @@ pub struct LineNumbers<'t> {
 }
 
 impl<'t> Model for LineNumbers<'t> {
-    ghost use Rattle.std.specs.Prelude.{◌≡◌, ◌+◌, List, ℕ};
-    ghost use Rattle.mt_line_numbers.specs.LineEnds.{line_ends};
-    ghost use Rattle.mt_line_numbers.specs.Records.{after_records};
+    ghost use Rattle.std.specs.Prelude.{List, ℕ};
+    ghost use Rattle.mt_line_numbers.specs.Inside.{IsAtRecord};
 
     ghost Value = { List ℕ };
 
     ghost view = { λ numbers. numbers.text.now };
 
-    ghost invariant = { λ numbers. (numbers.place.rest.now ≡ after_records numbers.passed numbers.text.now)
-        × (numbers.place.line + line_ends numbers.place.rest.now ≡ line_ends numbers.text.now + 1) };
+    ghost invariant = { λ numbers. IsAtRecord numbers.text.now numbers.passed numbers.place };
 }
 
+// The byte order mark, U+FEFF in UTF-8.
+const MARK: [u8; 3] = [0xEF, 0xBB, 0xBF];
+
 impl<'t> LineNumbers<'t> {
-    /// The line numbers of an input, as `mt_lists::records` reads it: its text has no byte order mark at the start.
+    /// The line numbers of an input's text, which has lost the byte order mark at its start.
     pub fn new(bytes: &'t [u8]) -> LineNumbers<'t>
         ensures { result ≡ without_mark bytes.now }
     {
-        let text = match bytes.strip_prefix(MARK.as_slice()) {
-            Some(text) => text,
-            None => bytes,
-        };
-        LineNumbers::at_start(text)
+        match bytes.strip_prefix(MARK.as_slice()) {
+            Some(text) => LineNumbers::at_start(text),
+            None => LineNumbers::at_start(bytes),
+        }
     }
 
+    // The line numbers of a text.
     fn at_start(text: &'t [u8]) -> LineNumbers<'t>
         ensures { result ≡ text.now }
     {
@@ -50,19 +51,20 @@ impl<'t> LineNumbers<'t> {
         }
     }
 
-    /// The number of the line on which the record with this number begins. Both are counted from 1, and records as the
-    /// rows of the input are. For record 0 the number is 0. After the last record it is that of the text's end. If an
-    /// earlier record is asked for, it reads the text again from the start.
-    pub fn line_of(&mut self, record: u64) -> u64
-        ensures line { result ≡ line_of_record self.old record }
+    /// The number of the line on which the record with this number begins. Lines and records are counted from 1, and
+    /// records as the rows of the input are. At 0 it gives 0, and after the last record the line of the text's end. If
+    /// it has passed that record, it begins again at the start of the text.
+    pub fn line_of(&mut self, number: u64) -> u64
+        ensures line { result ≡ line_of_record self.old number }
         ensures text { self.new ≡ self.old }
     {
-        if record == 0 {
+        if number == 0 {
             return 0;
         }
-        let before = record - 1;
+        let before = number - 1;
         if before < self.passed {
-            *self = LineNumbers::at_start(self.text);
+            self.place = Place::at_start(self.text);
+            self.passed = 0;
         }
         while self.passed < before && !self.place.is_at_end() {
             self.place = self.place.next_record();
@@ -71,6 +73,3 @@ impl<'t> LineNumbers<'t> {
         self.place.line
     }
 }
-
-// The byte order mark, U+FEFF in UTF-8.
-const MARK: [u8; 3] = [0xEF, 0xBB, 0xBF];

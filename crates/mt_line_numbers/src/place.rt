@@ -1,5 +1,6 @@
-ghost use Rattle.std.specs.Prelude.{◌≡◌, ◌+◌, ◌<◌, ◌^◌, ◌∷◌, ◌==◌, length};
-ghost use Rattle.mt_line_numbers.specs.LineEnds.{closes_line as closes_line_by, line_ends, without_line_ends};
+ghost use Rattle.std.specs.Prelude.{◌≡◌, ◌+◌, ◌<◌, ◌^◌, ◌∷◌, ◌==◌, length, false};
+ghost use Rattle.mt_line_numbers.specs.LineEnds.{begins_with_line_end, closes_line as closes, line_ends, without_line_ends};
+ghost use Rattle.mt_line_numbers.specs.Inside.{FirstLine};
 ghost use Rattle.mt_line_numbers.specs.Records.{after_record};
 
 use crate::within::Within;
@@ -35,28 +36,24 @@ impl<'t> Place<'t> {
 
     // Where the next record begins, from where one begins.
     pub(crate) fn next_record(self) -> Place<'t>
-        requires { without_line_ends self.rest.now ≡ self.rest.now }
+        requires { begins_with_line_end self.rest.now ≡ false }
         ensures rest { result.rest.now ≡ without_line_ends (after_record self.entry.rest.now) }
         ensures lines { result.line + line_ends result.rest.now ≡ self.entry.line + line_ends self.entry.rest.now }
     {
-        let end = match memchr2(b'\n', b'\r', self.rest) {
-            Some(at) => at,
-            None => self.rest.len(),
-        };
-        let (line, rest) = self.rest.split_at(end);
-        let record_end = match memchr(b'"', line) {
-            Some(_) => self.record_end(),
+        let (line, rest) = first_line(self.rest);
+        match memchr(b'"', line) {
+            Some(_) => self.record_end().past_line_ends(),
             None => Place {
                 rest,
                 line: self.line,
-            },
-        };
-        record_end.past_line_ends()
+            }
+            .past_line_ends(),
+        }
     }
 
     // Where the record ends that begins here: before the line end after it, or at the end of the text.
     fn record_end(self) -> Place<'t>
-        requires { without_line_ends self.rest.now ≡ self.rest.now }
+        requires { begins_with_line_end self.rest.now ≡ false }
         ensures rest { without_line_ends result.rest.now ≡ without_line_ends (after_record self.entry.rest.now) }
         ensures lines { result.line + line_ends result.rest.now ≡ self.entry.line + line_ends self.entry.rest.now }
     {
@@ -79,7 +76,7 @@ impl<'t> Place<'t> {
     {
         let mut place = self;
         while let Some((byte, rest)) = place.rest.split_first() {
-            if !matches!(*byte, b'\n' | b'\r') {
+            if *byte != b'\n' && *byte != b'\r' {
                 return place;
             }
             place = place.past_byte(*byte, rest);
@@ -90,21 +87,36 @@ impl<'t> Place<'t> {
     // The place after the byte that comes here.
     fn past_byte(self, byte: u8, rest: &'t [u8]) -> Place<'t>
         requires { self.rest.now ≡ byte ∷ rest.now }
-        ensures rest { result.rest.now ≡ rest.now }
-        ensures lines { result.line + line_ends rest.now ≡ self.entry.line + line_ends self.entry.rest.now }
+        ensures rest { result.rest.now ≡ rest.entry.now }
+        ensures lines { result.line + line_ends result.rest.now ≡ self.entry.line + line_ends self.entry.rest.now }
     {
-        let line = if closes_line(byte, rest) {
-            self.line + 1
+        if closes_line(byte, rest) {
+            Place {
+                rest,
+                line: self.line + 1,
+            }
         } else {
-            self.line
-        };
-        Place { rest, line }
+            Place {
+                rest,
+                line: self.line,
+            }
+        }
+    }
+}
+
+// The first line of a text, and the text from its end on.
+fn first_line(text: &[u8]) -> (&[u8], &[u8])
+    ensures { FirstLine text.now result.0.now result.1.now }
+{
+    match memchr2(b'\n', b'\r', text) {
+        Some(at) => text.split_at(at),
+        None => text.split_at(text.len()),
     }
 }
 
 // Whether a byte is the last of a line end, by the text after it.
 fn closes_line(byte: u8, rest: &[u8]) -> bool
-    ensures { result ≡ closes_line_by byte rest.now }
+    ensures { result ≡ closes byte rest.now }
 {
     match byte {
         b'\n' => true,

@@ -1,0 +1,4 @@
+pub mod EndFacts
+pub mod ScanFacts
+pub mod SplitFacts
+pub mod PlaceFacts
