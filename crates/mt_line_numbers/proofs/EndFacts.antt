@@ -1,11 +1,13 @@
 -- Line ends, byte by byte: those of a text are those of its parts, if the second part doesn't begin with a line feed.
 -- What is taken off the start of a text is line ends alone.
-use Rattle.std.proofs.Common.{◌≡◌, ℕ, ◌+◌, ◌<◌, ◌≤◌, List, [], ◌∷◌, ◌++◌, length, Bool, true, false, ◌==◌, refl, sym, ap, ◌∙◌, inl, inr, arith}
+use Rattle.std.proofs.Common.{◌≡◌, ℕ, ◌+◌, ◌<◌, ◌≤◌, List, [], ◌∷◌, ◌++◌, length, take, drop, get_or, Bool, true, false, ◌==◌, refl, sym, ap, ◌∙◌, inl, inr, arith}
 use Rattle.std.specs.List.{list_any}
 use Rattle.std.proofs.lemmas.Bool.{cases_Bool, or_parts}
 use Rattle.std.proofs.lemmas.Bool.Decides.{nat_tests}
+use Rattle.std.proofs.lemmas.List.{drop_more, take-append-drop}
 use Rattle.mt_lists.specs.Lines.{ends_line}
-use Rattle.mt_line_numbers.specs.LineEnds.{begins_with_feed, begins_with_line_end, closes_line, line_ends, without_line_ends}
+use Rattle.mt_lists.proofs.LineFacts.{none_before}
+use Rattle.mt_line_numbers.specs.LineEnds.{FirstLine, begins_with_feed, begins_with_line_end, closes_line, line_ends, without_line_ends}
 
 -- the first byte of a text is the last of a line end, or isn't
 pub ends-closed : (c : ℕ) (rest : List ℕ) → closes_line c rest ≡ true → line_ends (c ∷ rest) ≡ line_ends rest + 1
@@ -14,7 +16,7 @@ ends-closed c rest closed = rw closed (omega arith)
 
 pub ends-open : (c : ℕ) (rest : List ℕ) → closes_line c rest ≡ false → line_ends (c ∷ rest) ≡ line_ends rest
 unfolding line_ends
-ends-open c rest goes = rw goes refl
+ends-open c rest goes = rw goes (omega arith)
 
 -- a text has no more line ends than bytes
 pub ends-within : (text : List ℕ) → line_ends text ≤ length text
@@ -52,7 +54,7 @@ closes-alone c (d ∷ front) rest plain = refl
 -- and the line ends of both add up
 pub ends-append : (front rest : List ℕ) → begins_with_line_end rest ≡ false → line_ends (front ++ rest) ≡ line_ends front + line_ends rest
 unfolding line_ends
-ends-append [] rest plain = refl
+ends-append [] rest plain = omega arith
 ends-append (c ∷ front) rest plain =
     elim (cases_Bool (closes_line c front)) [
       | inl closed ↦
@@ -84,3 +86,31 @@ without-plain (c ∷ rest) =
       | inl ends ↦ rw ends (without-plain rest)
       | inr goes ↦ rw goes goes
     ]
+
+-- a text of no length has no byte
+pub no_byte : (text : List ℕ) → length text ≡ 0 → text ≡ []
+no_byte [] none = refl
+no_byte (c ∷ rest) none = absurd (omega (arith, none))
+
+-- the first line of a text, up to the first byte that ends one
+pub first_split : (text : List ℕ) (at : ℕ) → at < length text → ((k : ℕ) → k < at → ends_line (get_or text k 0) ≡ true → ⊥) → ends_line (get_or text at 0) ≡ true
+    → FirstLine text (take at text) (drop at text)
+first_split text at within before ends =
+    record {
+      whole = sym (take-append-drop at text);
+      one = none_before ends_line text at before;
+      ends = inr (rw (drop_more text at 0 within) ends);
+    }
+
+-- a text that is one line
+pub last_split : (text : List ℕ) → ((k : ℕ) → k < length text → ends_line (get_or text k 0) ≡ true → ⊥) → FirstLine text (take (length text) text) (drop (length text) text)
+last_split text before =
+    record {
+      whole = sym (take-append-drop (length text) text);
+      one = none_before ends_line text (length text) before;
+      ends = inl (drop-length text);
+    }
+  where
+    drop-length : (xs : List ℕ) → drop (length xs) xs ≡ []
+    drop-length [] = refl
+    drop-length (x ∷ xs) = drop-length xs

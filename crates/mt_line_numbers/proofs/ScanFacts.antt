@@ -54,20 +54,17 @@ left_from-start [] plain = left_by-from st.StartRecord [] [] []
 left_from-start (c ∷ rest) plain =
     let feed : (c == 10) ≡ false = (or_parts _ _ plain).0 in
     let return : (c == 13) ≡ false = (or_parts _ _ plain).1 in
-    let same : step default_config st.StartRecord c ≡ step default_config st.StartField c = rw (feed, return) refl in
-    left_by-from st.StartRecord [] [] (c ∷ rest) ∙ rw same refl
+    left_by-from st.StartRecord [] [] (c ∷ rest) ∙ rw (feed, return) refl
 
 -- a field that doesn't begin with a quote is read as its middle is
-begins_with_quote : List ℕ → Bool
+abbrev begins_with_quote : List ℕ → Bool
 begins_with_quote [] = false
 begins_with_quote (c ∷ rest) = is_quote c
 
 field_starts : (text : List ℕ) → begins_with_quote text ≡ false → left_from st.StartField text ≡ left_from st.InField text
 unfolding left_from
 field_starts [] plain = refl
-field_starts (c ∷ rest) plain =
-    let same : step default_config st.StartField c ≡ step default_config st.InField c = rw plain refl in
-    rw same refl
+field_starts (c ∷ rest) plain = rw plain refl
 
 -- a line end is no quote and no comma
 not_quote : (c : ℕ) → ends_line c ≡ true → is_quote c ≡ false

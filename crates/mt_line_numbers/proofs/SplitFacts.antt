@@ -3,6 +3,7 @@
 use Rattle.std.proofs.Common.{◌≡◌, ℕ, zero, suc, ◌+◌, ◌-◌, ◌≤◌, List, [], ◌∷◌, ◌++◌, length, take, drop, Option, Some, None, Bool, true, false, ◌==◌, refl, sym, ap, ◌∙◌, inl, inr, append_assoc, arith}
 use Rattle.std.proofs.Math.Seq.{take-append_seam}
 use Rattle.std.proofs.lemmas.Bool.{cases_Bool}
+use Rattle.std.proofs.lemmas.Bool.Decides.{nat_tests}
 use Rattle.std.proofs.lemmas.List.{append-nil, length-append}
 use Rattle.csv.specs.declared.parser.State.{State}
 use Rattle.csv.specs.declared.parser.State.TheVariants as st
@@ -22,15 +23,13 @@ unfolding next_record
 idle_reads st.StartRecord text idle = refl
 idle_reads st.AfterCr [] idle = refl
 idle_reads st.AfterCr (c ∷ rest) idle =
-    let same : step default_config st.AfterCr c ≡ step default_config st.StartRecord c =
     elim (cases_Bool (c == 10)) [
       | inl feed ↦ elim (cases_Bool (c == 13)) [
         | inl return ↦ rw (feed, return) refl
         | inr other ↦ rw (feed, other) refl
       ]
       | inr other ↦ rw other refl
-    ] in
-    rw same refl
+    ]
 idle_reads st.StartField text idle = cc idle
 idle_reads st.InField text idle = cc idle
 idle_reads st.InQuoted text idle = cc idle
@@ -52,6 +51,10 @@ records-some text p e =
 
 records-none : (text : List ℕ) → next_record default_config st.StartRecord [] [] text ≡ None → records default_config text ≡ []
 records-none text e = records_left-none st.StartRecord text e
+
+records-nothing : records default_config [] ≡ []
+unfolding next_record
+records-nothing = records-none [] refl
 
 -- a line end before a text changes no record of it
 end_read : (c : ℕ) (rest : List ℕ) → ends_line c ≡ true → next_record default_config st.StartRecord [] [] (c ∷ rest) ≡ next_record default_config st.StartRecord [] [] rest
@@ -151,10 +154,10 @@ unfolding after_records
 after_records-end n zero text none le = let e : n ≡ 0 = omega arith in rw e at none
 after_records-end n (suc more) text none le =
     elim (cases_Bool (n == suc more)) [
-      | inl last ↦ let e : n ≡ suc more = grind arith in rw e at none
+      | inl last ↦ let e : n ≡ suc more = grind (arith, nat_tests, last) in rw e at none
       | inr before ↦
-          let le : n ≤ more = grind arith in
-          ap (λ (xs : List ℕ). without_line_ends (after_record xs)) (after_records-end n more text none le) ∙ ap without_line_ends after-nothing ∙ without-nothing
+          let within : n ≤ more = grind (arith, nat_tests, before, le) in
+          ap (λ (xs : List ℕ). without_line_ends (after_record xs)) (after_records-end n more text none within) ∙ ap without_line_ends after-nothing ∙ without-nothing
     ]
 
 -- a text splits at a record
@@ -186,11 +189,10 @@ split_blank : (text : List ℕ) → Split zero text
 unfolding after_records
 split_blank text =
     let at = blank_front text in
-    let nothing : records default_config [] ≡ [] = records-none [] refl in
     record {
       front = at.front;
       whole = at.whole;
-      before = ap (records default_config) (sym (append-nil at.front)) ∙ at.blank [] ∙ nothing;
+      before = ap (records default_config) (sym (append-nil at.front)) ∙ at.blank [] ∙ records-nothing;
       after = sym (at.blank (without_line_ends text)) ∙ ap (records default_config) (sym at.whole);
     }
 
@@ -218,14 +220,14 @@ split_more n text p e more =
 
 split : (n : ℕ) (text : List ℕ) → Split n text
 split zero text = split_blank text
-split (suc n) text = by_read (next_record default_config st.StartRecord [] [] (without_line_ends text)) refl
+split (suc n) text = by_read (next_record default_config st.StartRecord [] [] (without_line_ends text)) refl (split n)
   where
-    by_read : (o : Option Read) → next_record default_config st.StartRecord [] [] (without_line_ends text) ≡ o → Split (suc n) text
-    by_read None e =
+    by_read : (o : Option Read) → next_record default_config st.StartRecord [] [] (without_line_ends text) ≡ o → ((others : List ℕ) → Split n others) → Split (suc n) text
+    by_read None e more =
         let left : after_record (without_line_ends text) ≡ [] = rw e refl in
         let end = after_records-shift n text ∙ ap (after_records n) left ∙ after_records-nothing n in
-        split_none (suc n) text (blank_records text ∙ records-none (without_line_ends text) e) end (records-none [] refl)
-    by_read (Some p) e = split_more n text p e (split n p.2)
+        split_none (suc n) text (blank_records text ∙ records-none (without_line_ends text) e) end records-nothing
+    by_read (Some p) e more = split_more n text p e (more p.2)
 
 -- the front of a text by its length
 front_taken : (text front rest : List ℕ) → text ≡ front ++ rest → take (length text - length rest) text ≡ front

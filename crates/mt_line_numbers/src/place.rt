@@ -20,6 +20,8 @@ impl<'t> Place<'t> {
         ensures rest { result.rest.now ≡ without_line_ends text.now }
         ensures lines { result.line + line_ends result.rest.now ≡ line_ends text.now + 1 }
     {
+        // A slice's length bounds its line ends.
+        let _size = text.len();
         let start = Place {
             rest: text,
             line: 1,
@@ -29,7 +31,7 @@ impl<'t> Place<'t> {
 
     // Whether it is the end of the text.
     pub(crate) fn is_at_end(self) -> bool
-        ensures { result ≡ (length self.rest.now == 0) }
+        ensures { result ≡ (length self.entry.rest.now == 0) }
     {
         self.rest.is_empty()
     }
