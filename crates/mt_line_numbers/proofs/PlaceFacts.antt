@@ -32,3 +32,8 @@ pub next_at : (text : List ℕ) (n : ℕ) (old new : Place) → IsAtRecord text 
 unfolding after_records
 next_at text n old new here rest lines =
     record { rest = rest ∙ ap (λ (xs : List ℕ). without_line_ends (after_record xs)) here.rest; lines = lines ∙ here.lines }
+
+-- record 0 has no line
+pub no_line : (text : List ℕ) (number : ℕ) → number ≡ 0 → 0 ≡ line_of_record text number
+unfolding line_of_record
+no_line text number e = rw e refl
