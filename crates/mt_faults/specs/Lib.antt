@@ -1,2 +1,4 @@
 pub mod Seen
+pub mod Registered
+pub mod Standing
 pub mod Telling

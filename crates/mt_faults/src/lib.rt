@@ -1,9 +1,18 @@
 //! All faults of a file's records, found by two passes over them and handed to a sink one after another.
 #![tactic(auto)]
 
+mod before;
+mod entries;
 mod fault;
 mod find;
+mod finder;
+mod pairs;
+mod parts;
+mod placed;
+mod registry;
+mod repeats;
 mod sink;
+mod tell;
 
 pub use fault::{Fault, FaultEnd};
 pub use find::find_faults;

@@ -21,11 +21,11 @@ pub trait FaultSink {
 
     /// Takes the next fault: that of the record with this number, which is 0 if the fault is at no record. The error ends
     /// the search.
-    fn put(&mut self, record: u64, fault: &Fault<'_>) -> Result<(), Stop>
+    fn put(&mut self, number: u64, fault: &Fault<'_>) -> Result<(), Stop>
         requires { takes self.old }
         ensures takes { OnOk result (takes self.new) }
-        ensures told { OnOk result (told self.old self.new ((record, fault_seen fault.now) ∷ [])) }
-        ensures stopped { OnErr result (stopped self.old self.new ((record, fault_seen fault.now) ∷ [])) };
+        ensures told { OnOk result (told self.old self.new ((number, fault_seen fault.now) ∷ [])) }
+        ensures stopped { OnErr result (stopped self.old self.new ((number, fault_seen fault.now) ∷ [])) };
 
     /// Nothing was told between a state and itself.
     ghost told_none: { (s : Self) → told s s [] };

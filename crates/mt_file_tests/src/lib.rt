@@ -2,6 +2,8 @@
 #![tactic(auto)]
 
 #[cfg(test)]
+mod all_faults;
+#[cfg(test)]
 mod command_line;
 #[cfg(test)]
 mod expect;

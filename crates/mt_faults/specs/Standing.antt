@@ -1,0 +1,34 @@
+-- What is known of what stands before a record.
+use Rattle.std.specs.Prelude.{◌≡◌, List, [], ◌∷◌, ◌++◌, min}
+use Rattle.mt_terms.specs.declared.codes.TheConstants.{DUPLICATE_ENTRY}
+use Rattle.mt_terms.specs.Registration.Records.{Rules, Kind, OfProgram, OfCouple}
+use Rattle.mt_records.specs.Kinds.{ids_in}
+use Rattle.mt_fault_terms.specs.Faults.{FieldFault}
+use Rattle.mt_fault_terms.specs.OfRecord.{found_among}
+use Rattle.mt_fault_terms.specs.Parts.{Form, Registers, Withdraws, Unknown, Parts, all_own_ids, all_applicants, all_entries, all_withdrawn}
+use Rattle.mt_faults.specs.declared.before.Before.{Before}
+use Rattle.mt_faults.specs.declared.finder.Finder.{Finder}
+use Rattle.mt_faults.specs.Registered.{IsPassed, IsRegistry, added, most}
+
+-- These records stand before.
+pub record IsBefore (rules : Rules) (before : List Parts) (b : Before) : Type 0 where
+  pub programs : IsPassed (all_own_ids rules OfProgram before) b.programs
+  pub couples : IsPassed (all_own_ids rules OfCouple before) b.couples
+  pub applicants : IsPassed (all_applicants rules before) b.applicants
+  pub entries : b.entries ≡ min (all_entries before) most
+  pub withdrawn : (kind : Kind) → ids_in b.withdrawn kind ≡ added [] (all_withdrawn rules kind before)
+
+-- Among all these records, the first of them stand before.
+pub record Stands (f : Finder) (all before : List Parts) : Type 0 where
+  pub rest : List Parts
+  pub first : all ≡ before ++ rest
+  pub registry : IsRegistry f.rules all f.registry
+  pub before_is : IsBefore f.rules before f.before
+
+-- what a record withdraws again, by the tables of what was withdrawn
+abbrev pub withdrawn_again : Finder → Parts → List FieldFault
+withdrawn_again f parts = by_form parts.form
+  where
+    by_form : Form → List FieldFault
+    by_form (Withdraws kind) = found_among f.rules DUPLICATE_ENTRY (ids_in f.before.withdrawn kind) parts.names
+    by_form _ = []

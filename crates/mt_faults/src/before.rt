@@ -1,0 +1,127 @@
+ghost use Rattle.std.specs.Prelude.{◌≡◌, ◌-◌, ◌^◌, [], ◌∷◌, ◌++◌, OnOk, List, min};
+ghost use Rattle.mt_fault_terms.specs.Parts.{entries_among, ids_among};
+ghost use Rattle.mt_fault_terms.specs.Parts as model;
+ghost use Rattle.mt_faults.specs.Seen.{parts_seen, placed_left};
+ghost use Rattle.mt_faults.specs.Registered.{IsRegistry, PassesIds};
+ghost use Rattle.mt_faults.specs.Standing.{IsBefore};
+
+use crate::parts::{Form, Parts};
+use crate::placed::Placed;
+use crate::registry::{Registry, add_ids, seen_with};
+use mt_ids::{IdTable, Seed, is_id};
+use mt_records::{Kind, Kinds, Rules};
+use std::alloc::{AllocError, Global};
+
+/// The registrations in a table that stand before a record.
+#[derive(Clone, Copy)]
+pub(crate) struct Passed {
+    /// How many different ids they have. These are the first of the table.
+    pub(crate) seen: usize,
+    /// How many they are, at most `u64::MAX`.
+    pub(crate) count: u64,
+}
+
+impl Passed {
+    /// With the registrations of those of some fields that are ids.
+    fn with(self, table: &IdTable<'_>, rules: &Rules, fields: Placed<'_>) -> Passed
+        ensures { PassesIds table.now self result (ids_among rules.now (placed_left fields.entry)) }
+    {
+        let mut passed = self;
+        for field in fields {
+            if is_id(rules.limits.id_bytes, field.bytes) {
+                passed = Passed {
+                    seen: seen_with(table, passed.seen, field.bytes),
+                    count: passed.count.saturating_add(1),
+                };
+            }
+        }
+        passed
+    }
+}
+
+/// What stands before a record.
+pub(crate) struct Before<'a> {
+    pub(crate) programs: Passed,
+    pub(crate) couples: Passed,
+    pub(crate) applicants: Passed,
+    /// The entries of all lists, at most `u64::MAX`.
+    pub(crate) entries: u64,
+    /// The ids of the rows that are withdrawn.
+    pub(crate) withdrawn: Kinds<'a>,
+}
+
+impl Drop for Before<'_> {
+    fn drop(self) {
+        let Before {
+            programs: _,
+            couples: _,
+            applicants: _,
+            entries: _,
+            withdrawn: _,
+        } = self;
+    }
+}
+
+/// How many entries the list of a record has: a pair counts as two.
+pub(crate) fn entries_of(parts: &Parts<'_>) -> u64
+    ensures { result ≡ min (entries_among (parts_seen parts.now)) (2 ^ 64 - 1) }
+{
+    let in_pairs = parts.pairs.len() / 2 * 2;
+    (parts.list.len() as u64).saturating_add(in_pairs as u64)
+}
+
+impl<'a> Before<'a> {
+    /// What stands before the first record. The tables of what is withdrawn hash by this seed.
+    pub(crate) fn new(alloc: Global, seed: Seed) -> Self
+        ensures { (rules : _) → IsBefore rules [] result }
+    {
+        let none = Passed { seen: 0, count: 0 };
+        Before {
+            programs: none,
+            couples: none,
+            applicants: none,
+            entries: 0,
+            withdrawn: Kinds::new(alloc, seed),
+        }
+    }
+
+    /// Passes over a record, so that what it registers and withdraws stands before the next one.
+    pub(crate) fn pass(
+        &mut self,
+        rules: &Rules,
+        registry: &Registry<'a>,
+        parts: &Parts<'a>,
+    ) -> Result<(), AllocError>
+        ensures { OnOk result ((before rest : List model.Parts)
+            → IsRegistry rules.now (before ++ parts_seen parts.now ∷ rest) registry.now
+            → IsBefore rules.now before self.old → IsBefore rules.now (before ++ parts_seen parts.now ∷ []) self.new) }
+    {
+        let own = parts.names.first(1);
+        let ids = &registry.registered;
+        self.entries = self.entries.saturating_add(entries_of(parts));
+        match parts.form {
+            Form::Registers(Kind::Program) => {
+                self.programs = self.programs.with(&ids.programs, rules, own);
+            }
+            Form::Registers(Kind::Applicant) => {
+                self.applicants = self.applicants.with(&registry.applicants, rules, own);
+            }
+            Form::Registers(Kind::Couple) => {
+                let members = parts.names.tail();
+                self.couples = self.couples.with(&ids.couples, rules, own);
+                self.applicants = self.applicants.with(&registry.applicants, rules, members);
+            }
+            Form::Withdraws(Kind::Program) => {
+                add_ids(&mut self.withdrawn.programs, rules, parts.names)?;
+            }
+            Form::Withdraws(Kind::Applicant) => {
+                add_ids(&mut self.withdrawn.applicants, rules, parts.names)?;
+            }
+            Form::Withdraws(Kind::Couple) => {
+                add_ids(&mut self.withdrawn.couples, rules, parts.names)?;
+            }
+            Form::Unknown => {}
+        }
+        Ok(())
+    }
+}

@@ -1,0 +1,332 @@
+ghost use Rattle.std.specs.Prelude.{◌≡◌, ◌&&◌, ◌++◌, ◌∷◌, [], List, OnOk, length, take, if◌then◌else◌};
+ghost use Rattle.mt_terms.specs.declared.codes.TheConstants.{DUPLICATE_ID, TOO_MANY};
+ghost use Rattle.mt_terms.specs.Registration.Records.{OfProgram, OfCouple};
+ghost use Rattle.mt_fault_terms.specs.Faults.{fault_of};
+ghost use Rattle.mt_fault_terms.specs.OfRecord.{id_among, is_id_field, quota_faults, found_among, members_before, passes, own_faults, registered_faults, repeat_faults, limit_faults, unknown_faults, record_faults};
+ghost use Rattle.mt_fault_terms.specs.Parts as model;
+ghost use Rattle.mt_fault_terms.specs.Parts.{applicants_among, ids_among, own_ids};
+ghost use Rattle.mt_faults.specs.Seen.{faults_seen, field_seen, form_faults, parts_seen, placed_left};
+ghost use Rattle.mt_faults.specs.Standing.{Stands, withdrawn_again};
+ghost use Rattle.mt_faults.specs.Telling.{Tells, at_record};
+
+use crate::before::{Before, Passed, entries_of};
+use crate::fault::{Fault, FaultEnd};
+use crate::parts::{Form, FormFault, Parts};
+use crate::placed::{Field, Placed, PlacedPairs};
+use crate::registry::{Registry, is_before};
+use crate::repeats::{tell_pair_repeats, tell_repeats};
+use crate::sink::FaultSink;
+use crate::tell::{Wrong, fault_alone, fault_of, is_id_field, tell, tell_bad_pairs, tell_each};
+use mt_ids::{IdTable, Seed, quota_of};
+use mt_records::{Kind, Rules};
+use mt_terms::codes::{
+    BAD_QUOTA, DUPLICATE_ENTRY, DUPLICATE_ID, NOT_REGISTERED, TOO_MANY, UNKNOWN_APPLICANT,
+    UNKNOWN_PROGRAM,
+};
+use std::alloc::{AllocError, Global};
+
+/// What a record is read beside: the rules of the version, what all records register, and what stands before it.
+pub(crate) struct Finder<'a> {
+    pub(crate) rules: Rules,
+    /// What tables hash by.
+    pub(crate) seed: Seed,
+    pub(crate) registry: Registry<'a>,
+    pub(crate) before: Before<'a>,
+}
+
+impl Drop for Finder<'_> {
+    fn drop(self) {
+        let Finder {
+            rules: _,
+            seed: _,
+            registry: _,
+            before: _,
+        } = self;
+    }
+}
+
+/// A fault of a record's form, as it is told.
+fn form_fault<'a>(fault: Option<FormFault>) -> Option<Fault<'a>>
+    ensures { faults_seen result ≡ form_faults fault }
+{
+    let fault = fault?;
+    Some(fault_alone(fault.code, fault.field))
+}
+
+/// The id that a record has first: nothing if that field isn't an id.
+fn first_id<'a>(rules: &Rules, names: Placed<'a>) -> &'a [u8]
+    ensures { result.now ≡ id_among rules.now (placed_left names.entry) }
+{
+    match names.head() {
+        Some(field) if is_id_field(rules, &field) => field.bytes,
+        _ => &[],
+    }
+}
+
+/// The fault that the field for a quota isn't one.
+fn bad_quota<'a>(rules: &Rules, parts: &Parts<'a>) -> Option<Fault<'a>>
+    ensures { faults_seen result ≡ quota_faults rules.now (parts_seen parts.now) }
+{
+    let field = parts.quota?;
+    if quota_of(field.bytes).is_some() {
+        return None;
+    }
+    Some(Fault {
+        code: BAD_QUOTA,
+        field: field.number,
+        id: first_id(rules, parts.names),
+        first: 0,
+    })
+}
+
+/// The fault with this code of a field that is an id and found.
+fn found<'a>(rules: &Rules, code: u16, is_found: bool, field: &Field<'a>) -> Option<Fault<'a>>
+    ensures { faults_seen result
+        ≡ (if is_id_field rules.now (field_seen field.now) && is_found then fault_of code (field_seen field.now) ∷ [] else []) }
+{
+    if is_found && is_id_field(rules, field) {
+        Some(fault_of(code, field))
+    } else {
+        None
+    }
+}
+
+/// The fault that a limit is passed, with this id.
+fn passed<'a>(is_passed: bool, id: &'a [u8]) -> Option<Fault<'a>>
+    ensures { faults_seen result
+        ≡ (if is_passed then record { code = TOO_MANY; field = 0; id = id.now } ∷ [] else []) }
+{
+    if !is_passed {
+        return None;
+    }
+    Some(Fault {
+        code: TOO_MANY,
+        field: 0,
+        id,
+        first: 0,
+    })
+}
+
+/// Whether a count passes a limit with what is added.
+fn passes(limit: u32, before: u64, added: u64) -> bool
+    ensures { result ≡ passes limit before added }
+{
+    let limit = u64::from(limit);
+    before <= limit && before.saturating_add(added) > limit
+}
+
+/// How many of some fields are ids.
+fn ids_count(rules: &Rules, fields: Placed<'_>) -> u64
+    ensures { result ≡ length (ids_among rules.now (placed_left fields.entry)) }
+{
+    let mut count = 0;
+    for field in fields {
+        if is_id_field(rules, &field) {
+            count += 1;
+        }
+    }
+    count
+}
+
+impl<'a> Finder<'a> {
+    /// Tells a sink the faults that a record has by itself.
+    fn tell_own<S: FaultSink>(&self, sink: &mut S, number: u64, parts: &Parts<'a>) -> Result<(), FaultEnd>
+        requires { S.takes sink.old }
+        ensures { Tells S.takes S.told S.stopped sink.old sink.new
+            (at_record number (own_faults self.now.rules (parts_seen parts.now))) result }
+    {
+        let rules = &self.rules;
+        let pairs = PlacedPairs {
+            fields: parts.pairs,
+        };
+        tell(sink, number, form_fault(parts.fault))?;
+        tell_each(sink, number, rules, Wrong::NoId, parts.names)?;
+        tell_each(sink, number, rules, Wrong::NoId, parts.list)?;
+        tell_bad_pairs(sink, number, rules, pairs)?;
+        tell(sink, number, bad_quota(rules, parts))
+    }
+
+    /// The fault that a field is an id of this table that stands before.
+    fn duplicate(&self, table: &IdTable<'_>, passed: Passed, field: &Field<'a>) -> Option<Fault<'a>>
+        ensures { faults_seen result ≡ found_among self.now.rules DUPLICATE_ID (take passed.seen table.now) (field_seen field.now ∷ []) }
+    {
+        let is_found = is_before(table, passed.seen, field.bytes);
+        found(&self.rules, DUPLICATE_ID, is_found, field)
+    }
+
+    /// The fault that a couple's second member is registered before, or is the first one.
+    fn second_duplicate(&self, first: &Field<'a>, second: &Field<'a>) -> Option<Fault<'a>>
+        ensures { faults_seen result ≡ found_among self.now.rules DUPLICATE_ID
+            (take self.now.before.applicants.seen self.now.registry.applicants ++ first.now.bytes.now ∷ []) (field_seen second.now ∷ []) }
+    {
+        let seen = self.before.applicants.seen;
+        let is_found = is_before(&self.registry.applicants, seen, second.bytes)
+            || second.bytes == first.bytes;
+        found(&self.rules, DUPLICATE_ID, is_found, second)
+    }
+
+    /// Tells a sink the members of a couple that are registered before.
+    fn tell_members<S: FaultSink>(&self, sink: &mut S, number: u64, members: Placed<'a>) -> Result<(), FaultEnd>
+        requires { S.takes sink.old }
+        ensures { Tells S.takes S.told S.stopped sink.old sink.new
+            (at_record number (members_before self.now.rules (take self.now.before.applicants.seen self.now.registry.applicants) (take 2 (placed_left members.entry)))) result }
+    {
+        let Some(first) = members.head() else {
+            return Ok(());
+        };
+        let applicants = &self.registry.applicants;
+        tell(sink, number, self.duplicate(applicants, self.before.applicants, &first))?;
+        match members.tail().head() {
+            Some(second) => tell(sink, number, self.second_duplicate(&first, &second)),
+            None => Ok(()),
+        }
+    }
+
+    /// Tells a sink the ids of a record that are registered before.
+    fn tell_registered<S: FaultSink>(&self, sink: &mut S, number: u64, parts: &Parts<'a>) -> Result<(), FaultEnd>
+        requires { S.takes sink.old }
+        ensures takes { OnOk result (S.takes sink.new) }
+        ensures tells { (all before : List model.Parts) → Stands self.now all before → Tells S.takes S.told S.stopped sink.old sink.new
+            (at_record number (registered_faults self.now.rules before (parts_seen parts.now))) result }
+    {
+        let Some(own) = parts.names.head() else {
+            return Ok(());
+        };
+        let ids = &self.registry.registered;
+        match parts.form {
+            Form::Registers(Kind::Program) => {
+                tell(sink, number, self.duplicate(&ids.programs, self.before.programs, &own))
+            }
+            Form::Registers(Kind::Applicant) => {
+                let applicants = &self.registry.applicants;
+                tell(sink, number, self.duplicate(applicants, self.before.applicants, &own))
+            }
+            Form::Registers(Kind::Couple) => {
+                tell(sink, number, self.duplicate(&ids.couples, self.before.couples, &own))?;
+                self.tell_members(sink, number, parts.names.tail())
+            }
+            _ => Ok(()),
+        }
+    }
+
+    /// Tells a sink what a record withdraws again.
+    fn tell_withdrawn<S: FaultSink>(&self, sink: &mut S, number: u64, parts: &Parts<'a>) -> Result<(), FaultEnd>
+        requires { S.takes sink.old }
+        ensures { Tells S.takes S.told S.stopped sink.old sink.new
+            (at_record number (withdrawn_again self.now (parts_seen parts.now))) result }
+    {
+        let (Form::Withdraws(kind), Some(own)) = (parts.form, parts.names.head()) else {
+            return Ok(());
+        };
+        let is_found = self.before.withdrawn.of(kind).contains(own.bytes);
+        tell(sink, number, found(&self.rules, DUPLICATE_ENTRY, is_found, &own))
+    }
+
+    /// Tells a sink the entries and the pairs of a record that stand in its list before, and what it withdraws again.
+    fn tell_repeated<S: FaultSink>(
+        &self,
+        alloc: Global,
+        sink: &mut S,
+        number: u64,
+        parts: &Parts<'a>,
+    ) -> Result<(), FaultEnd>
+        requires { S.takes sink.old }
+        ensures takes { OnOk result (S.takes sink.new) }
+        ensures tells { (all before : List model.Parts) → Stands self.now all before → Tells S.takes S.told S.stopped sink.old sink.new
+            (at_record number (repeat_faults self.now.rules before (parts_seen parts.now))) result }
+    {
+        let pairs = PlacedPairs {
+            fields: parts.pairs,
+        };
+        tell_repeats(alloc, self.seed, sink, number, &self.rules, parts.list)?;
+        tell_pair_repeats(alloc, self.seed, sink, number, &self.rules, pairs)?;
+        self.tell_withdrawn(sink, number, parts)
+    }
+
+    /// How many applicants, programs and couples a record registers.
+    fn registers(&self, parts: &Parts<'a>) -> (u64, u64, u64)
+        ensures { let p = parts_seen parts.now in result ≡ (length (applicants_among self.now.rules p), length (own_ids self.now.rules OfProgram p), length (own_ids self.now.rules OfCouple p)) }
+    {
+        let own = ids_count(&self.rules, parts.names.first(1));
+        match parts.form {
+            Form::Registers(Kind::Program) => (0, own, 0),
+            Form::Registers(Kind::Applicant) => (own, 0, 0),
+            Form::Registers(Kind::Couple) => {
+                (ids_count(&self.rules, parts.names.tail()), 0, own)
+            }
+            _ => (0, 0, 0),
+        }
+    }
+
+    /// Tells a sink the limits that are passed with a record.
+    fn tell_limits<S: FaultSink>(&self, sink: &mut S, number: u64, parts: &Parts<'a>) -> Result<(), FaultEnd>
+        requires { S.takes sink.old }
+        ensures takes { OnOk result (S.takes sink.new) }
+        ensures tells { (all before : List model.Parts) → Stands self.now all before → Tells S.takes S.told S.stopped sink.old sink.new
+            (at_record number (limit_faults self.now.rules before (parts_seen parts.now))) result }
+    {
+        let limits = &self.rules.limits;
+        let before = &self.before;
+        let id = first_id(&self.rules, parts.names);
+        let (applicants, programs, couples) = self.registers(parts);
+        let many_applicants = passes(limits.applicants, before.applicants.count, applicants);
+        let many_programs = passes(limits.programs, before.programs.count, programs);
+        let many_couples = passes(limits.couples, before.couples.count, couples);
+        let many_entries = passes(limits.entries, before.entries, entries_of(parts));
+        tell(sink, number, passed(many_applicants, id))?;
+        tell(sink, number, passed(many_programs, id))?;
+        tell(sink, number, passed(many_couples, id))?;
+        tell(sink, number, passed(many_entries, id))
+    }
+
+    /// Tells a sink the ids that a record names and that no record registers.
+    fn tell_unknown<S: FaultSink>(&self, sink: &mut S, number: u64, parts: &Parts<'a>) -> Result<(), FaultEnd>
+        requires { S.takes sink.old }
+        ensures takes { OnOk result (S.takes sink.new) }
+        ensures tells { (all before : List model.Parts) → Stands self.now all before → Tells S.takes S.told S.stopped sink.old sink.new
+            (at_record number (unknown_faults self.now.rules all (parts_seen parts.now))) result }
+    {
+        let ids = &self.registry.registered;
+        let (code, ids, fields) = match parts.form {
+            Form::Registers(Kind::Program) => {
+                (UNKNOWN_APPLICANT, &self.registry.applicants, parts.list)
+            }
+            Form::Registers(Kind::Applicant) => (UNKNOWN_PROGRAM, &ids.programs, parts.list),
+            Form::Registers(Kind::Couple) => {
+                let whole = parts.pairs.len() / 2 * 2;
+                (UNKNOWN_PROGRAM, &ids.programs, parts.pairs.first(whole))
+            }
+            Form::Withdraws(kind) => (NOT_REGISTERED, ids.of(kind), parts.names),
+            Form::Unknown => return Ok(()),
+        };
+        tell_each(sink, number, &self.rules, Wrong::Missing { code, ids }, fields)
+    }
+
+    /// Passes over a record, so that it stands before the next one.
+    pub(crate) fn pass(&mut self, parts: &Parts<'a>) -> Result<(), AllocError>
+        ensures { OnOk result ((all before rest : List model.Parts) → all ≡ before ++ parts_seen parts.now ∷ rest
+            → Stands self.old all before → Stands self.new all (before ++ parts_seen parts.now ∷ [])) }
+    {
+        self.before.pass(&self.rules, &self.registry, parts)
+    }
+
+    /// Tells a sink all faults of a record.
+    pub(crate) fn tell_record<S: FaultSink>(
+        &self,
+        alloc: Global,
+        sink: &mut S,
+        number: u64,
+        parts: &Parts<'a>,
+    ) -> Result<(), FaultEnd>
+        requires { S.takes sink.old }
+        ensures takes { OnOk result (S.takes sink.new) }
+        ensures tells { (all before : List model.Parts) → Stands self.now all before → Tells S.takes S.told S.stopped sink.old sink.new
+            (at_record number (record_faults self.now.rules all before (parts_seen parts.now))) result }
+    {
+        self.tell_own(sink, number, parts)?;
+        self.tell_registered(sink, number, parts)?;
+        self.tell_repeated(alloc, sink, number, parts)?;
+        self.tell_limits(sink, number, parts)?;
+        self.tell_unknown(sink, number, parts)
+    }
+}

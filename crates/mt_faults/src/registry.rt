@@ -1,0 +1,137 @@
+ghost use Rattle.std.specs.Prelude.{◌≡◌, [], flat_map, take, IfOk, OnOk};
+ghost use Rattle.mt_lists.specs.Rows.{rows_left};
+ghost use Rattle.mt_ids.specs.Seeds.{seed_of};
+ghost use Rattle.mt_terms.specs.Registration.Ids.{has_id};
+ghost use Rattle.mt_terms.specs.Registration.Passes.{numbered_from};
+ghost use Rattle.mt_fault_terms.specs.OfFile.{all_parts};
+ghost use Rattle.mt_fault_terms.specs.Parts.{ids_among};
+ghost use Rattle.mt_faults.specs.Seen.{parts_seen, placed_left};
+ghost use Rattle.mt_faults.specs.Registered.{added, seen_with, AddsParts, IsRegistry};
+
+use crate::parts::{Form, Parts, parts_of};
+use crate::placed::Placed;
+use mt_ids::{IdTable, Seed, add_field, is_id};
+use mt_lists::RowsIter;
+use mt_records::{Kind, Kinds, Rules};
+use std::alloc::{AllocError, Global};
+use std::hash::DefaultHasher;
+
+/// The ids that all records of a file register, each once, in the order in which they come.
+pub(crate) struct Registry<'a> {
+    /// The own ids of the records.
+    pub(crate) registered: Kinds<'a>,
+    /// The applicants, members of couples included.
+    pub(crate) applicants: IdTable<'a>,
+}
+
+impl Drop for Registry<'_> {
+    fn drop(self) {
+        let Registry {
+            registered: _,
+            applicants: _,
+        } = self;
+    }
+}
+
+/// The seed of tables of what is in these rows.
+pub(crate) fn seed_of(rows: RowsIter<'_>) -> Seed
+    ensures { result ≡ seed_of (flat_map (λ fields. fields) (rows_left rows.entry)) }
+{
+    let mut digest = DefaultHasher::new();
+    for row in rows {
+        for field in row.fields() {
+            add_field(&mut digest, field);
+        }
+    }
+    Seed::of(&digest)
+}
+
+/// Adds those of some fields that are ids to a table.
+pub(crate) fn add_ids<'a>(
+    table: &mut IdTable<'a>,
+    rules: &Rules,
+    fields: Placed<'a>,
+) -> Result<(), AllocError>
+    ensures { OnOk result (table.new ≡ added table.old (ids_among rules.now (placed_left fields.entry))) }
+{
+    for field in fields {
+        if is_id(rules.limits.id_bytes, field.bytes) {
+            table.add(field.bytes)?;
+        }
+    }
+    Ok(())
+}
+
+impl<'a> Registry<'a> {
+    /// No ids. The tables hash by this seed.
+    fn new(alloc: Global, seed: Seed) -> Self
+        ensures programs { result.registered.programs ≡ [] }
+        ensures singles { result.registered.applicants ≡ [] }
+        ensures couples { result.registered.couples ≡ [] }
+        ensures applicants { result.applicants ≡ [] }
+    {
+        Registry {
+            registered: Kinds::new(alloc, seed),
+            applicants: IdTable::new(alloc, seed),
+        }
+    }
+
+    /// Adds what a record registers, with or without a fault.
+    fn add(&mut self, rules: &Rules, parts: &Parts<'a>) -> Result<(), AllocError>
+        ensures { OnOk result (AddsParts rules.now self.old self.new (parts_seen parts.now)) }
+    {
+        let own = parts.names.first(1);
+        match parts.form {
+            Form::Registers(Kind::Program) => add_ids(&mut self.registered.programs, rules, own),
+            Form::Registers(Kind::Applicant) => {
+                add_ids(&mut self.registered.applicants, rules, own)?;
+                add_ids(&mut self.applicants, rules, own)
+            }
+            Form::Registers(Kind::Couple) => {
+                add_ids(&mut self.registered.couples, rules, own)?;
+                add_ids(&mut self.applicants, rules, parts.names.tail())
+            }
+            _ => Ok(()),
+        }
+    }
+
+    /// What these rows register.
+    pub(crate) fn of(
+        alloc: Global,
+        rules: &Rules,
+        seed: Seed,
+        rows: RowsIter<'a>,
+    ) -> Result<Self, AllocError>
+        ensures { IfOk result (λ registry.
+            (first : _) → IsRegistry rules.now (all_parts rules.now (numbered_from first (rows_left rows.entry))) registry) }
+    {
+        let mut registry = Registry::new(alloc, seed);
+        for row in rows {
+            if !row.is_empty() {
+                registry.add(rules, &parts_of(rules, row.fields()))?;
+            }
+        }
+        Ok(registry)
+    }
+}
+
+/// Whether an id is among the first `seen` of a table.
+pub(crate) fn is_before(table: &IdTable<'_>, seen: usize, id: &[u8]) -> bool
+    ensures { result ≡ has_id (take seen table.now) id.now }
+{
+    match table.number(id) {
+        Some(number) => number < seen,
+        None => false,
+    }
+}
+
+/// How many of a table's ids were seen with one more: the next one of the table, unless it is among them already.
+pub(crate) fn seen_with(table: &IdTable<'_>, seen: usize, id: &[u8]) -> usize
+    ensures { result ≡ seen_with table.now seen id.now }
+{
+    if is_before(table, seen, id) || seen >= table.len() {
+        seen
+    } else {
+        seen + 1
+    }
+}

@@ -1,0 +1,109 @@
+ghost use Rattle.std.specs.Prelude.{◌≡◌, ◌&&◌, [], ◌∷◌, is_some, if◌then◌else◌};
+ghost use Rattle.mt_terms.specs.declared.codes.TheConstants.{DUPLICATE_ENTRY};
+ghost use Rattle.mt_terms.specs.Registration.Records.{is_pair};
+ghost use Rattle.mt_fault_terms.specs.Faults.{fault_of};
+ghost use Rattle.mt_fault_terms.specs.OfRecord.{is_id_field, repeats_after, pair_repeats_after, shown_of_pair};
+ghost use Rattle.mt_faults.specs.Seen.{faults_seen, field_seen, pairs_left, placed_left};
+ghost use Rattle.mt_faults.specs.Telling.{Tells, at_record};
+
+use crate::entries::Entries;
+use crate::fault::{Fault, FaultEnd};
+use crate::pairs::{PairEntries, pair_of};
+use crate::placed::{Field, Placed, PlacedPairs};
+use crate::sink::FaultSink;
+use crate::tell::{fault_of, is_id_field, tell};
+use mt_ids::{Seed, is_dash};
+use mt_records::Rules;
+use mt_terms::codes::DUPLICATE_ENTRY;
+use std::alloc::Global;
+
+/// The fault of an entry that stands before, first in the field with this number, if it is an id.
+fn repeated<'a>(rules: &Rules, field: &Field<'a>, first: Option<usize>) -> Option<Fault<'a>>
+    ensures { faults_seen result
+        ≡ (if is_some first && is_id_field rules.now (field_seen field.now)
+        then fault_of DUPLICATE_ENTRY (field_seen field.now) ∷ [] else []) }
+{
+    let first = first?;
+    if !is_id_field(rules, field) {
+        return None;
+    }
+    let fault = fault_of(DUPLICATE_ENTRY, field);
+    Some(Fault { first, ..fault })
+}
+
+/// Tells a sink the entries of a list that stand in it before.
+pub(crate) fn tell_repeats<S: FaultSink>(
+    alloc: Global,
+    seed: Seed,
+    sink: &mut S,
+    number: u64,
+    rules: &Rules,
+    list: Placed<'_>,
+) -> Result<(), FaultEnd>
+    requires { S.takes sink.old }
+    ensures { Tells S.takes S.told S.stopped sink.old sink.new
+        (at_record number (repeats_after rules.now [] (placed_left list.entry))) result }
+{
+    let mut entries = Entries::new(alloc, seed);
+    for field in list {
+        let first = entries.add(&field)?;
+        tell(sink, number, repeated(rules, &field, first))?;
+    }
+    Ok(())
+}
+
+/// Whether two fields are a pair by the rules of a version.
+fn is_pair(rules: &Rules, first: &Field<'_>, second: &Field<'_>) -> bool
+    ensures { result ≡ is_pair rules.now (first.now.bytes.now, second.now.bytes.now) }
+{
+    let first_is_id = is_id_field(rules, first);
+    let second_is_id = is_id_field(rules, second);
+    (first_is_id && second_is_id)
+        || (rules.half_pairs
+            && ((first_is_id && is_dash(second.bytes)) || (is_dash(first.bytes) && second_is_id)))
+}
+
+/// The fault of a pair that stands before, first in the field with this number, if it is one.
+fn repeated_pair<'a>(
+    rules: &Rules,
+    first: &Field<'a>,
+    second: &Field<'a>,
+    place: Option<usize>,
+) -> Option<Fault<'a>>
+    ensures { let pair = (field_seen first.now, field_seen second.now) in faults_seen result
+        ≡ (if is_pair rules.now (first.now.bytes.now, second.now.bytes.now) && is_some place
+        then record { code = DUPLICATE_ENTRY; field = pair.0.0; id = shown_of_pair pair } ∷ [] else []) }
+{
+    let place = place?;
+    if !is_pair(rules, first, second) {
+        return None;
+    }
+    let shown = if is_dash(first.bytes) { second } else { first };
+    Some(Fault {
+        code: DUPLICATE_ENTRY,
+        field: first.number,
+        id: shown.bytes,
+        first: place,
+    })
+}
+
+/// Tells a sink the pairs of a couple's list that stand in it before.
+pub(crate) fn tell_pair_repeats<S: FaultSink>(
+    alloc: Global,
+    seed: Seed,
+    sink: &mut S,
+    number: u64,
+    rules: &Rules,
+    pairs: PlacedPairs<'_>,
+) -> Result<(), FaultEnd>
+    requires { S.takes sink.old }
+    ensures { Tells S.takes S.told S.stopped sink.old sink.new
+        (at_record number (pair_repeats_after rules.now [] (pairs_left pairs.entry))) result }
+{
+    let mut entries = PairEntries::new(alloc, seed);
+    for (first, second) in pairs {
+        let place = entries.add(pair_of(&first, &second), first.number)?;
+        tell(sink, number, repeated_pair(rules, &first, &second, place))?;
+    }
+    Ok(())
+}
