@@ -65,3 +65,4 @@ parts_seen p = record {
 abbrev pub tested : Wrong → Rules → Placed → List FieldFault
 tested wrongs.NoId rules field = if is_id_field rules field then [] else fault_alone BAD_ID field.0 ∷ []
 tested (wrongs.Missing code ids) rules field = if is_id_field rules field && not (has_id ids.now field.1) then fault_of code field ∷ [] else []
+tested (wrongs.Found code ids seen) rules field = if is_id_field rules field && has_id (take seen ids.now) field.1 then fault_of code field ∷ [] else []

@@ -1,11 +1,11 @@
 -- What is known of what stands before a record.
-use Rattle.std.specs.Prelude.{◌≡◌, List, [], ◌∷◌, ◌++◌, min}
+use Rattle.std.specs.Prelude.{◌≡◌, ℕ, List, [], ◌++◌, length, min}
 use Rattle.mt_terms.specs.declared.codes.TheConstants.{DUPLICATE_ENTRY}
 use Rattle.mt_terms.specs.Registration.Records.{Rules, Kind, OfProgram, OfCouple}
 use Rattle.mt_records.specs.Kinds.{ids_in}
 use Rattle.mt_fault_terms.specs.Faults.{FieldFault}
 use Rattle.mt_fault_terms.specs.OfRecord.{found_among}
-use Rattle.mt_fault_terms.specs.Parts.{Form, Registers, Withdraws, Unknown, Parts, all_own_ids, all_applicants, all_entries, all_withdrawn}
+use Rattle.mt_fault_terms.specs.Parts.{Form, Withdraws, Parts, applicants_among, own_ids, all_own_ids, all_applicants, all_entries, all_withdrawn}
 use Rattle.mt_faults.specs.declared.before.Before.{Before}
 use Rattle.mt_faults.specs.declared.finder.Finder.{Finder}
 use Rattle.mt_faults.specs.Registered.{IsPassed, IsRegistry, added, most}
@@ -25,10 +25,16 @@ pub record Stands (f : Finder) (all before : List Parts) : Type 0 where
   pub registry : IsRegistry f.rules all f.registry
   pub before_is : IsBefore f.rules before f.before
 
--- what a record withdraws again, by the tables of what was withdrawn
-abbrev pub withdrawn_again : Finder → Parts → List FieldFault
-withdrawn_again f parts = by_form parts.form
+-- so many applicants, programs and couples a record registers, each at most the greatest count
+pub record Registers (rules : Rules) (p : Parts) (applicants programs couples : ℕ) : Type 0 where
+  pub applicants_are : applicants ≡ min (length (applicants_among rules p)) most
+  pub programs_are : programs ≡ min (length (own_ids rules OfProgram p)) most
+  pub couples_are : couples ≡ min (length (own_ids rules OfCouple p)) most
+
+-- what a record withdraws again
+abbrev pub withdrawn_again : Rules → List Parts → Parts → List FieldFault
+withdrawn_again rules before parts = by_form parts.form
   where
     by_form : Form → List FieldFault
-    by_form (Withdraws kind) = found_among f.rules DUPLICATE_ENTRY (ids_in f.before.withdrawn kind) parts.names
+    by_form (Withdraws kind) = found_among rules DUPLICATE_ENTRY (all_withdrawn rules kind before) parts.names
     by_form _ = []

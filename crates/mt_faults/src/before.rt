@@ -1,8 +1,8 @@
-ghost use Rattle.std.specs.Prelude.{◌≡◌, ◌-◌, ◌^◌, [], ◌∷◌, ◌++◌, OnOk, List, min};
+ghost use Rattle.std.specs.Prelude.{◌≡◌, [], ◌∷◌, ◌++◌, OnOk, List, min};
 ghost use Rattle.mt_fault_terms.specs.Parts.{entries_among, ids_among};
 ghost use Rattle.mt_fault_terms.specs.Parts as model;
 ghost use Rattle.mt_faults.specs.Seen.{parts_seen, placed_left};
-ghost use Rattle.mt_faults.specs.Registered.{IsRegistry, PassesIds};
+ghost use Rattle.mt_faults.specs.Registered.{IsRegistry, PassesIds, most};
 ghost use Rattle.mt_faults.specs.Standing.{IsBefore};
 
 use crate::parts::{Form, Parts};
@@ -64,7 +64,7 @@ impl Drop for Before<'_> {
 
 /// How many entries the list of a record has: a pair counts as two.
 pub(crate) fn entries_of(parts: &Parts<'_>) -> u64
-    ensures { result ≡ min (entries_among (parts_seen parts.now)) (2 ^ 64 - 1) }
+    ensures { result ≡ min (entries_among (parts_seen parts.now)) most }
 {
     let in_pairs = parts.pairs.len() / 2 * 2;
     (parts.list.len() as u64).saturating_add(in_pairs as u64)

@@ -1,15 +1,14 @@
-ghost use Rattle.std.specs.Prelude.{◌≡◌, ◌&&◌, ◌++◌, ◌∷◌, [], List, OnOk, length, take, if◌then◌else◌};
+ghost use Rattle.std.specs.Prelude.{◌≡◌, ℕ, ◌≤◌, ◌++◌, ◌∷◌, [], List, OnOk, length, min, take, if◌then◌else◌};
 ghost use Rattle.mt_terms.specs.declared.codes.TheConstants.{DUPLICATE_ID, TOO_MANY};
-ghost use Rattle.mt_terms.specs.Registration.Records.{OfProgram, OfCouple};
-ghost use Rattle.mt_fault_terms.specs.Faults.{fault_of};
-ghost use Rattle.mt_fault_terms.specs.OfRecord.{id_among, is_id_field, quota_faults, found_among, members_before, passes, own_faults, registered_faults, repeat_faults, limit_faults, unknown_faults, record_faults};
+ghost use Rattle.mt_fault_terms.specs.OfRecord.{id_among, quota_faults, found_among, members_before, passes, own_faults, registered_faults, repeat_faults, limit_faults, unknown_faults, record_faults};
 ghost use Rattle.mt_fault_terms.specs.Parts as model;
-ghost use Rattle.mt_fault_terms.specs.Parts.{applicants_among, ids_among, own_ids};
+ghost use Rattle.mt_fault_terms.specs.Parts.{ids_among};
+ghost use Rattle.mt_faults.specs.Registered.{most};
 ghost use Rattle.mt_faults.specs.Seen.{faults_seen, field_seen, form_faults, parts_seen, placed_left};
-ghost use Rattle.mt_faults.specs.Standing.{Stands, withdrawn_again};
+ghost use Rattle.mt_faults.specs.Standing.{Registers, Stands, withdrawn_again};
 ghost use Rattle.mt_faults.specs.Telling.{Tells, at_record};
 
-use crate::before::{Before, Passed, entries_of};
+use crate::before::{Before, entries_of};
 use crate::fault::{Fault, FaultEnd};
 use crate::parts::{Form, FormFault, Parts};
 use crate::placed::{Field, Placed, PlacedPairs};
@@ -79,18 +78,6 @@ fn bad_quota<'a>(rules: &Rules, parts: &Parts<'a>) -> Option<Fault<'a>>
     })
 }
 
-/// The fault with this code of a field that is an id and found.
-fn found<'a>(rules: &Rules, code: u16, is_found: bool, field: &Field<'a>) -> Option<Fault<'a>>
-    ensures { faults_seen result
-        ≡ (if is_id_field rules.now (field_seen field.now) && is_found then fault_of code (field_seen field.now) ∷ [] else []) }
-{
-    if is_found && is_id_field(rules, field) {
-        Some(fault_of(code, field))
-    } else {
-        None
-    }
-}
-
 /// The fault that a limit is passed, with this id.
 fn passed<'a>(is_passed: bool, id: &'a [u8]) -> Option<Fault<'a>>
     ensures { faults_seen result
@@ -107,22 +94,23 @@ fn passed<'a>(is_passed: bool, id: &'a [u8]) -> Option<Fault<'a>>
     })
 }
 
-/// Whether a count passes a limit with what is added.
+/// Whether a count passes a limit with what is added. Both are at most `u64::MAX`, whatever was counted.
 fn passes(limit: u32, before: u64, added: u64) -> bool
-    ensures { result ≡ passes limit before added }
+    ensures { (counted more : ℕ) → before ≡ min counted most → added ≡ min more most
+        → result ≡ passes limit counted more }
 {
     let limit = u64::from(limit);
     before <= limit && before.saturating_add(added) > limit
 }
 
-/// How many of some fields are ids.
+/// How many of some fields are ids, at most `u64::MAX`.
 fn ids_count(rules: &Rules, fields: Placed<'_>) -> u64
-    ensures { result ≡ length (ids_among rules.now (placed_left fields.entry)) }
+    ensures { result ≡ min (length (ids_among rules.now (placed_left fields.entry))) most }
 {
-    let mut count = 0;
+    let mut count: u64 = 0;
     for field in fields {
         if is_id_field(rules, &field) {
-            count += 1;
+            count = count.saturating_add(1);
         }
     }
     count
@@ -130,7 +118,12 @@ fn ids_count(rules: &Rules, fields: Placed<'_>) -> u64
 
 impl<'a> Finder<'a> {
     /// Tells a sink the faults that a record has by itself.
-    fn tell_own<S: FaultSink>(&self, sink: &mut S, number: u64, parts: &Parts<'a>) -> Result<(), FaultEnd>
+    fn tell_own<S: FaultSink>(
+        &self,
+        sink: &mut S,
+        number: u64,
+        parts: &Parts<'a>,
+    ) -> Result<(), FaultEnd>
         requires { S.takes sink.old }
         ensures { Tells S.takes S.told S.stopped sink.old sink.new
             (at_record number (own_faults self.now.rules (parts_seen parts.now))) result }
@@ -146,63 +139,102 @@ impl<'a> Finder<'a> {
         tell(sink, number, bad_quota(rules, parts))
     }
 
-    /// The fault that a field is an id of this table that stands before.
-    fn duplicate(&self, table: &IdTable<'_>, passed: Passed, field: &Field<'a>) -> Option<Fault<'a>>
-        ensures { faults_seen result ≡ found_among self.now.rules DUPLICATE_ID (take passed.seen table.now) (field_seen field.now ∷ []) }
+    /// Tells a sink those of some fields that are ids of this table and stand before.
+    fn tell_found<S: FaultSink>(
+        &self,
+        sink: &mut S,
+        number: u64,
+        ids: &IdTable<'_>,
+        seen: usize,
+        fields: Placed<'a>,
+    ) -> Result<(), FaultEnd>
+        requires { S.takes sink.old }
+        ensures { Tells S.takes S.told S.stopped sink.old sink.new
+            (at_record number
+            (found_among self.now.rules DUPLICATE_ID (take seen ids.now) (placed_left fields.entry))) result }
     {
-        let is_found = is_before(table, passed.seen, field.bytes);
-        found(&self.rules, DUPLICATE_ID, is_found, field)
+        let code = DUPLICATE_ID;
+        tell_each(
+            sink,
+            number,
+            &self.rules,
+            Wrong::Found { code, ids, seen },
+            fields,
+        )
     }
 
     /// The fault that a couple's second member is registered before, or is the first one.
-    fn second_duplicate(&self, first: &Field<'a>, second: &Field<'a>) -> Option<Fault<'a>>
-        ensures { faults_seen result ≡ found_among self.now.rules DUPLICATE_ID
-            (take self.now.before.applicants.seen self.now.registry.applicants ++ first.now.bytes.now ∷ []) (field_seen second.now ∷ []) }
+    fn second_found(&self, first: &Field<'a>, second: &Field<'a>) -> Option<Fault<'a>>
+        ensures { let ids = take self.now.before.applicants.seen self.now.registry.applicants in faults_seen result
+            ≡ found_among self.now.rules DUPLICATE_ID (ids ++ first.now.bytes.now ∷ []) (field_seen second.now ∷ []) }
     {
         let seen = self.before.applicants.seen;
         let is_found = is_before(&self.registry.applicants, seen, second.bytes)
             || second.bytes == first.bytes;
-        found(&self.rules, DUPLICATE_ID, is_found, second)
+        if is_found && is_id_field(&self.rules, second) {
+            Some(fault_of(DUPLICATE_ID, second))
+        } else {
+            None
+        }
     }
 
     /// Tells a sink the members of a couple that are registered before.
-    fn tell_members<S: FaultSink>(&self, sink: &mut S, number: u64, members: Placed<'a>) -> Result<(), FaultEnd>
-        requires { S.takes sink.old }
-        ensures { Tells S.takes S.told S.stopped sink.old sink.new
-            (at_record number (members_before self.now.rules (take self.now.before.applicants.seen self.now.registry.applicants) (take 2 (placed_left members.entry)))) result }
+    fn tell_members<S: FaultSink>(
+        &self,
+        sink: &mut S,
+        number: u64,
+        members: Placed<'a>,
+    ) -> Result<(), FaultEnd>
+        requires takes { S.takes sink.old }
+        requires few { length (placed_left members) ≤ 2 }
+        ensures { let ids = take self.now.before.applicants.seen self.now.registry.applicants in
+            Tells S.takes S.told S.stopped sink.old sink.new
+            (at_record number (members_before self.now.rules ids (placed_left members.entry))) result }
     {
+        let seen = self.before.applicants.seen;
+        self.tell_found(
+            sink,
+            number,
+            &self.registry.applicants,
+            seen,
+            members.first(1),
+        )?;
         let Some(first) = members.head() else {
             return Ok(());
         };
-        let applicants = &self.registry.applicants;
-        tell(sink, number, self.duplicate(applicants, self.before.applicants, &first))?;
         match members.tail().head() {
-            Some(second) => tell(sink, number, self.second_duplicate(&first, &second)),
+            Some(second) => tell(sink, number, self.second_found(&first, &second)),
             None => Ok(()),
         }
     }
 
     /// Tells a sink the ids of a record that are registered before.
-    fn tell_registered<S: FaultSink>(&self, sink: &mut S, number: u64, parts: &Parts<'a>) -> Result<(), FaultEnd>
-        requires { S.takes sink.old }
+    fn tell_registered<S: FaultSink>(
+        &self,
+        sink: &mut S,
+        number: u64,
+        parts: &Parts<'a>,
+    ) -> Result<(), FaultEnd>
+        requires takes { S.takes sink.old }
+        requires few { length (placed_left parts.now.names) ≤ 3 }
         ensures takes { OnOk result (S.takes sink.new) }
-        ensures tells { (all before : List model.Parts) → Stands self.now all before → Tells S.takes S.told S.stopped sink.old sink.new
+        ensures tells { (all before : List model.Parts) → Stands self.now all before
+            → Tells S.takes S.told S.stopped sink.old sink.new
             (at_record number (registered_faults self.now.rules before (parts_seen parts.now))) result }
     {
-        let Some(own) = parts.names.head() else {
-            return Ok(());
-        };
         let ids = &self.registry.registered;
         match parts.form {
             Form::Registers(Kind::Program) => {
-                tell(sink, number, self.duplicate(&ids.programs, self.before.programs, &own))
+                let seen = self.before.programs.seen;
+                self.tell_found(sink, number, &ids.programs, seen, parts.names)
             }
             Form::Registers(Kind::Applicant) => {
-                let applicants = &self.registry.applicants;
-                tell(sink, number, self.duplicate(applicants, self.before.applicants, &own))
+                let seen = self.before.applicants.seen;
+                self.tell_found(sink, number, &self.registry.applicants, seen, parts.names)
             }
             Form::Registers(Kind::Couple) => {
-                tell(sink, number, self.duplicate(&ids.couples, self.before.couples, &own))?;
+                let seen = self.before.couples.seen;
+                self.tell_found(sink, number, &ids.couples, seen, parts.names.first(1))?;
                 self.tell_members(sink, number, parts.names.tail())
             }
             _ => Ok(()),
@@ -210,16 +242,28 @@ impl<'a> Finder<'a> {
     }
 
     /// Tells a sink what a record withdraws again.
-    fn tell_withdrawn<S: FaultSink>(&self, sink: &mut S, number: u64, parts: &Parts<'a>) -> Result<(), FaultEnd>
+    fn tell_withdrawn<S: FaultSink>(
+        &self,
+        sink: &mut S,
+        number: u64,
+        parts: &Parts<'a>,
+    ) -> Result<(), FaultEnd>
         requires { S.takes sink.old }
-        ensures { Tells S.takes S.told S.stopped sink.old sink.new
-            (at_record number (withdrawn_again self.now (parts_seen parts.now))) result }
+        ensures takes { OnOk result (S.takes sink.new) }
+        ensures tells { (all before : List model.Parts) → Stands self.now all before
+            → Tells S.takes S.told S.stopped sink.old sink.new
+            (at_record number (withdrawn_again self.now.rules before (parts_seen parts.now))) result }
     {
-        let (Form::Withdraws(kind), Some(own)) = (parts.form, parts.names.head()) else {
+        let Form::Withdraws(kind) = parts.form else {
             return Ok(());
         };
-        let is_found = self.before.withdrawn.of(kind).contains(own.bytes);
-        tell(sink, number, found(&self.rules, DUPLICATE_ENTRY, is_found, &own))
+        let ids = self.before.withdrawn.of(kind);
+        let again = Wrong::Found {
+            code: DUPLICATE_ENTRY,
+            ids,
+            seen: ids.len(),
+        };
+        tell_each(sink, number, &self.rules, again, parts.names)
     }
 
     /// Tells a sink the entries and the pairs of a record that stand in its list before, and what it withdraws again.
@@ -232,7 +276,8 @@ impl<'a> Finder<'a> {
     ) -> Result<(), FaultEnd>
         requires { S.takes sink.old }
         ensures takes { OnOk result (S.takes sink.new) }
-        ensures tells { (all before : List model.Parts) → Stands self.now all before → Tells S.takes S.told S.stopped sink.old sink.new
+        ensures tells { (all before : List model.Parts) → Stands self.now all before
+            → Tells S.takes S.told S.stopped sink.old sink.new
             (at_record number (repeat_faults self.now.rules before (parts_seen parts.now))) result }
     {
         let pairs = PlacedPairs {
@@ -243,9 +288,9 @@ impl<'a> Finder<'a> {
         self.tell_withdrawn(sink, number, parts)
     }
 
-    /// How many applicants, programs and couples a record registers.
+    /// How many applicants, programs and couples a record registers, each at most `u64::MAX`.
     fn registers(&self, parts: &Parts<'a>) -> (u64, u64, u64)
-        ensures { let p = parts_seen parts.now in result ≡ (length (applicants_among self.now.rules p), length (own_ids self.now.rules OfProgram p), length (own_ids self.now.rules OfCouple p)) }
+        ensures { Registers self.now.rules (parts_seen parts.now) result.0 result.1 result.2 }
     {
         let own = ids_count(&self.rules, parts.names.first(1));
         match parts.form {
@@ -259,10 +304,16 @@ impl<'a> Finder<'a> {
     }
 
     /// Tells a sink the limits that are passed with a record.
-    fn tell_limits<S: FaultSink>(&self, sink: &mut S, number: u64, parts: &Parts<'a>) -> Result<(), FaultEnd>
+    fn tell_limits<S: FaultSink>(
+        &self,
+        sink: &mut S,
+        number: u64,
+        parts: &Parts<'a>,
+    ) -> Result<(), FaultEnd>
         requires { S.takes sink.old }
         ensures takes { OnOk result (S.takes sink.new) }
-        ensures tells { (all before : List model.Parts) → Stands self.now all before → Tells S.takes S.told S.stopped sink.old sink.new
+        ensures tells { (all before : List model.Parts) → Stands self.now all before
+            → Tells S.takes S.told S.stopped sink.old sink.new
             (at_record number (limit_faults self.now.rules before (parts_seen parts.now))) result }
     {
         let limits = &self.rules.limits;
@@ -280,10 +331,16 @@ impl<'a> Finder<'a> {
     }
 
     /// Tells a sink the ids that a record names and that no record registers.
-    fn tell_unknown<S: FaultSink>(&self, sink: &mut S, number: u64, parts: &Parts<'a>) -> Result<(), FaultEnd>
+    fn tell_unknown<S: FaultSink>(
+        &self,
+        sink: &mut S,
+        number: u64,
+        parts: &Parts<'a>,
+    ) -> Result<(), FaultEnd>
         requires { S.takes sink.old }
         ensures takes { OnOk result (S.takes sink.new) }
-        ensures tells { (all before : List model.Parts) → Stands self.now all before → Tells S.takes S.told S.stopped sink.old sink.new
+        ensures tells { (all before : List model.Parts) → Stands self.now all before
+            → Tells S.takes S.told S.stopped sink.old sink.new
             (at_record number (unknown_faults self.now.rules all (parts_seen parts.now))) result }
     {
         let ids = &self.registry.registered;
@@ -299,7 +356,13 @@ impl<'a> Finder<'a> {
             Form::Withdraws(kind) => (NOT_REGISTERED, ids.of(kind), parts.names),
             Form::Unknown => return Ok(()),
         };
-        tell_each(sink, number, &self.rules, Wrong::Missing { code, ids }, fields)
+        tell_each(
+            sink,
+            number,
+            &self.rules,
+            Wrong::Missing { code, ids },
+            fields,
+        )
     }
 
     /// Passes over a record, so that it stands before the next one.
@@ -318,9 +381,11 @@ impl<'a> Finder<'a> {
         number: u64,
         parts: &Parts<'a>,
     ) -> Result<(), FaultEnd>
-        requires { S.takes sink.old }
+        requires takes { S.takes sink.old }
+        requires few { length (placed_left parts.now.names) ≤ 3 }
         ensures takes { OnOk result (S.takes sink.new) }
-        ensures tells { (all before : List model.Parts) → Stands self.now all before → Tells S.takes S.told S.stopped sink.old sink.new
+        ensures tells { (all before : List model.Parts) → Stands self.now all before
+            → Tells S.takes S.told S.stopped sink.old sink.new
             (at_record number (record_faults self.now.rules all before (parts_seen parts.now))) result }
     {
         self.tell_own(sink, number, parts)?;

@@ -1,4 +1,4 @@
-ghost use Rattle.std.specs.Prelude.{◌≡◌, [], option_map, option_to_list};
+ghost use Rattle.std.specs.Prelude.{◌≡◌, ◌≤◌, [], length, option_map};
 ghost use Rattle.mt_lists.specs.Rows.{fields_left};
 ghost use Rattle.mt_records.specs.Records.{kind_seen};
 ghost use Rattle.mt_fault_terms.specs.Parts.{miscounted, unknown_parts, program_parts, applicant_parts, couple_parts, withdrawal_parts, withdraw_parts, parts_by_kind, parts_of};
@@ -161,7 +161,8 @@ fn parts_by_kind<'a>(kind: Option<Kind>, fields: Placed<'a>) -> Parts<'a>
 
 /// The parts of a record by all its fields.
 pub(crate) fn parts_of<'a>(rules: &Rules, fields: Fields<'a>) -> Parts<'a>
-    ensures { parts_seen result ≡ parts_of rules.now (fields_left fields.entry) }
+    ensures parts { parts_seen result ≡ parts_of rules.now (fields_left fields.entry) }
+    ensures few { length (placed_left result.names) ≤ 3 }
 {
     let all = Placed::of(fields);
     let Some(word) = all.head() else {

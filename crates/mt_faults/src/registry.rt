@@ -1,4 +1,4 @@
-ghost use Rattle.std.specs.Prelude.{◌≡◌, [], flat_map, take, IfOk, OnOk};
+ghost use Rattle.std.specs.Prelude.{◌≡◌, ℕ, [], flat_map, take, IfOk, OnOk};
 ghost use Rattle.mt_lists.specs.Rows.{rows_left};
 ghost use Rattle.mt_ids.specs.Seeds.{seed_of};
 ghost use Rattle.mt_terms.specs.Registration.Ids.{has_id};
@@ -102,8 +102,8 @@ impl<'a> Registry<'a> {
         seed: Seed,
         rows: RowsIter<'a>,
     ) -> Result<Self, AllocError>
-        ensures { IfOk result (λ registry.
-            (first : _) → IsRegistry rules.now (all_parts rules.now (numbered_from first (rows_left rows.entry))) registry) }
+        ensures { IfOk result (λ registry. (first : ℕ) → IsRegistry rules.now
+            (all_parts rules.now (numbered_from first (rows_left rows.entry))) registry) }
     {
         let mut registry = Registry::new(alloc, seed);
         for row in rows {

@@ -7,6 +7,7 @@ ghost use Rattle.mt_faults.specs.Telling.{Tells, at_record};
 
 use crate::fault::{Fault, FaultEnd};
 use crate::placed::{Field, Placed, PlacedPairs};
+use crate::registry::is_before;
 use crate::sink::FaultSink;
 use mt_ids::{IdTable, is_dash, is_id};
 use mt_records::Rules;
@@ -18,7 +19,16 @@ pub(crate) enum Wrong<'t, 'a> {
     /// It isn't an id.
     NoId,
     /// It is an id, and none of these.
-    Missing { code: u16, ids: &'t IdTable<'a> },
+    Missing {
+        code: u16,
+        ids: &'t IdTable<'a>,
+    },
+    /// It is an id, and one of the first `seen` of these.
+    Found {
+        code: u16,
+        ids: &'t IdTable<'a>,
+        seen: usize,
+    },
 }
 
 /// A fault at a field, with its bytes as the id at fault.
@@ -68,6 +78,13 @@ impl<'t, 'a> Wrong<'t, 'a> {
             }
             Wrong::Missing { code, ids } => {
                 if is_id && !ids.contains(field.bytes) {
+                    Some(fault_of(*code, field))
+                } else {
+                    None
+                }
+            }
+            Wrong::Found { code, ids, seen } => {
+                if is_id && is_before(ids, *seen, field.bytes) {
                     Some(fault_of(*code, field))
                 } else {
                     None

@@ -1,0 +1,104 @@
+-- Tables with more ids, each once in the order in which they come.
+-- A table begins with what it had before, and has an id exactly if that was there or is one of those added.
+use Rattle.std.proofs.Common.{◌≡◌, ℕ, ◌+◌, ◌≤◌, Bool, true, false, ◌||◌, nat_le, List, [], ◌∷◌, ◌++◌, length, take, min, refl, ap, sym, ◌∙◌, subst, length-append, arith, if◌then◌else◌}
+use Rattle.std.specs.Prelude.{bytes_eq}
+use Rattle.std.proofs.lemmas.Bool.Decides.{nat_tests}
+use Rattle.std.proofs.lemmas.List.{append_assoc, append-nil, take_all, take-append-le}
+use Rattle.std.proofs.lemmas.List.Folds.{list_any-append}
+use Rattle.mt_terms.proofs.IdFacts.{same_id}
+use Rattle.mt_terms.specs.Registration.Ids.{Bytes, has_id}
+use Rattle.mt_faults.specs.declared.before.Passed.{Passed}
+use Rattle.mt_faults.specs.Registered.{added, most, seen_with, IsPassed, PassesIds}
+
+pub added-append : (table ids more : List Bytes) → added table (ids ++ more) ≡ added (added table ids) more
+added-append table [] more = refl
+added-append table (id ∷ ids) more = added-append (if has_id table id then table else table ++ id ∷ []) ids more
+
+-- one list begins with another
+abbrev pub Grows : List Bytes → List Bytes → Type 0
+Grows old new = (more : List Bytes) × (new ≡ old ++ more)
+
+pub grows : (table ids : List Bytes) → Grows table (added table ids)
+grows table [] = ([], sym (append-nil table))
+grows table (id ∷ ids) = by (has_id table id) (grows table ids) (grows (table ++ id ∷ []) ids)
+  where
+    by : (b : Bool) → Grows table (added table ids) → Grows (table ++ id ∷ []) (added (table ++ id ∷ []) ids) → Grows table (added (if b then table else table ++ id ∷ []) ids)
+    by true g h = g
+    by false g h = (id ∷ h.0, h.1 ∙ append_assoc table (id ∷ []) h.0)
+
+or-false : (b : Bool) → (b || false) ≡ b
+or-false true = refl
+or-false false = refl
+
+regroup : (b c d : Bool) → ((b || (c || false)) || d) ≡ (b || (c || d))
+regroup true c d = refl
+regroup false true d = refl
+regroup false false d = refl
+
+-- an id that is there already adds nothing
+there : (table : List Bytes) (x id : Bytes) (d : Bool) → has_id table x ≡ true → (has_id table id || d) ≡ (has_id table id || (bytes_eq id x || d))
+there table x id d h = by (bytes_eq id x) refl
+  where
+    by : (b : Bool) → bytes_eq id x ≡ b → (has_id table id || d) ≡ (has_id table id || (b || d))
+    by true e = let k : has_id table id ≡ true = ap (has_id table) (same_id id x e) ∙ h in rw k refl
+    by false e = refl
+
+pub has_id-added : (table ids : List Bytes) (id : Bytes) → has_id (added table ids) id ≡ (has_id table id || has_id ids id)
+has_id-added table [] id = sym (or-false (has_id table id))
+has_id-added table (x ∷ xs) id = by (has_id table x) refl (has_id-added table xs id) (has_id-added (table ++ x ∷ []) xs id)
+  where
+    by : (b : Bool) → has_id table x ≡ b → has_id (added table xs) id ≡ (has_id table id || has_id xs id) → has_id (added (table ++ x ∷ []) xs) id ≡ (has_id (table ++ x ∷ []) id || has_id xs id)
+        → has_id (added (if b then table else table ++ x ∷ []) xs) id ≡ (has_id table id || (bytes_eq id x || has_id xs id))
+    by true h k l = k ∙ there table x id (has_id xs id) h
+    by false h k l = l ∙ ap (λ b. b || has_id xs id) (list_any-append (bytes_eq id) table (x ∷ [])) ∙ regroup (has_id table id) (bytes_eq id x) (has_id xs id)
+
+-- a table has the ids that were added to none
+pub has_added : (ids : List Bytes) (id : Bytes) → has_id (added [] ids) id ≡ has_id ids id
+has_added ids id = has_id-added [] ids id
+
+-- the first ids of a table are those that were added first
+pub first_added : (ids more : List Bytes) → take (length (added [] ids)) (added [] (ids ++ more)) ≡ added [] ids
+first_added ids more =
+    let t : List Bytes = added [] ids in
+    let g : Grows t (added t more) = grows t more in
+    ap (take (length t)) (added-append [] ids more ∙ g.1) ∙ take-append-le (length t) t g.0 (omega arith) ∙ take_all (length t) t (omega arith)
+
+-- what stands before, by the first ids of a table
+pub has_before : (table ids more : List Bytes) (p : Passed) (id : Bytes) → table ≡ added [] (ids ++ more) → IsPassed ids p → has_id (take p.seen table) id ≡ has_id ids id
+has_before table ids more p id t h =
+    let first : take p.seen table ≡ added [] ids = ap (λ n. take n table) h.seen ∙ ap (take (length (added [] ids))) t ∙ first_added ids more in
+    ap (λ xs. has_id xs id) first ∙ has_added ids id
+
+-- the next id of a table is seen
+module _ (before more : List Bytes) (id : Bytes) (table : List Bytes) (seen : ℕ) (t : table ≡ added [] (before ++ id ∷ more)) (s : seen ≡ length (added [] before)) where
+  pub next_seen : seen_with table seen id ≡ length (added [] (before ++ id ∷ []))
+  next_seen = by (has_id (added [] before) id) refl (t ∙ added-append [] before (id ∷ more)) ∙ sym (ap length (added-append [] before (id ∷ [])))
+    where
+      first : take seen table ≡ added [] before
+      first = ap (λ n. take n table) s ∙ ap (take (length (added [] before))) t ∙ first_added before (id ∷ more)
+
+      by : (b : Bool) → has_id (added [] before) id ≡ b → table ≡ added (if b then added [] before else added [] before ++ id ∷ []) more
+          → seen_with table seen id ≡ length (if b then added [] before else added [] before ++ id ∷ [])
+      by true e k = let f : has_id (take seen table) id ≡ true = ap (λ xs. has_id xs id) first ∙ e in rw f s
+      by false e k =
+          let f : has_id (take seen table) id ≡ false = ap (λ xs. has_id xs id) first ∙ e in
+          let g : Grows (added [] before ++ id ∷ []) (added (added [] before ++ id ∷ []) more) = grows (added [] before ++ id ∷ []) more in
+          let len : length table ≡ length (added [] before) + 1 + length g.0 = omega (arith, ap length (k ∙ g.1), length-append (added [] before ++ id ∷ []) g.0, length-append (added [] before) (id ∷ [])) in
+          let long : nat_le (length table) seen ≡ false = grind (arith, nat_tests) in
+          rw (f, long) (omega (arith, s, length-append (added [] before) (id ∷ [])))
+
+-- no more registrations, or one more
+pub pass_none : (table : List Bytes) (p : Passed) → PassesIds table p p []
+pass_none table p = λ before rest t h. subst (λ (ids : List Bytes). IsPassed ids p) (sym (append-nil before)) h
+
+pub pass_id : (table : List Bytes) (old next new : Passed) (id : Bytes) (ids : List Bytes) → next.seen ≡ seen_with table old.seen id → next.count ≡ min (old.count + 1) most
+    → PassesIds table next new ids → PassesIds table old new (id ∷ ids)
+pass_id table old next new id ids seen count passes = λ before rest t h.
+    let whole : table ≡ added [] (before ++ id ∷ (ids ++ rest)) = t ∙ ap (added []) (append_assoc before (id ∷ ids) rest) in
+    let again : table ≡ added [] (((before ++ id ∷ []) ++ ids) ++ rest) = t ∙ ap (λ xs. added [] (xs ++ rest)) (sym (append_assoc before (id ∷ []) ids)) in
+    let long : length (before ++ id ∷ []) ≡ length before + 1 = omega (arith, length-append before (id ∷ [])) in
+    let p : IsPassed (before ++ id ∷ []) next = record {
+      seen = seen ∙ next_seen before (ids ++ rest) id table old.seen whole h.seen;
+      count = count ∙ omega (arith, h.count, long);
+    } in
+    subst (λ (xs : List Bytes). IsPassed xs new) (append_assoc before (id ∷ []) ids) (passes (before ++ id ∷ []) rest again p)

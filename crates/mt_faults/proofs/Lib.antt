@@ -1,0 +1,5 @@
+pub mod AddedFacts
+pub mod PartsFacts
+pub mod RecordFacts
+pub mod StandingFacts
+pub mod TellingFacts

@@ -1,0 +1,87 @@
+-- Fields with their numbers, and the parts that they are cut into.
+-- A prefix of the numbered fields is what an iterator with a count has left. Drops and pairs are by cases of the list.
+use Rattle.std.proofs.Common.{◌≡◌, ℕ, zero, suc, ◌+◌, ◌-◌, ◌*◌, ◌/◌, ◌%◌, ◌≤◌, Bool, true, false, List, [], ◌∷◌, ◌++◌, length, take, drop, min, map, Option, Some, None, refl, ap, sym, ◌∙◌, subst, arith, nat_eq}
+use Rattle.std.specs.Prelude.{MatchOption, option_map, flat_map}
+use Rattle.std.proofs.lemmas.List.{length-take-le, take_all}
+use Rattle.std.proofs.Math.Seq.{take-nil}
+use Rattle.mt_terms.specs.Registration.Ids.{Bytes}
+use Rattle.mt_fault_terms.specs.Faults.{Placed, placed_from}
+use Rattle.mt_fault_terms.specs.Parts.{PlacedPair, first_field, is_odd, placed_pairs}
+use Rattle.mt_faults.specs.declared.placed.Field.{Field}
+use Rattle.mt_faults.specs.Seen.{field_seen}
+
+pub length-placed_from : (n : ℕ) (xs : List Bytes) → length (placed_from n xs) ≡ length xs
+length-placed_from n [] = refl
+length-placed_from n (x ∷ xs) = ap suc (length-placed_from (n + 1) xs)
+
+-- all fields
+pub all_placed : (n k : ℕ) (xs : List Bytes) → k ≡ length xs → take k (placed_from n xs) ≡ placed_from n xs
+all_placed n k xs h = take_all k (placed_from n xs) (omega (arith, h, length-placed_from n xs))
+
+-- how many are left
+pub count_placed : (n k : ℕ) (xs : List Bytes) → k ≤ length xs → length (take k (placed_from n xs)) ≡ k
+count_placed n k xs h = length-take-le k (placed_from n xs) (omega (arith, h, length-placed_from n xs))
+
+-- fewer of them
+pub take-taken : {X : Type 0} (j k : ℕ) (xs : List X) → take (min j k) xs ≡ take j (take k xs)
+take-taken zero k xs = let e : min zero k ≡ 0 = omega arith in ap (λ n. take n xs) e
+take-taken (suc j) zero xs = let e : min (suc j) zero ≡ 0 = omega arith in ap (λ n. take n xs) e ∙ sym (take-nil (suc j))
+take-taken (suc j) (suc k) [] = take-nil (min (suc j) (suc k))
+take-taken (suc j) (suc k) (x ∷ xs) =
+    let e : min (suc j) (suc k) ≡ suc (min j k) = omega arith in
+    rw e (ap (λ l. x ∷ l) (take-taken j k xs))
+
+-- the next field, of some that are left
+pub next_placed : (k before : ℕ) (xs rest : List Bytes) (x : Bytes) → xs ≡ x ∷ rest → (k ≡ 0 → ⊥) → take k (placed_from (before + 1) xs) ≡ (before + 1, x) ∷ take (k - 1) (placed_from (before + 1 + 1) rest)
+next_placed zero before xs rest x e some = absurd (some refl)
+next_placed (suc k) before xs rest x e some =
+    let m : suc k - 1 ≡ k = omega arith in
+    rw (e, m) refl
+
+-- no field is left
+pub none_placed : (k n : ℕ) (xs : List Bytes) → xs ≡ [] → take k (placed_from n xs) ≡ []
+none_placed k n xs e = rw e (take-nil k)
+
+pub none_counted : (k n : ℕ) (xs : List Bytes) → k ≡ 0 → take k (placed_from n xs) ≡ []
+none_counted k n xs e = rw e refl
+
+-- the next field, and those after it
+pub head_is : (r : Option Field) (old new : List Placed) → MatchOption r ((old ≡ []) × (new ≡ [])) (λ x. old ≡ field_seen x ∷ new) → option_map field_seen r ≡ first_field old
+head_is None old new h = sym (ap first_field h.0)
+head_is (Some x) old new h = sym (ap first_field h)
+
+pub tail_is : (r : Option Field) (old new : List Placed) → MatchOption r ((old ≡ []) × (new ≡ [])) (λ x. old ≡ field_seen x ∷ new) → new ≡ drop 1 old
+tail_is None old new h = h.1 ∙ sym (ap (drop 1) h.0)
+tail_is (Some x) old new h = sym (ap (drop 1) h)
+
+pub drop_two : {X : Type 0} (xs : List X) → drop 1 (drop 1 xs) ≡ drop 2 xs
+drop_two [] = refl
+drop_two (x ∷ xs) = refl
+
+pub drop_three : {X : Type 0} (xs : List X) → drop 1 (drop 1 (drop 1 xs)) ≡ drop 3 xs
+drop_three [] = refl
+drop_three (x ∷ []) = refl
+drop_three (x ∷ y ∷ xs) = refl
+
+-- fields two by two
+pub odd_is : (xs : List Placed) → nat_eq (length xs % 2) 1 ≡ is_odd xs
+odd_is [] = refl
+odd_is (x ∷ []) = refl
+odd_is (x ∷ y ∷ xs) = let e : length (x ∷ y ∷ xs) % 2 ≡ length xs % 2 = omega arith in ap (λ n. nat_eq n 1) e ∙ odd_is xs
+
+-- how many fields pairs have
+pub length-pairs : (xs : List Placed) → 2 * length (placed_pairs xs) ≡ length xs / 2 * 2
+length-pairs [] = refl
+length-pairs (x ∷ []) = refl
+length-pairs (x ∷ y ∷ xs) = omega (arith, length-pairs xs)
+
+abbrev pub both_of : PlacedPair → List Placed
+both_of pair = pair.0 ∷ pair.1 ∷ []
+
+-- the fields of pairs are all, or all but the last
+pub fields_of_pairs : (xs : List Placed) → take (length xs / 2 * 2) xs ≡ flat_map both_of (placed_pairs xs)
+fields_of_pairs [] = refl
+fields_of_pairs (x ∷ []) = refl
+fields_of_pairs (x ∷ y ∷ xs) =
+    let e : length (x ∷ y ∷ xs) / 2 * 2 ≡ suc (suc (length xs / 2 * 2)) = omega arith in
+    rw e (ap (λ l. x ∷ y ∷ l) (fields_of_pairs xs))

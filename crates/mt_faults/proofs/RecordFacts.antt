@@ -1,0 +1,176 @@
+-- The faults of one record in the order in which they are told.
+-- A test of one field gives its faults, and the lists of faults are regrouped from the first on.
+use Rattle.std.proofs.Common.{◌≡◌, ℕ, ◌+◌, ◌≤◌, ◌<◌, Bool, true, false, not, ◌&&◌, ◌||◌, nat_lt, nat_le, min, cond, List, [], ◌∷◌, ◌++◌, length, take, map, filter, Bor, Option, Some, None, refl, ap, ap₂, sym, ◌∙◌, subst, arith, if◌then◌else◌}
+use Rattle.std.specs.Prelude.{bytes_eq, flat_map, is_some}
+use Rattle.std.specs.List.{list_any}
+use Rattle.std.proofs.lemmas.Bool.Decides.{nat_tests}
+use Rattle.std.proofs.lemmas.List.{append_assoc, append-nil, map-append}
+use Rattle.std.proofs.lemmas.List.Folds.{list_any-append}
+use Rattle.std.proofs.lemmas.Grind.{flat_map-append}
+use Rattle.mt_terms.specs.declared.codes.TheConstants.{BAD_ID, DUPLICATE_ID, DUPLICATE_ENTRY, TOO_MANY}
+use Rattle.mt_terms.specs.Registration.Ids.{Bytes, has_id}
+use Rattle.mt_terms.specs.Registration.Passes.{is_same_pair}
+use Rattle.mt_terms.specs.Registration.Records.{Rules, IdPair, is_pair, pair_of}
+use Rattle.mt_passes.proofs.RepeatFacts.{same_pairs}
+use Rattle.mt_fault_terms.specs.Faults.{FieldFault, FileFault, Placed, fault_alone, fault_of}
+use Rattle.mt_fault_terms.specs.OfRecord.{is_id_field, is_place_field, alone_at, bad_of_pair, bad_fields, quota_faults, own_faults, found_among, missing_among, members_before, registered_faults, repeats_after, pair_repeats_after, shown_of_pair, repeat_faults, passes, limit_faults, unknown_faults, first_faults, record_faults}
+use Rattle.mt_fault_terms.specs.Parts.{Parts, PlacedPair}
+use Rattle.mt_faults.specs.declared.tell.Wrong.{Wrong}
+use Rattle.mt_faults.specs.declared.tell.Wrong.TheVariants as wrongs
+use Rattle.mt_faults.specs.Registered.{added, most}
+use Rattle.mt_faults.specs.Seen.{tested}
+use Rattle.mt_faults.specs.Telling.{at_record}
+use Rattle.mt_faults.proofs.AddedFacts.{has_id-added}
+
+-- the fields that are no ids, those that are and are among others, and those that are and aren't
+abbrev no_ids_in : Rules → List Placed → List Placed
+no_ids_in rules xs = filter (λ field. not (is_id_field rules field)) xs
+
+abbrev found_in : Rules → List Bytes → List Placed → List Placed
+found_in rules ids xs = filter (λ field. is_id_field rules field && has_id ids field.1) xs
+
+abbrev missing_in : Rules → List Bytes → List Placed → List Placed
+missing_in rules ids xs = filter (λ field. is_id_field rules field && not (has_id ids field.1)) xs
+
+pub no_ids : (rules : Rules) (xs : List Placed) → flat_map (tested wrongs.NoId rules) xs ≡ alone_at BAD_ID (filter (λ field. not (is_id_field rules field)) xs)
+no_ids rules [] = refl
+no_ids rules (x ∷ xs) = by (is_id_field rules x) (no_ids rules xs)
+  where
+    by : (b : Bool) → flat_map (tested wrongs.NoId rules) xs ≡ alone_at BAD_ID (no_ids_in rules xs)
+        → (if b then [] else fault_alone BAD_ID x.0 ∷ []) ++ flat_map (tested wrongs.NoId rules) xs ≡ alone_at BAD_ID (cond (not b) (x ∷ no_ids_in rules xs) (no_ids_in rules xs))
+    by true ih = ih
+    by false ih = ap (λ l. fault_alone BAD_ID x.0 ∷ l) ih
+
+-- the ids that are missing
+pub missing : (rules : Rules) (code : ℕ) (ids : Bor (List Bytes)) (xs : List Placed) → flat_map (tested (wrongs.Missing code ids) rules) xs ≡ missing_among rules code ids.now xs
+missing rules code ids [] = refl
+missing rules code ids (x ∷ xs) = by (is_id_field rules x && not (has_id ids.now x.1)) (missing rules code ids xs)
+  where
+    by : (b : Bool) → flat_map (tested (wrongs.Missing code ids) rules) xs ≡ map (fault_of code) (missing_in rules ids.now xs)
+        → (if b then fault_of code x ∷ [] else []) ++ flat_map (tested (wrongs.Missing code ids) rules) xs ≡ map (fault_of code) (cond b (x ∷ missing_in rules ids.now xs) (missing_in rules ids.now xs))
+    by true ih = ap (λ l. fault_of code x ∷ l) ih
+    by false ih = ih
+
+-- the ids that are found among the first of a table
+pub found : (rules : Rules) (code : ℕ) (ids : Bor (List Bytes)) (seen : ℕ) (xs : List Placed) → flat_map (tested (wrongs.Found code ids seen) rules) xs ≡ found_among rules code (take seen ids.now) xs
+found rules code ids seen [] = refl
+found rules code ids seen (x ∷ xs) = by (is_id_field rules x && has_id (take seen ids.now) x.1) (found rules code ids seen xs)
+  where
+    by : (b : Bool) → flat_map (tested (wrongs.Found code ids seen) rules) xs ≡ map (fault_of code) (found_in rules (take seen ids.now) xs)
+        → (if b then fault_of code x ∷ [] else []) ++ flat_map (tested (wrongs.Found code ids seen) rules) xs ≡ map (fault_of code) (cond b (x ∷ found_in rules (take seen ids.now) xs) (found_in rules (take seen ids.now) xs))
+    by true ih = ap (λ l. fault_of code x ∷ l) ih
+    by false ih = ih
+
+-- found among other ids with the same members
+pub found_alike : (rules : Rules) (code : ℕ) (some others : List Bytes) → ((id : Bytes) → has_id some id ≡ has_id others id) → (xs : List Placed) → found_among rules code some xs ≡ found_among rules code others xs
+found_alike rules code some others alike [] = refl
+found_alike rules code some others alike (x ∷ xs) = rw (alike x.1) (by (is_id_field rules x && has_id others x.1) (found_alike rules code some others alike xs))
+  where
+    by : (b : Bool) → map (fault_of code) (found_in rules some xs) ≡ map (fault_of code) (found_in rules others xs)
+        → map (fault_of code) (cond b (x ∷ found_in rules some xs) (found_in rules some xs)) ≡ map (fault_of code) (cond b (x ∷ found_in rules others xs) (found_in rules others xs))
+    by true ih = ap (λ l. fault_of code x ∷ l) ih
+    by false ih = ih
+
+-- missing among other ids with the same members
+pub missing_alike : (rules : Rules) (code : ℕ) (some others : List Bytes) → ((id : Bytes) → has_id some id ≡ has_id others id) → (xs : List Placed) → missing_among rules code some xs ≡ missing_among rules code others xs
+missing_alike rules code some others alike [] = refl
+missing_alike rules code some others alike (x ∷ xs) = rw (alike x.1) (by (is_id_field rules x && not (has_id others x.1)) (missing_alike rules code some others alike xs))
+  where
+    by : (b : Bool) → map (fault_of code) (missing_in rules some xs) ≡ map (fault_of code) (missing_in rules others xs)
+        → map (fault_of code) (cond b (x ∷ missing_in rules some xs) (missing_in rules some xs)) ≡ map (fault_of code) (cond b (x ∷ missing_in rules others xs) (missing_in rules others xs))
+    by true ih = ap (λ l. fault_of code x ∷ l) ih
+    by false ih = ih
+
+-- one field that is an id and found
+pub found_one : (rules : Rules) (code : ℕ) (ids : List Bytes) (x : Placed) → found_among rules code ids (x ∷ []) ≡ (if is_id_field rules x && has_id ids x.1 then fault_of code x ∷ [] else [])
+found_one rules code ids x = by (is_id_field rules x && has_id ids x.1)
+  where
+    by : (b : Bool) → map (fault_of code) (cond b (x ∷ []) []) ≡ (if b then fault_of code x ∷ [] else [])
+    by true = refl
+    by false = refl
+
+-- the fields of a pair that are no ids
+pub bad_pair : (rules : Rules) (pair : PlacedPair) → alone_at BAD_ID (bad_of_pair rules pair)
+    ≡ (if is_place_field rules pair.0 pair.1 then [] else fault_alone BAD_ID pair.0.0 ∷ []) ++ (if is_place_field rules pair.1 pair.0 then [] else fault_alone BAD_ID pair.1.0 ∷ [])
+bad_pair rules pair = by (is_place_field rules pair.0 pair.1) (is_place_field rules pair.1 pair.0)
+  where
+    by : (b c : Bool) → alone_at BAD_ID (cond (not b) (pair.0 ∷ []) [] ++ cond (not c) (pair.1 ∷ []) [])
+        ≡ (if b then [] else fault_alone BAD_ID pair.0.0 ∷ []) ++ (if c then [] else fault_alone BAD_ID pair.1.0 ∷ [])
+    by true true = refl
+    by true false = refl
+    by false true = refl
+    by false false = refl
+
+-- the faults of a record by itself, from the first on
+pub own_in_turn : (rules : Rules) (p : Parts) → own_faults rules p
+    ≡ p.faults
+    ++ (flat_map (tested wrongs.NoId rules) p.names
+    ++ (flat_map (tested wrongs.NoId rules) p.list ++ (alone_at BAD_ID (flat_map (bad_of_pair rules) p.pairs) ++ quota_faults rules p)))
+own_in_turn rules p = rw (no_ids rules p.names, no_ids rules p.list) (simp (map-append, append_assoc) refl)
+
+-- all faults of a record, from the first on
+pub record_in_turn : (rules : Rules) (all before : List Parts) (p : Parts) → record_faults rules all before p
+    ≡ own_faults rules p ++ (registered_faults rules before p ++ (repeat_faults rules before p ++ (limit_faults rules before p ++ unknown_faults rules all p)))
+record_in_turn rules all before p = regroup (own_faults rules p) (registered_faults rules before p) (repeat_faults rules before p) (limit_faults rules before p) (unknown_faults rules all p)
+  where
+    regroup : (a b c d e : List FieldFault) → (a ++ b ++ c ++ d) ++ e ≡ a ++ (b ++ (c ++ (d ++ e)))
+    regroup a b c d e = simp append_assoc refl
+
+-- entries so far with the same members as a table
+abbrev pub Alike : List Bytes → List Bytes → Type 0
+Alike table before = (id : Bytes) → has_id table id ≡ has_id before id
+
+pub alike_more : (table before new : List Bytes) (id : Bytes) → Alike table before → new ≡ (if has_id table id then table else table ++ id ∷ [])
+    → (other : Bytes) → has_id new other ≡ has_id (before ++ id ∷ []) other
+alike_more table before new id alike is other =
+    ap (λ xs. has_id xs other) is ∙ has_id-added table (id ∷ []) other ∙ ap (λ b. b || has_id (id ∷ []) other) (alike other) ∙ sym (list_any-append (bytes_eq other) before (id ∷ []))
+
+or-false : (b : Bool) → b ≡ (b || false)
+or-false true = refl
+or-false false = refl
+
+-- pairs so far with the same members as a table
+abbrev pub fields_of : PlacedPair → Bytes × Bytes
+fields_of pair = (pair.0.1, pair.1.1)
+
+abbrev pub has_pair : List (Bytes × Bytes) → IdPair → Bool
+has_pair before p = list_any (λ other. is_same_pair p (pair_of other)) before
+
+abbrev pub PairsAlike : List IdPair → List (Bytes × Bytes) → Type 0
+PairsAlike table before = (p : IdPair) → list_any (is_same_pair p) table ≡ has_pair before p
+
+pub pairs_alike_more : (table new : List IdPair) (before : List (Bytes × Bytes)) (fields : Bytes × Bytes) → PairsAlike table before
+    → new ≡ (if list_any (is_same_pair (pair_of fields)) table then table else table ++ pair_of fields ∷ [])
+    → (other : IdPair) → list_any (is_same_pair other) new ≡ has_pair (before ++ fields ∷ []) other
+pairs_alike_more table new before fields alike is other =
+    ap (list_any (is_same_pair other)) is ∙ by (list_any (is_same_pair (pair_of fields)) table) refl
+    ∙ ap (λ b. b || (is_same_pair other (pair_of fields) || false)) (alike other)
+    ∙ sym (list_any-append (λ (q : Bytes × Bytes). is_same_pair other (pair_of q)) before (fields ∷ []))
+  where
+    one : (b : Bool) → is_same_pair other (pair_of fields) ≡ b → list_any (is_same_pair (pair_of fields)) table ≡ true
+        → list_any (is_same_pair other) table ≡ (list_any (is_same_pair other) table || (b || false))
+    one true e h = let k : list_any (is_same_pair other) table ≡ true = ap (λ p. list_any (is_same_pair p) table) ((same_pairs other (pair_of fields)).0 e) ∙ h in rw k refl
+    one false e h = or-false (list_any (is_same_pair other) table)
+
+    by : (b : Bool) → list_any (is_same_pair (pair_of fields)) table ≡ b
+        → list_any (is_same_pair other) (if b then table else table ++ pair_of fields ∷ []) ≡ (list_any (is_same_pair other) table || (is_same_pair other (pair_of fields) || false))
+    by true h = one (is_same_pair other (pair_of fields)) refl h
+    by false h = list_any-append (is_same_pair other) table (pair_of fields ∷ [])
+
+-- limits by counts that stop at the greatest
+pub passes_most : (limit n k c a : ℕ) → limit < most → c ≡ min n most → a ≡ min k most → passes limit c a ≡ passes limit n k
+passes_most limit n k c a small c_is a_is = rw (le, lt) refl
+  where
+    le : nat_le c limit ≡ nat_le n limit
+    le = by (nat_le n limit) refl
+      where
+        by : (b : Bool) → nat_le n limit ≡ b → nat_le c limit ≡ b
+        by true h = grind (arith, nat_tests)
+        by false h = grind (arith, nat_tests)
+
+    lt : nat_lt limit (c + a) ≡ nat_lt limit (n + k)
+    lt = by (nat_lt limit (n + k)) refl
+      where
+        by : (b : Bool) → nat_lt limit (n + k) ≡ b → nat_lt limit (c + a) ≡ b
+        by true h = grind (arith, nat_tests)
+        by false h = grind (arith, nat_tests)

@@ -1,0 +1,70 @@
+-- What is found of a record by tables, as the definitions say it of the records before it and of all.
+-- The records before are the first of all, so their ids are the first of the tables.
+use Rattle.std.proofs.Common.{◌≡◌, ℕ, ◌+◌, ◌*◌, ◌≤◌, Bool, true, false, List, [], ◌∷◌, ◌++◌, length, take, map, min, refl, ap, ap₂, sym, ◌∙◌, subst, take_all, length-append, arith}
+use Rattle.std.specs.Prelude.{flat_map, sum_by}
+use Rattle.std.proofs.lemmas.List.{append_assoc, append-nil}
+use Rattle.std.proofs.lemmas.List.Sums.{sum_by-append}
+use Rattle.std.proofs.lemmas.Grind.{flat_map-append}
+use Rattle.mt_terms.specs.declared.codes.TheConstants.{DUPLICATE_ID, DUPLICATE_ENTRY, UNKNOWN_APPLICANT, UNKNOWN_PROGRAM, NOT_REGISTERED}
+use Rattle.mt_terms.specs.Registration.Ids.{Bytes, has_id}
+use Rattle.mt_terms.specs.Registration.Passes.{Numbered, numbered_from}
+use Rattle.mt_terms.specs.Registration.Records.{Rules, Kind, OfProgram, OfApplicant, OfCouple}
+use Rattle.mt_records.specs.Kinds.{ids_in}
+use Rattle.mt_fault_terms.specs.Faults.{FieldFault, FileFault, Placed}
+use Rattle.mt_fault_terms.specs.OfFile.{all_parts, faults_after}
+use Rattle.mt_fault_terms.specs.OfRecord.{found_among, missing_among, members_before, registered_faults, repeat_faults, limit_faults, unknown_faults, record_faults}
+use Rattle.mt_fault_terms.specs.Parts.{Parts, own_ids, applicants_among, withdrawn_ids, entries_among, all_own_ids, all_applicants, all_withdrawn, all_entries, parts_of}
+use Rattle.mt_faults.specs.declared.before.Before.{Before}
+use Rattle.mt_faults.specs.declared.finder.Finder.{Finder}
+use Rattle.mt_faults.specs.declared.registry.Registry.{Registry}
+use Rattle.mt_faults.specs.Registered.{added, most, IsPassed, IsRegistry, PassesIds}
+use Rattle.mt_faults.specs.Standing.{IsBefore, Stands}
+use Rattle.mt_faults.specs.Telling.{at_record}
+use Rattle.mt_faults.proofs.AddedFacts.{has_added, has_before, added-append}
+
+-- with one record more
+module _ (rules : Rules) (before : List Parts) (p : Parts) where
+  pub own_ids-more : (kind : Kind) → all_own_ids rules kind (before ++ p ∷ []) ≡ all_own_ids rules kind before ++ own_ids rules kind p
+  own_ids-more kind = flat_map-append (own_ids rules kind) before (p ∷ []) ∙ ap (λ ids. all_own_ids rules kind before ++ ids) (append-nil (own_ids rules kind p))
+
+  pub applicants-more : all_applicants rules (before ++ p ∷ []) ≡ all_applicants rules before ++ applicants_among rules p
+  applicants-more = flat_map-append (applicants_among rules) before (p ∷ []) ∙ ap (λ ids. all_applicants rules before ++ ids) (append-nil (applicants_among rules p))
+
+  pub withdrawn-more : (kind : Kind) → all_withdrawn rules kind (before ++ p ∷ []) ≡ all_withdrawn rules kind before ++ withdrawn_ids rules kind p
+  withdrawn-more kind = flat_map-append (withdrawn_ids rules kind) before (p ∷ []) ∙ ap (λ ids. all_withdrawn rules kind before ++ ids) (append-nil (withdrawn_ids rules kind p))
+
+  pub entries-more : all_entries (before ++ p ∷ []) ≡ all_entries before + entries_among p
+  entries-more = sum_by-append entries_among before (p ∷ []) ∙ omega arith
+
+-- among all records, what stands before one
+module _ (f : Finder) (all before : List Parts) (s : Stands f all before) where
+  pub own_before : (kind : Kind) → ids_in f.registry.registered kind ≡ added [] (all_own_ids f.rules kind before ++ all_own_ids f.rules kind s.rest)
+  own_before kind = s.registry.registered kind ∙ ap (added []) (ap (all_own_ids f.rules kind) s.first ∙ flat_map-append (own_ids f.rules kind) before s.rest)
+
+  pub applicants_before : f.registry.applicants ≡ added [] (all_applicants f.rules before ++ all_applicants f.rules s.rest)
+  applicants_before = s.registry.applicants ∙ ap (added []) (ap (all_applicants f.rules) s.first ∙ flat_map-append (applicants_among f.rules) before s.rest)
+
+  pub is_program_before : (id : Bytes) → has_id (take f.before.programs.seen f.registry.registered.programs) id ≡ has_id (all_own_ids f.rules OfProgram before) id
+  is_program_before id = has_before f.registry.registered.programs (all_own_ids f.rules OfProgram before) (all_own_ids f.rules OfProgram s.rest) f.before.programs id (own_before OfProgram) s.before_is.programs
+
+  pub is_couple_before : (id : Bytes) → has_id (take f.before.couples.seen f.registry.registered.couples) id ≡ has_id (all_own_ids f.rules OfCouple before) id
+  is_couple_before id = has_before f.registry.registered.couples (all_own_ids f.rules OfCouple before) (all_own_ids f.rules OfCouple s.rest) f.before.couples id (own_before OfCouple) s.before_is.couples
+
+  pub is_applicant_before : (id : Bytes) → has_id (take f.before.applicants.seen f.registry.applicants) id ≡ has_id (all_applicants f.rules before) id
+  is_applicant_before id = has_before f.registry.applicants (all_applicants f.rules before) (all_applicants f.rules s.rest) f.before.applicants id applicants_before s.before_is.applicants
+
+  pub is_withdrawn_before : (kind : Kind) (seen : ℕ) → seen ≡ length (ids_in f.before.withdrawn kind) → (id : Bytes) → has_id (take seen (ids_in f.before.withdrawn kind)) id ≡ has_id (all_withdrawn f.rules kind before) id
+  is_withdrawn_before kind seen h id =
+      ap (λ xs. has_id xs id) (take_all seen (ids_in f.before.withdrawn kind) (omega (arith, h)) ∙ s.before_is.withdrawn kind) ∙ has_added (all_withdrawn f.rules kind before) id
+
+  pub is_registered : (kind : Kind) (id : Bytes) → has_id (ids_in f.registry.registered kind) id ≡ has_id (all_own_ids f.rules kind all) id
+  is_registered kind id = ap (λ xs. has_id xs id) (s.registry.registered kind) ∙ has_added (all_own_ids f.rules kind all) id
+
+  pub is_applicant : (id : Bytes) → has_id f.registry.applicants id ≡ has_id (all_applicants f.rules all) id
+  is_applicant id = ap (λ xs. has_id xs id) s.registry.applicants ∙ has_added (all_applicants f.rules all) id
+
+-- records are the same whatever their numbers
+pub renumbered : (rules : Rules) (m n : ℕ) (rows : List (List Bytes)) → all_parts rules (numbered_from m rows) ≡ all_parts rules (numbered_from n rows)
+renumbered rules m n [] = refl
+renumbered rules m n ([] ∷ rows) = renumbered rules (m + 1) (n + 1) rows
+renumbered rules m n ((word ∷ fields) ∷ rows) = ap (λ ps. parts_of rules (word ∷ fields) ∷ ps) (renumbered rules (m + 1) (n + 1) rows)
