@@ -1,5 +1,6 @@
 pub mod AddedFacts
 pub mod PartsFacts
 pub mod RecordFacts
+pub mod SearchFacts
 pub mod StandingFacts
 pub mod TellingFacts

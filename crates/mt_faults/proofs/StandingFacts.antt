@@ -15,6 +15,7 @@ use Rattle.mt_fault_terms.specs.OfFile.{all_parts, faults_after}
 use Rattle.mt_fault_terms.specs.OfRecord.{found_among, missing_among, members_before, registered_faults, repeat_faults, limit_faults, unknown_faults, record_faults}
 use Rattle.mt_fault_terms.specs.Parts.{Parts, own_ids, applicants_among, withdrawn_ids, entries_among, all_own_ids, all_applicants, all_withdrawn, all_entries, parts_of}
 use Rattle.mt_faults.specs.declared.before.Before.{Before}
+use Rattle.mt_faults.specs.declared.before.Passed.{Passed}
 use Rattle.mt_faults.specs.declared.finder.Finder.{Finder}
 use Rattle.mt_faults.specs.declared.registry.Registry.{Registry}
 use Rattle.mt_faults.specs.Registered.{added, most, IsPassed, IsRegistry, PassesIds}
@@ -68,3 +69,34 @@ pub renumbered : (rules : Rules) (m n : ℕ) (rows : List (List Bytes)) → all_
 renumbered rules m n [] = refl
 renumbered rules m n ([] ∷ rows) = renumbered rules (m + 1) (n + 1) rows
 renumbered rules m n ((word ∷ fields) ∷ rows) = ap (λ ps. parts_of rules (word ∷ fields) ∷ ps) (renumbered rules (m + 1) (n + 1) rows)
+
+-- what holds of each kind
+pub by_kind : (P : Kind → Type 0) → P OfProgram → P OfApplicant → P OfCouple → (kind : Kind) → P kind
+by_kind P p a c OfProgram = p
+by_kind P p a c OfApplicant = a
+by_kind P p a c OfCouple = c
+
+-- a record is passed over: its ids of a kind, its applicants, and what it withdraws
+module _ (rules : Rules) (before rest : List Parts) (p : Parts) where
+  pub passed_own : (kind : Kind) (table : List Bytes) (old new : Passed) (ids : List Bytes) → ids ≡ own_ids rules kind p → table ≡ added [] (all_own_ids rules kind (before ++ p ∷ rest)) → PassesIds table old new ids
+      → IsPassed (all_own_ids rules kind before) old → IsPassed (all_own_ids rules kind (before ++ p ∷ [])) new
+  passed_own kind table old new ids named t passes o =
+      let whole : table ≡ added [] ((all_own_ids rules kind before ++ ids) ++ all_own_ids rules kind rest) =
+      t ∙ ap (added []) (flat_map-append (own_ids rules kind) before (p ∷ rest) ∙ sym (append_assoc (all_own_ids rules kind before) (own_ids rules kind p) (all_own_ids rules kind rest)) ∙ ap (λ xs. (all_own_ids rules kind before ++ xs) ++ all_own_ids rules kind rest) (sym named)) in
+      subst (λ (xs : List Bytes). IsPassed xs new) (ap (λ xs. all_own_ids rules kind before ++ xs) named ∙ sym (own_ids-more rules before p kind))
+      (passes (all_own_ids rules kind before) (all_own_ids rules kind rest) whole o)
+
+  pub passed_applicants : (table : List Bytes) (old new : Passed) (ids : List Bytes) → ids ≡ applicants_among rules p → table ≡ added [] (all_applicants rules (before ++ p ∷ rest)) → PassesIds table old new ids
+      → IsPassed (all_applicants rules before) old → IsPassed (all_applicants rules (before ++ p ∷ [])) new
+  passed_applicants table old new ids named t passes o =
+      let whole : table ≡ added [] ((all_applicants rules before ++ ids) ++ all_applicants rules rest) =
+      t ∙ ap (added []) (flat_map-append (applicants_among rules) before (p ∷ rest) ∙ sym (append_assoc (all_applicants rules before) (applicants_among rules p) (all_applicants rules rest)) ∙ ap (λ xs. (all_applicants rules before ++ xs) ++ all_applicants rules rest) (sym named)) in
+      subst (λ (xs : List Bytes). IsPassed xs new) (ap (λ xs. all_applicants rules before ++ xs) named ∙ sym (applicants-more rules before p))
+      (passes (all_applicants rules before) (all_applicants rules rest) whole o)
+
+  pub passed_withdrawn : (kind : Kind) (old new ids : List Bytes) → ids ≡ withdrawn_ids rules kind p → new ≡ added old ids → old ≡ added [] (all_withdrawn rules kind before) → new ≡ added [] (all_withdrawn rules kind (before ++ p ∷ []))
+  passed_withdrawn kind old new ids named n o =
+      n ∙ ap₂ added o named ∙ sym (added-append [] (all_withdrawn rules kind before) (withdrawn_ids rules kind p)) ∙ ap (added []) (sym (withdrawn-more rules before p kind))
+
+  pub passed_entries : (old more new : ℕ) → old ≡ min (all_entries before) most → more ≡ min (entries_among p) most → new ≡ min (old + more) most → new ≡ min (all_entries (before ++ p ∷ [])) most
+  passed_entries old more new o m n = omega (arith, o, m, n, entries-more rules before p)

@@ -1,4 +1,5 @@
 pub mod Seen
+pub mod Named
 pub mod Registered
-pub mod Standing
 pub mod Telling
+pub mod Standing

@@ -1,14 +1,16 @@
 -- What is known of what stands before a record.
-use Rattle.std.specs.Prelude.{◌≡◌, ℕ, List, [], ◌++◌, length, min}
+use Rattle.std.specs.Prelude.{◌≡◌, ℕ, List, [], ◌∷◌, ◌++◌, length, min}
 use Rattle.mt_terms.specs.declared.codes.TheConstants.{DUPLICATE_ENTRY}
+use Rattle.mt_terms.specs.Registration.Ids.{Bytes}
 use Rattle.mt_terms.specs.Registration.Records.{Rules, Kind, OfProgram, OfCouple}
 use Rattle.mt_records.specs.Kinds.{ids_in}
-use Rattle.mt_fault_terms.specs.Faults.{FieldFault}
-use Rattle.mt_fault_terms.specs.OfRecord.{found_among}
-use Rattle.mt_fault_terms.specs.Parts.{Form, Withdraws, Parts, applicants_among, own_ids, all_own_ids, all_applicants, all_entries, all_withdrawn}
+use Rattle.mt_fault_terms.specs.Faults.{FieldFault, FileFault}
+use Rattle.mt_fault_terms.specs.OfRecord.{found_among, record_faults}
+use Rattle.mt_fault_terms.specs.Parts.{Form, Withdraws, Parts, applicants_among, own_ids, all_own_ids, all_applicants, all_entries, all_withdrawn, parts_of}
 use Rattle.mt_faults.specs.declared.before.Before.{Before}
 use Rattle.mt_faults.specs.declared.finder.Finder.{Finder}
 use Rattle.mt_faults.specs.Registered.{IsPassed, IsRegistry, added, most}
+use Rattle.mt_faults.specs.Telling.{at_record}
 
 -- These records stand before.
 pub record IsBefore (rules : Rules) (before : List Parts) (b : Before) : Type 0 where
@@ -38,3 +40,12 @@ withdrawn_again rules before parts = by_form parts.form
     by_form : Form → List FieldFault
     by_form (Withdraws kind) = found_among rules DUPLICATE_ENTRY (all_withdrawn rules kind before) parts.names
     by_form _ = []
+
+-- the parts of a row's record, and its faults: none if the row has no field
+abbrev pub row_parts : Rules → List Bytes → List Parts
+row_parts rules [] = []
+row_parts rules (word ∷ fields) = parts_of rules (word ∷ fields) ∷ []
+
+abbrev pub row_faults : Rules → List Parts → List Parts → ℕ → List Bytes → List FileFault
+row_faults rules all before number [] = []
+row_faults rules all before number (word ∷ fields) = at_record number (record_faults rules all before (parts_of rules (word ∷ fields)))

@@ -5,11 +5,12 @@ ghost use Rattle.mt_faults.specs.Seen.{parts_seen, placed_left};
 ghost use Rattle.mt_faults.specs.Registered.{IsRegistry, PassesIds, most};
 ghost use Rattle.mt_faults.specs.Standing.{IsBefore};
 
-use crate::parts::{Form, Parts};
+use crate::named::named;
+use crate::parts::Parts;
 use crate::placed::Placed;
 use crate::registry::{Registry, add_ids, seen_with};
 use mt_ids::{IdTable, Seed, is_id};
-use mt_records::{Kind, Kinds, Rules};
+use mt_records::{Kinds, Rules};
 use std::alloc::{AllocError, Global};
 
 /// The registrations in a table that stand before a record.
@@ -96,32 +97,17 @@ impl<'a> Before<'a> {
             → IsRegistry rules.now (before ++ parts_seen parts.now ∷ rest) registry.now
             → IsBefore rules.now before self.old → IsBefore rules.now (before ++ parts_seen parts.now ∷ []) self.new) }
     {
-        let own = parts.names.first(1);
-        let ids = &registry.registered;
+        let ids = named(parts);
+        let tables = &registry.registered;
+        self.programs = self.programs.with(&tables.programs, rules, ids.programs);
+        self.couples = self.couples.with(&tables.couples, rules, ids.couples);
+        self.applicants = self
+            .applicants
+            .with(&registry.applicants, rules, ids.applicants);
         self.entries = self.entries.saturating_add(entries_of(parts));
-        match parts.form {
-            Form::Registers(Kind::Program) => {
-                self.programs = self.programs.with(&ids.programs, rules, own);
-            }
-            Form::Registers(Kind::Applicant) => {
-                self.applicants = self.applicants.with(&registry.applicants, rules, own);
-            }
-            Form::Registers(Kind::Couple) => {
-                let members = parts.names.tail();
-                self.couples = self.couples.with(&ids.couples, rules, own);
-                self.applicants = self.applicants.with(&registry.applicants, rules, members);
-            }
-            Form::Withdraws(Kind::Program) => {
-                add_ids(&mut self.withdrawn.programs, rules, parts.names)?;
-            }
-            Form::Withdraws(Kind::Applicant) => {
-                add_ids(&mut self.withdrawn.applicants, rules, parts.names)?;
-            }
-            Form::Withdraws(Kind::Couple) => {
-                add_ids(&mut self.withdrawn.couples, rules, parts.names)?;
-            }
-            Form::Unknown => {}
-        }
-        Ok(())
+        let withdrawn = &mut self.withdrawn;
+        add_ids(&mut withdrawn.programs, rules, ids.withdrawn_programs)?;
+        add_ids(&mut withdrawn.applicants, rules, ids.withdrawn_singles)?;
+        add_ids(&mut withdrawn.couples, rules, ids.withdrawn_couples)
     }
 }

@@ -10,6 +10,7 @@ ghost use Rattle.mt_faults.specs.Telling.{Tells, at_record};
 
 use crate::before::{Before, entries_of};
 use crate::fault::{Fault, FaultEnd};
+use crate::named::named;
 use crate::parts::{Form, FormFault, Parts};
 use crate::placed::{Field, Placed, PlacedPairs};
 use crate::registry::{Registry, is_before};
@@ -22,7 +23,7 @@ use mt_terms::codes::{
     BAD_QUOTA, DUPLICATE_ENTRY, DUPLICATE_ID, NOT_REGISTERED, TOO_MANY, UNKNOWN_APPLICANT,
     UNKNOWN_PROGRAM,
 };
-use std::alloc::{AllocError, Global};
+use std::alloc::Global;
 
 /// What a record is read beside: the rules of the version, what all records register, and what stands before it.
 pub(crate) struct Finder<'a> {
@@ -292,15 +293,10 @@ impl<'a> Finder<'a> {
     fn registers(&self, parts: &Parts<'a>) -> (u64, u64, u64)
         ensures { Registers self.now.rules (parts_seen parts.now) result.0 result.1 result.2 }
     {
-        let own = ids_count(&self.rules, parts.names.first(1));
-        match parts.form {
-            Form::Registers(Kind::Program) => (0, own, 0),
-            Form::Registers(Kind::Applicant) => (own, 0, 0),
-            Form::Registers(Kind::Couple) => {
-                (ids_count(&self.rules, parts.names.tail()), 0, own)
-            }
-            _ => (0, 0, 0),
-        }
+        let ids = named(parts);
+        let applicants = ids_count(&self.rules, ids.applicants);
+        let programs = ids_count(&self.rules, ids.programs);
+        (applicants, programs, ids_count(&self.rules, ids.couples))
     }
 
     /// Tells a sink the limits that are passed with a record.
@@ -363,14 +359,6 @@ impl<'a> Finder<'a> {
             Wrong::Missing { code, ids },
             fields,
         )
-    }
-
-    /// Passes over a record, so that it stands before the next one.
-    pub(crate) fn pass(&mut self, parts: &Parts<'a>) -> Result<(), AllocError>
-        ensures { OnOk result ((all before rest : List model.Parts) → all ≡ before ++ parts_seen parts.now ∷ rest
-            → Stands self.old all before → Stands self.new all (before ++ parts_seen parts.now ∷ [])) }
-    {
-        self.before.pass(&self.rules, &self.registry, parts)
     }
 
     /// Tells a sink all faults of a record.

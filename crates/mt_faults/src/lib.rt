@@ -6,11 +6,14 @@ mod entries;
 mod fault;
 mod find;
 mod finder;
+mod named;
 mod pairs;
 mod parts;
 mod placed;
 mod registry;
 mod repeats;
+mod rows;
+mod seed;
 mod sink;
 mod tell;
 

@@ -1,6 +1,5 @@
-ghost use Rattle.std.specs.Prelude.{◌≡◌, ℕ, [], flat_map, take, IfOk, OnOk};
+ghost use Rattle.std.specs.Prelude.{◌≡◌, ℕ, [], take, IfOk, OnOk};
 ghost use Rattle.mt_lists.specs.Rows.{rows_left};
-ghost use Rattle.mt_ids.specs.Seeds.{seed_of};
 ghost use Rattle.mt_terms.specs.Registration.Ids.{has_id};
 ghost use Rattle.mt_terms.specs.Registration.Passes.{numbered_from};
 ghost use Rattle.mt_fault_terms.specs.OfFile.{all_parts};
@@ -8,13 +7,13 @@ ghost use Rattle.mt_fault_terms.specs.Parts.{ids_among};
 ghost use Rattle.mt_faults.specs.Seen.{parts_seen, placed_left};
 ghost use Rattle.mt_faults.specs.Registered.{added, seen_with, AddsParts, IsRegistry};
 
-use crate::parts::{Form, Parts, parts_of};
+use crate::named::named;
+use crate::parts::{Parts, parts_of};
 use crate::placed::Placed;
-use mt_ids::{IdTable, Seed, add_field, is_id};
+use mt_ids::{IdTable, Seed, is_id};
 use mt_lists::RowsIter;
-use mt_records::{Kind, Kinds, Rules};
+use mt_records::{Kinds, Rules};
 use std::alloc::{AllocError, Global};
-use std::hash::DefaultHasher;
 
 /// The ids that all records of a file register, each once, in the order in which they come.
 pub(crate) struct Registry<'a> {
@@ -31,19 +30,6 @@ impl Drop for Registry<'_> {
             applicants: _,
         } = self;
     }
-}
-
-/// The seed of tables of what is in these rows.
-pub(crate) fn seed_of(rows: RowsIter<'_>) -> Seed
-    ensures { result ≡ seed_of (flat_map (λ fields. fields) (rows_left rows.entry)) }
-{
-    let mut digest = DefaultHasher::new();
-    for row in rows {
-        for field in row.fields() {
-            add_field(&mut digest, field);
-        }
-    }
-    Seed::of(&digest)
 }
 
 /// Adds those of some fields that are ids to a table.
@@ -80,19 +66,11 @@ impl<'a> Registry<'a> {
     fn add(&mut self, rules: &Rules, parts: &Parts<'a>) -> Result<(), AllocError>
         ensures { OnOk result (AddsParts rules.now self.old self.new (parts_seen parts.now)) }
     {
-        let own = parts.names.first(1);
-        match parts.form {
-            Form::Registers(Kind::Program) => add_ids(&mut self.registered.programs, rules, own),
-            Form::Registers(Kind::Applicant) => {
-                add_ids(&mut self.registered.applicants, rules, own)?;
-                add_ids(&mut self.applicants, rules, own)
-            }
-            Form::Registers(Kind::Couple) => {
-                add_ids(&mut self.registered.couples, rules, own)?;
-                add_ids(&mut self.applicants, rules, parts.names.tail())
-            }
-            _ => Ok(()),
-        }
+        let ids = named(parts);
+        add_ids(&mut self.registered.programs, rules, ids.programs)?;
+        add_ids(&mut self.registered.applicants, rules, ids.singles)?;
+        add_ids(&mut self.registered.couples, rules, ids.couples)?;
+        add_ids(&mut self.applicants, rules, ids.applicants)
     }
 
     /// What these rows register.

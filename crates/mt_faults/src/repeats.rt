@@ -20,7 +20,7 @@ use std::alloc::Global;
 /// The fault of an entry that stands before, first in the field with this number, if it is an id.
 fn repeated<'a>(rules: &Rules, field: &Field<'a>, first: Option<usize>) -> Option<Fault<'a>>
     ensures { faults_seen result
-        ≡ (if is_some first && is_id_field rules.now (field_seen field.now)
+        ≡ (if is_id_field rules.now (field_seen field.now) && is_some first
         then fault_of DUPLICATE_ENTRY (field_seen field.now) ∷ [] else []) }
 {
     let first = first?;

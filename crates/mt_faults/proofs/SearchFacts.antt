@@ -1,0 +1,83 @@
+-- What each loop of the search keeps, and how one turn changes it.
+-- A sink was told the faults of what is done. What is left decides the others.
+use Rattle.std.proofs.Common.{◌≡◌, ℕ, ◌+◌, Bool, true, false, ◌&&◌, List, [], ◌∷◌, ◌++◌, length, map, filter, min, Option, Some, None, refl, ap, sym, ◌∙◌, subst, arith, if◌then◌else◌}
+use Rattle.std.specs.Prelude.{flat_map, is_some, option_map_or}
+use Rattle.std.specs.List.{list_any}
+use Rattle.std.proofs.lemmas.List.{append_assoc, append-nil, map-append}
+use Rattle.mt_terms.specs.declared.codes.TheConstants.{BAD_ID, DUPLICATE_ENTRY, NO_VERSION}
+use Rattle.mt_terms.specs.Registration.Ids.{Bytes, has_id, is_id}
+use Rattle.mt_terms.specs.Registration.Passes.{Numbered, numbered_from, is_same_pair}
+use Rattle.mt_terms.specs.Registration.Records.{Rules, IdPair, is_pair, pair_of, rules_of}
+use Rattle.mt_fault_terms.specs.Faults.{FieldFault, FileFault, Placed, fault_alone, fault_of}
+use Rattle.mt_fault_terms.specs.OfFile.{all_parts, faults_after, faults_of_numbered, faults_under}
+use Rattle.mt_fault_terms.specs.OfRecord.{alone_at, bad_of_pair, is_id_field, is_place_field, pair_repeats_after, record_faults, repeats_after, shown_of_pair}
+use Rattle.mt_fault_terms.specs.Parts.{Parts, PlacedPair, ids_among, parts_of}
+use Rattle.mt_faults.specs.declared.finder.Finder.{Finder}
+use Rattle.mt_faults.specs.Registered.{added}
+use Rattle.mt_faults.specs.Standing.{Stands, row_faults, row_parts}
+use Rattle.mt_faults.specs.Telling.{at_record}
+use Rattle.mt_faults.proofs.RecordFacts.{Alike, PairsAlike, alike_more, bad_pair, fields_of, found_one, pairs_alike_more}
+use Rattle.mt_faults.proofs.TellingFacts.{SoFar, goes}
+
+-- faults of a record in two parts
+pub in_two : (n : ℕ) (whole some rest told : List FieldFault) → whole ≡ some ++ rest → told ≡ some → at_record n whole ≡ at_record n told ++ at_record n rest
+in_two n whole some rest told w t = ap (at_record n) (w ∙ ap (λ fs. fs ++ rest) (sym t)) ∙ map-append (λ (fault : FieldFault). (n, fault)) told rest
+
+-- the faults of the next element of a list
+pub next_of : {X : Type 0} (n : ℕ) (f : X → List FieldFault) (all rest : List X) (x : X) (told : List FieldFault) → all ≡ x ∷ rest → told ≡ f x
+    → at_record n (flat_map f all) ≡ at_record n told ++ at_record n (flat_map f rest)
+next_of n f all rest x told a t = in_two n (flat_map f all) (f x) (flat_map f rest) told (ap (flat_map f) a) t
+
+-- the ids among fields
+pub ids_with : (rules : Rules) (all rest : List Placed) (x : Placed) → all ≡ x ∷ rest → is_id rules.limits.id_bytes x.1 ≡ true → ids_among rules all ≡ x.1 ∷ ids_among rules rest
+ids_with rules all rest x a h = rw a (rw h refl)
+
+pub ids_without : (rules : Rules) (all rest : List Placed) (x : Placed) → all ≡ x ∷ rest → is_id rules.limits.id_bytes x.1 ≡ false → ids_among rules all ≡ ids_among rules rest
+ids_without rules all rest x a h = rw a (rw h refl)
+
+module _ {S : Type 0} (takes : S → Type 0) (told stopped : S → S → List FileFault → Type 0) where
+  -- the entries of a list before those that are left, and the faults told of them
+  pub record Repeats (a b : S) (n : ℕ) (rules : Rules) (table : List Bytes) (left : List Placed) (whole : List FileFault) : Type 0 where
+    pub before : List Bytes
+    pub alike : Alike table before
+    pub so_far : SoFar takes told stopped a b (at_record n (repeats_after rules before left)) whole
+
+  -- the same of pairs
+  pub record PairRepeats (a b : S) (n : ℕ) (rules : Rules) (table : List IdPair) (left : List PlacedPair) (whole : List FileFault) : Type 0 where
+    pub before : List (Bytes × Bytes)
+    pub alike : PairsAlike table before
+    pub so_far : SoFar takes told stopped a b (at_record n (pair_repeats_after rules before left)) whole
+
+  -- the records before those that are left, and the faults told of them
+  pub record Rows (a b : S) (rules : Rules) (finder : Finder) (all : List Parts) (left : List (Numbered (List Bytes))) (whole : List FileFault) : Type 0 where
+    pub before : List Parts
+    pub stands : Stands finder all before
+    pub rest : all ≡ before ++ all_parts rules left
+    pub so_far : SoFar takes told stopped a b (faults_after rules all before left) whole
+
+-- a repeated entry, as it is told
+pub repeated_is : (rules : Rules) (table before : List Bytes) (x : Placed) (first : Bool) (fs : List FieldFault) → Alike table before → first ≡ has_id table x.1
+    → fs ≡ (if is_id_field rules x && first then fault_of DUPLICATE_ENTRY x ∷ [] else [])
+    → (rest : List Placed) → repeats_after rules before (x ∷ rest) ≡ fs ++ repeats_after rules (before ++ x.1 ∷ []) rest
+repeated_is rules table before x first fs alike f is rest =
+    ap (λ l. l ++ repeats_after rules (before ++ x.1 ∷ []) rest)
+    (found_one rules DUPLICATE_ENTRY before x ∙ ap (λ b. if is_id_field rules x && b then fault_of DUPLICATE_ENTRY x ∷ [] else []) (sym (f ∙ alike x.1)) ∙ sym is)
+
+-- a repeated pair, as it is told
+pub repeated_pair_is : (rules : Rules) (table : List IdPair) (before : List (Bytes × Bytes)) (x : PlacedPair) (first : Bool) (fs : List FieldFault) → PairsAlike table before
+    → first ≡ list_any (is_same_pair (pair_of (fields_of x))) table
+    → fs ≡ (if is_pair rules (fields_of x) && first then record { code = DUPLICATE_ENTRY; field = x.0.0; id = shown_of_pair x } ∷ [] else [])
+    → (rest : List PlacedPair) → pair_repeats_after rules before (x ∷ rest) ≡ fs ++ pair_repeats_after rules (before ++ fields_of x ∷ []) rest
+repeated_pair_is rules table before x first fs alike f is rest =
+    ap (λ l. l ++ pair_repeats_after rules (before ++ fields_of x ∷ []) rest)
+    (ap (λ b. if is_pair rules (fields_of x) && b then record { code = DUPLICATE_ENTRY; field = x.0.0; id = shown_of_pair x } ∷ [] else []) (sym (f ∙ alike (pair_of (fields_of x)))) ∙ sym is)
+
+-- the records of rows, one row after another
+pub numbered_parts : (rules : Rules) (n : ℕ) (row : List Bytes) (rows : List (List Bytes)) → all_parts rules (numbered_from n (row ∷ rows)) ≡ row_parts rules row ++ all_parts rules (numbered_from (n + 1) rows)
+numbered_parts rules n [] rows = refl
+numbered_parts rules n (word ∷ fields) rows = refl
+
+pub numbered_faults : (rules : Rules) (all before : List Parts) (n : ℕ) (row : List Bytes) (rows : List (List Bytes)) → faults_after rules all before (numbered_from n (row ∷ rows))
+    ≡ row_faults rules all before n row ++ faults_after rules all (before ++ row_parts rules row) (numbered_from (n + 1) rows)
+numbered_faults rules all before n [] rows = ap (λ ps. faults_after rules all ps (numbered_from (n + 1) rows)) (sym (append-nil before))
+numbered_faults rules all before n (word ∷ fields) rows = refl

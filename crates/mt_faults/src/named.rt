@@ -1,0 +1,65 @@
+ghost use Rattle.mt_faults.specs.Named.{IsNamed};
+ghost use Rattle.mt_faults.specs.Seen.{parts_seen};
+
+use crate::parts::{Form, Parts};
+use crate::placed::Placed;
+use mt_records::Kind;
+
+/// The fields of a record that name what it registers or withdraws, of each kind. Some of them may be no ids.
+#[derive(Clone, Copy)]
+pub(crate) struct Named<'a> {
+    pub(crate) programs: Placed<'a>,
+    pub(crate) singles: Placed<'a>,
+    pub(crate) couples: Placed<'a>,
+    /// The applicants, members of couples included.
+    pub(crate) applicants: Placed<'a>,
+    pub(crate) withdrawn_programs: Placed<'a>,
+    pub(crate) withdrawn_singles: Placed<'a>,
+    pub(crate) withdrawn_couples: Placed<'a>,
+}
+
+/// What a record names.
+pub(crate) fn named<'a>(parts: &Parts<'a>) -> Named<'a>
+    ensures { IsNamed (parts_seen parts.now) result }
+{
+    let none = parts.names.first(0);
+    let own = parts.names.first(1);
+    let nothing = Named {
+        programs: none,
+        singles: none,
+        couples: none,
+        applicants: none,
+        withdrawn_programs: none,
+        withdrawn_singles: none,
+        withdrawn_couples: none,
+    };
+    match parts.form {
+        Form::Registers(Kind::Program) => Named {
+            programs: own,
+            ..nothing
+        },
+        Form::Registers(Kind::Applicant) => Named {
+            singles: own,
+            applicants: own,
+            ..nothing
+        },
+        Form::Registers(Kind::Couple) => Named {
+            couples: own,
+            applicants: parts.names.tail(),
+            ..nothing
+        },
+        Form::Withdraws(Kind::Program) => Named {
+            withdrawn_programs: parts.names,
+            ..nothing
+        },
+        Form::Withdraws(Kind::Applicant) => Named {
+            withdrawn_singles: parts.names,
+            ..nothing
+        },
+        Form::Withdraws(Kind::Couple) => Named {
+            withdrawn_couples: parts.names,
+            ..nothing
+        },
+        Form::Unknown => nothing,
+    }
+}
