@@ -1,6 +1,6 @@
 -- What each loop of the search keeps, and how one turn changes it.
 -- A sink was told the faults of what is done. What is left decides the others.
-use Rattle.std.proofs.Common.{◌≡◌, ℕ, ◌+◌, Bool, true, false, ◌&&◌, List, [], ◌∷◌, ◌++◌, length, map, filter, min, Option, Some, None, refl, ap, sym, ◌∙◌, subst, arith, if◌then◌else◌}
+use Rattle.std.proofs.Common.{◌≡◌, ℕ, ◌+◌, Bool, true, false, ◌&&◌, List, [], ◌∷◌, ◌++◌, length, map, filter, min, Option, Some, None, refl, ap, sym, ap₂, ◌∙◌, subst, arith, if◌then◌else◌}
 use Rattle.std.specs.Prelude.{flat_map, is_some, option_map_or}
 use Rattle.std.specs.List.{list_any}
 use Rattle.std.proofs.lemmas.List.{append_assoc, append-nil, map-append}
@@ -81,3 +81,13 @@ pub numbered_faults : (rules : Rules) (all before : List Parts) (n : ℕ) (row :
     ≡ row_faults rules all before n row ++ faults_after rules all (before ++ row_parts rules row) (numbered_from (n + 1) rows)
 numbered_faults rules all before n [] rows = ap (λ ps. faults_after rules all ps (numbered_from (n + 1) rows)) (sym (append-nil before))
 numbered_faults rules all before n (word ∷ fields) rows = refl
+
+-- the bad fields of the next pair, as they are told
+pub bad_pair_next : (rules : Rules) (all rest : List PlacedPair) (pair : PlacedPair) (one two : List FieldFault) → all ≡ pair ∷ rest
+    → one ≡ (if is_place_field rules pair.0 pair.1 then [] else fault_alone BAD_ID pair.0.0 ∷ []) → two ≡ (if is_place_field rules pair.1 pair.0 then [] else fault_alone BAD_ID pair.1.0 ∷ [])
+    → alone_at BAD_ID (flat_map (bad_of_pair rules) all) ≡ one ++ (two ++ alone_at BAD_ID (flat_map (bad_of_pair rules) rest))
+bad_pair_next rules all rest pair one two a o t =
+    ap (λ ps. alone_at BAD_ID (flat_map (bad_of_pair rules) ps)) a
+    ∙ map-append (λ (field : Placed). fault_alone BAD_ID field.0) (bad_of_pair rules pair) (flat_map (bad_of_pair rules) rest)
+    ∙ ap (λ l. l ++ alone_at BAD_ID (flat_map (bad_of_pair rules) rest)) (bad_pair rules pair ∙ ap₂ (λ (x y : List FieldFault). x ++ y) (sym o) (sym t))
+    ∙ append_assoc one two (alone_at BAD_ID (flat_map (bad_of_pair rules) rest))

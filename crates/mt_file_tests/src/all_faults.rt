@@ -1,7 +1,5 @@
 //! All faults of a file by example: of each the record, the code, the field and the id, in the order in which they are
 //! told.
-ghost use Rattle.std.specs.Prelude.{◌≡◌};
-
 use crate::expect::holds_for;
 use mt_faults::{Fault, FaultEnd, FaultSink, Stop, find_faults};
 use mt_lists::records;
@@ -33,7 +31,11 @@ impl FaultSink for Lines {
             return Err(Stop);
         }
         self.room -= 1;
-        let _ = write!(&mut self.text, "{number} {} {} {} ", fault.code, fault.field, fault.first);
+        let _ = write!(
+            &mut self.text,
+            "{number} {} {} {} ",
+            fault.code, fault.field, fault.first
+        );
         for byte in fault.id {
             let _ = self.text.push(char::from(*byte));
         }
@@ -69,7 +71,10 @@ const FILES: &[(&str, &str)] = &[
         "match,1\npost,P,1\n,,x\nwithdraw,program,P\n",
         "2 13 1 0 \n3 13 1 0 \n4 13 1 0 \n",
     ),
-    ("match,2\nwithdraw\nwithdraw,post,P\n", "2 14 0 0 \n3 13 2 0 \n"),
+    (
+        "match,2\nwithdraw\nwithdraw,post,P\n",
+        "2 14 0 0 \n3 13 2 0 \n",
+    ),
     // The number of fields. What is there is read all the same.
     (
         "match,1\nprogram\nprogram,P!\napplicant\ncouple,c,a\ncouple,d,e,f,P\n",
@@ -114,7 +119,11 @@ const FILES: &[(&str, &str)] = &[
 fn files_and_all_their_faults(rt: HostRuntime) {
     for (file, faults) in FILES {
         let (text, end) = told(rt.alloc(), file.as_bytes(), 100);
-        holds_for(&rt, end.is_ok() && text.as_str() == *faults, &(file, text.as_str()));
+        holds_for(
+            &rt,
+            end.is_ok() && text.as_str() == *faults,
+            &(file, text.as_str()),
+        );
     }
 }
 
@@ -123,5 +132,33 @@ fn a_sink_that_stops(rt: HostRuntime) {
     let file = "match,1\npost\npost\npost\n";
     let (text, end) = told(rt.alloc(), file.as_bytes(), 2);
     holds_for(&rt, end == Err(FaultEnd::Stopped), &end);
-    holds_for(&rt, text.as_str() == "2 13 1 0 \n3 13 1 0 \n", &text.as_str());
+    holds_for(
+        &rt,
+        text.as_str() == "2 13 1 0 \n3 13 1 0 \n",
+        &text.as_str(),
+    );
+}
+
+/// A file with this many programs. The first is registered once more at the end.
+fn programs(alloc: Global, count: u32) -> String {
+    let mut text = String::new(alloc);
+    let _ = text.push_str("match,1\n");
+    for number in 0..count {
+        let _ = write!(&mut text, "program,p{number},1\n");
+    }
+    let _ = text.push_str("program,p0,1\n");
+    text
+}
+
+// A limit is at fault once, at the record that passes it. A second registration of an id counts too.
+#[test]
+fn more_programs_than_the_limit(rt: HostRuntime) {
+    let file = programs(rt.alloc(), 20_002);
+    let (text, end) = told(rt.alloc(), file.as_bytes(), 100);
+    let faults = "20002 19 0 0 p20000\n20004 17 2 0 p0\n";
+    holds_for(&rt, end.is_ok() && text.as_str() == faults, &text.as_str());
+    let file = programs(rt.alloc(), 20_000);
+    let (text, end) = told(rt.alloc(), file.as_bytes(), 100);
+    let faults = "20002 17 2 0 p0\n20002 19 0 0 p0\n";
+    holds_for(&rt, end.is_ok() && text.as_str() == faults, &text.as_str());
 }
