@@ -1,5 +1,5 @@
 pub mod Seen
-pub mod Named
+pub mod Names
 pub mod Registered
 pub mod Telling
 pub mod Standing

@@ -5,7 +5,7 @@ ghost use Rattle.mt_faults.specs.Seen.{parts_seen, placed_left};
 ghost use Rattle.mt_faults.specs.Registered.{IsRegistry, PassesIds, most};
 ghost use Rattle.mt_faults.specs.Standing.{IsBefore};
 
-use crate::named::named;
+use crate::names::names_of;
 use crate::parts::Parts;
 use crate::placed::Placed;
 use crate::registry::{Registry, add_ids, seen_with};
@@ -97,7 +97,7 @@ impl<'a> Before<'a> {
             → IsRegistry rules.now (before ++ parts_seen parts.now ∷ rest) registry.now
             → IsBefore rules.now before self.old → IsBefore rules.now (before ++ parts_seen parts.now ∷ []) self.new) }
     {
-        let ids = named(parts);
+        let ids = names_of(parts);
         let tables = &registry.registered;
         self.programs = self.programs.with(&tables.programs, rules, ids.programs);
         self.couples = self.couples.with(&tables.couples, rules, ids.couples);

@@ -10,7 +10,7 @@ ghost use Rattle.mt_faults.specs.Telling.{Tells, at_record};
 
 use crate::before::{Before, entries_of};
 use crate::fault::{Fault, FaultEnd};
-use crate::named::named;
+use crate::names::names_of;
 use crate::parts::{Form, FormFault, Parts};
 use crate::placed::{Field, Placed, PlacedPairs};
 use crate::registry::{Registry, is_before};
@@ -293,7 +293,7 @@ impl<'a> Finder<'a> {
     fn registers(&self, parts: &Parts<'a>) -> (u64, u64, u64)
         ensures { Registers self.now.rules (parts_seen parts.now) result.0 result.1 result.2 }
     {
-        let ids = named(parts);
+        let ids = names_of(parts);
         let applicants = ids_count(&self.rules, ids.applicants);
         let programs = ids_count(&self.rules, ids.programs);
         (applicants, programs, ids_count(&self.rules, ids.couples))

@@ -6,7 +6,7 @@ mod entries;
 mod fault;
 mod find;
 mod finder;
-mod named;
+mod names;
 mod pairs;
 mod parts;
 mod placed;

@@ -7,7 +7,7 @@ ghost use Rattle.mt_fault_terms.specs.Parts.{ids_among};
 ghost use Rattle.mt_faults.specs.Seen.{parts_seen, placed_left};
 ghost use Rattle.mt_faults.specs.Registered.{added, seen_with, AddsParts, IsRegistry};
 
-use crate::named::named;
+use crate::names::names_of;
 use crate::parts::{Parts, parts_of};
 use crate::placed::Placed;
 use mt_ids::{IdTable, Seed, is_id};
@@ -66,7 +66,7 @@ impl<'a> Registry<'a> {
     fn add(&mut self, rules: &Rules, parts: &Parts<'a>) -> Result<(), AllocError>
         ensures { OnOk result (AddsParts rules.now self.old self.new (parts_seen parts.now)) }
     {
-        let ids = named(parts);
+        let ids = names_of(parts);
         add_ids(&mut self.registered.programs, rules, ids.programs)?;
         add_ids(&mut self.registered.applicants, rules, ids.singles)?;
         add_ids(&mut self.registered.couples, rules, ids.couples)?;

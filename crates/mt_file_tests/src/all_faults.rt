@@ -83,7 +83,7 @@ const FILES: &[(&str, &str)] = &[
     // Fields that should be ids.
     (
         "match,2\nprogram,P,x,b!,,-\ncouple,-,a b,b,P!,-,-,-,P,-\nprogram,P2,1\n",
-        "2 15 4 0 \n2 15 5 0 \n2 15 6 0 \n2 16 3 0 P\n3 15 2 0 \n3 15 3 0 \n3 15 5 0 \n3 15 6 0 \n3 15 7 0 \n3 15 8 0 \n",
+        "2 15 4 0 \n2 15 5 0 \n2 15 6 0 \n2 16 3 0 P\n3 15 2 0 \n3 15 3 0 \n3 15 5 0 \n3 15 7 0 \n3 15 8 0 \n",
     ),
     ("match,1\nprogram,P,1\ncouple,c,a,b,P,-\n", "3 15 6 0 \n"),
     // Ids that are registered already, also by a record at fault.

@@ -2,11 +2,11 @@
 use Rattle.std.specs.Prelude.{◌≡◌}
 use Rattle.mt_terms.specs.Registration.Records.{Rules, OfProgram, OfApplicant, OfCouple}
 use Rattle.mt_fault_terms.specs.Parts.{Parts, ids_among, own_ids, applicants_among, withdrawn_ids}
-use Rattle.mt_faults.specs.declared.named.Named.{Named}
+use Rattle.mt_faults.specs.declared.names.Names.{Names}
 use Rattle.mt_faults.specs.Seen.{placed_left}
 
 -- The ids among these fields are those that a record registers and withdraws.
-pub record IsNamed (p : Parts) (n : Named) : Type 0 where
+pub record AreNamed (p : Parts) (n : Names) : Type 0 where
   pub programs : (rules : Rules) → ids_among rules (placed_left n.programs) ≡ own_ids rules OfProgram p
   pub singles : (rules : Rules) → ids_among rules (placed_left n.singles) ≡ own_ids rules OfApplicant p
   pub couples : (rules : Rules) → ids_among rules (placed_left n.couples) ≡ own_ids rules OfCouple p

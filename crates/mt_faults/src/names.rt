@@ -1,4 +1,4 @@
-ghost use Rattle.mt_faults.specs.Named.{IsNamed};
+ghost use Rattle.mt_faults.specs.Names.{AreNamed};
 ghost use Rattle.mt_faults.specs.Seen.{parts_seen};
 
 use crate::parts::{Form, Parts};
@@ -7,7 +7,7 @@ use mt_records::Kind;
 
 /// The fields of a record that name what it registers or withdraws, of each kind. Some of them may be no ids.
 #[derive(Clone, Copy)]
-pub(crate) struct Named<'a> {
+pub(crate) struct Names<'a> {
     pub(crate) programs: Placed<'a>,
     pub(crate) singles: Placed<'a>,
     pub(crate) couples: Placed<'a>,
@@ -19,12 +19,12 @@ pub(crate) struct Named<'a> {
 }
 
 /// What a record names.
-pub(crate) fn named<'a>(parts: &Parts<'a>) -> Named<'a>
-    ensures { IsNamed (parts_seen parts.now) result }
+pub(crate) fn names_of<'a>(parts: &Parts<'a>) -> Names<'a>
+    ensures { AreNamed (parts_seen parts.now) result }
 {
     let none = parts.names.first(0);
     let own = parts.names.first(1);
-    let nothing = Named {
+    let nothing = Names {
         programs: none,
         singles: none,
         couples: none,
@@ -34,29 +34,29 @@ pub(crate) fn named<'a>(parts: &Parts<'a>) -> Named<'a>
         withdrawn_couples: none,
     };
     match parts.form {
-        Form::Registers(Kind::Program) => Named {
+        Form::Registers(Kind::Program) => Names {
             programs: own,
             ..nothing
         },
-        Form::Registers(Kind::Applicant) => Named {
+        Form::Registers(Kind::Applicant) => Names {
             singles: own,
             applicants: own,
             ..nothing
         },
-        Form::Registers(Kind::Couple) => Named {
+        Form::Registers(Kind::Couple) => Names {
             couples: own,
             applicants: parts.names.tail(),
             ..nothing
         },
-        Form::Withdraws(Kind::Program) => Named {
+        Form::Withdraws(Kind::Program) => Names {
             withdrawn_programs: parts.names,
             ..nothing
         },
-        Form::Withdraws(Kind::Applicant) => Named {
+        Form::Withdraws(Kind::Applicant) => Names {
             withdrawn_singles: parts.names,
             ..nothing
         },
-        Form::Withdraws(Kind::Couple) => Named {
+        Form::Withdraws(Kind::Couple) => Names {
             withdrawn_couples: parts.names,
             ..nothing
         },
