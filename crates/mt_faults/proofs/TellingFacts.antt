@@ -90,3 +90,7 @@ module _ {S : Type 0} {takes : S → Type 0} {told stopped : S → S → List Fi
   pub memory_ends : {Y : Type 0} {a b : S} {left whole : List FileFault} (r : Result Y FaultEnd) → SoFar takes told stopped a b left whole → r ≡ Err ends.Memory → Tells {X = Y} takes told stopped a b whole r
   memory_ends {Y} {a = a} {b = b} {left = left} {whole = whole} r s is =
       subst (λ (q : Result Y FaultEnd). Tells {X = Y} takes told stopped a b whole q) (sym is) (s.takes_more, record { some = s.some; rest = left; parts = s.parts; holds = s.is_told })
+
+  -- the same faults
+  pub told_as : {X : Type 0} {a b : S} (next whole : List FileFault) (r : Result X FaultEnd) → next ≡ whole → Tells {X = X} takes told stopped a b next r → Tells {X = X} takes told stopped a b whole r
+  told_as {X} {a = a} {b = b} next whole r e t = subst (λ (fs : List FileFault). Tells {X = X} takes told stopped a b fs r) e t

@@ -5,7 +5,7 @@ ghost use Rattle.mt_fault_terms.specs.Parts as model;
 ghost use Rattle.mt_fault_terms.specs.Parts.{ids_among};
 ghost use Rattle.mt_faults.specs.Registered.{most};
 ghost use Rattle.mt_faults.specs.Seen.{faults_seen, field_seen, form_faults, parts_seen, placed_left};
-ghost use Rattle.mt_faults.specs.Standing.{Registers, Stands, withdrawn_again};
+ghost use Rattle.mt_faults.specs.Standing.{AreCounted, Stands, withdrawn_again};
 ghost use Rattle.mt_faults.specs.Telling.{Tells, at_record};
 
 use crate::before::{Before, entries_of};
@@ -291,7 +291,7 @@ impl<'a> Finder<'a> {
 
     /// How many applicants, programs and couples a record registers, each at most `u64::MAX`.
     fn registers(&self, parts: &Parts<'a>) -> (u64, u64, u64)
-        ensures { Registers self.now.rules (parts_seen parts.now) result.0 result.1 result.2 }
+        ensures { AreCounted self.now.rules (parts_seen parts.now) result.0 result.1 result.2 }
     {
         let ids = names_of(parts);
         let applicants = ids_count(&self.rules, ids.applicants);

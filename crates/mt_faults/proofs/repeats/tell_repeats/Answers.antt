@@ -13,3 +13,22 @@ pub loop-field-init : goal.loop-field-init
 loop-field-init g c =
     let laws : Laws g.S.FaultSink.takes g.S.FaultSink.told g.S.FaultSink.stopped = record { none = g.met.S.FaultSink.told_none; more = g.met.S.FaultSink.told_more; stops = g.met.S.FaultSink.stopped_after } in
     record { before = []; alike = λ id. refl; so_far = starts laws c.args.sink.now _ c.requires }
+
+pub loop-field-preserved : goal.loop-field-preserved
+loop-field-preserved g c =
+    let rules = c.args.rules.now in
+    let n = c.args.number in
+    let before = c.loop-field.invariant.before in
+    let id = c.in-Some.field.bytes.now in
+    let told = faults_seen c.repeated.result in
+    let rest = repeats_after rules (before ++ id ∷ []) (placed_left c.next.new.self) in
+    let next = repeated_is rules c.loop-field.entries before (field_seen c.in-Some.field) (is_some c.in_ok-first.first) told c.loop-field.invariant.alike c.in_ok-first.ensures.found c.repeated.ensures (placed_left c.next.new.self) in
+    record {
+      before = before ++ id ∷ [];
+      alike = alike_more c.loop-field.entries before c.add-first.new.self id c.loop-field.invariant.alike c.in_ok-first.ensures.ids;
+      so_far = goes c.tell.new.sink (at_record n told) (at_record n rest) c.loop-field.invariant.so_far c.in_ok-tell.ensures
+          (ap (λ fields. at_record n (repeats_after rules before fields)) c.in-Some.ensures.steps ∙ in_two n _ told rest told next refl);
+    }
+
+pub returns : goal.returns
+returns g c = all_told _ c.loop-field.invariant.so_far (ap (λ fields. at_record c.args.number (repeats_after c.args.rules.now c.loop-field.invariant.before fields)) c.in-None.ensures.steps.0)
