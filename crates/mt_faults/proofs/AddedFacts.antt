@@ -91,14 +91,20 @@ module _ (before more : List Bytes) (id : Bytes) (table : List Bytes) (seen : �
 pub pass_none : (table : List Bytes) (p : Passed) → PassesIds table p p []
 pass_none table p = λ before rest t h. subst (λ (ids : List Bytes). IsPassed ids p) (sym (append-nil before)) h
 
-pub pass_id : (table : List Bytes) (old next new : Passed) (id : Bytes) (ids : List Bytes) → next.seen ≡ seen_with table old.seen id → next.count ≡ min (old.count + 1) most
-    → PassesIds table next new ids → PassesIds table old new (id ∷ ids)
-pass_id table old next new id ids seen count passes = λ before rest t h.
-    let whole : table ≡ added [] (before ++ id ∷ (ids ++ rest)) = t ∙ ap (added []) (append_assoc before (id ∷ ids) rest) in
-    let again : table ≡ added [] (((before ++ id ∷ []) ++ ids) ++ rest) = t ∙ ap (λ xs. added [] (xs ++ rest)) (sym (append_assoc before (id ∷ []) ids)) in
+-- one more
+pub pass_id : (table : List Bytes) (old new : Passed) (id : Bytes) → new.seen ≡ seen_with table old.seen id → new.count ≡ min (old.count + 1) most → PassesIds table old new (id ∷ [])
+pass_id table old new id seen count = λ before rest t h.
+    let whole : table ≡ added [] (before ++ id ∷ rest) = t ∙ ap (added []) (append_assoc before (id ∷ []) rest) in
     let long : length (before ++ id ∷ []) ≡ length before + 1 = omega (arith, length-append before (id ∷ [])) in
-    let p : IsPassed (before ++ id ∷ []) next = record {
-      seen = seen ∙ next_seen before (ids ++ rest) id table old.seen whole h.seen;
+    record {
+      seen = seen ∙ ap (λ n. seen_with table n id) h.seen ∙ next_seen before rest id table (length (added [] before)) whole refl;
       count = count ∙ omega (arith, h.count, long);
-    } in
-    subst (λ (xs : List Bytes). IsPassed xs new) (append_assoc before (id ∷ []) ids) (passes (before ++ id ∷ []) rest again p)
+    }
+
+-- some, and then others
+pub pass_both : (table : List Bytes) (old next new : Passed) (some more : List Bytes) → PassesIds table old next some → PassesIds table next new more → PassesIds table old new (some ++ more)
+pass_both table old next new some more one two = λ before rest t h.
+    let first : table ≡ added [] ((before ++ some) ++ (more ++ rest)) =
+    t ∙ ap (added []) (append_assoc before (some ++ more) rest ∙ ap (λ xs. before ++ xs) (append_assoc some more rest) ∙ sym (append_assoc before some (more ++ rest))) in
+    let second : table ≡ added [] (((before ++ some) ++ more) ++ rest) = first ∙ ap (added []) (sym (append_assoc (before ++ some) more rest)) in
+    subst (λ (ids : List Bytes). IsPassed ids new) (append_assoc before some more) (two (before ++ some) rest second (one before (more ++ rest) first h))

@@ -1,6 +1,6 @@
 -- What each loop of the search keeps, and how one turn changes it.
 -- A sink was told the faults of what is done. What is left decides the others.
-use Rattle.std.proofs.Common.{◌≡◌, ℕ, ◌+◌, Bool, true, false, ◌&&◌, List, [], ◌∷◌, ◌++◌, length, map, filter, min, Option, Some, None, refl, ap, sym, ap₂, ◌∙◌, subst, arith, if◌then◌else◌}
+use Rattle.std.proofs.Common.{◌≡◌, ℕ, ◌+◌, Bool, true, false, ◌&&◌, List, [], ◌∷◌, ◌++◌, cond, length, map, filter, min, Option, Some, None, refl, ap, sym, ap₂, ◌∙◌, subst, arith, if◌then◌else◌}
 use Rattle.std.specs.Prelude.{flat_map, is_some, option_map_or}
 use Rattle.std.specs.List.{list_any}
 use Rattle.std.proofs.lemmas.List.{append_assoc, append-nil, map-append}
@@ -28,12 +28,19 @@ pub next_of : {X : Type 0} (n : ℕ) (f : X → List FieldFault) (all rest : Lis
     → at_record n (flat_map f all) ≡ at_record n told ++ at_record n (flat_map f rest)
 next_of n f all rest x told a t = in_two n (flat_map f all) (f x) (flat_map f rest) told (ap (flat_map f) a) t
 
--- the ids among fields
-pub ids_with : (rules : Rules) (all rest : List Placed) (x : Placed) → all ≡ x ∷ rest → is_id rules.limits.id_bytes x.1 ≡ true → ids_among rules all ≡ x.1 ∷ ids_among rules rest
-ids_with rules all rest x a h = rw a (rw h refl)
+-- the ids among fields: the next one, if it is an id, and the others
+pub an_id : (rules : Rules) (x : Placed) → is_id rules.limits.id_bytes x.1 ≡ true → ids_among rules (x ∷ []) ≡ x.1 ∷ []
+an_id rules x h = rw h refl
 
-pub ids_without : (rules : Rules) (all rest : List Placed) (x : Placed) → all ≡ x ∷ rest → is_id rules.limits.id_bytes x.1 ≡ false → ids_among rules all ≡ ids_among rules rest
-ids_without rules all rest x a h = rw a (rw h refl)
+pub no_id : (rules : Rules) (x : Placed) → is_id rules.limits.id_bytes x.1 ≡ false → ids_among rules (x ∷ []) ≡ []
+no_id rules x h = rw h refl
+
+pub next_id : (rules : Rules) (all rest : List Placed) (x : Placed) → all ≡ x ∷ rest → ids_among rules all ≡ ids_among rules (x ∷ []) ++ ids_among rules rest
+next_id rules all rest x a = ap (ids_among rules) a ∙ by (is_id rules.limits.id_bytes x.1)
+  where
+    by : (b : Bool) → cond b (x.1 ∷ ids_among rules rest) (ids_among rules rest) ≡ cond b (x.1 ∷ []) [] ++ ids_among rules rest
+    by true = refl
+    by false = refl
 
 module _ {S : Type 0} (takes : S → Type 0) (told stopped : S → S → List FileFault → Type 0) where
   -- the entries of a list before those that are left, and the faults told of them

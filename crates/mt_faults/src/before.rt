@@ -1,13 +1,13 @@
 ghost use Rattle.std.specs.Prelude.{◌≡◌, [], ◌∷◌, ◌++◌, OnOk, List, min};
 ghost use Rattle.mt_fault_terms.specs.Parts.{entries_among, ids_among};
 ghost use Rattle.mt_fault_terms.specs.Parts as model;
-ghost use Rattle.mt_faults.specs.Seen.{parts_seen, placed_left};
+ghost use Rattle.mt_faults.specs.Seen.{field_seen, parts_seen, placed_left};
 ghost use Rattle.mt_faults.specs.Registered.{IsRegistry, PassesIds, most};
 ghost use Rattle.mt_faults.specs.Standing.{IsBefore};
 
 use crate::names::names_of;
 use crate::parts::Parts;
-use crate::placed::Placed;
+use crate::placed::{Field, Placed};
 use crate::registry::{Registry, add_ids, seen_with};
 use mt_ids::{IdTable, Seed, is_id};
 use mt_records::{Kinds, Rules};
@@ -23,18 +23,26 @@ pub(crate) struct Passed {
 }
 
 impl Passed {
+    /// With the registration of a field, if it is an id.
+    fn with_one(self, table: &IdTable<'_>, rules: &Rules, field: &Field<'_>) -> Passed
+        ensures { PassesIds table.now self result (ids_among rules.now (field_seen field.now ∷ [])) }
+    {
+        if !is_id(rules.limits.id_bytes, field.bytes) {
+            return self;
+        }
+        Passed {
+            seen: seen_with(table, self.seen, field.bytes),
+            count: self.count.saturating_add(1),
+        }
+    }
+
     /// With the registrations of those of some fields that are ids.
     fn with(self, table: &IdTable<'_>, rules: &Rules, fields: Placed<'_>) -> Passed
         ensures { PassesIds table.now self result (ids_among rules.now (placed_left fields.entry)) }
     {
         let mut passed = self;
         for field in fields {
-            if is_id(rules.limits.id_bytes, field.bytes) {
-                passed = Passed {
-                    seen: seen_with(table, passed.seen, field.bytes),
-                    count: passed.count.saturating_add(1),
-                };
-            }
+            passed = passed.with_one(table, rules, &field);
         }
         passed
     }

@@ -1,4 +1,4 @@
-ghost use Rattle.std.specs.Prelude.{◌≡◌, ℕ, ◌≤◌, ◌++◌, ◌∷◌, [], List, OnOk, length, min, take, if◌then◌else◌};
+ghost use Rattle.std.specs.Prelude.{◌≡◌, ℕ, ◌+◌, ◌≤◌, ◌++◌, ◌∷◌, [], List, OnOk, length, min, take, if◌then◌else◌};
 ghost use Rattle.mt_terms.specs.declared.codes.TheConstants.{DUPLICATE_ID, TOO_MANY};
 ghost use Rattle.mt_fault_terms.specs.OfRecord.{id_among, quota_faults, found_among, members_before, passes, own_faults, registered_faults, repeat_faults, limit_faults, unknown_faults, record_faults};
 ghost use Rattle.mt_fault_terms.specs.Parts as model;
@@ -104,15 +104,24 @@ fn passes(limit: u32, before: u64, added: u64) -> bool
     before <= limit && before.saturating_add(added) > limit
 }
 
+/// A count with one more, if a field is an id.
+fn count_with(rules: &Rules, count: u64, field: &Field<'_>) -> u64
+    ensures { result ≡ min (count + length (ids_among rules.now (field_seen field.now ∷ []))) most }
+{
+    if is_id_field(rules, field) {
+        count.saturating_add(1)
+    } else {
+        count
+    }
+}
+
 /// How many of some fields are ids, at most `u64::MAX`.
 fn ids_count(rules: &Rules, fields: Placed<'_>) -> u64
     ensures { result ≡ min (length (ids_among rules.now (placed_left fields.entry))) most }
 {
-    let mut count: u64 = 0;
+    let mut count = 0;
     for field in fields {
-        if is_id_field(rules, &field) {
-            count = count.saturating_add(1);
-        }
+        count = count_with(rules, count, &field);
     }
     count
 }

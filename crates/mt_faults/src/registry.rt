@@ -1,15 +1,15 @@
-ghost use Rattle.std.specs.Prelude.{◌≡◌, ℕ, [], take, IfOk, OnOk};
+ghost use Rattle.std.specs.Prelude.{◌≡◌, ℕ, [], ◌∷◌, take, IfOk, OnOk};
 ghost use Rattle.mt_lists.specs.Rows.{rows_left};
 ghost use Rattle.mt_terms.specs.Registration.Ids.{has_id};
 ghost use Rattle.mt_terms.specs.Registration.Passes.{numbered_from};
 ghost use Rattle.mt_fault_terms.specs.OfFile.{all_parts};
 ghost use Rattle.mt_fault_terms.specs.Parts.{ids_among};
-ghost use Rattle.mt_faults.specs.Seen.{parts_seen, placed_left};
+ghost use Rattle.mt_faults.specs.Seen.{field_seen, parts_seen, placed_left};
 ghost use Rattle.mt_faults.specs.Registered.{added, seen_with, AddsParts, IsRegistry};
 
 use crate::names::names_of;
 use crate::parts::{Parts, parts_of};
-use crate::placed::Placed;
+use crate::placed::{Field, Placed};
 use mt_ids::{IdTable, Seed, is_id};
 use mt_lists::RowsIter;
 use mt_records::{Kinds, Rules};
@@ -32,6 +32,18 @@ impl Drop for Registry<'_> {
     }
 }
 
+/// Adds a field to a table, if it is an id.
+fn add_id<'a>(table: &mut IdTable<'a>, rules: &Rules, field: &Field<'a>) -> Result<(), AllocError>
+    ensures { OnOk result
+        (table.new ≡ added table.old (ids_among rules.now (field_seen field.now ∷ []))) }
+{
+    if !is_id(rules.limits.id_bytes, field.bytes) {
+        return Ok(());
+    }
+    table.add(field.bytes)?;
+    Ok(())
+}
+
 /// Adds those of some fields that are ids to a table.
 pub(crate) fn add_ids<'a>(
     table: &mut IdTable<'a>,
@@ -41,9 +53,7 @@ pub(crate) fn add_ids<'a>(
     ensures { OnOk result (table.new ≡ added table.old (ids_among rules.now (placed_left fields.entry))) }
 {
     for field in fields {
-        if is_id(rules.limits.id_bytes, field.bytes) {
-            table.add(field.bytes)?;
-        }
+        add_id(table, rules, &field)?;
     }
     Ok(())
 }

@@ -1,0 +1,12 @@
+use Rattle.std.proofs.Common.{ap, sym, ◌∙◌, length, arith, min, ◌+◌, ◌∷◌, [], length-append}
+use Rattle.mt_fault_terms.specs.Parts.{ids_among}
+use Rattle.mt_faults.specs.Registered.{most}
+use Rattle.mt_faults.specs.Seen.{field_seen, placed_left}
+use Rattle.mt_faults.proofs.SearchFacts.{next_id}
+use Rattle.mt_faults.proofs.finder.ids_count.Goals as goal
+
+pub loop-field-preserved : goal.loop-field-preserved
+loop-field-preserved c =
+    let rules = c.args.rules.now in
+    let split = ap length (next_id rules _ (placed_left c.next.new.self) (field_seen c.in-Some.field) c.in-Some.ensures.steps) in
+    omega (arith, split, length-append (ids_among rules (field_seen c.in-Some.field ∷ [])) (ids_among rules (placed_left c.next.new.self)), c.count_with.ensures, c.loop-field.invariant)
