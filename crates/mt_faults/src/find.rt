@@ -11,8 +11,8 @@ use mt_terms::codes::NO_VERSION;
 use std::alloc::Global;
 
 /// Tells a sink all faults of a file's records, record by record in its order. A record is a list of fields without its
-/// trailing empty ones. Records are counted from 1, and one without a field is passed over. The error says whether memory
-/// was refused or the sink stopped. The sink was told the first of the faults then.
+/// trailing empty ones. Records are counted from 1, and one without a field is passed over. The error says whether
+/// memory was refused or the sink stopped. The sink was told the first of the faults then.
 pub fn find_faults<S: FaultSink>(
     alloc: Global,
     rows: &Rows<'_>,

@@ -15,8 +15,8 @@ fn add_fields(digest: &mut DefaultHasher, fields: Fields<'_>)
     }
 }
 
-/// The seed of tables of what is in these rows. It depends on all their fields, so that nobody can choose beforehand what
-/// collides there.
+/// The seed of tables of what is in these rows. It depends on all their fields, so that nobody can choose beforehand
+/// what collides there.
 pub(crate) fn seed_of(rows: RowsIter<'_>) -> Seed
     ensures { result ≡ seed_of (flat_map (λ fields. fields) (rows_left rows.entry)) }
 {

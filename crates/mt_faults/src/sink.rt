@@ -19,8 +19,8 @@ pub trait FaultSink {
     /// Between two of its states it took these faults but for the last, at which it stopped.
     ghost stopped: { Self → Self → List FileFault → Type 0 };
 
-    /// Takes the next fault: that of the record with this number, which is 0 if the fault is at no record. The error ends
-    /// the search.
+    /// Takes the next fault: that of the record with this number, which is 0 if the fault is at no record. The error
+    /// ends the search.
     fn put(&mut self, number: u64, fault: &Fault<'_>) -> Result<(), Stop>
         requires { takes self.old }
         ensures takes { OnOk result (takes self.new) }
@@ -31,8 +31,10 @@ pub trait FaultSink {
     ghost told_none: { (s : Self) → told s s [] };
 
     /// What was told in turn was told in all.
-    ghost told_more: { (a b c : Self) (some more : List FileFault) → told a b some → told b c more → told a c (some ++ more) };
+    ghost told_more: { (a b c : Self) (some more : List FileFault)
+        → told a b some → told b c more → told a c (some ++ more) };
 
     /// A stop after some faults were told.
-    ghost stopped_after: { (a b c : Self) (some more : List FileFault) → told a b some → stopped b c more → stopped a c (some ++ more) };
+    ghost stopped_after: { (a b c : Self) (some more : List FileFault)
+        → told a b some → stopped b c more → stopped a c (some ++ more) };
 }
