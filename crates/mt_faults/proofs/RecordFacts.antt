@@ -174,3 +174,14 @@ passes_most limit n k c a small c_is a_is = rw (le, lt) refl
         by : (b : Bool) → nat_lt limit (n + k) ≡ b → nat_lt limit (c + a) ≡ b
         by true h = grind (arith, nat_tests)
         by false h = grind (arith, nat_tests)
+
+-- the fault of a limit, as it is told
+abbrev pub over : Bool → Bytes → List FieldFault
+over is_passed id = if is_passed then record { code = TOO_MANY; field = 0; id = id } ∷ [] else []
+
+pub limit_told : (said is : Bool) (shown id : Bytes) (told : List FieldFault) → told ≡ over said shown → said ≡ is → shown ≡ id → told ≡ over is id
+limit_told said is shown id told t s i = t ∙ ap₂ over s i
+
+-- the limits that are passed, from the first on
+pub limits_in_turn : (a b c d : List FieldFault) → a ++ b ++ c ++ d ≡ a ++ (b ++ (c ++ d))
+limits_in_turn a b c d = simp append_assoc refl

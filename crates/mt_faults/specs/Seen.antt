@@ -2,7 +2,7 @@
 use Rattle.std.specs.Prelude.{ℕ, ◌+◌, ◌&&◌, not, List, [], ◌∷◌, map, take, Option, option_map, option_to_list, if◌then◌else◌}
 use Rattle.mt_lists.specs.Rows.{fields_left}
 use Rattle.mt_terms.specs.declared.codes.TheConstants.{BAD_ID}
-use Rattle.mt_terms.specs.Registration.Ids.{has_id}
+use Rattle.mt_terms.specs.Registration.Ids.{Bytes, has_id}
 use Rattle.mt_terms.specs.Registration.Records.{Rules}
 use Rattle.mt_records.specs.Records.{kind_seen}
 use Rattle.mt_fault_terms.specs.Faults.{FieldFault, Placed, fault_alone, fault_of, placed_from}
@@ -22,6 +22,10 @@ use Rattle.mt_faults.specs.declared.tell.Wrong.TheVariants as wrongs
 -- a fault without the field where its id stood first, which is for readers alone
 abbrev pub fault_seen : Fault → FieldFault
 fault_seen f = record { code = f.code; field = f.field; id = f.id.now }
+
+-- a fault with this code, field and id
+abbrev pub fault_with : ℕ → ℕ → Bytes → FieldFault
+fault_with code field id = record { code = code; field = field; id = id }
 
 abbrev pub faults_seen : Option Fault → List FieldFault
 faults_seen fault = option_to_list (option_map fault_seen fault)

@@ -4,7 +4,7 @@ ghost use Rattle.mt_fault_terms.specs.OfRecord.{id_among, quota_faults, found_am
 ghost use Rattle.mt_fault_terms.specs.Parts as model;
 ghost use Rattle.mt_fault_terms.specs.Parts.{ids_among};
 ghost use Rattle.mt_faults.specs.Registered.{most};
-ghost use Rattle.mt_faults.specs.Seen.{faults_seen, field_seen, form_faults, parts_seen, placed_left};
+ghost use Rattle.mt_faults.specs.Seen.{fault_with, faults_seen, field_seen, form_faults, parts_seen, placed_left};
 ghost use Rattle.mt_faults.specs.Standing.{AreCounted, Stands, withdrawn_again};
 ghost use Rattle.mt_faults.specs.Telling.{Tells, at_record};
 
@@ -82,7 +82,7 @@ fn bad_quota<'a>(rules: &Rules, parts: &Parts<'a>) -> Option<Fault<'a>>
 /// The fault that a limit is passed, with this id.
 fn passed<'a>(is_passed: bool, id: &'a [u8]) -> Option<Fault<'a>>
     ensures { faults_seen result
-        ≡ (if is_passed then record { code = TOO_MANY; field = 0; id = id.now } ∷ [] else []) }
+        ≡ (if is_passed then fault_with TOO_MANY 0 id.now ∷ [] else []) }
 {
     if !is_passed {
         return None;

@@ -123,7 +123,7 @@ pub(crate) fn tell_each<S: FaultSink>(
 ) -> Result<(), FaultEnd>
     requires { S.takes sink.old }
     ensures { Tells S.takes S.told S.stopped sink.old sink.new
-        (at_record number (flat_map (tested wrong rules.now) (placed_left fields.entry))) result }
+        (at_record number (flat_map (tested wrong.entry rules.now) (placed_left fields.entry))) result }
 {
     for field in fields {
         tell(sink, number, wrong.fault(rules, &field))?;
