@@ -1,12 +1,13 @@
 -- Tables with more ids, each once in the order in which they come.
 -- A table begins with what it had before, and has an id exactly if that was there or is one of those added.
-use Rattle.std.proofs.Common.{◌≡◌, ℕ, ◌+◌, ◌≤◌, Bool, true, false, ◌||◌, nat_le, List, [], ◌∷◌, ◌++◌, length, take, min, refl, ap, sym, ◌∙◌, subst, length-append, arith, if◌then◌else◌}
+use Rattle.std.proofs.Common.{◌≡◌, ℕ, ◌+◌, ◌≤◌, Bool, true, false, ◌||◌, ◌&&◌, not, cond, zero, suc, nat_le, nat_lt, position, Some, None, List, [], ◌∷◌, ◌++◌, length, take, min, refl, ap, sym, ◌∙◌, subst, length-append, arith, if◌then◌else◌}
 use Rattle.std.specs.Prelude.{bytes_eq}
 use Rattle.std.proofs.lemmas.Bool.Decides.{nat_tests}
 use Rattle.std.proofs.lemmas.List.{append_assoc, append-nil, take_all, take-append-le}
 use Rattle.std.proofs.lemmas.List.Folds.{list_any-append}
 use Rattle.mt_terms.proofs.IdFacts.{same_id}
-use Rattle.mt_terms.specs.Registration.Ids.{Bytes, has_id}
+use Rattle.mt_terms.specs.Registration.Ids.{Bytes, has_id, number_of}
+use Rattle.mt_ids.proofs.IdFacts.{found_id, missing_id}
 use Rattle.mt_faults.specs.declared.before.Passed.{Passed}
 use Rattle.mt_faults.specs.Registered.{added, most, seen_with, IsPassed, PassesIds}
 
@@ -108,3 +109,46 @@ pass_both table old next new some more one two = λ before rest t h.
     t ∙ ap (added []) (append_assoc before (some ++ more) rest ∙ ap (λ xs. before ++ xs) (append_assoc some more rest) ∙ sym (append_assoc before some (more ++ rest))) in
     let second : table ≡ added [] (((before ++ some) ++ more) ++ rest) = first ∙ ap (added []) (sym (append_assoc (before ++ some) more rest)) in
     subst (λ (ids : List Bytes). IsPassed ids new) (append_assoc before some more) (two (before ++ some) rest second (one before (more ++ rest) first h))
+
+-- the place of an id, and whether it is one of the first
+first_has : (ids : List Bytes) (id : Bytes) (seen : ℕ) → has_id (take seen ids) id ≡ (nat_lt (number_of ids id) seen && has_id ids id)
+first_has ids id zero = by (has_id ids id)
+  where
+    none : nat_lt (number_of ids id) zero ≡ false
+    none = grind (arith, nat_tests)
+
+    by : (b : Bool) → false ≡ (nat_lt (number_of ids id) zero && b)
+    by b = rw none refl
+first_has [] id (suc k) = by (nat_lt (number_of [] id) (suc k))
+  where
+    by : (b : Bool) → false ≡ (b && false)
+    by true = refl
+    by false = refl
+first_has (x ∷ xs) id (suc k) = by (bytes_eq id x) (first_has xs id k)
+  where
+    by : (b : Bool) → has_id (take k xs) id ≡ (nat_lt (number_of xs id) k && has_id xs id)
+        → (b || has_id (take k xs) id) ≡ (nat_lt (cond (not b) (1 + number_of xs id) 0) (suc k) && (b || has_id xs id))
+    by true ih = let z : nat_lt 0 (suc k) ≡ true = grind (arith, nat_tests) in rw z refl
+    by false ih = ih ∙ ap (λ b. b && has_id xs id) (same (nat_lt (number_of xs id) k) refl)
+      where
+        same : (b : Bool) → nat_lt (number_of xs id) k ≡ b → b ≡ nat_lt (1 + number_of xs id) (suc k)
+        same true h = grind (arith, nat_tests)
+        same false h = grind (arith, nat_tests)
+
+pub in_first : (ids : List Bytes) (id : Bytes) (n seen : ℕ) → Some n ≡ position (bytes_eq id) ids → nat_lt n seen ≡ has_id (take seen ids) id
+in_first ids id n seen h =
+    let f : (has_id ids id ≡ true) × (number_of ids id ≡ n) = found_id ids id n h in
+    sym (first_has ids id seen ∙ rw (f.0, f.1) (by (nat_lt n seen)))
+  where
+    by : (b : Bool) → (b && true) ≡ b
+    by true = refl
+    by false = refl
+
+pub not_in_first : (ids : List Bytes) (id : Bytes) (seen : ℕ) → None ≡ position (bytes_eq id) ids → false ≡ has_id (take seen ids) id
+not_in_first ids id seen h =
+    let f : has_id ids id ≡ false = missing_id ids id h in
+    sym (first_has ids id seen ∙ rw f (by (nat_lt (number_of ids id) seen)))
+  where
+    by : (b : Bool) → (b && false) ≡ false
+    by true = refl
+    by false = refl

@@ -1,12 +1,13 @@
 -- Fields with their numbers, and the parts that they are cut into.
 -- A prefix of the numbered fields is what an iterator with a count has left. Drops and pairs are by cases of the list.
-use Rattle.std.proofs.Common.{◌≡◌, ℕ, zero, suc, ◌+◌, ◌-◌, ◌*◌, ◌/◌, ◌%◌, ◌≤◌, Bool, true, false, List, [], ◌∷◌, ◌++◌, length, take, drop, min, map, Option, Some, None, refl, ap, sym, ◌∙◌, subst, arith, nat_eq}
+use Rattle.std.proofs.Common.{◌≡◌, ℕ, zero, suc, ◌+◌, ◌-◌, ◌*◌, ◌/◌, ◌%◌, ◌≤◌, Bool, true, false, ◌||◌, nat_lt, List, [], ◌∷◌, ◌++◌, length, take, drop, min, map, Option, Some, None, refl, ap, sym, ◌∙◌, subst, arith, nat_eq}
 use Rattle.std.specs.Prelude.{MatchOption, option_map, flat_map}
 use Rattle.std.proofs.lemmas.List.{length-take-le, take_all}
 use Rattle.std.proofs.Math.Seq.{take-nil}
 use Rattle.mt_terms.specs.Registration.Ids.{Bytes}
-use Rattle.mt_fault_terms.specs.Faults.{Placed, placed_from}
-use Rattle.mt_fault_terms.specs.Parts.{PlacedPair, first_field, is_odd, placed_pairs}
+use Rattle.mt_terms.specs.Registration.Records.{OfCouple}
+use Rattle.mt_fault_terms.specs.Faults.{FieldFault, Placed, placed_from}
+use Rattle.mt_fault_terms.specs.Parts.{Form, Parts, PlacedPair, Registers, couple_parts, first_field, is_odd, miscounted, placed_pairs}
 use Rattle.mt_faults.specs.declared.placed.Field.{Field}
 use Rattle.mt_faults.specs.Seen.{field_seen}
 
@@ -85,3 +86,12 @@ fields_of_pairs (x ∷ []) = refl
 fields_of_pairs (x ∷ y ∷ xs) =
     let e : length (x ∷ y ∷ xs) / 2 * 2 ≡ suc (suc (length xs / 2 * 2)) = omega arith in
     rw e (ap (λ l. x ∷ y ∷ l) (fields_of_pairs xs))
+
+-- parts, one by one
+abbrev pub the_parts : Form → List FieldFault → List Placed → Option Placed → List Placed → List PlacedPair → Parts
+the_parts form faults names quota list pairs = record { form = form; faults = faults; names = names; quota = quota; list = list; pairs = pairs }
+
+-- the parts of a couple's record
+pub couple_is : (fields : List Placed) (faults : List FieldFault) (names list pairs : List Placed) → faults ≡ miscounted (nat_lt (length fields) 3 || is_odd (drop 3 fields)) → names ≡ take 3 fields → list ≡ [] → pairs ≡ drop 3 fields
+    → the_parts (Registers OfCouple) faults names None list (placed_pairs pairs) ≡ couple_parts fields
+couple_is fields faults names list pairs f n l p = rw (f, n, l, p) refl

@@ -94,3 +94,7 @@ module _ {S : Type 0} {takes : S → Type 0} {told stopped : S → S → List Fi
   -- the same faults
   pub told_as : {X : Type 0} {a b : S} (next whole : List FileFault) (r : Result X FaultEnd) → next ≡ whole → Tells {X = X} takes told stopped a b next r → Tells {X = X} takes told stopped a b whole r
   told_as {X} {a = a} {b = b} next whole r e t = subst (λ (fs : List FileFault). Tells {X = X} takes told stopped a b fs r) e t
+
+  -- nothing is done yet
+  pub starts_as : Laws takes told stopped → (a : S) (left whole : List FileFault) → whole ≡ left → takes a → SoFar takes told stopped a a left whole
+  starts_as laws a left whole e t = record { laws = laws; takes_more = t; some = []; is_told = laws.none a; parts = e }

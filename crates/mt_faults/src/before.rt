@@ -9,7 +9,8 @@ use crate::names::names_of;
 use crate::parts::Parts;
 use crate::placed::{Field, Placed};
 use crate::registry::{Registry, add_ids, seen_with};
-use mt_ids::{IdTable, Seed, is_id};
+use crate::tell::is_id_field;
+use mt_ids::{IdTable, Seed};
 use mt_records::{Kinds, Rules};
 use std::alloc::{AllocError, Global};
 
@@ -27,7 +28,7 @@ impl Passed {
     fn with_one(self, table: &IdTable<'_>, rules: &Rules, field: &Field<'_>) -> Passed
         ensures { PassesIds table.now self result (ids_among rules.now (field_seen field.now ∷ [])) }
     {
-        if !is_id(rules.limits.id_bytes, field.bytes) {
+        if !is_id_field(rules, field) {
             return self;
         }
         Passed {

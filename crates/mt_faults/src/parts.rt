@@ -1,4 +1,4 @@
-ghost use Rattle.std.specs.Prelude.{◌≡◌, ◌≤◌, [], length, option_map};
+ghost use Rattle.std.specs.Prelude.{◌≡◌, ◌≤◌, ◌||◌, [], length, option_map};
 ghost use Rattle.mt_lists.specs.Rows.{fields_left};
 ghost use Rattle.mt_records.specs.Records.{kind_seen};
 ghost use Rattle.mt_fault_terms.specs.Parts.{miscounted, unknown_parts, program_parts, applicant_parts, couple_parts, withdrawal_parts, withdraw_parts, parts_by_kind, parts_of};
@@ -71,6 +71,13 @@ fn miscounted(is_wrong: bool) -> Option<FormFault>
     }
 }
 
+/// Whether one of two things is wrong.
+fn either(one: bool, other: bool) -> bool
+    ensures { result ≡ (one || other) }
+{
+    one || other
+}
+
 /// The parts of a program's record by the fields after its first.
 fn program_parts<'a>(fields: Placed<'a>) -> Parts<'a>
     ensures { parts_seen result ≡ program_parts (placed_left fields.entry) }
@@ -109,7 +116,7 @@ fn couple_parts<'a>(fields: Placed<'a>) -> Parts<'a>
     let rest = after_first.tail();
     Parts {
         form: Form::Registers(Kind::Couple),
-        fault: miscounted(fields.len() < 3 || rest.len() % 2 == 1),
+        fault: miscounted(either(fields.len() < 3, rest.len() % 2 == 1)),
         names: fields.first(3),
         quota: None,
         list: fields.first(0),

@@ -10,7 +10,8 @@ ghost use Rattle.mt_faults.specs.Registered.{added, seen_with, AddsParts, IsRegi
 use crate::names::names_of;
 use crate::parts::{Parts, parts_of};
 use crate::placed::{Field, Placed};
-use mt_ids::{IdTable, Seed, is_id};
+use crate::tell::is_id_field;
+use mt_ids::{IdTable, Seed};
 use mt_lists::RowsIter;
 use mt_records::{Kinds, Rules};
 use std::alloc::{AllocError, Global};
@@ -37,7 +38,7 @@ fn add_id<'a>(table: &mut IdTable<'a>, rules: &Rules, field: &Field<'a>) -> Resu
     ensures { OnOk result
         (table.new ≡ added table.old (ids_among rules.now (field_seen field.now ∷ []))) }
 {
-    if !is_id(rules.limits.id_bytes, field.bytes) {
+    if !is_id_field(rules, field) {
         return Ok(());
     }
     table.add(field.bytes)?;
