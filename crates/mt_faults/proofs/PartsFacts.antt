@@ -1,13 +1,13 @@
 -- Fields with their numbers, and the parts that they are cut into.
 -- A prefix of the numbered fields is what an iterator with a count has left. Drops and pairs are by cases of the list.
-use Rattle.std.proofs.Common.{◌≡◌, ℕ, zero, suc, ◌+◌, ◌-◌, ◌*◌, ◌/◌, ◌%◌, ◌≤◌, Bool, true, false, ◌||◌, nat_lt, List, [], ◌∷◌, ◌++◌, length, take, drop, min, map, Option, Some, None, refl, ap, sym, ◌∙◌, subst, arith, nat_eq}
-use Rattle.std.specs.Prelude.{MatchOption, option_map, flat_map}
+use Rattle.std.proofs.Common.{◌≡◌, ℕ, zero, suc, ◌+◌, ◌-◌, ◌*◌, ◌/◌, ◌%◌, ◌≤◌, Bool, true, false, ◌||◌, ◌&&◌, nat_lt, codes, List, [], ◌∷◌, ◌++◌, length, take, drop, min, map, Option, Some, None, refl, ap, sym, ◌∙◌, subst, arith, nat_eq}
+use Rattle.std.specs.Prelude.{MatchOption, bytes_eq, option_map, flat_map}
 use Rattle.std.proofs.lemmas.List.{length-take-le, take_all}
 use Rattle.std.proofs.Math.Seq.{take-nil}
 use Rattle.mt_terms.specs.Registration.Ids.{Bytes}
-use Rattle.mt_terms.specs.Registration.Records.{OfCouple}
+use Rattle.mt_terms.specs.Registration.Records.{Kind, OfCouple, Rules, kind_of}
 use Rattle.mt_fault_terms.specs.Faults.{FieldFault, Placed, placed_from}
-use Rattle.mt_fault_terms.specs.Parts.{Form, Parts, PlacedPair, Registers, couple_parts, first_field, is_odd, miscounted, placed_pairs}
+use Rattle.mt_fault_terms.specs.Parts.{Form, Parts, PlacedPair, Registers, couple_parts, first_field, is_odd, miscounted, parts_by_kind, parts_of, placed_pairs}
 use Rattle.mt_faults.specs.declared.placed.Field.{Field}
 use Rattle.mt_faults.specs.Seen.{field_seen}
 
@@ -95,3 +95,16 @@ the_parts form faults names quota list pairs = record { form = form; faults = fa
 pub couple_is : (fields : List Placed) (faults : List FieldFault) (names list pairs : List Placed) → faults ≡ miscounted (nat_lt (length fields) 3 || is_odd (drop 3 fields)) → names ≡ take 3 fields → list ≡ [] → pairs ≡ drop 3 fields
     → the_parts (Registers OfCouple) faults names None list (placed_pairs pairs) ≡ couple_parts fields
 couple_is fields faults names list pairs f n l p = rw (f, n, l, p) refl
+
+-- the parts of a record that is no withdrawal
+pub parts_by : (rules : Rules) (fields : List Bytes) (word : Field) (rest : List Placed) (kind : Option Kind) (p : Parts) → Some (field_seen word) ≡ first_field (placed_from 1 fields) → rest ≡ drop 1 (placed_from 1 fields)
+    → (rules.withdrawals && bytes_eq word.bytes.now (codes "withdraw")) ≡ false → kind ≡ kind_of word.bytes.now → p ≡ parts_by_kind kind rest → p ≡ parts_of rules fields
+parts_by rules [] word rest kind p h r w k is = cc
+parts_by rules (first ∷ fields) word rest kind p h r w k is =
+    let e : field_seen word ≡ (1, first) = option_of _ _ h in
+    let b : word.bytes.now ≡ first = ap (λ (x : Placed). x.1) e in
+    let w' : (rules.withdrawals && bytes_eq first (codes "withdraw")) ≡ false = ap (λ x. rules.withdrawals && bytes_eq x (codes "withdraw")) (sym b) ∙ w in
+    is ∙ rw (k, b, r, w') refl
+  where
+    option_of : (x y : Placed) → Some x ≡ Some y → x ≡ y
+    option_of x y e = cc

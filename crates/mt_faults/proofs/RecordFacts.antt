@@ -1,6 +1,6 @@
 -- The faults of one record in the order in which they are told.
 -- A test of one field gives its faults, and the lists of faults are regrouped from the first on.
-use Rattle.std.proofs.Common.{◌≡◌, ℕ, ◌+◌, ◌≤◌, ◌<◌, Bool, true, false, not, ◌&&◌, ◌||◌, nat_lt, nat_le, min, cond, List, [], ◌∷◌, ◌++◌, length, take, map, filter, Bor, Option, Some, None, refl, ap, ap₂, sym, ◌∙◌, subst, arith, if◌then◌else◌}
+use Rattle.std.proofs.Common.{◌≡◌, ℕ, ◌+◌, ◌≤◌, ◌<◌, Bool, true, false, not, ◌&&◌, ◌||◌, nat_lt, nat_le, min, cond, List, [], ◌∷◌, ◌++◌, length, take, drop, map, filter, Bor, Option, Some, None, refl, ap, ap₂, sym, ◌∙◌, subst, arith, if◌then◌else◌}
 use Rattle.std.specs.Prelude.{bytes_eq, flat_map, is_some}
 use Rattle.std.specs.List.{list_any}
 use Rattle.std.proofs.lemmas.Bool.Decides.{nat_tests}
@@ -10,11 +10,11 @@ use Rattle.std.proofs.lemmas.Grind.{flat_map-append}
 use Rattle.mt_terms.specs.declared.codes.TheConstants.{BAD_ID, DUPLICATE_ID, DUPLICATE_ENTRY, TOO_MANY}
 use Rattle.mt_terms.specs.Registration.Ids.{Bytes, has_id}
 use Rattle.mt_terms.specs.Registration.Passes.{is_same_pair}
-use Rattle.mt_terms.specs.Registration.Records.{Rules, IdPair, is_pair, pair_of}
+use Rattle.mt_terms.specs.Registration.Records.{Rules, IdPair, OfProgram, OfApplicant, OfCouple, is_pair, pair_of}
 use Rattle.mt_passes.proofs.RepeatFacts.{same_pairs}
 use Rattle.mt_fault_terms.specs.Faults.{FieldFault, FileFault, Placed, fault_alone, fault_of}
 use Rattle.mt_fault_terms.specs.OfRecord.{is_id_field, is_place_field, alone_at, bad_of_pair, bad_fields, quota_faults, own_faults, found_among, missing_among, members_before, registered_faults, repeats_after, pair_repeats_after, shown_of_pair, repeat_faults, passes, limit_faults, unknown_faults, first_faults, record_faults}
-use Rattle.mt_fault_terms.specs.Parts.{Parts, PlacedPair}
+use Rattle.mt_fault_terms.specs.Parts.{Parts, PlacedPair, Registers, all_applicants, all_own_ids, first_field}
 use Rattle.mt_faults.specs.declared.tell.Wrong.{Wrong}
 use Rattle.mt_faults.specs.declared.tell.Wrong.TheVariants as wrongs
 use Rattle.mt_faults.specs.Registered.{added, most}
@@ -185,3 +185,46 @@ limit_told said is shown id told t s i = t ∙ ap₂ over s i
 -- the limits that are passed, from the first on
 pub limits_in_turn : (a b c d : List FieldFault) → a ++ b ++ c ++ d ≡ a ++ (b ++ (c ++ d))
 limits_in_turn a b c d = simp append_assoc refl
+
+-- members beside other ids with the same members
+pub members_alike : (rules : Rules) (some others : List Bytes) → ((id : Bytes) → has_id some id ≡ has_id others id) → (xs : List Placed) → members_before rules some xs ≡ members_before rules others xs
+members_alike rules some others alike [] = refl
+members_alike rules some others alike (x ∷ xs) =
+    ap₂ (λ (a b : List FieldFault). a ++ b) (found_alike rules DUPLICATE_ID some others alike (x ∷ [])) (members_alike rules (some ++ x.1 ∷ []) (others ++ x.1 ∷ []) more xs)
+  where
+    more : (id : Bytes) → has_id (some ++ x.1 ∷ []) id ≡ has_id (others ++ x.1 ∷ []) id
+    more id = list_any-append (bytes_eq id) some (x.1 ∷ []) ∙ ap (λ b. b || has_id (x.1 ∷ []) id) (alike id) ∙ sym (list_any-append (bytes_eq id) others (x.1 ∷ []))
+
+-- the two members of a couple
+pub two_fields : (xs : List Placed) (x y : Placed) → Some x ≡ first_field xs → Some y ≡ first_field (drop 1 xs) → length xs ≤ 2 → xs ≡ x ∷ y ∷ []
+two_fields [] x y h k few = cc
+two_fields (a ∷ []) x y h k few = cc
+two_fields (a ∷ b ∷ []) x y h k few = ap₂ (λ (c d : Placed). c ∷ d ∷ []) (of _ _ (sym h)) (of _ _ (sym k))
+  where
+    of : (c d : Placed) → Some c ≡ Some d → c ≡ d
+    of c d e = cc
+two_fields (a ∷ b ∷ c ∷ xs) x y h k few = absurd (omega (arith, few))
+
+pub members_two : (rules : Rules) (ids : List Bytes) (xs : List Placed) (x y : Placed) (one two : List FieldFault) → xs ≡ x ∷ y ∷ [] → one ≡ found_among rules DUPLICATE_ID ids (take 1 xs) → two ≡ found_among rules DUPLICATE_ID (ids ++ x.1 ∷ []) (y ∷ [])
+    → members_before rules ids xs ≡ one ++ two
+members_two rules ids xs x y one two e o t =
+    ap (members_before rules ids) e ∙ ap₂ (λ (a b : List FieldFault). a ++ b) (sym (o ∙ ap (λ l. found_among rules DUPLICATE_ID ids (take 1 l)) e)) (append-nil (found_among rules DUPLICATE_ID (ids ++ x.1 ∷ []) (y ∷ [])) ∙ sym t)
+
+-- what is registered before, by the form of a record
+module _ (rules : Rules) (before : List Parts) (p : Parts) where
+  pub registered_program : (ids : List Bytes) → p.form ≡ Registers OfProgram → ((id : Bytes) → has_id ids id ≡ has_id (all_own_ids rules OfProgram before) id) → found_among rules DUPLICATE_ID ids p.names ≡ registered_faults rules before p
+  registered_program ids form alike = found_alike rules DUPLICATE_ID ids (all_own_ids rules OfProgram before) alike p.names ∙ rw form refl
+
+  pub registered_applicant : (ids : List Bytes) → p.form ≡ Registers OfApplicant → ((id : Bytes) → has_id ids id ≡ has_id (all_applicants rules before) id) → found_among rules DUPLICATE_ID ids p.names ≡ registered_faults rules before p
+  registered_applicant ids form alike = found_alike rules DUPLICATE_ID ids (all_applicants rules before) alike p.names ∙ rw form refl
+
+  pub registered_couple : (couples applicants : List Bytes) → p.form ≡ Registers OfCouple → ((id : Bytes) → has_id couples id ≡ has_id (all_own_ids rules OfCouple before) id) → ((id : Bytes) → has_id applicants id ≡ has_id (all_applicants rules before) id)
+      → registered_faults rules before p ≡ found_among rules DUPLICATE_ID couples (take 1 p.names) ++ members_before rules applicants (drop 1 p.names)
+  registered_couple couples applicants form own members =
+      rw form (by p.names)
+      ∙ ap₂ (λ (a b : List FieldFault). a ++ b) (sym (found_alike rules DUPLICATE_ID couples (all_own_ids rules OfCouple before) own (take 1 p.names))) (sym (members_alike rules applicants (all_applicants rules before) members (drop 1 p.names)))
+    where
+      by : (names : List Placed) → registered_faults rules before (record p { form = Registers OfCouple; names = names })
+          ≡ found_among rules DUPLICATE_ID (all_own_ids rules OfCouple before) (take 1 names) ++ members_before rules (all_applicants rules before) (drop 1 names)
+      by [] = refl
+      by (x ∷ xs) = refl

@@ -1,7 +1,7 @@
 -- What each loop of the search keeps, and how one turn changes it.
 -- A sink was told the faults of what is done. What is left decides the others.
 use Rattle.std.proofs.Common.{◌≡◌, ℕ, ◌+◌, Bool, true, false, ◌&&◌, List, [], ◌∷◌, ◌++◌, cond, length, map, filter, min, Option, Some, None, refl, ap, sym, ap₂, ◌∙◌, subst, arith, if◌then◌else◌}
-use Rattle.std.specs.Prelude.{flat_map, is_some, option_map_or}
+use Rattle.std.specs.Prelude.{flat_map}
 use Rattle.std.specs.List.{list_any}
 use Rattle.std.proofs.lemmas.List.{append_assoc, append-nil, map-append}
 use Rattle.mt_terms.specs.declared.codes.TheConstants.{BAD_ID, DUPLICATE_ENTRY, NO_VERSION}
@@ -13,8 +13,8 @@ use Rattle.mt_fault_terms.specs.OfFile.{all_parts, faults_after, faults_of_numbe
 use Rattle.mt_fault_terms.specs.OfRecord.{alone_at, bad_of_pair, is_id_field, is_place_field, pair_repeats_after, record_faults, repeats_after, shown_of_pair}
 use Rattle.mt_fault_terms.specs.Parts.{Parts, PlacedPair, ids_among, parts_of}
 use Rattle.mt_faults.specs.declared.finder.Finder.{Finder}
-use Rattle.mt_faults.specs.Registered.{added}
-use Rattle.mt_faults.specs.Standing.{Stands, row_faults, row_parts}
+use Rattle.mt_faults.specs.Registered.{added, row_parts}
+use Rattle.mt_faults.specs.Standing.{Stands, row_faults}
 use Rattle.mt_faults.specs.Telling.{at_record}
 use Rattle.mt_faults.proofs.RecordFacts.{Alike, PairsAlike, alike_more, bad_pair, fields_of, found_one, pairs_alike_more}
 use Rattle.mt_faults.proofs.TellingFacts.{SoFar, goes}
@@ -98,3 +98,25 @@ bad_pair_next rules all rest pair one two a o t =
     ∙ map-append (λ (field : Placed). fault_alone BAD_ID field.0) (bad_of_pair rules pair) (flat_map (bad_of_pair rules) rest)
     ∙ ap (λ l. l ++ alone_at BAD_ID (flat_map (bad_of_pair rules) rest)) (bad_pair rules pair ∙ ap₂ (λ (x y : List FieldFault). x ++ y) (sym o) (sym t))
     ∙ append_assoc one two (alone_at BAD_ID (flat_map (bad_of_pair rules) rest))
+
+-- a row with no field, and one with some
+pub row_none : (row : List Bytes) → length row ≡ 0 → row ≡ []
+row_none [] h = refl
+row_none (word ∷ fields) h = absurd (omega (arith, h))
+
+pub row_some : (rules : Rules) (row : List Bytes) → (length row ≡ 0 → ⊥) → row_parts rules row ≡ parts_of rules row ∷ []
+row_some rules [] some = absurd (some refl)
+row_some rules (word ∷ fields) some = refl
+
+pub faults_some : (rules : Rules) (all before : List Parts) (n : ℕ) (row : List Bytes) → (length row ≡ 0 → ⊥) → row_faults rules all before n row ≡ at_record n (record_faults rules all before (parts_of rules row))
+faults_some rules all before n [] some = absurd (some refl)
+faults_some rules all before n (word ∷ fields) some = refl
+
+-- the first record with a field names a version, or none
+pub version_at : (n : ℕ) (row : List Bytes) (rows : List (List Bytes)) (rules : Rules) → (length row ≡ 0 → ⊥) → rules_of row ≡ Some rules → faults_of_numbered (numbered_from n (row ∷ rows)) ≡ faults_under rules (numbered_from (n + 1) rows)
+version_at n [] rows rules some is = absurd (some refl)
+version_at n (word ∷ fields) rows rules some is = rw is refl
+
+pub version_missing : (n : ℕ) (row : List Bytes) (rows : List (List Bytes)) → (length row ≡ 0 → ⊥) → rules_of row ≡ None → faults_of_numbered (numbered_from n (row ∷ rows)) ≡ (n, fault_alone NO_VERSION 0) ∷ []
+version_missing n [] rows some is = absurd (some refl)
+version_missing n (word ∷ fields) rows some is = rw is refl

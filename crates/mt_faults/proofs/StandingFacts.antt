@@ -18,7 +18,7 @@ use Rattle.mt_faults.specs.declared.before.Before.{Before}
 use Rattle.mt_faults.specs.declared.before.Passed.{Passed}
 use Rattle.mt_faults.specs.declared.finder.Finder.{Finder}
 use Rattle.mt_faults.specs.declared.registry.Registry.{Registry}
-use Rattle.mt_faults.specs.Registered.{added, most, IsPassed, IsRegistry, PassesIds}
+use Rattle.mt_faults.specs.Registered.{added, most, AddsAll, AddsParts, IsPassed, IsRegistry, PassesIds}
 use Rattle.mt_faults.specs.Standing.{IsBefore, Stands}
 use Rattle.mt_faults.specs.Telling.{at_record}
 use Rattle.mt_faults.proofs.AddedFacts.{has_added, has_before, added-append}
@@ -100,3 +100,45 @@ module _ (rules : Rules) (before rest : List Parts) (p : Parts) where
 
   pub passed_entries : (old more new : ℕ) → old ≡ min (all_entries before) most → more ≡ min (entries_among p) most → new ≡ min (old + more) most → new ≡ min (all_entries (before ++ p ∷ [])) most
   passed_entries old more new o m n = omega (arith, o, m, n, entries-more rules before p)
+
+-- a registry with what a record registers
+pub adds_parts : (rules : Rules) (old new : Registry) (p : Parts) → new.registered.programs ≡ added old.registered.programs (own_ids rules OfProgram p) → new.registered.applicants ≡ added old.registered.applicants (own_ids rules OfApplicant p)
+    → new.registered.couples ≡ added old.registered.couples (own_ids rules OfCouple p) → new.applicants ≡ added old.applicants (applicants_among rules p) → AddsParts rules old new p
+adds_parts rules old new p programs singles couples applicants = record {
+  registered = by_kind (λ (kind : Kind). ids_in new.registered kind ≡ added (ids_in old.registered kind) (own_ids rules kind p)) programs singles couples;
+  applicants = applicants;
+}
+
+-- the same of a row's record
+pub adds_one : (rules : Rules) (old new : Registry) (p : Parts) (records : List Parts) → records ≡ p ∷ [] → AddsParts rules old new p → AddsAll rules old new records
+adds_one rules old new p records e a = subst (λ (ps : List Parts). AddsAll rules old new ps) (sym e) (record {
+  registered = λ kind. a.registered kind ∙ ap (added (ids_in old.registered kind)) (sym (append-nil (own_ids rules kind p)));
+  applicants = a.applicants ∙ ap (added old.applicants) (sym (append-nil (applicants_among rules p)));
+})
+
+pub adds_none : (rules : Rules) (old : Registry) (records : List Parts) → records ≡ [] → AddsAll rules old old records
+adds_none rules old records e = subst (λ (ps : List Parts). AddsAll rules old old ps) (sym e) (record { registered = λ kind. refl; applicants = refl })
+
+-- with what a row registers, the tables are what they were to be
+module _ (rules : Rules) (old new : Registry) (here rest : List Parts) (a : AddsAll rules old new here) where
+  pub adds_own : (kind : Kind) → added (ids_in new.registered kind) (all_own_ids rules kind rest) ≡ added (ids_in old.registered kind) (all_own_ids rules kind (here ++ rest))
+  adds_own kind =
+      ap (λ table. added table (all_own_ids rules kind rest)) (a.registered kind) ∙ sym (added-append (ids_in old.registered kind) (all_own_ids rules kind here) (all_own_ids rules kind rest))
+      ∙ ap (added (ids_in old.registered kind)) (sym (flat_map-append (own_ids rules kind) here rest))
+
+  pub adds_applicants : added new.applicants (all_applicants rules rest) ≡ added old.applicants (all_applicants rules (here ++ rest))
+  adds_applicants =
+      ap (λ table. added table (all_applicants rules rest)) a.applicants ∙ sym (added-append old.applicants (all_applicants rules here) (all_applicants rules rest))
+      ∙ ap (added old.applicants) (sym (flat_map-append (applicants_among rules) here rest))
+
+-- what stands before the next record
+pub is_before_more : (rules : Rules) (before : List Parts) (new : Before) (programs : IsPassed (all_own_ids rules OfProgram before) new.programs) (couples : IsPassed (all_own_ids rules OfCouple before) new.couples)
+    (applicants : IsPassed (all_applicants rules before) new.applicants) (entries : new.entries ≡ min (all_entries before) most) (w_programs : new.withdrawn.programs ≡ added [] (all_withdrawn rules OfProgram before))
+    (w_singles : new.withdrawn.applicants ≡ added [] (all_withdrawn rules OfApplicant before)) (w_couples : new.withdrawn.couples ≡ added [] (all_withdrawn rules OfCouple before)) → IsBefore rules before new
+is_before_more rules before new programs couples applicants entries w_programs w_singles w_couples = record {
+  programs = programs;
+  couples = couples;
+  applicants = applicants;
+  entries = entries;
+  withdrawn = by_kind (λ (kind : Kind). ids_in new.withdrawn kind ≡ added [] (all_withdrawn rules kind before)) w_programs w_singles w_couples;
+}

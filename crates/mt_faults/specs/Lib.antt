@@ -3,3 +3,4 @@ pub mod Names
 pub mod Registered
 pub mod Telling
 pub mod Standing
+pub mod Bodies

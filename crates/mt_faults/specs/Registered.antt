@@ -3,7 +3,7 @@ use Rattle.std.specs.Prelude.{◌≡◌, ℕ, ◌+◌, ◌-◌, ◌^◌, ◌||�
 use Rattle.mt_terms.specs.Registration.Ids.{Bytes, has_id}
 use Rattle.mt_terms.specs.Registration.Records.{Rules, Kind}
 use Rattle.mt_records.specs.Kinds.{ids_in}
-use Rattle.mt_fault_terms.specs.Parts.{Parts, own_ids, applicants_among, all_own_ids, all_applicants}
+use Rattle.mt_fault_terms.specs.Parts.{Parts, own_ids, applicants_among, all_own_ids, all_applicants, parts_of}
 use Rattle.mt_faults.specs.declared.before.Passed.{Passed}
 use Rattle.mt_faults.specs.declared.registry.Registry.{Registry}
 
@@ -16,6 +16,16 @@ added table (id ∷ ids) = added (if has_id table id then table else table ++ id
 pub record AddsParts (rules : Rules) (old new : Registry) (parts : Parts) : Type 0 where
   pub registered : (kind : Kind) → ids_in new.registered kind ≡ added (ids_in old.registered kind) (own_ids rules kind parts)
   pub applicants : new.applicants ≡ added old.applicants (applicants_among rules parts)
+
+-- the parts of a row's record: none if the row has no field
+abbrev pub row_parts : Rules → List Bytes → List Parts
+row_parts rules [] = []
+row_parts rules (word ∷ fields) = parts_of rules (word ∷ fields) ∷ []
+
+-- A registry's tables get what these records register.
+pub record AddsAll (rules : Rules) (old new : Registry) (records : List Parts) : Type 0 where
+  pub registered : (kind : Kind) → ids_in new.registered kind ≡ added (ids_in old.registered kind) (all_own_ids rules kind records)
+  pub applicants : new.applicants ≡ added old.applicants (all_applicants rules records)
 
 -- A registry's tables have what these records register.
 pub record IsRegistry (rules : Rules) (all : List Parts) (r : Registry) : Type 0 where

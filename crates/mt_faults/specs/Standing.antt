@@ -41,11 +41,7 @@ withdrawn_again rules before parts = by_form parts.form
     by_form (Withdraws kind) = found_among rules DUPLICATE_ENTRY (all_withdrawn rules kind before) parts.names
     by_form _ = []
 
--- the parts of a row's record, and its faults: none if the row has no field
-abbrev pub row_parts : Rules → List Bytes → List Parts
-row_parts rules [] = []
-row_parts rules (word ∷ fields) = parts_of rules (word ∷ fields) ∷ []
-
+-- the faults of a row's record: none if the row has no field
 abbrev pub row_faults : Rules → List Parts → List Parts → ℕ → List Bytes → List FileFault
 row_faults rules all before number [] = []
 row_faults rules all before number (word ∷ fields) = at_record number (record_faults rules all before (parts_of rules (word ∷ fields)))

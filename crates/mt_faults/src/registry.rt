@@ -5,14 +5,14 @@ ghost use Rattle.mt_terms.specs.Registration.Passes.{numbered_from};
 ghost use Rattle.mt_fault_terms.specs.OfFile.{all_parts};
 ghost use Rattle.mt_fault_terms.specs.Parts.{ids_among};
 ghost use Rattle.mt_faults.specs.Seen.{field_seen, parts_seen, placed_left};
-ghost use Rattle.mt_faults.specs.Registered.{added, seen_with, AddsParts, IsRegistry};
+ghost use Rattle.mt_faults.specs.Registered.{added, row_parts, seen_with, AddsAll, AddsParts, IsRegistry};
 
 use crate::names::names_of;
 use crate::parts::{Parts, parts_of};
 use crate::placed::{Field, Placed};
 use crate::tell::is_id_field;
 use mt_ids::{IdTable, Seed};
-use mt_lists::RowsIter;
+use mt_lists::{Row, RowsIter};
 use mt_records::{Kinds, Rules};
 use std::alloc::{AllocError, Global};
 
@@ -84,6 +84,17 @@ impl<'a> Registry<'a> {
         add_ids(&mut self.applicants, rules, ids.applicants)
     }
 
+    /// Adds what a row's record registers. A row without a field has no record.
+    fn add_row(&mut self, rules: &Rules, row: Row<'a>) -> Result<(), AllocError>
+        ensures { OnOk result (AddsAll rules.now self.old self.new (row_parts rules.now row.entry)) }
+    {
+        if row.is_empty() {
+            return Ok(());
+        }
+        let parts = parts_of(rules, row.fields());
+        self.add(rules, &parts)
+    }
+
     /// What these rows register.
     pub(crate) fn of(
         alloc: Global,
@@ -96,9 +107,7 @@ impl<'a> Registry<'a> {
     {
         let mut registry = Registry::new(alloc, seed);
         for row in rows {
-            if !row.is_empty() {
-                registry.add(rules, &parts_of(rules, row.fields()))?;
-            }
+            registry.add_row(rules, row)?;
         }
         Ok(registry)
     }

@@ -3,7 +3,8 @@ ghost use Rattle.mt_lists.specs.Rows.{rows_left};
 ghost use Rattle.mt_terms.specs.Registration.Passes.{numbered_from};
 ghost use Rattle.mt_fault_terms.specs.OfFile.{all_parts, faults_under};
 ghost use Rattle.mt_fault_terms.specs.Parts as model;
-ghost use Rattle.mt_faults.specs.Standing.{Stands, row_faults, row_parts};
+ghost use Rattle.mt_faults.specs.Registered.{row_parts};
+ghost use Rattle.mt_faults.specs.Standing.{Stands, row_faults};
 ghost use Rattle.mt_faults.specs.Telling.{Tells};
 
 use crate::before::Before;

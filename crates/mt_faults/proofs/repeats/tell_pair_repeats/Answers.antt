@@ -23,7 +23,7 @@ loop-first-init g c =
 pub returns-in_err-place : goal.returns-in_err-place
 returns-in_err-place g c =
     let q = err_from_is_err_and c.from_residual.result c.from_residual.ensures.1 in
-    memory_ends {Y = Unit {0}} c.from_residual.result c.loop-first.invariant.so_far (q.1 ∙ ap Err q.2)
+    memory_ends c.from_residual.result c.loop-first.invariant.so_far (q.1 ∙ ap Err q.2)
 
 pub returns-in_err-tell : goal.returns-in_err-tell
 returns-in_err-tell g c =
@@ -37,7 +37,7 @@ returns-in_err-tell g c =
     let found = c.in_ok-place.ensures.found ∙ ap (λ p. list_any (is_same_pair p) c.loop-first.entries) c.pair_of.ensures in
     let next = repeated_pair_is rules c.loop-first.entries before pair (is_some c.in_ok-place.place) told c.loop-first.invariant.alike found c.repeated_pair.ensures (pairs_left c.next.new.self) in
     let q = err_from_is_err_and c.from_residual-in_err-tell.result c.from_residual-in_err-tell.ensures.1 in
-    ends_early {X = Unit {0}} {Y = Unit {0}} c.tell.new.sink (at_record n told) (at_record n rest) c.in_err-tell.field-0.0 c.from_residual-in_err-tell.result c.loop-first.invariant.so_far c.in_err-tell.ensures
+    ends_early c.tell.new.sink (at_record n told) (at_record n rest) c.in_err-tell.field-0.0 c.from_residual-in_err-tell.result c.loop-first.invariant.so_far c.in_err-tell.ensures
     (ap (λ pairs. at_record n (pair_repeats_after rules before pairs)) c.in-Some.ensures.steps ∙ in_two n _ told rest told next refl) (q.1 ∙ ap Err q.2)
 
 pub loop-first-preserved : goal.loop-first-preserved

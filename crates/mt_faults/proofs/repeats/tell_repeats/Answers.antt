@@ -22,7 +22,7 @@ loop-field-init g c =
 pub returns-in_err-first : goal.returns-in_err-first
 returns-in_err-first g c =
     let q = err_from_is_err_and c.from_residual.result c.from_residual.ensures.1 in
-    memory_ends {Y = Unit {0}} c.from_residual.result c.loop-field.invariant.so_far (q.1 ∙ ap Err q.2)
+    memory_ends c.from_residual.result c.loop-field.invariant.so_far (q.1 ∙ ap Err q.2)
 
 pub returns-in_err-tell : goal.returns-in_err-tell
 returns-in_err-tell g c =
@@ -34,7 +34,7 @@ returns-in_err-tell g c =
     let rest = repeats_after rules (before ++ id ∷ []) (placed_left c.next.new.self) in
     let next = repeated_is rules c.loop-field.entries before (field_seen c.in-Some.field) (is_some c.in_ok-first.first) told c.loop-field.invariant.alike c.in_ok-first.ensures.found c.repeated.ensures (placed_left c.next.new.self) in
     let q = err_from_is_err_and c.from_residual-in_err-tell.result c.from_residual-in_err-tell.ensures.1 in
-    ends_early {X = Unit {0}} {Y = Unit {0}} c.tell.new.sink (at_record n told) (at_record n rest) c.in_err-tell.field-0.0 c.from_residual-in_err-tell.result c.loop-field.invariant.so_far c.in_err-tell.ensures
+    ends_early c.tell.new.sink (at_record n told) (at_record n rest) c.in_err-tell.field-0.0 c.from_residual-in_err-tell.result c.loop-field.invariant.so_far c.in_err-tell.ensures
     (ap (λ fields. at_record n (repeats_after rules before fields)) c.in-Some.ensures.steps ∙ in_two n _ told rest told next refl) (q.1 ∙ ap Err q.2)
 
 pub loop-field-preserved : goal.loop-field-preserved

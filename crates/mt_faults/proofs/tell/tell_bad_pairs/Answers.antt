@@ -24,7 +24,7 @@ returns-in_err-tell g c =
     let two = if is_place_field rules (field_seen c.in-Some.second) (field_seen c.in-Some.first) then [] else fault_alone BAD_ID (field_seen c.in-Some.second).0 ∷ [] in
     let next = bad_pair_next rules _ (pairs_left c.next.new.self) (field_seen c.in-Some.first, field_seen c.in-Some.second) one two c.in-Some.ensures.steps c.bad_place.ensures refl in
     let q = err_from_is_err_and c.from_residual.result c.from_residual.ensures.1 in
-    ends_early {X = Unit {0}} {Y = Unit {0}} c.tell.new.sink (at_record n one) (at_record n (two ++ rest)) c.in_err-tell.field-0.0 c.from_residual.result c.loop-first.invariant c.in_err-tell.ensures
+    ends_early c.tell.new.sink (at_record n one) (at_record n (two ++ rest)) c.in_err-tell.field-0.0 c.from_residual.result c.loop-first.invariant c.in_err-tell.ensures
     (in_two n _ one (two ++ rest) one next refl) (q.1 ∙ ap Err q.2)
 
 pub returns-in_err-tell-2 : goal.returns-in_err-tell-2
@@ -36,7 +36,7 @@ returns-in_err-tell-2 g c =
     let two = faults_seen c.bad_place-in-loop-first.result in
     let next = bad_pair_next rules _ (pairs_left c.next.new.self) (field_seen c.in-Some.first, field_seen c.in-Some.second) one two c.in-Some.ensures.steps c.bad_place.ensures c.bad_place-in-loop-first.ensures in
     let q = err_from_is_err_and c.from_residual-in_err-tell-2.result c.from_residual-in_err-tell-2.ensures.1 in
-    ends_early {X = Unit {0}} {Y = Unit {0}} c.tell-in-loop-first.new.sink (at_record n two) (at_record n rest) c.in_err-tell-2.field-0.0 c.from_residual-in_err-tell-2.result
+    ends_early c.tell-in-loop-first.new.sink (at_record n two) (at_record n rest) c.in_err-tell-2.field-0.0 c.from_residual-in_err-tell-2.result
     (goes c.tell.new.sink (at_record n one) (at_record n (two ++ rest)) c.loop-first.invariant c.in_ok-tell.ensures (in_two n _ one (two ++ rest) one next refl))
     c.in_err-tell-2.ensures (in_two n (two ++ rest) two rest two refl refl) (q.1 ∙ ap Err q.2)
 

@@ -22,7 +22,7 @@ pub returns-in_err-tell : goal.returns-in_err-tell
 returns-in_err-tell g c =
     let wrong = tested c.args.wrong c.args.rules.now in
     let p = err_from_is_err_and c.from_residual.result c.from_residual.ensures.1 in
-    ends_early {X = Unit {0}} {Y = Unit {0}} c.tell.new.sink _ _ c.in_err-tell.field-0.0 c.from_residual.result c.loop-field.invariant c.in_err-tell.ensures
+    ends_early c.tell.new.sink _ _ c.in_err-tell.field-0.0 c.from_residual.result c.loop-field.invariant c.in_err-tell.ensures
     (next_of c.args.number wrong _ (placed_left c.next.new.self) (field_seen c.in-Some.field) (faults_seen c.fault.result) c.in-Some.ensures.steps c.fault.ensures)
     (p.1 ∙ ap Err p.2)
 

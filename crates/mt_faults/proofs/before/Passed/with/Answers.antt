@@ -8,7 +8,7 @@ use Rattle.mt_faults.proofs.SearchFacts.{next_id}
 use Rattle.mt_faults.proofs.before.Passed.with.Goals as goal
 
 pub loop-field-init : goal.loop-field-init
-loop-field-init c = λ new h. h
+loop-field-init c = λ new h. subst (λ (ids : List Bytes). PassesIds c.args.table.now c.args.self new ids) (ap (λ fields. ids_among c.args.rules.now (placed_left fields)) c.into_iter-field-iterator.ensures.into_iter_gives) h
 
 pub loop-field-preserved : goal.loop-field-preserved
 loop-field-preserved c = λ new h.
@@ -16,7 +16,7 @@ loop-field-preserved c = λ new h.
     c.loop-field.invariant new
     (subst (λ (ids : List Bytes). PassesIds c.args.table.now c.loop-field.passed new ids)
     (sym (next_id rules _ (placed_left c.next.new.self) (field_seen c.in-Some.field) c.in-Some.ensures.steps))
-    (pass_both c.args.table.now c.loop-field.passed c.with_one.result new (ids_among rules (field_seen c.in-Some.field ∷ [])) (ids_among rules (placed_left c.next.new.self)) c.with_one.ensures h))
+    (pass_both c.args.table.now c.loop-field.passed c.with_one-passed.result new (ids_among rules (field_seen c.in-Some.field ∷ [])) (ids_among rules (placed_left c.next.new.self)) c.with_one-passed.ensures h))
 
 pub returns : goal.returns
 returns c =

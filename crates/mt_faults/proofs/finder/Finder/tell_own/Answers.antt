@@ -3,7 +3,7 @@ use Rattle.std.proofs.lemmas.Result.{err_from_is_err_and}
 use Rattle.mt_fault_terms.specs.Faults.{FieldFault}
 use Rattle.mt_faults.specs.Telling.{at_record}
 use Rattle.mt_faults.proofs.SearchFacts.{in_two}
-use Rattle.mt_faults.proofs.TellingFacts.{Laws, ends_early, finishes, goes, starts, told_as}
+use Rattle.mt_faults.proofs.TellingFacts.{Laws, ends_early, finishes, goes, starts}
 use Rattle.std.specs.Prelude.{flat_map}
 use Rattle.mt_terms.specs.declared.codes.TheConstants.{BAD_ID}
 use Rattle.mt_fault_terms.specs.OfRecord.{alone_at, bad_of_pair, own_faults, quota_faults}
@@ -25,7 +25,7 @@ returns-in_err-tell g c =
     let f5 : List FieldFault = quota_faults rules p in
     let s0 = starts laws c.args.sink.now (at_record n (own_faults rules p)) c.requires in
     let q = err_from_is_err_and c.from_residual.result c.from_residual.ensures.1 in
-    ends_early {X = Unit {0}} {Y = Unit {0}} c.tell.new.sink (at_record n (faults_seen c.form_fault.result)) (at_record n (f2 ++ (f3 ++ (f4 ++ f5)))) c.in_err-tell.field-0.0 c.from_residual.result s0 c.in_err-tell.ensures
+    ends_early c.tell.new.sink (at_record n (faults_seen c.form_fault.result)) (at_record n (f2 ++ (f3 ++ (f4 ++ f5)))) c.in_err-tell.field-0.0 c.from_residual.result s0 c.in_err-tell.ensures
     (in_two n (own_faults rules p) f1 (f2 ++ (f3 ++ (f4 ++ f5))) (faults_seen c.form_fault.result) (own_in_turn rules p) c.form_fault.ensures) (q.1 ∙ ap Err q.2)
 
 pub returns-in_err-tell_each : goal.returns-in_err-tell_each
@@ -42,7 +42,7 @@ returns-in_err-tell_each g c =
     let s0 = starts laws c.args.sink.now (at_record n (own_faults rules p)) c.requires in
     let s1 = goes c.tell.new.sink (at_record n (faults_seen c.form_fault.result)) (at_record n (f2 ++ (f3 ++ (f4 ++ f5)))) s0 c.in_ok-tell.ensures (in_two n (own_faults rules p) f1 (f2 ++ (f3 ++ (f4 ++ f5))) (faults_seen c.form_fault.result) (own_in_turn rules p) c.form_fault.ensures) in
     let q = err_from_is_err_and c.from_residual-in_err-tell_each.result c.from_residual-in_err-tell_each.ensures.1 in
-    ends_early {X = Unit {0}} {Y = Unit {0}} c.tell_each.new.sink (at_record n f2) (at_record n (f3 ++ (f4 ++ f5))) c.in_err-tell_each.field-0.0 c.from_residual-in_err-tell_each.result s1 c.in_err-tell_each.ensures
+    ends_early c.tell_each.new.sink (at_record n f2) (at_record n (f3 ++ (f4 ++ f5))) c.in_err-tell_each.field-0.0 c.from_residual-in_err-tell_each.result s1 c.in_err-tell_each.ensures
     (in_two n (f2 ++ (f3 ++ (f4 ++ f5))) f2 (f3 ++ (f4 ++ f5)) f2 refl refl) (q.1 ∙ ap Err q.2)
 
 pub returns-in_err-tell_each-2 : goal.returns-in_err-tell_each-2
@@ -60,7 +60,7 @@ returns-in_err-tell_each-2 g c =
     let s1 = goes c.tell.new.sink (at_record n (faults_seen c.form_fault.result)) (at_record n (f2 ++ (f3 ++ (f4 ++ f5)))) s0 c.in_ok-tell.ensures (in_two n (own_faults rules p) f1 (f2 ++ (f3 ++ (f4 ++ f5))) (faults_seen c.form_fault.result) (own_in_turn rules p) c.form_fault.ensures) in
     let s2 = goes c.tell_each.new.sink (at_record n f2) (at_record n (f3 ++ (f4 ++ f5))) s1 c.in_ok-tell_each.ensures (in_two n (f2 ++ (f3 ++ (f4 ++ f5))) f2 (f3 ++ (f4 ++ f5)) f2 refl refl) in
     let q = err_from_is_err_and c.from_residual-in_err-tell_each-2.result c.from_residual-in_err-tell_each-2.ensures.1 in
-    ends_early {X = Unit {0}} {Y = Unit {0}} c.tell_each-2.new.sink (at_record n f3) (at_record n (f4 ++ f5)) c.in_err-tell_each-2.field-0.0 c.from_residual-in_err-tell_each-2.result s2 c.in_err-tell_each-2.ensures
+    ends_early c.tell_each-2.new.sink (at_record n f3) (at_record n (f4 ++ f5)) c.in_err-tell_each-2.field-0.0 c.from_residual-in_err-tell_each-2.result s2 c.in_err-tell_each-2.ensures
     (in_two n (f3 ++ (f4 ++ f5)) f3 (f4 ++ f5) f3 refl refl) (q.1 ∙ ap Err q.2)
 
 pub returns-in_err-tell_bad_pairs : goal.returns-in_err-tell_bad_pairs
@@ -79,7 +79,7 @@ returns-in_err-tell_bad_pairs g c =
     let s2 = goes c.tell_each.new.sink (at_record n f2) (at_record n (f3 ++ (f4 ++ f5))) s1 c.in_ok-tell_each.ensures (in_two n (f2 ++ (f3 ++ (f4 ++ f5))) f2 (f3 ++ (f4 ++ f5)) f2 refl refl) in
     let s3 = goes c.tell_each-2.new.sink (at_record n f3) (at_record n (f4 ++ f5)) s2 c.in_ok-tell_each-2.ensures (in_two n (f3 ++ (f4 ++ f5)) f3 (f4 ++ f5) f3 refl refl) in
     let q = err_from_is_err_and c.from_residual-in_err-tell_bad_pairs.result c.from_residual-in_err-tell_bad_pairs.ensures.1 in
-    ends_early {X = Unit {0}} {Y = Unit {0}} c.tell_bad_pairs.new.sink (at_record n f4) (at_record n f5) c.in_err-tell_bad_pairs.field-0.0 c.from_residual-in_err-tell_bad_pairs.result s3 c.in_err-tell_bad_pairs.ensures
+    ends_early c.tell_bad_pairs.new.sink (at_record n f4) (at_record n f5) c.in_err-tell_bad_pairs.field-0.0 c.from_residual-in_err-tell_bad_pairs.result s3 c.in_err-tell_bad_pairs.ensures
     (in_two n (f4 ++ f5) f4 f5 f4 refl refl) (q.1 ∙ ap Err q.2)
 
 pub returns : goal.returns
@@ -98,4 +98,4 @@ returns g c =
     let s2 = goes c.tell_each.new.sink (at_record n f2) (at_record n (f3 ++ (f4 ++ f5))) s1 c.in_ok-tell_each.ensures (in_two n (f2 ++ (f3 ++ (f4 ++ f5))) f2 (f3 ++ (f4 ++ f5)) f2 refl refl) in
     let s3 = goes c.tell_each-2.new.sink (at_record n f3) (at_record n (f4 ++ f5)) s2 c.in_ok-tell_each-2.ensures (in_two n (f3 ++ (f4 ++ f5)) f3 (f4 ++ f5) f3 refl refl) in
     let s4 = goes c.tell_bad_pairs.new.sink (at_record n f4) (at_record n f5) s3 c.in_ok-tell_bad_pairs.ensures (in_two n (f4 ++ f5) f4 f5 f4 refl refl) in
-    finishes {X = Unit {0}} c.tell-2.new.sink c.tell-2.result s4 (told_as (at_record n (faults_seen c.bad_quota.result)) (at_record n f5) c.tell-2.result (ap (at_record n) c.bad_quota.ensures) c.tell-2.ensures)
+    finishes c.tell-2.new.sink (at_record n (faults_seen c.bad_quota.result)) c.tell-2.result s4 (ap (at_record n) c.bad_quota.ensures) c.tell-2.ensures

@@ -1,0 +1,26 @@
+use Rattle.std.proofs.Common.{List, Err, ap, sym, ◌∙◌, ◌++◌, ◌∷◌, [], take, drop, refl}
+use Rattle.std.proofs.lemmas.Result.{err_from_is_err_and}
+use Rattle.mt_terms.specs.declared.codes.TheConstants.{DUPLICATE_ID}
+use Rattle.mt_fault_terms.specs.OfRecord.{found_among, members_before, registered_faults}
+use Rattle.mt_fault_terms.specs.Parts.{first_field}
+use Rattle.mt_faults.specs.Seen.{faults_seen, field_seen, form_seen, parts_seen, placed_left}
+use Rattle.mt_faults.specs.Telling.{at_record}
+use Rattle.mt_faults.proofs.SearchFacts.{in_two}
+use Rattle.mt_faults.proofs.TellingFacts.{Laws, ends_early, finishes, goes, starts, told_as}
+use Rattle.mt_faults.proofs.RecordFacts.{members_two, two_fields}
+use Rattle.mt_faults.proofs.finder.Finder.tell_members.Goals as goal
+
+pub returns-in-Some-head : goal.returns-in-Some-head
+returns-in-Some-head g c =
+    let laws : Laws g.S.FaultSink.takes g.S.FaultSink.told g.S.FaultSink.stopped = record { none = g.met.S.FaultSink.told_none; more = g.met.S.FaultSink.told_more; stops = g.met.S.FaultSink.stopped_after } in
+    let n = c.args.number in
+    let f = c.args.self.now in
+    let fields = placed_left c.args.members in
+    let ids = take f.before.applicants.seen f.registry.applicants in
+    let both = two_fields fields (field_seen c.in-Some.first) (field_seen c.in-Some-head.second) c.in-Some.ensures (c.in-Some-head.ensures ∙ ap first_field c.tail.ensures) c.requires.few in
+    let one = found_among f.rules DUPLICATE_ID ids (placed_left c.first.result) in
+    let two = faults_seen c.second_found.result in
+    let split = members_two f.rules ids fields (field_seen c.in-Some.first) (field_seen c.in-Some-head.second) one two both (ap (found_among f.rules DUPLICATE_ID ids) c.first.ensures) c.second_found.ensures in
+    let s0 = starts laws c.args.sink.now (at_record n (members_before f.rules ids fields)) c.requires.takes in
+    let s1 = goes c.tell_found.new.sink (at_record n one) (at_record n two) s0 c.in_ok-tell_found.ensures (in_two n (members_before f.rules ids fields) one two one split refl) in
+    finishes c.tell.new.sink (at_record n two) c.tell.result s1 refl c.tell.ensures

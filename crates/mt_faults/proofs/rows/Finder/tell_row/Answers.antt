@@ -1,0 +1,83 @@
+use Rattle.std.proofs.Common.{List, length, [], ◌∷◌, ◌++◌, Err, ap, sym, ◌∙◌, subst, refl}
+use Rattle.std.proofs.lemmas.Bool.{eqb-true, eqb-false}
+use Rattle.std.proofs.lemmas.List.{append_assoc, append-nil}
+use Rattle.std.proofs.lemmas.Result.{err_from_is_err_and}
+use Rattle.mt_fault_terms.specs.OfRecord.{record_faults}
+use Rattle.mt_fault_terms.specs.Parts.{Parts, parts_of}
+use Rattle.mt_faults.specs.Registered.{IsRegistry, row_parts}
+use Rattle.mt_faults.specs.Seen.{parts_seen}
+use Rattle.mt_faults.specs.Standing.{IsBefore, Stands, row_faults}
+use Rattle.mt_faults.specs.Telling.{at_record}
+use Rattle.mt_faults.proofs.SearchFacts.{faults_some, row_none, row_some}
+use Rattle.mt_faults.proofs.TellingFacts.{Laws, all_told, ends_early, goes, memory_ends, starts, starts_as}
+use Rattle.mt_faults.proofs.rows.Finder.tell_row.Goals as goal
+
+pub returns-then-is_empty-clause-tells : goal.returns-then-is_empty-clause-tells
+returns-then-is_empty-clause-tells g c = λ all before s.
+    let laws : Laws g.S.FaultSink.takes g.S.FaultSink.told g.S.FaultSink.stopped = record { none = g.met.S.FaultSink.told_none; more = g.met.S.FaultSink.told_more; stops = g.met.S.FaultSink.stopped_after } in
+    let none = row_none c.args.row (eqb-true (length c.args.row) 0 (sym c.is_empty.ensures ∙ c.if-is_empty.true)) in
+    all_told [] (starts_as laws c.args.sink.now [] (row_faults c.args.self.now.rules all before c.args.number c.args.row) (ap (row_faults c.args.self.now.rules all before c.args.number) none) c.requires) refl
+
+pub returns-then-is_empty-clause-stands : goal.returns-then-is_empty-clause-stands
+returns-then-is_empty-clause-stands g c = λ all before rest s e.
+    let none = row_none c.args.row (eqb-true (length c.args.row) 0 (sym c.is_empty.ensures ∙ c.if-is_empty.true)) in
+    subst (λ (ps : List Parts). Stands c.args.self.now all ps) (sym (ap (λ ps. before ++ ps) (ap (row_parts c.args.self.now.rules) none) ∙ append-nil before)) s
+
+pub returns-in_err-tell_record-clause-tells : goal.returns-in_err-tell_record-clause-tells
+returns-in_err-tell_record-clause-tells g c = λ all before s.
+    let laws : Laws g.S.FaultSink.takes g.S.FaultSink.told g.S.FaultSink.stopped = record { none = g.met.S.FaultSink.told_none; more = g.met.S.FaultSink.told_more; stops = g.met.S.FaultSink.stopped_after } in
+    let rules = c.args.self.now.rules in
+    let n = c.args.number in
+    let p = parts_seen c.parts_of-parts.result in
+    let row = c.args.row in
+    let some = eqb-false (length row) 0 (sym c.is_empty.ensures ∙ c.if-is_empty.false) in
+    let same = ap (parts_of rules) (sym c.fields.ensures) ∙ sym c.parts_of-parts.ensures.parts in
+    let faults = at_record n (record_faults rules all before p) in
+    let whole = faults_some rules all before n row some ∙ ap (λ q. at_record n (record_faults rules all before q)) same in
+    let q = err_from_is_err_and c.from_residual.result c.from_residual.ensures.1 in
+    ends_early c.tell_record.new.sink faults [] c.in_err-tell_record.field-0.0 c.from_residual.result (starts laws c.args.sink.now (row_faults rules all before n row) c.requires) (c.in_err-tell_record.ensures.tells all before s)
+    (whole ∙ sym (append-nil faults)) (q.1 ∙ ap Err q.2)
+
+pub returns-in_err-pass-clause-tells : goal.returns-in_err-pass-clause-tells
+returns-in_err-pass-clause-tells g c = λ all before s.
+    let laws : Laws g.S.FaultSink.takes g.S.FaultSink.told g.S.FaultSink.stopped = record { none = g.met.S.FaultSink.told_none; more = g.met.S.FaultSink.told_more; stops = g.met.S.FaultSink.stopped_after } in
+    let rules = c.args.self.now.rules in
+    let n = c.args.number in
+    let p = parts_seen c.parts_of-parts.result in
+    let row = c.args.row in
+    let some = eqb-false (length row) 0 (sym c.is_empty.ensures ∙ c.if-is_empty.false) in
+    let same = ap (parts_of rules) (sym c.fields.ensures) ∙ sym c.parts_of-parts.ensures.parts in
+    let faults = at_record n (record_faults rules all before p) in
+    let whole = faults_some rules all before n row some ∙ ap (λ q. at_record n (record_faults rules all before q)) same in
+    let q = err_from_is_err_and c.from_residual-in_err-pass.result c.from_residual-in_err-pass.ensures.1 in
+    memory_ends c.from_residual-in_err-pass.result
+    (goes c.tell_record.new.sink faults [] (starts laws c.args.sink.now (row_faults rules all before n row) c.requires) (c.in_ok-tell_record.ensures.tells all before s) (whole ∙ sym (append-nil faults)))
+    (q.1 ∙ ap Err q.2)
+
+pub returns-clause-tells : goal.returns-clause-tells
+returns-clause-tells g c = λ all before s.
+    let laws : Laws g.S.FaultSink.takes g.S.FaultSink.told g.S.FaultSink.stopped = record { none = g.met.S.FaultSink.told_none; more = g.met.S.FaultSink.told_more; stops = g.met.S.FaultSink.stopped_after } in
+    let rules = c.args.self.now.rules in
+    let n = c.args.number in
+    let p = parts_seen c.parts_of-parts.result in
+    let row = c.args.row in
+    let some = eqb-false (length row) 0 (sym c.is_empty.ensures ∙ c.if-is_empty.false) in
+    let same = ap (parts_of rules) (sym c.fields.ensures) ∙ sym c.parts_of-parts.ensures.parts in
+    let faults = at_record n (record_faults rules all before p) in
+    let whole = faults_some rules all before n row some ∙ ap (λ q. at_record n (record_faults rules all before q)) same in
+    all_told [] (goes c.tell_record.new.sink faults [] (starts laws c.args.sink.now (row_faults rules all before n row) c.requires) (c.in_ok-tell_record.ensures.tells all before s) (whole ∙ sym (append-nil faults))) refl
+
+pub returns-clause-stands : goal.returns-clause-stands
+returns-clause-stands g c = λ all before rest s e.
+    let rules = c.args.self.now.rules in
+    let p = parts_seen c.parts_of-parts.result in
+    let row = c.args.row in
+    let some = eqb-false (length row) 0 (sym c.is_empty.ensures ∙ c.if-is_empty.false) in
+    let same = row_some rules row some ∙ ap (λ q. q ∷ []) (ap (parts_of rules) (sym c.fields.ensures) ∙ sym c.parts_of-parts.ensures.parts) in
+    let whole = e ∙ ap (λ ps. (before ++ ps) ++ rest) same ∙ append_assoc before (p ∷ []) rest in
+    record {
+      rest = rest;
+      first = e;
+      registry = s.registry;
+      before_is = subst (λ (ps : List Parts). IsBefore rules (before ++ ps) c.pass.new.self) (sym same) (c.in_ok-pass.ensures before rest (subst (λ (ps : List Parts). IsRegistry rules ps c.args.self.now.registry) whole s.registry) s.before_is);
+    }
