@@ -128,7 +128,7 @@ first_has (x ∷ xs) id (suc k) = by (bytes_eq id x) (first_has xs id k)
   where
     by : (b : Bool) → has_id (take k xs) id ≡ (nat_lt (number_of xs id) k && has_id xs id)
         → (b || has_id (take k xs) id) ≡ (nat_lt (cond (not b) (1 + number_of xs id) 0) (suc k) && (b || has_id xs id))
-    by true ih = let z : nat_lt 0 (suc k) ≡ true = grind (arith, nat_tests) in rw z refl
+    by true ih = let z : nat_lt 0 (suc k) ≡ true = grind (arith, nat_tests) in ap (λ b. b && true) (sym z)
     by false ih = ih ∙ ap (λ b. b && has_id xs id) (same (nat_lt (number_of xs id) k) refl)
       where
         same : (b : Bool) → nat_lt (number_of xs id) k ≡ b → b ≡ nat_lt (1 + number_of xs id) (suc k)

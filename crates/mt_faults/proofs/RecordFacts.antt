@@ -7,20 +7,22 @@ use Rattle.std.proofs.lemmas.Bool.Decides.{nat_tests}
 use Rattle.std.proofs.lemmas.List.{append_assoc, append-nil, map-append}
 use Rattle.std.proofs.lemmas.List.Folds.{list_any-append}
 use Rattle.std.proofs.lemmas.Grind.{flat_map-append}
-use Rattle.mt_terms.specs.declared.codes.TheConstants.{BAD_ID, DUPLICATE_ID, DUPLICATE_ENTRY, TOO_MANY}
+use Rattle.mt_terms.specs.declared.codes.TheConstants.{BAD_ID, DUPLICATE_ID, DUPLICATE_ENTRY, NOT_REGISTERED, TOO_MANY, UNKNOWN_APPLICANT, UNKNOWN_PROGRAM}
 use Rattle.mt_terms.specs.Registration.Ids.{Bytes, has_id}
 use Rattle.mt_terms.specs.Registration.Passes.{is_same_pair}
-use Rattle.mt_terms.specs.Registration.Records.{Rules, IdPair, OfProgram, OfApplicant, OfCouple, is_pair, pair_of}
+use Rattle.mt_terms.specs.Registration.Records.{Rules, Kind, IdPair, OfProgram, OfApplicant, OfCouple, is_pair, pair_of}
 use Rattle.mt_passes.proofs.RepeatFacts.{same_pairs}
 use Rattle.mt_fault_terms.specs.Faults.{FieldFault, FileFault, Placed, fault_alone, fault_of}
 use Rattle.mt_fault_terms.specs.OfRecord.{is_id_field, is_place_field, alone_at, bad_of_pair, bad_fields, quota_faults, own_faults, found_among, missing_among, members_before, registered_faults, repeats_after, pair_repeats_after, shown_of_pair, repeat_faults, passes, limit_faults, unknown_faults, first_faults, record_faults}
-use Rattle.mt_fault_terms.specs.Parts.{Parts, PlacedPair, Registers, all_applicants, all_own_ids, first_field}
+use Rattle.mt_fault_terms.specs.Parts.{Parts, PlacedPair, Registers, Withdraws, all_applicants, all_own_ids, all_withdrawn, first_field}
 use Rattle.mt_faults.specs.declared.tell.Wrong.{Wrong}
 use Rattle.mt_faults.specs.declared.tell.Wrong.TheVariants as wrongs
 use Rattle.mt_faults.specs.Registered.{added, most}
 use Rattle.mt_faults.specs.Seen.{tested}
 use Rattle.mt_faults.specs.Telling.{at_record}
+use Rattle.mt_faults.specs.Standing.{withdrawn_again}
 use Rattle.mt_faults.proofs.AddedFacts.{has_id-added}
+use Rattle.mt_faults.proofs.PartsFacts.{both_of}
 
 -- the fields that are no ids, those that are and are among others, and those that are and aren't
 abbrev no_ids_in : Rules → List Placed → List Placed
@@ -228,3 +230,22 @@ module _ (rules : Rules) (before : List Parts) (p : Parts) where
           ≡ found_among rules DUPLICATE_ID (all_own_ids rules OfCouple before) (take 1 names) ++ members_before rules (all_applicants rules before) (drop 1 names)
       by [] = refl
       by (x ∷ xs) = refl
+
+-- what is withdrawn again
+pub withdrawn_is : (rules : Rules) (before : List Parts) (p : Parts) (kind : Kind) (ids : List Bytes) → p.form ≡ Withdraws kind → ((id : Bytes) → has_id ids id ≡ has_id (all_withdrawn rules kind before) id)
+    → found_among rules DUPLICATE_ENTRY ids p.names ≡ withdrawn_again rules before p
+withdrawn_is rules before p kind ids form alike = found_alike rules DUPLICATE_ENTRY ids (all_withdrawn rules kind before) alike p.names ∙ rw form refl
+
+-- what no record registers, by the form of a record
+module _ (rules : Rules) (all : List Parts) (p : Parts) where
+  pub unknown_applicants : (ids : List Bytes) → p.form ≡ Registers OfProgram → ((id : Bytes) → has_id ids id ≡ has_id (all_applicants rules all) id) → missing_among rules UNKNOWN_APPLICANT ids p.list ≡ unknown_faults rules all p
+  unknown_applicants ids form alike = missing_alike rules UNKNOWN_APPLICANT ids (all_applicants rules all) alike p.list ∙ rw form refl
+
+  pub unknown_programs : (ids : List Bytes) → p.form ≡ Registers OfApplicant → ((id : Bytes) → has_id ids id ≡ has_id (all_own_ids rules OfProgram all) id) → missing_among rules UNKNOWN_PROGRAM ids p.list ≡ unknown_faults rules all p
+  unknown_programs ids form alike = missing_alike rules UNKNOWN_PROGRAM ids (all_own_ids rules OfProgram all) alike p.list ∙ rw form refl
+
+  pub unknown_in_pairs : (ids : List Bytes) → p.form ≡ Registers OfCouple → ((id : Bytes) → has_id ids id ≡ has_id (all_own_ids rules OfProgram all) id) → missing_among rules UNKNOWN_PROGRAM ids (flat_map both_of p.pairs) ≡ unknown_faults rules all p
+  unknown_in_pairs ids form alike = missing_alike rules UNKNOWN_PROGRAM ids (all_own_ids rules OfProgram all) alike (flat_map both_of p.pairs) ∙ rw form refl
+
+  pub unregistered : (kind : Kind) (ids : List Bytes) → p.form ≡ Withdraws kind → ((id : Bytes) → has_id ids id ≡ has_id (all_own_ids rules kind all) id) → missing_among rules NOT_REGISTERED ids p.names ≡ unknown_faults rules all p
+  unregistered kind ids form alike = missing_alike rules NOT_REGISTERED ids (all_own_ids rules kind all) alike p.names ∙ rw form refl

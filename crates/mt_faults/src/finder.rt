@@ -1,6 +1,6 @@
 ghost use Rattle.std.specs.Prelude.{◌≡◌, ℕ, ◌+◌, ◌≤◌, ◌++◌, ◌∷◌, [], List, OnOk, length, min, take, if◌then◌else◌};
 ghost use Rattle.mt_terms.specs.declared.codes.TheConstants.{DUPLICATE_ID, TOO_MANY};
-ghost use Rattle.mt_fault_terms.specs.OfRecord.{id_among, quota_faults, found_among, members_before, passes, own_faults, registered_faults, repeat_faults, limit_faults, unknown_faults, record_faults};
+ghost use Rattle.mt_fault_terms.specs.OfRecord.{id_among, quota_faults, found_among, members_before, passes, own_faults, registered_faults, repeat_faults, limit_faults, record_faults};
 ghost use Rattle.mt_fault_terms.specs.Parts as model;
 ghost use Rattle.mt_fault_terms.specs.Parts.{ids_among};
 ghost use Rattle.mt_faults.specs.Registered.{most};
@@ -19,10 +19,7 @@ use crate::sink::FaultSink;
 use crate::tell::{Wrong, fault_alone, fault_of, is_id_field, tell, tell_bad_pairs, tell_each};
 use mt_ids::{IdTable, Seed, quota_of};
 use mt_records::{Kind, Rules};
-use mt_terms::codes::{
-    BAD_QUOTA, DUPLICATE_ENTRY, DUPLICATE_ID, NOT_REGISTERED, TOO_MANY, UNKNOWN_APPLICANT,
-    UNKNOWN_PROGRAM,
-};
+use mt_terms::codes::{BAD_QUOTA, DUPLICATE_ENTRY, DUPLICATE_ID, TOO_MANY};
 use std::alloc::Global;
 
 /// What a record is read beside: the rules of the version, what all records register, and what stands before it.
@@ -333,41 +330,6 @@ impl<'a> Finder<'a> {
         tell(sink, number, passed(many_programs, id))?;
         tell(sink, number, passed(many_couples, id))?;
         tell(sink, number, passed(many_entries, id))
-    }
-
-    /// Tells a sink the ids that a record names and that no record registers.
-    fn tell_unknown<S: FaultSink>(
-        &self,
-        sink: &mut S,
-        number: u64,
-        parts: &Parts<'a>,
-    ) -> Result<(), FaultEnd>
-        requires { S.takes sink.old }
-        ensures takes { OnOk result (S.takes sink.new) }
-        ensures tells { (all before : List model.Parts) → Stands self.now all before
-            → Tells S.takes S.told S.stopped sink.old sink.new
-            (at_record number (unknown_faults self.now.rules all (parts_seen parts.now))) result }
-    {
-        let ids = &self.registry.registered;
-        let (code, ids, fields) = match parts.form {
-            Form::Registers(Kind::Program) => {
-                (UNKNOWN_APPLICANT, &self.registry.applicants, parts.list)
-            }
-            Form::Registers(Kind::Applicant) => (UNKNOWN_PROGRAM, &ids.programs, parts.list),
-            Form::Registers(Kind::Couple) => {
-                let whole = parts.pairs.len() / 2 * 2;
-                (UNKNOWN_PROGRAM, &ids.programs, parts.pairs.first(whole))
-            }
-            Form::Withdraws(kind) => (NOT_REGISTERED, ids.of(kind), parts.names),
-            Form::Unknown => return Ok(()),
-        };
-        tell_each(
-            sink,
-            number,
-            &self.rules,
-            Wrong::Missing { code, ids },
-            fields,
-        )
     }
 
     /// Tells a sink all faults of a record.

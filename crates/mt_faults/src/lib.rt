@@ -16,6 +16,7 @@ mod rows;
 mod seed;
 mod sink;
 mod tell;
+mod unknown;
 
 pub use fault::{Fault, FaultEnd};
 pub use find::find_faults;

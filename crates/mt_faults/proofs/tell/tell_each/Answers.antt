@@ -1,16 +1,16 @@
-use Rattle.std.proofs.Common.{ap, ◌∙◌, Err}
+use Rattle.std.proofs.Common.{ap, sym, ◌∙◌, Err}
 use Rattle.std.specs.Prelude.{flat_map}
 use Rattle.std.proofs.lemmas.Result.{err_from_is_err_and}
 use Rattle.mt_faults.specs.Seen.{faults_seen, field_seen, placed_left, tested}
 use Rattle.mt_faults.specs.Telling.{at_record}
 use Rattle.mt_faults.proofs.SearchFacts.{next_of}
-use Rattle.mt_faults.proofs.TellingFacts.{Laws, all_told, ends_early, goes, starts}
+use Rattle.mt_faults.proofs.TellingFacts.{Laws, all_told, ends_early, goes, starts_as}
 use Rattle.mt_faults.proofs.tell.tell_each.Goals as goal
 
 pub loop-field-init : goal.loop-field-init
 loop-field-init g c =
     let laws : Laws g.S.FaultSink.takes g.S.FaultSink.told g.S.FaultSink.stopped = record { none = g.met.S.FaultSink.told_none; more = g.met.S.FaultSink.told_more; stops = g.met.S.FaultSink.stopped_after } in
-    starts laws c.args.sink.now _ c.requires
+    starts_as laws c.args.sink.now _ _ (ap (λ fields. at_record c.args.number (flat_map (tested c.args.wrong c.args.rules.now) (placed_left fields))) (sym c.into_iter-field-iterator.ensures.into_iter_gives)) c.requires
 
 pub loop-field-preserved : goal.loop-field-preserved
 loop-field-preserved g c =
