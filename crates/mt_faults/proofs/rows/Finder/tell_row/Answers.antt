@@ -12,17 +12,6 @@ use Rattle.mt_faults.proofs.SearchFacts.{faults_some, row_none, row_some}
 use Rattle.mt_faults.proofs.TellingFacts.{Laws, all_told, ends_early, goes, memory_ends, starts, starts_as}
 use Rattle.mt_faults.proofs.rows.Finder.tell_row.Goals as goal
 
-pub returns-then-is_empty-clause-tells : goal.returns-then-is_empty-clause-tells
-returns-then-is_empty-clause-tells g c = λ all before s.
-    let laws : Laws g.S.FaultSink.takes g.S.FaultSink.told g.S.FaultSink.stopped = record { none = g.met.S.FaultSink.told_none; more = g.met.S.FaultSink.told_more; stops = g.met.S.FaultSink.stopped_after } in
-    let none = row_none c.args.row (eqb-true (length c.args.row) 0 (sym c.is_empty.ensures ∙ c.if-is_empty.true)) in
-    all_told [] (starts_as laws c.args.sink.now [] (row_faults c.args.self.now.rules all before c.args.number c.args.row) (ap (row_faults c.args.self.now.rules all before c.args.number) none) c.requires) refl
-
-pub returns-then-is_empty-clause-stands : goal.returns-then-is_empty-clause-stands
-returns-then-is_empty-clause-stands g c = λ all before rest s e.
-    let none = row_none c.args.row (eqb-true (length c.args.row) 0 (sym c.is_empty.ensures ∙ c.if-is_empty.true)) in
-    subst (λ (ps : List Parts). Stands c.args.self.now all ps) (sym (ap (λ ps. before ++ ps) (ap (row_parts c.args.self.now.rules) none) ∙ append-nil before)) s
-
 pub returns-in_err-tell_record-clause-tells : goal.returns-in_err-tell_record-clause-tells
 returns-in_err-tell_record-clause-tells g c = λ all before s.
     let laws : Laws g.S.FaultSink.takes g.S.FaultSink.told g.S.FaultSink.stopped = record { none = g.met.S.FaultSink.told_none; more = g.met.S.FaultSink.told_more; stops = g.met.S.FaultSink.stopped_after } in
