@@ -8,6 +8,8 @@ mod command_line;
 #[cfg(test)]
 mod expect;
 #[cfg(test)]
+mod lines;
+#[cfg(test)]
 mod reading;
 #[cfg(test)]
 mod registration;

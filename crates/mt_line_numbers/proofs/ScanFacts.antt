@@ -9,8 +9,7 @@ use Rattle.csv.specs.declared.parser.State.TheVariants as st
 use Rattle.csv.specs.Machine.{ends_at_end, field_after, fields_after, is_end, next_record, step}
 use Rattle.csv.specs.Reading.{default_config}
 use Rattle.mt_lists.specs.Lines.{ends_line, is_quote}
-use Rattle.mt_line_numbers.specs.Inside.{FirstLine}
-use Rattle.mt_line_numbers.specs.LineEnds.{begins_with_line_end, without_line_ends}
+use Rattle.mt_line_numbers.specs.LineEnds.{FirstLine, begins_with_line_end, without_line_ends}
 use Rattle.mt_line_numbers.specs.Records.{after_record, left_by}
 use Rattle.mt_line_numbers.proofs.EndFacts.{without-end, without-none, without-nothing}
 

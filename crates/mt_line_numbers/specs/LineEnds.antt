@@ -1,5 +1,6 @@
 -- The line ends of a text: a line feed, a carriage return, or both in this order, each of which is one.
-use Rattle.std.specs.Prelude.{ℕ, ◌+◌, Bool, false, ◌==◌, ◌||◌, ◌&&◌, not, List, [], ◌∷◌, if◌then◌else◌}
+use Rattle.std.specs.Prelude.{◌≡◌, ◌⊎◌, ℕ, ◌+◌, Bool, true, false, ◌==◌, ◌||◌, ◌&&◌, not, List, [], ◌∷◌, ◌++◌, if◌then◌else◌}
+use Rattle.std.specs.List.{list_any}
 use Rattle.csv.specs.Machine.{line_feed, carriage_return}
 use Rattle.mt_lists.specs.Lines.{ends_line}
 
@@ -26,3 +27,9 @@ begins_with_line_end (c ∷ rest) = ends_line c
 unfoldable pub without_line_ends : List ℕ → List ℕ
 without_line_ends [] = []
 without_line_ends (c ∷ rest) = if ends_line c then without_line_ends rest else c ∷ rest
+
+-- a text is its first line and what comes from the end of that line on
+pub record FirstLine (text line rest : List ℕ) : Type 0 where
+  pub whole : text ≡ line ++ rest
+  pub one : list_any ends_line line ≡ false
+  pub ends : (rest ≡ []) ⊎ (begins_with_line_end rest ≡ true)

@@ -1,6 +1,11 @@
 ghost use Rattle.std.specs.Prelude.{◌≡◌, ◌+◌, ◌<◌, ◌^◌, ◌∷◌, ◌==◌, length, false};
-ghost use Rattle.mt_line_numbers.specs.LineEnds.{begins_with_line_end, closes_line as closes, line_ends, without_line_ends};
-ghost use Rattle.mt_line_numbers.specs.Inside.{FirstLine};
+ghost use Rattle.mt_line_numbers.specs.LineEnds.{
+  FirstLine,
+  begins_with_line_end,
+  closes_line as closes,
+  line_ends,
+  without_line_ends,
+};
 ghost use Rattle.mt_line_numbers.specs.Records.{after_record};
 
 use crate::within::Within;
@@ -59,16 +64,16 @@ impl<'t> Place<'t> {
         ensures rest { without_line_ends result.rest.now ≡ without_line_ends (after_record self.entry.rest.now) }
         ensures lines { result.line + line_ends result.rest.now ≡ self.entry.line + line_ends self.entry.rest.now }
     {
-        let mut place = self;
+        let mut here = self;
         let mut within = Within::FieldStart;
-        while let Some((byte, rest)) = place.rest.split_first() {
+        while let Some((byte, rest)) = here.rest.split_first() {
             match within.after(*byte) {
-                None => return place,
+                None => return here,
                 Some(next) => within = next,
             }
-            place = place.past_byte(*byte, rest);
+            here = here.past_byte(*byte, rest);
         }
-        place
+        here
     }
 
     // The place after all line ends that come here.
