@@ -1,6 +1,6 @@
 -- Pieces that are added one after another are added as one. Each lemma is over any pieces, so that no proof computes
 -- with the text of a page.
-use Rattle.std.proofs.Common.{◌≡◌, ◌∙◌, ℕ, ◌+◌, List, ◌++◌, ap, sym, append_assoc}
+use Rattle.std.proofs.Common.{◌≡◌, ◌∙◌, ℕ, ◌+◌, List, ◌++◌, Result, Ok, Err, OnOk, refl, ap, sym, append_assoc}
 use Rattle.std.specs.List.{flat_map}
 use Rattle.mt_terms.specs.Lists.{below}
 use Rattle.mt_terms.proofs.BelowFacts.{flat_map-below_more}
@@ -37,3 +37,22 @@ three_same t t₁ t₂ t₃ a a' b b' c c' same_a same_b same_c first second thi
 pub one_more : (t t₁ t₂ : List ℕ) (f : ℕ → List ℕ) (n : ℕ) → t₁ ≡ t ++ flat_map f (below n) → t₂ ≡ t₁ ++ f n → t₂ ≡ t ++ flat_map f (below (n + 1))
 one_more t t₁ t₂ f n so_far next =
     two t t₁ t₂ (flat_map f (below n)) (f n) so_far next ∙ ap (λ (pieces : List ℕ). t ++ pieces) (sym (flat_map-below_more f n))
+
+-- a last piece that is made of what equals two things, three or five. Its result is returned as it is
+pub of_two : {T E A B : Type 0} (r : Result T E) (t t₁ : List ℕ) (f : A → B → List ℕ) (a a' : A) (b b' : B) → a ≡ a' → b ≡ b'
+    → OnOk r (t₁ ≡ t ++ f a b) → OnOk r (t₁ ≡ t ++ f a' b')
+of_two (Ok v) t t₁ f a a' b b' same_a same_b is =
+    is ∙ ap (λ x. t ++ f x b) same_a ∙ ap (λ y. t ++ f a' y) same_b
+of_two (Err e) t t₁ f a a' b b' same_a same_b is = tt
+
+pub of_three : {T E A B C : Type 0} (r : Result T E) (t t₁ : List ℕ) (f : A → B → C → List ℕ) (a a' : A) (b b' : B) (c c' : C)
+    → a ≡ a' → b ≡ b' → c ≡ c' → OnOk r (t₁ ≡ t ++ f a b c) → OnOk r (t₁ ≡ t ++ f a' b' c')
+of_three r t t₁ f a a' b b' c c' same_a same_b same_c is =
+    of_two r t t₁ (f a') b b' c c' same_b same_c (of_two r t t₁ (λ x y. f x y c) a a' b b same_a refl is)
+
+pub of_five : {T E A B C D F : Type 0} (r : Result T E) (t t₁ : List ℕ) (f : A → B → C → D → F → List ℕ) (a a' : A) (b b' : B) (c c' : C)
+    (d d' : D) (e e' : F) → a ≡ a' → b ≡ b' → c ≡ c' → d ≡ d' → e ≡ e'
+    → OnOk r (t₁ ≡ t ++ f a b c d e) → OnOk r (t₁ ≡ t ++ f a' b' c' d' e')
+of_five r t t₁ f a a' b b' c c' d d' e e' same_a same_b same_c same_d same_e is =
+    of_two r t t₁ (f a' b' c') d d' e e' same_d same_e
+    (of_three r t t₁ (λ x y z. f x y z d e) a a' b b' c c' same_a same_b same_c is)

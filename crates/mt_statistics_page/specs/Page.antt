@@ -49,12 +49,15 @@ couples m places = if length m.couples == 0 then NO_COUPLES.now else couple_char
 abbrev pub programs : Market → Places → Bytes
 programs m places = program_chart (full_programs m places) (partly_filled_programs m places) (empty_programs m places)
 
--- the row of a program with an open post
+-- the row of a program
+abbrev pub program_row : Registered → Places → ℕ → Bytes
+program_row r places p =
+    standing_row (name_of r.names.programs p) (program_of r.market p).quota (filled places p)
+    (length (program_of r.market p).ranking) (last_rank r.market places p)
+
+-- the row of a program, if it has an open post
 abbrev pub open_row : Registered → Places → ℕ → Bytes
-open_row r places p =
-    if is_full r.market places p then []
-    else standing_row (name_of r.names.programs p) (program_of r.market p).quota (filled places p) (length (program_of r.market p).ranking)
-    (last_rank r.market places p)
+open_row r places p = if is_full r.market places p then [] else program_row r places p
 
 abbrev pub open_rows : Registered → Places → Bytes
 open_rows r places = flat_map (open_row r places) (below (length r.market.programs))

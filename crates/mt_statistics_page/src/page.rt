@@ -1,6 +1,5 @@
 ghost use Rattle.std.specs.Prelude.{◌≡◌, ◌<◌, ◌++◌, length, IfOk, OnOk};
-ghost use Rattle.mt_statistics_page.specs.Page.{charts, choices, couple_charts, couples, first_totals, last_totals, members, open_programs, open_row, open_rows, open_table, pairs, programs, report_page, totals};
-ghost use Rattle.mt_statistics_page.specs.Pieces.{standing_row};
+ghost use Rattle.mt_statistics_page.specs.Page.{charts, choices, couple_charts, couples, first_totals, last_totals, members, open_programs, open_row, open_rows, open_table, pairs, program_row, programs, report_page, totals};
 
 use crate::charts::{push_choice_chart, push_couple_chart, push_pair_chart, push_program_chart};
 use crate::markup::{FIRST, FOOT, HEAD, NO_COUPLES, NO_OPEN_POSTS, OPEN_POSTS, TABLE_END, TOTALS};
@@ -127,6 +126,27 @@ fn push_programs(text: &mut Vec<u8>, statistics: &Statistics<'_>) -> Result<(), 
     push_program_chart(text, full, partly, empty)
 }
 
+/// Adds the row of a program.
+fn push_program_row(
+    text: &mut Vec<u8>,
+    statistics: &Statistics<'_>,
+    program: ProgNo,
+) -> Result<(), AllocError>
+    requires { program < length statistics.now.registered.market.programs }
+    ensures ok { OnOk result (text.new.items ≡ text.old.items
+        ++ program_row statistics.now.registered statistics.now.places program) }
+{
+    let roster = statistics.roster();
+    push_standing(
+        text,
+        roster.program_id(program),
+        roster.quota(program),
+        statistics.filled(program),
+        roster.program_list(program).len() as u64,
+        statistics.last_rank(program),
+    )
+}
+
 /// Adds the row of a program, if it has an open post.
 fn push_open_row(
     text: &mut Vec<u8>,
@@ -140,15 +160,7 @@ fn push_open_row(
     if statistics.is_full(program) {
         return Ok(());
     }
-    let roster = statistics.roster();
-    push_standing(
-        text,
-        roster.program_id(program),
-        roster.quota(program),
-        statistics.filled(program),
-        roster.program_list(program).len() as u64,
-        statistics.last_rank(program),
-    )
+    push_program_row(text, statistics, program)
 }
 
 /// Adds the rows of the programs with open posts.

@@ -1,6 +1,6 @@
 use Rattle.std.proofs.Common.{◌≡◌}
 use Rattle.std.specs.Prelude.{slice_index_or}
-use Rattle.mt_statistics_page.specs.Pieces.{greatest_below}
+use Rattle.mt_statistics.specs.Counts.{greatest_below}
 use Rattle.mt_statistics_page.proofs.pieces.largest.Given as goal
 
 -- the largest of those so far

@@ -1,0 +1,11 @@
+use Rattle.mt_statistics_page.specs.Charts.{program_chart}
+use Rattle.mt_statistics_page.proofs.AppendFacts.{of_three}
+use Rattle.mt_statistics_page.proofs.page.push_programs.Goals as goal
+
+pub returns : goal.returns
+returns c =
+    record {
+      ok = of_three c.push_program_chart.result c.args.text.now.items _ program_chart _ _ _ _ _ _
+          c.full_programs-full.ensures c.partly_filled_programs-partly.ensures c.empty_programs-empty.ensures
+          c.push_program_chart.ensures.ok;
+    }
