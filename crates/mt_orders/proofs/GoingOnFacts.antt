@@ -15,6 +15,8 @@ use Rattle.mt_terms.specs.Stability.{fits}
 use Rattle.mt_terms.specs.WellFormed.{IsWellFormed}
 use Rattle.mt_terms.specs.declared.numbers.Agent.TheVariants.{Couple}
 use Rattle.mt_round_laws.proofs.RoundsStage.{singles_fit}
+use Rattle.mt_couples.specs.Reaching.{IsStuck, Leads}
+use Rattle.mt_couples.specs.declared.entering.Reached.{Reached}
 use Rattle.mt_order_laws.specs.Aside.{aside_after, aside_in_turn, entering_at_end}
 use Rattle.mt_order_laws.specs.Reordered.{others, reordered, IsOrderOfSome, IsOrderWithout}
 use Rattle.mt_order_laws.proofs.EndFacts.{entering_in_words_lem}
@@ -53,7 +55,7 @@ entries_on m budget n k left best places e =
     ∙ ap (option_and_then (λ r. after_entries m (range_with_len n k) r.1 r.0)) e
 
 -- the rounds of one couple end if its entry does
-one_ends : (o : Option (Places × ℕ)) → option_and_then (λ (r : Places × ℕ). Some (r.0, r.1)) o ≡ None → o ≡ None
+one_ends : (o : Option (Places × ℕ)) → option_and_then {U = Places × ℕ} (λ r. Some (r.0, r.1)) o ≡ None → o ≡ None
 one_ends None e = refl
 one_ends (Some r) e = absurd (let no : ◌≡◌ {A = Option (Places × ℕ)} (Some (r.0, r.1)) None = e in cc)
 
@@ -100,7 +102,7 @@ module _ (m : Market) (wf : IsWellFormed m) (best : Places) (is : IsBest m best)
         let there : after_entries alone (below n) budget best ≡ Some (places, left) = first_alike xs among n (omega arith) ∙ so_far in
         let none : after_entries alone (below (n + 1)) budget best ≡ None =
         first_alike xs among (n + 1) (omega arith) ∙ sym (of_whole (n + 1) (omega arith))
-        ∙ entries_on whole budget n 1 left best places here ∙ ap (option_and_then (λ (r : Places × ℕ). Some (r.0, r.1))) stuck in
+        ∙ entries_on whole budget n 1 left best places here ∙ ap (option_and_then {U = Places × ℕ} (λ (r : Places × ℕ). Some (r.0, r.1))) stuck in
         let within : n < length (map (couple_of m) xs) = omega (arith, length-map xs (couple_of m)) in
         (entering_in_words_lem alone best budget n).1
         (within, ((places, left), there, one_ends (after_rounds alone n left places (Couple n ∷ [])) (sym (entries_on alone budget n 1 left best places there) ∙ none)))
@@ -238,3 +240,21 @@ module _ (m : Market) (wf : IsWellFormed m) (best : Places) (is : IsBest m best)
         reached = ap (λ zs. after_entries (reordered zs m) (below k) budget best) (ap (take k) (sym next.0) ∙ before_it_stay xs k low) ∙ t.reached;
         fitting = t.fitting;
       })
+
+  -- the couples below a number have gone on to enter the market of the order
+  pub turn_leads : (whole : Market) (start end : Reached) → whole ≡ reordered order m → IsTurn m best budget order aside start.entered start.matched.places start.left
+      → Leads whole start end → end.entered ≤ length order - length aside → fits whole end.matched.places ≡ true
+      → IsTurn m best budget order aside end.entered end.matched.places end.left
+  turn_leads whole start end same t leads high fit =
+      turn_goes_on start.entered end.entered start.matched.places end.matched.places start.left end.left t leads.order
+      (omega (arith, others_many m order aside t.order_is))
+      (ap (λ x. after_entries x (range_with_len start.entered (end.entered - start.entered)) start.left start.matched.places) (sym same) ∙ leads.entries)
+      (sym (fits_in_turn m wf order (order_of_turn m order aside t.some t.order_is) end.matched.places) ∙ ap (λ x. fits x end.matched.places) (sym same) ∙ fit)
+
+  -- the next couple is stuck in the market of the order, and is set aside
+  pub turn_stuck : (whole : Market) (r : Reached) (order' aside' : List ℕ) (x : ℕ) → whole ≡ reordered order m
+      → IsTurn m best budget order aside r.entered r.matched.places r.left → r.entered < length order - length aside → IsStuck whole r → x ≡ get_or order r.entered x
+      → order' ≡ remove order r.entered ++ x ∷ [] → aside' ≡ aside ++ x ∷ [] → IsTurn m best budget order' aside' r.entered r.matched.places r.left
+  turn_stuck whole r order' aside' x same t low stuck at order_is aside_is =
+      one_aside order' aside' r.entered x r.matched.places r.left t (omega (arith, others_many m order aside t.order_is))
+      (ap (λ z. after_rounds z r.entered r.left r.matched.places (Couple r.entered ∷ [])) (sym same) ∙ stuck) at order_is aside_is
