@@ -1,5 +1,5 @@
 -- How far couples enter from a match on.
-use Rattle.std.specs.Prelude.{◌≡◌, ℕ, ◌-◌, ◌<◌, ◌≤◌, List, [], ◌∷◌, None, Some}
+use Rattle.std.specs.Prelude.{◌≡◌, ℕ, ◌-◌, ◌≤◌, List, [], ◌∷◌, None, Some}
 use Rattle.std.specs.List.{range_with_len}
 use Rattle.mt_terms.specs.Market.{Market}
 use Rattle.mt_terms.specs.Rounds.{after_entries, after_rounds}

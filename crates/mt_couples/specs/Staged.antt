@@ -1,5 +1,5 @@
 -- What is asked of the stage between two rounds, and what it is after some.
-use Rattle.std.specs.Prelude.{◌≡◌, ℕ, ◌<◌, List, [], ◌∷◌, length, Option, Some, IsTrue}
+use Rattle.std.specs.Prelude.{◌≡◌, ℕ, ◌<◌, [], ◌∷◌, length, Option, Some, IsTrue}
 use Rattle.mt_terms.specs.Market.{Market, applicants}
 use Rattle.mt_terms.specs.Matching.{Places, Placement}
 use Rattle.mt_terms.specs.Rounds.{Work, after_rounds, after_taking, round_of}

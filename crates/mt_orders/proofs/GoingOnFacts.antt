@@ -1,6 +1,6 @@
 -- The first couples of an order enter alike whatever comes after them. So the others go on from the match that they have
 -- entered, and what ends there or not does so among the others alone.
-use Rattle.std.proofs.Common.{◌≡◌, ℕ, zero, suc, ◌+◌, ◌-◌, ◌<◌, ◌≤◌, Bool, true, false, not, ◌&&◌, ◌||◌, ◌==◌, nat_lt, List, [], ◌∷◌, ◌++◌, map, take, drop, length, get_or, Option, Some, None, inl, inr, refl, ap, ap₂, sym, ◌∙◌, arith, subst, eq-eqb, lt-ltb, option_map, option_and_then}
+use Rattle.std.proofs.Common.{◌≡◌, ℕ, suc, ◌+◌, ◌-◌, ◌<◌, ◌≤◌, Bool, true, false, not, ◌&&◌, ◌||◌, ◌==◌, nat_lt, List, [], ◌∷◌, ◌++◌, map, take, drop, length, get_or, Option, Some, None, inl, inr, refl, ap, ap₂, sym, ◌∙◌, arith, subst, eq-eqb, lt-ltb, option_map, option_and_then}
 use Rattle.std.specs.List.{range_with_len, remove}
 use Rattle.std.proofs.lemmas.Bool.{and_from, and_parts, cases_Bool, both_ways, not-true, not_from_false, or_from, or_left, or_right}
 use Rattle.std.proofs.lemmas.List.{append_assoc, append-nil, get_or_append_left, get_or_default, length-append, length-map, length-take-le, take-append-drop, take-append-le, take_all}

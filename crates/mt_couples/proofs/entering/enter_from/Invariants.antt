@@ -1,4 +1,4 @@
-use Rattle.std.proofs.Common.{◌≡◌, ◌≤◌}
+use Rattle.std.proofs.Common.{◌≡◌}
 use Rattle.mt_couples.specs.Staged.{IsBetweenEntries}
 use Rattle.mt_couples.proofs.EnteringFacts.{IsEntering}
 use Rattle.mt_couples.proofs.entering.enter_from.Given as goal

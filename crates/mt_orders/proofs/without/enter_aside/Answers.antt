@@ -1,5 +1,5 @@
 -- At each turn the first others have entered, and those that are set aside come after the others in the order.
-use Rattle.std.proofs.Common.{◌≡◌, ◌∙◌, ◌-◌, ◌<◌, ◌≤◌, [], ◌∷◌, ◌++◌, ap, arith, length, subst, sym}
+use Rattle.std.proofs.Common.{◌∙◌, ◌-◌, ◌<◌, ◌≤◌, [], ◌∷◌, ◌++◌, ap, arith, length, subst, sym}
 use Rattle.std.proofs.lemmas.List.{length-map}
 use Rattle.mt_terms.specs.Market.{Registered, couple_of}
 use Rattle.mt_terms.specs.Stability.{fits}
