@@ -1,8 +1,7 @@
-ghost use Rattle.std.specs.Prelude.{◌≡◌, ◌++◌, All, IfOk, OnOk, Some};
+ghost use Rattle.std.specs.Prelude.{◌≡◌, ◌++◌, All, IfOk, OnOk};
 ghost use Rattle.std.specs.List.{flat_map};
 ghost use Rattle.mt_terms.specs.Places.{ArePlaces};
 ghost use Rattle.mt_verify.specs.Held.{IsNumbered};
-ghost use Rattle.mt_check.specs.Findings.{IsThere, finding_by};
 ghost use Rattle.mt_check.specs.View.{market_of, places_of};
 ghost use Rattle.mt_findings.specs.Findings.{blocking_by, differing_of, findings, over, unlisted};
 
@@ -88,30 +87,23 @@ fn push_blocking(
     Ok(())
 }
 
-/// The finding on a match by its verdict, if the record with this number says other counts.
-fn of_record(verdict: Verdict, row: u64) -> Finding
-    ensures { result ≡ finding_by verdict (Some row) }
-{
-    match verdict {
-        Verdict::Stable => Finding::Differs(row),
-        Verdict::Unlisted(applicant) => Finding::Of(Verdict::Unlisted(applicant)),
-        Verdict::Over(program) => Finding::Of(Verdict::Over(program)),
-        Verdict::Blocks(blocker) => Finding::Of(Verdict::Blocks(blocker)),
-    }
-}
-
-/// Adds the records that say other counts.
-fn push_differing(
+/// Adds these agents, each with every option by which it blocks, and then the records that say other counts.
+fn push_agents_and_records(
     found: &mut Vec<Finding>,
+    explainer: &Explainer<'_>,
+    agents: &[Agent],
     tally: &Tally<'_>,
     counts: &[Counted],
 ) -> Result<(), AllocError>
-    ensures { OnOk result (found.new.items
-        ≡ found.old.items ++ differing_of (market_of tally.now) (places_of tally.now) counts.now) }
+    requires { All (IsNumbered explainer.now.registered.market) agents.now }
+    ensures { OnOk result (found.new.items ≡ (found.old.items
+        ++ flat_map (blocking_by explainer.now.registered.market explainer.now.places) agents.now)
+        ++ differing_of (market_of tally.now) (places_of tally.now) counts.now) }
 {
+    push_blocking(found, explainer, agents)?;
     for counted in counts {
         if differs(tally, counted) {
-            found.push(of_record(Verdict::Stable, counted.row))?;
+            found.push(Finding::Differs(counted.row))?;
         }
     }
     Ok(())
@@ -126,8 +118,7 @@ pub fn findings<T: Threads + Sync>(
     submitted: &SubmittedMatch,
 ) -> Result<Vec<Finding>, AllocError>
     requires { ArePlaces roster.now.market submitted.now.places }
-    ensures findings { IfOk result (λ found. found.items ≡ findings roster.now.market submitted.now) }
-    ensures there { IfOk result (λ found. All (IsThere roster.now.market) found.items) }
+    ensures { IfOk result (λ found. found.items ≡ findings roster.now.market submitted.now) }
 {
     roster.is_of_a_file();
     let ranks = Ranks::build(rt, alloc, roster)?;
@@ -137,7 +128,12 @@ pub fn findings<T: Threads + Sync>(
     push_unlisted(&mut found, &explainer)?;
     push_over(&mut found, roster, &tally)?;
     let agents = all_agents(alloc, roster)?;
-    push_blocking(&mut found, &explainer, &agents)?;
-    push_differing(&mut found, &tally, submitted.counts())?;
+    push_agents_and_records(
+        &mut found,
+        &explainer,
+        &agents,
+        &tally,
+        submitted.counts(),
+    )?;
     Ok(found)
 }

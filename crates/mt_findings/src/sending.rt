@@ -4,7 +4,7 @@ ghost use Rattle.mt_check.specs.Findings.{IsThere};
 ghost use Rattle.mt_explained.specs.Answer.{IsGiven};
 ghost use Rattle.mt_explained.specs.Sending.{Breaks, Sends};
 ghost use Rattle.mt_findings.specs.Answer.{found_answer, number_code};
-ghost use Rattle.mt_findings.specs.Text.{finding_lines};
+ghost use Rattle.mt_findings.specs.Text.{finding_lines, findings_text};
 
 use crate::lines::{push_finding, push_last};
 use mt_check::Finding;
@@ -38,6 +38,29 @@ fn write_findings<W: Write>(
     Ok(())
 }
 
+/// Writes the lines of all findings. The last of them stay on the page, and so does the last line.
+fn write_text<W: Write>(
+    drain: &mut Drain<W>,
+    page: &mut Page,
+    roster: &Roster,
+    aside: usize,
+    found: &[Finding],
+) -> Result<(), Unwritten>
+    requires there { All (IsThere roster.now.market) found.now }
+    requires room { failures_of drain.old + 1 < 2 ^ 64 }
+    ensures sends { OnOk result (Sends (contents_of W.contents drain.old)
+        (contents_of W.contents drain.new) page.old page.new (findings_text roster.now aside found.now)) }
+    ensures none_failed { OnOk result (failures_of drain.new ≡ failures_of drain.old) }
+    ensures breaks { OnErr result (Breaks (contents_of W.contents drain.old)
+        (contents_of W.contents drain.new) page.old (findings_text roster.now aside found.now)) }
+    ensures one_failed { OnErr result (failures_of drain.new ≡ failures_of drain.old + 1) }
+{
+    write_findings(drain, page, roster, aside, found)?;
+    make_room(drain, page)?;
+    push_last(page, aside, found.len());
+    Ok(())
+}
+
 /// Writes the lines of all findings, and the last line.
 pub(crate) fn write_all<W: Write>(
     drain: &mut Drain<W>,
@@ -56,8 +79,6 @@ pub(crate) fn write_all<W: Write>(
         ≡ failures_of drain.old + (if is_ok result then 0 else 1) }
     ensures flushed { IsTrue (is_ok result) → IsTrue (is_flushed drain.new) }
 {
-    write_findings(drain, page, roster, aside, found)?;
-    make_room(drain, page)?;
-    push_last(page, aside, found.len());
+    write_text(drain, page, roster, aside, found)?;
     send(drain, page)
 }

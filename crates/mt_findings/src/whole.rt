@@ -6,7 +6,7 @@ ghost use Rattle.mt_report.specs.Drains.{contents_of, failures_of, is_flushed};
 ghost use Rattle.mt_input.specs.Files.{most_bytes};
 ghost use Rattle.mt_input.specs.Left.{TakesFile};
 ghost use Rattle.mt_explained.specs.Answer.{IsGiven, IsGivenOrMemory};
-ghost use Rattle.mt_findings.specs.Answer.{Answers, found_answer, judged_answer};
+ghost use Rattle.mt_findings.specs.Answer.{Answers, found_answer, judged_answer, number_code};
 ghost use Rattle.mt_findings.specs.Findings.{findings};
 
 use crate::collecting::findings;
@@ -21,6 +21,13 @@ use mt_terms::codes::OUT_OF_MEMORY;
 use std::alloc::{AllocError, Global};
 use std::io::{Read, Write};
 use std::thread::Threads;
+
+/// The code of this number of findings: 0 if there is none, and else 1.
+fn number_code(findings: usize) -> u16
+    ensures { result ≡ number_code findings }
+{
+    if findings == 0 { 0 } else { 1 }
+}
 
 /// Writes every finding by all lists of a market. The error is want of memory, and then nothing is written.
 fn check_places<T: Threads + Sync, W: Write>(
@@ -43,8 +50,10 @@ fn check_places<T: Threads + Sync, W: Write>(
     let mut page = Page::new(alloc)?;
     let aside = files.submitted.aside().len();
     let whole = write_all(drain, &mut page, &files.roster, aside, &found).is_ok();
-    let code = if found.is_empty() { 0 } else { 1 };
-    Ok(Outcome { code, whole })
+    Ok(Outcome {
+        code: number_code(found.len()),
+        whole,
+    })
 }
 
 /// Writes every finding against a match. The couples that it sets aside want nothing. The error is want of memory, and

@@ -1,6 +1,6 @@
 use Rattle.std.proofs.Common.{◌≡◌, ◌∙◌, ap, sym, arith}
 use Rattle.std.specs.Prelude.{Vec}
-use Rattle.mt_terms.specs.Market.{applicants}
+use Rattle.mt_terms.specs.Market.{Registered, applicants}
 use Rattle.mt_terms.specs.Verdict.{is_unlisted}
 use Rattle.mt_terms.specs.declared.verdict.Verdict.TheVariants.{Unlisted}
 use Rattle.mt_check.specs.declared.finding.Finding.TheVariants.{Of}
@@ -23,5 +23,6 @@ loop-number-preserved c =
 
 pub returns : goal.returns
 returns c =
-    let end : c.loop-number.number ≡ applicants c.args.explainer.now.registered.market = omega (arith, c.applicants-number-end.ensures.count) in
+    let end : c.loop-number.number ≡ applicants c.args.explainer.now.registered.market =
+    omega (arith, c.applicants-number-end.ensures.count, ap (λ (r : Registered). applicants r.market) c.roster.ensures) in
     rw (← end) c.loop-number.invariant

@@ -1,6 +1,6 @@
-use Rattle.std.proofs.Common.{◌≡◌, ◌++◌, ℕ, Bool, List, Option, length, refl}
+use Rattle.std.proofs.Common.{◌≡◌, ℕ, Bool, List, Option, length, refl}
 use Rattle.mt_explained.specs.Answer.{IsGiven}
-use Rattle.mt_explained.proofs.SendingFacts.{given_by, sends_step}
+use Rattle.mt_explained.proofs.SendingFacts.{given_by}
 use Rattle.mt_findings.specs.Answer.{number_code}
 use Rattle.mt_findings.proofs.sending.write_all.Goals as goal
 
@@ -12,6 +12,4 @@ with_code n text old new whole given = record { is_code = refl; written = given.
 pub returns-clause-given : goal.returns-clause-given
 returns-clause-given g c =
     with_code (number_code (length c.args.found.now)) _ _ _ _
-    (given_by c.send.result _ _ _ _ _ _ _ c.requires.page
-    (sends_step _ _ _ _ _ _ _ _ _ _ c.in_ok-write_findings.ensures.sends c.in_ok-make_room.ensures.sends c.push_last.ensures refl)
-    c.send.ensures.sends c.send.ensures.page c.send.ensures.breaks)
+    (given_by c.send.result _ _ _ _ _ _ _ c.requires.page c.in_ok-write_text.ensures.sends c.send.ensures.sends c.send.ensures.page c.send.ensures.breaks)

@@ -29,6 +29,7 @@ returns-else-is_open_if c =
     let registration : IsRegistration e.registered = subst (λ (x : Registered). IsRegistration x) c.roster.ensures c.is_of_a_file.ensures in
     let lines = c.option_lines-lines.result in
     let first : list_all is_open (line_if lines.0) ≡ false = sym c.is_open_if.ensures ∙ c.if-is_open_if.false in
-    sym (ap (λ (b : Bool). b && list_all is_open (line_if lines.1)) first)
+    c.if-is_open_if.false
+    ∙ sym (ap (λ (b : Bool). b && list_all is_open (line_if lines.1)) first)
     ∙ taken_by_lines e.registered.market registration.well_formed e.places c.matched.ensures.fits c.args.agent.now c.requires.agent c.args.option c.requires.option lines.0 lines.1
     c.option_lines-lines.ensures
