@@ -19,6 +19,7 @@ use crate::sink::FaultSink;
 use crate::tell::{Wrong, fault_alone, fault_of, is_id_field, tell, tell_bad_pairs, tell_each};
 use mt_ids::{IdTable, Seed, quota_of};
 use mt_records::{Kind, Rules};
+use mt_terms::Limits;
 use mt_terms::codes::{BAD_QUOTA, DUPLICATE_ENTRY, DUPLICATE_ID, TOO_MANY};
 use std::alloc::Global;
 
@@ -90,6 +91,13 @@ fn passed<'a>(is_passed: bool, id: &'a [u8]) -> Option<Fault<'a>>
         id,
         first: 0,
     })
+}
+
+/// The limits of a version.
+fn limits_of(rules: &Rules) -> Limits
+    ensures { result ≡ rules.now.limits }
+{
+    rules.limits
 }
 
 /// Whether a count passes a limit with what is added. Both are at most `u64::MAX`, whatever was counted.
@@ -318,7 +326,7 @@ impl<'a> Finder<'a> {
             → Tells S.takes S.told S.stopped sink.old sink.new
             (at_record number (limit_faults self.now.rules before (parts_seen parts.now))) result }
     {
-        let limits = &self.rules.limits;
+        let limits = limits_of(&self.rules);
         let before = &self.before;
         let id = first_id(&self.rules, parts.names);
         let (applicants, programs, couples) = self.registers(parts);

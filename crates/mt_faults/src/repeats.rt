@@ -3,6 +3,7 @@ ghost use Rattle.mt_terms.specs.declared.codes.TheConstants.{DUPLICATE_ENTRY};
 ghost use Rattle.mt_terms.specs.Registration.Records.{is_pair};
 ghost use Rattle.mt_fault_terms.specs.Faults.{fault_of};
 ghost use Rattle.mt_fault_terms.specs.OfRecord.{is_id_field, repeats_after, pair_repeats_after, shown_of_pair};
+ghost use Rattle.mt_fault_terms.specs.Parts.{PlacedPair};
 ghost use Rattle.mt_faults.specs.Seen.{fault_with, faults_seen, field_seen, pairs_left, placed_left};
 ghost use Rattle.mt_faults.specs.Telling.{Tells, at_record};
 
@@ -70,7 +71,7 @@ fn repeated_pair<'a>(
     second: &Field<'a>,
     place: Option<usize>,
 ) -> Option<Fault<'a>>
-    ensures { let pair = (field_seen first.now, field_seen second.now) in faults_seen result
+    ensures { let pair : PlacedPair = (field_seen first.now, field_seen second.now) in faults_seen result
         ≡ (if is_pair rules.now (first.now.bytes.now, second.now.bytes.now) && is_some place
         then fault_with DUPLICATE_ENTRY pair.0.0 (shown_of_pair pair) ∷ [] else []) }
 {

@@ -40,8 +40,8 @@ returns-in_err-tell_row g c =
     let rest = rows_left c.next.new.self in
     let split = ap (λ rows. faults_after rules all before (numbered_from n rows)) c.in-Some.ensures.steps ∙ numbered_faults rules all before n row rest in
     let q = err_from_is_err_and c.from_residual-in_err-tell_row.result c.from_residual-in_err-tell_row.ensures.1 in
-    ends_early c.tell_row.new.sink (row_faults rules all before n row) (faults_after rules all (before ++ row_parts rules row) (numbered_from (n + 1) rest)) c.in_err-tell_row.field-0.0 c.from_residual-in_err-tell_row.result inv.rows.so_far
-    (rw inv.rules at (c.in_err-tell_row.ensures.tells all before inv.rows.stands)) split (q.1 ∙ ap Err q.2)
+    ends_early c.tell_row.new.sink (row_faults c.loop-row.finder.rules all before n row) (faults_after rules all (before ++ row_parts rules row) (numbered_from (n + 1) rest)) c.in_err-tell_row.field-0.0 c.from_residual-in_err-tell_row.result inv.rows.so_far
+    (c.in_err-tell_row.ensures.tells all before inv.rows.stands) (split ∙ ap (λ r. row_faults r all before n row ++ faults_after rules all (before ++ row_parts rules row) (numbered_from (n + 1) rest)) (sym inv.rules)) (q.1 ∙ ap Err q.2)
 
 pub loop-row-preserved : goal.loop-row-preserved
 loop-row-preserved g c =

@@ -10,7 +10,7 @@ use Rattle.mt_faults.specs.Standing.{IsBefore, Stands, row_faults}
 use Rattle.mt_faults.specs.Telling.{at_record}
 use Rattle.mt_faults.proofs.SearchFacts.{faults_some, row_none, row_some}
 use Rattle.mt_faults.proofs.TellingFacts.{Laws, all_told, ends_early, goes, memory_ends, starts, starts_as}
-use Rattle.mt_faults.proofs.rows.Finder.tell_row.Goals as goal
+use Rattle.mt_faults.proofs.finder.Finder.tell_row.Goals as goal
 
 pub returns-in_err-tell_record-clause-tells : goal.returns-in_err-tell_record-clause-tells
 returns-in_err-tell_record-clause-tells g c = λ all before s.

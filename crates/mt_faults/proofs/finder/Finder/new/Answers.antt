@@ -2,7 +2,7 @@ use Rattle.std.proofs.Common.{[], ap, sym, ◌∙◌, subst, refl}
 use Rattle.mt_lists.specs.Rows.{rows_left}
 use Rattle.mt_terms.specs.Registration.Passes.{numbered_from}
 use Rattle.mt_fault_terms.specs.OfFile.{all_parts}
-use Rattle.mt_faults.proofs.rows.Finder.new.Goals as goal
+use Rattle.mt_faults.proofs.finder.Finder.new.Goals as goal
 
 pub returns-clause-stands : goal.returns-clause-stands
 returns-clause-stands c = λ first. record {
