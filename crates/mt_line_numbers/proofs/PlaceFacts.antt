@@ -1,5 +1,5 @@
 -- The number of a place's line: the line ends of a text are those before the place and those after it.
-use Rattle.std.proofs.Common.{◌≡◌, ℕ, suc, ◌+◌, ◌-◌, ◌<◌, ◌≤◌, List, [], ◌∷◌, ◌++◌, length, take, get_or, true, false, refl, sym, ap, ◌∙◌, inl, inr, arith}
+use Rattle.std.proofs.Common.{◌≡◌, ℕ, suc, ◌+◌, ◌≤◌, List, [], refl, sym, ap, ◌∙◌, arith}
 use Rattle.mt_line_numbers.specs.declared.place.Place.{Place}
 use Rattle.mt_line_numbers.specs.Inside.{IsAtRecord}
 use Rattle.mt_line_numbers.specs.LineEnds.{line_ends, without_line_ends}

@@ -11,7 +11,7 @@ use Rattle.csv.specs.Reading.{default_config}
 use Rattle.mt_lists.specs.Lines.{ends_line, is_quote}
 use Rattle.mt_line_numbers.specs.LineEnds.{FirstLine, begins_with_line_end, without_line_ends}
 use Rattle.mt_line_numbers.specs.Records.{after_record, left_by}
-use Rattle.mt_line_numbers.proofs.EndFacts.{without-end, without-none, without-nothing}
+use Rattle.mt_line_numbers.proofs.EndFacts.{without-end}
 
 -- what is left of a text after the record that csv reads from a state on
 unfoldable pub left_from : State → List ℕ → List ℕ

@@ -1,6 +1,6 @@
 -- Where the record after the first n of a text begins, by one record of it after the other: each record that csv reads from a
 -- text it reads from the front of the text alone, whatever follows.
-use Rattle.std.proofs.Common.{◌≡◌, ℕ, zero, suc, ◌+◌, ◌-◌, ◌≤◌, List, [], ◌∷◌, ◌++◌, length, take, drop, Option, Some, None, Bool, true, false, ◌==◌, refl, sym, ap, ◌∙◌, inl, inr, append_assoc, arith}
+use Rattle.std.proofs.Common.{◌≡◌, ℕ, zero, suc, ◌+◌, ◌-◌, ◌≤◌, List, [], ◌∷◌, ◌++◌, length, take, drop, Option, Some, None, true, false, ◌==◌, refl, sym, ap, ◌∙◌, inl, inr, append_assoc, arith}
 use Rattle.std.proofs.Math.Seq.{take-append_seam}
 use Rattle.std.proofs.lemmas.Bool.{cases_Bool}
 use Rattle.std.proofs.lemmas.Bool.Decides.{nat_tests}
@@ -8,13 +8,13 @@ use Rattle.std.proofs.lemmas.List.{append-nil, length-append}
 use Rattle.csv.specs.declared.parser.State.{State}
 use Rattle.csv.specs.declared.parser.State.TheVariants as st
 use Rattle.csv.specs.Machine.{Read, ends_at_end, field_after, fields_after, is_end, next_record, step}
-use Rattle.csv.specs.Reading.{default_config, records, records_from, records_next}
+use Rattle.csv.specs.Reading.{default_config, records, records_from}
 use Rattle.mt_lists.specs.Lines.{ends_line}
 use Rattle.mt_lists.proofs.CsvFacts.{next-shorter, records_left, records_left-none, records_left-some}
 use Rattle.mt_line_numbers.specs.LineEnds.{begins_with_line_end, without_line_ends}
 use Rattle.mt_line_numbers.specs.Laws.{SplitsAtRecord}
 use Rattle.mt_line_numbers.specs.Records.{after_record, after_records, first_records}
-use Rattle.mt_line_numbers.proofs.EndFacts.{without-end, without-nothing, without-plain}
+use Rattle.mt_line_numbers.proofs.EndFacts.{without-nothing, without-plain}
 use Rattle.mt_line_numbers.proofs.ScanFacts.{left_from-nothing, left_from-start}
 
 -- where no record has begun, csv reads as from the start

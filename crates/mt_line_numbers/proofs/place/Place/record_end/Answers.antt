@@ -1,4 +1,4 @@
-use Rattle.std.proofs.Common.{◌≡◌, ◌∙◌, ◌∷◌, [], length, refl, sym, ap, rules}
+use Rattle.std.proofs.Common.{◌≡◌, ◌∙◌, ◌∷◌, length, refl, sym, ap, rules}
 use Rattle.mt_line_numbers.specs.LineEnds.{without_line_ends}
 use Rattle.mt_line_numbers.specs.Within.{state_of}
 use Rattle.mt_line_numbers.proofs.EndFacts.{no_byte, without-end}

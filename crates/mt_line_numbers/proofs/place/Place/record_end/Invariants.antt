@@ -1,5 +1,5 @@
 use Rattle.std.proofs.Common.{◌≡◌, ◌+◌, length}
-use Rattle.mt_line_numbers.specs.LineEnds.{line_ends, without_line_ends}
+use Rattle.mt_line_numbers.specs.LineEnds.{line_ends}
 use Rattle.mt_line_numbers.specs.Records.{after_record}
 use Rattle.mt_line_numbers.specs.Within.{state_of}
 use Rattle.mt_line_numbers.proofs.ScanFacts.{left_from}
