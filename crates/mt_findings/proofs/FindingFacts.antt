@@ -148,8 +148,8 @@ pub none_if_stable_lem : NoneIfStable
 none_if_stable_lem m h submitted one_each = (
   λ none. subst (λ (f : Finding). FindingSays m submitted f) (sym (first_is_named_lem m submitted) ∙ ap first_of none) (finding_says m h submitted one_each),
   λ both. let is : verdict_of m submitted.places ≡ Stable = (stable_verdict_lem m h submitted.places one_each).1 both.0 in
-  let found : finding_of m submitted ≡ Of Stable = rw (is, both.1) refl in
-  none_if_first_stable (findings m submitted) (all_against m submitted) (first_is_named_lem m submitted ∙ found),
+      let found : finding_of m submitted ≡ Of Stable = rw (is, both.1) refl in
+      none_if_first_stable (findings m submitted) (all_against m submitted) (first_is_named_lem m submitted ∙ found),
 )
 
 pub findings_are_so : (m : Market) → IsWellFormed m → (submitted : Submitted) → length submitted.places ≡ applicants m → FindingsAreSo m submitted

@@ -32,11 +32,7 @@ fn push_unlisted(found: &mut Vec<Finding>, explainer: &Explainer<'_>) -> Result<
 }
 
 /// Adds the programs over their quotas, by number.
-fn push_over(
-    found: &mut Vec<Finding>,
-    roster: &Roster,
-    tally: &Tally<'_>,
-) -> Result<(), AllocError>
+fn push_over(found: &mut Vec<Finding>, roster: &Roster, tally: &Tally<'_>) -> Result<(), AllocError>
     requires { roster.now.market ≡ market_of tally.now }
     ensures { OnOk result (found.new.items
         ≡ found.old.items ++ over (market_of tally.now) (places_of tally.now)) }
@@ -128,12 +124,6 @@ pub fn findings<T: Threads + Sync>(
     push_unlisted(&mut found, &explainer)?;
     push_over(&mut found, roster, &tally)?;
     let agents = all_agents(alloc, roster)?;
-    push_agents_and_records(
-        &mut found,
-        &explainer,
-        &agents,
-        &tally,
-        submitted.counts(),
-    )?;
+    push_agents_and_records(&mut found, &explainer, &agents, &tally, submitted.counts())?;
     Ok(found)
 }

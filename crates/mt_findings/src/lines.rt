@@ -132,7 +132,11 @@ pub(crate) fn push_finding(page: &mut Page, roster: &Roster, aside: usize, findi
     match *finding {
         Finding::Of(Verdict::Stable) => push_stable(page, aside),
         Finding::Of(Verdict::Unlisted(applicant)) => {
-            push_one(page, b"check,1,unlisted,applicant", applicant_id(roster, applicant));
+            push_one(
+                page,
+                b"check,1,unlisted,applicant",
+                applicant_id(roster, applicant),
+            );
         }
         Finding::Of(Verdict::Over(program)) => {
             push_one(page, b"check,1,over,program", program_id(roster, program));
