@@ -4,6 +4,7 @@ use Rattle.std.specs.List.{list_any}
 use Rattle.std.proofs.lemmas.Result.{err_from_is_err_and}
 use Rattle.mt_terms.specs.Registration.Passes.{is_same_pair}
 use Rattle.mt_fault_terms.specs.OfRecord.{pair_repeats_after}
+use Rattle.mt_fault_terms.specs.Parts.{PlacedPair}
 use Rattle.mt_faults.specs.Seen.{faults_seen, field_seen, pairs_left}
 use Rattle.mt_faults.specs.Telling.{at_record}
 use Rattle.mt_faults.proofs.RecordFacts.{fields_of, pairs_alike_more}
@@ -30,7 +31,7 @@ returns-in_err-tell g c =
     let rules = c.args.rules.now in
     let n = c.args.number in
     let before = c.loop-first.invariant.before in
-    let pair = (field_seen c.in-Some.first, field_seen c.in-Some.second) in
+    let pair : PlacedPair = (field_seen c.in-Some.first, field_seen c.in-Some.second) in
     let fields = fields_of pair in
     let told = faults_seen c.repeated_pair.result in
     let rest = pair_repeats_after rules (before ++ fields ∷ []) (pairs_left c.next.new.self) in
@@ -45,7 +46,7 @@ loop-first-preserved g c =
     let rules = c.args.rules.now in
     let n = c.args.number in
     let before = c.loop-first.invariant.before in
-    let pair = (field_seen c.in-Some.first, field_seen c.in-Some.second) in
+    let pair : PlacedPair = (field_seen c.in-Some.first, field_seen c.in-Some.second) in
     let fields = fields_of pair in
     let told = faults_seen c.repeated_pair.result in
     let rest = pair_repeats_after rules (before ++ fields ∷ []) (pairs_left c.next.new.self) in

@@ -9,5 +9,5 @@ returns-clause-stands c = λ first. record {
   rest = all_parts c.args.rules.now (numbered_from first (rows_left c.args.rows));
   first = refl;
   registry = c.in_ok-registry.ensures first;
-  before_is = c.new-before.ensures c.args.rules.now;
+  before_is = c.new.ensures c.args.rules.now;
 }

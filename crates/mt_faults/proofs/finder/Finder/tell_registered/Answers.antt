@@ -14,18 +14,21 @@ use Rattle.mt_faults.proofs.finder.Finder.tell_registered.Goals as goal
 
 pub returns-in-Registers-Program-clause-tells : goal.returns-in-Registers-Program-clause-tells
 returns-in-Registers-Program-clause-tells g c = λ all before s.
+    let is_program = rw c.in-Registers-Program.is at c.in-Registers-Program.field-0-is in
     told_as g.S.FaultSink.takes g.S.FaultSink.told g.S.FaultSink.stopped c.args.sink.now c.tell_found.new.sink _ _ c.tell_found.result
-    (ap (at_record c.args.number) (registered_program c.args.self.now.rules before (parts_seen c.args.parts.now) _ (ap form_seen c.in-Registers-Program.is ∙ ap (λ kind. Registers (kind_seen kind)) c.in-Registers-Program.field-0-is) (is_program_before c.args.self.now all before s)))
+    (ap (at_record c.args.number) (registered_program c.args.self.now.rules before (parts_seen c.args.parts.now) _ (ap form_seen c.in-Registers-Program.is ∙ ap (λ k. Registers (kind_seen k)) is_program) (is_program_before c.args.self.now all before s)))
     c.tell_found.ensures
 
 pub returns-in-Registers-Applicant-clause-tells : goal.returns-in-Registers-Applicant-clause-tells
 returns-in-Registers-Applicant-clause-tells g c = λ all before s.
+    let is_applicant = rw c.in-Registers-Applicant.is at c.in-Registers-Applicant.field-0-is in
     told_as g.S.FaultSink.takes g.S.FaultSink.told g.S.FaultSink.stopped c.args.sink.now c.tell_found-in-Registers-Applicant.new.sink _ _ c.tell_found-in-Registers-Applicant.result
-    (ap (at_record c.args.number) (registered_applicant c.args.self.now.rules before (parts_seen c.args.parts.now) _ (ap form_seen c.in-Registers-Applicant.is ∙ ap (λ kind. Registers (kind_seen kind)) c.in-Registers-Applicant.field-0-is) (is_applicant_before c.args.self.now all before s)))
+    (ap (at_record c.args.number) (registered_applicant c.args.self.now.rules before (parts_seen c.args.parts.now) _ (ap form_seen c.in-Registers-Applicant.is ∙ ap (λ k. Registers (kind_seen k)) is_applicant) (is_applicant_before c.args.self.now all before s)))
     c.tell_found-in-Registers-Applicant.ensures
 
 pub returns-in_err-tell_found-in-Registers-Couple-clause-tells : goal.returns-in_err-tell_found-in-Registers-Couple-clause-tells
 returns-in_err-tell_found-in-Registers-Couple-clause-tells g c = λ all before s.
+    let is_couple = rw c.in-Registers-Couple.is at c.in-Registers-Couple.field-0-is in
     let laws : Laws g.S.FaultSink.takes g.S.FaultSink.told g.S.FaultSink.stopped = record { none = g.met.S.FaultSink.told_none; more = g.met.S.FaultSink.told_more; stops = g.met.S.FaultSink.stopped_after } in
     let n = c.args.number in
     let f = c.args.self.now in
@@ -35,7 +38,7 @@ returns-in_err-tell_found-in-Registers-Couple-clause-tells g c = λ all before s
     let whole = registered_faults f.rules before p in
     let own = found_among f.rules DUPLICATE_ID couples (placed_left c.first.result) in
     let members = members_before f.rules applicants (drop 1 p.names) in
-    let split = registered_couple f.rules before p couples applicants (ap form_seen c.in-Registers-Couple.is ∙ ap (λ kind. Registers (kind_seen kind)) c.in-Registers-Couple.field-0-is) (is_couple_before f all before s) (is_applicant_before f all before s)
+    let split = registered_couple f.rules before p couples applicants (ap form_seen c.in-Registers-Couple.is ∙ ap (λ k. Registers (kind_seen k)) is_couple) (is_couple_before f all before s) (is_applicant_before f all before s)
     ∙ ap (λ fields. found_among f.rules DUPLICATE_ID couples fields ++ members) (sym c.first.ensures) in
     let s0 = starts laws c.args.sink.now (at_record n whole) c.requires.takes in
     let two = in_two n whole own members own split refl in
@@ -44,6 +47,7 @@ returns-in_err-tell_found-in-Registers-Couple-clause-tells g c = λ all before s
 
 pub returns-in_ok-tell_found-in-Registers-Couple-clause-tells : goal.returns-in_ok-tell_found-in-Registers-Couple-clause-tells
 returns-in_ok-tell_found-in-Registers-Couple-clause-tells g c = λ all before s.
+    let is_couple = rw c.in-Registers-Couple.is at c.in-Registers-Couple.field-0-is in
     let laws : Laws g.S.FaultSink.takes g.S.FaultSink.told g.S.FaultSink.stopped = record { none = g.met.S.FaultSink.told_none; more = g.met.S.FaultSink.told_more; stops = g.met.S.FaultSink.stopped_after } in
     let n = c.args.number in
     let f = c.args.self.now in
@@ -53,7 +57,7 @@ returns-in_ok-tell_found-in-Registers-Couple-clause-tells g c = λ all before s.
     let whole = registered_faults f.rules before p in
     let own = found_among f.rules DUPLICATE_ID couples (placed_left c.first.result) in
     let members = members_before f.rules applicants (drop 1 p.names) in
-    let split = registered_couple f.rules before p couples applicants (ap form_seen c.in-Registers-Couple.is ∙ ap (λ kind. Registers (kind_seen kind)) c.in-Registers-Couple.field-0-is) (is_couple_before f all before s) (is_applicant_before f all before s)
+    let split = registered_couple f.rules before p couples applicants (ap form_seen c.in-Registers-Couple.is ∙ ap (λ k. Registers (kind_seen k)) is_couple) (is_couple_before f all before s) (is_applicant_before f all before s)
     ∙ ap (λ fields. found_among f.rules DUPLICATE_ID couples fields ++ members) (sym c.first.ensures) in
     let s0 = starts laws c.args.sink.now (at_record n whole) c.requires.takes in
     let two = in_two n whole own members own split refl in
