@@ -92,6 +92,14 @@ fn refuse<W: Write>(drain: &mut Drain<W>) -> u8
     tell(drain, line.as_bytes(), NO_MEMORY, UNWRITTEN)
 }
 
+/// The word for a file, or `-`, standard input, if there is none.
+fn word_of(file: &Option<String>) -> &str {
+    match file {
+        Some(path) => path.as_str(),
+        None => "-",
+    }
+}
+
 /// Does what the words ask for, and gives the exit status. `crew` is `rt` too: only `main` may take it for a handle that
 /// starts threads and waits for them.
 fn obey<T: Threads + Wait + Sync>(rt: &HostRuntime, crew: &T, words: &[String]) -> u8
@@ -110,11 +118,7 @@ fn obey<T: Threads + Wait + Sync>(rt: &HostRuntime, crew: &T, words: &[String]) 
             },
         ) => {
             let ways = Ways { orders, set_aside };
-            let word = match &file {
-                Some(path) => path.as_str(),
-                None => "-",
-            };
-            let mut input = Input::at(rt, word);
+            let mut input = Input::at(rt, word_of(&file));
             let ended = run_match(crew, alloc, &mut input, &mut out, options, ways);
             say_unopened(&mut err, alloc, "nrmatch", &input);
             status_told(&mut err, alloc, &ended, options, ways)
