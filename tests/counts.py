@@ -10,13 +10,13 @@ import sys
 
 CHECKS = {
     "bytes": 6088,
-    "check": 20532,
+    "check": 20539,
     # tests/cli with the path of a program, where bin/nrmatch isn't run.
-    "cli PROGRAM": 8448,
-    "cli": 8451,
-    "controls": 44,
+    "cli PROGRAM": 8452,
+    "cli": 8455,
+    "controls": 45,
     "edits_apply": 710,
-    "explain": 3094,
+    "explain": 10098,
     "linear": 45,
     "memory": 472,
     "memory --calls": 15,
@@ -26,7 +26,7 @@ CHECKS = {
     "must_fail": 99,
     "pages": 324,
     "python": 35,
-    "report": 2030,
+    "report": 10055,
     "seeds": 7,
     "threads": 54,
     "words": 400,

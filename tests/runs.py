@@ -119,14 +119,12 @@ do for comma in ';' '\t'; do printf "${file//@/$comma}" | nrmatch | cut -d, -f4;
 OTHER_COMMAS_CODES = ["12", "12", "13", "13", "14", "14", "15", "15", "16", "16"]
 # Sentences, each with its page, a command, what that writes, and its exit status.
 BEHAVIOUR = [
-    (FORMAT, "`-` as FILE is a file of that name", f"cp unknown_kind.csv ./-; nrmatch - < {NOBODY}", UNKNOWN_KIND, 2),
-    (NRMATCH, "- is a file of that name", f"cp unknown_kind.csv ./-; nrmatch --workers 1 - < {NOBODY}", UNKNOWN_KIND, 2),
-    (CHECK, "`-` is a file of that name", f"cp {ONE_MATCH} ./-; nrcheck {ONE} - < {NOBODY}", STABLE, 0),
-    (NRCHECK, "- is a file of that name", f"cp {ONE} ./-; nrcheck - {ONE_MATCH} < {NOBODY}", STABLE, 0),
-    (FORMAT, "standard input is `/dev/stdin`", "nrmatch /dev/stdin < unknown_kind.csv", UNKNOWN_KIND, 2),
-    (NRMATCH, "standard input is /dev/stdin.", "cat unknown_kind.csv | nrmatch /dev/stdin", UNKNOWN_KIND, 2),
-    (CHECK, "standard input is `/dev/stdin`", f"nrcheck {ONE} /dev/stdin < {ONE_MATCH}", STABLE, 0),
-    (NRCHECK, "standard input is /dev/stdin.", f"cat {ONE} | nrcheck /dev/stdin {ONE_MATCH}", STABLE, 0),
+    (FORMAT, "standard input if it is left out or `-`", "nrmatch - < unknown_kind.csv", UNKNOWN_KIND, 2),
+    (NRMATCH, "is standard input too", "cat unknown_kind.csv | nrmatch --workers 1 -", UNKNOWN_KIND, 2),
+    (CHECK, "`-` is standard input", f"nrcheck {ONE} - < {ONE_MATCH}", STABLE, 0),
+    (NRCHECK, "is standard input", f"cat {ONE} | nrcheck - {ONE_MATCH}", STABLE, 0),
+    (FORMAT, "`./-` is a file with that name", f"cp unknown_kind.csv ./-; nrmatch ./- < {NOBODY}", UNKNOWN_KIND, 2),
+    (CHECK, "`./-` is a file with that name", f"cp {ONE_MATCH} ./-; nrcheck {ONE} ./- < {NOBODY}", STABLE, 0),
     (
         FORMAT,
         "A FILE whose name isn't UTF-8 is a wrong command line, even if the file exists",
