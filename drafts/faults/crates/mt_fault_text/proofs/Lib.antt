@@ -1,0 +1,3 @@
+pub mod MutualFacts
+pub mod AnswerFacts
+pub mod EntryFacts

@@ -1,0 +1,89 @@
+ghost use Rattle.std.specs.Prelude.{◌≡◌, IfErr, IfOk, false};
+ghost use Rattle.clap.specs.Words.{app_of, found_of, rows_of};
+ghost use Rattle.mt_nrcheck.specs.CommandLine.{AreMisuse, IsAskedBy, NameMarketIn, NameNoMarketIn, nrcheck};
+ghost use Rattle.mt_program.specs.CommandLine.{texts_of};
+ghost use Rattle.mt_program.specs.Unasked.{IsMisuseBy, IsUnaskedBy};
+
+use clap::{ArgMatches, Command};
+use mt_program::{
+    MARKET_HELP, MATCH_HELP, TwoFiles, Unasked, after_match_records, file_arg, flag_arg, is_given,
+    matches_of, misuse, plain_command, two_files,
+};
+use std::alloc::{AllocError, Global};
+
+const ABOUT: &str = "\
+With MATCH: whether a residency match is stable by the rank order lists of a
+market, whoever made it. Without MATCH: all faults of the market's file.
+
+Writes CSV to standard output. With MATCH that is one line: that the match is
+stable, or the first finding against it, or why it can't be judged. Without
+MATCH it is a line for each fault and their number, or that the market is
+accepted. Standard error has the faults in words.";
+
+const QUIET_HELP: &str = "Without MATCH: leave out the faults in words";
+
+const AFTER_HELP: &str = after_match_records!(
+    "\
+Exit status:
+  0   the match is stable, or without MATCH the market is accepted
+  1   it isn't, or its counts don't fit it
+  2   a file was refused
+  4   memory ran out
+  5   a read or a write failed
+  64  the command line is wrong"
+);
+
+/// What words ask for.
+#[derive(Drop)]
+pub(crate) enum Request {
+    /// All faults of one file.
+    Faults {
+        /// The word for the file.
+        market: String,
+        /// Whether they aren't said in words too.
+        is_quiet: bool,
+    },
+    /// A check of a match.
+    Check(TwoFiles),
+}
+
+/// What is written if words are taken and name no file.
+const NO_FILE: &str = "error: a file is needed, MARKET\n";
+
+// The command `nrcheck [--quiet] MARKET [MATCH]`.
+fn command<'a>(alloc: Global) -> Result<Command<'a>, AllocError>
+    ensures { IfOk result (λ c. app_of c ≡ nrcheck) }
+{
+    plain_command(alloc, "nrcheck", ABOUT, AFTER_HELP)
+        .arg(file_arg(alloc, "MARKET", true, MARKET_HELP))?
+        .arg(file_arg(alloc, "MATCH", false, MATCH_HELP))?
+        .arg(flag_arg(alloc, "quiet", QUIET_HELP))
+}
+
+/// The search for the faults of the file that the matches name by MARKET.
+fn faults_asked(alloc: Global, matches: &ArgMatches<'_>) -> Result<Request, Unasked>
+    ensures request { IfOk result (NameMarketIn (rows_of (found_of matches.now))) }
+    ensures unasked { IfErr result (IsMisuseBy (NameNoMarketIn (rows_of (found_of matches.now)))) }
+{
+    let Some(market) = matches.get_str("MARKET") else {
+        return Err(misuse(alloc, NO_FILE));
+    };
+    Ok(Request::Faults {
+        market: String::from_str(alloc, market)?,
+        is_quiet: is_given(matches, "quiet"),
+    })
+}
+
+/// What the words after the program's name ask for: a check of a match, or the faults of a market if they name no match. The
+/// error is `clap`'s text of help, of the version or of what is wrong, or what is wrong with the files.
+pub(crate) fn asked(alloc: Global, words: &[String]) -> Result<Request, Unasked>
+    ensures request { IfOk result (IsAskedBy (texts_of words.now)) }
+    ensures unasked { IfErr result (IsUnaskedBy nrcheck
+        (AreMisuse (texts_of words.now)) (texts_of words.now)) }
+{
+    let matches = matches_of(alloc, command(alloc)?, words)?;
+    match matches.get_str("MATCH") {
+        Some(_) => Ok(Request::Check(two_files(alloc, &matches)?)),
+        None => faults_asked(alloc, &matches),
+    }
+}

@@ -1,0 +1,5 @@
+pub mod ListFacts
+pub mod OpenFacts
+pub mod LineFacts
+pub mod FindingFacts
+pub mod AnswerFacts

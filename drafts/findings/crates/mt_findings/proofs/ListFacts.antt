@@ -1,0 +1,144 @@
+-- Lists that are made of what passes a test: one element more, the first of them, and what is so of each.
+use Rattle.std.proofs.Common.{◌≡◌, ℕ, zero, suc, ◌+◌, ◌<◌, ◌≤◌, Bool, true, false, List, [], ◌∷◌, ◌++◌, map, filter, length, get_or, Some, None, IsTrue, refl, ap, sym, ◌∙◌, subst, append_assoc, inl, inr, arith}
+use Rattle.std.specs.List.{All, find, flat_map, list_any, range_with_len}
+use Rattle.std.proofs.lemmas.Bool.{cases_Bool}
+use Rattle.std.proofs.lemmas.Grind.{flat_map-append}
+use Rattle.std.proofs.lemmas.List.{append-nil, map-append}
+use Rattle.std.proofs.lemmas.List.Elements.{All-append, All-cons, filter-append}
+use Rattle.mt_terms.specs.Lists.{Set, below}
+use Rattle.mt_terms.proofs.BelowFacts.{below_more}
+
+-- one element more
+module _ {X Y : Type 0} (f : X → Y) (test : X → Bool) (old now : List Y) (xs : List X) (x : X) (is : now ≡ old ++ map f (filter test xs)) where
+  with_one : map f (filter test (xs ++ x ∷ [])) ≡ map f (filter test xs) ++ map f (filter test (x ∷ []))
+  with_one = ap (map f) (filter-append test xs (x ∷ [])) ∙ map-append f (filter test xs) (filter test (x ∷ []))
+
+  pub passes_more : test x ≡ true → now ++ f x ∷ [] ≡ old ++ map f (filter test (xs ++ x ∷ []))
+  passes_more passes =
+      let one : map f (filter test (x ∷ [])) ≡ f x ∷ [] = rw passes refl in
+      ap (λ (ys : List Y). ys ++ f x ∷ []) is
+      ∙ append_assoc old (map f (filter test xs)) (f x ∷ [])
+      ∙ ap (λ (ys : List Y). old ++ (map f (filter test xs) ++ ys)) (sym one)
+      ∙ ap (λ (ys : List Y). old ++ ys) (sym with_one)
+
+  pub fails_more : test x ≡ false → now ≡ old ++ map f (filter test (xs ++ x ∷ []))
+  fails_more fails =
+      let none : map f (filter test (x ∷ [])) ≡ [] = rw fails refl in
+      is
+      ∙ ap (λ (ys : List Y). old ++ ys) (sym (append-nil (map f (filter test xs))))
+      ∙ ap (λ (ys : List Y). old ++ (map f (filter test xs) ++ ys)) (sym none)
+      ∙ ap (λ (ys : List Y). old ++ ys) (sym with_one)
+
+-- one number more
+module _ {Y : Type 0} (f : ℕ → Y) (test : Set) (old now : List Y) (n : ℕ) (is : now ≡ old ++ map f (filter test (below n))) where
+  pub passes_below : test n ≡ true → now ++ f n ∷ [] ≡ old ++ map f (filter test (below (n + 1)))
+  passes_below passes =
+      passes_more f test old now (below n) n is passes ∙ ap (λ (xs : List ℕ). old ++ map f (filter test xs)) (sym (below_more n))
+
+  pub fails_below : test n ≡ false → now ≡ old ++ map f (filter test (below (n + 1)))
+  fails_below fails =
+      fails_more f test old now (below n) n is fails ∙ ap (λ (xs : List ℕ). old ++ map f (filter test xs)) (sym (below_more n))
+
+-- what several elements give, with one element more
+pub gives_more : {X Y : Type 0} (f : X → List Y) (old now next : List Y) (xs : List X) (x : X) → now ≡ old ++ flat_map f xs → next ≡ now ++ f x
+    → next ≡ old ++ flat_map f (xs ++ x ∷ [])
+gives_more {X} {Y} f old now next xs x is more =
+    more
+    ∙ ap (λ (ys : List Y). ys ++ f x) is
+    ∙ append_assoc old (flat_map f xs) (f x)
+    ∙ ap (λ (ys : List Y). old ++ (flat_map f xs ++ ys)) (sym (append-nil (f x)))
+    ∙ ap (λ (ys : List Y). old ++ ys) (sym (flat_map-append f xs (x ∷ [])))
+
+-- a list begins with an element
+pub record BeginsWith {X : Type 0} (x : X) (xs : List X) : Type 0 where
+  pub rest : List X
+  pub is : xs ≡ x ∷ rest
+
+-- what a search finds is the first that passes, and if it finds none, none passes
+pub one_found : {X : Type 0} (test : X → Bool) (xs : List X) (x : X) → find test xs ≡ Some x → BeginsWith x (filter test xs)
+one_found test [] x found = absurd (cc)
+one_found {X} test (y ∷ ys) x found = elim (cases_Bool (test y)) [
+  | inl here ↦
+      let e : Some y ≡ Some x = rw here at found in
+      let same : y ≡ x = cc in
+      record { rest = filter test ys; is = rw here (ap (λ (z : X). z ∷ filter test ys) same) }
+  | inr other ↦
+      let later = one_found test ys x (rw other at found) in
+      record { rest = later.rest; is = rw other later.is }
+]
+
+pub found_passes : {X : Type 0} (test : X → Bool) (xs : List X) (x : X) → find test xs ≡ Some x → IsTrue (test x)
+found_passes test [] x found = absurd (cc)
+found_passes {X} test (y ∷ ys) x found = elim (cases_Bool (test y)) [
+  | inl here ↦
+      let e : Some y ≡ Some x = rw here at found in
+      let same : y ≡ x = cc in
+      subst (λ (z : X). IsTrue (test z)) same here
+  | inr other ↦ found_passes test ys x (rw other at found)
+]
+
+pub none_found : {X : Type 0} (test : X → Bool) (xs : List X) → find test xs ≡ None → filter test xs ≡ []
+none_found test [] none = refl
+none_found test (y ∷ ys) none = elim (cases_Bool (test y)) [
+  | inl here ↦ (let e : Some y ≡ None = rw here at none in absurd (cc))
+  | inr other ↦ rw other (none_found test ys (rw other at none))
+]
+
+-- what elements give begins with what the first of them gives that gives anything
+pub gives_first : {X Y : Type 0} (f : X → List Y) (test : X → Bool) → ((x : X) → test x ≡ false → f x ≡ []) → (xs : List X) (x : X) (y : Y)
+    → find test xs ≡ Some x → BeginsWith y (f x) → BeginsWith y (flat_map f xs)
+gives_first f test none [] x y found first = absurd (cc)
+gives_first {X} {Y} f test none (z ∷ zs) x y found first = elim (cases_Bool (test z)) [
+  | inl here ↦
+      let e : Some z ≡ Some x = rw here at found in
+      let same : z ≡ x = cc in
+      record { rest = first.rest ++ flat_map f zs; is = ap (λ (w : X). f w ++ flat_map f zs) same ∙ ap (λ (ys : List Y). ys ++ flat_map f zs) first.is }
+  | inr other ↦
+      let later = gives_first f test none zs x y (rw other at found) first in
+      record { rest = later.rest; is = ap (λ (ys : List Y). ys ++ flat_map f zs) (none z other) ∙ later.is }
+]
+
+pub gives_none : {X Y : Type 0} (f : X → List Y) (test : X → Bool) → ((x : X) → test x ≡ false → f x ≡ []) → (xs : List X)
+    → find test xs ≡ None → flat_map f xs ≡ []
+gives_none f test none [] found = refl
+gives_none {X} {Y} f test none (z ∷ zs) found = elim (cases_Bool (test z)) [
+  | inl here ↦ (let e : Some z ≡ None = rw here at found in absurd (cc))
+  | inr other ↦ ap (λ (ys : List Y). ys ++ flat_map f zs) (none z other) ∙ gives_none f test none zs (rw other at found)
+]
+
+-- a test that nothing passes fails at each place
+pub fails_at : {X : Type 0} (test : X → Bool) (xs : List X) (k : ℕ) (d : X) → list_any test xs ≡ false → k < length xs → test (get_or xs k d) ≡ false
+fails_at test [] k d none within = absurd (omega arith)
+fails_at test (x ∷ xs) zero d none within = elim (cases_Bool (test x)) [
+  | inl here ↦ (let e : true ≡ false = rw here at none in absurd (cc))
+  | inr other ↦ other
+]
+fails_at test (x ∷ xs) (suc k) d none within = elim (cases_Bool (test x)) [
+  | inl here ↦ (let e : true ≡ false = rw here at none in absurd (cc))
+  | inr other ↦ fails_at test xs k d (rw other at none) (omega arith)
+]
+
+-- what is so of each
+pub all_none : {X : Type 0} (P : X → Type 0) → All P []
+all_none P = λ i d h. absurd (omega arith)
+
+pub all_passing : {X Y : Type 0} (P : Y → Type 0) (f : X → Y) (test : X → Bool) → ((x : X) → P (f x)) → (xs : List X) → All P (map f (filter test xs))
+all_passing P f test each [] = all_none P
+all_passing P f test each (x ∷ xs) = elim (cases_Bool (test x)) [
+  | inl here ↦ rw here (All-cons P (f x) (map f (filter test xs)) (each x) (all_passing P f test each xs))
+  | inr other ↦ rw other (all_passing P f test each xs)
+]
+
+pub all_in_range : {Y : Type 0} (P : Y → Type 0) (f : ℕ → Y) (test : Set) (top low n : ℕ) → low + n ≤ top → ((k : ℕ) → k < top → P (f k))
+    → All P (map f (filter test (range_with_len low n)))
+all_in_range P f test top low zero within each = all_none P
+all_in_range P f test top low (suc n) within each =
+    let later = all_in_range P f test top (low + 1) n (omega arith) each in
+    elim (cases_Bool (test low)) [
+      | inl here ↦ rw here (All-cons P (f low) (map f (filter test (range_with_len (low + 1) n))) (each low (omega arith)) later)
+      | inr other ↦ rw other later
+    ]
+
+pub all_given : {X Y : Type 0} (P : Y → Type 0) (f : X → List Y) → ((x : X) → All P (f x)) → (xs : List X) → All P (flat_map f xs)
+all_given P f each [] = all_none P
+all_given P f each (x ∷ xs) = All-append P (f x) (flat_map f xs) (each x) (all_given P f each xs)

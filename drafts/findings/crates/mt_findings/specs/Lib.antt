@@ -1,0 +1,5 @@
+pub mod Findings
+pub mod Text
+pub mod Headline
+pub mod Answer
+pub mod Laws
