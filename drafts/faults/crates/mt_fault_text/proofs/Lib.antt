@@ -1,3 +1,0 @@
-pub mod MutualFacts
-pub mod AnswerFacts
-pub mod EntryFacts

@@ -1,9 +1,0 @@
-# Completes the words of nrcheck in bash: its options, and names of files.
-_nrcheck() {
-    local word=$2
-    case $word in
-        -*) mapfile -t COMPREPLY < <(compgen -W '--help --quiet --version' -- "$word") ;;
-        *) mapfile -t COMPREPLY < <(compgen -f -- "$word") ;;
-    esac
-}
-complete -o filenames -F _nrcheck nrcheck

@@ -1,5 +1,0 @@
-pub mod Findings
-pub mod Text
-pub mod Headline
-pub mod Answer
-pub mod Laws

@@ -1,2 +1,0 @@
-pub mod CommandLine
-pub mod Program
