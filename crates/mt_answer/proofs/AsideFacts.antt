@@ -12,6 +12,7 @@ use Rattle.mt_terms.specs.Matching.{Places}
 use Rattle.mt_terms.specs.Rounds.{stage}
 use Rattle.mt_terms.specs.Stability.{stable}
 use Rattle.mt_terms.specs.WellFormed.{IsWellFormed}
+use Rattle.mt_orders.proofs.MarketFacts.{first_is_own}
 use Rattle.mt_round_laws.proofs.RoundsStage.{stage_is_stable_lem}
 use Rattle.mt_order_laws.specs.Aside.{aside_after, aside_in_turn, entering_at_end, market_of_others}
 use Rattle.mt_order_laws.specs.Orders.{first_order, in_order, order_of}
@@ -25,7 +26,7 @@ use Rattle.mt_orders.proofs.FewestFacts.{aside_in_order_are_couples, fewest_in_w
 use Rattle.mt_answer.specs.Answer.{IsAnswerOfStage, all_proposals}
 use Rattle.mt_answer.specs.Ways.{IsAnswerAside, IsAnswerInWays, IsAnswerOfNone, IsAnswerOfOrder}
 use Rattle.mt_answer.specs.WayLaws.{AsideAreCouples, AsideInWords, IsStableAside, IsStableIn, PublishedInWaysIsStable}
-use Rattle.mt_answer.proofs.WayFacts.{first_order_in_words_lem, no_order_in_words_lem, registration_is_first}
+use Rattle.mt_answer.proofs.WayFacts.{first_order_in_words_lem, no_order_in_words_lem}
 use Rattle.mt_answer.specs.declared.ways.Ways.{Ways}
 
 pub aside_are_couples_lem : AsideAreCouples
@@ -129,7 +130,7 @@ some_in_turn : (m : Market) (best : Places) (budget : ℕ) → stage m best budg
 some_in_turn m best budget spent empty =
     let all : market_of_others [] m ≡ in_order 1 m = ap (λ (order : List ℕ). reordered order m) (all_kept (below (length m.couples))) in
     others_end_lem m best budget
-    (ap (λ (aside : List ℕ). stage (market_of_others aside m) best budget) empty ∙ ap (λ (x : Market). stage x best budget) (all ∙ registration_is_first m) ∙ spent)
+    (ap (λ (aside : List ℕ). stage (market_of_others aside m) best budget) empty ∙ ap (λ (x : Market). stage x best budget) (all ∙ first_is_own m) ∙ spent)
 
 no_image : (f : ℕ → ℕ) (xs : List ℕ) → map f xs ≡ [] → xs ≡ []
 no_image f [] e = refl
@@ -144,7 +145,7 @@ some_aside m best budget orders one none empty =
     let spent : stage (in_order k m) best budget ≡ None = (no_order_in_words_lem m best budget orders).0 none k h.0 h.1 in
     some_in_turn (in_order k m) best budget spent (no_image (λ c. get_or (order_of k (length m.couples)) c 0) (aside_in_turn (in_order k m) best budget) empty)
 
-other_code : {a b : ℕ} (code : ℕ) → code ≡ a → code ≡ b → (a ≡ b → ⊥) → ⊥
+pub other_code : {a b : ℕ} (code : ℕ) → code ≡ a → code ≡ b → (a ≡ b → ⊥) → ⊥
 other_code code e f differ = differ (sym e ∙ f)
 
 module _ (r : Registered) (formed : IsWellFormed r.market) (budget : ℕ) (orders : ℕ) (one : 1 ≤ orders) (best : Places) (is_best : IsBest r.market best) (code : ℕ) (text : List ℕ) where
@@ -206,7 +207,7 @@ pub alone_is_published : (r : Registered) (budget : ℕ) (ways : Ways) (code : �
 alone_is_published r budget ways code text one none h =
     let m = r.market in
     let ends : stage (in_order 1 m) h.best budget ≡ Some (h.best, budget - budget) =
-    ap (λ (x : Market). stage x h.best budget) (registration_is_first m) ∙ ap (λ (cs : List Partners). stage (record m { couples = cs }) h.best budget) none in
+    ap (λ (x : Market). stage x h.best budget) (first_is_own m) ∙ ap (λ (cs : List Partners). stage (record m { couples = cs }) h.best budget) none in
     let first : first_order m h.best budget ways.orders ≡ Some 1 =
     (first_order_in_words_lem m h.best budget ways.orders 1).1 (omega arith, one, λ spent. not_none (sym ends ∙ spent), λ j from to. absurd (omega arith)) in
     let of_one : IsAnswerOfOrder r h.best budget ways (Some 1) code text =

@@ -20,10 +20,6 @@ use Rattle.mt_answer.specs.Ways.{IsAnswerAside, IsAnswerInWays, IsAnswerOfNone, 
 use Rattle.mt_answer.specs.declared.ways.Entering.{Entering}
 use Rattle.mt_answer.specs.declared.ways.Ways.{Ways}
 
--- a market in which couples are set aside has the same places
-pub places_aside : (m : Market) (aside : List ℕ) (places : Places) → ArePlaces m places → ArePlaces (set_aside aside m) places
-places_aside m aside places h = record { one_each = h.one_each; within = h.within }
-
 -- the couple that was entering is one of the market
 pub entering_within : (m : Market) (best : Places) (budget : ℕ) (s : Spent) → IsSpent m best budget s → s.couple < length m.couples
 entering_within m best budget s h = ((entering_in_words_lem m best budget s.couple).0 h.entering).0

@@ -8,17 +8,11 @@ use Rattle.mt_terms.specs.Market.{Registered}
 use Rattle.mt_terms.specs.Registration.Accepted.{AreNames, IsRegistration}
 use Rattle.mt_terms.specs.Registration.Ids.{Bytes, is_dash, is_id, is_id_byte}
 use Rattle.mt_terms.specs.Text.{name_of}
-
-short_id : (id : Bytes) → is_id 64 id ≡ true → length id ≤ 64
-short_id id h =
-    let all = and_parts (nat_lt 0 (length id) && nat_le (length id) 64 && list_all is_id_byte id) (not (is_dash id)) h in
-    let front = and_parts (nat_lt 0 (length id) && nat_le (length id) 64) (list_all is_id_byte id) all.0 in
-    let few = (and_parts (nat_lt 0 (length id)) (nat_le (length id) 64) front.0).1 in
-    grind (arith, nat_tests, few)
+use Rattle.mt_terms.proofs.IdFacts.{id_short}
 
 short_in : (ids : List Bytes) (c : ℕ) → c < length ids → list_all (is_id 64) ids ≡ true → length (get_or ids c []) ≤ 64
 short_in ids c l all = elim (cases_Bool (is_id 64 (get_or ids c []))) [
-  | inl one ↦ short_id (get_or ids c []) one
+  | inl one ↦ id_short 64 (get_or ids c []) one
   | inr other ↦ absurd (both_ways (list_all (is_id 64) ids) (list_all_at (is_id 64) ids c [] l other) all)
 ]
 

@@ -11,6 +11,8 @@ use Rattle.mt_terms.specs.Market.{Market, Partners, Registered, couple_of}
 use Rattle.mt_terms.specs.Matching.{Places}
 use Rattle.mt_terms.specs.Rounds.{stage}
 use Rattle.mt_terms.proofs.BelowFacts.{length-map_below, map_below_at}
+use Rattle.mt_answer.proofs.AsideFacts.{other_code}
+use Rattle.mt_orders.proofs.MarketFacts.{first_is_own}
 use Rattle.mt_stability_laws.proofs.ExclusionLemmas.{best_is_unique_lem}
 use Rattle.mt_orders.specs.Fewest.{aside_in_order, fewest_order, others_in_order}
 use Rattle.mt_order_laws.specs.Orders.{ends_in_order, first_order, in_order}
@@ -110,15 +112,6 @@ no_order_in_words_lem m best budget orders = (
 
 -- ---- one order
 
--- in the order of registration a market is as it was
-pub registration_is_first : (m : Market) → in_order 1 m ≡ m
-registration_is_first m =
-    let many = length-map_below (couple_of m) (length m.couples) in
-    let same : map (couple_of m) (below (length m.couples)) ≡ m.couples =
-    ext_get_or no_couple (map (couple_of m) (below (length m.couples))) m.couples many
-    (λ c l. let here : c < length m.couples = omega (arith, many) in map_below_at (couple_of m) (length m.couples) c no_couple here) in
-    ap (λ (cs : List Partners). record m { couples = cs }) same
-
 -- the answer by one order and by none is that of the stage
 one_order : (r : Registered) (best : Places) (budget code : ℕ) (text : List ℕ) (s : Option (Places × ℕ)) → stage (in_order 1 r.market) best budget ≡ s
     → IsAnswerOfOrder r best budget (record { orders = 1; set_aside = false }) (if is_some s then Some 1 else None) code text ↔ IsAnswerOfStage r best s code text
@@ -131,7 +124,7 @@ one_order r best budget code text (Some s) e = (
 usual : (r : Registered) (best : Places) (budget code : ℕ) (text : List ℕ)
     → IsAnswerOfOrder r best budget (record { orders = 1; set_aside = false }) (first_order r.market best budget 1) code text ↔ IsAnswerOfStage r best (stage r.market best budget) code text
 usual r best budget code text =
-    let same : stage (in_order 1 r.market) best budget ≡ stage r.market best budget = ap (λ (m : Market). stage m best budget) (registration_is_first r.market) in
+    let same : stage (in_order 1 r.market) best budget ≡ stage r.market best budget = ap (λ (m : Market). stage m best budget) (first_is_own r.market) in
     subst (λ (o : Option (Places × ℕ)). IsAnswerOfOrder r best budget (record { orders = 1; set_aside = false }) (if is_some (stage (in_order 1 r.market) best budget) then Some 1 else None) code text ↔ IsAnswerOfStage r best o code text)
     same (one_order r best budget code text (stage (in_order 1 r.market) best budget) refl)
 
@@ -144,10 +137,10 @@ one_way_is_usual_lem r budget code text = (
 -- ---- one answer
 
 -- two answers are one: code and text
-abbrev SameAnswer : ℕ → ℕ → List ℕ → List ℕ → Type 0
+abbrev pub SameAnswer : ℕ → ℕ → List ℕ → List ℕ → Type 0
 SameAnswer c d text other = (c ≡ d) × (text ≡ other)
 
-stage_once : (r : Registered) (best : Places) (s : Option (Places × ℕ)) (c d : ℕ) (text other : List ℕ)
+pub stage_once : (r : Registered) (best : Places) (s : Option (Places × ℕ)) (c d : ℕ) (text other : List ℕ)
     → IsAnswerOfStage r best s c text → IsAnswerOfStage r best s d other → SameAnswer c d text other
 stage_once r best None c d text other h k = (h.0 ∙ sym k.0, h.1 ∙ sym k.1)
 stage_once r best (Some s) c d text other h k = (h.0 ∙ sym k.0, h.1 ∙ sym k.1)
@@ -182,10 +175,6 @@ one_answer_in_ways_lem r budget ways c d text other h k =
 
 -- ---- a spent budget
 
--- a code is one number
-two_codes : {a b : ℕ} (code : ℕ) → code ≡ a → code ≡ b → (a ≡ b → ⊥) → ⊥
-two_codes code e f differ = differ (sym e ∙ f)
-
 spent_by_none : (r : Registered) (best : Places) (budget orders : ℕ) (set_aside : Bool) (code : ℕ) (text : List ℕ)
     → IsAnswerOfNone r best budget orders set_aside code text → code ≡ 41 → set_aside ≡ false
 spent_by_none r best budget orders false code text h is = refl
@@ -196,7 +185,7 @@ spent_by_none r best budget orders true code text h is = absurd (by (stage (othe
 
     by : (s : Option (Places × ℕ)) → IsAnswerAside r best (aside_in_order (fewest_order r.market best budget orders) r.market best budget) s code text → ⊥
     by None h = h
-    by (Some s) h = two_codes code h.0 is (λ e. omega arith)
+    by (Some s) h = other_code code h.0 is (λ e. omega arith)
 
 spent_by_order : (r : Registered) (best : Places) (budget : ℕ) (ways : Ways) (code : ℕ) (text : List ℕ) (o : Option ℕ) → first_order r.market best budget ways.orders ≡ o
     → IsAnswerOfOrder r best budget ways o code text → code ≡ 41 → (ways.set_aside ≡ false) × (first_order r.market best budget ways.orders ≡ None)
@@ -206,7 +195,7 @@ spent_by_order r best budget ways code text (Some n) e h is =
   where
     by : (s : Option (Places × ℕ)) → s ≢ None → IsAnswerOfStage r best s code text → ⊥
     by None some k = some refl
-    by (Some s) some k = two_codes code k.0 is (λ e. omega arith)
+    by (Some s) some k = other_code code k.0 is (λ e. omega arith)
 
 pub spent_in_ways_lem : SpentInWays
 spent_in_ways_lem r budget ways code text best h is_best =

@@ -5,6 +5,7 @@ use Rattle.std.specs.Prelude.{bytes_eq, IsTrue}
 use Rattle.std.specs.List.{position_or_len}
 use Rattle.std.proofs.lemmas.Bool.{cases_lt}
 use Rattle.std.proofs.lemmas.List.{get_or_past}
+use Rattle.mt_order_laws.proofs.RegistrationFacts.{one_place}
 use Rattle.mt_lists.specs.Records.{records_of}
 use Rattle.mt_terms.specs.Best.{IsBest}
 use Rattle.mt_terms.specs.Market.{Market, Partners, Registered, list_of, singles_market}
@@ -57,11 +58,6 @@ accepted bytes r places rows are h =
           subst (λ (q : Registered). IsBest q.market places) same (subst (λ (ps : Places). IsBest p.registered.market ps) (p.same_alone none_there ∙ same_places) p.is_best);
     }
 
--- an id has one number
-one_number : (ids : List Bytes) (a k : ℕ) → all_differ bytes_eq ids ≡ true → a < length ids → k < length ids → get_or ids a [] ≡ get_or ids k [] → a ≡ k
-one_number ids a k differ below_a below_k same =
-    sym (own_number ids a differ below_a) ∙ ap (λ (x : Bytes). position_or_len (bytes_eq x) ids) same ∙ own_number ids k differ below_k
-
 -- who has no list has at least as much in any match
 no_list : (m : Market) (a : ℕ) (places other : Places) → list_of m a ≡ [] → HasAtLeast m a places other
 no_list m a places other none p there = rw none refl
@@ -74,7 +70,7 @@ module _ (r s : Registered) (places other : Places) (registration : IsRegistrati
       best_is_at_least_lem r.market places other best (subst (λ (m : Market). IsTrue (stable (singles_market m) other)) same is_stable) a
   gains_nothing is_stable id list (inr changed) a named = elim (cases_lt a (length r.names.applicants)) [
     | inl low ↦
-        let here : a ≡ changed.number = one_number r.names.applicants a changed.number registration.applicant_names.differ low changed.within (named ∙ sym changed.has_id) in
+        let here : a ≡ changed.number = one_place r.names.applicants a changed.number registration.applicant_names.differ low changed.within (named ∙ sym changed.has_id) in
         let market_is : s.market ≡ with_list r.market a (numbers_of r.names.programs list) = changed.market_is ∙ ap (λ (k : ℕ). with_list r.market k (numbers_of r.names.programs list)) (sym here) in
         no_stable_match_gives_more_lem r.market a (numbers_of r.names.programs list) registration.well_formed places other best
         (subst (λ (m : Market). IsTrue (stable (singles_market m) other)) market_is is_stable)

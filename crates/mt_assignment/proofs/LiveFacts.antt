@@ -10,8 +10,8 @@ use Rattle.mt_terms.specs.Matching.{place_of, is_program, at, better, holds, sen
 use Rattle.mt_terms.specs.Stability.{would_be_taken}
 use Rattle.mt_terms.specs.declared.numbers.Agent.TheVariants.{Single, Couple}
 use Rattle.mt_terms.proofs.BelowFacts.{map_below_at}
-use Rattle.mt_terms.proofs.ListFacts.{distinct-take, has-take-position, until_position}
-use Rattle.mt_stability_laws.proofs.ListLemmas.{until-map, list_any-map}
+use Rattle.mt_terms.proofs.ListFacts.{distinct-take, has-take-position, until_position, list_any-map}
+use Rattle.mt_stability_laws.proofs.ListLemmas.{until-map}
 use Rattle.mt_ranks.specs.Ranked.{rank_of, ranked_entry}
 use Rattle.mt_ranks.specs.declared.entries.Live.{Live}
 use Rattle.mt_round_laws.proofs.RoundsFits.{listing_program}

@@ -5,7 +5,6 @@ use Rattle.std.specs.List.{list_all}
 use Rattle.std.proofs.lemmas.Bool.{and_parts, cases_lt, or_right}
 use Rattle.std.proofs.lemmas.Bool.Decides.{nat_tests}
 use Rattle.std.proofs.lemmas.List.{get_or-map, get_or_default, get_or_past, length-map}
-use Rattle.mt_ids.proofs.DigitFacts.{passes_at}
 use Rattle.mt_terms.specs.Lists.{has}
 use Rattle.mt_terms.specs.Market.{Pair, Partners, Registered, applicants, couple_of, list_of}
 use Rattle.mt_terms.specs.Matching.{couple_placement, options, single_placement}
@@ -16,6 +15,7 @@ use Rattle.mt_terms.specs.WellFormed.{IsWellFormed}
 use Rattle.mt_terms.specs.declared.numbers.Agent.{Agent}
 use Rattle.mt_terms.specs.declared.verdict.Verdict.TheVariants.{Blocks}
 use Rattle.mt_terms.specs.declared.numbers.Agent.TheVariants.{Couple, Single}
+use Rattle.mt_terms.proofs.ListFacts.{passes_at}
 use Rattle.mt_check.specs.Text.{check_line, finding_line, option_fields}
 use Rattle.mt_check.specs.declared.finding.Finding.TheVariants.{Of}
 

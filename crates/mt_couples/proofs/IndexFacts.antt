@@ -8,6 +8,7 @@ use Rattle.mt_terms.specs.Matching.{Places, Placement, better, holds, is_same_pl
 use Rattle.mt_terms.specs.Rounds.{displaced, is_on, is_same_agent}
 use Rattle.mt_terms.specs.declared.numbers.Agent.{Agent}
 use Rattle.mt_terms.specs.declared.numbers.Agent.TheVariants.{Couple}
+use Rattle.mt_terms.proofs.ListFacts.{until-le}
 use Rattle.mt_round_laws.proofs.RoundsLists.{In, in_has, of_image}
 use Rattle.mt_round_laws.proofs.RoundsAgents.{IsAgent, agent_of_applicant, of_list, option_movers, same_agent}
 use Rattle.mt_round_laws.proofs.RoundsMove.{IsMove, match_after, displaced_agents, is_displaced, untouched}
@@ -17,14 +18,13 @@ use Rattle.mt_assignment.specs.Moves.{IsTaking}
 use Rattle.mt_assignment.specs.Watched.{better_pairs}
 use Rattle.mt_couples.specs.Watching.{AreCounted, CountsAll, IsCounted, IsIndexed}
 use Rattle.mt_stage_tables.specs.Named.{indexed_count}
-use Rattle.mt_stage_tables.proofs.FrontFacts.{until_within}
 use Rattle.mt_couples.specs.declared.watch.Watch.{Watch}
 use Rattle.mt_assignment.proofs.MoveFacts.{is_move}
 
 -- a couple wants no more pairs than it lists
 pub counted_within : (s : Assigned) (counts : List ℕ) (c : ℕ) → AreCounted s counts → c < length s.market.couples → get_or counts c 0 ≤ length (couple_of s.market c).pairs
 counted_within s counts c counted known =
-    omega (arith, counted.each c known, until_within (λ pair. holds s.places (pair_of s c pair)) (couple_of s.market c).pairs)
+    omega (arith, counted.each c known, until-le (λ pair. holds s.places (pair_of s c pair)) (couple_of s.market c).pairs)
 
 -- who has a pair on its list is a couple of the market
 pub couple_with_pair : (m : Market) (c : ℕ) (x : Pair) → In x (couple_of m c).pairs → c < length m.couples

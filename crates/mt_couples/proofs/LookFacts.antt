@@ -34,7 +34,7 @@ use Rattle.mt_stage_tables.specs.declared.couple_list.NamedPairs.{NamedPairs}
 use Rattle.mt_couples.specs.declared.recheck.Recheck.{Recheck}
 use Rattle.mt_couples.specs.declared.watch.Watch.{Watch}
 use Rattle.mt_terms.specs.Lists.{is_distinct}
-use Rattle.mt_terms.proofs.ListFacts.{same_position}
+use Rattle.mt_terms.proofs.ListFacts.{same_position, has_front}
 use Rattle.mt_assignment.proofs.LiveFacts.{better_single, post_for, better_couple}
 use Rattle.mt_stage_tables.proofs.FrontFacts.{until_front}
 use Rattle.mt_stage_tables.proofs.IndexFacts.{before_end}
@@ -42,7 +42,7 @@ use Rattle.mt_couples.proofs.IndexFacts.{couple_with_pair}
 use Rattle.mt_stage_tables.proofs.PlaceFacts.{has_read}
 use Rattle.mt_assignment.proofs.RankFacts.{has_rank, rank_there}
 use Rattle.mt_stage_tables.proofs.OrderFacts.{has_at}
-use Rattle.mt_stage_tables.proofs.GrowingFacts.{has_end, has_parts, has_still}
+use Rattle.mt_stage_tables.proofs.GrowingFacts.{has_end, has_parts}
 use Rattle.mt_couples.proofs.WatchFacts.{index_of}
 use Rattle.mt_couples.proofs.JoinFacts.{next_mapped}
 use Rattle.mt_couples.proofs.QuietFacts.{blocking, is_agent, looking_joins, looking_skips, IsLooking}
@@ -307,7 +307,7 @@ module _ (k : ℕ) (s : Assigned) (p : ℕ) (ws : List Agent) where
       → (a : ℕ) → agent_of s.market a ≡ Couple c → has ((found ++ x ∷ []) ++ y ∷ []) a ≡ true
   found_both found c x y is_first is_second a of_a =
       elim (one_of_two (couple_of s.market c).first (couple_of s.market c).second a (subst (λ g. has (members s.market g) a ≡ true) of_a (member_of_agent s.market a))) [
-        | inl first ↦ has_still (found ++ x ∷ []) (y ∷ []) a (subst (λ z. has (found ++ x ∷ []) z ≡ true) (is_first ∙ first) (has_end found x))
+        | inl first ↦ has_front (found ++ x ∷ []) (y ∷ []) a (subst (λ z. has (found ++ x ∷ []) z ≡ true) (is_first ∙ first) (has_end found x))
         | inr second ↦ subst (λ z. has ((found ++ x ∷ []) ++ y ∷ []) z ≡ true) (is_second ∙ second) (has_end (found ++ x ∷ []) y)
       ]
 

@@ -13,6 +13,7 @@ use Rattle.mt_terms.specs.Rounds.{has_entered, is_on, joined}
 use Rattle.mt_terms.specs.WellFormed.{IsWellFormed}
 use Rattle.mt_terms.specs.declared.numbers.Agent.{Agent}
 use Rattle.mt_terms.specs.declared.numbers.Agent.TheVariants.{Single, Couple}
+use Rattle.mt_terms.proofs.AgentFacts.{single_is_itself}
 use Rattle.mt_ranks.specs.Ranked.{rank_of}
 use Rattle.mt_ranks.specs.declared.entries.Live.{Live}
 use Rattle.mt_round_laws.proofs.RoundsLists.{In, all_pass, each, found, finds, has_in, in_below, in_has, of_below, of_image, of_until}
@@ -40,10 +41,6 @@ opens_there s ok a p r within wants ranked post =
     let passes : has_post s e.0.program e.0.rank ≡ true = ap₂ (has_post s) e.2 e.3 ∙ post in
     sym (opens_live s ok a within (p ∷ []))
     ∙ finds (λ (x : Live). has (p ∷ []) x.program && has_post s x.program x.rank) e.0 (better_entries s a) e.1 (and_from _ _ here passes)
-
--- an applicant that is an agent by itself
-single_itself : (m : Market) (a b : ℕ) → agent_of m a ≡ Single b → agent_of m a ≡ Single a
-single_itself m a b is = is ∙ ap Single (eqb-true b a (sym (or-false (b == a)) ∙ subst (λ g. has (members m g) a ≡ true) is (member_of_agent m a)))
 
 -- whether a program has a post for somebody who is watched there, by the first of them that it has one for
 pub wanted_post_is : (s : Assigned) (rows : List (List Bool)) (p : ℕ) (o : Option ℕ) → IfSome o (IsOpenFrom s p (ranks_at rows p) 0)
@@ -82,7 +79,7 @@ quiet_by_posts s ok rows watched none =
         both_ways (has_wanted_post s rows q) (not-true _ (each (λ p. not (has_wanted_post s rows p)) q (below (length s.market.programs)) none (in_below q _ known))) some))
 
     by_agent : (a : ℕ) → a < applicants s.market → (g : Agent) → agent_of s.market a ≡ g → is_quiet_single s g ≡ true
-    by_agent a within (Single b) is = subst (λ g. is_quiet_single s g ≡ true) (sym (single_itself s.market a b is) ∙ is) (single a within)
+    by_agent a within (Single b) is = subst (λ g. is_quiet_single s g ≡ true) (sym (single_is_itself s.market a b is) ∙ is) (single a within)
     by_agent a within (Couple c) is = refl
 
 -- an applicant that wants a program is a single: a couple's members have no lists
@@ -99,7 +96,7 @@ wants_single s wf a p within wants = by_agent (agent_of s.market a) refl
         ]
 
     by_agent : (g : Agent) → agent_of s.market a ≡ g → agent_of s.market a ≡ Single a
-    by_agent (Single b) is = single_itself s.market a b is
+    by_agent (Single b) is = single_is_itself s.market a b is
     by_agent (Couple c) is = absurd (false≢true (ap (λ ps. has (until (λ q. at s.places q a) ps) p) (sym (no_list c is)) ∙ wants))
 
 -- who waits already doesn't join again
@@ -157,7 +154,7 @@ module _ (k : ℕ) (s : Assigned) (p : ℕ) (ok : IsAssigned s) (known : p < len
       by_agent : is_reopened k s (p ∷ []) now.agents (agent_of s.market a) ≡ true → (g : Agent) → agent_of s.market a ≡ g → ⊥
       by_agent reopened (Single b) is =
           let here : is_reopened k s (p ∷ []) now.agents (Single a) ≡ true =
-          subst (λ g. is_reopened k s (p ∷ []) now.agents g ≡ true) (single_itself s.market a b is) reopened in
+          subst (λ g. is_reopened k s (p ∷ []) now.agents g ≡ true) (single_is_itself s.market a b is) reopened in
           let opened = (and_parts (has_entered k (Single a) && not (is_on now.agents (Single a))) (opens s (p ∷ []) (Single a)) here).1 in
           let wants = (open_single s p a (open_at s p (Single a) opened)).0 in
           both_ways (has_post s p x) (closed (watched.each a a_in p x known ranked ∙ wants)) (post_for s ok a a_in p x ranked opened)

@@ -11,6 +11,7 @@ use Rattle.mt_terms.specs.contracts.numbers.AgentPartialEq.TheImpl.{eq-value}
 use Rattle.mt_terms.specs.declared.numbers.Agent.{Agent}
 use Rattle.mt_terms.specs.declared.numbers.Agent.TheVariants.{Single, Couple}
 use Rattle.mt_terms.proofs.AgentFacts.{is_same_agent_refl, same_agent}
+use Rattle.mt_stage_tables.proofs.WaitingFacts.{same_eq}
 use Rattle.mt_round_laws.specs.Rounds.{state}
 use Rattle.mt_budget_laws.specs.Returning.{state_after, ComesBack}
 use Rattle.mt_budget_laws.proofs.ReturningFacts.{further, stays_empty, returning_never_ends_lem}
@@ -61,13 +62,6 @@ module _ (m : Market) (k : ℕ) (first now next : Work) (round_is : next ≡ rou
         some = omega arith;
         back = one_more way.after next way.leads;
       }))
-
--- the equality of the code is that of the numbers
-same_eq : (g h : Agent) → eq-value.it g h ≡ is_same_agent g h
-same_eq (Single a) (Single b) = refl
-same_eq (Single a) (Couple d) = refl
-same_eq (Couple c) (Single b) = refl
-same_eq (Couple c) (Couple d) = refl
 
 pub agents_decide : (g h : Agent) → Decides (eq-value.it g h) (g ≡ h)
 agents_decide g h = (

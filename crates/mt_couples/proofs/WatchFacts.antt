@@ -9,6 +9,7 @@ use Rattle.mt_terms.specs.Matching.{Places, Placement, place_of, is_program, at,
 use Rattle.mt_terms.specs.Rounds.{displaced, is_same_agent}
 use Rattle.mt_terms.specs.declared.numbers.Agent.{Agent}
 use Rattle.mt_terms.specs.declared.numbers.Agent.TheVariants.{Single, Couple}
+use Rattle.mt_terms.proofs.ListFacts.{has_front}
 use Rattle.mt_round_laws.proofs.RoundsLists.{In, has_in, in_has, of_image, of_until}
 use Rattle.mt_round_laws.proofs.RoundsAgents.{IsAgent, agent_of_applicant, couple_number, member_of_agent, of_list, one_of_two, option_movers, same_agent}
 use Rattle.mt_round_laws.proofs.RoundsMove.{IsMove, match_after, displaced_agents, is_displaced, untouched}
@@ -18,7 +19,7 @@ use Rattle.mt_assignment.specs.Watched.{wanted, AreWatched, Follows, IsWatched, 
 use Rattle.mt_couples.specs.Watching.{Counts, CountsAll, FollowsAll}
 use Rattle.mt_couples.specs.declared.watch.Watch.{Watch}
 use Rattle.mt_assignment.proofs.MoveFacts.{is_move}
-use Rattle.mt_stage_tables.proofs.GrowingFacts.{has_parts, has_still}
+use Rattle.mt_stage_tables.proofs.GrowingFacts.{has_parts}
 use Rattle.mt_assignment.proofs.RankFacts.{has_rank}
 use Rattle.mt_assignment.proofs.EntryFacts.{watched_still}
 
@@ -44,7 +45,7 @@ follows_more s old mid new xs x first second = record {
       let parts = or_parts (has xs b) (has (x ∷ []) b) (sym (list_any-append (λ z. z == b) xs (x ∷ [])) ∙ other) in
       second.others (first.as_many ∙ many) b p r parts.1 known ranked ∙ first.others many b p r parts.0 known ranked;
   watched = λ many inside a on.
-      let before : has xs a ≡ true → IsWatched s mid a = first.watched many (λ b there. inside b (has_still xs (x ∷ []) b there)) a in
+      let before : has xs a ≡ true → IsWatched s mid a = first.watched many (λ b there. inside b (has_front xs (x ∷ []) b there)) a in
       let inside_mid : IsWithinList s.market mid a = elim (cases_Bool (has xs a)) [
         | inl there ↦ watched_within s mid a (before there)
         | inr other ↦ within_still s.market old mid xs a (first.others many) other (inside a on)

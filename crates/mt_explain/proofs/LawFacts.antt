@@ -8,9 +8,9 @@ use Rattle.mt_terms.specs.Places.{ArePlaces}
 use Rattle.mt_terms.specs.Registration.Accepted.{IsRegistration}
 use Rattle.mt_terms.specs.Stability.{blocks, fits, would_be_taken}
 use Rattle.mt_terms.specs.declared.numbers.Agent.{Agent}
+use Rattle.mt_terms.proofs.ListFacts.{until-le}
 use Rattle.mt_verdict_laws.proofs.VerdictLemmas.{agent_cases}
 use Rattle.mt_verify.specs.Held.{IsNumbered}
-use Rattle.mt_verify.proofs.HeldFacts.{until-le}
 use Rattle.mt_explain.specs.Laws.{EachBetterOptionOnce, OpenIfBlocks, OpenIfTaken, StableIfNoneOpen}
 use Rattle.mt_explain.specs.Lines.{explanation, has_open_option, is_open, lines_of, option_lines}
 use Rattle.mt_explain.proofs.LineFacts.{any_of_options, lines_with_number, names_program}

@@ -9,7 +9,7 @@ use Rattle.mt_terms.specs.Registration.Accepted.{IsRegistration}
 use Rattle.mt_terms.specs.Registration.Faults.{Fault}
 use Rattle.mt_terms.specs.Registration.Ids.{Bytes}
 use Rattle.mt_order_laws.specs.Reordered.{set_aside, set_aside_registered}
-use Rattle.mt_order_laws.proofs.FormedFacts.{none_aside_lem}
+use Rattle.mt_order_laws.proofs.FormedFacts.{none_aside_lem, places_aside}
 use Rattle.mt_order_laws.proofs.RegistrationFacts.{registration_aside_lem}
 use Rattle.mt_match_file.specs.Submitted.{Submitted, submitted_by}
 use Rattle.mt_match_file.proofs.PlaceFacts.{tells_places_lem}
@@ -48,10 +48,6 @@ none_of xs [] b same is empty = refl
 none_of xs (y ∷ ys) b same is empty =
     let none : length xs ≡ 0 = eqb-true (length xs) 0 (sym is ∙ empty) in
     absurd (omega (arith, none, ap length same))
-
--- places of a market are places of it if couples are set aside
-pub places_aside : (m : Market) (aside : List ℕ) (places : Places) → ArePlaces m places → ArePlaces (set_aside aside m) places
-places_aside m aside places are = record { one_each = are.one_each; within = are.within }
 
 -- the lines of a match say what is so of it
 pub lines_are_so : (r : Registered) → IsRegistration r → (places : Places) → ArePlaces r.market places → LinesAreSo r.market places

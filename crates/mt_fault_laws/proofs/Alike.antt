@@ -9,7 +9,7 @@ use Rattle.std.proofs.lemmas.List.Folds.{list_any-append}
 use Rattle.mt_terms.specs.Registration.Ids.{Bytes, all_differ, is_id, is_id_byte, is_dash}
 use Rattle.mt_terms.specs.Registration.Passes.{is_same_pair}
 use Rattle.mt_terms.specs.Registration.Records.{Rules, IdPair, is_pair}
-use Rattle.mt_terms.proofs.IdFacts.{same_id, is_same}
+use Rattle.mt_terms.proofs.IdFacts.{same_id, is_same, bytes_eq_sym}
 
 module _ {X : Type 0} (same : X → X → Bool) (symmetric : (x y : X) → same x y ≡ same y x) where
   -- an element that is not among those before it
@@ -47,24 +47,11 @@ module _ {X : Type 0} (same : X → X → Bool) (symmetric : (x y : X) → same 
       by false true e f k ih = ap (λ b. not (list_any (same z) (zs ++ x ∷ ys)) && b) (ih f) ∙ later (not (list_any (same z) (zs ++ x ∷ ys)))
       by false false e f k ih = cc
 
--- a test of a changed list
-pub any-map : {X Y : Type 0} (test : Y → Bool) (f : X → Y) (xs : List X) → list_any test (map f xs) ≡ list_any (λ x. test (f x)) xs
-any-map test f [] = refl
-any-map test f (x ∷ xs) = ap (λ b. test (f x) || b) (any-map test f xs)
-
-both_ways : (b c : Bool) → (b ≡ true → c ≡ true) → (c ≡ true → b ≡ true) → b ≡ c
-both_ways true c f g = sym (f refl)
-both_ways false true f g = g refl
-both_ways false false f g = refl
-
-pub same_bytes : (x y : Bytes) → bytes_eq x y ≡ bytes_eq y x
-same_bytes x y = both_ways (bytes_eq x y) (bytes_eq y x) (λ h. is_same y x (sym (same_id x y h))) (λ h. is_same x y (sym (same_id y x h)))
-
 same_place : (o p : Option Bytes) → option_eq bytes_eq o p ≡ option_eq bytes_eq p o
 same_place None None = refl
 same_place None (Some y) = refl
 same_place (Some x) None = refl
-same_place (Some x) (Some y) = same_bytes x y
+same_place (Some x) (Some y) = bytes_eq_sym x y
 
 pub same_pair : (p q : IdPair) → is_same_pair p q ≡ is_same_pair q p
 same_pair p q = ap (λ b. b && option_eq bytes_eq p.1 q.1) (same_place p.0 q.0) ∙ ap (λ b. option_eq bytes_eq q.0 p.0 && b) (same_place p.1 q.1)

@@ -12,11 +12,13 @@ use Rattle.mt_terms.specs.Registration.Faults.{RecordFault, record_fault, record
 use Rattle.mt_terms.specs.Registration.Records.{Rules, Record, Kind, IdPair, is_pair, pair_of}
 use Rattle.mt_terms.specs.Registration.Rows.{id_of, own_id, ids_of, withdrawn_id, withdrawn, applicants_of, applicant_ids, entries_of, entry_count}
 use Rattle.mt_terms.specs.Registration.Passes.{contents, first_of, first_in, first_not_in, named, is_same_pair, registered_before, says_twice, unknown_id}
+use Rattle.mt_terms.proofs.ListFacts.{list_any-map}
+use Rattle.mt_terms.proofs.IdFacts.{bytes_eq_sym}
 use Rattle.mt_fault_terms.specs.Faults.{Placed, FieldFault, fault_of}
 use Rattle.mt_fault_terms.specs.Parts.{Parts, PlacedPair, ids_among, own_ids, applicants_among, withdrawn_ids, entries_among, all_own_ids, all_applicants, all_withdrawn, all_entries}
 use Rattle.mt_fault_terms.specs.OfRecord.{is_id_field, alone_at, bad_of_pair, bad_fields, id_among, quota_faults, own_faults, found_among, missing_among, registered_faults, repeats_after, shown_of_pair, pair_repeats_after, repeat_faults, unknown_faults}
 use Rattle.mt_fault_laws.proofs.Leading.{Leads, Shows, leads_next, leads_last, leads_front}
-use Rattle.mt_fault_laws.proofs.Alike.{once_more, twice, any-map, same_bytes, same_pair, no_dash, place_ids}
+use Rattle.mt_fault_laws.proofs.Alike.{once_more, twice, same_pair, no_dash, place_ids}
 
 -- two placed fields as a pair of fields
 abbrev pub bare : PlacedPair → Bytes × Bytes
@@ -155,10 +157,10 @@ module _ (rules : Rules) where
       by : (a b : Bool) → a ≡ true → has_id before f.1 ≡ b
           → (all_differ bytes_eq (before ++ f.1 ∷ []) ≡ true → Leads Shows (then_some (not (all_differ bytes_eq ((before ++ f.1 ∷ []) ++ contents fields))) (record_fault DUPLICATE_ENTRY id)) rest)
           → Leads Shows (then_some (not (all_differ bytes_eq (before ++ f.1 ∷ contents fields))) (record_fault DUPLICATE_ENTRY id)) (map (fault_of DUPLICATE_ENTRY) (cond (a && b) (f ∷ []) []) ++ rest)
-      by true true i e ih = rw (twice bytes_eq same_bytes before f.1 (contents fields) e) (refl, λ k. absurd cc)
+      by true true i e ih = rw (twice bytes_eq bytes_eq_sym before f.1 (contents fields) e) (refl, λ k. absurd cc)
       by true false i e ih =
           subst (λ (xs : List Bytes). Leads Shows (then_some (not (all_differ bytes_eq xs)) (record_fault DUPLICATE_ENTRY id)) rest)
-          (append_assoc before (f.1 ∷ []) (contents fields)) (ih (once_more bytes_eq same_bytes before f.1 e d))
+          (append_assoc before (f.1 ∷ []) (contents fields)) (ih (once_more bytes_eq bytes_eq_sym before f.1 e d))
       by false b i e ih = cc
 
   -- the pairs that stand twice
@@ -167,7 +169,7 @@ module _ (rules : Rules) where
   pair_repeats_lead id before [] h d = rw (append-nil (map pair_of before), d) tt
   pair_repeats_lead id before (p ∷ pairs) h d =
       let q : (is_pair rules (bare p) ≡ true) × (list_all (is_pair rules) (map bare pairs) ≡ true) = and_parts (is_pair rules (bare p)) _ h in
-      by (is_pair rules (bare p)) (list_any (λ other. is_same_pair (pair_of (bare p)) (pair_of other)) before) q.0 (any-map (is_same_pair (pair_of (bare p))) pair_of before)
+      by (is_pair rules (bare p)) (list_any (λ other. is_same_pair (pair_of (bare p)) (pair_of other)) before) q.0 (list_any-map (is_same_pair (pair_of (bare p))) pair_of before)
       (λ e. pair_repeats_lead id (before ++ bare p ∷ []) pairs q.1 e)
     where
       rest : List FieldFault

@@ -32,19 +32,9 @@ take-taken (suc j) (suc k) (x ∷ xs) =
     let e : min (suc j) (suc k) ≡ suc (min j k) = omega arith in
     rw e (ap (λ l. x ∷ l) (take-taken j k xs))
 
--- the next field, of some that are left
-pub next_placed : (k before : ℕ) (xs rest : List Bytes) (x : Bytes) → xs ≡ x ∷ rest → (k ≡ 0 → ⊥) → take k (placed_from (before + 1) xs) ≡ (before + 1, x) ∷ take (k - 1) (placed_from (before + 1 + 1) rest)
-next_placed zero before xs rest x e some = absurd (some refl)
-next_placed (suc k) before xs rest x e some =
-    let m : suc k - 1 ≡ k = omega arith in
-    rw (e, m) refl
-
 -- no field is left
 pub none_placed : (k n : ℕ) (xs : List Bytes) → xs ≡ [] → take k (placed_from n xs) ≡ []
 none_placed k n xs e = rw e (take-nil k)
-
-pub none_counted : (k n : ℕ) (xs : List Bytes) → k ≡ 0 → take k (placed_from n xs) ≡ []
-none_counted k n xs e = rw e refl
 
 -- the next field, and those after it
 pub head_is : (r : Option Field) (old new : List Placed) → MatchOption r ((old ≡ []) × (new ≡ [])) (λ x. old ≡ field_seen x ∷ new) → option_map field_seen r ≡ first_field old
@@ -54,10 +44,6 @@ head_is (Some x) old new h = sym (ap first_field h)
 pub tail_is : (r : Option Field) (old new : List Placed) → MatchOption r ((old ≡ []) × (new ≡ [])) (λ x. old ≡ field_seen x ∷ new) → new ≡ drop 1 old
 tail_is None old new h = h.1 ∙ sym (ap (drop 1) h.0)
 tail_is (Some x) old new h = sym (ap (drop 1) h)
-
-pub drop_two : {X : Type 0} (xs : List X) → drop 1 (drop 1 xs) ≡ drop 2 xs
-drop_two [] = refl
-drop_two (x ∷ xs) = refl
 
 pub drop_three : {X : Type 0} (xs : List X) → drop 1 (drop 1 (drop 1 xs)) ≡ drop 3 xs
 drop_three [] = refl

@@ -159,24 +159,6 @@ pairs_alike_more table new before fields alike is other =
     by true h = one (is_same_pair other (pair_of fields)) refl h
     by false h = list_any-append (is_same_pair other) table (pair_of fields ∷ [])
 
--- limits by counts that stop at the greatest
-pub passes_most : (limit n k c a : ℕ) → limit < most → c ≡ min n most → a ≡ min k most → passes limit c a ≡ passes limit n k
-passes_most limit n k c a small c_is a_is = rw (le, lt) refl
-  where
-    le : nat_le c limit ≡ nat_le n limit
-    le = by (nat_le n limit) refl
-      where
-        by : (b : Bool) → nat_le n limit ≡ b → nat_le c limit ≡ b
-        by true h = grind (arith, nat_tests)
-        by false h = grind (arith, nat_tests)
-
-    lt : nat_lt limit (c + a) ≡ nat_lt limit (n + k)
-    lt = by (nat_lt limit (n + k)) refl
-      where
-        by : (b : Bool) → nat_lt limit (n + k) ≡ b → nat_lt limit (c + a) ≡ b
-        by true h = grind (arith, nat_tests)
-        by false h = grind (arith, nat_tests)
-
 -- the fault of a limit, as it is told
 abbrev pub over : Bool → Bytes → List FieldFault
 over is_passed id = if is_passed then record { code = TOO_MANY; field = 0; id = id } ∷ [] else []

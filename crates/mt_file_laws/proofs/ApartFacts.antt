@@ -16,7 +16,7 @@ use Rattle.mt_terms.specs.Registration.Passes.{is_same_pair, registered_before, 
 use Rattle.mt_file_laws.specs.Faultless.{ids_differ}
 use Rattle.mt_file_laws.proofs.GrowthFacts.{applicant_ids-more, ids_of-more, withdrawn-more}
 use Rattle.mt_file_laws.proofs.IdFacts.{differ_join}
-use Rattle.mt_terms.proofs.IdFacts.{same_id, is_same, differ_parts}
+use Rattle.mt_terms.proofs.IdFacts.{same_id, is_same, differ_parts, bytes_eq_sym}
 
 -- whether nothing is withdrawn twice
 abbrev pub withdrawn_once : List Record → Bool
@@ -42,20 +42,11 @@ none_apart limits = record { ids = refl; withdrawals = refl; few = none limits.a
     none : (a p c e : ℕ) → (nat_lt a 0 || nat_lt p 0 || nat_lt c 0 || nat_lt e 0) ≡ false
     none a p c e = grind (arith, nat_tests)
 
--- an id more in a list of ids
-same_either_way : (x y : Bytes) → bytes_eq x y ≡ bytes_eq y x
-same_either_way x y = by (bytes_eq x y) (bytes_eq y x) (λ h. is_same y x (sym (same_id x y h))) (λ h. is_same x y (sym (same_id y x h)))
-  where
-    by : (b c : Bool) → (b ≡ true → c ≡ true) → (c ≡ true → b ≡ true) → b ≡ c
-    by true c f g = sym (f refl)
-    by false true f g = g refl
-    by false false f g = refl
-
 differ-more : (xs : List Bytes) (x : Bytes) → all_differ bytes_eq (xs ++ x ∷ []) ≡ (all_differ bytes_eq xs && not (has_id xs x))
 differ-more [] x = refl
 differ-more (y ∷ ys) x =
     by (has_id ys y) (bytes_eq x y) (all_differ bytes_eq ys) (has_id ys x)
-    (list_any-append (bytes_eq y) ys (x ∷ []) ∙ ap (λ e. has_id ys y || (e || false)) (same_either_way y x)) (differ-more ys x)
+    (list_any-append (bytes_eq y) ys (x ∷ []) ∙ ap (λ e. has_id ys y || (e || false)) (bytes_eq_sym y x)) (differ-more ys x)
   where
     by : (h e d n : Bool) {there rest : Bool} → there ≡ (h || (e || false)) → rest ≡ (d && not n) → (not there && rest) ≡ (not h && d && not (e || n))
     by h e d n i j = grind arith

@@ -8,12 +8,7 @@ use Rattle.std.proofs.lemmas.Bool.{and_parts}
 use Rattle.std.proofs.lemmas.Bool.Decides.{nat_tests}
 use Rattle.std.proofs.lemmas.Int.Digits.{digits_value-lt, digits_value_more}
 use Rattle.std.proofs.lemmas.Str.Parse.{digits_value-take-le}
-
--- what passes at each element passes at each place
-pub passes_at : {X : Type 0} (p : X → Bool) (xs : List X) (i : ℕ) (d : X) → list_all p xs ≡ true → i < length xs → p (get_or xs i d) ≡ true
-passes_at p [] i d h k = absurd (omega arith)
-passes_at p (x ∷ xs) zero d h k = (and_parts (p x) _ h).0
-passes_at p (x ∷ xs) (suc i) d h k = passes_at p xs i d (and_parts (p x) _ h).1 (omega arith)
+use Rattle.mt_terms.proofs.ListFacts.{passes_at}
 
 is_digit_small : (c : ℕ) → is_ascii_digit c ≡ true → (48 ≤ c) × (c ≤ 57) × (digit_value c + 48 ≡ c)
 is_digit_small c h = (grind (arith, nat_tests), grind (arith, nat_tests), grind (arith, nat_tests))

@@ -8,6 +8,7 @@ use Rattle.csv.specs.declared.parser.State.{State}
 use Rattle.csv.specs.declared.parser.State.TheVariants as st
 use Rattle.csv.specs.Machine.{ends_at_end, field_after, fields_after, is_end, next_record, step}
 use Rattle.csv.specs.Reading.{default_config}
+use Rattle.mt_lists.proofs.LineFacts.{not_comma}
 use Rattle.mt_lists.specs.Lines.{ends_line, is_quote}
 use Rattle.mt_line_numbers.specs.LineEnds.{FirstLine, begins_with_line_end, without_line_ends}
 use Rattle.mt_line_numbers.specs.Records.{after_record, left_by}
@@ -68,9 +69,6 @@ field_starts (c ∷ rest) plain = rw plain refl
 -- a line end is no quote and no comma
 not_quote : (c : ℕ) → ends_line c ≡ true → is_quote c ≡ false
 not_quote c ends = grind (arith, nat_tests, ends)
-
-not_comma : (c : ℕ) → ends_line c ≡ true → (c == 44) ≡ false
-not_comma c ends = grind (arith, nat_tests, ends)
 
 -- a line with no quote, and then a line end, don't begin with a quote
 no_quote : (line rest : List ℕ) → list_any is_quote line ≡ false → (rest ≡ []) ⊎ (begins_with_line_end rest ≡ true) → begins_with_quote (line ++ rest) ≡ false

@@ -118,7 +118,7 @@ blank_read c tail ends =
     ]
 
 -- what ends a line is no comma
-not_comma : (c : ℕ) → ends_line c ≡ true → (c == 44) ≡ false
+pub not_comma : (c : ℕ) → ends_line c ≡ true → (c == 44) ≡ false
 not_comma c ends = grind (arith, nat_tests, ends)
 
 -- the records of a line and of what comes after it

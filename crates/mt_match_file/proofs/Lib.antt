@@ -1,4 +1,3 @@
 pub mod FaultFacts
 pub mod PlaceFacts
 pub mod ReadingFacts
-pub mod PushFacts

@@ -13,13 +13,13 @@ use Rattle.mt_terms.specs.Registration.Accepted.{IsRegistration}
 use Rattle.mt_terms.specs.Registration.Faults.{RecordFault, Fault, record_fault_alone}
 use Rattle.mt_terms.specs.Registration.Ids.{Bytes, is_dash}
 use Rattle.mt_terms.specs.Registration.Passes.{Numbered, and_then, at_record, numbered_from}
+use Rattle.mt_terms.proofs.ListFacts.{has_push, distinct_push}
 use Rattle.mt_order_laws.specs.Reordered.{IsOrderOfSome}
 use Rattle.mt_match_file.specs.Laws.{TellsAside, TellsPlaces}
 use Rattle.mt_match_file.specs.Submitted.{SoFar, Submitted, after, all_read, applicant_line, aside_at, aside_line, record_fault_at, counts_at, first_unplaced, four_of, head_line, is_number, line_of, match_of, nothing_read, number, one_of, place_named, placed_at, placed_of, program_line, submitted_by, totals_line, two_of}
 use Rattle.mt_match_file.specs.declared.line.Line.{Line}
 use Rattle.mt_match_file.specs.declared.line.Line.TheVariants.{Aside, Counts, Head, Place}
 use Rattle.mt_match_file.specs.declared.submitted_match.Count.TheVariants as count
-use Rattle.mt_match_file.proofs.PushFacts.{distinct_push, has_push}
 use Rattle.mt_ids.proofs.IdFacts.{found_below}
 
 -- What a record tells after others is of these ids: an applicant, and a place that is a program or none. Or it is a

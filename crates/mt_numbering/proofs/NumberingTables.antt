@@ -11,6 +11,7 @@ use Rattle.mt_terms.specs.Registration.Rows.{ids_of, applicant_ids}
 use Rattle.mt_terms.specs.Registration.Numbering.{names_of, program_in, lists_in, couple_in, market_by}
 use Rattle.mt_terms.specs.Registration.Accepted.{IsRegistration}
 use Rattle.mt_terms.proofs.BelowFacts.{length-map_below, map_below_at}
+use Rattle.mt_terms.proofs.ListFacts.{take_whole}
 use Rattle.mt_market.specs.Tables.{programs_with, couples_with, registered_of, AreTables}
 use Rattle.mt_numbering.specs.declared.entries.Entries.{Entries}
 use Rattle.mt_drafts.specs.declared.names.NameLists.{NameLists}
@@ -20,12 +21,6 @@ use Rattle.mt_numbering.specs.Numbered.{quota_in, ranking_in, lists_by, members_
 use Rattle.mt_id_lists.proofs.ListFacts.{get_or-set}
 use Rattle.mt_market.specs.declared.tables.Tables.{Tables}
 use Rattle.mt_market.proofs.TablesFacts.{length-couples_with, couple_at}
-
--- a part that is written back to the whole is the whole
-take_whole : {X : Type 0} (xs ys : List X) (n : ℕ) → length xs ≡ length ys → n ≡ length ys → take n (xs ++ drop (length xs) ys) ≡ xs
-take_whole xs ys n h e =
-    let none : drop (length xs) ys ≡ [] = drop_all (length xs) ys (omega arith) in
-    rw (none, append-nil) (take_all n xs (omega arith))
 
 -- the tables of programs, of lists and of couples
 module _ (N : Names) where

@@ -7,14 +7,7 @@ use Rattle.mt_terms.specs.Market.{Market, Partners, couple_of, is_member, agent_
 use Rattle.mt_terms.specs.WellFormed.{IsWellFormed}
 use Rattle.mt_terms.specs.declared.numbers.Agent.TheVariants.{Single, Couple}
 use Rattle.mt_terms.proofs.ListFacts.{head_differs, tail_distinct}
-use Rattle.mt_round_laws.proofs.RoundsAgents.{IsAgent, couple_members, member_of_agent, one_of_two}
-
--- who is a member is on the list of the two
-pub member_has : (p : Partners) (a : ℕ) → is_member p a ≡ true → has (p.first ∷ p.second ∷ []) a ≡ true
-member_has p a h = elim (or_cases (p.first == a) (p.second == a) h) [
-  | inl e ↦ or_left (p.first == a) (has (p.second ∷ []) a) e
-  | inr e ↦ or_right (p.first == a) (has (p.second ∷ []) a) (or_left (p.second == a) false e)
-]
+use Rattle.mt_round_laws.proofs.RoundsAgents.{IsAgent, couple_members, member_of_agent, one_of_two, either_member}
 
 -- and the other way round
 pub has_member_of : (p : Partners) (a : ℕ) → has (p.first ∷ p.second ∷ []) a ≡ true → is_member p a ≡ true
@@ -25,7 +18,7 @@ has_member_of p a h = elim (one_of_two p.first p.second a h) [
 
 -- A couple of the market has the members whose couple it is.
 pub belongs_to : (m : Market) → IsWellFormed m → (c a : ℕ) → c < length m.couples → is_member (couple_of m c) a ≡ true → agent_of m a ≡ Couple c
-belongs_to m wf c a l h = IsAgent.belongs (couple_members m wf c l) a (member_has (couple_of m c) a h)
+belongs_to m wf c a l h = IsAgent.belongs (couple_members m wf c l) a (either_member (couple_of m c) a h)
 
 pub member_by_agent : (m : Market) (c a : ℕ) → agent_of m a ≡ Couple c → is_member (couple_of m c) a ≡ true
 member_by_agent m c a e = has_member_of (couple_of m c) a (subst (λ g. has (members m g) a ≡ true) e (member_of_agent m a))

@@ -12,7 +12,7 @@ use Rattle.mt_terms.specs.WellFormed.{IsWellFormed}
 use Rattle.mt_terms.specs.Rounds.{Work, Move, is_same_agent, all_joined, has_entered, first_taken, move_of, displaced, left_programs, blocking_on_list, rechecked, after_taking, round_of, after_rounds, after_entries, is_on, IsRoundState}
 use Rattle.mt_terms.specs.declared.numbers.Agent.{Agent}
 use Rattle.mt_terms.specs.declared.numbers.Agent.TheVariants.{Single, Couple}
-use Rattle.mt_terms.proofs.AgentFacts.{is_same_agent_refl, same_agent}
+use Rattle.mt_terms.proofs.AgentFacts.{is_same_agent_refl, same_agent, agent_from_single}
 use Rattle.mt_round_laws.specs.Rounds.{state}
 use Rattle.mt_round_laws.proofs.RoundsLists.{In}
 use Rattle.mt_round_laws.proofs.RoundsPlaces.{at_none}
@@ -26,14 +26,6 @@ use Rattle.mt_order_laws.proofs.OrderLists.{distinct_without, has_put, same_map,
 use Rattle.mt_order_laws.proofs.FormedFacts.{couple_at, couple_within, well_formed_reordered}
 use Rattle.mt_order_laws.proofs.StableFacts.{best_in_any_order_lem}
 
--- an applicant that is a single among couples is that single
-single_from : (xs : List Partners) (k a b : ℕ) → agent_from xs k a ≡ Single b → b ≡ a
-single_from [] k a b e = cc
-single_from (x ∷ xs) k a b e = elim (cases_Bool (is_member x a)) [
-  | inl t ↦ absurd (let both : Couple k ≡ Single b = rw t at e in cc)
-  | inr t ↦ single_from xs (k + 1) a b (rw t at e)
-]
-
 -- the agent of an applicant among the first couples alone
 front_couple : (xs ys : List Partners) (k a c : ℕ) → agent_from (xs ++ ys) k a ≡ Couple c → c < k + length xs → agent_from xs k a ≡ Couple c
 front_couple [] ys k a c e l = let w = couple_within ys k a c e in absurd (omega arith)
@@ -43,7 +35,7 @@ front_couple (x ∷ xs) ys k a c e l = elim (cases_Bool (is_member x a)) [
 ]
 
 front_single : (xs ys : List Partners) (k a b : ℕ) → agent_from (xs ++ ys) k a ≡ Single b → agent_from xs k a ≡ Single b
-front_single [] ys k a b e = ap Single (sym (single_from ys k a b e))
+front_single [] ys k a b e = ap Single (sym (agent_from_single ys k a b e))
 front_single (x ∷ xs) ys k a b e = elim (cases_Bool (is_member x a)) [
   | inl t ↦ absurd (let both : Couple k ≡ Single b = rw t at e in cc)
   | inr t ↦ rw t (front_single xs ys (k + 1) a b (rw t at e))
@@ -266,7 +258,7 @@ entries_before_alike_lem m before after wf o best is_best budget =
     first_couple_waits_lem (reordered (before ++ after) m) (well_formed_reordered m wf (before ++ after) o) best (best_in_any_order_lem m (before ++ after) best is_best) room)
 
 -- couples that enter after others go on from them
-entries_go_on : (m : Market) (ks js : List ℕ) (left : ℕ) (places : Places)
+pub entries_go_on : (m : Market) (ks js : List ℕ) (left : ℕ) (places : Places)
     → after_entries m (ks ++ js) left places ≡ option_and_then (λ r. after_entries m js r.1 r.0) (after_entries m ks left places)
 entries_go_on m [] js left places = refl
 entries_go_on m (k ∷ ks) js left places = chain (after_rounds m k left places (Couple k ∷ [])) (λ r. entries_go_on m ks js r.1 r.0)

@@ -11,6 +11,8 @@ use Rattle.mt_terms.specs.declared.numbers.Agent.{Agent}
 use Rattle.mt_terms.specs.declared.numbers.Agent.TheVariants.{Single, Couple}
 use Rattle.mt_terms.proofs.BelowFacts.{length-map_below, map_below_at}
 use Rattle.mt_terms.proofs.ListFacts.{has_item, has-filter, distinct-filter}
+use Rattle.mt_terms.specs.Places.{ArePlaces}
+use Rattle.mt_terms.specs.Matching.{Places}
 use Rattle.mt_round_laws.proofs.RoundsAgents.{member_of_agent}
 use Rattle.mt_order_laws.specs.Reordered.{reordered, unless_aside, set_aside, IsOrderOfSome, IsOrderWithout}
 use Rattle.mt_order_laws.specs.Laws.{WellFormedInAnyOrder, WellFormedAside, NoneAside, OthersAreOrder}
@@ -97,6 +99,10 @@ same_second false x = refl
 pub same_members : (b : Bool) (x : Partners) (a : ℕ) → is_member (if b then record x { pairs = [] } else x) a ≡ is_member x a
 same_members true x a = refl
 same_members false x a = refl
+
+-- places of a market are places of it if couples are set aside
+pub places_aside : (m : Market) (aside : List ℕ) (places : Places) → ArePlaces m places → ArePlaces (set_aside aside m) places
+places_aside m aside places are = record { one_each = are.one_each; within = are.within }
 
 -- couples that are set aside keep their numbers
 pub couple_aside : (m : Market) (aside : List ℕ) (c : ℕ) → c < length m.couples → couple_of (set_aside aside m) c ≡ unless_aside aside m c

@@ -7,14 +7,8 @@ use Rattle.std.proofs.lemmas.List.{length-map}
 use Rattle.std.proofs.lemmas.List.Folds.{list_any-append}
 use Rattle.mt_terms.specs.Lists.{has, below, is_distinct}
 use Rattle.mt_terms.proofs.BelowFacts.{length-map_below}
+use Rattle.mt_terms.proofs.ListFacts.{has_front}
 use Rattle.mt_round_laws.proofs.RoundsLists.{In, in_has, has_in, in_below, of_below}
-
--- tests that hold together are equal
-pub same_bool : (x y : Bool) → (x ≡ true → y ≡ true) → (y ≡ true → x ≡ true) → x ≡ y
-same_bool true true f g = refl
-same_bool true false f g = sym (f refl)
-same_bool false true f g = g refl
-same_bool false false f g = refl
 
 pub and_swap : (x y : Bool) → (x && y) ≡ (y && x)
 and_swap true true = refl
@@ -77,10 +71,6 @@ distinct_without (x ∷ xs) y ys d =
     let out : has (xs ++ ys) x ≡ false =
     false_from_ne_true (has (xs ++ ys) x) (λ on. both_ways (has (xs ++ y ∷ ys) x) (not-true _ parts.0) (has_put xs y ys x on)) in
     and_from (not (has (xs ++ ys) x)) (is_distinct (xs ++ ys)) (not_from_false _ out) (distinct_without xs y ys parts.1)
-
--- a list has what its front has
-pub has_front : (us vs : List ℕ) (c : ℕ) → has us c ≡ true → has (us ++ vs) c ≡ true
-has_front us vs c h = list_any-append (λ z. z == c) us vs ∙ or_left (has us c) (has vs c) h
 
 -- the front of a list without repeats has none
 pub distinct_front : (xs ys : List ℕ) → is_distinct (xs ++ ys) ≡ true → is_distinct xs ≡ true

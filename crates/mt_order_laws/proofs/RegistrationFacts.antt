@@ -15,6 +15,7 @@ use Rattle.mt_terms.specs.Text.{name_of}
 use Rattle.mt_terms.specs.declared.limits.TheConstants.{LIMITS_2}
 use Rattle.mt_terms.proofs.IdFacts.{same_id, is_same, differ_parts}
 use Rattle.mt_terms.proofs.Totals.{total_below-mono, total_below-same, total_below-add, total_below-front, total_below-zero}
+use Rattle.mt_terms.proofs.ListFacts.{passes_at}
 use Rattle.mt_round_laws.proofs.RoundsLists.{found, all_pass, of_image, in_has}
 use Rattle.mt_order_laws.specs.Reordered.{reordered, unless_aside, set_aside, IsOrderOfSome}
 use Rattle.mt_order_laws.specs.Laws.{RegistrationInAnyOrder, RegistrationAside}
@@ -125,18 +126,12 @@ id_at (z ∷ zs) zero x l e = or_left (bytes_eq x z) (has_id zs x) (is_same x z 
 id_at (z ∷ zs) (suc j) x l e = or_right (bytes_eq x z) (has_id zs x) (id_at zs j x (omega arith) e)
 
 -- ids that all differ are at one place each
-one_place : (ids : List Bytes) (i j : ℕ) → all_differ bytes_eq ids ≡ true → i < length ids → j < length ids → get_or ids i [] ≡ get_or ids j [] → i ≡ j
+pub one_place : (ids : List Bytes) (i j : ℕ) → all_differ bytes_eq ids ≡ true → i < length ids → j < length ids → get_or ids i [] ≡ get_or ids j [] → i ≡ j
 one_place [] i j d il jl e = absurd (omega arith)
 one_place (z ∷ zs) zero zero d il jl e = refl
 one_place (z ∷ zs) zero (suc j) d il jl e = absurd (both_ways (has_id zs z) (differ_parts z zs d).0 (id_at zs j z (omega arith) (sym e)))
 one_place (z ∷ zs) (suc i) zero d il jl e = absurd (both_ways (has_id zs z) (differ_parts z zs d).0 (id_at zs i z (omega arith) e))
 one_place (z ∷ zs) (suc i) (suc j) d il jl e = ap suc (one_place zs i j (differ_parts z zs d).1 (omega arith) (omega arith) e)
-
--- what holds of each holds at a place
-holds_at : {X : Type 0} (p : X → Bool) (xs : List X) (i : ℕ) (d : X) → list_all p xs ≡ true → i < length xs → p (get_or xs i d) ≡ true
-holds_at p [] i d h l = absurd (omega arith)
-holds_at p (x ∷ xs) zero d h l = (and_parts (p x) (list_all p xs) h).0
-holds_at p (x ∷ xs) (suc i) d h l = holds_at p xs i d (and_parts (p x) (list_all p xs) h).1 (omega arith)
 
 -- the ids of numbers without repeats differ
 ids_differ : (ids : List Bytes) (xs : List ℕ) → all_differ bytes_eq ids ≡ true → is_distinct xs ≡ true → ((a : ℕ) → has xs a ≡ true → a < length ids)
@@ -184,7 +179,7 @@ module _ (r : Registered) (order : List ℕ) (reg : IsRegistration r) (o : IsOrd
     are_ids = all_pass (is_id LIMITS_2.id_bytes) (map (name_of r.names.couples) order) (λ x i.
         let c = of_image (name_of r.names.couples) x order i in
         subst (λ y. is_id LIMITS_2.id_bytes y ≡ true) c.2
-        (holds_at (is_id LIMITS_2.id_bytes) r.names.couples c.0 [] reg.couple_names.are_ids (few_names c.0 (in_has c.0 order c.1))));
+        (passes_at (is_id LIMITS_2.id_bytes) r.names.couples c.0 [] reg.couple_names.are_ids (few_names c.0 (in_has c.0 order c.1))));
     differ = ids_differ r.names.couples order reg.couple_names.differ o.distinct few_names;
   }
 

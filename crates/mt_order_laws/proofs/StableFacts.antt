@@ -11,6 +11,7 @@ use Rattle.mt_terms.specs.Stability.{is_listed, would_be_taken, blocks}
 use Rattle.mt_terms.specs.WellFormed.{IsMember, IsWellFormed}
 use Rattle.mt_terms.specs.declared.numbers.Agent.{Agent}
 use Rattle.mt_terms.specs.declared.numbers.Agent.TheVariants.{Single, Couple}
+use Rattle.mt_terms.proofs.BoolFacts.{same_bool}
 use Rattle.mt_stability_laws.proofs.ListLemmas.{list_any-not}
 use Rattle.mt_round_laws.proofs.RoundsLists.{each, all_pass}
 use Rattle.mt_round_laws.proofs.RoundsSets.{has_head}
@@ -18,7 +19,7 @@ use Rattle.mt_round_laws.proofs.RoundsAgents.{IsAgent, agent_on_list, agent_from
 use Rattle.mt_terms.proofs.ListFacts.{has_item}
 use Rattle.mt_order_laws.specs.Reordered.{reordered, unless_aside, set_aside, IsOrderOfSome, IsOrderWithout}
 use Rattle.mt_order_laws.specs.Laws.{FitsInAnyOrder, StableInAnyOrder, BestInAnyOrder}
-use Rattle.mt_order_laws.proofs.OrderLists.{same_bool, place_in}
+use Rattle.mt_order_laws.proofs.OrderLists.{place_in}
 use Rattle.mt_order_laws.proofs.FormedFacts.{couple_at, places_of_order, single_is, couple_within, no_single, single_in_order, couple_in_order, well_formed_reordered, couple_aside, couples_aside, agent_aside, well_formed_set_aside, order_of_some}
 
 -- a test of options and members

@@ -7,24 +7,11 @@ use Rattle.std.proofs.lemmas.List.Folds.{list_any-append}
 use Rattle.mt_terms.specs.Lists.{has, is_distinct}
 use Rattle.mt_terms.specs.Market.{Market, couple_of}
 use Rattle.mt_terms.specs.Matching.{Places}
-use Rattle.mt_terms.proofs.ListFacts.{has_item}
+use Rattle.mt_terms.proofs.ListFacts.{has_item, distinct_push}
 use Rattle.mt_order_laws.specs.Aside.{aside_after, aside_in_turn, entering_at_end, market_of_others}
 use Rattle.mt_order_laws.specs.Reordered.{others, IsOrderOfSome, IsOrderWithout}
 use Rattle.mt_order_laws.proofs.EndFacts.{entering_in_words_lem}
 use Rattle.mt_order_laws.proofs.FormedFacts.{others_are_order_lem}
-
-distinct_more : (xs : List ℕ) (x : ℕ) → is_distinct xs ≡ true → has xs x ≡ false → is_distinct (xs ++ x ∷ []) ≡ true
-distinct_more [] x d out = refl
-distinct_more (y ∷ ys) x d out =
-    let parts = and_parts (not (has ys y)) (is_distinct ys) d in
-    let outs = or_parts (y == x) (has ys x) out in
-    let other : (x == y) ≡ false = elim (cases_Bool (x == y)) [
-      | inl same ↦ absurd (both_ways (y == x) outs.0 (eq-eqb y x (sym (eqb-true x y same))))
-      | inr differ ↦ differ
-    ] in
-    let free : has (ys ++ x ∷ []) y ≡ false =
-    list_any-append (λ z. z == y) ys (x ∷ []) ∙ or_from (has ys y) (has (x ∷ []) y) (not-true (has ys y) parts.0) (or_from (x == y) false other refl) in
-    and_from (not (has (ys ++ x ∷ []) y)) (is_distinct (ys ++ x ∷ [])) (not_from_false _ free) (distinct_more ys x parts.1 outs.1)
 
 -- the couple that is set aside next is one of the others
 place_of_entering : (m : Market) (best : Places) (budget : ℕ) (aside : List ℕ) (k : ℕ) → entering_at_end (market_of_others aside m) best budget ≡ Some k
@@ -40,7 +27,7 @@ one_more m aside k o l =
     let on = has_item (others aside m) k l in
     let parts = and_parts (nat_lt x (length m.couples)) (not (has aside x)) (sym (IsOrderWithout.of_others (others_are_order_lem m aside) x) ∙ on) in
     record {
-      distinct = distinct_more aside x o.distinct (not-true (has aside x) parts.1);
+      distinct = distinct_push aside x o.distinct (not-true (has aside x) parts.1);
       within = λ c h. elim (or_cases (has aside c) (has (x ∷ []) c) (sym (list_any-append (λ z. z == c) aside (x ∷ [])) ∙ h)) [
         | inl before ↦ o.within c before
         | inr here ↦ elim (or_cases (x == c) false here) [

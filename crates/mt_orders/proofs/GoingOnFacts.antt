@@ -20,7 +20,7 @@ use Rattle.mt_couples.specs.declared.entering.Reached.{Reached}
 use Rattle.mt_order_laws.specs.Aside.{aside_after, aside_in_turn, entering_at_end}
 use Rattle.mt_order_laws.specs.Reordered.{others, reordered, IsOrderOfSome, IsOrderWithout}
 use Rattle.mt_order_laws.proofs.EndFacts.{entering_in_words_lem}
-use Rattle.mt_order_laws.proofs.EntryFacts.{entries_before_alike_lem, range_append}
+use Rattle.mt_order_laws.proofs.EntryFacts.{entries_before_alike_lem, range_append, entries_go_on}
 use Rattle.mt_order_laws.proofs.FormedFacts.{none_aside_lem, order_of_some, others_are_order_lem}
 use Rattle.mt_order_laws.proofs.StableFacts.{fits_in_any_order_lem}
 use Rattle.mt_orders.proofs.AsideCouples.{one_more}
@@ -32,18 +32,6 @@ HaveEntered m best budget xs n places left = after_entries (reordered (take n xs
 
 -- ---- numbers that enter, in two parts
 
-entries_in_two : (m : Market) (ks js : List ℕ) (left : ℕ) (places : Places)
-    → after_entries m (ks ++ js) left places ≡ option_and_then (λ r. after_entries m js r.1 r.0) (after_entries m ks left places)
-entries_in_two m [] js left places = refl
-entries_in_two m (k ∷ ks) js left places = chain (after_rounds m k left places (Couple k ∷ [])) (λ r. entries_in_two m ks js r.1 r.0)
-  where
-    chain : (o : Option (Places × ℕ))
-        → ((r : Places × ℕ) → after_entries m (ks ++ js) r.1 r.0 ≡ option_and_then (λ q. after_entries m js q.1 q.0) (after_entries m ks r.1 r.0))
-        → option_and_then (λ r. after_entries m (ks ++ js) r.1 r.0) o
-        ≡ option_and_then (λ r. after_entries m js r.1 r.0) (option_and_then (λ r. after_entries m ks r.1 r.0) o)
-    chain None rest = refl
-    chain (Some r) rest = rest r
-
 below_in_two : (n k : ℕ) → below (n + k) ≡ below n ++ range_with_len n k
 below_in_two n k = let here : 0 + n ≡ n = omega arith in range_append 0 n k ∙ ap (λ s. below n ++ range_with_len s k) here
 
@@ -51,7 +39,7 @@ entries_on : (m : Market) (budget n k left : ℕ) (best places : Places) → aft
     → after_entries m (below (n + k)) budget best ≡ after_entries m (range_with_len n k) left places
 entries_on m budget n k left best places e =
     ap (λ ks. after_entries m ks budget best) (below_in_two n k)
-    ∙ entries_in_two m (below n) (range_with_len n k) budget best
+    ∙ entries_go_on m (below n) (range_with_len n k) budget best
     ∙ ap (option_and_then (λ r. after_entries m (range_with_len n k) r.1 r.0)) e
 
 -- the rounds of one couple end if its entry does

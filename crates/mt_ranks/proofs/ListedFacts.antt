@@ -51,11 +51,6 @@ counted_more counts start xs i x inv h at w a v =
           omega (arith, inv a within, get_or-set_other counts x a (get_or counts x 0 + 1) 0 ne, count_elsewhere xs i a h (λ e. ne (sym e ∙ sym (get_or_read xs i x h at 0))))
     ]
 
-pub item_within : (xs : List ℕ) (i x n : ℕ) → i < length xs → x ≡ get_or xs i x → ((a : ℕ) → IsTrue (has xs a) → a < n) → x < n
-item_within xs i x n h at w =
-    let is : x ≡ get_or xs i 0 = get_or_read xs i x h at 0 in
-    rw is (w (get_or xs i 0) (has_item xs i h))
-
 -- the number of a list's elements that equal a is one at most where they are distinct
 no_more : (xs : List ℕ) (a : ℕ) → has xs a ≡ false → count (λ x. eqb x a) xs ≡ 0
 no_more [] a h = refl

@@ -36,7 +36,7 @@ couple_from (x ∷ xs) k a d h =
       | inr other ↦ let rest = couple_from xs (k + 1) a d (rw other at h) in (suc rest.0, omega (arith, rest.1), rest.2)
     ]
 
-no_list_of_member : (m : Market) (a : ℕ) → IsWellFormed m → is_single m a ≡ false → list_of m a ≡ []
+pub no_list_of_member : (m : Market) (a : ℕ) → IsWellFormed m → is_single m a ≡ false → list_of m a ≡ []
 no_list_of_member m a w h =
     let of = couple_from m.couples 0 a (record { first = 0; second = 0; pairs = [] }) h in
     elim (or_cases (eqb (couple_of m of.0).first a) (eqb (couple_of m of.0).second a) of.2) as (λ o. list_of m a ≡ []) [

@@ -9,6 +9,7 @@ use Rattle.mt_terms.specs.WellFormed.{IsWellFormed}
 use Rattle.mt_terms.specs.declared.numbers.Agent.{Agent}
 use Rattle.mt_terms.specs.declared.numbers.Agent.TheVariants.{Single, Couple}
 use Rattle.mt_terms.proofs.BelowFacts.{length-map_below, map_below_at}
+use Rattle.mt_terms.proofs.ListFacts.{has_push, take_whole}
 use Rattle.mt_order_laws.specs.Reordered.{reordered, IsOrderOfSome}
 use Rattle.mt_order_laws.proofs.FormedFacts.{couple_within, no_single, single_in_order, couple_in_order}
 use Rattle.mt_reordered.specs.Copied.{place_from, agent_by_place, renumbered, renumbered_agent}
@@ -64,12 +65,6 @@ places_step order i n d e before after l small was is =
     (λ c f low. let here : c < n = omega (arith, long) in at c f here ∙ sym (map_below_at new n c f here))
     ∙ ap (λ xs. map (place_from xs i) (below n)) (sym next)
 
--- a part that is written back to the whole is the whole
-take_whole : {X : Type 0} (xs ys : List X) (n : ℕ) → length xs ≡ length ys → n ≡ length ys → take n (xs ++ drop (length xs) ys) ≡ xs
-take_whole xs ys n h e =
-    let none : drop (length xs) ys ≡ [] = drop_all (length xs) ys (omega arith) in
-    rw (none, append-nil) (take_all n xs (omega arith))
-
 -- a copy of no place is none
 pub none_from : (C : Option ℕ → Type 0) → ((x : ℕ) → C (Some x) → ⊥) → (y : Option ℕ) → C y → y ≡ None
 none_from C differs None e = refl
@@ -114,10 +109,6 @@ or_none : (b : Bool) → (b || false) ≡ b
 or_none true = refl
 or_none false = refl
 
--- one couple more is on the list
-has_more : (xs : List ℕ) (x c : ℕ) → has (xs ++ x ∷ []) c ≡ (has xs c || (x == c))
-has_more xs x c = list_any-append (λ z. z == c) xs (x ∷ []) ∙ ap (λ (b : Bool). has xs c || b) (or_none (x == c))
-
 flag_set : (xs : List ℕ) (x n : ℕ) → set (map (has xs) (below n)) x true ≡ map (has (xs ++ x ∷ [])) (below n)
 flag_set xs x n =
     let old = has xs in
@@ -130,13 +121,13 @@ flag_set xs x n =
     elim (cases_eq x c) [
       | inl same ↦
           let room : x < length (map old (below n)) = omega arith in
-          let yes : new c ≡ true = has_more xs x c ∙ or_right (has xs c) (x == c) (eq-eqb x c same) in
+          let yes : new c ≡ true = has_push xs x c ∙ or_right (has xs c) (x == c) (eq-eqb x c same) in
           ap (λ j. get_or (set (map old (below n)) x true) j d) (sym same) ∙ get_or-set_same (map old (below n)) x true d room
           ∙ sym yes ∙ sym (map_below_at new n c d here)
       | inr other ↦
           let apart : c ≢ x = λ e. other (sym e) in
           let no : (x == c) ≡ false = ne_eqb x c other in
-          let stays : new c ≡ old c = has_more xs x c ∙ ap (λ (b : Bool). has xs c || b) no ∙ or_none (has xs c) in
+          let stays : new c ≡ old c = has_push xs x c ∙ ap (λ (b : Bool). has xs c || b) no ∙ or_none (has xs c) in
           get_or-set_other (map old (below n)) x c true d apart ∙ map_below_at old n c d here ∙ sym stays ∙ sym (map_below_at new n c d here)
     ])
 

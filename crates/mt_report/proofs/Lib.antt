@@ -1,4 +1,3 @@
 pub mod AppendsFacts
 pub mod LineFacts
 pub mod CountFacts
-pub mod AsideFacts

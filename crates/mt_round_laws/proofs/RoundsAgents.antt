@@ -9,6 +9,7 @@ use Rattle.mt_terms.specs.WellFormed.{IsWellFormed}
 use Rattle.mt_terms.specs.Rounds.{is_same_agent}
 use Rattle.mt_terms.specs.declared.numbers.Agent.{Agent}
 use Rattle.mt_terms.specs.declared.numbers.Agent.TheVariants.{Single, Couple}
+use Rattle.mt_terms.proofs.AgentFacts.{agent_from_single}
 use Rattle.mt_round_laws.proofs.RoundsLists.{In, in_image, of_image, in_kept, of_kept, in_below, of_below, found, finds, has_in, in_has}
 use Rattle.mt_round_laws.proofs.RoundsSets.{has_head}
 use Rattle.mt_round_laws.proofs.RoundsPlaces.{movers, send_there, send_elsewhere}
@@ -47,14 +48,6 @@ agent_from_couple (x ∷ xs) c a d none e = elim (cases_Bool (is_member x a)) [
 
     later : HasMember xs (c + 1) a d none → HasMember (x ∷ xs) c a d none
     later w = (suc w.0, omega arith, omega arith, w.3)
-
--- an applicant that is a single is that single
-agent_from_single : (xs : List Partners) (c a b : ℕ) → agent_from xs c a ≡ Single b → b ≡ a
-agent_from_single [] c a b e = cc
-agent_from_single (x ∷ xs) c a b e = elim (cases_Bool (is_member x a)) [
-  | inl t ↦ absurd (let at : Couple c ≡ Single b = rw t at e in cc)
-  | inr t ↦ agent_from_single xs (c + 1) a b (rw t at e)
-]
 
 -- who stands on a list of one
 only_one : (x a : ℕ) → has (x ∷ []) a ≡ true → x ≡ a
@@ -110,7 +103,7 @@ agent_of_applicant m wf a l = by_kind (agent_of m a) refl
         couple_members m wf c (omega arith)
 
 -- who is one of a couple's two members stands on their list
-either_member : (p : Partners) (a : ℕ) → is_member p a ≡ true → has (p.first ∷ p.second ∷ []) a ≡ true
+pub either_member : (p : Partners) (a : ℕ) → is_member p a ≡ true → has (p.first ∷ p.second ∷ []) a ≡ true
 either_member p a h = elim (or_cases (p.first == a) (p.second == a) h) [
   | inl e ↦ or_left (p.first == a) (has (p.second ∷ []) a) e
   | inr e ↦ or_right (p.first == a) (has (p.second ∷ []) a) (or_left (p.second == a) false e)

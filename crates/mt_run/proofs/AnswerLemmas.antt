@@ -6,20 +6,12 @@ use Rattle.mt_terms.specs.Market.{Registered}
 use Rattle.mt_terms.specs.Matching.{Places}
 use Rattle.mt_terms.specs.Registration.Faults.{Fault}
 use Rattle.mt_terms.specs.Rounds.{stage}
+use Rattle.mt_answer.proofs.WayFacts.{SameAnswer, stage_once}
 use Rattle.mt_stability_laws.proofs.ExclusionLemmas.{best_is_unique_lem}
 use Rattle.mt_answer.specs.Answer.{IsAnswerOfStage, IsAnswerOfMarket}
 use Rattle.mt_input.specs.Files.{market_in}
 use Rattle.mt_run.specs.Answer.{IsAnswerOfFault}
 use Rattle.mt_run.specs.Laws.{OneAnswer}
-
--- two answers are one: code and text
-abbrev SameAnswer : ℕ → ℕ → List ℕ → List ℕ → Type 0
-SameAnswer c d text other = (c ≡ d) × (text ≡ other)
-
-stage_once : (r : Registered) (best : Places) (s : Option (Places × ℕ)) (c d : ℕ) (text other : List ℕ)
-    → IsAnswerOfStage r best s c text → IsAnswerOfStage r best s d other → SameAnswer c d text other
-stage_once r best None c d text other h k = (h.0 ∙ sym k.0, h.1 ∙ sym k.1)
-stage_once r best (Some s) c d text other h k = (h.0 ∙ sym k.0, h.1 ∙ sym k.1)
 
 market_once : (r : Registered) (budget c d : ℕ) (text other : List ℕ) → IsAnswerOfMarket r budget c text → IsAnswerOfMarket r budget d other → SameAnswer c d text other
 market_once r budget c d text other h k =

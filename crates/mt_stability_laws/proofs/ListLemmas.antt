@@ -76,11 +76,6 @@ pub none_from_each : (test : Set) (xs : List ℕ) → ((a : ℕ) → IsTrue (has
 none_from_each test [] h = refl
 none_from_each test (x ∷ xs) h = or_from _ _ (h x (grind (arith, nat_tests))) (none_from_each test xs (λ a on. h a (or_right _ _ on)))
 
--- whether some mapped element passes
-pub list_any-map : {X Y : Type 0} (test : Y → Bool) (f : X → Y) (xs : List X) → list_any test (map f xs) ≡ list_any (λ x. test (f x)) xs
-list_any-map test f [] = refl
-list_any-map test f (x ∷ xs) = ap (λ (b : Bool). test (f x) || b) (list_any-map test f xs)
-
 -- one step of the next lemma
 until-map_step : {X Y : Type 0} (test : Y → Bool) (f : X → Y) (x : X) (xs : List X) (b : Bool)
     → until test (map f xs) ≡ map f (until (λ y. test (f y)) xs)

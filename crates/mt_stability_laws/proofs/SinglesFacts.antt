@@ -12,11 +12,12 @@ use Rattle.mt_terms.specs.Matching.{Places, at, filled, place_of, is_program, is
 use Rattle.mt_terms.specs.Choice.{choice}
 use Rattle.mt_terms.specs.Stability.{stable, fits, has_own_option, is_listed, blocks, would_be_taken}
 use Rattle.mt_terms.specs.Best.{better_programs}
+use Rattle.mt_terms.proofs.ListFacts.{list_any-map}
 use Rattle.mt_stability_laws.specs.Singles.{StabilityOfSingles}
 pub use Rattle.mt_stability_laws.specs.Singles.{IsStableForSingles}
 use Rattle.mt_terms.specs.declared.numbers.Agent.{Agent}
 use Rattle.mt_terms.specs.declared.numbers.Agent.TheVariants.{Single}
-use Rattle.mt_stability_laws.proofs.ListLemmas.{all_below, each_below, none_below, each_fails_below, count_none, none_has, none_from_each, list_any-map, until-map, filter_all}
+use Rattle.mt_stability_laws.proofs.ListLemmas.{all_below, each_below, none_below, each_fails_below, count_none, none_has, none_from_each, until-map, filter_all}
 use Rattle.mt_stability_laws.proofs.TakenLemmas.{single_taken_lem}
 
 -- without couples every applicant is an agent

@@ -32,15 +32,6 @@ until_front {X} test (x ∷ xs) i d within = by_head (test x) refl i within (unt
         let w = later j d (omega arith) in
         (omega (arith, w.0), rw goes w.1)
 
--- no more stand there than on the list
-pub until_within : {X : Type 0} (test : X → Bool) (xs : List X) → length (until test xs) ≤ length xs
-until_within test [] = omega arith
-until_within {X} test (x ∷ xs) = by_head (test x) refl (until_within test xs)
-  where
-    by_head : (t : Bool) → test x ≡ t → length (until test xs) ≤ length xs → length (until test (x ∷ xs)) ≤ suc (length xs)
-    by_head true stops later = rw stops (omega arith)
-    by_head false goes later = rw goes (omega arith)
-
 -- they are the front of the list, up to how many they are
 pub until_take : {X : Type 0} (test : X → Bool) (xs : List X) → take (length (until test xs)) xs ≡ until test xs
 until_take test [] = refl

@@ -14,9 +14,6 @@ each_all P xs i past all y on = all y (ap (λ ys. has ys y) (take_all i xs past)
 pub has_end : (xs : List ℕ) (x : ℕ) → has (xs ++ x ∷ []) x ≡ true
 has_end xs x = list_any-append (λ y. y == x) xs (x ∷ []) ∙ or_right (has xs x) _ (or_left (x == x) false (eq-eqb x x refl))
 
-pub has_still : (xs ys : List ℕ) (y : ℕ) → has xs y ≡ true → has (xs ++ ys) y ≡ true
-has_still xs ys y on = list_any-append (λ z. z == y) xs ys ∙ or_left (has xs y) (has ys y) on
-
 pub has_parts : (xs : List ℕ) (x y : ℕ) → has (xs ++ x ∷ []) y ≡ true → (has xs y ≡ true) ⊎ (x ≡ y)
 has_parts xs x y on = elim (or_cases (has xs y) (has (x ∷ []) y) (sym (list_any-append (λ z. z == y) xs (x ∷ [])) ∙ on)) [
   | inl earlier ↦ inl earlier

@@ -7,13 +7,10 @@ use Rattle.std.proofs.lemmas.Bool.{cases_eq, cases_lt, eq-eqb, eqb-true, false�
 use Rattle.std.proofs.lemmas.List.Folds.{list_any-append}
 use Rattle.std.proofs.lemmas.Map.Keys.{sorted_tail}
 use Rattle.mt_terms.specs.Lists.{has}
+use Rattle.mt_terms.proofs.ListFacts.{has_push}
 use Rattle.mt_bits.specs.Members.{is_in, IsFirstFrom}
 use Rattle.mt_stage_tables.proofs.GrowingFacts.{has_parts}
 use Rattle.mt_stage_tables.proofs.OrderFacts.{all_above, below_rest}
-
--- a number more at the end
-has_push : (ks : List ℕ) (k r : ℕ) → has (ks ++ k ∷ []) r ≡ (has ks r || (k == r))
-has_push ks k r = list_any-append (λ x. x == r) ks (k ∷ []) ∙ ap (λ (b : Bool). has ks r || b) (or-false (k == r))
 
 sorted_push : (ks : List ℕ) (k : ℕ) → IsStrictlySortedBy nat_cmp ks → ((r : ℕ) → has ks r ≡ true → r < k) → IsStrictlySortedBy nat_cmp (ks ++ k ∷ [])
 unfolding IsStrictlySortedBy

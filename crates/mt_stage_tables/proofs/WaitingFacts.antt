@@ -146,7 +146,7 @@ beyond (suc n) g (x ∷ xs) once =
     (λ same. off_rest n g xs (subst (λ y. AllByRecursion (λ z. is_same_agent y z ≡ false) xs) (sym (same_agent g x same)) once.0))
 
 -- the equality by which a set tells agents apart is that of their kinds and numbers
-same_eq : (g h : Agent) → eq-value.it g h ≡ is_same_agent g h
+pub same_eq : (g h : Agent) → eq-value.it g h ≡ is_same_agent g h
 same_eq (Single a) (Single b) = refl
 same_eq (Single a) (Couple d) = refl
 same_eq (Couple c) (Single b) = refl

@@ -12,6 +12,7 @@ use Rattle.mt_terms.specs.WellFormed.{IsWellFormed}
 use Rattle.mt_terms.specs.declared.numbers.Agent.TheVariants.{Couple, Single}
 use Rattle.mt_terms.proofs.BelowFacts.{length-map_below, map-below_more, map_below_at}
 use Rattle.mt_terms.proofs.Totals.{count_below-same}
+use Rattle.mt_ranks.proofs.LiveMarket.{no_list_of_member}
 use Rattle.mt_ranks.specs.Ranked.{is_single, is_single_agent}
 use Rattle.mt_report.proofs.CountFacts.{count-push}
 use Rattle.mt_verify.specs.Held.{held_option}
@@ -58,23 +59,6 @@ held_counts-map h n =
     ∙ greatest-same (λ i. ordinal (get_or (map h (below n)) i None)) (λ a. ordinal (h a)) n (λ a within. ap ordinal (map_below_at h n a None within)) in
     ap (λ (t : ℕ). map (λ k. count (is_program k) (map h (below n))) (below t)) top
     ∙ ap (λ (f : ℕ → ℕ). map f (below (greatest_below (λ a. ordinal (h a)) n))) (fun_ext (λ k. count_of_numbers (is_program k) h n))
-
--- who is no single is one of the two members of some couple, and has no list
-couple_from : (cs : List Partners) (k a : ℕ) (d : Partners) → is_single_agent (agent_from cs k a) ≡ false → (c : ℕ) × (c < length cs) × (is_member (get_or cs c d) a ≡ true)
-couple_from [] k a d h = absurd (true≢false h)
-couple_from (x ∷ xs) k a d h =
-    elim (cases_Bool (is_member x a)) as (λ o. (c : ℕ) × (c < length (x ∷ xs)) × (is_member (get_or (x ∷ xs) c d) a ≡ true)) [
-      | inl member ↦ (0, omega arith, member)
-      | inr other ↦ let rest = couple_from xs (k + 1) a d (rw other at h) in (suc rest.0, omega (arith, rest.1), rest.2)
-    ]
-
-no_list_of_member : (m : Market) (a : ℕ) → IsWellFormed m → is_single m a ≡ false → list_of m a ≡ []
-no_list_of_member m a w h =
-    let of = couple_from m.couples 0 a (record { first = 0; second = 0; pairs = [] }) h in
-    elim (or_cases (eqb (couple_of m of.0).first a) (eqb (couple_of m of.0).second a) of.2) as (λ o. list_of m a ≡ []) [
-      | inl is_first ↦ rw (eqb-true (couple_of m of.0).first a is_first) at (w.first_member of.0 of.1).no_list
-      | inr is_second ↦ rw (eqb-true (couple_of m of.0).second a is_second) at (w.second_member of.0 of.1).no_list
-    ]
 
 and_same : (b c : Bool) → (b ≡ false → c ≡ false) → c ≡ (b && c)
 and_same true c h = refl

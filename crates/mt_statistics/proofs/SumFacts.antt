@@ -9,7 +9,7 @@ use Rattle.mt_terms.specs.Matching.{Places, filled, holds, is_program, options, 
 use Rattle.mt_terms.specs.declared.numbers.Agent.TheVariants.{Single}
 use Rattle.mt_terms.proofs.Totals.{count_below-one, total_below-add, total_below-same, total_below-swap, total_below-zero}
 use Rattle.mt_terms.specs.Stability.{has_own_option}
-use Rattle.mt_stability_laws.proofs.ListLemmas.{list_any-map}
+use Rattle.mt_terms.proofs.ListFacts.{list_any-map}
 use Rattle.mt_verdict_laws.proofs.VerdictLemmas.{agent_cases}
 use Rattle.mt_verify.proofs.FindFacts.{any_has_position}
 use Rattle.mt_verify.proofs.OptionFacts.{holds-single_placement, own_option-Single}

@@ -1,9 +1,11 @@
 -- Ids, and their numbers on lists.
-use Rattle.std.proofs.Common.{◌≡◌, suc, ◌+◌, ◌<◌, Bool, true, false, not, ◌||◌, List, [], ◌∷◌, length, refl, arith, cond, ◌&&◌, ◌++◌, sym}
+use Rattle.std.proofs.Common.{◌≡◌, ℕ, suc, ◌+◌, ◌<◌, ◌≤◌, nat_lt, nat_le, leb-true, Bool, true, false, not, ◌||◌, List, [], ◌∷◌, length, refl, arith, cond, ◌&&◌, ◌++◌, sym}
 use Rattle.std.specs.Prelude.{bytes_eq}
+use Rattle.std.specs.List.{list_all}
 use Rattle.std.proofs.lemmas.Slice.Eq.{bytes_eq-Decides}
-use Rattle.mt_terms.specs.Registration.Ids.{Bytes, has_id, number_of, all_differ}
-use Rattle.std.proofs.lemmas.Bool.{false_from_ne_true, or_parts}
+use Rattle.mt_terms.specs.Registration.Ids.{Bytes, has_id, number_of, all_differ, is_id, is_id_byte, is_dash}
+use Rattle.mt_terms.proofs.BoolFacts.{same_bool}
+use Rattle.std.proofs.lemmas.Bool.{false_from_ne_true, or_parts, and_parts}
 use Rattle.std.proofs.lemmas.List.Folds.{list_any-append}
 
 pub same_id : (x y : Bytes) → bytes_eq x y ≡ true → x ≡ y
@@ -11,6 +13,17 @@ same_id x y h = (bytes_eq-Decides x y).0 h
 
 pub is_same : (x y : Bytes) → x ≡ y → bytes_eq x y ≡ true
 is_same x y e = (bytes_eq-Decides x y).1 e
+
+-- the comparison of two ids, with the two exchanged
+pub bytes_eq_sym : (x y : Bytes) → bytes_eq x y ≡ bytes_eq y x
+bytes_eq_sym x y = same_bool (bytes_eq x y) (bytes_eq y x) (λ h. is_same y x (sym (same_id x y h))) (λ h. is_same x y (sym (same_id y x h)))
+
+-- an id of at most n bytes
+pub id_short : (n : ℕ) (id : Bytes) → is_id n id ≡ true → length id ≤ n
+id_short n id h =
+    let all = and_parts (nat_lt 0 (length id) && nat_le (length id) n && list_all is_id_byte id) (not (is_dash id)) h in
+    let front = and_parts (nat_lt 0 (length id) && nat_le (length id) n) (list_all is_id_byte id) all.0 in
+    leb-true (length id) n (and_parts (nat_lt 0 (length id)) (nat_le (length id) n) front.0).1
 
 -- an id that differs from another one, the other way round
 pub differs : (x y : Bytes) → bytes_eq x y ≡ false → bytes_eq y x ≡ false

@@ -1,5 +1,6 @@
 pub mod AgentFacts
 pub mod BelowFacts
+pub mod BoolFacts
 pub mod IdFacts
 pub mod ListFacts
 pub mod LiveFacts

@@ -1,10 +1,12 @@
 -- Lists of numbers: what a filtered list, a front and each place has, and how many pass a test. Other crates' proofs
 -- cite these lemmas.
-use Rattle.std.proofs.Common.{◌≡◌, ◌≢◌, ℕ, zero, suc, ◌+◌, ◌<◌, ◌≤◌, Bool, true, false, not, ◌||◌, ◌&&◌, ◌==◌, nat_lt, List, [], ◌∷◌, length, take, filter, get_or, Some, IsTrue, IsFalse, refl, ap, sym, ◌∙◌, inl, inr, arith, eq-eqb, ne_eqb, if◌then◌else◌}
-use Rattle.std.specs.List.{position}
+use Rattle.std.proofs.Common.{◌≡◌, ◌≢◌, ℕ, zero, suc, ◌+◌, ◌<◌, ◌≤◌, Bool, true, false, not, ◌||◌, ◌&&◌, ◌==◌, nat_lt, List, [], ◌∷◌, ◌++◌, length, map, take, drop, filter, get_or, append-nil, Some, IsTrue, IsFalse, refl, ap, sym, ◌∙◌, inl, inr, arith, eq-eqb, ne_eqb, if◌then◌else◌}
+use Rattle.std.specs.List.{position, list_all, list_any}
 use Rattle.std.specs.List.Sorted.{IsPartitionPoint}
 use Rattle.std.proofs.lemmas.Bool.{cases_Bool, or_left, or_right, and_parts, and_from, both_ways, lt-ltb, le-ltb, false_from_ne_true, false≢true, not-true, not_from_false}
 use Rattle.std.proofs.lemmas.Bool.Decides.{nat_tests}
+use Rattle.std.proofs.lemmas.List.{get_or_read, take_all, drop_all}
+use Rattle.std.proofs.lemmas.List.Folds.{list_any-append}
 use Rattle.std.proofs.lemmas.List.Quantifiers.{position-Some}
 use Rattle.mt_terms.specs.Lists.{Set, has, until, count, is_distinct, with_one}
 use Rattle.mt_terms.specs.Matching.{ranks_from}
@@ -62,6 +64,51 @@ head_differs x xs k d h e =
 -- the rest of a list without repeats has none
 pub tail_distinct : (x : ℕ) (xs : List ℕ) → IsTrue (is_distinct (x ∷ xs)) → IsTrue (is_distinct xs)
 tail_distinct x xs d = (and_parts (not (has xs x)) (is_distinct xs) d).1
+
+-- a list has what its front has
+pub has_front : (us vs : List ℕ) (c : ℕ) → has us c ≡ true → has (us ++ vs) c ≡ true
+has_front us vs c h = list_any-append (λ z. z == c) us vs ∙ or_left (has us c) (has vs c) h
+
+-- what a list has with one number more at its end
+pub has_push : (xs : List ℕ) (c a : ℕ) → has (xs ++ c ∷ []) a ≡ (has xs a || c == a)
+has_push [] c a = grind (arith, nat_tests)
+has_push (x ∷ xs) c a = grind (arith, nat_tests, has_push xs c a)
+
+-- a list without repeats has none with a new number at its end
+pub distinct_push : (xs : List ℕ) (c : ℕ) → is_distinct xs ≡ true → has xs c ≡ false → is_distinct (xs ++ c ∷ []) ≡ true
+distinct_push [] c d h = refl
+distinct_push (x ∷ xs) c d h = grind (arith, nat_tests, has_push xs c x, distinct_push xs c)
+
+-- if all elements of a list are below a number, so is the one that a loop reads
+pub item_below : (xs : List ℕ) (i x n : ℕ) → i < length xs → x ≡ get_or xs i x → ((a : ℕ) → IsTrue (has xs a) → a < n) → x < n
+item_below xs i x n h at w =
+    let is : x ≡ get_or xs i 0 = get_or_read xs i x h at 0 in
+    rw is (w (get_or xs i 0) (has_item xs i h))
+
+-- what passes at each element passes at each place
+pub passes_at : {X : Type 0} (p : X → Bool) (xs : List X) (i : ℕ) (d : X) → list_all p xs ≡ true → i < length xs → p (get_or xs i d) ≡ true
+passes_at p [] i d h k = absurd (omega arith)
+passes_at p (x ∷ xs) zero d h k = (and_parts (p x) _ h).0
+passes_at p (x ∷ xs) (suc i) d h k = passes_at p xs i d (and_parts (p x) _ h).1 (omega arith)
+
+-- whether some mapped element passes
+pub list_any-map : {X Y : Type 0} (test : Y → Bool) (f : X → Y) (xs : List X) → list_any test (map f xs) ≡ list_any (λ x. test (f x)) xs
+list_any-map test f [] = refl
+list_any-map test f (x ∷ xs) = ap (λ (b : Bool). test (f x) || b) (list_any-map test f xs)
+
+-- a part that is written back to the whole is the whole
+pub take_whole : {X : Type 0} (xs ys : List X) (n : ℕ) → length xs ≡ length ys → n ≡ length ys → take n (xs ++ drop (length xs) ys) ≡ xs
+take_whole xs ys n h e =
+    let none : drop (length xs) ys ≡ [] = drop_all (length xs) ys (omega arith) in
+    rw (none, append-nil) (take_all n xs (omega arith))
+
+-- what stands before the first element that passes is no longer than the list
+pub until-le : {X : Type 0} (test : X → Bool) (xs : List X) → length (until test xs) ≤ length xs
+until-le test [] = omega arith
+until-le test (x ∷ xs) = elim (cases_Bool (test x)) [
+  | inl here ↦ rw here (omega arith)
+  | inr other ↦ rw other (let rest = until-le test xs in omega arith)
+]
 
 -- two positions with one number are one
 pub same_position : (xs : List ℕ) (j k : ℕ) → IsTrue (is_distinct xs) → j < length xs → k < length xs → get_or xs j 0 ≡ get_or xs k 0 → j ≡ k

@@ -13,8 +13,9 @@ use Rattle.mt_terms.specs.Registration.Accepted.{IsRegistration}
 use Rattle.mt_terms.specs.Registration.Ids.{Bytes}
 use Rattle.mt_terms.specs.Text.{all_filled, line, name_of, place_text, positions, unmatched}
 use Rattle.mt_terms.proofs.ListFacts.{count-le-length}
+use Rattle.mt_terms.proofs.IdFacts.{id_short}
 use Rattle.mt_text_laws.proofs.LineTexts.{text_of}
-use Rattle.mt_text_laws.proofs.PublishedRows.{AreTellable, IsTellable, applicant_fields, aside_fields, head_fields, id_at, id_short, is_told, place_plain, program_fields, rows_with, totals_fields}
+use Rattle.mt_text_laws.proofs.PublishedRows.{AreTellable, IsTellable, applicant_fields, aside_fields, head_fields, id_at, is_told, place_plain, program_fields, rows_with, totals_fields}
 
 -- a sum of terms that are at most so much
 pub total_at_most : (f : ℕ → ℕ) (most n : ℕ) → ((k : ℕ) → f k ≤ most) → total_below f n ≤ n * most
@@ -79,13 +80,13 @@ lines_at_most f most a (suc n) end le h =
 module _ (m : Market) (names : Names) (places : Places) (received : List ℕ) (t : IsTellable m names places received) where
   applicant_line_short : (a : ℕ) → a < applicants m → length (line (applicant_fields names places a)) ≤ 140
   applicant_line_short a lt =
-      let id = id_short (name_of names.applicants a) (id_at names.applicants a t.applicant_ids (omega (arith, t.applicant_each))) in
+      let id = id_short 64 (name_of names.applicants a) (id_at names.applicants a t.applicant_ids (omega (arith, t.applicant_each))) in
       let place = (place_plain m names places received t (place_of places a) (t.within a)).1 in
       omega (arith, length-three (codes "applicant") (name_of names.applicants a) (place_text names (place_of places a)))
 
   program_line_short : (p : ℕ) → p < length m.programs → length (line (program_fields m names places received p)) ≤ 106
   program_line_short p lt =
-      let id = id_short (name_of names.programs p) (id_at names.programs p t.program_ids (omega (arith, t.program_each))) in
+      let id = id_short 64 (name_of names.programs p) (id_at names.programs p t.program_ids (omega (arith, t.program_each))) in
       let quota = (t.quota p).short in
       let placed = (t.placed p).short in
       let proposed = (t.proposed p).short in
@@ -111,7 +112,7 @@ module _ (m : Market) (names : Names) (places : Places) (received : List ℕ) (t
   couple_lines_short aside are [] h = omega arith
   couple_lines_short aside are (c ∷ cs) h =
       let rest = couple_lines_short aside are cs (λ d is. h d (or_right (c == d) (has cs d) is)) in
-      let id = id_short (name_of names.couples c) (id_at names.couples c are.couple_ids (are.within c (h c (here c (has cs c))))) in
+      let id = id_short 64 (name_of names.couples c) (id_at names.couples c are.couple_ids (are.within c (h c (here c (has cs c))))) in
       omega (arith, length-append (line (aside_fields names c)) (text_of (map (aside_fields names) cs)), length-two (codes "aside") (name_of names.couples c))
     where
       here : (c : ℕ) (b : Bool) → (c == c || b) ≡ true

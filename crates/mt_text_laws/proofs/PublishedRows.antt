@@ -12,6 +12,7 @@ use Rattle.std.proofs.lemmas.Fmt.{decimal_digit, decimal_is_IsNumeral, first_dec
 use Rattle.std.proofs.lemmas.Str.Parse.{digit_from_value}
 use Rattle.std.proofs.lemmas.List.Concat.{flat_map-append}
 use Rattle.std.proofs.lemmas.List.Folds.{flat_map-map, list_all-append}
+use Rattle.mt_terms.proofs.IdFacts.{id_short}
 use Rattle.mt_match_file.specs.Submitted.{has_leading_zero, is_number, number}
 use Rattle.mt_terms.specs.Lists.{below, has, is_distinct}
 use Rattle.mt_terms.specs.Market.{Market, Names, applicants, program_of}
@@ -142,9 +143,6 @@ id_parts id h =
 pub id_plain : (id : Bytes) → is_id 64 id ≡ true → is_plain id ≡ true
 id_plain id h = let parts = id_parts id h in and_from (nat_lt 0 (length id)) (list_all is_id_byte id) parts.0 parts.2
 
-pub id_short : (id : Bytes) → is_id 64 id ≡ true → length id ≤ 64
-id_short id h = leb-true (length id) 64 (id_parts id h).1
-
 pub id_no_dash : (id : Bytes) → is_id 64 id ≡ true → is_dash id ≡ false
 id_no_dash id h = by (is_dash id) (id_parts id h).3
   where
@@ -200,7 +198,7 @@ module _ (m : Market) (names : Names) (places : Places) (received : List ℕ) (t
   place_plain (Some p) h =
       let lt : p < length names.programs = omega (arith, h p refl, t.program_each) in
       let id = id_at names.programs p t.program_ids lt in
-      (id_plain (name_of names.programs p) id, id_short (name_of names.programs p) id)
+      (id_plain (name_of names.programs p) id, id_short 64 (name_of names.programs p) id)
 
   applicant_plain : (a : ℕ) → a < applicants m → is_plain_row (applicant_fields names places a) ≡ true
   applicant_plain a lt =

@@ -11,6 +11,7 @@ use Rattle.mt_terms.specs.Market.{Market, Pair, couple_of, list_of}
 use Rattle.mt_terms.specs.Matching.{Places, better, couple_placement, holds, options, place_of, single_placement}
 use Rattle.mt_terms.specs.declared.numbers.Agent.{Agent}
 use Rattle.mt_terms.specs.declared.numbers.Agent.TheVariants.{Couple, Single}
+use Rattle.mt_terms.proofs.ListFacts.{until-le}
 use Rattle.mt_verify.specs.Held.{held_option}
 use Rattle.mt_verify.proofs.BlockingFacts.{holds_pair, holds_program}
 use Rattle.mt_verify.proofs.FindFacts.{position-map}
@@ -32,13 +33,6 @@ until_found test xs k found = elim (cases_lt (position_or_len test xs) (length x
   | inr high ↦
       let is : None ≡ Some k = rw (le-ltb (position_or_len test xs) (length xs) high) at found in
       absurd (cc)
-]
-
-pub until-le : {X : Type 0} (test : X → Bool) (xs : List X) → length (until test xs) ≤ length xs
-until-le test [] = omega arith
-until-le test (x ∷ xs) = elim (cases_Bool (test x)) [
-  | inl here ↦ rw here (omega arith)
-  | inr other ↦ rw other (let rest = until-le test xs in omega arith)
 ]
 
 pub until_not_found : {X : Type 0} (test : X → Bool) (xs : List X) → position test xs ≡ None → length (until test xs) ≡ length xs

@@ -6,10 +6,10 @@ use Rattle.mt_terms.specs.Market.{Market, Pair, list_of, couple_of, agent_of}
 use Rattle.mt_terms.specs.Matching.{Places, place_of, is_program, is_same_place, holds, single_placement, couple_placement}
 use Rattle.mt_terms.specs.Stability.{has_own_option}
 use Rattle.mt_terms.specs.declared.numbers.Agent.TheVariants.{Single, Couple}
+use Rattle.mt_terms.proofs.ListFacts.{list_any-map}
 use Rattle.mt_verify.specs.Listed.{is_off_own_list}
-use Rattle.mt_stability_laws.proofs.ListLemmas.{list_any-map}
 use Rattle.mt_verdict_laws.proofs.VerdictLemmas.{agent_cases}
-use Rattle.mt_terms.proofs.AgentFacts.{holds_single}
+use Rattle.mt_terms.proofs.AgentFacts.{holds_single, single_is_itself}
 
 pub and-true : (b : Bool) → (b && true) ≡ b
 and-true true = refl
@@ -42,13 +42,6 @@ own_option-Couple m places c =
     ap (λ (t : Bool). t || (not (is_some (place_of places a)) && (not (is_some (place_of places b)) && true)))
     (list_any-map (holds places) (couple_placement a b) pairs ∙ ap (λ test. list_any test pairs) (holds-couple_placement places a b))
     ∙ ap (λ (t : Bool). list_any (λ pair. is_same_place (place_of places a) pair.0 && is_same_place (place_of places b) pair.1) pairs || (not (is_some (place_of places a)) && t)) (and-true (not (is_some (place_of places b))))
-
--- an applicant's agent, where it was read
-pub single_is_itself : (m : Market) (a b : ℕ) → agent_of m a ≡ Single b → agent_of m a ≡ Single a
-single_is_itself m a b is = elim (agent_cases m a) [
-  | inl alone ↦ alone
-  | inr w ↦ (let e : Couple w.0 ≡ Single b = sym w.1 ∙ is in absurd (cc))
-]
 
 pub couple_is_there : (m : Market) (a c : ℕ) → agent_of m a ≡ Couple c → c < length m.couples
 couple_is_there m a c is = elim (agent_cases m a) [

@@ -1,7 +1,7 @@
 use Rattle.std.proofs.Common.{◌≡◌, ◌<◌, ◌+◌, ◌++◌, [], ◌∙◌, length, get_or, ap, sym, arith}
 use Rattle.mt_terms.specs.Matching.{Placement, better, holds, options}
+use Rattle.mt_terms.proofs.ListFacts.{until-le}
 use Rattle.mt_explain.proofs.OptionFacts.{front_has}
-use Rattle.mt_verify.proofs.HeldFacts.{until-le}
 use Rattle.mt_explained.proofs.LineFacts.{option_text, rest_after, so_far, so_far_more, so_far_split}
 use Rattle.mt_explained.proofs.SendingFacts.{breaks_in, on_err, sends_step}
 use Rattle.mt_explained.proofs.sending.write_agent.Goals as goal

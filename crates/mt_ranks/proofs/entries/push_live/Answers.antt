@@ -1,7 +1,7 @@
 use Rattle.std.proofs.Common.{◌≡◌, ◌∙◌, ◌<◌, length, arith}
+use Rattle.mt_terms.proofs.ListFacts.{item_below}
 use Rattle.mt_ranks.specs.Entries.{rank_among}
 use Rattle.mt_ranks.specs.Stamps.{rank_stamped}
-use Rattle.mt_ranks.proofs.ListedFacts.{item_within}
 use Rattle.mt_ranks.proofs.Lookups.{live_more_some, live_more_none}
 use Rattle.mt_ranks.proofs.entries.push_live.Goals as goal
 use Rattle.mt_ranks.proofs.entries.push_live.Goals.{in-Some+in_ok-push, in_default}
@@ -11,13 +11,13 @@ rank_stamped_at-requires c =
     omega (
       arith,
       c.stamp_ranks.ensures.len,
-      item_within c.args.list.now c.loop-program.program-index c.program-item.result (length c.args.stamps.now) c.loop-program-test.true c.program-item.is c.requires.list,
+      item_below c.args.list.now c.loop-program.program-index c.program-item.result (length c.args.stamps.now) c.loop-program-test.true c.program-item.is c.requires.list,
     )
 
 pub loop-program-preserved : goal.loop-program-preserved
 loop-program-preserved c =
     let within : c.program-item.result < length c.args.stamps.now =
-    item_within c.args.list.now c.loop-program.program-index c.program-item.result (length c.args.stamps.now) c.loop-program-test.true c.program-item.is c.requires.list in
+    item_below c.args.list.now c.loop-program.program-index c.program-item.result (length c.args.stamps.now) c.loop-program-test.true c.program-item.is c.requires.list in
     let noted : rank_stamped c.stamp_ranks.new.stamps c.args.turn c.program-item.result ≡ rank_among c.args.entries.now c.program-item.result = c.stamp_ranks.ensures.noted c.program-item.result within in
     elim c.match-rank_stamped_at.branch [
       | in-Some+in_ok-push w ↦

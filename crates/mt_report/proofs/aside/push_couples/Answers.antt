@@ -1,5 +1,5 @@
 use Rattle.std.proofs.Common.{length}
-use Rattle.mt_report.proofs.AsideFacts.{item_below}
+use Rattle.mt_terms.proofs.ListFacts.{item_below}
 use Rattle.mt_report.proofs.aside.push_couples.Goals as goal
 
 pub couple_id-requires : goal.couple_id-requires

@@ -3,12 +3,12 @@ use Rattle.std.proofs.Common.{◌∙◌, ◌&&◌, Bool, ap, sym, arith}
 use Rattle.std.specs.List.{list_any}
 use Rattle.mt_terms.specs.Matching.{Placement}
 use Rattle.mt_terms.specs.Stability.{would_be_taken}
+use Rattle.mt_terms.proofs.ListFacts.{list_any-map}
 use Rattle.mt_assignment.specs.Assigned.{pair_of}
 use Rattle.mt_assignment.specs.Moves.{names_one_of}
 use Rattle.mt_assignment.specs.Watched.{better_pairs}
 use Rattle.mt_assignment.proofs.LiveFacts.{better_couple}
 use Rattle.mt_assignment.proofs.assignment.Assignment.couple_opens.Goals as goal
-use Rattle.mt_stability_laws.proofs.ListLemmas.{list_any-map}
 
 pub loop-pair-init : goal.loop-pair-init
 loop-pair-init c =

@@ -4,9 +4,9 @@ use Rattle.std.proofs.Common.{◌≡◌, ◌∙◌, ◌++◌, ◌∷◌, ◌<◌
 use Rattle.std.proofs.lemmas.Bool.{cases_lt}
 use Rattle.mt_terms.specs.Lists.{has}
 use Rattle.mt_terms.specs.Market.{applicants, program_of}
+use Rattle.mt_terms.proofs.ListFacts.{has_front}
 use Rattle.mt_bits.specs.Members.{is_in}
 use Rattle.mt_assignment.proofs.MarketFacts.{read_within}
-use Rattle.mt_stage_tables.proofs.GrowingFacts.{has_still}
 use Rattle.mt_couples.proofs.LookFacts.{at_rank, closed_at, found_at, found_below, within_more}
 use Rattle.mt_couples.proofs.recheck.Recheck.add_by_rank.Goals as goal
 
@@ -25,7 +25,7 @@ loop-rank-preserved c =
     let read : x ≡ get_or (program_of m p).ranking r x = c.index-ranking-rank.is ∙ ap (λ xs. get_or xs r x) list in
     let x_in = read_within c.ranking-ranking.result.now r x (applicants m) in_list c.index-ranking-rank.is c.ranking-ranking.ensures.within in
     let is : c.push.new.self.items ≡ before ++ x ∷ [] = c.in_ok-push.ensures.items in
-    let keeps = λ (a : ℕ) (on : has before a ≡ true). has_still before (x ∷ []) a on in
+    let keeps = λ (a : ℕ) (on : has before a ≡ true). has_front before (x ∷ []) a on in
     record {
       within = subst (λ xs. (a : ℕ) → has xs a ≡ true → a < applicants m) (sym is) (within_more m before x so_far.within x_in);
       keeps = λ a on. ap (λ xs. has xs a) is ∙ keeps a (so_far.keeps a on);

@@ -4,11 +4,11 @@ use Rattle.std.proofs.lemmas.Bool.{both_ways}
 use Rattle.mt_terms.specs.Lists.{has}
 use Rattle.mt_terms.specs.Market.{applicants}
 use Rattle.mt_terms.specs.declared.numbers.Agent.TheVariants.{Couple}
+use Rattle.mt_terms.proofs.ListFacts.{has_front}
 use Rattle.mt_couples.specs.Looking.{is_couple_reopened}
 use Rattle.mt_round_laws.proofs.RoundsLists.{In}
 use Rattle.mt_stage_tables.proofs.FrontFacts.{each_next, read_any}
 use Rattle.mt_stage_tables.proofs.NamedFacts.{named_within}
-use Rattle.mt_stage_tables.proofs.GrowingFacts.{has_still}
 use Rattle.mt_couples.proofs.WatchFacts.{index_of}
 use Rattle.mt_couples.proofs.LookFacts.{found_both, no_pairs, open_pairs, watching_by, within_more, AreFoundBy}
 use Rattle.mt_couples.proofs.recheck.Recheck.add_few_members.Goals as goal
@@ -41,7 +41,7 @@ loop-pairs-preserved c =
           let y = w.members-first.result.1 in
           let is : c.if-is_couple_reopened.found.items ≡ (before ++ x ∷ []) ++ y ∷ [] =
           ap Vec.items w.found-is ∙ w.in_ok-push-2.ensures.items ∙ ap (λ xs. xs ++ y ∷ []) w.in_ok-push.ensures.items in
-          let keeps = λ (a : ℕ) (on : has before a ≡ true). has_still (before ++ x ∷ []) (y ∷ []) a (has_still before (x ∷ []) a on) in
+          let keeps = λ (a : ℕ) (on : has before a ≡ true). has_front (before ++ x ∷ []) (y ∷ []) a (has_front before (x ∷ []) a on) in
           record {
             within = subst (λ xs. (a : ℕ) → has xs a ≡ true → a < applicants m) (sym is)
                 (within_more m (before ++ x ∷ []) y (within_more m before x so_far.within w.members-first.ensures.first_within) w.members-first.ensures.second_within);

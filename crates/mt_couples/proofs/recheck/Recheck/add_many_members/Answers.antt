@@ -5,12 +5,12 @@ use Rattle.std.proofs.lemmas.List.{get_or_default, get_or-map}
 use Rattle.mt_terms.specs.Lists.{has}
 use Rattle.mt_terms.specs.Market.{applicants}
 use Rattle.mt_terms.specs.declared.numbers.Agent.TheVariants.{Couple}
+use Rattle.mt_terms.proofs.ListFacts.{has_front}
 use Rattle.mt_couples.specs.Looking.{is_couple_reopened}
 use Rattle.mt_round_laws.proofs.RoundsLists.{In}
 use Rattle.mt_stage_tables.specs.declared.couple_list.NamedPairs.{NamedPairs}
 use Rattle.mt_stage_tables.proofs.FrontFacts.{each_next, read_any}
 use Rattle.mt_stage_tables.proofs.NamedFacts.{named_within}
-use Rattle.mt_stage_tables.proofs.GrowingFacts.{has_still}
 use Rattle.mt_couples.proofs.WatchFacts.{index_of}
 use Rattle.mt_couples.proofs.LookFacts.{found_both, no_pairs, open_pairs, watching_by, within_more, AreFoundBy}
 use Rattle.mt_couples.proofs.recheck.Recheck.add_many_members.Goals as goal
@@ -45,7 +45,7 @@ loop-index-preserved g c =
           let d = w.index-named-index.result in
           let is : c.if-index.found.items ≡ (before ++ x ∷ []) ++ y ∷ [] =
           ap Vec.items w.found-is ∙ w.in_ok-push-2.ensures.items ∙ ap (λ xs. xs ++ y ∷ []) w.in_ok-push.ensures.items in
-          let keeps = λ (a : ℕ) (on : has before a ≡ true). has_still (before ++ x ∷ []) (y ∷ []) a (has_still before (x ∷ []) a on) in
+          let keeps = λ (a : ℕ) (on : has before a ≡ true). has_front (before ++ x ∷ []) (y ∷ []) a (has_front before (x ∷ []) a on) in
           record {
             within = subst (λ xs. (a : ℕ) → has xs a ≡ true → a < applicants m) (sym is)
                 (within_more m (before ++ x ∷ []) y (within_more m before x so_far.within w.members-one.ensures.first_within) w.members-one.ensures.second_within);

@@ -1,8 +1,9 @@
 use Rattle.std.proofs.Common.{◌≡◌, sym, ◌∙◌, arith}
 use Rattle.mt_terms.specs.Market.{agent_of, couple_of}
 use Rattle.mt_terms.specs.declared.numbers.Agent.TheVariants.{Single, Couple}
+use Rattle.mt_terms.proofs.AgentFacts.{single_is_itself}
 use Rattle.mt_verdict_laws.proofs.VerdictLemmas.{leads-Single, leads-first}
-use Rattle.mt_verify.proofs.OptionFacts.{single_is_itself, couple_is_there}
+use Rattle.mt_verify.proofs.OptionFacts.{couple_is_there}
 use Rattle.mt_verify.proofs.BlockingFacts.{led_and_blocks, led_not_blocking}
 use Rattle.mt_verify.proofs.verifier.Verifier.blocker_led_by.Goals as goal
 
