@@ -7,7 +7,7 @@ use Rattle.mt_terms.specs.Lists.{has, until}
 use Rattle.mt_terms.specs.Market.{Market, applicants, list_of, live, live_market, program_of}
 use Rattle.mt_terms.specs.Matching.{at}
 use Rattle.mt_terms.proofs.BelowFacts.{map_below_at}
-use Rattle.mt_terms.proofs.BoolFacts.{same_bool}
+use Rattle.std.specs.Cmp.{both_ways as same_tests}
 use Rattle.mt_ranks.specs.Ranked.{rank_of, ranked_entry, ranked_list}
 use Rattle.mt_ranks.specs.declared.entries.Live.{Live}
 use Rattle.mt_round_laws.proofs.RoundsLists.{In, found, finds, has_in, in_has, in_image, in_kept, in_right, in_left, of_image, of_kept}
@@ -68,7 +68,7 @@ module _ (s : Assigned) (ok : IsAssigned s) (a : ℕ) (within : a < applicants s
 
   -- it is watched at a program by one of its better entries where it wants that more than what it has
   pub entry_wanted : (p r : ℕ) → rank_of s.market p a ≡ Some r → is_entry (better_entries s a) p r ≡ has (wanted s a) p
-  entry_wanted p r ranked = same_bool _ _ there back
+  entry_wanted p r ranked = same_tests _ _ there back
     where
       lists : ℕ → Bool
       lists q = has (program_of s.market q).ranking a

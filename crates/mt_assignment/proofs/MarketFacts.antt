@@ -8,7 +8,7 @@ use Rattle.mt_round_laws.proofs.RoundsSets.{has_head}
 use Rattle.mt_terms.specs.WellFormed.{IsWellFormed}
 use Rattle.mt_ranks.specs.Ranked.{Ranked, ranked_of}
 use Rattle.mt_assignment.specs.Assigned.{IsAgentOf}
-pub use Rattle.mt_ranks.proofs.ListedFacts.{item_within as read_within}
+pub use Rattle.mt_terms.proofs.ListFacts.{item_below as read_within}
 
 -- Below, r are the rank tables of the market m.
 pub ranked_ranking : (r : Ranked) (m : Market) (p : ℕ) → r ≡ ranked_of m → (program_of r.market p).ranking ≡ (program_of m p).ranking

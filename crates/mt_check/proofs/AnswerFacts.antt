@@ -20,6 +20,7 @@ use Rattle.mt_files.specs.declared.files.Files.{Files}
 use Rattle.mt_files.specs.declared.refused_file.Refused.{Refused}
 use Rattle.mt_files.specs.declared.source.Source.{Source}
 use Rattle.mt_files.specs.declared.source.Source.TheVariants as sources
+use Rattle.mt_files.proofs.BothFacts.{of_both}
 use Rattle.mt_files.proofs.FileFacts.{market_there}
 use Rattle.mt_files.proofs.NameFacts.{alone_named, codes_large, market_named, match_named}
 use Rattle.mt_check.specs.declared.found.Found.{Found}
@@ -42,12 +43,6 @@ pub judged_by_all_lists_lem : JudgedByAllLists
 judged_by_all_lists_lem r submitted none =
     ap (λ (q : Registered). finding_answer q (length submitted.aside) (finding_of q.market submitted)) (by_all_lists r submitted none)
     ∙ ap (λ (aside : List ℕ). finding_answer r (length aside) (finding_of r.market submitted)) none
-
-pub none_of : (xs ys : List ℕ) (b : Bool) → xs ≡ ys → b ≡ (length xs == 0) → b ≡ true → ys ≡ []
-none_of xs [] b same is empty = refl
-none_of xs (y ∷ ys) b same is empty =
-    let none : length xs ≡ 0 = eqb-true (length xs) 0 (sym is ∙ empty) in
-    absurd (omega (arith, none, ap length same))
 
 -- what is found by all lists is the answer if no couple is set aside, and else what is found without the others' wishes
 module _ {E : Type 0} (r : Registered) (submitted : Submitted) (result : Result Found E) where
@@ -129,10 +124,6 @@ pub answers_are_so_lem : AnswersAreSo
 unfolding IsSo
 answers_are_so_lem market_bytes match_bytes code text h = of_the_market market_bytes match_bytes code text (market_in market_bytes) refl h
 
--- what is so of all bytes of two files is so of what two readers had left
-pub of_both : {P Q : List ℕ → List ℕ → Type 0} (market matched : Option (List ℕ)) → ((xs ys : List ℕ) → P xs ys → Q xs ys) → OfBoth market matched P → OfBoth market matched Q
-of_both market matched next h = of_left market (λ xs inner. of_left matched (λ ys is. next xs ys is) inner) h
-
 -- so the answer to what two readers had left says what is so of that
 pub judged_left : (market matched : Option (List ℕ)) (code : ℕ) (text : List ℕ) → code ≤ 1 → OfBoth market matched (λ xs ys. IsAnswer xs ys code text)
     → OfBoth market matched (λ xs ys. IsJudged xs ys code text)
@@ -171,10 +162,6 @@ memory_refused market matched (Err e) file is =
 pub no_read_fault : (result : Result Found Refused) → IfErr result (λ e. IsMemory e) → end_code result ≡ 31 → ⊥
 no_read_fault (Ok found) is e = omega arith
 no_read_fault (Err e) is read = let code : e.refusal.code ≡ 30 = ap (λ (f : Fault). f.code) is in omega arith
-
--- no read failed, and the code says so
-pub none_failed : {X : Type 0} (code : ℕ) → ((◌≡◌ {A = ℕ} 0 31) ↔ X) → (code ≡ 31 → ⊥) → (code ≡ 31) ↔ X
-none_failed code none other = (λ e. absurd (other e), λ x. absurd (omega (arith, none.1 x)))
 
 pub refused_answer : (market matched : Option (List ℕ)) (e : Refused)
     → OfBoth market matched (λ xs ys. files_in xs ys ≡ Err (e.source, fault_of e.refusal))

@@ -1,27 +1,24 @@
 -- The answer to the bytes of a market and of a match, and what a check did.
-use Rattle.std.specs.Prelude.{◌≡◌, ◌≢◌, ℕ, ◌<◌, ◌≤◌, Bool, List, length, Option, Result, Ok, Err}
+use Rattle.std.specs.Prelude.{◌≡◌, ◌≢◌, ℕ, ◌<◌, ◌≤◌, Bool, List, length, Option, Result, codes}
 use Rattle.mt_terms.specs.Market.{Registered}
 use Rattle.mt_terms.specs.Registration.Faults.{Fault}
 use Rattle.mt_terms.specs.declared.codes.TheConstants.{OUT_OF_MEMORY, READ_FAULT}
 use Rattle.mt_terms.specs.declared.verdict.Verdict.TheVariants.{Stable, Unlisted, Over, Blocks}
 use Rattle.mt_report.specs.Drains.{IsWritten}
 use Rattle.mt_match_file.specs.Submitted.{Submitted}
-use Rattle.mt_files.specs.Files.{files_in}
+use Rattle.mt_files.specs.Answer as files
+use Rattle.mt_files.specs.Answer.{IsAnswerBy}
+pub use Rattle.mt_files.specs.Answer.{Answer}
 use Rattle.mt_files.specs.Refusals.{IsInTurn, OfBoth}
 use Rattle.mt_files.specs.declared.source.Source.{Source}
 use Rattle.mt_check.specs.Findings.{finding_of, judged}
 use Rattle.mt_check.specs.Headline.{IsJudged, IsRefusal}
-use Rattle.mt_check.specs.Text.{finding_line, refused_line}
+use Rattle.mt_check.specs.Text.{finding_line}
 use Rattle.mt_check.specs.declared.finding.Finding.{Finding}
 use Rattle.mt_check.specs.declared.finding.Finding.TheVariants.{Of, Differs}
 use Rattle.mt_check.specs.declared.found.Found.{Found}
 
--- A code and a line. The code is 0 for a stable match, 1 for a finding, and else that of a refusal.
-pub record Answer : Type 0 where
-  pub code : ℕ
-  pub text : List ℕ
-
--- a code and a line as the code has them
+-- A code and a line as the code has them. The code is 0 for a stable match, 1 for a finding, and else that of a refusal.
 abbrev pub answer_seen : Found → Answer
 answer_seen f = record { code = f.code; text = f.text.items }
 
@@ -38,7 +35,7 @@ abbrev pub finding_answer : Registered → ℕ → Finding → Answer
 finding_answer r aside finding = record { code = finding_code finding; text = finding_line r aside finding }
 
 abbrev pub fault_answer : Source → Fault → Answer
-fault_answer file f = record { code = f.code; text = refused_line file f.code f.row f.id }
+fault_answer = files.fault_answer (codes "check")
 
 -- The answer to a market and a match: the finding in the market in which the couples that the match sets aside want
 -- nothing.
@@ -47,16 +44,15 @@ judged_answer r submitted = finding_answer (judged r submitted) (length submitte
 
 -- the answer to a market and a match, or to the fault of a file
 abbrev pub answer_of : Result (Registered × Submitted) (Source × Fault) → Answer
-answer_of (Ok files) = judged_answer files.0 files.1
-answer_of (Err fault) = fault_answer fault.0 fault.1
+answer_of = files.answer_of (codes "check") judged_answer
 
 -- The answer to the bytes of a market and of a match: the first finding, or the first fault of the market, or else of
 -- the match.
 abbrev pub answer_to : List ℕ → List ℕ → Answer
-answer_to market_bytes match_bytes = answer_of (files_in market_bytes match_bytes)
+answer_to = files.answer_to (codes "check") judged_answer
 
 abbrev pub IsAnswer : List ℕ → List ℕ → ℕ → List ℕ → Type 0
-IsAnswer market_bytes match_bytes code text = answer_to market_bytes match_bytes ≡ record { code = code; text = text }
+IsAnswer = IsAnswerBy answer_to
 
 -- What the line of a check says that made this number of reads of the match. If the code is 0 or 1, it says what is so
 -- of the match that was read. Any other code has one named refusal line, of the file whose turn it is. But for want of

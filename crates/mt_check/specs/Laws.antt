@@ -2,14 +2,14 @@
 use Rattle.std.specs.Prelude.{◌≡◌, ◌≤◌, ◌<◌, ℕ, List, []}
 use Rattle.mt_terms.specs.Market.{Registered}
 use Rattle.mt_match_file.specs.Submitted.{Submitted}
-use Rattle.mt_check.specs.Answer.{IsAnswer, finding_answer, judged_answer}
+use Rattle.mt_files.specs.Answer.{OneAnswerBy}
+use Rattle.mt_check.specs.Answer.{IsAnswer, answer_to, finding_answer, judged_answer}
 use Rattle.mt_check.specs.Findings.{finding_of}
 use Rattle.mt_check.specs.Headline.{IsJudged, IsRefusal}
 
 -- the bytes of two files have one answer
 abbrev pub OneAnswer : Type 0
-OneAnswer = (market_bytes match_bytes : List ℕ) (c d : ℕ) (text other : List ℕ)
-    → IsAnswer market_bytes match_bytes c text → IsAnswer market_bytes match_bytes d other → (c ≡ d) × (text ≡ other)
+OneAnswer = OneAnswerBy answer_to
 
 -- an answer with code 0 or 1 says what is so of the match, and every other one is a named refusal
 abbrev pub AnswersAreSo : Type 0

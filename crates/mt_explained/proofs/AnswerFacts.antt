@@ -24,6 +24,7 @@ use Rattle.mt_files.specs.declared.files.Files.{Files}
 use Rattle.mt_files.specs.declared.refused_file.Refused.{Refused}
 use Rattle.mt_files.specs.declared.source.Source.{Source}
 use Rattle.mt_files.specs.declared.source.Source.TheVariants.{Market as MarketFile, Match}
+use Rattle.mt_files.proofs.BothFacts.{of_both}
 use Rattle.mt_files.proofs.FileFacts.{market_there}
 use Rattle.mt_files.proofs.NameFacts.{alone_named, codes_large, market_named, match_named}
 use Rattle.mt_explain.proofs.LawFacts.{each_better_option_once_lem, open_if_blocks_lem, open_if_taken_lem, stable_if_none_open_lem}
@@ -42,12 +43,6 @@ none_aside_registered r aside none =
 pub explained_by_all_lists_lem : ExplainedByAllLists
 explained_by_all_lists_lem r submitted ids is_public none =
     ap (λ (q : Registered). match_answer q submitted.places ids is_public) (none_aside_registered r submitted.aside none)
-
-pub none_of : (xs ys : List ℕ) (b : Bool) → xs ≡ ys → b ≡ (length xs == 0) → b ≡ true → ys ≡ []
-none_of xs [] b same is empty = refl
-none_of xs (y ∷ ys) b same is empty =
-    let none : length xs ≡ 0 = eqb-true (length xs) 0 (sym is ∙ empty) in
-    absurd (omega (arith, none, ap length same))
 
 -- the lines of a match say what is so of it
 pub lines_are_so : (r : Registered) → IsRegistration r → (places : Places) → ArePlaces r.market places → LinesAreSo r.market places
@@ -110,10 +105,6 @@ module _ (ids : List Bytes) (is_public : Bool) where
       → IsExplained ids is_public market_bytes match_bytes text
   explains market_bytes match_bytes code text none h = of_the_market market_bytes match_bytes code text none (market_in market_bytes) refl h
 
--- what is so of all bytes of two files is so of what two readers had left
-of_both : {P Q : List ℕ → List ℕ → Type 0} (market matched : Option (List ℕ)) → ((xs ys : List ℕ) → P xs ys → Q xs ys) → OfBoth market matched P → OfBoth market matched Q
-of_both market matched next h = of_left market (λ xs inner. of_left matched (λ ys is. next xs ys is) inner) h
-
 -- an answer to a market and a match that has a code is the line of a word
 by_unknown : (r : Registered) (ids : List Bytes) (lines : List ℕ) (code : ℕ) (text : List ℕ) (unknown : Option Bytes) → first_unknown r ids ≡ unknown
     → answer_by unknown lines ≡ record { code = code; text = text } → code ≢ 0 → IsUnknown ids code text
@@ -137,10 +128,6 @@ no_read_code r submitted ids is_public old new code whole (inl given) e =
     let judged : Registered = set_aside_registered submitted.aside r in
     small_code (agents_text judged submitted.places is_public (agents_asked judged ids)) (first_unknown judged ids) (sym given.is_code ∙ e)
 no_read_code r submitted ids is_public old new code whole (inr given) e = let is : code ≡ 30 = given.is_code in omega arith
-
--- no read failed, and the code says so
-pub none_failed : {X : Type 0} (code : ℕ) → ((◌≡◌ {A = ℕ} 0 31) ↔ X) → (code ≡ 31 → ⊥) → (code ≡ 31) ↔ X
-none_failed code none other = (λ e. absurd (other e), λ x. absurd (omega (arith, none.1 x)))
 
 module _ (ids : List Bytes) (is_public : Bool) (market matched : Option (List ℕ)) (reads : ℕ) (old new : Option (List ℕ)) (code : ℕ) (whole : Bool) where
   -- what was written of two files that were read

@@ -1,5 +1,5 @@
 -- The answer to the bytes of a market and of a match, and what an explanation did.
-use Rattle.std.specs.Prelude.{◌≡◌, ◌≢◌, ◌⊎◌, ℕ, Bool, List, [], Option, Some, None, Result, Ok, Err}
+use Rattle.std.specs.Prelude.{◌≡◌, ◌≢◌, ◌⊎◌, ℕ, Bool, List, [], Option, Some, None, Result, Ok, Err, codes}
 use Rattle.mt_terms.specs.Market.{Registered}
 use Rattle.mt_terms.specs.Matching.{Places}
 use Rattle.mt_terms.specs.Registration.Faults.{Fault}
@@ -8,6 +8,8 @@ use Rattle.mt_terms.specs.declared.codes.TheConstants.{OUT_OF_MEMORY, READ_FAULT
 use Rattle.mt_order_laws.specs.Reordered.{set_aside_registered}
 use Rattle.mt_report.specs.Drains.{IsWritten}
 use Rattle.mt_match_file.specs.Submitted.{Submitted}
+use Rattle.mt_files.specs.Answer as files
+pub use Rattle.mt_files.specs.Answer.{Answer}
 use Rattle.mt_files.specs.Files.{files_in}
 use Rattle.mt_files.specs.Refusals.{IsInTurn, OfBoth}
 use Rattle.mt_files.specs.declared.source.Source.{Source}
@@ -15,15 +17,10 @@ use Rattle.mt_files.specs.declared.source.Source.TheVariants.{Match}
 use Rattle.mt_explain_text.specs.Text.{agents_text}
 use Rattle.mt_explained.specs.Asked.{agents_asked, first_unknown}
 use Rattle.mt_explained.specs.Headline.{IsExplained, IsRefusal}
-use Rattle.mt_explained.specs.Text.{refused_line, unknown_line}
+use Rattle.mt_explained.specs.Text.{unknown_line}
 use Rattle.mt_explained.specs.declared.codes.TheConstants.{NO_SUCH_AGENT}
 
--- a code and a text: 0 and the lines of agents, or the code of a refusal and its line
-pub record Answer : Type 0 where
-  pub code : ℕ
-  pub text : List ℕ
-
--- the refusal of a word that names no agent, or the lines of the agents
+-- the refusal of a word that names no agent, or the lines of the agents with code 0
 abbrev pub answer_by : Option Bytes → List ℕ → Answer
 answer_by (Some word) text = record { code = NO_SUCH_AGENT; text = unknown_line word }
 answer_by None text = record { code = 0; text = text }
@@ -38,7 +35,7 @@ submitted_answer r submitted ids is_public = match_answer (set_aside_registered 
 
 -- the answer to the fault of a file
 abbrev pub fault_answer : Source → Fault → Answer
-fault_answer file f = record { code = f.code; text = refused_line file f.code f.row f.id }
+fault_answer = files.fault_answer (codes "check")
 
 abbrev pub answer_of : List Bytes → Bool → Result (Registered × Submitted) (Source × Fault) → Answer
 answer_of ids is_public (Ok files) = submitted_answer files.0 files.1 ids is_public

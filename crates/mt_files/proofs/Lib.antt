@@ -1,3 +1,4 @@
 pub mod FileFacts
 pub mod NameFacts
 pub mod TapFacts
+pub mod BothFacts

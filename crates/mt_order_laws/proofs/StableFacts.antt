@@ -11,7 +11,7 @@ use Rattle.mt_terms.specs.Stability.{is_listed, would_be_taken, blocks}
 use Rattle.mt_terms.specs.WellFormed.{IsMember, IsWellFormed}
 use Rattle.mt_terms.specs.declared.numbers.Agent.{Agent}
 use Rattle.mt_terms.specs.declared.numbers.Agent.TheVariants.{Single, Couple}
-use Rattle.mt_terms.proofs.BoolFacts.{same_bool}
+use Rattle.std.specs.Cmp.{both_ways as same_tests}
 use Rattle.mt_stability_laws.proofs.ListLemmas.{list_any-not}
 use Rattle.mt_round_laws.proofs.RoundsLists.{each, all_pass}
 use Rattle.mt_round_laws.proofs.RoundsSets.{has_head}
@@ -136,7 +136,7 @@ module _ (test : Test) (apart : (a b : ℕ) → test [] (a ∷ b ∷ []) ≡ (te
 
   -- so all agents pass alike
   pub all_alike : list_all (of_agent test (reordered order m)) (agents (reordered order m)) ≡ list_all (of_agent test (set_aside aside m)) (agents (set_aside aside m))
-  all_alike = same_bool _ _
+  all_alike = same_tests _ _
       (λ h. all_pass _ (agents (set_aside aside m)) (λ g i.
       to_aside (λ k j. each _ k (agents (reordered order m)) h (agent_on_list (reordered order m) k j)) g
       (agent_from_list (set_aside aside m) (well_formed_set_aside m wf aside) g i)))

@@ -13,6 +13,7 @@ use Rattle.mt_files.specs.declared.files.Files.{Files}
 use Rattle.mt_files.specs.declared.refused_file.Refused.{Refused}
 use Rattle.mt_files.specs.declared.source.Source.{Source}
 use Rattle.mt_files.specs.declared.source.Source.TheVariants.{Market, Match}
+use Rattle.mt_files.proofs.BothFacts.{of_both}
 use Rattle.mt_files.proofs.FileFacts.{market_there}
 use Rattle.mt_files.proofs.NameFacts.{alone_named, codes_large, market_named, match_named}
 use Rattle.mt_statistics.proofs.SumFacts.{couples_add_up_lem, posts_add_up_lem, programs_add_up_lem, singles_add_up_lem}
@@ -73,10 +74,6 @@ pub answers_are_so_lem : AnswersAreSo
 unfolding IsSo
 answers_are_so_lem form market_bytes match_bytes code text h = of_the_market form market_bytes match_bytes code text (market_in market_bytes) refl h
 
--- what is so of all bytes of two files is so of what two readers had left
-pub of_both : {P Q : List ℕ → List ℕ → Type 0} (market matched : Option (List ℕ)) → ((xs ys : List ℕ) → P xs ys → Q xs ys) → OfBoth market matched P → OfBoth market matched Q
-of_both market matched next h = of_left market (λ xs inner. of_left matched (λ ys is. next xs ys is) inner) h
-
 -- so the answer to what two readers had left says what is so of that
 pub reported_left : (form : Form) (market matched : Option (List ℕ)) (text : List ℕ) → OfBoth market matched (λ xs ys. IsAnswer form xs ys 0 text)
     → OfBoth market matched (λ xs ys. IsReported form xs ys text)
@@ -114,10 +111,6 @@ memory_refused market matched (Err e) file is =
 pub no_read_fault : (result : Result (Vec ℕ Global) Refused) → IfErr result (λ e. IsMemory e) → end_code result ≡ 31 → ⊥
 no_read_fault (Ok text) is e = omega arith
 no_read_fault (Err e) is read = let code : e.refusal.code ≡ 30 = ap (λ (f : Fault). f.code) is in omega arith
-
--- no read failed, and the code says so
-pub none_failed : {X : Type 0} (code : ℕ) → ((◌≡◌ {A = ℕ} 0 31) ↔ X) → (code ≡ 31 → ⊥) → (code ≡ 31) ↔ X
-none_failed code none other = (λ e. absurd (other e), λ x. absurd (omega (arith, none.1 x)))
 
 pub refused_answer : (form : Form) (market matched : Option (List ℕ)) (e : Refused)
     → OfBoth market matched (λ xs ys. files_in xs ys ≡ Err (e.source, fault_of e.refusal))

@@ -1,38 +1,37 @@
 -- The answer to the bytes of a market and of a match, and what a report did.
-use Rattle.std.specs.Prelude.{◌≡◌, ◌≢◌, ℕ, Bool, List, Option, Result, Ok, Err}
+use Rattle.std.specs.Prelude.{◌≡◌, ◌≢◌, ℕ, Bool, List, Option, Result, codes}
 use Rattle.mt_terms.specs.Market.{Registered}
 use Rattle.mt_terms.specs.Registration.Faults.{Fault}
 use Rattle.mt_terms.specs.declared.codes.TheConstants.{OUT_OF_MEMORY, READ_FAULT}
 use Rattle.mt_report.specs.Drains.{IsWritten}
 use Rattle.mt_match_file.specs.Submitted.{Submitted}
-use Rattle.mt_files.specs.Files.{files_in}
+use Rattle.mt_files.specs.Answer as files
+use Rattle.mt_files.specs.Answer.{IsAnswerBy}
+pub use Rattle.mt_files.specs.Answer.{Answer}
 use Rattle.mt_files.specs.Refusals.{IsInTurn, OfBoth}
 use Rattle.mt_files.specs.declared.source.Source.{Source}
 use Rattle.mt_reported.specs.Headline.{IsRefusal, IsReported, text_in}
-use Rattle.mt_reported.specs.Text.{refused_line}
 use Rattle.mt_reported.specs.declared.form.Form.{Form}
-
--- A code and a text. The code is 0 for the numbers of a match, and else that of a refusal.
-pub record Answer : Type 0 where
-  pub code : ℕ
-  pub text : List ℕ
 
 -- the answer that is a fault of a file
 abbrev pub fault_answer : Source → Fault → Answer
-fault_answer file f = record { code = f.code; text = refused_line file f.code f.row f.id }
+fault_answer = files.fault_answer (codes "report")
+
+-- the answer to a market and a match: code 0 and the numbers of the match in this form
+abbrev pub report_answer : Form → Registered → Submitted → Answer
+report_answer form r submitted = record { code = 0; text = text_in form r submitted.places }
 
 -- the answer to a market and a match, or to the fault of a file
 abbrev pub answer_of : Form → Result (Registered × Submitted) (Source × Fault) → Answer
-answer_of form (Ok files) = record { code = 0; text = text_in form files.0 files.1.places }
-answer_of form (Err fault) = fault_answer fault.0 fault.1
+answer_of form = files.answer_of (codes "report") (report_answer form)
 
 -- The answer to the bytes of a market and of a match: the numbers of the match in this form, or the first fault of the market, or
 -- else of the match.
 abbrev pub answer_to : Form → List ℕ → List ℕ → Answer
-answer_to form market_bytes match_bytes = answer_of form (files_in market_bytes match_bytes)
+answer_to form = files.answer_to (codes "report") (report_answer form)
 
 abbrev pub IsAnswer : Form → List ℕ → List ℕ → ℕ → List ℕ → Type 0
-IsAnswer form market_bytes match_bytes code text = answer_to form market_bytes match_bytes ≡ record { code = code; text = text }
+IsAnswer form = IsAnswerBy (answer_to form)
 
 -- What the text of a report says that made this number of reads of the match. If the code is 0, it has the numbers of
 -- the match that was read. Any other code has one named refusal line, of the file whose turn it is. But for want of

@@ -1,13 +1,13 @@
 -- Laws of the answer.
 use Rattle.std.specs.Prelude.{◌≡◌, ◌≢◌, ℕ, List}
-use Rattle.mt_reported.specs.Answer.{IsAnswer}
+use Rattle.mt_files.specs.Answer.{OneAnswerBy}
+use Rattle.mt_reported.specs.Answer.{IsAnswer, answer_to}
 use Rattle.mt_reported.specs.Headline.{IsRefusal, IsReported}
 use Rattle.mt_reported.specs.declared.form.Form.{Form}
 
 -- the bytes of two files have one answer in each form
 abbrev pub OneAnswer : Type 0
-OneAnswer = (form : Form) (market_bytes match_bytes : List ℕ) (c d : ℕ) (text other : List ℕ)
-    → IsAnswer form market_bytes match_bytes c text → IsAnswer form market_bytes match_bytes d other → (c ≡ d) × (text ≡ other)
+OneAnswer = (form : Form) → OneAnswerBy (answer_to form)
 
 -- an answer with code 0 has the numbers of the match, and every other one is a named refusal
 abbrev pub AnswersAreSo : Type 0

@@ -4,7 +4,7 @@ use Rattle.std.specs.Prelude.{bytes_eq}
 use Rattle.std.specs.List.{list_all}
 use Rattle.std.proofs.lemmas.Slice.Eq.{bytes_eq-Decides}
 use Rattle.mt_terms.specs.Registration.Ids.{Bytes, has_id, number_of, all_differ, is_id, is_id_byte, is_dash}
-use Rattle.mt_terms.proofs.BoolFacts.{same_bool}
+use Rattle.std.specs.Cmp.{both_ways as same_tests}
 use Rattle.std.proofs.lemmas.Bool.{false_from_ne_true, or_parts, and_parts}
 use Rattle.std.proofs.lemmas.List.Folds.{list_any-append}
 
@@ -16,7 +16,7 @@ is_same x y e = (bytes_eq-Decides x y).1 e
 
 -- the comparison of two ids, with the two exchanged
 pub bytes_eq_sym : (x y : Bytes) → bytes_eq x y ≡ bytes_eq y x
-bytes_eq_sym x y = same_bool (bytes_eq x y) (bytes_eq y x) (λ h. is_same y x (sym (same_id x y h))) (λ h. is_same x y (sym (same_id y x h)))
+bytes_eq_sym x y = same_tests (bytes_eq x y) (bytes_eq y x) (λ h. is_same y x (sym (same_id x y h))) (λ h. is_same x y (sym (same_id y x h)))
 
 -- an id of at most n bytes
 pub id_short : (n : ℕ) (id : Bytes) → is_id n id ≡ true → length id ≤ n

@@ -1,6 +1,5 @@
 pub mod AgentFacts
 pub mod BelowFacts
-pub mod BoolFacts
 pub mod IdFacts
 pub mod ListFacts
 pub mod LiveFacts

@@ -1,5 +1,6 @@
 use Rattle.mt_lists.specs.Tap.{bytes_left}
-use Rattle.mt_check.proofs.AnswerFacts.{found_there, match_in_turn, memory_refused, no_read_fault, none_failed}
+use Rattle.mt_files.proofs.BothFacts.{none_failed}
+use Rattle.mt_check.proofs.AnswerFacts.{found_there, match_in_turn, memory_refused, no_read_fault}
 use Rattle.mt_check.proofs.whole.answer.Goals as goal
 
 pub returns-in-Ok-clause-found : goal.returns-in-Ok-clause-found

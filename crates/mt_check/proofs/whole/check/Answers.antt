@@ -1,9 +1,10 @@
 use Rattle.std.proofs.Common.{◌≡◌, ℕ, List, ◌∙◌, ap, refl, arith}
 use Rattle.mt_lists.specs.Tap.{bytes_left}
+use Rattle.mt_files.proofs.BothFacts.{none_failed}
 use Rattle.mt_files.proofs.NameFacts.{codes_large}
 use Rattle.mt_files.specs.declared.refused_file.Refused.{Refused}
 use Rattle.mt_check.specs.Text.{refused_line}
-use Rattle.mt_check.proofs.AnswerFacts.{judged_left, none_failed, refused_answer}
+use Rattle.mt_check.proofs.AnswerFacts.{judged_left, refused_answer}
 use Rattle.mt_check.proofs.whole.check.Goals as goal
 
 pub returns-in-Ok-clause-answers : goal.returns-in-Ok-clause-answers

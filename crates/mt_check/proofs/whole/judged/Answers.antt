@@ -1,4 +1,5 @@
-use Rattle.mt_check.proofs.AnswerFacts.{answer_by_all_lists, answer_by_others, judged_is, none_of}
+use Rattle.mt_files.proofs.BothFacts.{none_of}
+use Rattle.mt_check.proofs.AnswerFacts.{answer_by_all_lists, answer_by_others, judged_is}
 use Rattle.mt_check.proofs.whole.judged.Goals as goal
 
 pub returns-then-is_empty-clause-answer : goal.returns-then-is_empty-clause-answer

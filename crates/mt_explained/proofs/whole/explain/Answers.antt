@@ -1,5 +1,6 @@
 use Rattle.std.proofs.Common.{map, string_bytes}
-use Rattle.mt_explained.proofs.AnswerFacts.{answers_fault, answers_files, no_read_code, none_failed}
+use Rattle.mt_files.proofs.BothFacts.{none_failed}
+use Rattle.mt_explained.proofs.AnswerFacts.{answers_fault, answers_files, no_read_code}
 use Rattle.mt_explained.proofs.whole.explain.Goals as goal
 
 pub returns-in-Ok-clause-answers : goal.returns-in-Ok-clause-answers

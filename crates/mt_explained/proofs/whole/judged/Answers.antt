@@ -1,5 +1,6 @@
 use Rattle.std.proofs.Common.{sym}
-use Rattle.mt_explained.proofs.AnswerFacts.{none_aside_registered, none_of}
+use Rattle.mt_files.proofs.BothFacts.{none_of}
+use Rattle.mt_explained.proofs.AnswerFacts.{none_aside_registered}
 use Rattle.mt_explained.proofs.whole.judged.Goals as goal
 
 pub returns-then-is_empty-clause-roster : goal.returns-then-is_empty-clause-roster

@@ -1,5 +1,6 @@
 use Rattle.mt_lists.specs.Tap.{bytes_left}
-use Rattle.mt_reported.proofs.AnswerFacts.{match_in_turn, memory_refused, no_read_fault, none_failed, text_there}
+use Rattle.mt_files.proofs.BothFacts.{none_failed}
+use Rattle.mt_reported.proofs.AnswerFacts.{match_in_turn, memory_refused, no_read_fault, text_there}
 use Rattle.mt_reported.proofs.whole.answer.Goals as goal
 
 pub returns-in-Ok-clause-text : goal.returns-in-Ok-clause-text

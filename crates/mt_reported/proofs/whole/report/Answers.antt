@@ -3,7 +3,8 @@ use Rattle.mt_lists.specs.Tap.{bytes_left}
 use Rattle.mt_files.proofs.NameFacts.{codes_large}
 use Rattle.mt_files.specs.declared.refused_file.Refused.{Refused}
 use Rattle.mt_reported.specs.Text.{refused_line}
-use Rattle.mt_reported.proofs.AnswerFacts.{none_failed, refused_answer, reported_left}
+use Rattle.mt_files.proofs.BothFacts.{none_failed}
+use Rattle.mt_reported.proofs.AnswerFacts.{refused_answer, reported_left}
 use Rattle.mt_reported.proofs.whole.report.Goals as goal
 
 pub returns-in-Ok-clause-answers : goal.returns-in-Ok-clause-answers
