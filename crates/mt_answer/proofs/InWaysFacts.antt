@@ -3,7 +3,6 @@ use Rattle.std.proofs.Common.{◌≡◌, ℕ, ◌<◌, true, false, List, [], le
 use Rattle.mt_terms.specs.Best.{IsBest}
 use Rattle.mt_terms.specs.Market.{Market, Registered}
 use Rattle.mt_terms.specs.Matching.{Places}
-use Rattle.mt_terms.specs.Places.{ArePlaces}
 use Rattle.mt_terms.specs.Rounds.{stage}
 use Rattle.mt_terms.specs.Text.{name_of, published, refused}
 use Rattle.mt_couples.specs.Ended.{IsSpent}

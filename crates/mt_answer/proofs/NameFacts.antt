@@ -1,12 +1,11 @@
 -- The id of a couple has 64 bytes at most.
 use Rattle.std.proofs.Common.{◌≡◌, ℕ, ◌<◌, ◌≤◌, true, not, ◌&&◌, nat_lt, nat_le, List, [], length, get_or, inl, inr, arith}
 use Rattle.std.specs.List.{list_all}
-use Rattle.std.proofs.lemmas.Bool.{and_parts, cases_Bool, both_ways}
-use Rattle.std.proofs.lemmas.Bool.Decides.{nat_tests}
+use Rattle.std.proofs.lemmas.Bool.{cases_Bool, both_ways}
 use Rattle.std.proofs.lemmas.List.Folds.{list_all_at}
 use Rattle.mt_terms.specs.Market.{Registered}
-use Rattle.mt_terms.specs.Registration.Accepted.{AreNames, IsRegistration}
-use Rattle.mt_terms.specs.Registration.Ids.{Bytes, is_dash, is_id, is_id_byte}
+use Rattle.mt_terms.specs.Registration.Accepted.{IsRegistration}
+use Rattle.mt_terms.specs.Registration.Ids.{Bytes, is_id}
 use Rattle.mt_terms.specs.Text.{name_of}
 use Rattle.mt_terms.proofs.IdFacts.{id_short}
 

@@ -4,19 +4,15 @@ use Rattle.std.proofs.Common.{◌≡◌, ◌≢◌, ℕ, zero, suc, ◌+◌, ◌
 use Rattle.std.specs.Prelude.{◌↔◌}
 use Rattle.std.specs.List.{find, range_with_len}
 use Rattle.std.proofs.lemmas.Bool.{cases_lt, true≢false}
-use Rattle.std.proofs.lemmas.List.{ext_get_or}
 use Rattle.mt_terms.specs.Best.{IsBest}
-use Rattle.mt_terms.specs.Lists.{below}
-use Rattle.mt_terms.specs.Market.{Market, Partners, Registered, couple_of}
+use Rattle.mt_terms.specs.Market.{Market, Registered}
 use Rattle.mt_terms.specs.Matching.{Places}
 use Rattle.mt_terms.specs.Rounds.{stage}
-use Rattle.mt_terms.proofs.BelowFacts.{length-map_below, map_below_at}
 use Rattle.mt_answer.proofs.AsideFacts.{other_code}
 use Rattle.mt_orders.proofs.MarketFacts.{first_is_own}
 use Rattle.mt_stability_laws.proofs.ExclusionLemmas.{best_is_unique_lem}
 use Rattle.mt_orders.specs.Fewest.{aside_in_order, fewest_order, others_in_order}
 use Rattle.mt_order_laws.specs.Orders.{ends_in_order, first_order, in_order}
-use Rattle.mt_order_laws.proofs.FormedFacts.{no_couple}
 use Rattle.mt_answer.specs.Answer.{IsAnswerOfStage}
 use Rattle.mt_answer.specs.Ways.{IsAnswerAside, IsAnswerInWays, IsAnswerOfNone, IsAnswerOfOrder}
 use Rattle.mt_answer.specs.WayLaws.{FirstOrderInWords, NoOrderInWords, OneAnswerInWays, OneWayIsUsual, SpentInWays}

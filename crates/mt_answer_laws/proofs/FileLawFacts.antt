@@ -12,7 +12,7 @@ use Rattle.mt_terms.specs.Market.{Market, Partners, Registered, list_of, singles
 use Rattle.mt_terms.specs.Matching.{Places}
 use Rattle.mt_terms.specs.Registration.{market_of}
 use Rattle.mt_terms.specs.Registration.Accepted.{IsRegistration}
-use Rattle.mt_terms.specs.Registration.Ids.{Bytes, all_differ, numbers_of}
+use Rattle.mt_terms.specs.Registration.Ids.{Bytes, numbers_of}
 use Rattle.mt_terms.specs.Stability.{stable}
 use Rattle.mt_terms.specs.Text.{name_of}
 use Rattle.mt_stability_laws.proofs.ExclusionLemmas.{best_is_at_least_lem}
@@ -29,7 +29,6 @@ use Rattle.mt_applicant_laws.proofs.ListChanges.{no_stable_match_gives_more_lem}
 use Rattle.mt_change_laws.specs.Changes.{ListChanged, QuotaChanged}
 use Rattle.mt_change_laws.proofs.FileChanges.{lists_of_files, quotas_of_files}
 use Rattle.mt_text_laws.specs.Counts.{published_counts}
-use Rattle.mt_text_laws.proofs.ReadBackFacts.{own_number}
 use Rattle.mt_answer_laws.specs.FileLaws.{HigherQuotaInFileHurtsNone, NoCalledMatchGivesMore, NoneGainsByAnotherRecord, OneLessInFileHurtsNoOther}
 use Rattle.mt_answer_laws.specs.TwoFiles.{CalledStable, Publishes}
 use Rattle.mt_answer_laws.proofs.CalledStable.{of_match}

@@ -6,7 +6,7 @@ use Rattle.std.proofs.Math.Bool.{or-false}
 use Rattle.std.proofs.lemmas.Bool.{cases_Bool, and_parts, and_from, or_left, both_ways, eq-eqb, eqb-true, false≢true, false_from_ne_true, not_from_false, not-true}
 use Rattle.std.proofs.lemmas.List.{nil_from_length}
 use Rattle.mt_terms.specs.Lists.{below, has, until}
-use Rattle.mt_terms.specs.Market.{Market, applicants, agent_of, couple_of, list_of, members, program_of}
+use Rattle.mt_terms.specs.Market.{applicants, agent_of, couple_of, list_of, members, program_of}
 use Rattle.mt_terms.specs.Matching.{Placement, at, better, single_placement}
 use Rattle.mt_terms.specs.Stability.{would_be_taken}
 use Rattle.mt_terms.specs.Rounds.{has_entered, is_on, joined}

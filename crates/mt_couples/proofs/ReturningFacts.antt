@@ -9,7 +9,6 @@ use Rattle.mt_terms.specs.Matching.{Places}
 use Rattle.mt_terms.specs.Rounds.{Work, after_rounds, is_same_agent, round}
 use Rattle.mt_terms.specs.contracts.numbers.AgentPartialEq.TheImpl.{eq-value}
 use Rattle.mt_terms.specs.declared.numbers.Agent.{Agent}
-use Rattle.mt_terms.specs.declared.numbers.Agent.TheVariants.{Single, Couple}
 use Rattle.mt_terms.proofs.AgentFacts.{is_same_agent_refl, same_agent}
 use Rattle.mt_stage_tables.proofs.WaitingFacts.{same_eq}
 use Rattle.mt_round_laws.specs.Rounds.{state}

@@ -7,7 +7,7 @@ use Rattle.mt_terms.specs.Registration.Accepted.{IsRegistration}
 use Rattle.mt_terms.specs.declared.numbers.Agent.{Agent}
 use Rattle.mt_terms.specs.declared.numbers.Agent.TheVariants.{Couple, Single}
 use Rattle.mt_verify.specs.Held.{IsNumbered}
-use Rattle.mt_explain.specs.Explained.{both_lines, line_if}
+use Rattle.mt_explain.specs.Explained.{both_lines}
 use Rattle.mt_explain.specs.Lines.{lines_at, option_lines}
 use Rattle.mt_explain.specs.declared.line.Line.{Line}
 use Rattle.mt_explain.proofs.OptionFacts.{listed_pair, listed_program, pair_option, single_option}

@@ -1,14 +1,13 @@
 -- What an answer says: the lines are so, or the refusal is named.
 use Rattle.std.proofs.Common.{◌≡◌, ◌≢◌, ℕ, ◌<◌, Bool, true, ◌==◌, List, [], ◌∷◌, length, Option, Some, None, Result, Ok, Err, refl, sym, ap, ◌∙◌, subst, inl, inr, arith}
 use Rattle.std.specs.Prelude.{◌↔◌}
-use Rattle.std.proofs.lemmas.Bool.{eqb-true}
 use Rattle.mt_terms.specs.Market.{Market, Registered}
 use Rattle.mt_terms.specs.Matching.{Places}
 use Rattle.mt_terms.specs.Places.{ArePlaces}
 use Rattle.mt_terms.specs.Registration.Accepted.{IsRegistration}
 use Rattle.mt_terms.specs.Registration.Faults.{Fault}
 use Rattle.mt_terms.specs.Registration.Ids.{Bytes}
-use Rattle.mt_order_laws.specs.Reordered.{set_aside, set_aside_registered}
+use Rattle.mt_order_laws.specs.Reordered.{set_aside_registered}
 use Rattle.mt_order_laws.proofs.FormedFacts.{none_aside_lem, places_aside}
 use Rattle.mt_order_laws.proofs.RegistrationFacts.{registration_aside_lem}
 use Rattle.mt_match_file.specs.Submitted.{Submitted, submitted_by}

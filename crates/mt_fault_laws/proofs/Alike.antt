@@ -9,7 +9,7 @@ use Rattle.std.proofs.lemmas.List.Folds.{list_any-append}
 use Rattle.mt_terms.specs.Registration.Ids.{Bytes, all_differ, is_id, is_id_byte, is_dash}
 use Rattle.mt_terms.specs.Registration.Passes.{is_same_pair}
 use Rattle.mt_terms.specs.Registration.Records.{Rules, IdPair, is_pair}
-use Rattle.mt_terms.proofs.IdFacts.{same_id, is_same, bytes_eq_sym}
+use Rattle.mt_terms.proofs.IdFacts.{bytes_eq_sym}
 
 module _ {X : Type 0} (same : X → X → Bool) (symmetric : (x y : X) → same x y ≡ same y x) where
   -- an element that is not among those before it

@@ -3,23 +3,18 @@
 use Rattle.std.proofs.Common.{◌≡◌, ℕ, ◌+◌, ◌≤◌, ◌<◌, Bool, true, false, not, ◌&&◌, ◌||◌, nat_lt, nat_le, min, cond, List, [], ◌∷◌, ◌++◌, length, take, drop, map, filter, Bor, Option, Some, None, refl, ap, ap₂, sym, ◌∙◌, subst, arith, if◌then◌else◌}
 use Rattle.std.specs.Prelude.{bytes_eq, flat_map, is_some}
 use Rattle.std.specs.List.{list_any}
-use Rattle.std.proofs.lemmas.Bool.Decides.{nat_tests}
 use Rattle.std.proofs.lemmas.List.{append_assoc, append-nil, map-append}
 use Rattle.std.proofs.lemmas.List.Folds.{list_any-append}
-use Rattle.std.proofs.lemmas.Grind.{flat_map-append}
 use Rattle.mt_terms.specs.declared.codes.TheConstants.{BAD_ID, DUPLICATE_ID, DUPLICATE_ENTRY, NOT_REGISTERED, TOO_MANY, UNKNOWN_APPLICANT, UNKNOWN_PROGRAM}
 use Rattle.mt_terms.specs.Registration.Ids.{Bytes, has_id}
 use Rattle.mt_terms.specs.Registration.Passes.{is_same_pair}
-use Rattle.mt_terms.specs.Registration.Records.{Rules, Kind, IdPair, OfProgram, OfApplicant, OfCouple, is_pair, pair_of}
+use Rattle.mt_terms.specs.Registration.Records.{Rules, Kind, IdPair, OfProgram, OfApplicant, OfCouple, pair_of}
 use Rattle.mt_passes.proofs.RepeatFacts.{same_pairs}
-use Rattle.mt_fault_terms.specs.Faults.{FieldFault, FileFault, Placed, fault_alone, fault_of}
-use Rattle.mt_fault_terms.specs.OfRecord.{is_id_field, is_place_field, alone_at, bad_of_pair, bad_fields, quota_faults, own_faults, found_among, missing_among, members_before, registered_faults, repeats_after, pair_repeats_after, shown_of_pair, repeat_faults, passes, limit_faults, unknown_faults, first_faults, record_faults}
+use Rattle.mt_fault_terms.specs.Faults.{FieldFault, Placed, fault_alone, fault_of}
+use Rattle.mt_fault_terms.specs.OfRecord.{is_id_field, is_place_field, alone_at, bad_of_pair, quota_faults, own_faults, found_among, missing_among, members_before, registered_faults, repeat_faults, limit_faults, unknown_faults, record_faults}
 use Rattle.mt_fault_terms.specs.Parts.{Parts, PlacedPair, Registers, Withdraws, all_applicants, all_own_ids, all_withdrawn, first_field}
-use Rattle.mt_faults.specs.declared.tell.Wrong.{Wrong}
 use Rattle.mt_faults.specs.declared.tell.Wrong.TheVariants as wrongs
-use Rattle.mt_faults.specs.Registered.{added, most}
 use Rattle.mt_faults.specs.Seen.{tested}
-use Rattle.mt_faults.specs.Telling.{at_record}
 use Rattle.mt_faults.specs.Standing.{withdrawn_again}
 use Rattle.mt_faults.proofs.AddedFacts.{has_id-added}
 use Rattle.mt_faults.proofs.PartsFacts.{both_of}

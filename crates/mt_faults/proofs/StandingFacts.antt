@@ -5,22 +5,18 @@ use Rattle.std.specs.Prelude.{flat_map, sum_by}
 use Rattle.std.proofs.lemmas.List.{append_assoc, append-nil}
 use Rattle.std.proofs.lemmas.List.Sums.{sum_by-append}
 use Rattle.std.proofs.lemmas.Grind.{flat_map-append}
-use Rattle.mt_terms.specs.declared.codes.TheConstants.{DUPLICATE_ID, DUPLICATE_ENTRY, UNKNOWN_APPLICANT, UNKNOWN_PROGRAM, NOT_REGISTERED}
 use Rattle.mt_terms.specs.Registration.Ids.{Bytes, has_id}
-use Rattle.mt_terms.specs.Registration.Passes.{Numbered, numbered_from}
+use Rattle.mt_terms.specs.Registration.Passes.{numbered_from}
 use Rattle.mt_terms.specs.Registration.Records.{Rules, Kind, OfProgram, OfApplicant, OfCouple}
 use Rattle.mt_records.specs.Kinds.{ids_in}
-use Rattle.mt_fault_terms.specs.Faults.{FieldFault, FileFault, Placed}
-use Rattle.mt_fault_terms.specs.OfFile.{all_parts, faults_after}
-use Rattle.mt_fault_terms.specs.OfRecord.{found_among, missing_among, members_before, registered_faults, repeat_faults, limit_faults, unknown_faults, record_faults}
+use Rattle.mt_fault_terms.specs.OfFile.{all_parts}
 use Rattle.mt_fault_terms.specs.Parts.{Parts, own_ids, applicants_among, withdrawn_ids, entries_among, all_own_ids, all_applicants, all_withdrawn, all_entries, parts_of}
 use Rattle.mt_faults.specs.declared.before.Before.{Before}
 use Rattle.mt_faults.specs.declared.before.Passed.{Passed}
 use Rattle.mt_faults.specs.declared.finder.Finder.{Finder}
 use Rattle.mt_faults.specs.declared.registry.Registry.{Registry}
-use Rattle.mt_faults.specs.Registered.{added, most, AddsAll, AddsParts, IsPassed, IsRegistry, PassesIds}
+use Rattle.mt_faults.specs.Registered.{added, most, AddsAll, AddsParts, IsPassed, PassesIds}
 use Rattle.mt_faults.specs.Standing.{IsBefore, Stands}
-use Rattle.mt_faults.specs.Telling.{at_record}
 use Rattle.mt_faults.proofs.AddedFacts.{has_added, has_before, added-append}
 
 -- with one record more

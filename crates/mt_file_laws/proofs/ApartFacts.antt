@@ -16,7 +16,7 @@ use Rattle.mt_terms.specs.Registration.Passes.{is_same_pair, registered_before, 
 use Rattle.mt_file_laws.specs.Faultless.{ids_differ}
 use Rattle.mt_file_laws.proofs.GrowthFacts.{applicant_ids-more, ids_of-more, withdrawn-more}
 use Rattle.mt_file_laws.proofs.IdFacts.{differ_join}
-use Rattle.mt_terms.proofs.IdFacts.{same_id, is_same, differ_parts, bytes_eq_sym}
+use Rattle.mt_terms.proofs.IdFacts.{differ_parts, bytes_eq_sym}
 
 -- whether nothing is withdrawn twice
 abbrev pub withdrawn_once : List Record → Bool

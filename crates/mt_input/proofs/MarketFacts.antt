@@ -8,7 +8,7 @@ use Rattle.mt_terms.specs.Registration.{market_of}
 use Rattle.mt_terms.specs.Registration.Accepted.{IsRegistration}
 use Rattle.mt_terms.specs.Registration.Faults.{Fault, record_fault_alone, fault_at}
 use Rattle.mt_terms.specs.Registration.Ids.{Bytes}
-use Rattle.mt_terms.specs.Text.{IsNamedRefusal, is_fault_code, is_known_code}
+use Rattle.mt_terms.specs.Text.{IsNamedRefusal, is_known_code}
 use Rattle.mt_terms.specs.declared.refusal.Refusal.{Refusal}
 use Rattle.mt_file_laws.proofs.FaultFacts.{fault_codes_lem, fault_ids_lem}
 use Rattle.mt_file_laws.proofs.PassFacts.{accepted_is_registration_lem}

@@ -7,7 +7,6 @@ use Rattle.std.proofs.lemmas.Bool.{and_parts}
 use Rattle.std.proofs.lemmas.Bool.Decides.{nat_tests}
 use Rattle.std.proofs.lemmas.List.{length-map}
 use Rattle.std.proofs.lemmas.List.Sums.{sum_by-cons, length-filter, count_by-le-length}
-use Rattle.mt_terms.specs.declared.limits.Limits.{Limits}
 use Rattle.mt_terms.specs.Market.{Pair}
 use Rattle.mt_terms.specs.Registration.Ids.{Bytes, has_id, number_of, numbers_of, all_differ}
 use Rattle.mt_terms.specs.Registration.Records.{Rules, Record, ProgramRecord, ApplicantRecord, CoupleRecord, WithdrawRecord, Kind, OfProgram, OfApplicant, OfCouple}
@@ -32,7 +31,6 @@ use Rattle.mt_numbering.specs.Reading.{pairs_by, pairs_read, lists_stand, member
 use Rattle.mt_id_lists.specs.Numbering.{Numbering, number_by, numbers_by}
 use Rattle.mt_id_lists.specs.Reading.{ids_read}
 use Rattle.mt_drafts.specs.Registered.{is_registered}
-use Rattle.mt_records.specs.Limits.{AreBounded}
 use Rattle.mt_drafts.specs.Withdrawals.{stays_after, Stand}
 use Rattle.mt_numbering.proofs.PairSteps.{all_only}
 

@@ -1,7 +1,7 @@
 -- The tables that are made from records none of which is withdrawn, seen as their market.
 use Rattle.std.proofs.Common.{◌≡◌, ℕ, suc, ◌+◌, ◌-◌, ◌<◌, ◌≤◌, ◌^◌, Bool, true, false, ◌||◌, ◌==◌, List, [], ◌∷◌, ◌++◌, map, filter_map, flat_map, length, get_or, set, drop, take, Vec, Global, refl, ap, ap₂, sym, ◌∙◌, arith, subst, if◌then◌else◌}
 use Rattle.std.specs.Prelude.{All}
-use Rattle.std.proofs.lemmas.List.{append-nil, same_lists, length-set, get_or_default, drop_all, drop_more, take_all}
+use Rattle.std.proofs.lemmas.List.{same_lists, length-set, get_or_default, drop_more}
 use Rattle.mt_terms.specs.declared.numbers.Agent.{Agent}
 use Rattle.mt_terms.specs.declared.numbers.Agent.TheVariants.{Couple}
 use Rattle.mt_terms.specs.Lists.{below}

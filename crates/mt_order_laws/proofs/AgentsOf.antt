@@ -1,7 +1,7 @@
 -- Whose member an applicant is, among couples that are named by number. Such a couple is the one that the market gives
 -- the applicant, so its place in the list is the number of the agent.
 use Rattle.std.proofs.Common.{◌≡◌, ℕ, zero, suc, ◌+◌, ◌<◌, true, false, ◌==◌, List, [], ◌∷◌, map, length, inl, inr, refl, ap, sym, ◌∙◌, arith, subst, get_or, eq-eqb}
-use Rattle.std.proofs.lemmas.Bool.{or_cases, or_left, or_right, false_from_ne_true}
+use Rattle.std.proofs.lemmas.Bool.{or_left, or_right, false_from_ne_true}
 use Rattle.mt_terms.specs.Lists.{has, is_distinct}
 use Rattle.mt_terms.specs.Market.{Market, Partners, couple_of, is_member, agent_from, agent_of, members}
 use Rattle.mt_terms.specs.WellFormed.{IsWellFormed}

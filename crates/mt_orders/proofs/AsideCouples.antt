@@ -1,10 +1,10 @@
 -- Each couple that is set aside in turn is one of the market, and none of those before it.
 use Rattle.std.proofs.Common.{◌≡◌, ℕ, zero, suc, ◌<◌, true, false, not, ◌==◌, nat_lt, List, [], ◌∷◌, ◌++◌, map, length, get_or, Option, None, Some, inl, inr, refl, sym, ◌∙◌, subst, arith, eq-eqb, eqb-true, ltb-true}
 use Rattle.std.specs.Option.{option_map_or}
-use Rattle.std.proofs.lemmas.Bool.{cases_Bool, and_from, and_parts, both_ways, not-true, not_from_false, or_cases, or_from, or_parts}
+use Rattle.std.proofs.lemmas.Bool.{and_parts, not-true, or_cases}
 use Rattle.std.proofs.lemmas.List.{length-map}
 use Rattle.std.proofs.lemmas.List.Folds.{list_any-append}
-use Rattle.mt_terms.specs.Lists.{has, is_distinct}
+use Rattle.mt_terms.specs.Lists.{has}
 use Rattle.mt_terms.specs.Market.{Market, couple_of}
 use Rattle.mt_terms.specs.Matching.{Places}
 use Rattle.mt_terms.proofs.ListFacts.{has_item, distinct_push}

@@ -1,6 +1,5 @@
 -- What a program's words ask for: the facts of a command that was made, as facts of its definition.
 use Rattle.std.proofs.Common.{◌≡◌, ◌∙◌, true, List, [], Result, Ok, Err, IfErr, IfOk, ap, subst}
-use Rattle.std.proofs.lemmas.Result.{IfErr-weaker}
 use Rattle.clap.specs.Words.{App, Row, Text, fault_of, matches_of}
 use Rattle.mt_program.specs.CommandLine.{AreMisuse, AreRefused, NameFiles, NameFilesIn}
 use Rattle.mt_program.specs.Unasked.{IsUnaskedBy}

@@ -5,7 +5,6 @@ use Rattle.std.proofs.lemmas.Bool.Decides.{nat_tests}
 use Rattle.std.proofs.lemmas.List.{drop_more, get_or-set_same, get_or-set_other, append_assoc, drop_all, get_or_read, length-set, at_drop_more, at_drop_all, append-nil, get_or-replicate, length-replicate}
 use Rattle.std.proofs.lemmas.List.FromFn.{fill_by_all, get_or-map-range_with_len}
 use Rattle.mt_terms.specs.Lists.{has, below, count, is_distinct}
-use Rattle.mt_terms.proofs.ListFacts.{has_item}
 use Rattle.mt_ranks.specs.Entries.{entries_in, entries_from, times_listed, IsCounted}
 use Rattle.mt_ranks.specs.Rows.{Filling, empty_rows, row_of, HasRoom, IsEnteredFor, with_entry}
 use Rattle.mt_ranks.specs.declared.entries.Live.{Live}

@@ -1,8 +1,7 @@
 -- Where a couple comes in an order, which agent an applicant has then, and which couples are on a list.
 use Rattle.std.proofs.Common.{◌≡◌, ◌≢◌, ℕ, suc, ◌+◌, ◌-◌, ◌<◌, ◌≤◌, Bool, true, false, ◌||◌, ◌==◌, List, [], ◌∷◌, ◌++◌, map, replicate, take, length, get_or, set, drop, Option, Some, None, inl, inr, refl, ap, sym, ◌∙◌, arith, subst, eqb-true, eq-eqb, ne_eqb, if◌then◌else◌}
 use Rattle.std.proofs.lemmas.Bool.{cases_Bool, cases_eq, or_right, both_ways}
-use Rattle.std.proofs.lemmas.List.{append-nil, drop_all, drop_more, get_or_default, get_or-replicate, get_or-set_same, get_or-set_other, length-replicate, length-set, same_lists, take_all, take_more}
-use Rattle.std.proofs.lemmas.List.Folds.{list_any-append}
+use Rattle.std.proofs.lemmas.List.{drop_all, drop_more, get_or_default, get_or-replicate, get_or-set_same, get_or-set_other, length-replicate, length-set, same_lists, take_more}
 use Rattle.mt_terms.specs.Lists.{has, below}
 use Rattle.mt_terms.specs.Market.{Market, Partners, agent_of}
 use Rattle.mt_terms.specs.WellFormed.{IsWellFormed}

@@ -12,7 +12,7 @@ use Rattle.mt_answer.specs.Answer.{IsAnswerOfMarket}
 use Rattle.mt_answer.specs.Refusals.{line_of}
 use Rattle.mt_answer.specs.Ways.{IfUnanswered, IsAnswerInWays, IsEntering}
 use Rattle.mt_answer.specs.WayLaws.{IsStableAside, IsStableIn}
-use Rattle.mt_answer.proofs.AsideFacts.{alone_is_published, published_in_ways_is_stable_lem}
+use Rattle.mt_answer.proofs.AsideFacts.{published_in_ways_is_stable_lem}
 use Rattle.mt_answer.proofs.WayFacts.{one_answer_in_ways_lem, one_way_is_usual_lem}
 use Rattle.mt_answer.specs.declared.ways.Unanswered.{Unanswered}
 use Rattle.mt_answer.specs.declared.ways.Unanswered.TheVariants.{BudgetSpent, Memory}
@@ -22,11 +22,10 @@ use Rattle.mt_input.specs.Left.{OfLeft}
 use Rattle.mt_input.specs.Refusals.{IsRefusalOf, fault_of}
 use Rattle.mt_input.proofs.LeftFacts.{of_left}
 use Rattle.mt_input.proofs.MarketFacts.{market_fault, market_refusal_named, registration_of}
-use Rattle.mt_run.specs.Answer.{IsAnswer, IsAnswerOfFault}
+use Rattle.mt_run.specs.Answer.{IsAnswerOfFault}
 use Rattle.mt_run.specs.Headline.{IsStableText, IsStableTextOf}
-use Rattle.mt_run.specs.Refusals.{HasNoCouple, PublishesSingles}
 use Rattle.mt_run.specs.Unmatched.{IsAlone, IsUnmatchedBy}
-use Rattle.mt_run.specs.Ways.{IsAnswerIn, IsAnswerInTo, IsEnteringIn, IsRefusalIn, IsStableAsideText, NamesEntering}
+use Rattle.mt_run.specs.Ways.{IsAnswerIn, IsAnswerInTo, IsRefusalIn, IsStableAsideText, NamesEntering}
 use Rattle.mt_run.specs.WayLaws.{OneAnswerIn, OneWayIsAnswer, PublishedInIsStable}
 use Rattle.mt_run.specs.declared.in_ways.Unmatched.{Unmatched}
 use Rattle.mt_run.proofs.HeadlineLemmas.{best_of_all}

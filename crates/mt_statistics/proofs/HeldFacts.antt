@@ -3,17 +3,17 @@
 use Rattle.std.proofs.Common.{◌≡◌, ℕ, zero, suc, ◌+◌, ◌-◌, ◌<◌, ◌≤◌, Bool, true, false, ◌&&◌, List, [], ◌∷◌, ◌++◌, map, length, get_or, max, Option, Some, None, eqb, IsTrue, refl, sym, ap, ap₂, ◌∙◌, inl, inr, arith, add-one, if◌then◌else◌}
 use Rattle.std.specs.List.{position}
 use Rattle.std.proofs.Math.Path.{fun_ext}
-use Rattle.std.proofs.lemmas.Bool.{cases_Bool, cases_lt, eqb-true, or_cases, true≢false}
+use Rattle.std.proofs.lemmas.Bool.{cases_lt, eqb-true, true≢false}
 use Rattle.std.proofs.lemmas.List.{get_or_past}
 use Rattle.mt_terms.specs.Lists.{below, count, count_below}
-use Rattle.mt_terms.specs.Market.{Market, Partners, agent_from, applicants, couple_of, is_member, list_of}
+use Rattle.mt_terms.specs.Market.{Market, applicants}
 use Rattle.mt_terms.specs.Matching.{Places, holds, is_program, single_placement}
 use Rattle.mt_terms.specs.WellFormed.{IsWellFormed}
 use Rattle.mt_terms.specs.declared.numbers.Agent.TheVariants.{Couple, Single}
 use Rattle.mt_terms.proofs.BelowFacts.{length-map_below, map-below_more, map_below_at}
 use Rattle.mt_terms.proofs.Totals.{count_below-same}
 use Rattle.mt_ranks.proofs.LiveMarket.{no_list_of_member}
-use Rattle.mt_ranks.specs.Ranked.{is_single, is_single_agent}
+use Rattle.mt_ranks.specs.Ranked.{is_single}
 use Rattle.mt_report.proofs.CountFacts.{count-push}
 use Rattle.mt_verify.specs.Held.{held_option}
 use Rattle.mt_statistics.specs.Counts.{choice_counts, greatest_below, has_choice, last_of, most_choices, ordinal, pair_counts}

@@ -5,7 +5,6 @@ use Rattle.std.specs.List.{position, position_or_len}
 use Rattle.std.specs.Option.{option_eq}
 use mathlib.Core.Path.{fun_ext}
 use Rattle.std.proofs.lemmas.Bool.{cases_Bool, cases_lt, le-ltb, lt-ltb}
-use Rattle.std.proofs.lemmas.List.{length-map}
 use Rattle.mt_terms.specs.Lists.{until}
 use Rattle.mt_terms.specs.Market.{Market, Pair, couple_of, list_of}
 use Rattle.mt_terms.specs.Matching.{Places, better, couple_placement, holds, options, place_of, single_placement}

@@ -1,6 +1,5 @@
 use Rattle.std.proofs.Common.{ap, sym, ◌∙◌, length, arith, min, ◌+◌, ◌∷◌, [], length-append}
 use Rattle.mt_fault_terms.specs.Parts.{ids_among}
-use Rattle.mt_faults.specs.Registered.{most}
 use Rattle.mt_faults.specs.Seen.{field_seen, placed_left}
 use Rattle.mt_faults.proofs.SearchFacts.{next_id}
 use Rattle.mt_faults.proofs.finder.ids_count.Goals as goal

@@ -1,6 +1,6 @@
 use Rattle.std.proofs.Common.{◌≡◌, ◌++◌, ◌∙◌, List, ℕ, ap}
 use Rattle.std.specs.Prelude.{codes}
-use Rattle.mt_explain_text.specs.Text.{number_of, number_text, told_text}
+use Rattle.mt_explain_text.specs.Text.{number_text, told_text}
 use Rattle.mt_explain_text.proofs.PageFacts.{single_pieces}
 use Rattle.mt_explain_text.proofs.lines.AgentLines.push_single.Goals as goal
 

@@ -1,9 +1,6 @@
 use Rattle.std.proofs.Common.{ap, sym, ◌∙◌, take, length, ◌*◌, ◌/◌}
-use Rattle.mt_terms.specs.declared.codes.TheConstants.{DUPLICATE_ID, DUPLICATE_ENTRY, UNKNOWN_PROGRAM}
-use Rattle.mt_terms.specs.Registration.Ids.{has_id}
-use Rattle.mt_records.specs.Records.{kind_seen}
-use Rattle.mt_fault_terms.specs.OfRecord.{missing_among}
-use Rattle.mt_faults.specs.Seen.{form_seen, parts_seen, placed_left}
+use Rattle.mt_terms.specs.declared.codes.TheConstants.{DUPLICATE_ID}
+use Rattle.mt_faults.specs.Seen.{placed_left}
 use Rattle.mt_faults.specs.Telling.{at_record}
 use Rattle.mt_faults.proofs.TellingFacts.{told_as}
 use Rattle.mt_faults.proofs.RecordFacts.{found}

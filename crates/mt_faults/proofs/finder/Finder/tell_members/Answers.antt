@@ -1,12 +1,11 @@
 use Rattle.std.proofs.Common.{List, Err, ap, sym, ◌∙◌, ◌++◌, ◌∷◌, [], take, drop, refl}
-use Rattle.std.proofs.lemmas.Result.{err_from_is_err_and}
 use Rattle.mt_terms.specs.declared.codes.TheConstants.{DUPLICATE_ID}
-use Rattle.mt_fault_terms.specs.OfRecord.{found_among, members_before, registered_faults}
+use Rattle.mt_fault_terms.specs.OfRecord.{found_among, members_before}
 use Rattle.mt_fault_terms.specs.Parts.{first_field}
-use Rattle.mt_faults.specs.Seen.{faults_seen, field_seen, form_seen, parts_seen, placed_left}
+use Rattle.mt_faults.specs.Seen.{faults_seen, field_seen, placed_left}
 use Rattle.mt_faults.specs.Telling.{at_record}
 use Rattle.mt_faults.proofs.SearchFacts.{in_two}
-use Rattle.mt_faults.proofs.TellingFacts.{Laws, ends_early, finishes, goes, starts, told_as}
+use Rattle.mt_faults.proofs.TellingFacts.{Laws, finishes, goes, starts}
 use Rattle.mt_faults.proofs.RecordFacts.{members_two, two_fields}
 use Rattle.mt_faults.proofs.finder.Finder.tell_members.Goals as goal
 

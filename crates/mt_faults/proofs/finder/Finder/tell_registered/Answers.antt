@@ -4,7 +4,7 @@ use Rattle.mt_terms.specs.declared.codes.TheConstants.{DUPLICATE_ID}
 use Rattle.mt_fault_terms.specs.OfRecord.{found_among, members_before, registered_faults}
 use Rattle.mt_records.specs.Records.{kind_seen}
 use Rattle.mt_fault_terms.specs.Parts.{Registers}
-use Rattle.mt_faults.specs.Seen.{faults_seen, field_seen, form_seen, parts_seen, placed_left}
+use Rattle.mt_faults.specs.Seen.{form_seen, parts_seen, placed_left}
 use Rattle.mt_faults.specs.Telling.{at_record}
 use Rattle.mt_faults.proofs.SearchFacts.{in_two}
 use Rattle.mt_faults.proofs.TellingFacts.{Laws, ends_early, finishes, goes, starts, told_as}

@@ -1,15 +1,15 @@
 use Rattle.std.proofs.Common.{List, length, [], ◌∷◌, ◌++◌, Err, ap, sym, ◌∙◌, subst, refl}
-use Rattle.std.proofs.lemmas.Bool.{eqb-true, eqb-false}
+use Rattle.std.proofs.lemmas.Bool.{eqb-false}
 use Rattle.std.proofs.lemmas.List.{append_assoc, append-nil}
 use Rattle.std.proofs.lemmas.Result.{err_from_is_err_and}
 use Rattle.mt_fault_terms.specs.OfRecord.{record_faults}
 use Rattle.mt_fault_terms.specs.Parts.{Parts, parts_of}
-use Rattle.mt_faults.specs.Registered.{IsRegistry, row_parts}
+use Rattle.mt_faults.specs.Registered.{IsRegistry}
 use Rattle.mt_faults.specs.Seen.{parts_seen}
-use Rattle.mt_faults.specs.Standing.{IsBefore, Stands, row_faults}
+use Rattle.mt_faults.specs.Standing.{IsBefore, row_faults}
 use Rattle.mt_faults.specs.Telling.{at_record}
-use Rattle.mt_faults.proofs.SearchFacts.{faults_some, row_none, row_some}
-use Rattle.mt_faults.proofs.TellingFacts.{Laws, all_told, ends_early, goes, memory_ends, starts, starts_as}
+use Rattle.mt_faults.proofs.SearchFacts.{faults_some, row_some}
+use Rattle.mt_faults.proofs.TellingFacts.{Laws, all_told, ends_early, goes, memory_ends, starts}
 use Rattle.mt_faults.proofs.finder.Finder.tell_row.Goals as goal
 
 pub returns-in_err-tell_record-clause-tells : goal.returns-in_err-tell_record-clause-tells

@@ -1,5 +1,5 @@
 use Rattle.std.proofs.Common.{ap, sym, ◌∙◌, take, length, ◌*◌, ◌/◌}
-use Rattle.mt_terms.specs.declared.codes.TheConstants.{DUPLICATE_ID, DUPLICATE_ENTRY, UNKNOWN_PROGRAM}
+use Rattle.mt_terms.specs.declared.codes.TheConstants.{UNKNOWN_PROGRAM}
 use Rattle.mt_terms.specs.Registration.Ids.{has_id}
 use Rattle.mt_records.specs.Records.{kind_seen}
 use Rattle.mt_fault_terms.specs.OfRecord.{missing_among}

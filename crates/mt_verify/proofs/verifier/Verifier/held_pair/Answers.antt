@@ -1,9 +1,8 @@
 use Rattle.std.proofs.Common.{◌≡◌, ◌&&◌, ◌==◌, ◌<◌, ℕ, List, Option, Some, length, ap, sym, ◌∙◌, arith}
 use Rattle.std.specs.List.{position}
 use Rattle.std.specs.Option.{option_eq}
-use Rattle.mt_terms.specs.Market.{Pair, couple_of}
+use Rattle.mt_terms.specs.Market.{Pair}
 use Rattle.mt_terms.specs.Matching.{place_of}
-use Rattle.mt_verify.specs.Held.{held_option}
 use Rattle.mt_verify.proofs.HeldFacts.{found_within, held_couple}
 use Rattle.mt_verify.proofs.MarketFacts.{few_pairs}
 use Rattle.mt_verify.proofs.verifier.Verifier.held_pair.Goals as goal

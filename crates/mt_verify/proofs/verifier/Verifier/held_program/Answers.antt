@@ -1,8 +1,7 @@
 use Rattle.std.proofs.Common.{◌≡◌, ◌==◌, ℕ, List, Option, Some, ap, sym, ◌∙◌, arith}
 use Rattle.std.specs.List.{position}
 use Rattle.std.specs.Option.{option_eq}
-use Rattle.mt_verify.proofs.HeldFacts.{found_within, held_single}
-use Rattle.mt_verify.proofs.MarketFacts.{few_listed}
+use Rattle.mt_verify.proofs.HeldFacts.{held_single}
 use Rattle.mt_verify.proofs.verifier.Verifier.held_program.Goals as goal
 
 pub returns-in_err-option : goal.returns-in_err-option
