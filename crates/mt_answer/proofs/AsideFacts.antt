@@ -26,7 +26,7 @@ use Rattle.mt_orders.proofs.FewestFacts.{aside_in_order_are_couples, fewest_in_w
 use Rattle.mt_answer.specs.Answer.{IsAnswerOfStage, all_proposals}
 use Rattle.mt_answer.specs.Ways.{IsAnswerAside, IsAnswerInWays, IsAnswerOfNone, IsAnswerOfOrder}
 use Rattle.mt_answer.specs.WayLaws.{AsideAreCouples, AsideInWords, IsStableAside, IsStableIn, PublishedInWaysIsStable}
-use Rattle.mt_answer.proofs.WayFacts.{first_order_in_words_lem, no_order_in_words_lem}
+use Rattle.mt_answer.proofs.WayFacts.{first_order_in_words_lem, no_order_in_words_lem, other_code}
 use Rattle.mt_answer.specs.declared.ways.Ways.{Ways}
 
 pub aside_are_couples_lem : AsideAreCouples
@@ -144,9 +144,6 @@ some_aside m best budget orders one none empty =
     let h = (fewest_in_words_lem m best budget orders k one).0 refl in
     let spent : stage (in_order k m) best budget ≡ None = (no_order_in_words_lem m best budget orders).0 none k h.0 h.1 in
     some_in_turn (in_order k m) best budget spent (no_image (λ c. get_or (order_of k (length m.couples)) c 0) (aside_in_turn (in_order k m) best budget) empty)
-
-pub other_code : {a b : ℕ} (code : ℕ) → code ≡ a → code ≡ b → (a ≡ b → ⊥) → ⊥
-other_code code e f differ = differ (sym e ∙ f)
 
 module _ (r : Registered) (formed : IsWellFormed r.market) (budget : ℕ) (orders : ℕ) (one : 1 ≤ orders) (best : Places) (is_best : IsBest r.market best) (code : ℕ) (text : List ℕ) where
   of_stage : (number : ℕ) (s : Option (Places × ℕ)) → stage (in_order number r.market) best budget ≡ s → IsAnswerOfStage r best s code text → code ≡ 0 → IsStableIn r text

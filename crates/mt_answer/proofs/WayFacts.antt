@@ -8,7 +8,6 @@ use Rattle.mt_terms.specs.Best.{IsBest}
 use Rattle.mt_terms.specs.Market.{Market, Registered}
 use Rattle.mt_terms.specs.Matching.{Places}
 use Rattle.mt_terms.specs.Rounds.{stage}
-use Rattle.mt_answer.proofs.AsideFacts.{other_code}
 use Rattle.mt_orders.proofs.MarketFacts.{first_is_own}
 use Rattle.mt_stability_laws.proofs.ExclusionLemmas.{best_is_unique_lem}
 use Rattle.mt_orders.specs.Fewest.{aside_in_order, fewest_order, others_in_order}
@@ -170,6 +169,10 @@ one_answer_in_ways_lem r budget ways c d text other h k =
     order_once r h.best budget ways (first_order r.market h.best budget ways.orders) c d text other h.ends (by_best r budget ways d other h.best k h.is_best)
 
 -- ---- a spent budget
+
+-- a code is one number
+pub other_code : {a b : ℕ} (code : ℕ) → code ≡ a → code ≡ b → (a ≡ b → ⊥) → ⊥
+other_code code e f differ = differ (sym e ∙ f)
 
 spent_by_none : (r : Registered) (best : Places) (budget orders : ℕ) (set_aside : Bool) (code : ℕ) (text : List ℕ)
     → IsAnswerOfNone r best budget orders set_aside code text → code ≡ 41 → set_aside ≡ false
