@@ -1,10 +1,16 @@
 """What the package does beside the programs. Expected values are worked out by hand."""
 import os
+import sys
 import tempfile
+import types
 import unittest
+from unittest import mock
 
 import nrmatch
-from nrmatch import Above, Couple, Explanation, Filled, Market, Match, Program, Totals, Verdict
+from nrmatch import (
+    Above, Couple, CoupleCounts, Explanation, FillCounts, Filled, Market, Match, PostCounts, Program, ProgramCounts, Report, Totals,
+    Verdict,
+)
 
 HERE = os.path.dirname(os.path.abspath(__file__))
 EXAMPLES = os.path.join(os.path.dirname(HERE), "examples")
@@ -156,6 +162,60 @@ class Explanations(unittest.TestCase):
 
     def test_is_a_market_of_nobody_explained_by_nothing(self):
         self.assertEqual(nrmatch.explain(Market(), ""), [])
+
+
+class Reports(unittest.TestCase):
+    def test_are_the_numbers_those_of_the_tables(self):
+        market = Market.from_tables(*tables())
+        wanted = Report(
+            text="choice,1,1\nchoice,2,1\nunmatched,0\ncouples,0,1,0\npair,1,0\npair,2,1\nprograms,2,0,0\nposts,3,0\n"
+            "program,City,2,2,4,2\nprogram,General,1,1,3,1\n",
+            choices=(1, 1),
+            unmatched=0,
+            couples=CoupleCounts(0, 1, 0),
+            pairs=(0, 1),
+            fill=FillCounts(2, 0, 0),
+            posts=PostCounts(3, 0),
+            programs={"City": ProgramCounts(2, 2, 4, 2), "General": ProgramCounts(1, 1, 3, 1)},
+        )
+        self.assertEqual(nrmatch.report(market, nrmatch.match(market)), wanted)
+
+    def test_has_an_empty_program_no_last_one(self):
+        report = nrmatch.report(small(), "applicant,Bob,-\napplicant,Ann,-\n")
+        self.assertEqual((report.choices, report.unmatched, report.fill), ((), 2, FillCounts(0, 0, 1)))
+        self.assertEqual(report.programs, {"City": ProgramCounts(1, 0, 2, None)})
+
+    def test_is_a_refused_match_an_exception(self):
+        for made in (nrmatch.report, nrmatch.report_page):
+            with self.assertRaises(nrmatch.Refused) as caught:
+                made(small(), "applicant,Cleo,City\n")
+            it = caught.exception
+            self.assertEqual((it.code, it.name, it.record, it.id), (52, "NoSuchApplicant", 1, "Cleo"))
+
+    def test_has_the_page_each_open_program(self):
+        page = nrmatch.report_page(small(), "applicant,Bob,-\napplicant,Ann,-\n")
+        self.assertTrue(page.startswith("<!DOCTYPE html>\n") and page.endswith("</html>\n"), page)
+        self.assertIn(">City<", page)
+
+    def test_is_another_text_an_error(self):
+        text = "unmatched,0\ncouples,0,0,0\nprograms,0,0,0\nposts,0,0\n"
+        self.assertEqual(Report.of_text(text).posts, PostCounts(0, 0))
+        for other, why in (
+            ("choice,2,1\n" + text, "choice 2 after 0"),
+            (text + "places,0\n", "no line of a report"),
+            (text + "\n", "no line of a report"),
+            (text.replace("posts,0,0\n", ""), "without posts"),
+        ):
+            with self.assertRaisesRegex(ValueError, why):
+                Report.of_text(other)
+
+    def test_has_the_frame_a_row_for_each_program(self):
+        frame = mock.Mock()
+        with mock.patch.dict(sys.modules, {"pandas": types.SimpleNamespace(DataFrame=frame)}):
+            nrmatch.report(small(), "applicant,Bob,-\napplicant,Ann,-\n").to_frame()
+        wanted = {"program": ["City"], "quota": [1], "filled": [0], "listed": [2], "last": [None]}
+        frame.assert_called_once_with(wanted)
+        frame.return_value.astype.assert_called_once_with({"last": "Int64"})
 
 
 class Checks(unittest.TestCase):

@@ -1,31 +1,39 @@
 """The residency match from Python: `match` makes the match of a `Market`, and `check` judges a match that anybody made. `explain`
-says why applicants and couples have what a match gives them.
+says why applicants and couples have what a match gives them, and `report` counts choices, couples, programs and posts.
 
-They run the installed programs nrmatch, nrcheck and nrexplain. The variable NRMATCH_BIN may name the folder that has them.
+They run the installed programs nrmatch, nrcheck, nrexplain and nrreport. The variable NRMATCH_BIN may name the folder that has them.
 """
 from .errors import BudgetSpent, NrmatchError, ProgramFailed, ProgramMissing, Refusal, Refused
 from .market import Couple, Market, Program
-from .programs import check, explain, match
+from .programs import check, explain, match, report, report_page
+from .reports import CoupleCounts, FillCounts, PostCounts, ProgramCounts, Report
 from .results import Above, Explanation, Filled, Match, Totals, Verdict
 
 __all__ = [
     "Above",
     "BudgetSpent",
     "Couple",
+    "CoupleCounts",
     "Explanation",
+    "FillCounts",
     "Filled",
     "Market",
     "Match",
     "NrmatchError",
+    "PostCounts",
     "Program",
+    "ProgramCounts",
     "ProgramFailed",
     "ProgramMissing",
     "Refusal",
     "Refused",
+    "Report",
     "Totals",
     "Verdict",
     "check",
     "explain",
     "match",
+    "report",
+    "report_page",
 ]
 __version__ = "1.0.0"

@@ -44,7 +44,7 @@ class Refusal:
 
 
 class Refused(NrmatchError):
-    """nrmatch or nrcheck refused its input. `refusal` says why."""
+    """A program refused its input. `refusal` says why."""
 
     def __init__(self, refusal: Refusal) -> None:
         where = "" if refusal.record is None else f", {refusal.file} record {refusal.record}"

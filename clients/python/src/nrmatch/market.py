@@ -5,7 +5,7 @@ import csv
 import io
 import os
 from dataclasses import dataclass, field
-from typing import TYPE_CHECKING, Dict, Iterable, List, Mapping, Optional, Sequence, Tuple, Union
+from typing import TYPE_CHECKING, Any, Dict, Iterable, List, Mapping, Optional, Sequence, Tuple, Union
 
 if TYPE_CHECKING:
     import pandas
@@ -84,7 +84,7 @@ class Market:
         return out.getvalue()
 
     @classmethod
-    def from_dict(cls, lists: Mapping[str, Mapping[str, object]]) -> "Market":
+    def from_dict(cls, lists: Mapping[str, Any]) -> "Market":
         """The market of plain dicts and lists, as a JSON file may have them.
 
         `lists["programs"]` maps ids to `{"quota": .., "ranking": [..]}`, `lists["applicants"]` ids to lists of ids, and

@@ -7,11 +7,33 @@ import os
 import shutil
 import subprocess
 import tempfile
-from typing import List, Optional, Sequence, Tuple, Union
+from typing import List, NamedTuple, Optional, Sequence, Union
 
 from .errors import BudgetSpent, ProgramFailed, ProgramMissing, Refusal, Refused
 from .market import Market
+from .reports import Report
 from .results import Explanation, Match, Verdict, explanations_of
+
+
+class _Ended(NamedTuple):
+    """How a program ended: its name, its exit status, its text, and what it said on standard error."""
+
+    program: str
+    status: int
+    text: str
+    said: str
+
+    def rows(self) -> List[List[str]]:
+        """The lines of the text, with their fields."""
+        return list(csv.reader(io.StringIO(self.text)))
+
+    def first(self) -> List[str]:
+        """The fields of the first line, or none."""
+        return next(csv.reader(io.StringIO(self.text)), [])
+
+    def failure(self) -> ProgramFailed:
+        """That the program ended in a way that its pages don't have."""
+        return ProgramFailed(self.program, self.status, self.said)
 
 
 def _program(name: str) -> str:
@@ -23,9 +45,9 @@ def _program(name: str) -> str:
     return found
 
 
-def _run(name: str, words: List[str]) -> Tuple[int, str, str]:
+def _run(name: str, words: List[str]) -> _Ended:
     ended = subprocess.run([_program(name), *words], stdin=subprocess.DEVNULL, capture_output=True)
-    return ended.returncode, ended.stdout.decode("ascii", "replace"), ended.stderr.decode("utf-8", "replace")
+    return _Ended(name, ended.returncode, ended.stdout.decode("ascii", "replace"), ended.stderr.decode("utf-8", "replace"))
 
 
 def _write(folder: str, name: str, text: str) -> str:
@@ -33,15 +55,6 @@ def _write(folder: str, name: str, text: str) -> str:
     with open(path, "w", encoding="utf-8", newline="") as file:
         file.write(text)
     return path
-
-
-def _fields(program: str, ended: Tuple[int, str, str]) -> List[str]:
-    """The fields of the first line, if the program wrote one and ended as its pages say."""
-    status, text, said = ended
-    rows = list(csv.reader(io.StringIO(text)))
-    if status not in (0, 1, 2, 3, 4, 5) or not rows:
-        raise ProgramFailed(program, status, said)
-    return rows[0]
 
 
 def _number(field: str) -> Optional[int]:
@@ -68,18 +81,26 @@ def match(market: Market, *, workers: int = 4, budget: int = 1_000_000) -> Match
     with tempfile.TemporaryDirectory() as folder:
         path = _write(folder, "market.csv", market.text())
         ended = _run("nrmatch", ["--workers", str(workers), "--budget", str(budget), path])
-    fields = _fields("nrmatch", ended)
-    if fields == ["match", "1", "published"] and ended[0] == 0:
-        return Match.of_text(ended[1])
-    if fields[:3] == ["match", "1", "refused"] and len(fields) == 7:
+    fields = ended.first()
+    if fields == ["match", "1", "published"] and ended.status == 0:
+        return Match.of_text(ended.text)
+    if fields[:3] == ["match", "1", "refused"] and len(fields) == 7 and ended.status in (2, 3, 4, 5):
         _refuse(fields[3], fields[4], "market", fields[5], fields[6])
-    raise ProgramFailed("nrmatch", ended[0], ended[2])
+    raise ended.failure()
 
 
-def _both(folder: str, market: Market, matched: Union[Match, str]) -> List[str]:
-    """The paths of a market and of a match, which it writes."""
-    text = matched.text if isinstance(matched, Match) else matched
-    return [_write(folder, "market.csv", market.text()), _write(folder, "match.csv", text)]
+def _judge(name: str, options: List[str], market: Market, matched: Union[Match, str], ids: Sequence[str] = ()) -> _Ended:
+    """How a program ends that is given a market and a match. Raises `Refused` if it refuses one of them."""
+    with tempfile.TemporaryDirectory() as folder:
+        paths = [
+            _write(folder, "market.csv", market.text()),
+            _write(folder, "match.csv", matched.text if isinstance(matched, Match) else matched),
+        ]
+        ended = _run(name, [*options, "--", *paths, *ids])
+    fields = ended.first()
+    if fields[:3] in (["check", "1", "refused"], ["report", "1", "refused"]) and len(fields) == 8 and ended.status in (2, 4, 5):
+        _refuse(fields[3], fields[4], fields[5], fields[6], fields[7])
+    return ended
 
 
 def check(market: Market, matched: Union[Match, str]) -> Verdict:
@@ -93,14 +114,11 @@ def check(market: Market, matched: Union[Match, str]) -> Verdict:
     >>> check(market, "applicant,Bob,City\\napplicant,Ann,-\\n")
     Verdict(kind='blocks', who=('applicant', 'Ann', 'City'))
     """
-    with tempfile.TemporaryDirectory() as folder:
-        ended = _run("nrcheck", _both(folder, market, matched))
-    fields = _fields("nrcheck", ended)
-    if fields[:3] == ["check", "1", "refused"] and len(fields) == 8:
-        _refuse(fields[3], fields[4], fields[5], fields[6], fields[7])
-    if fields[:2] == ["check", "1"] and len(fields) > 2 and ended[0] in (0, 1):
-        return Verdict(fields[2], tuple(fields[3:]))
-    raise ProgramFailed("nrcheck", ended[0], ended[2])
+    ended = _judge("nrcheck", [], market, matched)
+    rows = ended.rows()
+    if ended.status in (0, 1) and len(rows) == 1 and rows[0][:2] == ["check", "1"] and len(rows[0]) > 2:
+        return Verdict(rows[0][2], tuple(rows[0][3:]))
+    raise ended.failure()
 
 
 def explain(market: Market, matched: Union[Match, str], ids: Sequence[str] = (), *, public: bool = False) -> List[Explanation]:
@@ -116,11 +134,39 @@ def explain(market: Market, matched: Union[Match, str], ids: Sequence[str] = (),
     >>> bob.places, bob.above
     ((None,), (Above(option=1, program='City', who='Bob', rank=2, quota=1, ahead=1, why='full'),))
     """
-    with tempfile.TemporaryDirectory() as folder:
-        ended = _run("nrexplain", ["--public"] * public + ["--", *_both(folder, market, matched), *ids])
-    if ended[0] == 0:
-        return explanations_of(list(csv.reader(io.StringIO(ended[1]))))
-    fields = _fields("nrexplain", ended)
-    if fields[:3] == ["check", "1", "refused"] and len(fields) == 8:
-        _refuse(fields[3], fields[4], fields[5], fields[6], fields[7])
-    raise ProgramFailed("nrexplain", ended[0], ended[2])
+    ended = _judge("nrexplain", ["--public"] * public, market, matched, ids)
+    if ended.status != 0:
+        raise ended.failure()
+    return explanations_of(ended.rows())
+
+
+def report(market: Market, matched: Union[Match, str]) -> Report:
+    """The numbers of a match, by nrreport: choices, couples, programs and posts. The match is as `check` takes it.
+
+    Raises `Refused` if the market or the text is refused, `ProgramMissing` if nrreport isn't installed, and `ProgramFailed` if it
+    ends otherwise.
+
+    >>> from nrmatch import Market, Program
+    >>> market = Market(programs={"City": Program(1, ["Ann", "Bob"])}, applicants={"Bob": ["City"], "Ann": ["City"]})
+    >>> numbers = report(market, match(market))
+    >>> numbers.choices, numbers.unmatched, numbers.programs
+    ((1,), 1, {'City': ProgramCounts(quota=1, filled=1, listed=2, last=1)})
+    """
+    ended = _judge("nrreport", [], market, matched)
+    if ended.status != 0:
+        raise ended.failure()
+    return Report.of_text(ended.text)
+
+
+def report_page(market: Market, matched: Union[Match, str]) -> str:
+    """The same numbers as one page of HTML, by nrreport. It raises what `report` raises.
+
+    >>> from nrmatch import Market, Program
+    >>> market = Market(programs={"City": Program(1, ["Ann"])}, applicants={"Ann": ["City"]})
+    >>> report_page(market, match(market)).splitlines()[0]
+    '<!DOCTYPE html>'
+    """
+    ended = _judge("nrreport", ["--html"], market, matched)
+    if ended.status != 0:
+        raise ended.failure()
+    return ended.text
