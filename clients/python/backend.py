@@ -1,10 +1,14 @@
 """Builds the wheel of this package by itself, so that `pip wheel` needs no other package and no network (PEP 517, PEP 427).
 
+    python3 backend.py FOLDER     writes the wheel into the folder, and prints its name
+
 The wheel's bytes depend on the sources alone: its files are in a fixed order, and have the time of $SOURCE_DATE_EPOCH or that of 1980.
+They aren't compressed, since versions of zlib differ.
 """
 import base64
 import hashlib
 import os
+import sys
 import time
 import zipfile
 
@@ -53,10 +57,17 @@ def build_wheel(wheel_directory, config_settings=None, metadata_directory=None):
     record = f"{NAME}-{VERSION}.dist-info/RECORD"
     files = list(_files())
     lines = "".join(_line_of(path, content) for path, content in files) + f"{record},,\n"
-    with zipfile.ZipFile(os.path.join(wheel_directory, name), "w", zipfile.ZIP_DEFLATED) as wheel:
+    with zipfile.ZipFile(os.path.join(wheel_directory, name), "w") as wheel:
         for path, content in files + [(record, lines.encode())]:
             entry = zipfile.ZipInfo(path, date)
+            # Unix, on each machine.
+            entry.create_system = 3
             entry.external_attr = 0o644 << 16
-            entry.compress_type = zipfile.ZIP_DEFLATED
             wheel.writestr(entry, content)
     return name
+
+
+if __name__ == "__main__":
+    if len(sys.argv) != 2:
+        sys.exit("usage: python3 backend.py FOLDER")
+    print(build_wheel(sys.argv[1]))
