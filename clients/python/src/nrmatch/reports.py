@@ -108,7 +108,7 @@ class Report:
         )
 
     def to_frame(self) -> "pandas.DataFrame":
-        """The programs as a pandas frame with the columns program, quota, filled, listed and last. A missing `last` is None."""
+        """The programs as a pandas frame with the columns program, quota, filled, listed and last. A `last` of nobody is missing."""
         import pandas
 
         columns = ("quota", "filled", "listed", "last")
