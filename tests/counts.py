@@ -25,7 +25,7 @@ CHECKS = {
     "memory --report": 126,
     "must_fail": 99,
     "pages": 324,
-    "python": 46,
+    "python": 47,
     "report": 10055,
     "seeds": 7,
     "threads": 54,

@@ -135,6 +135,19 @@ class Matches(unittest.TestCase):
             Match.of_text(text + "aside,c\n")
 
 
+    def test_may_couples_be_set_aside(self):
+        market = Market(
+            programs={"x": Program(1, ["a", "s"]), "y": Program(1, ["s", "b"])},
+            applicants={"s": ["x", "y"]},
+            couples={"c": Couple("a", "b", [("x", "y")])},
+        )
+        with self.assertRaises(nrmatch.BudgetSpent):
+            nrmatch.match(market, budget=100, orders=2)
+        found = nrmatch.match(market, budget=100, orders=2, set_aside=True)
+        self.assertEqual((found.aside, found.places), (("c",), {"s": "x", "a": None, "b": None}))
+        self.assertTrue(nrmatch.check(market, found).is_stable)
+
+
 class Explanations(unittest.TestCase):
     def test_is_each_better_option_explained(self):
         market = small()

@@ -66,12 +66,13 @@ def _refuse(code: str, name: str, file: str, record: str, name_of: str) -> None:
     raise (BudgetSpent if refusal.code == 41 else Refused)(refusal)
 
 
-def match(market: Market, *, workers: int = 4, budget: int = 1_000_000) -> Match:
+def match(market: Market, *, workers: int = 4, budget: int = 1_000_000, orders: int = 1, set_aside: bool = False) -> Match:
     """The match of a market, by nrmatch.
 
     `workers` is how many threads match singles, 1 to 64. The match is the same for any. `budget` is the most rounds for couples,
-    1 to 4294967295. Raises `BudgetSpent` if the couples' rounds exceed it, `Refused` at the market's first fault, `ProgramMissing`
-    if nrmatch isn't installed, and `ProgramFailed` if it ends otherwise.
+    1 to 4294967295, and `orders` how many orders of them may be tried, 1 to 1000. If no order ends, `set_aside` sets couples aside,
+    which `Match.aside` names. Raises `BudgetSpent` if no order ends and none may be set aside, `Refused` at the market's first
+    fault, `ProgramMissing` if nrmatch isn't installed, and `ProgramFailed` if it ends otherwise.
 
     >>> from nrmatch import Market, Program
     >>> market = Market(programs={"City": Program(1, ["Ann", "Bob"])}, applicants={"Bob": ["City"], "Ann": ["City"]})
@@ -80,9 +81,10 @@ def match(market: Market, *, workers: int = 4, budget: int = 1_000_000) -> Match
     """
     with tempfile.TemporaryDirectory() as folder:
         path = _write(folder, "market.csv", market.text())
-        ended = _run("nrmatch", ["--workers", str(workers), "--budget", str(budget), path])
+        options = ["--workers", str(workers), "--budget", str(budget), "--orders", str(orders), *["--set-aside"] * set_aside]
+        ended = _run("nrmatch", [*options, path])
     fields = ended.first()
-    if fields == ["match", "1", "published"] and ended.status == 0:
+    if (fields, ended.status) in ((["match", "1", "published"], 0), (["match", "2", "published"], 6)):
         return Match.of_text(ended.text)
     if fields[:3] == ["match", "1", "refused"] and len(fields) == 7 and ended.status in (2, 3, 4, 5):
         _refuse(fields[3], fields[4], "market", fields[5], fields[6])
