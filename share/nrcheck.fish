@@ -1,3 +1,4 @@
 # Completes the words of nrcheck in fish: its options, and names of files.
+complete -c nrcheck -l all -d 'Write every finding, and how many they are'
 complete -c nrcheck -s h -l help -d 'Print help'
 complete -c nrcheck -s V -l version -d 'Print version'

@@ -1,6 +1,7 @@
 #compdef nrcheck
 # Completes the words of nrcheck in zsh: its options, and names of files.
 _arguments \
+    '--all[write every finding, and how many they are]' \
     '(- :)'{-h,--help}'[print help]' \
     '(- :)'{-V,--version}'[print version]' \
     '1:file of the market:_files' \

@@ -14,13 +14,13 @@ CHECKS = {
     # tests/cli with the path of a program, where bin/nrmatch isn't run.
     "cli PROGRAM": 8452,
     "cli": 8455,
-    "controls": 45,
+    "controls": 46,
     "edits_apply": 710,
     "explain": 10098,
     "linear": 45,
     "memory": 472,
     "memory --calls": 15,
-    "memory --check": 117,
+    "memory --check": 123,
     "memory --explain": 126,
     "memory --report": 126,
     "must_fail": 99,
@@ -37,7 +37,7 @@ CHECKS = {
 SWEEPS = {
     "memory": {(1, False): 75, (1, True): 75, (4, False): 75, (4, True): 75},
     "memory --calls": {(1, False): 1, (1, True): 1, (2, False): 1, (2, True): 1},
-    "memory --check": {(1, False): 36, (1, True): 36},
+    "memory --check": {(1, False): 38, (1, True): 38},
     "memory --explain": {(1, False): 39, (1, True): 39},
     "memory --report": {(1, False): 39, (1, True): 39},
 }

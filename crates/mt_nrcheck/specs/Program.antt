@@ -1,7 +1,8 @@
 -- What the program does with two readers and a writer, and how it ends.
-use Rattle.std.specs.Prelude.{◌≡◌, ℕ, Bool, List, [], ◌∷◌, Option}
+use Rattle.std.specs.Prelude.{◌≡◌, ℕ, Bool, true, false, List, [], ◌∷◌, Option}
 use Rattle.clap.specs.Words.{Text}
 use Rattle.mt_check.specs.Answer.{Answers}
+use Rattle.mt_findings.specs.Answer as full
 use Rattle.mt_report.specs.Status.{status_of}
 use Rattle.mt_program.specs.CommandLine.{AreMisuse}
 use Rattle.mt_program.specs.Exit.{IsExitOf}
@@ -16,6 +17,19 @@ pub record IsCheck (market matched old new : Option (List ℕ)) (status : ℕ) :
   pub whole : Bool
   pub answers : Answers market matched reads old new code written whole
   pub is_status : status ≡ status_of code whole
+
+-- the same of a check for every finding
+pub record IsFullCheck (market matched old new : Option (List ℕ)) (status : ℕ) : Type 0 where
+  pub reads : ℕ
+  pub code : ℕ
+  pub whole : Bool
+  pub answers : full.Answers market matched reads old new code whole
+  pub is_status : status ≡ status_of code whole
+
+-- the program checked a match with every finding, or with the first one
+abbrev pub IsCheckBy : Bool → Option (List ℕ) → Option (List ℕ) → Option (List ℕ) → Option (List ℕ) → ℕ → Type 0
+IsCheckBy true = IsFullCheck
+IsCheckBy false = IsCheck
 
 -- What an exit status says of the words of the command line. Status 64 says that they are misuse. Statuses 1 and 2
 -- say that the command takes them. Status 0 says that it takes them, or that they ask for help or the version.

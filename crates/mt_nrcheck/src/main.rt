@@ -3,7 +3,7 @@
 
 ghost use Rattle.std.specs.Prelude.{◌+◌, ◌<◌, ◌^◌};
 ghost use Rattle.mt_program.specs.CommandLine.{texts_of};
-ghost use Rattle.mt_nrcheck.specs.Program.{IsCheck, IsExitFor};
+ghost use Rattle.mt_nrcheck.specs.Program.{IsCheck, IsCheckBy, IsExitFor, IsFullCheck};
 ghost use Rattle.mt_report.specs.Drains.{contents_of, failures_of};
 
 mod command;
@@ -11,6 +11,7 @@ mod command;
 use crate::command::asked;
 use mt_check::check;
 use mt_file_programs::end_unasked;
+use mt_findings::check_all;
 use mt_lists::Tap;
 use mt_program::{Input, say_unopened, words_of};
 use mt_report::Drain;
@@ -41,6 +42,48 @@ fn check_match<T: Threads + Sync, R: Read + Drop, S: Read + Drop, W: Write>(
     .status()
 }
 
+/// The same with every finding against the match.
+fn check_match_fully<T: Threads + Sync, R: Read + Drop, S: Read + Drop, W: Write>(
+    rt: &T,
+    alloc: Global,
+    market: R,
+    matched: S,
+    drain: &mut Drain<W>,
+) -> u8
+    requires { failures_of drain.old + 1 < 2 ^ 64 }
+    ensures { IsFullCheck (R.remaining market) (S.remaining matched)
+        (contents_of W.contents drain.old) (contents_of W.contents drain.new) result }
+{
+    check_all(
+        rt,
+        alloc,
+        &mut Tap::new(market),
+        &mut Tap::new(matched),
+        drain,
+    )
+    .status()
+}
+
+/// Checks the match with the first finding against it, or with all of them, and gives the exit status.
+fn check_by<T: Threads + Sync, R: Read + Drop, S: Read + Drop, W: Write>(
+    rt: &T,
+    alloc: Global,
+    is_all: bool,
+    market: R,
+    matched: S,
+    drain: &mut Drain<W>,
+) -> u8
+    requires { failures_of drain.old + 1 < 2 ^ 64 }
+    ensures { IsCheckBy is_all (R.remaining market) (S.remaining matched)
+        (contents_of W.contents drain.old) (contents_of W.contents drain.new) result }
+{
+    if is_all {
+        check_match_fully(rt, alloc, market, matched, drain)
+    } else {
+        check_match(rt, alloc, market, matched, drain)
+    }
+}
+
 /// Does what the words ask for, and gives the exit status. `crew` is `rt` too: only `main` may take it for a handle that
 /// starts threads.
 fn obey<T: Threads + Sync>(rt: &HostRuntime, crew: &T, words: &[String]) -> u8
@@ -49,11 +92,18 @@ fn obey<T: Threads + Sync>(rt: &HostRuntime, crew: &T, words: &[String]) -> u8
     let alloc = rt.alloc();
     let mut out = Drain::new(rt.stdout());
     match asked(alloc, words) {
-        Ok(files) => {
-            let mut market = Input::at(rt, files.market.as_str());
-            let mut matched = Input::at(rt, files.matched.as_str());
+        Ok(request) => {
+            let mut market = Input::at(rt, request.files.market.as_str());
+            let mut matched = Input::at(rt, request.files.matched.as_str());
             let mut err = Drain::new(rt.stderr());
-            let status = check_match(crew, alloc, &mut market, &mut matched, &mut out);
+            let status = check_by(
+                crew,
+                alloc,
+                request.is_all,
+                &mut market,
+                &mut matched,
+                &mut out,
+            );
             say_unopened(&mut err, alloc, "nrcheck", &market);
             say_unopened(&mut err, alloc, "nrcheck", &matched);
             status

@@ -1,0 +1,15 @@
+use Rattle.mt_files.proofs.BothFacts.{none_failed}
+use Rattle.mt_findings.proofs.AnswerFacts.{answers_fault, answers_files, no_read_code}
+use Rattle.mt_findings.proofs.whole.check_all.Goals as goal
+
+pub returns-in-Ok-clause-answers : goal.returns-in-Ok-clause-answers
+returns-in-Ok-clause-answers g c =
+    answers_files _ _ _ _ _ c.check_files.result.code c.check_files.result.whole c.in-Ok.files c.in-Ok.ensures.files c.check_files.ensures.given
+
+pub returns-in-Err-clause-answers : goal.returns-in-Err-clause-answers
+returns-in-Err-clause-answers g c =
+    answers_fault _ _ _ _ _ c.refuse_file.result.code c.refuse_file.result.whole c.in-Err.field-0 c.in-Err.ensures.refused c.in-Err.ensures.in_turn c.refuse_file.ensures.given
+
+pub returns-in-Ok-clause-fault : goal.returns-in-Ok-clause-fault
+returns-in-Ok-clause-fault g c =
+    none_failed _ c.in-Ok.ensures.fault (no_read_code c.in-Ok.files.roster c.in-Ok.files.submitted _ _ _ _ c.check_files.ensures.given)
