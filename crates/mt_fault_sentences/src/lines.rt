@@ -1,6 +1,3 @@
-ghost use Rattle.std.specs.Prelude.{◌≡◌, ◌≤◌};
-ghost use Rattle.mt_report.specs.Drains.{failures_of};
-
 use mt_explain_text::Page;
 use mt_report::{Drain, put_all};
 use std::alloc::{AllocError, Global};
@@ -11,14 +8,11 @@ use std::io::Write;
 pub(crate) struct Lines<E: Write> {
     drain: Drain<E>,
     page: Page,
-    ghost fails_once: { failures_of drain ≤ 1 },
 }
 
 impl<E: Write + Drop> Lines<E> {
-    /// No lines for a writer that hasn't failed. The error is want of memory.
-    pub(crate) fn new(alloc: Global, drain: Drain<E>) -> Result<Self, AllocError>
-        requires { failures_of drain ≡ 0 }
-    {
+    /// No lines yet. The error is want of memory.
+    pub(crate) fn new(alloc: Global, drain: Drain<E>) -> Result<Self, AllocError> {
         Ok(Lines {
             drain,
             page: Page::new(alloc)?,

@@ -1,5 +1,4 @@
-ghost use Rattle.std.specs.Prelude.{◌≡◌, ◌<◌};
-ghost use Rattle.mt_report.specs.Drains.{failures_of};
+ghost use Rattle.std.specs.Prelude.{◌<◌};
 
 use crate::lines::Lines;
 use itoa::Buffer;
@@ -19,16 +18,13 @@ pub struct Teller<E: Write> {
 }
 
 impl<E: Write + Drop> Teller<E> {
-    /// What tells of a file with this name by a writer that hasn't failed. If it is quiet, it writes nothing. The error is
-    /// want of memory.
+    /// What tells of a file with this name. If it is quiet, it writes nothing. The error is want of memory.
     pub fn new(
         alloc: Global,
         drain: Drain<E>,
         file: &str,
         is_quiet: bool,
-    ) -> Result<Self, AllocError>
-        requires { failures_of drain ≡ 0 }
-    {
+    ) -> Result<Self, AllocError> {
         Ok(Teller {
             lines: Lines::new(alloc, drain)?,
             file: String::from_str(alloc, file)?,

@@ -1,0 +1,7 @@
+pub mod Text
+pub mod Mutual
+pub mod Wanted
+pub mod Answer
+pub mod Pieces
+pub mod Sinking
+pub mod SinkLaws
