@@ -7,12 +7,13 @@ use Rattle.std.proofs.lemmas.List.{append-nil, take_all}
 use Rattle.mt_report.specs.Drains.{IsWritten}
 use Rattle.mt_explained.specs.Answer.{Answer, IsGiven}
 use Rattle.mt_explained.specs.Sending.{Breaks, Sends}
-use Rattle.mt_explained.proofs.SendingFacts.{breaks_after, breaks_more, sends_then, sent_front}
+use Rattle.mt_explained.proofs.SendingFacts.{breaks_after, breaks_more, sends_put, sends_then, sent_front}
 use Rattle.mt_line_numbers.specs.Records.{line_of_record}
 use Rattle.mt_fault_terms.specs.Faults.{FileFault, fault_alone}
 use Rattle.mt_fault_text.specs.Answer.{AreListed, IsCutGiven, cut_answer, faults_answer, lines_alone, refusal}
 use Rattle.mt_fault_text.specs.Text.{all_lines, count_line, fault_line_at, fault_lines}
 use Rattle.mt_fault_text.specs.SinkLaws.{lines_more}
+use Rattle.mt_fault_text.proofs.PageFacts.{ended_err, ended_ok}
 use Rattle.mt_terms.specs.declared.codes.TheConstants.{OUT_OF_MEMORY}
 
 -- a whole text went from an empty page to the writer, and the page is empty again
@@ -75,15 +76,28 @@ listed_front result code text front others faults a b c q all first sends breaks
     })
 
 -- the lines of the one fault of a file without records
-alone_lines : (text : List ℕ) (code : ℕ) → lines_alone code ≡ all_lines text ((0, fault_alone code 0) ∷ [])
+pub alone_lines : (text : List ℕ) (code : ℕ) → lines_alone code ≡ all_lines text ((0, fault_alone code 0) ∷ [])
 unfolding line_of_record
 alone_lines text code = ap (λ (lines : List ℕ). lines ++ count_line 1) (sym (append-nil (fault_line_at 0 (0, fault_alone code 0))))
 
-pub listed_alone : {X E : Type 0} (result : Result X E) (code : ℕ) (text : List ℕ) (a b : Option (List ℕ)) (page : List ℕ) → page ≡ []
+-- they were written, with the page empty before and after
+pub given_alone : {X E : Type 0} (result : Result X E) (code : ℕ) (a b : Option (List ℕ)) (page : List ℕ) (whole : Bool) → whole ≡ is_ok result → page ≡ []
     → OnOk result (Sends a b page [] (lines_alone code)) → OnErr result (Breaks a b page (lines_alone code))
-    → AreListed code text ((0, fault_alone code 0) ∷ []) a b code (is_ok result)
-listed_alone result code text a b page empty sends breaks =
+    → IsGiven (record { code = code; text = lines_alone code }) a b code whole
+given_alone result code a b page whole is empty sends breaks =
     let on_ok : OnOk result (Sends a b [] [] (lines_alone code)) = subst (λ (p : List ℕ). OnOk result (Sends a b p [] (lines_alone code))) empty sends in
     let on_err : OnErr result (Breaks a b [] (lines_alone code)) = subst (λ (p : List ℕ). OnErr result (Breaks a b p (lines_alone code))) empty breaks in
-    let at : List ℕ → Type 0 = λ lines. IsGiven (record { code = code; text = lines }) a b code (is_ok result) in
-    inl (subst at (alone_lines text code) (given_all result code a b (lines_alone code) on_ok on_err))
+    subst (λ (w : Bool). IsGiven (record { code = code; text = lines_alone code }) a b code w) (sym is) (given_all result code a b (lines_alone code) on_ok on_err)
+
+-- a text that was on the page was sent
+pub given_page : {X E : Type 0} (result : Result X E) (code : ℕ) (a b : Option (List ℕ)) (page after text : List ℕ) (whole : Bool) → whole ≡ is_ok result → page ≡ text
+    → OnOk result (Sends a b page after []) → OnOk result (after ≡ []) → OnErr result (Breaks a b page [])
+    → IsGiven (record { code = code; text = text }) a b code whole
+given_page result code a b page after text whole is same sends empty breaks =
+    let on : Sends a a [] page page = sends_put a [] page in
+    let ok : OnOk result (Sends a b [] [] page) = ended_ok result a a b [] page after page on sends empty in
+    let err : OnErr result (Breaks a b [] page) = ended_err result a a b [] page page on breaks in
+    let given : IsGiven (record { code = code; text = page }) a b code (is_ok result) = given_all result code a b page ok err in
+    let here : IsGiven (record { code = code; text = text }) a b code (is_ok result) =
+    subst (λ (t : List ℕ). IsGiven (record { code = code; text = t }) a b code (is_ok result)) same given in
+    subst (λ (w : Bool). IsGiven (record { code = code; text = text }) a b code w) (sym is) here

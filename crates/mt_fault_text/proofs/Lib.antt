@@ -4,3 +4,4 @@ pub mod LineFacts
 pub mod PageFacts
 pub mod AnswerFacts
 pub mod FoundFacts
+pub mod SaysFacts

@@ -23,3 +23,8 @@ line_pieces code name number begins_on field id = simp append_assoc
 pub count_pieces : (page count : List ℕ)
     → (((page ++ codes "check,1,faults") ++ codes ",") ++ count) ++ codes "\n" ≡ page ++ line (codes "check" ∷ codes "1" ∷ codes "faults" ∷ count ∷ [])
 count_pieces page count = simp append_assoc
+
+pub accepted_pieces : (page applicants programs couples entries wanted : List ℕ)
+    → (((((((((((page ++ codes "check,1,accepted") ++ codes ",") ++ applicants) ++ codes ",") ++ programs) ++ codes ",") ++ couples) ++ codes ",") ++ entries) ++ codes ",") ++ wanted) ++ codes "\n"
+    ≡ page ++ line (codes "check" ∷ codes "1" ∷ codes "accepted" ∷ applicants ∷ programs ∷ couples ∷ entries ∷ wanted ∷ [])
+accepted_pieces page applicants programs couples entries wanted = simp append_assoc

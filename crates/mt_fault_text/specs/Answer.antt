@@ -1,6 +1,6 @@
 -- The answer to the bytes of one file, and what a check of it did. Its code is 0 for an accepted market, and otherwise the
 -- code with which nrmatch refuses the file.
-use Rattle.std.specs.Prelude.{◌≡◌, ◌≢◌, ◌⊎◌, ℕ, Bool, List, [], ◌∷◌, ◌++◌, Option, Result, Ok, Err, codes, IsTrue}
+use Rattle.std.specs.Prelude.{◌≡◌, ◌≢◌, ◌⊎◌, ℕ, Bool, List, [], ◌∷◌, ◌++◌, Option, Some, None, Result, Ok, Err, codes, IsTrue}
 use Rattle.mt_lists.specs.Records.{without_mark}
 use Rattle.mt_terms.specs.Market.{Registered}
 use Rattle.mt_terms.specs.Registration.Faults.{Fault}
@@ -45,6 +45,15 @@ IsAnswer bytes code text = answer_to bytes ≡ record { code = code; text = text
 abbrev pub refusal : ℕ → Bytes
 refusal code = refused_line (codes "check") Market code 0 []
 
+-- the code of the first fault, if there is one
+abbrev pub code_in : Result Registered Fault → Option ℕ
+code_in (Ok r) = None
+code_in (Err f) = Some f.code
+
+-- the answer in want of memory
+abbrev pub no_memory : Answer
+no_memory = record { code = OUT_OF_MEMORY; text = refusal OUT_OF_MEMORY }
+
 -- the answer in want of memory, after the lines of the first faults in a text
 abbrev pub cut_answer : Bytes → List FileFault → Answer
 cut_answer text front = record { code = OUT_OF_MEMORY; text = fault_lines text front ++ refusal OUT_OF_MEMORY }
@@ -85,6 +94,10 @@ IsGivenOrCut answer text faults old new code whole = IsGiven answer old new code
 -- all faults of a text were listed with this code, or the first ones
 abbrev pub AreListed : ℕ → Bytes → List FileFault → Option (List ℕ) → Option (List ℕ) → ℕ → Bool → Type 0
 AreListed listed text faults = IsGivenOrCut (faults_answer listed text faults) text faults
+
+-- this answer was written, or that in want of memory
+abbrev pub IsGivenOrNoMemory : Answer → Option (List ℕ) → Option (List ℕ) → ℕ → Bool → Type 0
+IsGivenOrNoMemory answer old new code whole = IsGiven answer old new code whole ⊎ IsGiven no_memory old new code whole
 
 -- the lines of the one fault that leaves a file without records
 abbrev pub lines_alone : ℕ → Bytes

@@ -1,11 +1,15 @@
 -- How many entries of a market are mutual: only such an entry can become a place. (This project's own count.)
-use Rattle.std.specs.Prelude.{ℕ, ◌+◌, Bool, true, false, ◌&&◌, List, filter_map, length, if◌then◌else◌}
+use Rattle.std.specs.Prelude.{ℕ, ◌+◌, Bool, true, false, ◌&&◌, List, filter_map, length, Option, if◌then◌else◌}
 use Rattle.mt_terms.specs.Lists.{Set, count_below, has, total_below}
 use Rattle.mt_terms.specs.Market.{Market, Pair, couple_of, live_entries, program_of}
 
--- the programs to which pairs send the first member of a couple, or the second
+-- the place of a pair for the first member of a couple, or the second
+abbrev pub place_in : Bool → Pair → Option ℕ
+place_in is_first pair = if is_first then pair.0 else pair.1
+
+-- the programs to which pairs send that member
 abbrev pub sent_by : Bool → List Pair → List ℕ
-sent_by is_first pairs = filter_map (λ pair. if is_first then pair.0 else pair.1) pairs
+sent_by is_first pairs = filter_map (place_in is_first) pairs
 
 -- how many programs of a set list an applicant
 abbrev pub listed_by : Market → Set → ℕ → ℕ

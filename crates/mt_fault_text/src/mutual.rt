@@ -2,8 +2,8 @@ ghost use Rattle.std.specs.Prelude.{◌≡◌, ℕ, ◌+◌, ◌*◌, ◌^◌, �
 ghost use Rattle.mt_terms.specs.Lists.{has};
 ghost use Rattle.mt_terms.specs.Market.{applicants, live_entries};
 ghost use Rattle.mt_ranks.specs.Ranked.{ranked_of};
-ghost use Rattle.mt_fault_text.specs.Mutual.{listed_by, mutual_entries, mutual_of_couple, sent_by};
-ghost use Rattle.mt_fault_text.specs.Wanted.{AreWanted, set_of};
+ghost use Rattle.mt_fault_text.specs.Mutual.{listed_by, mutual_entries, mutual_of_couple, place_in, sent_by};
+ghost use Rattle.mt_fault_text.specs.Wanted.{AreWanted, is_place, set_of};
 
 use mt_market::Roster;
 use mt_ranks::Ranks;
@@ -26,15 +26,24 @@ fn live_entries(ranks: &Ranks<'_>) -> u64
     count
 }
 
-/// Sets the flag of a program, if it has one.
-fn note(wanted: &mut Vec<bool>, program: ProgNo)
+/// The place of a pair for the first member, or for the second one.
+fn place_in(pair: &Pair, is_first: bool) -> Option<ProgNo>
+    ensures { result ≡ place_in is_first pair.now }
+{
+    if is_first { pair.0 } else { pair.1 }
+}
+
+/// Sets the flag of a place, if it is a program that has one.
+fn note(wanted: &mut Vec<bool>, place: Option<ProgNo>)
     ensures len { length wanted.new.items ≡ length wanted.old.items }
     ensures said { (p : ℕ) → p < length wanted.old.items
-        → set_of wanted.new.items p ≡ ((program == p) || set_of wanted.old.items p) }
+        → set_of wanted.new.items p ≡ (set_of wanted.old.items p || is_place place p) }
 {
-    let index = program.index();
-    if index < wanted.len() {
-        wanted[index] = true;
+    if let Some(program) = place {
+        let index = program.index();
+        if index < wanted.len() {
+            wanted[index] = true;
+        }
     }
 }
 
@@ -49,10 +58,7 @@ fn wanted_programs(
 {
     let mut wanted = vec![in alloc; false; programs]?;
     for pair in pairs {
-        let place = if is_first { pair.0 } else { pair.1 };
-        if let Some(program) = place {
-            note(&mut wanted, program);
-        }
+        note(&mut wanted, place_in(pair, is_first));
     }
     Ok(wanted)
 }

@@ -1,4 +1,4 @@
-ghost use Rattle.std.specs.Prelude.{◌≡◌, ◌≢◌, ◌⊎◌, ◌+◌, ◌<◌, ◌≤◌, ◌^◌, ◌↔◌, [], ◌∷◌, if◌then◌else◌, length, Err, IsTrue, OnErr, OnOk};
+ghost use Rattle.std.specs.Prelude.{◌≡◌, ◌+◌, ◌<◌, ◌≤◌, ◌^◌, ◌↔◌, [], if◌then◌else◌, length, IsTrue, Some, OnErr, OnOk};
 ghost use Rattle.mt_lists.specs.Records.{without_mark};
 ghost use Rattle.mt_lists.specs.Tap.{bytes_left, failures_of as read_failures_of, reads_of};
 ghost use Rattle.mt_terms.specs.declared.codes.TheConstants.{OUT_OF_MEMORY, READ_FAULT};
@@ -11,7 +11,17 @@ ghost use Rattle.mt_files.specs.Text.{is_code_of};
 ghost use Rattle.mt_fault_terms.specs.Faults.{fault_alone};
 ghost use Rattle.mt_fault_terms.specs.OfFile.{faults_of};
 ghost use Rattle.mt_faults.specs.Seen.{fault_seen};
-ghost use Rattle.mt_fault_text.specs.Answer.{Answers, AreListed, IsGivenOrCut, answer_to, faults_in, lines_alone, refusal};
+ghost use Rattle.mt_fault_text.specs.Answer.{
+  Answers,
+  AreListed,
+  IsGivenOrCut,
+  IsGivenOrNoMemory,
+  answer_to,
+  code_in,
+  faults_in,
+  lines_alone,
+  refusal,
+};
 ghost use Rattle.mt_fault_text.specs.Text.{accepted_line, count_line};
 
 use crate::accepted::{list_entries, push_accepted};
@@ -162,13 +172,12 @@ fn write_alone<W: Write>(
 /// Writes the lines of the one fault that leaves a file without records.
 fn list_alone<W: Write, E: Write>(
     alloc: Global,
-    bytes: &[u8],
     code: u16,
     drain: &mut Drain<W>,
     teller: &mut Teller<E>,
 ) -> Outcome
     requires failures { failures_of drain.old + 1 < 2 ^ 64 }
-    ensures listed { AreListed code (without_mark bytes.now) ((0, fault_alone code 0) ∷ [])
+    ensures given { IsGivenOrNoMemory (record { code = code; text = lines_alone code })
         (contents_of W.contents drain.old) (contents_of W.contents drain.new) result.code result.whole }
     ensures writer { failures_of drain.new
         ≡ failures_of drain.old + (if result.whole then 0 else 1) }
@@ -199,6 +208,7 @@ fn list_all<W: Write, E: Write>(
     teller: &mut Teller<E>,
 ) -> Outcome
     requires few { length bytes.now ≤ most_bytes }
+    requires refused { code_in (market_in bytes.now) ≡ Some code }
     requires failures { failures_of drain.old + 1 < 2 ^ 64 }
     ensures listed { AreListed code (without_mark bytes.now) (faults_in bytes.now)
         (contents_of W.contents drain.old) (contents_of W.contents drain.new) result.code result.whole }
@@ -208,7 +218,7 @@ fn list_all<W: Write, E: Write>(
 {
     match records(alloc, bytes) {
         Ok(rows) => list_faults(alloc, bytes, &rows, code, drain, teller),
-        Err(ListFault::TwoMarks) => list_alone(alloc, bytes, TWO_MARKS, drain, teller),
+        Err(ListFault::TwoMarks) => list_alone(alloc, TWO_MARKS, drain, teller),
         Err(ListFault::Memory) => refuse(drain, OUT_OF_MEMORY),
     }
 }
@@ -222,9 +232,7 @@ fn accept<T: Threads + Sync, W: Write, E: Write>(
     teller: &mut Teller<E>,
 ) -> Outcome
     requires failures { failures_of drain.old + 1 < 2 ^ 64 }
-    ensures given { IsGiven (record { code = 0; text = accepted_line roster.now })
-        (contents_of W.contents drain.old) (contents_of W.contents drain.new) result.code result.whole
-        ⊎ IsGiven (record { code = OUT_OF_MEMORY; text = refusal OUT_OF_MEMORY })
+    ensures given { IsGivenOrNoMemory (record { code = 0; text = accepted_line roster.now })
         (contents_of W.contents drain.old) (contents_of W.contents drain.new) result.code result.whole }
     ensures writer { failures_of drain.new
         ≡ failures_of drain.old + (if result.whole then 0 else 1) }
@@ -293,7 +301,7 @@ fn answer_reader<T: Threads + Sync, R: Read, W: Write, E: Write>(
     match bytes_of(alloc, market) {
         Ok(bytes) => answer_bytes(rt, alloc, &bytes, drain, teller),
         Err(refusal) => match refusal.code {
-            TOO_LARGE => list_alone(alloc, b"", TOO_LARGE, drain, teller),
+            TOO_LARGE => list_alone(alloc, TOO_LARGE, drain, teller),
             code => refuse(drain, code),
         },
     }

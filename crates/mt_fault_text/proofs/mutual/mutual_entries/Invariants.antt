@@ -6,7 +6,7 @@ use Rattle.mt_fault_text.proofs.mutual.mutual_entries.Given as goal
 
 -- those of the singles, and of the couples so far
 abbrev pub invariant-loop-number : goal.invariant-loop-number
-invariant-loop-number l = record {
+invariant-loop-number g l = record {
   so_far : l.count ≡ live_entries l.roster.market + total_below (mutual_of_couple l.roster.market) l.number;
   small : l.count ≤ 2 ^ 32 + l.number * 40000;
 }

@@ -1,0 +1,37 @@
+use Rattle.std.proofs.Common.{[], length, arith, ap}
+use Rattle.mt_terms.specs.Market.{Partners}
+use Rattle.std.proofs.lemmas.List.{take_all}
+use Rattle.mt_fault_text.proofs.EntryFacts.{sum_more, sum_within}
+use Rattle.mt_fault_text.proofs.accepted.pairs.Goals as goal
+
+pub overflow_add-count : goal.overflow_add-count
+overflow_add-count c =
+    let m = c.args.roster.now.market in
+    let i = c.loop-number.number in
+    omega (
+      arith,
+      c.loop-number.invariant,
+      ap length c.couple_list.ensures,
+      sum_within (λ c. length (Partners.pairs c)) m.couples i (record { first = 0; second = 0; pairs = [] }) (omega arith),
+      c.is_of_a_file.ensures.few_entries,
+    )
+
+pub loop-number-preserved : goal.loop-number-preserved
+loop-number-preserved c =
+    let m = c.args.roster.now.market in
+    let i = c.loop-number.number in
+    omega (
+      arith,
+      c.loop-number.invariant,
+      ap length c.couple_list.ensures,
+      sum_more (λ c. length (Partners.pairs c)) m.couples i (record { first = 0; second = 0; pairs = [] }) (omega arith),
+    )
+
+pub returns : goal.returns
+returns c =
+    let m = c.args.roster.now.market in
+    let all = take_all c.loop-number.number m.couples (omega arith) in
+    record {
+      count = rw all at c.loop-number.invariant;
+      few = omega (arith, rw all at c.loop-number.invariant, c.is_of_a_file.ensures.few_entries);
+    }
