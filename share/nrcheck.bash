@@ -2,7 +2,7 @@
 _nrcheck() {
     local word=$2
     case $word in
-        -*) mapfile -t COMPREPLY < <(compgen -W '--all --help --version' -- "$word") ;;
+        -*) mapfile -t COMPREPLY < <(compgen -W '--all --help --quiet --version' -- "$word") ;;
         *) mapfile -t COMPREPLY < <(compgen -f -- "$word") ;;
     esac
 }

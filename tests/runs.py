@@ -37,20 +37,20 @@ STATUSES = {
     },
     "nrcheck": {
         0: (
-            "the match is stable, and its quotas and counts are right",
-            [f"nrcheck {NOBODY} {NOBODY_MATCH}", "nrcheck --help", "nrcheck --version"],
+            "the match is stable, and its quotas and counts are right; or without a match the market is accepted",
+            [f"nrcheck {NOBODY} {NOBODY_MATCH}", f"nrcheck {NOBODY}", "nrcheck --help", "nrcheck --version"],
         ),
         1: ("a finding against the match", [f"sed s/a3,-/a3,P1/ {ONE_MATCH} | nrcheck {ONE} /dev/stdin"]),
         2: (
             "a refusal with code 10 to 22, or 50 to 55, or 57 or 58: a file is at fault",
-            [f"nrcheck unknown_kind.csv {NOBODY}", f"nrcheck {NOBODY} {NOBODY}"],
+            [f"nrcheck unknown_kind.csv {NOBODY}", f"nrcheck {NOBODY} {NOBODY}", "nrcheck unknown_kind.csv"],
         ),
         4: ("a refusal with code 30: memory ran out", [f"{FEW_KIB} nrcheck large.csv {NOBODY_MATCH}"]),
         5: (
             "a refusal with code 31: a file can't be opened or read; or, with any answer, the line couldn't be wholly written",
             [f"nrcheck missing.csv {NOBODY}", f"nrcheck {NOBODY} missing.csv", f"nrcheck {NOBODY} {NOBODY_MATCH} > /dev/full"],
         ),
-        64: ("the command line is wrong", ["nrcheck", f"nrcheck {NOBODY}", f"nrcheck --none {NOBODY} {NOBODY}"]),
+        64: ("the command line is wrong", ["nrcheck", f"nrcheck {NOBODY} {NOBODY} {NOBODY}", f"nrcheck --none {NOBODY} {NOBODY}"]),
     },
 }
 

@@ -1,1 +1,2 @@
 pub mod StatusFacts
+pub mod AskedFacts

@@ -1,30 +1,42 @@
-ghost use Rattle.std.specs.Prelude.{◌≡◌, IfErr, IfOk};
-ghost use Rattle.clap.specs.Words.{app_of};
-ghost use Rattle.mt_nrcheck.specs.CommandLine.{IsAskedBy, nrcheck};
-ghost use Rattle.mt_program.specs.CommandLine.{AreMisuse, texts_of};
-ghost use Rattle.mt_program.specs.Unasked.{IsUnaskedBy};
+ghost use Rattle.std.specs.Prelude.{◌≡◌, ◌≢◌, IfErr, IfOk, None};
+ghost use Rattle.clap.specs.Words.{app_of, first_of, found_of, rows_of};
+ghost use Rattle.mt_nrcheck.specs.CommandLine.{
+  AreMisuse,
+  AskForCheck,
+  AskForFaults,
+  IsAskedBy,
+  NameNoFiles,
+  nrcheck,
+};
+ghost use Rattle.mt_program.specs.CommandLine.{texts_of};
+ghost use Rattle.mt_program.specs.Unasked.{IsMisuseBy, IsUnaskedBy};
+ghost use Rattle.std.specs.Prelude.{codes};
 
-use clap::Command;
+use clap::{ArgMatches, Command};
 use mt_program::{
-    TwoFiles, Unasked, after_match_records, flag_arg, is_given, matches_of, two_files,
-    two_files_command,
+    MARKET_HELP, MATCH_HELP, TwoFiles, Unasked, after_match_records, file_arg, flag_arg, is_given,
+    matches_of, misuse, plain_command, two_files,
 };
 use std::alloc::{AllocError, Global};
 
 const ABOUT: &str = "\
-Whether a residency match is stable by the rank order lists of a market,
-whoever made it.
+With MATCH: whether a residency match is stable by the rank order lists of a
+market, whoever made it. Without MATCH: all faults of the market's file.
 
-Writes one line of CSV to standard output: that the match is stable, or the
-first finding against it, or why it can't be judged. With --all it writes a
-line for each finding, and then how many they are.";
+Writes CSV to standard output. With MATCH it is one line: that the match is
+stable, or the first finding against it, or why it can't be judged. With --all
+it is a line for each finding, and then how many they are. Without MATCH it is
+a line for each fault, and then how many they are; or that the market is
+accepted. Standard error says these faults in words.";
 
-const ALL_HELP: &str = "Write every finding, and how many they are";
+const ALL_HELP: &str = "With MATCH: write every finding, and how many they are";
+
+const QUIET_HELP: &str = "Without MATCH: leave out the faults in words";
 
 const AFTER_HELP: &str = after_match_records!(
     "\
 Exit status:
-  0   the match is stable
+  0   the match is stable, or without MATCH the market is accepted
   1   it isn't, or its counts don't fit it
   2   a file was refused
   4   memory ran out
@@ -32,34 +44,76 @@ Exit status:
   64  the command line is wrong"
 );
 
-/// A check that words ask for.
+/// What is written if words are taken and name no file.
+const NO_FILE: &str = "error: a file is needed, MARKET\n";
+
+/// What words ask for.
 #[derive(Drop)]
-pub(crate) struct Request {
-    /// The two files.
-    pub(crate) files: TwoFiles,
-    /// Whether every finding is asked for.
-    pub(crate) is_all: bool,
+pub(crate) enum Request {
+    /// All faults of one file.
+    Faults {
+        /// The word for the file.
+        market: String,
+        /// Whether they are left out in words.
+        is_quiet: bool,
+    },
+    /// A check of a match.
+    Check {
+        /// The two files.
+        files: TwoFiles,
+        /// Whether every finding is asked for.
+        is_all: bool,
+    },
 }
 
-// The command `nrcheck MARKET MATCH [--all]`.
+// The command `nrcheck MARKET [MATCH] [--all] [--quiet]`.
 fn command<'a>(alloc: Global) -> Result<Command<'a>, AllocError>
     ensures { IfOk result (λ c. app_of c ≡ nrcheck) }
 {
-    let with_files = two_files_command(alloc, "nrcheck", ABOUT, AFTER_HELP)?;
-    with_files.arg(flag_arg(alloc, "all", ALL_HELP))
+    plain_command(alloc, "nrcheck", ABOUT, AFTER_HELP)
+        .arg(file_arg(alloc, "MARKET", true, MARKET_HELP))?
+        .arg(file_arg(alloc, "MATCH", false, MATCH_HELP))?
+        .arg(flag_arg(alloc, "all", ALL_HELP))?
+        .arg(flag_arg(alloc, "quiet", QUIET_HELP))
 }
 
-/// The check that the words after the program's name ask for. The error is `clap`'s text of help, of the version or of
-/// what is wrong, or what is wrong with the files.
+/// The search for faults that the matches ask for, which name no match.
+fn faults_asked(alloc: Global, matches: &ArgMatches<'_>) -> Result<Request, Unasked>
+    ensures request { IfOk result (AskForFaults (rows_of (found_of matches.now))) }
+    ensures unasked { IfErr result (IsMisuseBy (NameNoFiles (rows_of (found_of matches.now)))) }
+{
+    let Some(market) = matches.get_str("MARKET") else {
+        return Err(misuse(alloc, NO_FILE));
+    };
+    Ok(Request::Faults {
+        market: String::from_str(alloc, market)?,
+        is_quiet: is_given(matches, "quiet"),
+    })
+}
+
+/// The check that the matches ask for, which name a match.
+fn check_asked(alloc: Global, matches: &ArgMatches<'_>) -> Result<Request, Unasked>
+    requires { first_of (codes "MATCH") (rows_of (found_of matches.now)) ≢ None }
+    ensures request { IfOk result (AskForCheck (rows_of (found_of matches.now))) }
+    ensures unasked { IfErr result (IsMisuseBy (NameNoFiles (rows_of (found_of matches.now)))) }
+{
+    let files = two_files(alloc, matches)?;
+    Ok(Request::Check {
+        files,
+        is_all: is_given(matches, "all"),
+    })
+}
+
+/// What the words after the program's name ask for: a check of a match, or all faults of a market if they name no match.
+/// The error is `clap`'s text of help, of the version or of what is wrong, or what is wrong with the files.
 pub(crate) fn asked(alloc: Global, words: &[String]) -> Result<Request, Unasked>
     ensures request { IfOk result (IsAskedBy (texts_of words.now)) }
     ensures unasked { IfErr result (IsUnaskedBy nrcheck
-        (AreMisuse nrcheck (texts_of words.now)) (texts_of words.now)) }
+        (AreMisuse (texts_of words.now)) (texts_of words.now)) }
 {
     let matches = matches_of(alloc, command(alloc)?, words)?;
-    let files = two_files(alloc, &matches)?;
-    Ok(Request {
-        files,
-        is_all: is_given(&matches, "all"),
-    })
+    match matches.get_str("MATCH") {
+        Some(_) => check_asked(alloc, &matches),
+        None => faults_asked(alloc, &matches),
+    }
 }

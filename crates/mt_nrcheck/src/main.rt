@@ -1,19 +1,21 @@
-//! The program `nrcheck`: whether the match in one file is stable by the market in another.
+//! The program `nrcheck`: whether the match in one file is stable by the market in another, or all faults of a market.
 #![tactic(auto)]
 
 ghost use Rattle.std.specs.Prelude.{◌+◌, ◌<◌, ◌^◌};
 ghost use Rattle.mt_program.specs.CommandLine.{texts_of};
-ghost use Rattle.mt_nrcheck.specs.Program.{IsCheck, IsCheckBy, IsExitFor, IsFullCheck};
+ghost use Rattle.mt_nrcheck.specs.Program.{IsCheck, IsCheckBy, IsExitFor, IsExitForTaken, IsFaultList, IsFullCheck};
 ghost use Rattle.mt_report.specs.Drains.{contents_of, failures_of};
 
 mod command;
 
-use crate::command::asked;
+use crate::command::{Request, asked};
 use mt_check::check;
-use mt_file_programs::end_unasked;
+use mt_fault_sentences::Teller;
+use mt_fault_text::check_market;
+use mt_file_programs::{end_unasked, no_memory};
 use mt_findings::check_all;
 use mt_lists::Tap;
-use mt_program::{Input, say_unopened, words_of};
+use mt_program::{Input, NO_MEMORY, TwoFiles, UNWRITTEN, say_unopened, tell, words_of};
 use mt_report::Drain;
 use std::alloc::Global;
 use std::io::{Read, Write};
@@ -84,30 +86,72 @@ fn check_by<T: Threads + Sync, R: Read + Drop, S: Read + Drop, W: Write>(
     }
 }
 
+/// Lists all faults of the market that a reader gives, and gives the exit status. The teller says them in words.
+fn list_faults<T: Threads + Sync, R: Read + Drop, W: Write, E: Write>(
+    rt: &T,
+    alloc: Global,
+    market: R,
+    drain: &mut Drain<W>,
+    teller: &mut Teller<E>,
+) -> u8
+    requires { failures_of drain.old + 1 < 2 ^ 64 }
+    ensures { IsFaultList (R.remaining market)
+        (contents_of W.contents drain.old) (contents_of W.contents drain.new) result }
+{
+    check_market(rt, alloc, &mut Tap::new(market), drain, teller).status()
+}
+
+/// Checks the match of two files, and gives the exit status.
+fn check_files<T: Threads + Sync>(
+    rt: &HostRuntime,
+    crew: &T,
+    files: &TwoFiles,
+    is_all: bool,
+) -> u8
+    ensures { IsExitForTaken result }
+{
+    let mut out = Drain::new(rt.stdout());
+    let mut err = Drain::new(rt.stderr());
+    let mut market = Input::at(rt, files.market.as_str());
+    let mut matched = Input::at(rt, files.matched.as_str());
+    let alloc = rt.alloc();
+    let status = check_by(crew, alloc, is_all, &mut market, &mut matched, &mut out);
+    say_unopened(&mut err, alloc, "nrcheck", &market);
+    say_unopened(&mut err, alloc, "nrcheck", &matched);
+    status
+}
+
+/// Lists all faults of a market's file, and gives the exit status.
+fn list_file<T: Threads + Sync>(rt: &HostRuntime, crew: &T, market: &str, is_quiet: bool) -> u8
+    ensures { IsExitForTaken result }
+{
+    let alloc = rt.alloc();
+    let mut out = Drain::new(rt.stdout());
+    let mut err = Drain::new(rt.stderr());
+    let mut input = Input::at(rt, market);
+    let Ok(mut teller) = Teller::new(alloc, Drain::new(rt.stderr()), market, is_quiet) else {
+        return tell(
+            &mut out,
+            no_memory(b"check").as_bytes(),
+            NO_MEMORY,
+            UNWRITTEN,
+        );
+    };
+    let status = list_faults(crew, alloc, &mut input, &mut out, &mut teller);
+    say_unopened(&mut err, alloc, "nrcheck", &input);
+    status
+}
+
 /// Does what the words ask for, and gives the exit status. `crew` is `rt` too: only `main` may take it for a handle that
 /// starts threads.
 fn obey<T: Threads + Sync>(rt: &HostRuntime, crew: &T, words: &[String]) -> u8
     ensures { IsExitFor (texts_of words.now) result }
 {
-    let alloc = rt.alloc();
-    let mut out = Drain::new(rt.stdout());
-    match asked(alloc, words) {
-        Ok(request) => {
-            let mut market = Input::at(rt, request.files.market.as_str());
-            let mut matched = Input::at(rt, request.files.matched.as_str());
-            let mut err = Drain::new(rt.stderr());
-            let status = check_by(
-                crew,
-                alloc,
-                request.is_all,
-                &mut market,
-                &mut matched,
-                &mut out,
-            );
-            say_unopened(&mut err, alloc, "nrcheck", &market);
-            say_unopened(&mut err, alloc, "nrcheck", &matched);
-            status
+    match asked(rt.alloc(), words) {
+        Ok(Request::Faults { market, is_quiet }) => {
+            list_file(rt, crew, market.as_str(), is_quiet)
         }
+        Ok(Request::Check { files, is_all }) => check_files(rt, crew, &files, is_all),
         Err(unasked) => end_unasked(rt, b"check", &unasked),
     }
 }
