@@ -72,13 +72,6 @@ total_within f i n low =
 pub live_length : (r : Ranked) (a : ℕ) (list : List Live) → IsRanked r → list ≡ ranked_list r.market a → length list ≡ length (live r.market a)
 live_length r a list ranked is = ap length is ∙ length-map (list_of r.market a) (ranked_entry r.market a) ∙ ap length (sym (ranked.all_live a))
 
--- rank tables have few live entries
-pub live_few : (r : Ranked) → IsRanked r → live_entries r.market < 2 ^ 32
-live_few r ranked =
-    let same : live_entries r.market ≡ entries_of_applicants r.market =
-    total_below-same (λ a. length (live r.market a)) (λ a. length (list_of r.market a)) (applicants r.market) (λ a low. ap length (ranked.all_live a)) in
-    omega (arith, same, ranked.few_entries)
-
 -- the programs of a set that list a member of a couple, by rank tables or by the market
 pub listed_by_tables : (m : Market) (r : Ranked) (flags : List Bool) (is_first : Bool) (c a : ℕ) → r ≡ ranked_of m
     → AreWanted (length m.programs) (has (sent_by is_first (couple_of m c).pairs)) flags

@@ -24,14 +24,6 @@ pub on_err_then : {X E P Q : Type 0} (result : Result X E) → (P → Q) → OnE
 on_err_then (Ok x) next h = tt
 on_err_then (Err e) next h = next h
 
--- bytes were written at once, with none on the page
-pub wrote_at_once : (a b : Option (List ℕ)) (p text : List ℕ) (written : ℕ) (whole : Bool) → p ≡ [] → whole ≡ true → IsWritten text a b written whole → Sends a b p p text
-wrote_at_once a b p text written whole empty is_whole is =
-    let all : written ≡ length text = is.all is_whole in
-    let sent : take written text ≡ text = take_all written text (omega arith) in
-    let out : Sends a b [] [] text = record { sent = text; appended = subst (Appends a b) sent is.appended; all = append-nil text } in
-    subst (λ (page : List ℕ). Sends a b page page text) (sym empty) out
-
 -- bytes were not wholly written, with none on the page
 pub broke_at_once : (a b : Option (List ℕ)) (p text : List ℕ) (written : ℕ) (whole : Bool) → p ≡ [] → IsWritten text a b written whole → Breaks a b p text
 broke_at_once a b p text written whole empty is =

@@ -102,12 +102,7 @@ fn list_faults<T: Threads + Sync, R: Read + Drop, W: Write, E: Write>(
 }
 
 /// Checks the match of two files, and gives the exit status.
-fn check_files<T: Threads + Sync>(
-    rt: &HostRuntime,
-    crew: &T,
-    files: &TwoFiles,
-    is_all: bool,
-) -> u8
+fn check_files<T: Threads + Sync>(rt: &HostRuntime, crew: &T, files: &TwoFiles, is_all: bool) -> u8
     ensures { IsExitForTaken result }
 {
     let mut out = Drain::new(rt.stdout());
