@@ -15,7 +15,7 @@ CHECKS = {
     "cli PROGRAM": 8452,
     "cli": 8455,
     "controls": 49,
-    "edits_apply": 720,
+    "edits_apply": 738,
     "explain": 10098,
     "linear": 45,
     "memory": 472,
@@ -29,7 +29,7 @@ CHECKS = {
     "report": 10055,
     "seeds": 7,
     "threads": 54,
-    "words": 398,
+    "words": 400,
     "ways": 1551,
     "wrong_bodies --release": 44,
 }
