@@ -245,6 +245,21 @@ class Checks(unittest.TestCase):
             nrmatch.check(small(), "applicant,Ann,City\n")
         self.assertEqual((caught.exception.code, caught.exception.refusal.file, caught.exception.id), (55, "match", "Bob"))
 
+    def test_is_each_finding_against_a_match_named(self):
+        nobody = "applicant,Bob,-\napplicant,Ann,-\n"
+        wanted = [Verdict("blocks", ("applicant", "Bob", "City")), Verdict("blocks", ("applicant", "Ann", "City"))]
+        self.assertEqual(nrmatch.findings(small(), nobody), wanted)
+        self.assertEqual(nrmatch.findings(small(), nobody + "totals,2,2,1,0\n"), [*wanted, Verdict("differs", ("3",))])
+
+    def test_has_a_stable_match_no_finding(self):
+        market = small()
+        self.assertEqual(nrmatch.findings(market, nrmatch.match(market)), [])
+
+    def test_is_a_refused_match_without_findings(self):
+        with self.assertRaises(nrmatch.Refused) as caught:
+            nrmatch.findings(small(), "applicant,Ann,Citty\n")
+        self.assertEqual((caught.exception.code, caught.exception.id), (54, "Citty"))
+
 
 if __name__ == "__main__":
     unittest.main()

@@ -1,11 +1,12 @@
 """The residency match from Python: `match` makes the match of a `Market`, and `check` judges a match that anybody made. `explain`
 says why applicants and couples have what a match gives them, and `report` counts choices, couples, programs and posts.
+`findings` names all that is wrong with a match.
 
 They run the installed programs nrmatch, nrcheck, nrexplain and nrreport. The variable NRMATCH_BIN may name the folder that has them.
 """
 from .errors import BudgetSpent, NrmatchError, ProgramFailed, ProgramMissing, Refusal, Refused
 from .market import Couple, Market, Program
-from .programs import check, explain, match, report, report_page
+from .programs import check, explain, findings, match, report, report_page
 from .reports import CoupleCounts, FillCounts, PostCounts, ProgramCounts, Report
 from .results import Above, Explanation, Filled, Match, Totals, Verdict
 
@@ -32,6 +33,7 @@ __all__ = [
     "Verdict",
     "check",
     "explain",
+    "findings",
     "match",
     "report",
     "report_page",

@@ -123,6 +123,26 @@ def check(market: Market, matched: Union[Match, str]) -> Verdict:
     raise ended.failure()
 
 
+def findings(market: Market, matched: Union[Match, str]) -> List[Verdict]:
+    """Every finding against a match, by nrcheck: who is at a place that isn't allowed, which programs are over their quotas, each
+    better option that would be taken, and each record that differs. If the match is stable and its counts are right, there is none.
+
+    The match is as `check` takes it, and it raises what `check` raises.
+
+    >>> from nrmatch import Market, Program
+    >>> market = Market(programs={"City": Program(2, ["Ann", "Bob"])}, applicants={"Bob": ["City"], "Ann": ["City"]})
+    >>> [it.who for it in findings(market, "applicant,Bob,-\\napplicant,Ann,-\\n")]
+    [('applicant', 'Bob', 'City'), ('applicant', 'Ann', 'City')]
+    """
+    ended = _judge("nrcheck", ["--all"], market, matched)
+    rows = ended.rows()
+    if ended.status == 0 and len(rows) == 1 and rows[0][:3] == ["check", "1", "stable"]:
+        return []
+    if ended.status == 1 and rows and rows[-1] == ["check", "1", "findings", str(len(rows) - 1)]:
+        return [Verdict(row[2], tuple(row[3:])) for row in rows[:-1]]
+    raise ended.failure()
+
+
 def explain(market: Market, matched: Union[Match, str], ids: Sequence[str] = (), *, public: bool = False) -> List[Explanation]:
     """Why applicants and couples have what a match gives them, by nrexplain. The match is as `check` takes it.
 

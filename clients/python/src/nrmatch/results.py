@@ -82,7 +82,7 @@ class Match:
 
 @dataclass(frozen=True)
 class Verdict:
-    """What nrcheck says of a match.
+    """What nrcheck says of a match, or a finding against it.
 
     `kind` is 'stable', 'unlisted', 'over', 'blocks' or 'differs'. `who` has the other fields of the answer's line, as CHECK.md has them.
 
