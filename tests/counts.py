@@ -26,7 +26,7 @@ CHECKS = {
     "memory --report": 126,
     "must_fail": 102,
     "pages": 325,
-    "python": 50,
+    "python": 54,
     "report": 10055,
     "seeds": 7,
     "threads": 54,

@@ -8,7 +8,7 @@ from unittest import mock
 
 import nrmatch
 from nrmatch import (
-    Above, Couple, CoupleCounts, Explanation, FillCounts, Filled, Market, Match, PostCounts, Program, ProgramCounts, Report, Totals,
+    Above, Accepted, Couple, CoupleCounts, Explanation, Fault, FillCounts, Filled, Market, Match, PostCounts, Program, ProgramCounts, Report, Totals,
     Verdict,
 )
 
@@ -96,7 +96,14 @@ class Matches(unittest.TestCase):
         with self.assertRaises(nrmatch.Refused) as caught:
             nrmatch.match(Market(applicants={"Ann": ["Citty"]}))
         it = caught.exception
-        self.assertEqual((it.code, it.name, it.record, it.line, it.id), (21, "UnknownProgram", 2, 2, "Citty"))
+        self.assertEqual((it.code, it.name, it.record, it.line, it.field, it.id), (21, "UnknownProgram", 2, 2, 3, "Citty"))
+
+    def test_has_a_refusal_without_nrcheck_no_field(self):
+        with tempfile.TemporaryDirectory() as room:
+            os.symlink(os.path.join(os.environ["NRMATCH_BIN"], "nrmatch"), os.path.join(room, "nrmatch"))
+            with mock.patch.dict(os.environ, {"NRMATCH_BIN": room}), self.assertRaises(nrmatch.Refused) as caught:
+                nrmatch.match(Market(applicants={"Ann": ["Citty"]}))
+        self.assertEqual((caught.exception.code, caught.exception.line, caught.exception.field), (21, 2, None))
 
     def test_is_a_spent_budget_its_own_exception(self):
         market = Market(
@@ -135,6 +142,7 @@ class Matches(unittest.TestCase):
             Match.of_text(text + "aside,c\n")
 
 
+<<<<<<< HEAD
     def test_may_couples_be_set_aside(self):
         market = Market(
             programs={"x": Program(1, ["a", "s"]), "y": Program(1, ["s", "b"])},
@@ -146,6 +154,31 @@ class Matches(unittest.TestCase):
         found = nrmatch.match(market, budget=100, orders=2, set_aside=True)
         self.assertEqual((found.aside, found.places), (("c",), {"s": "x", "a": None, "b": None}))
         self.assertTrue(nrmatch.check(market, found).is_stable)
+=======
+class Faults(unittest.TestCase):
+    def test_are_all_faults_named_in_the_order_of_the_file(self):
+        market = Market(programs={"P": Program(12345, ["a", "z", "a"])}, couples={"c": Couple("a", "b!", [("P", "Q")])})
+        self.assertEqual(
+            [(it.code, it.name, it.record, it.line, it.field, it.id) for it in nrmatch.faults(market)],
+            [
+                (16, "BadQuota", 2, 2, 3, "P"),
+                (18, "DuplicateEntry", 2, 2, 6, "a"),
+                (20, "UnknownApplicant", 2, 2, 5, "z"),
+                (15, "BadId", 3, 3, 4, None),
+                (21, "UnknownProgram", 3, 3, 6, "Q"),
+            ],
+        )
+
+    def test_has_each_fault_its_sentence(self):
+        wanted = Fault(21, "UnknownProgram", 2, 2, 3, "Citty", 'applicant Ann lists "Citty", which is the id of no program: ')
+        [found] = nrmatch.faults(Market(applicants={"Ann": ["Citty"]}))
+        self.assertEqual(found.sentence[: len(wanted.sentence)], wanted.sentence)
+        self.assertEqual((found.code, found.record, found.field, found.id), (wanted.code, wanted.record, wanted.field, wanted.id))
+
+    def test_are_the_counts_those_of_a_market_without_a_fault(self):
+        self.assertEqual(nrmatch.faults(Market.from_tables(*tables())), Accepted(4, 2, 1, 14, 6))
+        self.assertEqual(nrmatch.faults(Market()), Accepted(0, 0, 0, 0, 0))
+>>>>>>> 7df399e0 (Give Python programs all faults of a market)
 
 
 class Explanations(unittest.TestCase):
@@ -243,7 +276,8 @@ class Checks(unittest.TestCase):
     def test_is_a_refused_match_an_exception(self):
         with self.assertRaises(nrmatch.Refused) as caught:
             nrmatch.check(small(), "applicant,Ann,City\n")
-        self.assertEqual((caught.exception.code, caught.exception.refusal.file, caught.exception.id), (55, "match", "Bob"))
+        it = caught.exception
+        self.assertEqual((it.code, it.refusal.file, it.line, it.id), (55, "match", None, "Bob"))
 
     def test_is_each_finding_against_a_match_named(self):
         nobody = "applicant,Bob,-\napplicant,Ann,-\n"

@@ -28,7 +28,8 @@ class Refusal:
     """Why there is no answer, as the refusal line has it.
 
     `code` and `name` are those of FORMAT.md or CHECK.md. `record` is the number of the record at fault, from 1, and `id` the id
-    at fault. They are None if the line names none. `file` is 'market' or 'match'.
+    at fault. They are None if the line names none. `file` is 'market' or 'match'. `field` is the number of the market's field
+    at fault, from 1. It is None if no field alone is, or if nrcheck is missing.
     """
 
     code: int
@@ -36,11 +37,12 @@ class Refusal:
     record: Optional[int]
     id: Optional[str]
     file: str = "market"
+    field: Optional[int] = None
 
     @property
     def line(self) -> Optional[int]:
-        """The number of the line, from 1. A market of this package has one record on each line."""
-        return self.record
+        """The number of the market's line, from 1. It is that of the record: a market of this package has one on each line."""
+        return self.record if self.file == "market" else None
 
 
 class Refused(NrmatchError):
@@ -55,6 +57,7 @@ class Refused(NrmatchError):
         self.name = refusal.name
         self.record = refusal.record
         self.line = refusal.line
+        self.field = refusal.field
         self.id = refusal.id
 
 

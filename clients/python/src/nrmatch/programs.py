@@ -9,10 +9,10 @@ import subprocess
 import tempfile
 from typing import List, NamedTuple, Optional, Sequence, Union
 
-from .errors import BudgetSpent, ProgramFailed, ProgramMissing, Refusal, Refused
+from .errors import BudgetSpent, NrmatchError, ProgramFailed, ProgramMissing, Refusal, Refused
 from .market import Market
 from .reports import Report
-from .results import Explanation, Match, Verdict, explanations_of
+from .results import Accepted, Explanation, Fault, Match, Verdict, explanations_of, faults_of
 
 
 class _Ended(NamedTuple):
@@ -61,9 +61,23 @@ def _number(field: str) -> Optional[int]:
     return None if field in ("", "0", "-") else int(field)
 
 
-def _refuse(code: str, name: str, file: str, record: str, name_of: str) -> None:
-    refusal = Refusal(int(code), name, _number(record), None if name_of == "-" else name_of, file)
-    raise (BudgetSpent if refusal.code == 41 else Refused)(refusal)
+def _refused(market: Market, code: str, name: str, file: str, record: str, name_of: str) -> Refused:
+    """The exception of a refusal line."""
+    field = _field(market, int(code), int(record)) if file == "market" else None
+    refusal = Refusal(int(code), name, _number(record), None if name_of == "-" else name_of, file, field)
+    return (BudgetSpent if refusal.code == 41 else Refused)(refusal)
+
+
+def _field(market: Market, code: int, record: int) -> Optional[int]:
+    """The field that is at fault at the first fault of a market with this code and record. None if nrcheck names none."""
+    if record == 0:
+        return None
+    try:
+        found = faults(market)
+    except NrmatchError:
+        return None
+    of_record = [] if isinstance(found, Accepted) else [it for it in found if (it.code, it.record) == (code, record)]
+    return of_record[0].field if of_record else None
 
 
 def match(market: Market, *, workers: int = 4, budget: int = 1_000_000, orders: int = 1, set_aside: bool = False) -> Match:
@@ -87,7 +101,7 @@ def match(market: Market, *, workers: int = 4, budget: int = 1_000_000, orders: 
     if (fields, ended.status) in ((["match", "1", "published"], 0), (["match", "2", "published"], 6)):
         return Match.of_text(ended.text)
     if fields[:3] == ["match", "1", "refused"] and len(fields) == 7 and ended.status in (2, 3, 4, 5):
-        _refuse(fields[3], fields[4], "market", fields[5], fields[6])
+        raise _refused(market, fields[3], fields[4], "market", fields[5], fields[6])
     raise ended.failure()
 
 
@@ -101,7 +115,7 @@ def _judge(name: str, options: List[str], market: Market, matched: Union[Match, 
         ended = _run(name, [*options, "--", *paths, *ids])
     fields = ended.first()
     if fields[:3] in (["check", "1", "refused"], ["report", "1", "refused"]) and len(fields) == 8 and ended.status in (2, 4, 5):
-        _refuse(fields[3], fields[4], fields[5], fields[6], fields[7])
+        raise _refused(market, *fields[3:])
     return ended
 
 
@@ -140,6 +154,32 @@ def findings(market: Market, matched: Union[Match, str]) -> List[Verdict]:
         return []
     if ended.status == 1 and rows and rows[-1] == ["check", "1", "findings", str(len(rows) - 1)]:
         return [Verdict(row[2], tuple(row[3:])) for row in rows[:-1]]
+    raise ended.failure()
+
+
+def faults(market: Market) -> Union[Accepted, List[Fault]]:
+    """All faults of a market in the order of its file, by nrcheck, or the counts of a market without a fault.
+
+    Raises `Refused` if memory ran out, `ProgramMissing` if nrcheck isn't installed, and `ProgramFailed` if it ends otherwise.
+
+    >>> from nrmatch import Market, Program
+    >>> faults(Market(programs={"City": Program(1, ["Ann"])}, applicants={"Ann": ["City"]}))
+    Accepted(applicants=1, programs=1, couples=0, entries=2, mutual=1)
+    >>> [fault] = faults(Market(applicants={"Bob ": []}))
+    >>> fault.name, fault.line, fault.field, fault.sentence
+    ('BadId', 2, 2, '"Bob " is no id: remove the blank at its end')
+    """
+    with tempfile.TemporaryDirectory() as folder:
+        path = _write(folder, "market.csv", market.text())
+        ended = _run("nrcheck", ["--", path])
+    rows = ended.rows()
+    last = rows[-1] if rows else []
+    if ended.status == 0 and len(rows) == 1 and last[:3] == ["check", "1", "accepted"] and len(last) == 8:
+        return Accepted(*(int(it) for it in last[3:]))
+    if ended.status == 2 and last == ["check", "1", "faults", str(len(rows) - 1)]:
+        return faults_of(rows[:-1], ended.said.splitlines(), path)
+    if ended.status in (4, 5) and last[:3] == ["check", "1", "refused"] and len(last) == 8:
+        raise _refused(market, *last[3:])
     raise ended.failure()
 
 

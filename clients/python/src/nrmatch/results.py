@@ -100,6 +100,61 @@ class Verdict:
 
 
 @dataclass(frozen=True)
+class Accepted:
+    """The counts of a market without a fault. What is withdrawn isn't counted.
+
+    `entries` counts the entries of all lists, of which a pair has two, and `mutual` the programs and applicants that want each
+    other.
+    """
+
+    applicants: int
+    programs: int
+    couples: int
+    entries: int
+    mutual: int
+
+
+@dataclass(frozen=True)
+class Fault:
+    """A fault of a market. `code` and `name` are those of FORMAT.md.
+
+    `record` is the number of the record at fault, `line` that of its line, and `field` that of the field, all from 1. `id` is the
+    id at fault. They are None if there is none. `sentence` says what is wrong, and what to do.
+    """
+
+    code: int
+    name: str
+    record: Optional[int]
+    line: Optional[int]
+    field: Optional[int]
+    id: Optional[str]
+    sentence: str
+
+
+def faults_of(rows: Sequence[Sequence[str]], said: Sequence[str], path: str) -> List[Fault]:
+    """The faults that nrcheck wrote of the file at a path: from its lines, and from what it said in the same order.
+
+    Lines of another form raise ValueError.
+
+    >>> row = "check,1,fault,21,UnknownProgram,2,2,3,Citty".split(",")
+    >>> faults_of([row], ["market.csv:2:3: correct it"], "market.csv")
+    [Fault(code=21, name='UnknownProgram', record=2, line=2, field=3, id='Citty', sentence='correct it')]
+    """
+    if len(rows) != len(said):
+        raise ValueError(f"{len(rows)} faults and {len(said)} sentences")
+    found: List[Fault] = []
+    for row, sentence in zip(rows, said):
+        if len(row) != 9 or row[2] != "fault":
+            raise ValueError(f"no line of a fault: {row!r}")
+        record, line, field = (int(it) or None for it in row[5:8])
+        place = "".join(f"{it}:" for it in (path, line, field) if it is not None) + " "
+        if not sentence.startswith(place):
+            raise ValueError(f"no sentence of {row!r}: {sentence!r}")
+        found.append(Fault(int(row[3]), row[4], record, line, field, None if row[8] == "-" else row[8], sentence[len(place) :]))
+    return found
+
+
+@dataclass(frozen=True)
 class Above:
     """A program of an option that an applicant or a couple wants more than what it has, and who would go there.
 
