@@ -142,7 +142,6 @@ class Matches(unittest.TestCase):
             Match.of_text(text + "aside,c\n")
 
 
-<<<<<<< HEAD
     def test_may_couples_be_set_aside(self):
         market = Market(
             programs={"x": Program(1, ["a", "s"]), "y": Program(1, ["s", "b"])},
@@ -154,7 +153,6 @@ class Matches(unittest.TestCase):
         found = nrmatch.match(market, budget=100, orders=2, set_aside=True)
         self.assertEqual((found.aside, found.places), (("c",), {"s": "x", "a": None, "b": None}))
         self.assertTrue(nrmatch.check(market, found).is_stable)
-=======
 class Faults(unittest.TestCase):
     def test_are_all_faults_named_in_the_order_of_the_file(self):
         market = Market(programs={"P": Program(12345, ["a", "z", "a"])}, couples={"c": Couple("a", "b!", [("P", "Q")])})
@@ -178,7 +176,6 @@ class Faults(unittest.TestCase):
     def test_are_the_counts_those_of_a_market_without_a_fault(self):
         self.assertEqual(nrmatch.faults(Market.from_tables(*tables())), Accepted(4, 2, 1, 14, 6))
         self.assertEqual(nrmatch.faults(Market()), Accepted(0, 0, 0, 0, 0))
->>>>>>> 7df399e0 (Give Python programs all faults of a market)
 
 
 class Explanations(unittest.TestCase):

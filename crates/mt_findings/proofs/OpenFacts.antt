@@ -32,6 +32,11 @@ taken_by_lines m formed places are g numbered k within one other is =
 pub within_list : (m : Market) (places : Places) (g : Agent) (k : ℕ) → k < length (better m places g) → k < length (options m g)
 within_list m places g k within = omega (arith, until-le (holds places) (options m g))
 
+-- an agent has an option of its list if it holds one
+pub own_by_held : (m : Market) (places : Places) (g : Agent)
+    → has_own_option m places g ≡ (is_some (held_option m places g) || none_placed places (members m g))
+own_by_held m places g = ap (λ (b : Bool). b || none_placed places (members m g)) (any_has_position (holds places) (options m g))
+
 -- a program lists whom it ranks
 pub listed_by_rank : (m : Market) (a p : ℕ) (place : Option ℕ) → place ≡ Some p → is_some (rank_at m a place) ≡ is_listed m a place
 listed_by_rank m a p (Some q) is = sym (any_has_position (λ x. x == a) (program_of m q).ranking)
