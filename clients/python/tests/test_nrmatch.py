@@ -141,7 +141,6 @@ class Matches(unittest.TestCase):
         with self.assertRaisesRegex(ValueError, "another kind"):
             Match.of_text(text + "aside,c\n")
 
-
     def test_may_couples_be_set_aside(self):
         market = Market(
             programs={"x": Program(1, ["a", "s"]), "y": Program(1, ["s", "b"])},
@@ -153,6 +152,8 @@ class Matches(unittest.TestCase):
         found = nrmatch.match(market, budget=100, orders=2, set_aside=True)
         self.assertEqual((found.aside, found.places), (("c",), {"s": "x", "a": None, "b": None}))
         self.assertTrue(nrmatch.check(market, found).is_stable)
+
+
 class Faults(unittest.TestCase):
     def test_are_all_faults_named_in_the_order_of_the_file(self):
         market = Market(programs={"P": Program(12345, ["a", "z", "a"])}, couples={"c": Couple("a", "b!", [("P", "Q")])})
