@@ -10,7 +10,7 @@ import sys
 
 CHECKS = {
     "bytes": 6088,
-    "check": 24738,
+    "check": 24735,
     # tests/cli with the path of a program, where bin/nrmatch isn't run.
     "cli PROGRAM": 8452,
     "cli": 8455,
@@ -25,7 +25,7 @@ CHECKS = {
     "memory --explain": 126,
     "memory --report": 126,
     "must_fail": 102,
-    "pages": 325,
+    "pages": 327,
     "python": 54,
     "report": 10055,
     "seeds": 7,
@@ -33,7 +33,7 @@ CHECKS = {
     "told": 227,
     "words": 400,
     "ways": 1551,
-    "wrong_bodies --release": 44,
+    "wrong_bodies --release": 58,
 }
 # The sweeps of the forms of tests/memory, by the number of workers and whether all requests from one on are refused.
 SWEEPS = {
