@@ -26,7 +26,7 @@ use Rattle.mt_orders.proofs.FewestFacts.{aside_in_order_are_couples, fewest_in_w
 use Rattle.mt_answer.specs.Answer.{IsAnswerOfStage, all_proposals}
 use Rattle.mt_answer.specs.Ways.{IsAnswerAside, IsAnswerInWays, IsAnswerOfNone, IsAnswerOfOrder}
 use Rattle.mt_answer.specs.WayLaws.{AsideAreCouples, AsideInWords, IsStableAside, IsStableIn, PublishedInWaysIsStable}
-use Rattle.mt_answer.proofs.WayFacts.{first_order_in_words_lem, no_order_in_words_lem, other_code}
+use Rattle.mt_answer.proofs.WayFacts.{no_order_in_words_lem, other_code}
 use Rattle.mt_answer.specs.declared.ways.Ways.{Ways}
 
 pub aside_are_couples_lem : AsideAreCouples
@@ -198,21 +198,6 @@ module _ (r : Registered) (formed : IsWellFormed r.market) (budget : ℕ) (order
       → IsAnswerOfOrder r best budget (record { orders = orders; set_aside = set_aside }) o code text → code ≡ 6 → (set_aside ≡ true) × IsStableAside r text
   published_without set_aside None e h is = of_none set_aside e h is
   published_without set_aside (Some number) e h is = absurd (not_of_stage (stage (in_order number r.market) best budget) h is)
-
--- without couples a match is published
-pub alone_is_published : (r : Registered) (budget : ℕ) (ways : Ways) (code : ℕ) (text : List ℕ) → 1 ≤ ways.orders → r.market.couples ≡ [] → IsAnswerInWays r budget ways code text → code ≡ 0
-alone_is_published r budget ways code text one none h =
-    let m = r.market in
-    let ends : stage (in_order 1 m) h.best budget ≡ Some (h.best, budget - budget) =
-    ap (λ (x : Market). stage x h.best budget) (first_is_own m) ∙ ap (λ (cs : List Partners). stage (record m { couples = cs }) h.best budget) none in
-    let first : first_order m h.best budget ways.orders ≡ Some 1 =
-    (first_order_in_words_lem m h.best budget ways.orders 1).1 (omega arith, one, λ spent. not_none (sym ends ∙ spent), λ j from to. absurd (omega arith)) in
-    let of_one : IsAnswerOfOrder r h.best budget ways (Some 1) code text =
-    subst (λ (o : Option ℕ). IsAnswerOfOrder r h.best budget ways o code text) first h.ends in
-    (subst (λ (o : Option (Places × ℕ)). IsAnswerOfStage r h.best o code text) ends of_one).0
-  where
-    not_none : {s : Places × ℕ} → ◌≡◌ {A = Option (Places × ℕ)} (Some s) None → ⊥
-    not_none e = cc
 
 pub published_in_ways_is_stable_lem : PublishedInWaysIsStable
 published_in_ways_is_stable_lem r budget ways code text formed one h = (

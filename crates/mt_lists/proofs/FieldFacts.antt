@@ -1,9 +1,11 @@
 -- The fields of a line, one after the other, and the commas at its end.
-use Rattle.std.proofs.Common.{◌≡◌, ◌≢◌, ℕ, ◌+◌, ◌-◌, ◌<◌, ◌≤◌, List, [], ◌∷◌, ◌++◌, length, take, drop, get_or, true, false, ◌==◌, refl, sym, ap, ◌∙◌, inl, inr, append_assoc, arith, length-append}
-use Rattle.std.specs.List.{list_any, suffix_len}
+use Rattle.std.proofs.Common.{◌≡◌, ◌≢◌, ℕ, ◌+◌, ◌-◌, ◌<◌, ◌≤◌, List, [], ◌∷◌, ◌++◌, length, take, drop, get_or, true, false, ◌==◌, refl, sym, ap, ◌∙◌, inl, inr, append_assoc, arith, cond, length-append}
+use Rattle.std.specs.List.{list_any, suffix_len, count_by}
+use Rattle.memchr.specs.Find.{is_byte}
 use Rattle.std.proofs.Math.Seq.{take-length}
 use Rattle.std.proofs.lemmas.Bool.{cases_Bool, eqb-true, or_parts}
 use Rattle.std.proofs.lemmas.Bool.Decides.{nat_tests}
+use Rattle.std.proofs.lemmas.List.Recursion.{is_count_by}
 use Rattle.std.proofs.lemmas.List.{append-nil, drop_all, drop_more, reverse-append, take-append-drop, take-append-le}
 use Rattle.mt_lists.specs.Lines.{fields_of_line, fields_of_trimmed, is_comma, split_from}
 use Rattle.mt_lists.specs.Records.{is_empty_field, without_trailing_empty}
@@ -151,16 +153,25 @@ fields-other : (c : ℕ) (rest : List ℕ) → (c == 44) ≡ false → length (f
 unfolding split_from
 fields-other c rest other = rw other (fields-same (c ∷ []) [] rest)
 
-module _ (line : List ℕ) (i : ℕ) (h : i < length line) where
-  pub comma-counts : get_or line i 0 ≡ 44 → length (fields_of_line (drop i line)) ≡ 1 + length (fields_of_line (drop (i + 1) line))
-  comma-counts is =
-      ap (λ (x : List ℕ). length (fields_of_line x)) (drop_more line i 0 h ∙ ap (λ (c : ℕ). c ∷ drop (i + 1) line) is) ∙ fields-comma (drop (i + 1) line)
+-- a line has one comma less than it has fields
+abbrev commas_in : List ℕ → ℕ
+commas_in line = length (fields_of_line line) - 1
 
-  pub other-counts : get_or line i 0 ≢ 44 → length (fields_of_line (drop i line)) ≡ length (fields_of_line (drop (i + 1) line))
-  other-counts other =
-      ap (λ (x : List ℕ). length (fields_of_line x)) (drop_more line i 0 h) ∙ fields-other (get_or line i 0) (drop (i + 1) line) (grind (arith, nat_tests, other))
+some-field : (line : List ℕ) → 1 ≤ length (fields_of_line line)
+some-field line = grind (arith, nat_tests, split-some [] line)
 
--- a line with no byte left is one field more
-pub fields-end : (line : List ℕ) (i : ℕ) → length line ≤ i → length (fields_of_line (drop i line)) ≡ 1
+no-comma : commas_in [] ≡ 0
 unfolding split_from
-fields-end line i h = rw (drop_all i line h) refl
+no-comma = refl
+
+next-comma : (c : ℕ) (rest : List ℕ) → commas_in (c ∷ rest) ≡ cond (is_byte 44 c) (1 + commas_in rest) (commas_in rest)
+next-comma c rest = elim (cases_Bool (c == 44)) [
+  | inl is ↦
+      let more : length (fields_of_line (c ∷ rest)) ≡ 1 + length (fields_of_line rest) =
+      ap (λ (b : ℕ). length (fields_of_line (b ∷ rest))) (eqb-true c 44 is) ∙ fields-comma rest in
+      rw is (omega (arith, more, some-field rest))
+  | inr other ↦ rw other (omega (arith, fields-other c rest other))
+]
+
+pub fields-count : (line : List ℕ) → count_by (is_byte 44) line + 1 ≡ length (fields_of_line line)
+fields-count line = omega (arith, is_count_by commas_in (is_byte 44) no-comma next-comma line, some-field line)

@@ -1,10 +1,11 @@
 ghost use Rattle.std.specs.Prelude.{◌≡◌, ◌+◌, ◌<◌, ◌≤◌, ◌^◌, [], ◌∷◌, false, true, length, MatchOption};
 ghost use Rattle.std.specs.Iterator.{YieldsFirstRef, item_count};
 ghost use Rattle.std.specs.List.{list_any};
+ghost use Rattle.memchr.specs.Find.{IsFirstByte, is_byte};
 ghost use Rattle.mt_lists.specs.Lines.{NextLine, fields_of_line, fields_of_trimmed, is_quote};
 ghost use Rattle.mt_lists.specs.Records.{rows_of, without_trailing_empty};
 
-use memchr::{memchr, memchr2};
+use memchr::{memchr, memchr_iter, memchr2};
 
 /// A text with no double quote, whose rows are its lines.
 #[derive(Clone, Copy)]
@@ -85,13 +86,21 @@ fn commas(line: &[u8]) -> usize
     ensures fields { result + 1 ≡ length (fields_of_line line.now) }
     ensures few { result < 2 ^ 63 }
 {
-    let mut commas = 0;
-    for byte in line {
-        if *byte == b',' {
-            commas += 1;
+    memchr_iter(b',', line).count()
+}
+
+// The place of the first comma of a line. Most fields have a few bytes, and a search by vectors begins slowly.
+fn first_comma(line: &[u8]) -> Option<usize>
+    ensures { IsFirstByte (is_byte 44) line.now result }
+{
+    let mut at = 0;
+    while at < line.len() {
+        if line[at] == b',' {
+            return Some(at);
         }
+        at += 1;
     }
-    commas
+    None
 }
 
 /// The fields of a line in turn.
@@ -133,7 +142,7 @@ impl<'t> Iterator for LineFields<'t> {
 
     fn next(&mut self) -> Option<&'t [u8]> {
         let rest = self.rest?;
-        match memchr(b',', rest) {
+        match first_comma(rest) {
             Some(at) => {
                 let (field, _) = rest.split_at(at);
                 let (_, after) = rest.split_at(at + 1);

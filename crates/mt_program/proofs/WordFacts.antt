@@ -38,11 +38,6 @@ misuse_by_named app words rows (Told text) is h = absurd h
 misuse_by_named app words rows (Misuse text) is h = inr (rw is at h)
 misuse_by_named app words rows Memory is h = tt
 
-pub misuse_by_files : {T : Type 0} (app : App) (words : List Text) (rows : List Row) (result : Result T Unasked) → rows ≡ matches_of app words
-    → IfErr result (IsMisuseBy (NameNoFilesIn rows)) → IfErr result (IsUnaskedBy app (AreMisuse app words) words)
-misuse_by_files app words rows (Ok x) is h = tt
-misuse_by_files app words rows (Err unasked) is h = misuse_by_named app words rows unasked is h
-
 -- what the matches name by an argument, a row of them has
 pub named_in : (f : Found) (id : Text) (o v : Option (Bor Text)) → option_map (λ (s : Bor Text). s.now) o ≡ first_value f id → o ≡ v
     → first_of id (rows_of f) ≡ option_map (λ (s : Bor Text). s.now) v
