@@ -10,10 +10,9 @@ use std::mem::swap;
 
 /// The agents that are to be rechecked, first in first out, each at most once.
 ///
-/// Agents are read from one ordered set. An agent that is taken stays in it, passed over, until all are. An agent joins at
-/// the end of that set, unless it was taken from it: then it joins a second set, and so do all that join later. When all of
-/// the first set are taken, the second takes its place. Both have room for every agent from the start, so joining takes no
-/// memory.
+/// Agents are read from one ordered set. An agent that is taken stays in it, passed over, until all are. Whoever joins is
+/// put at the end of a second set. When all of the first set are taken, the second takes its place. Both have room for
+/// every agent from the start, so joining takes no memory.
 ///
 /// The sets hash with the fixed seed of `indexmap`. The author of a file chooses which agents wait, but the keys are only
 /// the numbers of agents, for which both sets have room.
