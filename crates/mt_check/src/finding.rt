@@ -8,7 +8,8 @@ use mt_terms::Verdict;
 pub enum Finding {
     /// What the verifier says of the places. If it says that they are stable, the counts agree with them too.
     Of(Verdict),
-    /// The record with this number is the first that says another count. `check` looks for it only if the places are stable.
+    /// The record with this number is the first that says another count. `check` looks for it only if the places are
+    /// stable.
     Differs(u64),
 }
 
