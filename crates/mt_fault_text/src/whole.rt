@@ -27,6 +27,7 @@ ghost use Rattle.mt_fault_text.specs.Text.{accepted_line, count_line};
 use crate::accepted::{list_entries, push_accepted};
 use crate::front::push_number;
 use crate::lines::write_fault;
+use crate::seed::seed_of;
 use crate::sending::write;
 use crate::sink::FaultLines;
 use mt_explain_text::Page;
@@ -124,7 +125,7 @@ fn list_faults<'a, W: Write, E: Write>(
         count: 0,
         is_broken: false,
     };
-    let end = find_faults(alloc, rows, &mut sink);
+    let end = find_faults(alloc, seed_of(bytes), rows, &mut sink);
     let FaultLines {
         drain,
         mut page,
