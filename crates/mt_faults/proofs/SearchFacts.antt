@@ -108,11 +108,7 @@ bad_pair_next rules all rest pair one two a o t =
     ∙ ap (λ l. l ++ alone_at BAD_ID (flat_map (bad_of_pair rules) rest)) (bad_pair rules pair ∙ ap₂ (λ (x y : List FieldFault). x ++ y) (sym o) (sym t))
     ∙ append_assoc one two (alone_at BAD_ID (flat_map (bad_of_pair rules) rest))
 
--- a row with no field, and one with some
-pub row_none : (row : List Bytes) → length row ≡ 0 → row ≡ []
-row_none [] h = refl
-row_none (word ∷ fields) h = absurd (omega (arith, h))
-
+-- a row with some field
 pub row_some : (rules : Rules) (row : List Bytes) → (length row ≡ 0 → ⊥) → row_parts rules row ≡ parts_of rules row ∷ []
 row_some rules [] some = absurd (some refl)
 row_some rules (word ∷ fields) some = refl
