@@ -56,8 +56,8 @@ fn begin(page: &mut Page, code: u16)
     page.push(b",");
 }
 
-/// Puts the front of a code's lines on a page, in place of what is on it, and then the numbers of a record and of the
-/// line on which it begins.
+/// Puts the front of a code's lines on a page, in place of what is on it. The numbers of a record and of the line on
+/// which it begins come after it.
 fn go_on(page: &mut Page, of_code: &Page, number: u64, line: u64)
     requires { length of_code.now ≤ 128 }
     ensures text { page.new ≡ of_code.now ++ record_front number line }
