@@ -1,16 +1,16 @@
 -- What was written of a file's faults is the answer, or the first bytes of it.
 -- The lines come by the sink, and the end of them by way of its page: `SendingFacts` puts both together.
-use Rattle.std.proofs.Common.{◌≡◌, ◌⊎◌, ℕ, ◌+◌, ◌≤◌, Bool, true, false, List, [], ◌∷◌, ◌++◌, length, take, Option, Result, Ok, Err, refl, sym, ap, ◌∙◌, subst, inl, inr, append_assoc, arith}
+use Rattle.std.proofs.Common.{◌≡◌, ℕ, Bool, true, false, List, [], ◌∷◌, ◌++◌, length, Option, Result, Ok, Err, refl, sym, ap, ◌∙◌, subst, inl, inr, append_assoc, arith}
 use Rattle.std.specs.Prelude.{OnErr, OnOk, is_ok}
 use Rattle.std.specs.Io.KnownBytes.{Appends}
 use Rattle.std.proofs.lemmas.List.{append-nil, take_all}
 use Rattle.mt_report.specs.Drains.{IsWritten}
-use Rattle.mt_explained.specs.Answer.{Answer, IsGiven}
+use Rattle.mt_explained.specs.Answer.{IsGiven}
 use Rattle.mt_explained.specs.Sending.{Breaks, Sends}
 use Rattle.mt_explained.proofs.SendingFacts.{breaks_after, breaks_more, sends_put, sends_then, sent_front}
 use Rattle.mt_line_numbers.specs.Records.{line_of_record}
 use Rattle.mt_fault_terms.specs.Faults.{FileFault, fault_alone}
-use Rattle.mt_fault_text.specs.Answer.{AreListed, IsCutGiven, cut_answer, faults_answer, lines_alone, refusal}
+use Rattle.mt_fault_text.specs.Answer.{AreListed, IsCutGiven, faults_answer, lines_alone, refusal}
 use Rattle.mt_fault_text.specs.Text.{all_lines, count_line, fault_line_at, fault_lines}
 use Rattle.mt_fault_text.specs.SinkLaws.{lines_more}
 use Rattle.mt_fault_text.proofs.PageFacts.{ended_err, ended_ok}

@@ -1,10 +1,10 @@
 -- What the sink did of all faults, by how the search ended and by whether the writer failed.
-use Rattle.std.proofs.Common.{◌≡◌, ◌⊎◌, ℕ, Bool, true, false, List, [], ◌++◌, length, Option, Result, Ok, Err, refl, sym, ap, ◌∙◌, subst, inl, inr, append_assoc, arith}
+use Rattle.std.proofs.Common.{◌≡◌, ℕ, Bool, true, false, List, [], ◌++◌, length, Option, Result, Ok, Err, sym, ap, ◌∙◌, subst, inl, inr, append_assoc, arith}
 use Rattle.std.specs.Prelude.{OnErr, OnOk, is_ok}
 use Rattle.std.proofs.lemmas.Bool.{true≢false}
 use Rattle.mt_terms.specs.declared.codes.TheConstants.{OUT_OF_MEMORY}
 use Rattle.mt_fault_terms.specs.Faults.{FileFault}
-use Rattle.mt_faults.specs.Telling.{OfFirst, Tells}
+use Rattle.mt_faults.specs.Telling.{Tells}
 use Rattle.mt_faults.specs.declared.fault.FaultEnd.{FaultEnd}
 use Rattle.mt_faults.specs.declared.fault.FaultEnd.TheVariants.{Memory, Stopped as StoppedEnd}
 use Rattle.mt_report.specs.Drains.{contents_of}
@@ -13,7 +13,7 @@ use Rattle.mt_explained.specs.Sending.{Breaks, Sends}
 use Rattle.mt_fault_text.specs.Answer.{AreListed, refusal}
 use Rattle.mt_fault_text.specs.Text.{count_line, fault_lines}
 use Rattle.mt_fault_text.proofs.AnswerFacts.{given_broken, listed_front, listed_whole}
-use Rattle.mt_fault_text.specs.Sinking.{CanTake, Failed, IsFull, Stopped, Wrote}
+use Rattle.mt_fault_text.specs.Sinking.{CanTake, Failed, Stopped, Wrote}
 use Rattle.mt_fault_text.specs.declared.sink.FaultLines.{FaultLines}
 
 -- a fact of the first of some faults, and the others

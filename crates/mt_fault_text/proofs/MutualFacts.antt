@@ -1,14 +1,13 @@
 -- What loops over pairs, applicants and couples have counted so far.
 -- Each step adds the last term of a sum, or the last place of a list of pairs.
-use Rattle.std.proofs.Common.{◌≡◌, ◌≢◌, ℕ, zero, suc, ◌+◌, ◌-◌, ◌^◌, ◌*◌, ◌<◌, ◌≤◌, Bool, true, false, ◌||◌, ◌&&◌, List, [], ◌∷◌, ◌++◌, length, map, take, get_or, Option, Some, None, refl, sym, ap, ◌∙◌, add-one, arith}
-use Rattle.std.specs.Prelude.{filter_map, if◌then◌else◌, ◌==◌}
+use Rattle.std.proofs.Common.{◌≡◌, ℕ, zero, suc, ◌+◌, ◌-◌, ◌<◌, ◌≤◌, Bool, true, false, ◌||◌, ◌&&◌, List, [], ◌∷◌, ◌++◌, length, take, get_or, Option, Some, None, refl, sym, ap, ◌∙◌, add-one, arith}
+use Rattle.std.specs.Prelude.{if◌then◌else◌}
 use Rattle.std.specs.List.{cons_option}
-use Rattle.std.proofs.lemmas.Bool.Decides.{nat_tests}
 use Rattle.std.proofs.lemmas.List.{append-nil, length-map, take_more}
 use Rattle.std.proofs.lemmas.List.Elements.{filter_map-append}
-use Rattle.mt_terms.specs.Lists.{Set, count_below, has, total_below}
+use Rattle.mt_terms.specs.Lists.{Set, has, total_below}
 use Rattle.mt_terms.specs.Market.{Market, Pair, applicants, couple_of, list_of, live, live_entries, live_market, program_of}
-use Rattle.mt_ranks.specs.Ranked.{IsRanked, Ranked, entries_of_applicants, ranked_entry, ranked_list, ranked_of}
+use Rattle.mt_ranks.specs.Ranked.{IsRanked, Ranked, ranked_entry, ranked_list, ranked_of}
 use Rattle.mt_ranks.specs.declared.entries.Live.{Live}
 use Rattle.mt_terms.proofs.ListFacts.{has_push}
 use Rattle.mt_terms.proofs.Totals.{total_below-same}

@@ -1,8 +1,7 @@
 -- What one call did with a page and its writer, as a step of a text on its way.
-use Rattle.std.proofs.Common.{◌≡◌, ℕ, Bool, true, List, [], ◌∷◌, ◌++◌, length, take, Option, Result, Ok, Err, refl, sym, ap, ◌∙◌, subst, arith}
+use Rattle.std.proofs.Common.{◌≡◌, ℕ, Bool, List, [], ◌++◌, Option, Result, Ok, Err, sym, subst}
 use Rattle.std.specs.Prelude.{OnErr, OnOk}
-use Rattle.std.specs.Io.KnownBytes.{Appends}
-use Rattle.std.proofs.lemmas.List.{append-nil, take_all}
+use Rattle.std.proofs.lemmas.List.{append-nil}
 use Rattle.mt_report.specs.Drains.{IsWritten}
 use Rattle.mt_explained.specs.Sending.{Breaks, Sends}
 use Rattle.mt_explained.proofs.SendingFacts.{breaks_after, sends_put, sends_then}

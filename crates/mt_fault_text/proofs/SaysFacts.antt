@@ -1,18 +1,16 @@
 -- What an answer that was written says of the bytes that a reader had left.
 -- Bytes are a market, or have faults by their records, or a fault that leaves them without records.
-use Rattle.std.proofs.Common.{◌≡◌, ◌⊎◌, ℕ, ◌<◌, ◌≤◌, Bool, true, false, List, [], ◌∷◌, ◌++◌, length, Option, Some, None, Result, Ok, Err, refl, sym, ap, ap₂, ◌∙◌, subst, inl, inr, arith, nat_lt}
+use Rattle.std.proofs.Common.{◌≡◌, ◌⊎◌, ℕ, ◌≤◌, Bool, true, false, List, [], ◌∷◌, length, Option, Some, None, Result, Ok, Err, refl, sym, ap, ap₂, ◌∙◌, subst, inl, inr, arith, nat_lt}
 use Rattle.std.specs.Prelude.{◌≢◌, if◌then◌else◌}
 use Rattle.std.proofs.lemmas.Bool.{cases_eq}
 use Rattle.std.proofs.lemmas.Bool.Decides.{nat_tests}
 use Rattle.mt_lists.specs.Records.{records_of, without_mark}
 use Rattle.mt_terms.specs.Market.{Registered}
-use Rattle.mt_terms.specs.Registration.{market_of}
 use Rattle.mt_terms.specs.Registration.Faults.{Fault, fault_at, record_fault_alone}
 use Rattle.mt_terms.specs.Registration.Ids.{Bytes}
-use Rattle.mt_terms.specs.declared.codes.TheConstants.{OUT_OF_MEMORY, READ_FAULT}
 use Rattle.mt_terms.specs.declared.refusal.Refusal.{Refusal}
 use Rattle.mt_input.specs.Files.{by_records, market_in, most_bytes, of_bytes}
-use Rattle.mt_input.specs.Left.{AreRead, OfLeft}
+use Rattle.mt_input.specs.Left.{AreRead}
 use Rattle.mt_input.specs.Refusals.{CannotRead, fault_of}
 use Rattle.mt_input.proofs.LeftFacts.{cannot_read, of_left, some_left}
 use Rattle.mt_input.proofs.MarketFacts.{market_fault}
@@ -20,9 +18,9 @@ use Rattle.mt_explained.specs.Answer.{Answer, IsGiven}
 use Rattle.mt_files.specs.Text.{is_code_of}
 use Rattle.mt_files.specs.declared.source.Source.TheVariants.{Market}
 use Rattle.mt_files.proofs.NameFacts.{market_named}
-use Rattle.mt_fault_terms.specs.Faults.{FileFault, fault_alone}
+use Rattle.mt_fault_terms.specs.Faults.{fault_alone}
 use Rattle.mt_fault_terms.specs.OfFile.{faults_of}
-use Rattle.mt_fault_text.specs.Answer.{Answers, AreListed, IsGivenOrCut, IsGivenOrNoMemory, answer_by, answer_to, code_in, cut_answer, faults_answer, faults_by, faults_in, lines_alone, no_memory, refusal}
+use Rattle.mt_fault_text.specs.Answer.{Answers, AreListed, IsGivenOrCut, IsGivenOrNoMemory, answer_by, answer_to, code_in, cut_answer, faults_answer, faults_in, lines_alone, no_memory, refusal}
 use Rattle.mt_fault_text.specs.Text.{all_lines}
 use Rattle.mt_fault_text.proofs.AnswerFacts.{alone_lines, cut_at_once}
 

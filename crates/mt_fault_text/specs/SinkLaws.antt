@@ -1,15 +1,14 @@
 -- What the sink of faults did in turn is what it did in all. Each law is that of the bytes, and of the lines of two lists of
 -- faults one after another.
-use Rattle.std.proofs.Common.{◌≡◌, ◌⊎◌, ℕ, ◌+◌, List, [], ◌∷◌, ◌++◌, length, Option, refl, sym, ap, ◌∙◌, subst, inl, inr, append_assoc, length-append}
-use Rattle.std.specs.List.{flat_map}
+use Rattle.std.proofs.Common.{◌≡◌, ℕ, ◌+◌, List, [], ◌++◌, length, Option, refl, sym, ap, ◌∙◌, subst, inl, inr, append_assoc, length-append}
 use Rattle.std.proofs.lemmas.Grind.{flat_map-append}
 use Rattle.std.proofs.lemmas.List.{append-nil}
 use Rattle.std.proofs.Math.Nat.{add-zero, add_assoc}
-use Rattle.mt_report.specs.Drains.{contents_of, failures_of}
+use Rattle.mt_report.specs.Drains.{contents_of}
 use Rattle.mt_explained.specs.Sending.{Breaks, Sends}
-use Rattle.mt_explained.proofs.SendingFacts.{breaks_after, breaks_more, sends_put, sends_then}
+use Rattle.mt_explained.proofs.SendingFacts.{breaks_after, sends_put, sends_then}
 use Rattle.mt_fault_terms.specs.Faults.{FileFault}
-use Rattle.mt_fault_text.specs.Sinking.{CanTake, Failed, IsFull, Stopped, Wrote}
+use Rattle.mt_fault_text.specs.Sinking.{Failed, IsFull, Stopped, Wrote}
 use Rattle.mt_fault_text.specs.Text.{fault_line, fault_lines}
 use Rattle.mt_fault_text.specs.declared.sink.FaultLines.{FaultLines}
 

@@ -2,6 +2,7 @@ ghost use Rattle.std.specs.Prelude.{◌≡◌, ◌+◌, ◌<◌, ◌^◌, false,
 ghost use Rattle.mt_fault_terms.specs.Faults.{FileFault};
 ghost use Rattle.mt_report.specs.Drains.{contents_of, failures_of};
 
+use crate::front::Front;
 use crate::lines::write_fault;
 use mt_explain_text::Page;
 use mt_fault_sentences::{Cursor, Teller, tell_fault};
@@ -15,6 +16,7 @@ use std::io::Write;
 pub(crate) struct FaultLines<'a, 'd, 't, W: Write, E: Write> {
     pub(crate) drain: &'d mut Drain<W>,
     pub(crate) page: Page,
+    pub(crate) front: Front,
     pub(crate) numbers: LineNumbers<'a>,
     pub(crate) cursor: Cursor<'a>,
     pub(crate) teller: &'t mut Teller<E>,
@@ -41,7 +43,8 @@ impl<'a, 'd, 't, W: Write, E: Write> FaultSink for FaultLines<'a, 'd, 't, W, E> 
         }
         self.count += 1;
         let line = self.numbers.line_of(number);
-        let written = write_fault(self.drain, &mut self.page, number, line, fault);
+        let front = &mut self.front;
+        let written = write_fault(self.drain, &mut self.page, front, number, line, fault);
         if written.is_err() {
             self.is_broken = true;
             return Err(Stop);

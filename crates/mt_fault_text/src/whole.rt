@@ -25,8 +25,9 @@ ghost use Rattle.mt_fault_text.specs.Answer.{
 ghost use Rattle.mt_fault_text.specs.Text.{accepted_line, count_line};
 
 use crate::accepted::{list_entries, push_accepted};
-use crate::front::push_number;
+use crate::front::{Front, push_number};
 use crate::lines::write_fault;
+use crate::seed::seed_of;
 use crate::sending::write;
 use crate::sink::FaultLines;
 use mt_explain_text::Page;
@@ -39,7 +40,7 @@ use mt_line_numbers::LineNumbers;
 use mt_lists::{ListFault, Rows, Tap, records};
 use mt_market::Roster;
 use mt_report::{Drain, put_all};
-use mt_terms::codes::{OUT_OF_MEMORY, TOO_LARGE, TWO_MARKS};
+use mt_terms::codes::{NO_VERSION, OUT_OF_MEMORY, TOO_LARGE, TWO_MARKS};
 use std::alloc::Global;
 use std::io::{Read, Write};
 use std::thread::Threads;
@@ -115,19 +116,24 @@ fn list_faults<'a, W: Write, E: Write>(
     let Ok(page) = Page::new(alloc) else {
         return refuse(drain, OUT_OF_MEMORY);
     };
+    let Ok(front) = Front::new(alloc, NO_VERSION) else {
+        return refuse(drain, OUT_OF_MEMORY);
+    };
     let mut sink = FaultLines {
         drain,
         page,
+        front,
         numbers: LineNumbers::new(bytes),
         cursor: Cursor::new(rows),
         teller,
         count: 0,
         is_broken: false,
     };
-    let end = find_faults(alloc, rows, &mut sink);
+    let end = find_faults(alloc, seed_of(bytes), rows, &mut sink);
     let FaultLines {
         drain,
         mut page,
+        front: _front,
         numbers: _,
         cursor: _,
         teller: _,
@@ -153,6 +159,7 @@ fn list_faults<'a, W: Write, E: Write>(
 fn write_alone<W: Write>(
     drain: &mut Drain<W>,
     page: &mut Page,
+    front: &mut Front,
     fault: &Fault<'_>,
 ) -> Result<(), Unwritten>
     requires alone { fault_seen fault.now ≡ fault_alone fault.now.code 0 }
@@ -165,7 +172,7 @@ fn write_alone<W: Write>(
         (contents_of W.contents drain.new) page.old (lines_alone fault.now.code)) }
     ensures one_failed { OnErr result (failures_of drain.new ≡ failures_of drain.old + 1) }
 {
-    write_fault(drain, page, 0, 0, fault)?;
+    write_fault(drain, page, front, 0, 0, fault)?;
     finish(drain, page, 1)
 }
 
@@ -186,6 +193,9 @@ fn list_alone<W: Write, E: Write>(
     let Ok(mut page) = Page::new(alloc) else {
         return refuse(drain, OUT_OF_MEMORY);
     };
+    let Ok(mut front) = Front::new(alloc, code) else {
+        return refuse(drain, OUT_OF_MEMORY);
+    };
     let fault = Fault {
         code,
         field: 0,
@@ -195,7 +205,7 @@ fn list_alone<W: Write, E: Write>(
     tell_alone(teller, code);
     Outcome {
         code,
-        whole: write_alone(drain, &mut page, &fault).is_ok(),
+        whole: write_alone(drain, &mut page, &mut front, &fault).is_ok(),
     }
 }
 

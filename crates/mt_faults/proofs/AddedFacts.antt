@@ -1,6 +1,6 @@
 -- Tables with more ids, each once in the order in which they come.
 -- A table begins with what it had before, and has an id exactly if that was there or is one of those added.
-use Rattle.std.proofs.Common.{◌≡◌, ℕ, ◌+◌, ◌≤◌, Bool, true, false, ◌||◌, ◌&&◌, not, cond, zero, suc, nat_le, nat_lt, position, Some, None, List, [], ◌∷◌, ◌++◌, length, take, min, refl, ap, sym, ◌∙◌, subst, length-append, arith, if◌then◌else◌}
+use Rattle.std.proofs.Common.{◌≡◌, ℕ, ◌+◌, Bool, true, false, ◌||◌, ◌&&◌, not, cond, zero, suc, nat_le, nat_lt, position, Some, None, List, [], ◌∷◌, ◌++◌, length, take, min, refl, ap, sym, ◌∙◌, subst, length-append, arith, if◌then◌else◌}
 use Rattle.std.specs.Prelude.{bytes_eq}
 use Rattle.std.proofs.lemmas.Bool.Decides.{nat_tests}
 use Rattle.std.proofs.lemmas.List.{append_assoc, append-nil, take_all, take-append-le}

@@ -1,4 +1,5 @@
 pub mod AddedFacts
+pub mod NoKindFacts
 pub mod PartsFacts
 pub mod RecordFacts
 pub mod SearchFacts

@@ -1,6 +1,6 @@
 -- Fields with their numbers, and the parts that they are cut into.
 -- A prefix of the numbered fields is what an iterator with a count has left. Drops and pairs are by cases of the list.
-use Rattle.std.proofs.Common.{◌≡◌, ℕ, zero, suc, ◌+◌, ◌-◌, ◌*◌, ◌/◌, ◌%◌, ◌≤◌, Bool, true, false, ◌||◌, ◌&&◌, nat_lt, codes, List, [], ◌∷◌, ◌++◌, length, take, drop, min, map, Option, Some, None, refl, ap, sym, ◌∙◌, subst, arith, nat_eq}
+use Rattle.std.proofs.Common.{◌≡◌, ℕ, zero, suc, ◌+◌, ◌*◌, ◌/◌, ◌%◌, ◌≤◌, false, ◌||◌, ◌&&◌, nat_lt, codes, List, [], ◌∷◌, length, take, drop, min, Option, Some, None, refl, ap, sym, ◌∙◌, arith, nat_eq}
 use Rattle.std.specs.Prelude.{MatchOption, bytes_eq, option_map, flat_map}
 use Rattle.std.proofs.lemmas.List.{length-take-le, take_all}
 use Rattle.std.proofs.Math.Seq.{take-nil}

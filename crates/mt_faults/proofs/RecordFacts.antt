@@ -1,12 +1,14 @@
 -- The faults of one record in the order in which they are told.
 -- A test of one field gives its faults, and the lists of faults are regrouped from the first on.
-use Rattle.std.proofs.Common.{◌≡◌, ℕ, ◌+◌, ◌≤◌, ◌<◌, Bool, true, false, not, ◌&&◌, ◌||◌, nat_lt, nat_le, min, cond, List, [], ◌∷◌, ◌++◌, length, take, drop, map, filter, Bor, Option, Some, None, refl, ap, ap₂, sym, ◌∙◌, subst, arith, if◌then◌else◌}
-use Rattle.std.specs.Prelude.{bytes_eq, flat_map, is_some}
+use Rattle.std.proofs.Common.{◌≡◌, ℕ, ◌≤◌, Bool, true, false, not, ◌&&◌, ◌||◌, cond, List, [], ◌∷◌, ◌++◌, length, take, drop, map, filter, Bor, Some, refl, ap, ap₂, sym, ◌∙◌, arith, if◌then◌else◌}
+use Rattle.std.specs.Prelude.{bytes_eq, flat_map}
 use Rattle.std.specs.List.{list_any}
 use Rattle.std.proofs.lemmas.List.{append_assoc, append-nil, map-append}
 use Rattle.std.proofs.lemmas.List.Folds.{list_any-append}
+use Rattle.std.proofs.lemmas.Bool.{false_from_ne_true}
+use Rattle.mt_terms.proofs.IdFacts.{same_id}
 use Rattle.mt_terms.specs.declared.codes.TheConstants.{BAD_ID, DUPLICATE_ID, DUPLICATE_ENTRY, NOT_REGISTERED, TOO_MANY, UNKNOWN_APPLICANT, UNKNOWN_PROGRAM}
-use Rattle.mt_terms.specs.Registration.Ids.{Bytes, has_id}
+use Rattle.mt_terms.specs.Registration.Ids.{Bytes, has_id, is_id}
 use Rattle.mt_terms.specs.Registration.Passes.{is_same_pair}
 use Rattle.mt_terms.specs.Registration.Records.{Rules, Kind, IdPair, OfProgram, OfApplicant, OfCouple, pair_of}
 use Rattle.mt_passes.proofs.RepeatFacts.{same_pairs}
@@ -14,6 +16,7 @@ use Rattle.mt_fault_terms.specs.Faults.{FieldFault, Placed, fault_alone, fault_o
 use Rattle.mt_fault_terms.specs.OfRecord.{is_id_field, is_place_field, alone_at, bad_of_pair, quota_faults, own_faults, found_among, missing_among, members_before, registered_faults, repeat_faults, limit_faults, unknown_faults, record_faults}
 use Rattle.mt_fault_terms.specs.Parts.{Parts, PlacedPair, Registers, Withdraws, all_applicants, all_own_ids, all_withdrawn, first_field}
 use Rattle.mt_faults.specs.declared.tell.Wrong.TheVariants as wrongs
+use Rattle.mt_faults.specs.Repeated.{entries_with}
 use Rattle.mt_faults.specs.Seen.{tested}
 use Rattle.mt_faults.specs.Standing.{withdrawn_again}
 use Rattle.mt_faults.proofs.AddedFacts.{has_id-added}
@@ -113,18 +116,36 @@ record_in_turn rules all before p = regroup (own_faults rules p) (registered_fau
     regroup : (a b c d e : List FieldFault) → (a ++ b ++ c ++ d) ++ e ≡ a ++ (b ++ (c ++ (d ++ e)))
     regroup a b c d e = simp append_assoc refl
 
--- entries so far with the same members as a table
-abbrev pub Alike : List Bytes → List Bytes → Type 0
-Alike table before = (id : Bytes) → has_id table id ≡ has_id before id
-
-pub alike_more : (table before new : List Bytes) (id : Bytes) → Alike table before → new ≡ (if has_id table id then table else table ++ id ∷ [])
-    → (other : Bytes) → has_id new other ≡ has_id (before ++ id ∷ []) other
-alike_more table before new id alike is other =
-    ap (λ xs. has_id xs other) is ∙ has_id-added table (id ∷ []) other ∙ ap (λ b. b || has_id (id ∷ []) other) (alike other) ∙ sym (list_any-append (bytes_eq other) before (id ∷ []))
-
 or-false : (b : Bool) → b ≡ (b || false)
 or-false true = refl
 or-false false = refl
+
+-- entries so far with the same ids as a table
+abbrev pub Alike : Rules → List Bytes → List Bytes → Type 0
+Alike rules table before = (id : Bytes) → is_id rules.limits.id_bytes id ≡ true → has_id table id ≡ has_id before id
+
+-- no id is a field that isn't one
+other_id : (rules : Rules) (x id : Bytes) → is_id rules.limits.id_bytes x ≡ false → is_id rules.limits.id_bytes id ≡ true → bytes_eq id x ≡ false
+other_id rules x id none is = false_from_ne_true _ (λ same. let e : id ≡ x = same_id id x same in cc (ap (is_id rules.limits.id_bytes) e))
+
+-- with one field more
+pub alike_more : (rules : Rules) (table before : List Bytes) (x : Placed) → Alike rules table before → Alike rules (entries_with rules table x) (before ++ x.1 ∷ [])
+alike_more rules table before x alike other is = by (is_id_field rules x) refl
+  where
+    by : (b : Bool) → is_id_field rules x ≡ b → has_id (if b && not (has_id table x.1) then table ++ x.1 ∷ [] else table) other ≡ has_id (before ++ x.1 ∷ []) other
+    by true e =
+        ap (λ xs. has_id xs other) (added_is (has_id table x.1) table (table ++ x.1 ∷ [])) ∙ has_id-added table (x.1 ∷ []) other
+        ∙ ap (λ b. b || has_id (x.1 ∷ []) other) (alike other is) ∙ sym (list_any-append (bytes_eq other) before (x.1 ∷ []))
+      where
+        added_is : (b : Bool) (xs ys : List Bytes) → (if not b then ys else xs) ≡ (if b then xs else ys)
+        added_is true xs ys = refl
+        added_is false xs ys = refl
+    by false e =
+        alike other is ∙ or-false (has_id before other) ∙ ap (λ b. has_id before other || (b || false)) (sym (other_id rules x.1 other e is))
+        ∙ sym (list_any-append (bytes_eq other) before (x.1 ∷ []))
+
+pub alike_by : (rules : Rules) (table new before : List Bytes) (x : Placed) → new ≡ entries_with rules table x → Alike rules table before → Alike rules new (before ++ x.1 ∷ [])
+alike_by rules table new before x e alike other is = ap (λ xs. has_id xs other) e ∙ alike_more rules table before x alike other is
 
 -- pairs so far with the same members as a table
 abbrev pub fields_of : PlacedPair → Bytes × Bytes

@@ -1,6 +1,6 @@
 -- What each loop of the search keeps, and how one turn changes it.
 -- A sink was told the faults of what is done. What is left decides the others.
-use Rattle.std.proofs.Common.{◌≡◌, ℕ, ◌+◌, Bool, true, false, ◌&&◌, List, [], ◌∷◌, ◌++◌, cond, length, map, filter, min, Option, Some, None, refl, ap, sym, ap₂, ◌∙◌, subst, arith, if◌then◌else◌}
+use Rattle.std.proofs.Common.{◌≡◌, ℕ, ◌+◌, Bool, true, false, ◌&&◌, List, [], ◌∷◌, ◌++◌, cond, length, Some, None, refl, ap, sym, ap₂, ◌∙◌, arith, if◌then◌else◌}
 use Rattle.std.specs.Prelude.{flat_map}
 use Rattle.std.specs.List.{list_any}
 use Rattle.std.proofs.lemmas.List.{append_assoc, append-nil, map-append}
@@ -14,6 +14,7 @@ use Rattle.mt_fault_terms.specs.OfRecord.{alone_at, bad_of_pair, is_id_field, is
 use Rattle.mt_fault_terms.specs.Parts.{Parts, PlacedPair, ids_among, parts_of}
 use Rattle.mt_faults.specs.declared.finder.Finder.{Finder}
 use Rattle.mt_faults.specs.Registered.{row_parts}
+use Rattle.mt_faults.specs.Repeated.{repeated}
 use Rattle.mt_faults.specs.Standing.{Stands, row_faults}
 use Rattle.mt_faults.specs.Telling.{at_record}
 use Rattle.mt_faults.proofs.RecordFacts.{Alike, PairsAlike, bad_pair, fields_of, found_one}
@@ -46,7 +47,7 @@ module _ {S : Type 0} (takes : S → Type 0) (told stopped : S → S → List Fi
   -- the entries of a list before those that are left, and the faults told of them
   pub record Repeats (a b : S) (n : ℕ) (rules : Rules) (table : List Bytes) (left : List Placed) (whole : List FileFault) : Type 0 where
     pub before : List Bytes
-    pub alike : Alike table before
+    pub alike : Alike rules table before
     pub so_far : SoFar takes told stopped a b (at_record n (repeats_after rules before left)) whole
 
   -- the same of pairs
@@ -63,12 +64,20 @@ module _ {S : Type 0} (takes : S → Type 0) (told stopped : S → S → List Fi
     pub so_far : SoFar takes told stopped a b (faults_after rules all before left) whole
 
 -- a repeated entry, as it is told
-pub repeated_is : (rules : Rules) (table before : List Bytes) (x : Placed) (first : Bool) (fs : List FieldFault) → Alike table before → first ≡ has_id table x.1
-    → fs ≡ (if is_id_field rules x && first then fault_of DUPLICATE_ENTRY x ∷ [] else [])
-    → (rest : List Placed) → repeats_after rules before (x ∷ rest) ≡ fs ++ repeats_after rules (before ++ x.1 ∷ []) rest
-repeated_is rules table before x first fs alike f is rest =
-    ap (λ l. l ++ repeats_after rules (before ++ x.1 ∷ []) rest)
-    (found_one rules DUPLICATE_ENTRY before x ∙ ap (λ b. if is_id_field rules x && b then fault_of DUPLICATE_ENTRY x ∷ [] else []) (sym (f ∙ alike x.1)) ∙ sym is)
+pub repeated_is : (rules : Rules) (table before : List Bytes) (x : Placed) → Alike rules table before
+    → (rest : List Placed) → repeats_after rules before (x ∷ rest) ≡ repeated rules table x ++ repeats_after rules (before ++ x.1 ∷ []) rest
+repeated_is rules table before x alike rest =
+    ap (λ l. l ++ repeats_after rules (before ++ x.1 ∷ []) rest) (found_one rules DUPLICATE_ENTRY before x ∙ by (is_id_field rules x) refl)
+  where
+    by : (b : Bool) → is_id_field rules x ≡ b → (if b && has_id before x.1 then fault_of DUPLICATE_ENTRY x ∷ [] else []) ≡ (if b && has_id table x.1 then fault_of DUPLICATE_ENTRY x ∷ [] else [])
+    by true e = ap (λ b. if b then fault_of DUPLICATE_ENTRY x ∷ [] else []) (sym (alike x.1 e))
+    by false e = refl
+
+pub repeated_none : (rules : Rules) (table : List Bytes) (x : Placed) → is_id_field rules x ≡ false → repeated rules table x ≡ []
+repeated_none rules table x h = ap (λ b. if b && has_id table x.1 then fault_of DUPLICATE_ENTRY x ∷ [] else []) h
+
+pub repeated_id : (rules : Rules) (table : List Bytes) (x : Placed) → is_id_field rules x ≡ true → repeated rules table x ≡ (if has_id table x.1 then fault_of DUPLICATE_ENTRY x ∷ [] else [])
+repeated_id rules table x h = ap (λ b. if b && has_id table x.1 then fault_of DUPLICATE_ENTRY x ∷ [] else []) h
 
 -- a repeated pair, as it is told
 pub repeated_pair_is : (rules : Rules) (table : List IdPair) (before : List (Bytes × Bytes)) (x : PlacedPair) (first : Bool) (fs : List FieldFault) → PairsAlike table before
@@ -99,11 +108,7 @@ bad_pair_next rules all rest pair one two a o t =
     ∙ ap (λ l. l ++ alone_at BAD_ID (flat_map (bad_of_pair rules) rest)) (bad_pair rules pair ∙ ap₂ (λ (x y : List FieldFault). x ++ y) (sym o) (sym t))
     ∙ append_assoc one two (alone_at BAD_ID (flat_map (bad_of_pair rules) rest))
 
--- a row with no field, and one with some
-pub row_none : (row : List Bytes) → length row ≡ 0 → row ≡ []
-row_none [] h = refl
-row_none (word ∷ fields) h = absurd (omega (arith, h))
-
+-- a row with some field
 pub row_some : (rules : Rules) (row : List Bytes) → (length row ≡ 0 → ⊥) → row_parts rules row ≡ parts_of rules row ∷ []
 row_some rules [] some = absurd (some refl)
 row_some rules (word ∷ fields) some = refl

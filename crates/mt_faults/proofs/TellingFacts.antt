@@ -1,6 +1,6 @@
 -- What a sink was told in turn, and how the search ended.
 -- Each step adds its faults by the sink's laws. An early end leaves the rest untold.
-use Rattle.std.proofs.Common.{◌≡◌, List, [], ◌∷◌, ◌++◌, map, Result, Ok, Err, refl, ap, sym, ◌∙◌, subst}
+use Rattle.std.proofs.Common.{◌≡◌, List, [], ◌++◌, Result, Ok, Err, refl, ap, sym, ◌∙◌, subst}
 use Rattle.std.proofs.lemmas.List.{append_assoc, append-nil}
 use Rattle.mt_fault_terms.specs.Faults.{FileFault}
 use Rattle.mt_faults.specs.declared.fault.FaultEnd.{FaultEnd}

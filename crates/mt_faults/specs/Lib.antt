@@ -1,6 +1,8 @@
 pub mod Seen
 pub mod Names
+pub mod NoKind
 pub mod Registered
+pub mod Repeated
 pub mod Telling
 pub mod Standing
 pub mod Bodies

@@ -1,5 +1,5 @@
 -- How what is read of a record, and a fault of it, are seen as the definition's.
-use Rattle.std.specs.Prelude.{ℕ, ◌+◌, ◌&&◌, not, List, [], ◌∷◌, map, take, Option, option_map, option_to_list, if◌then◌else◌}
+use Rattle.std.specs.Prelude.{ℕ, ◌+◌, ◌&&◌, not, List, [], ◌∷◌, take, Option, option_map, option_to_list, if◌then◌else◌}
 use Rattle.mt_lists.specs.Rows.{fields_left}
 use Rattle.mt_terms.specs.declared.codes.TheConstants.{BAD_ID}
 use Rattle.mt_terms.specs.Registration.Ids.{Bytes, has_id}

@@ -1,4 +1,4 @@
-ghost use Rattle.std.specs.Prelude.{◌≡◌, ◌++◌, [], ◌∷◌, is_some, IfOk, if◌then◌else◌};
+ghost use Rattle.std.specs.Prelude.{◌≡◌, ◌++◌, [], ◌∷◌, is_some, slice_index_or, IfOk, if◌then◌else◌};
 ghost use Rattle.mt_terms.specs.Registration.Ids.{has_id};
 
 use crate::placed::Field;
@@ -57,7 +57,9 @@ impl<'a> Entries<'a> {
 }
 
 /// The number at a place, or 0 if there is none.
-pub(crate) fn first_of(firsts: &[u32], place: usize) -> usize {
+pub(crate) fn first_of(firsts: &[u32], place: usize) -> usize
+    ensures { result ≡ slice_index_or firsts.now place 0 }
+{
     match firsts.get(place) {
         Some(first) => *first as usize,
         None => 0,

@@ -6,6 +6,7 @@ use crate::fault::FaultEnd;
 use crate::rows::tell_rows;
 use crate::sink::FaultSink;
 use crate::tell::{fault_alone, tell};
+use mt_ids::Seed;
 use mt_lists::{Rows, RowsIter};
 use mt_records::{Rules, rules_of};
 use mt_terms::codes::NO_VERSION;
@@ -45,9 +46,11 @@ fn body_of<'a>(rows: &'a Rows<'_>) -> Result<Body<'a>, u64>
 
 /// Tells a sink all faults of a file's records, record by record in its order. A record is a list of fields without its
 /// trailing empty ones. Records are counted from 1, and one without a field is passed over. The error says whether
-/// memory was refused or the sink stopped. The sink was told the first of the faults then.
+/// memory was refused or the sink stopped. The sink was told the first of the faults then. Tables of ids hash by the
+/// seed.
 pub fn find_faults<S: FaultSink>(
     alloc: Global,
+    seed: Seed,
     rows: &Rows<'_>,
     sink: &mut S,
 ) -> Result<(), FaultEnd>
@@ -55,7 +58,7 @@ pub fn find_faults<S: FaultSink>(
     ensures { Tells S.takes S.told S.stopped sink.old sink.new (faults_of rows.now) result }
 {
     match body_of(rows) {
-        Ok(body) => tell_rows(alloc, &body.rules, body.rows, body.first, sink),
+        Ok(body) => tell_rows(alloc, seed, &body.rules, body.rows, body.first, sink),
         Err(number) => tell(sink, number, Some(fault_alone(NO_VERSION, 0))),
     }
 }

@@ -13,7 +13,6 @@ mod placed;
 mod registry;
 mod repeats;
 mod rows;
-mod seed;
 mod sink;
 mod tell;
 mod unknown;

@@ -2,6 +2,7 @@ ghost use Rattle.std.specs.Prelude.{◌≡◌, ◌≤◌, ◌||◌, [], length, 
 ghost use Rattle.mt_lists.specs.Rows.{fields_left};
 ghost use Rattle.mt_records.specs.Records.{kind_seen};
 ghost use Rattle.mt_fault_terms.specs.Parts.{miscounted, unknown_parts, program_parts, applicant_parts, couple_parts, withdrawal_parts, withdraw_parts, parts_by_kind, parts_of};
+ghost use Rattle.mt_faults.specs.NoKind.{is_of_no_kind, names_no_kind};
 ghost use Rattle.mt_faults.specs.Seen.{form_faults, parts_seen, placed_left};
 
 use crate::placed::{Field, Placed};
@@ -163,6 +164,24 @@ fn parts_by_kind<'a>(kind: Option<Kind>, fields: Placed<'a>) -> Parts<'a>
         Some(Kind::Applicant) => applicant_parts(fields),
         Some(Kind::Couple) => couple_parts(fields),
         None => unknown_parts(fields.first(0), 1),
+    }
+}
+
+/// Whether a first field names no kind of record.
+fn names_no_kind(rules: &Rules, word: &[u8]) -> bool
+    ensures { result ≡ names_no_kind rules.now word.now }
+{
+    !withdraws(rules, word) && kind_of(word).is_none()
+}
+
+/// Whether a record is of no kind by its first field.
+pub(crate) fn is_of_no_kind(rules: &Rules, fields: Fields<'_>) -> bool
+    ensures { result ≡ is_of_no_kind rules.now (fields_left fields.entry) }
+{
+    let mut rest = fields;
+    match rest.next() {
+        Some(word) => names_no_kind(rules, word),
+        None => true,
     }
 }
 

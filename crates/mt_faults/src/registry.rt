@@ -8,7 +8,7 @@ ghost use Rattle.mt_faults.specs.Seen.{field_seen, parts_seen, placed_left};
 ghost use Rattle.mt_faults.specs.Registered.{added, row_parts, seen_with, AddsAll, AddsParts, IsRegistry};
 
 use crate::names::names_of;
-use crate::parts::{Parts, parts_of};
+use crate::parts::{Parts, is_of_no_kind, parts_of};
 use crate::placed::{Field, Placed};
 use crate::tell::is_id_field;
 use mt_ids::{IdTable, Seed};
@@ -84,11 +84,11 @@ impl<'a> Registry<'a> {
         add_ids(&mut self.applicants, rules, ids.applicants)
     }
 
-    /// Adds what a row's record registers. A row without a field has no record.
+    /// Adds what a row's record registers. A row without a field has no record, and one of no kind registers nothing.
     fn add_row(&mut self, rules: &Rules, row: Row<'a>) -> Result<(), AllocError>
         ensures { OnOk result (AddsAll rules.now self.old self.new (row_parts rules.now row.entry)) }
     {
-        if row.is_empty() {
+        if is_of_no_kind(rules, row.fields()) {
             return Ok(());
         }
         let parts = parts_of(rules, row.fields());

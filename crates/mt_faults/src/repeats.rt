@@ -1,9 +1,11 @@
-ghost use Rattle.std.specs.Prelude.{◌≡◌, ◌&&◌, [], ◌∷◌, is_some, if◌then◌else◌};
+ghost use Rattle.std.specs.Prelude.{◌≡◌, ◌&&◌, ◌++◌, [], ◌∷◌, is_some, IfOk, OnOk, if◌then◌else◌};
 ghost use Rattle.mt_terms.specs.declared.codes.TheConstants.{DUPLICATE_ENTRY};
+ghost use Rattle.mt_terms.specs.Registration.Ids.{has_id};
 ghost use Rattle.mt_terms.specs.Registration.Records.{is_pair};
 ghost use Rattle.mt_fault_terms.specs.Faults.{fault_of};
 ghost use Rattle.mt_fault_terms.specs.OfRecord.{is_id_field, repeats_after, pair_repeats_after, shown_of_pair};
 ghost use Rattle.mt_fault_terms.specs.Parts.{PlacedPair};
+ghost use Rattle.mt_faults.specs.Repeated.{entries_with, repeated};
 ghost use Rattle.mt_faults.specs.Seen.{fault_with, faults_seen, field_seen, pairs_left, placed_left};
 ghost use Rattle.mt_faults.specs.Telling.{Tells, at_record};
 
@@ -16,20 +18,44 @@ use crate::tell::{fault_of, is_id_field, tell};
 use mt_ids::{Seed, is_dash};
 use mt_records::Rules;
 use mt_terms::codes::DUPLICATE_ENTRY;
-use std::alloc::Global;
+use std::alloc::{AllocError, Global};
 
-/// The fault of an entry that stands before, first in the field with this number, if it is an id.
-fn repeated<'a>(rules: &Rules, field: &Field<'a>, first: Option<usize>) -> Option<Fault<'a>>
-    ensures { faults_seen result
-        ≡ (if is_id_field rules.now (field_seen field.now) && is_some first
-        then fault_of DUPLICATE_ENTRY (field_seen field.now) ∷ [] else []) }
+/// The fault of an entry that is one of these already. It is added to them otherwise. The error is want of memory.
+fn repeated<'a>(
+    entries: &mut Entries<'a>,
+    field: &Field<'a>,
+) -> Result<Option<Fault<'a>>, AllocError>
+    ensures fault { let id = field.now.bytes.now in IfOk result (λ fault. faults_seen fault
+        ≡ (if has_id entries.old id then fault_of DUPLICATE_ENTRY (field_seen field.now) ∷ [] else [])) }
+    ensures entries { let id = field.now.bytes.now in IfOk result
+        (λ _. entries.new ≡ (if has_id entries.old id then entries.old else entries.old ++ id ∷ [])) }
 {
-    let first = first?;
-    if !is_id_field(rules, field) {
-        return None;
-    }
+    let Some(first) = entries.add(field)? else {
+        return Ok(None);
+    };
     let fault = fault_of(DUPLICATE_ENTRY, field);
-    Some(Fault { first, ..fault })
+    Ok(Some(Fault { first, ..fault }))
+}
+
+/// Tells a sink an entry of a list that is one of these already, and adds it to them otherwise. A field that is no id is
+/// passed over.
+fn tell_repeat<'a, S: FaultSink>(
+    sink: &mut S,
+    number: u64,
+    rules: &Rules,
+    entries: &mut Entries<'a>,
+    field: &Field<'a>,
+) -> Result<(), FaultEnd>
+    requires { S.takes sink.old }
+    ensures tells { Tells S.takes S.told S.stopped sink.old sink.new
+        (at_record number (repeated rules.now entries.old (field_seen field.now))) result }
+    ensures entries { OnOk result (entries.new ≡ entries_with rules.now entries.old (field_seen field.now)) }
+{
+    if !is_id_field(rules, field) {
+        return Ok(());
+    }
+    let fault = repeated(entries, field)?;
+    tell(sink, number, fault)
 }
 
 /// Tells a sink the entries of a list that stand in it before.
@@ -47,8 +73,7 @@ pub(crate) fn tell_repeats<S: FaultSink>(
 {
     let mut entries = Entries::new(alloc, seed);
     for field in list {
-        let first = entries.add(&field)?;
-        tell(sink, number, repeated(rules, &field, first))?;
+        tell_repeat(sink, number, rules, &mut entries, &field)?;
     }
     Ok(())
 }

@@ -10,22 +10,23 @@ ghost use Rattle.mt_faults.specs.Telling.{Tells};
 use crate::before::Before;
 use crate::fault::FaultEnd;
 use crate::finder::Finder;
-use crate::parts::parts_of;
+use crate::parts::{is_of_no_kind, parts_of};
 use crate::registry::Registry;
-use crate::seed::seed_of;
 use crate::sink::FaultSink;
+use crate::tell::{fault_alone, tell};
+use mt_ids::Seed;
 use mt_lists::{Row, RowsIter};
 use mt_records::Rules;
+use mt_terms::codes::UNKNOWN_KIND;
 use std::alloc::{AllocError, Global};
 
 impl<'a> Finder<'a> {
     /// What is read of these rows by the rules of a version, before the first of them. The error is want of memory.
-    fn new(alloc: Global, rules: &Rules, rows: RowsIter<'a>) -> Result<Self, AllocError>
+    fn new(alloc: Global, seed: Seed, rules: &Rules, rows: RowsIter<'a>) -> Result<Self, AllocError>
         ensures rules { IfOk result (λ finder. finder.rules ≡ rules.now) }
         ensures stands { IfOk result (λ finder. (first : ℕ) → Stands finder
             (all_parts rules.now (numbered_from first (rows_left rows.entry))) []) }
     {
-        let seed = seed_of(rows);
         let registry = Registry::of(alloc, rules, seed, rows)?;
         Ok(Finder {
             rules: *rules,
@@ -56,6 +57,9 @@ impl<'a> Finder<'a> {
         if row.is_empty() {
             return Ok(());
         }
+        if is_of_no_kind(&self.rules, row.fields()) {
+            return tell(sink, number, Some(fault_alone(UNKNOWN_KIND, 1)));
+        }
         let parts = parts_of(&self.rules, row.fields());
         self.tell_record(alloc, sink, number, &parts)?;
         self.before.pass(&self.rules, &self.registry, &parts)?;
@@ -66,6 +70,7 @@ impl<'a> Finder<'a> {
 /// Tells a sink the faults of these rows by the rules of a version. The first row has this number.
 pub(crate) fn tell_rows<S: FaultSink>(
     alloc: Global,
+    seed: Seed,
     rules: &Rules,
     rows: RowsIter<'_>,
     first: u64,
@@ -76,7 +81,7 @@ pub(crate) fn tell_rows<S: FaultSink>(
     ensures { Tells S.takes S.told S.stopped sink.old sink.new
         (faults_under rules.now (numbered_from first (rows_left rows.entry))) result }
 {
-    let mut finder = Finder::new(alloc, rules, rows)?;
+    let mut finder = Finder::new(alloc, seed, rules, rows)?;
     let mut number = first;
     for row in rows {
         finder.tell_row(alloc, sink, number, row)?;

@@ -2,8 +2,10 @@
 //! told.
 use crate::expect::holds_for;
 use mt_faults::{Fault, FaultEnd, FaultSink, Stop, find_faults};
+use mt_ids::{Seed, add_field};
 use mt_lists::records;
 use std::alloc::Global;
+use std::hash::DefaultHasher;
 use std::process::Abort;
 
 /// Takes faults as text, a line each, until it has as many as it can.
@@ -44,6 +46,13 @@ impl FaultSink for Lines {
     }
 }
 
+/// A seed of tables that depends on all bytes of a file.
+fn seed_of(file: &[u8]) -> Seed {
+    let mut digest = DefaultHasher::new();
+    add_field(&mut digest, file);
+    Seed::of(&digest)
+}
+
 /// The faults of a file as text, up to this many, and how the search ended.
 fn told(alloc: Global, file: &[u8], room: usize) -> (String, Result<(), FaultEnd>) {
     let mut lines = Lines {
@@ -51,7 +60,7 @@ fn told(alloc: Global, file: &[u8], room: usize) -> (String, Result<(), FaultEnd
         room,
     };
     let end = match records(alloc, file) {
-        Ok(rows) => find_faults(alloc, &rows, &mut lines),
+        Ok(rows) => find_faults(alloc, seed_of(file), &rows, &mut lines),
         Err(_) => Err(FaultEnd::Memory),
     };
     let Lines { text, room: _ } = lines;

@@ -1,8 +1,8 @@
-use Rattle.std.proofs.Common.{◌≡◌, ◌∙◌, ◌<◌, ◌+◌, ℕ, Bool, List, true, false, ap, sym, subst, arith}
+use Rattle.std.proofs.Common.{◌≡◌, ◌∙◌, ℕ, Bool, List, true, false, ap, sym, subst, arith}
 use Rattle.mt_terms.specs.Lists.{has}
 use Rattle.mt_terms.specs.Market.{Pair, couple_of}
 use Rattle.mt_fault_text.specs.Mutual.{listed_by, sent_by}
-use Rattle.mt_fault_text.specs.Wanted.{AreWanted, set_of}
+use Rattle.mt_fault_text.specs.Wanted.{AreWanted}
 use Rattle.mt_fault_text.proofs.MutualFacts.{listed_by_tables, member_there}
 use Rattle.mt_fault_text.proofs.mutual.mutual_of_couple.Goals as goal
 

@@ -1,5 +1,4 @@
-use Rattle.std.proofs.Common.{Bool, List, ℕ, inl, subst, sym}
-use Rattle.mt_explained.specs.Answer.{IsGiven}
+use Rattle.std.proofs.Common.{inl}
 use Rattle.mt_fault_text.proofs.AnswerFacts.{given_page}
 use Rattle.mt_fault_text.proofs.whole.accept.Goals as goal
 

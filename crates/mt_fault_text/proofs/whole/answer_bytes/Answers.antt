@@ -1,5 +1,4 @@
-use Rattle.std.proofs.Common.{inl, inr}
-use Rattle.mt_fault_text.proofs.SaysFacts.{given_faults, given_market, given_no_memory}
+use Rattle.mt_fault_text.proofs.SaysFacts.{given_market}
 use Rattle.mt_fault_text.proofs.whole.answer_bytes.Goals as goal
 
 pub returns-in-Ok-clause-given : goal.returns-in-Ok-clause-given

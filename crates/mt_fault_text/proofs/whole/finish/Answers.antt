@@ -1,4 +1,4 @@
-use Rattle.std.proofs.Common.{◌≡◌, ◌∙◌, ◌++◌, List, ℕ}
+use Rattle.std.proofs.Common.{◌≡◌, ◌++◌, List, ℕ}
 use Rattle.std.specs.Prelude.{codes, decimal}
 use Rattle.mt_fault_text.specs.Text.{count_line}
 use Rattle.mt_fault_text.proofs.LineFacts.{count_pieces}

@@ -1,4 +1,4 @@
-use Rattle.std.proofs.Common.{◌≡◌, ◌++◌, ℕ, List, ap, subst}
+use Rattle.std.proofs.Common.{◌≡◌, ℕ, ap, subst}
 use Rattle.mt_fault_terms.specs.Faults.{FieldFault, fault_alone}
 use Rattle.mt_faults.specs.Seen.{fault_seen}
 use Rattle.mt_explained.specs.Sending.{Breaks, Sends}

@@ -1,4 +1,4 @@
-use Rattle.std.proofs.Common.{ap, sym, ◌∙◌, length, arith, min, ◌+◌, ◌∷◌, [], length-append}
+use Rattle.std.proofs.Common.{ap, length, arith, ◌∷◌, [], length-append}
 use Rattle.mt_fault_terms.specs.Parts.{ids_among}
 use Rattle.mt_faults.specs.Seen.{field_seen, placed_left}
 use Rattle.mt_faults.proofs.SearchFacts.{next_id}

@@ -1,13 +1,13 @@
 use Rattle.std.proofs.Common.{ap, sym, ◌∙◌, Err, ◌++◌, ◌∷◌, [], refl}
-use Rattle.std.specs.Prelude.{is_some}
 use Rattle.std.proofs.lemmas.Result.{err_from_is_err_and}
 use Rattle.mt_terms.specs.Registration.Ids.{has_id}
 use Rattle.mt_fault_terms.specs.OfRecord.{repeats_after}
-use Rattle.mt_faults.specs.Seen.{faults_seen, field_seen, placed_left}
+use Rattle.mt_faults.specs.Repeated.{repeated}
+use Rattle.mt_faults.specs.Seen.{field_seen, placed_left}
 use Rattle.mt_faults.specs.Telling.{at_record}
-use Rattle.mt_faults.proofs.RecordFacts.{alike_more}
+use Rattle.mt_faults.proofs.RecordFacts.{alike_by}
 use Rattle.mt_faults.proofs.SearchFacts.{in_two, repeated_is}
-use Rattle.mt_faults.proofs.TellingFacts.{Laws, all_told, ends_early, goes, memory_ends, starts_as}
+use Rattle.mt_faults.proofs.TellingFacts.{Laws, all_told, ends_early, goes, starts_as}
 use Rattle.mt_faults.proofs.repeats.tell_repeats.Goals as goal
 
 pub loop-field-init : goal.loop-field-init
@@ -15,26 +15,21 @@ loop-field-init g c =
     let laws : Laws g.S.FaultSink.takes g.S.FaultSink.told g.S.FaultSink.stopped = record { none = g.met.S.FaultSink.told_none; more = g.met.S.FaultSink.told_more; stops = g.met.S.FaultSink.stopped_after } in
     record {
       before = [];
-      alike = λ id. ap (λ xs. has_id xs id) c.new-entries.ensures;
+      alike = λ id is. ap (λ xs. has_id xs id) c.new-entries.ensures;
       so_far = starts_as laws c.args.sink.now _ _ (ap (λ list. at_record c.args.number (repeats_after c.args.rules.now [] (placed_left list))) (sym c.into_iter-field-iterator.ensures.into_iter_gives)) c.requires;
     }
 
-pub returns-in_err-first : goal.returns-in_err-first
-returns-in_err-first g c =
-    let q = err_from_is_err_and c.from_residual.result c.from_residual.ensures.1 in
-    memory_ends c.from_residual.result c.loop-field.invariant.so_far (q.1 ∙ ap Err q.2)
-
-pub returns-in_err-tell : goal.returns-in_err-tell
-returns-in_err-tell g c =
+pub returns-in_err-tell_repeat : goal.returns-in_err-tell_repeat
+returns-in_err-tell_repeat g c =
     let rules = c.args.rules.now in
     let n = c.args.number in
     let before = c.loop-field.invariant.before in
-    let id = c.in-Some.field.bytes.now in
-    let told = faults_seen c.repeated.result in
-    let rest = repeats_after rules (before ++ id ∷ []) (placed_left c.next.new.self) in
-    let next = repeated_is rules c.loop-field.entries before (field_seen c.in-Some.field) (is_some c.in_ok-first.first) told c.loop-field.invariant.alike c.in_ok-first.ensures.found c.repeated.ensures (placed_left c.next.new.self) in
-    let q = err_from_is_err_and c.from_residual-in_err-tell.result c.from_residual-in_err-tell.ensures.1 in
-    ends_early c.tell.new.sink (at_record n told) (at_record n rest) c.in_err-tell.field-0.0 c.from_residual-in_err-tell.result c.loop-field.invariant.so_far c.in_err-tell.ensures
+    let field = field_seen c.in-Some.field in
+    let told = repeated rules c.loop-field.entries field in
+    let rest = repeats_after rules (before ++ field.1 ∷ []) (placed_left c.next.new.self) in
+    let next = repeated_is rules c.loop-field.entries before field c.loop-field.invariant.alike (placed_left c.next.new.self) in
+    let q = err_from_is_err_and c.from_residual.result c.from_residual.ensures.1 in
+    ends_early c.tell_repeat.new.sink (at_record n told) (at_record n rest) c.in_err-tell_repeat.field-0.0 c.from_residual.result c.loop-field.invariant.so_far c.in_err-tell_repeat.ensures.tells
     (ap (λ fields. at_record n (repeats_after rules before fields)) c.in-Some.ensures.steps ∙ in_two n _ told rest told next refl) (q.1 ∙ ap Err q.2)
 
 pub loop-field-preserved : goal.loop-field-preserved
@@ -42,14 +37,14 @@ loop-field-preserved g c =
     let rules = c.args.rules.now in
     let n = c.args.number in
     let before = c.loop-field.invariant.before in
-    let id = c.in-Some.field.bytes.now in
-    let told = faults_seen c.repeated.result in
-    let rest = repeats_after rules (before ++ id ∷ []) (placed_left c.next.new.self) in
-    let next = repeated_is rules c.loop-field.entries before (field_seen c.in-Some.field) (is_some c.in_ok-first.first) told c.loop-field.invariant.alike c.in_ok-first.ensures.found c.repeated.ensures (placed_left c.next.new.self) in
+    let field = field_seen c.in-Some.field in
+    let told = repeated rules c.loop-field.entries field in
+    let rest = repeats_after rules (before ++ field.1 ∷ []) (placed_left c.next.new.self) in
+    let next = repeated_is rules c.loop-field.entries before field c.loop-field.invariant.alike (placed_left c.next.new.self) in
     record {
-      before = before ++ id ∷ [];
-      alike = alike_more c.loop-field.entries before c.add.new.self id c.loop-field.invariant.alike c.in_ok-first.ensures.ids;
-      so_far = goes c.tell.new.sink (at_record n told) (at_record n rest) c.loop-field.invariant.so_far c.in_ok-tell.ensures (ap (λ fields. at_record n (repeats_after rules before fields)) c.in-Some.ensures.steps ∙ in_two n _ told rest told next refl);
+      before = before ++ field.1 ∷ [];
+      alike = alike_by rules c.loop-field.entries c.tell_repeat.new.entries before field (c.in_ok-tell_repeat.ensures.entries) c.loop-field.invariant.alike;
+      so_far = goes c.tell_repeat.new.sink (at_record n told) (at_record n rest) c.loop-field.invariant.so_far c.in_ok-tell_repeat.ensures.tells (ap (λ fields. at_record n (repeats_after rules before fields)) c.in-Some.ensures.steps ∙ in_two n _ told rest told next refl);
     }
 
 pub returns : goal.returns

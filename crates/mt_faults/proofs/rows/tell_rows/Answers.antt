@@ -1,4 +1,4 @@
-use Rattle.std.proofs.Common.{List, length, [], ◌∷◌, ◌++◌, ◌+◌, Err, ap, sym, ◌∙◌, subst, refl, arith}
+use Rattle.std.proofs.Common.{length, [], ◌++◌, ◌+◌, Err, ap, sym, ◌∙◌, subst, arith}
 use Rattle.std.proofs.lemmas.List.{append_assoc}
 use Rattle.std.proofs.lemmas.Result.{err_from_is_err_and}
 use Rattle.mt_lists.specs.Rows.{rows_left}

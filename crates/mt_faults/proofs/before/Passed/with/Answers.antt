@@ -1,4 +1,4 @@
-use Rattle.std.proofs.Common.{ap, sym, ◌∙◌, subst, List, ◌∷◌, []}
+use Rattle.std.proofs.Common.{ap, sym, subst, List, ◌∷◌, []}
 use Rattle.mt_terms.specs.Registration.Ids.{Bytes}
 use Rattle.mt_fault_terms.specs.Parts.{ids_among}
 use Rattle.mt_faults.specs.Registered.{PassesIds}

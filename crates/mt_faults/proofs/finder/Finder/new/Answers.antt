@@ -1,4 +1,4 @@
-use Rattle.std.proofs.Common.{[], ap, sym, ◌∙◌, subst, refl}
+use Rattle.std.proofs.Common.{refl}
 use Rattle.mt_lists.specs.Rows.{rows_left}
 use Rattle.mt_terms.specs.Registration.Passes.{numbered_from}
 use Rattle.mt_fault_terms.specs.OfFile.{all_parts}

@@ -1,4 +1,4 @@
-use Rattle.std.proofs.Common.{List, Err, ap, sym, ◌∙◌, ◌++◌, ◌∷◌, [], take, drop, refl}
+use Rattle.std.proofs.Common.{ap, ◌∙◌, take, refl}
 use Rattle.mt_terms.specs.declared.codes.TheConstants.{DUPLICATE_ID}
 use Rattle.mt_fault_terms.specs.OfRecord.{found_among, members_before}
 use Rattle.mt_fault_terms.specs.Parts.{first_field}

@@ -1,4 +1,4 @@
-use Rattle.std.proofs.Common.{ap, sym, ◌∙◌, take, length, ◌*◌, ◌/◌}
+use Rattle.std.proofs.Common.{ap}
 use Rattle.mt_faults.specs.Seen.{placed_left}
 use Rattle.mt_faults.specs.Telling.{at_record}
 use Rattle.mt_faults.proofs.TellingFacts.{told_as}

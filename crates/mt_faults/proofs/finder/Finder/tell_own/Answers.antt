@@ -1,4 +1,4 @@
-use Rattle.std.proofs.Common.{List, ap, sym, ◌∙◌, Err, ◌++◌, refl, take}
+use Rattle.std.proofs.Common.{List, ap, ◌∙◌, Err, ◌++◌, refl}
 use Rattle.std.proofs.lemmas.Result.{err_from_is_err_and}
 use Rattle.mt_fault_terms.specs.Faults.{FieldFault}
 use Rattle.mt_faults.specs.Telling.{at_record}

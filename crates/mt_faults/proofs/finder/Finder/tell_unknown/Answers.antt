@@ -1,4 +1,4 @@
-use Rattle.std.proofs.Common.{ap, sym, ◌∙◌, take, length, ◌*◌, ◌/◌}
+use Rattle.std.proofs.Common.{ap, ◌∙◌, take, ◌*◌, ◌/◌}
 use Rattle.mt_terms.specs.declared.codes.TheConstants.{UNKNOWN_PROGRAM}
 use Rattle.mt_terms.specs.Registration.Ids.{has_id}
 use Rattle.mt_records.specs.Records.{kind_seen}

@@ -1,4 +1,4 @@
-use Rattle.std.proofs.Common.{◌≡◌, ap, sym, ◌∙◌, take, length, ◌*◌, ◌/◌}
+use Rattle.std.proofs.Common.{◌≡◌, ap, ◌∙◌, take, length}
 use Rattle.mt_terms.specs.declared.codes.TheConstants.{DUPLICATE_ENTRY}
 use Rattle.mt_terms.specs.Registration.Ids.{Bytes, has_id}
 use Rattle.mt_records.specs.Records.{kind_seen}
