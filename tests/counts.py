@@ -30,7 +30,7 @@ CHECKS = {
     "report": 10055,
     "seeds": 7,
     "threads": 54,
-    "told": 227,
+    "told": 311,
     "words": 400,
     "ways": 1551,
     "wrong_bodies --release": 58,
