@@ -10,12 +10,12 @@ import sys
 
 CHECKS = {
     "bytes": 6088,
-    "check": 24735,
+    "check": 24737,
     # tests/cli with the path of a program, where bin/nrmatch isn't run.
     "cli PROGRAM": 8452,
     "cli": 8455,
     "controls": 49,
-    "edits_apply": 735,
+    "edits_apply": 736,
     "explain": 10098,
     "faults": 20037,
     "linear": 45,
