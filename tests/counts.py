@@ -25,7 +25,7 @@ CHECKS = {
     "memory --explain": 126,
     "memory --report": 126,
     "must_fail": 102,
-    "pages": 327,
+    "pages": 328,
     "python": 54,
     "report": 10055,
     "seeds": 7,
