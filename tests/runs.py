@@ -50,7 +50,7 @@ STATUSES = {
             "a refusal with code 31: a file can't be opened or read; or, with any answer, the line couldn't be wholly written",
             [f"nrcheck missing.csv {NOBODY}", f"nrcheck {NOBODY} missing.csv", f"nrcheck {NOBODY} {NOBODY_MATCH} > /dev/full"],
         ),
-        64: ("the command line is wrong", ["nrcheck", f"nrcheck {NOBODY} {NOBODY} {NOBODY}", f"nrcheck --none {NOBODY} {NOBODY}"]),
+        64: ("the command line is wrong", ["nrcheck", f"nrcheck --all {NOBODY}", f"nrcheck {NOBODY} {NOBODY} {NOBODY}", f"nrcheck --none {NOBODY} {NOBODY}"]),
     },
 }
 

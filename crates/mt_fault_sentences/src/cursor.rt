@@ -1,4 +1,5 @@
-use mt_lists::{Fields, Rows, RowsIter};
+use crate::field::meant;
+use mt_lists::{Fields, Row, Rows, RowsIter};
 use mt_terms::{LIMITS, LIMITS_2, Limits};
 
 /// One record of a file after another, for sentences. Faults come record by record, and those of a record code by code.
@@ -14,6 +15,39 @@ pub struct Cursor<'r> {
     /// Its fields after the first `passed`.
     ahead: Option<Fields<'r>>,
     passed: u64,
+}
+
+/// How many records are searched for one that names a version.
+const SEARCHED: usize = 100;
+
+/// A record after the first that names a version.
+#[derive(Drop)]
+pub(crate) struct Later {
+    /// Its text.
+    pub(crate) line: &'static [u8],
+    /// Whether a record of a kind comes before it.
+    pub(crate) comes_after_records: bool,
+}
+
+/// The text of a row that names a version.
+fn version_line(row: &Row<'_>) -> Option<&'static [u8]> {
+    let mut fields = row.fields();
+    if fields.len() != 2 || fields.next() != Some(b"match".as_slice()) {
+        return None;
+    }
+    match fields.next() {
+        Some(b"1") => Some(b"match,1"),
+        Some(b"2") => Some(b"match,2"),
+        _ => None,
+    }
+}
+
+/// Whether the first field of a row means a kind.
+fn is_of_kind(row: &Row<'_>) -> bool {
+    match row.fields().next() {
+        Some(word) => meant(word).is_some(),
+        None => false,
+    }
 }
 
 /// Whether the first of some rows that has a field names version 2.
@@ -93,6 +127,21 @@ impl<'r> Cursor<'r> {
             found = field;
         }
         found
+    }
+
+    /// The first of the records after that at hand that names a version, if it comes soon.
+    pub(crate) fn later_version(&self) -> Option<Later> {
+        let mut comes_after_records = meant(self.leading(1)).is_some();
+        for row in self.rest.take(SEARCHED) {
+            if let Some(line) = version_line(&row) {
+                return Some(Later {
+                    line,
+                    comes_after_records,
+                });
+            }
+            comes_after_records = comes_after_records || is_of_kind(&row);
+        }
+        None
     }
 
     /// Whether the file is one of version 2.

@@ -4,6 +4,7 @@
 
 mod bad_id;
 mod cursor;
+mod field;
 mod lines;
 mod sentence;
 mod shape;

@@ -95,6 +95,11 @@ fn tell_quota<E: Write>(teller: &mut Teller<E>, cursor: &Cursor<'_>) {
     teller.say(b": write one to four digits for how many posts ");
     say_record(teller, cursor);
     teller.say(b" has");
+    if is_id(LIMITS_2.id_bytes, quota) {
+        teller.say(b", before ");
+        teller.say_quoted(quota);
+        teller.say(b" if that is an id, or else in its place");
+    }
 }
 
 fn tell_registered<E: Write>(teller: &mut Teller<E>, cursor: &Cursor<'_>, fault: &Fault<'_>) {
@@ -169,7 +174,12 @@ fn tell_unknown<E: Write>(
     teller.say_quoted(id);
     teller.say(b", which is the id of no ");
     teller.say(kind);
-    teller.say(b": correct it, or add a record for it");
+    teller.say(b": correct it, add a record for it, or remove ");
+    teller.say(if cursor.is_couple() {
+        b"its pair".as_slice()
+    } else {
+        b"it".as_slice()
+    });
 }
 
 fn tell_unregistered<E: Write>(teller: &mut Teller<E>, cursor: &Cursor<'_>) {

@@ -1,5 +1,5 @@
 -- What the words of nrcheck ask for: the facts of a command that was made, as facts of its definition.
-use Rattle.std.proofs.Common.{◌≡◌, ◌⊎◌, ◌∙◌, Bool, List, [], Option, Some, None, Result, Ok, Err, ap, subst, sym, inl, inr}
+use Rattle.std.proofs.Common.{◌≡◌, ◌∙◌, List, [], None, Result, Ok, Err, ap, subst, inl, inr}
 use Rattle.std.specs.Prelude.{IfErr, IfOk, codes}
 use Rattle.clap.specs.Words.{App, Row, Text, fault_of, first_of, matches_of}
 use Rattle.mt_program.specs.CommandLine.{AreRefused, NameNoFilesIn}
@@ -15,7 +15,7 @@ pub misuse_of_files : (rows : List Row) (unasked : Unasked) → (first_of (codes
 misuse_of_files rows (Told text) there h = h
 misuse_of_files rows (Misuse text) there (inl none) = inl none
 misuse_of_files rows (Misuse text) there (inr (inl none)) = absurd (there none)
-misuse_of_files rows (Misuse text) there (inr (inr both)) = inr both
+misuse_of_files rows (Misuse text) there (inr (inr both)) = inr (inl both)
 misuse_of_files rows Memory there h = h
 
 module _ (made : App) (is : made ≡ nrcheck) (words : List Text) where

@@ -47,6 +47,9 @@ Exit status:
 /// What is written if words are taken and name no file.
 const NO_FILE: &str = "error: a file is needed, MARKET\n";
 
+/// What is written if every finding is asked for and no match is named.
+const NO_MATCH: &str = "error: --all needs a MATCH beside MARKET\n";
+
 /// What words ask for.
 #[derive(Drop)]
 pub(crate) enum Request {
@@ -77,14 +80,18 @@ fn command<'a>(alloc: Global) -> Result<Command<'a>, AllocError>
         .arg(flag_arg(alloc, "quiet", QUIET_HELP))
 }
 
-/// The search for faults that the matches ask for, which name no match.
+/// The search for faults that the matches ask for, which name no match. With `--all` they are misuse.
 fn faults_asked(alloc: Global, matches: &ArgMatches<'_>) -> Result<Request, Unasked>
+    requires { first_of (codes "MATCH") (rows_of (found_of matches.now)) ≡ None }
     ensures request { IfOk result (AskForFaults (rows_of (found_of matches.now))) }
     ensures unasked { IfErr result (IsMisuseBy (NameNoFiles (rows_of (found_of matches.now)))) }
 {
     let Some(market) = matches.get_str("MARKET") else {
         return Err(misuse(alloc, NO_FILE));
     };
+    if is_given(matches, "all") {
+        return Err(misuse(alloc, NO_MATCH));
+    }
     Ok(Request::Faults {
         market: String::from_str(alloc, market)?,
         is_quiet: is_given(matches, "quiet"),

@@ -1,4 +1,4 @@
-use Rattle.mt_nrcheck.proofs.StatusFacts.{exit_of_faults, exit_of_told}
+use Rattle.mt_nrcheck.proofs.StatusFacts.{exit_of_faults}
 use Rattle.mt_nrcheck.proofs.list_file.Goals as goal
 
 pub returns : goal.returns

@@ -1,4 +1,4 @@
-use Rattle.std.proofs.Common.{◌≡◌, ◌∙◌, None, Some, ap, codes, refl, sym, true}
+use Rattle.std.proofs.Common.{◌≡◌, ◌∙◌, None, Some, ap, codes, refl, true}
 use Rattle.clap.proofs.OnLiterals.{clap_on_literals}
 use Rattle.clap.specs.Words.{app_of, found_of, is_simple_and_free, rows_of}
 use Rattle.mt_program.specs.CommandLine.{texts_of}
@@ -29,6 +29,9 @@ pub check_asked-requires : goal.check_asked-requires
 check_asked-requires c =
     let there = named_in (found_of c.in_ok-matches.matches) (codes "MATCH") c.get_str.result (Some c.in-Some.field-0) c.get_str.ensures c.in-Some.is in
     λ none. cc
+
+pub faults_asked-requires : goal.faults_asked-requires
+faults_asked-requires c = named_in (found_of c.in_ok-matches.matches) (codes "MATCH") c.get_str.result None c.get_str.ensures c.in-None.is
 
 pub returns-in-Some-clause-request : goal.returns-in-Some-clause-request
 returns-in-Some-clause-request c =

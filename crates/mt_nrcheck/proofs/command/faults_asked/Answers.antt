@@ -1,4 +1,4 @@
-use Rattle.std.proofs.Common.{◌≡◌, ◌∙◌, sym, ap, Some, None, inl, codes}
+use Rattle.std.proofs.Common.{◌∙◌, sym, ap, Some, None, inl, codes}
 use Rattle.clap.specs.Words.{found_of, rows_of}
 use Rattle.mt_program.proofs.WordFacts.{misuse_by, named_in}
 use Rattle.mt_nrcheck.specs.CommandLine.{NameNoFiles}
@@ -12,4 +12,4 @@ returns-in_default-clause-unasked c =
 pub returns-clause-request : goal.returns-clause-request
 returns-clause-request c =
     let named = named_in (found_of c.args.matches.now) (codes "MARKET") c.get_str.result (Some c.in-Some.market) c.get_str.ensures c.in-Some.is in
-    (named ∙ ap Some (sym c.in_ok-from_str.ensures.ok), c.is_given.ensures)
+    (named ∙ ap Some (sym c.in_ok-from_str.ensures.ok), sym c.is_given.ensures ∙ c.if-is_given.false, c.is_given-2.ensures)
