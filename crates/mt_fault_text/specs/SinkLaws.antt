@@ -68,6 +68,7 @@ full_after contents a b c some more first full = record {
   others = full.others;
   all = append_assoc some full.front full.others ∙ ap (λ (faults : List FileFault). some ++ faults) full.all;
   can_take = full.can_take;
+  full = full.full;
   wrote = wrote_more contents a b c some full.front first full.wrote;
 }
 

@@ -32,6 +32,7 @@ pub record IsFull {W E : Type 0} (contents : W → Option (List ℕ)) (a b : Fau
   pub others : List FileFault
   pub all : front ++ others ≡ faults
   pub can_take : CanTake b
+  pub full : b.count + 1 ≡ 2 ^ 64
   pub wrote : Wrote contents a b front
 
 -- it stopped within these faults
