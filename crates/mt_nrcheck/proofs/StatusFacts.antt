@@ -1,6 +1,5 @@
 -- What the status of a check says of the words, by its code.
-use Rattle.std.proofs.Common.{ℕ, Bool, true, false, [], ◌∷◌, ◌≡◌, List, Option, arith, inl, refl}
-use Rattle.std.specs.Prelude.{if◌then◌else◌}
+use Rattle.std.proofs.Common.{ℕ, Bool, true, false, [], ◌∷◌, ◌≡◌, List, Option, arith, refl}
 use Rattle.clap.specs.Words.{Text, fault_of}
 use Rattle.mt_program.proofs.ExitFacts.{AreOwn, exit_of_run, files_code}
 use Rattle.mt_file_programs.proofs.CodeFacts.{refused_code}
@@ -33,10 +32,3 @@ exit_of_faults words market old new status is taken =
     exit_of_run nrcheck (1 ∷ 2 ∷ []) (AreMisuse words) words own taken is.code is.whole status is.is_status
     (files_code is.code (λ large. refused_code Market is.code (is.answers.says.known (λ none. omega arith))))
     (λ one. refl)
-
--- a refusal for want of memory was written before the file was read
-pub exit_of_told : (words : List Text) (status : ℕ) (whole : Bool) → status ≡ (if whole then 4 else 5) → fault_of nrcheck words ≡ [] → IsExitFor words status
-exit_of_told words status true is taken =
-    record { known = rw is refl; misuse = λ wrong. absurd (omega arith); taken = λ _. taken; done = λ _. inl taken }
-exit_of_told words status false is taken =
-    record { known = rw is refl; misuse = λ wrong. absurd (omega arith); taken = λ _. taken; done = λ _. inl taken }
