@@ -50,6 +50,18 @@ given_broken code a b text some others faults all breaks =
     let whole : Breaks a b [] (all_lines text faults) = subst (Breaks a b []) same more in
     record { is_code = refl; written = whole.written; is_written = sent_front a b (all_lines text faults) whole }
 
+-- the same where memory ran out too
+pub cut_broken : (a b : Option (List ℕ)) (text : List ℕ) (some others faults : List FileFault) → some ++ others ≡ faults
+    → Breaks a b [] (fault_lines text some) → IsCutGiven text faults a b OUT_OF_MEMORY false
+cut_broken a b text some others faults all breaks =
+    let whole : Breaks a b [] (fault_lines text some ++ refusal OUT_OF_MEMORY) = breaks_more a b [] (fault_lines text some) (refusal OUT_OF_MEMORY) breaks in
+    record {
+      front = some;
+      others = others;
+      all = all;
+      given = record { is_code = refl; written = whole.written; is_written = sent_front a b (fault_lines text some ++ refusal OUT_OF_MEMORY) whole };
+    }
+
 -- the refusal alone is an answer that was cut short before the first fault
 pub cut_at_once : (text : List ℕ) (faults : List FileFault) (a b : Option (List ℕ)) (code : ℕ) (whole : Bool)
     → IsGiven (record { code = OUT_OF_MEMORY; text = refusal OUT_OF_MEMORY }) a b code whole → IsCutGiven text faults a b code whole

@@ -1,7 +1,7 @@
 -- What the sink did of all faults, by how the search ended and by whether the writer failed.
 use Rattle.std.proofs.Common.{◌≡◌, ℕ, Bool, true, false, List, [], ◌++◌, length, Option, Result, Ok, Err, sym, ap, ◌∙◌, subst, inl, inr, append_assoc, arith}
-use Rattle.std.specs.Prelude.{OnErr, OnOk, is_ok}
-use Rattle.std.proofs.lemmas.Bool.{true≢false}
+use Rattle.std.specs.Prelude.{◌≢◌, OnErr, OnOk, is_ok}
+use Rattle.std.proofs.lemmas.Bool.{cases_eq, true≢false}
 use Rattle.mt_terms.specs.declared.codes.TheConstants.{OUT_OF_MEMORY}
 use Rattle.mt_fault_terms.specs.Faults.{FileFault}
 use Rattle.mt_faults.specs.Telling.{Tells}
@@ -12,7 +12,7 @@ use Rattle.mt_report.specs.declared.drain.Drain.{Drain}
 use Rattle.mt_explained.specs.Sending.{Breaks, Sends}
 use Rattle.mt_fault_text.specs.Answer.{AreListed, refusal}
 use Rattle.mt_fault_text.specs.Text.{count_line, fault_lines}
-use Rattle.mt_fault_text.proofs.AnswerFacts.{given_broken, listed_front, listed_whole}
+use Rattle.mt_fault_text.proofs.AnswerFacts.{cut_broken, given_broken, listed_front, listed_whole}
 use Rattle.mt_fault_text.specs.Sinking.{CanTake, Failed, Stopped, Wrote}
 use Rattle.mt_fault_text.specs.declared.sink.FaultLines.{FaultLines}
 
@@ -75,16 +75,22 @@ sent_lines contents a b text faults empty same wrote =
 module _ {W E : Type 0} (contents : W → Option (List ℕ)) (a b : FaultLines W E) (text : List ℕ) (faults : List FileFault) (code : ℕ) (d : Drain W)
     (empty : a.page ≡ []) (same : a.numbers ≡ text) where
   -- the writer failed within the lines
-  pub listed_broken : {X : Type 0} (end : Result X FaultEnd) → Tells CanTake (Wrote contents) (Stopped contents) a b faults end → b.is_broken ≡ true
-      → IsLast a b d b.drain.now → AreListed code text faults (contents_of contents a.drain.now) (contents_of contents d) code false
-  listed_broken end tells broken is_last =
+  pub listed_broken : {X : Type 0} (end : Result X FaultEnd) (found : ℕ) → Tells CanTake (Wrote contents) (Stopped contents) a b faults end → b.is_broken ≡ true
+      → IsLast a b d b.drain.now → (found ≢ OUT_OF_MEMORY → found ≡ code)
+      → AreListed code text faults (contents_of contents a.drain.now) (contents_of contents d) found false
+  listed_broken end found tells broken is_last is_code =
       let at = failed_at contents a b faults end tells broken in
       let old : Option (List ℕ) = contents_of contents a.drain.now in
       let new : Option (List ℕ) = contents_of contents b.drain.now in
       let on_page : Breaks old new [] (fault_lines a.numbers at.front) = subst (λ (page : List ℕ). Breaks old new page (fault_lines a.numbers at.front)) empty at.holds.breaks in
       let breaks : Breaks old new [] (fault_lines text at.front) = subst (λ (t : List ℕ). Breaks old new [] (fault_lines t at.front)) same on_page in
-      let listed : AreListed code text faults old new code false = inl (given_broken code old new text at.front at.others faults at.all breaks) in
-      subst (λ (x : Drain W). AreListed code text faults old (contents_of contents x) code false) (sym (is_last (sym at.holds.same_drain))) listed
+      let given : AreListed code text faults old new code false = inl (given_broken code old new text at.front at.others faults at.all breaks) in
+      let cut : AreListed code text faults old new OUT_OF_MEMORY false = inr (cut_broken old new text at.front at.others faults at.all breaks) in
+      let listed : AreListed code text faults old new found false = elim (cases_eq found OUT_OF_MEMORY) [
+        | inl memory ↦ subst (λ (c : ℕ). AreListed code text faults old new c false) (sym memory) cut
+        | inr some ↦ subst (λ (c : ℕ). AreListed code text faults old new c false) (sym (is_code some)) given
+      ] in
+      subst (λ (x : Drain W). AreListed code text faults old (contents_of contents x) found false) (sym (is_last (sym at.holds.same_drain))) listed
 
   -- all lines went to the page, and then their number
   pub listed_whole_by : {X F : Type 0} (result : Result X F) (last : Drain W) (whole : Bool) → whole ≡ is_ok result → a.count ≡ 0 → Wrote contents a b faults

@@ -1,6 +1,7 @@
 -- What one call did with a page and its writer, as a step of a text on its way.
-use Rattle.std.proofs.Common.{◌≡◌, ℕ, Bool, List, [], ◌++◌, Option, Result, Ok, Err, sym, subst}
-use Rattle.std.specs.Prelude.{OnErr, OnOk}
+use Rattle.std.proofs.Common.{◌≡◌, ℕ, Bool, true, List, [], ◌++◌, Option, Result, Ok, Err, sym, subst}
+use Rattle.std.specs.Prelude.{OnErr, OnOk, is_err}
+use Rattle.std.proofs.lemmas.Bool.{true≢false}
 use Rattle.std.proofs.lemmas.List.{append-nil}
 use Rattle.mt_report.specs.Drains.{IsWritten}
 use Rattle.mt_explained.specs.Sending.{Breaks, Sends}
@@ -22,6 +23,10 @@ on_ok_then (Err e) next h = tt
 pub on_err_then : {X E P Q : Type 0} (result : Result X E) → (P → Q) → OnErr result P → OnErr result Q
 on_err_then (Ok x) next h = tt
 on_err_then (Err e) next h = next h
+
+pub on_failed : {X E P : Type 0} (result : Result X E) → true ≡ is_err result → OnErr result P → P
+on_failed (Ok x) is h = absurd (true≢false is)
+on_failed (Err e) is h = h
 
 -- bytes were not wholly written, with none on the page
 pub broke_at_once : (a b : Option (List ℕ)) (p text : List ℕ) (written : ℕ) (whole : Bool) → p ≡ [] → IsWritten text a b written whole → Breaks a b p text

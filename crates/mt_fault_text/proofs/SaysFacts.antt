@@ -2,12 +2,15 @@
 -- Bytes are a market, or have faults by their records, or a fault that leaves them without records.
 use Rattle.std.proofs.Common.{◌≡◌, ◌⊎◌, ℕ, ◌≤◌, Bool, true, false, List, [], ◌∷◌, length, Option, Some, None, Result, Ok, Err, refl, sym, ap, ap₂, ◌∙◌, subst, inl, inr, arith, nat_lt}
 use Rattle.std.specs.Prelude.{◌≢◌, if◌then◌else◌}
+use Rattle.std.specs.Result.{result_ok}
 use Rattle.std.proofs.lemmas.Bool.{cases_eq}
 use Rattle.std.proofs.lemmas.Bool.Decides.{nat_tests}
 use Rattle.mt_lists.specs.Records.{records_of, without_mark}
 use Rattle.mt_terms.specs.Market.{Registered}
+use Rattle.mt_terms.specs.Registration.{market_of}
 use Rattle.mt_terms.specs.Registration.Faults.{Fault, fault_at, record_fault_alone}
 use Rattle.mt_terms.specs.Registration.Ids.{Bytes}
+use Rattle.mt_terms.specs.declared.codes.TheConstants.{TWO_MARKS}
 use Rattle.mt_terms.specs.declared.refusal.Refusal.{Refusal}
 use Rattle.mt_input.specs.Files.{by_records, market_in, most_bytes, of_bytes}
 use Rattle.mt_input.specs.Left.{AreRead}
@@ -18,11 +21,12 @@ use Rattle.mt_explained.specs.Answer.{Answer, IsGiven}
 use Rattle.mt_files.specs.Text.{is_code_of}
 use Rattle.mt_files.specs.declared.source.Source.TheVariants.{Market}
 use Rattle.mt_files.proofs.NameFacts.{market_named}
-use Rattle.mt_fault_terms.specs.Faults.{fault_alone}
+use Rattle.mt_fault_terms.specs.Faults.{FileFault, fault_alone}
 use Rattle.mt_fault_terms.specs.OfFile.{faults_of}
-use Rattle.mt_fault_text.specs.Answer.{Answers, AreListed, IsGivenOrCut, IsGivenOrNoMemory, answer_by, answer_to, code_in, cut_answer, faults_answer, faults_in, lines_alone, no_memory, refusal}
-use Rattle.mt_fault_text.specs.Text.{all_lines}
+use Rattle.mt_fault_text.specs.Answer.{Answers, AreListed, IsGivenOrCut, IsGivenOrNoMemory, answer_of, answer_to, cut_answer, faults_answer, faults_in, lines_alone, refusal}
+use Rattle.mt_fault_text.specs.Text.{accepted_line, all_lines}
 use Rattle.mt_fault_text.proofs.AnswerFacts.{alone_lines, cut_at_once}
+use Rattle.mt_fault_text.proofs.NamedFacts.{accepted}
 
 -- the faults of bytes whose records were read
 pub faults_of_rows : (bytes : List ℕ) (rows : List (List Bytes)) → length bytes ≤ most_bytes → records_of bytes ≡ Some rows → faults_in bytes ≡ faults_of rows
@@ -30,21 +34,35 @@ faults_of_rows bytes rows few is =
     let small : nat_lt most_bytes (length bytes) ≡ false = grind (arith, nat_tests) in
     rw (small, is) refl
 
--- bytes that begin with two marks have that fault alone
-pub faults_of_marks : (bytes : List ℕ) (code : ℕ) → length bytes ≤ most_bytes → records_of bytes ≡ None → code_in (market_in bytes) ≡ Some code
-    → (code ≡ 11) × (faults_in bytes ≡ (0, fault_alone 11 0) ∷ [])
-faults_of_marks bytes code few none refused =
+-- the market of bytes whose records were read
+market_of_rows : (bytes : List ℕ) (rows : List (List Bytes)) → length bytes ≤ most_bytes → records_of bytes ≡ Some rows → market_in bytes ≡ market_of rows
+market_of_rows bytes rows few is =
     let small : nat_lt most_bytes (length bytes) ≡ false = grind (arith, nat_tests) in
-    let is : market_in bytes ≡ Err (fault_at 0 (record_fault_alone 11)) = rw (small, none) refl in
-    let same : ◌≡◌ {A = Option ℕ} (Some 11) (Some code) = sym (ap code_in is) ∙ refused in
-    (cc, rw (small, none) refl)
+    rw (small, is) refl
 
--- the answer to bytes that are a market, or have a first fault
-pub answer_is : (bytes : List ℕ) (r : Registered) → market_in bytes ≡ Ok r → answer_to bytes ≡ answer_by bytes (Ok r)
-answer_is bytes r is = ap (answer_by bytes) is
+-- the answer to bytes whose records were read
+answer_of_rows : (bytes : List ℕ) (rows : List (List Bytes)) → length bytes ≤ most_bytes → records_of bytes ≡ Some rows
+    → answer_of (without_mark bytes) (market_of rows) (faults_of rows) ≡ answer_to bytes
+answer_of_rows bytes rows few is =
+    ap₂ (λ (market : Result Registered Fault) (faults : List FileFault). answer_of (without_mark bytes) market faults) (sym (market_of_rows bytes rows few is))
+    (sym (faults_of_rows bytes rows few is))
 
-pub faulty_answer_is : (bytes : List ℕ) (f : Fault) → market_in bytes ≡ Err f → answer_to bytes ≡ faults_answer f.code (without_mark bytes) (faults_in bytes)
-faulty_answer_is bytes f is = ap (answer_by bytes) is
+-- the answer to a file with a first fault
+faulty_answer : (bytes : List ℕ) (f : Fault) → market_in bytes ≡ Err f → answer_to bytes ≡ faults_answer f.code (without_mark bytes) (faults_in bytes)
+faulty_answer bytes f is = ap (λ (market : Result Registered Fault). answer_of (without_mark bytes) market (faults_in bytes)) is
+
+-- the answer to a file that has one fault alone, and no records
+alone_answer : (bytes : List ℕ) (code : ℕ) → market_in bytes ≡ Err (fault_at 0 (record_fault_alone code)) → faults_in bytes ≡ (0, fault_alone code 0) ∷ []
+    → answer_to bytes ≡ record { code = code; text = lines_alone code }
+alone_answer bytes code market faults =
+    let text : all_lines (without_mark bytes) (faults_in bytes) ≡ lines_alone code = ap (all_lines (without_mark bytes)) faults ∙ sym (alone_lines (without_mark bytes) code) in
+    faulty_answer bytes (fault_at 0 (record_fault_alone code)) market ∙ ap (λ (t : List ℕ). record { code = code; text = t }) text
+
+-- bytes that begin with two marks have that fault alone
+marks_answer : (bytes : List ℕ) → length bytes ≤ most_bytes → records_of bytes ≡ None → answer_to bytes ≡ record { code = TWO_MARKS; text = lines_alone TWO_MARKS }
+marks_answer bytes few none =
+    let small : nat_lt most_bytes (length bytes) ≡ false = grind (arith, nat_tests) in
+    alone_answer bytes TWO_MARKS (rw (small, none) refl) (rw (small, none) refl)
 
 -- the code of an answer is 0, or a market's code that is 22 at the most
 record IsLow (code : ℕ) : Type 0 where
@@ -54,37 +72,44 @@ record IsLow (code : ℕ) : Type 0 where
 low_code : (bytes : List ℕ) → IsLow (answer_to bytes).code
 low_code bytes = by (market_in bytes) refl
   where
-    by : (market : Result Registered Fault) → market_in bytes ≡ market → IsLow (answer_by bytes market).code
+    by : (market : Result Registered Fault) → market_in bytes ≡ market → IsLow (answer_of (without_mark bytes) market (faults_in bytes)).code
     by (Ok r) is = record { known = λ some. absurd (some refl); low = omega arith }
     by (Err f) is = record { known = λ some. (market_named bytes f is).known; low = (market_fault bytes f is).low }
 
 module _ (old new : Option (List ℕ)) (code : ℕ) (whole : Bool) where
   -- the answer to a market, or that in want of memory
-  pub given_market : (bytes : List ℕ) (r : Registered) → market_in bytes ≡ Ok r → IsGivenOrNoMemory (answer_by bytes (Ok r)) old new code whole
-      → IsGivenOrCut (answer_to bytes) (without_mark bytes) (faults_in bytes) old new code whole
-  given_market bytes r is (inl given) = inl (subst (λ (a : Answer). IsGiven a old new code whole) (sym (answer_is bytes r is)) given)
-  given_market bytes r is (inr given) = inr (cut_at_once (without_mark bytes) (faults_in bytes) old new code whole given)
+  pub given_market : (text : List ℕ) (market : Result Registered Fault) (faults : List FileFault) (r : Registered) → result_ok market ≡ Some r
+      → IsGivenOrNoMemory (record { code = 0; text = accepted_line r }) old new code whole → IsGivenOrCut (answer_of text market faults) text faults old new code whole
+  given_market text market faults r is (inl given) =
+      let same = ap (λ (market : Result Registered Fault). answer_of text market faults) (accepted market r is) in
+      inl (subst (λ (a : Answer). IsGiven a old new code whole) (sym same) given)
+  given_market text market faults r is (inr given) = inr (cut_at_once text faults old new code whole given)
 
-  -- the answer in want of memory alone
-  pub given_no_memory : (bytes : List ℕ) → IsGiven no_memory old new code whole → IsGivenOrCut (answer_to bytes) (without_mark bytes) (faults_in bytes) old new code whole
-  given_no_memory bytes given = inr (cut_at_once (without_mark bytes) (faults_in bytes) old new code whole given)
+  -- the lines of the faults of a refused file
+  pub given_faults : (text : List ℕ) (market : Result Registered Fault) (faults : List FileFault) (f : Fault) (listed : ℕ) → market ≡ Err f → listed ≡ f.code
+      → AreListed listed text faults old new code whole → IsGivenOrCut (answer_of text market faults) text faults old new code whole
+  given_faults text market faults f listed is same (inl given) =
+      let answer : faults_answer listed text faults ≡ answer_of text market faults =
+      ap (λ (n : ℕ). faults_answer n text faults) same ∙ sym (ap (λ (market : Result Registered Fault). answer_of text market faults) is) in
+      inl (subst (λ (a : Answer). IsGiven a old new code whole) answer given)
+  given_faults text market faults f listed is same (inr cut) = inr cut
 
-  -- the lines of the faults of bytes with a first fault
-  pub given_faults : (bytes : List ℕ) (f : Fault) → market_in bytes ≡ Err f → AreListed f.code (without_mark bytes) (faults_in bytes) old new code whole
+  -- the answer to the records of bytes is that to the bytes
+  pub given_rows : (bytes : List ℕ) (rows : List (List Bytes)) → length bytes ≤ most_bytes → records_of bytes ≡ Some rows
+      → IsGivenOrCut (answer_of (without_mark bytes) (market_of rows) (faults_of rows)) (without_mark bytes) (faults_of rows) old new code whole
       → IsGivenOrCut (answer_to bytes) (without_mark bytes) (faults_in bytes) old new code whole
-  given_faults bytes f is (inl given) = inl (subst (λ (a : Answer). IsGiven a old new code whole) (sym (faulty_answer_is bytes f is)) given)
-  given_faults bytes f is (inr cut) = inr cut
+  given_rows bytes rows few is given =
+      let on_faults : IsGivenOrCut (answer_of (without_mark bytes) (market_of rows) (faults_of rows)) (without_mark bytes) (faults_in bytes) old new code whole =
+      subst (λ (faults : List FileFault). IsGivenOrCut (answer_of (without_mark bytes) (market_of rows) (faults_of rows)) (without_mark bytes) faults old new code whole)
+      (sym (faults_of_rows bytes rows few is)) given in
+      subst (λ (answer : Answer). IsGivenOrCut answer (without_mark bytes) (faults_in bytes) old new code whole) (answer_of_rows bytes rows few is) on_faults
 
   -- the lines of the one fault that bytes have if they begin with two marks
-  pub listed_marks : (bytes : List ℕ) (listed : ℕ) → (listed ≡ 11) × (faults_in bytes ≡ (0, fault_alone 11 0) ∷ [])
-      → IsGivenOrNoMemory (record { code = 11; text = lines_alone 11 }) old new code whole → AreListed listed (without_mark bytes) (faults_in bytes) old new code whole
-  listed_marks bytes listed is (inl given) =
-      let text : lines_alone 11 ≡ all_lines (without_mark bytes) (faults_in bytes) =
-      alone_lines (without_mark bytes) 11 ∙ ap (all_lines (without_mark bytes)) (sym is.1) in
-      let answer : ◌≡◌ {A = Answer} (record { code = 11; text = lines_alone 11 }) (faults_answer listed (without_mark bytes) (faults_in bytes)) =
-      ap₂ (λ (c : ℕ) (t : List ℕ). record { code = c; text = t }) (sym is.0) text in
-      inl (subst (λ (a : Answer). IsGiven a old new code whole) answer given)
-  listed_marks bytes listed is (inr given) = inr (cut_at_once (without_mark bytes) (faults_in bytes) old new code whole given)
+  pub given_marks : (bytes : List ℕ) → length bytes ≤ most_bytes → records_of bytes ≡ None
+      → IsGivenOrNoMemory (record { code = TWO_MARKS; text = lines_alone TWO_MARKS }) old new code whole
+      → IsGivenOrCut (answer_to bytes) (without_mark bytes) (faults_in bytes) old new code whole
+  given_marks bytes few none (inl given) = inl (subst (λ (a : Answer). IsGiven a old new code whole) (sym (marks_answer bytes few none)) given)
+  given_marks bytes few none (inr given) = inr (cut_at_once (without_mark bytes) (faults_in bytes) old new code whole given)
 
   -- what was written of bytes that a reader had left
   pub answers_bytes : (left : Option (List ℕ)) (bytes : List ℕ) → AreRead left bytes
@@ -181,11 +206,7 @@ many bytes f ten h = by (nat_lt most_bytes (length bytes)) (records_of bytes) re
     by false (Some rows) is k = cc
 
 large_answer : (bytes : List ℕ) → nat_lt most_bytes (length bytes) ≡ true → answer_to bytes ≡ record { code = 10; text = lines_alone 10 }
-large_answer bytes large =
-    let market : market_in bytes ≡ Err (fault_at 0 (record_fault_alone 10)) = rw large refl in
-    let faults : faults_in bytes ≡ (0, fault_alone 10 0) ∷ [] = rw large refl in
-    let text : all_lines (without_mark bytes) (faults_in bytes) ≡ lines_alone 10 = ap (all_lines (without_mark bytes)) faults ∙ sym (alone_lines (without_mark bytes) 10) in
-    faulty_answer_is bytes (fault_at 0 (record_fault_alone 10)) market ∙ ap (λ (t : List ℕ). record { code = 10; text = t }) text
+large_answer bytes large = alone_answer bytes 10 (rw large refl) (rw large refl)
 
 -- the lines of the one fault of too many bytes were written, or the refusal for want of memory
 pub answers_large : (old new : Option (List ℕ)) (code : ℕ) (whole : Bool) (left : Option (List ℕ)) (e : Refusal) → e.code ≡ 10 → CannotRead left e

@@ -29,14 +29,14 @@ faults_in bytes = faults_by (of_bytes (λ rows. Ok (faults_of rows)) bytes)
 abbrev pub faults_answer : ℕ → Bytes → List FileFault → Answer
 faults_answer code text faults = record { code = code; text = all_lines text faults }
 
--- the answer to bytes that are a market, or have a first fault
-abbrev pub answer_by : List ℕ → Result Registered Fault → Answer
-answer_by bytes (Ok r) = record { code = 0; text = accepted_line r }
-answer_by bytes (Err f) = faults_answer f.code (without_mark bytes) (faults_in bytes)
+-- the answer to a text that is a market, or has a first fault and these faults
+abbrev pub answer_of : Bytes → Result Registered Fault → List FileFault → Answer
+answer_of text (Ok r) faults = record { code = 0; text = accepted_line r }
+answer_of text (Err f) faults = faults_answer f.code text faults
 
 -- The answer to the bytes of a file: the numbers of its market if it is accepted, and otherwise all of its faults.
 abbrev pub answer_to : List ℕ → Answer
-answer_to bytes = answer_by bytes (market_in bytes)
+answer_to bytes = answer_of (without_mark bytes) (market_in bytes) (faults_in bytes)
 
 abbrev pub IsAnswer : List ℕ → ℕ → List ℕ → Type 0
 IsAnswer bytes code text = answer_to bytes ≡ record { code = code; text = text }

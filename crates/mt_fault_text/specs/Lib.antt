@@ -3,6 +3,7 @@ pub mod Mutual
 pub mod Wanted
 pub mod Answer
 pub mod Pieces
+pub mod Named
 pub mod Fronts
 pub mod Sinking
 pub mod SinkLaws

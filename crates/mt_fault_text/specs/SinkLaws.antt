@@ -1,6 +1,6 @@
 -- What the sink of faults did in turn is what it did in all. Each law is that of the bytes, and of the lines of two lists of
 -- faults one after another.
-use Rattle.std.proofs.Common.{◌≡◌, ℕ, ◌+◌, List, [], ◌++◌, length, Option, refl, sym, ap, ◌∙◌, subst, inl, inr, append_assoc, length-append}
+use Rattle.std.proofs.Common.{◌≡◌, ℕ, ◌+◌, List, [], ◌∷◌, ◌++◌, length, Option, Some, refl, sym, ap, ◌∙◌, subst, inl, inr, append_assoc, length-append}
 use Rattle.std.proofs.lemmas.Grind.{flat_map-append}
 use Rattle.std.proofs.lemmas.List.{append-nil}
 use Rattle.std.proofs.Math.Nat.{add-zero, add_assoc}
@@ -8,6 +8,7 @@ use Rattle.mt_report.specs.Drains.{contents_of}
 use Rattle.mt_explained.specs.Sending.{Breaks, Sends}
 use Rattle.mt_explained.proofs.SendingFacts.{breaks_after, sends_put, sends_then}
 use Rattle.mt_fault_terms.specs.Faults.{FileFault}
+use Rattle.mt_fault_text.specs.Named.{named_after, named_with}
 use Rattle.mt_fault_text.specs.Sinking.{Failed, IsFull, Stopped, Wrote}
 use Rattle.mt_fault_text.specs.Text.{fault_line, fault_lines}
 use Rattle.mt_fault_text.specs.declared.sink.FaultLines.{FaultLines}
@@ -15,6 +16,11 @@ use Rattle.mt_fault_text.specs.declared.sink.FaultLines.{FaultLines}
 -- the lines of faults and more
 pub lines_more : (text : List ℕ) (some more : List FileFault) → fault_lines text (some ++ more) ≡ fault_lines text some ++ fault_lines text more
 lines_more text some more = flat_map-append (fault_line text) some more
+
+-- the code that a match names of faults and more
+named_more : (named : Option ℕ) (some more : List FileFault) → named_after named (some ++ more) ≡ named_after (named_after named some) more
+named_more named [] more = refl
+named_more named (fault ∷ some) more = named_more (Some (named_with named fault.1.code)) some more
 
 pub wrote_none : {W E : Type 0} (contents : W → Option (List ℕ)) (s : FaultLines W E) → Wrote contents s s []
 wrote_none contents s =
@@ -25,6 +31,7 @@ wrote_none contents s =
       sends = subst (λ (page : List ℕ). Sends at at s.page page []) (append-nil s.page) (sends_put at s.page []);
       failures = refl;
       counted = sym (add-zero s.count);
+      named = refl;
     }
 
 pub wrote_more : {W E : Type 0} (contents : W → Option (List ℕ)) (a b c : FaultLines W E) (some more : List FileFault)
@@ -43,6 +50,7 @@ wrote_more contents a b c some more first second =
       failures = second.failures ∙ first.failures;
       counted = second.counted ∙ ap (λ (n : ℕ). n + length more) first.counted ∙ add_assoc a.count (length some) (length more)
           ∙ ap (λ (n : ℕ). a.count + n) (sym (length-append some more));
+      named = second.named ∙ ap (λ (named : Option ℕ). named_after named more) first.named ∙ sym (named_more a.named some more);
     }
 
 failed_after : {W E : Type 0} (contents : W → Option (List ℕ)) (a b c : FaultLines W E) (some more : List FileFault)

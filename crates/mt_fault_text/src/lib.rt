@@ -5,6 +5,7 @@ mod accepted;
 mod front;
 mod lines;
 mod mutual;
+mod named;
 mod seed;
 mod sending;
 mod sink;

@@ -4,6 +4,7 @@ ghost use Rattle.mt_report.specs.Drains.{contents_of, failures_of};
 
 use crate::front::Front;
 use crate::lines::write_fault;
+use crate::named::named_with;
 use mt_explain_text::Page;
 use mt_fault_sentences::{Cursor, Teller, tell_fault};
 use mt_faults::{Fault, FaultSink, Stop};
@@ -22,6 +23,8 @@ pub(crate) struct FaultLines<'a, 'd, 't, W: Write, E: Write> {
     pub(crate) teller: &'t mut Teller<E>,
     /// How many faults it took.
     pub(crate) count: u64,
+    /// The code of the fault that a match names, of those that it took.
+    pub(crate) named: Option<u16>,
     /// Whether its writer failed.
     pub(crate) is_broken: bool,
 }
@@ -42,6 +45,7 @@ impl<'a, 'd, 't, W: Write, E: Write> FaultSink for FaultLines<'a, 'd, 't, W, E> 
             return Err(Stop);
         }
         self.count += 1;
+        self.named = Some(named_with(self.named, fault.code));
         let line = self.numbers.line_of(number);
         let front = &mut self.front;
         let written = write_fault(self.drain, &mut self.page, front, number, line, fault);

@@ -1,11 +1,13 @@
-ghost use Rattle.std.specs.Prelude.{◌≡◌, ◌+◌, ◌<◌, ◌≤◌, ◌^◌, ◌↔◌, [], if◌then◌else◌, length, IsTrue, Some, OnErr, OnOk};
+ghost use Rattle.std.specs.Prelude.{◌≡◌, ◌≢◌, ◌+◌, ◌<◌, ◌≤◌, ◌^◌, ◌↔◌, [], if◌then◌else◌, length, IsTrue, Some, None, OnErr, OnOk};
+ghost use Rattle.std.specs.Result.{result_ok};
 ghost use Rattle.mt_lists.specs.Records.{without_mark};
 ghost use Rattle.mt_lists.specs.Tap.{bytes_left, failures_of as read_failures_of, reads_of};
+ghost use Rattle.mt_terms.specs.Registration.{market_of};
 ghost use Rattle.mt_terms.specs.declared.codes.TheConstants.{OUT_OF_MEMORY, READ_FAULT};
 ghost use Rattle.mt_report.specs.Drains.{contents_of, failures_of, is_flushed};
 ghost use Rattle.mt_explained.specs.Answer.{IsGiven};
 ghost use Rattle.mt_explained.specs.Sending.{Breaks, Sends};
-ghost use Rattle.mt_input.specs.Files.{market_in, most_bytes};
+ghost use Rattle.mt_input.specs.Files.{most_bytes};
 ghost use Rattle.mt_input.specs.Left.{TakesFile};
 ghost use Rattle.mt_files.specs.Text.{is_code_of};
 ghost use Rattle.mt_fault_terms.specs.Faults.{fault_alone};
@@ -13,9 +15,9 @@ ghost use Rattle.mt_fault_terms.specs.OfFile.{faults_of};
 ghost use Rattle.mt_faults.specs.Seen.{fault_seen};
 ghost use Rattle.mt_fault_text.specs.Answer.{
   Answers,
-  AreListed,
   IsGivenOrCut,
   IsGivenOrNoMemory,
+  answer_of,
   answer_to,
   code_in,
   faults_in,
@@ -35,11 +37,12 @@ use mt_explained::{Outcome, Unwritten, make_room, send};
 use mt_fault_sentences::{Cursor, Teller, tell_alone, warn_of_none};
 use mt_faults::{Fault, find_faults};
 use mt_files::{Source, refused};
-use mt_input::{bytes_of, market_in};
+use mt_input::bytes_of;
 use mt_line_numbers::LineNumbers;
 use mt_lists::{ListFault, Rows, Tap, records};
 use mt_market::Roster;
 use mt_report::{Drain, put_all};
+use mt_roster::{RosterError, faultless_roster, roster};
 use mt_terms::codes::{NO_VERSION, OUT_OF_MEMORY, TOO_LARGE, TWO_MARKS};
 use std::alloc::Global;
 use std::io::{Read, Write};
@@ -97,17 +100,31 @@ fn cut_short<W: Write>(drain: &mut Drain<W>, page: &mut Page) -> Result<(), Unwr
     send(drain, page)
 }
 
-/// Writes the lines of all faults of a file's records.
-fn list_faults<'a, W: Write, E: Write>(
+/// The code with which a match refuses a file's records, or that of want of memory.
+fn code_of<T: Threads + Sync>(rt: &T, alloc: Global, rows: &Rows<'_>) -> u16
+    requires { result_ok (market_of rows.now) ≡ None }
+    ensures { result ≢ OUT_OF_MEMORY → code_in (market_of rows.now) ≡ Some result }
+{
+    match roster(rt, alloc, rows) {
+        Ok(_) => unreachable!(),
+        Err(RosterError::Fault(fault)) => fault.code,
+        Err(RosterError::Memory) => OUT_OF_MEMORY,
+    }
+}
+
+/// Writes the lines of all faults of a file's records, of which there is one.
+fn list_faults<'a, T: Threads + Sync, W: Write, E: Write>(
+    rt: &T,
     alloc: Global,
     bytes: &'a [u8],
     rows: &'a Rows<'a>,
-    code: u16,
     drain: &mut Drain<W>,
     teller: &mut Teller<E>,
 ) -> Outcome
+    requires faulty { result_ok (market_of rows.now) ≡ None }
     requires failures { failures_of drain.old + 1 < 2 ^ 64 }
-    ensures listed { AreListed code (without_mark bytes.now) (faults_of rows.now)
+    ensures listed { IsGivenOrCut (answer_of (without_mark bytes.now) (market_of rows.now) (faults_of rows.now))
+        (without_mark bytes.now) (faults_of rows.now)
         (contents_of W.contents drain.old) (contents_of W.contents drain.new) result.code result.whole }
     ensures writer { failures_of drain.new
         ≡ failures_of drain.old + (if result.whole then 0 else 1) }
@@ -127,6 +144,7 @@ fn list_faults<'a, W: Write, E: Write>(
         cursor: Cursor::new(rows),
         teller,
         count: 0,
+        named: None,
         is_broken: false,
     };
     let end = find_faults(alloc, seed_of(bytes), rows, &mut sink);
@@ -138,14 +156,21 @@ fn list_faults<'a, W: Write, E: Write>(
         cursor: _,
         teller: _,
         count,
+        named,
         is_broken,
     } = sink;
     if is_broken {
-        return Outcome { code, whole: false };
+        return Outcome {
+            code: code_of(rt, alloc, rows),
+            whole: false,
+        };
     }
     match end {
         Ok(()) => Outcome {
-            code,
+            code: match named {
+                Some(code) => code,
+                None => unreachable!(),
+            },
             whole: finish(drain, &mut page, count).is_ok(),
         },
         Err(_) => Outcome {
@@ -209,30 +234,6 @@ fn list_alone<W: Write, E: Write>(
     }
 }
 
-/// Writes all faults of the bytes of a file that are refused with this code.
-fn list_all<W: Write, E: Write>(
-    alloc: Global,
-    bytes: &[u8],
-    code: u16,
-    drain: &mut Drain<W>,
-    teller: &mut Teller<E>,
-) -> Outcome
-    requires few { length bytes.now ≤ most_bytes }
-    requires refused { code_in (market_in bytes.now) ≡ Some code }
-    requires failures { failures_of drain.old + 1 < 2 ^ 64 }
-    ensures listed { AreListed code (without_mark bytes.now) (faults_in bytes.now)
-        (contents_of W.contents drain.old) (contents_of W.contents drain.new) result.code result.whole }
-    ensures writer { failures_of drain.new
-        ≡ failures_of drain.old + (if result.whole then 0 else 1) }
-    ensures flushed { IsTrue result.whole → IsTrue (is_flushed drain.new) }
-{
-    match records(alloc, bytes) {
-        Ok(rows) => list_faults(alloc, bytes, &rows, code, drain, teller),
-        Err(ListFault::TwoMarks) => list_alone(alloc, TWO_MARKS, drain, teller),
-        Err(ListFault::Memory) => refuse(drain, OUT_OF_MEMORY),
-    }
-}
-
 /// Writes the line of an accepted market.
 fn accept<T: Threads + Sync, W: Write, E: Write>(
     rt: &T,
@@ -263,6 +264,30 @@ fn accept<T: Threads + Sync, W: Write, E: Write>(
     }
 }
 
+/// Writes the answer to the bytes of a file, which has these records.
+fn answer_rows<'a, T: Threads + Sync, W: Write, E: Write>(
+    rt: &T,
+    alloc: Global,
+    bytes: &'a [u8],
+    rows: &'a Rows<'a>,
+    drain: &mut Drain<W>,
+    teller: &mut Teller<E>,
+) -> Outcome
+    requires failures { failures_of drain.old + 1 < 2 ^ 64 }
+    ensures given { IsGivenOrCut (answer_of (without_mark bytes.now) (market_of rows.now) (faults_of rows.now))
+        (without_mark bytes.now) (faults_of rows.now)
+        (contents_of W.contents drain.old) (contents_of W.contents drain.new) result.code result.whole }
+    ensures writer { failures_of drain.new
+        ≡ failures_of drain.old + (if result.whole then 0 else 1) }
+    ensures flushed { IsTrue result.whole → IsTrue (is_flushed drain.new) }
+{
+    match faultless_roster(rt, alloc, rows) {
+        Ok(Some(roster)) => accept(rt, alloc, &roster, drain, teller),
+        Ok(None) => list_faults(rt, alloc, bytes, rows, drain, teller),
+        Err(_) => refuse(drain, OUT_OF_MEMORY),
+    }
+}
+
 /// Writes the answer to the bytes of a file.
 fn answer_bytes<T: Threads + Sync, W: Write, E: Write>(
     rt: &T,
@@ -279,12 +304,10 @@ fn answer_bytes<T: Threads + Sync, W: Write, E: Write>(
         ≡ failures_of drain.old + (if result.whole then 0 else 1) }
     ensures flushed { IsTrue result.whole → IsTrue (is_flushed drain.new) }
 {
-    match market_in(rt, alloc, bytes) {
-        Ok(roster) => accept(rt, alloc, &roster, drain, teller),
-        Err(refusal) => match refusal.code {
-            OUT_OF_MEMORY => refuse(drain, OUT_OF_MEMORY),
-            code => list_all(alloc, bytes, code, drain, teller),
-        },
+    match records(alloc, bytes) {
+        Ok(rows) => answer_rows(rt, alloc, bytes, &rows, drain, teller),
+        Err(ListFault::TwoMarks) => list_alone(alloc, TWO_MARKS, drain, teller),
+        Err(ListFault::Memory) => refuse(drain, OUT_OF_MEMORY),
     }
 }
 

@@ -64,6 +64,7 @@ pub(crate) fn is_id_field(rules: &Rules, field: &Field<'_>) -> bool
 
 impl<'t, 'a> Wrong<'t, 'a> {
     /// The fault of a field, if this is wrong with it.
+    #[inline(always)]
     fn fault<'b>(&self, rules: &Rules, field: &Field<'b>) -> Option<Fault<'b>>
         ensures { faults_seen result ≡ tested self.now rules.now (field_seen field.now) }
     {
@@ -95,6 +96,7 @@ impl<'t, 'a> Wrong<'t, 'a> {
 }
 
 /// Tells a sink a fault of the record with this number, if there is one.
+#[inline(always)]
 pub(crate) fn tell<S: FaultSink>(
     sink: &mut S,
     number: u64,

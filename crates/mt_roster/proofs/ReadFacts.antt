@@ -32,11 +32,14 @@ module _ (rules : Rules) (n : ℕ) (rows : List (List Bytes)) where
   same_rows : faultless_market rules (contents (numbered_from n rows)) ≡ faultless_market rules (with_fields rows)
   same_rows = ap (faultless_market rules) (contents-with_fields n rows)
 
+  pub accepted_is : result_ok (market_under rules (numbered_from n rows)) ≡ faultless_market rules (with_fields rows)
+  accepted_is = passes_agree rules (numbered_from n rows) ∙ same_rows
+
   pub market_is : (m : Registered) → faultless_market rules (with_fields rows) ≡ Some m → market_under rules (numbered_from n rows) ≡ Ok m
   market_is m h = accepts rules (numbered_from n rows) m (same_rows ∙ h)
 
   pub no_market : faultless_market rules (with_fields rows) ≡ None → result_ok (market_under rules (numbered_from n rows)) ≡ None
-  no_market h = passes_agree rules (numbered_from n rows) ∙ same_rows ∙ h
+  no_market h = accepted_is ∙ h
 
 -- no version allows more than an input may have
 pub bounded : (row : List Bytes) (rules : Rules) → rules_of row ≡ Some rules → AreBounded rules.limits

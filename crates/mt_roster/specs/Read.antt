@@ -33,7 +33,7 @@ pub record IsBody (rows : List (List Bytes)) (b : Body) : Type 0 where
   pub market : market_of rows ≡ market_under b.rules (numbered_from b.first (rows_left b.rows))
   pub accepted : AcceptsRegistrations b.rules (with_fields (rows_left b.rows))
 
--- What the search for the version gives.
-abbrev pub GivesVersion : List (List Bytes) → Result Body FirstFault → Type 0
+-- What the search for the version gives: the rows after it, or the number of a record that names none.
+abbrev pub GivesVersion : List (List Bytes) → Result Body ℕ → Type 0
 GivesVersion rows (Ok b) = IsBody rows b
-GivesVersion rows (Err e) = Refuses e (market_of rows)
+GivesVersion rows (Err row) = market_of rows ≡ Err (fault_at row (record_fault_alone NO_VERSION))

@@ -7,4 +7,4 @@ mod reading;
 pub use fault::RosterError;
 pub use mt_market::Roster;
 pub use mt_terms::{IdText, Refusal as RosterFault};
-pub use reading::roster;
+pub use reading::{faultless_roster, roster};
