@@ -1,5 +1,4 @@
-//! What people are told of the faults of a file: a sentence for each, with the file's name and the place, that says what
-//! to do.
+//! The sentences for the faults of a file. Each has the file's name and the place, and says what to do.
 #![tactic(auto)]
 
 mod bad_id;

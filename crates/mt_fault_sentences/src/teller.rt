@@ -18,7 +18,8 @@ pub struct Teller<E: Write> {
 }
 
 impl<E: Write + Drop> Teller<E> {
-    /// What tells of a file with this name. If it is quiet, it writes nothing. The error is want of memory.
+    /// A writer of sentences about the file with this name. It writes nothing if it is quiet. The error is want of
+    /// memory.
     pub fn new(
         alloc: Global,
         drain: Drain<E>,

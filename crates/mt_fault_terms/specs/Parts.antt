@@ -15,8 +15,8 @@ pub data Form : Type 0 where
 abbrev pub PlacedPair : Type 0
 PlacedPair = Placed × Placed
 
--- The parts of a record: its form, the faults of its form, the fields that should be ids of its own, the one that should be a
--- quota, the entries of its list, and its pairs.
+-- The parts of a record: its form, and the faults of that. Then come the fields that should be ids of its own, and the one that
+-- should be a quota. The last are the entries of its list, and its pairs.
 pub record Parts : Type 0 where
   pub form : Form
   pub faults : List FieldFault

@@ -27,7 +27,7 @@ pub record Stands (f : Finder) (all before : List Parts) : Type 0 where
   pub registry : IsRegistry f.rules all f.registry
   pub before_is : IsBefore f.rules before f.before
 
--- so many applicants, programs and couples a record registers, each at most the greatest count
+-- the numbers of applicants, programs and couples that a record registers, each at most the greatest count
 pub record AreCounted (rules : Rules) (p : Parts) (applicants programs couples : ℕ) : Type 0 where
   pub applicants_are : applicants ≡ min (length (applicants_among rules p)) most
   pub programs_are : programs ≡ min (length (own_ids rules OfProgram p)) most

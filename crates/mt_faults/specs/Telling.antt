@@ -1,4 +1,4 @@
--- What a sink is told of the faults of a file.
+-- What a sink takes of the faults of a file.
 use Rattle.std.specs.Prelude.{◌≡◌, ℕ, List, ◌++◌, map, Result, Ok, Err}
 use Rattle.mt_fault_terms.specs.Faults.{FieldFault, FileFault}
 use Rattle.mt_faults.specs.declared.fault.FaultEnd.{FaultEnd}
@@ -15,8 +15,7 @@ pub record OfFirst (P : List FileFault → Type 0) (faults : List FileFault) : T
   pub parts : faults ≡ some ++ rest
   pub holds : P some
 
--- A sink was told these faults, and can take more. Or memory ran out when it was told the first of them. Or it stopped at one
--- of them.
+-- A sink took these faults, and can take more. Or memory ran out after it took the first of them. Or it stopped at one of them.
 abbrev pub Tells : {X S : Type 0} → (S → Type 0) → (S → S → List FileFault → Type 0) → (S → S → List FileFault → Type 0) → S → S → List FileFault → Result X FaultEnd → Type 0
 Tells takes told stopped old new faults (Ok _) = takes new × told old new faults
 Tells takes told stopped old new faults (Err ends.Memory) = takes new × OfFirst (told old new) faults

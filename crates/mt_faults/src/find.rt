@@ -44,10 +44,9 @@ fn body_of<'a>(rows: &'a Rows<'_>) -> Result<Body<'a>, u64>
     Err(0)
 }
 
-/// Tells a sink all faults of a file's records, record by record in its order. A record is a list of fields without its
+/// Hands a sink all faults of a file's records, in the order of the file. A record is a list of fields without its
 /// trailing empty ones. Records are counted from 1, and one without a field is passed over. The error says whether
-/// memory was refused or the sink stopped. The sink was told the first of the faults then. Tables of ids hash by the
-/// seed.
+/// memory was refused or the sink stopped. The sink has the first of the faults then. Tables of ids hash by the seed.
 pub fn find_faults<S: FaultSink>(
     alloc: Global,
     seed: Seed,

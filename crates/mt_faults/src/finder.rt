@@ -43,7 +43,7 @@ impl Drop for Finder<'_> {
     }
 }
 
-/// A fault of a record's form, as it is told.
+/// A fault of a record's form, as a sink takes it.
 fn form_fault<'a>(fault: Option<FormFault>) -> Option<Fault<'a>>
     ensures { faults_seen result ≡ form_faults fault }
 {

@@ -27,14 +27,14 @@ pub trait FaultSink {
         ensures told { OnOk result (told self.old self.new ((number, fault_seen fault.now) ∷ [])) }
         ensures stopped { OnErr result (stopped self.old self.new ((number, fault_seen fault.now) ∷ [])) };
 
-    /// Nothing was told between a state and itself.
+    /// Between a state and itself it took nothing.
     ghost told_none: { (s : Self) → told s s [] };
 
-    /// What was told in turn was told in all.
+    /// What it took in two steps, it took in all.
     ghost told_more: { (a b c : Self) (some more : List FileFault)
         → told a b some → told b c more → told a c (some ++ more) };
 
-    /// A stop after some faults were told.
+    /// It may stop after some faults.
     ghost stopped_after: { (a b c : Self) (some more : List FileFault)
         → told a b some → stopped b c more → stopped a c (some ++ more) };
 }

@@ -1,5 +1,5 @@
-//! What the programs over two files have in common besides their words: the line for want of memory, what is written for
-//! words that ask for no run, and the statuses of the codes of files.
+//! What the programs over two files share: the line for want of memory, and the statuses of the codes of files. They
+//! also share what is written for words that ask for no run.
 #![tactic(auto)]
 
 mod memory;

@@ -1,5 +1,4 @@
-//! All faults of a file by example: of each the record, the code, the field and the id, in the order in which they are
-//! told.
+//! All faults of a file by example: the record, the code, the field and the id of each, in the order of the file.
 use crate::expect::holds_for;
 use mt_faults::{Fault, FaultEnd, FaultSink, Stop, find_faults};
 use mt_ids::{Seed, add_field};
