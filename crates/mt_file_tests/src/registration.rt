@@ -8,7 +8,7 @@ mod markets;
 mod withdrawals;
 
 use mt_lists::records;
-use mt_roster::{Roster, RosterError, roster};
+use mt_roster::{Roster, RosterError, faultless_roster, roster};
 use mt_samples::markets::{SampleError, roster_of};
 use mt_terms::{Agent, AppNo, CoupleNo, ProgNo};
 use std::alloc::Global;
@@ -105,7 +105,7 @@ fn shows(alloc: Global, roster: &Roster, market: &str) -> bool {
     text.as_str() == market
 }
 
-/// Whether a file is accepted, and its market is the one of this text.
+/// Whether a file is accepted, and its market is the one of this text. Both readings of the records have to say so.
 fn gives<R: Threads + Sync>(
     rt: &R,
     alloc: Global,
@@ -113,7 +113,11 @@ fn gives<R: Threads + Sync>(
     market: &str,
 ) -> Result<bool, SampleError> {
     let roster = roster_of(rt, alloc, file.as_bytes())?;
-    Ok(shows(alloc, &roster, market))
+    let rows = records(alloc, file.as_bytes()).map_err(|_| SampleError::Fault)?;
+    let Some(faultless) = faultless_roster(rt, alloc, &rows)? else {
+        return Ok(false);
+    };
+    Ok(shows(alloc, &roster, market) && shows(alloc, &faultless, market))
 }
 
 /// A fault's code, the number of its record, and its id.
@@ -129,10 +133,13 @@ fn is_refusal(answer: &Result<Roster, RosterError>, (code, row, id): Fault<'_>) 
     }
 }
 
-/// Whether a file is refused for this fault.
+/// Whether a file is refused for this fault, and has no market in the reading that names none.
 fn is_refused<R: Threads + Sync>(rt: &R, alloc: Global, file: &str, fault: Fault<'_>) -> bool {
     match records(alloc, file.as_bytes()) {
-        Ok(rows) => is_refusal(&roster(rt, alloc, &rows), fault),
+        Ok(rows) => {
+            is_refusal(&roster(rt, alloc, &rows), fault)
+                && matches!(faultless_roster(rt, alloc, &rows), Ok(None))
+        }
         Err(_) => false,
     }
 }
