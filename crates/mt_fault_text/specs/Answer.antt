@@ -3,6 +3,7 @@
 use Rattle.std.specs.Prelude.{◌≡◌, ◌≢◌, ◌⊎◌, ℕ, Bool, List, [], ◌∷◌, ◌++◌, Option, Some, None, Result, Ok, Err, codes, IsTrue}
 use Rattle.mt_lists.specs.Records.{without_mark}
 use Rattle.mt_terms.specs.Market.{Registered}
+use Rattle.mt_terms.specs.Registration.{market_of}
 use Rattle.mt_terms.specs.Registration.Faults.{Fault}
 use Rattle.mt_terms.specs.Registration.Ids.{Bytes}
 use Rattle.mt_terms.specs.declared.codes.TheConstants.{OUT_OF_MEMORY, READ_FAULT}
@@ -90,6 +91,10 @@ pub record IsCutGiven (text : Bytes) (faults : List FileFault) (old new : Option
 -- an answer was written, or the lines of the first faults and the refusal for want of memory
 abbrev pub IsGivenOrCut : Answer → Bytes → List FileFault → Option (List ℕ) → Option (List ℕ) → ℕ → Bool → Type 0
 IsGivenOrCut answer text faults old new code whole = IsGiven answer old new code whole ⊎ IsCutGiven text faults old new code whole
+
+-- the answer to a text with these records was written, or the lines of its first faults
+abbrev pub IsAnswerGiven : Bytes → List (List Bytes) → Option (List ℕ) → Option (List ℕ) → ℕ → Bool → Type 0
+IsAnswerGiven text rows = IsGivenOrCut (answer_of text (market_of rows) (faults_of rows)) text (faults_of rows)
 
 -- all faults of a text were listed with this code, or the first ones
 abbrev pub AreListed : ℕ → Bytes → List FileFault → Option (List ℕ) → Option (List ℕ) → ℕ → Bool → Type 0

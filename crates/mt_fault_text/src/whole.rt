@@ -11,13 +11,12 @@ ghost use Rattle.mt_input.specs.Files.{most_bytes};
 ghost use Rattle.mt_input.specs.Left.{TakesFile};
 ghost use Rattle.mt_files.specs.Text.{is_code_of};
 ghost use Rattle.mt_fault_terms.specs.Faults.{fault_alone};
-ghost use Rattle.mt_fault_terms.specs.OfFile.{faults_of};
 ghost use Rattle.mt_faults.specs.Seen.{fault_seen};
 ghost use Rattle.mt_fault_text.specs.Answer.{
   Answers,
+  IsAnswerGiven,
   IsGivenOrCut,
   IsGivenOrNoMemory,
-  answer_of,
   answer_to,
   code_in,
   faults_in,
@@ -112,7 +111,7 @@ fn code_of<T: Threads + Sync>(rt: &T, alloc: Global, rows: &Rows<'_>) -> u16
     }
 }
 
-/// Writes the lines of all faults of a file's records, of which there is one.
+/// Writes the lines of all faults of a file's records, of which there is at least one.
 fn list_faults<'a, T: Threads + Sync, W: Write, E: Write>(
     rt: &T,
     alloc: Global,
@@ -123,8 +122,7 @@ fn list_faults<'a, T: Threads + Sync, W: Write, E: Write>(
 ) -> Outcome
     requires faulty { result_ok (market_of rows.now) ≡ None }
     requires failures { failures_of drain.old + 1 < 2 ^ 64 }
-    ensures listed { IsGivenOrCut (answer_of (without_mark bytes.now) (market_of rows.now) (faults_of rows.now))
-        (without_mark bytes.now) (faults_of rows.now)
+    ensures listed { IsAnswerGiven (without_mark bytes.now) rows.now
         (contents_of W.contents drain.old) (contents_of W.contents drain.new) result.code result.whole }
     ensures writer { failures_of drain.new
         ≡ failures_of drain.old + (if result.whole then 0 else 1) }
@@ -274,8 +272,7 @@ fn answer_rows<'a, T: Threads + Sync, W: Write, E: Write>(
     teller: &mut Teller<E>,
 ) -> Outcome
     requires failures { failures_of drain.old + 1 < 2 ^ 64 }
-    ensures given { IsGivenOrCut (answer_of (without_mark bytes.now) (market_of rows.now) (faults_of rows.now))
-        (without_mark bytes.now) (faults_of rows.now)
+    ensures given { IsAnswerGiven (without_mark bytes.now) rows.now
         (contents_of W.contents drain.old) (contents_of W.contents drain.new) result.code result.whole }
     ensures writer { failures_of drain.new
         ≡ failures_of drain.old + (if result.whole then 0 else 1) }
