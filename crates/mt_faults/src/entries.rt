@@ -45,14 +45,12 @@ impl<'a> Entries<'a> {
         ensures ids { let id = field.now.bytes.now in IfOk result
             (λ _. self.new ≡ (if has_id self.old id then self.old else self.old ++ id ∷ [])) }
     {
-        if self.ids.add(field.bytes)? {
-            push(&mut self.firsts, field.number.min(u32::MAX as usize) as u32)?;
-            return Ok(None);
+        if let Some(number) = self.ids.number(field.bytes) {
+            return Ok(Some(first_of(&self.firsts, number)));
         }
-        Ok(Some(match self.ids.number(field.bytes) {
-            Some(number) => first_of(&self.firsts, number),
-            None => 0,
-        }))
+        self.ids.add(field.bytes)?;
+        push(&mut self.firsts, field.number.min(u32::MAX as usize) as u32)?;
+        Ok(None)
     }
 }
 
