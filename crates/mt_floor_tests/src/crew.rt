@@ -353,7 +353,7 @@ fn expect_same<R: Abort + Threads + Wait + Sync>(
 fn unrest_at_the_gate_changes_nothing(rt: HostRuntime) -> Result<(), Fail> {
     let file = hundred(rt.alloc(), Orders::Own)?;
     on_ranks(&rt, rt.alloc(), file.as_bytes(), |ranks| {
-        expect_same(&rt, rt.alloc(), ranks, 250)
+        expect_same(&rt, rt.alloc(), ranks, 50)
     })
 }
 
