@@ -1,5 +1,6 @@
 -- What an answer says: the finding is so, or the refusal is named.
 use Rattle.std.proofs.Common.{◌≡◌, ℕ, ◌<◌, ◌≤◌, Bool, true, ◌==◌, ◌↔◌, List, [], ◌∷◌, length, Option, Result, Ok, Err, IfErr, IfOk, refl, sym, ap, ◌∙◌, subst, arith}
+use Rattle.std.specs.Prelude.{codes}
 use Rattle.std.proofs.lemmas.Result.{IfOk-weaker}
 use Rattle.mt_terms.specs.Market.{Market, Registered}
 use Rattle.mt_terms.specs.WellFormed.{IsWellFormed}
@@ -23,7 +24,8 @@ use Rattle.mt_files.proofs.BothFacts.{of_both}
 use Rattle.mt_files.proofs.FileFacts.{market_there}
 use Rattle.mt_files.proofs.NameFacts.{alone_named, codes_large, market_named, match_named}
 use Rattle.mt_check.specs.declared.found.Found.{Found}
-use Rattle.mt_check.specs.Answer.{Answer, IsAnswer, answer_of, answer_seen, fault_answer, finding_answer, finding_code, judged_answer}
+use Rattle.mt_files.specs.Answer as answers
+use Rattle.mt_check.specs.Answer.{Answer, IsAnswer, answer_seen, fault_answer, finding_answer, finding_code, judged_answer}
 use Rattle.mt_check.specs.Findings.{finding_of, judged}
 use Rattle.mt_check.specs.Headline.{IsJudged, IsRefusal}
 use Rattle.mt_check.specs.Laws.{AnswersAreSo, JudgedByAllLists}
@@ -111,11 +113,11 @@ module _ (market_bytes match_bytes : List ℕ) (code : ℕ) (text : List ℕ) wh
       )
 
   of_match : (r : Registered) → market_in market_bytes ≡ Ok r → (s : Result Submitted Fault) → submitted_in r match_bytes ≡ s
-      → answer_of (with_match r s) ≡ record { code = code; text = text } → IsSo
+      → answers.answer_of (codes "check") judged_answer (with_match r s) ≡ record { code = code; text = text } → IsSo
   of_match r of_market (Ok submitted) read is = judged_so r submitted of_market read is
   of_match r of_market (Err f) read is = refused sources.Match f (match_named r match_bytes f read) is
 
-  of_the_market : (market : Result Registered Fault) → market_in market_bytes ≡ market → answer_of (files_by market match_bytes) ≡ record { code = code; text = text } → IsSo
+  of_the_market : (market : Result Registered Fault) → market_in market_bytes ≡ market → answers.answer_of (codes "check") judged_answer (files_by market match_bytes) ≡ record { code = code; text = text } → IsSo
   of_the_market (Ok r) of_market is = of_match r of_market (submitted_in r match_bytes) refl is
   of_the_market (Err f) of_market is = refused sources.Market f (market_named market_bytes f of_market) is
 
@@ -134,7 +136,7 @@ module _ (market matched : Option (List ℕ)) (files : Files) (are : AreFilesIn 
   pub found_there : (result : Result Found Refused)
       → IfOk result (λ found. answer_seen found ≡ judged_answer files.roster files.submitted)
       → IfOk result (λ found. OfBoth market matched (λ xs ys. IsAnswer xs ys found.code found.text.items))
-  found_there (Ok found) h = of_both market matched (λ xs ys is. ap answer_of is ∙ sym h) are
+  found_there (Ok found) h = of_both market matched (λ xs ys is. ap (answers.answer_of (codes "check") judged_answer) is ∙ sym h) are
   found_there (Err e) h = tt
 
   pub match_in_turn : (reads : ℕ) (result : Result Found Refused) → IfErr result (λ e. e.source ≡ sources.Match) → IfErr result (λ e. IsInTurn market reads e.source)
@@ -165,4 +167,4 @@ no_read_fault (Err e) is read = let code : e.refusal.code ≡ 30 = ap (λ (f : F
 pub refused_answer : (market matched : Option (List ℕ)) (e : Refused)
     → OfBoth market matched (λ xs ys. files_in xs ys ≡ Err (e.source, fault_of e.refusal))
     → OfBoth market matched (λ xs ys. IsAnswer xs ys e.refusal.code (refused_line e.source e.refusal.code e.refusal.row e.refusal.id))
-refused_answer market matched e h = of_both market matched (λ xs ys is. ap answer_of is) h
+refused_answer market matched e h = of_both market matched (λ xs ys is. ap (answers.answer_of (codes "check") judged_answer) is) h

@@ -1,5 +1,5 @@
 -- The answer to the bytes of a market and of a match, and what a check did.
-use Rattle.std.specs.Prelude.{◌≡◌, ◌≢◌, ℕ, ◌<◌, ◌≤◌, Bool, List, length, Option, Result, codes}
+use Rattle.std.specs.Prelude.{◌≡◌, ◌≢◌, ℕ, ◌<◌, ◌≤◌, Bool, List, length, Option, codes}
 use Rattle.mt_terms.specs.Market.{Registered}
 use Rattle.mt_terms.specs.Registration.Faults.{Fault}
 use Rattle.mt_terms.specs.declared.codes.TheConstants.{OUT_OF_MEMORY, READ_FAULT}
@@ -41,10 +41,6 @@ fault_answer = files.fault_answer (codes "check")
 -- nothing.
 abbrev pub judged_answer : Registered → Submitted → Answer
 judged_answer r submitted = finding_answer (judged r submitted) (length submitted.aside) (finding_of (judged r submitted).market submitted)
-
--- the answer to a market and a match, or to the fault of a file
-abbrev pub answer_of : Result (Registered × Submitted) (Source × Fault) → Answer
-answer_of = files.answer_of (codes "check") judged_answer
 
 -- The answer to the bytes of a market and of a match: the first finding, or the first fault of the market, or else of
 -- the match.

@@ -1,6 +1,6 @@
 -- What an answer says: the lines are so, or the refusal is named.
 use Rattle.std.proofs.Common.{◌≡◌, ◌≢◌, ℕ, ◌<◌, Bool, true, ◌==◌, List, [], ◌∷◌, length, Option, Some, None, Result, Ok, Err, refl, sym, ap, ◌∙◌, subst, inl, inr, arith}
-use Rattle.std.specs.Prelude.{◌↔◌}
+use Rattle.std.specs.Prelude.{◌↔◌, codes}
 use Rattle.mt_terms.specs.Market.{Market, Registered}
 use Rattle.mt_terms.specs.Matching.{Places}
 use Rattle.mt_terms.specs.Places.{ArePlaces}
@@ -29,10 +29,15 @@ use Rattle.mt_files.proofs.NameFacts.{alone_named, codes_large, market_named, ma
 use Rattle.mt_explain.proofs.LawFacts.{each_better_option_once_lem, open_if_blocks_lem, open_if_taken_lem, stable_if_none_open_lem}
 use Rattle.mt_explain_text.specs.Text.{agents_text}
 use Rattle.mt_explained.specs.Asked.{agents_asked, first_unknown}
-use Rattle.mt_explained.specs.Answer.{Answer, Answers, IsAnswer, IsGiven, IsGivenOrMemory, answer_by, answer_of, fault_answer, match_answer, memory_answer, submitted_answer}
+use Rattle.mt_files.specs.Answer as answers
+use Rattle.mt_explained.specs.Answer.{Answer, Answers, IsAnswer, IsGiven, IsGivenOrMemory, answer_by, fault_answer, match_answer, memory_answer, submitted_answer}
 use Rattle.mt_explained.specs.Headline.{IsExplained, IsUnknown, LinesAreSo}
 use Rattle.mt_explained.specs.Laws.{ExplainedByAllLists}
 use Rattle.mt_explained.specs.Text.{refused_line}
+
+-- the answer to a market and a match, or to the fault of a file
+abbrev answer_of : List Bytes → Bool → Result (Registered × Submitted) (Source × Fault) → Answer
+answer_of ids is_public = answers.answer_of (codes "check") (submitted_answer ids is_public)
 
 -- with no couple set aside, the market is as it was
 pub none_aside_registered : (r : Registered) (aside : List ℕ) → aside ≡ [] → set_aside_registered aside r ≡ r
@@ -122,7 +127,7 @@ small_code lines None e = omega arith
 small_code lines (Some word) e = omega arith
 
 pub no_read_code : (r : Registered) (submitted : Submitted) (ids : List Bytes) (is_public : Bool) (old new : Option (List ℕ)) (code : ℕ) (whole : Bool)
-    → IsGivenOrMemory (submitted_answer r submitted ids is_public) old new code whole → code ≡ 31 → ⊥
+    → IsGivenOrMemory (submitted_answer ids is_public r submitted) old new code whole → code ≡ 31 → ⊥
 no_read_code r submitted ids is_public old new code whole (inl given) e =
     let judged : Registered = set_aside_registered submitted.aside r in
     small_code (agents_text judged submitted.places is_public (agents_asked judged ids)) (first_unknown judged ids) (sym given.is_code ∙ e)
@@ -131,7 +136,7 @@ no_read_code r submitted ids is_public old new code whole (inr given) e = let is
 module _ (ids : List Bytes) (is_public : Bool) (market matched : Option (List ℕ)) (reads : ℕ) (old new : Option (List ℕ)) (code : ℕ) (whole : Bool) where
   -- what was written of two files that were read
   pub answers_files : (files : Files) → AreFilesIn market matched files
-      → IsGivenOrMemory (submitted_answer files.roster files.submitted ids is_public) old new code whole → Answers ids is_public market matched reads old new code whole
+      → IsGivenOrMemory (submitted_answer ids is_public files.roster files.submitted) old new code whole → Answers ids is_public market matched reads old new code whole
   answers_files files are (inl given) =
       let r = files.roster in
       let judged : Registered = set_aside_registered files.submitted.aside r in

@@ -1,5 +1,5 @@
 -- The answer to the bytes of a market and of a match, and what an explanation did.
-use Rattle.std.specs.Prelude.{◌≡◌, ◌≢◌, ◌⊎◌, ℕ, Bool, List, [], Option, Some, None, Result, Ok, Err, codes}
+use Rattle.std.specs.Prelude.{◌≡◌, ◌≢◌, ◌⊎◌, ℕ, Bool, List, [], Option, Some, None, codes}
 use Rattle.mt_terms.specs.Market.{Registered}
 use Rattle.mt_terms.specs.Matching.{Places}
 use Rattle.mt_terms.specs.Registration.Faults.{Fault}
@@ -9,8 +9,8 @@ use Rattle.mt_order_laws.specs.Reordered.{set_aside_registered}
 use Rattle.mt_report.specs.Drains.{IsWritten}
 use Rattle.mt_match_file.specs.Submitted.{Submitted}
 use Rattle.mt_files.specs.Answer as files
+use Rattle.mt_files.specs.Answer.{IsAnswerBy}
 pub use Rattle.mt_files.specs.Answer.{Answer}
-use Rattle.mt_files.specs.Files.{files_in}
 use Rattle.mt_files.specs.Refusals.{IsInTurn, OfBoth}
 use Rattle.mt_files.specs.declared.source.Source.{Source}
 use Rattle.mt_files.specs.declared.source.Source.TheVariants.{Match}
@@ -30,24 +30,20 @@ abbrev pub match_answer : Registered → Places → List Bytes → Bool → Answ
 match_answer r places ids is_public = answer_by (first_unknown r ids) (agents_text r places is_public (agents_asked r ids))
 
 -- The answer to a market and a match: that in the market in which the couples that the match sets aside want nothing.
-abbrev pub submitted_answer : Registered → Submitted → List Bytes → Bool → Answer
-submitted_answer r submitted ids is_public = match_answer (set_aside_registered submitted.aside r) submitted.places ids is_public
+abbrev pub submitted_answer : List Bytes → Bool → Registered → Submitted → Answer
+submitted_answer ids is_public r submitted = match_answer (set_aside_registered submitted.aside r) submitted.places ids is_public
 
 -- the answer to the fault of a file
 abbrev pub fault_answer : Source → Fault → Answer
 fault_answer = files.fault_answer (codes "check")
 
-abbrev pub answer_of : List Bytes → Bool → Result (Registered × Submitted) (Source × Fault) → Answer
-answer_of ids is_public (Ok files) = submitted_answer files.0 files.1 ids is_public
-answer_of ids is_public (Err fault) = fault_answer fault.0 fault.1
-
 -- The answer to the bytes of a market and of a match. It is the lines of the agents asked for, the refusal of a word that
 -- names none, or a fault: the first one of the market, or else of the match.
 abbrev pub answer_to : List Bytes → Bool → List ℕ → List ℕ → Answer
-answer_to ids is_public market_bytes match_bytes = answer_of ids is_public (files_in market_bytes match_bytes)
+answer_to ids is_public = files.answer_to (codes "check") (submitted_answer ids is_public)
 
 abbrev pub IsAnswer : List Bytes → Bool → List ℕ → List ℕ → ℕ → List ℕ → Type 0
-IsAnswer ids is_public market_bytes match_bytes code text = answer_to ids is_public market_bytes match_bytes ≡ record { code = code; text = text }
+IsAnswer ids is_public = IsAnswerBy (answer_to ids is_public)
 
 -- What a text says that was written after this number of reads of the match. With code 0 it explains the match that was
 -- read. With any other code it is one refusal line, which names the file whose turn it is. But for want of memory and a

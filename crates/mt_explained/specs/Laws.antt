@@ -9,4 +9,4 @@ use Rattle.mt_explained.specs.Answer.{match_answer, submitted_answer}
 abbrev pub ExplainedByAllLists : Type 0
 ExplainedByAllLists =
     (r : Registered) (submitted : Submitted) (ids : List Bytes) (is_public : Bool) → submitted.aside ≡ []
-    → submitted_answer r submitted ids is_public ≡ match_answer r submitted.places ids is_public
+    → submitted_answer ids is_public r submitted ≡ match_answer r submitted.places ids is_public

@@ -193,8 +193,8 @@ fn explain_match<T: Threads + Sync, W: Write>(
 ) -> Result<Outcome, AllocError>
     requires places { ArePlaces files.roster.market files.submitted.places }
     requires failures { failures_of drain.old + 1 < 2 ^ 64 }
-    ensures given { IfOk result (λ o. IsGiven (submitted_answer files.roster
-        files.submitted (ids_of asked.entry) asked.entry.is_public)
+    ensures given { IfOk result (λ o. IsGiven (submitted_answer (ids_of asked.entry)
+        asked.entry.is_public files.roster files.submitted)
         (contents_of W.contents drain.old) (contents_of W.contents drain.new) o.code o.whole) }
     ensures writer { IfOk result (λ o. failures_of drain.new
         ≡ failures_of drain.old + (if o.whole then 0 else 1)) }
@@ -235,8 +235,8 @@ fn explain_files<T: Threads + Sync, W: Write>(
 ) -> Outcome
     requires places { ArePlaces files.roster.market files.submitted.places }
     requires failures { failures_of drain.old + 1 < 2 ^ 64 }
-    ensures given { IsGivenOrMemory (submitted_answer files.roster
-        files.submitted (ids_of asked.entry) asked.entry.is_public)
+    ensures given { IsGivenOrMemory (submitted_answer (ids_of asked.entry)
+        asked.entry.is_public files.roster files.submitted)
         (contents_of W.contents drain.old) (contents_of W.contents drain.new) result.code result.whole }
     ensures writer { failures_of drain.new
         ≡ failures_of drain.old + (if result.whole then 0 else 1) }

@@ -1,5 +1,6 @@
 -- What an answer with all findings says: the findings are so, or the refusal is named. It begins as the plain answer.
 use Rattle.std.proofs.Common.{◌≡◌, ℕ, zero, suc, ◌<◌, ◌≤◌, Bool, List, [], ◌∷◌, ◌++◌, length, Option, Result, Ok, Err, refl, sym, ap, ◌∙◌, subst, append_assoc, inl, inr, arith}
+use Rattle.std.specs.Prelude.{codes}
 use Rattle.std.specs.List.{All}
 use Rattle.std.proofs.lemmas.List.{append-nil}
 use Rattle.mt_terms.specs.Market.{Registered}
@@ -14,6 +15,7 @@ use Rattle.mt_input.proofs.FileFacts.{rows_in}
 use Rattle.mt_input.proofs.LeftFacts.{of_left}
 use Rattle.mt_input.proofs.MarketFacts.{registration_of}
 use Rattle.mt_input.specs.Refusals.{fault_of}
+use Rattle.mt_files.specs.Answer as answers
 use Rattle.mt_files.specs.Answer.{Answer}
 use Rattle.mt_files.specs.Files.{files_by, files_in, submitted_in, with_match}
 use Rattle.mt_files.specs.Refusals.{AreFilesIn, IsInTurn, IsNamedRefusalOf, IsRefused, OfBoth}
@@ -24,14 +26,14 @@ use Rattle.mt_files.specs.declared.source.Source.TheVariants.{Market as MarketFi
 use Rattle.mt_files.proofs.BothFacts.{of_both}
 use Rattle.mt_files.proofs.FileFacts.{market_there}
 use Rattle.mt_files.proofs.NameFacts.{alone_named, codes_large, market_named, match_named}
-use Rattle.mt_check.specs.Answer as plain
+use Rattle.mt_check.specs.Answer.{judged_answer}
 use Rattle.mt_check.specs.Answer.{finding_answer, finding_code}
 use Rattle.mt_check.specs.Findings.{judged}
 use Rattle.mt_check.specs.Text.{finding_line, refused_line, stable_line_with}
 use Rattle.mt_check.specs.declared.finding.Finding.{Finding}
 use Rattle.mt_check.specs.declared.finding.Finding.TheVariants.{Of, Differs}
 use Rattle.mt_explained.specs.Answer.{IsGiven, IsGivenOrMemory, fault_answer, memory_answer}
-use Rattle.mt_findings.specs.Answer.{Answers, IsAnswer, answer_of, found_answer, judged_answer, number_code}
+use Rattle.mt_findings.specs.Answer.{Answers, IsAnswer, findings_answer, found_answer, number_code}
 use Rattle.mt_findings.specs.Findings.{findings, first_of}
 use Rattle.mt_findings.specs.Headline.{AreFound}
 use Rattle.mt_findings.specs.Laws.{BeginsAsPlain, GoesOn}
@@ -56,7 +58,7 @@ module _ (market_bytes match_bytes : List ℕ) (code : ℕ) (text : List ℕ) (s
       absurd (omega arith)
 
   found_so : (r : Registered) (submitted : Submitted) → market_in market_bytes ≡ Ok r → submitted_in r match_bytes ≡ Ok submitted
-      → judged_answer r submitted ≡ record { code = code; text = text } → AreFound market_bytes match_bytes code text
+      → findings_answer r submitted ≡ record { code = code; text = text } → AreFound market_bytes match_bytes code text
   found_so r submitted of_market of_match is =
       let match_rows = rows_in (submitted_by r) match_bytes submitted of_match in
       let registration = registration_of market_bytes r of_market in
@@ -76,11 +78,11 @@ module _ (market_bytes match_bytes : List ℕ) (code : ℕ) (text : List ℕ) (s
       }
 
   of_match : (r : Registered) → market_in market_bytes ≡ Ok r → (s : Result Submitted Fault) → submitted_in r match_bytes ≡ s
-      → answer_of (with_match r s) ≡ record { code = code; text = text } → AreFound market_bytes match_bytes code text
+      → answers.answer_of (codes "check") findings_answer (with_match r s) ≡ record { code = code; text = text } → AreFound market_bytes match_bytes code text
   of_match r of_market (Ok submitted) read is = found_so r submitted of_market read is
   of_match r of_market (Err f) read is = no_fault Match f (match_named r match_bytes f read) is
 
-  of_the_market : (market : Result Registered Fault) → market_in market_bytes ≡ market → answer_of (files_by market match_bytes) ≡ record { code = code; text = text }
+  of_the_market : (market : Result Registered Fault) → market_in market_bytes ≡ market → answers.answer_of (codes "check") findings_answer (files_by market match_bytes) ≡ record { code = code; text = text }
       → AreFound market_bytes match_bytes code text
   of_the_market (Ok r) of_market is = of_match r of_market (submitted_in r match_bytes) refl is
   of_the_market (Err f) of_market is = no_fault MarketFile f (market_named market_bytes f of_market) is
@@ -100,7 +102,7 @@ are_found market_bytes match_bytes code text small h = of_the_market market_byte
 
 -- no such answer has the code of a failed read
 pub no_read_code : (r : Registered) (submitted : Submitted) (old new : Option (List ℕ)) (code : ℕ) (whole : Bool)
-    → IsGivenOrMemory (judged_answer r submitted) old new code whole → code ≡ 31 → ⊥
+    → IsGivenOrMemory (findings_answer r submitted) old new code whole → code ≡ 31 → ⊥
 no_read_code r submitted old new code whole (inl given) e =
     let small = number_small (length (findings (judged r submitted).market submitted)) in
     let is : code ≡ number_code (length (findings (judged r submitted).market submitted)) = given.is_code in
@@ -109,15 +111,15 @@ no_read_code r submitted old new code whole (inr given) e = let is : code ≡ 30
 
 module _ (market matched : Option (List ℕ)) (reads : ℕ) (old new : Option (List ℕ)) (code : ℕ) (whole : Bool) where
   -- what was written of two files that were read
-  pub answers_files : (files : Files) → AreFilesIn market matched files → IsGivenOrMemory (judged_answer files.roster files.submitted) old new code whole
+  pub answers_files : (files : Files) → AreFilesIn market matched files → IsGivenOrMemory (findings_answer files.roster files.submitted) old new code whole
       → Answers market matched reads old new code whole
   answers_files files are (inl given) =
-      let a : Answer = judged_answer files.roster files.submitted in
+      let a : Answer = findings_answer files.roster files.submitted in
       let found : List Finding = findings (judged files.roster files.submitted).market files.submitted in
       let small : number_code (length found) ≤ 1 = number_small (length found) in
       let is_code : code ≡ number_code (length found) = given.is_code in
       let is : a ≡ record { code = code; text = a.text } = ap (λ (c : ℕ). record { code = c; text = a.text }) (sym given.is_code) in
-      let answered : OfBoth market matched (λ xs ys. IsAnswer xs ys code a.text) = of_both market matched (λ xs ys read. ap answer_of read ∙ is) are in
+      let answered : OfBoth market matched (λ xs ys. IsAnswer xs ys code a.text) = of_both market matched (λ xs ys read. ap (answers.answer_of (codes "check") findings_answer) read ∙ is) are in
       record {
         text = a.text;
         written = given.written;
@@ -169,7 +171,7 @@ module _ (market matched : Option (List ℕ)) (reads : ℕ) (old new : Option (L
             line = ap (λ (c : ℕ). refused_line e.source c e.refusal.row e.refusal.id) (sym is);
           };
           in_turn = λ _. turn;
-          answer = λ m r. of_both market matched (λ xs ys read. ap answer_of read ∙ ap (λ (c : ℕ). record { code = c; text = refused_line e.source e.refusal.code e.refusal.row e.refusal.id }) (sym is))
+          answer = λ m r. of_both market matched (λ xs ys read. ap (answers.answer_of (codes "check") findings_answer) read ∙ ap (λ (c : ℕ). record { code = c; text = refused_line e.source e.refusal.code e.refusal.row e.refusal.id }) (sym is))
               (refused.fault (λ c. m (is ∙ c)) (λ c. r (is ∙ c)));
         };
       }
@@ -188,7 +190,7 @@ goes_on_found r n (f ∷ fs) against =
     }
 
 goes_on : (files : Result (Registered × Submitted) (Source × Fault))
-    → GoesOn ((plain.answer_of files).code, (plain.answer_of files).text) ((answer_of files).code, (answer_of files).text)
+    → GoesOn ((answers.answer_of (codes "check") judged_answer files).code, (answers.answer_of (codes "check") judged_answer files).text) ((answers.answer_of (codes "check") findings_answer files).code, (answers.answer_of (codes "check") findings_answer files).text)
 goes_on (Ok files) =
     let others : Registered = judged files.0 files.1 in
     let n : ℕ = length files.1.aside in

@@ -1,14 +1,12 @@
 -- The answer to the bytes of a market and of a match, and what a check for all findings did.
-use Rattle.std.specs.Prelude.{◌≢◌, ◌≤◌, ◌<◌, ℕ, zero, suc, Bool, List, length, Option, Result, codes}
+use Rattle.std.specs.Prelude.{◌≢◌, ◌≤◌, ◌<◌, ℕ, zero, suc, Bool, List, length, Option, codes}
 use Rattle.mt_terms.specs.Market.{Registered}
-use Rattle.mt_terms.specs.Registration.Faults.{Fault}
 use Rattle.mt_terms.specs.declared.codes.TheConstants.{OUT_OF_MEMORY, READ_FAULT}
 use Rattle.mt_report.specs.Drains.{IsWritten}
 use Rattle.mt_match_file.specs.Submitted.{Submitted}
 use Rattle.mt_files.specs.Answer as files
 use Rattle.mt_files.specs.Answer.{Answer, IsAnswerBy}
 use Rattle.mt_files.specs.Refusals.{IsInTurn, OfBoth}
-use Rattle.mt_files.specs.declared.source.Source.{Source}
 use Rattle.mt_check.specs.Findings.{judged}
 use Rattle.mt_check.specs.Headline.{IsRefusal}
 use Rattle.mt_check.specs.declared.finding.Finding.{Finding}
@@ -27,17 +25,13 @@ found_answer r aside found = record { code = number_code (length found); text = 
 
 -- The answer to a market and a match: every finding in the market in which the couples that the match sets aside want
 -- nothing.
-abbrev pub judged_answer : Registered → Submitted → Answer
-judged_answer r submitted = found_answer (judged r submitted) (length submitted.aside) (findings (judged r submitted).market submitted)
-
--- the answer to a market and a match, or to the fault of a file
-abbrev pub answer_of : Result (Registered × Submitted) (Source × Fault) → Answer
-answer_of = files.answer_of (codes "check") judged_answer
+abbrev pub findings_answer : Registered → Submitted → Answer
+findings_answer r submitted = found_answer (judged r submitted) (length submitted.aside) (findings (judged r submitted).market submitted)
 
 -- The answer to the bytes of a market and of a match: every finding, or the first fault of the market, or else of the
 -- match.
 abbrev pub answer_to : List ℕ → List ℕ → Answer
-answer_to = files.answer_to (codes "check") judged_answer
+answer_to = files.answer_to (codes "check") findings_answer
 
 abbrev pub IsAnswer : List ℕ → List ℕ → ℕ → List ℕ → Type 0
 IsAnswer = IsAnswerBy answer_to

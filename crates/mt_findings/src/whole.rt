@@ -6,7 +6,7 @@ ghost use Rattle.mt_report.specs.Drains.{contents_of, failures_of, is_flushed};
 ghost use Rattle.mt_input.specs.Files.{most_bytes};
 ghost use Rattle.mt_input.specs.Left.{TakesFile};
 ghost use Rattle.mt_explained.specs.Answer.{IsGiven, IsGivenOrMemory};
-ghost use Rattle.mt_findings.specs.Answer.{Answers, found_answer, judged_answer, number_code};
+ghost use Rattle.mt_findings.specs.Answer.{Answers, findings_answer, found_answer, number_code};
 ghost use Rattle.mt_findings.specs.Findings.{findings};
 
 use crate::lines::FindingLines;
@@ -82,7 +82,7 @@ fn check_match<T: Threads + Sync, W: Write>(
 ) -> Result<Outcome, AllocError>
     requires places { ArePlaces files.roster.market files.submitted.places }
     requires failures { failures_of drain.old + 1 < 2 ^ 64 }
-    ensures given { IfOk result (λ o. IsGiven (judged_answer files.roster files.submitted)
+    ensures given { IfOk result (λ o. IsGiven (findings_answer files.roster files.submitted)
         (contents_of W.contents drain.old) (contents_of W.contents drain.new) o.code o.whole) }
     ensures writer { IfOk result (λ o. failures_of drain.new
         ≡ failures_of drain.old + (if o.whole then 0 else 1)) }
@@ -102,7 +102,7 @@ fn check_files<T: Threads + Sync, W: Write>(
 ) -> Outcome
     requires places { ArePlaces files.roster.market files.submitted.places }
     requires failures { failures_of drain.old + 1 < 2 ^ 64 }
-    ensures given { IsGivenOrMemory (judged_answer files.roster files.submitted)
+    ensures given { IsGivenOrMemory (findings_answer files.roster files.submitted)
         (contents_of W.contents drain.old) (contents_of W.contents drain.new) result.code result.whole }
     ensures writer { failures_of drain.new
         ≡ failures_of drain.old + (if result.whole then 0 else 1) }

@@ -1,5 +1,6 @@
 -- What an answer says: the text has the numbers of the match, or the refusal is named.
 use Rattle.std.proofs.Common.{◌≡◌, ◌≢◌, ℕ, ◌<◌, ◌↔◌, List, [], Option, Result, Ok, Err, IfErr, IfOk, Vec, refl, sym, ap, ◌∙◌, subst, arith}
+use Rattle.std.specs.Prelude.{codes}
 use Rattle.std.specs.Global.{Global}
 use Rattle.mt_terms.specs.Market.{Registered}
 use Rattle.mt_terms.specs.Registration.Faults.{Fault}
@@ -17,11 +18,16 @@ use Rattle.mt_files.proofs.BothFacts.{of_both}
 use Rattle.mt_files.proofs.FileFacts.{market_there}
 use Rattle.mt_files.proofs.NameFacts.{alone_named, codes_large, market_named, match_named}
 use Rattle.mt_statistics.proofs.SumFacts.{couples_add_up_lem, posts_add_up_lem, programs_add_up_lem, singles_add_up_lem}
-use Rattle.mt_reported.specs.Answer.{Answer, IsAnswer, answer_of, fault_answer}
+use Rattle.mt_files.specs.Answer as answers
+use Rattle.mt_reported.specs.Answer.{Answer, IsAnswer, fault_answer, report_answer}
 use Rattle.mt_reported.specs.Headline.{IsRefusal, IsReported, text_in}
 use Rattle.mt_reported.specs.Laws.{AnswersAreSo}
 use Rattle.mt_reported.specs.Text.{refused_line}
 use Rattle.mt_reported.specs.declared.form.Form.{Form}
+
+-- the answer to a market and a match, or to the fault of a file
+abbrev answer_of : Form → Result (Registered × Submitted) (Source × Fault) → Answer
+answer_of form = answers.answer_of (codes "report") (report_answer form)
 
 module _ (form : Form) (market_bytes match_bytes : List ℕ) (code : ℕ) (text : List ℕ) where
   IsSo : Type 0

@@ -1,5 +1,5 @@
 -- The answer to the bytes of a market and of a match, and what a report did.
-use Rattle.std.specs.Prelude.{◌≡◌, ◌≢◌, ℕ, Bool, List, Option, Result, codes}
+use Rattle.std.specs.Prelude.{◌≡◌, ◌≢◌, ℕ, Bool, List, Option, codes}
 use Rattle.mt_terms.specs.Market.{Registered}
 use Rattle.mt_terms.specs.Registration.Faults.{Fault}
 use Rattle.mt_terms.specs.declared.codes.TheConstants.{OUT_OF_MEMORY, READ_FAULT}
@@ -20,10 +20,6 @@ fault_answer = files.fault_answer (codes "report")
 -- the answer to a market and a match: code 0 and the numbers of the match in this form
 abbrev pub report_answer : Form → Registered → Submitted → Answer
 report_answer form r submitted = record { code = 0; text = text_in form r submitted.places }
-
--- the answer to a market and a match, or to the fault of a file
-abbrev pub answer_of : Form → Result (Registered × Submitted) (Source × Fault) → Answer
-answer_of form = files.answer_of (codes "report") (report_answer form)
 
 -- The answer to the bytes of a market and of a match: the numbers of the match in this form, or the first fault of the market, or
 -- else of the match.

@@ -6,6 +6,7 @@ use Rattle.mt_terms.specs.Matching.{Places, filled, is_program, place_of, placed
 use Rattle.mt_terms.specs.declared.numbers.Agent.TheVariants.{Couple, Single}
 use Rattle.mt_ranks.specs.Ranked.{is_single}
 use Rattle.mt_verify.specs.Held.{held_option}
+use Rattle.mt_statistics.specs.declared.counts.Standing.{Standing}
 
 -- how many singles there are
 abbrev pub singles : Market → ℕ
@@ -102,6 +103,12 @@ last_of (x ∷ y ∷ xs) = last_of (y ∷ xs)
 -- the rank from 0 of the last one in: of those placed at a program, the one that it ranks lowest
 abbrev pub last_rank : Market → Places → ℕ → Option ℕ
 last_rank m places p = last_of (placed_ranks m places p)
+
+-- where a program stands: its quota, how many are placed there, how many it lists, and the rank of the last one in
+abbrev pub standing : Market → Places → ℕ → Standing
+standing m places p =
+    let program = program_of m p in
+    record { quota = program.quota; filled = filled places p; listed = length program.ranking; last = last_rank m places p }
 
 -- the largest value of a function below n, where each value is at least 0
 abbrev pub greatest_below : (ℕ → ℕ) → ℕ → ℕ

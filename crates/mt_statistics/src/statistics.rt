@@ -7,8 +7,9 @@ ghost use Rattle.mt_terms.specs.Text.{all_filled};
 ghost use Rattle.mt_terms.specs.declared.numbers.Agent.TheVariants.{Couple, Single};
 ghost use Rattle.mt_ranks.specs.Ranked.{ranked_of};
 ghost use Rattle.mt_verify.specs.Held.{IsNumbered, held_option};
-ghost use Rattle.mt_statistics.specs.Counts.{choice_counts, choices_from, couples_with, empty_programs, full_programs, has_choice_from, has_nobody, is_empty, is_from, is_full, is_partly_filled, is_unmatched_single, last_rank, open_at, open_posts, pair_counts, pairs_from, partly_filled_programs, placed_members, unmatched_singles};
+ghost use Rattle.mt_statistics.specs.Counts.{choice_counts, choices_from, couples_with, empty_programs, full_programs, has_choice_from, has_nobody, is_from, is_full, is_unmatched_single, last_rank, open_at, open_posts, pair_counts, pairs_from, partly_filled_programs, placed_members, standing, unmatched_singles};
 
+use crate::counts::{ProgramCounts, Standing};
 use crate::held::held_counts;
 use mt_market::Roster;
 use mt_ranks::Ranks;
@@ -154,43 +155,29 @@ impl<'a> Statistics<'a> {
         count
     }
 
-    /// How many programs have no open post.
-    pub fn full_programs(&self) -> u32
-        ensures { result ≡ full_programs self.now.registered.market self.now.places }
+    /// How many programs are full, partly filled and empty.
+    pub fn program_counts(&self) -> ProgramCounts
+        ensures full { result.full ≡ full_programs self.now.registered.market self.now.places }
+        ensures partly_filled { result.partly_filled
+            ≡ partly_filled_programs self.now.registered.market self.now.places }
+        ensures empty { result.empty ≡ empty_programs self.now.registered.market self.now.places }
     {
-        let mut count = 0;
+        let mut counts = ProgramCounts {
+            full: 0,
+            partly_filled: 0,
+            empty: 0,
+        };
         for number in 0..self.roster.programs() {
-            if self.is_full(ProgNo(number)) {
-                count += 1;
+            let program = ProgNo(number);
+            if self.is_full(program) {
+                counts.full += 1;
+            } else if self.has_nobody(program) {
+                counts.empty += 1;
+            } else {
+                counts.partly_filled += 1;
             }
         }
-        count
-    }
-
-    /// How many programs have an open post, and somebody.
-    pub fn partly_filled_programs(&self) -> u32
-        ensures { result ≡ partly_filled_programs self.now.registered.market self.now.places }
-    {
-        let mut count = 0;
-        for number in 0..self.roster.programs() {
-            if self.is_partly_filled(ProgNo(number)) {
-                count += 1;
-            }
-        }
-        count
-    }
-
-    /// How many programs have an open post, and nobody.
-    pub fn empty_programs(&self) -> u32
-        ensures { result ≡ empty_programs self.now.registered.market self.now.places }
-    {
-        let mut count = 0;
-        for number in 0..self.roster.programs() {
-            if self.is_empty(ProgNo(number)) {
-                count += 1;
-            }
-        }
-        count
+        counts
     }
 
     /// How many applicants are placed, at all programs together.
@@ -212,7 +199,7 @@ impl<'a> Statistics<'a> {
     }
 
     /// How many applicants are placed at a program.
-    pub fn filled(&self, program: ProgNo) -> u32
+    fn filled(&self, program: ProgNo) -> u32
         requires { program < length self.now.registered.market.programs }
         ensures { result ≡ filled self.now.places program }
     {
@@ -221,7 +208,7 @@ impl<'a> Statistics<'a> {
 
     /// The rank from 0 of the last one in at a program: of those placed there, the one that it ranks lowest. None if it
     /// lists nobody of them.
-    pub fn last_rank(&self, program: ProgNo) -> Option<u32>
+    fn last_rank(&self, program: ProgNo) -> Option<u32>
         requires { program < length self.now.registered.market.programs }
         ensures { result ≡ last_rank self.now.registered.market self.now.places program }
     {
@@ -231,6 +218,19 @@ impl<'a> Statistics<'a> {
             return None;
         }
         Some(ranks[placed - 1])
+    }
+
+    /// Where a program stands.
+    pub fn standing(&self, program: ProgNo) -> Standing
+        requires { program < length self.now.registered.market.programs }
+        ensures { result ≡ standing self.now.registered.market self.now.places program }
+    {
+        Standing {
+            quota: self.roster.quota(program),
+            filled: self.filled(program),
+            listed: self.roster.program_list(program).len() as u64,
+            last: self.last_rank(program),
+        }
     }
 
     /// The number from 0 of the option that the agent has, if it has one of its list.
@@ -311,21 +311,6 @@ impl<'a> Statistics<'a> {
         ensures { result ≡ has_nobody self.now.places program }
     {
         self.filled(program) == 0
-    }
-    /// Whether a program has an open post, and somebody.
-    fn is_partly_filled(&self, program: ProgNo) -> bool
-        requires { program < length self.now.registered.market.programs }
-        ensures { result ≡ is_partly_filled self.now.registered.market self.now.places program }
-    {
-        !self.is_full(program) && !self.has_nobody(program)
-    }
-
-    /// Whether a program has an open post, and nobody.
-    fn is_empty(&self, program: ProgNo) -> bool
-        requires { program < length self.now.registered.market.programs }
-        ensures { result ≡ is_empty self.now.registered.market self.now.places program }
-    {
-        !self.is_full(program) && self.has_nobody(program)
     }
 
     /// How many posts of a program are open.

@@ -38,7 +38,7 @@ pub one_more : (t t₁ t₂ : List ℕ) (f : ℕ → List ℕ) (n : ℕ) → t�
 one_more t t₁ t₂ f n so_far next =
     two t t₁ t₂ (flat_map f (below n)) (f n) so_far next ∙ ap (λ (pieces : List ℕ). t ++ pieces) (sym (flat_map-below_more f n))
 
--- a last piece that is made of what equals two things, three or five. Its result is returned as it is
+-- a last piece that is made of what equals two things or three. Its result is returned as it is
 pub of_two : {T E A B : Type 0} (r : Result T E) (t t₁ : List ℕ) (f : A → B → List ℕ) (a a' : A) (b b' : B) → a ≡ a' → b ≡ b'
     → OnOk r (t₁ ≡ t ++ f a b) → OnOk r (t₁ ≡ t ++ f a' b')
 of_two (Ok v) t t₁ f a a' b b' same_a same_b is =
@@ -49,10 +49,3 @@ pub of_three : {T E A B C : Type 0} (r : Result T E) (t t₁ : List ℕ) (f : A 
     → a ≡ a' → b ≡ b' → c ≡ c' → OnOk r (t₁ ≡ t ++ f a b c) → OnOk r (t₁ ≡ t ++ f a' b' c')
 of_three r t t₁ f a a' b b' c c' same_a same_b same_c is =
     of_two r t t₁ (f a') b b' c c' same_b same_c (of_two r t t₁ (λ x y. f x y c) a a' b b same_a refl is)
-
-pub of_five : {T E A B C D F : Type 0} (r : Result T E) (t t₁ : List ℕ) (f : A → B → C → D → F → List ℕ) (a a' : A) (b b' : B) (c c' : C)
-    (d d' : D) (e e' : F) → a ≡ a' → b ≡ b' → c ≡ c' → d ≡ d' → e ≡ e'
-    → OnOk r (t₁ ≡ t ++ f a b c d e) → OnOk r (t₁ ≡ t ++ f a' b' c' d' e')
-of_five r t t₁ f a a' b b' c c' d d' e e' same_a same_b same_c same_d same_e is =
-    of_two r t t₁ (f a' b' c') d d' e e' same_d same_e
-    (of_three r t t₁ (λ x y z. f x y z d e) a a' b b' c c' same_a same_b same_c is)

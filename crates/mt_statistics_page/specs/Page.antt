@@ -2,11 +2,11 @@
 use Rattle.std.specs.Prelude.{ℕ, ◌==◌, List, [], ◌∷◌, ◌++◌, length, codes, if◌then◌else◌}
 use Rattle.std.specs.List.{flat_map}
 use Rattle.mt_terms.specs.Lists.{below}
-use Rattle.mt_terms.specs.Market.{Market, Registered, applicants, program_of}
-use Rattle.mt_terms.specs.Matching.{Places, filled}
+use Rattle.mt_terms.specs.Market.{Market, Registered, applicants}
+use Rattle.mt_terms.specs.Matching.{Places}
 use Rattle.mt_terms.specs.Registration.Ids.{Bytes}
 use Rattle.mt_terms.specs.Text.{all_filled, name_of}
-use Rattle.mt_statistics.specs.Counts.{choice_counts, choices_from, couples_with, empty_programs, full_programs, is_full, last_rank, open_posts, pair_counts, pairs_from, partly_filled_programs, unmatched_singles}
+use Rattle.mt_statistics.specs.Counts.{choice_counts, choices_from, couples_with, empty_programs, full_programs, is_full, open_posts, pair_counts, pairs_from, partly_filled_programs, standing, unmatched_singles}
 use Rattle.mt_statistics_page.specs.Charts.{choice_chart, couple_chart, pair_chart, program_chart}
 use Rattle.mt_statistics_page.specs.Pieces.{standing_row, total_row}
 use Rattle.mt_statistics_page.specs.declared.markup.TheConstants.{FIRST, FOOT, HEAD, NO_COUPLES, NO_OPEN_POSTS, OPEN_POSTS, TABLE_END, TOTALS}
@@ -51,9 +51,7 @@ programs m places = program_chart (full_programs m places) (partly_filled_progra
 
 -- the row of a program
 abbrev pub program_row : Registered → Places → ℕ → Bytes
-program_row r places p =
-    standing_row (name_of r.names.programs p) (program_of r.market p).quota (filled places p)
-    (length (program_of r.market p).ranking) (last_rank r.market places p)
+program_row r places p = standing_row (name_of r.names.programs p) (standing r.market places p)
 
 -- the row of a program, if it has an open post
 abbrev pub open_row : Registered → Places → ℕ → Bytes

@@ -4,6 +4,7 @@ use Rattle.std.specs.List.{flat_map}
 use Rattle.mt_terms.specs.Lists.{below}
 use Rattle.mt_terms.specs.Registration.Ids.{Bytes}
 use Rattle.mt_statistics.specs.Counts.{greatest_below}
+use Rattle.mt_statistics.specs.declared.counts.Standing.{Standing}
 use Rattle.mt_statistics_page.specs.declared.markup.TheConstants.{WIDTH}
 
 -- a cell with a number
@@ -66,5 +67,5 @@ abbrev pub posts_cells : Bytes → ℕ → ℕ → Bytes
 posts_cells id quota placed = header id ++ cell quota ++ cell placed
 
 -- the row of a program's id, its quota, how many are placed there, how many it lists, and the rank of the last one in
-abbrev pub standing_row : Bytes → ℕ → ℕ → ℕ → Option ℕ → Bytes
-standing_row id quota placed listed last = posts_cells id quota placed ++ cell listed ++ rank_cell last ++ codes "</tr>\n"
+abbrev pub standing_row : Bytes → Standing → Bytes
+standing_row id s = posts_cells id s.quota s.filled ++ cell s.listed ++ rank_cell s.last ++ codes "</tr>\n"

@@ -120,10 +120,8 @@ fn push_programs(text: &mut Vec<u8>, statistics: &Statistics<'_>) -> Result<(), 
     ensures ok { OnOk result (text.new.items ≡ text.old.items
         ++ programs statistics.now.registered.market statistics.now.places) }
 {
-    let full = statistics.full_programs();
-    let partly = statistics.partly_filled_programs();
-    let empty = statistics.empty_programs();
-    push_program_chart(text, full, partly, empty)
+    let counts = statistics.program_counts();
+    push_program_chart(text, counts.full, counts.partly_filled, counts.empty)
 }
 
 /// Adds the row of a program.
@@ -136,15 +134,8 @@ fn push_program_row(
     ensures ok { OnOk result (text.new.items ≡ text.old.items
         ++ program_row statistics.now.registered statistics.now.places program) }
 {
-    let roster = statistics.roster();
-    push_standing(
-        text,
-        roster.program_id(program),
-        roster.quota(program),
-        statistics.filled(program),
-        roster.program_list(program).len() as u64,
-        statistics.last_rank(program),
-    )
+    let id = statistics.roster().program_id(program);
+    push_standing(text, id, statistics.standing(program))
 }
 
 /// Adds the row of a program, if it has an open post.
@@ -190,7 +181,7 @@ fn push_open(text: &mut Vec<u8>, statistics: &Statistics<'_>) -> Result<(), Allo
     ensures ok { OnOk result (text.new.items ≡ text.old.items
         ++ open_programs statistics.now.registered statistics.now.places) }
 {
-    if statistics.full_programs() == statistics.roster().programs() {
+    if statistics.program_counts().full == statistics.roster().programs() {
         push_text(text, NO_OPEN_POSTS)
     } else {
         push_open_table(text, statistics)

@@ -3,6 +3,7 @@ ghost use Rattle.mt_statistics_page.specs.Pieces.{bar, bar_cells, bar_length, ba
 
 use crate::markup::WIDTH;
 use itoa::Buffer;
+use mt_statistics::Standing;
 use std::alloc::AllocError;
 
 /// Adds a fixed text.
@@ -183,21 +184,17 @@ fn push_posts(text: &mut Vec<u8>, id: &[u8], quota: u32, filled: u32) -> Result<
     Ok(())
 }
 
-/// Adds the row of a program by its fields.
+/// Adds the row of the program with an id.
 pub(crate) fn push_standing(
     text: &mut Vec<u8>,
     id: &[u8],
-    quota: u32,
-    filled: u32,
-    listed: u64,
-    last: Option<u32>,
+    standing: Standing,
 ) -> Result<(), AllocError>
-    ensures ok { OnOk result (text.new.items
-        ≡ text.old.items ++ standing_row id.now quota filled listed last) }
+    ensures ok { OnOk result (text.new.items ≡ text.old.items ++ standing_row id.now standing) }
 {
-    push_posts(text, id, quota, filled)?;
-    push_cell(text, listed)?;
-    push_rank_cell(text, last)?;
+    push_posts(text, id, standing.quota, standing.filled)?;
+    push_cell(text, standing.listed)?;
+    push_rank_cell(text, standing.last)?;
     text.extend_from_slice(b"</tr>\n")?;
     Ok(())
 }

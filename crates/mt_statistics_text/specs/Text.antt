@@ -2,11 +2,12 @@
 use Rattle.std.specs.Prelude.{ℕ, ◌+◌, List, [], ◌∷◌, ◌++◌, length, Option, Some, None, slice_index_or, codes, decimal}
 use Rattle.std.specs.List.{flat_map}
 use Rattle.mt_terms.specs.Lists.{below}
-use Rattle.mt_terms.specs.Market.{Market, Registered, program_of}
-use Rattle.mt_terms.specs.Matching.{Places, filled}
+use Rattle.mt_terms.specs.Market.{Market, Registered}
+use Rattle.mt_terms.specs.Matching.{Places}
 use Rattle.mt_terms.specs.Registration.Ids.{Bytes}
 use Rattle.mt_terms.specs.Text.{all_filled, line, name_of}
-use Rattle.mt_statistics.specs.Counts.{choice_counts, couples_with, empty_programs, full_programs, last_rank, open_posts, pair_counts, partly_filled_programs, unmatched_singles}
+use Rattle.mt_statistics.specs.Counts.{choice_counts, couples_with, empty_programs, full_programs, open_posts, pair_counts, partly_filled_programs, standing, unmatched_singles}
+use Rattle.mt_statistics.specs.declared.counts.Standing.{Standing}
 
 -- a line for each of these counts, which a line numbers from 1
 abbrev pub counted_line : Bytes → List ℕ → ℕ → Bytes
@@ -38,14 +39,11 @@ rank_text None = []
 rank_text (Some rank) = decimal (rank + 1)
 
 -- the line of a program's id, its quota, how many are placed there, how many it lists, and the rank of the last one in
-abbrev pub standing_line : Bytes → ℕ → ℕ → ℕ → Option ℕ → Bytes
-standing_line id quota placed listed last =
-    line (codes "program" ∷ id ∷ decimal quota ∷ decimal placed ∷ decimal listed ∷ rank_text last ∷ [])
+abbrev pub standing_line : Bytes → Standing → Bytes
+standing_line id s = line (codes "program" ∷ id ∷ decimal s.quota ∷ decimal s.filled ∷ decimal s.listed ∷ rank_text s.last ∷ [])
 
 abbrev pub program_line : Registered → Places → ℕ → Bytes
-program_line r places p =
-    standing_line (name_of r.names.programs p) (program_of r.market p).quota (filled places p) (length (program_of r.market p).ranking)
-    (last_rank r.market places p)
+program_line r places p = standing_line (name_of r.names.programs p) (standing r.market places p)
 
 abbrev pub program_lines : Registered → Places → Bytes
 program_lines r places = flat_map (program_line r places) (below (length r.market.programs))

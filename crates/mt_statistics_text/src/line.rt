@@ -3,6 +3,7 @@ ghost use Rattle.mt_terms.specs.Text.{line};
 ghost use Rattle.mt_statistics_text.specs.Text.{counted_lines, rank_text, standing_line};
 
 use itoa::Buffer;
+use mt_statistics::Standing;
 use std::alloc::AllocError;
 
 /// Adds a comma and a number.
@@ -53,24 +54,20 @@ pub(crate) fn push_counts(text: &mut Vec<u8>, word: &[u8], counts: &[u32]) -> Re
     Ok(())
 }
 
-/// Adds the line of a program by its fields.
+/// Adds the line of the program with an id.
 pub(crate) fn push_standing(
     text: &mut Vec<u8>,
     id: &[u8],
-    quota: u32,
-    filled: u32,
-    listed: u64,
-    last: Option<u32>,
+    standing: Standing,
 ) -> Result<(), AllocError>
-    ensures ok { OnOk result (text.new.items
-        ≡ text.old.items ++ standing_line id.now quota filled listed last) }
+    ensures ok { OnOk result (text.new.items ≡ text.old.items ++ standing_line id.now standing) }
 {
     text.extend_from_slice(b"program,")?;
     text.extend_from_slice(id)?;
-    push_number(text, u64::from(quota))?;
-    push_number(text, u64::from(filled))?;
-    push_number(text, listed)?;
-    push_rank(text, last)?;
+    push_number(text, u64::from(standing.quota))?;
+    push_number(text, u64::from(standing.filled))?;
+    push_number(text, standing.listed)?;
+    push_rank(text, standing.last)?;
     text.push(b'\n')?;
     Ok(())
 }

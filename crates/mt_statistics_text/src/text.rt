@@ -43,9 +43,10 @@ fn push_posts(text: &mut Vec<u8>, statistics: &Statistics<'_>) -> Result<(), All
     ensures ok { OnOk result (text.new.items ≡ text.old.items
         ++ posts_lines statistics.now.registered.market statistics.now.places) }
 {
-    let full = u64::from(statistics.full_programs());
-    let partly = u64::from(statistics.partly_filled_programs());
-    let empty = u64::from(statistics.empty_programs());
+    let programs = statistics.program_counts();
+    let full = u64::from(programs.full);
+    let partly = u64::from(programs.partly_filled);
+    let empty = u64::from(programs.empty);
     let filled = statistics.filled_posts();
     let open = statistics.open_posts();
     push_line(text, b"programs", &[full, partly, empty])?;
@@ -62,15 +63,8 @@ fn push_program(
     ensures ok { OnOk result (text.new.items ≡ text.old.items
         ++ program_line statistics.now.registered statistics.now.places program) }
 {
-    let roster = statistics.roster();
-    push_standing(
-        text,
-        roster.program_id(program),
-        roster.quota(program),
-        statistics.filled(program),
-        roster.program_list(program).len() as u64,
-        statistics.last_rank(program),
-    )
+    let id = statistics.roster().program_id(program);
+    push_standing(text, id, statistics.standing(program))
 }
 
 /// Adds the lines of all programs.

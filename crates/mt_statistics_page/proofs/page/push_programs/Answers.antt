@@ -6,6 +6,6 @@ pub returns : goal.returns
 returns c =
     record {
       ok = of_three c.push_program_chart.result c.args.text.now.items _ program_chart _ _ _ _ _ _
-          c.full_programs-full.ensures c.partly_filled_programs-partly.ensures c.empty_programs-empty.ensures
+          c.program_counts-counts.ensures.full c.program_counts-counts.ensures.partly_filled c.program_counts-counts.ensures.empty
           c.push_program_chart.ensures.ok;
     }

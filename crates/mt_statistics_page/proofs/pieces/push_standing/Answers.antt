@@ -7,7 +7,7 @@ pub returns : goal.returns
 returns c =
     record {
       ok = four c.args.text.now.items _ _ _ _
-          (posts_cells c.args.id.now c.args.quota c.args.filled) (cell c.args.listed) (rank_cell c.args.last)
+          (posts_cells c.args.id.now c.args.standing.quota c.args.standing.filled) (cell c.args.standing.listed) (rank_cell c.args.standing.last)
           (codes "</tr>\n")
           c.in_ok-push_posts.ensures.ok c.in_ok-push_cell.ensures.ok c.in_ok-push_rank_cell.ensures.ok
           c.in_ok-extend_from_slice.ensures.items;
