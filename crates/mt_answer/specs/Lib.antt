@@ -2,4 +2,3 @@ pub mod Answer
 pub mod Refusals
 pub mod Ways
 pub mod WayLaws
-pub mod Words

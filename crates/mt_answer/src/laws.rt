@@ -1,18 +1,6 @@
-//! Laws of the answer: of the ways in which couples may enter, and of the words that the rounds and the judge have for one
-//! thing. Each function does nothing. Its contract is the law.
+//! Laws of the answer: of the ways in which couples may enter. Each function does nothing. Its contract is the law.
 
 ghost use Rattle.mt_answer.specs.WayLaws.{AsideAreCouples, AsideInWords, FirstOrderInWords, NoOrderInWords, OneAnswerInWays, OneWayIsUsual, PublishedInWaysIsStable, SpentInWays};
-ghost use Rattle.mt_answer.specs.Words.{AgentsAlike, RanksAlike};
-
-/// An agent that has a number for the judge is an agent of the market for the rounds.
-pub fn agents_alike()
-    ensures { AgentsAlike }
-{}
-
-/// Both have the same ranks of those that are placed at each program.
-pub fn ranks_alike()
-    ensures { RanksAlike }
-{}
 
 /// With one order, and no couple set aside, the answer is the usual one.
 pub fn one_way_is_usual()

@@ -1,13 +1,12 @@
 -- What rank tables say of the market that they are of, and who is on its lists.
 use Rattle.std.proofs.Common.{◌≡◌, ℕ, ◌<◌, [], ap}
-use Rattle.mt_terms.specs.Market.{Market, applicants, program_of, agent_of}
+use Rattle.mt_terms.specs.Market.{Market, applicants, program_of, agent_of, IsAgentOf}
 use Rattle.mt_terms.specs.declared.numbers.Agent.{Agent}
 use Rattle.mt_terms.specs.declared.numbers.Agent.TheVariants.{Single, Couple}
 use Rattle.mt_round_laws.proofs.RoundsAgents.{IsAgent, agent_of_applicant, couple_number}
 use Rattle.mt_round_laws.proofs.RoundsSets.{has_head}
 use Rattle.mt_terms.specs.WellFormed.{IsWellFormed}
 use Rattle.mt_ranks.specs.Ranked.{Ranked, ranked_of}
-use Rattle.mt_assignment.specs.Assigned.{IsAgentOf}
 pub use Rattle.mt_terms.proofs.ListFacts.{item_below as read_within}
 
 -- Below, r are the rank tables of the market m.

@@ -8,7 +8,6 @@ use Rattle.mt_terms.specs.WellFormed.{IsWellFormed}
 use Rattle.mt_terms.specs.Matching.{Places, Placement, at, couple_placement}
 use Rattle.mt_terms.specs.Rounds.{displaced_at, first_taken}
 use Rattle.mt_terms.specs.declared.numbers.Agent.{Agent}
-use Rattle.mt_terms.specs.declared.numbers.Agent.TheVariants.{Single, Couple}
 
 pub record Assigned : Type 0 where
   pub market : Market
@@ -85,8 +84,3 @@ AreApplicantsOf m xs = (a : ℕ) → IsTrue (has xs a) → a < applicants m
 -- each of these numbers is that of a program of the market
 abbrev pub AreProgramsOf : Market → List ℕ → Type 0
 AreProgramsOf m ps = (p : ℕ) → IsTrue (has ps p) → p < length m.programs
-
--- the agent is an applicant or a couple of the market, by its number
-abbrev pub IsAgentOf : Market → Agent → Type 0
-IsAgentOf m (Single a) = a < applicants m
-IsAgentOf m (Couple c) = c < length m.couples

@@ -3,8 +3,8 @@ use Rattle.std.specs.Prelude.{◌≡◌}
 use Rattle.mt_terms.specs.Registration.Accepted.{IsRegistration}
 use Rattle.mt_ranks.specs.Ranked.{ranked_of}
 use Rattle.mt_terms.specs.Places.{ArePlaces}
+use Rattle.mt_terms.specs.Matching.{ranks_by_program}
 use Rattle.mt_assignment.specs.Assigned.{Assigned, AreListed}
-use Rattle.mt_stage_tables.specs.Ranks.{rows_of}
 use Rattle.mt_assignment.specs.declared.assignment.Assignment.TheInside.{Inside}
 
 abbrev pub assigned_of : Inside → Assigned
@@ -17,4 +17,4 @@ pub record AreTables (t : Inside) : Type 0 where
   pub one_market : t.ranks.now ≡ ranked_of t.roster.now.market
   pub are_places : ArePlaces t.roster.now.market t.places.items
   pub listed : AreListed t.roster.now.market t.places.items
-  pub rows : t.rows.items ≡ rows_of t.roster.now.market t.places.items
+  pub rows : t.rows.items ≡ ranks_by_program t.roster.now.market t.places.items

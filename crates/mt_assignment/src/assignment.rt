@@ -1,13 +1,13 @@
 ghost use Rattle.std.specs.Prelude.{◌≡◌, ◌++◌, ◌<◌, ℕ, Some, None, [], is_some, length, slice_index, IfOk, IfSome, IsTrue, OnOk, nat_lt};
 ghost use Rattle.mt_terms.specs.Registration.Accepted.{IsRegistration};
 ghost use Rattle.mt_terms.specs.Lists.{has};
-ghost use Rattle.mt_terms.specs.Market.{agent_of, applicants, couple_of, program_of};
-ghost use Rattle.mt_terms.specs.Matching.{place_of};
+ghost use Rattle.mt_terms.specs.Market.{agent_of, applicants, couple_of, program_of, IsAgentOf};
+ghost use Rattle.mt_terms.specs.Matching.{place_of, ranks_by_program};
 ghost use Rattle.mt_ranks.specs.Ranked.{rank_of, ranked_of};
 ghost use Rattle.mt_terms.specs.Places.{ArePlaces};
 ghost use Rattle.mt_assignment.specs.Watched.{better_entries, entries_until, has_entry_at, other_entries, AreUnwatched, AreWatched, IsRankAtPlace, Watches};
-ghost use Rattle.mt_stage_tables.specs.Ranks.{rows_of, HavePlaced};
-ghost use Rattle.mt_assignment.specs.Assigned.{ahead, assignment, displaced_from, with_place, with_ranks, AreApplicantsOf, AreListed, IsAgentOf, IsAssigned};
+ghost use Rattle.mt_stage_tables.specs.Ranks.{HavePlaced};
+ghost use Rattle.mt_assignment.specs.Assigned.{ahead, assignment, displaced_from, with_place, with_ranks, AreApplicantsOf, AreListed, IsAssigned};
 
 use mt_bits::RankTable;
 use mt_market::Roster;
@@ -49,7 +49,8 @@ fn watch_wanted(
     place: Option<ProgNo>,
     watched: &mut RankTable,
 ) -> Result<Option<u32>, AllocError>
-    requires { applicant < applicants ranks.now.market }
+    requires applicant { applicant < applicants ranks.now.market }
+    requires one_each { length watched.old ≡ length ranks.now.market.programs }
     ensures watched { OnOk result (Watches watched.old watched.new (entries_until ranks.now.market applicant place)) }
     ensures is_found { IfOk result (λ o. is_some o ≡ has_entry_at ranks.now.market applicant place) }
     ensures found { IfOk result (λ o. IfSome o (IsRankAtPlace ranks.now.market applicant place)) }
@@ -58,10 +59,7 @@ fn watch_wanted(
         if place == Some(entry.program) {
             return Ok(Some(entry.rank));
         }
-        let program = entry.program.index();
-        if program < watched.len() {
-            watched.insert(program, entry.rank)?;
-        }
+        watched.insert(entry.program.index(), entry.rank)?;
     }
     Ok(None)
 }
@@ -143,7 +141,7 @@ fn placed_rows(
     requires places { ArePlaces roster.now.market places.now }
     requires listed { AreListed roster.now.market places.now }
     requires unwatched { AreUnwatched roster.now.market watched.old }
-    ensures rows { IfOk result (λ v. v.items ≡ rows_of roster.now.market places.now) }
+    ensures rows { IfOk result (λ v. v.items ≡ ranks_by_program roster.now.market places.now) }
     ensures watched { OnOk result (AreWatched (assignment roster.now.market places.now) watched.new) }
     ensures roster { IsRegistration roster.now }
 {

@@ -1,11 +1,11 @@
 ghost use Rattle.std.specs.Prelude.{◌≡◌, ◌<◌, ◌≤◌, length, Contains, IsTrue, Some};
 ghost use Rattle.std.specs.Option.{option_map};
 ghost use Rattle.mt_terms.specs.Lists.{has};
-ghost use Rattle.mt_terms.specs.Market.{applicants, couple_of};
+ghost use Rattle.mt_terms.specs.Market.{applicants, couple_of, IsAgentOf};
 ghost use Rattle.mt_terms.specs.Matching.{at, single_placement};
 ghost use Rattle.mt_terms.specs.Stability.{would_be_taken};
 ghost use Rattle.mt_terms.specs.declared.numbers.Agent.TheVariants.{Single, Couple};
-ghost use Rattle.mt_assignment.specs.Assigned.{chooses, has_post, is_ahead, pair_of, taken_by, AreSent, IsAgentOf, IsAssigned};
+ghost use Rattle.mt_assignment.specs.Assigned.{chooses, has_post, is_ahead, pair_of, taken_by, AreSent, IsAssigned};
 ghost use Rattle.mt_ranks.specs.Ranked.{rank_of};
 ghost use Rattle.mt_assignment.specs.Moves.{coming, leaving, opens, seated, some_has};
 ghost use Rattle.mt_assignment.specs.Watched.{better_pairs, opens_between};

@@ -6,10 +6,9 @@ use Rattle.std.proofs.lemmas.Bool.{cases_lt}
 use Rattle.mt_terms.specs.Lists.{below}
 use Rattle.mt_terms.specs.Market.{Market}
 use Rattle.mt_terms.specs.Matching.{Places}
-use Rattle.mt_terms.specs.Rounds.{Work, round, round_of, after_rounds, after_entries, stage}
+use Rattle.mt_terms.specs.Rounds.{Work, round, round_of, after_rounds, after_entries, stage, state}
 use Rattle.mt_terms.specs.declared.numbers.Agent.{Agent}
 use Rattle.mt_terms.specs.declared.numbers.Agent.TheVariants.{Couple}
-use Rattle.mt_round_laws.specs.Rounds.{state}
 use Rattle.mt_round_laws.proofs.RoundsStage.{chained, stage_end}
 use Rattle.mt_budget_laws.specs.Returning.{state_after, ReturningNeverEnds, ReturningStageNeverEnds}
 use Rattle.mt_budget_laws.proofs.RoundsCounted.{entered_uses}

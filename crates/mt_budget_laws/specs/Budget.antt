@@ -3,11 +3,11 @@ use Rattle.std.specs.Prelude.{◌≡◌, [], ◌∷◌, Some, None}
 use Rattle.mt_terms.specs.Market.{Market}
 use Rattle.mt_terms.specs.Matching.{Places}
 use Rattle.mt_terms.specs.Best.{IsBest}
-use Rattle.mt_terms.specs.Rounds.{stage, IsRoundState, NeedsRounds}
+use Rattle.mt_terms.specs.Rounds.{stage, IsRoundState, NeedsRounds, state}
 use Rattle.mt_terms.specs.WellFormed.{IsWellFormed}
 use Rattle.mt_terms.specs.Examples.Markets.{three_couples, partner_withdraws, nobody}
 use Rattle.mt_terms.specs.declared.numbers.Agent.TheVariants.{Single, Couple}
-use Rattle.mt_round_laws.specs.Rounds.{state, OfEveryEnd}
+use Rattle.mt_round_laws.specs.Rounds.{OfEveryEnd}
 
 -- a stage makes just the rounds that it needs
 abbrev pub StageRounds : Type 0

@@ -3,10 +3,9 @@ use Rattle.std.specs.Prelude.{◌≡◌, ◌≢◌, ℕ, zero, suc, ◌<◌, [],
 use Rattle.mt_terms.specs.Lists.{below}
 use Rattle.mt_terms.specs.Market.{Market}
 use Rattle.mt_terms.specs.Matching.{Places}
-use Rattle.mt_terms.specs.Rounds.{Work, round, after_rounds, after_entries, stage}
+use Rattle.mt_terms.specs.Rounds.{Work, round, after_rounds, after_entries, stage, state}
 use Rattle.mt_terms.specs.Examples.Markets.{partner_withdraws, unstable}
 use Rattle.mt_terms.specs.declared.numbers.Agent.TheVariants.{Single, Couple}
-use Rattle.mt_round_laws.specs.Rounds.{state}
 use Rattle.mt_budget_laws.specs.Budget.{single_back}
 
 -- the state after some rounds from another

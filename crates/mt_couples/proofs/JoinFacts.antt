@@ -2,13 +2,12 @@
 use Rattle.std.proofs.Common.{◌≡◌, ◌∙◌, ℕ, ◌+◌, ◌<◌, true, List, [], ◌∷◌, ◌++◌, map, drop, length, get_or, refl, ap, sym, arith}
 use Rattle.std.proofs.lemmas.Bool.{or_left, or_right}
 use Rattle.std.proofs.lemmas.List.{drop_more}
-use Rattle.mt_terms.specs.Market.{Market}
+use Rattle.mt_terms.specs.Market.{Market, IsAgentOf}
 use Rattle.mt_terms.specs.Rounds.{is_on, joined, all_joined}
 use Rattle.mt_terms.specs.declared.numbers.Agent.{Agent}
 use Rattle.mt_terms.specs.declared.numbers.Agent.TheVariants.{Single, Couple}
 use Rattle.mt_round_laws.proofs.RoundsKeep.{on_all_joined}
 use Rattle.mt_stage_tables.specs.Waiting.{with_agents, IsKnown, Waiting}
-use Rattle.mt_assignment.specs.Assigned.{IsAgentOf}
 use Rattle.mt_couples.specs.Waiting.{IsListOf, Joins}
 
 pub all_joined-append : (waiting gs hs : List Agent) → all_joined waiting (gs ++ hs) ≡ all_joined (all_joined waiting gs) hs

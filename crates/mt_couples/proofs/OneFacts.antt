@@ -2,7 +2,6 @@
 use Rattle.std.proofs.Common.{◌≡◌, ◌∙◌, ℕ, ◌+◌, ◌-◌, ◌<◌, ◌≤◌, Bool, true, false, not, ◌&&◌, ◌==◌, List, [], ◌∷◌, length, get_or, Option, Some, None, is_some, refl, ap, ap₂, sym, subst, inl, inr, arith, vec_len, Vec}
 use Rattle.std.specs.List.{list_all}
 use Rattle.std.specs.Prelude.{IfNone, IfSome}
-use Rattle.std.proofs.Math.Bool.{or-false}
 use Rattle.std.proofs.lemmas.Bool.{cases_Bool, and_parts, and_from, or_left, both_ways, eq-eqb, eqb-true, false≢true, false_from_ne_true, not_from_false, not-true}
 use Rattle.std.proofs.lemmas.List.{nil_from_length}
 use Rattle.mt_terms.specs.Lists.{below, has, until}

@@ -6,12 +6,11 @@ use Rattle.std.proofs.lemmas.Bool.{and_from, and_parts, both_ways, false≢true}
 use Rattle.std.proofs.lemmas.List.{append_cancel_left}
 use Rattle.mt_terms.specs.Market.{Market}
 use Rattle.mt_terms.specs.Matching.{Places}
-use Rattle.mt_terms.specs.Rounds.{Work, after_rounds, is_same_agent, round}
+use Rattle.mt_terms.specs.Rounds.{Work, after_rounds, is_same_agent, round, state}
 use Rattle.mt_terms.specs.contracts.numbers.AgentPartialEq.TheImpl.{eq-value}
 use Rattle.mt_terms.specs.declared.numbers.Agent.{Agent}
 use Rattle.mt_terms.proofs.AgentFacts.{is_same_agent_refl, same_agent}
 use Rattle.mt_stage_tables.proofs.WaitingFacts.{same_eq}
-use Rattle.mt_round_laws.specs.Rounds.{state}
 use Rattle.mt_budget_laws.specs.Returning.{state_after, ComesBack}
 use Rattle.mt_budget_laws.proofs.ReturningFacts.{further, stays_empty, returning_never_ends_lem}
 

@@ -2,7 +2,7 @@
 use Rattle.std.proofs.Common.{◌≡◌, ℕ, zero, suc, ◌-◌, ◌≤◌, Bool, true, List, [], ◌∷◌, Some, Contains, refl, ap, sym, ◌∙◌, inl, inr, arith, subst}
 use Rattle.std.specs.List.{list_any}
 use Rattle.std.proofs.lemmas.Bool.{or_left}
-use Rattle.mt_terms.specs.Market.{Market, agents}
+use Rattle.mt_terms.specs.Market.{Market, agents, IsAgentOf}
 use Rattle.mt_terms.specs.Matching.{Places, Placement, holds, options, better}
 use Rattle.mt_terms.specs.Stability.{would_be_taken, fits}
 use Rattle.mt_terms.specs.Places.{ArePlaces}
@@ -14,7 +14,7 @@ use Rattle.mt_round_laws.proofs.RoundsAgents.{is_same_agent_refl, agent_from_lis
 use Rattle.mt_round_laws.proofs.RoundsFits.{fitting_facts, listing_program}
 use Rattle.mt_round_laws.proofs.RoundsKeep.{fitting_round, found_first}
 use Rattle.mt_stage_tables.specs.Waiting.{waiting_first, Waiting}
-use Rattle.mt_assignment.specs.Assigned.{Assigned, AreListed, IsAgentOf}
+use Rattle.mt_assignment.specs.Assigned.{Assigned, AreListed}
 use Rattle.mt_assignment.specs.Moves.{IsTaking}
 use Rattle.mt_couples.specs.Running.{work_of, IsRunning}
 use Rattle.mt_couples.specs.Waiting.{IsListOf, KeepsRoom}

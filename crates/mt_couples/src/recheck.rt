@@ -2,9 +2,10 @@ ghost use Rattle.std.specs.Prelude.{◌≡◌, ◌≤◌, ◌<◌, ℕ, length, 
 ghost use Rattle.std.specs.List.Sorted.{IsNonDecreasing};
 ghost use Rattle.mt_terms.specs.Rounds.{has_entered};
 ghost use Rattle.mt_terms.specs.WellFormed.{IsWellFormed};
+ghost use Rattle.mt_terms.specs.Market.{IsAgentOf};
 ghost use Rattle.mt_bits.specs.Members.{is_in};
 ghost use Rattle.mt_stage_tables.specs.Named.{AreNamed};
-ghost use Rattle.mt_assignment.specs.Assigned.{AreApplicantsOf, AreProgramsOf, IsAgentOf};
+ghost use Rattle.mt_assignment.specs.Assigned.{AreApplicantsOf, AreProgramsOf};
 ghost use Rattle.mt_assignment.specs.Watched.{AreWatched};
 ghost use Rattle.mt_couples.specs.Looking.{has_wanted_post, AreClosedFrom, AreRanksOf, IsOpenFrom, Keeps};
 ghost use Rattle.mt_couples.specs.Waiting.{Joins};
@@ -302,14 +303,20 @@ impl<'s, 'a> Recheck<'s, 'a> {
     }
 
     /// Puts those agents of a program's list on the work list that have entered and block now. At these ranks, in
-    /// rising order, are all that can have been reopened.
-    fn join_reopened(&self, program: ProgNo, ranks: &[u32], left: &[ProgNo], waiting: &mut WorkList)
+    /// rising order, are all that can have been reopened. The error is want of memory.
+    fn join_reopened(
+        &self,
+        program: ProgNo,
+        ranks: &[u32],
+        left: &[ProgNo],
+        waiting: &mut WorkList,
+    ) -> Result<(), AllocError>
         requires program { program < length (market_of self.now).programs }
         requires sorted { IsNonDecreasing ranks.now }
         requires ranks { HaveAll self.now program left.now waiting.old ranks.now }
         requires list { IsListFor self.now waiting.old }
         requires quiet { IsQuietAround self.now left.now waiting.old }
-        ensures { Joins waiting.old waiting.new (blockers_at self.now program) }
+        ensures { OnOk result (Joins waiting.old waiting.new (blockers_at self.now program)) }
     {
         let ranking = self.assignment.ranking(program);
         let mut next = 0;
@@ -319,10 +326,11 @@ impl<'s, 'a> Recheck<'s, 'a> {
                 next = place + 1;
                 let agent = self.assignment.agent_of(ranking[place]);
                 if self.is_reopened(&agent, left, waiting) {
-                    waiting.join(agent);
+                    waiting.join(agent)?;
                 }
             }
         }
+        Ok(())
     }
 
     /// Rechecks the one program that was left, if no couple is reopened there. The singles that block want the program
@@ -351,7 +359,7 @@ impl<'s, 'a> Recheck<'s, 'a> {
         let mut next = 0;
         while let Some(rank) = first_with_post(self.assignment, program, &ranks, next) {
             next = rank as usize + 1;
-            waiting.join(Agent::Single(ranking[rank as usize]));
+            waiting.join(Agent::Single(ranking[rank as usize]))?;
         }
         Ok(true)
     }
@@ -372,7 +380,7 @@ impl<'s, 'a> Recheck<'s, 'a> {
         let found = self.reopened_applicants(rt, left, waiting)?;
         for program in left {
             let ranks = ranks_of(self.alloc, self.assignment, *program, &found)?;
-            self.join_reopened(*program, &ranks, left, waiting);
+            self.join_reopened(*program, &ranks, left, waiting)?;
         }
         Ok(())
     }
@@ -400,28 +408,34 @@ impl<'s, 'a> Recheck<'s, 'a> {
     }
 
     /// Rechecks every agent of a program's list.
-    fn recheck_listed(&self, program: ProgNo, waiting: &mut WorkList)
+    fn recheck_listed(&self, program: ProgNo, waiting: &mut WorkList) -> Result<(), AllocError>
         requires program { program < length (market_of self.now).programs }
         requires list { IsListFor self.now waiting.old }
-        ensures { Joins waiting.old waiting.new (blockers_at self.now program) }
+        ensures { OnOk result (Joins waiting.old waiting.new (blockers_at self.now program)) }
     {
         for applicant in self.assignment.ranking(program) {
             let agent = self.assignment.agent_of(*applicant);
             if has_entered(&agent, self.last) && self.watch.blocks(self.assignment, &agent) {
-                waiting.join(agent);
+                waiting.join(agent)?;
             }
         }
+        Ok(())
     }
 
     /// Rechecks every agent of the lists of the programs that were left.
-    fn recheck_every_listed(&self, left: &[ProgNo], waiting: &mut WorkList)
+    fn recheck_every_listed(
+        &self,
+        left: &[ProgNo],
+        waiting: &mut WorkList,
+    ) -> Result<(), AllocError>
         requires programs { AreProgramsOf (market_of self.now) left.now }
         requires list { IsListFor self.now waiting.old }
-        ensures { Joins waiting.old waiting.new (blockers_of_all self.now left.now) }
+        ensures { OnOk result (Joins waiting.old waiting.new (blockers_of_all self.now left.now)) }
     {
         for program in left {
-            self.recheck_listed(*program, waiting);
+            self.recheck_listed(*program, waiting)?;
         }
+        Ok(())
     }
 
     /// Puts those agents of the lists of the programs that were left on the work list that have entered and block now.
@@ -441,23 +455,28 @@ impl<'s, 'a> Recheck<'s, 'a> {
         if self.quiet {
             return self.recheck_watched(rt, left, waiting);
         }
-        self.recheck_every_listed(left, waiting);
-        Ok(())
+        self.recheck_every_listed(left, waiting)
     }
 
     /// Puts the agents of displaced applicants on the work list, and then the agent that moved, if it has a better
     /// option still.
-    pub(crate) fn join_moved(&self, displaced: &[AppNo], agent: Agent, waiting: &mut WorkList)
+    pub(crate) fn join_moved(
+        &self,
+        displaced: &[AppNo],
+        agent: Agent,
+        waiting: &mut WorkList,
+    ) -> Result<(), AllocError>
         requires displaced { AreApplicantsOf (market_of self.now) displaced.now }
         requires agent { IsAgentOf (market_of self.now) agent }
         requires list { IsListFor self.now waiting.old }
-        ensures { Joins waiting.old waiting.new (joining_moved self.now displaced.now agent) }
+        ensures { OnOk result (Joins waiting.old waiting.new (joining_moved self.now displaced.now agent)) }
     {
         for applicant in displaced {
-            waiting.join(self.assignment.agent_of(*applicant));
+            waiting.join(self.assignment.agent_of(*applicant))?;
         }
         if self.watch.blocks(self.assignment, &agent) {
-            waiting.join(agent);
+            waiting.join(agent)?;
         }
+        Ok(())
     }
 }

@@ -129,7 +129,7 @@ impl<'a> Stage<'a> {
         let mut watched = no_ranks(alloc, roster)?;
         let assignment = Assignment::new(alloc, roster, ranks, singles, &mut watched)?;
         let watch = Watch::new(alloc, &assignment, watched)?;
-        let waiting = WorkList::new(alloc, roster.applicants(), roster.couples())?;
+        let waiting = WorkList::new(alloc, roster.applicants(), roster.couples());
         let quiet = are_singles_quiet(rt, &assignment, &watch);
         Ok(Stage {
             assignment,
@@ -230,7 +230,7 @@ impl<'a> Stage<'a> {
             last: self.last,
             quiet: self.quiet,
         };
-        recheck.join_moved(&moved.displaced, agent, &mut self.waiting);
+        recheck.join_moved(&moved.displaced, agent, &mut self.waiting)?;
         recheck.recheck_left(rt, &moved.left, &mut self.waiting)
     }
 
@@ -337,7 +337,7 @@ impl<'a> Stage<'a> {
     {
         self.assignment.roster();
         self.last = couple;
-        self.waiting.join(Agent::Couple(couple));
+        self.waiting.join(Agent::Couple(couple))?;
         self.settle(rt, alloc, budget, left)
     }
 }

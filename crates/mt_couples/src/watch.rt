@@ -1,9 +1,9 @@
 ghost use Rattle.std.specs.Prelude.{◌≡◌, ◌<◌, length, slice_index_or, IfOk, OnOk};
-ghost use Rattle.mt_terms.specs.Market.{applicants};
+ghost use Rattle.mt_terms.specs.Market.{applicants, IsAgentOf};
 ghost use Rattle.mt_terms.specs.Stability.{blocks};
 ghost use Rattle.mt_bits.specs.Members.{is_in};
 ghost use Rattle.mt_stage_tables.specs.Named.{row_at, AreNamed};
-ghost use Rattle.mt_assignment.specs.Assigned.{AreApplicantsOf, AreSent, IsAgentOf};
+ghost use Rattle.mt_assignment.specs.Assigned.{AreApplicantsOf, AreSent};
 ghost use Rattle.mt_assignment.specs.Watched.{better_pairs, ranks_at, AreWatched, Follows, Unwatches, Watches};
 ghost use Rattle.mt_couples.specs.Watching.{sent_ones, AreCounted, Counts, CountsAll, CountsCouple, FollowsAll, IndexesAgent, IndexesCouple};
 

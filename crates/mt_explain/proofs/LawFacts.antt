@@ -2,7 +2,7 @@
 use Rattle.std.proofs.Common.{◌≡◌, ℕ, ◌+◌, ◌<◌, Bool, not, ◌&&◌, [], length, get_or, ap, sym, ◌∙◌, inl, inr, arith}
 use Rattle.std.specs.List.{list_all}
 use Rattle.std.proofs.lemmas.List.{get_or_default}
-use Rattle.mt_terms.specs.Market.{Market, Registered, agent_of, applicants, leads}
+use Rattle.mt_terms.specs.Market.{Market, Registered, agent_of, applicants, leads, IsAgentOf}
 use Rattle.mt_terms.specs.Matching.{Places, Placement, better, holds, options}
 use Rattle.mt_terms.specs.Places.{ArePlaces}
 use Rattle.mt_terms.specs.Registration.Accepted.{IsRegistration}
@@ -10,7 +10,6 @@ use Rattle.mt_terms.specs.Stability.{blocks, fits, would_be_taken}
 use Rattle.mt_terms.specs.declared.numbers.Agent.{Agent}
 use Rattle.mt_terms.proofs.ListFacts.{until-le}
 use Rattle.mt_verdict_laws.proofs.VerdictLemmas.{agent_cases}
-use Rattle.mt_verify.specs.Held.{IsNumbered}
 use Rattle.mt_explain.specs.Laws.{EachBetterOptionOnce, OpenIfBlocks, OpenIfTaken, StableIfNoneOpen}
 use Rattle.mt_explain.specs.Lines.{explanation, has_open_option, is_open, lines_of, option_lines}
 use Rattle.mt_explain.proofs.LineFacts.{any_of_options, lines_with_number, names_program}
@@ -25,7 +24,7 @@ pub each_better_option_once_lem : EachBetterOptionOnce
 each_better_option_once_lem = lines_of_better
 
 -- an applicant's agent has a number of the market
-pub agent_numbered : (m : Market) (a : ℕ) → a < applicants m → IsNumbered m (agent_of m a)
+pub agent_numbered : (m : Market) (a : ℕ) → a < applicants m → IsAgentOf m (agent_of m a)
 agent_numbered m a a_in = elim (agent_cases m a) [
   | inl alone ↦ rw alone a_in
   | inr w ↦ rw w.1 (omega (arith, w.2))
@@ -42,7 +41,7 @@ open_if_taken_lem m formed places are a k a_in = λ i d within.
         ∙ open_if_option_taken m formed places are (agent_of m a) (agent_numbered m a a_in) k i within
         ∙ ap (would_be_taken m places) (get_or_default (options m (agent_of m a)) i [] d within)
 
-open_if_agent_blocks : (r : Registered) → IsRegistration r → (places : Places) → ArePlaces r.market places → (g : Agent) → IsNumbered r.market g
+open_if_agent_blocks : (r : Registered) → IsRegistration r → (places : Places) → ArePlaces r.market places → (g : Agent) → IsAgentOf r.market g
     → has_open_option (explanation r.market places g) ≡ blocks r.market places g
 open_if_agent_blocks r registration places are g numbered =
     let m : Market = r.market in

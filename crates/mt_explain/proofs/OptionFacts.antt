@@ -6,7 +6,7 @@ use Rattle.std.proofs.lemmas.Bool.{and_parts, cases_Bool}
 use Rattle.std.proofs.lemmas.Bool.Decides.{nat_tests}
 use Rattle.std.proofs.lemmas.List.{append-nil, get_or-map, length-map}
 use Rattle.mt_terms.specs.Lists.{Set, has, until}
-use Rattle.mt_terms.specs.Market.{Market, Pair, Registered, couple_of, list_of}
+use Rattle.mt_terms.specs.Market.{Market, Pair, Registered, couple_of, list_of, IsAgentOf}
 use Rattle.mt_terms.specs.Matching.{Places, Placement, couple_placement, is_program, options, send, single_placement}
 use Rattle.mt_terms.specs.Places.{ArePlaces}
 use Rattle.mt_terms.specs.Registration.Accepted.{IsRegistration, is_none_or_below, is_pair_below}
@@ -16,7 +16,6 @@ use Rattle.mt_terms.specs.declared.numbers.Agent.{Agent}
 use Rattle.mt_terms.specs.declared.numbers.Agent.TheVariants.{Couple, Single}
 use Rattle.mt_terms.proofs.ListFacts.{has_item}
 use Rattle.mt_stability_laws.proofs.TakenLemmas.{at-slice_set_same}
-use Rattle.mt_verify.specs.Held.{IsNumbered}
 use Rattle.mt_verify.proofs.BlockingFacts.{element_read}
 use Rattle.mt_verify.proofs.TakenFacts.{send_both}
 use Rattle.mt_explain.specs.Explained.{both_lines, line_if}
@@ -73,7 +72,7 @@ pair_option m c i within =
     (low, get_or-map (couple_placement couple.first couple.second) couple.pairs i (None, None) [] low)
 
 -- an option of an agent sends its members where its lines have them
-pub option_there : (m : Market) → IsWellFormed m → (places : Places) → ArePlaces m places → (g : Agent) → IsNumbered m g
+pub option_there : (m : Market) → IsWellFormed m → (places : Places) → ArePlaces m places → (g : Agent) → IsAgentOf m g
     → (i : ℕ) → i < length (options m g) → AreThere (send (get_or (options m g) i []) places) (get_or (options m g) i [])
 option_there m formed places are (Single a) numbered i within =
     let at_i = single_option m a i within in
@@ -90,7 +89,7 @@ option_there m formed places are (Couple c) numbered i within =
     (get_or (couple_of m c).pairs i (None, None)))
 
 -- so its lines are all open exactly if it would be taken
-pub open_if_option_taken : (m : Market) → IsWellFormed m → (places : Places) → ArePlaces m places → (g : Agent) → IsNumbered m g
+pub open_if_option_taken : (m : Market) → IsWellFormed m → (places : Places) → ArePlaces m places → (g : Agent) → IsAgentOf m g
     → (k i : ℕ) → i < length (options m g)
     → list_all is_open (option_lines m places k (get_or (options m g) i [])) ≡ would_be_taken m places (get_or (options m g) i [])
 open_if_option_taken m formed places are g numbered k i within =

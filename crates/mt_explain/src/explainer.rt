@@ -1,11 +1,11 @@
 ghost use Rattle.std.specs.Prelude.{◌≡◌, ◌≢◌, ◌<◌, [], length, IfOk, IfSome, None, Some, slice_index, slice_index_or};
-ghost use Rattle.mt_terms.specs.Market.{applicants, couple_of, list_of};
+ghost use Rattle.mt_terms.specs.Market.{applicants, couple_of, list_of, IsAgentOf};
 ghost use Rattle.mt_terms.specs.Matching.{better, couple_placement, options, place_of, send, single_placement};
 ghost use Rattle.mt_terms.specs.Places.{ArePlaces};
 ghost use Rattle.mt_terms.specs.declared.numbers.Agent.TheVariants.{Couple, Single};
 ghost use Rattle.mt_ranks.specs.Ranked.{ranked_of};
 ghost use Rattle.mt_explain.specs.Explained.{both_lines, line_if};
-ghost use Rattle.mt_verify.specs.Held.{IsNumbered, held_option, rank_at};
+ghost use Rattle.mt_verify.specs.Held.{held_option, rank_at};
 ghost use Rattle.mt_explain.specs.Lines.{lines_at, option_lines};
 
 use crate::line::Line;
@@ -82,7 +82,7 @@ impl<'a> Explainer<'a> {
 
     /// The number from 0 of the option that the agent has, if it has one of its list.
     pub fn held_option(&self, agent: Agent) -> Option<u32>
-        requires { IsNumbered self.now.registered.market agent }
+        requires { IsAgentOf self.now.registered.market agent }
         ensures { result ≡ held_option self.now.registered.market self.now.places agent }
     {
         self.tables.held_option(agent)
@@ -90,7 +90,7 @@ impl<'a> Explainer<'a> {
 
     /// How many options the agent wants more than what it has. They are the first ones of its list.
     pub fn better_options(&self, agent: Agent) -> u32
-        requires { IsNumbered self.now.registered.market agent }
+        requires { IsAgentOf self.now.registered.market agent }
         ensures { result ≡ length (better self.now.registered.market self.now.places agent) }
     {
         self.tables.better_options(agent)
@@ -98,7 +98,7 @@ impl<'a> Explainer<'a> {
 
     /// The lines of the agent's option with a number.
     pub fn option_lines(&self, agent: Agent, option: u32) -> OptionLines
-        requires agent { IsNumbered self.now.registered.market agent }
+        requires agent { IsAgentOf self.now.registered.market agent }
         requires option { option < length (options self.now.registered.market agent) }
         ensures { let m = self.now.registered.market in
             both_lines result ≡ option_lines m self.now.places option (slice_index_or (options m agent) option []) }

@@ -1,12 +1,11 @@
 -- The lines of an option name programs and applicants of the market.
 use Rattle.std.proofs.Common.{◌≡◌, ◌≢◌, ℕ, ◌<◌, List, [], ◌∷◌, ◌++◌, length, get_or, Option, Some, None, IfSome, refl, sym, ap, subst, arith}
 use Rattle.std.proofs.lemmas.List.{get_or_default}
-use Rattle.mt_terms.specs.Market.{Market, Pair, Registered, applicants, couple_of, list_of}
+use Rattle.mt_terms.specs.Market.{Market, Pair, Registered, applicants, couple_of, list_of, IsAgentOf}
 use Rattle.mt_terms.specs.Matching.{Places, Placement, couple_placement, options, send, single_placement}
 use Rattle.mt_terms.specs.Registration.Accepted.{IsRegistration}
 use Rattle.mt_terms.specs.declared.numbers.Agent.{Agent}
 use Rattle.mt_terms.specs.declared.numbers.Agent.TheVariants.{Couple, Single}
-use Rattle.mt_verify.specs.Held.{IsNumbered}
 use Rattle.mt_explain.specs.Explained.{both_lines}
 use Rattle.mt_explain.specs.Lines.{lines_at, option_lines}
 use Rattle.mt_explain.specs.declared.line.Line.{Line}
@@ -26,7 +25,7 @@ member_here : (m : Market) (moved : Places) (k a : ℕ) (place : Option ℕ) (re
 member_here m moved k a None rest a_in p_in later = later
 member_here m moved k a (Some p) rest a_in p_in later = (record { program = p_in; member = a_in }, later)
 
-pub lines_here : (r : Registered) → IsRegistration r → (places : Places) → (g : Agent) → IsNumbered r.market g
+pub lines_here : (r : Registered) → IsRegistration r → (places : Places) → (g : Agent) → IsAgentOf r.market g
     → (k i : ℕ) → i < length (options r.market g) → AreHere r.market (option_lines r.market places k (get_or (options r.market g) i []))
 lines_here r registration places (Single a) numbered k i within =
     let m : Market = r.market in

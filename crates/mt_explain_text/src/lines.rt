@@ -1,12 +1,11 @@
 ghost use Rattle.std.specs.Prelude.{◌≡◌, ◌<◌, ◌≤◌, ◌+◌, ◌*◌, ◌++◌, [], length, IfSome, slice_index_or};
-ghost use Rattle.mt_terms.specs.Market.{applicants};
+ghost use Rattle.mt_terms.specs.Market.{applicants, IsAgentOf};
 ghost use Rattle.mt_terms.specs.Matching.{better, options, place_of};
 ghost use Rattle.mt_terms.specs.Places.{ArePlaces};
 ghost use Rattle.mt_terms.specs.Text.{name_of, place_text};
 ghost use Rattle.mt_terms.specs.declared.numbers.Agent.TheVariants.{Couple, Single};
 ghost use Rattle.mt_explain.specs.Explained.{both_lines, line_if};
 ghost use Rattle.mt_explain.specs.Lines.{option_lines};
-ghost use Rattle.mt_verify.specs.Held.{IsNumbered};
 ghost use Rattle.mt_explain_text.specs.Text.{above_line, above_lines, agent_id, own_line};
 ghost use Rattle.mt_explain_text.specs.Here.{IsHere};
 ghost use Rattle.mt_explain_text.specs.declared.page.TheConstants.{LINE_LEN, PAGE_LEN};
@@ -48,7 +47,7 @@ impl<'a> AgentLines<'a> {
 
     /// How many options the agent wants more than what it has. They are the first ones of its list.
     pub fn better_options(&self, agent: &Agent) -> u32
-        requires { IsNumbered (registered_of self.now).market agent.now }
+        requires { IsAgentOf (registered_of self.now).market agent.now }
         ensures { result ≡ length (better (registered_of self.now).market (places_of self.now) agent.now) }
     {
         self.explainer.better_options(*agent)
@@ -56,7 +55,7 @@ impl<'a> AgentLines<'a> {
 
     /// Adds the line of what an agent has.
     pub fn push_own(&self, page: &mut Page, agent: &Agent)
-        requires agent { IsNumbered (registered_of self.now).market agent.now }
+        requires agent { IsAgentOf (registered_of self.now).market agent.now }
         requires room { length page.old + LINE_LEN ≤ PAGE_LEN }
         ensures { page.new ≡ page.old
             ++ own_line (registered_of self.now) (places_of self.now) (is_public_of self.now) agent.now }
@@ -69,7 +68,7 @@ impl<'a> AgentLines<'a> {
 
     /// Adds the lines of an option of an agent, which has a number on its list.
     pub fn push_option(&self, page: &mut Page, agent: &Agent, option: u32)
-        requires agent { IsNumbered (registered_of self.now).market agent.now }
+        requires agent { IsAgentOf (registered_of self.now).market agent.now }
         requires option { option < length (options (registered_of self.now).market agent.now) }
         requires room { length page.old + 2 * LINE_LEN ≤ PAGE_LEN }
         ensures { let m = (registered_of self.now).market in page.new ≡ page.old
@@ -83,7 +82,7 @@ impl<'a> AgentLines<'a> {
 
     /// Adds the lines of an option of an agent.
     fn push_lines(&self, page: &mut Page, agent: &Agent, lines: &OptionLines)
-        requires agent { IsNumbered (registered_of self.now).market agent.now }
+        requires agent { IsAgentOf (registered_of self.now).market agent.now }
         requires first { IfSome lines.now.0 (IsHere (registered_of self.now).market) }
         requires second { IfSome lines.now.1 (IsHere (registered_of self.now).market) }
         requires room { length page.old + 2 * LINE_LEN ≤ PAGE_LEN }
@@ -132,7 +131,7 @@ impl<'a> AgentLines<'a> {
 
     /// Adds the line of a place that an option of an agent names, if there is one.
     fn push_if(&self, page: &mut Page, agent: &Agent, line: &Option<Line>)
-        requires agent { IsNumbered (registered_of self.now).market agent.now }
+        requires agent { IsAgentOf (registered_of self.now).market agent.now }
         requires line { IfSome line.now (IsHere (registered_of self.now).market) }
         requires room { length page.old + LINE_LEN ≤ PAGE_LEN }
         ensures lines { page.new ≡ page.old
@@ -146,7 +145,7 @@ impl<'a> AgentLines<'a> {
 
     /// Adds the line of a place that an option of an agent names.
     fn push_above(&self, page: &mut Page, agent: &Agent, line: &Line)
-        requires agent { IsNumbered (registered_of self.now).market agent.now }
+        requires agent { IsAgentOf (registered_of self.now).market agent.now }
         requires line { IsHere (registered_of self.now).market line.now }
         requires room { length page.old + LINE_LEN ≤ PAGE_LEN }
         ensures line { page.new ≡ page.old
@@ -189,7 +188,7 @@ impl<'a> AgentLines<'a> {
 
     /// The id of an agent.
     fn agent_id(&self, agent: &Agent) -> &[u8]
-        requires { IsNumbered (registered_of self.now).market agent.now }
+        requires { IsAgentOf (registered_of self.now).market agent.now }
         ensures value { result.now ≡ agent_id (registered_of self.now).names agent.now }
         ensures short { length result.now ≤ 64 }
     {

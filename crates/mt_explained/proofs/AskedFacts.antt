@@ -8,11 +8,10 @@ use Rattle.std.proofs.lemmas.List.{append-nil, drop_more, map-append, take-appen
 use Rattle.std.proofs.lemmas.List.Elements.{All-cons, filter-append, filter_map-append}
 use Rattle.mt_ids.proofs.IdFacts.{found_below}
 use Rattle.mt_terms.specs.Lists.{Set, below}
-use Rattle.mt_terms.specs.Market.{Market, Registered, agent_of, applicants, leads}
+use Rattle.mt_terms.specs.Market.{Market, Registered, agent_of, applicants, leads, IsAgentOf}
 use Rattle.mt_terms.specs.Registration.Accepted.{IsRegistration}
 use Rattle.mt_terms.specs.Registration.Ids.{Bytes}
 use Rattle.mt_terms.specs.declared.numbers.Agent.{Agent}
-use Rattle.mt_verify.specs.Held.{IsNumbered}
 use Rattle.mt_explain.proofs.LawFacts.{agent_numbered}
 use Rattle.mt_terms.proofs.BelowFacts.{below_more}
 use Rattle.mt_explained.specs.Asked.{agent_by, agent_named, agents_asked, first_unknown}
@@ -21,12 +20,12 @@ all_none : {X : Type 0} (P : X → Type 0) → All P []
 all_none P = λ i d h. absurd (omega arith)
 
 -- the agents of a range of applicants
-among_range : (m : Market) (keep : Set) (low n : ℕ) → low + n ≤ applicants m → All (IsNumbered m) (map (agent_of m) (filter keep (range_with_len low n)))
-among_range m keep low zero h = all_none (IsNumbered m)
+among_range : (m : Market) (keep : Set) (low n : ℕ) → low + n ≤ applicants m → All (IsAgentOf m) (map (agent_of m) (filter keep (range_with_len low n)))
+among_range m keep low zero h = all_none (IsAgentOf m)
 among_range m keep low (suc n) h =
     let later = among_range m keep (low + 1) n (omega arith) in
     elim (cases_Bool (keep low)) [
-      | inl kept ↦ rw kept (All-cons (IsNumbered m) (agent_of m low) (map (agent_of m) (filter keep (range_with_len (low + 1) n))) (agent_numbered m low (omega arith)) later)
+      | inl kept ↦ rw kept (All-cons (IsAgentOf m) (agent_of m low) (map (agent_of m) (filter keep (range_with_len (low + 1) n))) (agent_numbered m low (omega arith)) later)
       | inr dropped ↦ rw dropped later
     ]
 
@@ -39,7 +38,7 @@ position_below ids id = go (position (bytes_eq id) ids) refl
 
 module _ (r : Registered) (registration : IsRegistration r) where
   numbered_by : (a c : Option ℕ) → IfSome a (λ n. n < applicants r.market) → IfSome c (λ n. n < length r.market.couples)
-      → IfSome (agent_by r.market a c) (IsNumbered r.market)
+      → IfSome (agent_by r.market a c) (IsAgentOf r.market)
   numbered_by (Some a) c a_in c_in = agent_numbered r.market a a_in
   numbered_by None (Some c) a_in c_in = c_in
   numbered_by None None a_in c_in = tt
@@ -48,21 +47,21 @@ module _ (r : Registered) (registration : IsRegistration r) where
   some_below None n k same h = tt
   some_below (Some i) n k same h = omega (arith, same, h)
 
-  pub named_numbered : (id : Bytes) → IfSome (agent_named r id) (IsNumbered r.market)
+  pub named_numbered : (id : Bytes) → IfSome (agent_named r id) (IsAgentOf r.market)
   named_numbered id =
       numbered_by (position (bytes_eq id) r.names.applicants) (position (bytes_eq id) r.names.couples)
       (some_below (position (bytes_eq id) r.names.applicants) (length r.names.applicants) (applicants r.market) registration.applicant_names.one_each (position_below r.names.applicants id))
       (some_below (position (bytes_eq id) r.names.couples) (length r.names.couples) (length r.market.couples) registration.couple_names.one_each (position_below r.names.couples id))
 
-  with_option : (o : Option Agent) (gs : List Agent) → IfSome o (IsNumbered r.market) → All (IsNumbered r.market) gs → All (IsNumbered r.market) (cons_option o gs)
+  with_option : (o : Option Agent) (gs : List Agent) → IfSome o (IsAgentOf r.market) → All (IsAgentOf r.market) gs → All (IsAgentOf r.market) (cons_option o gs)
   with_option None gs h all = all
-  with_option (Some g) gs h all = All-cons (IsNumbered r.market) g gs h all
+  with_option (Some g) gs h all = All-cons (IsAgentOf r.market) g gs h all
 
-  all_named : (ids : List Bytes) → All (IsNumbered r.market) (filter_map (agent_named r) ids)
-  all_named [] = all_none (IsNumbered r.market)
+  all_named : (ids : List Bytes) → All (IsAgentOf r.market) (filter_map (agent_named r) ids)
+  all_named [] = all_none (IsAgentOf r.market)
   all_named (id ∷ ids) = with_option (agent_named r id) (filter_map (agent_named r) ids) (named_numbered id) (all_named ids)
 
-  pub asked_numbered : (ids : List Bytes) → All (IsNumbered r.market) (agents_asked r ids)
+  pub asked_numbered : (ids : List Bytes) → All (IsAgentOf r.market) (agents_asked r ids)
   asked_numbered [] = among_range r.market (leads r.market) 0 (applicants r.market) (omega arith)
   asked_numbered (id ∷ ids) = all_named (id ∷ ids)
 

@@ -1,8 +1,8 @@
 ghost use Rattle.std.specs.Prelude.{◌≡◌, ◌<◌, ◌++◌, [], ◌∷◌, length, position, bytes_eq, false, OnOk, IfOk, IfSome};
 ghost use Rattle.mt_terms.specs.Registration.Accepted.{IsRegistration};
 ghost use Rattle.mt_terms.specs.Registration.Ids.{has_id};
+ghost use Rattle.mt_terms.specs.Market.{IsAgentOf};
 ghost use Rattle.mt_ids.specs.Seeds.{seed_of};
-ghost use Rattle.mt_verify.specs.Held.{IsNumbered};
 ghost use Rattle.mt_explained.specs.Asked.{agent_named};
 
 use mt_ids::{IdTable, Seed, add_field};

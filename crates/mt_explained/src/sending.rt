@@ -1,6 +1,6 @@
 ghost use Rattle.std.specs.Prelude.{◌≡◌, ◌+◌, ◌*◌, ◌<◌, ◌≤◌, ◌^◌, [], length, All, IsTrue, OnErr, OnOk};
 ghost use Rattle.mt_report.specs.Drains.{contents_of, failures_of, is_flushed};
-ghost use Rattle.mt_verify.specs.Held.{IsNumbered};
+ghost use Rattle.mt_terms.specs.Market.{IsAgentOf};
 ghost use Rattle.mt_explain_text.specs.Text.{agent_text, agents_text};
 ghost use Rattle.mt_explain_text.specs.View.{is_public_of, places_of, registered_of};
 ghost use Rattle.mt_explain_text.specs.declared.page.TheConstants.{LINE_LEN, PAGE_LEN};
@@ -56,7 +56,7 @@ fn write_agent<W: Write>(
     lines: &AgentLines<'_>,
     agent: &Agent,
 ) -> Result<(), Unwritten>
-    requires agent { IsNumbered (registered_of lines.now).market agent.now }
+    requires agent { IsAgentOf (registered_of lines.now).market agent.now }
     requires room { failures_of drain.old + 1 < 2 ^ 64 }
     ensures sends { OnOk result (Sends (contents_of W.contents drain.old)
         (contents_of W.contents drain.new) page.old page.new
@@ -83,7 +83,7 @@ pub(crate) fn write_agents<W: Write>(
     lines: &AgentLines<'_>,
     agents: &[Agent],
 ) -> Result<(), Unwritten>
-    requires agents { All (IsNumbered (registered_of lines.now).market) agents.now }
+    requires agents { All (IsAgentOf (registered_of lines.now).market) agents.now }
     requires room { failures_of drain.old + 1 < 2 ^ 64 }
     ensures sends { OnOk result (Sends (contents_of W.contents drain.old)
         (contents_of W.contents drain.new) page.old page.new

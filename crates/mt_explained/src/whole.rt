@@ -3,7 +3,7 @@ ghost use Rattle.mt_lists.specs.Tap.{bytes_left, failures_of as read_failures_of
 ghost use Rattle.mt_terms.specs.Places.{ArePlaces};
 ghost use Rattle.mt_match_file.specs.Submitted.{shown};
 ghost use Rattle.mt_terms.specs.declared.codes.TheConstants.{READ_FAULT};
-ghost use Rattle.mt_verify.specs.Held.{IsNumbered};
+ghost use Rattle.mt_terms.specs.Market.{IsAgentOf};
 ghost use Rattle.mt_order_laws.specs.Reordered.{set_aside_registered};
 ghost use Rattle.mt_report.specs.Drains.{contents_of, failures_of, is_flushed};
 ghost use Rattle.mt_input.specs.Files.{most_bytes};
@@ -88,7 +88,7 @@ fn write_all<W: Write>(
     agents: &[Agent],
 ) -> Result<(), Unwritten>
     requires page { page.old ≡ [] }
-    requires agents { All (IsNumbered (registered_of lines.now).market) agents.now }
+    requires agents { All (IsAgentOf (registered_of lines.now).market) agents.now }
     requires failures { failures_of drain.old + 1 < 2 ^ 64 }
     ensures given { IsGiven (record {
       code = 0;
@@ -114,7 +114,7 @@ fn write_lines<T: Threads + Sync, W: Write>(
     drain: &mut Drain<W>,
 ) -> Result<Outcome, AllocError>
     requires places { ArePlaces files.now.roster.market files.now.submitted.places }
-    requires agents { All (IsNumbered files.now.roster.market) agents.now }
+    requires agents { All (IsAgentOf files.now.roster.market) agents.now }
     requires failures { failures_of drain.old + 1 < 2 ^ 64 }
     ensures given { IfOk result (λ o. IsGiven (record {
       code = 0;

@@ -10,10 +10,11 @@ use Rattle.mt_terms.specs.Registration.Faults.{Fault, record_fault_alone, fault_
 use Rattle.mt_terms.specs.Registration.Records.{Rules, Record, rules_of}
 use Rattle.mt_terms.specs.Registration.Passes.{Numbered, numbered_from, contents, first_of, and_then, unless, first_pass, second_pass}
 use Rattle.mt_terms.specs.Registration.Numbering.{registered}
+use Rattle.mt_terms.specs.Lists.{head}
 use Rattle.mt_file_laws.proofs.ApartFacts.{none_apart}
 use Rattle.mt_fault_terms.specs.Faults.{FileFault, fault_alone}
 use Rattle.mt_fault_terms.specs.OfFile.{all_parts, faults_under, faults_of_numbered, faults_of}
-use Rattle.mt_fault_laws.specs.Accepted.{is_of_first_pass, first_fault, fault_of_match, IsNamed, NoFaultMeansAccepted, NamedFaultIsAmong}
+use Rattle.mt_fault_laws.specs.Accepted.{is_of_first_pass, fault_of_match, IsNamed, NoFaultMeansAccepted, NamedFaultIsAmong}
 use Rattle.mt_fault_laws.proofs.Leading.{Leads, leads_nil}
 use Rattle.mt_fault_laws.proofs.Walk.{agree_nil, second_fault, Outcome, walk}
 
@@ -39,7 +40,7 @@ told_under rules rows = by (first_pass rules [] rows) (walk rules rows [] [] (ag
   where
     by : (o : Result (List (Numbered Record)) Fault) → Outcome rules [] [] rows o
         → Tells (and_then o (λ records. unless (second_pass records) (registered (contents records)))) (faults_under rules rows)
-    by (Err named) h = let f = h (all_parts rules rows) in (f.0, ap (λ (o : Option FileFault). first_of (o ∷ first_fault (faults_under rules rows) ∷ [])) f.1, f.2)
+    by (Err named) h = let f = h (all_parts rules rows) in (f.0, ap (λ (o : Option FileFault). first_of (o ∷ head (faults_under rules rows) ∷ [])) f.1, f.2)
     by (Ok given) h =
         told_by_second (registered (contents given)) (faults_under rules rows) (second_pass given) (h.none_first (all_parts rules rows))
         (subst (λ (records : List (Numbered Record)). Leads IsNamed (second_fault (contents given) records) (faults_under rules rows)) (sym h.all)

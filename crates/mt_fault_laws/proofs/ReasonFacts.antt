@@ -4,8 +4,9 @@ use Rattle.std.specs.Prelude.{bytes_eq, codes, option_to_list, flat_map, if◌th
 use Rattle.std.proofs.lemmas.List.Elements.{All-nil, All-cons, All-head, All-tail, All-map, All-filter, All-take, All-drop, All-weaker, All-contains_itself, Contains-append_right, filter_passes}
 use Rattle.mt_terms.specs.Registration.Ids.{Bytes}
 use Rattle.mt_terms.specs.Registration.Records.{Rules, Kind, OfProgram, OfApplicant, OfCouple, kind_of}
+use Rattle.mt_terms.specs.Lists.{by_twos, head}
 use Rattle.mt_fault_terms.specs.Faults.{Placed, FieldFault, fault_of, placed_from}
-use Rattle.mt_fault_terms.specs.Parts.{Parts, placed_pairs, first_field, withdrawal_by_kind, withdraw_parts, parts_by_kind, parts_of}
+use Rattle.mt_fault_terms.specs.Parts.{Parts, withdrawal_by_kind, withdraw_parts, parts_by_kind, parts_of}
 use Rattle.mt_fault_laws.specs.Reasons.{IsField}
 use Rattle.mt_fault_laws.proofs.Reading.{both}
 
@@ -21,17 +22,17 @@ pub record AreFields (fields : List Bytes) (parts : Parts) : Type 0 where
   pub pairs : All (IsField fields) (flat_map both parts.pairs)
 
 module _ (fields : List Bytes) where
-  first_all : (xs : List Placed) → All (IsField fields) xs → All (IsField fields) (option_to_list (first_field xs))
+  first_all : (xs : List Placed) → All (IsField fields) xs → All (IsField fields) (option_to_list (head xs))
   first_all [] h = All-nil (IsField fields)
   first_all (x ∷ xs) h = All-cons (IsField fields) x [] (All-head (IsField fields) x xs h) (All-nil (IsField fields))
 
-  pairs_all : (xs : List Placed) → All (IsField fields) xs → All (IsField fields) (flat_map both (placed_pairs xs))
+  pairs_all : (xs : List Placed) → All (IsField fields) xs → All (IsField fields) (flat_map both (by_twos xs))
   pairs_all [] h = All-nil (IsField fields)
   pairs_all (x ∷ []) h = All-nil (IsField fields)
   pairs_all (x ∷ y ∷ xs) h =
       let rest : All (IsField fields) (y ∷ xs) = All-tail (IsField fields) x (y ∷ xs) h in
-      All-cons (IsField fields) x (y ∷ flat_map both (placed_pairs xs)) (All-head (IsField fields) x (y ∷ xs) h)
-      (All-cons (IsField fields) y (flat_map both (placed_pairs xs)) (All-head (IsField fields) y xs rest) (pairs_all xs (All-tail (IsField fields) y xs rest)))
+      All-cons (IsField fields) x (y ∷ flat_map both (by_twos xs)) (All-head (IsField fields) x (y ∷ xs) h)
+      (All-cons (IsField fields) y (flat_map both (by_twos xs)) (All-head (IsField fields) y xs rest) (pairs_all xs (All-tail (IsField fields) y xs rest)))
 
   none : All (IsField fields) []
   none = All-nil (IsField fields)

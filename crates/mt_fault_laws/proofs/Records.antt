@@ -13,8 +13,9 @@ use Rattle.mt_terms.specs.Registration.Faults.{RecordFault, record_fault, record
 use Rattle.mt_terms.specs.Registration.Records.{Rules, Record, ProgramRecord, ApplicantRecord, CoupleRecord, WithdrawRecord, Kind, OfProgram, OfApplicant, OfCouple, is_pair, pair_of, two_by_two, kind_of, program_record, applicant_record, couple_by_pairs, couple_record, withdraw_by_kind, withdraw_record, record_by_kind, record_of}
 use Rattle.mt_terms.specs.Registration.Rows.{own_id, ids_of, withdrawn_id, withdrawn, applicant_ids}
 use Rattle.mt_terms.specs.Registration.Passes.{contents, first_of, first_in, first_not_in, named, is_same_pair, registered_before}
+use Rattle.mt_terms.specs.Lists.{by_twos}
 use Rattle.mt_fault_terms.specs.Faults.{Placed, FieldFault, fault_of, placed_from}
-use Rattle.mt_fault_terms.specs.Parts.{Registers, Withdraws, Parts, PlacedPair, placed_pairs, is_odd, miscounted, program_parts, applicant_parts, couple_parts, withdrawal_parts, withdrawal_by_kind, withdraw_parts, parts_by_kind, parts_of, own_ids, withdrawn_ids, all_own_ids, all_applicants, all_withdrawn}
+use Rattle.mt_fault_terms.specs.Parts.{Registers, Withdraws, Parts, PlacedPair, is_odd, miscounted, program_parts, applicant_parts, couple_parts, withdrawal_parts, withdrawal_by_kind, withdraw_parts, parts_by_kind, parts_of, own_ids, withdrawn_ids, all_own_ids, all_applicants, all_withdrawn}
 use Rattle.mt_fault_terms.specs.OfRecord.{is_id_field, bad_of_pair, bad_fields, id_among, quota_faults, own_faults, found_among, missing_among, members_before, registered_faults, repeats_after, pair_repeats_after}
 use Rattle.mt_fault_laws.proofs.Leading.{Leads, Shows, leads_nil, leads_next, leads_last, leads_alone, first_map}
 use Rattle.mt_fault_laws.proofs.Reading.{Agree, IsRead, Reads, bare, both, none, an_id, none-append, none-bad, none-bad_pairs, own_leads, own_bad, one_among, two_among, first_among, found_leads, repeats_lead, pair_repeats_lead, missing_lead, missing_pairs_lead}
@@ -33,12 +34,12 @@ abbrev pub withdrawal_of : Kind → Placed → Parts
 withdrawal_of kind id = record { form = Withdraws kind; faults = []; names = id ∷ []; quota = None; list = []; pairs = [] }
 
 -- fields two by two, with their places and without
-two_by_two-is : (fields : List Placed) → two_by_two (contents fields) ≡ (if is_odd fields then None else Some (map bare (placed_pairs fields)))
+two_by_two-is : (fields : List Placed) → two_by_two (contents fields) ≡ (if is_odd fields then None else Some (map bare (by_twos fields)))
 two_by_two-is [] = refl
 two_by_two-is (x ∷ []) = refl
 two_by_two-is (x ∷ y ∷ fields) = ap (option_map (λ ps. (x.1, y.1) ∷ ps)) (two_by_two-is fields) ∙ by (is_odd fields)
   where
-    by : (b : Bool) → option_map (λ ps. (x.1, y.1) ∷ ps) (if b then None else Some (map bare (placed_pairs fields))) ≡ (if b then None else Some ((x.1, y.1) ∷ map bare (placed_pairs fields)))
+    by : (b : Bool) → option_map (λ ps. (x.1, y.1) ∷ ps) (if b then None else Some (map bare (by_twos fields))) ≡ (if b then None else Some ((x.1, y.1) ∷ map bare (by_twos fields)))
     by true = refl
     by false = refl
 
@@ -324,7 +325,7 @@ module _ (rules : Rules) where
       (by (nat_lt (length (id ∷ a ∷ b ∷ fields)) 3) (is_odd fields) (at_least_three (length fields)))
     where
       pairs : List PlacedPair
-      pairs = placed_pairs fields
+      pairs = by_twos fields
 
       are_all : Bool
       are_all = (an_id rules id.1 && (an_id rules a.1 && (an_id rules b.1 && true))) && list_all (is_pair rules) (map bare pairs)

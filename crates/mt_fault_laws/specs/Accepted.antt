@@ -1,6 +1,7 @@
 -- How all faults of a file go with what a match of the file gives: its market, or its first fault.
 use Rattle.std.specs.Prelude.{◌≡◌, Bool, nat_lt, ◌==◌, List, [], ◌∷◌, find, Option, Some, None, Ok, Err, IsFalse}
 use Rattle.mt_terms.specs.declared.codes.TheConstants.{DUPLICATE_ENTRY, UNKNOWN_APPLICANT}
+use Rattle.mt_terms.specs.Lists.{head}
 use Rattle.mt_terms.specs.Market.{Registered}
 use Rattle.mt_terms.specs.Registration.{market_of}
 use Rattle.mt_terms.specs.Registration.Ids.{Bytes}
@@ -18,14 +19,9 @@ NoFaultMeansAccepted =
 abbrev pub is_of_first_pass : FileFault → Bool
 is_of_first_pass fault = nat_lt fault.1.code UNKNOWN_APPLICANT
 
--- the first of some faults
-abbrev pub first_fault : List FileFault → Option FileFault
-first_fault [] = None
-first_fault (fault ∷ faults) = Some fault
-
 -- the fault that a match names, of all faults of a file: the first of those that its first pass finds, or else the first of all
 abbrev pub fault_of_match : List FileFault → Option FileFault
-fault_of_match faults = first_of (find is_of_first_pass faults ∷ first_fault faults ∷ [])
+fault_of_match faults = first_of (find is_of_first_pass faults ∷ head faults ∷ [])
 
 -- A fault of all is the one that a match names: it has its record and its code. It has its id too, but for a repeated entry, of
 -- which the match names the record's own id.

@@ -1,6 +1,7 @@
 -- What the fields of a record are for, by their places alone, so that a record at fault has them too.
 use Rattle.std.specs.Prelude.{ℕ, ◌+◌, ◌*◌, Bool, true, false, not, ◌||◌, ◌&&◌, ◌==◌, nat_lt, List, [], ◌∷◌, map, filter, flat_map, length, sum_by, drop, take, Option, Some, None, codes, bytes_eq, if◌then◌else◌}
 use Rattle.mt_terms.specs.declared.codes.TheConstants.{UNKNOWN_KIND, FIELD_COUNT}
+use Rattle.mt_terms.specs.Lists.{by_twos, head}
 use Rattle.mt_terms.specs.Registration.Ids.{Bytes, is_id}
 use Rattle.mt_terms.specs.Registration.Records.{Rules, Kind, OfProgram, OfApplicant, OfCouple, kind_of}
 use Rattle.mt_fault_terms.specs.Faults.{Placed, FieldFault, fault_alone, placed_from}
@@ -33,27 +34,16 @@ unknown_parts field = record { form = Unknown; faults = fault_alone UNKNOWN_KIND
 abbrev pub miscounted : Bool → List FieldFault
 miscounted wrong = if wrong then fault_alone FIELD_COUNT 0 ∷ [] else []
 
--- fields two by two. The last one is left out if it has no partner
-abbrev pub placed_pairs : List Placed → List PlacedPair
-placed_pairs [] = []
-placed_pairs (x ∷ []) = []
-placed_pairs (x ∷ y ∷ fields) = (x, y) ∷ placed_pairs fields
-
 -- whether a field has no partner
 abbrev pub is_odd : List Placed → Bool
 is_odd [] = false
 is_odd (x ∷ []) = true
 is_odd (x ∷ y ∷ fields) = is_odd fields
 
--- the first field there is
-abbrev pub first_field : List Placed → Option Placed
-first_field [] = None
-first_field (x ∷ fields) = Some x
-
 -- the parts of a record by the fields after its first, for each kind of record
 abbrev pub program_parts : List Placed → Parts
 program_parts fields =
-    record { form = Registers OfProgram; faults = miscounted (nat_lt (length fields) 2); names = take 1 fields; quota = first_field (drop 1 fields); list = drop 2 fields; pairs = [] }
+    record { form = Registers OfProgram; faults = miscounted (nat_lt (length fields) 2); names = take 1 fields; quota = head (drop 1 fields); list = drop 2 fields; pairs = [] }
 
 abbrev pub applicant_parts : List Placed → Parts
 applicant_parts fields =
@@ -61,7 +51,7 @@ applicant_parts fields =
 
 abbrev pub couple_parts : List Placed → Parts
 couple_parts fields =
-    record { form = Registers OfCouple; faults = miscounted (nat_lt (length fields) 3 || is_odd (drop 3 fields)); names = take 3 fields; quota = None; list = []; pairs = placed_pairs (drop 3 fields) }
+    record { form = Registers OfCouple; faults = miscounted (nat_lt (length fields) 3 || is_odd (drop 3 fields)); names = take 3 fields; quota = None; list = []; pairs = by_twos (drop 3 fields) }
 
 abbrev pub withdrawal_parts : Kind → List Placed → Parts
 withdrawal_parts kind fields =

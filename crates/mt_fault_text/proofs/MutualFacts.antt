@@ -11,7 +11,6 @@ use Rattle.mt_ranks.specs.Ranked.{IsRanked, Ranked, ranked_entry, ranked_list, r
 use Rattle.mt_ranks.specs.declared.entries.Live.{Live}
 use Rattle.mt_terms.proofs.ListFacts.{has_push}
 use Rattle.mt_terms.proofs.Totals.{total_below-same}
-use Rattle.mt_terms.proofs.LiveFacts.{applicants-live_market, live-live_market}
 use Rattle.mt_fault_text.specs.Mutual.{listed_by, place_in, sent_by}
 use Rattle.mt_fault_text.specs.Wanted.{AreWanted, is_place, set_of}
 
@@ -39,12 +38,6 @@ sent_more is_first pairs i p pair within is =
     ap (λ (xs : List ℕ). has xs p) (one_sent is_first pairs i pair within)
     ∙ has_place (sent_by is_first (take i pairs)) (place_in is_first (get_or pairs i pair)) p
     ∙ ap (λ (x : Pair). has (sent_by is_first (take i pairs)) p || is_place (place_in is_first x) p) (sym is)
-
--- live entries are those of the live market
-pub live_entries_same : (m : Market) → live_entries (live_market m) ≡ live_entries m
-live_entries_same m =
-    ap (total_below (λ a. length (live (live_market m) a))) (applicants-live_market m)
-    ∙ total_below-same (λ a. length (live (live_market m) a)) (λ a. length (live m a)) (applicants m) (λ a low. ap length (live-live_market m a))
 
 -- the same set counts alike
 pub listed_same : (m : Market) (s t : Set) (a : ℕ) → ((p : ℕ) → p < length m.programs → s p ≡ t p) → listed_by m s a ≡ listed_by m t a

@@ -6,8 +6,9 @@ use Rattle.std.proofs.lemmas.List.{length-take-le, take_all}
 use Rattle.std.proofs.Math.Seq.{take-nil}
 use Rattle.mt_terms.specs.Registration.Ids.{Bytes}
 use Rattle.mt_terms.specs.Registration.Records.{Kind, OfCouple, Rules, kind_of}
+use Rattle.mt_terms.specs.Lists.{by_twos, head}
 use Rattle.mt_fault_terms.specs.Faults.{FieldFault, Placed, placed_from}
-use Rattle.mt_fault_terms.specs.Parts.{Form, Parts, PlacedPair, Registers, couple_parts, first_field, is_odd, miscounted, parts_by_kind, parts_of, placed_pairs}
+use Rattle.mt_fault_terms.specs.Parts.{Form, Parts, PlacedPair, Registers, couple_parts, is_odd, miscounted, parts_by_kind, parts_of}
 use Rattle.mt_faults.specs.declared.placed.Field.{Field}
 use Rattle.mt_faults.specs.Seen.{field_seen}
 
@@ -37,9 +38,9 @@ pub none_placed : (k n : ℕ) (xs : List Bytes) → xs ≡ [] → take k (placed
 none_placed k n xs e = rw e (take-nil k)
 
 -- the next field, and those after it
-pub head_is : (r : Option Field) (old new : List Placed) → MatchOption r ((old ≡ []) × (new ≡ [])) (λ x. old ≡ field_seen x ∷ new) → option_map field_seen r ≡ first_field old
-head_is None old new h = sym (ap first_field h.0)
-head_is (Some x) old new h = sym (ap first_field h)
+pub head_is : (r : Option Field) (old new : List Placed) → MatchOption r ((old ≡ []) × (new ≡ [])) (λ x. old ≡ field_seen x ∷ new) → option_map field_seen r ≡ head old
+head_is None old new h = sym (ap head h.0)
+head_is (Some x) old new h = sym (ap head h)
 
 pub tail_is : (r : Option Field) (old new : List Placed) → MatchOption r ((old ≡ []) × (new ≡ [])) (λ x. old ≡ field_seen x ∷ new) → new ≡ drop 1 old
 tail_is None old new h = h.1 ∙ sym (ap (drop 1) h.0)
@@ -57,7 +58,7 @@ odd_is (x ∷ []) = refl
 odd_is (x ∷ y ∷ xs) = let e : length (x ∷ y ∷ xs) % 2 ≡ length xs % 2 = omega arith in ap (λ n. nat_eq n 1) e ∙ odd_is xs
 
 -- how many fields pairs have
-pub length-pairs : (xs : List Placed) → 2 * length (placed_pairs xs) ≡ length xs / 2 * 2
+pub length-pairs : (xs : List Placed) → 2 * length (by_twos xs) ≡ length xs / 2 * 2
 length-pairs [] = refl
 length-pairs (x ∷ []) = refl
 length-pairs (x ∷ y ∷ xs) = omega (arith, length-pairs xs)
@@ -66,7 +67,7 @@ abbrev pub both_of : PlacedPair → List Placed
 both_of pair = pair.0 ∷ pair.1 ∷ []
 
 -- the fields of pairs are all, or all but the last
-pub fields_of_pairs : (xs : List Placed) → take (length xs / 2 * 2) xs ≡ flat_map both_of (placed_pairs xs)
+pub fields_of_pairs : (xs : List Placed) → take (length xs / 2 * 2) xs ≡ flat_map both_of (by_twos xs)
 fields_of_pairs [] = refl
 fields_of_pairs (x ∷ []) = refl
 fields_of_pairs (x ∷ y ∷ xs) =
@@ -79,11 +80,11 @@ the_parts form faults names quota list pairs = record { form = form; faults = fa
 
 -- the parts of a couple's record
 pub couple_is : (fields : List Placed) (faults : List FieldFault) (names list pairs : List Placed) → faults ≡ miscounted (nat_lt (length fields) 3 || is_odd (drop 3 fields)) → names ≡ take 3 fields → list ≡ [] → pairs ≡ drop 3 fields
-    → the_parts (Registers OfCouple) faults names None list (placed_pairs pairs) ≡ couple_parts fields
+    → the_parts (Registers OfCouple) faults names None list (by_twos pairs) ≡ couple_parts fields
 couple_is fields faults names list pairs f n l p = rw (f, n, l, p) refl
 
 -- the parts of a record that is no withdrawal
-pub parts_by : (rules : Rules) (fields : List Bytes) (word : Field) (rest : List Placed) (kind : Option Kind) (p : Parts) → Some (field_seen word) ≡ first_field (placed_from 1 fields) → rest ≡ drop 1 (placed_from 1 fields)
+pub parts_by : (rules : Rules) (fields : List Bytes) (word : Field) (rest : List Placed) (kind : Option Kind) (p : Parts) → Some (field_seen word) ≡ head (placed_from 1 fields) → rest ≡ drop 1 (placed_from 1 fields)
     → (rules.withdrawals && bytes_eq word.bytes.now (codes "withdraw")) ≡ false → kind ≡ kind_of word.bytes.now → p ≡ parts_by_kind kind rest → p ≡ parts_of rules fields
 parts_by rules [] word rest kind p h r w k is = cc
 parts_by rules (first ∷ fields) word rest kind p h r w k is =

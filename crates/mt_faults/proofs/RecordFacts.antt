@@ -11,10 +11,11 @@ use Rattle.mt_terms.specs.declared.codes.TheConstants.{BAD_ID, DUPLICATE_ID, DUP
 use Rattle.mt_terms.specs.Registration.Ids.{Bytes, has_id, is_id}
 use Rattle.mt_terms.specs.Registration.Passes.{is_same_pair}
 use Rattle.mt_terms.specs.Registration.Records.{Rules, Kind, IdPair, OfProgram, OfApplicant, OfCouple, pair_of}
+use Rattle.mt_terms.specs.Lists.{head}
 use Rattle.mt_passes.proofs.RepeatFacts.{same_pairs}
 use Rattle.mt_fault_terms.specs.Faults.{FieldFault, Placed, fault_alone, fault_of}
 use Rattle.mt_fault_terms.specs.OfRecord.{is_id_field, is_place_field, alone_at, bad_of_pair, quota_faults, own_faults, found_among, missing_among, members_before, registered_faults, repeat_faults, limit_faults, unknown_faults, record_faults}
-use Rattle.mt_fault_terms.specs.Parts.{Parts, PlacedPair, Registers, Withdraws, all_applicants, all_own_ids, all_withdrawn, first_field}
+use Rattle.mt_fault_terms.specs.Parts.{Parts, PlacedPair, Registers, Withdraws, all_applicants, all_own_ids, all_withdrawn}
 use Rattle.mt_faults.specs.declared.tell.Wrong.TheVariants as wrongs
 use Rattle.mt_faults.specs.Repeated.{entries_with}
 use Rattle.mt_faults.specs.Seen.{tested}
@@ -196,7 +197,7 @@ members_alike rules some others alike (x ∷ xs) =
     more id = list_any-append (bytes_eq id) some (x.1 ∷ []) ∙ ap (λ b. b || has_id (x.1 ∷ []) id) (alike id) ∙ sym (list_any-append (bytes_eq id) others (x.1 ∷ []))
 
 -- the two members of a couple
-pub two_fields : (xs : List Placed) (x y : Placed) → Some x ≡ first_field xs → Some y ≡ first_field (drop 1 xs) → length xs ≤ 2 → xs ≡ x ∷ y ∷ []
+pub two_fields : (xs : List Placed) (x y : Placed) → Some x ≡ head xs → Some y ≡ head (drop 1 xs) → length xs ≤ 2 → xs ≡ x ∷ y ∷ []
 two_fields [] x y h k few = cc
 two_fields (a ∷ []) x y h k few = cc
 two_fields (a ∷ b ∷ []) x y h k few = ap₂ (λ (c d : Placed). c ∷ d ∷ []) (of _ _ (sym h)) (of _ _ (sym k))

@@ -1,13 +1,15 @@
 -- What each loop of the search keeps, and how one turn changes it.
 -- A sink was told the faults of what is done. What is left decides the others.
-use Rattle.std.proofs.Common.{◌≡◌, ℕ, ◌+◌, Bool, true, false, ◌&&◌, List, [], ◌∷◌, ◌++◌, cond, length, Some, None, refl, ap, sym, ap₂, ◌∙◌, arith, if◌then◌else◌}
-use Rattle.std.specs.Prelude.{flat_map}
+use Rattle.std.proofs.Common.{◌≡◌, ℕ, ◌+◌, Bool, true, false, ◌&&◌, List, [], ◌∷◌, ◌++◌, cond, length, Option, Some, None, Ok, Err, refl, ap, sym, ap₂, ◌∙◌, if◌then◌else◌}
+use Rattle.std.specs.Prelude.{flat_map, Result}
+use Rattle.std.specs.Option.{option_map_or}
 use Rattle.std.specs.List.{list_any}
 use Rattle.std.proofs.lemmas.List.{append_assoc, append-nil, map-append}
 use Rattle.mt_terms.specs.declared.codes.TheConstants.{BAD_ID, DUPLICATE_ENTRY, NO_VERSION}
 use Rattle.mt_terms.specs.Registration.Ids.{Bytes, has_id, is_id}
 use Rattle.mt_terms.specs.Registration.Passes.{Numbered, numbered_from, is_same_pair}
 use Rattle.mt_terms.specs.Registration.Records.{Rules, IdPair, is_pair, pair_of, rules_of}
+use Rattle.mt_records.specs.Bodies.{body_in}
 use Rattle.mt_fault_terms.specs.Faults.{FieldFault, FileFault, Placed, fault_alone, fault_of}
 use Rattle.mt_fault_terms.specs.OfFile.{all_parts, faults_after, faults_of_numbered, faults_under}
 use Rattle.mt_fault_terms.specs.OfRecord.{alone_at, bad_of_pair, is_id_field, is_place_field, pair_repeats_after, record_faults, repeats_after, shown_of_pair}
@@ -117,11 +119,22 @@ pub faults_some : (rules : Rules) (all before : List Parts) (n : ℕ) (row : Lis
 faults_some rules all before n [] some = absurd (some refl)
 faults_some rules all before n (word ∷ fields) some = refl
 
--- the first record with a field names a version, or none
-pub version_at : (n : ℕ) (row : List Bytes) (rows : List (List Bytes)) (rules : Rules) → (length row ≡ 0 → ⊥) → rules_of row ≡ Some rules → faults_of_numbered (numbered_from n (row ∷ rows)) ≡ faults_under rules (numbered_from (n + 1) rows)
-version_at n [] rows rules some is = absurd (some refl)
-version_at n (word ∷ fields) rows rules some is = rw is refl
+-- what follows the record that names a version decides
+pub faults_there : (rules : Rules) (rest records : List (Numbered (List Bytes))) → body_in records ≡ Ok (rules, rest) → faults_of_numbered records ≡ faults_under rules rest
+faults_there rules rest [] h = cc
+faults_there rules rest (row ∷ rows) h = by (rules_of row.1) h
+  where
+    by : (o : Option Rules) → option_map_or {U = Result (Rules × List (Numbered (List Bytes))) ℕ} (λ r. Ok (r, rows)) o (Err row.0) ≡ Ok (rules, rest)
+        → option_map_or (λ r. faults_under r rows) o ((row.0, fault_alone NO_VERSION 0) ∷ []) ≡ faults_under rules rest
+    by None k = cc
+    by (Some r) k = let same : (rules, rest) ≡ (r, rows) = cc in ap (λ (x : Rules × List (Numbered (List Bytes))). faults_under x.0 x.1) (sym same)
 
-pub version_missing : (n : ℕ) (row : List Bytes) (rows : List (List Bytes)) → (length row ≡ 0 → ⊥) → rules_of row ≡ None → faults_of_numbered (numbered_from n (row ∷ rows)) ≡ (n, fault_alone NO_VERSION 0) ∷ []
-version_missing n [] rows some is = absurd (some refl)
-version_missing n (word ∷ fields) rows some is = rw is refl
+-- where no record names a version, that is the only fault
+pub only_fault : (records : List (Numbered (List Bytes))) (n : ℕ) → body_in records ≡ Err n → faults_of_numbered records ≡ (n, fault_alone NO_VERSION 0) ∷ []
+only_fault [] n h = let e : 0 ≡ n = cc in ap (λ (k : ℕ). (k, fault_alone NO_VERSION 0) ∷ []) e
+only_fault (row ∷ rows) n h = by (rules_of row.1) h
+  where
+    by : (o : Option Rules) → option_map_or {U = Result (Rules × List (Numbered (List Bytes))) ℕ} (λ r. Ok (r, rows)) o (Err row.0) ≡ Err n
+        → option_map_or (λ r. faults_under r rows) o ((row.0, fault_alone NO_VERSION 0) ∷ []) ≡ (n, fault_alone NO_VERSION 0) ∷ []
+    by None k = let e : row.0 ≡ n = cc in ap (λ (i : ℕ). (i, fault_alone NO_VERSION 0) ∷ []) e
+    by (Some r) k = cc

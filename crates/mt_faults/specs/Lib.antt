@@ -5,4 +5,3 @@ pub mod Registered
 pub mod Repeated
 pub mod Telling
 pub mod Standing
-pub mod Bodies

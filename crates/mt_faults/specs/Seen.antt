@@ -2,6 +2,7 @@
 use Rattle.std.specs.Prelude.{ℕ, ◌+◌, ◌&&◌, not, List, [], ◌∷◌, take, Option, option_map, option_to_list, if◌then◌else◌}
 use Rattle.mt_lists.specs.Rows.{fields_left}
 use Rattle.mt_terms.specs.declared.codes.TheConstants.{BAD_ID}
+use Rattle.mt_terms.specs.Lists.{by_twos}
 use Rattle.mt_terms.specs.Registration.Ids.{Bytes, has_id}
 use Rattle.mt_terms.specs.Registration.Records.{Rules}
 use Rattle.mt_records.specs.Records.{kind_seen}
@@ -43,7 +44,7 @@ placed_left p = take p.count (placed_from (p.before + 1) (fields_left p.fields))
 
 -- the pairs that have yet to come
 abbrev pub pairs_left : PlacedPairs → List model.PlacedPair
-pairs_left pairs = model.placed_pairs (placed_left pairs.fields)
+pairs_left pairs = by_twos (placed_left pairs.fields)
 
 -- the form of a record, and its faults
 abbrev pub form_seen : Form → model.Form
@@ -62,7 +63,7 @@ parts_seen p = record {
   names = placed_left p.names;
   quota = option_map field_seen p.quota;
   list = placed_left p.list;
-  pairs = model.placed_pairs (placed_left p.pairs);
+  pairs = by_twos (placed_left p.pairs);
 }
 
 -- the fault of a field, if this is wrong with it

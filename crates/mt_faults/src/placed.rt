@@ -1,7 +1,7 @@
 ghost use Rattle.std.specs.Prelude.{◌≡◌, ◌+◌, ◌<◌, ◌≤◌, ◌^◌, drop, length, option_map, take};
 ghost use Rattle.mt_lists.specs.Rows.{fields_left};
 ghost use Rattle.mt_fault_terms.specs.Faults.{placed_from};
-ghost use Rattle.mt_fault_terms.specs.Parts.{first_field};
+ghost use Rattle.mt_terms.specs.Lists.{head};
 
 use mt_lists::Fields;
 
@@ -59,7 +59,7 @@ impl<'a> Placed<'a> {
 
     /// The next field.
     pub(crate) fn head(&self) -> Option<Field<'a>>
-        ensures { option_map field_seen result ≡ first_field (placed_left self.now) }
+        ensures { option_map field_seen result ≡ head (placed_left self.now) }
     {
         let mut rest = *self;
         rest.next()

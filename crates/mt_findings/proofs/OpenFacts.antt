@@ -4,14 +4,14 @@ use Rattle.std.specs.Prelude.{◌==◌}
 use Rattle.std.specs.List.{list_all}
 use Rattle.std.proofs.lemmas.Bool.Decides.{nat_tests}
 use Rattle.std.proofs.lemmas.List.Folds.{list_all-append}
-use Rattle.mt_terms.specs.Market.{Market, members, program_of}
+use Rattle.mt_terms.specs.Market.{Market, members, program_of, IsAgentOf}
 use Rattle.mt_terms.specs.Matching.{Places, better, holds, none_placed, options}
 use Rattle.mt_terms.specs.Places.{ArePlaces}
 use Rattle.mt_terms.specs.Stability.{has_own_option, is_listed, would_be_taken}
 use Rattle.mt_terms.specs.WellFormed.{IsWellFormed}
 use Rattle.mt_terms.specs.declared.numbers.Agent.{Agent}
 use Rattle.mt_terms.proofs.ListFacts.{until-le}
-use Rattle.mt_verify.specs.Held.{IsNumbered, held_option, rank_at}
+use Rattle.mt_verify.specs.Held.{held_option, rank_at}
 use Rattle.mt_verify.proofs.FindFacts.{any_has_position}
 use Rattle.mt_explain.specs.Explained.{both_lines, line_if}
 use Rattle.mt_explain.specs.Lines.{is_open, option_lines}
@@ -20,7 +20,7 @@ use Rattle.mt_explain.proofs.OptionFacts.{front_has, open_if_option_taken}
 use Rattle.mt_findings.specs.Findings.{is_taken}
 
 -- the lines of an option's two places are open exactly if the option would be taken
-pub taken_by_lines : (m : Market) → IsWellFormed m → (places : Places) → ArePlaces m places → (g : Agent) → IsNumbered m g
+pub taken_by_lines : (m : Market) → IsWellFormed m → (places : Places) → ArePlaces m places → (g : Agent) → IsAgentOf m g
     → (k : ℕ) → k < length (better m places g) → (one other : Option Line) → both_lines (one, other) ≡ option_lines m places k (get_or (options m g) k [])
     → (list_all is_open (line_if one) && list_all is_open (line_if other)) ≡ is_taken m places g k
 taken_by_lines m formed places are g numbered k within one other is =

@@ -6,7 +6,7 @@ use Rattle.std.proofs.lemmas.List.Concat.{length-flat_map}
 use Rattle.std.proofs.lemmas.List.Filters.{length-filter_both}
 use Rattle.std.proofs.lemmas.List.Sums.{sum_by-le}
 use Rattle.mt_terms.specs.Lists.{below}
-use Rattle.mt_terms.specs.Market.{Registered, agent_of, agents, applicants, couple_of, leads, list_of}
+use Rattle.mt_terms.specs.Market.{Registered, agent_of, agents, applicants, couple_of, leads, list_of, IsAgentOf}
 use Rattle.mt_terms.specs.Matching.{Places, better, couple_placement, holds, options, single_placement}
 use Rattle.mt_terms.specs.Registration.Accepted.{IsRegistration}
 use Rattle.mt_terms.specs.Verdict.{is_over, is_unlisted}
@@ -15,7 +15,6 @@ use Rattle.mt_terms.specs.declared.numbers.Agent.TheVariants.{Single, Couple}
 use Rattle.mt_terms.specs.declared.verdict.Verdict.TheVariants.{Unlisted, Over, Blocks}
 use Rattle.mt_terms.proofs.ListFacts.{until-le}
 use Rattle.mt_order_laws.proofs.OrderLists.{length_below}
-use Rattle.mt_verify.specs.Held.{IsNumbered}
 use Rattle.mt_verify.proofs.MarketFacts.{few_listed, few_pairs}
 use Rattle.mt_match_file.specs.Submitted.{Submitted}
 use Rattle.mt_match_file.specs.declared.submitted_match.Counted.{Counted}
@@ -29,7 +28,7 @@ passing-le : {X Y : Type 0} (f : X → Y) (test : X → Bool) (xs : List X) → 
 passing-le f test xs = omega (arith, length-map (filter test xs) f, length-filter_both test (λ x. not (test x)) (λ x. refl) xs)
 
 module _ (r : Registered) (registration : IsRegistration r) where
-  few_options : (g : Agent) → IsNumbered r.market g → length (options r.market g) ≤ 8000000
+  few_options : (g : Agent) → IsAgentOf r.market g → length (options r.market g) ≤ 8000000
   few_options (Single a) numbered = omega (arith, length-map (list_of r.market a) (single_placement a), few_listed r registration a numbered)
   few_options (Couple c) numbered =
       let couple = couple_of r.market c in
@@ -38,7 +37,7 @@ module _ (r : Registered) (registration : IsRegistration r) where
   few_agents : length (agents r.market) ≤ 100000
   few_agents = omega (arith, passing-le (agent_of r.market) (leads r.market) (below (applicants r.market)), length_below (applicants r.market), registration.few_applicants)
 
-  few_blocking_by : (places : Places) (g : Agent) → IsNumbered r.market g → length (blocking_by r.market places g) ≤ 8000000
+  few_blocking_by : (places : Places) (g : Agent) → IsAgentOf r.market g → length (blocking_by r.market places g) ≤ 8000000
   few_blocking_by places g numbered =
       let n = length (better r.market places g) in
       omega (

@@ -1,9 +1,8 @@
 ghost use Rattle.std.specs.Prelude.{◌≡◌, ◌<◌, length, not};
-ghost use Rattle.mt_terms.specs.Market.{applicants, members};
+ghost use Rattle.mt_terms.specs.Market.{applicants, members, IsAgentOf};
 ghost use Rattle.mt_terms.specs.Matching.{none_placed, place_of};
 ghost use Rattle.mt_terms.specs.Stability.{has_own_option, is_listed};
 ghost use Rattle.mt_terms.specs.Verdict.{is_over, is_unlisted, lowest_number};
-ghost use Rattle.mt_verify.specs.Held.{IsNumbered};
 ghost use Rattle.mt_check.specs.Findings.{fits_count};
 ghost use Rattle.mt_check.specs.View.{market_of, places_of};
 
@@ -16,7 +15,7 @@ use mt_terms::{Agent, AppNo, ProgNo};
 /// Whether none of the agent's members is placed.
 #[tactic(auto, using(crate::proofs::OpenFacts::and_true))]
 fn none_placed(explainer: &Explainer<'_>, agent: &Agent) -> bool
-    requires { IsNumbered explainer.now.registered.market agent.now }
+    requires { IsAgentOf explainer.now.registered.market agent.now }
     ensures { result ≡ none_placed explainer.now.places (members explainer.now.registered.market agent.now) }
 {
     let matched = explainer.matched();
@@ -32,7 +31,7 @@ fn none_placed(explainer: &Explainer<'_>, agent: &Agent) -> bool
 /// Whether the agent has an option of its list, or none of its members is placed.
 #[tactic(auto, using(crate::proofs::OpenFacts::own_by_held))]
 fn has_own_option(explainer: &Explainer<'_>, agent: &Agent) -> bool
-    requires { IsNumbered explainer.now.registered.market agent.now }
+    requires { IsAgentOf explainer.now.registered.market agent.now }
     ensures { result ≡ has_own_option explainer.now.registered.market explainer.now.places agent.now }
 {
     explainer.held_option(*agent).is_some() || none_placed(explainer, agent)
@@ -52,7 +51,7 @@ fn is_listed(explainer: &Explainer<'_>, applicant: AppNo) -> bool
 
 /// The number at which a finding on an agent is reported: a single's own, and the lower one of a couple's.
 fn lowest_number(explainer: &Explainer<'_>, agent: &Agent) -> u32
-    requires { IsNumbered explainer.now.registered.market agent.now }
+    requires { IsAgentOf explainer.now.registered.market agent.now }
     ensures { result ≡ lowest_number explainer.now.registered.market agent.now }
 {
     match *agent {

@@ -1,7 +1,7 @@
 ghost use Rattle.std.specs.Prelude.{◌≡◌, ◌<◌, length};
 ghost use Rattle.std.specs.List.{list_all};
 ghost use Rattle.mt_terms.specs.Matching.{better};
-ghost use Rattle.mt_verify.specs.Held.{IsNumbered};
+ghost use Rattle.mt_terms.specs.Market.{IsAgentOf};
 ghost use Rattle.mt_explain.specs.Explained.{line_if};
 ghost use Rattle.mt_explain.specs.Lines.{is_open, says_open};
 ghost use Rattle.mt_findings.specs.Findings.{is_taken};
@@ -33,7 +33,7 @@ fn is_open_if(line: &Option<Line>) -> bool
 
 /// Whether the agent's better option with a number would be taken.
 pub(crate) fn is_taken(explainer: &Explainer<'_>, agent: &Agent, option: u32) -> bool
-    requires agent { IsNumbered explainer.now.registered.market agent.now }
+    requires agent { IsAgentOf explainer.now.registered.market agent.now }
     requires option { option < length (better explainer.now.registered.market explainer.now.places agent.now) }
     ensures { result ≡ is_taken explainer.now.registered.market explainer.now.places agent.now option }
 {

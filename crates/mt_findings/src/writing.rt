@@ -1,8 +1,7 @@
 ghost use Rattle.std.specs.Prelude.{◌≡◌, ◌+◌, ◌<◌, ◌^◌, [], All, if◌then◌else◌, IsTrue, OnErr, OnOk, is_ok, length};
 ghost use Rattle.std.specs.List.{flat_map};
-ghost use Rattle.mt_terms.specs.Market.{agents};
+ghost use Rattle.mt_terms.specs.Market.{agents, IsAgentOf};
 ghost use Rattle.mt_report.specs.Drains.{contents_of, failures_of, is_flushed};
-ghost use Rattle.mt_verify.specs.Held.{IsNumbered};
 ghost use Rattle.mt_check.specs.View.{market_of, places_of};
 ghost use Rattle.mt_explained.specs.Answer.{IsGiven};
 ghost use Rattle.mt_findings.specs.Answer.{found_answer, number_code};
@@ -77,7 +76,7 @@ fn write_blocking_by<W: Write>(
     explainer: &Explainer<'_>,
     agent: &Agent,
 ) -> Result<(), Unwritten>
-    requires agent { IsNumbered explainer.now.registered.market agent.now }
+    requires agent { IsAgentOf explainer.now.registered.market agent.now }
     requires count { let e = explainer.now in
         lines.old.count + length (blocking_by e.registered.market e.places agent.now) < 2 ^ 64 }
     requires failures { failures_of drain.old + 1 < 2 ^ 64 }
@@ -106,7 +105,7 @@ fn write_blocking<W: Write>(
     explainer: &Explainer<'_>,
     agents: &[Agent],
 ) -> Result<(), Unwritten>
-    requires agents { All (IsNumbered explainer.now.registered.market) agents.now }
+    requires agents { All (IsAgentOf explainer.now.registered.market) agents.now }
     requires count { let e = explainer.now in lines.old.count
         + length (flat_map (blocking_by e.registered.market e.places) agents.now) < 2 ^ 64 }
     requires failures { failures_of drain.old + 1 < 2 ^ 64 }

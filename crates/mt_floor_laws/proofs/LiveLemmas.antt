@@ -11,13 +11,8 @@ use Rattle.mt_floor_laws.specs.Live.{LiveMarketAgrees}
 use Rattle.mt_terms.proofs.Totals.{total_below-same, count_below-same}
 use Rattle.mt_stability_laws.proofs.SinglesFacts.{stable_facts, stable_from_facts}
 use Rattle.mt_terms.proofs.ListFacts.{has-filter}
-use Rattle.mt_terms.proofs.LiveFacts.{live_parts, applicants-live_market, list_of-live_market, live-live_market, live_well_formed}
+use Rattle.mt_terms.proofs.LiveFacts.{live_parts, applicants-live_market, list_of-live_market, live-live_market, live_entries-live_market, live_well_formed}
 use Rattle.mt_floor_laws.proofs.FloorLists.{has-until-filter}
-
-same_entries : (m : Market) → live_entries (live_market m) ≡ live_entries m
-same_entries m =
-    ap (total_below (λ a. length (live (live_market m) a))) (applicants-live_market m)
-    ∙ total_below-same (λ a. length (live (live_market m) a)) (λ a. length (live m a)) (applicants m) (λ a low. ap length (live-live_market m a))
 
 -- the front of a filtered list has just what passes of the list's front, where the front ends at what passes
 until-filter_back : (test kept : Set) (xs : List ℕ) (q : ℕ) → ((x : ℕ) → IsTrue (test x) → IsTrue (kept x)) → IsTrue (has (until test (filter kept xs)) q) → IsTrue (has (until test xs) q)
@@ -109,7 +104,7 @@ live_market_agrees_lem m wf = record {
   well_formed = live_well_formed m wf;
   same_applicants = applicants-live_market m;
   same_live = live-live_market m;
-  same_entries = same_entries m;
+  same_entries = live_entries-live_market m;
   same_stable = λ places. same_tests _ _ (stable_from_live m places) (stable_in_live m places);
   same_excluded = λ a p. (excluded_there m a p, excluded_here m a p);
   same_best = λ places. (best_there m places, best_here m places);

@@ -9,11 +9,10 @@ use Rattle.mt_terms.specs.Market.{Market, Partners, program_of, list_of, couple_
 use Rattle.mt_terms.specs.Matching.{Places, Placement, at, single_placement, couple_placement, options, send, holds, unplaced}
 use Rattle.mt_terms.specs.Stability.{would_be_taken, blocks}
 use Rattle.mt_terms.specs.WellFormed.{IsWellFormed}
-use Rattle.mt_terms.specs.Rounds.{Work, Move, is_same_agent, all_joined, has_entered, first_taken, move_of, displaced, left_programs, blocking_on_list, rechecked, after_taking, round_of, after_rounds, after_entries, is_on, IsRoundState}
+use Rattle.mt_terms.specs.Rounds.{Work, Move, is_same_agent, all_joined, has_entered, first_taken, move_of, displaced, left_programs, blocking_on_list, rechecked, after_taking, round_of, after_rounds, after_entries, is_on, IsRoundState, state}
 use Rattle.mt_terms.specs.declared.numbers.Agent.{Agent}
 use Rattle.mt_terms.specs.declared.numbers.Agent.TheVariants.{Single, Couple}
 use Rattle.mt_terms.proofs.AgentFacts.{is_same_agent_refl, same_agent, agent_from_single}
-use Rattle.mt_round_laws.specs.Rounds.{state}
 use Rattle.mt_round_laws.proofs.RoundsLists.{In}
 use Rattle.mt_round_laws.proofs.RoundsPlaces.{at_none}
 use Rattle.mt_round_laws.proofs.RoundsAgents.{on_list, agent_on_list, member_of_agent, one_of_two, option_elsewhere, apart}

@@ -1,2 +1,3 @@
+pub mod BodyFacts
 pub mod FieldFacts
 pub mod KindFacts

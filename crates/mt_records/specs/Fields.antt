@@ -3,20 +3,15 @@ use Rattle.std.specs.Prelude.{List, [], ◌∷◌, drop, map, Option}
 use Rattle.std.specs.Borrow.{Bor}
 use Rattle.std.specs.Option.{option_copied}
 use Rattle.mt_lists.specs.Rows.{fields_left}
+use Rattle.mt_terms.specs.Lists.{by_twos}
 use Rattle.mt_terms.specs.Registration.Ids.{Bytes}
 use Rattle.mt_terms.specs.Registration.Records.{IdPair, pair_of}
 use Rattle.mt_records.specs.declared.fields.CoupleFields.{CoupleFields}
 use Rattle.mt_records.specs.declared.fields.Pairs.{Pairs}
 
--- the fields two by two, without a last one that has no other
-abbrev pub by_pairs : List Bytes → List (Bytes × Bytes)
-by_pairs [] = []
-by_pairs (x ∷ []) = []
-by_pairs (x ∷ y ∷ fields) = (x, y) ∷ by_pairs fields
-
 -- the pairs that an iterator over a couple's fields has yet to give
 abbrev pub pairs_left : Pairs → List IdPair
-pairs_left pairs = map pair_of (by_pairs (fields_left pairs.fields))
+pairs_left pairs = map pair_of (by_twos (fields_left pairs.fields))
 
 -- a pair of places as the definition's
 abbrev pub pair_seen : Option (Bor Bytes) × Option (Bor Bytes) → IdPair
@@ -29,8 +24,8 @@ first_two (two ∷ rest) = two
 
 -- a couple's two members: the first two fields after its own id, or two empty ones if there are fewer
 abbrev pub members_in : CoupleFields → Bytes × Bytes
-members_in couple = first_two (by_pairs (fields_left couple.fields))
+members_in couple = first_two (by_twos (fields_left couple.fields))
 
 -- the pairs of a couple's list: the fields after its members, two by two
 abbrev pub pairs_after : CoupleFields → List IdPair
-pairs_after couple = map pair_of (drop 1 (by_pairs (fields_left couple.fields)))
+pairs_after couple = map pair_of (drop 1 (by_twos (fields_left couple.fields)))

@@ -1,3 +1,4 @@
+pub mod Bodies
 pub mod Fields
 pub mod Records
 pub mod Refusals

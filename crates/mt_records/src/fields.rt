@@ -3,7 +3,8 @@ ghost use Rattle.std.specs.Option.{option_copied};
 ghost use Rattle.std.specs.List.{list_all};
 ghost use Rattle.mt_lists.specs.Rows.{fields_left};
 ghost use Rattle.mt_terms.specs.Registration.Records.{are_ids, is_pair, pair_of};
-ghost use Rattle.mt_records.specs.Fields.{by_pairs, first_two, members_in, pairs_after, pairs_left};
+ghost use Rattle.mt_terms.specs.Lists.{by_twos};
+ghost use Rattle.mt_records.specs.Fields.{first_two, members_in, pairs_after, pairs_left};
 
 use crate::rules::Rules;
 use mt_ids::{is_dash, is_id};
@@ -35,8 +36,8 @@ fn is_pair(rules: &Rules, first: &[u8], second: &[u8]) -> bool
 
 /// The next two fields, which are taken. None if there aren't two.
 fn next_two<'a>(fields: &mut Fields<'a>) -> Option<(&'a [u8], &'a [u8])>
-    ensures { let old = by_pairs (fields_left fields.old) in
-        let new = by_pairs (fields_left fields.new) in
+    ensures { let old = by_twos (fields_left fields.old) in
+        let new = by_twos (fields_left fields.new) in
         MatchOption result ((old ≡ []) × (new ≡ [])) (λ two. old ≡ (two.0.now, two.1.now) ∷ new) }
 {
     let first = fields.next()?;
@@ -46,7 +47,7 @@ fn next_two<'a>(fields: &mut Fields<'a>) -> Option<(&'a [u8], &'a [u8])>
 
 /// Whether some fields are pairs, two by two, by the rules of a version.
 pub(crate) fn are_pairs(rules: &Rules, fields: Fields<'_>) -> bool
-    ensures { result ≡ list_all (is_pair rules.now) (by_pairs (fields_left fields.entry)) }
+    ensures { result ≡ list_all (is_pair rules.now) (by_twos (fields_left fields.entry)) }
 {
     let mut rest = fields;
     while let Some((first, second)) = next_two(&mut rest) {
@@ -73,7 +74,7 @@ pub struct Pairs<'a> {
 impl<'a> Pairs<'a> {
     /// The pairs that some fields write, two by two. A last field that has no other is left out.
     pub fn new(fields: Fields<'a>) -> Pairs<'a>
-        ensures { pairs_left result ≡ map pair_of (by_pairs (fields_left fields.entry)) }
+        ensures { pairs_left result ≡ map pair_of (by_twos (fields_left fields.entry)) }
     {
         Pairs { fields }
     }
@@ -118,9 +119,9 @@ pub struct CoupleFields<'a> {
 impl<'a> CoupleFields<'a> {
     /// The fields of a couple's record after its id.
     pub fn new(fields: Fields<'a>) -> CoupleFields<'a>
-        ensures members { members_in result ≡ first_two (by_pairs (fields_left fields.entry)) }
+        ensures members { members_in result ≡ first_two (by_twos (fields_left fields.entry)) }
         ensures pairs { pairs_after result
-            ≡ map pair_of (drop 1 (by_pairs (fields_left fields.entry))) }
+            ≡ map pair_of (drop 1 (by_twos (fields_left fields.entry))) }
     {
         CoupleFields { fields }
     }

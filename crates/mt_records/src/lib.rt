@@ -1,6 +1,8 @@
-//! One record parsed by itself, by the rules of its version, or its first fault. It also has ids of each kind.
+//! One record parsed by itself, by the rules of its version, or its first fault. It also has ids of each kind, and
+//! what follows the record that names the version.
 #![tactic(auto)]
 
+mod body;
 mod fields;
 mod first_fault;
 mod grow;
@@ -9,6 +11,7 @@ mod limits;
 mod record;
 mod rules;
 
+pub use body::{Body, body_of};
 pub use fields::{CoupleFields, Pairs};
 pub use first_fault::{Fault, FirstFault};
 pub use grow::push;

@@ -4,7 +4,8 @@ ghost use Rattle.mt_terms.specs.Registration.Faults.{record_fault_alone};
 ghost use Rattle.mt_terms.specs.Registration.Records.{kind_of, are_ids, pair_of, two_by_two, program_record, applicant_record, couple_by_pairs, couple_record, withdraw_record, record_of};
 ghost use Rattle.mt_terms.specs.Registration.Records.{OfProgram, OfCouple};
 ghost use Rattle.mt_terms.specs.Registration.Rows.{id_of, own_id, applicants_of, entries_of};
-ghost use Rattle.mt_records.specs.Fields.{by_pairs, members_in, pairs_after};
+ghost use Rattle.mt_terms.specs.Lists.{by_twos};
+ghost use Rattle.mt_records.specs.Fields.{members_in, pairs_after};
 ghost use Rattle.mt_records.specs.Records.{kind_seen, record_seen, record_fault_seen, read_seen};
 
 use crate::fields::{CoupleFields, are_ids, are_pairs};
@@ -184,7 +185,7 @@ fn couple_by_pairs<'a>(
     fields: CoupleFields<'a>,
     list: Fields<'a>,
 ) -> Result<Record<'a>, RecordFault<'a>>
-    requires { pairs_after fields ≡ map pair_of (by_pairs (fields_left list)) }
+    requires { pairs_after fields ≡ map pair_of (by_twos (fields_left list)) }
     ensures { read_seen result ≡ couple_by_pairs rules.now id.now (members_in fields.entry).0 (members_in fields.entry).1
         (two_by_two (fields_left list.entry)) }
 {

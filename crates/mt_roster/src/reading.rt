@@ -1,4 +1,4 @@
-ghost use Rattle.std.specs.Prelude.{◌≡◌, IfErr, IfOk, Ok};
+ghost use Rattle.std.specs.Prelude.{◌≡◌, ◌+◌, ◌<◌, ◌^◌, length, IfErr, IfOk, Ok};
 ghost use Rattle.std.specs.Result.{result_ok};
 ghost use Rattle.mt_lists.specs.Rows.{rows_left};
 ghost use Rattle.mt_terms.specs.Registration.{market_of, market_under};
@@ -8,14 +8,14 @@ ghost use Rattle.mt_numbering.specs.Markets.{AcceptsRegistrations};
 ghost use Rattle.mt_roster.specs.Faults.{Tells};
 ghost use Rattle.mt_records.specs.Refusals.{Gives};
 ghost use Rattle.mt_records.specs.Limits.{AreBounded};
-ghost use Rattle.mt_roster.specs.Read.{NamesNoVersion, GivesVersion, IsShort, same};
+ghost use Rattle.mt_roster.specs.Read.{NamesNoVersion, same};
 
 use crate::fault::{RosterError, error_of};
-use mt_lists::{Rows, RowsIter};
+use mt_lists::Rows;
 use mt_market::Roster;
 use mt_numbering::faultless_market;
 use mt_passes::first_fault;
-use mt_records::{Fault, FirstFault, Rules, rules_of};
+use mt_records::{Body, Fault, FirstFault, body_of};
 use mt_terms::codes::NO_VERSION;
 use std::alloc::{AllocError, Global};
 use std::thread::Threads;
@@ -31,38 +31,6 @@ fn no_version<'a>(row: u64) -> FirstFault<'a>
     })
 }
 
-/// What follows the record that names a version: the rules of that version, and the rows. The first row has this
-/// number.
-#[derive(Clone, Copy)]
-struct Body<'a> {
-    rules: Rules,
-    rows: RowsIter<'a>,
-    first: u64,
-}
-
-/// What follows the record that names a version, which is the first with a field. The error is the number of a record
-/// that names none, or 0 if no record has a field.
-fn body_of<'a>(rows: &'a Rows<'_>) -> Result<Body<'a>, u64>
-    ensures { GivesVersion rows.now result }
-{
-    let mut rest = rows.iter();
-    let mut number = 0;
-    while let Some(row) = rest.next() {
-        number += 1;
-        if !row.is_empty() {
-            return match rules_of(row.fields()) {
-                Some(rules) => Ok(Body {
-                    rules,
-                    rows: rest,
-                    first: number + 1,
-                }),
-                None => Err(number),
-            };
-        }
-    }
-    Err(0)
-}
-
 /// The market of what follows the record that names a version, or its first fault.
 fn read_body<'a, R: Threads + Sync>(
     rt: &R,
@@ -70,7 +38,7 @@ fn read_body<'a, R: Threads + Sync>(
     body: &Body<'a>,
 ) -> Result<Roster, FirstFault<'a>>
     requires limits { AreBounded body.now.rules.limits }
-    requires short { IsShort body.now }
+    requires short { body.now.first + length (rows_left body.now.rows) < 2 ^ 64 }
     requires accepted { AcceptsRegistrations body.now.rules (with_fields (rows_left body.now.rows)) }
     ensures { Gives same result (market_under body.now.rules (numbered_from body.now.first (rows_left body.now.rows))) }
 {

@@ -4,14 +4,10 @@ use Rattle.mt_terms.specs.Market.{Market}
 use Rattle.mt_terms.specs.Matching.{Places}
 use Rattle.mt_terms.specs.Stability.{fits, stable}
 use Rattle.mt_terms.specs.Best.{IsBest}
-use Rattle.mt_terms.specs.Rounds.{Work, round, stage, IsRoundState, IsFittingState}
+use Rattle.mt_terms.specs.Rounds.{Work, round, stage, state, IsRoundState, IsFittingState}
 use Rattle.mt_terms.specs.WellFormed.{IsWellFormed}
 use Rattle.mt_terms.specs.declared.numbers.Agent.{Agent}
 use Rattle.mt_terms.specs.declared.numbers.Agent.TheVariants.{Couple}
-
--- the state with this match and this work list
-abbrev pub state : Places → List Agent → Work
-state places waiting = record { places = places; waiting = waiting }
 
 -- a step keeps what holds of a state
 abbrev pub Keeps : (Work → Type 0) → (Work → Work) → Type 0

@@ -10,13 +10,12 @@ use Rattle.std.specs.Ordering.{nat_cmp}
 use Rattle.std.specs.Prelude.{filter, not}
 use Rattle.mt_terms.specs.Lists.{has, below, is_distinct}
 use Rattle.mt_terms.specs.Market.{Market, program_of}
-use Rattle.mt_terms.specs.Matching.{Places, is_program, at, ranks_from, placed_ranks}
+use Rattle.mt_terms.specs.Matching.{Places, is_program, at, ranks_from, placed_ranks, ranks_by_program}
 use Rattle.mt_terms.proofs.BelowFacts.{length-map_below, map_below_at}
-use Rattle.mt_stage_tables.specs.Ranks.{rows_of}
 use Rattle.mt_stage_tables.proofs.RanksFacts.{same_ranks, ranks_with, ranks_without}
 
 abbrev pub AreRows : Market → Places → List (List ℕ) → Type 0
-AreRows m places rows = rows ≡ rows_of m places
+AreRows m places rows = rows ≡ ranks_by_program m places
 
 pub row_count : (m : Market) (places : Places) (rows : List (List ℕ)) → AreRows m places rows → length rows ≡ length m.programs
 row_count m places rows are = ap length are ∙ length-map_below (placed_ranks m places) (length m.programs)

@@ -1,34 +1,17 @@
--- Who waits, and that there is room for all.
-use Rattle.std.proofs.Common.{◌≡◌, ℕ, ◌+◌, ◌<◌, ◌≤◌, suc, zero, Bool, true, false, ◌==◌, ◌||◌, ◌&&◌, not, cond, List, [], ◌∷◌, ◌++◌, map, length, drop, slice_get, nat_le, nat_lt, Some, None, refl, ap, sym, ◌∙◌, inl, inr, arith, subst, IsTrue}
+-- Who waits.
+use Rattle.std.proofs.Common.{◌≡◌, ℕ, ◌+◌, suc, zero, Bool, true, false, ◌||◌, ◌&&◌, not, cond, List, [], ◌∷◌, ◌++◌, length, drop, slice_get, nat_le, nat_lt, Some, None, refl, ap, sym, ◌∙◌, inl, inr, arith, subst, IsTrue}
 use Rattle.std.specs.List.{list_any, position, position_or_len, AllByRecursion, IsDistinct}
 use Rattle.std.proofs.lemmas.Bool.Decides.{nat_tests}
 use Rattle.std.proofs.lemmas.Option.{none-some, same_Some}
-use Rattle.std.proofs.lemmas.Bool.{or_from, or_left, or_right, or_cases, or_parts, both_ways, false≢true, false_from_ne_true, ne_eqb, eqb-true}
-use Rattle.std.proofs.lemmas.List.{length-map, length-append}
+use Rattle.std.proofs.lemmas.Bool.{or_from, or_right, or_cases, or_parts, both_ways, false≢true, false_from_ne_true}
 use Rattle.std.proofs.lemmas.List.Folds.{list_any-append}
 use Rattle.std.proofs.lemmas.Map.Keys.{IsDistinct-tail}
-use Rattle.std.proofs.lemmas.Map.Steps.{length-le_from_distinct_below}
 use Rattle.mt_terms.specs.Rounds.{is_same_agent, is_on}
 use Rattle.mt_terms.specs.declared.numbers.Agent.{Agent}
 use Rattle.mt_terms.specs.declared.numbers.Agent.TheVariants.{Single, Couple}
 use Rattle.mt_terms.specs.contracts.numbers.AgentPartialEq.TheImpl.{eq-value}
 use Rattle.mt_terms.proofs.AgentFacts.{is_same_agent_refl, same_agent}
 use Rattle.mt_stage_tables.specs.Waiting.{IsWithin, WaitOnce}
-
--- agents of different numbers or kinds have different places: singles are before couples
-abbrev place_for : ℕ → Agent → ℕ
-place_for n (Single a) = a
-place_for n (Couple c) = n + c
-
-one_place : (n c : ℕ) (g h : Agent) → IsWithin n c g → IsWithin n c h → place_for n g ≡ place_for n h → g ≡ h
-one_place n c (Single a) (Single b) g_in h_in same = ap Single same
-one_place n c (Single a) (Couple d) g_in h_in same = absurd (omega arith)
-one_place n c (Couple b) (Single a) g_in h_in same = absurd (omega arith)
-one_place n c (Couple b) (Couple d) g_in h_in same = let e : b ≡ d = omega arith in ap Couple e
-
-place_within : (n c : ℕ) (g : Agent) → IsWithin n c g → place_for n g < n + c
-place_within n c (Single a) within = omega arith
-place_within n c (Couple b) within = omega arith
 
 -- whoever stands on a list is of a kind
 abbrev pub AreWithin : ℕ → ℕ → List Agent → Type 0
@@ -54,38 +37,6 @@ once_more g (x ∷ xs) once off =
     let parts = or_parts (is_same_agent g x) (is_on xs g) off in
     (apart_more x g xs once.0 (same_back g x parts.0), once_more g xs once.1 parts.1)
 
--- places of distinct agents are distinct
-places_apart : (n c : ℕ) (x : Agent) (xs : List Agent) → IsWithin n c x → AreWithin n c xs → AllByRecursion (λ y. is_same_agent x y ≡ false) xs
-    → AllByRecursion (λ k. (place_for n x == k) ≡ false) (map (place_for n) xs)
-places_apart n c x [] x_in all h = tt
-places_apart n c x (y ∷ ys) x_in all h =
-    let y_in = all y (or_left (is_same_agent y y) (is_on ys y) (is_same_agent_refl y)) in
-    let other : (place_for n x ≡ place_for n y → ⊥) = (λ same.
-    both_ways (is_same_agent x y) h.0 (ap (is_same_agent x) (sym (one_place n c x y x_in y_in same)) ∙ is_same_agent_refl x)) in
-    (ne_eqb (place_for n x) (place_for n y) other, places_apart n c x ys x_in (λ g on. all g (or_right (is_same_agent g y) (is_on ys g) on)) h.1)
-
-places_once : (n c : ℕ) (gs : List Agent) → AreWithin n c gs → IsDistinct is_same_agent gs → IsDistinct ◌==◌ (map (place_for n) gs)
-unfolding IsDistinct
-places_once n c [] all once = tt
-places_once n c (x ∷ xs) all once =
-    let rest : AreWithin n c xs = (λ g on. all g (or_right (is_same_agent g x) (is_on xs g) on)) in
-    (places_apart n c x xs (all x (or_left (is_same_agent x x) (is_on xs x) (is_same_agent_refl x))) rest once.0, places_once n c xs rest once.1)
-
-of_places : (n c : ℕ) (gs : List Agent) → AreWithin n c gs → (q : ℕ) → list_any (λ k. q == k) (map (place_for n) gs) ≡ true → q < n + c
-of_places n c [] all q on = absurd (false≢true on)
-of_places n c (x ∷ xs) all q on = elim (or_cases (q == place_for n x) (list_any (λ k. q == k) (map (place_for n) xs)) on) [
-  | inl here ↦
-      let e = eqb-true q (place_for n x) here in
-      let l = place_within n c x (all x (or_left (is_same_agent x x) (is_on xs x) (is_same_agent_refl x))) in
-      omega arith
-  | inr later ↦ of_places n c xs (λ g on. all g (or_right (is_same_agent g x) (is_on xs g) on)) q later
-]
-
--- no more wait than there are agents
-few_wait : (n c : ℕ) (gs : List Agent) → AreWithin n c gs → IsDistinct is_same_agent gs → length gs ≤ n + c
-few_wait n c gs all once =
-    omega (arith, length-le_from_distinct_below (map (place_for n) gs) (n + c) (places_once n c gs all once) (of_places n c gs all), length-map gs (place_for n))
-
 all_with : (n c : ℕ) (g : Agent) (gs : List Agent) → IsWithin n c g → AreWithin n c gs → AreWithin n c (gs ++ g ∷ [])
 all_with n c g gs g_in all h on = elim (or_cases (is_on gs h) (is_on (g ∷ []) h) (sym (list_any-append (is_same_agent h) gs (g ∷ [])) ∙ on)) [
   | inl before ↦ all h before
@@ -94,11 +45,6 @@ all_with n c g gs g_in all h on = elim (or_cases (is_on gs h) (is_on (g ∷ []) 
     | inr none ↦ absurd (false≢true none)
   ]
 ]
-
--- so there is room for one that doesn't wait yet
-pub room_left : (n c : ℕ) (g : Agent) (gs : List Agent) → IsWithin n c g → AreWithin n c gs → IsDistinct is_same_agent gs → is_on gs g ≡ false → length gs < n + c
-room_left n c g gs g_in all once off =
-    omega (arith, few_wait n c (gs ++ g ∷ []) (all_with n c g gs g_in all) (once_more g gs once off), length-append gs (g ∷ []))
 
 -- one more joins, and the one in front is taken
 pub wait_joined : (n c : ℕ) (g : Agent) (gs : List Agent) → WaitOnce n c gs → IsWithin n c g → is_on gs g ≡ false → WaitOnce n c (gs ++ g ∷ [])

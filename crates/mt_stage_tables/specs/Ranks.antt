@@ -1,8 +1,8 @@
 -- The ranks of a set, one after another.
-use Rattle.std.specs.Prelude.{◌≡◌, ℕ, ◌<◌, Bool, List, map, length}
+use Rattle.std.specs.Prelude.{◌≡◌, ℕ, ◌<◌, Bool, List, length}
 use Rattle.std.specs.List.Sorted.{IsStrictlySortedBy}
 use Rattle.std.specs.Ordering.{nat_cmp}
-use Rattle.mt_terms.specs.Lists.{has, below}
+use Rattle.mt_terms.specs.Lists.{has}
 use Rattle.mt_terms.specs.Market.{Market}
 use Rattle.mt_terms.specs.Matching.{Places, placed_ranks}
 use Rattle.mt_bits.specs.Members.{is_in}
@@ -12,10 +12,6 @@ use Rattle.mt_bits.specs.Tables.{told_of}
 pub record HasRanks (told : List Bool) (ranks : List ℕ) : Type 0 where
   pub sorted : IsStrictlySortedBy nat_cmp ranks
   pub same : (r : ℕ) → has ranks r ≡ is_in told r
-
--- for each program the ranks of those on its list that are placed there
-abbrev pub rows_of : Market → Places → List (List ℕ)
-rows_of m places = map (placed_ranks m places) (below (length m.programs))
 
 -- the same as sets
 pub record HavePlaced (m : Market) (places : Places) (table : List (List Bool)) : Type 0 where

@@ -1,9 +1,9 @@
 -- What the fields of the sets mean.
-use Rattle.std.specs.Prelude.{◌≤◌, ◌+◌, ◌++◌, ℕ, List, drop}
+use Rattle.std.specs.Prelude.{◌≤◌, ◌++◌, ℕ, List, drop}
 use Rattle.std.specs.List.Sorted.{IsStrictlySortedBy}
 use Rattle.std.specs.Ordering.{nat_cmp}
 use Rattle.mt_stage_tables.specs.Named.{Index}
-use Rattle.indexmap.specs.IndexSet.{index_set_len, spare}
+use Rattle.indexmap.specs.IndexSet.{index_set_len}
 use Rattle.mt_stage_tables.specs.Waiting.{Waiting, WaitOnce}
 use Rattle.mt_stage_tables.specs.declared.pair_index.PairIndex.TheInside.{Inside as Pairs}
 use Rattle.mt_stage_tables.specs.declared.program_set.ProgramSet.TheInside.{Inside as Programs}
@@ -13,12 +13,10 @@ use Rattle.mt_stage_tables.specs.declared.work_list.WorkList.TheInside.{Inside a
 abbrev pub waiting_in : Queue → Waiting
 waiting_in w = record { applicants = w.applicants; couples = w.couples; agents = drop w.taken w.front.keys ++ w.back.keys }
 
--- Each agent waits once, and each of the two sets has room for all agents.
+-- Each agent waits once.
 pub record IsWorkList (w : Queue) : Type 0 where
   pub waiting : WaitOnce w.applicants w.couples (drop w.taken w.front.keys ++ w.back.keys)
   pub taken : w.taken ≤ index_set_len w.front
-  pub front_room : w.applicants + w.couples ≤ index_set_len w.front + spare w.front
-  pub back_room : w.applicants + w.couples ≤ index_set_len w.back + spare w.back
 
 abbrev pub programs_in : Programs → List ℕ
 programs_in s = s.programs.items

@@ -1,4 +1,4 @@
-ghost use Rattle.std.specs.Prelude.{◌≡◌, ◌++◌, [], drop, IfOk, IfSome, IfNone};
+ghost use Rattle.std.specs.Prelude.{◌≡◌, ◌++◌, [], drop, IfNone, IfSome, OnOk};
 ghost use Rattle.mt_terms.specs.Rounds.{is_on, joined};
 ghost use Rattle.mt_stage_tables.specs.Waiting.{nobody, waiting_first, with_agents, IsKnown};
 
@@ -11,11 +11,11 @@ use std::mem::swap;
 /// The agents that are to be rechecked, first in first out, each at most once.
 ///
 /// Agents are read from one ordered set. An agent that is taken stays in it, passed over, until all are. Whoever joins is
-/// put at the end of a second set. When all of the first set are taken, the second takes its place. Both have room for
-/// every agent from the start, so joining takes no memory.
+/// put at the end of a second set. When all of the first set are taken, the second takes its place. Both grow with those
+/// that wait: few do mostly, and sets with room for every agent take longer to make than all rounds on some markets.
 ///
 /// The sets hash with the fixed seed of `indexmap`. The author of a file chooses which agents wait, but the keys are only
-/// the numbers of agents, for which both sets have room.
+/// the numbers of agents.
 pub struct WorkList {
     applicants: u32,
     couples: u32,
@@ -64,17 +64,16 @@ fn is_beyond(agents: &IndexSet<Agent>, first: usize, agent: &Agent) -> bool
 
 impl WorkList {
     /// An empty work list for this many applicants and couples.
-    pub fn new(alloc: Global, applicants: u32, couples: u32) -> Result<Self, AllocError>
-        ensures { IfOk result (λ w. w ≡ nobody applicants couples) }
+    pub fn new(alloc: Global, applicants: u32, couples: u32) -> Self
+        ensures { result ≡ nobody applicants couples }
     {
-        let agents = applicants as usize + couples as usize;
-        Ok(WorkList {
+        WorkList {
             applicants,
             couples,
-            front: IndexSet::with_capacity(alloc, agents)?,
+            front: IndexSet::new(alloc),
             taken: 0,
-            back: IndexSet::with_capacity(alloc, agents)?,
-        })
+            back: IndexSet::new(alloc),
+        }
     }
 
     /// Whether the agent waits.
@@ -107,13 +106,14 @@ impl WorkList {
         Some(agent)
     }
 
-    /// Puts the agent at the end, unless it waits already.
-    pub fn join(&mut self, agent: Agent)
+    /// Puts the agent at the end, unless it waits already. The error is want of memory.
+    pub fn join(&mut self, agent: Agent) -> Result<(), AllocError>
         requires { IsKnown self.old agent }
-        ensures { self.new ≡ with_agents self.old (joined self.old.agents agent) }
+        ensures { OnOk result (self.new ≡ with_agents self.old (joined self.old.agents agent)) }
     {
         if !self.is_waiting(&agent) {
-            let _added = self.back.insert(agent).unwrap();
+            let _added = self.back.insert(agent)?;
         }
+        Ok(())
     }
 }

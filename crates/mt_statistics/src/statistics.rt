@@ -1,12 +1,12 @@
 ghost use Rattle.std.specs.Prelude.{◌≡◌, ◌<◌, length, map, IfOk};
 ghost use Rattle.mt_terms.specs.Lists.{below};
-ghost use Rattle.mt_terms.specs.Market.{applicants};
+ghost use Rattle.mt_terms.specs.Market.{applicants, IsAgentOf};
 ghost use Rattle.mt_terms.specs.Matching.{filled};
 ghost use Rattle.mt_terms.specs.Places.{ArePlaces};
 ghost use Rattle.mt_terms.specs.Text.{all_filled};
 ghost use Rattle.mt_terms.specs.declared.numbers.Agent.TheVariants.{Couple, Single};
 ghost use Rattle.mt_ranks.specs.Ranked.{ranked_of};
-ghost use Rattle.mt_verify.specs.Held.{IsNumbered, held_option};
+ghost use Rattle.mt_verify.specs.Held.{held_option};
 ghost use Rattle.mt_statistics.specs.Counts.{choice_counts, choices_from, couples_with, empty_programs, full_programs, has_choice_from, has_nobody, is_from, is_full, is_unmatched_single, last_rank, open_at, open_posts, pair_counts, pairs_from, partly_filled_programs, placed_members, standing, unmatched_singles};
 
 use crate::counts::{ProgramCounts, Standing};
@@ -235,7 +235,7 @@ impl<'a> Statistics<'a> {
 
     /// The number from 0 of the option that the agent has, if it has one of its list.
     fn held_option(&self, agent: Agent) -> Option<u32>
-        requires { IsNumbered self.now.registered.market agent }
+        requires { IsAgentOf self.now.registered.market agent }
         ensures { result ≡ held_option self.now.registered.market self.now.places agent }
     {
         self.tables.held_option(agent)

@@ -1,12 +1,13 @@
 -- The live market of a market. Other crates' proofs cite these lemmas.
-use Rattle.std.proofs.Common.{◌≡◌, ℕ, ◌≤◌, [], filter, IsTrue, sym, ap, ◌∙◌, inl, inr, arith}
+use Rattle.std.proofs.Common.{◌≡◌, ℕ, ◌≤◌, [], filter, length, IsTrue, sym, ap, ◌∙◌, inl, inr, arith}
 use Rattle.std.proofs.lemmas.Bool.{and_parts, cases_lt}
 use Rattle.std.proofs.lemmas.List.{get_or_past}
-use Rattle.mt_terms.specs.Lists.{has, is_distinct}
-use Rattle.mt_terms.specs.Market.{Market, applicants, program_of, list_of, live, live_market}
+use Rattle.mt_terms.specs.Lists.{has, is_distinct, total_below}
+use Rattle.mt_terms.specs.Market.{Market, applicants, program_of, list_of, live, live_entries, live_market}
 use Rattle.mt_terms.specs.WellFormed.{IsWellFormed}
 use Rattle.mt_terms.proofs.BelowFacts.{length-map_below, map_below_at}
 use Rattle.mt_terms.proofs.ListFacts.{has-filter, distinct-filter, filter-filter}
+use Rattle.mt_terms.proofs.Totals.{total_below-same}
 
 -- on a live list are the programs of the list that list the applicant
 pub live_parts : (m : Market) (a p : ℕ) → IsTrue (has (live m a) p) → IsTrue (has (program_of m p).ranking a) × IsTrue (has (list_of m a) p)
@@ -36,6 +37,12 @@ list_of-live_market m a = elim (cases_lt a (applicants m)) [
 -- and all that they name is live
 pub live-live_market : (m : Market) (a : ℕ) → live (live_market m) a ≡ live m a
 live-live_market m a = ap (filter (λ p. has (program_of m p).ranking a)) (list_of-live_market m a) ∙ filter-filter (λ p. has (program_of m p).ranking a) (list_of m a)
+
+-- it has as many live entries
+pub live_entries-live_market : (m : Market) → live_entries (live_market m) ≡ live_entries m
+live_entries-live_market m =
+    ap (total_below (λ a. length (live (live_market m) a))) (applicants-live_market m)
+    ∙ total_below-same (λ a. length (live (live_market m) a)) (λ a. length (live m a)) (applicants m) (λ a low. ap length (live-live_market m a))
 
 -- it is well formed where the market is
 pub live_well_formed : (m : Market) → IsWellFormed m → IsWellFormed (live_market m)

@@ -1,5 +1,5 @@
--- Words on lists of numbers and on sets, which are tests.
-use Rattle.std.specs.Prelude.{ℕ, zero, suc, ◌+◌, Bool, true, not, ◌||◌, ◌&&◌, ◌==◌, List, [], ◌∷◌, if◌then◌else◌}
+-- Words on lists, and on sets of numbers, which are tests.
+use Rattle.std.specs.Prelude.{ℕ, zero, suc, ◌+◌, Bool, true, not, ◌||◌, ◌&&◌, ◌==◌, List, [], ◌∷◌, Option, Some, None, if◌then◌else◌}
 use Rattle.std.specs.List.{list_any, range_with_len}
 
 -- a set of applicants or of programs
@@ -24,6 +24,17 @@ until test (x ∷ xs) = if test x then [] else (x ∷ until test xs)
 abbrev pub through : {X : Type 0} → (X → Bool) → List X → List X
 through test [] = []
 through test (x ∷ xs) = if test x then (x ∷ []) else (x ∷ through test xs)
+
+-- the first element, if there is one
+abbrev pub head : {X : Type 0} → List X → Option X
+head [] = None
+head (x ∷ xs) = Some x
+
+-- the elements two by two, without a last one that has no other
+abbrev pub by_twos : {X : Type 0} → List X → List (X × X)
+by_twos [] = []
+by_twos (x ∷ []) = []
+by_twos (x ∷ y ∷ xs) = (x, y) ∷ by_twos xs
 
 -- how many members of a set a list ranks above a number
 abbrev pub above : Set → List ℕ → ℕ → ℕ

@@ -2,7 +2,7 @@
 -- and couples with rank order lists of pairs. Applicants, programs and couples are numbers, by order of registration
 -- from 0. (Gale and Shapley 1962. Couples are as in Roth and Peranson 1999. By this project's own rule one member of
 -- a pair may be unplaced.)
-use Rattle.std.specs.Prelude.{ℕ, ◌+◌, Bool, true, ◌||◌, ◌==◌, List, [], ◌∷◌, map, filter, length, Option, slice_index_or, if◌then◌else◌}
+use Rattle.std.specs.Prelude.{ℕ, ◌+◌, ◌<◌, Bool, true, ◌||◌, ◌==◌, List, [], ◌∷◌, map, filter, length, Option, slice_index_or, if◌then◌else◌}
 use Rattle.mt_terms.specs.Lists.{has, below, total_below}
 use Rattle.mt_terms.specs.declared.numbers.Agent.{Agent}
 use Rattle.mt_terms.specs.declared.numbers.Agent.TheVariants.{Single, Couple}
@@ -78,6 +78,11 @@ agent_of m a = agent_from m.couples 0 a
 abbrev pub members : Market → Agent → List ℕ
 members m (Single a) = a ∷ []
 members m (Couple c) = (couple_of m c).first ∷ (couple_of m c).second ∷ []
+
+-- the agent is an applicant or a couple of the market, by its number
+abbrev pub IsAgentOf : Market → Agent → Type 0
+IsAgentOf m (Single a) = a < applicants m
+IsAgentOf m (Couple c) = c < length m.couples
 
 -- whether an applicant is a single, or the first member of its couple
 abbrev pub leads : Market → ℕ → Bool

@@ -40,6 +40,10 @@ ranks_from rank set (x ∷ xs) = if set x then (rank ∷ ranks_from (rank + 1) s
 abbrev pub placed_ranks : Market → Places → ℕ → List ℕ
 placed_ranks m places p = ranks_from 0 (at places p) (program_of m p).ranking
 
+-- for each program the ranks of those that a match places there
+abbrev pub ranks_by_program : Market → Places → List (List ℕ)
+ranks_by_program m places = map (placed_ranks m places) (below (length m.programs))
+
 -- whether two places are the same
 abbrev pub is_same_place : Option ℕ → Option ℕ → Bool
 is_same_place None None = true

@@ -24,6 +24,10 @@ pub record Work : Type 0 where
   pub places : Places
   pub waiting : List Agent
 
+-- the state with this match and this work list
+abbrev pub state : Places → List Agent → Work
+state places waiting = record { places = places; waiting = waiting }
+
 -- the work list after an agent joins at its end, if it isn't on it yet
 abbrev pub joined : List Agent → Agent → List Agent
 joined waiting g = if list_any (is_same_agent g) waiting then waiting else (waiting ++ g ∷ [])

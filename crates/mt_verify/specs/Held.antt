@@ -5,11 +5,6 @@ use Rattle.mt_terms.specs.Matching.{Places, holds, options}
 use Rattle.mt_terms.specs.declared.numbers.Agent.{Agent}
 use Rattle.mt_terms.specs.declared.numbers.Agent.TheVariants.{Single, Couple}
 
--- an agent has a number of the market
-abbrev pub IsNumbered : Market → Agent → Type 0
-IsNumbered m (Single a) = a < applicants m
-IsNumbered m (Couple c) = c < length m.couples
-
 -- the number from 0 of the option that an agent has, if it has one of its list
 abbrev pub held_option : Market → Places → Agent → Option ℕ
 held_option m places g = position (holds places) (options m g)

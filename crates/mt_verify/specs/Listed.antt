@@ -4,7 +4,7 @@ use Rattle.std.specs.Global.{Global}
 use Rattle.std.specs.List.{list_any}
 use Rattle.mt_terms.specs.Lists.{below}
 use Rattle.mt_terms.specs.Market.{Market, Pair, agent_of}
-use Rattle.mt_terms.specs.Matching.{Places, is_program, is_same_place, placed_ranks}
+use Rattle.mt_terms.specs.Matching.{Places, is_program, is_same_place, placed_ranks, ranks_by_program}
 use Rattle.mt_terms.specs.Stability.{has_own_option}
 use Rattle.mt_terms.specs.Verdict.{lowest_number}
 use Rattle.mt_terms.specs.declared.numbers.Agent.{Agent}
@@ -31,10 +31,6 @@ is_off_own_list m places a = (lowest_number m g == a) && not (has_own_option m p
   where
     g : Agent
     g = agent_of m a
-
--- for each program the ranks of those that are placed there
-abbrev pub ranks_by_program : Market → Places → List (List ℕ)
-ranks_by_program m places = map (placed_ranks m places) (below (length m.programs))
 
 -- a vector holds the ranks of those that are placed at a program, and vectors those at each program
 abbrev pub HoldsRanksAt : Market → Places → ℕ → Vec ℕ Global → Type 0

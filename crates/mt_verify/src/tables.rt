@@ -1,9 +1,9 @@
 ghost use Rattle.std.specs.Prelude.{◌≡◌, ◌≢◌, ◌<◌, length, IfOk, Some};
-ghost use Rattle.mt_terms.specs.Market.{applicants};
+ghost use Rattle.mt_terms.specs.Market.{applicants, IsAgentOf};
 ghost use Rattle.mt_terms.specs.Matching.{better, couple_placement, place_of, placed_ranks, send, single_placement};
 ghost use Rattle.mt_terms.specs.Places.{ArePlaces};
 ghost use Rattle.mt_ranks.specs.Ranked.{ranked_of};
-ghost use Rattle.mt_verify.specs.Held.{IsNumbered, held_option, rank_at};
+ghost use Rattle.mt_verify.specs.Held.{held_option, rank_at};
 ghost use Rattle.mt_verify.specs.Prospects.{prospect};
 
 use crate::prospect::Prospect;
@@ -58,7 +58,7 @@ impl<'a> MatchTables<'a> {
 
     /// The number from 0 of the option that the agent has, if it has one of its list.
     pub fn held_option(&self, agent: Agent) -> Option<u32>
-        requires { IsNumbered self.now.market agent }
+        requires { IsAgentOf self.now.market agent }
         ensures { result ≡ held_option self.now.market self.now.places agent }
     {
         self.verifier.held_option(agent)
@@ -66,7 +66,7 @@ impl<'a> MatchTables<'a> {
 
     /// How many options the agent wants more than what it has. They are the first ones of its list.
     pub fn better_options(&self, agent: Agent) -> u32
-        requires { IsNumbered self.now.market agent }
+        requires { IsAgentOf self.now.market agent }
         ensures { result ≡ length (better self.now.market self.now.places agent) }
     {
         self.verifier.better_options(agent)

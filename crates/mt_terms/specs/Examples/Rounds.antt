@@ -1,13 +1,8 @@
 -- The couples' rounds on the small markets, state by state.
-use Rattle.std.specs.Prelude.{◌≡◌, List, [], ◌∷◌, Some, None}
+use Rattle.std.specs.Prelude.{◌≡◌, [], ◌∷◌, Some, None}
 use Rattle.mt_terms.specs.Examples.Markets
-use Rattle.mt_terms.specs.Matching.{Places}
-use Rattle.mt_terms.specs.Rounds.{Work, stage}
-use Rattle.mt_terms.specs.declared.numbers.Agent.{Agent}
+use Rattle.mt_terms.specs.Rounds.{stage, state}
 use Rattle.mt_terms.specs.declared.numbers.Agent.TheVariants.{Single, Couple}
-
-abbrev state : Places → List Agent → Work
-state places waiting = record { places = places; waiting = waiting }
 
 -- The couple drives the single out, the single drives the couple out, and after four rounds all is as before.
 pub record UnstableRounds : Type 0 where

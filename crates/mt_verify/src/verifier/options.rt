@@ -1,8 +1,8 @@
 ghost use Rattle.std.specs.Prelude.{◌≡◌, ◌<◌, length};
-ghost use Rattle.mt_terms.specs.Market.{applicants};
+ghost use Rattle.mt_terms.specs.Market.{applicants, IsAgentOf};
 ghost use Rattle.mt_terms.specs.Matching.{better, place_of};
 ghost use Rattle.mt_terms.specs.declared.numbers.Agent.TheVariants.{Couple, Single};
-ghost use Rattle.mt_verify.specs.Held.{IsNumbered, held_option, rank_at};
+ghost use Rattle.mt_verify.specs.Held.{held_option, rank_at};
 ghost use Rattle.mt_verify.specs.View.{judged};
 
 use crate::held::{position_of_pair, position_of_program};
@@ -12,7 +12,7 @@ use mt_terms::{Agent, AppNo, CoupleNo};
 impl Verifier<'_> {
     /// The number from 0 of the option that the agent has, if it has one of its list.
     pub(crate) fn held_option(&self, agent: Agent) -> Option<u32>
-        requires { IsNumbered (judged self.now).market agent }
+        requires { IsAgentOf (judged self.now).market agent }
         ensures { let j = judged self.now in result ≡ held_option j.market j.places agent }
     {
         match agent {
@@ -23,7 +23,7 @@ impl Verifier<'_> {
 
     /// How many options the agent wants more than what it has. They are the first ones of its list.
     pub(crate) fn better_options(&self, agent: Agent) -> u32
-        requires { IsNumbered (judged self.now).market agent }
+        requires { IsAgentOf (judged self.now).market agent }
         ensures { let j = judged self.now in result ≡ length (better j.market j.places agent) }
     {
         match agent {

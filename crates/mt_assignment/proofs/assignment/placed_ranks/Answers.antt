@@ -30,7 +30,8 @@ loop-number-init c = record {
 
 pub watch_wanted-requires : goal.watch_wanted-requires
 watch_wanted-requires c =
-    omega (arith, c.applicants-number-end.ensures.count, ranked_applicants c.args.ranks.now c.args.roster.now.market c.requires.ranks)
+    let m = c.args.roster.now.market in
+    omega (arith, c.applicants-number-end.ensures.count, ranked_applicants c.args.ranks.now m c.requires.ranks, ranked_programs c.args.ranks.now m c.requires.ranks, c.loop-number.invariant.one_each)
 
 pub placed_rank-requires-clause-program : goal.placed_rank-requires-clause-program
 placed_rank-requires-clause-program c =

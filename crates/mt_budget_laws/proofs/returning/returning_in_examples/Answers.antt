@@ -1,10 +1,9 @@
 use Rattle.std.proofs.Common.{◌≡◌, ℕ, List, [], ◌∷◌, Some, None, refl, arith}
 use Rattle.mt_terms.specs.Examples.Markets.{unstable}
 use Rattle.mt_terms.specs.Matching.{Places}
-use Rattle.mt_terms.specs.Rounds.{stage}
+use Rattle.mt_terms.specs.Rounds.{stage, state}
 use Rattle.mt_terms.specs.declared.numbers.Agent.{Agent}
 use Rattle.mt_terms.specs.declared.numbers.Agent.TheVariants.{Couple}
-use Rattle.mt_round_laws.specs.Rounds.{state}
 use Rattle.mt_budget_laws.specs.Returning.{ComesBack}
 use Rattle.mt_budget_laws.proofs.ReturningFacts.{returning_stage_never_ends_lem}
 use Rattle.mt_budget_laws.proofs.returning.returning_in_examples.Goals as goal

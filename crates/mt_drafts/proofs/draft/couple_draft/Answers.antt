@@ -2,7 +2,8 @@ use Rattle.std.proofs.Common.{◌≡◌, List, ◌∷◌, drop, map, ap, sym, �
 use Rattle.mt_lists.specs.Rows.{fields_left}
 use Rattle.mt_terms.specs.Registration.Ids.{Bytes}
 use Rattle.mt_terms.specs.Registration.Records.{pair_of}
-use Rattle.mt_records.specs.Fields.{by_pairs, first_two}
+use Rattle.mt_terms.specs.Lists.{by_twos}
+use Rattle.mt_records.specs.Fields.{first_two}
 use Rattle.mt_drafts.proofs.CoupleFacts.{odd_list, even_list}
 use Rattle.mt_drafts.proofs.draft.couple_draft.Goals as goal
 
@@ -22,5 +23,5 @@ returns c =
     even_list c.args.rules.now (fields_left c.args.fields) _ _ _ (fields_left c.next-3.new.self)
     (three_on _ _ _ _ _ _ _ c.in_ok-id.ensures.steps c.in_ok-first.ensures.steps c.in_ok-second.ensures.steps) (omega (arith, c.len.ensures, c.if-len-eq1.false))
     (sym c.names_are_ids.ensures ∙ c.if-not-names_are_ids.false) _ _
-    (c.new-fields.ensures.members ∙ ap (λ (list : List Bytes). first_two (by_pairs list)) after)
-    (c.new-fields.ensures.pairs ∙ ap (λ (list : List Bytes). map pair_of (drop 1 (by_pairs list))) after)
+    (c.new-fields.ensures.members ∙ ap (λ (list : List Bytes). first_two (by_twos list)) after)
+    (c.new-fields.ensures.pairs ∙ ap (λ (list : List Bytes). map pair_of (drop 1 (by_twos list))) after)

@@ -2,7 +2,7 @@ use Rattle.std.proofs.Common.{◌∙◌, List, map, string_bytes, subst, sym}
 use Rattle.std.specs.List.{All}
 use Rattle.mt_terms.specs.declared.numbers.Agent.{Agent}
 use Rattle.mt_terms.specs.Registration.Ids.{Bytes}
-use Rattle.mt_verify.specs.Held.{IsNumbered}
+use Rattle.mt_terms.specs.Market.{IsAgentOf}
 use Rattle.mt_explained.specs.Found.{AreAsked}
 use Rattle.mt_explained.specs.declared.agents.Found.{Found}
 use Rattle.mt_explained.specs.declared.agents.Found.TheVariants.{Agents}
@@ -14,4 +14,4 @@ write_lines-requires-clause-agents g c κs within =
     let r = c.args.files.now.roster in
     let ids : List Bytes = map string_bytes c.args.asked.ids.now in
     let are : AreAsked r ids (Agents c.in-Agents.agents) = subst (λ (found : Found). AreAsked r ids found) c.in-Agents.is c.in_ok-word.ensures in
-    subst (λ (agents : List Agent). All (IsNumbered r.market) agents) (sym (c.deref.ensures.value ∙ are.1)) (asked_numbered r c.is_of_a_file.ensures ids)
+    subst (λ (agents : List Agent). All (IsAgentOf r.market) agents) (sym (c.deref.ensures.value ∙ are.1)) (asked_numbered r c.is_of_a_file.ensures ids)

@@ -2,7 +2,7 @@ use Rattle.std.proofs.Common.{refl, ap, subst, sym}
 use Rattle.std.specs.List.{flat_map}
 use Rattle.std.proofs.lemmas.List.{take_all}
 use Rattle.mt_terms.specs.declared.numbers.Agent.{Agent}
-use Rattle.mt_verify.specs.Held.{IsNumbered}
+use Rattle.mt_terms.specs.Market.{IsAgentOf}
 use Rattle.mt_explained.proofs.SendingFacts.{on_err}
 use Rattle.mt_findings.specs.Findings.{blocking_by}
 use Rattle.mt_findings.proofs.LoopFacts.{failed_given, room_given, wrote_given}
@@ -12,7 +12,7 @@ use Rattle.mt_findings.proofs.writing.write_blocking.Goals as goal
 pub write_blocking_by-requires-clause-agent : goal.write_blocking_by-requires-clause-agent
 write_blocking_by-requires-clause-agent g c =
     let m = c.args.explainer.now.registered.market in
-    subst (λ (agent : Agent). IsNumbered m agent) (sym c.agent-item.is) (c.requires.agents c.loop-agent.agent-index c.agent-item.result c.loop-agent-test.true)
+    subst (λ (agent : Agent). IsAgentOf m agent) (sym c.agent-item.is) (c.requires.agents c.loop-agent.agent-index c.agent-item.result c.loop-agent-test.true)
 
 pub write_blocking_by-requires-clause-count : goal.write_blocking_by-requires-clause-count
 write_blocking_by-requires-clause-count g c =

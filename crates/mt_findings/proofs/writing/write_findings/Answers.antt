@@ -2,11 +2,10 @@ use Rattle.std.proofs.Common.{◌≡◌, ◌∙◌, ◌++◌, List, [], refl, ap
 use Rattle.std.specs.List.{All, flat_map}
 use Rattle.std.proofs.lemmas.Result.{on_err_weaker, on_ok_weaker}
 use Rattle.std.proofs.lemmas.List.{append-nil}
-use Rattle.mt_terms.specs.Market.{Market}
+use Rattle.mt_terms.specs.Market.{Market, IsAgentOf}
 use Rattle.mt_terms.specs.Matching.{Places}
 use Rattle.mt_terms.specs.Registration.Accepted.{IsRegistration}
 use Rattle.mt_terms.specs.declared.numbers.Agent.{Agent}
-use Rattle.mt_verify.specs.Held.{IsNumbered}
 use Rattle.mt_match_file.specs.declared.submitted_match.Counted.{Counted}
 use Rattle.mt_check.specs.View.{market_of, places_of}
 use Rattle.mt_check.specs.declared.finding.Finding.{Finding}
@@ -72,7 +71,7 @@ write_over-requires-clause-count g c =
 pub write_blocking-requires-clause-agents : goal.write_blocking-requires-clause-agents
 write_blocking-requires-clause-agents g c =
     let r = c.args.explainer.now.registered in
-    subst (λ (gs : List Agent). All (IsNumbered r.market) gs) (sym c.requires.agents) (asked_numbered r (subst IsRegistration c.roster-roster.ensures c.is_of_a_file.ensures) [])
+    subst (λ (gs : List Agent). All (IsAgentOf r.market) gs) (sym c.requires.agents) (asked_numbered r (subst IsRegistration c.roster-roster.ensures c.is_of_a_file.ensures) [])
 
 pub write_blocking-requires-clause-count : goal.write_blocking-requires-clause-count
 write_blocking-requires-clause-count g c =

@@ -1,7 +1,7 @@
 use Rattle.std.proofs.Common.{ap, subst, sym, ◌∙◌}
-use Rattle.mt_terms.specs.Market.{Market, agent_of}
+use Rattle.mt_terms.specs.Market.{Market, agent_of, IsAgentOf}
 use Rattle.mt_terms.specs.WellFormed.{IsWellFormed}
-use Rattle.mt_assignment.specs.Assigned.{Assigned, IsAgentOf}
+use Rattle.mt_assignment.specs.Assigned.{Assigned}
 use Rattle.mt_assignment.proofs.MarketFacts.{agent_within}
 use Rattle.mt_assignment.proofs.assignment.Assignment.agent_of.Goals as goal
 

@@ -35,7 +35,7 @@ loop-applicant-preserved c =
     let front : AreJoining c.args.waiting.now now (c.agent_of.result ∷ rest) (agents_of s xs) =
     subst (λ gs. AreJoining c.args.waiting.now now gs (agents_of s xs)) (next_mapped (agent_of s.market) xs i a c.loop-applicant-test.true c.applicant-item.is
     ∙ ap (λ g. g ∷ rest) (sym c.agent_of.ensures.agent)) c.loop-applicant.invariant in
-    joining_more c.args.waiting.now now c.join.new.self c.agent_of.result rest (agents_of s xs) c.join.ensures front
+    joining_more c.args.waiting.now now c.join.new.self c.agent_of.result rest (agents_of s xs) c.in_ok-join.ensures front
 
 pub loop-applicant-init : goal.loop-applicant-init
 loop-applicant-init c = refl
@@ -49,10 +49,10 @@ mover_joins s g b start now new xs i past joining is last =
     ∙ ap (with_agents start) (sym (all_joined-append start.agents (agents_of s xs) (if b then (g ∷ []) else [])))
     ∙ ap (λ x. with_agents start (all_joined start.agents (agents_of s xs ++ (if x then (g ∷ []) else [])))) is
 
-pub returns-then-blocks : goal.returns-then-blocks
-returns-then-blocks c =
+pub returns-in_ok-join-2 : goal.returns-in_ok-join-2
+returns-in_ok-join-2 c =
     mover_joins c.args.self.now.assignment.now c.args.agent true c.args.waiting.now c.loop-applicant.waiting c.join-then-blocks.new.self c.args.displaced.now c.loop-applicant.applicant-index
-    c.loop-applicant-test.false c.loop-applicant.invariant (sym c.if-blocks.true ∙ c.blocks-2.ensures) c.join-then-blocks.ensures
+    c.loop-applicant-test.false c.loop-applicant.invariant (sym c.if-blocks.true ∙ c.blocks-2.ensures) c.in_ok-join-2.ensures
 
 pub returns-else-blocks : goal.returns-else-blocks
 returns-else-blocks c =

@@ -12,7 +12,7 @@ use Rattle.mt_couples.proofs.LookFacts.{none_between, passes_joined, passes_skip
 use Rattle.mt_assignment.proofs.MarketFacts.{read_within}
 use Rattle.mt_stage_tables.proofs.OrderFacts.{has_at}
 use Rattle.mt_couples.proofs.recheck.Recheck.join_reopened.Goals as goal
-use Rattle.mt_couples.proofs.recheck.Recheck.join_reopened.Goals.{then-next-place+then-is_reopened, then-next-place+else-is_reopened, else-next-place}
+use Rattle.mt_couples.proofs.recheck.Recheck.join_reopened.Goals.{then-next-place+then-is_reopened+in_ok-join, then-next-place+else-is_reopened, else-next-place}
 
 pub bounds-ranking-place : goal.bounds-ranking-place
 bounds-ranking-place c =
@@ -49,12 +49,12 @@ loop-rank-preserved c =
     (none_between k s ps wf start all p now ranks i next r x c.requires.ranks so_far.grows so_far.passed coming above (omega arith) (omega (arith, ap length list))))
     so_far.looking) in
     elim c.if-next-place.branch [
-      | then-next-place+then-is_reopened w ↦
+      | then-next-place+then-is_reopened+in_ok-join w ↦
           let a = w.index-ranking-place.result in
           let reopened : is_reopened k s ps now.agents (agent_of s.market a) ≡ true =
           ap (is_reopened k s ps now.agents) (sym w.agent_of-agent.ensures.agent) ∙ sym w.is_reopened.ensures ∙ w.if-is_reopened.true in
           let is : c.if-next-place.waiting ≡ with_agents now (joined now.agents (agent_of s.market a)) =
-          w.waiting-is ∙ w.join.ensures ∙ ap (λ g. with_agents now (joined now.agents g)) w.agent_of-agent.ensures.agent in
+          w.waiting-is ∙ w.in_ok-join.ensures ∙ ap (λ g. with_agents now (joined now.agents g)) w.agent_of-agent.ensures.agent in
           record {
             looking = subst (Rest k s ps wf start all xs c.if-next-place.waiting) (sym w.next-is)
                 (passes_joined k s ps wf start all xs now c.if-next-place.waiting r a r_in w.index-ranking-place.is (reaches w.if-next-place.true) reopened is);

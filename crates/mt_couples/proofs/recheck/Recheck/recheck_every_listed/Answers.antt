@@ -25,5 +25,5 @@ loop-program-preserved c =
     let rest = blockers_of s c.args.self.now.last (drop (i + 1) left) in
     let split : blockers_of s c.args.self.now.last (drop i left) ≡ blockers s c.args.self.now.last p ++ rest =
     ap (blockers_of s c.args.self.now.last) (drop_more left i p c.loop-program-test.true) ∙ ap (λ q. blockers s c.args.self.now.last q ++ rest) (sym c.program-item.is) in
-    joining_some c.args.waiting.now c.loop-program.waiting c.recheck_listed.new.waiting (blockers s c.args.self.now.last p) rest all c.recheck_listed.ensures
+    joining_some c.args.waiting.now c.loop-program.waiting c.recheck_listed.new.waiting (blockers s c.args.self.now.last p) rest all c.in_ok-recheck_listed.ensures
     (subst (λ gs. AreJoining c.args.waiting.now c.loop-program.waiting gs all) split c.loop-program.invariant)

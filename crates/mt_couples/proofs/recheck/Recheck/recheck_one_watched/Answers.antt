@@ -53,8 +53,8 @@ loop-rank-preserved g c =
     record {
       looking = subst (λ ys. Rest k s (p ∷ []) ok.well_formed start all ys new (r + 1)) (sym is_list)
           (passes_next k s p ok c.requires.program rows c.args.self.now.watched start couples now new next r x opened read so_far.grows
-          c.join.ensures looking);
-      grows = λ g on. ap (λ (w : Waiting). is_on w.agents g) c.join.ensures ∙ on_joined now.agents (Single x) g
+          c.in_ok-join.ensures looking);
+      grows = λ g on. ap (λ (w : Waiting). is_on w.agents g) c.in_ok-join.ensures ∙ on_joined now.agents (Single x) g
           ∙ or_left (is_on now.agents g) _ (so_far.grows g on);
       next_in = omega (arith, ap length is_list, opened.within);
     }

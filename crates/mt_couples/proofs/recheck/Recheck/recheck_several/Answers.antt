@@ -48,8 +48,8 @@ loop-program-preserved g c =
     ap (blockers_of s k) (drop_more left i p c.loop-program-test.true) ∙ ap (λ q. blockers s k q ++ rest) (sym c.program-item.is) in
     record {
       looking = looking_some k s left c.args.waiting.now now c.join_reopened.new.waiting (blockers s k p) rest (blockers_of s k left)
-          (subst (λ gs. IsLooking k s left c.args.waiting.now now gs (blockers_of s k left)) split c.loop-program.invariant.looking) c.join_reopened.ensures;
-      grows = λ g on. ap (λ (w : Waiting). is_on w.agents g) c.join_reopened.ensures ∙ on_all_joined now.agents (blockers s k p) g
+          (subst (λ gs. IsLooking k s left c.args.waiting.now now gs (blockers_of s k left)) split c.loop-program.invariant.looking) c.in_ok-join_reopened.ensures;
+      grows = λ g on. ap (λ (w : Waiting). is_on w.agents g) c.in_ok-join_reopened.ensures ∙ on_all_joined now.agents (blockers s k p) g
           ∙ or_left (is_on now.agents g) _ (c.loop-program.invariant.grows g on);
     }
 

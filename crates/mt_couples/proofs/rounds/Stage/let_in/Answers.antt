@@ -20,7 +20,7 @@ settle-requires-clause-running g c κs within =
     let t = c.args.self.now in
     let k = c.args.couple in
     let so_far = c.requires.entered in
-    let joins = known_joins t.waiting c.join.new.self k so_far.nobody_waits c.join.ensures in
+    let joins = known_joins t.waiting c.join.new.self k so_far.nobody_waits c.in_ok-join.ensures in
     next_waits t.assignment.market (subst IsWellFormed c.roster.ensures.market c.roster.ensures.roster.well_formed) t.quiet k t.assignment c.join.new.self refl
     c.requires.couple so_far.fitting so_far.is_quiet (joined_list t.assignment.market t.waiting c.join.new.self (Couple k ∷ []) so_far.list joins.0) joins.1
 
@@ -29,7 +29,7 @@ settle-requires-clause-watched g c κs within =
     let t = c.args.self.now in
     let k = c.args.couple in
     let so_far = c.requires.entered in
-    let joins = known_joins t.waiting c.join.new.self k so_far.nobody_waits c.join.ensures in
+    let joins = known_joins t.waiting c.join.new.self k so_far.nobody_waits c.in_ok-join.ensures in
     record {
       watched = so_far.watched;
       named = so_far.named;
@@ -56,14 +56,14 @@ pub returns-clause-settled : goal.returns-clause-settled
 returns-clause-settled g c =
     let t = c.args.self.now in
     let k = c.args.couple in
-    let joins = known_joins t.waiting c.join.new.self k c.requires.entered.nobody_waits c.join.ensures in
+    let joins = known_joins t.waiting c.join.new.self k c.requires.entered.nobody_waits c.in_ok-join.ensures in
     ok_too c.settle.result (λ rest e. ap (λ gs. after_rounds t.assignment.market k c.args.left t.assignment.places gs) (sym joins.1) ∙ e) c.settle.ensures.settled
 
 pub returns-clause-spent : goal.returns-clause-spent
 returns-clause-spent g c =
     let t = c.args.self.now in
     let k = c.args.couple in
-    let joins = known_joins t.waiting c.join.new.self k c.requires.entered.nobody_waits c.join.ensures in
+    let joins = known_joins t.waiting c.join.new.self k c.requires.entered.nobody_waits c.in_ok-join.ensures in
     err_too c.settle.result (λ s from. record {
       unsettled = ap (λ gs. after_rounds t.assignment.market k c.args.left t.assignment.places gs) (sym joins.1) ∙ from.unsettled;
       couple = from.couple;

@@ -4,12 +4,12 @@ use Rattle.std.proofs.lemmas.Bool.{or_left}
 use Rattle.std.proofs.lemmas.List.Folds.{list_any-append}
 use Rattle.std.proofs.lemmas.Result.{on_ok_weaker, IfOk-from_err}
 use Rattle.mt_terms.specs.Lists.{has, below}
-use Rattle.mt_terms.specs.Market.{applicants}
+use Rattle.mt_terms.specs.Market.{applicants, IsAgentOf}
 use Rattle.mt_terms.specs.Rounds.{all_joined, is_on, is_same_agent}
 use Rattle.mt_terms.specs.declared.numbers.Agent.{Agent}
 use Rattle.mt_round_laws.proofs.RoundsLists.{has_in, of_kept, of_below}
 use Rattle.mt_stage_tables.specs.Waiting.{with_agents, Waiting}
-use Rattle.mt_assignment.specs.Assigned.{Assigned, AreSent, IsAgentOf}
+use Rattle.mt_assignment.specs.Assigned.{Assigned, AreSent}
 use Rattle.mt_couples.specs.Waiting.{agents_of, if_blocking, blockers_of, IsListOf, Joins}
 use Rattle.mt_assignment.specs.Moves.{displaced_by, moved, IsTaking}
 use Rattle.mt_couples.specs.Running.{work_of, IsQuietBut}
@@ -51,7 +51,7 @@ pub recheck_left-requires-clause-list : goal.recheck_left-requires-clause-list
 recheck_left-requires-clause-list g c κs within =
     let s = c.move_to.new.self in
     joined_list s.market c.args.self.now.waiting c.join_moved.new.waiting (agents_of s c.deref-2.result.now ++ if_blocking s c.args.agent)
-    (subst (λ (x : Assigned). IsListOf x.market c.args.self.now.waiting) (sym c.in_ok-moved.ensures.places) (rest_list _ _ (c.args.agent ∷ c.args.self.now.waiting.agents) c.requires.running.waiting)) c.join_moved.ensures
+    (subst (λ (x : Assigned). IsListOf x.market c.args.self.now.waiting) (sym c.in_ok-moved.ensures.places) (rest_list _ _ (c.args.agent ∷ c.args.self.now.waiting.agents) c.requires.running.waiting)) c.in_ok-join_moved.ensures
 
 -- the agents of who is displaced join, and the one that moved, by the match before the move
 moved_join : (s0 s1 : Assigned) (sent : Placement) (g : Agent) (old new : Waiting) (xs : List ℕ) → s1 ≡ moved s0 sent → xs ≡ displaced_by s0 sent → Joins old new (agents_of s1 xs ++ if_blocking s1 g)
@@ -64,7 +64,7 @@ recheck_left-requires-clause-quiet g c κs within = λ so.
     let after = c.in_ok-moved.ensures.places in
     let left = c.deref-3.result.now in
     let first = moved_join s0 c.move_to.new.self c.args.sent.now c.args.agent c.args.self.now.waiting c.join_moved.new.waiting c.deref-2.result.now after (c.deref-2.ensures.value ∙ c.in_ok-moved.ensures.displaced)
-    c.join_moved.ensures in
+    c.in_ok-join_moved.ensures in
     subst (λ (x : Assigned). IsQuietBut c.args.self.now.last x left c.join_moved.new.waiting.agents) (sym after)
     (subst (λ gs. IsQuietBut c.args.self.now.last (moved s0 c.args.sent.now) left gs) (sym (ap (λ (w : Waiting). w.agents) first))
     (quiet_but_left c.requires.taking c.args.self.now.last c.args.self.now.waiting.agents left (c.requires.running.is_quiet so) (c.deref-3.ensures.value ∙ c.in_ok-moved.ensures.left)))
@@ -142,7 +142,7 @@ recheck_left-requires-clause-indexed g c κs within =
     let new = c.join_moved.new.waiting in
     let itself = if_blocking (moved s0 c.args.sent.now) c.args.agent in
     let out = agents_of s0 (displaced_by s0 c.args.sent.now) in
-    let first = moved_join s0 s1 c.args.sent.now c.args.agent old new c.deref-2.result.now c.in_ok-moved.ensures.places (c.deref-2.ensures.value ∙ c.in_ok-moved.ensures.displaced) c.join_moved.ensures in
+    let first = moved_join s0 s1 c.args.sent.now c.args.agent old new c.deref-2.result.now c.in_ok-moved.ensures.places (c.deref-2.ensures.value ∙ c.in_ok-moved.ensures.displaced) c.in_ok-join_moved.ensures in
     (watching s0 s1 c.args.sent.now c.args.agent c.args.self.now.last old.agents new.agents c.args.self.now.watch c.follow_sent.new.self c.follow_displaced.new.self c.index_mover.new.self
     c.deref.result.now c.requires.taking c.in_ok-moved.ensures.places c.requires.watched c.in_ok-follow_sent.ensures.singles c.in_ok-follow_displaced.ensures.singles c.in_ok-follow_sent.ensures.better
     c.in_ok-follow_displaced.ensures.better (c.deref.ensures.value ∙ c.in_ok-moved.ensures.displaced) (c.in_ok-follow_displaced.ensures.couples ∙ c.in_ok-follow_sent.ensures.couples)
@@ -162,7 +162,7 @@ returns g c =
     let itself = if_blocking s1 c.args.agent in
     let again = blockers_of s1 c.args.self.now.last left in
     let first : Joins old mid (out ++ itself) =
-    moved_join s0 c.move_to.new.self c.args.sent.now c.args.agent old mid c.deref-2.result.now after (c.deref-2.ensures.value ∙ c.in_ok-moved.ensures.displaced) c.join_moved.ensures in
+    moved_join s0 c.move_to.new.self c.args.sent.now c.args.agent old mid c.deref-2.result.now after (c.deref-2.ensures.value ∙ c.in_ok-moved.ensures.displaced) c.in_ok-join_moved.ensures in
     let third : OnOk c.recheck_left.result (Joins mid new again) =
     on_ok_weaker c.recheck_left.result (λ (h : Joins mid new (blockers_of c.move_to.new.self c.args.self.now.last left)). h ∙ ap (λ (x : Assigned). with_agents mid (all_joined mid.agents (blockers_of x c.args.self.now.last left))) after)
     c.recheck_left.ensures in

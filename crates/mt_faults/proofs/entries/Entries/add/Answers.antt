@@ -1,4 +1,4 @@
-use Rattle.std.proofs.Common.{◌≡◌, Bool, List, Option, Some, None, ℕ, false, true, ap, refl, sym, ◌∙◌}
+use Rattle.std.proofs.Common.{◌≡◌, List, Option, Some, None, ℕ, false, true, ap, refl, sym, ◌∙◌}
 use Rattle.std.specs.Prelude.{bytes_eq, position}
 use Rattle.mt_terms.specs.Registration.Ids.{has_id}
 use Rattle.mt_ids.proofs.IdFacts.{found_id, missing_id}

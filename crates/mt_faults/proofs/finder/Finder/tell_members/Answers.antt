@@ -1,7 +1,7 @@
 use Rattle.std.proofs.Common.{ap, ◌∙◌, take, refl}
 use Rattle.mt_terms.specs.declared.codes.TheConstants.{DUPLICATE_ID}
+use Rattle.mt_terms.specs.Lists.{head}
 use Rattle.mt_fault_terms.specs.OfRecord.{found_among, members_before}
-use Rattle.mt_fault_terms.specs.Parts.{first_field}
 use Rattle.mt_faults.specs.Seen.{faults_seen, field_seen, placed_left}
 use Rattle.mt_faults.specs.Telling.{at_record}
 use Rattle.mt_faults.proofs.SearchFacts.{in_two}
@@ -16,7 +16,7 @@ returns-in-Some-head g c =
     let f = c.args.self.now in
     let fields = placed_left c.args.members in
     let ids = take f.before.applicants.seen f.registry.applicants in
-    let both = two_fields fields (field_seen c.in-Some.first) (field_seen c.in-Some-head.second) c.in-Some.ensures (c.in-Some-head.ensures ∙ ap first_field c.tail.ensures) c.requires.few in
+    let both = two_fields fields (field_seen c.in-Some.first) (field_seen c.in-Some-head.second) c.in-Some.ensures (c.in-Some-head.ensures ∙ ap head c.tail.ensures) c.requires.few in
     let one = found_among f.rules DUPLICATE_ID ids (placed_left c.first.result) in
     let two = faults_seen c.second_found.result in
     let split = members_two f.rules ids fields (field_seen c.in-Some.first) (field_seen c.in-Some-head.second) one two both (ap (found_among f.rules DUPLICATE_ID ids) c.first.ensures) c.second_found.ensures in

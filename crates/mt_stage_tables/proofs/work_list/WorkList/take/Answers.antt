@@ -1,10 +1,10 @@
 -- Whether the second set took the place of the first or not, the list is then as it was at the start. The next of the
 -- first set stands in front of it.
-use Rattle.std.proofs.Common.{◌≡◌, ◌∙◌, ◌+◌, ◌≤◌, ◌++◌, ℕ, List, [], Some, drop, length, slice_get, append-nil, ap, arith, subst, sym}
+use Rattle.std.proofs.Common.{◌≡◌, ◌∙◌, ◌+◌, ◌++◌, ℕ, List, [], Some, drop, length, slice_get, append-nil, ap, arith, subst, sym}
 use Rattle.std.specs.Option.{option_copied}
 use Rattle.std.proofs.lemmas.List.{drop_all}
 use Rattle.std.proofs.lemmas.Option.{slice_get_within}
-use Rattle.indexmap.specs.IndexSet.{index_set_len, keys, spare}
+use Rattle.indexmap.specs.IndexSet.{keys}
 use Rattle.mt_terms.specs.declared.numbers.Agent.{Agent}
 use Rattle.mt_stage_tables.specs.View.{waiting_in, IsWorkList}
 use Rattle.mt_stage_tables.specs.Waiting.{Waiting, WaitOnce}
@@ -29,7 +29,6 @@ ready : (c : goal.After-self-2-1) → Ready c
 ready c = elim c.if-self-len.branch [
   | then-self-len w ↦
       let t = c.self.inside in
-      let n = t.applicants + t.couples in
       let x = w.swap.ensures.x_after in
       let y = w.swap.ensures.y_after in
       let lists : drop t.taken t.front.keys ++ t.back.keys ≡ drop 0 w.swap.new.x.keys ++ w.swap.new.y.keys =
@@ -38,8 +37,6 @@ ready c = elim c.if-self-len.branch [
         is = subst IsWorkList (sym w.self-inside-is) (record {
           waiting = subst (WaitOnce t.applicants t.couples) lists c.self.invariant.waiting;
           taken = omega arith;
-          front_room = subst (λ s. n ≤ index_set_len s + spare s) (sym x) c.self.invariant.back_room;
-          back_room = subst (λ s. n ≤ index_set_len s + spare s) (sym y) (omega (arith, c.self.invariant.front_room, w.truncate.ensures.capacity (omega arith)));
         });
         same = sym c.self.view_is ∙ ap (list_of t.applicants t.couples) lists ∙ ap waiting_in (sym w.self-inside-is);
       }
@@ -62,8 +59,6 @@ invariant_of-self-2 c =
     record {
       waiting = wait_rest t.applicants t.couples g (drop (t.taken + 1) t.front.keys ++ t.back.keys) (subst (λ gs. WaitOnce t.applicants t.couples (gs ++ t.back.keys)) next r.is.waiting);
       taken = omega (arith, slice_get_within t.front.keys t.taken g (front c));
-      front_room = r.is.front_room;
-      back_room = r.is.back_room;
     }
 
 pub returns-clause-taken : goal.returns-clause-taken
