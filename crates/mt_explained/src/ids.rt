@@ -1,63 +1,12 @@
-ghost use Rattle.std.specs.Prelude.{◌≡◌, ◌<◌, ◌++◌, [], ◌∷◌, length, position, bytes_eq, false, OnOk, IfOk, IfSome};
+ghost use Rattle.std.specs.Prelude.{◌≡◌, ◌<◌, position, bytes_eq, IfOk};
 ghost use Rattle.mt_terms.specs.Registration.Accepted.{IsRegistration};
-ghost use Rattle.mt_terms.specs.Registration.Ids.{has_id};
-ghost use Rattle.mt_terms.specs.Market.{IsAgentOf};
-ghost use Rattle.mt_ids.specs.Seeds.{seed_of};
 ghost use Rattle.mt_explained.specs.Asked.{agent_named};
 
-use mt_ids::{IdTable, Seed, add_field};
+use mt_ids::IdTable;
 use mt_market::Roster;
+use mt_match_file::{applicant_ids, couple_ids};
 use mt_terms::{Agent, AppNo, CoupleNo};
 use std::alloc::{AllocError, Global};
-use std::hash::DefaultHasher;
-
-/// The seed of a table of the couples' ids.
-fn couples_seed(roster: &Roster) -> Seed
-    ensures { result ≡ seed_of roster.now.names.couples }
-{
-    let mut digest = DefaultHasher::new();
-    for number in 0..roster.couples() {
-        add_field(&mut digest, roster.couple_id(CoupleNo(number)));
-    }
-    Seed::of(&digest)
-}
-
-/// The seed of a table of the applicants' ids.
-fn applicants_seed(roster: &Roster) -> Seed
-    ensures { result ≡ seed_of roster.now.names.applicants }
-{
-    let mut digest = DefaultHasher::new();
-    for number in 0..roster.applicants() {
-        add_field(&mut digest, roster.applicant_id(AppNo(number)));
-    }
-    Seed::of(&digest)
-}
-
-/// The ids of the couples.
-fn couples(alloc: Global, roster: &Roster) -> Result<IdTable<'_>, AllocError>
-    ensures { IfOk result (λ table. table ≡ roster.entry.now.names.couples) }
-{
-    let mut table = IdTable::with_capacity(alloc, roster.couples() as usize, couples_seed(roster))?;
-    for number in 0..roster.couples() {
-        table.push(roster.couple_id(CoupleNo(number)))?;
-    }
-    Ok(table)
-}
-
-/// The ids of the applicants.
-fn applicants(alloc: Global, roster: &Roster) -> Result<IdTable<'_>, AllocError>
-    ensures { IfOk result (λ table. table ≡ roster.entry.now.names.applicants) }
-{
-    let mut table = IdTable::with_capacity(
-        alloc,
-        roster.applicants() as usize,
-        applicants_seed(roster),
-    )?;
-    for number in 0..roster.applicants() {
-        table.push(roster.applicant_id(AppNo(number)))?;
-    }
-    Ok(table)
-}
 
 /// A market with its ids, by which its agents are found.
 pub(crate) struct AgentIds<'a> {
@@ -89,8 +38,8 @@ impl<'a> AgentIds<'a> {
         roster.is_of_a_file();
         Ok(AgentIds {
             roster,
-            applicants: applicants(alloc, roster)?,
-            couples: couples(alloc, roster)?,
+            applicants: applicant_ids(alloc, roster)?,
+            couples: couple_ids(alloc, roster)?,
         })
     }
 

@@ -1,4 +1,4 @@
-ghost use Rattle.std.specs.Prelude.{◌≡◌, ◌++◌, [], ◌∷◌, is_some, not, IfOk, if◌then◌else◌};
+ghost use Rattle.std.specs.Prelude.{◌≡◌, ◌++◌, [], ◌∷◌, is_some, IfOk, if◌then◌else◌};
 ghost use Rattle.std.specs.List.{list_any};
 ghost use Rattle.mt_terms.specs.Registration.Passes.{is_same_pair};
 ghost use Rattle.mt_terms.specs.Registration.Records.{pair_of};
@@ -6,57 +6,11 @@ ghost use Rattle.mt_records.specs.Fields.{pair_seen};
 
 use crate::entries::first_of;
 use crate::placed::Field;
-use indexmap::IndexSet;
 use mt_ids::{Seed, is_dash};
+use mt_passes::PairTable;
 use mt_records::push;
 use std::alloc::{AllocError, Global};
 use std::marker::Model;
-
-/// Pairs in the order in which they came, each of them once.
-struct PairTable<'a> {
-    pairs: IndexSet<(Option<&'a [u8]>, Option<&'a [u8]>), Seed>,
-}
-
-impl Drop for PairTable<'_> {
-    fn drop(self) {
-        let PairTable { pairs: _ } = self;
-    }
-}
-
-impl<'a> Model for PairTable<'a> {
-    ghost use Rattle.std.specs.Prelude.{List, ℕ, Option, map};
-    ghost use Rattle.std.specs.Option.{option_copied};
-
-    ghost Value = { List (Option (List ℕ) × Option (List ℕ)) };
-
-    ghost view = { λ table. map (λ p. (option_copied p.0, option_copied p.1)) table.pairs.keys };
-}
-
-impl<'a> PairTable<'a> {
-    /// No pairs.
-    fn new(alloc: Global, seed: Seed) -> Self
-        ensures { result ≡ [] }
-    {
-        PairTable {
-            pairs: IndexSet::with_hasher(alloc, seed),
-        }
-    }
-
-    /// Adds a pair at the end, if it is none of them, and says whether it did so. The error is want of memory.
-    fn add(&mut self, pair: (Option<&'a [u8]>, Option<&'a [u8]>)) -> Result<bool, AllocError>
-        ensures added { let p = pair_seen pair.entry in
-            IfOk result (λ added. added ≡ not (list_any (is_same_pair p) self.old)) }
-        ensures pairs { let p = pair_seen pair.entry in IfOk result
-            (λ _. self.new ≡ (if list_any (is_same_pair p) self.old then self.old else self.old ++ p ∷ [])) }
-    {
-        Ok(self.pairs.insert(pair)?)
-    }
-
-    /// The place of a pair, if it is one of them.
-    fn place(&self, pair: (Option<&'a [u8]>, Option<&'a [u8]>)) -> Option<usize> {
-        self.pairs.get_index_of(&pair)
-    }
-}
 
 /// The pairs of a couple's list so far, each of them once, with the number of the field where it begins first.
 pub(crate) struct PairEntries<'a> {

@@ -1,6 +1,5 @@
-ghost use Rattle.std.specs.Prelude.{◌≡◌, ◌<◌, ◌++◌, [], ◌∷◌, length, position, bytes_eq, false, OnOk, IfOk};
+ghost use Rattle.std.specs.Prelude.{◌≡◌, ◌<◌, position, bytes_eq, IfOk};
 ghost use Rattle.mt_terms.specs.Registration.Accepted.{IsRegistration};
-ghost use Rattle.mt_terms.specs.Registration.Ids.{has_id};
 ghost use Rattle.mt_match_file.specs.Submitted.{place_named};
 ghost use Rattle.mt_ids.specs.Seeds.{seed_of};
 
@@ -43,8 +42,8 @@ fn couples_seed(roster: &Roster) -> Seed
     Seed::of(&digest)
 }
 
-/// The ids of the programs.
-fn programs(alloc: Global, roster: &Roster) -> Result<IdTable<'_>, AllocError>
+/// The ids of the programs of a market, in order of registration. The error is want of memory.
+fn program_ids(alloc: Global, roster: &Roster) -> Result<IdTable<'_>, AllocError>
     ensures { IfOk result (λ table. table ≡ roster.entry.now.names.programs) }
 {
     let mut table = IdTable::with_capacity(
@@ -58,8 +57,8 @@ fn programs(alloc: Global, roster: &Roster) -> Result<IdTable<'_>, AllocError>
     Ok(table)
 }
 
-/// The ids of the applicants.
-fn applicants(alloc: Global, roster: &Roster) -> Result<IdTable<'_>, AllocError>
+/// The ids of the applicants of a market, in order of registration. The error is want of memory.
+pub fn applicant_ids(alloc: Global, roster: &Roster) -> Result<IdTable<'_>, AllocError>
     ensures { IfOk result (λ table. table ≡ roster.entry.now.names.applicants) }
 {
     let mut table = IdTable::with_capacity(
@@ -73,8 +72,8 @@ fn applicants(alloc: Global, roster: &Roster) -> Result<IdTable<'_>, AllocError>
     Ok(table)
 }
 
-/// The ids of the couples.
-fn couples(alloc: Global, roster: &Roster) -> Result<IdTable<'_>, AllocError>
+/// The ids of the couples of a market, in order of registration. The error is want of memory.
+pub fn couple_ids(alloc: Global, roster: &Roster) -> Result<IdTable<'_>, AllocError>
     ensures { IfOk result (λ table. table ≡ roster.entry.now.names.couples) }
 {
     let mut table = IdTable::with_capacity(alloc, roster.couples() as usize, couples_seed(roster))?;
@@ -117,9 +116,9 @@ impl<'a> Ids<'a> {
         roster.is_of_a_file();
         Ok(Ids {
             roster,
-            programs: programs(alloc, roster)?,
-            applicants: applicants(alloc, roster)?,
-            couples: couples(alloc, roster)?,
+            programs: program_ids(alloc, roster)?,
+            applicants: applicant_ids(alloc, roster)?,
+            couples: couple_ids(alloc, roster)?,
         })
     }
 

@@ -14,6 +14,7 @@ mod so_far;
 mod submitted_match;
 
 pub use fault::MatchError;
+pub use ids::{applicant_ids, couple_ids};
 pub use mt_terms::{IdText, Refusal as MatchFault};
 pub use reading::read_match;
 pub use submitted_match::{Count, Counted, SubmittedMatch};

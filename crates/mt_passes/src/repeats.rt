@@ -1,19 +1,17 @@
-ghost use Rattle.std.specs.Prelude.{◌≡◌, ◌++◌, [], ◌∷◌, not, bytes_eq, flat_map, OnErr, IfOk, if◌then◌else◌};
-ghost use Rattle.std.specs.List.{list_any};
+ghost use Rattle.std.specs.Prelude.{◌≡◌, not, bytes_eq, flat_map, IfOk};
 ghost use Rattle.mt_lists.specs.Rows.{fields_left};
 ghost use Rattle.mt_ids.specs.Seeds.{seed_of, with_fields};
 ghost use Rattle.mt_passes.specs.Seeds.{pair_fields};
 ghost use Rattle.mt_terms.specs.Registration.Ids.{all_differ};
 ghost use Rattle.mt_terms.specs.Registration.Passes.{is_same_pair};
-ghost use Rattle.mt_records.specs.Fields.{pair_seen, pairs_left};
+ghost use Rattle.mt_records.specs.Fields.{pairs_left};
 
-use indexmap::IndexSet;
+use crate::pair_table::PairTable;
 use mt_ids::{IdTable, Seed, add_field};
 use mt_lists::Fields;
 use mt_records::Pairs;
 use std::alloc::{AllocError, Global};
 use std::hash::DefaultHasher;
-use std::marker::Model;
 
 /// Adds fields to a digest.
 pub(crate) fn add_fields(digest: &mut DefaultHasher, fields: Fields<'_>)
@@ -44,49 +42,6 @@ pub(crate) fn has_repeat(alloc: Global, list: Fields<'_>) -> Result<bool, AllocE
         }
     }
     Ok(false)
-}
-
-/// Pairs in the order in which they came, each of them once.
-struct PairTable<'a> {
-    pairs: IndexSet<(Option<&'a [u8]>, Option<&'a [u8]>), Seed>,
-}
-
-impl Drop for PairTable<'_> {
-    fn drop(self) {
-        let PairTable { pairs: _ } = self;
-    }
-}
-
-impl<'a> Model for PairTable<'a> {
-    ghost use Rattle.std.specs.Prelude.{List, ℕ, Option, map};
-    ghost use Rattle.std.specs.Option.{option_copied};
-
-    ghost Value = { List (Option (List ℕ) × Option (List ℕ)) };
-
-    ghost view = { λ table. map (λ p. (option_copied p.0, option_copied p.1)) table.pairs.keys };
-}
-
-impl<'a> PairTable<'a> {
-    /// No pairs, with room for some.
-    fn with_capacity(alloc: Global, capacity: usize, seed: Seed) -> Result<Self, AllocError>
-        ensures { IfOk result (λ table. table ≡ []) }
-    {
-        Ok(PairTable {
-            pairs: IndexSet::with_capacity_and_hasher(alloc, capacity, seed)?,
-        })
-    }
-
-    /// Adds a pair at the end, if it is none of them, and says whether it did so.
-    fn add(&mut self, pair: (Option<&'a [u8]>, Option<&'a [u8]>)) -> Result<bool, AllocError>
-        ensures added { let p = pair_seen pair.entry in
-            IfOk result (λ added. added ≡ not (list_any (is_same_pair p) self.old)) }
-        ensures pairs { let p = pair_seen pair.entry in
-            IfOk result (λ _. self.new
-            ≡ (if list_any (is_same_pair p) self.old then self.old else self.old ++ p ∷ [])) }
-        ensures err { OnErr result (self.new ≡ self.old) }
-    {
-        Ok(self.pairs.insert(pair)?)
-    }
 }
 
 /// The seed of a table of these pairs.

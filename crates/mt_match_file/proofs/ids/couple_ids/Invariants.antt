@@ -1,5 +1,5 @@
 use Rattle.std.proofs.Common.{◌≡◌, take}
-use Rattle.mt_explained.proofs.ids.couples.Given as goal
+use Rattle.mt_match_file.proofs.ids.couple_ids.Given as goal
 
 abbrev pub invariant-loop-number : goal.invariant-loop-number
 invariant-loop-number l = l.table ≡ take l.number l.roster.names.couples

@@ -3,7 +3,7 @@ use Rattle.std.specs.List.{list_any}
 use Rattle.mt_terms.specs.Registration.Passes.{is_same_pair}
 use Rattle.mt_records.specs.Fields.{pair_seen}
 use Rattle.mt_passes.proofs.RepeatFacts.{pair_alike, pair_agree, list_any-seen, add-seen}
-use Rattle.mt_faults.proofs.pairs.PairTable.add.Goals as goal
+use Rattle.mt_passes.proofs.pair_table.PairTable.add.Goals as goal
 
 pub returns-clause-added : goal.returns-clause-added
 returns-clause-added c =

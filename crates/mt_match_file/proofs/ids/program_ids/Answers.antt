@@ -2,7 +2,7 @@ use Rattle.std.proofs.Common.{◌<◌, length, arith, ap₂, ◌∙◌, sym, [],
 use Rattle.std.proofs.lemmas.List.{take_more, take_all}
 use Rattle.mt_terms.specs.Registration.Ids.{has_id}
 use Rattle.mt_ids.proofs.IdFacts.{new_at}
-use Rattle.mt_match_file.proofs.ids.programs.Goals as goal
+use Rattle.mt_match_file.proofs.ids.program_ids.Goals as goal
 
 pub push-requires : goal.push-requires
 push-requires c =

@@ -1,7 +1,0 @@
-use Rattle.std.proofs.Common.{◌≡◌, take}
-use Rattle.mt_ids.specs.Seeds.{digest_of}
-use Rattle.mt_explained.proofs.ids.applicants_seed.Given as goal
-
--- the digest of the ids so far
-abbrev pub invariant-loop-number : goal.invariant-loop-number
-invariant-loop-number l = l.digest ≡ digest_of (take l.number l.roster.names.applicants)
