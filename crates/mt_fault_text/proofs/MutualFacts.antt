@@ -11,6 +11,7 @@ use Rattle.mt_ranks.specs.Ranked.{IsRanked, Ranked, ranked_entry, ranked_list, r
 use Rattle.mt_ranks.specs.declared.entries.Live.{Live}
 use Rattle.mt_terms.proofs.ListFacts.{has_push}
 use Rattle.mt_terms.proofs.Totals.{total_below-same}
+use Rattle.mt_terms.proofs.LiveFacts.{applicants-live_market}
 use Rattle.mt_fault_text.specs.Mutual.{listed_by, place_in, sent_by}
 use Rattle.mt_fault_text.specs.Wanted.{AreWanted, is_place, set_of}
 
