@@ -1,10 +1,10 @@
 -- Whether an element stands twice in a list, by the elements before each.
-use Rattle.std.proofs.Common.{◌≡◌, Bool, true, false, not, ◌&&◌, ◌||◌, List, [], ◌∷◌, ◌++◌, map, Some, None, Option, Bor, refl, ap, sym, ◌∙◌, subst, inl, inr, ◌⊎◌, if◌then◌else◌}
+use Rattle.std.proofs.Common.{◌≡◌, Bool, true, false, not, ◌&&◌, ◌||◌, List, [], ◌∷◌, ◌++◌, map, position, Some, None, Option, Bor, refl, ap, sym, ◌∙◌, subst, inl, inr, ◌⊎◌, if◌then◌else◌}
 use Rattle.std.specs.Prelude.{bytes_eq}
-use Rattle.std.specs.List.{list_any}
+use Rattle.std.specs.List.{list_any, position_or_len}
 use Rattle.std.specs.Option.{option_copied, option_eq, unwrap_or}
 use Rattle.std.proofs.lemmas.Bool.{and_parts, false_from_ne_true, or_right, or_parts}
-use Rattle.std.proofs.lemmas.List.{append_assoc, map-append}
+use Rattle.std.proofs.lemmas.List.{append_assoc, length-map, map-append}
 use Rattle.std.proofs.lemmas.List.Folds.{list_any-append}
 use Rattle.mt_terms.proofs.IdFacts.{same_id, is_same}
 use Rattle.mt_terms.specs.Registration.Ids.{Bytes, all_differ}
@@ -116,6 +116,13 @@ module _ {K X : Type 0} (seen : K → X) (same : X → X → Bool) (alike : K �
       by : (b : Bool) → map seen (if b then keys else keys ++ k ∷ []) ≡ (if b then map seen keys else map seen keys ++ seen k ∷ [])
       by true = refl
       by false = rw map-append refl
+
+  place-seen : (keys : List K) (k : K) → position_or_len (same (seen k)) (map seen keys) ≡ position_or_len (alike k) keys
+  place-seen [] k = refl
+  place-seen (j ∷ js) k = rw (agree k j, place-seen js k) refl
+
+  pub position-seen : (keys : List K) (k : K) → position (same (seen k)) (map seen keys) ≡ position (alike k) keys
+  position-seen keys k = rw (place-seen keys k, length-map) refl
 
 -- places and pairs of borrowed ids
 abbrev pub Place : Type 0

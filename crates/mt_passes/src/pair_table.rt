@@ -1,4 +1,4 @@
-ghost use Rattle.std.specs.Prelude.{◌≡◌, ◌++◌, [], ◌∷◌, not, OnErr, IfOk, if◌then◌else◌};
+ghost use Rattle.std.specs.Prelude.{◌≡◌, ◌++◌, [], ◌∷◌, not, position, OnErr, IfOk, if◌then◌else◌};
 ghost use Rattle.std.specs.List.{list_any};
 ghost use Rattle.mt_terms.specs.Registration.Passes.{is_same_pair};
 ghost use Rattle.mt_records.specs.Fields.{pair_seen};
@@ -60,7 +60,9 @@ impl<'a> PairTable<'a> {
     }
 
     /// The place of a pair from 0, if it is one of them.
-    pub fn place(&self, pair: (Option<&'a [u8]>, Option<&'a [u8]>)) -> Option<usize> {
+    pub fn place(&self, pair: (Option<&'a [u8]>, Option<&'a [u8]>)) -> Option<usize>
+        ensures { result ≡ position (is_same_pair (pair_seen pair.entry)) self.now }
+    {
         self.pairs.get_index_of(&pair)
     }
 }
