@@ -24,15 +24,15 @@ pub struct Reached {
     pub left: u32,
 }
 
-/// Lets the couples enter a match of the singles, in order of their numbers. The manner is that of Roth and Peranson, 1999.
-/// The order of the rounds is this project's own rule.
+/// Lets the couples enter a match of the singles, in order of their numbers (Roth and Peranson 1999). The order of the
+/// rounds is this project's own rule.
 ///
-/// A couple is put on the empty work list, and rounds are made until the list is empty. The agent at the front takes its
-/// first better option that would be taken. An applicant that it displaces leaves with its whole couple, and the agents
-/// to whom that may matter are rechecked.
+/// A couple is put on the empty work list, and rounds are made until that is empty. The first agent on it takes its first
+/// better option that would be taken. An applicant that it displaces leaves with its whole couple. Agents for which that
+/// may open an option are rechecked.
 ///
-/// The errors are that more rounds than `budget` would be needed, and want of memory. In both the given match is gone.
-/// The first error names the couple that was entering. It comes at once if a state of its rounds comes back.
+/// One error is that more rounds than `budget` would be needed. It names the couple that was entering, and comes at once
+/// if a state of its rounds comes back. The other is want of memory. In both the given match is gone.
 pub fn enter_all<'a, R: Threads + Sync>(
     rt: &R,
     alloc: Global,

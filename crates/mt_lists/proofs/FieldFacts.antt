@@ -1,12 +1,12 @@
 -- The fields of a line, one after the other, and the commas at its end.
-use Rattle.std.proofs.Common.{◌≡◌, ◌≢◌, ℕ, ◌+◌, ◌-◌, ◌<◌, ◌≤◌, List, [], ◌∷◌, ◌++◌, length, take, drop, get_or, true, false, ◌==◌, refl, sym, ap, ◌∙◌, inl, inr, append_assoc, arith, cond, length-append}
+use Rattle.std.proofs.Common.{◌≡◌, ℕ, ◌+◌, ◌-◌, ◌<◌, ◌≤◌, List, [], ◌∷◌, ◌++◌, length, take, drop, get_or, true, false, ◌==◌, refl, sym, ap, ◌∙◌, inl, inr, append_assoc, arith, cond, length-append}
 use Rattle.std.specs.List.{list_any, suffix_len, count_by}
 use Rattle.memchr.specs.Find.{is_byte}
 use Rattle.std.proofs.Math.Seq.{take-length}
 use Rattle.std.proofs.lemmas.Bool.{cases_Bool, eqb-true, or_parts}
 use Rattle.std.proofs.lemmas.Bool.Decides.{nat_tests}
 use Rattle.std.proofs.lemmas.List.Recursion.{is_count_by}
-use Rattle.std.proofs.lemmas.List.{append-nil, drop_all, drop_more, reverse-append, take-append-drop, take-append-le}
+use Rattle.std.proofs.lemmas.List.{append-nil, drop_more, reverse-append, take-append-drop, take-append-le}
 use Rattle.mt_lists.specs.Lines.{fields_of_line, fields_of_trimmed, is_comma, split_from}
 use Rattle.mt_lists.specs.Records.{is_empty_field, without_trailing_empty}
 use Rattle.mt_lists.proofs.LineFacts.{none_at_all, none_before}

@@ -10,6 +10,10 @@ is_quote c = c == 34
 abbrev pub is_comma : ℕ → Bool
 is_comma c = c == 44
 
+-- whether a byte is a carriage return
+abbrev pub is_return : ℕ → Bool
+is_return c = c == 13
+
 -- whether a byte ends a line
 abbrev pub ends_line : ℕ → Bool
 ends_line c = (c == 10) || (c == 13)

@@ -1,17 +1,20 @@
-ghost use Rattle.std.specs.Prelude.{◌≡◌, ◌+◌, ◌<◌, ◌≤◌, ◌^◌, [], ◌∷◌, false, true, length, MatchOption};
+ghost use Rattle.std.specs.Prelude.{◌≡◌, ◌+◌, ◌<◌, ◌≤◌, ◌^◌, [], ◌∷◌, false, true, length, IsFalse, MatchOption};
 ghost use Rattle.std.specs.Iterator.{YieldsFirstRef, item_count};
-ghost use Rattle.std.specs.List.{list_any};
+ghost use Rattle.std.specs.List.{count_by, list_any};
 ghost use Rattle.memchr.specs.Find.{IsFirstByte, is_byte};
-ghost use Rattle.mt_lists.specs.Lines.{NextLine, fields_of_line, fields_of_trimmed, is_quote};
+ghost use Rattle.mt_lists.specs.Lines.{NextLine, ends_line, fields_of_line, fields_of_trimmed, is_comma, is_quote, is_return};
 ghost use Rattle.mt_lists.specs.Records.{rows_of, without_trailing_empty};
 
-use memchr::{memchr, memchr_iter, memchr2};
+use memchr::{memchr, memchr2};
 
 /// A text with no double quote, whose rows are its lines.
 #[derive(Clone, Copy)]
 pub(crate) struct Lines<'t> {
     text: &'t [u8],
+    // Whether a carriage return may end a line. A search for the line feed alone is faster.
+    may_return: bool,
     pub ghost unquoted: { list_any is_quote text.now ≡ false },
+    pub ghost no_return: { IsFalse may_return → list_any is_return text.now ≡ false },
 }
 
 impl<'t> Lines<'t> {
@@ -19,9 +22,19 @@ impl<'t> Lines<'t> {
     pub(crate) fn new(text: &'t [u8]) -> Option<Lines<'t>>
         ensures { MatchOption result (list_any is_quote text.now ≡ true) (λ lines. lines.text.now ≡ text.now) }
     {
-        match memchr(b'"', text) {
-            Some(_) => None,
-            None => Some(Lines { text }),
+        // Most texts have neither, so one search is enough.
+        match memchr2(b'"', b'\r', text) {
+            Some(_) => match memchr(b'"', text) {
+                Some(_) => None,
+                None => Some(Lines {
+                    text,
+                    may_return: true,
+                }),
+            },
+            None => Some(Lines {
+                text,
+                may_return: false,
+            }),
         }
     }
 
@@ -53,16 +66,28 @@ impl<'t> Lines<'t> {
         requires { 0 < length self.text.now }
         ensures { NextLine self.entry.text.now result.0.now result.1.text.now }
     {
-        match memchr2(b'\n', b'\r', self.text) {
+        let Lines { text, may_return } = self;
+        match self.line_end() {
             Some(at) => {
-                let (line, _) = self.text.split_at(at);
-                let (_, text) = self.text.split_at(at + 1);
-                (line, Lines { text })
+                let (line, _) = text.split_at(at);
+                let (_, text) = text.split_at(at + 1);
+                (line, Lines { text, may_return })
             }
             None => {
-                let (line, text) = self.text.split_at(self.text.len());
-                (line, Lines { text })
+                let (line, text) = text.split_at(text.len());
+                (line, Lines { text, may_return })
             }
+        }
+    }
+
+    // Where the first line ends.
+    fn line_end(self) -> Option<usize>
+        ensures { IsFirstByte ends_line self.entry.text.now result }
+    {
+        if self.may_return {
+            memchr2(b'\n', b'\r', self.text)
+        } else {
+            memchr(b'\n', self.text)
         }
     }
 }
@@ -81,12 +106,36 @@ fn trimmed(line: &[u8]) -> &[u8]
     kept
 }
 
+// The longest piece of a line whose commas are counted in one byte.
+const PIECE: usize = 255;
+
+// How many commas a piece of a line has. Counts that are bytes are added up by vectors.
+fn commas_of(piece: &[u8]) -> u8
+    requires { length piece.now ≤ 255 }
+    ensures { result ≡ count_by is_comma piece.now }
+{
+    let mut count = 0;
+    for byte in piece {
+        if *byte == b',' {
+            count += 1;
+        }
+    }
+    count
+}
+
 // How many commas a line has: one less than it has fields.
 fn commas(line: &[u8]) -> usize
     ensures fields { result + 1 ≡ length (fields_of_line line.now) }
     ensures few { result < 2 ^ 63 }
 {
-    memchr_iter(b',', line).count()
+    let mut count = 0;
+    let mut left = line;
+    while left.len() > PIECE {
+        let (piece, rest) = left.split_at(PIECE);
+        count += usize::from(commas_of(piece));
+        left = rest;
+    }
+    count + usize::from(commas_of(left))
 }
 
 // The place of the first comma of a line. Most fields have a few bytes, and a search by vectors begins slowly.

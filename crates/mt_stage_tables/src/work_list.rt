@@ -10,12 +10,10 @@ use std::mem::swap;
 
 /// The agents that are to be rechecked, first in first out, each at most once.
 ///
-/// Agents are read from one ordered set. An agent that is taken stays in it, passed over, until all are. Whoever joins is
-/// put at the end of a second set. When all of the first set are taken, the second takes its place. Both grow with those
-/// that wait: few do mostly, and sets with room for every agent take longer to make than all rounds on some markets.
+/// Agents are read from one ordered set. An agent that is taken stays in it, passed over, until all are. A new agent is put
+/// at the end of a second set, which then takes the place of the first. Both grow as agents join, since few wait mostly.
 ///
-/// The sets hash with the fixed seed of `indexmap`. The author of a file chooses which agents wait, but the keys are only
-/// the numbers of agents.
+/// The sets hash with the fixed seed of `indexmap`. A file's author chooses who waits, but keys are only numbers of agents.
 pub struct WorkList {
     applicants: u32,
     couples: u32,
