@@ -29,7 +29,7 @@ CHECKS = {
     "python": 54,
     "report": 10055,
     "seeds": 7,
-    "threads": 54,
+    "threads": 66,
     "told": 311,
     "words": 404,
     "ways": 1551,

@@ -10,7 +10,8 @@ use std::alloc::{AllocError, Global};
 use std::sync::Wait;
 use std::thread::Threads;
 
-/// What this number of workers makes of the rank tables. One worker has no need of locks.
+/// What workers make of the rank tables: this number of them, or as many as there are programs if that is less. A program
+/// serves one worker at a time, so more would only wait. One worker has no need of locks.
 fn made_by<T: Threads + Wait + Sync>(
     rt: &T,
     alloc: Global,
@@ -22,7 +23,8 @@ fn made_by<T: Threads + Wait + Sync>(
     ensures proposals { IfOk result (λ s. s.proposals.items
         ≡ map (proposals ranks.now.market s.matched.places) (below (length ranks.now.market.programs))) }
 {
-    if workers == 1 {
+    let workers = workers.min(ranks.programs());
+    if workers <= 1 {
         work_alone(alloc, ranks)
     } else {
         work(rt, alloc, ranks, workers, &Open)
