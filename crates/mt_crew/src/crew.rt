@@ -5,9 +5,8 @@ ghost use Rattle.mt_terms.specs.Market.{applicants};
 ghost use Rattle.mt_crew.specs.Closings.{IsClosing};
 
 use crate::gate::{Closing, Gate};
-use crate::seats::{Seat, dealt_seats, next_ticket, thieves};
+use crate::seats::{Mate, Seat, dealt_seats, mates_at, next_ticket};
 use crate::singles::{Singles, singles_of};
-use crossbeam_deque::Stealer;
 use mt_hall::{Answer, Hall, HallName, Pass};
 use mt_ranks::Ranks;
 use mt_terms::AppNo;
@@ -15,8 +14,9 @@ use std::alloc::{AllocError, Global};
 use std::marker::Brand;
 use std::sync::Wait;
 use std::sync::ledger::Blank;
+use std::thread;
 use std::thread::Threads;
-use std::{hint, thread};
+use std::time::Duration;
 
 /// Acts for the applicant until it is placed or out. An applicant that it displaces gets a ticket. If there is no
 /// memory for the ticket, the worker goes on with that applicant.
@@ -56,17 +56,11 @@ fn act<K: HallName, R: Wait>(
     }
 }
 
-/// The longest rest of a worker, in turns: some milliseconds.
-const LONGEST_BACK_OFF: u32 = 1 << 18;
+/// The longest rest of a worker, in microseconds.
+const LONGEST_BACK_OFF: u32 = 1 << 12;
 
-/// After how many turns of its rest a worker lets another thread run.
-const YIELD_AFTER: u32 = 64;
-
-/// After how many turns of its rest a worker looks whether there are tickets left.
-const LOOK_AFTER: u32 = 1 << 11;
-
-/// How many turns a worker rests, after a rest of `last` turns. It is twice as many if the worker had to wait for
-/// another one since, and half as many if it hadn't.
+/// How many microseconds a worker rests, after a rest of `last`. It is twice as long if the worker had to wait for
+/// another one since, and half as long if it hadn't.
 fn next_back_off(last: u32, waited: bool) -> u32
     ensures bounded { last ≤ LONGEST_BACK_OFF → result ≤ LONGEST_BACK_OFF }
     ensures grows { IsTrue waited → result ≡ min (2 * last + 1) LONGEST_BACK_OFF }
@@ -81,22 +75,17 @@ fn next_back_off(last: u32, waited: bool) -> u32
     }
 }
 
-/// Whether no deque has a ticket just now.
-fn are_empty(thieves: &[Stealer<AppNo>]) -> bool {
-    thieves.iter().all(|thief| thief.is_empty())
+/// Sleeps for this number of microseconds, or until another worker finds no ticket.
+fn back_off<R: Wait>(rt: &R, seat: &Seat, mates: &[Mate], micros: u32) {
+    if let Some(own) = mates.get(seat.number as usize) {
+        own.parker
+            .park_timeout(rt, Duration::from_micros(u64::from(micros)));
+    }
 }
 
-/// Waits for this number of turns, or for fewer if no deque has a ticket any more.
-fn back_off(turns: u32, thieves: &[Stealer<AppNo>]) {
-    for turn in 0..turns {
-        if turn % LOOK_AFTER == LOOK_AFTER - 1 && are_empty(thieves) {
-            return;
-        }
-        if turn % YIELD_AFTER == 0 {
-            thread::yield_now();
-        } else {
-            hint::spin_loop();
-        }
+fn wake_all(mates: &[Mate]) {
+    for mate in mates {
+        mate.parker.unpark();
     }
 }
 
@@ -107,22 +96,24 @@ fn serve<K: HallName, R: Wait, G: Gate>(
     rt: &R,
     hall: &Hall<'_, K>,
     gate: &G,
-    thieves: &[Stealer<AppNo>],
+    mates: &[Mate],
     seat: &mut Seat,
     pass: &mut Pass<K>,
 ) {
-    let mut turns = 0;
+    let mut micros = 0;
     for _ in rt.forever() {
-        let Some(applicant) = next_ticket(seat, thieves) else {
-            return;
+        let Some(applicant) = next_ticket(seat, mates) else {
+            return wake_all(mates);
         };
         gate.before(seat.number, applicant);
         let contended = pass.contended_locks();
         act(rt, hall, pass, seat, applicant);
         gate.after(seat.number, pass);
         if seat.number > 0 {
-            turns = next_back_off(turns, pass.contended_locks() != contended);
-            back_off(turns, thieves);
+            micros = next_back_off(micros, pass.contended_locks() != contended);
+            if micros > 0 {
+                back_off(rt, seat, mates, micros);
+            }
         }
     }
 }
@@ -133,7 +124,7 @@ fn serve_all<K: HallName + Send + Sync, R: Threads + Wait + Sync, G: Gate + Sync
     rt: &R,
     hall: &Hall<'_, K>,
     gate: &G,
-    thieves: &[Stealer<AppNo>],
+    mates: &[Mate],
     seats: &mut [Seat],
     passes: &mut [Pass<K>],
 ) {
@@ -141,10 +132,10 @@ fn serve_all<K: HallName + Send + Sync, R: Threads + Wait + Sync, G: Gate + Sync
         let mut all = seats.iter_mut().zip(passes.iter_mut());
         let first = all.next();
         for (seat, pass) in all {
-            let _ = scope.spawn(move || serve(rt, hall, gate, thieves, seat, pass));
+            let _ = scope.spawn(move || serve(rt, hall, gate, mates, seat, pass));
         }
         if let Some((seat, pass)) = first {
-            serve(rt, hall, gate, thieves, seat, pass);
+            serve(rt, hall, gate, mates, seat, pass);
         }
     });
 }
@@ -191,9 +182,9 @@ fn work_in<K: HallName + Send + Sync, R: Threads + Wait + Sync, G: Gate + Sync>(
         ≡ map (proposals ranks.now.market s.matched.places) (below (length ranks.now.market.programs))) }
 {
     let mut seats = dealt_seats(alloc, ranks, workers)?;
-    let thieves = thieves(alloc, &seats)?;
+    let mates = mates_at(alloc, &seats)?;
     let (hall, mut passes) = Hall::<K>::open(alloc, ranks, workers, blank)?;
-    serve_all(rt, &hall, gate, &thieves, &mut seats, &mut passes);
+    serve_all(rt, &hall, gate, &mates, &mut seats, &mut passes);
     let (singles, closing) = audited_singles(alloc, ranks, hall, passes)?;
     gate.closed(&closing);
     Ok(singles)

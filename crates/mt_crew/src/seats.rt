@@ -4,6 +4,7 @@ use crossbeam_deque::{Steal, Stealer, Worker};
 use mt_ranks::Ranks;
 use mt_terms::AppNo;
 use std::alloc::{AllocError, Global};
+use std::thread::Parker;
 
 /// How often a thief asks again if another one came between.
 const TRIES: u32 = 64;
@@ -13,6 +14,13 @@ const TRIES: u32 = 64;
 pub(crate) struct Seat {
     pub(crate) number: u32,
     pub(crate) tickets: Worker<AppNo>,
+}
+
+/// What the other workers have of a worker: its tickets to steal, and the parker on which it sleeps.
+#[derive(Drop)]
+pub(crate) struct Mate {
+    pub(crate) tickets: Stealer<AppNo>,
+    pub(crate) parker: Parker,
 }
 
 /// Seats with no tickets, each with room for its share of them.
@@ -49,20 +57,24 @@ pub(crate) fn dealt_seats(
     Ok(seats)
 }
 
-/// A thief for each seat.
-pub(crate) fn thieves(alloc: Global, seats: &[Seat]) -> Result<Vec<Stealer<AppNo>>, AllocError>
-    ensures { IfOk result (λ thieves. vec_len thieves ≡ length seats.now) }
+/// What the others have of the worker at each seat.
+pub(crate) fn mates_at(alloc: Global, seats: &[Seat]) -> Result<Vec<Mate>, AllocError>
+    ensures { IfOk result (λ mates. vec_len mates ≡ length seats.now) }
 {
-    let mut thieves = Vec::with_capacity(alloc, seats.len())?;
+    let mut mates = Vec::with_capacity(alloc, seats.len())?;
     for seat in seats {
-        thieves.push(seat.tickets.stealer()?)?;
+        let tickets = seat.tickets.stealer()?;
+        mates.push(Mate {
+            tickets,
+            parker: Parker::new(),
+        })?;
     }
-    Ok(thieves)
+    Ok(mates)
 }
 
-fn steal(thief: &Stealer<AppNo>) -> Option<AppNo> {
+fn steal(mate: &Mate) -> Option<AppNo> {
     for _ in 0..=TRIES {
-        match thief.steal() {
+        match mate.tickets.steal() {
             Steal::Success(ticket) => return Some(ticket),
             Steal::Empty => return None,
             Steal::Retry => {}
@@ -71,9 +83,9 @@ fn steal(thief: &Stealer<AppNo>) -> Option<AppNo> {
     None
 }
 
-fn steal_any(thieves: &[Stealer<AppNo>]) -> Option<AppNo> {
-    for thief in thieves {
-        let ticket = steal(thief);
+fn steal_any(mates: &[Mate]) -> Option<AppNo> {
+    for mate in mates {
+        let ticket = steal(mate);
         if ticket.is_some() {
             return ticket;
         }
@@ -83,18 +95,18 @@ fn steal_any(thieves: &[Stealer<AppNo>]) -> Option<AppNo> {
 
 /// A ticket of the worker's own, or else one that it steals. It asks the others in the order of their numbers, from
 /// the one after its own on.
-pub(crate) fn next_ticket(seat: &mut Seat, thieves: &[Stealer<AppNo>]) -> Option<AppNo>
+pub(crate) fn next_ticket(seat: &mut Seat, mates: &[Mate]) -> Option<AppNo>
     ensures { seat.new.number ≡ seat.old.number }
 {
     let ticket = seat.tickets.pop();
     if ticket.is_some() {
         return ticket;
     }
-    let own = (seat.number as usize).min(thieves.len());
-    let after = (own + 1).min(thieves.len());
-    let later = steal_any(&thieves[after..]);
+    let own = (seat.number as usize).min(mates.len());
+    let after = (own + 1).min(mates.len());
+    let later = steal_any(&mates[after..]);
     if later.is_some() {
         return later;
     }
-    steal_any(&thieves[..own])
+    steal_any(&mates[..own])
 }
