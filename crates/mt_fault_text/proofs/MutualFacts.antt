@@ -6,7 +6,7 @@ use Rattle.std.specs.List.{cons_option}
 use Rattle.std.proofs.lemmas.List.{append-nil, length-map, take_more}
 use Rattle.std.proofs.lemmas.List.Elements.{filter_map-append}
 use Rattle.mt_terms.specs.Lists.{Set, has, total_below}
-use Rattle.mt_terms.specs.Market.{Market, Pair, applicants, couple_of, list_of, live, live_entries, live_market, program_of}
+use Rattle.mt_terms.specs.Market.{Market, Pair, applicants, couple_of, list_of, live, program_of}
 use Rattle.mt_ranks.specs.Ranked.{IsRanked, Ranked, ranked_entry, ranked_list, ranked_of}
 use Rattle.mt_ranks.specs.declared.entries.Live.{Live}
 use Rattle.mt_terms.proofs.ListFacts.{has_push}

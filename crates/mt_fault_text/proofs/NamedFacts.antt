@@ -1,6 +1,6 @@
 -- The code that a match names, by the codes of all faults in their order, is that with which a match refuses the file.
-use Rattle.std.proofs.Common.{◌≡◌, ℕ, Bool, true, false, List, [], ◌∷◌, Option, Some, None, Result, Ok, Err, refl, ap, sym, ◌∙◌, if◌then◌else◌}
-use Rattle.std.specs.Prelude.{find}
+use Rattle.std.proofs.Common.{◌≡◌, ℕ, Bool, true, false, List, [], ◌∷◌, Option, Some, None, Result, Ok, Err, refl, ap, sym, subst, ◌∙◌, if◌then◌else◌}
+use Rattle.std.specs.Prelude.{find, IsSome}
 use Rattle.std.specs.Result.{result_ok}
 use Rattle.mt_terms.specs.Market.{Registered}
 use Rattle.mt_terms.specs.Registration.{market_of}
@@ -61,8 +61,8 @@ module _ (rows : List (List Bytes)) (f : Fault) (is : market_of rows ≡ Err f) 
       let fault = named_fault_is_among_lem rows f is in
       all ∙ named_is (faults_of rows) fault.0 fault.1 ∙ ap (λ (code : ℕ). Some code) fault.2.code
 
-  pub never_none : named ≡ None → ⊥
-  never_none none = let same : ◌≡◌ {A = Option ℕ} None (Some f.code) = sym none ∙ named_refused in absurd cc
+  pub is_named : IsSome named
+  is_named = subst (λ (o : Option ℕ). IsSome o) (sym named_refused) refl
 
   pub named_code : (code : ℕ) → named ≡ Some code → code ≡ f.code
   named_code code some = let same : ◌≡◌ {A = Option ℕ} (Some code) (Some f.code) = sym some ∙ named_refused in cc

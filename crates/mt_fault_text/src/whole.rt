@@ -1,4 +1,4 @@
-ghost use Rattle.std.specs.Prelude.{◌≡◌, ◌≢◌, ◌+◌, ◌<◌, ◌≤◌, ◌^◌, ◌↔◌, [], if◌then◌else◌, length, IsTrue, Some, None, OnErr, OnOk};
+ghost use Rattle.std.specs.Prelude.{◌≡◌, ◌≢◌, ◌+◌, ◌<◌, ◌≤◌, ◌^◌, ◌↔◌, [], if◌then◌else◌, length, IsSome, IsTrue, Some, None, OnErr, OnOk};
 ghost use Rattle.std.specs.Result.{result_ok};
 ghost use Rattle.mt_lists.specs.Records.{without_mark};
 ghost use Rattle.mt_lists.specs.Tap.{bytes_left, failures_of as read_failures_of, reads_of};
@@ -111,6 +111,17 @@ fn code_of<T: Threads + Sync>(rt: &T, alloc: Global, rows: &Rows<'_>) -> u16
     }
 }
 
+/// The code that was named.
+fn named_code(named: Option<u16>) -> u16
+    requires { IsSome named }
+    ensures { named ≡ Some result }
+{
+    match named {
+        Some(code) => code,
+        None => unreachable!(),
+    }
+}
+
 /// Writes the lines of all faults of a file's records, of which there is at least one.
 fn list_faults<'a, T: Threads + Sync, W: Write, E: Write>(
     rt: &T,
@@ -158,24 +169,14 @@ fn list_faults<'a, T: Threads + Sync, W: Write, E: Write>(
         is_broken,
     } = sink;
     if is_broken {
-        return Outcome {
-            code: code_of(rt, alloc, rows),
-            whole: false,
-        };
+        let code = code_of(rt, alloc, rows);
+        return Outcome { code, whole: false };
     }
-    match end {
-        Ok(()) => Outcome {
-            code: match named {
-                Some(code) => code,
-                None => unreachable!(),
-            },
-            whole: finish(drain, &mut page, count).is_ok(),
-        },
-        Err(_) => Outcome {
-            code: OUT_OF_MEMORY,
-            whole: cut_short(drain, &mut page).is_ok(),
-        },
-    }
+    let (code, whole) = match end {
+        Ok(()) => (named_code(named), finish(drain, &mut page, count).is_ok()),
+        Err(_) => (OUT_OF_MEMORY, cut_short(drain, &mut page).is_ok()),
+    };
+    Outcome { code, whole }
 }
 
 /// Writes the line of a fault that leaves a file without records, and that there is one.
