@@ -1,2 +1,3 @@
+pub mod ChunkFacts
 pub mod RowFacts
 pub mod FlatListsFacts

@@ -1,2 +1,3 @@
+pub mod ChunkedLists
 pub mod FlatLists
 pub mod GrowingLists

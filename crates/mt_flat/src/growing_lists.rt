@@ -42,7 +42,7 @@ impl<T> Model for GrowingLists<T> {
 }
 
 /// A place in the vector, in 32 bits. The error is that the vector would have grown beyond these.
-fn short_place(place: usize) -> Result<u32, AllocError>
+pub(crate) fn short_place(place: usize) -> Result<u32, AllocError>
     ensures ok { IfOk result (λ short. short ≡ place) }
     ensures err { OnErr result (4294967295 < place) }
 {

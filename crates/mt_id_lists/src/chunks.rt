@@ -5,7 +5,7 @@ ghost use Rattle.rayon.specs.Lists.{chunks_of};
 ghost use Rattle.mt_id_lists.specs.Reading.{Joins, ReadsAll};
 
 use crate::reader::ListReader;
-use mt_flat::FlatLists;
+use mt_flat::{ChunkedLists, FlatLists};
 use rayon::current_num_threads;
 use rayon::prelude::*;
 use std::alloc::{AllocError, Global};
@@ -27,6 +27,18 @@ fn are_long<L, M: Drop + Send + Sync, S: ListReader<L, M> + Sync>(reader: &S, li
         }
     }
     false
+}
+
+/// How many entries lists have.
+fn entries_of<L, M: Drop + Send + Sync, S: ListReader<L, M> + Sync>(
+    reader: &S,
+    lists: &[L],
+) -> usize {
+    let mut entries: usize = 0;
+    for list in lists {
+        entries = entries.saturating_add(reader.entries(list));
+    }
+    entries
 }
 
 /// How many lists a chunk has: there are two chunks for each processor, but one alone if the lists are short, or if
@@ -53,7 +65,7 @@ fn read_chunk<L, M: Drop + Send + Sync, S: ListReader<L, M> + Sync>(
 ) -> Result<Option<FlatLists<S::Item>>, AllocError>
     ensures { IfOk result (ReadsAll (S.stands reader.now) (S.read reader.now) lists.now) }
 {
-    let mut read = FlatLists::new(alloc);
+    let mut read = FlatLists::with_capacity(alloc, lists.len(), entries_of(reader, lists))?;
     let mut met = reader.new_met(alloc)?;
     for list in lists {
         if !reader.read_list(alloc, &mut read, &mut met, list)? {
@@ -87,29 +99,19 @@ fn read_chunks<R: Threads + Sync, L: Sync, M: Drop + Send + Sync, S: ListReader<
         .collect::<Result<Vec<Option<FlatLists<S::Item>>>, AllocError>>(rt, alloc)?
 }
 
-/// Adds lists at the end of others.
-fn append<T: Copy + Drop>(to: &mut FlatLists<T>, lists: &FlatLists<T>) -> Result<(), AllocError>
-    ensures { OnOk result (to.new ≡ to.old ++ lists.now) }
-{
-    for number in 0..lists.len() {
-        to.push_list(lists.list(number))?;
-    }
-    Ok(())
-}
-
-/// The lists of chunks one after another, if each was read. A chunk is dropped once its lists are joined.
-fn join<T: Copy + Drop>(
+/// The lists of chunks one after another, if each was read.
+fn join<T: Drop>(
     alloc: Global,
     chunks: Vec<Option<FlatLists<T>>>,
-) -> Result<Option<FlatLists<T>>, AllocError>
+) -> Result<Option<ChunkedLists<T>>, AllocError>
     ensures { IfOk result (Joins chunks.items) }
 {
-    let mut joined = FlatLists::new(alloc);
+    let mut joined = ChunkedLists::new(alloc);
     for chunk in chunks {
         let Some(lists) = chunk else {
             return Ok(None);
         };
-        append(&mut joined, &lists)?;
+        joined.push_chunk(alloc, lists)?;
     }
     Ok(Some(joined))
 }
@@ -125,13 +127,10 @@ pub fn read_lists<
     alloc: Global,
     reader: &S,
     lists: Vec<L>,
-) -> Result<Option<FlatLists<S::Item>>, AllocError>
+) -> Result<Option<ChunkedLists<S::Item>>, AllocError>
     ensures { IfOk result (ReadsAll (S.stands reader.now) (S.read reader.now) lists.items) }
 {
     let size = chunk_size(rt, lists.len(), are_long(reader, &lists));
-    if lists.len() <= size {
-        return read_chunk(alloc, reader, &lists);
-    }
     let chunks = read_chunks(rt, alloc, reader, &lists, size)?;
     drop(lists);
     join(alloc, chunks)

@@ -3,5 +3,5 @@
 
 mod tables;
 
-pub use mt_flat::FlatLists;
+pub use mt_flat::{ChunkedLists, FlatLists};
 pub use tables::{Roster, Tables};

@@ -4,7 +4,7 @@ ghost use Rattle.mt_terms.specs.Market.{applicants, program_of, list_of, couple_
 ghost use Rattle.mt_terms.specs.Text.{name_of};
 ghost use Rattle.mt_market.specs.Tables.{registered_of, AreTables};
 
-use mt_flat::FlatLists;
+use mt_flat::{ChunkedLists, FlatLists};
 use mt_terms::{Agent, AppNo, CoupleNo, ProgNo};
 use std::marker::Model;
 
@@ -14,15 +14,15 @@ pub struct Tables {
     /// The posts of each program.
     pub quotas: Vec<u32>,
     /// The applicants that each program lists, the most wanted first.
-    pub rankings: FlatLists<AppNo>,
+    pub rankings: ChunkedLists<AppNo>,
     /// The programs that each applicant lists as a single, the most wanted first.
-    pub lists: FlatLists<ProgNo>,
+    pub lists: ChunkedLists<ProgNo>,
     /// The agent that each applicant belongs to.
     pub agents: Vec<Agent>,
     /// The two members of each couple, in the order of its pairs.
     pub members: Vec<(AppNo, AppNo)>,
     /// The pairs that each couple lists, the most wanted first.
-    pub pairs: FlatLists<(Option<ProgNo>, Option<ProgNo>)>,
+    pub pairs: ChunkedLists<(Option<ProgNo>, Option<ProgNo>)>,
     /// The ids of the programs.
     pub program_ids: FlatLists<u8>,
     /// The ids of the applicants.

@@ -10,7 +10,7 @@ use crate::listed::{applicant_lists, couple_lists, program_lists};
 use crate::pairs::PairReader;
 use mt_drafts::stays;
 use mt_id_lists::{Numbered, read_lists};
-use mt_market::FlatLists;
+use mt_market::ChunkedLists;
 use mt_records::{Kinds, Record};
 use mt_terms::{AppNo, ProgNo};
 use std::alloc::{AllocError, Global};
@@ -19,9 +19,9 @@ use std::thread::Threads;
 /// What the lists of records that remain say by new numbers, and their couples' members.
 #[derive(Drop)]
 pub(crate) struct Entries {
-    pub(crate) rankings: FlatLists<AppNo>,
-    pub(crate) lists: FlatLists<ProgNo>,
-    pub(crate) pairs: FlatLists<(Option<ProgNo>, Option<ProgNo>)>,
+    pub(crate) rankings: ChunkedLists<AppNo>,
+    pub(crate) lists: ChunkedLists<ProgNo>,
+    pub(crate) pairs: ChunkedLists<(Option<ProgNo>, Option<ProgNo>)>,
     pub(crate) members: Vec<(AppNo, AppNo)>,
 }
 
@@ -32,7 +32,7 @@ fn rankings<R: Threads + Sync>(
     applicants: &Numbered<'_, AppNo>,
     withdrawn: &Kinds<'_>,
     records: &[Record<'_>],
-) -> Result<Option<FlatLists<AppNo>>, AllocError>
+) -> Result<Option<ChunkedLists<AppNo>>, AllocError>
     ensures { IfOk result (ReadsAll (ids_stand applicants.now) (ids_read applicants.now)
         (program_lists (stays_after withdrawn.now) (all_seen records.now))) }
 {
@@ -47,7 +47,7 @@ fn choices<R: Threads + Sync>(
     programs: &Numbered<'_, ProgNo>,
     withdrawn: &Kinds<'_>,
     records: &[Record<'_>],
-) -> Result<Option<FlatLists<ProgNo>>, AllocError>
+) -> Result<Option<ChunkedLists<ProgNo>>, AllocError>
     ensures { IfOk result (ReadsAll (ids_stand programs.now) (ids_read programs.now)
         (applicant_lists (stays_after withdrawn.now) (all_seen records.now))) }
 {
@@ -62,7 +62,7 @@ fn pairs<R: Threads + Sync>(
     reader: &PairReader<'_, '_>,
     withdrawn: &Kinds<'_>,
     records: &[Record<'_>],
-) -> Result<Option<FlatLists<(Option<ProgNo>, Option<ProgNo>)>>, AllocError>
+) -> Result<Option<ChunkedLists<(Option<ProgNo>, Option<ProgNo>)>>, AllocError>
     ensures { IfOk result (ReadsAll (pairs_stand_in reader.now.half_pairs reader.now.programs.now)
         (pairs_read reader.now.programs.now)
         (couple_lists (stays_after withdrawn.now) (all_seen records.now))) }

@@ -82,6 +82,11 @@ impl Rows {
         part(&self.items, &self.starts, &self.ends, number)
     }
 
+    /// For how many entries all rows together have room.
+    pub(crate) fn room(&self) -> usize {
+        self.items.len()
+    }
+
     /// Adds an entry at the end of a row that has room.
     pub(crate) fn push(&mut self, number: usize, entry: Live)
         requires row { number < length self.old.lists }

@@ -73,7 +73,7 @@ fn live_lists(
     requires within { (k : ℕ) → ProgramsWithin (length roster.now.market.programs) (row_of rows.now k) }
     ensures { IfOk result (λ lists. lists ≡ listed_rows roster.now.market block.first block.size rows.now) }
 {
-    let mut lists = FlatLists::new(alloc);
+    let mut lists = FlatLists::with_capacity(alloc, block.size, rows.room())?;
     let mut stamps = Vec::from_elem(
         alloc,
         RankStamp { turn: 0, rank: 0 },

@@ -6,7 +6,7 @@ use crate::copies::{applicant_ids, program_ids, quotas, rankings, single_lists};
 use crate::couples::{
     agents, all_couples, couple_ids, members, pairs, pairs_unless_aside, renumbered_agents,
 };
-use mt_market::{FlatLists, Roster, Tables};
+use mt_market::{ChunkedLists, FlatLists, Roster, Tables};
 use mt_terms::{Agent, AppNo, CoupleNo, ProgNo};
 use std::alloc::{AllocError, Global};
 
@@ -29,11 +29,11 @@ fn with_couples(alloc: Global, roster: &Roster, couples: CoupleTables) -> Result
 {
     Ok(Tables {
         quotas: quotas(alloc, roster)?,
-        rankings: rankings(alloc, roster)?,
-        lists: single_lists(alloc, roster)?,
+        rankings: ChunkedLists::of(alloc, rankings(alloc, roster)?)?,
+        lists: ChunkedLists::of(alloc, single_lists(alloc, roster)?)?,
         agents: couples.agents,
         members: couples.members,
-        pairs: couples.pairs,
+        pairs: ChunkedLists::of(alloc, couples.pairs)?,
         program_ids: program_ids(alloc, roster)?,
         applicant_ids: applicant_ids(alloc, roster)?,
         couple_ids: couples.ids,

@@ -10,7 +10,7 @@ use Rattle.mt_ranks.proofs.tables.live_lists.Goals as goal
 
 pub loop-place-init : goal.loop-place-init
 loop-place-init c = record {
-  listed = c.new-lists.ensures;
+  listed = c.in_ok-lists.ensures;
   len = omega (arith, c.in_ok-stamps.ensures.len, c.in_ok-stamps.stamps.ok, c.programs.ensures.count);
   before = never_stamped c.in_ok-stamps.stamps.items c.programs.result (c.in_ok-stamps.ensures.items_if_clones_equal (λ y e. e));
 }
