@@ -8,19 +8,18 @@ use Rattle.mt_terms.specs.Registration.Records.{Rules, Record}
 use Rattle.mt_terms.specs.Registration.Passes.{are_too_many}
 use Rattle.mt_terms.specs.Registration.Numbering.{registered}
 use Rattle.mt_file_laws.specs.Faultless.{draft, drafts, is_faultless}
-use Rattle.mt_file_laws.proofs.IdFacts.{not_true, or_left}
+use Rattle.mt_file_laws.proofs.IdFacts.{not_true}
 use Rattle.mt_file_laws.proofs.ApartFacts.{AreApart, apart_front}
 use Rattle.mt_file_laws.proofs.KnownFacts.{faultless_parts}
-use Rattle.mt_drafts.specs.Drafts.{with_fields, has_too_many_names, HaveFault}
+use Rattle.mt_drafts.specs.Drafts.{with_fields, HaveFault}
 
 -- too many of the first records are too many of all
-too_many : (rules : Rules) (front rest : List Record) → has_too_many_names rules.limits front ≡ true → is_faultless rules (front ++ rest) ≡ false
+too_many : (rules : Rules) (front rest : List Record) → are_too_many rules.limits front ≡ true → is_faultless rules (front ++ rest) ≡ false
 too_many rules front rest many =
     not_true _
     (λ faultless.
     let apart : AreApart rules.limits front = apart_front rules.limits front rest (faultless_parts rules (front ++ rest) faultless).apart in
-    let over : are_too_many rules.limits front ≡ true = or_left _ _ many in
-    cc (over, apart.few))
+    cc (many, apart.few))
 
 module _ (rules : Rules) where
   -- the records of all rows are these, and those of the rows that are left
@@ -49,7 +48,7 @@ module _ (rules : Rules) where
   abbrev market : List Record → Option Registered
   market rs = if is_faultless rules rs then Some (registered rs) else None
 
-  pub too_many_drafts : (all : List (List Bytes)) (front : List Record) (left : List (List Bytes)) → has_too_many_names rules.limits front ≡ true
+  pub too_many_drafts : (all : List (List Bytes)) (front : List Record) (left : List (List Bytes)) → are_too_many rules.limits front ≡ true
       → GoesOn all front left → HaveFault rules all
   too_many_drafts all front left many on = ap (option_and_then market) on ∙ by (drafts rules (with_fields left))
     where

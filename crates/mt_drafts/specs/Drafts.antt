@@ -1,10 +1,10 @@
 -- The records of rows before it is known whether one has a fault beside the others, or in its list.
-use Rattle.std.specs.Prelude.{◌≡◌, ◌||◌, Bool, false, nat_lt, List, [], ◌∷◌, length, None, Some}
+use Rattle.std.specs.Prelude.{◌≡◌, ◌-◌, ◌^◌, false, min, List, [], ◌∷◌, None, Some}
 use Rattle.mt_file_laws.specs.Faultless.{drafts, faultless_market}
-use Rattle.mt_terms.specs.declared.limits.Limits.{Limits}
 use Rattle.mt_terms.specs.Registration.Ids.{Bytes}
-use Rattle.mt_terms.specs.Registration.Records.{Rules, Record, OfProgram, OfCouple}
-use Rattle.mt_terms.specs.Registration.Rows.{ids_of, applicant_ids}
+use Rattle.mt_terms.specs.Registration.Passes.{are_too_many}
+use Rattle.mt_terms.specs.Registration.Records.{Rules, Record}
+use Rattle.mt_terms.specs.Registration.Rows.{entry_count}
 use Rattle.mt_drafts.specs.declared.drafts.Drafts.{Drafts}
 use Rattle.mt_drafts.specs.Names.{AreNames}
 use Rattle.mt_records.specs.Records.{all_seen}
@@ -19,15 +19,10 @@ with_fields ((word ∷ fields) ∷ rows) = (word ∷ fields) ∷ with_fields row
 abbrev pub drafted : Drafts → List Record
 drafted d = all_seen d.records.items
 
--- whether records register more programs, applicants or couples than a version takes
-abbrev pub has_too_many_names : Limits → List Record → Bool
-has_too_many_names limits records =
-    nat_lt limits.applicants (length (applicant_ids records)) || nat_lt limits.programs (length (ids_of OfProgram records))
-    || nat_lt limits.couples (length (ids_of OfCouple records))
-
--- The ids are those of the records.
+-- The ids are those of the records, and the entries theirs, as far as 64 bits count.
 pub record AreDrafts (d : Drafts) : Type 0 where
   pub names : AreNames (drafted d) d.names
+  pub entries : d.entries ≡ min (entry_count (drafted d)) (2 ^ 64 - 1)
 
 -- One of these rows has a fault, or all together have one.
 abbrev pub HaveFault : Rules → List (List Bytes) → Type 0
@@ -37,4 +32,4 @@ HaveFault rules rows = faultless_market rules (with_fields rows) ≡ None
 pub record AreDraftsOf (rules : Rules) (rows : List (List Bytes)) (d : Drafts) : Type 0 where
   pub are : AreDrafts d
   pub records : drafts rules (with_fields rows) ≡ Some (drafted d)
-  pub few : has_too_many_names rules.limits (drafted d) ≡ false
+  pub few : are_too_many rules.limits (drafted d) ≡ false

@@ -3,7 +3,8 @@
 ghost use Rattle.std.specs.Prelude.{◌≡◌, ◌++◌, [], ◌∷◌, IfOk, MatchOption, OnOk};
 ghost use Rattle.mt_lists.specs.Rows.{rows_left};
 ghost use Rattle.mt_records.specs.Records.{record_seen};
-ghost use Rattle.mt_drafts.specs.Drafts.{drafted, has_too_many_names, AreDrafts, AreDraftsOf, HaveFault};
+ghost use Rattle.mt_terms.specs.Registration.Passes.{are_too_many};
+ghost use Rattle.mt_drafts.specs.Drafts.{drafted, AreDrafts, AreDraftsOf, HaveFault};
 
 use crate::draft::draft_of;
 use crate::names::NameLists;
@@ -12,11 +13,13 @@ use mt_records::{Record, Rules, are_over, push};
 use mt_terms::Limits;
 use std::alloc::{AllocError, Global};
 
-/// Records with the ids that they register.
+/// Records, with the ids that they register and the number of their entries.
 #[derive(Drop)]
 pub struct Drafts<'a> {
     pub records: Vec<Record<'a>>,
     pub names: NameLists,
+    /// How many entries the records' lists have.
+    pub entries: u64,
 }
 
 impl<'a> Drafts<'a> {
@@ -28,18 +31,20 @@ impl<'a> Drafts<'a> {
         Drafts {
             records: Vec::new(alloc),
             names: NameLists::new(alloc),
+            entries: 0,
         }
     }
 
-    /// Whether they register more than a version takes.
+    /// Whether they have more than a version takes.
     fn are_too_many(&self, limits: &Limits) -> bool
         requires { AreDrafts self.now }
-        ensures { result ≡ has_too_many_names limits.now (drafted self.now) }
+        ensures { result ≡ are_too_many limits.now (drafted self.now) }
     {
         let applicants = self.names.applicants.len();
         let programs = self.names.programs.len();
         let couples = self.names.couples.len();
-        are_over(limits, applicants, programs, couples)
+        let has_many_entries = self.entries > u64::from(limits.entries);
+        are_over(limits, applicants, programs, couples) || has_many_entries
     }
 
     /// Adds a record.
@@ -50,11 +55,12 @@ impl<'a> Drafts<'a> {
             (drafted self.new ≡ drafted self.old ++ record_seen next.entry ∷ []) }
     {
         self.names.push(&next)?;
+        self.entries = self.entries.saturating_add(next.entry_count());
         push(&mut self.records, next)
     }
 }
 
-/// The records of rows, where none has a fault of its own, and they register no more than the version takes.
+/// The records of rows, where none has a fault of its own, and they have no more than the version takes.
 pub fn drafts_of<'a>(
     alloc: Global,
     rules: &Rules,

@@ -1,17 +1,17 @@
 -- The steps from records to their market: what is registered, what stands among those that stay and those that leave,
 -- and the lists of those that stay by their own numbers.
-use Rattle.std.proofs.Common.{◌≡◌, ℕ, suc, ◌+◌, ◌<◌, ◌≤◌, ◌^◌, Bool, true, false, not, ◌&&◌, ◌||◌, nat_lt, nat_le, List, [], ◌∷◌, length, get_or, Option, Some, None, refl, ap, ap₂, sym, subst, ◌∙◌, arith, cond, if◌then◌else◌}
+use Rattle.std.proofs.Common.{◌≡◌, ℕ, suc, ◌+◌, Bool, true, false, not, ◌&&◌, ◌||◌, List, [], ◌∷◌, length, get_or, Option, Some, None, refl, ap, ap₂, sym, subst, ◌∙◌, arith, cond, if◌then◌else◌}
 use Rattle.std.specs.Prelude.{filter, filter_map, flat_map, bytes_eq, MatchOption}
 use Rattle.std.specs.List.{list_all, cons_option}
 use Rattle.std.proofs.lemmas.Bool.{and_parts}
-use Rattle.std.proofs.lemmas.Bool.Decides.{nat_tests}
 use Rattle.std.proofs.lemmas.List.{length-map}
-use Rattle.std.proofs.lemmas.List.Sums.{sum_by-cons, length-filter, count_by-le-length}
+use Rattle.std.proofs.lemmas.List.Sums.{length-filter, count_by-le-length}
 use Rattle.mt_terms.specs.Market.{Pair}
 use Rattle.mt_terms.specs.Registration.Ids.{Bytes, has_id, number_of, numbers_of, all_differ}
 use Rattle.mt_terms.specs.Registration.Records.{Rules, Record, ProgramRecord, ApplicantRecord, CoupleRecord, WithdrawRecord, Kind, OfProgram, OfApplicant, OfCouple}
 use Rattle.mt_terms.specs.Registration.Numbering.{pairs_by_number}
-use Rattle.mt_terms.specs.Registration.Rows.{ids_of, applicant_ids, withdrawn, remaining, entries_of, entry_count}
+use Rattle.mt_terms.specs.Registration.Passes.{are_too_many}
+use Rattle.mt_terms.specs.Registration.Rows.{ids_of, applicant_ids, withdrawn, remaining}
 use Rattle.mt_file_laws.specs.Faultless.{ids_differ, withdrawals_stand, ranking_stands, list_stands, pair_stands, pairs_stand, is_faultless}
 use Rattle.mt_file_laws.specs.Staying.{both_there, stays_without, flagged, new_numbers, program_flags, applicant_flags}
 use Rattle.mt_file_laws.proofs.IdFacts.{differ_parts, neither, itself, or_left, or_right, next_place}
@@ -22,7 +22,6 @@ use Rattle.mt_drafts.specs.declared.names.NameLists.{NameLists}
 use Rattle.mt_numbering.specs.declared.entries.Entries.{Entries}
 use Rattle.mt_records.specs.declared.record.Record.{Record as Checked}
 use Rattle.mt_records.specs.declared.kinds.Kinds.{Kinds}
-use Rattle.mt_drafts.specs.Drafts.{has_too_many_names}
 use Rattle.mt_records.specs.Records.{record_seen, all_seen}
 use Rattle.mt_drafts.specs.Names.{single_flags, AreNames}
 use Rattle.mt_numbering.specs.Markets.{AreIdsOfRecords, AreEntries, GivesEntries, Remains}
@@ -94,18 +93,15 @@ module _ (rs : List Record) (ids : Kinds) (are : AreIdsOfRecords rs ids) where
   pub length-singles : (singles : List Bool) → singles ≡ single_flags rs → length singles ≡ length ids.applicants
   length-singles singles flags = ap length flags ∙ length-single_flags rs ∙ sym (ap length are.applicants)
 
--- records have no fault among them where their ids differ, their withdrawals stand, and their lists fit
-pub faultless_by_steps : (rules : Rules) (rs : List Record) → has_too_many_names rules.limits rs ≡ false
-    → is_faultless rules rs ≡ (ids_differ rs && withdrawals_stand rs && (lists_stand rules.half_pairs (ids_of OfProgram rs) (applicant_ids rs) rs && nat_le (entry_count rs) rules.limits.entries))
+-- records have no fault among them where their ids differ, their withdrawals stand, and their lists do
+pub faultless_by_steps : (rules : Rules) (rs : List Record) → are_too_many rules.limits rs ≡ false
+    → is_faultless rules rs ≡ (ids_differ rs && withdrawals_stand rs && lists_stand rules.half_pairs (ids_of OfProgram rs) (applicant_ids rs) rs)
 faultless_by_steps rules rs few =
     by (ids_differ rs) (withdrawals_stand rs) (list_all (ranking_stands (applicant_ids rs)) rs) (list_all (list_stands (ids_of OfProgram rs)) rs) (list_all (pairs_stand rules.half_pairs (ids_of OfProgram rs)) rs)
-    (has_too_many_names rules.limits rs) _ _ few (at_most (entry_count rs) rules.limits.entries)
+    (are_too_many rules.limits rs) few
   where
-    at_most : (n m : ℕ) → not (nat_lt m n) ≡ nat_le n m
-    at_most n m = grind (arith, nat_tests)
-
-    by : (i w r l p t e f : Bool) → t ≡ false → not e ≡ f → (i && w && r && l && p && not (t || e)) ≡ (i && w && (r && l && p && f))
-    by i w r l p t e f n m = grind arith
+    by : (i w r l p t : Bool) → t ≡ false → (i && w && r && l && p && not t) ≡ (i && w && (r && l && p))
+    by i w r l p t n = grind arith
 
 -- a record that stays or not, of which a table has nothing
 module _ (stays : Record → Bool) where
@@ -245,20 +241,8 @@ names_stay records count staying names counted stay are all =
     sym (ap length stay) ∙ length-map staying record_seen ∙ all ∙ counted ∙ sym (length-map records record_seen) in
     subst (λ (rs : List Record). AreNames rs names) (sym (stay ∙ all_kept _ (all_seen records) long)) are
 
--- the entries of records, one record on
-pub entry_count-more : (left rest : List Record) (r : Record) → left ≡ r ∷ rest → entry_count left ≡ entries_of r + entry_count rest
-entry_count-more left rest r is = ap entry_count is ∙ sum_by-cons entries_of r rest
-
 -- a fault among records, by the step that finds it
-module _ (rules : Rules) (rs : List Record) (few : has_too_many_names rules.limits rs ≡ false) where
-  pub no_room : nat_le (entry_count rs) rules.limits.entries ≡ false → is_faultless rules rs ≡ false
-  no_room h = faultless_by_steps rules rs few ∙ by (ids_differ rs && withdrawals_stand rs) (lists_stand rules.half_pairs (ids_of OfProgram rs) (applicant_ids rs) rs) _ h
-    where
-      by : (a b c : Bool) → c ≡ false → (a && (b && c)) ≡ false
-      by true true c e = e
-      by true false c e = refl
-      by false b c e = refl
-
+module _ (rules : Rules) (rs : List Record) (few : are_too_many rules.limits rs ≡ false) where
   pub not_standing : withdrawals_stand rs ≡ false → is_faultless rules rs ≡ false
   not_standing h = faultless_by_steps rules rs few ∙ by (ids_differ rs) (withdrawals_stand rs) _ h
     where
@@ -267,15 +251,15 @@ module _ (rules : Rules) (rs : List Record) (few : has_too_many_names rules.limi
       by false b c e = refl
 
   -- what remains of the records, by what their lists say
-  pub remains : nat_le (entry_count rs) rules.limits.entries ≡ true → (ids : Kinds) → AreIdsOfRecords rs ids → (w : Kinds) → Stand rs w
+  pub remains : (ids : Kinds) → AreIdsOfRecords rs ids → (w : Kinds) → Stand rs w
       → (left : List Record) → left ≡ filter (stays_after w) rs → (o : Option Entries) → GivesEntries rules.half_pairs (stays_after w) rs o → Remains rules rs left o
-  remains room ids are w stand left is None gives = faultless_by_steps rules rs few ∙ by (ids_differ rs && withdrawals_stand rs) _ _ gives
+  remains ids are w stand left is None gives = faultless_by_steps rules rs few ∙ by (ids_differ rs && withdrawals_stand rs) _ gives
     where
-      by : (a b c : Bool) → b ≡ false → (a && (b && c)) ≡ false
-      by true b c e = rw e refl
-      by false b c e = refl
-  remains room ids are w stand left is (Some e) gives = (
-    faultless_by_steps rules rs few ∙ both _ _ (both _ _ are.differ stand.stand) (both _ _ gives.0 room),
+      by : (a b : Bool) → b ≡ false → (a && b) ≡ false
+      by true b e = e
+      by false b e = refl
+  remains ids are w stand left is (Some e) gives = (
+    faultless_by_steps rules rs few ∙ both _ _ (both _ _ are.differ stand.stand) gives.0,
     is ∙ remaining_are rs w stand,
     subst (λ (zs : List Record). AreEntries zs e) (sym is) gives.1,
   )

@@ -1,12 +1,12 @@
 //! The market of rows without a fault. All records are split, all ids numbered, and each entry is looked up once. Then
 //! it is known whether any record has a fault. The passes over the records find which one, and what it is.
-ghost use Rattle.std.specs.Prelude.{◌≡◌, true, false, length, nat_le, IfOk};
+ghost use Rattle.std.specs.Prelude.{◌≡◌, true, false, length, IfOk};
 ghost use Rattle.mt_lists.specs.Rows.{rows_left};
 ghost use Rattle.mt_file_laws.specs.Faultless.{faultless_market, is_faultless};
 ghost use Rattle.mt_terms.specs.Registration.Accepted.{IsRegistration};
 ghost use Rattle.mt_terms.specs.Registration.Numbering.{registered};
-ghost use Rattle.mt_terms.specs.Registration.Rows.{entry_count};
-ghost use Rattle.mt_drafts.specs.Drafts.{drafted, has_too_many_names, with_fields, AreDrafts};
+ghost use Rattle.mt_terms.specs.Registration.Passes.{are_too_many};
+ghost use Rattle.mt_drafts.specs.Drafts.{drafted, with_fields, AreDrafts};
 ghost use Rattle.mt_drafts.specs.Names.{AreNames};
 ghost use Rattle.mt_numbering.specs.Markets.{AcceptsRegistrations, AreEntries, AreIdsOfRecords, GivesEntries, IsMarketOf, Remains};
 ghost use Rattle.mt_records.specs.Records.{all_seen};
@@ -27,20 +27,6 @@ use mt_market::{Roster, Tables};
 use mt_records::{Kinds, Record, Rules};
 use std::alloc::{AllocError, Global};
 use std::thread::Threads;
-
-/// Whether the lists of records have no more entries than these: those of each record are taken from the room.
-fn have_room(most: u32, records: &[Record<'_>]) -> bool
-    ensures { result ≡ nat_le (entry_count (all_seen records.now)) most }
-{
-    let mut room = u64::from(most);
-    for one in records {
-        let Some(left) = room.checked_sub(one.entry_count()) else {
-            return false;
-        };
-        room = left;
-    }
-    true
-}
 
 /// What the lists of records say by the numbers of those that stay where these ids are withdrawn, if all lists stand.
 fn entries_by_number<R: Threads + Sync>(
@@ -79,9 +65,7 @@ fn remaining_entries<R: Threads + Sync>(
 ) -> Result<Option<Entries>, AllocError>
     requires limits { AreBounded rules.now.limits }
     requires names { AreNames (all_seen records.old.items) names.now }
-    requires few { has_too_many_names rules.now.limits (all_seen records.old.items) ≡ false }
-    requires room { nat_le (entry_count (all_seen records.old.items))
-        rules.now.limits.entries ≡ true }
+    requires few { are_too_many rules.now.limits (all_seen records.old.items) ≡ false }
     ensures { IfOk result
         (Remains rules.now (all_seen records.old.items) (all_seen records.new.items)) }
 {
@@ -149,15 +133,16 @@ fn market_of_drafts<R: Threads + Sync>(
 ) -> Result<Option<Roster>, AllocError>
     requires limits { AreBounded rules.now.limits }
     requires drafts { AreDrafts drafts }
-    requires few { has_too_many_names rules.now.limits (drafted drafts) ≡ false }
+    requires few { are_too_many rules.now.limits (drafted drafts) ≡ false }
     requires accepted { is_faultless rules.now (drafted drafts) ≡ true
         → IsRegistration (registered (drafted drafts)) }
     ensures { IfOk result (IsMarketOf rules.now (drafted drafts.entry)) }
 {
-    let Drafts { mut records, names } = drafts;
-    if !have_room(rules.limits.entries, &records) {
-        return Ok(None);
-    }
+    let Drafts {
+        mut records,
+        names,
+        entries: _,
+    } = drafts;
     let count = records.len();
     let Some(entries) = remaining_entries(rt, alloc, rules, &names, &mut records)? else {
         return Ok(None);

@@ -32,4 +32,4 @@ returns g c =
     let stand = stand_found c.deref-2.result.now c.args.records.now.items _ w c.deref-2.ensures.value c.in_ok-withdrawn.ensures c.in-Some-2.is in
     let here = subst (λ (xs : List Checked). GivesEntries c.rules.inside.half_pairs (stays_after w) (all_seen xs) o) c.deref-3.ensures.value c.in_ok-entries.ensures in
     let gives = subst (λ (q : Rules). GivesEntries q.half_pairs (stays_after w) rs o) c.rules.view_is here in
-    remains c.args.rules.now rs c.requires.few c.requires.room c.in-Some.ids are w stand _ c.retain_staying.ensures o gives
+    remains c.args.rules.now rs c.requires.few c.in-Some.ids are w stand _ c.retain_staying.ensures o gives
