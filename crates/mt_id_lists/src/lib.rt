@@ -3,10 +3,12 @@
 
 mod chunks;
 mod met;
+mod number;
 mod numbered;
 mod reader;
 
 pub use chunks::read_lists;
 pub use met::Met;
+pub use number::Number;
 pub use numbered::{IdList, Numbered, begin_list};
 pub use reader::ListReader;

@@ -1,10 +1,11 @@
 ghost use Rattle.std.specs.Prelude.{◌≡◌, ◌<◌, ◌++◌, [], ◌∷◌, true, None, option_to_list, bytes_eq, length, position, slice_index_or, IfOk, OnOk, if◌then◌else◌};
 ghost use Rattle.mt_lists.specs.Rows.{fields_left};
 ghost use Rattle.mt_id_lists.specs.Met.{IsNoneMet};
-ghost use Rattle.mt_id_lists.specs.Numbering.{number_by};
+ghost use Rattle.mt_id_lists.specs.Numbering.{number_by, AreInPlace};
 ghost use Rattle.mt_id_lists.specs.Reading.{with_kept, ReadsIds};
 
 use crate::met::Met;
+use crate::number::Number;
 use crate::reader::ListReader;
 use mt_flat::FlatLists;
 use mt_ids::IdTable;
@@ -13,26 +14,34 @@ use std::alloc::{AllocError, Global};
 use std::marker::Model;
 
 /// Ids, and the new number of each that has one.
-pub struct Numbered<'a, T> {
+pub struct Numbered<'a, T: Number> {
     ids: IdTable<'a>,
     numbers: Vec<Option<T>>,
+    // The first ids, as many as this, have their places as numbers. So those aren't looked up in the vector, which
+    // would take room in the caches.
+    in_place: usize,
 }
 
-impl<T: Drop> Drop for Numbered<'_, T> {
+impl<T: Number> Drop for Numbered<'_, T> {
     fn drop(self) {
-        let Numbered { ids: _, numbers: _ } = self;
+        let Numbered {
+            ids: _,
+            numbers: _,
+            in_place: _,
+        } = self;
     }
 }
 
-impl<'a, T> Model for Numbered<'a, T> {
+impl<'a, T: Number> Model for Numbered<'a, T> {
     ghost use Rattle.std.specs.Prelude.{◌≡◌, length};
-    ghost use Rattle.mt_id_lists.specs.Numbering.{Numbering};
+    ghost use Rattle.mt_id_lists.specs.Numbering.{AreInPlace, Numbering};
 
     ghost Value = { Numbering T };
 
     ghost view = { λ n. record { ids = n.ids; numbers = n.numbers.items } };
 
-    ghost invariant = { λ n. length n.numbers.items ≡ length n.ids };
+    ghost invariant = { λ n. (length n.numbers.items ≡ length n.ids)
+        × AreInPlace T.at n.in_place n.numbers.items };
 }
 
 /// A list of ids to be read. The ids of a list that isn't kept are looked up, and that is all.
@@ -53,14 +62,34 @@ pub fn begin_list<T>(lists: &mut FlatLists<T>, kept: bool) -> Result<(), AllocEr
     Ok(())
 }
 
-impl<'a, T: Copy> Numbered<'a, T> {
+/// How many of the first ids have their places as new numbers.
+fn count_in_place<T: Number>(numbers: &[Option<T>]) -> usize
+    ensures { AreInPlace T.at result numbers.now }
+{
+    for place in 0..numbers.len() {
+        let Some(number) = numbers[place] else {
+            return place;
+        };
+        if !number.is_at(place) {
+            return place;
+        }
+    }
+    numbers.len()
+}
+
+impl<'a, T: Number> Numbered<'a, T> {
     /// These ids, with a number for each that has one.
     pub fn new(ids: IdTable<'a>, numbers: Vec<Option<T>>) -> Self
         requires { length numbers.items ≡ length ids }
         ensures ids { result.ids ≡ ids.entry }
         ensures numbers { result.numbers ≡ numbers.items }
     {
-        Numbered { ids, numbers }
+        let in_place = count_in_place(&numbers);
+        Numbered {
+            ids,
+            numbers,
+            in_place,
+        }
     }
 
     /// How many ids there are.
@@ -82,7 +111,11 @@ impl<'a, T: Copy> Numbered<'a, T> {
         requires { place < length self.now.ids }
         ensures { result ≡ slice_index_or self.now.numbers place None }
     {
-        self.numbers[place]
+        if place < self.in_place {
+            Some(T::at(place))
+        } else {
+            self.numbers[place]
+        }
     }
 
     /// The new number of an id, if it is one of these and has one.
@@ -99,8 +132,6 @@ impl<'a, T: Copy> Numbered<'a, T> {
         kept: bool,
         place: usize,
     ) -> Result<(), AllocError>
-    where
-        T: Drop,
         requires within { place < length self.now.ids }
         requires begun { kept ≡ true → 0 < length lists.old }
         ensures len { OnOk result (length lists.new ≡ length lists.old) }
@@ -124,8 +155,6 @@ impl<'a, T: Copy> Numbered<'a, T> {
         kept: bool,
         list: Fields<'_>,
     ) -> Result<bool, AllocError>
-    where
-        T: Drop,
         requires len { length met.old ≡ length self.now.ids }
         requires none { IsNoneMet met.old }
         requires begun { kept ≡ true → 0 < length lists.old }
@@ -146,7 +175,7 @@ impl<'a, T: Copy> Numbered<'a, T> {
     }
 }
 
-impl<'r, 'a, 'n, T: Copy + Drop + Send + Sync> ListReader<IdList<'r, 'a>, Met> for Numbered<'n, T> {
+impl<'r, 'a, 'n, T: Number + Send + Sync> ListReader<IdList<'r, 'a>, Met> for Numbered<'n, T> {
     ghost use Rattle.std.specs.Prelude.{◌≡◌, length};
     ghost use Rattle.mt_lists.specs.Rows.{fields_left};
     ghost use Rattle.mt_id_lists.specs.Reading.{list_seen, ids_stand, ids_read};
