@@ -75,6 +75,20 @@ impl<'a> Verifier<'a> {
         self.ranks.rank(program, applicant)
     }
 
+    /// Whether the program is on the applicant's live list, so it lists the applicant. It needn't be there, as couples'
+    /// members have none.
+    fn is_live(&self, program: ProgNo, applicant: AppNo) -> bool
+        requires { applicant < applicants (judged self.now).market }
+        ensures { IsTrue result → IsTrue (is_listed_at (judged self.now) program applicant) }
+    {
+        for entry in self.ranks.live(applicant) {
+            if entry.program == program {
+                return true;
+            }
+        }
+        false
+    }
+
     /// Whether the applicant is unplaced, or its program lists it.
     fn is_listed(&self, applicant: AppNo) -> bool
         requires { applicant < applicants (judged self.now).market }
@@ -82,7 +96,10 @@ impl<'a> Verifier<'a> {
     {
         match self.matched.place(applicant) {
             None => true,
-            Some(program) => self.rank(program, applicant).is_some(),
+            // A single's live list is read by the next check anyway, and is shorter than what `rank` searches.
+            Some(program) => {
+                self.is_live(program, applicant) || self.rank(program, applicant).is_some()
+            }
         }
     }
 
