@@ -68,6 +68,9 @@ found_id ids id n h = by (has_id ids id) (h ∙ position-is ids id)
     by true e = (refl, cc)
     by false e = cc
 
+pub missing : (ids : List Bytes) (id : Bytes) → has_id ids id ≡ false → position (bytes_eq id) ids ≡ None
+missing ids id h = position-is ids id ∙ rw h refl
+
 pub missing_id : (ids : List Bytes) (id : Bytes) → None ≡ position (bytes_eq id) ids → has_id ids id ≡ false
 missing_id ids id h = by (has_id ids id) (h ∙ position-is ids id)
   where

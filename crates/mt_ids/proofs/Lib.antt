@@ -1,4 +1,5 @@
 pub mod DigitFacts
 pub mod IdFacts
-pub mod KeyFacts
 pub mod SeedFacts
+pub mod SetFacts
+pub mod WordFacts

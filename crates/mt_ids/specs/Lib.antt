@@ -1,2 +1,3 @@
-pub mod Keys
 pub mod Seeds
+pub mod Sets
+pub mod Words

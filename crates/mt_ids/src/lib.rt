@@ -1,9 +1,11 @@
 //! What one field of a record says, and ids in tables: each id once, found with its number.
 #![tactic(auto)]
 
+mod id_set;
 mod id_table;
 mod ids;
 mod seed;
+mod words;
 
 pub use id_table::IdTable;
 pub use ids::{are_digits, is_dash, is_id, quota_of, value_of};

@@ -2,7 +2,7 @@ use Rattle.std.proofs.Common.{arith, ap, ap₂, sym, ◌∙◌}
 use Rattle.std.proofs.lemmas.List.{take_all}
 use Rattle.mt_ids.specs.Seeds.{seed_by, seed_of, with_field}
 use Rattle.mt_ids.proofs.SeedFacts.{digest_more}
-use Rattle.mt_ids.proofs.id_table.seed_of.Goals as goal
+use Rattle.mt_ids.proofs.id_set.seed_of.Goals as goal
 
 pub loop-number-preserved : goal.loop-number-preserved
 loop-number-preserved c =

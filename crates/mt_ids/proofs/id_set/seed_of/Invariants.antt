@@ -1,6 +1,6 @@
 use Rattle.std.proofs.Common.{◌≡◌, take}
 use Rattle.mt_ids.specs.Seeds.{digest_of}
-use Rattle.mt_ids.proofs.id_table.seed_of.Given as goal
+use Rattle.mt_ids.proofs.id_set.seed_of.Given as goal
 
 -- the digest of the names so far
 abbrev pub invariant-loop-number : goal.invariant-loop-number

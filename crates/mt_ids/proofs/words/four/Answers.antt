@@ -1,6 +1,6 @@
 use Rattle.std.proofs.Common.{◌∙◌}
-use Rattle.mt_ids.specs.Keys.{four_from}
-use Rattle.mt_ids.proofs.id_table.four.Goals as goal
+use Rattle.mt_ids.specs.Words.{four_from}
+use Rattle.mt_ids.proofs.words.four.Goals as goal
 
 pub returns-clause-value : goal.returns-clause-value
 unfolding four_from
