@@ -8,6 +8,8 @@ mod command_line;
 #[cfg(test)]
 mod expect;
 #[cfg(test)]
+mod id_tables;
+#[cfg(test)]
 mod lines;
 #[cfg(test)]
 mod reading;

@@ -21,6 +21,17 @@ length_ends size [] (e ∷ es) h = absurd h
 length_ends size (s ∷ ss) [] h = absurd h
 length_ends size (s ∷ ss) (e ∷ es) h = ap suc (length_ends size ss es h.2)
 
+-- as many elements as all parts may have fit
+more_fit : (size : ℕ) (ss es : List ℕ) → ArePartsOf size ss es → next_start ss size + sum (sizes_between ss size) ≤ size
+more_fit size [] es h = omega arith
+more_fit size (s ∷ ss) [] h = absurd h
+more_fit size (s ∷ ss) (e ∷ es) h =
+    let all : sum (sizes_between (s ∷ ss) size) ≡ next_start ss size - s + sum (sizes_between ss size) = sum_by-cons (λ n. n) (next_start ss size - s) (sizes_between ss size) in
+    omega (arith, all, more_fit size ss es h.2, h.0, h.1)
+
+pub sizes_fit : (size : ℕ) (ss es : List ℕ) → ArePartsOf size ss es → sum (sizes_between ss size) ≤ size
+sizes_fit size ss es h = omega (arith, more_fit size ss es h)
+
 pub length-parts : {X : Type 0} (ss es : List ℕ) (xs : List X) → ArePartsOf (length xs) ss es → length (parts ss es xs) ≡ length ss
 length-parts [] es xs h = refl
 length-parts (s ∷ ss) [] xs h = absurd h

@@ -7,12 +7,14 @@ use mt_terms::AppNo;
 /// all programs for it. More blocks would mean more reads.
 pub(crate) const BLOCKS: usize = 4;
 
-/// How many of all `applicants` applicants each block has, but for the last blocks.
-pub(crate) fn block_size(applicants: usize) -> usize
+/// How many of all `applicants` applicants each block has, but for the last blocks. With fewer processors than blocks,
+/// as many blocks have all of them, and the others none: so the lists aren't read more often than is of use.
+pub(crate) fn block_size(applicants: usize, processors: usize) -> usize
+    requires { 0 < processors }
     ensures enough { applicants ≤ result * BLOCKS }
     ensures few { result ≤ applicants }
 {
-    applicants.div_ceil(BLOCKS)
+    applicants.div_ceil(processors.min(BLOCKS))
 }
 
 /// The number of the block, from 0, that has an applicant, in blocks of this size.

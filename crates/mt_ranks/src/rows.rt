@@ -83,7 +83,9 @@ impl Rows {
     }
 
     /// For how many entries all rows together have room.
-    pub(crate) fn room(&self) -> usize {
+    pub(crate) fn room(&self) -> usize
+        ensures { sum self.now.sizes ≤ result }
+    {
         self.items.len()
     }
 

@@ -14,6 +14,7 @@ use crate::stamps::RankStamp;
 use crate::transpose::{listed, of_block, transpose};
 use mt_market::{FlatLists, Roster};
 use mt_terms::{Agent, AppNo, ProgNo};
+use rayon::current_num_threads;
 use rayon::prelude::*;
 use std::alloc::{AllocError, Global};
 use std::marker::Model;
@@ -175,7 +176,7 @@ impl<'m> Ranks<'m> {
     ) -> Result<Ranks<'m>, AllocError>
         ensures { IfOk result (λ ranks. ranks ≡ ranked_of roster.now.market) }
     {
-        let size = block_size(roster.applicants() as usize);
+        let size = block_size(roster.applicants() as usize, current_num_threads(rt));
         let parts = all_parts(rt, alloc, roster, size)?;
         Ok(Ranks {
             roster,

@@ -81,6 +81,9 @@ pub(crate) fn transpose(
         IfOk result (λ v. v.lists ≡ map (λ k. own_entries m (block.first + k)) (below block.size)) }
 {
     let mut rows = Rows::with_sizes(alloc, sizes)?;
+    if block.size == 0 {
+        return Ok(rows);
+    }
     for program in 0..roster.programs() {
         let program = ProgNo(program);
         add_ranking(&mut rows, block, program, roster.program_list(program));
