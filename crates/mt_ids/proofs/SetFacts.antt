@@ -1,5 +1,5 @@
 -- Sets of ids, as their words find them: what one id more changes.
-use Rattle.std.proofs.Common.{◌≡◌, ℕ, suc, ◌+◌, ◌<◌, ◌≤◌, Bool, true, false, ◌||◌, List, [], ◌∷◌, ◌++◌, length, position, Option, Some, None, is_some, refl, sym, ap, ◌∙◌, arith, map, Bor, cond, if◌then◌else◌, nat_eq}
+use Rattle.std.proofs.Common.{◌≡◌, not, ℕ, suc, ◌+◌, ◌<◌, ◌≤◌, Bool, true, false, ◌||◌, List, [], ◌∷◌, ◌++◌, length, position, Option, Some, None, is_some, refl, sym, ap, ◌∙◌, arith, map, Bor, cond, if◌then◌else◌, nat_eq}
 use Rattle.std.specs.Prelude.{bytes_eq}
 use Rattle.std.specs.List.{list_any, position_from}
 use Rattle.std.proofs.lemmas.Bool.{false_from_ne_true}
@@ -74,20 +74,20 @@ alike_at_end p q xs ys x y l e h = rw (position-end p xs x, position-end q ys y,
 unlike_at_end : {Y : Type 0} (q : Y → Bool) (ys : List Y) (y : Y) → q y ≡ false → position q ys ≡ position q (ys ++ y ∷ [])
 unlike_at_end q ys y h = rw (position-end q ys y, h) (sym (or_end-false (position q ys) (length ys)))
 
--- ids of other lengths are others
-other_length : (x y : Bytes) (n : ℕ) → length x ≤ n → n < length y → bytes_eq x y ≡ false
-other_length x y n h k = false_from_ne_true _ (λ t. let e = ap length (same_id x y t) in omega (arith, e))
+-- ids of other lengths differ
+longer_differs : (x y : Bytes) (n : ℕ) → length x ≤ n → n < length y → bytes_eq x y ≡ false
+longer_differs x y n h k = false_from_ne_true _ (λ t. let e = ap length (same_id x y t) in omega (arith, e))
 
-other_length' : (x y : Bytes) (n : ℕ) → length y ≤ n → n < length x → bytes_eq x y ≡ false
-other_length' x y n h k = false_from_ne_true _ (λ t. let e = ap length (same_id x y t) in omega (arith, e))
+shorter_differs : (x y : Bytes) (n : ℕ) → length y ≤ n → n < length x → bytes_eq x y ≡ false
+shorter_differs x y n h k = false_from_ne_true _ (λ t. let e = ap length (same_id x y t) in omega (arith, e))
 
 module _ (ids : List Bytes) (words : List ℕ) (by_pair : ℕ × ℕ → Option ℕ) (by_bytes : Bytes → Option ℕ) (finds : FindsIds ids words by_pair by_bytes)
     (x : Bytes) where
-  -- a short id is one of these where its word is
-  pub has_word : (word : ℕ) → IsWordOf x word → length x ≤ 7 → list_any (nat_eq word) words ≡ has_id ids x
-  has_word word is m =
-      ap (λ w. list_any (nat_eq w) words) is.0 ∙ sym (is_some-position (nat_eq (word_of x)) words) ∙ ap is_some (finds.short x is.1 m)
-      ∙ is_some-position (bytes_eq x) ids
+  -- a short id is new where its word is
+  pub new_word : (word : ℕ) (is_new : Bool) → IsWordOf x word → length x ≤ 7 → is_new ≡ not (list_any (nat_eq word) words) → is_new ≡ not (has_id ids x)
+  new_word word is_new is m said =
+      said ∙ ap not (ap (λ w. list_any (nat_eq w) words) is.0 ∙ sym (is_some-position (nat_eq (word_of x)) words) ∙ ap is_some (finds.short x is.1 m)
+      ∙ is_some-position (bytes_eq x) ids)
 
   -- a place is inserted after the words
   pub with_place : (words' words'' : List ℕ) (word place : ℕ) → words' ≡ words → word ≡ place_word place → place ≡ length ids
@@ -100,23 +100,23 @@ module _ (ids : List Bytes) (words : List ℕ) (by_pair : ℕ × ℕ → Option 
   end : {X : Type 0} (xs : List X) (y : X) → length (xs ++ y ∷ []) ≡ length xs + 1
   end xs y = length-append xs (y ∷ [])
 
-  as_many' : (word : ℕ) → length (words ++ word ∷ []) ≡ length (ids ++ x ∷ [])
-  as_many' word = end words word ∙ ap (λ n. n + 1) finds.as_many ∙ sym (end ids x)
+  one_more : (word : ℕ) → length (words ++ word ∷ []) ≡ length (ids ++ x ∷ [])
+  one_more word = end words word ∙ ap (λ n. n + 1) finds.as_many ∙ sym (end ids x)
 
-  unused' : (word : ℕ) → ((place : ℕ) → length ids < place → nat_eq (place_word place) word ≡ false)
+  none_later : (word : ℕ) → ((place : ℕ) → length ids < place → nat_eq (place_word place) word ≡ false)
       → (place : ℕ) → length (ids ++ x ∷ []) ≤ place → list_any (nat_eq (place_word place)) (words ++ word ∷ []) ≡ false
-  unused' word differs place k =
+  none_later word differs place k =
       let more : length ids < place = omega (arith, k, end ids x) in
       list_any-append (nat_eq (place_word place)) words (word ∷ []) ∙ rw (finds.unused place (omega arith), differs place more) refl
 
   -- a short id is added by its word
   pub with_short : AreBytes x → length x ≤ 7 → FindsIds (ids ++ x ∷ []) (words ++ word_of x ∷ []) by_pair by_bytes
   with_short bx h = record {
-    as_many = as_many' (word_of x);
-    unused = unused' (word_of x) (λ place k. no_word place x bx h);
+    as_many = one_more (word_of x);
+    unused = none_later (word_of x) (λ place k. no_word place x bx h);
     short = λ id b m. alike_at_end (nat_eq (word_of id)) (bytes_eq id) words ids (word_of x) x finds.as_many (finds.short id b m) (word_tells id x b bx m);
-    middle = λ id b m m'. finds.middle id b m m' ∙ unlike_at_end (bytes_eq id) ids x (other_length' id x 7 h m);
-    long = λ id m. finds.long id m ∙ unlike_at_end (bytes_eq id) ids x (other_length' id x 7 h (omega arith));
+    middle = λ id b m m'. finds.middle id b m m' ∙ unlike_at_end (bytes_eq id) ids x (shorter_differs id x 7 h m);
+    long = λ id m. finds.long id m ∙ unlike_at_end (bytes_eq id) ids x (shorter_differs id x 7 h (omega arith));
   }
 
   -- the map of a longer id has it at the next place
@@ -128,21 +128,21 @@ module _ (ids : List Bytes) (words : List ℕ) (by_pair : ℕ × ℕ → Option 
       by true e = rw (same, e, ap (λ id. position (bytes_eq id) ids) (same_id id x e) ∙ missing ids x new) refl
       by false e = rw (same, e, was) (sym (or_end-false (position (bytes_eq id) ids) (length ids)))
 
-  short' : 7 < length x → (id : Bytes) → AreBytes id → length id ≤ 7 → position (nat_eq (word_of id)) (words ++ place_word (length ids) ∷ []) ≡ position (bytes_eq id) (ids ++ x ∷ [])
-  short' h id b m =
+  found_still : 7 < length x → (id : Bytes) → AreBytes id → length id ≤ 7 → position (nat_eq (word_of id)) (words ++ place_word (length ids) ∷ []) ≡ position (bytes_eq id) (ids ++ x ∷ [])
+  found_still h id b m =
       alike_at_end (nat_eq (word_of id)) (bytes_eq id) words ids (place_word (length ids)) x finds.as_many (finds.short id b m)
-      (no_place (length ids) id b m ∙ sym (other_length id x 7 m h))
+      (no_place (length ids) id b m ∙ sym (longer_differs id x 7 m h))
 
   -- an id of eight to fifteen bytes is added by its pair and its place
   pub with_middle : AreBytes x → 7 < length x → length x ≤ 15 → has_id ids x ≡ false → (by_pair' : ℕ × ℕ → Option ℕ) (by_bytes' : Bytes → Option ℕ)
       → ((pair : ℕ × ℕ) → by_pair' pair ≡ cond (pair_eq (pair_of x) pair) (Some (length ids)) (by_pair pair)) → ((id : Bytes) → by_bytes' id ≡ by_bytes id)
       → FindsIds (ids ++ x ∷ []) (words ++ place_word (length ids) ∷ []) by_pair' by_bytes'
   with_middle bx h k new by_pair' by_bytes' is same = record {
-    as_many = as_many' (place_word (length ids));
-    unused = unused' (place_word (length ids)) (λ place more. other_place place (length ids) more);
-    short = short' h;
+    as_many = one_more (place_word (length ids));
+    unused = none_later (place_word (length ids)) (λ place more. other_place place (length ids) more);
+    short = found_still h;
     middle = λ id b m m'. updated (by_pair (pair_of id)) (by_pair' (pair_of id)) (pair_eq (pair_of x) (pair_of id)) id new (pair_tells x id bx b h k ∙ bytes_eq_sym x id) (is (pair_of id)) (finds.middle id b m m');
-    long = λ id m. same id ∙ finds.long id m ∙ unlike_at_end (bytes_eq id) ids x (other_length' id x 15 k m);
+    long = λ id m. same id ∙ finds.long id m ∙ unlike_at_end (bytes_eq id) ids x (shorter_differs id x 15 k m);
   }
 
   -- a longer one is added by its bytes and its place
@@ -150,9 +150,9 @@ module _ (ids : List Bytes) (words : List ℕ) (by_pair : ℕ × ℕ → Option 
       → ((pair : ℕ × ℕ) → by_pair' pair ≡ by_pair pair) → ((id : Bytes) → by_bytes' id ≡ cond (bytes_eq x id) (Some (length ids)) (by_bytes id))
       → FindsIds (ids ++ x ∷ []) (words ++ place_word (length ids) ∷ []) by_pair' by_bytes'
   with_long h new by_pair' by_bytes' same is = record {
-    as_many = as_many' (place_word (length ids));
-    unused = unused' (place_word (length ids)) (λ place more. other_place place (length ids) more);
-    short = short' (omega arith);
-    middle = λ id b m m'. same (pair_of id) ∙ finds.middle id b m m' ∙ unlike_at_end (bytes_eq id) ids x (other_length id x 15 m' h);
+    as_many = one_more (place_word (length ids));
+    unused = none_later (place_word (length ids)) (λ place more. other_place place (length ids) more);
+    short = found_still (omega arith);
+    middle = λ id b m m'. same (pair_of id) ∙ finds.middle id b m m' ∙ unlike_at_end (bytes_eq id) ids x (longer_differs id x 15 m' h);
     long = λ id m. updated (by_bytes id) (by_bytes' id) (bytes_eq x id) id new (bytes_eq_sym x id) (is id) (finds.long id m);
   }

@@ -120,8 +120,8 @@ impl<'a> IdSet<'a> {
         ensures err { OnErr result (self.new.ids ≡ self.old.ids) }
         ensures seed { self.new.seed ≡ self.old.seed }
     {
-        self.ids.reserve(1)?;
         if id.len() <= MOST_IN_WORD {
+            self.ids.reserve(1)?;
             let is_new = self.words.insert(word_of(id))?;
             if is_new {
                 self.ids.push_reserved(id);

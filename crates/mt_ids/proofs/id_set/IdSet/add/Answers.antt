@@ -5,7 +5,7 @@ use Rattle.std.specs.Prelude.{bytes_eq}
 use Rattle.mt_terms.specs.Registration.Ids.{Bytes, has_id}
 use Rattle.mt_ids.specs.Sets.{SeededIds, FindsIds, with_id}
 use Rattle.mt_ids.specs.Words.{pair_eq}
-use Rattle.mt_ids.proofs.SetFacts.{ids_of, ids_with, has_word, with_short, at_the_end, with_new, with_old}
+use Rattle.mt_ids.proofs.SetFacts.{ids_of, ids_with, new_word, with_short, at_the_end, with_new, with_old}
 use Rattle.mt_ids.proofs.id_set.IdSet.add.Goals as goal
 
 pub invariant_of-self-then-is_new : goal.invariant_of-self-then-is_new
@@ -23,27 +23,23 @@ invariant_of-self-then-is_new c =
 
 pub returns-then-is_new-clause-added : goal.returns-then-is_new-clause-added
 returns-then-is_new-clause-added c =
-    c.in_ok-is_new.ensures.added
-    ∙ ap not (has_word _ c.self.inside.words.keys _ _ c.self.invariant c.args.id.now _ c.word_of.ensures c.if-id-le-MOST_IN_WORD.true)
+    new_word _ c.self.inside.words.keys _ _ c.self.invariant c.args.id.now _ _ c.word_of.ensures c.if-id-le-MOST_IN_WORD.true c.in_ok-is_new.ensures.added
     ∙ ap (λ (s : SeededIds). not (has_id s.ids c.args.id.now)) c.self.view_is
 
 pub returns-then-is_new-clause-ids : goal.returns-then-is_new-clause-ids
 returns-then-is_new-clause-ids c =
     let id = c.args.id in
     let added = ids_with c.self.inside.ids.items _ _ id c.in_ok-reserve.ensures.items c.push_reserved.ensures.items in
-    let new = not-true _ (sym (c.in_ok-is_new.ensures.added
-    ∙ ap not (has_word _ c.self.inside.words.keys _ _ c.self.invariant c.args.id.now _ c.word_of.ensures c.if-id-le-MOST_IN_WORD.true)) ∙ c.if-is_new.true) in
-    added ∙ with_new _ id.now new ∙ ap (λ (s : SeededIds). with_id s.ids id.now) c.self.view_is
+    let is = new_word _ c.self.inside.words.keys _ _ c.self.invariant id.now _ _ c.word_of.ensures c.if-id-le-MOST_IN_WORD.true c.in_ok-is_new.ensures.added in
+    added ∙ with_new _ id.now (not-true _ (sym is ∙ c.if-is_new.true)) ∙ ap (λ (s : SeededIds). with_id s.ids id.now) c.self.view_is
 
 pub returns-else-is_new-clause-added : goal.returns-else-is_new-clause-added
 returns-else-is_new-clause-added c =
-    c.in_ok-is_new.ensures.added
-    ∙ ap not (has_word _ c.self.inside.words.keys _ _ c.self.invariant c.args.id.now _ c.word_of.ensures c.if-id-le-MOST_IN_WORD.true)
+    new_word _ c.self.inside.words.keys _ _ c.self.invariant c.args.id.now _ _ c.word_of.ensures c.if-id-le-MOST_IN_WORD.true c.in_ok-is_new.ensures.added
     ∙ ap (λ (s : SeededIds). not (has_id s.ids c.args.id.now)) c.self.view_is
 
 pub returns-else-is_new-clause-ids : goal.returns-else-is_new-clause-ids
 returns-else-is_new-clause-ids c =
-    let id = c.args.id in
-    let old = not-false _ (sym (c.in_ok-is_new.ensures.added
-    ∙ ap not (has_word _ c.self.inside.words.keys _ _ c.self.invariant c.args.id.now _ c.word_of.ensures c.if-id-le-MOST_IN_WORD.true)) ∙ c.if-is_new.false) in
-    ap ids_of c.in_ok-reserve.ensures.items ∙ with_old _ id.now old ∙ ap (λ (s : SeededIds). with_id s.ids id.now) c.self.view_is
+    let id = c.args.id.now in
+    let is = new_word _ c.self.inside.words.keys _ _ c.self.invariant id _ _ c.word_of.ensures c.if-id-le-MOST_IN_WORD.true c.in_ok-is_new.ensures.added in
+    ap ids_of c.in_ok-reserve.ensures.items ∙ with_old _ id (not-false _ (sym is ∙ c.if-is_new.false)) ∙ ap (λ (s : SeededIds). with_id s.ids id) c.self.view_is
