@@ -16,6 +16,7 @@ four 1000000 --singles 100000 --programs 20000 --couples 0 --list 20 --kept 1 --
 eight 1000000 --singles 100000 --programs 20000 --couples 0 --list 40 --kept 1
 nrmp 1000000 --singles 42600 --programs 6400 --couples 1200 --list 12 --pairs 80 --quota 8
 nrmp_tight 200000 --singles 42600 --programs 6400 --couples 1200 --list 12 --pairs 80 --quota 7
+nrmp_ids 1000000 --singles 42600 --programs 6400 --couples 1200 --list 12 --pairs 80 --quota 8 --digits 8
 steep1 1 --shape steep --singles 100000 --list 5 --quota 1 --version 1
 steep2 1 --shape steep --singles 100000 --list 10 --quota 1 --version 1
 steep4 1 --shape steep --singles 100000 --list 20 --quota 1 --version 1

@@ -16,16 +16,18 @@ Shapes:
            programs without a post as --list.
 
 With --withdraw every program is withdrawn. With --names the ids are the lines of a file, as tests/collide.c makes.
+With --digits the number of an id has at least so many digits, as ids of services often do: `a00000007`. A cycle has
+ids of its own.
 """
 import argparse
 import random
 import sys
 
 
-def namer(path):
+def namer(path, digits):
     """How an agent is called: by its kind and number, or by the lines of a file in turn."""
     if not path:
-        return lambda kind, number: f"{kind}{number}"
+        return lambda kind, number: f"{kind}{number:0{digits}}"
     with open(path, encoding="ascii") as file:
         ids = file.read().split()
     return lambda kind, number: ids[number]
@@ -94,6 +96,7 @@ def arguments():
     parser.add_argument("--version", type=int, default=2, choices=(1, 2))
     parser.add_argument("--withdraw", action="store_true", help="withdraw every program")
     parser.add_argument("--names", help="a file of ids, one a line, for a market without couples")
+    parser.add_argument("--digits", type=int, default=1, help="of an id, at least")
     parser.add_argument("--seed", type=int, default=1)
     args = parser.parse_args()
     most = args.programs**2
@@ -105,7 +108,7 @@ def arguments():
 def main():
     args = arguments()
     rng = random.Random(args.seed)
-    name = namer(args.names)
+    name = namer(args.names, args.digits)
     if args.shape == "random":
         lines, programs = random_lists(args, rng, name)
     elif args.shape == "steep":

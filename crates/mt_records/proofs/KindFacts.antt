@@ -20,3 +20,9 @@ pub adds_couple : (old new : Kinds) (id : Bytes) → new.programs ≡ old.progra
 adds_couple old new id a b c OfProgram = a ∙ sym (append-nil old.programs)
 adds_couple old new id a b c OfApplicant = b ∙ sym (append-nil old.applicants)
 adds_couple old new id a b c OfCouple = c
+
+-- no id of any kind
+pub none_of_kinds : (w : Kinds) → w.programs ≡ [] → w.applicants ≡ [] → w.couples ≡ [] → (kind : Kind) → ids_in w kind ≡ []
+none_of_kinds w p a c OfProgram = p
+none_of_kinds w p a c OfApplicant = a
+none_of_kinds w p a c OfCouple = c

@@ -1,8 +1,9 @@
-use Rattle.std.proofs.Common.{◌≡◌, ◌+◌, ◌∷◌, ◌++◌, List, ap, sym, subst, ◌∙◌, arith, take, drop, get_or}
+use Rattle.std.proofs.Common.{◌≡◌, ◌+◌, ◌∷◌, ◌++◌, List, ap, sym, subst, ◌∙◌, arith, refl, take, drop, get_or}
 use Rattle.std.proofs.lemmas.List.{take_all}
 use Rattle.mt_terms.specs.Registration.Ids.{has_id}
 use Rattle.mt_terms.specs.Registration.Records.{Record, WithdrawRecord}
 use Rattle.mt_records.specs.declared.record.Record.{Record as Checked}
+use Rattle.mt_records.proofs.KindFacts.{none_of_kinds}
 use Rattle.mt_records.specs.Records.{all_seen, record_seen, kind_seen}
 use Rattle.mt_drafts.proofs.WithdrawalFacts.{AreWithdrawn, seen_more, seen_split, is_withdrawal, no_withdrawal, still_withdrawn, one_withdrawn, unregistered, withdrawn_twice, all_withdrawn, was_true, was_false}
 use Rattle.mt_drafts.proofs.withdrawals.withdrawn.Goals.{then-not-is_registered-via-then-not-is_registered, then-not-is_registered-via-else-not-is_registered+in_ok-add+then-not-branch, in-Withdraw+else-not-is_registered+in_ok-add+else-not-branch, in_default}
@@ -21,6 +22,11 @@ returns-then-not-is_registered c =
       | then-not-is_registered-via-else-not-is_registered+in_ok-add+then-not-branch w ↦
           withdrawn_twice _ _ _ kind id all (ap (λ ids. has_id ids id) (sym (c.loop-one.invariant.ids kind)) ∙ was_true _ (sym w.in_ok-add.ensures.added ∙ w.if-not-branch.true))
     ]
+
+pub loop-one-init : goal.loop-one-init
+loop-one-init c =
+    let none = c.new-withdrawn.ensures in
+    record { stand = λ kind. refl; ids = none_of_kinds c.new-withdrawn.result none.programs none.applicants none.couples }
 
 pub loop-one-preserved : goal.loop-one-preserved
 loop-one-preserved c =
