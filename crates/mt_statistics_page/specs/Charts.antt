@@ -1,5 +1,5 @@
 -- The charts of a page, over their counts. This project's own format.
-use Rattle.std.specs.Prelude.{ℕ, ◌==◌, nat_lt, List, [], ◌∷◌, ◌++◌, length, max, take, codes, if◌then◌else◌}
+use Rattle.std.specs.Prelude.{ℕ, ◌==◌, nat_lt, List, [], ◌++◌, length, max, take, codes, if◌then◌else◌}
 use Rattle.mt_terms.specs.Registration.Ids.{Bytes}
 use Rattle.mt_statistics_page.specs.Pieces.{bar_row, largest, numbered_rows}
 use Rattle.mt_statistics_page.specs.declared.markup.TheConstants.{CHOICES, COUPLES, FIRST, LATER, NO_PAIRS, PAIRS, PROGRAMS, TABLE_END}
@@ -38,18 +38,20 @@ pair_chart counts later = if length counts == 0 then NO_PAIRS.now else pair_tabl
 abbrev pub three_largest : ℕ → ℕ → ℕ → ℕ
 three_largest first second third = max (max first second) third
 
--- the chart of couples: how many have both members placed, one, and neither
-abbrev pub couple_rows : ℕ → ℕ → ℕ → ℕ → Bytes
-couple_rows both one neither most =
-    bar_row (codes "both") both most ++ bar_row (codes "one") one most ++ bar_row (codes "neither") neither most
+-- three rows: a label each, and how many there are of it
+abbrev pub three_rows : Bytes → Bytes → Bytes → ℕ → ℕ → ℕ → ℕ → Bytes
+three_rows label₁ label₂ label₃ count₁ count₂ count₃ most =
+    bar_row label₁ count₁ most ++ bar_row label₂ count₂ most ++ bar_row label₃ count₃ most
 
+-- a chart with a heading and three rows
+abbrev pub three_chart : Bytes → Bytes → Bytes → Bytes → ℕ → ℕ → ℕ → Bytes
+three_chart heading label₁ label₂ label₃ count₁ count₂ count₃ =
+    heading ++ three_rows label₁ label₂ label₃ count₁ count₂ count₃ (three_largest count₁ count₂ count₃) ++ TABLE_END.now
+
+-- the chart of couples: how many have both members placed, one, and neither
 abbrev pub couple_chart : ℕ → ℕ → ℕ → Bytes
-couple_chart both one neither = COUPLES.now ++ couple_rows both one neither (three_largest both one neither) ++ TABLE_END.now
+couple_chart both one neither = three_chart COUPLES.now (codes "both") (codes "one") (codes "neither") both one neither
 
 -- the chart of programs: how many are full, partly filled, and empty
-abbrev pub program_rows : ℕ → ℕ → ℕ → ℕ → Bytes
-program_rows full partly empty most =
-    bar_row (codes "full") full most ++ bar_row (codes "partly") partly most ++ bar_row (codes "empty") empty most
-
 abbrev pub program_chart : ℕ → ℕ → ℕ → Bytes
-program_chart full partly empty = PROGRAMS.now ++ program_rows full partly empty (three_largest full partly empty) ++ TABLE_END.now
+program_chart full partly empty = three_chart PROGRAMS.now (codes "full") (codes "partly") (codes "empty") full partly empty

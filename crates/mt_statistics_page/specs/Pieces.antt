@@ -1,5 +1,5 @@
 -- The pieces of a page: cells, bars and rows. This project's own format.
-use Rattle.std.specs.Prelude.{ℕ, ◌+◌, ◌*◌, ◌/◌, List, [], ◌∷◌, ◌++◌, length, max, Option, Some, None, slice_index_or, codes, decimal}
+use Rattle.std.specs.Prelude.{ℕ, ◌+◌, ◌*◌, ◌/◌, List, ◌++◌, length, max, Option, Some, None, slice_index_or, codes, decimal}
 use Rattle.std.specs.List.{flat_map}
 use Rattle.mt_terms.specs.Lists.{below}
 use Rattle.mt_terms.specs.Registration.Ids.{Bytes}

@@ -1,8 +1,8 @@
 ghost use Rattle.std.specs.Prelude.{◌≡◌, ◌++◌, length, take, OnOk};
-ghost use Rattle.mt_statistics_page.specs.Charts.{choice_chart, choice_most, choice_rows, couple_chart, couple_rows, largest_shown, later_row, number_rows, pair_chart, pair_table, program_chart, program_rows, three_largest};
+ghost use Rattle.mt_statistics_page.specs.Charts.{choice_chart, choice_most, choice_rows, largest_shown, later_row, number_rows, pair_chart, pair_table, three_chart, three_largest, three_rows};
 ghost use Rattle.mt_statistics_page.specs.declared.markup.TheConstants.{FIRST};
 
-use crate::markup::{CHOICES, COUPLES, FIRST, LATER, NO_PAIRS, PAIRS, PROGRAMS, TABLE_END};
+use crate::markup::{CHOICES, FIRST, LATER, NO_PAIRS, PAIRS, TABLE_END};
 use crate::pieces::{largest, push_bar_row, push_numbered_rows, push_text};
 use std::alloc::AllocError;
 
@@ -117,66 +117,47 @@ fn three_largest(first: u32, second: u32, third: u32) -> u32
     first.max(second).max(third)
 }
 
-/// Adds the rows of the chart of couples.
-fn push_couple_rows(
+/// The counts of a chart with three rows.
+#[derive(Clone, Copy)]
+pub(crate) struct ThreeCounts {
+    pub first: u32,
+    pub second: u32,
+    pub third: u32,
+}
+
+/// Adds three rows: a label each, and how many there are of it.
+fn push_three_rows(
     text: &mut Vec<u8>,
-    both: u32,
-    one: u32,
-    neither: u32,
+    first: &[u8],
+    second: &[u8],
+    third: &[u8],
+    counts: ThreeCounts,
     most: u32,
 ) -> Result<(), AllocError>
-    ensures ok { OnOk result (text.new.items ≡ text.old.items ++ couple_rows both one neither most) }
+    ensures ok { OnOk result (text.new.items ≡ text.old.items ++ three_rows
+        first.now second.now third.now counts.first counts.second counts.third most) }
 {
-    push_bar_row(text, b"both", both, most)?;
-    push_bar_row(text, b"one", one, most)?;
-    push_bar_row(text, b"neither", neither, most)?;
+    push_bar_row(text, first, counts.first, most)?;
+    push_bar_row(text, second, counts.second, most)?;
+    push_bar_row(text, third, counts.third, most)?;
     Ok(())
 }
 
-/// Adds the chart of couples: how many have both members placed, one, and neither.
-pub(crate) fn push_couple_chart(
+/// Adds a chart with a heading and three rows: a label each, and how many there are of it.
+pub(crate) fn push_three_chart(
     text: &mut Vec<u8>,
-    both: u32,
-    one: u32,
-    neither: u32,
+    heading: &str,
+    first: &[u8],
+    second: &[u8],
+    third: &[u8],
+    counts: ThreeCounts,
 ) -> Result<(), AllocError>
-    ensures ok { OnOk result (text.new.items ≡ text.old.items ++ couple_chart both one neither) }
+    ensures ok { OnOk result (text.new.items ≡ text.old.items ++ three_chart
+        heading.now first.now second.now third.now counts.first counts.second counts.third) }
 {
-    let most = three_largest(both, one, neither);
-    push_text(text, COUPLES)?;
-    push_couple_rows(text, both, one, neither, most)?;
-    push_text(text, TABLE_END)?;
-    Ok(())
-}
-
-/// Adds the rows of the chart of programs.
-fn push_program_rows(
-    text: &mut Vec<u8>,
-    full: u32,
-    partly: u32,
-    empty: u32,
-    most: u32,
-) -> Result<(), AllocError>
-    ensures ok { OnOk result (text.new.items ≡ text.old.items ++ program_rows full partly empty most) }
-{
-    push_bar_row(text, b"full", full, most)?;
-    push_bar_row(text, b"partly", partly, most)?;
-    push_bar_row(text, b"empty", empty, most)?;
-    Ok(())
-}
-
-/// Adds the chart of programs: how many are full, partly filled, and empty.
-pub(crate) fn push_program_chart(
-    text: &mut Vec<u8>,
-    full: u32,
-    partly: u32,
-    empty: u32,
-) -> Result<(), AllocError>
-    ensures ok { OnOk result (text.new.items ≡ text.old.items ++ program_chart full partly empty) }
-{
-    let most = three_largest(full, partly, empty);
-    push_text(text, PROGRAMS)?;
-    push_program_rows(text, full, partly, empty, most)?;
+    let most = three_largest(counts.first, counts.second, counts.third);
+    push_text(text, heading)?;
+    push_three_rows(text, first, second, third, counts, most)?;
     push_text(text, TABLE_END)?;
     Ok(())
 }

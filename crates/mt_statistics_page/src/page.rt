@@ -1,8 +1,10 @@
 ghost use Rattle.std.specs.Prelude.{◌≡◌, ◌<◌, ◌++◌, length, IfOk, OnOk};
 ghost use Rattle.mt_statistics_page.specs.Page.{charts, choices, couple_charts, couples, first_totals, last_totals, members, open_programs, open_row, open_rows, open_table, pairs, program_row, programs, report_page, totals};
 
-use crate::charts::{push_choice_chart, push_couple_chart, push_pair_chart, push_program_chart};
-use crate::markup::{FIRST, FOOT, HEAD, NO_COUPLES, NO_OPEN_POSTS, OPEN_POSTS, TABLE_END, TOTALS};
+use crate::charts::{ThreeCounts, push_choice_chart, push_pair_chart, push_three_chart};
+use crate::markup::{
+    COUPLES, FIRST, FOOT, HEAD, NO_COUPLES, NO_OPEN_POSTS, OPEN_POSTS, PROGRAMS, TABLE_END, TOTALS,
+};
 use crate::pieces::{push_standing, push_text, push_total};
 use mt_statistics::Statistics;
 use mt_terms::ProgNo;
@@ -68,7 +70,12 @@ fn push_members(text: &mut Vec<u8>, statistics: &Statistics<'_>) -> Result<(), A
     let both = statistics.couples_with(2);
     let one = statistics.couples_with(1);
     let neither = statistics.couples_with(0);
-    push_couple_chart(text, both, one, neither)
+    let counts = ThreeCounts {
+        first: both,
+        second: one,
+        third: neither,
+    };
+    push_three_chart(text, COUPLES, b"both", b"one", b"neither", counts)
 }
 
 /// Adds the chart of the pairs.
@@ -120,8 +127,13 @@ fn push_programs(text: &mut Vec<u8>, statistics: &Statistics<'_>) -> Result<(), 
     ensures ok { OnOk result (text.new.items ≡ text.old.items
         ++ programs statistics.now.registered.market statistics.now.places) }
 {
-    let counts = statistics.program_counts();
-    push_program_chart(text, counts.full, counts.partly_filled, counts.empty)
+    let programs = statistics.program_counts();
+    let counts = ThreeCounts {
+        first: programs.full,
+        second: programs.partly_filled,
+        third: programs.empty,
+    };
+    push_three_chart(text, PROGRAMS, b"full", b"partly", b"empty", counts)
 }
 
 /// Adds the row of a program.

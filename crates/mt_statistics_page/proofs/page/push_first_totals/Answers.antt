@@ -1,4 +1,4 @@
-use Rattle.std.proofs.Common.{ap, ◌∙◌, length}
+use Rattle.std.proofs.Common.{ap, ◌∙◌}
 use Rattle.std.specs.Prelude.{codes}
 use Rattle.mt_terms.specs.Market.{Registered, applicants}
 use Rattle.mt_statistics_page.specs.Pieces.{total_row}
