@@ -1,13 +1,25 @@
-use Rattle.std.proofs.Common.{◌∙◌, ◌+◌, ap, sym, [], ◌++◌}
+use Rattle.std.proofs.Common.{◌∙◌, ◌+◌, ap, ap₂, sym, [], ◌++◌}
 use Rattle.mt_lists.specs.Rows.{rows_left}
 use Rattle.mt_terms.specs.Registration.Passes.{numbered_from}
 use Rattle.mt_fault_terms.specs.OfFile.{all_parts}
 use Rattle.mt_fault_terms.specs.Parts.{all_own_ids, all_applicants}
+use Rattle.mt_records.proofs.KindFacts.{none_of_kinds}
 use Rattle.mt_records.specs.Kinds.{ids_in}
 use Rattle.mt_faults.specs.Registered.{added, row_parts}
 use Rattle.mt_faults.proofs.SearchFacts.{numbered_parts}
 use Rattle.mt_faults.proofs.StandingFacts.{adds_own, adds_applicants, renumbered}
 use Rattle.mt_faults.proofs.registry.Registry.of.Goals as goal
+
+pub loop-row-init : goal.loop-row-init
+loop-row-init c =
+    let limits = c.args.rules.now in
+    let none = c.new-registry.ensures in
+    let same = c.into_iter-row-iterator.ensures.into_iter_gives in
+    record {
+      registered = λ kind. ap₂ (λ ids rows. added ids (all_own_ids limits kind (all_parts limits (numbered_from 1 (rows_left rows)))))
+          (none_of_kinds c.new-registry.result.registered none.programs none.singles none.couples kind) same;
+      applicants = ap₂ (λ ids rows. added ids (all_applicants limits (all_parts limits (numbered_from 1 (rows_left rows))))) none.applicants same;
+    }
 
 pub loop-row-preserved : goal.loop-row-preserved
 loop-row-preserved c =
