@@ -24,10 +24,9 @@ use Rattle.mt_order_laws.proofs.StableFacts.{best_in_any_order_lem, stable_in_an
 use Rattle.mt_orders.specs.Fewest.{aside_in_order, fewest_order, others_in_order}
 use Rattle.mt_orders.proofs.FewestFacts.{aside_in_order_are_couples, fewest_in_words_lem, stable_in_order}
 use Rattle.mt_answer.specs.Answer.{IsAnswerOfStage, all_proposals}
-use Rattle.mt_answer.specs.Ways.{IsAnswerAside, IsAnswerInWays, IsAnswerOfNone, IsAnswerOfOrder}
+use Rattle.mt_answer.specs.Ways.{IsAnswerAside, IsAnswerOfNone, IsAnswerOfOrder}
 use Rattle.mt_answer.specs.WayLaws.{AsideAreCouples, AsideInWords, IsStableAside, IsStableIn, PublishedInWaysIsStable}
 use Rattle.mt_answer.proofs.WayFacts.{no_order_in_words_lem, other_code}
-use Rattle.mt_answer.specs.declared.ways.Ways.{Ways}
 
 pub aside_are_couples_lem : AsideAreCouples
 aside_are_couples_lem m best budget number = aside_in_order_are_couples m best budget number

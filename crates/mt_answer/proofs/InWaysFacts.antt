@@ -8,7 +8,6 @@ use Rattle.mt_terms.specs.Text.{name_of, published, refused}
 use Rattle.mt_couples.specs.Ended.{IsSpent}
 use Rattle.mt_couples.specs.declared.rounds.Spent.{Spent}
 use Rattle.mt_order_laws.specs.Orders.{first_order, in_order}
-use Rattle.mt_order_laws.specs.Reordered.{set_aside}
 use Rattle.mt_order_laws.proofs.EndFacts.{entering_in_words_lem}
 use Rattle.mt_orders.specs.Tried.{EndsFirst}
 use Rattle.mt_orders.specs.Fewest.{aside_in_order, fewest_order, IsAsideInOrder}

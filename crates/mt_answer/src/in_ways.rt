@@ -5,7 +5,6 @@ ghost use Rattle.mt_terms.specs.Stability.{stable};
 ghost use Rattle.mt_terms.specs.Text.{name_of, refused};
 ghost use Rattle.mt_terms.specs.declared.codes.TheConstants.{BUDGET_SPENT};
 ghost use Rattle.mt_report.specs.declared.ended.TheConstants.{SET_ASIDE};
-ghost use Rattle.mt_ranks.specs.Ranked.{ranked_of};
 ghost use Rattle.mt_order_laws.specs.Reordered.{set_aside};
 ghost use Rattle.mt_answer.specs.Answer.{all_proposals};
 ghost use Rattle.mt_answer.specs.Ways.{IfUnanswered, IsAnswerInWays, IsAnswerOfNone, IsEntering};
@@ -89,47 +88,6 @@ fn answer_aside<T: Threads + Sync>(
     })
 }
 
-/// The answer by the market's rank tables, once the singles are matched.
-fn answer_by_ranks<T: Threads + Wait + Sync>(
-    rt: &T,
-    alloc: Global,
-    roster: &Roster,
-    ranks: &Ranks,
-    options: Options,
-    ways: Ways,
-) -> Result<Answer, Unanswered>
-    requires ranks { ranks.now ≡ ranked_of roster.now.market }
-    requires workers { (1 ≤ options.workers) × (options.workers ≤ 64) }
-    requires orders { (1 ≤ ways.orders) × (ways.orders ≤ 1000) }
-    ensures text { IfOk result (λ a.
-        IsAnswerInWays roster.now options.budget ways a.code a.text.items) }
-    ensures published { IfOk result (λ a. (a.code ≡ 0) ⊎ (a.code ≡ SET_ASIDE)) }
-    ensures spent { IfErr result (λ e. IfUnanswered e (λ _. IsAnswerInWays roster.now options.budget ways
-        BUDGET_SPENT (refused BUDGET_SPENT 0 []))) }
-    ensures entering { IfErr result (λ e. IfUnanswered e (IsEntering roster.now options.budget)) }
-{
-    roster.is_of_a_file();
-    let singles = match_singles(rt, alloc, roster, ranks, options.workers)?;
-    let tries = Tries {
-        budget: options.budget,
-        orders: ways.orders,
-    };
-    match enter_in_orders(rt, alloc, roster, ranks, &singles.matched, tries) {
-        Ok(matched) => match publish(rt, alloc, roster, ranks, &matched, &singles.proposals)? {
-            Some(text) => Ok(Answer { code: 0, text }),
-            None => unreachable!(),
-        },
-        Err(CoupleEnd::Memory) => Err(Unanswered::Memory),
-        Err(CoupleEnd::BudgetSpent(spent)) => {
-            if ways.set_aside {
-                Ok(answer_aside(rt, alloc, roster, &singles, tries)?)
-            } else {
-                Err(Unanswered::BudgetSpent(entering(roster, spent)))
-            }
-        }
-    }
-}
-
 /// The text of the market's match, as [`answer_to_market`](crate::answer_to_market) gives it, if the couples may enter in
 /// several ways. They enter in the first order that ends within the budget. If none does and [`Ways::set_aside`] allows
 /// it, couples are set aside one after another, until the rounds of the others end. The order is then the first in which
@@ -152,6 +110,25 @@ pub fn answer_in_ways<T: Threads + Wait + Sync>(
         BUDGET_SPENT (refused BUDGET_SPENT 0 []))) }
     ensures entering { IfErr result (λ e. IfUnanswered e (IsEntering roster.now options.budget)) }
 {
+    roster.is_of_a_file();
     let ranks = Ranks::build(rt, alloc, roster)?;
-    answer_by_ranks(rt, alloc, roster, &ranks, options, ways)
+    let singles = match_singles(rt, alloc, roster, &ranks, options.workers)?;
+    let tries = Tries {
+        budget: options.budget,
+        orders: ways.orders,
+    };
+    match enter_in_orders(rt, alloc, roster, &ranks, &singles.matched, tries) {
+        Ok(matched) => match publish(rt, alloc, roster, &ranks, &matched, &singles.proposals)? {
+            Some(text) => Ok(Answer { code: 0, text }),
+            None => unreachable!(),
+        },
+        Err(CoupleEnd::Memory) => Err(Unanswered::Memory),
+        Err(CoupleEnd::BudgetSpent(spent)) => {
+            if ways.set_aside {
+                Ok(answer_aside(rt, alloc, roster, &singles, tries)?)
+            } else {
+                Err(Unanswered::BudgetSpent(entering(roster, spent)))
+            }
+        }
+    }
 }

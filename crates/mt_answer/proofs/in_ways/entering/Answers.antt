@@ -1,4 +1,3 @@
-use Rattle.std.proofs.Common.{◌≡◌, arith, ap, length}
 use Rattle.mt_answer.proofs.NameFacts.{short_couple_id}
 use Rattle.mt_answer.proofs.in_ways.entering.Goals as goal
 

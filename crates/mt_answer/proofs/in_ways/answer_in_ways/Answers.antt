@@ -1,10 +1,10 @@
-use Rattle.std.proofs.Common.{◌≡◌, ◌∙◌, ap, length, arith, subst}
+use Rattle.std.proofs.Common.{ap, length, arith, subst}
 use Rattle.mt_couples.specs.Ended.{IfSpent, IsSpent}
 use Rattle.mt_terms.specs.Best.{proposals}
 use Rattle.mt_terms.proofs.BelowFacts.{length-map_below}
 use Rattle.mt_answer.proofs.InWaysFacts.{entering_within}
 use Rattle.mt_answer.proofs.MatchFacts.{stable_are_places}
-use Rattle.mt_answer.proofs.in_ways.answer_by_ranks.Goals as goal
+use Rattle.mt_answer.proofs.in_ways.answer_in_ways.Goals as goal
 
 pub publish-requires-clause-places : goal.publish-requires-clause-places
 publish-requires-clause-places g c κs within =
