@@ -146,37 +146,8 @@ fn write_differing<W: Write>(
     Ok(())
 }
 
-/// Writes every finding: applicants whose places aren't allowed, programs over their quotas, agents with each option by
-/// which they block, and records of other counts.
-fn write_findings<W: Write>(
-    drain: &mut Drain<W>,
-    lines: &mut FindingLines,
-    explainer: &Explainer<'_>,
-    all_agents: &[Agent],
-    tally: &Tally<'_>,
-    submitted: &SubmittedMatch,
-) -> Result<(), Unwritten>
-    requires agents { all_agents.now ≡ agents explainer.now.registered.market }
-    requires market { market_of tally.now ≡ explainer.now.registered.market }
-    requires tally { places_of tally.now ≡ explainer.now.places }
-    requires places { submitted.now.places ≡ explainer.now.places }
-    requires count { lines.old.count
-        + length (findings explainer.now.registered.market submitted.now) < 2 ^ 64 }
-    requires failures { failures_of drain.old + 1 < 2 ^ 64 }
-    ensures wrote { let r = explainer.now.registered in OnOk result (Wrote W.contents r
-        drain.old drain.new lines.old lines.new (findings r.market submitted.now)) }
-    ensures failed { let r = explainer.now.registered in OnErr result (Failed W.contents r
-        drain.old drain.new lines.old lines.new (findings r.market submitted.now)) }
-{
-    let roster = explainer.roster();
-    roster.is_of_a_file();
-    write_unlisted(drain, lines, explainer)?;
-    write_over(drain, lines, roster, tally)?;
-    write_blocking(drain, lines, explainer, all_agents)?;
-    write_differing(drain, lines, roster, tally, submitted.counts())
-}
-
-/// Writes every finding, and the last line.
+/// Writes every finding, and the last line. The findings are applicants whose places aren't allowed, programs over
+/// their quotas, agents with each option by which they block, and records of other counts.
 pub(crate) fn write_all<W: Write>(
     drain: &mut Drain<W>,
     lines: &mut FindingLines,
@@ -201,6 +172,11 @@ pub(crate) fn write_all<W: Write>(
         ≡ failures_of drain.old + (if is_ok result then 0 else 1) }
     ensures flushed { IsTrue (is_ok result) → IsTrue (is_flushed drain.new) }
 {
-    write_findings(drain, lines, explainer, all_agents, tally, submitted)?;
+    let roster = explainer.roster();
+    roster.is_of_a_file();
+    write_unlisted(drain, lines, explainer)?;
+    write_over(drain, lines, roster, tally)?;
+    write_blocking(drain, lines, explainer, all_agents)?;
+    write_differing(drain, lines, roster, tally, submitted.counts())?;
     finish(drain, lines, submitted.aside().len())
 }
