@@ -309,35 +309,6 @@ fn answer_bytes<T: Threads + Sync, W: Write, E: Write>(
     }
 }
 
-/// Writes the answer to the bytes that a reader gives, or the refusal if there is none.
-fn answer_reader<T: Threads + Sync, R: Read, W: Write, E: Write>(
-    rt: &T,
-    alloc: Global,
-    market: &mut Tap<R>,
-    drain: &mut Drain<W>,
-    teller: &mut Teller<E>,
-) -> Outcome
-    requires market { reads_of market.old + most_bytes < u64.MAX }
-    requires failures { failures_of drain.old + 1 < 2 ^ 64 }
-    ensures answers { Answers (bytes_left R.remaining market.old)
-        (contents_of W.contents drain.old) (contents_of W.contents drain.new)
-        result.code result.whole }
-    ensures writer { failures_of drain.new
-        ≡ failures_of drain.old + (if result.whole then 0 else 1) }
-    ensures flushed { IsTrue result.whole → IsTrue (is_flushed drain.new) }
-    ensures fault { (result.code ≡ READ_FAULT)
-        ↔ (read_failures_of market.old < read_failures_of market.new) }
-    ensures market_taken { TakesFile R.remaining market.old market.new }
-{
-    match bytes_of(alloc, market) {
-        Ok(bytes) => answer_bytes(rt, alloc, &bytes, drain, teller),
-        Err(refusal) => match refusal.code {
-            TOO_LARGE => list_alone(alloc, TOO_LARGE, drain, teller),
-            code => refuse(drain, code),
-        },
-    }
-}
-
 /// The whole check of one file. It reads a market, and writes a line for each of its faults in the order of the file,
 /// and then how many there are. If there is none, it writes how many applicants, programs, couples, list entries and
 /// mutual entries the market has. If memory runs out, the refusal line for that comes after the lines of the first
@@ -361,7 +332,13 @@ pub fn check_market<T: Threads + Sync, R: Read, W: Write, E: Write>(
         ↔ (read_failures_of market.old < read_failures_of market.new) }
     ensures market_taken { TakesFile R.remaining market.old market.new }
 {
-    let outcome = answer_reader(rt, alloc, market, drain, teller);
+    let outcome = match bytes_of(alloc, market) {
+        Ok(bytes) => answer_bytes(rt, alloc, &bytes, drain, teller),
+        Err(refusal) => match refusal.code {
+            TOO_LARGE => list_alone(alloc, TOO_LARGE, drain, teller),
+            code => refuse(drain, code),
+        },
+    };
     teller.flush();
     outcome
 }
