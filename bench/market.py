@@ -24,7 +24,7 @@ import random
 import sys
 
 
-def namer(path, digits):
+def namer(path, digits=1):
     """How an agent is called: by its kind and number, or by the lines of a file in turn."""
     if not path:
         return lambda kind, number: f"{kind}{number:0{digits}}"
