@@ -5,8 +5,8 @@ use Rattle.mt_terms.specs.Market.{Market, Registered}
 use Rattle.mt_terms.specs.Matching.{Places}
 use Rattle.mt_terms.specs.Rounds.{stage}
 use Rattle.mt_terms.specs.Text.{name_of, published, refused}
-use Rattle.mt_couples.specs.Ended.{IsSpent}
-use Rattle.mt_couples.specs.declared.rounds.Spent.{Spent}
+use Rattle.mt_entry.specs.Ended.{IsSpent}
+use Rattle.mt_entry.specs.declared.ends.Spent.{Spent}
 use Rattle.mt_order_laws.specs.Orders.{first_order, in_order}
 use Rattle.mt_order_laws.proofs.EndFacts.{entering_in_words_lem}
 use Rattle.mt_orders.specs.Tried.{EndsFirst}

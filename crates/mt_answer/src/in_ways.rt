@@ -12,8 +12,9 @@ ghost use Rattle.mt_answer.specs.Ways.{IfUnanswered, IsAnswerInWays, IsAnswerOfN
 use crate::answer::{is_stable, publish};
 use crate::singles::match_singles;
 use crate::ways::{Answer, Entering, Unanswered, Ways};
-use mt_couples::{CoupleEnd, Spent};
+use mt_couples::RothPeranson;
 use mt_crew::Singles;
+use mt_entry::{CoupleEnd, Spent};
 use mt_market::Roster;
 use mt_orders::{Aside, Tries, enter_aside_in_orders, enter_in_orders};
 use mt_ranks::Ranks;
@@ -71,7 +72,13 @@ fn answer_aside<T: Threads + Sync>(
         tries.budget tries.orders true a.code a.text.items) }
     ensures code { IfOk result (λ a. a.code ≡ SET_ASIDE) }
 {
-    let aside = enter_aside_in_orders(rt, alloc, roster, &singles.matched, tries)?;
+    let aside = enter_aside_in_orders::<RothPeranson, T>(
+        rt,
+        alloc,
+        roster,
+        &singles.matched,
+        tries,
+    )?;
     if !is_stable_aside(rt, alloc, roster, &aside)? {
         unreachable!();
     }
@@ -117,7 +124,7 @@ pub fn answer_in_ways<T: Threads + Wait + Sync>(
         budget: options.budget,
         orders: ways.orders,
     };
-    match enter_in_orders(rt, alloc, roster, &ranks, &singles.matched, tries) {
+    match enter_in_orders::<RothPeranson, T>(rt, alloc, roster, &ranks, &singles.matched, tries) {
         Ok(matched) => match publish(rt, alloc, roster, &ranks, &matched, &singles.proposals)? {
             Some(text) => Ok(Answer { code: 0, text }),
             None => unreachable!(),

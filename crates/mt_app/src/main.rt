@@ -11,8 +11,6 @@ ghost use Rattle.mt_terms.specs.Text.{refused as refused_text};
 ghost use Rattle.mt_terms.specs.declared.codes.TheConstants.{OUT_OF_MEMORY};
 ghost use Rattle.mt_report.specs.Drains.{contents_of, failures_of};
 ghost use Rattle.mt_report.specs.Status.{status_of};
-ghost use Rattle.mt_lists.specs.Tap.{bytes_left, reads_of};
-ghost use Rattle.mt_input.specs.Files.{most_bytes};
 
 use crate::spent::say_spent;
 use mt_args::{AskEnd, Asked, asked};
@@ -26,25 +24,6 @@ use std::io::{Read, Write};
 use std::process::ExitCode;
 use std::sync::Wait;
 use std::thread::Threads;
-
-/// Runs the match of what the tap gives, in the ways in which couples may enter.
-fn run_tap<T: Threads + Wait + Sync, R: Read, W: Write>(
-    rt: &T,
-    alloc: Global,
-    tap: &mut Tap<R>,
-    drain: &mut Drain<W>,
-    options: Options,
-    ways: Ways,
-) -> EndedInWays
-    requires reads { reads_of tap.old + most_bytes < u64.MAX }
-    requires failures { failures_of drain.old + 1 < 2 ^ 64 }
-    requires workers { (1 ≤ options.workers) × (options.workers ≤ 64) }
-    requires orders { (1 ≤ ways.orders) × (ways.orders ≤ 1000) }
-    ensures { IsRun (bytes_left R.remaining tap.old) options.budget ways
-        (contents_of W.contents drain.old) (contents_of W.contents drain.new) result }
-{
-    run_in_ways(rt, alloc, tap, drain, options, ways)
-}
 
 /// Runs the match of what the reader gives, in the ways in which couples may enter.
 fn run_match<T: Threads + Wait + Sync, R: Read + Drop, W: Write>(
@@ -62,7 +41,7 @@ fn run_match<T: Threads + Wait + Sync, R: Read + Drop, W: Write>(
         (contents_of W.contents drain.old) (contents_of W.contents drain.new) result }
 {
     let mut tap = Tap::new(reader);
-    run_tap(rt, alloc, &mut tap, drain, options, ways)
+    run_in_ways(rt, alloc, &mut tap, drain, options, ways)
 }
 
 /// The exit status of a run. If its budget was spent, the couple that was entering is named on standard error.

@@ -71,12 +71,12 @@ pub record TakesOne (q : ValueParser) (a : Arg) : Type 0 where
   pub least : 1 ≤ least_values a
   pub parser : parser_of a ≡ q
 
--- each argument of the command with this id takes one value, by this parser
-abbrev pub AllTakeOne : Command → Text → ValueParser → Type 0
-AllTakeOne c id q = (j : ℕ) (x : Arg) → j < length (args_of c) → slice_index_or (args_of c) j x ≡ x → bytes_eq x.id.now id ≡ true → TakesOne q x
+-- something is so of each argument of the command with this id
+abbrev pub AllWithId : Command → Text → (Arg → Type 0) → Type 0
+AllWithId c id Is = (j : ℕ) (x : Arg) → j < length (args_of c) → slice_index_or (args_of c) j x ≡ x → bytes_eq x.id.now id ≡ true → Is x
 
 -- the entry of such an argument has a first value, which passed the parser and is read as it says
-pub first_of_entry : (c : Command) (id : Text) (q : ValueParser) (e : Entry) → groups_of c ≡ [] → (id ≡ [] → ⊥) → AllTakeOne c id q
+pub first_of_entry : (c : Command) (id : Text) (q : ValueParser) (e : Entry) → groups_of c ≡ [] → (id ≡ [] → ⊥) → AllWithId c id (TakesOne q)
     → e.0.now ≡ id → EntryPasses c e
     → (v : Bor Text) × (slice_get e.1.vals.items 0 ≡ Some v) × (e.1.reading ≡ reading_of q) × ((i : Bool) × Accepts i q v.now)
 first_of_entry c id q e no_groups named fit key pass =
@@ -124,7 +124,7 @@ first_of_entry c id q e no_groups named fit key pass =
         (v, refl, how, (any.1.ignore_case, subst (λ (p : ValueParser). Accepts any.1.ignore_case p v.now) one.parser any.4.1))
 
 -- so the typed getters read a text that passed the parser
-pub text_of_option : (c : Command) (f : Found) (id : Text) (q : ValueParser) → ValuesPass c f → HasId f id → groups_of c ≡ [] → (id ≡ [] → ⊥) → AllTakeOne c id q
+pub text_of_option : (c : Command) (f : Found) (id : Text) (q : ValueParser) → ValuesPass c f → HasId f id → groups_of c ≡ [] → (id ≡ [] → ⊥) → AllWithId c id (TakesOne q)
     → (t : Text) × (one_text f id ≡ Some (read_as (reading_of q) t)) × ((i : Bool) × Accepts i q t)
 text_of_option c f id q values has no_groups named fit =
     let found = entry_found (EntryPasses c) f.entries.items id values has in
@@ -138,11 +138,11 @@ abbrev pub PassedIf : ValueParser → Option Text → Type 0
 PassedIf q None = ⊤
 PassedIf q (Some t) = (v : Text) × (t ≡ read_as (reading_of q) v) × ((i : Bool) × Accepts i q v)
 
--- each argument of the command with this id has this parser
-abbrev pub AllReadBy : Command → Text → ValueParser → Type 0
-AllReadBy c id q = (j : ℕ) (x : Arg) → j < length (args_of c) → slice_index_or (args_of c) j x ≡ x → bytes_eq x.id.now id ≡ true → parser_of x ≡ q
+-- an argument with this parser
+abbrev pub IsReadBy : ValueParser → Arg → Type 0
+IsReadBy q a = parser_of a ≡ q
 
-passed_of_entry : (c : Command) (id : Text) (q : ValueParser) (e : Entry) → groups_of c ≡ [] → (id ≡ [] → ⊥) → AllReadBy c id q
+passed_of_entry : (c : Command) (id : Text) (q : ValueParser) (e : Entry) → groups_of c ≡ [] → (id ≡ [] → ⊥) → AllWithId c id (IsReadBy q)
     → e.0.now ≡ id → EntryPasses c e → PassedIf q (option_map (λ s. read_as e.1.reading s.now) (slice_get e.1.vals.items 0))
 passed_of_entry c id q e no_groups named fit key pass =
     let no_group : e.1.is_group ≡ true → ⊥ = λ g. elim (pass.3 g) [
@@ -173,7 +173,7 @@ passed_of_entry c id q e no_groups named fit key pass =
 abbrev text_in : Option Entry → Option Text
 text_in found = option_and_then (λ a. option_map (λ s. read_as a.reading s.now) (slice_get a.vals.items 0)) (option_map (λ e. e.1) found)
 
-passed_of_entries : (c : Command) (id : Text) (q : ValueParser) → groups_of c ≡ [] → (id ≡ [] → ⊥) → AllReadBy c id q
+passed_of_entries : (c : Command) (id : Text) (q : ValueParser) → groups_of c ≡ [] → (id ≡ [] → ⊥) → AllWithId c id (IsReadBy q)
     → (xs : List Entry) → All (EntryPasses c) xs
     → PassedIf q (text_in (find (λ e. bytes_eq e.0.now id) xs))
 passed_of_entries c id q no_groups named fit [] all = tt
@@ -185,7 +185,7 @@ passed_of_entries c id q no_groups named fit (x ∷ xs) all = go (bytes_eq x.0.n
     go false t rest = rest
 
 -- so a getter reads nothing of an argument, or what passed its parser
-pub text_of_argument : (c : Command) (f : Found) (id : Text) (q : ValueParser) → ValuesPass c f → groups_of c ≡ [] → (id ≡ [] → ⊥) → AllReadBy c id q → PassedIf q (one_text f id)
+pub text_of_argument : (c : Command) (f : Found) (id : Text) (q : ValueParser) → ValuesPass c f → groups_of c ≡ [] → (id ≡ [] → ⊥) → AllWithId c id (IsReadBy q) → PassedIf q (one_text f id)
 text_of_argument c f id q values no_groups named fit = passed_of_entries c id q no_groups named fit f.entries.items values
 
 -- of a flag it reads that it is set, or not, or nothing

@@ -8,7 +8,7 @@ use Rattle.std.proofs.lemmas.List.{get_or-map, length-map}
 use Rattle.clap.specs.Facts.{ValuesPass, args_of, groups_of, least_values, parser_of_value, unwrap_or_range}
 use Rattle.clap.specs.Texts.{items_of}
 use Rattle.clap.specs.declared.builder.range.ValueRange.{ValueRange}
-use Rattle.clap.specs.Built.{IsAuto, IsParsedFrom, SameRules}
+use Rattle.clap.specs.Built.{IsParsedFrom, SameRules}
 use Rattle.clap.specs.Kinds.{FailsBy, IsAmong, Kinds}
 use Rattle.clap.specs.Matches.{ReadsOne, found_of, one_text}
 use Rattle.clap.specs.Simple.{App, IsSimple, app_of, is_ready, is_ready_leaf}
@@ -30,7 +30,7 @@ use Rattle.clap.specs.declared.parser.matches.ArgMatches.{ArgMatches}
 use Rattle.std.specs.declared.num.ParseIntError.{ParseIntError}
 use Rattle.mt_args.specs.CommandLine.{HasNumber, HasOptions, IsFlag, budget_rule, nrmatch, number_at, orders_rule, set_aside_rule, workers_rule}
 use Rattle.mt_args.proofs.Agreement.{Agrees, passes, fails}
-use Rattle.mt_args.proofs.OptionReads.{AllReadBy, AllTakeOne, flag_of_passed, number_in_range, text_of_argument, text_of_option}
+use Rattle.mt_args.proofs.OptionReads.{AllWithId, IsReadBy, TakesOne, flag_of_passed, number_in_range, text_of_argument, text_of_option}
 
 -- ---- a refusal
 
@@ -145,7 +145,7 @@ option_text old m p is k q r at no_range default =
     let has = default_present old m p (is_simple_command old is).globals k (d old m p is k Set q r at) here (arg_simple.default_ifs, defaults) in
     let range : a.num_vals ≡ None = ap (λ (x : Rule). x.range) same ∙ no_range in
     let least : 1 ≤ least_values a = subst (λ (x : Option ValueRange). 1 ≤ (unwrap_or_range x).start_inclusive) (sym range) (omega arith) in
-    let fit : AllTakeOne p.built a.id.now q = λ j x high there equal.
+    let fit : AllWithId p.built a.id.now (TakesOne q) = λ j x high there equal.
     let s = kept old m p is k Set q r at j x high there equal in
     record {
       action = s.action Set (set old m p is k Set q r at);
@@ -161,7 +161,7 @@ flag_text : (old : Command) (m : ArgMatches) (p : IsParsedFrom old m) → app_of
     → IsFlag (one_text (found_of m) r.id)
 flag_text old m p is k r at =
     let a = a old m p is k SetTrue AsBool r at in
-    let fit : AllReadBy p.built a.id.now AsBool = λ j x high there equal.
+    let fit : AllWithId p.built a.id.now (IsReadBy AsBool) = λ j x high there equal.
     ap parser_of_value ((kept old m p is k SetTrue AsBool r at j x high there equal).parser AsBool (parser old m p is k SetTrue AsBool r at)) in
     let passed = text_of_argument p.built (found_of m) a.id.now AsBool (values old m p is k SetTrue AsBool r at) (no_groups old m p is k SetTrue AsBool r at) (own_id old m p is k SetTrue AsBool r at) fit in
     subst (λ (w : Text). IsFlag (one_text (found_of m) w)) (id old m p is k SetTrue AsBool r at) (flag_of_passed _ passed)

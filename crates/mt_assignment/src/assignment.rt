@@ -11,7 +11,7 @@ ghost use Rattle.mt_assignment.specs.Assigned.{ahead, assignment, displaced_from
 
 use mt_bits::RankTable;
 use mt_market::Roster;
-use mt_ranks::{Live, Ranks};
+use mt_ranks::{PackedLive, Ranks};
 use mt_stage_tables::{Pair, PlacedRanks};
 use mt_terms::{Agent, AppNo, CoupleNo, Match, Places, ProgNo};
 use std::alloc::{AllocError, Global};
@@ -56,6 +56,7 @@ fn watch_wanted(
     ensures found { IfOk result (λ o. IfSome o (IsRankAtPlace ranks.now.market applicant place)) }
 {
     for entry in ranks.live(applicant) {
+        let entry = entry.unpacked();
         if place == Some(entry.program) {
             return Ok(Some(entry.rank));
         }
@@ -91,6 +92,7 @@ fn live_rank(ranks: &Ranks<'_>, program: ProgNo, applicant: AppNo) -> Option<u32
     ensures position { result ≡ rank_of ranks.now.market program applicant }
 {
     for entry in ranks.live(applicant) {
+        let entry = entry.unpacked();
         if entry.program == program {
             return Some(entry.rank);
         }
@@ -188,7 +190,7 @@ impl Drop for Assignment<'_> {
 }
 
 impl<'a> Model for Assignment<'a> {
-    ghost use Rattle.mt_terms.specs.Matching.{placed_ranks, ranks_from};
+    ghost use Rattle.mt_terms.specs.Matching.{placed_ranks};
     ghost use Rattle.mt_assignment.specs.Assigned.{Assigned};
 
     ghost Value = { Assigned };
@@ -293,7 +295,7 @@ impl<'a> Assignment<'a> {
     }
 
     /// The live entries of the single, with its rank on each: those that are better than what it has, and the others.
-    pub fn live_parts(&self, single: AppNo) -> (&'a [Live], &'a [Live])
+    pub fn live_parts(&self, single: AppNo) -> (&'a [PackedLive], &'a [PackedLive])
         requires { single < applicants self.now.market }
         ensures better { result.0.now ≡ better_entries self.now single }
         ensures others { result.1.now ≡ other_entries self.now single }
@@ -304,7 +306,7 @@ impl<'a> Assignment<'a> {
             return (live, &[]);
         };
         for (end, entry) in live.iter().enumerate() {
-            if place == entry.program {
+            if place == entry.unpacked().program {
                 return live.split_at(end);
             }
         }
@@ -312,7 +314,7 @@ impl<'a> Assignment<'a> {
     }
 
     /// The live entries of the single that are better than what it has, with its rank on each.
-    pub(crate) fn better_live(&self, single: AppNo) -> &'a [Live]
+    pub(crate) fn better_live(&self, single: AppNo) -> &'a [PackedLive]
         requires { single < applicants self.now.market }
         ensures list { result.now ≡ better_entries self.now single }
         ensures assigned { IsAssigned self.now }

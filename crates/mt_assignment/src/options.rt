@@ -48,34 +48,26 @@ impl<'a> Assignment<'a> {
         }
     }
 
-    /// How many of those that are sent somewhere are now at the program, with a rank below this one.
-    fn leaving(&self, program: ProgNo, rank: u32, sent: &[(AppNo, Option<ProgNo>)]) -> usize
-        requires { AreSent self.now.market sent.now }
-        ensures { result ≡ leaving self.now program rank sent.now }
-    {
-        let mut leaving = 0;
-        for seat in sent {
-            if self.place(seat.0) == Some(program) && self.is_ahead(program, seat.0, rank) {
-                leaving += 1;
-            }
-        }
-        leaving
-    }
-
-    /// How many others than an applicant of this rank are sent to the program with a rank below it there.
-    fn coming(
+    /// How many of those that are sent somewhere have a rank below this one at the program: of those that are there now,
+    /// and of those that are sent there. An applicant of this rank is none of them.
+    fn movers_ahead(
         &self,
         program: ProgNo,
         applicant: AppNo,
         rank: u32,
         sent: &[(AppNo, Option<ProgNo>)],
-    ) -> usize
+    ) -> (usize, usize)
         requires rank { rank_of self.now.market program applicant ≡ Some rank }
         requires sent { AreSent self.now.market sent.now }
-        ensures { result ≡ coming self.now program rank sent.now }
+        ensures leaving { result.0 ≡ leaving self.now program rank sent.now }
+        ensures coming { result.1 ≡ coming self.now program rank sent.now }
     {
+        let mut leaving = 0;
         let mut coming = 0;
         for seat in sent {
+            if self.place(seat.0) == Some(program) && self.is_ahead(program, seat.0, rank) {
+                leaving += 1;
+            }
             if seat.0 != applicant
                 && seat.1 == Some(program)
                 && self.is_ahead(program, seat.0, rank)
@@ -83,7 +75,7 @@ impl<'a> Assignment<'a> {
                 coming += 1;
             }
         }
-        coming
+        (leaving, coming)
     }
 
     /// Whether the program has a post for an applicant of this rank there, once everybody is sent.
@@ -99,8 +91,8 @@ impl<'a> Assignment<'a> {
         requires sent { AreSent self.now.market sent.now }
         ensures { result ≡ has_post (seated self.now sent.now) program rank }
     {
-        let posts = self.quota(program) as usize + self.leaving(program, rank, sent);
-        let coming = self.coming(program, applicant, rank, sent);
+        let (leaving, coming) = self.movers_ahead(program, applicant, rank, sent);
+        let posts = self.quota(program) as usize + leaving;
         self.has_fewer_ahead(program, rank, posts.saturating_sub(coming))
     }
 
@@ -158,6 +150,7 @@ impl<'a> Assignment<'a> {
         ensures { option_map (single_placement single) result ≡ taken_by self.now (Single single) }
     {
         for entry in self.better_live(single) {
+            let entry = entry.unpacked();
             if self.has_post(entry.program, entry.rank) {
                 return Some(entry.program);
             }
@@ -203,6 +196,7 @@ impl<'a> Assignment<'a> {
         ensures { result ≡ opens self.now programs.now (Single single) }
     {
         for entry in self.better_live(single) {
+            let entry = entry.unpacked();
             if has_program(programs, entry.program) && self.has_post(entry.program, entry.rank) {
                 return true;
             }

@@ -5,7 +5,7 @@ ghost use Rattle.mt_ranks.specs.Ranked.{ranked_of};
 
 use mt_answer::answer_to_market;
 use mt_couples::{CoupleEnd, enter_all};
-use mt_explain::{Explainer, Why};
+use mt_explain::{Why, option_lines};
 use mt_market::Roster;
 use mt_ranks::Ranks;
 use mt_report::{published, published_aside};
@@ -17,7 +17,7 @@ use mt_samples::singles::singles;
 use mt_samples::tables::with_ranks;
 use mt_terms::codes::OUT_OF_MEMORY;
 use mt_terms::{Agent, AppNo, Blocker, CoupleNo, Match, Options, Places, ProgNo};
-use mt_verify::{Verdict, verify};
+use mt_verify::{MatchTables, Verdict, verify};
 use std::alloc::{AllocError, Global};
 use std::sync::Wait;
 use std::thread::Threads;
@@ -72,33 +72,24 @@ fn last_unmatched(alloc: Global, roster: &Roster) -> Result<Option<Match>, Alloc
     }))
 }
 
-fn judges_on<T: Threads + Sync>(
-    rt: &T,
-    alloc: Global,
-    roster: &Roster,
-    ranks: &Ranks,
-) -> Result<bool, AllocError>
-    requires { ranks.now ≡ ranked_of roster.now.market }
-{
-    let Some(matched) = last_unmatched(alloc, roster)? else {
-        return Ok(false);
-    };
+/// Whether the judge finds who blocks: a3, whom P1 wants more than a1.
+pub fn judges<T: Threads + Sync>(rt: &T, alloc: Global) -> Result<bool, SampleError> {
     let blocking = Verdict::Blocks(Blocker {
         agent: Agent::Single(AppNo(2)),
         option: 0,
     });
-    Ok(verify(rt, alloc, roster, ranks, &matched)? == blocking)
-}
-
-/// Whether the judge finds who blocks: a3, whom P1 wants more than a1.
-pub fn judges<T: Threads + Sync>(rt: &T, alloc: Global) -> Result<bool, SampleError> {
     with_ranks(
         rt,
         alloc,
         CHAIN,
         |roster: &Roster, ranks: &Ranks<'_>| -> Result<bool, AllocError>
             requires { ranks.now ≡ ranked_of roster.now.market }
-        { judges_on(rt, alloc, roster, ranks) },
+        {
+            match last_unmatched(alloc, roster)? {
+                Some(matched) => Ok(verify(rt, alloc, roster, ranks, &matched)? == blocking),
+                None => Ok(false),
+            }
+        },
     )
 }
 
@@ -113,19 +104,19 @@ fn explains_on<T: Threads + Sync>(
     let Some(matched) = last_unmatched(alloc, roster)? else {
         return Ok(false);
     };
-    let explainer = Explainer::new(rt, alloc, roster, ranks, &matched)?;
+    let tables = MatchTables::new(rt, alloc, roster, ranks, &matched)?;
     let last = AppNo(2);
     if roster.applicants() != 3 || roster.single_list(last).is_empty() {
         return Ok(false);
     }
-    let (line, other) = explainer.option_lines(Agent::Single(last), 0);
+    let (line, other) = option_lines(&tables, Agent::Single(last), 0);
     let Some(line) = line else {
         return Ok(false);
     };
     Ok(
-        explainer.held_option(Agent::Single(last)).is_none()
-            && explainer.better_options(Agent::Single(last)) == 1
-            && explainer.rank_at_place(AppNo(0)) == Some(2)
+        tables.held_option(Agent::Single(last)).is_none()
+            && tables.better_options(Agent::Single(last)) == 1
+            && tables.rank_at_place(AppNo(0)) == Some(2)
             && line.why() == Why::Open
             && line.program == ProgNo(0)
             && other.is_none(),

@@ -1,5 +1,5 @@
 -- What an answer says: the finding is so, or the refusal is named.
-use Rattle.std.proofs.Common.{◌≡◌, ℕ, ◌<◌, ◌≤◌, Bool, true, ◌==◌, ◌↔◌, List, [], ◌∷◌, length, Option, Result, Ok, Err, IfErr, IfOk, refl, sym, ap, ◌∙◌, subst, arith}
+use Rattle.std.proofs.Common.{◌≡◌, ℕ, ◌<◌, ◌≤◌, Bool, List, [], length, Option, Result, Ok, Err, IfOk, refl, sym, ap, ◌∙◌, subst, arith}
 use Rattle.std.specs.Prelude.{codes}
 use Rattle.std.proofs.lemmas.Result.{IfOk-weaker}
 use Rattle.mt_terms.specs.Market.{Market, Registered}
@@ -9,23 +9,21 @@ use Rattle.mt_order_laws.proofs.FormedFacts.{none_aside_lem, well_formed_aside_l
 use Rattle.mt_terms.specs.Registration.Faults.{Fault}
 use Rattle.mt_match_file.specs.Submitted.{Submitted, submitted_by}
 use Rattle.mt_match_file.proofs.PlaceFacts.{tells_places_lem}
+use Rattle.mt_report.specs.Drains.{IsWritten}
 use Rattle.mt_input.specs.Files.{market_in}
 use Rattle.mt_input.proofs.FileFacts.{rows_in}
-use Rattle.mt_input.proofs.LeftFacts.{of_left}
 use Rattle.mt_input.proofs.MarketFacts.{registration_of}
-use Rattle.mt_input.specs.Refusals.{fault_of}
-use Rattle.mt_files.specs.Files.{files_by, files_in, submitted_in, with_match}
-use Rattle.mt_files.specs.Refusals.{AreFilesIn, IsInTurn, IsNamedRefusalOf, IsRefused, OfBoth, end_code}
+use Rattle.mt_files.specs.Files.{files_by, submitted_in, with_match}
+use Rattle.mt_files.specs.Refusals.{AreFilesIn, IsInTurn, IsNamedRefusalOf, IsRefused, OfBoth}
 use Rattle.mt_files.specs.declared.files.Files.{Files}
 use Rattle.mt_files.specs.declared.refused_file.Refused.{Refused}
 use Rattle.mt_files.specs.declared.source.Source.{Source}
 use Rattle.mt_files.specs.declared.source.Source.TheVariants as sources
 use Rattle.mt_files.proofs.BothFacts.{of_both}
-use Rattle.mt_files.proofs.FileFacts.{market_there}
-use Rattle.mt_files.proofs.NameFacts.{alone_named, codes_large, market_named, match_named}
+use Rattle.mt_files.proofs.NameFacts.{codes_large, market_named, match_named}
 use Rattle.mt_check.specs.declared.found.Found.{Found}
 use Rattle.mt_files.specs.Answer as answers
-use Rattle.mt_check.specs.Answer.{Answer, IsAnswer, answer_seen, fault_answer, finding_answer, finding_code, judged_answer}
+use Rattle.mt_check.specs.Answer.{Answer, Answers, IsAnswer, answer_seen, fault_answer, finding_answer, finding_code, judged_answer}
 use Rattle.mt_check.specs.Findings.{finding_of, judged}
 use Rattle.mt_check.specs.Headline.{IsJudged, IsRefusal}
 use Rattle.mt_check.specs.Laws.{AnswersAreSo, JudgedByAllLists}
@@ -130,41 +128,46 @@ pub judged_left : (market matched : Option (List ℕ)) (code : ℕ) (text : List
     → OfBoth market matched (λ xs ys. IsJudged xs ys code text)
 judged_left market matched code text small h = of_both market matched (λ xs ys is. (answers_are_so_lem xs ys code text is).0 small) h
 
--- ---- what was read, and what was found of it
+-- ---- what was read, and what was written of it
 
-module _ (market matched : Option (List ℕ)) (files : Files) (are : AreFilesIn market matched files) where
-  pub found_there : (result : Result Found Refused)
-      → IfOk result (λ found. answer_seen found ≡ judged_answer files.roster files.submitted)
-      → IfOk result (λ found. OfBoth market matched (λ xs ys. IsAnswer xs ys found.code found.text.items))
-  found_there (Ok found) h = of_both market matched (λ xs ys is. ap (answers.answer_of (codes "check") judged_answer) is ∙ sym h) are
-  found_there (Err e) h = tt
+-- the code of a finding is 0 or 1
+pub found_code : (r : Registered) (submitted : Submitted) (found : Found) → answer_seen found ≡ judged_answer r submitted → found.code ≤ 1
+found_code r submitted found is =
+    let small = code_small (finding_of (judged r submitted).market submitted) in
+    let same : found.code ≡ finding_code (finding_of (judged r submitted).market submitted) = ap (λ (a : Answer). a.code) is in
+    omega arith
 
-  pub match_in_turn : (reads : ℕ) (result : Result Found Refused) → IfErr result (λ e. e.source ≡ sources.Match) → IfErr result (λ e. IsInTurn market reads e.source)
-  match_in_turn reads (Ok found) file = tt
-  match_in_turn reads (Err e) file =
-      subst (IsInTurn market reads) (sym file)
-      (of_left market (λ xs inner. (files.roster, market_there xs inner.bytes files.roster files.submitted inner.is_so)) are)
+module _ (market matched : Option (List ℕ)) (reads : ℕ) (old new : Option (List ℕ)) (code written : ℕ) (whole : Bool) where
+  -- the finding on two files that were read
+  pub answers_found : (files : Files) → AreFilesIn market matched files → (found : Found) → answer_seen found ≡ judged_answer files.roster files.submitted
+      → code ≡ found.code → (text : List ℕ) → text ≡ found.text.items → IsWritten text old new written whole → Answers market matched reads old new code written whole
+  answers_found files are found is is_code text is_text is_written =
+      let small : found.code ≤ 1 = found_code files.roster files.submitted found is in
+      let answered : OfBoth market matched (λ xs ys. IsAnswer xs ys found.code found.text.items) =
+      of_both market matched (λ xs ys read. ap (answers.answer_of (codes "check") judged_answer) read ∙ sym is) are in
+      subst (λ (c : ℕ). Answers market matched reads old new c written whole) (sym is_code) (record {
+        text = found.text.items;
+        is_written = subst (λ (t : List ℕ). IsWritten t old new written whole) is_text is_written;
+        says = record {
+          judged = λ few. judged_left market matched found.code found.text.items few answered;
+          refusal = λ large. absurd (omega arith);
+          in_turn = λ large. absurd (omega arith);
+          answer = λ m r. answered;
+        };
+      })
 
--- want of memory, which the line says of the match
-abbrev IsMemory : Refused → Type 0
-IsMemory e = fault_of e.refusal ≡ record { code = 30; row = 0; id = [] }
-
-pub memory_refused : (market matched : Option (List ℕ)) (result : Result Found Refused) → IfErr result (λ e. e.source ≡ sources.Match) → IfErr result (λ e. IsMemory e)
-    → IfErr result (IsRefused market matched)
-memory_refused market matched (Ok found) file is = tt
-memory_refused market matched (Err e) file is =
-    let code : e.refusal.code ≡ 30 = ap (λ (f : Fault). f.code) is in
-    record {
-      named = subst (λ (s : Source). IsNamedRefusalOf s e.refusal.code e.refusal.row e.refusal.id) (sym file)
-          (subst (λ (f : Fault). IsNamedRefusalOf sources.Match f.code f.row f.id) (sym is) (alone_named sources.Match 30 refl));
-      fault = λ m. absurd (m code);
-    }
-
-pub no_read_fault : (result : Result Found Refused) → IfErr result (λ e. IsMemory e) → end_code result ≡ 31 → ⊥
-no_read_fault (Ok found) is e = omega arith
-no_read_fault (Err e) is read = let code : e.refusal.code ≡ 30 = ap (λ (f : Fault). f.code) is in omega arith
-
-pub refused_answer : (market matched : Option (List ℕ)) (e : Refused)
-    → OfBoth market matched (λ xs ys. files_in xs ys ≡ Err (e.source, fault_of e.refusal))
-    → OfBoth market matched (λ xs ys. IsAnswer xs ys e.refusal.code (refused_line e.source e.refusal.code e.refusal.row e.refusal.id))
-refused_answer market matched e h = of_both market matched (λ xs ys is. ap (answers.answer_of (codes "check") judged_answer) is) h
+  -- the line of a file that is refused
+  pub answers_refused : (e : Refused) → IsRefused market matched e → IsInTurn market reads e.source → code ≡ e.refusal.code
+      → IsWritten (refused_line e.source e.refusal.code e.refusal.row e.refusal.id) old new written whole → Answers market matched reads old new code written whole
+  answers_refused e refused turn is_code is_written =
+      let large : 1 < e.refusal.code = codes_large e.source e.refusal.code refused.named.known in
+      subst (λ (c : ℕ). Answers market matched reads old new c written whole) (sym is_code) (record {
+        text = refused_line e.source e.refusal.code e.refusal.row e.refusal.id;
+        is_written = is_written;
+        says = record {
+          judged = λ small. absurd (omega arith);
+          refusal = λ _. record { file = e.source; row = e.refusal.row; id = e.refusal.id; named = refused.named; line = refl };
+          in_turn = λ _. turn;
+          answer = λ m r. of_both market matched (λ xs ys is. ap (answers.answer_of (codes "check") judged_answer) is) (refused.fault m r);
+        };
+      })

@@ -1,19 +1,17 @@
-ghost use Rattle.std.specs.Prelude.{◌≡◌, ◌⊎◌, ◌+◌, ◌<◌, ◌≤◌, ◌-◌, ◌^◌, ◌↔◌, [], if◌then◌else◌, IfErr, IfOk, IsTrue, length};
+ghost use Rattle.std.specs.Prelude.{◌≡◌, ◌⊎◌, ◌+◌, ◌<◌, ◌-◌, ◌^◌, ◌↔◌, if◌then◌else◌, IfOk, IsTrue, length};
 ghost use Rattle.mt_lists.specs.Tap.{bytes_left, failures_of as read_failures_of, reads_of};
 ghost use Rattle.mt_terms.specs.Places.{ArePlaces};
-ghost use Rattle.mt_terms.specs.declared.codes.TheConstants.{OUT_OF_MEMORY, READ_FAULT};
+ghost use Rattle.mt_terms.specs.declared.codes.TheConstants.{READ_FAULT};
 ghost use Rattle.mt_report.specs.Drains.{contents_of, failures_of, is_flushed};
 ghost use Rattle.mt_input.specs.Files.{most_bytes};
 ghost use Rattle.mt_input.specs.Left.{TakesFile};
-ghost use Rattle.mt_input.specs.Refusals.{fault_of};
-ghost use Rattle.mt_files.specs.Refusals.{IsInTurn, IsRefused, OfBoth, end_code};
-ghost use Rattle.mt_check.specs.Answer.{Answers, IsAnswer, answer_seen, finding_answer, judged_answer};
+ghost use Rattle.mt_check.specs.Answer.{Answers, answer_seen, finding_answer, judged_answer};
 ghost use Rattle.mt_check.specs.Findings.{finding_of};
 
 use crate::found::Found;
 use crate::judging::judge;
 use crate::text::finding_line;
-use mt_files::{Files, Refused, Source, read_files, refused};
+use mt_files::{Files, Refused, Source, read_files, refuse};
 use mt_lists::Tap;
 use mt_market::Roster;
 use mt_match_file::SubmittedMatch;
@@ -33,10 +31,9 @@ fn found<T: Threads + Sync>(
     submitted: &SubmittedMatch,
 ) -> Result<Found, AllocError>
     requires { ArePlaces roster.now.market submitted.now.places }
-    ensures answer { IfOk result (λ found. answer_seen found
+    ensures { IfOk result (λ found. answer_seen found
         ≡ finding_answer roster.now (length submitted.now.aside)
         (finding_of roster.now.market submitted.now)) }
-    ensures code { IfOk result (λ found. found.code ≤ 1) }
 {
     roster.is_of_a_file();
     let finding = judge(rt, alloc, roster, submitted)?;
@@ -47,75 +44,19 @@ fn found<T: Threads + Sync>(
 }
 
 /// The finding on a match, with its line. The couples that the match sets aside want nothing.
-fn judged<T: Threads + Sync>(
-    rt: &T,
-    alloc: Global,
-    roster: &Roster,
-    submitted: &SubmittedMatch,
-) -> Result<Found, AllocError>
-    requires { ArePlaces roster.now.market submitted.now.places }
-    ensures answer { IfOk result (λ found. answer_seen found
-        ≡ judged_answer roster.now submitted.now) }
-    ensures code { IfOk result (λ found. found.code ≤ 1) }
+fn judged<T: Threads + Sync>(rt: &T, alloc: Global, files: &Files) -> Result<Found, AllocError>
+    requires { ArePlaces files.now.roster.market files.now.submitted.places }
+    ensures { IfOk result (λ found. answer_seen found
+        ≡ judged_answer files.now.roster files.now.submitted) }
 {
+    let roster = &files.roster;
+    let submitted = &files.submitted;
     let aside = submitted.aside();
     if aside.is_empty() {
         return found(rt, alloc, roster, submitted);
     }
     let others = set_aside(alloc, roster, aside)?;
     found(rt, alloc, &others, submitted)
-}
-
-/// The answer to a market and a match. The error is want of memory, which the line says of the match.
-fn answer_to_files<T: Threads + Sync>(
-    rt: &T,
-    alloc: Global,
-    files: &Files,
-) -> Result<Found, Refused>
-    requires { ArePlaces files.now.roster.market files.now.submitted.places }
-    ensures answer { IfOk result (λ found. answer_seen found
-        ≡ judged_answer files.now.roster files.now.submitted) }
-    ensures code { IfOk result (λ found. found.code ≤ 1) }
-    ensures source { IfErr result (λ e. e.source ≡ Source.Match) }
-    ensures memory { IfErr result (λ e. fault_of e.refusal
-        ≡ record { code = OUT_OF_MEMORY; row = 0; id = [] }) }
-{
-    match judged(rt, alloc, &files.roster, &files.submitted) {
-        Ok(found) => Ok(found),
-        Err(_) => Err(Refused {
-            source: Source::Match,
-            refusal: Refusal::alone(OUT_OF_MEMORY),
-        }),
-    }
-}
-
-/// The answer to a market and a match that two readers give.
-fn answer<T: Threads + Sync, R: Read, S: Read>(
-    rt: &T,
-    alloc: Global,
-    market: &mut Tap<R>,
-    matched: &mut Tap<S>,
-) -> Result<Found, Refused>
-    requires market { reads_of market.old + most_bytes < u64.MAX }
-    requires matched { reads_of matched.old + most_bytes < u64.MAX }
-    ensures found { IfOk result (λ found. OfBoth
-        (bytes_left R.remaining market.old) (bytes_left S.remaining matched.old)
-        (λ xs ys. IsAnswer xs ys found.code found.text.items)) }
-    ensures code { IfOk result (λ found. found.code ≤ 1) }
-    ensures refused { IfErr result (IsRefused (bytes_left R.remaining market.old)
-        (bytes_left S.remaining matched.old)) }
-    ensures in_turn { IfErr result (λ e. IsInTurn (bytes_left R.remaining market.old)
-        (reads_of matched.new - reads_of matched.old) e.source) }
-    ensures fault { (end_code result ≡ READ_FAULT)
-        ↔ ((read_failures_of market.old < read_failures_of market.new)
-        ⊎ (read_failures_of matched.old < read_failures_of matched.new)) }
-    ensures market_tap { TakesFile R.remaining market.old market.new }
-    ensures match_tap { TakesFile S.remaining matched.old matched.new }
-{
-    match read_files(rt, alloc, market, matched) {
-        Ok(files) => answer_to_files(rt, alloc, &files),
-        Err(refused) => Err(refused),
-    }
 }
 
 /// The whole check: reads a market and a match, and writes one line. The line says that the match is stable by the
@@ -147,17 +88,16 @@ pub fn check<T: Threads + Sync, R: Read, S: Read, W: Write>(
     ensures market_taken { TakesFile R.remaining market.old market.new }
     ensures match_taken { TakesFile S.remaining matched.old matched.new }
 {
-    match answer(rt, alloc, market, matched) {
-        Ok(found) => end(drain, found.code, &found.text),
-        Err(Refused { source, refusal }) => {
-            let line = refused(
+    match read_files(rt, alloc, market, matched) {
+        Ok(files) => match judged(rt, alloc, &files) {
+            Ok(found) => end(drain, found.code, &found.text),
+            Err(_) => refuse(
+                drain,
                 b"check",
-                source,
-                refusal.code,
-                refusal.row,
-                refusal.id.as_bytes(),
-            );
-            end(drain, refusal.code, line.as_bytes())
-        }
+                Source::Match,
+                &Refusal::alone(OUT_OF_MEMORY),
+            ),
+        },
+        Err(Refused { source, refusal }) => refuse(drain, b"check", source, &refusal),
     }
 }

@@ -137,7 +137,7 @@ impl Floor {
     {
         ranks.applicants();
         for place in 0..made {
-            let entry = ranks.live(applicant)[place as usize];
+            let entry = ranks.live(applicant)[place as usize].unpacked();
             self.enter(applicant, entry.program, entry.rank);
         }
         self.set_standing(applicant, standing);

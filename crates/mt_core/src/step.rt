@@ -19,7 +19,8 @@ fn entry_at(ranks: &Ranks, applicant: AppNo, place: u32) -> Option<Live>
     requires applicant { applicant < applicants ranks.now.market }
     ensures { result ≡ live_entry ranks.now.market applicant place }
 {
-    ranks.live(applicant).get(place as usize).copied()
+    let entry = ranks.live(applicant).get(place as usize)?;
+    Some(entry.unpacked())
 }
 
 /// The entry that the applicant proposed to last.
@@ -62,23 +63,7 @@ pub(crate) fn is_held(floor: &Floor, ranks: &Ranks, applicant: AppNo) -> bool
     }
 }
 
-/// Whether the program that the applicant proposed to last still holds it, on a floor whose programs have received the
-/// proposals that were made.
-fn is_still_held(floor: &Floor, ranks: &Ranks, applicant: AppNo) -> bool
-    requires opened { IsOpenedWith ranks.now.market floor.now }
-    requires recorded { IsRecorded ranks.now.market (floor_of ranks.now.market floor.now) }
-    requires ranked { IsRanked ranks.now }
-    requires applicant { applicant < applicants ranks.now.market }
-    ensures { let m = ranks.now.market in let f = floor_of m floor.now in
-        result ≡ is_held_by m f applicant (last_proposed_to m f applicant) }
-{
-    match last_proposed_to(floor, ranks, applicant) {
-        Some(entry) => floor.keeps(entry.program, entry.rank),
-        None => false,
-    }
-}
-
-/// Whether the applicant stands and isn't held.
+/// Whether the applicant stands and the program that it proposed to last holds it no longer.
 fn is_dropped(floor: &Floor, ranks: &Ranks, applicant: AppNo) -> bool
     requires opened { IsOpenedWith ranks.now.market floor.now }
     requires recorded { IsRecorded ranks.now.market (floor_of ranks.now.market floor.now) }
@@ -86,7 +71,13 @@ fn is_dropped(floor: &Floor, ranks: &Ranks, applicant: AppNo) -> bool
     requires applicant { applicant < applicants ranks.now.market }
     ensures { result ≡ is_due_on ranks.now.market floor.now (Event.Notice applicant) }
 {
-    floor.stands(applicant) && !is_still_held(floor, ranks, applicant)
+    if !floor.stands(applicant) {
+        return false;
+    }
+    match last_proposed_to(floor, ranks, applicant) {
+        Some(entry) => !floor.keeps(entry.program, entry.rank),
+        None => true,
+    }
 }
 
 /// The applicant learns that it is held no longer, if that is so.

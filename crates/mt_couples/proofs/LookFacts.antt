@@ -1,5 +1,5 @@
 -- Who is found when programs that were left are rechecked, and who is passed over.
-use Rattle.std.proofs.Common.{◌≡◌, ◌∙◌, ℕ, zero, suc, ◌+◌, ◌<◌, ◌≤◌, Bool, true, false, not, ◌&&◌, ◌||◌, ◌==◌, nat_le, nat_lt, List, [], ◌∷◌, ◌++◌, filter, take, drop, length, get_or, Option, Some, None, refl, ap, sym, subst, inl, inr, arith, Result, Ok, Err, OnOk}
+use Rattle.std.proofs.Common.{◌≡◌, ◌∙◌, ℕ, zero, suc, ◌+◌, ◌<◌, ◌≤◌, Bool, true, false, not, ◌&&◌, ◌||◌, ◌==◌, nat_le, nat_lt, List, [], ◌∷◌, ◌++◌, filter, take, drop, length, get_or, Option, Some, None, refl, ap, sym, subst, inl, inr, arith}
 use Rattle.std.specs.List.{position}
 use Rattle.std.proofs.lemmas.List.{drop_more}
 use Rattle.std.proofs.lemmas.List.Quantifiers.{position-Some}
@@ -16,12 +16,13 @@ use Rattle.mt_terms.specs.declared.numbers.Agent.{Agent}
 use Rattle.mt_terms.specs.declared.numbers.Agent.TheVariants.{Single, Couple}
 use Rattle.mt_stability_laws.proofs.ChoiceLemmas.{choice_facts}
 use Rattle.mt_ranks.specs.Ranked.{rank_of}
-use Rattle.mt_round_laws.proofs.RoundsLists.{In, found, finds, each, has_in, in_has, of_image, of_until}
+use Rattle.mt_round_laws.proofs.RoundsLists.{In, found, finds, each, has_in, in_has, in_image, in_kept, of_image, of_kept, of_until}
 use Rattle.mt_round_laws.proofs.RoundsAgents.{member_of_agent, one_of_two}
 use Rattle.mt_bits.specs.Members.{IsFirstFrom}
 use Rattle.mt_stage_tables.specs.Waiting.{with_agents, Waiting}
 use Rattle.mt_assignment.specs.Assigned.{ahead, has_post, pair_of, Assigned, AreApplicantsOf, IsAssigned}
-use Rattle.mt_couples.specs.Looking.{is_couple_reopened, AddsCouples, AddsSingles, AreIndexed, HaveReopened, IsWatching}
+use Rattle.mt_couples.specs.Looking.{is_couple_reopened, Adds, AddsSingles, AreIndexed, HaveReopened, IsWatching}
+use Rattle.mt_couples.specs.Rechecks.{market_of, reopened_couples, which_at, IsIndexedFor}
 use Rattle.mt_couples.specs.Waiting.{agents_of}
 use Rattle.mt_assignment.specs.Moves.{names_one_of, opens, some_has}
 use Rattle.mt_couples.specs.Running.{is_idle, is_reopened}
@@ -29,7 +30,7 @@ use Rattle.mt_stage_tables.specs.Indexing.{end_of, is_before, is_indexed, names_
 use Rattle.mt_assignment.specs.Watched.{better_pairs, opens_between, ranks_at, wanted}
 use Rattle.mt_couples.specs.Watching.{Covers}
 use Rattle.mt_stage_tables.specs.Named.{names, row_at}
-use Rattle.mt_stage_tables.proofs.NamedFacts.{any_between}
+use Rattle.mt_stage_tables.proofs.NamedFacts.{any_between, named_within}
 use Rattle.mt_stage_tables.specs.declared.couple_list.NamedPairs.{NamedPairs}
 use Rattle.mt_couples.specs.declared.recheck.Recheck.{Recheck}
 use Rattle.mt_couples.specs.declared.watch.Watch.{Watch}
@@ -130,6 +131,10 @@ open_pairs k s w p ws c watching known reopened =
   where
     no_later : (a b : ℕ) → nat_le a b ≡ true → a ≤ b
     no_later a b le = grind (arith, nat_tests, le)
+
+-- the members of each couple are found that is reopened by an option at a program
+abbrev pub AddsCouples : ℕ → Assigned → ℕ → List Agent → List ℕ → Type 0
+AddsCouples k s p ws found = (c a : ℕ) → is_reopened k s (p ∷ []) ws (Couple c) ≡ true → agent_of s.market a ≡ Couple c → has found a ≡ true
 
 -- Each agent that is reopened by an option at a program is found there.
 pub covers_one : (k : ℕ) (s : Assigned) (w : Watch) (p : ℕ) (ws : List Agent) (mid new : List ℕ) → IsWatching k s ws w → p < length s.market.programs
@@ -246,11 +251,6 @@ module _ (k : ℕ) (s : Assigned) (ps : List ℕ) (wf : IsWellFormed s.market) (
         | inr after ↦ (let l = coming w.0 after w.1 in omega arith)
       ])
 
--- a value that holds once both of two do, in a result
-pub both_ok : {T X : Type 0} {A B C : Type 0} (r : Result T X) → OnOk r A → OnOk r B → (A → B → C) → OnOk r C
-both_ok (Ok x) a b f = f a b
-both_ok (Err e) a b f = tt
-
 -- if a program has no post for a rank, it has none for a later one
 pub later_closed : (s : Assigned) (p r q : ℕ) → r ≤ q → has_post s p r ≡ false → has_post s p q ≡ false
 later_closed s p r q later none = more (ahead s p r) (ahead s p q) (program_of s.market p).quota (counts (at s.places p) (program_of s.market p).ranking r q later) none
@@ -263,10 +263,6 @@ later_closed s p r q later none = more (ahead s p r) (ahead s p q) (program_of s
 
     more : (a b quota : ℕ) → a ≤ b → nat_lt a quota ≡ false → nat_lt b quota ≡ false
     more a b quota le none = grind (arith, nat_tests, le, none)
-
--- what is past the end of a list of entries
-abbrev pub no_pairs : NamedPairs
-no_pairs = record { couple = 0; from = 0; until = 0 }
 
 -- Below, a single at a rank of a program's list is found if it has a better option there that would be taken.
 module _ (s : Assigned) (p : ℕ) where
@@ -297,20 +293,47 @@ module _ (s : Assigned) (p : ℕ) where
       within_at : (a : ℕ) → rank_of s.market p a ≡ Some r → a < applicants s.market
       within_at a ranked = ok.well_formed.rankings_within p a (has_rank (program_of s.market p).ranking a r ranked)
 
--- Below, the members of a couple are found that is indexed at a program.
-module _ (k : ℕ) (s : Assigned) (p : ℕ) (ws : List Agent) where
-  -- they are found if it is reopened
-  abbrev pub AreFoundBy : Watch → List ℕ → NamedPairs → Type 0
-  AreFoundBy w found n = is_couple_reopened k s w p ws n ≡ true → (a : ℕ) → agent_of s.market a ≡ Couple n.couple → has found a ≡ true
+-- the members of a couple are found
+abbrev pub AreFound : Assigned → List ℕ → ℕ → Type 0
+AreFound s found c = (a : ℕ) → agent_of s.market a ≡ Couple c → has found a ≡ true
 
-  pub found_both : (found : List ℕ) (c x y : ℕ) → x ≡ (couple_of s.market c).first → y ≡ (couple_of s.market c).second
-      → (a : ℕ) → agent_of s.market a ≡ Couple c → has ((found ++ x ∷ []) ++ y ∷ []) a ≡ true
-  found_both found c x y is_first is_second a of_a =
-      elim (one_of_two (couple_of s.market c).first (couple_of s.market c).second a (subst (λ g. has (members s.market g) a ≡ true) of_a (member_of_agent s.market a))) [
-        | inl first ↦ has_front (found ++ x ∷ []) (y ∷ []) a (subst (λ z. has (found ++ x ∷ []) z ≡ true) (is_first ∙ first) (has_end found x))
-        | inr second ↦ subst (λ z. has ((found ++ x ∷ []) ++ y ∷ []) z ≡ true) (is_second ∙ second) (has_end (found ++ x ∷ []) y)
-      ]
+-- so they are once both were put at the end
+pub found_both : (s : Assigned) (found : List ℕ) (c x y : ℕ) → x ≡ (couple_of s.market c).first → y ≡ (couple_of s.market c).second → AreFound s ((found ++ x ∷ []) ++ y ∷ []) c
+found_both s found c x y is_first is_second a of_a =
+    elim (one_of_two (couple_of s.market c).first (couple_of s.market c).second a (subst (λ g. has (members s.market g) a ≡ true) of_a (member_of_agent s.market a))) [
+      | inl first ↦ has_front (found ++ x ∷ []) (y ∷ []) a (subst (λ z. has (found ++ x ∷ []) z ≡ true) (is_first ∙ first) (has_end found x))
+      | inr second ↦ subst (λ z. has ((found ++ x ∷ []) ++ y ∷ []) z ≡ true) (is_second ∙ second) (has_end (found ++ x ∷ []) y)
+    ]
 
 -- applicants of a market, and one more
 pub within_more : (m : Market) (xs : List ℕ) (x : ℕ) → AreApplicantsOf m xs → x < applicants m → AreApplicantsOf m (xs ++ x ∷ [])
 within_more m xs x all within a on = elim (has_parts xs x a on) [ inl earlier ↦ all a earlier | inr here ↦ subst (λ y. y < applicants m) here within ]
+
+-- one more is added
+pub adds_one : (m : Market) (old now : List ℕ) (x : ℕ) → Adds m old now → x < applicants m → Adds m old (now ++ x ∷ [])
+adds_one m old now x so_far within = record {
+  keeps = λ a on. has_front now (x ∷ []) a (so_far.keeps a on);
+  within = λ all. within_more m now x (so_far.within all) within;
+}
+
+-- some are added after others
+pub adds_more : (m : Market) (old mid new : List ℕ) → Adds m old mid → Adds m mid new → Adds m old new
+adds_more m old mid new first second = record { keeps = λ a on. second.keeps a (first.keeps a on); within = λ all. second.within (first.within all) }
+
+-- Below, the couples that are reopened at a program are found by its index.
+module _ (t : Recheck) (p : ℕ) (w : Waiting) where
+  -- each couple that is reopened by an option there is one of them
+  pub reopened_in : IsIndexedFor t w → p < length (market_of t).programs → (c : ℕ) → is_reopened t.last t.assignment.now (p ∷ []) w.agents (Couple c) ≡ true
+      → has (reopened_couples t p w) c ≡ true
+  reopened_in indexed known c reopened =
+      let n = open_pairs t.last t.assignment.now t.watch.now p w.agents c (watching_by t w.agents indexed) known reopened in
+      let kept = in_kept (which_at t p w) n.0 (row_at t.watch.now.couples.rows p) n.1 n.3 in
+      in_has c (reopened_couples t p w) (subst (λ d. In d (reopened_couples t p w)) n.2 (in_image (λ (x : NamedPairs). x.couple) n.0 (filter (which_at t p w) (row_at t.watch.now.couples.rows p)) kept))
+
+  -- they are of the market
+  pub reopened_within : (c : ℕ) → has (reopened_couples t p w) c ≡ true → c < length (market_of t).couples
+  reopened_within c on =
+      let named = row_at t.watch.now.couples.rows p in
+      let n = of_image (λ (x : NamedPairs). x.couple) c (filter (which_at t p w) named) (has_in c (reopened_couples t p w) on) in
+      let at = index_of n.0 named (of_kept (which_at t p w) n.0 named n.1).0 in
+      subst (λ d. d < length (market_of t).couples) n.2 (named_within (market_of t) t.watch.now.couples p named at.0 n.0 t.named refl at.1 at.2)

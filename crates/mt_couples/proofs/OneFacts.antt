@@ -20,14 +20,16 @@ use Rattle.mt_round_laws.proofs.RoundsAgents.{IsAgent, agent_of_applicant, coupl
 use Rattle.mt_stage_tables.specs.Waiting.{with_agents, Waiting}
 use Rattle.mt_stage_tables.proofs.OrderFacts.{has_at}
 use Rattle.mt_assignment.specs.Assigned.{has_post, Assigned, IsAssigned}
-use Rattle.mt_couples.specs.Looking.{has_wanted_post, AddsCouples, IsClosed, IsOpenFrom}
+use Rattle.mt_couples.specs.Looking.{has_wanted_post, IsClosed, IsOpenFrom}
+use Rattle.mt_couples.specs.Rechecks.{market_of, reopened_couples, IsIndexedFor}
+use Rattle.mt_couples.specs.declared.recheck.Recheck.{Recheck}
 use Rattle.mt_couples.specs.Waiting.{blockers}
 use Rattle.mt_assignment.specs.Moves.{names_one_of, opens}
 use Rattle.mt_couples.specs.Running.{is_quiet_single, is_reopened, singles_quiet}
 use Rattle.mt_assignment.specs.Watched.{better_entries, ranks_at, wanted, AreWatched}
 use Rattle.mt_assignment.proofs.EntryFacts.{entry_in, entry_wanted}
 use Rattle.mt_assignment.proofs.LiveFacts.{better_single, opens_live, post_for}
-use Rattle.mt_couples.proofs.LookFacts.{any_default, at_rank, open_at, open_single, passes_joined, passes_skipped, passing, rank_at_place, reopened_before, Rest}
+use Rattle.mt_couples.proofs.LookFacts.{any_default, at_rank, open_at, open_single, passes_joined, passes_skipped, passing, rank_at_place, reopened_before, reopened_in, AddsCouples, Rest}
 use Rattle.mt_stage_tables.proofs.PlaceFacts.{has_read}
 use Rattle.mt_assignment.proofs.RankFacts.{rank_there}
 
@@ -120,12 +122,13 @@ passes_found k s ps wf start all xs now new i a within read a_in looking single 
       passes_joined k s ps wf start all xs now new i a within read looking reopened (is ∙ ap (λ g. with_agents now (joined now.agents g)) (sym single))
 ]
 
--- if no member of a couple is found, no couple is reopened
-pub no_couples : {Z : Type 0} (k : ℕ) (s : Assigned) (p : ℕ) (ws : List Agent) (found : Vec ℕ Z) (is_none : Bool)
-    → is_none ≡ (vec_len found == 0) → is_none ≡ true → AddsCouples k s p ws found.items → AddsCouples k s p ws []
-no_couples k s p ws found is_none is none adds =
-    let empty : vec_len found ≡ 0 = eqb-true (vec_len found) 0 (sym is ∙ none) in
-    subst (AddsCouples k s p ws) (nil_from_length found.items (omega (arith, found.ok.0, empty))) adds
+-- if no couple is found by the index, no couple is reopened
+pub no_couples : {Z : Type 0} (t : Recheck) (p : ℕ) (w : Waiting) (couples : Vec ℕ Z) (is_none : Bool) → is_none ≡ (vec_len couples == 0) → is_none ≡ true
+    → couples.items ≡ reopened_couples t p w → IsIndexedFor t w → p < length (market_of t).programs → AddsCouples t.last t.assignment.now p w.agents []
+no_couples t p w couples is_none is none found indexed known c a reopened of_a =
+    let empty : vec_len couples ≡ 0 = eqb-true (vec_len couples) 0 (sym is ∙ none) in
+    let nobody : couples.items ≡ [] = nil_from_length couples.items (omega (arith, couples.ok.0, empty)) in
+    absurd (false≢true (ap (λ xs. has xs c) (sym nobody ∙ found) ∙ reopened_in t p w indexed known c reopened))
 
 -- Below, the singles are watched, and no couple is reopened by an option at program p.
 module _ (k : ℕ) (s : Assigned) (p : ℕ) (ok : IsAssigned s) (known : p < length s.market.programs) (rows : List (List Bool))

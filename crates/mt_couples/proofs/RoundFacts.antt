@@ -5,13 +5,12 @@ use Rattle.std.proofs.lemmas.Bool.{or_left}
 use Rattle.mt_terms.specs.Market.{Market, agents, IsAgentOf}
 use Rattle.mt_terms.specs.Matching.{Places, Placement, holds, options, better}
 use Rattle.mt_terms.specs.Stability.{would_be_taken, fits}
-use Rattle.mt_terms.specs.Places.{ArePlaces}
 use Rattle.mt_terms.specs.WellFormed.{IsWellFormed}
 use Rattle.mt_terms.specs.Rounds.{is_same_agent, first_taken, round_of, after_rounds, Work, IsFittingState, is_on}
 use Rattle.mt_terms.specs.declared.numbers.Agent.{Agent}
 use Rattle.mt_round_laws.proofs.RoundsLists.{In, of_until}
 use Rattle.mt_round_laws.proofs.RoundsAgents.{is_same_agent_refl, agent_from_list, of_list}
-use Rattle.mt_round_laws.proofs.RoundsFits.{fitting_facts, listing_program}
+use Rattle.mt_round_laws.proofs.RoundsFits.{fitting_facts}
 use Rattle.mt_round_laws.proofs.RoundsKeep.{fitting_round, found_first}
 use Rattle.mt_stage_tables.specs.Waiting.{waiting_first, Waiting}
 use Rattle.mt_assignment.specs.Assigned.{Assigned, AreListed}
@@ -93,11 +92,6 @@ settling_more k quiet budget start now next waits waiting rest waiting' left g s
       within = (let l = so_far.within in omega arith);
     }
 
--- a match that fits has a place in the market for each applicant
-pub places_of_fitting : (m : Market) (places : Places) → IsWellFormed m → fits m places ≡ true → ArePlaces m places
-places_of_fitting m places wf fit =
-    let facts = fitting_facts m wf places fit in
-    record { one_each = facts.one_each; within = λ a p there. listing_program m p a (facts.listed a p there) }
-
+-- in a match that fits each applicant is at a program that lists it
 pub listed_of_fitting : (m : Market) (places : Places) → IsWellFormed m → fits m places ≡ true → AreListed m places
 listed_of_fitting m places wf fit = (fitting_facts m wf places fit).listed

@@ -1,6 +1,5 @@
 pub mod Ended
 pub mod Looking
-pub mod Reaching
 pub mod Rechecks
 pub mod Returning
 pub mod Running

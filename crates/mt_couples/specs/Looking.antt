@@ -7,7 +7,7 @@ use Rattle.mt_terms.specs.declared.numbers.Agent.{Agent}
 use Rattle.mt_terms.specs.declared.numbers.Agent.TheVariants.{Single, Couple}
 use Rattle.mt_ranks.specs.Ranked.{rank_of}
 use Rattle.mt_bits.specs.Members.{IsFirstFrom}
-use Rattle.mt_assignment.specs.Assigned.{has_post, Assigned}
+use Rattle.mt_assignment.specs.Assigned.{has_post, Assigned, AreApplicantsOf}
 use Rattle.mt_assignment.specs.Moves.{opens}
 use Rattle.mt_couples.specs.Running.{is_idle, is_reopened}
 use Rattle.mt_stage_tables.specs.Indexing.{end_of}
@@ -29,9 +29,10 @@ pub record IsWatching (k : ℕ) (s : Assigned) (waiting : List Agent) (w : Watch
   pub counted : AreCounted s w.better.items
   pub indexed : AreIndexed k waiting w
 
--- nobody is lost from a list
-abbrev pub Keeps : List ℕ → List ℕ → Type 0
-Keeps old new = (a : ℕ) → has old a ≡ true → has new a ≡ true
+-- applicants of a market were added to some, and nobody was lost
+pub record Adds (m : Market) (old new : List ℕ) : Type 0 where
+  pub keeps : (a : ℕ) → has old a ≡ true → has new a ≡ true
+  pub within : AreApplicantsOf m old → AreApplicantsOf m new
 
 -- the first of some ranks on a program's list that isn't below a number, and the program has a post for it
 pub record IsOpenFrom (s : Assigned) (p : ℕ) (ranks : Set) (number r : ℕ) : Type 0 where
@@ -62,11 +63,6 @@ AddsSingles s p ranks found =
 abbrev pub is_couple_reopened : ℕ → Assigned → Watch → ℕ → List Agent → NamedPairs → Bool
 is_couple_reopened k s w p waiting n =
     is_idle k waiting (Couple n.couple) && opens_between s n.couple p n.from (end_of n.until (slice_index_or w.better.items n.couple 0))
-
--- the members of each couple are found that is reopened by an option at the program
-abbrev pub AddsCouples : ℕ → Assigned → ℕ → List Agent → List ℕ → Type 0
-AddsCouples k s p waiting found =
-    (c a : ℕ) → is_reopened k s (p ∷ []) waiting (Couple c) ≡ true → agent_of s.market a ≡ Couple c → has found a ≡ true
 
 -- these are the ranks of some applicants on a program's list
 pub record AreRanksOf (m : Market) (p : ℕ) (xs ranks : List ℕ) : Type 0 where

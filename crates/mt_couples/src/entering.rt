@@ -3,26 +3,16 @@ ghost use Rattle.mt_terms.specs.Rounds.{stage};
 ghost use Rattle.mt_terms.specs.Best.{IsBest};
 ghost use Rattle.mt_terms.specs.Stability.{fits, stable};
 ghost use Rattle.mt_ranks.specs.Ranked.{ranked_of};
-ghost use Rattle.mt_couples.specs.Ended.{IfSpent, IsSpent};
-ghost use Rattle.mt_couples.specs.Reaching.{IsStuck, Leads};
+ghost use Rattle.mt_entry.specs.Ended.{IfSpent, IsSpent};
+ghost use Rattle.mt_entry.specs.Reaching.{IsStuck, Leads};
 
-use crate::rounds::{CoupleEnd, Entered, Stage};
+use crate::rounds::Stage;
+use mt_entry::{CoupleEnd, CouplesStage, Entered, RankedMarket, Reached};
 use mt_market::Roster;
 use mt_ranks::Ranks;
 use mt_terms::{CoupleNo, Match};
 use std::alloc::{AllocError, Global};
 use std::thread::Threads;
-
-/// How far couples have entered.
-#[derive(Drop)]
-pub struct Reached {
-    /// The match that they have entered.
-    pub matched: Match,
-    /// How many have entered: the couples below this number.
-    pub entered: u32,
-    /// How many rounds are left of the budget.
-    pub left: u32,
-}
 
 /// Lets the couples enter a match of the singles, in order of their numbers (Roth and Peranson 1999). The order of the
 /// rounds is this project's own rule.
@@ -113,4 +103,29 @@ pub fn enter_from<'a, R: Threads + Sync>(
         entered: until,
         left,
     })
+}
+
+/// The rounds of Roth and Peranson (1999), as `enter_all` and `enter_from` make them.
+pub struct RothPeranson;
+
+impl CouplesStage for RothPeranson {
+    fn enter_all<R: Threads + Sync>(
+        rt: &R,
+        alloc: Global,
+        market: RankedMarket<'_>,
+        singles: Match,
+        budget: u32,
+    ) -> Result<Entered, CoupleEnd> {
+        enter_all(rt, alloc, market.roster, market.ranks, singles, budget)
+    }
+
+    fn enter_from<R: Threads + Sync>(
+        rt: &R,
+        alloc: Global,
+        market: RankedMarket<'_>,
+        start: Reached,
+        until: u32,
+    ) -> Result<Reached, AllocError> {
+        enter_from(rt, alloc, market.roster, market.ranks, start, until)
+    }
 }

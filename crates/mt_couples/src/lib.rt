@@ -7,5 +7,5 @@ mod returning;
 mod rounds;
 mod watch;
 
-pub use entering::{Reached, enter_all, enter_from};
-pub use rounds::{CoupleEnd, Entered, Spent};
+pub use entering::{RothPeranson, enter_all, enter_from};
+pub use mt_entry::{CoupleEnd, Entered, Reached, Spent};

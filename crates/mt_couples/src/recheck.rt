@@ -1,4 +1,4 @@
-ghost use Rattle.std.specs.Prelude.{◌≡◌, ◌≤◌, ◌<◌, ℕ, length, [], ◌∷◌, IfNone, IfOk, IfSome, IsFalse, IsTrue, OnOk};
+ghost use Rattle.std.specs.Prelude.{◌≡◌, ◌<◌, length, [], ◌∷◌, IfNone, IfOk, IfSome, IsFalse, IsTrue, OnOk};
 ghost use Rattle.std.specs.List.Sorted.{IsNonDecreasing};
 ghost use Rattle.mt_terms.specs.Rounds.{has_entered};
 ghost use Rattle.mt_terms.specs.WellFormed.{IsWellFormed};
@@ -7,7 +7,7 @@ ghost use Rattle.mt_bits.specs.Members.{is_in};
 ghost use Rattle.mt_stage_tables.specs.Named.{AreNamed};
 ghost use Rattle.mt_assignment.specs.Assigned.{AreApplicantsOf, AreProgramsOf};
 ghost use Rattle.mt_assignment.specs.Watched.{AreWatched};
-ghost use Rattle.mt_couples.specs.Looking.{has_wanted_post, AreClosedFrom, AreRanksOf, IsOpenFrom, Keeps};
+ghost use Rattle.mt_couples.specs.Looking.{has_wanted_post, Adds, AreClosedFrom, AreRanksOf, IsOpenFrom};
 ghost use Rattle.mt_couples.specs.Waiting.{Joins};
 ghost use Rattle.mt_couples.specs.Watching.{AreCounted};
 
@@ -116,7 +116,7 @@ fn ranks_of(
 }
 
 impl<'s, 'a> Recheck<'s, 'a> {
-    ghost use Rattle.mt_couples.specs.Rechecks.{blockers_at, blockers_of_all, is_reopened_at, joining_moved, market_of, which_at, which_of, CoversAll, FindsCouples, FindsSingles, HaveAll, IsIndexedFor, IsListFor, IsQuietAround};
+    ghost use Rattle.mt_couples.specs.Rechecks.{blockers_at, blockers_of_all, couple_at, is_reopened_at, joining_moved, market_of, reopened_couples, which_at, CoversAll, FindsSingles, HaveAll, IsIndexedFor, IsListFor, IsQuietAround, IsReadyFor};
 
     /// Whether the agent has entered, doesn't wait, and has a better option at one of these programs that would be
     /// taken. The work list is asked last: few agents have such an option.
@@ -137,11 +137,9 @@ impl<'s, 'a> Recheck<'s, 'a> {
         ranks: &RankRow<'_>,
         found: &mut Vec<AppNo>,
     ) -> Result<(), AllocError>
-        requires program { program < length (market_of self.now).programs }
-        requires found { AreApplicantsOf (market_of self.now) found.old.items }
-        ensures found { OnOk result (AreApplicantsOf (market_of self.now) found.new.items) }
-        ensures keeps { OnOk result (Keeps found.old.items found.new.items) }
-        ensures adds { OnOk result (FindsSingles self.now program (is_in ranks.now) found.new.items) }
+        requires { program < length (market_of self.now).programs }
+        ensures adds { OnOk result (Adds (market_of self.now) found.old.items found.new.items) }
+        ensures singles { OnOk result (FindsSingles self.now program (is_in ranks.now) found.new.items) }
     {
         let ranking = self.assignment.ranking(program);
         let mut next = 0;
@@ -169,99 +167,30 @@ impl<'s, 'a> Recheck<'s, 'a> {
             && !waiting.is_waiting(&agent)
     }
 
-    /// Adds the members of the couples that are reopened by an option at the program, if few couples are indexed there.
-    fn add_few_members(
-        &self,
-        program: ProgNo,
-        waiting: &WorkList,
-        found: &mut Vec<AppNo>,
-    ) -> Result<(), AllocError>
-        requires program { program < length (market_of self.now).programs }
-        requires indexed { IsIndexedFor self.now waiting.now }
-        requires found { AreApplicantsOf (market_of self.now) found.old.items }
-        ensures found { OnOk result (AreApplicantsOf (market_of self.now) found.new.items) }
-        ensures keeps { OnOk result (Keeps found.old.items found.new.items) }
-        ensures adds { OnOk result (FindsCouples self.now program waiting.now found.new.items) }
-    {
-        for pairs in self.watch.couples(program) {
-            if self.is_couple_reopened(program, pairs, waiting) {
-                let (first, second) = self.assignment.members(pairs.couple);
-                found.push(first)?;
-                found.push(second)?;
-            }
-        }
-        Ok(())
-    }
-
-    /// For each couple that is indexed at the program whether it is reopened there. They are asked side by side.
-    fn which_reopened<R: Threads + Sync>(
+    /// The couples that are reopened by an option at the program, of those that are indexed there. Many are asked side by
+    /// side.
+    fn reopened_couples<R: Threads + Sync>(
         &self,
         rt: &R,
         program: ProgNo,
         waiting: &WorkList,
-    ) -> Result<Vec<bool>, AllocError>
-        ensures { IfOk result (λ v. v.items ≡ which_of self.now program waiting.now) }
+    ) -> Result<Vec<CoupleNo>, AllocError>
+        ensures { IfOk result (λ v. v.items ≡ reopened_couples self.now program waiting.now) }
     {
         self.watch
             .couples(program)
             .par_iter()
             .with_min_len(LEAST_ENTRIES)
-            .map(
-                |pairs: &NamedPairs| -> bool
+            .filter_map(
+                |pairs: &NamedPairs| -> Option<CoupleNo>
                     requires { pairs.now.couple < length (market_of self.now).couples }
-                    ensures { result ≡ which_at self.entry.now program waiting.entry.now pairs.now }
-                { self.is_couple_reopened(program, pairs, waiting) },
+                    ensures { result ≡ couple_at self.entry.now program waiting.entry.now pairs.now }
+                {
+                    self.is_couple_reopened(program, pairs, waiting)
+                        .then_some(pairs.couple)
+                },
             )
             .collect(rt, self.alloc)
-    }
-
-    /// The same if many are indexed there.
-    fn add_many_members<R: Threads + Sync>(
-        &self,
-        rt: &R,
-        program: ProgNo,
-        waiting: &WorkList,
-        found: &mut Vec<AppNo>,
-    ) -> Result<(), AllocError>
-        requires program { program < length (market_of self.now).programs }
-        requires indexed { IsIndexedFor self.now waiting.now }
-        requires found { AreApplicantsOf (market_of self.now) found.old.items }
-        ensures found { OnOk result (AreApplicantsOf (market_of self.now) found.new.items) }
-        ensures keeps { OnOk result (Keeps found.old.items found.new.items) }
-        ensures adds { OnOk result (FindsCouples self.now program waiting.now found.new.items) }
-    {
-        let reopened = self.which_reopened(rt, program, waiting)?;
-        let named = self.watch.couples(program);
-        for index in 0..named.len() {
-            if reopened[index] {
-                let (one, other) = self.assignment.members(named[index].couple);
-                found.push(one)?;
-                found.push(other)?;
-            }
-        }
-        Ok(())
-    }
-
-    /// Adds the members of the couples that are reopened by an option at the program.
-    fn add_members<R: Threads + Sync>(
-        &self,
-        rt: &R,
-        program: ProgNo,
-        waiting: &WorkList,
-        found: &mut Vec<AppNo>,
-    ) -> Result<(), AllocError>
-        requires program { program < length (market_of self.now).programs }
-        requires indexed { IsIndexedFor self.now waiting.now }
-        requires found { AreApplicantsOf (market_of self.now) found.old.items }
-        ensures found { OnOk result (AreApplicantsOf (market_of self.now) found.new.items) }
-        ensures keeps { OnOk result (Keeps found.old.items found.new.items) }
-        ensures adds { OnOk result (FindsCouples self.now program waiting.now found.new.items) }
-    {
-        if self.watch.couples(program).len() / 2 < LEAST_ENTRIES {
-            self.add_few_members(program, waiting, found)
-        } else {
-            self.add_many_members(rt, program, waiting, found)
-        }
     }
 
     /// Adds all applicants whose agents are reopened by an option at the program.
@@ -274,13 +203,17 @@ impl<'s, 'a> Recheck<'s, 'a> {
     ) -> Result<(), AllocError>
         requires program { program < length (market_of self.now).programs }
         requires indexed { IsIndexedFor self.now waiting.now }
-        requires found { AreApplicantsOf (market_of self.now) found.old.items }
-        ensures found { OnOk result (AreApplicantsOf (market_of self.now) found.new.items) }
-        ensures keeps { OnOk result (Keeps found.old.items found.new.items) }
+        ensures adds { OnOk result (Adds (market_of self.now) found.old.items found.new.items) }
         ensures covers { OnOk result (CoversAll self.now (program ∷ []) waiting.now found.new.items) }
     {
         self.add_by_rank(program, &self.watch.singles(program), found)?;
-        self.add_members(rt, program, waiting, found)
+        let couples = self.reopened_couples(rt, program, waiting)?;
+        for couple in &couples {
+            let (first, second) = self.assignment.members(*couple);
+            found.push(first)?;
+            found.push(second)?;
+        }
+        Ok(())
     }
 
     /// All applicants whose agents are reopened by an option at a program that was left.
@@ -342,16 +275,13 @@ impl<'s, 'a> Recheck<'s, 'a> {
         program: ProgNo,
         waiting: &mut WorkList,
     ) -> Result<bool, AllocError>
-        requires program { program < length (market_of self.now).programs }
-        requires indexed { IsIndexedFor self.now waiting.old }
-        requires list { IsListFor self.now waiting.old }
-        requires quiet { IsQuietAround self.now (program ∷ []) waiting.old }
+        requires ready { IsReadyFor self.now (program ∷ []) waiting.old }
+        requires quiet { IsTrue self.now.quiet }
         ensures done { IfOk result (λ b. IsTrue b → Joins waiting.old waiting.new (blockers_at self.now program)) }
         ensures not_done { IfOk result (λ b. IsFalse b → waiting.new ≡ waiting.old) }
     {
-        let mut members = Vec::new(self.alloc);
-        self.add_members(rt, program, waiting, &mut members)?;
-        if !members.is_empty() {
+        let couples = self.reopened_couples(rt, program, waiting)?;
+        if !couples.is_empty() {
             return Ok(false);
         }
         let ranking = self.assignment.ranking(program);
@@ -371,10 +301,8 @@ impl<'s, 'a> Recheck<'s, 'a> {
         left: &[ProgNo],
         waiting: &mut WorkList,
     ) -> Result<(), AllocError>
-        requires programs { AreProgramsOf (market_of self.now) left.now }
-        requires indexed { IsIndexedFor self.now waiting.old }
-        requires list { IsListFor self.now waiting.old }
-        requires quiet { IsQuietAround self.now left.now waiting.old }
+        requires ready { IsReadyFor self.now left.now waiting.old }
+        requires quiet { IsTrue self.now.quiet }
         ensures { OnOk result (Joins waiting.old waiting.new (blockers_of_all self.now left.now)) }
     {
         let found = self.reopened_applicants(rt, left, waiting)?;
@@ -383,28 +311,6 @@ impl<'s, 'a> Recheck<'s, 'a> {
             self.join_reopened(*program, &ranks, left, waiting)?;
         }
         Ok(())
-    }
-
-    /// Rechecks the programs that were left by the index alone. No agent that has entered and doesn't wait blocks but by
-    /// an option at such a program.
-    fn recheck_watched<R: Threads + Sync>(
-        &self,
-        rt: &R,
-        left: &[ProgNo],
-        waiting: &mut WorkList,
-    ) -> Result<(), AllocError>
-        requires programs { AreProgramsOf (market_of self.now) left.now }
-        requires indexed { IsIndexedFor self.now waiting.old }
-        requires list { IsListFor self.now waiting.old }
-        requires quiet { IsQuietAround self.now left.now waiting.old }
-        ensures { OnOk result (Joins waiting.old waiting.new (blockers_of_all self.now left.now)) }
-    {
-        if left.len() == 1 {
-            if self.recheck_one_watched(rt, left[0], waiting)? {
-                return Ok(());
-            }
-        }
-        self.recheck_several(rt, left, waiting)
     }
 
     /// Rechecks every agent of a program's list.
@@ -446,16 +352,18 @@ impl<'s, 'a> Recheck<'s, 'a> {
         left: &[ProgNo],
         waiting: &mut WorkList,
     ) -> Result<(), AllocError>
-        requires programs { AreProgramsOf (market_of self.now) left.now }
-        requires indexed { IsIndexedFor self.now waiting.old }
-        requires list { IsListFor self.now waiting.old }
-        requires quiet { IsTrue self.now.quiet → IsQuietAround self.now left.now waiting.old }
+        requires ready { IsReadyFor self.now left.now waiting.old }
         ensures { OnOk result (Joins waiting.old waiting.new (blockers_of_all self.now left.now)) }
     {
-        if self.quiet {
-            return self.recheck_watched(rt, left, waiting);
+        if !self.quiet {
+            return self.recheck_every_listed(left, waiting);
         }
-        self.recheck_every_listed(left, waiting)
+        if left.len() == 1 {
+            if self.recheck_one_watched(rt, left[0], waiting)? {
+                return Ok(());
+            }
+        }
+        self.recheck_several(rt, left, waiting)
     }
 
     /// Puts the agents of displaced applicants on the work list, and then the agent that moved, if it has a better

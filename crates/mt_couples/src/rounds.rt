@@ -5,7 +5,7 @@ ghost use Rattle.mt_ranks.specs.Ranked.{ranked_of};
 ghost use Rattle.mt_assignment.specs.Assigned.{assignment, AreListed};
 ghost use Rattle.mt_assignment.specs.Moves.{IsTaking};
 ghost use Rattle.mt_assignment.specs.Watched.{AreWatched};
-ghost use Rattle.mt_couples.specs.Ended.{IfSpent};
+ghost use Rattle.mt_entry.specs.Ended.{IfSpent};
 ghost use Rattle.mt_couples.specs.Looking.{has_wanted_post};
 ghost use Rattle.mt_couples.specs.Running.{singles_quiet};
 
@@ -13,6 +13,7 @@ use crate::recheck::{Recheck, has_wanted_post};
 use crate::returning::Returning;
 use crate::watch::Watch;
 use mt_assignment::{Assignment, no_ranks};
+use mt_entry::{CoupleEnd, Spent};
 use mt_market::Roster;
 use mt_ranks::Ranks;
 use mt_stage_tables::WorkList;
@@ -20,52 +21,10 @@ use mt_terms::{Agent, AppNo, CoupleNo, Match, Places, ProgNo};
 use rayon::prelude::*;
 use std::alloc::{AllocError, Global};
 use std::thread::Threads;
-use thiserror::Error;
 
 /// From twice as many programs on, it is asked side by side whether they have a post for somebody who wants them more.
 /// With fewer that takes less time than the start of a thread.
 const LEAST_PROGRAMS: usize = 8192;
-
-/// How far the rounds went when the budget was spent.
-#[derive(Clone, Copy, Debug, PartialEq, Eq)]
-pub struct Spent {
-    /// The couple that was entering.
-    pub couple: CoupleNo,
-    /// How many rounds were made, over all couples.
-    pub rounds: u32,
-    /// Whether a state came back, so that no budget is enough.
-    pub comes_back: bool,
-}
-
-/// Why the couples' stage did not end with a match.
-#[derive(Clone, Copy, Debug, PartialEq, Eq, Error)]
-pub enum CoupleEnd {
-    /// The rounds would be more than the budget.
-    #[error("the couples' rounds would exceed the budget")]
-    BudgetSpent(Spent),
-    /// Memory was refused.
-    #[error("out of memory")]
-    Memory,
-}
-
-impl From<AllocError> for CoupleEnd {
-    ghost use Rattle.std.specs.Prelude.{◌≡◌};
-    ghost use Rattle.mt_couples.specs.declared.rounds.CoupleEnd.TheVariants.{Memory};
-
-    ghost from_gives = { λ _ e. e ≡ Memory };
-
-    fn from(_: AllocError) -> Self {
-        CoupleEnd::Memory
-    }
-}
-
-/// The match once every couple has entered.
-#[derive(Drop)]
-pub struct Entered {
-    pub matched: Match,
-    /// How many rounds it took, over all couples.
-    pub rounds: u32,
-}
 
 /// Whether no single blocks: no program has a post for one that is watched there.
 fn are_singles_quiet<R: Threads + Sync>(rt: &R, assignment: &Assignment<'_>, watch: &Watch) -> bool

@@ -9,7 +9,7 @@ ghost use Rattle.mt_couples.specs.Watching.{sent_ones, AreCounted, Counts, Count
 
 use mt_assignment::Assignment;
 use mt_bits::{RankRow, RankTable};
-use mt_ranks::Live;
+use mt_ranks::PackedLive;
 use mt_stage_tables::{NamedPairs, PairIndex};
 use mt_terms::{Agent, AppNo, CoupleNo, ProgNo};
 use std::alloc::{AllocError, Global};
@@ -45,10 +45,11 @@ fn better_counts(alloc: Global, assignment: &Assignment<'_>) -> Result<Vec<usize
 }
 
 /// Watches the rank of each of these entries at its program.
-fn watch_each(table: &mut RankTable, entries: &[Live]) -> Result<(), AllocError>
+fn watch_each(table: &mut RankTable, entries: &[PackedLive]) -> Result<(), AllocError>
     ensures { OnOk result (Watches table.old table.new entries.now) }
 {
     for entry in entries {
+        let entry = entry.unpacked();
         let program = entry.program.index();
         if program < table.len() {
             table.insert(program, entry.rank)?;
@@ -58,10 +59,11 @@ fn watch_each(table: &mut RankTable, entries: &[Live]) -> Result<(), AllocError>
 }
 
 /// Watches none of these entries' ranks any more.
-fn unwatch_each(table: &mut RankTable, entries: &[Live])
+fn unwatch_each(table: &mut RankTable, entries: &[PackedLive])
     ensures { Unwatches table.old table.new entries.now }
 {
     for entry in entries {
+        let entry = entry.unpacked();
         let program = entry.program.index();
         if program < table.len() {
             table.remove(program, entry.rank);

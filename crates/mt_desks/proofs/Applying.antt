@@ -1,19 +1,20 @@
 -- A step is an event of every floor that has its parts and is in step with them.
-use Rattle.std.proofs.Common.{◌≡◌, ◌==◌, ◌||◌, ◌&&◌, not, ℕ, suc, ◌+◌, ◌-◌, ◌<◌, Bool, true, false, Some, None, if◌then◌else◌, slice_get, take, refl, sym, ap, ◌∙◌, subst, arith, eq-eqb}
+use Rattle.std.proofs.Common.{◌≡◌, ◌==◌, ◌||◌, ◌&&◌, not, ℕ, suc, ◌+◌, ◌-◌, ◌<◌, Bool, true, false, Option, Some, None, if◌then◌else◌, slice_get, take, refl, sym, ap, ap₂, ◌∙◌, subst, arith, eq-eqb}
+use Rattle.std.specs.List.{find}
 use Rattle.std.proofs.Math.Path.{fun_ext}
 use Rattle.std.proofs.lemmas.Bool.{eqb-true, or_right}
 use Rattle.std.proofs.lemmas.Bool.Decides.{nat_tests}
 use Rattle.mt_terms.specs.Lists.{Set, has, with_one, without}
-use Rattle.mt_terms.specs.Market.{Market, program_of, live}
+use Rattle.mt_terms.specs.Market.{Market, Program, program_of, live}
 use Rattle.mt_terms.specs.Choice.{choice}
-use Rattle.mt_terms.specs.Floor.{Floor, after, after_proposal, proposed_at, receives_one, next_entry, last_proposed_to, is_due, is_held_by, reply_of, reply_of_proposal}
+use Rattle.mt_terms.specs.Floor.{Floor, after, after_proposal, kept_reply, proposed_at, receives_one, next_entry, last_proposed_to, is_due, is_held_by, reply_of, reply_of_proposal}
 use Rattle.mt_terms.specs.declared.events.Event.TheVariants.{Propose, Notice}
 use Rattle.mt_terms.specs.declared.events.Reply.{Reply}
-use Rattle.mt_terms.specs.declared.events.Reply.TheVariants.{Noticed, NotDue}
+use Rattle.mt_terms.specs.declared.events.Reply.TheVariants.{Noticed, NotDue, Refused}
 use Rattle.mt_floor_laws.proofs.FloorLists.{has-take-suc}
 use Rattle.mt_hold.specs.Replies.{reply_to}
 use Rattle.mt_desks.specs.Parts.{DeskView, DoorView, passed_count, received_at, held_at}
-use Rattle.mt_desks.specs.Steps.{HasParts, IsAsApply, IsDue, IsInStep, event_of, reply_of_step, stepped}
+use Rattle.mt_desks.specs.Steps.{HasParts, IsAsApply, IsDue, IsInStep, event_of, is_kept, reply_of_step, stepped}
 
 -- the door has received the desk's applicant too, and nobody else has come to it
 abbrev pub Receives : Market → DeskView → DoorView → DoorView → Type 0
@@ -30,6 +31,34 @@ floor_set m d v f parts = fun_ext parts.received
 -- after a proposal, too
 set_after : (m : Market) (d : DeskView) (v w : DoorView) (f : Floor) → Receives m d v w → HasParts m d v f → receives_one f v.program d.applicant ≡ received_at m w
 set_after m d v w f got parts = ap (λ s. with_one s d.applicant) (floor_set m d v f parts) ∙ set_is m d v w got
+
+-- an applicant that wasn't refused is held
+pub stands_if_kept : (p : Program) (set : Set) (a : ℕ) (answer : Reply) (s : Bool) → answer ≡ reply_to p set a → (answer ≡ Refused → s ≡ false) → ((answer ≡ Refused → ⊥) → s ≡ true) → s ≡ is_kept answer
+stands_if_kept p set a answer s replied refused taken = by (choice p (with_one set a) a) (find (λ b. choice p set b && not (choice p (with_one set a) b)) p.ranking) replied
+  where
+    differs : (o : Option ℕ) → kept_reply o ≡ Refused → ⊥
+    differs None e = cc
+    differs (Some b) e = cc
+
+    kept : (o : Option ℕ) → is_kept (kept_reply o) ≡ true
+    kept None = refl
+    kept (Some b) = refl
+
+    by : (b : Bool) (o : Option ℕ) → answer ≡ (if b then kept_reply o else Refused) → s ≡ is_kept answer
+    by true o e = taken (λ r. differs o (sym e ∙ r)) ∙ sym (ap is_kept e ∙ kept o)
+    by false o e = refused e ∙ sym (ap is_kept e)
+
+-- the desk after a proposal, by its parts
+abbrev moved_desk : ℕ → ℕ → Bool → ℕ → DeskView
+moved_desk a made standing credits = record { applicant = a; made = made; standing = standing; credits = credits }
+
+pub desk_moves : (m : Market) (i d : DeskView) (w : DoorView) (left : ℕ) (s : Bool) → i ≡ d → d.standing ≡ false → left + 1 ≡ i.credits → s ≡ held_at m w i.applicant
+    → moved_desk i.applicant (i.made + 1) s left ≡ stepped m d w
+desk_moves m i d w left s same free one held =
+    let less : left ≡ i.credits - 1 = omega (arith, one) in
+    ap₂ (moved_desk i.applicant (i.made + 1)) held less
+    ∙ ap (λ (x : DeskView). moved_desk x.applicant (x.made + 1) (held_at m w x.applicant) (x.credits - 1)) same
+    ∙ ap (λ b. if b then (record d { standing = held_at m w d.applicant }) else moved_desk d.applicant (d.made + 1) (held_at m w d.applicant) (d.credits - 1)) (sym free)
 
 pub proposed : (m : Market) (d : DeskView) (v : DoorView) (e : DeskView) (w : DoorView) (f : Floor) (answer : Reply) → d.standing ≡ false → IsDue m d v → e ≡ stepped m d w → w.program ≡ v.program
     → Receives m d v w → answer ≡ reply_of_step m d v → HasParts m d v f → IsAsApply m d e w f answer

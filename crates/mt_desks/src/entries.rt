@@ -34,5 +34,5 @@ pub fn entry_at(ranks: &Ranks, applicant: AppNo, place: u32) -> Live
     ensures ranked { IsRanked ranks.now }
 {
     ranks.applicants();
-    ranks.live(applicant)[place as usize]
+    ranks.live(applicant)[place as usize].unpacked()
 }

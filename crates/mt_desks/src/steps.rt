@@ -1,4 +1,4 @@
-ghost use Rattle.std.specs.Prelude.{◌≡◌, ◌<◌, ◌==◌, ◌||◌, ℕ, if◌then◌else◌, true, false};
+ghost use Rattle.std.specs.Prelude.{◌≡◌, ◌<◌, ◌==◌, ◌||◌, ℕ, if◌then◌else◌, true};
 ghost use Rattle.mt_terms.specs.Floor.{Floor};
 ghost use Rattle.mt_desks.specs.Parts.{one_more, received_at};
 ghost use Rattle.mt_desks.specs.Steps.{IsDue, IsInStep, HasParts, IsAsApply, Shows, reply_of_step, stepped};
@@ -12,35 +12,6 @@ use crate::till::Till;
 use mt_ranks::Ranks;
 use mt_terms::Reply;
 use std::sync::{Mutex, Wait};
-
-/// The applicant, which doesn't stand, proposes to the program of its next live entry.
-fn propose<K: HallName, R: Wait>(
-    rt: &R,
-    desk: &mut Desk<K>,
-    door: &mut Door<K>,
-    pass: &mut Pass<K>,
-    ranks: &Ranks,
-    till: &Mutex<Till<K>>,
-) -> Reply
-    requires ranks { ranks.now ≡ K.ranked }
-    requires due { IsDue K.ranked.market desk.old door.old }
-    requires free { desk.old.standing ≡ false }
-    ensures desk { desk.new ≡ stepped K.ranked.market desk.old door.new }
-    ensures door { door.new.program ≡ door.old.program }
-    ensures received { (b : ℕ) → received_at K.ranked.market door.new b
-        ≡ ((b == desk.old.applicant) || received_at K.ranked.market door.old b) }
-    ensures pass { pass.new ≡ one_more pass.old door.old.program desk.old.applicant }
-    ensures reply { result ≡ reply_of_step K.ranked.market desk.old door.old }
-    ensures excluded { Shows K.ranked.market desk.old.applicant door.old.program result }
-{
-    let applicant = desk.applicant;
-    let entry = entry_at(ranks, applicant, desk.made);
-    pass.count(rt, till, &mut desk.credits, entry.program, applicant);
-    desk.made += 1;
-    let reply = door.meet(ranks, applicant, entry.rank);
-    desk.standing = reply != Reply::Refused;
-    reply
-}
 
 /// The applicant, which believes that it is held, gets a notice if the program of its last entry doesn't hold it.
 fn notice<K: HallName>(desk: &mut Desk<K>, door: &mut Door<K>, ranks: &Ranks) -> Reply
@@ -93,8 +64,15 @@ pub fn step<K: HallName, R: Wait>(
         → IsAsApply K.ranked.market desk.old desk.new door.new f result }
 {
     if desk.standing() {
-        notice(desk, door, ranks)
-    } else {
-        propose(rt, desk, door, pass, ranks, till)
+        return notice(desk, door, ranks);
     }
+
+    // It doesn't stand, so it proposes to the program of its next live entry.
+    let applicant = desk.applicant;
+    let entry = entry_at(ranks, applicant, desk.made);
+    pass.count(rt, till, &mut desk.credits, entry.program, applicant);
+    desk.made += 1;
+    let reply = door.meet(ranks, applicant, entry.rank);
+    desk.standing = reply != Reply::Refused;
+    reply
 }

@@ -18,8 +18,7 @@ use Rattle.mt_terms.proofs.ListFacts.{has_item}
 use Rattle.mt_stability_laws.proofs.TakenLemmas.{at-slice_set_same}
 use Rattle.mt_verify.proofs.BlockingFacts.{element_read}
 use Rattle.mt_verify.proofs.TakenFacts.{send_both}
-use Rattle.mt_explain.specs.Explained.{both_lines, line_if}
-use Rattle.mt_explain.specs.Lines.{is_open, lines_at, option_lines}
+use Rattle.mt_explain.specs.Lines.{both_lines, is_open, line_if, lines_at, option_lines}
 use Rattle.mt_explain.specs.declared.line.Line.{Line}
 use Rattle.mt_explain.proofs.LineFacts.{AreThere, IsThere, names_program, open_if_all_chosen}
 

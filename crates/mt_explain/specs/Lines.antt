@@ -27,6 +27,15 @@ abbrev pub lines_at : Market → Places → ℕ → ℕ → Option ℕ → List 
 lines_at m moved k a None = []
 lines_at m moved k a (Some p) = line_at m moved k a p ∷ []
 
+-- none or one line, as a list
+abbrev pub line_if : Option Line → List Line
+line_if None = []
+line_if (Some line) = line ∷ []
+
+-- the lines of an option's two places, as a list
+abbrev pub both_lines : Option Line × Option Line → List Line
+both_lines x = line_if x.0 ++ line_if x.1
+
 -- the lines of an option with its number on the list: all members are first sent where it sends them
 abbrev pub option_lines : Market → Places → ℕ → Placement → List Line
 option_lines m places k sent = flat_map (λ s. lines_at m (send sent places) k s.0 s.1) sent

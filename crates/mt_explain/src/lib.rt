@@ -3,9 +3,9 @@
 #![tactic(auto)]
 
 pub mod examples;
-mod explainer;
 pub mod laws;
 mod line;
+mod options;
 
-pub use explainer::{Explainer, OptionLines};
 pub use line::{Line, Why};
+pub use options::{OptionLines, option_lines};

@@ -1,13 +1,12 @@
 -- The lines of an option name programs and applicants of the market.
-use Rattle.std.proofs.Common.{◌≡◌, ◌≢◌, ℕ, ◌<◌, List, [], ◌∷◌, ◌++◌, length, get_or, Option, Some, None, IfSome, refl, sym, ap, subst, arith}
+use Rattle.std.proofs.Common.{ℕ, ◌<◌, List, [], ◌∷◌, ◌++◌, length, get_or, Option, Some, None, IfSome, refl, sym, subst}
 use Rattle.std.proofs.lemmas.List.{get_or_default}
 use Rattle.mt_terms.specs.Market.{Market, Pair, Registered, applicants, couple_of, list_of, IsAgentOf}
 use Rattle.mt_terms.specs.Matching.{Places, Placement, couple_placement, options, send, single_placement}
 use Rattle.mt_terms.specs.Registration.Accepted.{IsRegistration}
 use Rattle.mt_terms.specs.declared.numbers.Agent.{Agent}
 use Rattle.mt_terms.specs.declared.numbers.Agent.TheVariants.{Couple, Single}
-use Rattle.mt_explain.specs.Explained.{both_lines}
-use Rattle.mt_explain.specs.Lines.{lines_at, option_lines}
+use Rattle.mt_explain.specs.Lines.{both_lines, lines_at, option_lines}
 use Rattle.mt_explain.specs.declared.line.Line.{Line}
 use Rattle.mt_explain.proofs.OptionFacts.{listed_pair, listed_program, pair_option, single_option}
 use Rattle.mt_explain_text.specs.Here.{IsHere}

@@ -6,11 +6,11 @@ use Rattle.mt_explain_text.specs.declared.lines.AgentLines.{AgentLines}
 
 -- the market with its ids
 abbrev pub registered_of : AgentLines → Registered
-registered_of t = t.explainer.registered
+registered_of t = t.tables.registered
 
 -- the places of the match
 abbrev pub places_of : AgentLines → Places
-places_of t = t.explainer.places
+places_of t = t.tables.places
 
 -- whether the lines are public ones
 abbrev pub is_public_of : AgentLines → Bool

@@ -1,25 +1,24 @@
 ghost use Rattle.std.specs.Prelude.{◌≡◌, ◌<◌, ◌≤◌, ◌+◌, ◌*◌, ◌++◌, [], length, IfSome, slice_index_or};
 ghost use Rattle.mt_terms.specs.Market.{applicants, IsAgentOf};
 ghost use Rattle.mt_terms.specs.Matching.{better, options, place_of};
-ghost use Rattle.mt_terms.specs.Places.{ArePlaces};
 ghost use Rattle.mt_terms.specs.Text.{name_of, place_text};
 ghost use Rattle.mt_terms.specs.declared.numbers.Agent.TheVariants.{Couple, Single};
-ghost use Rattle.mt_explain.specs.Explained.{both_lines, line_if};
-ghost use Rattle.mt_explain.specs.Lines.{option_lines};
+ghost use Rattle.mt_explain.specs.Lines.{both_lines, line_if, option_lines};
 ghost use Rattle.mt_explain_text.specs.Text.{above_line, above_lines, agent_id, own_line};
 ghost use Rattle.mt_explain_text.specs.Here.{IsHere};
 ghost use Rattle.mt_explain_text.specs.declared.page.TheConstants.{LINE_LEN, PAGE_LEN};
 
 use crate::fields::{ahead_of, number_of, push_number, push_told, rank_of, why_field};
 use crate::page::Page;
-use mt_explain::{Explainer, Line, OptionLines};
+use mt_explain::{Line, OptionLines, option_lines};
 use mt_market::Roster;
 use mt_terms::{Agent, AppNo, CoupleNo, ProgNo};
+use mt_verify::MatchTables;
 
 /// The lines that explain a match. Public ones have no rank, no quota and no number of applicants.
 #[derive(Drop)]
 pub struct AgentLines<'a> {
-    explainer: Explainer<'a>,
+    tables: MatchTables<'a>,
     is_public: bool,
 }
 
@@ -27,22 +26,19 @@ impl<'a> AgentLines<'a> {
     ghost use Rattle.mt_explain_text.specs.View.{is_public_of, places_of, registered_of};
 
     /// The lines of a match, public or not.
-    pub fn of(explainer: Explainer<'a>, is_public: bool) -> Self
-        ensures registered { registered_of result ≡ explainer.entry.registered }
-        ensures places { places_of result ≡ explainer.entry.places }
+    pub fn of(tables: MatchTables<'a>, is_public: bool) -> Self
+        ensures registered { registered_of result ≡ tables.entry.registered }
+        ensures places { places_of result ≡ tables.entry.places }
         ensures kind { is_public_of result ≡ is_public }
     {
-        AgentLines {
-            explainer,
-            is_public,
-        }
+        AgentLines { tables, is_public }
     }
 
     /// The market of the match.
     pub fn roster(&self) -> &'a Roster
         ensures { result.now ≡ registered_of self.now }
     {
-        self.explainer.roster()
+        self.tables.roster()
     }
 
     /// How many options the agent wants more than what it has. They are the first ones of its list.
@@ -50,7 +46,7 @@ impl<'a> AgentLines<'a> {
         requires { IsAgentOf (registered_of self.now).market agent.now }
         ensures { result ≡ length (better (registered_of self.now).market (places_of self.now) agent.now) }
     {
-        self.explainer.better_options(*agent)
+        self.tables.better_options(*agent)
     }
 
     /// Adds the line of what an agent has.
@@ -76,7 +72,7 @@ impl<'a> AgentLines<'a> {
             (option_lines m (places_of self.now) option (slice_index_or (options m agent.now) option [])) }
     {
         self.roster().is_of_a_file();
-        let lines = self.explainer.option_lines(*agent, option);
+        let lines = option_lines(&self.tables, *agent, option);
         self.push_lines(page, agent, &lines);
     }
 
@@ -101,8 +97,8 @@ impl<'a> AgentLines<'a> {
             (is_public_of self.now) (Single applicant) }
     {
         let agent = Agent::Single(applicant);
-        let choice = number_of(self.explainer.held_option(agent));
-        let rank = number_of(self.explainer.rank_at_place(applicant));
+        let choice = number_of(self.tables.held_option(agent));
+        let rank = number_of(self.tables.rank_at_place(applicant));
         page.push(b"applicant");
         page.push_field(self.applicant_id(applicant));
         page.push_field(self.place_id(applicant));
@@ -120,7 +116,7 @@ impl<'a> AgentLines<'a> {
     {
         let agent = Agent::Couple(couple);
         let (first, second) = self.roster().members(couple);
-        let choice = number_of(self.explainer.held_option(agent));
+        let choice = number_of(self.tables.held_option(agent));
         page.push(b"couple");
         page.push_field(self.couple_id(couple));
         page.push_field(self.place_id(first));
@@ -215,7 +211,7 @@ impl<'a> AgentLines<'a> {
             (place_of (places_of self.now) applicant) }
         ensures short { length result.now ≤ 64 }
     {
-        match self.explainer.matched().place(applicant) {
+        match self.tables.matched().place(applicant) {
             Some(program) => self.program_id(program),
             None => b"-",
         }

@@ -1,6 +1,6 @@
 -- What an answer says: the lines are so, or the refusal is named.
-use Rattle.std.proofs.Common.{◌≡◌, ◌≢◌, ℕ, ◌<◌, Bool, true, ◌==◌, List, [], ◌∷◌, length, Option, Some, None, Result, Ok, Err, refl, sym, ap, ◌∙◌, subst, inl, inr, arith}
-use Rattle.std.specs.Prelude.{◌↔◌, codes}
+use Rattle.std.proofs.Common.{◌≡◌, ◌≢◌, ℕ, ◌<◌, Bool, List, [], Option, Some, None, Result, Ok, Err, refl, sym, ap, ◌∙◌, subst, inl, inr, arith}
+use Rattle.std.specs.Prelude.{codes}
 use Rattle.mt_terms.specs.Market.{Market, Registered}
 use Rattle.mt_terms.specs.Matching.{Places}
 use Rattle.mt_terms.specs.Places.{ArePlaces}

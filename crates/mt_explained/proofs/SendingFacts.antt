@@ -4,10 +4,11 @@ use Rattle.std.specs.Prelude.{OnErr, OnOk, is_ok}
 use Rattle.std.specs.Io.KnownBytes.{Appends}
 use Rattle.std.proofs.lemmas.Bool.{true≢false}
 use Rattle.std.proofs.lemmas.List.{append-nil, take_all}
-use Rattle.mt_report.specs.Drains.{IsWritten}
+use Rattle.mt_report.specs.Drains.{IsWritten, contents_of, failures_of}
 use Rattle.mt_report.proofs.AppendsFacts.{Appends-then}
 use Rattle.mt_explained.specs.Answer.{IsGiven}
-use Rattle.mt_explained.specs.Sending.{Breaks, Sends}
+use Rattle.mt_report.specs.declared.drain.Drain.{Drain}
+use Rattle.mt_explained.specs.Sending.{Breaks, IsCut, IsSent, Sends}
 
 Appends-nothing : (a : Option (List ℕ)) → Appends a a []
 Appends-nothing None = tt
@@ -70,6 +71,22 @@ breaks_more a b p x y broken =
 pub breaks_in : (a b c : Option (List ℕ)) (p q x y z text : List ℕ) → Sends a b p q x → Breaks b c q y → x ++ (y ++ z) ≡ text → Breaks a c p text
 breaks_in a b c p q x y z text first broken is =
     subst (Breaks a c p) is (breaks_after a b c p q x (y ++ z) first (breaks_more b c q y z broken))
+
+-- the same of a writer that failed once
+pub cut_in : {W : Type 0} (contents : W → Option (List ℕ)) (d e f : Drain W) (p q x y z text : List ℕ) → IsSent contents d e p q x
+    → Breaks (contents_of contents e) (contents_of contents f) q y → failures_of f ≡ failures_of e + 1 → x ++ (y ++ z) ≡ text → IsCut contents d f p text
+cut_in contents d e f p q x y z text first broken failed is = record {
+  breaks = breaks_in (contents_of contents d) (contents_of contents e) (contents_of contents f) p q x y z text first.sends broken is;
+  one_failed = failed ∙ ap (λ (n : ℕ). n + 1) first.none_failed;
+}
+
+-- and of one that failed once before the text
+pub cut_before : {W : Type 0} (contents : W → Option (List ℕ)) (d e : Drain W) (p text : List ℕ) → Breaks (contents_of contents d) (contents_of contents e) p []
+    → failures_of e ≡ failures_of d + 1 → IsCut contents d e p text
+cut_before contents d e p text broken failed = record {
+  breaks = breaks_more (contents_of contents d) (contents_of contents e) p [] text broken;
+  one_failed = failed;
+}
 
 -- the writer took the first bytes of the page
 pub broken_page : (old new : Option (List ℕ)) (page text : List ℕ) (written : ℕ) (whole : Bool) → text ≡ page → IsWritten text old new written whole → Breaks old new page []

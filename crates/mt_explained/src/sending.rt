@@ -4,7 +4,7 @@ ghost use Rattle.mt_terms.specs.Market.{IsAgentOf};
 ghost use Rattle.mt_explain_text.specs.Text.{agent_text, agents_text};
 ghost use Rattle.mt_explain_text.specs.View.{is_public_of, places_of, registered_of};
 ghost use Rattle.mt_explain_text.specs.declared.page.TheConstants.{LINE_LEN, PAGE_LEN};
-ghost use Rattle.mt_explained.specs.Sending.{Breaks, Sends};
+ghost use Rattle.mt_explained.specs.Sending.{Breaks, IsCut, IsSent, Sends};
 
 use mt_explain_text::{AgentLines, LINE_LEN, Page};
 use mt_report::{Drain, put_all};
@@ -58,14 +58,10 @@ fn write_agent<W: Write>(
 ) -> Result<(), Unwritten>
     requires agent { IsAgentOf (registered_of lines.now).market agent.now }
     requires room { failures_of drain.old + 1 < 2 ^ 64 }
-    ensures sends { OnOk result (Sends (contents_of W.contents drain.old)
-        (contents_of W.contents drain.new) page.old page.new
+    ensures sent { OnOk result (IsSent W.contents drain.old drain.new page.old page.new
         (agent_text (registered_of lines.now) (places_of lines.now) (is_public_of lines.now) agent.now)) }
-    ensures none_failed { OnOk result (failures_of drain.new ≡ failures_of drain.old) }
-    ensures breaks { OnErr result (Breaks (contents_of W.contents drain.old)
-        (contents_of W.contents drain.new) page.old
+    ensures cut { OnErr result (IsCut W.contents drain.old drain.new page.old
         (agent_text (registered_of lines.now) (places_of lines.now) (is_public_of lines.now) agent.now)) }
-    ensures one_failed { OnErr result (failures_of drain.new ≡ failures_of drain.old + 1) }
 {
     make_room(drain, page)?;
     lines.push_own(page, agent);
@@ -85,14 +81,10 @@ pub(crate) fn write_agents<W: Write>(
 ) -> Result<(), Unwritten>
     requires agents { All (IsAgentOf (registered_of lines.now).market) agents.now }
     requires room { failures_of drain.old + 1 < 2 ^ 64 }
-    ensures sends { OnOk result (Sends (contents_of W.contents drain.old)
-        (contents_of W.contents drain.new) page.old page.new
+    ensures sent { OnOk result (IsSent W.contents drain.old drain.new page.old page.new
         (agents_text (registered_of lines.now) (places_of lines.now) (is_public_of lines.now) agents.now)) }
-    ensures none_failed { OnOk result (failures_of drain.new ≡ failures_of drain.old) }
-    ensures breaks { OnErr result (Breaks (contents_of W.contents drain.old)
-        (contents_of W.contents drain.new) page.old
+    ensures cut { OnErr result (IsCut W.contents drain.old drain.new page.old
         (agents_text (registered_of lines.now) (places_of lines.now) (is_public_of lines.now) agents.now)) }
-    ensures one_failed { OnErr result (failures_of drain.new ≡ failures_of drain.old + 1) }
 {
     for agent in agents {
         write_agent(drain, page, lines, agent)?;

@@ -1,15 +1,14 @@
-ghost use Rattle.std.specs.Prelude.{◌≡◌, ◌⊎◌, ◌+◌, ◌<◌, ◌≤◌, ◌-◌, ◌^◌, ◌↔◌, [], length, All, if◌then◌else◌, IfOk, IsTrue, OnErr, is_ok};
-ghost use Rattle.mt_lists.specs.Tap.{bytes_left, failures_of as read_failures_of, reads_of};
+ghost use Rattle.std.specs.Prelude.{◌≡◌, ◌+◌, ◌<◌, ◌≤◌, ◌-◌, ◌^◌, [], length, All, if◌then◌else◌, IfOk, IsTrue, OnErr, is_ok};
+ghost use Rattle.mt_lists.specs.Tap.{bytes_left, reads_of};
 ghost use Rattle.mt_terms.specs.Places.{ArePlaces};
 ghost use Rattle.mt_match_file.specs.Submitted.{shown};
-ghost use Rattle.mt_terms.specs.declared.codes.TheConstants.{READ_FAULT};
 ghost use Rattle.mt_terms.specs.Market.{IsAgentOf};
 ghost use Rattle.mt_order_laws.specs.Reordered.{set_aside_registered};
 ghost use Rattle.mt_report.specs.Drains.{contents_of, failures_of, is_flushed};
 ghost use Rattle.mt_input.specs.Files.{most_bytes};
-ghost use Rattle.mt_input.specs.Left.{TakesFile};
 ghost use Rattle.mt_input.specs.Refusals.{fault_of};
 ghost use Rattle.mt_files.specs.Refusals.{IsNamedRefusalOf};
+ghost use Rattle.mt_files.specs.Uses.{UsesFiles};
 ghost use Rattle.mt_explain_text.specs.Text.{agents_text};
 ghost use Rattle.mt_explain_text.specs.View.{is_public_of, places_of, registered_of};
 ghost use Rattle.mt_explained.specs.Answer.{Answers, IsGiven, IsGivenOrMemory, fault_answer, match_answer, submitted_answer};
@@ -22,9 +21,8 @@ use crate::codes::NO_SUCH_AGENT;
 use crate::outcome::Outcome;
 use crate::sending::{Unwritten, send, write_agents};
 use itoa::Buffer;
-use mt_explain::Explainer;
 use mt_explain_text::{AgentLines, Page};
-use mt_files::{FileRefusalLine, Files, Refused, Source, read_files, refusal_line, refused};
+use mt_files::{FileRefusalLine, Files, Refused, Source, read_files, refusal_line, refuse};
 use mt_ids::is_id;
 use mt_lists::Tap;
 use mt_ranks::Ranks;
@@ -32,6 +30,7 @@ use mt_reordered::set_aside;
 use mt_report::{Drain, id_or_dash, put_all};
 use mt_terms::codes::OUT_OF_MEMORY;
 use mt_terms::{Agent, LIMITS_2, Refusal};
+use mt_verify::MatchTables;
 use std::alloc::{AllocError, Global};
 use std::io::{Read, Write};
 use std::thread::Threads;
@@ -65,7 +64,7 @@ fn unknown_line(word: &[u8]) -> FileRefusalLine
 }
 
 /// Writes the one line of a refusal.
-fn refuse<W: Write>(drain: &mut Drain<W>, code: u16, line: &[u8]) -> Outcome
+fn write_refusal<W: Write>(drain: &mut Drain<W>, code: u16, line: &[u8]) -> Outcome
     requires { failures_of drain.old + 1 < 2 ^ 64 }
     ensures given { IsGiven (record { code = code; text = line.now })
         (contents_of W.contents drain.old) (contents_of W.contents drain.new) result.code result.whole }
@@ -128,9 +127,9 @@ fn write_lines<T: Threads + Sync, W: Write>(
     ensures kept { OnErr result (drain.new ≡ drain.old) }
 {
     let ranks = Ranks::build(rt, alloc, &files.roster)?;
-    let explainer = Explainer::new(rt, alloc, &files.roster, &ranks, files.submitted.matched())?;
+    let tables = MatchTables::new(rt, alloc, &files.roster, &ranks, files.submitted.matched())?;
     let mut page = Page::new(alloc)?;
-    let lines = AgentLines::of(explainer, is_public);
+    let lines = AgentLines::of(tables, is_public);
     let whole = write_all(drain, &mut page, &lines, agents).is_ok();
     Ok(Outcome { code: 0, whole })
 }
@@ -176,7 +175,7 @@ fn explain_places<T: Threads + Sync, W: Write>(
     match agents_asked(alloc, &files.roster, asked.ids)? {
         Found::Unknown(word) => {
             let line = unknown_line(word.as_bytes());
-            Ok(refuse(drain, NO_SUCH_AGENT, line.as_bytes()))
+            Ok(write_refusal(drain, NO_SUCH_AGENT, line.as_bytes()))
         }
         Found::Agents(agents) => write_lines(rt, alloc, files, &agents, asked.is_public, drain),
     }
@@ -215,14 +214,11 @@ pub fn refuse_file<W: Write>(drain: &mut Drain<W>, file: Source, refusal: &Refus
         ≡ failures_of drain.old + (if result.whole then 0 else 1) }
     ensures flushed { IsTrue result.whole → IsTrue (is_flushed drain.new) }
 {
-    let line = refused(
-        b"check",
-        file,
-        refusal.code,
-        refusal.row,
-        refusal.id.as_bytes(),
-    );
-    refuse(drain, refusal.code, line.as_bytes())
+    let ended = refuse(drain, b"check", file, refusal);
+    Outcome {
+        code: ended.code,
+        whole: ended.whole,
+    }
 }
 
 /// Writes the answer to a market and a match, or the refusal line for want of memory.
@@ -268,14 +264,8 @@ pub fn explain<T: Threads + Sync, R: Read, S: Read, W: Write>(
         (reads_of matched.new - reads_of matched.old)
         (contents_of W.contents drain.old) (contents_of W.contents drain.new)
         result.code result.whole }
-    ensures writer { failures_of drain.new
-        ≡ failures_of drain.old + (if result.whole then 0 else 1) }
-    ensures flushed { IsTrue result.whole → IsTrue (is_flushed drain.new) }
-    ensures fault { (result.code ≡ READ_FAULT)
-        ↔ ((read_failures_of market.old < read_failures_of market.new)
-        ⊎ (read_failures_of matched.old < read_failures_of matched.new)) }
-    ensures market_taken { TakesFile R.remaining market.old market.new }
-    ensures match_taken { TakesFile S.remaining matched.old matched.new }
+    ensures uses { UsesFiles R.remaining S.remaining market.old market.new
+        matched.old matched.new drain.old drain.new result.code result.whole }
 {
     match read_files(rt, alloc, market, matched) {
         Ok(files) => explain_files(rt, alloc, files, asked, drain),

@@ -16,18 +16,15 @@ use Rattle.mt_fault_terms.specs.Faults.{FileFault, fault_alone}
 use Rattle.mt_fault_terms.specs.OfFile.{all_parts, faults_under, faults_of_numbered, faults_of}
 use Rattle.mt_fault_laws.specs.Accepted.{is_of_first_pass, fault_of_match, IsNamed, NoFaultMeansAccepted, NamedFaultIsAmong}
 use Rattle.mt_fault_laws.proofs.Leading.{Leads, leads_nil}
-use Rattle.mt_fault_laws.proofs.Walk.{agree_nil, second_fault, Outcome, walk}
+use Rattle.mt_fault_laws.proofs.Walk.{agree_nil, second_fault, FindsNamed, Outcome, walk}
 
 -- all faults beside what a match gives
-abbrev Names : Fault → List FileFault → Type 0
-Names named faults = (fault : FileFault) × (fault_of_match faults ≡ Some fault) × IsNamed named fault
-
 abbrev Tells : Result Registered Fault → List FileFault → Type 0
 Tells (Ok m) faults = faults ≡ []
-Tells (Err named) faults = Names named faults
+Tells (Err named) faults = FindsNamed (fault_of_match faults) named
 
 -- without a fault of the first pass a match names the first of all
-first_of_all : (named : Fault) (faults : List FileFault) → find is_of_first_pass faults ≡ None → Leads IsNamed (Some named) faults → Names named faults
+first_of_all : (named : Fault) (faults : List FileFault) → find is_of_first_pass faults ≡ None → Leads IsNamed (Some named) faults → FindsNamed (fault_of_match faults) named
 first_of_all named [] n h = absurd h
 first_of_all named (fault ∷ faults) n h = (fault, ap (λ (o : Option FileFault). first_of (o ∷ Some fault ∷ [])) n, h)
 

@@ -27,12 +27,13 @@ use Rattle.mt_fault_laws.proofs.Reading.{Agree, IsRead, Reads}
 use Rattle.mt_fault_laws.proofs.Records.{reads}
 use Rattle.mt_fault_laws.proofs.Codes.{is_first, limit_fault, first_are_first, find_past}
 
--- a fault of the first pass at a record, before all others
-abbrev pub IsFirst : Fault → List FileFault → Type 0
-IsFirst named faults = (fault : FileFault) × (find is_of_first_pass faults ≡ Some fault) × IsNamed named fault
+-- a fault is found, and it is the one that a match names
+abbrev pub FindsNamed : Option FileFault → Fault → Type 0
+FindsNamed found named = (fault : FileFault) × (found ≡ Some fault) × IsNamed named fault
 
+-- the first of a record's faults is the first of all that the first pass finds
 front_is_first : (n : ℕ) (c : RecordFault) (firsts others : List FieldFault) (rest : List FileFault) → Leads Shows (Some c) firsts → list_all is_first firsts ≡ true
-    → IsFirst (fault_at n c) (map (λ (fault : FieldFault). (n, fault)) (firsts ++ others) ++ rest)
+    → FindsNamed (find is_of_first_pass (map (λ (fault : FieldFault). (n, fault)) (firsts ++ others) ++ rest)) (fault_at n c)
 front_is_first n c [] others rest h k = absurd h
 front_is_first n c (fault ∷ firsts) others rest h k =
     let p : (is_first fault ≡ true) × (list_all is_first firsts ≡ true) = and_parts (is_first fault) _ k in
@@ -52,7 +53,7 @@ pub record IsPassed (rules : Rules) (ps : List Parts) (before : List (Numbered R
 
 abbrev pub Outcome : Rules → List Parts → List (Numbered Record) → List (Numbered (List Bytes)) → Result (List (Numbered Record)) Fault → Type 0
 Outcome rules ps before rows (Ok given) = IsPassed rules ps before rows given
-Outcome rules ps before rows (Err named) = (every : List Parts) → IsFirst named (faults_after rules every ps rows)
+Outcome rules ps before rows (Err named) = (every : List Parts) → FindsNamed (find is_of_first_pass (faults_after rules every ps rows)) named
 
 -- by the rules of a version
 module _ (rules : Rules) where

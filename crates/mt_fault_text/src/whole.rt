@@ -263,29 +263,6 @@ fn accept<T: Threads + Sync, W: Write, E: Write>(
     }
 }
 
-/// Writes the answer to the bytes of a file, which has these records.
-fn answer_rows<'a, T: Threads + Sync, W: Write, E: Write>(
-    rt: &T,
-    alloc: Global,
-    bytes: &'a [u8],
-    rows: &'a Rows<'a>,
-    drain: &mut Drain<W>,
-    teller: &mut Teller<E>,
-) -> Outcome
-    requires failures { failures_of drain.old + 1 < 2 ^ 64 }
-    ensures given { IsAnswerGiven (without_mark bytes.now) rows.now
-        (contents_of W.contents drain.old) (contents_of W.contents drain.new) result.code result.whole }
-    ensures writer { failures_of drain.new
-        ≡ failures_of drain.old + (if result.whole then 0 else 1) }
-    ensures flushed { IsTrue result.whole → IsTrue (is_flushed drain.new) }
-{
-    match faultless_roster(rt, alloc, rows) {
-        Ok(Some(roster)) => accept(rt, alloc, &roster, drain, teller),
-        Ok(None) => list_faults(rt, alloc, bytes, rows, drain, teller),
-        Err(_) => refuse(drain, OUT_OF_MEMORY),
-    }
-}
-
 /// Writes the answer to the bytes of a file.
 fn answer_bytes<T: Threads + Sync, W: Write, E: Write>(
     rt: &T,
@@ -303,7 +280,11 @@ fn answer_bytes<T: Threads + Sync, W: Write, E: Write>(
     ensures flushed { IsTrue result.whole → IsTrue (is_flushed drain.new) }
 {
     match records(alloc, bytes) {
-        Ok(rows) => answer_rows(rt, alloc, bytes, &rows, drain, teller),
+        Ok(rows) => match faultless_roster(rt, alloc, &rows) {
+            Ok(Some(roster)) => accept(rt, alloc, &roster, drain, teller),
+            Ok(None) => list_faults(rt, alloc, bytes, &rows, drain, teller),
+            Err(_) => refuse(drain, OUT_OF_MEMORY),
+        },
         Err(ListFault::TwoMarks) => list_alone(alloc, TWO_MARKS, drain, teller),
         Err(ListFault::Memory) => refuse(drain, OUT_OF_MEMORY),
     }

@@ -10,6 +10,7 @@ use Rattle.mt_terms.specs.Lists.{by_twos, head}
 use Rattle.mt_fault_terms.specs.Faults.{FieldFault, Placed, placed_from}
 use Rattle.mt_fault_terms.specs.Parts.{Form, Parts, PlacedPair, Registers, couple_parts, is_odd, miscounted, parts_by_kind, parts_of}
 use Rattle.mt_faults.specs.declared.placed.Field.{Field}
+use Rattle.mt_faults.specs.Names.{members_of}
 use Rattle.mt_faults.specs.Seen.{field_seen}
 
 pub length-placed_from : (n : ℕ) (xs : List Bytes) → length (placed_from n xs) ≡ length xs
@@ -95,3 +96,7 @@ parts_by rules (first ∷ fields) word rest kind p h r w k is =
   where
     option_of : (x y : Placed) → Some x ≡ Some y → x ≡ y
     option_of x y e = cc
+
+-- the members of a couple
+pub members_couple : (p : Parts) → p.form ≡ Registers OfCouple → drop 1 p.names ≡ members_of p
+members_couple p form = rw form refl

@@ -4,6 +4,7 @@ use Rattle.std.proofs.Common.{◌≡◌, ℕ, ◌≤◌, Bool, true, false, not,
 use Rattle.std.specs.Prelude.{bytes_eq, flat_map}
 use Rattle.std.specs.List.{list_any}
 use Rattle.std.proofs.lemmas.List.{append_assoc, append-nil, map-append}
+use Rattle.std.proofs.lemmas.List.Elements.{filter_agree}
 use Rattle.std.proofs.lemmas.List.Folds.{list_any-append}
 use Rattle.std.proofs.lemmas.Bool.{false_from_ne_true}
 use Rattle.mt_terms.proofs.IdFacts.{same_id}
@@ -15,23 +16,28 @@ use Rattle.mt_terms.specs.Lists.{head}
 use Rattle.mt_passes.proofs.RepeatFacts.{same_pairs}
 use Rattle.mt_fault_terms.specs.Faults.{FieldFault, Placed, fault_alone, fault_of}
 use Rattle.mt_fault_terms.specs.OfRecord.{is_id_field, is_place_field, alone_at, bad_of_pair, quota_faults, own_faults, found_among, missing_among, members_before, registered_faults, repeat_faults, limit_faults, unknown_faults, record_faults}
-use Rattle.mt_fault_terms.specs.Parts.{Parts, PlacedPair, Registers, Withdraws, all_applicants, all_own_ids, all_withdrawn}
+use Rattle.mt_fault_terms.specs.Parts.{Form, Parts, PlacedPair, Registers, Unknown, Withdraws, all_applicants, all_own_ids, all_withdrawn}
 use Rattle.mt_faults.specs.declared.tell.Wrong.TheVariants as wrongs
-use Rattle.mt_faults.specs.Repeated.{entries_with}
+use Rattle.mt_faults.specs.Names.{members_of}
+use Rattle.mt_faults.specs.Repeated.{entries_with, repeats_in_list}
 use Rattle.mt_faults.specs.Seen.{tested}
-use Rattle.mt_faults.specs.Standing.{withdrawn_again}
+use Rattle.mt_faults.specs.Standing.{own_again, withdrawn_again}
 use Rattle.mt_faults.proofs.AddedFacts.{has_id-added}
 use Rattle.mt_faults.proofs.PartsFacts.{both_of}
 
--- the fields that are no ids, those that are and are among others, and those that are and aren't
+-- the elements that pass a test, each as what a function gives
+by_test : {X A : Type 0} (is : X → Bool) (f : X → A) (xs : List X) → flat_map (λ x. if is x then f x ∷ [] else []) xs ≡ map f (filter is xs)
+by_test is f [] = refl
+by_test is f (x ∷ xs) = by (is x) (by_test is f xs)
+  where
+    by : (b : Bool) → flat_map (λ y. if is y then f y ∷ [] else []) xs ≡ map f (filter is xs)
+        → (if b then f x ∷ [] else []) ++ flat_map (λ y. if is y then f y ∷ [] else []) xs ≡ map f (cond b (x ∷ filter is xs) (filter is xs))
+    by true ih = ap (λ l. f x ∷ l) ih
+    by false ih = ih
+
+-- the fields that are no ids
 abbrev no_ids_in : Rules → List Placed → List Placed
 no_ids_in rules xs = filter (λ field. not (is_id_field rules field)) xs
-
-abbrev found_in : Rules → List Bytes → List Placed → List Placed
-found_in rules ids xs = filter (λ field. is_id_field rules field && has_id ids field.1) xs
-
-abbrev missing_in : Rules → List Bytes → List Placed → List Placed
-missing_in rules ids xs = filter (λ field. is_id_field rules field && not (has_id ids field.1)) xs
 
 pub no_ids : (rules : Rules) (xs : List Placed) → flat_map (tested wrongs.NoId rules) xs ≡ alone_at BAD_ID (filter (λ field. not (is_id_field rules field)) xs)
 no_ids rules [] = refl
@@ -44,43 +50,21 @@ no_ids rules (x ∷ xs) = by (is_id_field rules x) (no_ids rules xs)
 
 -- the ids that are missing
 pub missing : (rules : Rules) (code : ℕ) (ids : Bor (List Bytes)) (xs : List Placed) → flat_map (tested (wrongs.Missing code ids) rules) xs ≡ missing_among rules code ids.now xs
-missing rules code ids [] = refl
-missing rules code ids (x ∷ xs) = by (is_id_field rules x && not (has_id ids.now x.1)) (missing rules code ids xs)
-  where
-    by : (b : Bool) → flat_map (tested (wrongs.Missing code ids) rules) xs ≡ map (fault_of code) (missing_in rules ids.now xs)
-        → (if b then fault_of code x ∷ [] else []) ++ flat_map (tested (wrongs.Missing code ids) rules) xs ≡ map (fault_of code) (cond b (x ∷ missing_in rules ids.now xs) (missing_in rules ids.now xs))
-    by true ih = ap (λ l. fault_of code x ∷ l) ih
-    by false ih = ih
+missing rules code ids xs = by_test (λ (field : Placed). is_id_field rules field && not (has_id ids.now field.1)) (fault_of code) xs
 
 -- the ids that are found among the first of a table
 pub found : (rules : Rules) (code : ℕ) (ids : Bor (List Bytes)) (seen : ℕ) (xs : List Placed) → flat_map (tested (wrongs.Found code ids seen) rules) xs ≡ found_among rules code (take seen ids.now) xs
-found rules code ids seen [] = refl
-found rules code ids seen (x ∷ xs) = by (is_id_field rules x && has_id (take seen ids.now) x.1) (found rules code ids seen xs)
-  where
-    by : (b : Bool) → flat_map (tested (wrongs.Found code ids seen) rules) xs ≡ map (fault_of code) (found_in rules (take seen ids.now) xs)
-        → (if b then fault_of code x ∷ [] else []) ++ flat_map (tested (wrongs.Found code ids seen) rules) xs ≡ map (fault_of code) (cond b (x ∷ found_in rules (take seen ids.now) xs) (found_in rules (take seen ids.now) xs))
-    by true ih = ap (λ l. fault_of code x ∷ l) ih
-    by false ih = ih
+found rules code ids seen xs = by_test (λ (field : Placed). is_id_field rules field && has_id (take seen ids.now) field.1) (fault_of code) xs
 
 -- found among other ids with the same members
 pub found_alike : (rules : Rules) (code : ℕ) (some others : List Bytes) → ((id : Bytes) → has_id some id ≡ has_id others id) → (xs : List Placed) → found_among rules code some xs ≡ found_among rules code others xs
-found_alike rules code some others alike [] = refl
-found_alike rules code some others alike (x ∷ xs) = rw (alike x.1) (by (is_id_field rules x && has_id others x.1) (found_alike rules code some others alike xs))
-  where
-    by : (b : Bool) → map (fault_of code) (found_in rules some xs) ≡ map (fault_of code) (found_in rules others xs)
-        → map (fault_of code) (cond b (x ∷ found_in rules some xs) (found_in rules some xs)) ≡ map (fault_of code) (cond b (x ∷ found_in rules others xs) (found_in rules others xs))
-    by true ih = ap (λ l. fault_of code x ∷ l) ih
-    by false ih = ih
+found_alike rules code some others alike xs =
+    ap (map (fault_of code)) (filter_agree (λ (field : Placed). is_id_field rules field && has_id some field.1) (λ (field : Placed). is_id_field rules field && has_id others field.1) (λ x. ap (λ (b : Bool). is_id_field rules x && b) (alike x.1)) xs)
 
 -- missing among other ids with the same members
 pub missing_alike : (rules : Rules) (code : ℕ) (some others : List Bytes) → ((id : Bytes) → has_id some id ≡ has_id others id) → (xs : List Placed) → missing_among rules code some xs ≡ missing_among rules code others xs
-missing_alike rules code some others alike [] = refl
-missing_alike rules code some others alike (x ∷ xs) = rw (alike x.1) (by (is_id_field rules x && not (has_id others x.1)) (missing_alike rules code some others alike xs))
-  where
-    by : (b : Bool) → map (fault_of code) (missing_in rules some xs) ≡ map (fault_of code) (missing_in rules others xs)
-        → map (fault_of code) (cond b (x ∷ missing_in rules some xs) (missing_in rules some xs)) ≡ map (fault_of code) (cond b (x ∷ missing_in rules others xs) (missing_in rules others xs))
-    by true ih = ap (λ l. fault_of code x ∷ l) ih
-    by false ih = ih
+missing_alike rules code some others alike xs =
+    ap (map (fault_of code)) (filter_agree (λ (field : Placed). is_id_field rules field && not (has_id some field.1)) (λ (field : Placed). is_id_field rules field && not (has_id others field.1)) (λ x. ap (λ (b : Bool). is_id_field rules x && not b) (alike x.1)) xs)
 
 -- one field that is an id and found
 pub found_one : (rules : Rules) (code : ℕ) (ids : List Bytes) (x : Placed) → found_among rules code ids (x ∷ []) ≡ (if is_id_field rules x && has_id ids x.1 then fault_of code x ∷ [] else [])
@@ -108,14 +92,6 @@ pub own_in_turn : (rules : Rules) (p : Parts) → own_faults rules p
     ++ (flat_map (tested wrongs.NoId rules) p.names
     ++ (flat_map (tested wrongs.NoId rules) p.list ++ (alone_at BAD_ID (flat_map (bad_of_pair rules) p.pairs) ++ quota_faults rules p)))
 own_in_turn rules p = rw (no_ids rules p.names, no_ids rules p.list) (simp (map-append, append_assoc) refl)
-
--- all faults of a record, from the first on
-pub record_in_turn : (rules : Rules) (all before : List Parts) (p : Parts) → record_faults rules all before p
-    ≡ own_faults rules p ++ (registered_faults rules before p ++ (repeat_faults rules before p ++ (limit_faults rules before p ++ unknown_faults rules all p)))
-record_in_turn rules all before p = regroup (own_faults rules p) (registered_faults rules before p) (repeat_faults rules before p) (limit_faults rules before p) (unknown_faults rules all p)
-  where
-    regroup : (a b c d e : List FieldFault) → (a ++ b ++ c ++ d) ++ e ≡ a ++ (b ++ (c ++ (d ++ e)))
-    regroup a b c d e = simp append_assoc refl
 
 or-false : (b : Bool) → b ≡ (b || false)
 or-false true = refl
@@ -211,24 +187,88 @@ pub members_two : (rules : Rules) (ids : List Bytes) (xs : List Placed) (x y : P
 members_two rules ids xs x y one two e o t =
     ap (members_before rules ids) e ∙ ap₂ (λ (a b : List FieldFault). a ++ b) (sym (o ∙ ap (λ l. found_among rules DUPLICATE_ID ids (take 1 l)) e)) (append-nil (found_among rules DUPLICATE_ID (ids ++ x.1 ∷ []) (y ∷ [])) ∙ sym t)
 
--- what is registered before, by the form of a record
+-- the members after the first one, and all of them from the first on
+abbrev pub members_next : Rules → List Bytes → List Placed → List FieldFault
+members_next rules ids [] = []
+members_next rules ids (x ∷ xs) = members_before rules (ids ++ x.1 ∷ []) xs
+
+pub members_in_turn : (rules : Rules) (ids : List Bytes) (xs one : List Placed) → one ≡ take 1 xs → members_before rules ids xs ≡ found_among rules DUPLICATE_ID ids one ++ members_next rules ids xs
+members_in_turn rules ids xs one e = by xs ∙ ap (λ l. found_among rules DUPLICATE_ID ids l ++ members_next rules ids xs) (sym e)
+  where
+    by : (xs : List Placed) → members_before rules ids xs ≡ found_among rules DUPLICATE_ID ids (take 1 xs) ++ members_next rules ids xs
+    by [] = refl
+    by (x ∷ xs) = refl
+
+-- the own id that is registered before, by the form of a record
 module _ (rules : Rules) (before : List Parts) (p : Parts) where
-  pub registered_program : (ids : List Bytes) → p.form ≡ Registers OfProgram → ((id : Bytes) → has_id ids id ≡ has_id (all_own_ids rules OfProgram before) id) → found_among rules DUPLICATE_ID ids p.names ≡ registered_faults rules before p
-  registered_program ids form alike = found_alike rules DUPLICATE_ID ids (all_own_ids rules OfProgram before) alike p.names ∙ rw form refl
+  pub own_program : (ids : List Bytes) → p.form ≡ Registers OfProgram → ((id : Bytes) → has_id ids id ≡ has_id (all_own_ids rules OfProgram before) id) → found_among rules DUPLICATE_ID ids p.names ≡ own_again rules before p
+  own_program ids form alike = found_alike rules DUPLICATE_ID ids (all_own_ids rules OfProgram before) alike p.names ∙ rw form refl
 
-  pub registered_applicant : (ids : List Bytes) → p.form ≡ Registers OfApplicant → ((id : Bytes) → has_id ids id ≡ has_id (all_applicants rules before) id) → found_among rules DUPLICATE_ID ids p.names ≡ registered_faults rules before p
-  registered_applicant ids form alike = found_alike rules DUPLICATE_ID ids (all_applicants rules before) alike p.names ∙ rw form refl
+  pub own_applicant : (ids : List Bytes) → p.form ≡ Registers OfApplicant → ((id : Bytes) → has_id ids id ≡ has_id (all_applicants rules before) id) → found_among rules DUPLICATE_ID ids p.names ≡ own_again rules before p
+  own_applicant ids form alike = found_alike rules DUPLICATE_ID ids (all_applicants rules before) alike p.names ∙ rw form refl
 
-  pub registered_couple : (couples applicants : List Bytes) → p.form ≡ Registers OfCouple → ((id : Bytes) → has_id couples id ≡ has_id (all_own_ids rules OfCouple before) id) → ((id : Bytes) → has_id applicants id ≡ has_id (all_applicants rules before) id)
-      → registered_faults rules before p ≡ found_among rules DUPLICATE_ID couples (take 1 p.names) ++ members_before rules applicants (drop 1 p.names)
-  registered_couple couples applicants form own members =
-      rw form (by p.names)
-      ∙ ap₂ (λ (a b : List FieldFault). a ++ b) (sym (found_alike rules DUPLICATE_ID couples (all_own_ids rules OfCouple before) own (take 1 p.names))) (sym (members_alike rules applicants (all_applicants rules before) members (drop 1 p.names)))
+  pub own_couple : (ids : List Bytes) → p.form ≡ Registers OfCouple → ((id : Bytes) → has_id ids id ≡ has_id (all_own_ids rules OfCouple before) id) → found_among rules DUPLICATE_ID ids (take 1 p.names) ≡ own_again rules before p
+  own_couple ids form alike = found_alike rules DUPLICATE_ID ids (all_own_ids rules OfCouple before) alike (take 1 p.names) ∙ rw form refl
+
+  -- what is registered before: the own id, and a couple's members
+  registered_in_two : registered_faults rules before p ≡ own_again rules before p ++ members_before rules (all_applicants rules before) (members_of p)
+  registered_in_two = by p.form refl
     where
-      by : (names : List Placed) → registered_faults rules before (record p { form = Registers OfCouple; names = names })
+      couple : (names : List Placed) → registered_faults rules before (record p { form = Registers OfCouple; names = names })
           ≡ found_among rules DUPLICATE_ID (all_own_ids rules OfCouple before) (take 1 names) ++ members_before rules (all_applicants rules before) (drop 1 names)
-      by [] = refl
-      by (x ∷ xs) = refl
+      couple [] = refl
+      couple (x ∷ xs) = refl
+
+      by : (form : Form) → p.form ≡ form → registered_faults rules before p ≡ own_again rules before p ++ members_before rules (all_applicants rules before) (members_of p)
+      by (Registers OfProgram) e = rw e (sym (append-nil (found_among rules DUPLICATE_ID (all_own_ids rules OfProgram before) p.names)))
+      by (Registers OfApplicant) e = rw e (sym (append-nil (found_among rules DUPLICATE_ID (all_applicants rules before) p.names)))
+      by (Registers OfCouple) e = rw e (couple p.names)
+      by (Withdraws kind) e = rw e refl
+      by Unknown e = rw e refl
+
+-- the members of a couple, as they are told, and how many they are
+pub members_told : (known : List Bytes) (rules : Rules) (before : List Parts) (p : Parts) (fields : List Placed) → fields ≡ members_of p → ((id : Bytes) → has_id known id ≡ has_id (all_applicants rules before) id)
+    → members_before rules known fields ≡ members_before rules (all_applicants rules before) (members_of p)
+members_told known rules before p fields is alike = ap (members_before rules known) is ∙ members_alike rules known (all_applicants rules before) alike (members_of p)
+
+pub members_few : (p : Parts) (fields : List Placed) → fields ≡ members_of p → length p.names ≤ 3 → length fields ≤ 2
+members_few p fields is few = omega (arith, ap length is, by p.form refl)
+  where
+    fewer : (names : List Placed) → length names ≤ 3 → length (drop 1 names) ≤ 2
+    fewer [] h = omega arith
+    fewer (x ∷ xs) h = omega (arith, h)
+
+    by : (form : Form) → p.form ≡ form → length (members_of p) ≤ 2
+    by (Registers OfProgram) e = rw e (omega arith)
+    by (Registers OfApplicant) e = rw e (omega arith)
+    by (Registers OfCouple) e = rw e (fewer p.names few)
+    by (Withdraws kind) e = rw e (omega arith)
+    by Unknown e = rw e (omega arith)
+
+-- the faults of a record in turn, from each step on
+module _ (rules : Rules) (all before : List Parts) (p : Parts) where
+  abbrev pub from_limits : List FieldFault
+  from_limits = limit_faults rules before p ++ unknown_faults rules all p
+
+  abbrev pub from_withdrawn : List FieldFault
+  from_withdrawn = withdrawn_again rules before p ++ from_limits
+
+  abbrev pub from_repeats : List FieldFault
+  from_repeats = repeats_in_list rules p ++ from_withdrawn
+
+  abbrev pub from_members : List FieldFault
+  from_members = members_before rules (all_applicants rules before) (members_of p) ++ from_repeats
+
+  abbrev pub from_own : List FieldFault
+  from_own = own_again rules before p ++ from_members
+
+  pub record_in_turn : record_faults rules all before p ≡ own_faults rules p ++ from_own
+  record_in_turn =
+      ap (λ r. (own_faults rules p ++ r ++ repeat_faults rules before p ++ limit_faults rules before p) ++ unknown_faults rules all p) (registered_in_two rules before p)
+      ∙ regroup (own_faults rules p) (own_again rules before p) (members_before rules (all_applicants rules before) (members_of p)) (repeats_in_list rules p) (withdrawn_again rules before p) (limit_faults rules before p) (unknown_faults rules all p)
+    where
+      regroup : (a b c d e f g : List FieldFault) → (a ++ (b ++ c) ++ (d ++ e) ++ f) ++ g ≡ a ++ (b ++ (c ++ (d ++ (e ++ (f ++ g)))))
+      regroup a b c d e f g = simp append_assoc refl
 
 -- what is withdrawn again
 pub withdrawn_is : (rules : Rules) (before : List Parts) (p : Parts) (kind : Kind) (ids : List Bytes) → p.form ≡ Withdraws kind → ((id : Bytes) → has_id ids id ≡ has_id (all_withdrawn rules kind before) id)

@@ -14,17 +14,28 @@ use Rattle.mt_fault_terms.specs.Faults.{FieldFault, FileFault, Placed, fault_alo
 use Rattle.mt_fault_terms.specs.OfFile.{all_parts, faults_after, faults_of_numbered, faults_under}
 use Rattle.mt_fault_terms.specs.OfRecord.{alone_at, bad_of_pair, is_id_field, is_place_field, pair_repeats_after, record_faults, repeats_after, shown_of_pair}
 use Rattle.mt_fault_terms.specs.Parts.{Parts, PlacedPair, ids_among, parts_of}
+use Rattle.mt_faults.specs.declared.fault.FaultEnd.{FaultEnd}
 use Rattle.mt_faults.specs.declared.finder.Finder.{Finder}
 use Rattle.mt_faults.specs.Registered.{row_parts}
 use Rattle.mt_faults.specs.Repeated.{repeated}
 use Rattle.mt_faults.specs.Standing.{Stands, row_faults}
-use Rattle.mt_faults.specs.Telling.{at_record}
+use Rattle.mt_faults.specs.Telling.{Tells, at_record}
 use Rattle.mt_faults.proofs.RecordFacts.{Alike, PairsAlike, bad_pair, fields_of, found_one}
-use Rattle.mt_faults.proofs.TellingFacts.{SoFar}
+use Rattle.mt_faults.proofs.TellingFacts.{SoFar, ends_early, goes}
 
 -- faults of a record in two parts
 pub in_two : (n : ℕ) (whole some rest told : List FieldFault) → whole ≡ some ++ rest → told ≡ some → at_record n whole ≡ at_record n told ++ at_record n rest
 in_two n whole some rest told w t = ap (at_record n) (w ∙ ap (λ fs. fs ++ rest) (sym t)) ∙ map-append (λ (fault : FieldFault). (n, fault)) told rest
+
+module _ {S : Type 0} {takes : S → Type 0} {told stopped : S → S → List FileFault → Type 0} where
+  -- the next faults of a record are told, or the search ends at one of them
+  pub tells_next : {a b : S} {whole : List FileFault} (n : ℕ) (c : S) (some rest given : List FieldFault) → SoFar takes told stopped a b (at_record n (some ++ rest)) whole
+      → takes c × told b c (at_record n given) → given ≡ some → SoFar takes told stopped a c (at_record n rest) whole
+  tells_next n c some rest given s t same = goes c (at_record n given) (at_record n rest) s t (in_two n (some ++ rest) some rest given refl same)
+
+  pub ends_at : {a b : S} {whole : List FileFault} (n : ℕ) (c : S) (some rest given : List FieldFault) (e : FaultEnd) (r : Result (Unit {0}) FaultEnd) → SoFar takes told stopped a b (at_record n (some ++ rest)) whole
+      → Tells {X = Unit {0}} takes told stopped b c (at_record n given) (Err e) → given ≡ some → r ≡ Err e → Tells {X = Unit {0}} takes told stopped a c whole r
+  ends_at n c some rest given e r s t same is = ends_early c (at_record n given) (at_record n rest) e r s t (in_two n (some ++ rest) some rest given refl same) is
 
 -- the faults of the next element of a list
 pub next_of : {X : Type 0} (n : ℕ) (f : X → List FieldFault) (all rest : List X) (x : X) (told : List FieldFault) → all ≡ x ∷ rest → told ≡ f x

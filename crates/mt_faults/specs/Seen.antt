@@ -1,5 +1,5 @@
 -- How what is read of a record, and a fault of it, are seen as the definition's.
-use Rattle.std.specs.Prelude.{ℕ, ◌+◌, ◌&&◌, not, List, [], ◌∷◌, take, Option, option_map, option_to_list, if◌then◌else◌}
+use Rattle.std.specs.Prelude.{ℕ, ◌+◌, ◌&&◌, not, List, [], ◌∷◌, flat_map, take, Option, option_map, option_to_list, if◌then◌else◌}
 use Rattle.mt_lists.specs.Rows.{fields_left}
 use Rattle.mt_terms.specs.declared.codes.TheConstants.{BAD_ID}
 use Rattle.mt_terms.specs.Lists.{by_twos}
@@ -17,16 +17,17 @@ use Rattle.mt_faults.specs.declared.parts.Parts.{Parts}
 use Rattle.mt_faults.specs.declared.placed.Field.{Field}
 use Rattle.mt_faults.specs.declared.placed.Placed as declared
 use Rattle.mt_faults.specs.declared.placed.PlacedPairs.{PlacedPairs}
+use Rattle.mt_faults.specs.declared.tell.FieldTest.{FieldTest}
 use Rattle.mt_faults.specs.declared.tell.Wrong.{Wrong}
 use Rattle.mt_faults.specs.declared.tell.Wrong.TheVariants as wrongs
-
--- a fault without the field where its id stood first, which is for readers alone
-abbrev pub fault_seen : Fault → FieldFault
-fault_seen f = record { code = f.code; field = f.field; id = f.id.now }
 
 -- a fault with this code, field and id
 abbrev pub fault_with : ℕ → ℕ → Bytes → FieldFault
 fault_with code field id = record { code = code; field = field; id = id }
+
+-- a fault without the field where its id stood first, which is for readers alone
+abbrev pub fault_seen : Fault → FieldFault
+fault_seen f = fault_with f.code f.field f.id.now
 
 abbrev pub faults_seen : Option Fault → List FieldFault
 faults_seen fault = option_to_list (option_map fault_seen fault)
@@ -71,3 +72,7 @@ abbrev pub tested : Wrong → Rules → Placed → List FieldFault
 tested wrongs.NoId rules field = if is_id_field rules field then [] else fault_alone BAD_ID field.0 ∷ []
 tested (wrongs.Missing code ids) rules field = if is_id_field rules field && not (has_id ids.now field.1) then fault_of code field ∷ [] else []
 tested (wrongs.Found code ids seen) rules field = if is_id_field rules field && has_id (take seen ids.now) field.1 then fault_of code field ∷ [] else []
+
+-- the faults that a test of fields finds
+abbrev pub faults_by_test : Rules → FieldTest → List FieldFault
+faults_by_test rules test = flat_map (tested test.wrong rules) (placed_left test.fields)

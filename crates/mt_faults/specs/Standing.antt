@@ -1,12 +1,12 @@
 -- What is known of what stands before a record.
-use Rattle.std.specs.Prelude.{◌≡◌, ℕ, List, [], ◌∷◌, ◌++◌, length, min}
-use Rattle.mt_terms.specs.declared.codes.TheConstants.{DUPLICATE_ENTRY}
+use Rattle.std.specs.Prelude.{◌≡◌, ℕ, List, [], ◌∷◌, ◌++◌, length, min, take}
+use Rattle.mt_terms.specs.declared.codes.TheConstants.{DUPLICATE_ENTRY, DUPLICATE_ID}
 use Rattle.mt_terms.specs.Registration.Ids.{Bytes}
-use Rattle.mt_terms.specs.Registration.Records.{Rules, Kind, OfProgram, OfCouple}
+use Rattle.mt_terms.specs.Registration.Records.{Rules, Kind, OfProgram, OfApplicant, OfCouple}
 use Rattle.mt_records.specs.Kinds.{ids_in}
 use Rattle.mt_fault_terms.specs.Faults.{FieldFault, FileFault}
 use Rattle.mt_fault_terms.specs.OfRecord.{found_among, record_faults}
-use Rattle.mt_fault_terms.specs.Parts.{Form, Withdraws, Parts, applicants_among, own_ids, all_own_ids, all_applicants, all_entries, all_withdrawn, parts_of}
+use Rattle.mt_fault_terms.specs.Parts.{Form, Registers, Withdraws, Parts, applicants_among, own_ids, all_own_ids, all_applicants, all_entries, all_withdrawn, parts_of}
 use Rattle.mt_faults.specs.declared.before.Before.{Before}
 use Rattle.mt_faults.specs.declared.finder.Finder.{Finder}
 use Rattle.mt_faults.specs.Registered.{IsPassed, IsRegistry, added, most}
@@ -32,6 +32,16 @@ pub record AreCounted (rules : Rules) (p : Parts) (applicants programs couples :
   pub applicants_are : applicants ≡ min (length (applicants_among rules p)) most
   pub programs_are : programs ≡ min (length (own_ids rules OfProgram p)) most
   pub couples_are : couples ≡ min (length (own_ids rules OfCouple p)) most
+
+-- the own id of a record, if it is registered before
+abbrev pub own_again : Rules → List Parts → Parts → List FieldFault
+own_again rules before parts = by_form parts.form
+  where
+    by_form : Form → List FieldFault
+    by_form (Registers OfProgram) = found_among rules DUPLICATE_ID (all_own_ids rules OfProgram before) parts.names
+    by_form (Registers OfApplicant) = found_among rules DUPLICATE_ID (all_applicants rules before) parts.names
+    by_form (Registers OfCouple) = found_among rules DUPLICATE_ID (all_own_ids rules OfCouple before) (take 1 parts.names)
+    by_form _ = []
 
 -- what a record withdraws again
 abbrev pub withdrawn_again : Rules → List Parts → Parts → List FieldFault

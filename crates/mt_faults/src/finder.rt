@@ -1,11 +1,12 @@
 ghost use Rattle.std.specs.Prelude.{◌≡◌, ℕ, ◌+◌, ◌≤◌, ◌++◌, ◌∷◌, [], List, OnOk, length, min, take, if◌then◌else◌};
 ghost use Rattle.mt_terms.specs.declared.codes.TheConstants.{DUPLICATE_ID, TOO_MANY};
-ghost use Rattle.mt_fault_terms.specs.OfRecord.{id_among, quota_faults, found_among, members_before, passes, own_faults, registered_faults, repeat_faults, limit_faults, record_faults};
+ghost use Rattle.mt_fault_terms.specs.OfRecord.{id_among, quota_faults, found_among, members_before, passes, own_faults, limit_faults, record_faults};
 ghost use Rattle.mt_fault_terms.specs.Parts as model;
 ghost use Rattle.mt_fault_terms.specs.Parts.{ids_among};
 ghost use Rattle.mt_faults.specs.Registered.{most};
-ghost use Rattle.mt_faults.specs.Seen.{fault_with, faults_seen, field_seen, form_faults, parts_seen, placed_left};
-ghost use Rattle.mt_faults.specs.Standing.{AreCounted, Stands, withdrawn_again};
+ghost use Rattle.mt_faults.specs.Repeated.{repeats_in_list};
+ghost use Rattle.mt_faults.specs.Seen.{fault_with, faults_by_test, faults_seen, field_seen, form_faults, parts_seen, placed_left};
+ghost use Rattle.mt_faults.specs.Standing.{AreCounted, Stands, own_again, withdrawn_again};
 ghost use Rattle.mt_faults.specs.Telling.{Tells, at_record};
 
 use crate::before::{Before, entries_of};
@@ -16,8 +17,8 @@ use crate::placed::{Field, Placed, PlacedPairs};
 use crate::registry::{Registry, is_before};
 use crate::repeats::{tell_pair_repeats, tell_repeats};
 use crate::sink::FaultSink;
-use crate::tell::{Wrong, fault_alone, fault_of, is_id_field, tell, tell_bad_pairs, tell_each};
-use mt_ids::{IdTable, Seed, quota_of};
+use crate::tell::{FieldTest, fault_alone, fault_of, is_id_field, tell, tell_bad_pairs, tell_each};
+use mt_ids::{Seed, quota_of};
 use mt_records::{Kind, Rules};
 use mt_terms::Limits;
 use mt_terms::codes::{BAD_QUOTA, DUPLICATE_ENTRY, DUPLICATE_ID, TOO_MANY};
@@ -148,34 +149,10 @@ impl<'a> Finder<'a> {
             fields: parts.pairs,
         };
         tell(sink, number, form_fault(parts.fault))?;
-        tell_each(sink, number, rules, Wrong::NoId, parts.names)?;
-        tell_each(sink, number, rules, Wrong::NoId, parts.list)?;
+        tell_each(sink, number, rules, FieldTest::of_ids(parts.names))?;
+        tell_each(sink, number, rules, FieldTest::of_ids(parts.list))?;
         tell_bad_pairs(sink, number, rules, pairs)?;
         tell(sink, number, bad_quota(rules, parts))
-    }
-
-    /// Tells a sink those of some fields that are ids of this table and stand before.
-    fn tell_found<S: FaultSink>(
-        &self,
-        sink: &mut S,
-        number: u64,
-        ids: &IdTable<'_>,
-        seen: usize,
-        fields: Placed<'a>,
-    ) -> Result<(), FaultEnd>
-        requires { S.takes sink.old }
-        ensures { Tells S.takes S.told S.stopped sink.old sink.new
-            (at_record number
-            (found_among self.now.rules DUPLICATE_ID (take seen ids.now) (placed_left fields.entry))) result }
-    {
-        let code = DUPLICATE_ID;
-        tell_each(
-            sink,
-            number,
-            &self.rules,
-            Wrong::Found { code, ids, seen },
-            fields,
-        )
     }
 
     /// The fault that a couple's second member is registered before, or is the first one.
@@ -207,13 +184,9 @@ impl<'a> Finder<'a> {
             (at_record number (members_before self.now.rules ids (placed_left members.entry))) result }
     {
         let seen = self.before.applicants.seen;
-        self.tell_found(
-            sink,
-            number,
-            &self.registry.applicants,
-            seen,
-            members.first(1),
-        )?;
+        let ids = &self.registry.applicants;
+        let test = FieldTest::found(DUPLICATE_ID, ids, seen, members.first(1));
+        tell_each(sink, number, &self.rules, test)?;
         let Some(first) = members.head() else {
             return Ok(());
         };
@@ -223,65 +196,44 @@ impl<'a> Finder<'a> {
         }
     }
 
-    /// Tells a sink the ids of a record that are registered before.
-    fn tell_registered<S: FaultSink>(
-        &self,
-        sink: &mut S,
-        number: u64,
-        parts: &Parts<'a>,
-    ) -> Result<(), FaultEnd>
-        requires takes { S.takes sink.old }
-        requires few { length (placed_left parts.now.names) ≤ 3 }
-        ensures takes { OnOk result (S.takes sink.new) }
-        ensures tells { (all before : List model.Parts) → Stands self.now all before
-            → Tells S.takes S.told S.stopped sink.old sink.new
-            (at_record number (registered_faults self.now.rules before (parts_seen parts.now))) result }
+    /// The test for the own id of a record that is registered before.
+    fn own_again<'t>(&'t self, parts: &Parts<'a>) -> FieldTest<'t, 'a>
+        ensures { (all before : List model.Parts) → Stands self.now all before
+            → faults_by_test self.now.rules result
+            ≡ own_again self.now.rules before (parts_seen parts.now) }
     {
         let ids = &self.registry.registered;
         match parts.form {
             Form::Registers(Kind::Program) => {
                 let seen = self.before.programs.seen;
-                self.tell_found(sink, number, &ids.programs, seen, parts.names)
+                FieldTest::found(DUPLICATE_ID, &ids.programs, seen, parts.names)
             }
             Form::Registers(Kind::Applicant) => {
                 let seen = self.before.applicants.seen;
-                self.tell_found(sink, number, &self.registry.applicants, seen, parts.names)
+                FieldTest::found(DUPLICATE_ID, &self.registry.applicants, seen, parts.names)
             }
             Form::Registers(Kind::Couple) => {
                 let seen = self.before.couples.seen;
-                self.tell_found(sink, number, &ids.couples, seen, parts.names.first(1))?;
-                self.tell_members(sink, number, parts.names.tail())
+                FieldTest::found(DUPLICATE_ID, &ids.couples, seen, parts.names.first(1))
             }
-            _ => Ok(()),
+            _ => FieldTest::of_none(parts.names),
         }
     }
 
-    /// Tells a sink what a record withdraws again.
-    fn tell_withdrawn<S: FaultSink>(
-        &self,
-        sink: &mut S,
-        number: u64,
-        parts: &Parts<'a>,
-    ) -> Result<(), FaultEnd>
-        requires { S.takes sink.old }
-        ensures takes { OnOk result (S.takes sink.new) }
-        ensures tells { (all before : List model.Parts) → Stands self.now all before
-            → Tells S.takes S.told S.stopped sink.old sink.new
-            (at_record number (withdrawn_again self.now.rules before (parts_seen parts.now))) result }
+    /// The test for what a record withdraws again.
+    fn withdrawn_again<'t>(&'t self, parts: &Parts<'a>) -> FieldTest<'t, 'a>
+        ensures { (all before : List model.Parts) → Stands self.now all before
+            → faults_by_test self.now.rules result
+            ≡ withdrawn_again self.now.rules before (parts_seen parts.now) }
     {
         let Form::Withdraws(kind) = parts.form else {
-            return Ok(());
+            return FieldTest::of_none(parts.names);
         };
         let ids = self.before.withdrawn.of(kind);
-        let again = Wrong::Found {
-            code: DUPLICATE_ENTRY,
-            ids,
-            seen: ids.len(),
-        };
-        tell_each(sink, number, &self.rules, again, parts.names)
+        FieldTest::found(DUPLICATE_ENTRY, ids, ids.len(), parts.names)
     }
 
-    /// Tells a sink the entries and the pairs of a record that stand in its list before, and what it withdraws again.
+    /// Tells a sink the entries and the pairs of a record that stand in its list before.
     fn tell_repeated<S: FaultSink>(
         &self,
         alloc: Global,
@@ -290,17 +242,14 @@ impl<'a> Finder<'a> {
         parts: &Parts<'a>,
     ) -> Result<(), FaultEnd>
         requires { S.takes sink.old }
-        ensures takes { OnOk result (S.takes sink.new) }
-        ensures tells { (all before : List model.Parts) → Stands self.now all before
-            → Tells S.takes S.told S.stopped sink.old sink.new
-            (at_record number (repeat_faults self.now.rules before (parts_seen parts.now))) result }
+        ensures { Tells S.takes S.told S.stopped sink.old sink.new
+            (at_record number (repeats_in_list self.now.rules (parts_seen parts.now))) result }
     {
         let pairs = PlacedPairs {
             fields: parts.pairs,
         };
         tell_repeats(alloc, self.seed, sink, number, &self.rules, parts.list)?;
-        tell_pair_repeats(alloc, self.seed, sink, number, &self.rules, pairs)?;
-        self.tell_withdrawn(sink, number, parts)
+        tell_pair_repeats(alloc, self.seed, sink, number, &self.rules, pairs)
     }
 
     /// How many applicants, programs and couples a record registers, each at most `u64::MAX`.
@@ -355,10 +304,13 @@ impl<'a> Finder<'a> {
             → Tells S.takes S.told S.stopped sink.old sink.new
             (at_record number (record_faults self.now.rules all before (parts_seen parts.now))) result }
     {
+        let rules = &self.rules;
         self.tell_own(sink, number, parts)?;
-        self.tell_registered(sink, number, parts)?;
+        tell_each(sink, number, rules, self.own_again(parts))?;
+        self.tell_members(sink, number, parts.members())?;
         self.tell_repeated(alloc, sink, number, parts)?;
+        tell_each(sink, number, rules, self.withdrawn_again(parts))?;
         self.tell_limits(sink, number, parts)?;
-        self.tell_unknown(sink, number, parts)
+        tell_each(sink, number, rules, self.unknown(parts))
     }
 }

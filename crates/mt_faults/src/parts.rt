@@ -2,6 +2,7 @@ ghost use Rattle.std.specs.Prelude.{◌≡◌, ◌≤◌, ◌||◌, [], length, 
 ghost use Rattle.mt_lists.specs.Rows.{fields_left};
 ghost use Rattle.mt_records.specs.Records.{kind_seen};
 ghost use Rattle.mt_fault_terms.specs.Parts.{miscounted, unknown_parts, program_parts, applicant_parts, couple_parts, withdrawal_parts, withdraw_parts, parts_by_kind, parts_of};
+ghost use Rattle.mt_faults.specs.Names.{members_of};
 ghost use Rattle.mt_faults.specs.NoKind.{is_of_no_kind, names_no_kind};
 ghost use Rattle.mt_faults.specs.Seen.{form_faults, parts_seen, placed_left};
 
@@ -38,6 +39,18 @@ pub(crate) struct Parts<'a> {
     pub(crate) list: Placed<'a>,
     /// The fields of its pairs. The last one is in none if it has no partner.
     pub(crate) pairs: Placed<'a>,
+}
+
+impl<'a> Parts<'a> {
+    /// The fields that should be the members of a couple: none of a record that registers no couple.
+    pub(crate) fn members(&self) -> Placed<'a>
+        ensures { placed_left result ≡ members_of (parts_seen self.now) }
+    {
+        match self.form {
+            Form::Registers(Kind::Couple) => self.names.tail(),
+            _ => self.names.first(0),
+        }
+    }
 }
 
 /// A record that is of no kind, by the field that should say so.

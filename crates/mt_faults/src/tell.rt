@@ -1,8 +1,9 @@
-ghost use Rattle.std.specs.Prelude.{◌≡◌, [], ◌∷◌, flat_map, if◌then◌else◌};
+ghost use Rattle.std.specs.Prelude.{◌≡◌, [], ◌∷◌, flat_map, take, if◌then◌else◌};
 ghost use Rattle.mt_fault_terms.specs.Faults.{fault_alone, fault_of};
-ghost use Rattle.mt_fault_terms.specs.OfRecord.{bad_of_pair, alone_at, is_id_field, is_place_field};
+ghost use Rattle.mt_fault_terms.specs.OfRecord.{bad_of_pair, alone_at, found_among, is_id_field, is_place_field, missing_among};
 ghost use Rattle.mt_terms.specs.declared.codes.TheConstants.{BAD_ID};
-ghost use Rattle.mt_faults.specs.Seen.{both_seen, faults_seen, field_seen, pairs_left, placed_left, tested};
+ghost use Rattle.mt_faults.specs.declared.tell.Wrong.TheVariants.{NoId};
+ghost use Rattle.mt_faults.specs.Seen.{faults_by_test, faults_seen, field_seen, pairs_left, placed_left, tested};
 ghost use Rattle.mt_faults.specs.Telling.{Tells, at_record};
 
 use crate::fault::{Fault, FaultEnd};
@@ -29,6 +30,60 @@ pub(crate) enum Wrong<'t, 'a> {
         ids: &'t IdTable<'a>,
         seen: usize,
     },
+}
+
+/// A test of some fields of a record for one thing that may be wrong with each.
+#[derive(Clone, Copy)]
+pub(crate) struct FieldTest<'t, 'a> {
+    pub(crate) wrong: Wrong<'t, 'a>,
+    pub(crate) fields: Placed<'a>,
+}
+
+impl<'t, 'a> FieldTest<'t, 'a> {
+    /// The test whether fields are no ids.
+    pub(crate) fn of_ids(fields: Placed<'a>) -> FieldTest<'t, 'a>
+        ensures { (rules : _) → faults_by_test rules result
+            ≡ flat_map (tested NoId rules) (placed_left fields.entry) }
+    {
+        FieldTest {
+            wrong: Wrong::NoId,
+            fields,
+        }
+    }
+
+    /// A test of none of these fields.
+    pub(crate) fn of_none(fields: Placed<'a>) -> FieldTest<'t, 'a>
+        ensures { (rules : _) → faults_by_test rules result ≡ [] }
+    {
+        FieldTest::of_ids(fields.first(0))
+    }
+
+    /// The test whether fields are ids, and none of these.
+    pub(crate) fn missing(code: u16, ids: &'t IdTable<'a>, fields: Placed<'a>) -> FieldTest<'t, 'a>
+        ensures { (rules : _) → faults_by_test rules result
+            ≡ missing_among rules code ids.now (placed_left fields.entry) }
+    {
+        FieldTest {
+            wrong: Wrong::Missing { code, ids },
+            fields,
+        }
+    }
+
+    /// The test whether fields are ids, and among the first `seen` of these.
+    pub(crate) fn found(
+        code: u16,
+        ids: &'t IdTable<'a>,
+        seen: usize,
+        fields: Placed<'a>,
+    ) -> FieldTest<'t, 'a>
+        ensures { (rules : _) → faults_by_test rules result
+            ≡ found_among rules code (take seen ids.now) (placed_left fields.entry) }
+    {
+        FieldTest {
+            wrong: Wrong::Found { code, ids, seen },
+            fields,
+        }
+    }
 }
 
 /// A fault at a field, with its bytes as the id at fault.
@@ -115,20 +170,19 @@ pub(crate) fn tell<S: FaultSink>(
     }
 }
 
-/// Tells a sink the fault of each field with which this is wrong.
+/// Tells a sink the faults that a test of fields finds.
 pub(crate) fn tell_each<S: FaultSink>(
     sink: &mut S,
     number: u64,
     rules: &Rules,
-    wrong: Wrong<'_, '_>,
-    fields: Placed<'_>,
+    test: FieldTest<'_, '_>,
 ) -> Result<(), FaultEnd>
     requires { S.takes sink.old }
     ensures { Tells S.takes S.told S.stopped sink.old sink.new
-        (at_record number (flat_map (tested wrong.entry rules.now) (placed_left fields.entry))) result }
+        (at_record number (faults_by_test rules.now test.entry)) result }
 {
-    for field in fields {
-        tell(sink, number, wrong.fault(rules, &field))?;
+    for field in test.fields {
+        tell(sink, number, test.wrong.fault(rules, &field))?;
     }
     Ok(())
 }

@@ -1,5 +1,5 @@
 -- What two readers had left: the market first, and then the match beside it.
-use Rattle.std.proofs.Common.{◌≡◌, ℕ, List, Option, Result, Ok, Err, IfErr, IfOk, sym, ap, ◌∙◌, subst}
+use Rattle.std.proofs.Common.{◌≡◌, ℕ, List, [], Option, Result, Ok, Err, IfErr, IfOk, refl, sym, ap, ◌∙◌, subst}
 use Rattle.mt_terms.specs.Market.{Registered}
 use Rattle.mt_terms.specs.Registration.Faults.{Fault}
 use Rattle.mt_terms.specs.declared.refusal.Refusal.{Refusal}
@@ -14,7 +14,7 @@ use Rattle.mt_files.specs.declared.files.Files.{Files}
 use Rattle.mt_files.specs.declared.refused_file.Refused.{Refused}
 use Rattle.mt_files.specs.declared.source.Source.{Source}
 use Rattle.mt_files.specs.declared.source.Source.TheVariants.{Market, Match}
-use Rattle.mt_files.proofs.NameFacts.{market_refusal_named, match_refusal_named}
+use Rattle.mt_files.proofs.NameFacts.{alone_named, market_refusal_named, match_refusal_named}
 
 -- the market of two files, or another one if a file is refused
 abbrev registered_or : Registered → Result (Registered × Submitted) (Source × Fault) → Registered
@@ -73,3 +73,15 @@ module _ (market matched : Option (List ℕ)) where
     pub match_in_turn : (reads : ℕ) (result : Result Files Refused) → IfErr result (λ e. e.source ≡ Match) → IfErr result (λ e. IsInTurn market reads e.source)
     match_in_turn reads (Ok files) file = tt
     match_in_turn reads (Err e) file = subst (IsInTurn market reads) (sym file) stands
+
+-- files that are read were read in turn
+pub match_turn : (market matched : Option (List ℕ)) (files : Files) → AreFilesIn market matched files → (reads : ℕ) → IsInTurn market reads Match
+match_turn market matched files are reads =
+    of_left market (λ xs inner. (files.roster, market_there xs inner.bytes files.roster files.submitted inner.is_so)) are
+
+-- want of memory refuses the match, whatever its bytes
+pub memory_refused : (market matched : Option (List ℕ)) (e : Refusal) → e.code ≡ 30 → e.row ≡ 0 → e.id ≡ [] → IsRefused market matched (record { source = Match; refusal = e })
+memory_refused market matched e code row id = record {
+  named = rw (code, row, id) (alone_named Match 30 refl);
+  fault = λ m. absurd (m code);
+}

@@ -6,7 +6,7 @@ use Rattle.mt_terms.specs.Text.{is_none_or_id}
 use Rattle.mt_terms.specs.declared.codes.TheConstants.{OUT_OF_MEMORY, READ_FAULT}
 use Rattle.mt_input.specs.Files.{IsMarketOf}
 use Rattle.mt_input.specs.Left.{OfLeft}
-use Rattle.mt_input.specs.Refusals.{fault_of}
+use Rattle.mt_input.specs.Refusals.{code_by, fault_of}
 use Rattle.mt_files.specs.Files.{files_in}
 use Rattle.mt_files.specs.Text.{is_code_alone, is_code_of}
 use Rattle.mt_files.specs.declared.files.Files.{Files}
@@ -44,5 +44,4 @@ IsInTurn market reads Match = OfLeft market (λ bytes. (r : Registered) × IsMar
 
 -- the code with which two files are read: 0 if neither is refused
 abbrev pub end_code : {X : Type 0} → Result X Refused → ℕ
-end_code (Ok x) = 0
-end_code (Err e) = e.refusal.code
+end_code result = code_by (λ (e : Refused). e.refusal) result

@@ -7,6 +7,6 @@ mod refused_file;
 mod source;
 
 pub use files::{Files, read_files};
-pub use refusal::{FileRefusalLine, refusal_line, refused};
+pub use refusal::{FileRefusalLine, refusal_line, refuse, refused};
 pub use refused_file::Refused;
 pub use source::Source;

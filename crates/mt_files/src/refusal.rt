@@ -1,11 +1,15 @@
-ghost use Rattle.std.specs.Prelude.{◌≡◌, [], ◌∷◌, ◌+◌, ◌≤◌, codes, length, IsTrue};
+ghost use Rattle.std.specs.Prelude.{◌≡◌, [], ◌∷◌, ◌+◌, ◌<◌, ◌≤◌, ◌^◌, codes, if◌then◌else◌, length, IsTrue};
 ghost use Rattle.mt_terms.specs.Text.{line, name_among};
+ghost use Rattle.mt_report.specs.Drains.{IsWritten, contents_of, failures_of, is_flushed};
+ghost use Rattle.mt_files.specs.Refusals.{IsNamedRefusalOf};
 ghost use Rattle.mt_files.specs.Text.{is_code_of, refusals, refused_line, source_word};
 
 use crate::source::Source;
 use itoa::Buffer;
 use mt_match_file::codes as of_match;
-use mt_report::{code_name as known_name, id_or_dash, write_line};
+use mt_report::{Drain, Ended, code_name as known_name, end, id_or_dash, write_line};
+use mt_terms::Refusal;
+use std::io::Write;
 use std::marker::Model;
 
 /// The line of a refusal of one of two files, of at most 136 bytes, without memory of its own.
@@ -113,4 +117,33 @@ pub fn refused(word: &[u8], source: Source, code: u16, row: u64, id: &[u8]) -> F
         row_text,
         id_or_dash(id),
     )
+}
+
+/// Writes the one line of a refusal of a file, which begins with this word, and says how that ended.
+pub fn refuse<W: Write>(
+    drain: &mut Drain<W>,
+    word: &[u8],
+    source: Source,
+    refusal: &Refusal,
+) -> Ended
+    requires word { length word.now ≤ 7 }
+    requires named { IsNamedRefusalOf source refusal.now.code refusal.now.row refusal.now.id }
+    requires failures { failures_of drain.old + 1 < 2 ^ 64 }
+    ensures code { result.code ≡ refusal.now.code }
+    ensures written { IsWritten
+        (refused_line word.now source refusal.now.code refusal.now.row refusal.now.id)
+        (contents_of W.contents drain.old) (contents_of W.contents drain.new)
+        result.written result.whole }
+    ensures writer { failures_of drain.new
+        ≡ failures_of drain.old + (if result.whole then 0 else 1) }
+    ensures flushed { IsTrue result.whole → IsTrue (is_flushed drain.new) }
+{
+    let line = refused(
+        word,
+        source,
+        refusal.code,
+        refusal.row,
+        refusal.id.as_bytes(),
+    );
+    end(drain, refusal.code, line.as_bytes())
 }

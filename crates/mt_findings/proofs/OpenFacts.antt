@@ -1,20 +1,19 @@
--- A better option would be taken exactly if its lines are all open, and a place is allowed by what an explainer says.
-use Rattle.std.proofs.Common.{◌≡◌, ℕ, ◌<◌, Bool, true, false, not, ◌&&◌, ◌||◌, nat_lt, nat_le, [], length, get_or, Option, Some, None, is_some, refl, ap, sym, ◌∙◌, arith}
+-- A better option would be taken exactly if its lines are all open, and a place is allowed by what a match's tables say.
+use Rattle.std.proofs.Common.{◌≡◌, ℕ, ◌<◌, Bool, true, false, not, ◌&&◌, nat_lt, nat_le, [], length, get_or, Option, Some, None, is_some, refl, ap, sym, ◌∙◌, arith}
 use Rattle.std.specs.Prelude.{◌==◌}
 use Rattle.std.specs.List.{list_all}
 use Rattle.std.proofs.lemmas.Bool.Decides.{nat_tests}
 use Rattle.std.proofs.lemmas.List.Folds.{list_all-append}
-use Rattle.mt_terms.specs.Market.{Market, members, program_of, IsAgentOf}
-use Rattle.mt_terms.specs.Matching.{Places, better, holds, none_placed, options}
+use Rattle.mt_terms.specs.Market.{Market, program_of, IsAgentOf}
+use Rattle.mt_terms.specs.Matching.{Places, better, holds, options}
 use Rattle.mt_terms.specs.Places.{ArePlaces}
-use Rattle.mt_terms.specs.Stability.{has_own_option, is_listed, would_be_taken}
+use Rattle.mt_terms.specs.Stability.{is_listed, would_be_taken}
 use Rattle.mt_terms.specs.WellFormed.{IsWellFormed}
 use Rattle.mt_terms.specs.declared.numbers.Agent.{Agent}
 use Rattle.mt_terms.proofs.ListFacts.{until-le}
-use Rattle.mt_verify.specs.Held.{held_option, rank_at}
+use Rattle.mt_verify.specs.Held.{rank_at}
 use Rattle.mt_verify.proofs.FindFacts.{any_has_position}
-use Rattle.mt_explain.specs.Explained.{both_lines, line_if}
-use Rattle.mt_explain.specs.Lines.{is_open, option_lines}
+use Rattle.mt_explain.specs.Lines.{both_lines, is_open, line_if, option_lines}
 use Rattle.mt_explain.specs.declared.line.Line.{Line}
 use Rattle.mt_explain.proofs.OptionFacts.{front_has, open_if_option_taken}
 use Rattle.mt_findings.specs.Findings.{is_taken}
@@ -31,11 +30,6 @@ taken_by_lines m formed places are g numbered k within one other is =
 
 pub within_list : (m : Market) (places : Places) (g : Agent) (k : ℕ) → k < length (better m places g) → k < length (options m g)
 within_list m places g k within = omega (arith, until-le (holds places) (options m g))
-
--- an agent has an option of its list if it holds one
-pub own_by_held : (m : Market) (places : Places) (g : Agent)
-    → has_own_option m places g ≡ (is_some (held_option m places g) || none_placed places (members m g))
-own_by_held m places g = ap (λ (b : Bool). b || none_placed places (members m g)) (any_has_position (holds places) (options m g))
 
 -- a program lists whom it ranks
 pub listed_by_rank : (m : Market) (a p : ℕ) (place : Option ℕ) → place ≡ Some p → is_some (rank_at m a place) ≡ is_listed m a place

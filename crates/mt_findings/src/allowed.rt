@@ -7,57 +7,57 @@ ghost use Rattle.mt_check.specs.Findings.{fits_count};
 ghost use Rattle.mt_check.specs.View.{market_of, places_of};
 
 use mt_check::Tally;
-use mt_explain::Explainer;
 use mt_market::Roster;
 use mt_match_file::Counted;
 use mt_terms::{Agent, AppNo, ProgNo};
+use mt_verify::MatchTables;
 
 /// Whether none of the agent's members is placed.
 #[tactic(auto, using(crate::proofs::OpenFacts::and_true))]
-fn none_placed(explainer: &Explainer<'_>, agent: &Agent) -> bool
-    requires { IsAgentOf explainer.now.registered.market agent.now }
-    ensures { result ≡ none_placed explainer.now.places (members explainer.now.registered.market agent.now) }
+fn none_placed(tables: &MatchTables<'_>, agent: &Agent) -> bool
+    requires { IsAgentOf tables.now.registered.market agent.now }
+    ensures { result ≡ none_placed tables.now.places (members tables.now.registered.market agent.now) }
 {
-    let matched = explainer.matched();
+    let matched = tables.matched();
     match *agent {
         Agent::Single(applicant) => matched.place(applicant).is_none(),
         Agent::Couple(couple) => {
-            let (first, second) = explainer.roster().members(couple);
+            let (first, second) = tables.roster().members(couple);
             matched.place(first).is_none() && matched.place(second).is_none()
         }
     }
 }
 
 /// Whether the agent has an option of its list, or none of its members is placed.
-#[tactic(auto, using(crate::proofs::OpenFacts::own_by_held))]
-fn has_own_option(explainer: &Explainer<'_>, agent: &Agent) -> bool
-    requires { IsAgentOf explainer.now.registered.market agent.now }
-    ensures { result ≡ has_own_option explainer.now.registered.market explainer.now.places agent.now }
+#[tactic(auto, using(mt_verify::proofs::FindFacts::any_has_position))]
+fn has_own_option(tables: &MatchTables<'_>, agent: &Agent) -> bool
+    requires { IsAgentOf tables.now.registered.market agent.now }
+    ensures { result ≡ has_own_option tables.now.registered.market tables.now.places agent.now }
 {
-    explainer.held_option(*agent).is_some() || none_placed(explainer, agent)
+    tables.held_option(*agent).is_some() || none_placed(tables, agent)
 }
 
 /// Whether the applicant is unplaced, or its program lists it.
-fn is_listed(explainer: &Explainer<'_>, applicant: AppNo) -> bool
-    requires { applicant < applicants explainer.now.registered.market }
-    ensures { result ≡ is_listed explainer.now.registered.market applicant
-        (place_of explainer.now.places applicant) }
+fn is_listed(tables: &MatchTables<'_>, applicant: AppNo) -> bool
+    requires { applicant < applicants tables.now.registered.market }
+    ensures { result ≡ is_listed tables.now.registered.market applicant
+        (place_of tables.now.places applicant) }
 {
-    match explainer.matched().place(applicant) {
+    match tables.matched().place(applicant) {
         None => true,
-        Some(_) => explainer.rank_at_place(applicant).is_some(),
+        Some(_) => tables.rank_at_place(applicant).is_some(),
     }
 }
 
 /// The number at which a finding on an agent is reported: a single's own, and the lower one of a couple's.
-fn lowest_number(explainer: &Explainer<'_>, agent: &Agent) -> u32
-    requires { IsAgentOf explainer.now.registered.market agent.now }
-    ensures { result ≡ lowest_number explainer.now.registered.market agent.now }
+fn lowest_number(tables: &MatchTables<'_>, agent: &Agent) -> u32
+    requires { IsAgentOf tables.now.registered.market agent.now }
+    ensures { result ≡ lowest_number tables.now.registered.market agent.now }
 {
     match *agent {
         Agent::Single(applicant) => applicant.0,
         Agent::Couple(couple) => {
-            let (first, second) = explainer.roster().members(couple);
+            let (first, second) = tables.roster().members(couple);
             first.0.min(second.0)
         }
     }
@@ -65,13 +65,13 @@ fn lowest_number(explainer: &Explainer<'_>, agent: &Agent) -> u32
 
 /// Whether the applicant's place isn't allowed, by its agent's list, which is reported at the agent's lowest number, or
 /// by its program's list.
-pub(crate) fn is_unlisted(explainer: &Explainer<'_>, applicant: AppNo) -> bool
-    requires { applicant < applicants explainer.now.registered.market }
-    ensures { result ≡ is_unlisted explainer.now.registered.market explainer.now.places applicant }
+pub(crate) fn is_unlisted(tables: &MatchTables<'_>, applicant: AppNo) -> bool
+    requires { applicant < applicants tables.now.registered.market }
+    ensures { result ≡ is_unlisted tables.now.registered.market tables.now.places applicant }
 {
-    let agent = explainer.roster().agent_of(applicant);
-    let is_lowest = lowest_number(explainer, &agent) == applicant.0;
-    (is_lowest && !has_own_option(explainer, &agent)) || !is_listed(explainer, applicant)
+    let agent = tables.roster().agent_of(applicant);
+    let is_lowest = lowest_number(tables, &agent) == applicant.0;
+    (is_lowest && !has_own_option(tables, &agent)) || !is_listed(tables, applicant)
 }
 
 /// Whether the program has more applicants than its quota.

@@ -2,12 +2,12 @@ ghost use Rattle.std.specs.Prelude.{◌≡◌, ◌<◌, length};
 ghost use Rattle.std.specs.List.{list_all};
 ghost use Rattle.mt_terms.specs.Matching.{better};
 ghost use Rattle.mt_terms.specs.Market.{IsAgentOf};
-ghost use Rattle.mt_explain.specs.Explained.{line_if};
-ghost use Rattle.mt_explain.specs.Lines.{is_open, says_open};
+ghost use Rattle.mt_explain.specs.Lines.{is_open, line_if, says_open};
 ghost use Rattle.mt_findings.specs.Findings.{is_taken};
 
-use mt_explain::{Explainer, Line, Why};
+use mt_explain::{Line, Why, option_lines};
 use mt_terms::Agent;
+use mt_verify::MatchTables;
 
 /// Whether this is why a post is open.
 fn says_open(why: Why) -> bool
@@ -32,13 +32,13 @@ fn is_open_if(line: &Option<Line>) -> bool
 }
 
 /// Whether the agent's better option with a number would be taken.
-pub(crate) fn is_taken(explainer: &Explainer<'_>, agent: &Agent, option: u32) -> bool
-    requires agent { IsAgentOf explainer.now.registered.market agent.now }
-    requires option { option < length (better explainer.now.registered.market explainer.now.places agent.now) }
-    ensures { result ≡ is_taken explainer.now.registered.market explainer.now.places agent.now option }
+pub(crate) fn is_taken(tables: &MatchTables<'_>, agent: &Agent, option: u32) -> bool
+    requires agent { IsAgentOf tables.now.registered.market agent.now }
+    requires option { option < length (better tables.now.registered.market tables.now.places agent.now) }
+    ensures { result ≡ is_taken tables.now.registered.market tables.now.places agent.now option }
 {
-    explainer.roster().is_of_a_file();
-    let _ = explainer.matched();
-    let lines = explainer.option_lines(*agent, option);
+    tables.roster().is_of_a_file();
+    let _ = tables.matched();
+    let lines = option_lines(tables, *agent, option);
     is_open_if(&lines.0) && is_open_if(&lines.1)
 }

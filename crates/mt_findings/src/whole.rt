@@ -1,10 +1,9 @@
-ghost use Rattle.std.specs.Prelude.{◌≡◌, ◌⊎◌, ◌+◌, ◌<◌, ◌≤◌, ◌-◌, ◌^◌, ◌↔◌, if◌then◌else◌, IfOk, IsTrue, OnErr, length};
-ghost use Rattle.mt_lists.specs.Tap.{bytes_left, failures_of as read_failures_of, reads_of};
+ghost use Rattle.std.specs.Prelude.{◌≡◌, ◌+◌, ◌<◌, ◌≤◌, ◌-◌, ◌^◌, if◌then◌else◌, IfOk, IsTrue, OnErr, length};
+ghost use Rattle.mt_lists.specs.Tap.{bytes_left, reads_of};
 ghost use Rattle.mt_terms.specs.Places.{ArePlaces};
-ghost use Rattle.mt_terms.specs.declared.codes.TheConstants.{READ_FAULT};
 ghost use Rattle.mt_report.specs.Drains.{contents_of, failures_of, is_flushed};
 ghost use Rattle.mt_input.specs.Files.{most_bytes};
-ghost use Rattle.mt_input.specs.Left.{TakesFile};
+ghost use Rattle.mt_files.specs.Uses.{UsesFiles};
 ghost use Rattle.mt_explained.specs.Answer.{IsGiven, IsGivenOrMemory};
 ghost use Rattle.mt_findings.specs.Answer.{Answers, findings_answer, found_answer, number_code};
 ghost use Rattle.mt_findings.specs.Findings.{findings};
@@ -12,7 +11,6 @@ ghost use Rattle.mt_findings.specs.Findings.{findings};
 use crate::lines::FindingLines;
 use crate::writing::write_all;
 use mt_check::Tally;
-use mt_explain::Explainer;
 use mt_explained::{Outcome, all_agents, judged, refuse_file};
 use mt_files::{Files, Refused, Source, read_files};
 use mt_lists::Tap;
@@ -21,6 +19,7 @@ use mt_ranks::Ranks;
 use mt_report::Drain;
 use mt_terms::Refusal;
 use mt_terms::codes::OUT_OF_MEMORY;
+use mt_verify::MatchTables;
 use std::alloc::{AllocError, Global};
 use std::io::{Read, Write};
 use std::thread::Threads;
@@ -61,11 +60,11 @@ fn check_places<T: Threads + Sync, W: Write>(
     roster.is_of_a_file();
     has_few_counts(submitted);
     let ranks = Ranks::build(rt, alloc, roster)?;
-    let explainer = Explainer::new(rt, alloc, roster, &ranks, submitted.matched())?;
+    let tables = MatchTables::new(rt, alloc, roster, &ranks, submitted.matched())?;
     let agents = all_agents(alloc, roster)?;
     let tally = Tally::of(alloc, roster, submitted.matched())?;
     let mut lines = FindingLines::new(alloc)?;
-    let whole = write_all(drain, &mut lines, &explainer, &agents, &tally, submitted).is_ok();
+    let whole = write_all(drain, &mut lines, &tables, &agents, &tally, submitted).is_ok();
     Ok(Outcome {
         code: number_code(lines.count),
         whole,
@@ -133,14 +132,8 @@ pub fn check_all<T: Threads + Sync, R: Read, S: Read, W: Write>(
         (reads_of matched.new - reads_of matched.old)
         (contents_of W.contents drain.old) (contents_of W.contents drain.new)
         result.code result.whole }
-    ensures writer { failures_of drain.new
-        ≡ failures_of drain.old + (if result.whole then 0 else 1) }
-    ensures flushed { IsTrue result.whole → IsTrue (is_flushed drain.new) }
-    ensures fault { (result.code ≡ READ_FAULT)
-        ↔ ((read_failures_of market.old < read_failures_of market.new)
-        ⊎ (read_failures_of matched.old < read_failures_of matched.new)) }
-    ensures market_taken { TakesFile R.remaining market.old market.new }
-    ensures match_taken { TakesFile S.remaining matched.old matched.new }
+    ensures uses { UsesFiles R.remaining S.remaining market.old market.new
+        matched.old matched.new drain.old drain.new result.code result.whole }
 {
     match read_files(rt, alloc, market, matched) {
         Ok(files) => check_files(rt, alloc, files, drain),

@@ -12,32 +12,32 @@ use crate::allowed::{differs, is_over, is_unlisted};
 use crate::lines::{FindingLines, finish, write_if};
 use crate::taken::is_taken;
 use mt_check::{Finding, Tally};
-use mt_explain::Explainer;
 use mt_explained::Unwritten;
 use mt_market::Roster;
 use mt_match_file::{Counted, SubmittedMatch};
 use mt_report::Drain;
 use mt_terms::{Agent, AppNo, Blocker, ProgNo, Verdict};
+use mt_verify::MatchTables;
 use std::io::Write;
 
 /// Writes the applicants whose places aren't allowed, by number.
 fn write_unlisted<W: Write>(
     drain: &mut Drain<W>,
     lines: &mut FindingLines,
-    explainer: &Explainer<'_>,
+    tables: &MatchTables<'_>,
 ) -> Result<(), Unwritten>
-    requires count { let e = explainer.now in
-        lines.old.count + length (unlisted e.registered.market e.places) < 2 ^ 64 }
+    requires count { let t = tables.now in
+        lines.old.count + length (unlisted t.registered.market t.places) < 2 ^ 64 }
     requires failures { failures_of drain.old + 1 < 2 ^ 64 }
-    ensures wrote { let e = explainer.now in OnOk result (Wrote W.contents e.registered
-        drain.old drain.new lines.old lines.new (unlisted e.registered.market e.places)) }
-    ensures failed { let e = explainer.now in OnErr result (Failed W.contents e.registered
-        drain.old drain.new lines.old lines.new (unlisted e.registered.market e.places)) }
+    ensures wrote { let t = tables.now in OnOk result (Wrote W.contents t.registered
+        drain.old drain.new lines.old lines.new (unlisted t.registered.market t.places)) }
+    ensures failed { let t = tables.now in OnErr result (Failed W.contents t.registered
+        drain.old drain.new lines.old lines.new (unlisted t.registered.market t.places)) }
 {
-    let roster = explainer.roster();
+    let roster = tables.roster();
     for number in 0..roster.applicants() {
         let applicant = AppNo(number);
-        let is_so = is_unlisted(explainer, applicant);
+        let is_so = is_unlisted(tables, applicant);
         let finding = Finding::Of(Verdict::Unlisted(applicant));
         write_if(drain, lines, roster, is_so, &finding)?;
     }
@@ -73,21 +73,21 @@ fn write_over<W: Write>(
 fn write_blocking_by<W: Write>(
     drain: &mut Drain<W>,
     lines: &mut FindingLines,
-    explainer: &Explainer<'_>,
+    tables: &MatchTables<'_>,
     agent: &Agent,
 ) -> Result<(), Unwritten>
-    requires agent { IsAgentOf explainer.now.registered.market agent.now }
-    requires count { let e = explainer.now in
-        lines.old.count + length (blocking_by e.registered.market e.places agent.now) < 2 ^ 64 }
+    requires agent { IsAgentOf tables.now.registered.market agent.now }
+    requires count { let t = tables.now in
+        lines.old.count + length (blocking_by t.registered.market t.places agent.now) < 2 ^ 64 }
     requires failures { failures_of drain.old + 1 < 2 ^ 64 }
-    ensures wrote { let e = explainer.now in OnOk result (Wrote W.contents e.registered
-        drain.old drain.new lines.old lines.new (blocking_by e.registered.market e.places agent.now)) }
-    ensures failed { let e = explainer.now in OnErr result (Failed W.contents e.registered
-        drain.old drain.new lines.old lines.new (blocking_by e.registered.market e.places agent.now)) }
+    ensures wrote { let t = tables.now in OnOk result (Wrote W.contents t.registered
+        drain.old drain.new lines.old lines.new (blocking_by t.registered.market t.places agent.now)) }
+    ensures failed { let t = tables.now in OnErr result (Failed W.contents t.registered
+        drain.old drain.new lines.old lines.new (blocking_by t.registered.market t.places agent.now)) }
 {
-    let roster = explainer.roster();
-    for option in 0..explainer.better_options(*agent) {
-        let is_so = is_taken(explainer, agent, option);
+    let roster = tables.roster();
+    for option in 0..tables.better_options(*agent) {
+        let is_so = is_taken(tables, agent, option);
         let blocker = Blocker {
             agent: *agent,
             option,
@@ -102,22 +102,22 @@ fn write_blocking_by<W: Write>(
 fn write_blocking<W: Write>(
     drain: &mut Drain<W>,
     lines: &mut FindingLines,
-    explainer: &Explainer<'_>,
+    tables: &MatchTables<'_>,
     agents: &[Agent],
 ) -> Result<(), Unwritten>
-    requires agents { All (IsAgentOf explainer.now.registered.market) agents.now }
-    requires count { let e = explainer.now in lines.old.count
-        + length (flat_map (blocking_by e.registered.market e.places) agents.now) < 2 ^ 64 }
+    requires agents { All (IsAgentOf tables.now.registered.market) agents.now }
+    requires count { let t = tables.now in lines.old.count
+        + length (flat_map (blocking_by t.registered.market t.places) agents.now) < 2 ^ 64 }
     requires failures { failures_of drain.old + 1 < 2 ^ 64 }
-    ensures wrote { let e = explainer.now in OnOk result (Wrote W.contents e.registered
+    ensures wrote { let t = tables.now in OnOk result (Wrote W.contents t.registered
         drain.old drain.new lines.old lines.new
-        (flat_map (blocking_by e.registered.market e.places) agents.now)) }
-    ensures failed { let e = explainer.now in OnErr result (Failed W.contents e.registered
+        (flat_map (blocking_by t.registered.market t.places) agents.now)) }
+    ensures failed { let t = tables.now in OnErr result (Failed W.contents t.registered
         drain.old drain.new lines.old lines.new
-        (flat_map (blocking_by e.registered.market e.places) agents.now)) }
+        (flat_map (blocking_by t.registered.market t.places) agents.now)) }
 {
     for agent in agents {
-        write_blocking_by(drain, lines, explainer, agent)?;
+        write_blocking_by(drain, lines, tables, agent)?;
     }
     Ok(())
 }
@@ -151,20 +151,20 @@ fn write_differing<W: Write>(
 pub(crate) fn write_all<W: Write>(
     drain: &mut Drain<W>,
     lines: &mut FindingLines,
-    explainer: &Explainer<'_>,
+    tables: &MatchTables<'_>,
     all_agents: &[Agent],
     tally: &Tally<'_>,
     submitted: &SubmittedMatch,
 ) -> Result<(), Unwritten>
-    requires agents { all_agents.now ≡ agents explainer.now.registered.market }
-    requires market { market_of tally.now ≡ explainer.now.registered.market }
-    requires tally { places_of tally.now ≡ explainer.now.places }
-    requires places { submitted.now.places ≡ explainer.now.places }
-    requires few { length (findings explainer.now.registered.market submitted.now) < 2 ^ 64 }
+    requires agents { all_agents.now ≡ agents tables.now.registered.market }
+    requires market { market_of tally.now ≡ tables.now.registered.market }
+    requires tally { places_of tally.now ≡ tables.now.places }
+    requires places { submitted.now.places ≡ tables.now.places }
+    requires few { length (findings tables.now.registered.market submitted.now) < 2 ^ 64 }
     requires page { lines.old.page ≡ [] }
     requires count { lines.old.count ≡ 0 }
     requires failures { failures_of drain.old + 1 < 2 ^ 64 }
-    ensures given { let r = explainer.now.registered in
+    ensures given { let r = tables.now.registered in
         IsGiven (found_answer r (length submitted.now.aside) (findings r.market submitted.now))
         (contents_of W.contents drain.old) (contents_of W.contents drain.new)
         (number_code lines.new.count) (is_ok result) }
@@ -172,11 +172,11 @@ pub(crate) fn write_all<W: Write>(
         ≡ failures_of drain.old + (if is_ok result then 0 else 1) }
     ensures flushed { IsTrue (is_ok result) → IsTrue (is_flushed drain.new) }
 {
-    let roster = explainer.roster();
+    let roster = tables.roster();
     roster.is_of_a_file();
-    write_unlisted(drain, lines, explainer)?;
+    write_unlisted(drain, lines, tables)?;
     write_over(drain, lines, roster, tally)?;
-    write_blocking(drain, lines, explainer, all_agents)?;
+    write_blocking(drain, lines, tables, all_agents)?;
     write_differing(drain, lines, roster, tally, submitted.counts())?;
     finish(drain, lines, submitted.aside().len())
 }

@@ -2,7 +2,7 @@
 ghost use Rattle.std.specs.Prelude.{◌≡◌, ◌<◌, length};
 
 use crate::expect::{on_ranks, same_for};
-use mt_ranks::{Live, Ranks};
+use mt_ranks::{PackedLive, Ranks};
 use mt_samples::markets::BETWEEN;
 use mt_terms::{AppNo, ProgNo};
 use std::process::Abort;
@@ -61,10 +61,10 @@ fn expect_programs(rt: &impl Abort, tables: &Ranks, expected: &Expected<'_>) {
     }
 }
 
-fn expect_live(rt: &impl Abort, live: &[Live], of: &str, expected: &[(u32, u32)]) {
+fn expect_live(rt: &impl Abort, live: &[PackedLive], of: &str, expected: &[(u32, u32)]) {
     assert!(rt; live.len() == expected.len());
     for number in 0..live.len() {
-        let entry = live[number];
+        let entry = live[number].unpacked();
         same_for(rt, (entry.program.0, entry.rank), expected[number], of);
     }
 }

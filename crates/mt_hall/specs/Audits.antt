@@ -13,21 +13,17 @@ use Rattle.mt_hall.specs.declared.audit.Row.{Row}
 abbrev pub all_proposals : List PassView → ℕ
 all_proposals passes = sum_by (λ (s : PassView). s.proposals) passes
 
--- how many of them were made for an applicant
-abbrev pub all_for : List PassView → ℕ → ℕ
-all_for passes a = sum_by (λ (s : PassView). slice_index_or s.by_applicant a 0) passes
-
--- how many of them went to a program
-abbrev pub all_to : List PassView → ℕ → ℕ
-all_to passes p = sum_by (λ (s : PassView). slice_index_or s.by_program p 0) passes
+-- how many of them were made for one applicant, or to one program, by the list that counts these
+abbrev pub all_at : (PassView → List ℕ) → List PassView → ℕ → ℕ
+all_at counts passes n = sum_by (λ (s : PassView). slice_index_or (counts s) n 0) passes
 
 -- whether for each single the passes' counts add up to what the floor has
 abbrev pub singles_agree : Ranked → Floor → List PassView → Bool
-singles_agree r f passes = list_all (λ a. not (is_single r a) || (all_for passes a == f.made a)) (below (applicants r.market))
+singles_agree r f passes = list_all (λ a. not (is_single r a) || (all_at (λ s. s.by_applicant) passes a == f.made a)) (below (applicants r.market))
 
 -- whether for each program the passes' counts add up to what the floor has
 abbrev pub programs_agree : Ranked → Floor → List PassView → Bool
-programs_agree r f passes = list_all (λ p. all_to passes p == count_below (f.received p) (applicants r.market)) (below (length r.market.programs))
+programs_agree r f passes = list_all (λ p. all_at (λ s. s.by_program) passes p == count_below (f.received p) (applicants r.market)) (below (length r.market.programs))
 
 -- whether for each single and each program the passes' counts add up to what the floor has
 abbrev pub all_agree : Ranked → Floor → List PassView → Bool

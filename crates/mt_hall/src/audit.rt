@@ -5,7 +5,7 @@ ghost use Rattle.mt_terms.specs.Floor.{IsLegal, opening, proposals_made};
 ghost use Rattle.mt_ranks.specs.Ranked.{IsRanked};
 ghost use Rattle.mt_core.specs.Floors.{floor_of, IsOpenedWith};
 ghost use Rattle.mt_desks.specs.Singles.{is_single};
-ghost use Rattle.mt_hall.specs.Audits.{all_agree, all_for, all_proposals, all_to, made_in, noted, programs_agree, singles_agree, AreRows};
+ghost use Rattle.mt_hall.specs.Audits.{all_agree, all_at, all_proposals, made_in, noted, programs_agree, singles_agree, AreRows};
 
 use crate::hall::Hall;
 use mt_core::{Floor, made, received};
@@ -131,7 +131,7 @@ fn write_rows(floor: &mut Floor, ranks: &Ranks, rows: &[Row])
 // Whether the passes have this number of proposals for the applicant.
 fn made_with<K: HallName>(passes: &[Pass<K>], applicant: AppNo, number: u32) -> bool
     requires { applicant < applicants K.ranked.market }
-    ensures { result ≡ (all_for passes.now applicant == number) }
+    ensures { result ≡ (all_at (λ s. s.by_applicant) passes.now applicant == number) }
 {
     let mut left = number as u64;
     for pass in passes {
@@ -146,7 +146,7 @@ fn made_with<K: HallName>(passes: &[Pass<K>], applicant: AppNo, number: u32) -> 
 // Whether the passes have this number of proposals to the program.
 fn received_with<K: HallName>(passes: &[Pass<K>], program: ProgNo, number: u32) -> bool
     requires { program < length K.ranked.market.programs }
-    ensures { result ≡ (all_to passes.now program == number) }
+    ensures { result ≡ (all_at (λ s. s.by_program) passes.now program == number) }
 {
     let mut left = number as u64;
     for pass in passes {
@@ -170,7 +170,7 @@ fn single_agrees<K: HallName>(
     requires applicant { applicant < applicants ranks.now.market }
     ensures { let f = floor_of ranks.now.market floor.now in
         result ≡ (not (is_single ranks.now applicant)
-        || (all_for passes.now applicant == f.made applicant)) }
+        || (all_at (λ s. s.by_applicant) passes.now applicant == f.made applicant)) }
 {
     !ranks.is_single(applicant) || made_with(passes, applicant, made(floor, applicant))
 }
@@ -187,7 +187,7 @@ fn program_agrees<K: HallName>(
     requires opened { IsOpenedWith ranks.now.market floor.now }
     requires program { program < length ranks.now.market.programs }
     ensures { let f = floor_of ranks.now.market floor.now in
-        result ≡ (all_to passes.now program
+        result ≡ (all_at (λ s. s.by_program) passes.now program
         == count_below (f.received program) (applicants ranks.now.market)) }
 {
     received_with(passes, program, received(floor, program))

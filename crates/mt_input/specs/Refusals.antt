@@ -10,10 +10,14 @@ use Rattle.mt_input.specs.Left.{OfLeft}
 abbrev pub fault_of : Refusal → Fault
 fault_of e = record { code = e.code; row = e.row; id = e.id }
 
--- the code with which a step ends: 0 if it isn't refused
+-- the code with which a step ends, by the refusal that its error holds: 0 if it isn't refused
+abbrev pub code_by : {X E : Type 0} → (E → Refusal) → Result X E → ℕ
+code_by refusal (Ok x) = 0
+code_by refusal (Err e) = (refusal e).code
+
+-- the code with which a step ends whose error is a refusal
 abbrev pub code_of : {X : Type 0} → Result X Refusal → ℕ
-code_of (Ok x) = 0
-code_of (Err e) = e.code
+code_of result = code_by (λ (e : Refusal). e) result
 
 -- a refusal with this code names neither a record nor an id
 abbrev pub NamesNone : ℕ → Refusal → Type 0

@@ -1,5 +1,5 @@
 -- Records of matches of a small market, and what they say.
-use Rattle.std.specs.Prelude.{ℕ, List, [], Option, Result, Ok, Err, codes}
+use Rattle.std.specs.Prelude.{ℕ, List, [], Option, Result, Ok}
 use Prim.Native.String.{String}
 use Rattle.mt_terms.specs.Examples.Markets.{crossed, unstable}
 use Rattle.mt_terms.specs.Examples.RegistrationText.{file, named}
@@ -32,7 +32,3 @@ places_alone places = Ok (record { places = places; counts = []; aside = [] })
 
 abbrev pub counted : ℕ → Count → Counted
 counted n c = record { row = n; count = c }
-
--- a fault with this code, at this record, with this id
-abbrev pub at_fault : ℕ → ℕ → String → Result Submitted Fault
-at_fault code row id = Err (record { code = code; row = row; id = codes id })

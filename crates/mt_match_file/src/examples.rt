@@ -1,7 +1,8 @@
 //! What the definition of a match's records gives on worked ones. Each function does nothing. Its contract is the
 //! example.
 ghost use Rattle.std.specs.Prelude.{◌≡◌, [], ◌∷◌, Some, None, Ok};
-ghost use Rattle.mt_match_file.specs.Examples.{at_fault, counted, places_alone, submitted_beside_couple, submitted_of};
+ghost use Rattle.mt_terms.specs.Examples.RegistrationText.{refused};
+ghost use Rattle.mt_match_file.specs.Examples.{counted, places_alone, submitted_beside_couple, submitted_of};
 ghost use Rattle.mt_match_file.specs.declared.submitted_match.Count.TheVariants as count;
 
 /// Records may come in any order, with counts or without. One without a field is passed over.
@@ -20,17 +21,17 @@ pub fn matches_that_are_read()
 
 /// The fault is the first in the order of the records, and in one record the first by the order of the codes.
 pub fn matches_that_cannot_be_read()
-    ensures other_record { submitted_of ("" ∷ "couple,a1,P1" ∷ []) ≡ at_fault 50 2 "" }
+    ensures other_record { submitted_of ("" ∷ "couple,a1,P1" ∷ []) ≡ refused 50 2 "" }
     ensures refusal_line { submitted_of ("match,1,refused,41,BudgetSpent,0,-" ∷ [])
-        ≡ at_fault 51 1 "" }
-    ensures leading_zero { submitted_of ("program,P3,01,1,1" ∷ []) ≡ at_fault 51 1 "" }
-    ensures no_such_applicant { submitted_of ("applicant,a3,P3" ∷ []) ≡ at_fault 52 1 "a3" }
-    ensures no_id { submitted_of ("applicant,a=3,P3" ∷ []) ≡ at_fault 52 1 "" }
+        ≡ refused 51 1 "" }
+    ensures leading_zero { submitted_of ("program,P3,01,1,1" ∷ []) ≡ refused 51 1 "" }
+    ensures no_such_applicant { submitted_of ("applicant,a3,P3" ∷ []) ≡ refused 52 1 "a3" }
+    ensures no_id { submitted_of ("applicant,a=3,P3" ∷ []) ≡ refused 52 1 "" }
     ensures placed_twice { submitted_of ("applicant,a1,-" ∷ "applicant,a1,P3" ∷ [])
-        ≡ at_fault 53 2 "a1" }
-    ensures no_such_program { submitted_of ("applicant,a1,P3" ∷ []) ≡ at_fault 54 1 "P3" }
+        ≡ refused 53 2 "a1" }
+    ensures no_such_program { submitted_of ("applicant,a1,P3" ∷ []) ≡ refused 54 1 "P3" }
     ensures not_placed { submitted_of ("applicant,a1,P1" ∷ "totals,2,0,2,0" ∷ [])
-        ≡ at_fault 55 0 "a2" }
+        ≡ refused 55 0 "a2" }
 {}
 
 /// A record sets one couple of the market aside. It may stand before or after the other records.
@@ -41,9 +42,9 @@ pub fn matches_with_couples_set_aside()
           counts = [];
           aside = 0 ∷ [];
         }) }
-    ensures no_such_couple { submitted_beside_couple ("aside,s" ∷ []) ≡ at_fault 57 1 "s" }
+    ensures no_such_couple { submitted_beside_couple ("aside,s" ∷ []) ≡ refused 57 1 "s" }
     ensures aside_twice { submitted_beside_couple ("aside,c" ∷ "aside,c" ∷ [])
-        ≡ at_fault 58 2 "c" }
-    ensures two_ids { submitted_beside_couple ("aside,c,c" ∷ []) ≡ at_fault 51 1 "" }
-    ensures other_version { submitted_beside_couple ("match,3,published" ∷ []) ≡ at_fault 51 1 "" }
+        ≡ refused 58 2 "c" }
+    ensures two_ids { submitted_beside_couple ("aside,c,c" ∷ []) ≡ refused 51 1 "" }
+    ensures other_version { submitted_beside_couple ("match,3,published" ∷ []) ≡ refused 51 1 "" }
 {}

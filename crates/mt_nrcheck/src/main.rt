@@ -3,7 +3,7 @@
 
 ghost use Rattle.std.specs.Prelude.{◌+◌, ◌<◌, ◌^◌};
 ghost use Rattle.mt_program.specs.CommandLine.{texts_of};
-ghost use Rattle.mt_nrcheck.specs.Program.{IsCheck, IsCheckBy, IsExitFor, IsExitForTaken, IsFaultList, IsFullCheck};
+ghost use Rattle.mt_nrcheck.specs.Program.{IsCheckBy, IsExitFor, IsExitForTaken, IsFaultList};
 ghost use Rattle.mt_report.specs.Drains.{contents_of, failures_of};
 
 mod command;
@@ -12,62 +12,19 @@ use crate::command::{Request, asked};
 use mt_check::check;
 use mt_fault_sentences::Teller;
 use mt_fault_text::check_market;
-use mt_file_programs::{end_unasked, no_memory};
+use mt_file_programs::{end_unasked, exit_status, no_memory, say_unopened_files};
 use mt_findings::check_all;
 use mt_lists::Tap;
-use mt_program::{Input, NO_MEMORY, TwoFiles, UNWRITTEN, say_unopened, tell, words_of};
+use mt_program::{Input, NO_MEMORY, TwoFiles, UNWRITTEN, say_unopened, tell};
 use mt_report::Drain;
 use std::alloc::Global;
 use std::io::{Read, Write};
 use std::process::ExitCode;
 use std::thread::Threads;
 
-/// Checks the match that one reader gives by the market that another gives, and gives the exit status.
+/// Checks the match that one reader gives by the market that another gives, with the first finding against it or with all
+/// of them. It gives the exit status.
 fn check_match<T: Threads + Sync, R: Read + Drop, S: Read + Drop, W: Write>(
-    rt: &T,
-    alloc: Global,
-    market: R,
-    matched: S,
-    drain: &mut Drain<W>,
-) -> u8
-    requires { failures_of drain.old + 1 < 2 ^ 64 }
-    ensures { IsCheck (R.remaining market) (S.remaining matched)
-        (contents_of W.contents drain.old) (contents_of W.contents drain.new) result }
-{
-    check(
-        rt,
-        alloc,
-        &mut Tap::new(market),
-        &mut Tap::new(matched),
-        drain,
-    )
-    .status()
-}
-
-/// The same with every finding against the match.
-fn check_match_fully<T: Threads + Sync, R: Read + Drop, S: Read + Drop, W: Write>(
-    rt: &T,
-    alloc: Global,
-    market: R,
-    matched: S,
-    drain: &mut Drain<W>,
-) -> u8
-    requires { failures_of drain.old + 1 < 2 ^ 64 }
-    ensures { IsFullCheck (R.remaining market) (S.remaining matched)
-        (contents_of W.contents drain.old) (contents_of W.contents drain.new) result }
-{
-    check_all(
-        rt,
-        alloc,
-        &mut Tap::new(market),
-        &mut Tap::new(matched),
-        drain,
-    )
-    .status()
-}
-
-/// Checks the match with the first finding against it, or with all of them, and gives the exit status.
-fn check_by<T: Threads + Sync, R: Read + Drop, S: Read + Drop, W: Write>(
     rt: &T,
     alloc: Global,
     is_all: bool,
@@ -80,9 +37,11 @@ fn check_by<T: Threads + Sync, R: Read + Drop, S: Read + Drop, W: Write>(
         (contents_of W.contents drain.old) (contents_of W.contents drain.new) result }
 {
     if is_all {
-        check_match_fully(rt, alloc, market, matched, drain)
+        let (mut market, mut matched) = (Tap::new(market), Tap::new(matched));
+        check_all(rt, alloc, &mut market, &mut matched, drain).status()
     } else {
-        check_match(rt, alloc, market, matched, drain)
+        let (mut market, mut matched) = (Tap::new(market), Tap::new(matched));
+        check(rt, alloc, &mut market, &mut matched, drain).status()
     }
 }
 
@@ -106,13 +65,12 @@ fn check_files<T: Threads + Sync>(rt: &HostRuntime, crew: &T, files: &TwoFiles, 
     ensures { IsExitForTaken result }
 {
     let mut out = Drain::new(rt.stdout());
-    let mut err = Drain::new(rt.stderr());
     let mut market = Input::at(rt, files.market.as_str());
     let mut matched = Input::at(rt, files.matched.as_str());
     let alloc = rt.alloc();
-    let status = check_by(crew, alloc, is_all, &mut market, &mut matched, &mut out);
-    say_unopened(&mut err, alloc, "nrcheck", &market);
-    say_unopened(&mut err, alloc, "nrcheck", &matched);
+    let status = check_match(crew, alloc, is_all, &mut market, &mut matched, &mut out);
+    let mut err = Drain::new(rt.stderr());
+    say_unopened_files(&mut err, alloc, "nrcheck", &market, &matched);
     status
 }
 
@@ -152,9 +110,5 @@ fn obey<T: Threads + Sync>(rt: &HostRuntime, crew: &T, words: &[String]) -> u8
 }
 
 fn main(rt: HostRuntime) -> ExitCode {
-    let status = match words_of(&rt) {
-        Ok(words) => obey(&rt, &rt, words.as_slice()),
-        Err(unasked) => end_unasked(&rt, b"check", &unasked),
-    };
-    ExitCode::from(status)
+    ExitCode::from(exit_status(&rt, b"check", |words| obey(&rt, &rt, words)))
 }

@@ -6,8 +6,7 @@ ghost use Rattle.mt_program.specs.Unasked.{IsUnaskedBy};
 
 use clap::{Arg, ArgAction, ArgMatches, Command};
 use mt_program::{
-    TwoFiles, Unasked, after_match_records, flag_arg, is_given, matches_of, two_files,
-    two_files_command,
+    TwoFiles, Unasked, after_match_records, flag_arg, is_given, named_files, two_files_command,
 };
 use std::alloc::{AllocError, Global};
 
@@ -93,8 +92,7 @@ pub(crate) fn asked(alloc: Global, words: &[String]) -> Result<Request, Unasked>
     ensures unasked { IfErr result (IsUnaskedBy nrexplain
         (AreMisuse nrexplain (texts_of words.now)) (texts_of words.now)) }
 {
-    let matches = matches_of(alloc, command(alloc)?, words)?;
-    let files = two_files(alloc, &matches)?;
+    let (files, matches) = named_files(alloc, command(alloc)?, words)?;
     Ok(Request {
         files,
         ids: ids_of(alloc, &matches)?,

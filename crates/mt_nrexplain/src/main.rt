@@ -11,9 +11,9 @@ mod command;
 
 use crate::command::asked;
 use mt_explained::{Asked, explain};
-use mt_file_programs::end_unasked;
+use mt_file_programs::{end_unasked, exit_status, say_unopened_files};
 use mt_lists::Tap;
-use mt_program::{Input, say_unopened, words_of};
+use mt_program::Input;
 use mt_report::Drain;
 use std::alloc::Global;
 use std::io::{Read, Write};
@@ -49,20 +49,19 @@ fn explain_match<T: Threads + Sync, R: Read + Drop, S: Read + Drop, W: Write>(
 fn obey<T: Threads + Sync>(rt: &HostRuntime, crew: &T, words: &[String]) -> u8
     ensures { IsExitFor (texts_of words.now) result }
 {
-    let alloc = rt.alloc();
-    let mut out = Drain::new(rt.stdout());
-    match asked(alloc, words) {
+    match asked(rt.alloc(), words) {
         Ok(request) => {
-            let mut market = Input::at(rt, request.files.market.as_str());
-            let mut matched = Input::at(rt, request.files.matched.as_str());
             let asked = Asked {
                 ids: request.ids.as_slice(),
                 is_public: request.is_public,
             };
-            let mut err = Drain::new(rt.stderr());
+            let mut market = Input::at(rt, request.files.market.as_str());
+            let mut matched = Input::at(rt, request.files.matched.as_str());
+            let mut out = Drain::new(rt.stdout());
+            let alloc = rt.alloc();
             let status = explain_match(crew, alloc, &mut market, &mut matched, asked, &mut out);
-            say_unopened(&mut err, alloc, "nrexplain", &market);
-            say_unopened(&mut err, alloc, "nrexplain", &matched);
+            let mut err = Drain::new(rt.stderr());
+            say_unopened_files(&mut err, alloc, "nrexplain", &market, &matched);
             status
         }
         Err(unasked) => end_unasked(rt, b"check", &unasked),
@@ -70,9 +69,5 @@ fn obey<T: Threads + Sync>(rt: &HostRuntime, crew: &T, words: &[String]) -> u8
 }
 
 fn main(rt: HostRuntime) -> ExitCode {
-    let status = match words_of(&rt) {
-        Ok(words) => obey(&rt, &rt, words.as_slice()),
-        Err(unasked) => end_unasked(&rt, b"check", &unasked),
-    };
-    ExitCode::from(status)
+    ExitCode::from(exit_status(&rt, b"check", |words| obey(&rt, &rt, words)))
 }

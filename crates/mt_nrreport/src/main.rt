@@ -9,9 +9,9 @@ ghost use Rattle.mt_report.specs.Drains.{contents_of, failures_of};
 mod command;
 
 use crate::command::asked;
-use mt_file_programs::end_unasked;
+use mt_file_programs::{end_unasked, exit_status, say_unopened_files};
 use mt_lists::Tap;
-use mt_program::{Input, say_unopened, words_of};
+use mt_program::Input;
 use mt_report::Drain;
 use mt_reported::{Form, report};
 use std::alloc::Global;
@@ -48,23 +48,16 @@ fn report_match<T: Threads + Sync, R: Read + Drop, S: Read + Drop, W: Write>(
 fn obey<T: Threads + Sync>(rt: &HostRuntime, crew: &T, words: &[String]) -> u8
     ensures { IsExitFor (texts_of words.now) result }
 {
-    let alloc = rt.alloc();
-    let mut out = Drain::new(rt.stdout());
-    match asked(alloc, words) {
+    match asked(rt.alloc(), words) {
         Ok(request) => {
+            let form = request.form;
             let mut market = Input::at(rt, request.files.market.as_str());
             let mut matched = Input::at(rt, request.files.matched.as_str());
+            let mut out = Drain::new(rt.stdout());
+            let alloc = rt.alloc();
+            let status = report_match(crew, alloc, form, &mut market, &mut matched, &mut out);
             let mut err = Drain::new(rt.stderr());
-            let status = report_match(
-                crew,
-                alloc,
-                request.form,
-                &mut market,
-                &mut matched,
-                &mut out,
-            );
-            say_unopened(&mut err, alloc, "nrreport", &market);
-            say_unopened(&mut err, alloc, "nrreport", &matched);
+            say_unopened_files(&mut err, alloc, "nrreport", &market, &matched);
             status
         }
         Err(unasked) => end_unasked(rt, b"report", &unasked),
@@ -72,9 +65,5 @@ fn obey<T: Threads + Sync>(rt: &HostRuntime, crew: &T, words: &[String]) -> u8
 }
 
 fn main(rt: HostRuntime) -> ExitCode {
-    let status = match words_of(&rt) {
-        Ok(words) => obey(&rt, &rt, words.as_slice()),
-        Err(unasked) => end_unasked(&rt, b"report", &unasked),
-    };
-    ExitCode::from(status)
+    ExitCode::from(exit_status(&rt, b"report", |words| obey(&rt, &rt, words)))
 }

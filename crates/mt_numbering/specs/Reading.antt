@@ -9,9 +9,12 @@ use Rattle.mt_terms.specs.Registration.Records.{Record, CoupleRecord, IdPair}
 use Rattle.mt_terms.specs.Registration.Passes.{is_same_pair}
 use Rattle.mt_terms.specs.Registration.Numbering.{pair_by_number}
 use Rattle.mt_records.specs.Fields.{pairs_left}
+use Rattle.mt_records.specs.Records.{all_seen}
+use Rattle.mt_drafts.specs.Withdrawals.{stays_after}
 use Rattle.mt_id_lists.specs.Numbering.{Numbering, number_by}
 use Rattle.mt_id_lists.specs.Reading.{ids_read, with_kept}
 use Rattle.mt_numbering.specs.declared.entries.Entries.{Entries}
+use Rattle.mt_numbering.specs.declared.listed.RecordLists.{RecordLists}
 use Rattle.mt_numbering.specs.declared.pairs.PairList.{PairList}
 use Rattle.mt_numbering.specs.Numbered.{program_lists, applicant_lists, couple_lists}
 
@@ -22,6 +25,16 @@ pairs_by n list = filter_map (λ p. new_pair n.numbers (pair_by_number n.ids p))
 -- a couple's list as a list of pairs, and whether it is kept
 abbrev pub pair_list_seen : PairList → Bool × List IdPair
 pair_list_seen list = (list.kept, pairs_left list.pairs)
+
+-- the lists of programs, of applicants and of couples of records, of which those of withdrawn ones aren't kept
+abbrev pub lists_of_programs : RecordLists → List (Bool × List Bytes)
+lists_of_programs l = program_lists (stays_after l.withdrawn.now) (all_seen l.records.now)
+
+abbrev pub lists_of_applicants : RecordLists → List (Bool × List Bytes)
+lists_of_applicants l = applicant_lists (stays_after l.withdrawn.now) (all_seen l.records.now)
+
+abbrev pub lists_of_couples : RecordLists → List (Bool × List IdPair)
+lists_of_couples l = couple_lists (stays_after l.withdrawn.now) (all_seen l.records.now)
 
 -- whether a list of pairs has none but those that are allowed and name none but these programs, and none of them twice
 abbrev pub pairs_once : Bool → List Bytes → List IdPair → Bool

@@ -2,11 +2,10 @@
 ghost use Rattle.std.specs.Prelude.{◌≡◌, filter, filter_map, IfOk};
 ghost use Rattle.mt_id_lists.specs.Reading.{ids_read, ids_stand, ReadsAll};
 ghost use Rattle.mt_records.specs.Records.{all_seen};
-ghost use Rattle.mt_numbering.specs.Numbered.{program_lists, applicant_lists, couple_lists};
-ghost use Rattle.mt_numbering.specs.Reading.{members_by, pairs_read, pairs_stand_in, ReadsEntries};
+ghost use Rattle.mt_numbering.specs.Reading.{lists_of_applicants, lists_of_couples, lists_of_programs, members_by, pairs_read, pairs_stand_in, ReadsEntries};
 ghost use Rattle.mt_drafts.specs.Withdrawals.{stays_after};
 
-use crate::listed::{applicant_lists, couple_lists, program_lists};
+use crate::listed::RecordLists;
 use crate::pairs::PairReader;
 use mt_drafts::stays;
 use mt_id_lists::{Numbered, read_lists};
@@ -30,13 +29,12 @@ fn rankings<R: Threads + Sync>(
     rt: &R,
     alloc: Global,
     applicants: &Numbered<'_, AppNo>,
-    withdrawn: &Kinds<'_>,
-    records: &[Record<'_>],
+    listed: &RecordLists<'_, '_>,
 ) -> Result<Option<ChunkedLists<AppNo>>, AllocError>
     ensures { IfOk result (ReadsAll (ids_stand applicants.now) (ids_read applicants.now)
-        (program_lists (stays_after withdrawn.now) (all_seen records.now))) }
+        (lists_of_programs listed.now)) }
 {
-    let lists = program_lists(alloc, withdrawn, records)?;
+    let lists = listed.of_programs(alloc)?;
     read_lists(rt, alloc, applicants, lists)
 }
 
@@ -45,13 +43,12 @@ fn choices<R: Threads + Sync>(
     rt: &R,
     alloc: Global,
     programs: &Numbered<'_, ProgNo>,
-    withdrawn: &Kinds<'_>,
-    records: &[Record<'_>],
+    listed: &RecordLists<'_, '_>,
 ) -> Result<Option<ChunkedLists<ProgNo>>, AllocError>
     ensures { IfOk result (ReadsAll (ids_stand programs.now) (ids_read programs.now)
-        (applicant_lists (stays_after withdrawn.now) (all_seen records.now))) }
+        (lists_of_applicants listed.now)) }
 {
-    let lists = applicant_lists(alloc, withdrawn, records)?;
+    let lists = listed.of_applicants(alloc)?;
     read_lists(rt, alloc, programs, lists)
 }
 
@@ -60,14 +57,13 @@ fn pairs<R: Threads + Sync>(
     rt: &R,
     alloc: Global,
     reader: &PairReader<'_, '_>,
-    withdrawn: &Kinds<'_>,
-    records: &[Record<'_>],
+    listed: &RecordLists<'_, '_>,
 ) -> Result<Option<ChunkedLists<(Option<ProgNo>, Option<ProgNo>)>>, AllocError>
     ensures { IfOk result (ReadsAll (pairs_stand_in reader.now.half_pairs reader.now.programs.now)
         (pairs_read reader.now.programs.now)
-        (couple_lists (stays_after withdrawn.now) (all_seen records.now))) }
+        (lists_of_couples listed.now)) }
 {
-    let lists = couple_lists(alloc, withdrawn, records)?;
+    let lists = listed.of_couples(alloc)?;
     read_lists(rt, alloc, reader, lists)
 }
 
@@ -111,14 +107,15 @@ pub(crate) fn read_entries<R: Threads + Sync>(
         applicants.entry (stays_after withdrawn.now) (all_seen records.now)) }
 {
     let members = members(alloc, &applicants, withdrawn, records)?;
-    let Some(rankings) = rankings(rt, alloc, &applicants, withdrawn, records)? else {
+    let listed = RecordLists { withdrawn, records };
+    let Some(rankings) = rankings(rt, alloc, &applicants, &listed)? else {
         return Ok(None);
     };
     drop(applicants);
-    let Some(lists) = choices(rt, alloc, reader.programs, withdrawn, records)? else {
+    let Some(lists) = choices(rt, alloc, reader.programs, &listed)? else {
         return Ok(None);
     };
-    let Some(pairs) = pairs(rt, alloc, reader, withdrawn, records)? else {
+    let Some(pairs) = pairs(rt, alloc, reader, &listed)? else {
         return Ok(None);
     };
     Ok(Some(Entries {

@@ -1,10 +1,7 @@
 //! The lists of records, one after another. Those of programs and applicants stay where they are.
 ghost use Rattle.std.specs.Prelude.{◌≡◌, ◌++◌, ◌∷◌, [], map, IfOk, OnOk};
 ghost use Rattle.mt_id_lists.specs.Reading.{ids_in, list_seen};
-ghost use Rattle.mt_records.specs.Records.{all_seen};
-ghost use Rattle.mt_numbering.specs.Numbered.{program_lists, applicant_lists, couple_lists};
-ghost use Rattle.mt_numbering.specs.Reading.{pair_list_seen};
-ghost use Rattle.mt_drafts.specs.Withdrawals.{stays_after};
+ghost use Rattle.mt_numbering.specs.Reading.{lists_of_applicants, lists_of_couples, lists_of_programs, pair_list_seen};
 
 use crate::pairs::PairList;
 use mt_drafts::stays;
@@ -25,64 +22,58 @@ fn push_list<'r, 'a>(
     push(lists, IdList { fields, kept })
 }
 
-/// The lists of programs, of which those of withdrawn ones aren't kept.
-pub(crate) fn program_lists<'r, 'a>(
-    alloc: Global,
-    withdrawn: &Kinds<'_>,
-    records: &'r [Record<'a>],
-) -> Result<Vec<IdList<'r, 'a>>, AllocError>
-    ensures { IfOk result (λ lists. map list_seen lists.items
-        ≡ program_lists (stays_after withdrawn.now) (all_seen records.now)) }
-{
-    let mut lists = Vec::new(alloc);
-    for one in records {
-        if let Record::Program { list, .. } = one {
-            push_list(&mut lists, Some(list), stays(withdrawn, one))?;
-        }
-    }
-    Ok(lists)
+/// The lists of records, of which those of withdrawn ones aren't kept.
+#[derive(Clone, Copy)]
+pub(crate) struct RecordLists<'r, 'a> {
+    pub(crate) withdrawn: &'r Kinds<'a>,
+    pub(crate) records: &'r [Record<'a>],
 }
 
-/// The lists of applicants, of which those of withdrawn ones aren't kept. A couple's two members have none.
-pub(crate) fn applicant_lists<'r, 'a>(
-    alloc: Global,
-    withdrawn: &Kinds<'_>,
-    records: &'r [Record<'a>],
-) -> Result<Vec<IdList<'r, 'a>>, AllocError>
-    ensures { IfOk result (λ lists. map list_seen lists.items
-        ≡ applicant_lists (stays_after withdrawn.now) (all_seen records.now)) }
-{
-    let mut lists = Vec::new(alloc);
-    for one in records {
-        let kept = stays(withdrawn, one);
-        match one {
-            Record::Applicant { list, .. } => push_list(&mut lists, Some(list), kept)?,
-            Record::Couple { .. } => {
-                push_list(&mut lists, None, kept)?;
-                push_list(&mut lists, None, kept)?;
+impl<'r, 'a> RecordLists<'r, 'a> {
+    /// The lists of programs.
+    pub(crate) fn of_programs(&self, alloc: Global) -> Result<Vec<IdList<'r, 'a>>, AllocError>
+        ensures { IfOk result (λ lists. map list_seen lists.items ≡ lists_of_programs self.now) }
+    {
+        let mut lists = Vec::new(alloc);
+        for one in self.records {
+            if let Record::Program { list, .. } = one {
+                push_list(&mut lists, Some(list), stays(self.withdrawn, one))?;
             }
-            Record::Program { .. } | Record::Withdraw { .. } => {}
         }
+        Ok(lists)
     }
-    Ok(lists)
-}
 
-/// The lists of couples, of which those of withdrawn ones aren't kept.
-pub(crate) fn couple_lists<'a>(
-    alloc: Global,
-    withdrawn: &Kinds<'_>,
-    records: &[Record<'a>],
-) -> Result<Vec<PairList<'a>>, AllocError>
-    ensures { IfOk result (λ lists. map pair_list_seen lists.items
-        ≡ couple_lists (stays_after withdrawn.now) (all_seen records.now)) }
-{
-    let mut lists = Vec::new(alloc);
-    for one in records {
-        if let Record::Couple { fields, .. } = one {
-            let pairs = fields.pairs();
-            let kept = stays(withdrawn, one);
-            push(&mut lists, PairList { pairs, kept })?;
+    /// The lists of applicants. A couple's two members have none.
+    pub(crate) fn of_applicants(&self, alloc: Global) -> Result<Vec<IdList<'r, 'a>>, AllocError>
+        ensures { IfOk result (λ lists. map list_seen lists.items ≡ lists_of_applicants self.now) }
+    {
+        let mut lists = Vec::new(alloc);
+        for one in self.records {
+            let kept = stays(self.withdrawn, one);
+            match one {
+                Record::Applicant { list, .. } => push_list(&mut lists, Some(list), kept)?,
+                Record::Couple { .. } => {
+                    push_list(&mut lists, None, kept)?;
+                    push_list(&mut lists, None, kept)?;
+                }
+                Record::Program { .. } | Record::Withdraw { .. } => {}
+            }
         }
+        Ok(lists)
     }
-    Ok(lists)
+
+    /// The lists of couples.
+    pub(crate) fn of_couples(&self, alloc: Global) -> Result<Vec<PairList<'a>>, AllocError>
+        ensures { IfOk result (λ lists. map pair_list_seen lists.items ≡ lists_of_couples self.now) }
+    {
+        let mut lists = Vec::new(alloc);
+        for one in self.records {
+            if let Record::Couple { fields, .. } = one {
+                let pairs = fields.pairs();
+                let kept = stays(self.withdrawn, one);
+                push(&mut lists, PairList { pairs, kept })?;
+            }
+        }
+        Ok(lists)
+    }
 }

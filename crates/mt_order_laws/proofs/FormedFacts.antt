@@ -88,13 +88,9 @@ module _ (m : Market) (wf : IsWellFormed m) (order : List ℕ) (o : IsOrderOfSom
   }
 
 -- a couple without its pairs has the members that it has with them
-same_first : (b : Bool) (x : Partners) → Partners.first (if b then record x { pairs = [] } else x) ≡ x.first
-same_first true x = refl
-same_first false x = refl
-
-same_second : (b : Bool) (x : Partners) → Partners.second (if b then record x { pairs = [] } else x) ≡ x.second
-same_second true x = refl
-same_second false x = refl
+same_two : (b : Bool) (x : Partners) → let y : Partners = if b then record x { pairs = [] } else x in (y.first ≡ x.first) × (y.second ≡ x.second)
+same_two true x = (refl, refl)
+same_two false x = (refl, refl)
 
 pub same_members : (b : Bool) (x : Partners) (a : ℕ) → is_member (if b then record x { pairs = [] } else x) a ≡ is_member x a
 same_members true x a = refl
@@ -146,16 +142,16 @@ module _ (m : Market) (wf : IsWellFormed m) (aside : List ℕ) where
     rankings_within = wf.rankings_within;
     first_member = λ c l.
         let here : c < length m.couples = omega (arith, couples_aside m aside) in
-        let is = ap Partners.first (couple_aside m aside c here) ∙ same_first (has aside c) (couple_of m c) in
+        let is = ap Partners.first (couple_aside m aside c here) ∙ (same_two (has aside c) (couple_of m c)).0 in
         subst (IsMember (set_aside aside m) c) (sym is) (member_stays c (couple_of m c).first (wf.first_member c here));
     second_member = λ c l.
         let here : c < length m.couples = omega (arith, couples_aside m aside) in
-        let is = ap Partners.second (couple_aside m aside c here) ∙ same_second (has aside c) (couple_of m c) in
+        let is = ap Partners.second (couple_aside m aside c here) ∙ (same_two (has aside c) (couple_of m c)).1 in
         subst (IsMember (set_aside aside m) c) (sym is) (member_stays c (couple_of m c).second (wf.second_member c here));
     two_members = λ c l e.
         let here : c < length m.couples = omega (arith, couples_aside m aside) in
-        let one = ap Partners.first (couple_aside m aside c here) ∙ same_first (has aside c) (couple_of m c) in
-        let two = ap Partners.second (couple_aside m aside c here) ∙ same_second (has aside c) (couple_of m c) in
+        let one = ap Partners.first (couple_aside m aside c here) ∙ (same_two (has aside c) (couple_of m c)).0 in
+        let two = ap Partners.second (couple_aside m aside c here) ∙ (same_two (has aside c) (couple_of m c)).1 in
         wf.two_members c here (sym one ∙ e ∙ two);
   }
 

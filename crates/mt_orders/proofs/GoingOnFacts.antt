@@ -15,8 +15,8 @@ use Rattle.mt_terms.specs.Stability.{fits}
 use Rattle.mt_terms.specs.WellFormed.{IsWellFormed}
 use Rattle.mt_terms.specs.declared.numbers.Agent.TheVariants.{Couple}
 use Rattle.mt_round_laws.proofs.RoundsStage.{singles_fit}
-use Rattle.mt_couples.specs.Reaching.{IsStuck, Leads}
-use Rattle.mt_couples.specs.declared.entering.Reached.{Reached}
+use Rattle.mt_entry.specs.Reaching.{IsStuck, Leads}
+use Rattle.mt_entry.specs.declared.ends.Reached.{Reached}
 use Rattle.mt_order_laws.specs.Aside.{aside_after, aside_in_turn, entering_at_end}
 use Rattle.mt_order_laws.specs.Reordered.{others, reordered, IsOrderOfSome, IsOrderWithout}
 use Rattle.mt_order_laws.proofs.EndFacts.{entering_in_words_lem}

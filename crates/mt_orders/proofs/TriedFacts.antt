@@ -22,10 +22,10 @@ use Rattle.mt_order_laws.proofs.EntryFacts.{range_append}
 use Rattle.mt_order_laws.proofs.FormedFacts.{none_aside_lem, order_of_some, well_formed_in_any_order_lem}
 use Rattle.mt_order_laws.proofs.OrderFacts.{orders_are_orders_lem}
 use Rattle.mt_order_laws.proofs.StableFacts.{best_in_any_order_lem, stable_in_any_order_lem}
-use Rattle.mt_couples.specs.Ended.{IfSpent}
-use Rattle.mt_couples.specs.declared.rounds.CoupleEnd.{CoupleEnd}
-use Rattle.mt_couples.specs.declared.rounds.CoupleEnd.TheVariants.{BudgetSpent}
-use Rattle.mt_couples.specs.declared.rounds.Spent.{Spent}
+use Rattle.mt_entry.specs.Ended.{IfSpent}
+use Rattle.mt_entry.specs.declared.ends.CoupleEnd.{CoupleEnd}
+use Rattle.mt_entry.specs.declared.ends.CoupleEnd.TheVariants.{BudgetSpent}
+use Rattle.mt_entry.specs.declared.ends.Spent.{Spent}
 use Rattle.mt_orders.specs.declared.tried.Trial.{Trial}
 use Rattle.mt_orders.specs.Tried.{first_some, EndsFirst, IsEnd, IsFirstEnd}
 use Rattle.mt_orders.proofs.MarketFacts.{first_is_own}

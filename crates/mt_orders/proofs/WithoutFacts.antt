@@ -15,7 +15,7 @@ use Rattle.mt_terms.specs.WellFormed.{IsWellFormed}
 use Rattle.mt_terms.specs.declared.numbers.Agent.TheVariants.{Couple}
 use Rattle.mt_terms.proofs.ListFacts.{head_differs, tail_distinct}
 use Rattle.mt_terms.specs.Places.{ArePlaces}
-use Rattle.mt_couples.proofs.RoundFacts.{places_of_fitting}
+use Rattle.mt_round_laws.proofs.PlacesFacts.{fits_are_places}
 use Rattle.mt_round_laws.proofs.RoundsStage.{stage_end, stage_fits_lem, stage_is_stable_lem}
 use Rattle.mt_order_laws.specs.Aside.{entering_of, entering_at_end, market_of_others, aside_after, aside_in_turn}
 use Rattle.mt_order_laws.specs.Reordered.{reordered, set_aside, others, IsOrderOfSome}
@@ -154,7 +154,7 @@ module _ (m : Market) (wf : IsWellFormed m) (best : Places) (is : IsBest m best)
 
   pub places_are : ArePlaces m r.0
   places_are =
-      let h = places_of_fitting (reordered order m) r.0 formed (stage_fits_lem (reordered order m) formed best (best_fits m wf order o best is) budget r e) in
+      let h = fits_are_places (reordered order m) formed r.0 (stage_fits_lem (reordered order m) formed best (best_fits m wf order o best is) budget r e) in
       record { one_each = h.one_each; within = h.within }
 
   pub stable_among : stable (reordered order m) r.0 ≡ true

@@ -9,6 +9,7 @@ ghost use Rattle.mt_orders.specs.Fewest.{fewer, fewest_of, fewest_order, IsAside
 use crate::numbered::order_of;
 use crate::tried::{SIDE_BY_SIDE, Tries};
 use crate::without::{Aside, enter_aside};
+use mt_entry::CouplesStage;
 use mt_market::Roster;
 use mt_reordered::reordered;
 use mt_terms::{CoupleNo, Match};
@@ -76,14 +77,18 @@ impl Drop for AsideTrial<'_> {
 impl<'a> AsideTrial<'a> {
     /// The couples that are set aside in the order with a number, and the match of the others. The only error is want of
     /// memory.
-    fn aside_of<T: Threads + Sync>(&self, rt: &T, number: u32) -> Result<Aside, AllocError>
+    fn aside_of<S: CouplesStage + Sync, T: Threads + Sync>(
+        &self,
+        rt: &T,
+        number: u32,
+    ) -> Result<Aside, AllocError>
         requires { IsBest self.now.roster.now.market self.now.singles.now.places }
         ensures { IfOk result (IsAsideInOrder self.now.roster.now.market self.now.singles.now.places
             self.now.budget number) }
     {
         let order = order_of(self.alloc, number, self.roster.couples())?;
         let market = reordered(self.alloc, self.roster, &order)?;
-        let aside = enter_aside(rt, self.alloc, &market, self.singles, self.budget)?;
+        let aside = enter_aside::<S, T>(rt, self.alloc, &market, self.singles, self.budget)?;
         let couples = couples_at(self.alloc, &order, &aside.couples)?;
         Ok(Aside {
             matched: aside.matched,
@@ -92,7 +97,7 @@ impl<'a> AsideTrial<'a> {
     }
 
     /// The same in each of `count` orders from a number on, side by side.
-    fn asides_of<T: Threads + Sync>(
+    fn asides_of<S: CouplesStage + Sync, T: Threads + Sync>(
         &self,
         rt: &T,
         from: u32,
@@ -111,24 +116,28 @@ impl<'a> AsideTrial<'a> {
                     requires { IsBest self.now.roster.now.market self.now.singles.now.places }
                     ensures { IfOk result (IsAsideInOrder self.entry.now.roster.now.market
                         self.entry.now.singles.now.places self.entry.now.budget number) }
-                { self.aside_of(rt, number) },
+                { self.aside_of::<S, T>(rt, number) },
             )
             .collect::<Result<Vec<Aside>, AllocError>>(rt, self.alloc)?
     }
 
     /// The same in the first of the orders from 1 to `orders` in which the fewest couples are set aside.
-    fn fewest<T: Threads + Sync>(&self, rt: &T, orders: u32) -> Result<Aside, AllocError>
+    fn fewest<S: CouplesStage + Sync, T: Threads + Sync>(
+        &self,
+        rt: &T,
+        orders: u32,
+    ) -> Result<Aside, AllocError>
         requires best { IsBest self.now.roster.now.market self.now.singles.now.places }
         requires some { 1 ≤ orders }
         requires few { orders ≤ 1000 }
         ensures { IfOk result (IsAsideInOrder self.now.roster.now.market self.now.singles.now.places self.now.budget
             (fewest_order self.now.roster.now.market self.now.singles.now.places self.now.budget orders)) }
     {
-        let mut fewest = self.aside_of(rt, 1)?;
+        let mut fewest = self.aside_of::<S, T>(rt, 1)?;
         let mut from = 2;
         'batches: while from <= orders {
             let count = SIDE_BY_SIDE.min(orders - from + 1);
-            let others = self.asides_of(rt, from, count)?;
+            let others = self.asides_of::<S, T>(rt, from, count)?;
             fewest = fewest_of(fewest, others);
             from += count;
         }
@@ -140,7 +149,7 @@ impl<'a> AsideTrial<'a> {
 /// `orders`. In each order, while the rounds don't end within the budget, the couple that is entering is set aside, and
 /// the others begin anew. The result is that of the first order in which the fewest couples are set aside. The only
 /// error is want of memory.
-pub fn enter_aside_in_orders<T: Threads + Sync>(
+pub fn enter_aside_in_orders<S: CouplesStage + Sync, T: Threads + Sync>(
     rt: &T,
     alloc: Global,
     roster: &Roster,
@@ -163,5 +172,5 @@ pub fn enter_aside_in_orders<T: Threads + Sync>(
         singles,
         budget: tries.budget,
     };
-    trial.fewest(rt, tries.orders)
+    trial.fewest::<S, T>(rt, tries.orders)
 }

@@ -4,11 +4,11 @@ ghost use Rattle.mt_terms.specs.Best.{IsBest};
 ghost use Rattle.mt_terms.specs.Stability.{stable};
 ghost use Rattle.mt_ranks.specs.Ranked.{ranked_of};
 ghost use Rattle.mt_order_laws.specs.Orders.{first_order};
-ghost use Rattle.mt_couples.specs.Ended.{IfSpent, IsSpent};
+ghost use Rattle.mt_entry.specs.Ended.{IfSpent, IsSpent};
 ghost use Rattle.mt_orders.specs.Tried.{first_some, EndsFirst, IsEnd, IsFirstEnd, IsTrial};
 
 use crate::numbered::order_of;
-use mt_couples::{CoupleEnd, enter_all};
+use mt_entry::{CoupleEnd, CouplesStage, RankedMarket};
 use mt_market::Roster;
 use mt_ranks::Ranks;
 use mt_reordered::reordered;
@@ -76,14 +76,22 @@ impl Drop for Trial<'_> {
 impl<'a> Trial<'a> {
     /// The match that the rounds end in by the order with a number, if they end within the budget. The only error is want
     /// of memory.
-    fn end_of<T: Threads + Sync>(&self, rt: &T, number: u32) -> Result<Option<Match>, AllocError>
+    fn end_of<S: CouplesStage + Sync, T: Threads + Sync>(
+        &self,
+        rt: &T,
+        number: u32,
+    ) -> Result<Option<Match>, AllocError>
         requires { IsTrial self.now }
         ensures { IfOk result (IsEnd self.now.roster.now.market self.now.singles.now.places self.now.budget number) }
     {
         let order = order_of(self.alloc, number, self.roster.couples())?;
         let market = reordered(self.alloc, self.roster, &order)?;
         let singles = copied(self.alloc, self.singles)?;
-        match enter_all(rt, self.alloc, &market, self.ranks, singles, self.budget) {
+        let ranked = RankedMarket {
+            roster: &market,
+            ranks: self.ranks,
+        };
+        match S::enter_all(rt, self.alloc, ranked, singles, self.budget) {
             Ok(entered) => Ok(Some(entered.matched)),
             Err(CoupleEnd::BudgetSpent(_)) => Ok(None),
             Err(CoupleEnd::Memory) => Err(AllocError),
@@ -92,7 +100,7 @@ impl<'a> Trial<'a> {
 
     /// The match of the first order in which the rounds end, of `count` orders from a number on, which are tried side by
     /// side.
-    fn first_of<T: Threads + Sync>(
+    fn first_of<S: CouplesStage + Sync, T: Threads + Sync>(
         &self,
         rt: &T,
         from: u32,
@@ -111,14 +119,14 @@ impl<'a> Trial<'a> {
                     requires { IsTrial self.now }
                     ensures { IfOk result (IsEnd self.entry.now.roster.now.market self.entry.now.singles.now.places
                         self.entry.now.budget number) }
-                { self.end_of(rt, number) },
+                { self.end_of::<S, T>(rt, number) },
             )
             .collect::<Result<Vec<Option<Match>>, AllocError>>(rt, self.alloc)??;
         Ok(first_some(ends))
     }
 
     /// The match of the first order in which the rounds end, of those from 2 to `orders`.
-    fn first_after_registration<T: Threads + Sync>(
+    fn first_after_registration<S: CouplesStage + Sync, T: Threads + Sync>(
         &self,
         rt: &T,
         orders: u32,
@@ -131,7 +139,7 @@ impl<'a> Trial<'a> {
         let mut from = 2;
         'batches: while from <= orders {
             let count = SIDE_BY_SIDE.min(orders - from + 1);
-            let found = self.first_of(rt, from, count)?;
+            let found = self.first_of::<S, T>(rt, from, count)?;
             if found.is_some() {
                 return Ok(found);
             }
@@ -145,7 +153,7 @@ impl<'a> Trial<'a> {
 /// result is the match of the first order in which the rounds end within the budget. Order 1 is that of registration, and
 /// is tried first. The others are tried side by side. If no order ends, the error is that of order 1. The other error is
 /// want of memory.
-pub fn enter_in_orders<'a, T: Threads + Sync>(
+pub fn enter_in_orders<'a, S: CouplesStage + Sync, T: Threads + Sync>(
     rt: &T,
     alloc: Global,
     roster: &'a Roster,
@@ -166,7 +174,8 @@ pub fn enter_in_orders<'a, T: Threads + Sync>(
 {
     roster.is_of_a_file();
     let first = copied(alloc, singles)?;
-    let spent = match enter_all(rt, alloc, roster, ranks, first, tries.budget) {
+    let market = RankedMarket { roster, ranks };
+    let spent = match S::enter_all(rt, alloc, market, first, tries.budget) {
         Ok(entered) => return Ok(entered.matched),
         Err(CoupleEnd::Memory) => return Err(CoupleEnd::Memory),
         Err(CoupleEnd::BudgetSpent(spent)) => spent,
@@ -178,7 +187,7 @@ pub fn enter_in_orders<'a, T: Threads + Sync>(
         singles,
         budget: tries.budget,
     };
-    let found = trial.first_after_registration(rt, tries.orders)?;
+    let found = trial.first_after_registration::<S, T>(rt, tries.orders)?;
     match found {
         Some(matched) => Ok(matched),
         None => Err(CoupleEnd::BudgetSpent(spent)),

@@ -4,7 +4,7 @@ ghost use Rattle.mt_order_laws.specs.Aside.{aside_in_turn};
 ghost use Rattle.mt_orders.specs.Without.{OthersEndIn};
 
 use crate::tried::copied;
-use mt_couples::{Reached, enter_from};
+use mt_entry::{CouplesStage, RankedMarket, Reached};
 use mt_market::Roster;
 use mt_ranks::Ranks;
 use mt_reordered::{all_couples, reordered};
@@ -22,7 +22,7 @@ pub struct Aside {
 /// Lets the couples enter a match of the singles as `enter_all` does, in the order of registration. If the rounds of a
 /// couple don't end within what is left of the budget, it is set aside. The next couples go on from the match before its
 /// entry, with what was left then. That gives what beginning anew without it gives. The only error is want of memory.
-pub(crate) fn enter_aside<T: Threads + Sync>(
+pub(crate) fn enter_aside<S: CouplesStage + Sync, T: Threads + Sync>(
     rt: &T,
     alloc: Global,
     roster: &Roster,
@@ -49,7 +49,11 @@ pub(crate) fn enter_aside<T: Threads + Sync>(
         // The couples that are set aside come last, so the rank tables stay as they are.
         let others = order.len() - aside.len();
         let market = reordered(alloc, roster, &order)?;
-        reached = enter_from(rt, alloc, &market, &ranks, reached, others as u32)?;
+        let ranked = RankedMarket {
+            roster: &market,
+            ranks: &ranks,
+        };
+        reached = S::enter_from(rt, alloc, ranked, reached, others as u32)?;
         let place = reached.entered as usize;
         if place == others {
             return Ok(Aside {

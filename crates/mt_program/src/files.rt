@@ -1,11 +1,20 @@
-ghost use Rattle.std.specs.Prelude.{◌≡◌, ◌&&◌, IfErr, IfOk, string_bytes};
+ghost use Rattle.std.specs.Prelude.{◌≡◌, ◌&&◌, IfErr, IfOk, string_bytes, true};
 ghost use Rattle.std.specs.Option.{option_copied};
-ghost use Rattle.clap.specs.Words.{found_of, rows_of};
-ghost use Rattle.mt_program.specs.CommandLine.{NameFilesIn, NameNoFilesIn, is_standard, path_by};
-ghost use Rattle.mt_program.specs.Unasked.{IsMisuseBy};
+ghost use Rattle.clap.specs.Words.{app_of, found_of, is_simple_and_free, matches_of, rows_of};
+ghost use Rattle.mt_program.specs.CommandLine.{
+  AreMisuse,
+  NameFiles,
+  NameFilesIn,
+  NameNoFilesIn,
+  is_standard,
+  path_by,
+  texts_of,
+};
+ghost use Rattle.mt_program.specs.Unasked.{IsMisuseBy, IsUnaskedBy};
 
+use crate::matching::matches_of;
 use crate::unasked::{Unasked, misuse};
-use clap::ArgMatches;
+use clap::{ArgMatches, Command};
 use std::alloc::{AllocError, Global};
 
 /// The words for the two files of a program. `-` means standard input, for one of them at most.
@@ -78,4 +87,25 @@ pub fn two_files(alloc: Global, matches: &ArgMatches<'_>) -> Result<TwoFiles, Un
         Ok(files) => Ok(files),
         Err(_) => Err(Unasked::Memory),
     }
+}
+
+/// The two files that words name by a command, and what it reads of the words. The error is `clap`'s text of help, of the
+/// version or of what is wrong, or what is wrong with the files.
+pub fn named_files<'a>(
+    alloc: Global,
+    command: Command<'a>,
+    words: &'a [String],
+) -> Result<(TwoFiles, ArgMatches<'a>), Unasked>
+    requires { is_simple_and_free (app_of command) ≡ true }
+    ensures files { IfOk result (λ r. NameFiles (app_of command.entry) (texts_of words.entry.now)
+        (string_bytes r.0.market) (string_bytes r.0.matched)) }
+    ensures rows { IfOk result (λ r. rows_of (found_of r.1)
+        ≡ matches_of (app_of command.entry) (texts_of words.entry.now)) }
+    ensures unasked { IfErr result (IsUnaskedBy (app_of command.entry)
+        (AreMisuse (app_of command.entry) (texts_of words.entry.now))
+        (texts_of words.entry.now)) }
+{
+    let matches = matches_of(alloc, command, words)?;
+    let files = two_files(alloc, &matches)?;
+    Ok((files, matches))
 }

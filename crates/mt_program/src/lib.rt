@@ -13,7 +13,7 @@ mod unasked;
 
 pub use arguments::{MARKET_HELP, MATCH_HELP, file_arg, flag_arg, two_files_command};
 pub use command::plain_command;
-pub use files::{TwoFiles, is_standard, path_by, two_files};
+pub use files::{TwoFiles, is_standard, named_files, path_by, two_files};
 pub use input::Input;
 pub use matching::{is_given, matches_of};
 pub use reason::say_unopened;

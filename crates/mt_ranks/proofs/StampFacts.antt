@@ -1,12 +1,13 @@
 -- Ranks are noted at the programs of entries, one after another.
-use Rattle.std.proofs.Common.{◌≡◌, ℕ, zero, suc, ◌+◌, ◌<◌, ◌≤◌, ◌⊎◌, List, [], ◌∷◌, ◌++◌, Some, eqb, length, get_or, set, map, replicate, sym, ap, ◌∙◌, inl, inr, arith}
+use Rattle.std.proofs.Common.{◌≡◌, ℕ, zero, suc, ◌+◌, ◌<◌, ◌≤◌, ◌^◌, ◌⊎◌, List, [], ◌∷◌, ◌++◌, Some, eqb, length, get_or, set, map, replicate, sym, ap, ◌∙◌, inl, inr, arith}
 use Rattle.std.proofs.lemmas.Bool.{cases_Bool, cases_eq, cases_lt, eq-eqb, ne_eqb}
 use Rattle.std.proofs.lemmas.List.{get_or-set_same, get_or-set_other, length-set, get_or_read, get_or_past, get_or-replicate, length-replicate}
+use Rattle.std.proofs.lemmas.List.Elements.{All-replicate}
 use Rattle.std.proofs.lemmas.List.FromFn.{get_or-map-range_with_len, length-map-range_with_len}
 use Rattle.mt_terms.specs.Lists.{below}
 use Rattle.mt_terms.specs.Market.{Market}
 use Rattle.mt_ranks.specs.Entries.{AscendFrom, entries_in, entries_from, own_entries, rank_among, rankings_of}
-use Rattle.mt_ranks.specs.Stamps.{AreBefore, ProgramsWithin, stamp_of, rank_stamped}
+use Rattle.mt_ranks.specs.Stamps.{AreBefore, AreShort, ProgramsWithin, stamp_of, rank_stamped}
 use Rattle.mt_ranks.specs.Rows.{Filling, row_of}
 use Rattle.mt_ranks.specs.declared.entries.Live.{Live}
 use Rattle.mt_ranks.specs.declared.stamps.RankStamp.{RankStamp}
@@ -88,3 +89,6 @@ never_stamped stamps n h p w =
     let long : length stamps ≡ n = ap length h ∙ length-replicate n none in
     let same : stamp_of stamps p ≡ none = rw h (get_or-replicate n p none none (omega arith)) in
     rw same (omega arith)
+
+pub never_long : (stamps : List RankStamp) (n : ℕ) → stamps ≡ replicate n (record { turn = 0; rank = 0 }) → AreShort stamps
+never_long stamps n h = rw h (All-replicate (λ (s : RankStamp). s.rank < 2 ^ 17) n (record { turn = 0; rank = 0 }) (omega arith))

@@ -1,4 +1,5 @@
 pub mod Entries
+pub mod Packed
 pub mod Stamps
 pub mod Parts
 pub mod Ranked

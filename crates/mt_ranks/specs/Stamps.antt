@@ -1,5 +1,5 @@
 -- Ranks that are noted at programs, each for a turn.
-use Rattle.std.specs.Prelude.{ℕ, ◌<◌, ◌==◌, List, length, Option, Some, None, slice_index_or, if◌then◌else◌}
+use Rattle.std.specs.Prelude.{ℕ, ◌<◌, ◌^◌, ◌==◌, List, length, Option, Some, None, slice_index_or, if◌then◌else◌}
 use Rattle.std.specs.List.{All}
 use Rattle.mt_ranks.specs.declared.entries.Live.{Live}
 use Rattle.mt_ranks.specs.declared.stamps.RankStamp.{RankStamp}
@@ -15,6 +15,10 @@ rank_stamped stamps turn p = if (stamp_of stamps p).turn == turn then Some (stam
 -- all was noted before a turn
 abbrev pub AreBefore : ℕ → List RankStamp → Type 0
 AreBefore turn stamps = (p : ℕ) → p < length stamps → (stamp_of stamps p).turn < turn
+
+-- all ranks that are noted have room in a packed entry
+abbrev pub AreShort : List RankStamp → Type 0
+AreShort stamps = All (λ (s : RankStamp). s.rank < 2 ^ 17) stamps
 
 -- the programs of all entries are below a number
 abbrev pub ProgramsWithin : ℕ → List Live → Type 0

@@ -4,10 +4,12 @@
 
 mod blocks;
 mod entries;
+mod packed;
 mod rows;
 mod stamps;
 mod tables;
 mod transpose;
 
 pub use entries::Live;
+pub use packed::PackedLive;
 pub use tables::Ranks;

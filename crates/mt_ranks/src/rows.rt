@@ -1,8 +1,7 @@
 ghost use Rattle.std.specs.Prelude.{◌≡◌, ◌+◌, ◌<◌, ◌≤◌, ◌^◌, length, sum, slice_index, slice_index_or, [], IfOk};
 ghost use Rattle.mt_ranks.specs.Rows.{parts, ArePartsOf, empty_rows, row_of, HasRoom, with_entry, starts_from};
 
-use crate::entries::Live;
-use mt_terms::ProgNo;
+use crate::packed::PackedLive;
 use std::alloc::{AllocError, Global};
 use std::marker::Model;
 
@@ -10,7 +9,7 @@ use std::marker::Model;
 /// was given.
 #[derive(Drop)]
 pub(crate) struct Rows {
-    items: Vec<Live>,
+    items: Vec<PackedLive>,
     starts: Vec<usize>,
     ends: Vec<usize>,
 }
@@ -44,7 +43,12 @@ fn begins(alloc: Global, sizes: &[usize]) -> Result<(Vec<usize>, usize), AllocEr
 
 /// The part with this number, among those that begin and end at these places.
 #[tactic(auto, using(crate::proofs::RowFacts::part_bounds, crate::proofs::RowFacts::length_ends))]
-fn part<'a>(items: &'a [Live], starts: &[usize], ends: &[usize], number: usize) -> &'a [Live]
+fn part<'a>(
+    items: &'a [PackedLive],
+    starts: &[usize],
+    ends: &[usize],
+    number: usize,
+) -> &'a [PackedLive]
     requires parts { ArePartsOf (length items.now) starts.now ends.now }
     requires within { number < length starts.now }
     ensures { result.now ≡ slice_index_or (parts starts.now ends.now items.now) number [] }
@@ -62,11 +66,7 @@ impl Rows {
     {
         let (starts, total) = begins(alloc, sizes)?;
         let ends = Vec::from_slice(alloc, &starts)?;
-        let nothing = Live {
-            program: ProgNo(0),
-            rank: 0,
-        };
-        let items = Vec::from_elem(alloc, nothing, total)?;
+        let items = Vec::from_elem(alloc, PackedLive::nothing(), total)?;
         Ok(Rows {
             items,
             starts,
@@ -75,7 +75,7 @@ impl Rows {
     }
 
     /// The row with this number.
-    pub(crate) fn row(&self, number: usize) -> &[Live]
+    pub(crate) fn row(&self, number: usize) -> &[PackedLive]
         requires { number < length self.now.lists }
         ensures { result.now ≡ row_of self.now number }
     {
@@ -90,7 +90,7 @@ impl Rows {
     }
 
     /// Adds an entry at the end of a row that has room.
-    pub(crate) fn push(&mut self, number: usize, entry: Live)
+    pub(crate) fn push(&mut self, number: usize, entry: PackedLive)
         requires row { number < length self.old.lists }
         requires room { HasRoom self.old number 1 }
         ensures { self.new ≡ with_entry self.old number entry }

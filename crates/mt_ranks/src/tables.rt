@@ -8,7 +8,8 @@ ghost use Rattle.mt_ranks.specs.Parts.{live_among, row_among, AreParts, HaveAppl
 ghost use Rattle.mt_ranks.specs.Rows.{listed_rows, row_of};
 
 use crate::blocks::{BLOCKS, Block, block_of, block_size};
-use crate::entries::{Live, push_live, rank_at};
+use crate::entries::{push_live, rank_at};
+use crate::packed::PackedLive;
 use crate::rows::Rows;
 use crate::stamps::RankStamp;
 use crate::transpose::{listed, of_block, transpose};
@@ -27,7 +28,7 @@ const FEWEST: usize = 8192;
 #[derive(Drop)]
 struct Part {
     rows: Rows,
-    lists: FlatLists<Live>,
+    lists: FlatLists<PackedLive>,
 }
 
 /// The rank tables of a market, beside its roster, which keeps the programs' lists: live lists with ranks, and
@@ -67,7 +68,7 @@ fn live_lists(
     roster: &Roster,
     block: Block,
     rows: &Rows,
-) -> Result<FlatLists<Live>, AllocError>
+) -> Result<FlatLists<PackedLive>, AllocError>
     requires block { block.first + block.size ≤ applicants roster.now.market }
     requires rows { length rows.now.lists ≡ block.size }
     requires ascend { (k : ℕ) → AscendFrom 0 (row_of rows.now k) }
@@ -148,7 +149,7 @@ fn all_parts<R: Threads + Sync>(
 }
 
 /// The live list of an applicant, among the tables of all blocks of this size.
-fn live_among(size: usize, parts: &[Part], applicant: AppNo) -> &[Live]
+fn live_among(size: usize, parts: &[Part], applicant: AppNo) -> &[PackedLive]
     requires { HaveApplicant size parts.now applicant }
     ensures { result.now ≡ live_among size parts.now applicant }
 {
@@ -158,7 +159,7 @@ fn live_among(size: usize, parts: &[Part], applicant: AppNo) -> &[Live]
 }
 
 /// The row of an applicant, among the tables of all blocks of this size.
-fn row_among(size: usize, parts: &[Part], applicant: AppNo) -> &[Live]
+fn row_among(size: usize, parts: &[Part], applicant: AppNo) -> &[PackedLive]
     requires { HaveApplicant size parts.now applicant }
     ensures { result.now ≡ row_among size parts.now applicant }
 {
@@ -219,7 +220,7 @@ impl<'m> Ranks<'m> {
 
     /// The applicant's live list: the programs on its list that list it too, the most wanted first, with its
     /// rank on each. It is empty for a couple's member.
-    pub fn live(&self, applicant: AppNo) -> &[Live]
+    pub fn live(&self, applicant: AppNo) -> &[PackedLive]
         requires { applicant < applicants self.now.market }
         ensures list { result.now ≡ ranked_list self.now.market applicant }
         ensures entries { All (IsEntry self.now.market applicant) result.now }

@@ -5,7 +5,7 @@ ghost use Rattle.mt_ranks.specs.Entries.{all_times, own_entries, CanBeCounted, I
 ghost use Rattle.mt_ranks.specs.Rows.{HasRoomFor, IsEnteredFor};
 
 use crate::blocks::Block;
-use crate::entries::Live;
+use crate::packed::PackedLive;
 use crate::rows::Rows;
 use mt_market::Roster;
 use mt_terms::{AppNo, ProgNo};
@@ -48,20 +48,15 @@ fn add_ranking(rows: &mut Rows, block: Block, program: ProgNo, ranking: &[AppNo]
     requires size { length rows.old.lists ≡ block.size }
     requires block { block.first + block.size ≤ 2 ^ 64 }
     requires room { HasRoomFor block.first rows.old ranking.now }
-    requires short { length ranking.now < 2 ^ 32 }
+    requires program { program < 2 ^ 15 }
+    requires short { length ranking.now ≤ 2 ^ 17 }
     ensures sizes { rows.new.sizes ≡ rows.old.sizes }
     ensures len { length rows.new.lists ≡ length rows.old.lists }
     ensures rows { IsEnteredFor block.first rows.old rows.new program ranking.now }
 {
     for (rank, applicant) in ranking.iter().enumerate() {
         if let Some(place) = block.place(*applicant) {
-            rows.push(
-                place,
-                Live {
-                    program,
-                    rank: rank as u32,
-                },
-            );
+            rows.push(place, PackedLive::of(program, rank as u32));
         }
     }
 }

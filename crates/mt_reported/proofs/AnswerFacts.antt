@@ -1,25 +1,22 @@
 -- What an answer says: the text has the numbers of the match, or the refusal is named.
-use Rattle.std.proofs.Common.{◌≡◌, ◌≢◌, ℕ, ◌<◌, ◌↔◌, List, [], Option, Result, Ok, Err, IfErr, IfOk, Vec, refl, sym, ap, ◌∙◌, subst, arith}
+use Rattle.std.proofs.Common.{◌≡◌, ◌≢◌, ℕ, ◌<◌, Bool, List, Option, Result, Ok, Err, refl, sym, ap, ◌∙◌, subst, arith}
 use Rattle.std.specs.Prelude.{codes}
-use Rattle.std.specs.Global.{Global}
 use Rattle.mt_terms.specs.Market.{Registered}
 use Rattle.mt_terms.specs.Registration.Faults.{Fault}
 use Rattle.mt_match_file.specs.Submitted.{Submitted}
+use Rattle.mt_report.specs.Drains.{IsWritten}
 use Rattle.mt_input.specs.Files.{market_in}
-use Rattle.mt_input.proofs.LeftFacts.{of_left}
-use Rattle.mt_input.specs.Refusals.{fault_of}
-use Rattle.mt_files.specs.Files.{files_by, files_in, submitted_in, with_match}
-use Rattle.mt_files.specs.Refusals.{AreFilesIn, IsInTurn, IsNamedRefusalOf, IsRefused, OfBoth, end_code}
+use Rattle.mt_files.specs.Files.{files_by, submitted_in, with_match}
+use Rattle.mt_files.specs.Refusals.{AreFilesIn, IsInTurn, IsNamedRefusalOf, IsRefused, OfBoth}
 use Rattle.mt_files.specs.declared.files.Files.{Files}
 use Rattle.mt_files.specs.declared.refused_file.Refused.{Refused}
 use Rattle.mt_files.specs.declared.source.Source.{Source}
 use Rattle.mt_files.specs.declared.source.Source.TheVariants.{Market, Match}
 use Rattle.mt_files.proofs.BothFacts.{of_both}
-use Rattle.mt_files.proofs.FileFacts.{market_there}
-use Rattle.mt_files.proofs.NameFacts.{alone_named, codes_large, market_named, match_named}
+use Rattle.mt_files.proofs.NameFacts.{codes_large, market_named, match_named}
 use Rattle.mt_statistics.proofs.SumFacts.{couples_add_up_lem, posts_add_up_lem, programs_add_up_lem, singles_add_up_lem}
 use Rattle.mt_files.specs.Answer as answers
-use Rattle.mt_reported.specs.Answer.{Answer, IsAnswer, fault_answer, report_answer}
+use Rattle.mt_reported.specs.Answer.{Answer, Answers, IsAnswer, fault_answer, report_answer}
 use Rattle.mt_reported.specs.Headline.{IsRefusal, IsReported, text_in}
 use Rattle.mt_reported.specs.Laws.{AnswersAreSo}
 use Rattle.mt_reported.specs.Text.{refused_line}
@@ -85,40 +82,38 @@ pub reported_left : (form : Form) (market matched : Option (List ℕ)) (text : L
     → OfBoth market matched (λ xs ys. IsReported form xs ys text)
 reported_left form market matched text h = of_both market matched (λ xs ys is. (answers_are_so_lem form xs ys 0 text is).0 refl) h
 
--- ---- what was read, and what was found of it
+-- ---- what was read, and what was written of it
 
-module _ (form : Form) (market matched : Option (List ℕ)) (files : Files) (are : AreFilesIn market matched files) where
-  pub text_there : (result : Result (Vec ℕ Global) Refused) → IfOk result (λ text. text.items ≡ text_in form files.roster files.submitted.places)
-      → IfOk result (λ text. OfBoth market matched (λ xs ys. IsAnswer form xs ys 0 text.items))
-  text_there (Ok text) h = of_both market matched (λ xs ys is. ap (answer_of form) is ∙ ap (λ (t : List ℕ). record { code = 0; text = t }) (sym h)) are
-  text_there (Err e) h = tt
+module _ (form : Form) (market matched : Option (List ℕ)) (reads : ℕ) (old new : Option (List ℕ)) (code written : ℕ) (whole : Bool) where
+  -- the numbers of a match in two files that were read
+  pub answers_reported : (files : Files) → AreFilesIn market matched files → code ≡ 0 → (text : List ℕ) → text ≡ text_in form files.roster files.submitted.places
+      → IsWritten text old new written whole → Answers form market matched reads old new code written whole
+  answers_reported files are none text is_text is_written =
+      let answered : OfBoth market matched (λ xs ys. IsAnswer form xs ys 0 text) =
+      of_both market matched (λ xs ys read. ap (answer_of form) read ∙ ap (λ (t : List ℕ). record { code = 0; text = t }) (sym is_text)) are in
+      subst (λ (c : ℕ). Answers form market matched reads old new c written whole) (sym none) (record {
+        text = text;
+        is_written = is_written;
+        says = record {
+          reported = λ _. reported_left form market matched text answered;
+          refusal = λ other. absurd (other refl);
+          in_turn = λ other. absurd (other refl);
+          answer = λ m r. answered;
+        };
+      })
 
-  pub match_in_turn : (reads : ℕ) (result : Result (Vec ℕ Global) Refused) → IfErr result (λ e. e.source ≡ Match) → IfErr result (λ e. IsInTurn market reads e.source)
-  match_in_turn reads (Ok text) file = tt
-  match_in_turn reads (Err e) file =
-      subst (IsInTurn market reads) (sym file)
-      (of_left market (λ xs inner. (files.roster, market_there xs inner.bytes files.roster files.submitted inner.is_so)) are)
-
--- want of memory, which the line says of the match
-abbrev IsMemory : Refused → Type 0
-IsMemory e = fault_of e.refusal ≡ record { code = 30; row = 0; id = [] }
-
-pub memory_refused : (market matched : Option (List ℕ)) (result : Result (Vec ℕ Global) Refused) → IfErr result (λ e. e.source ≡ Match) → IfErr result (λ e. IsMemory e)
-    → IfErr result (IsRefused market matched)
-memory_refused market matched (Ok text) file is = tt
-memory_refused market matched (Err e) file is =
-    let code : e.refusal.code ≡ 30 = ap (λ (f : Fault). f.code) is in
-    record {
-      named = subst (λ (s : Source). IsNamedRefusalOf s e.refusal.code e.refusal.row e.refusal.id) (sym file)
-          (subst (λ (f : Fault). IsNamedRefusalOf Match f.code f.row f.id) (sym is) (alone_named Match 30 refl));
-      fault = λ m. absurd (m code);
-    }
-
-pub no_read_fault : (result : Result (Vec ℕ Global) Refused) → IfErr result (λ e. IsMemory e) → end_code result ≡ 31 → ⊥
-no_read_fault (Ok text) is e = omega arith
-no_read_fault (Err e) is read = let code : e.refusal.code ≡ 30 = ap (λ (f : Fault). f.code) is in omega arith
-
-pub refused_answer : (form : Form) (market matched : Option (List ℕ)) (e : Refused)
-    → OfBoth market matched (λ xs ys. files_in xs ys ≡ Err (e.source, fault_of e.refusal))
-    → OfBoth market matched (λ xs ys. IsAnswer form xs ys e.refusal.code (refused_line e.source e.refusal.code e.refusal.row e.refusal.id))
-refused_answer form market matched e h = of_both market matched (λ xs ys is. ap (answer_of form) is) h
+  -- the line of a file that is refused
+  pub answers_refused : (e : Refused) → IsRefused market matched e → IsInTurn market reads e.source → code ≡ e.refusal.code
+      → IsWritten (refused_line e.source e.refusal.code e.refusal.row e.refusal.id) old new written whole → Answers form market matched reads old new code written whole
+  answers_refused e refused turn is_code is_written =
+      let large : 1 < e.refusal.code = codes_large e.source e.refusal.code refused.named.known in
+      subst (λ (c : ℕ). Answers form market matched reads old new c written whole) (sym is_code) (record {
+        text = refused_line e.source e.refusal.code e.refusal.row e.refusal.id;
+        is_written = is_written;
+        says = record {
+          reported = λ none. absurd (omega arith);
+          refusal = λ _. record { file = e.source; row = e.refusal.row; id = e.refusal.id; named = refused.named; line = refl };
+          in_turn = λ _. turn;
+          answer = λ m r. of_both market matched (λ xs ys is. ap (answer_of form) is) (refused.fault m r);
+        };
+      })

@@ -65,7 +65,6 @@ fn read<'a, R: Threads + Sync>(
 /// The roster of a file's records: the market that they are. The error is their first fault, or want of memory. A
 /// record is a list of fields without its trailing empty ones. Records are counted from 1, and one without a field is
 /// passed over.
-#[tactic(auto, using(crate::proofs::FaultFacts::has_short_id, crate::proofs::FaultFacts::tells))]
 pub fn roster<R: Threads + Sync>(
     rt: &R,
     alloc: Global,

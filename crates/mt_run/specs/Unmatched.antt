@@ -1,16 +1,16 @@
 -- Why a run has no match, as a refusal beside the couple that was entering.
-use Rattle.std.specs.Prelude.{◌≡◌, ℕ, [], Option, None, Some, Result, Ok, Err}
+use Rattle.std.specs.Prelude.{◌≡◌, ℕ, [], None, Some, Result}
 use Rattle.mt_terms.specs.Text.{IsNamedRefusal}
 use Rattle.mt_terms.specs.declared.codes.TheConstants.{BUDGET_SPENT, OUT_OF_MEMORY}
 use Rattle.mt_terms.specs.declared.refusal.Refusal.{Refusal}
+use Rattle.mt_input.specs.Refusals.{code_by}
 use Rattle.mt_answer.specs.declared.ways.Unanswered.{Unanswered}
 use Rattle.mt_answer.specs.declared.ways.Unanswered.TheVariants.{BudgetSpent, Memory}
 use Rattle.mt_run.specs.declared.in_ways.Unmatched.{Unmatched}
 
 -- the code with which a step ends: 0 if it isn't refused
 abbrev pub code_of : {X : Type 0} → Result X Unmatched → ℕ
-code_of (Ok x) = 0
-code_of (Err n) = n.refusal.code
+code_of result = code_by (λ (n : Unmatched). n.refusal) result
 
 -- a refusal with this code, which names neither a record nor an id
 pub record IsAlone (code : ℕ) (e : Refusal) : Type 0 where

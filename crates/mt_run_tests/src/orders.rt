@@ -1,10 +1,8 @@
 //! The couples enter in other orders, and without some of them.
-ghost use Rattle.std.specs.Prelude.{◌≡◌, ◌≤◌};
-ghost use Rattle.mt_terms.specs.Best.{IsBest};
-ghost use Rattle.mt_ranks.specs.Ranked.{ranked_of};
+ghost use Rattle.std.specs.Prelude.{◌≤◌};
 
 use crate::expect::same_for;
-use mt_couples::{CoupleEnd, Spent};
+use mt_couples::{CoupleEnd, RothPeranson, Spent};
 use mt_orders::{Aside, Tries, enter_aside_in_orders, enter_in_orders};
 use mt_ranks::Ranks;
 use mt_roster::Roster;
@@ -28,7 +26,7 @@ fn in_orders<R: Threads + Sync>(
 {
     let ranks = Ranks::build(rt, alloc, roster)?;
     let singles = singles(alloc, roster, &ranks)?;
-    enter_in_orders(rt, alloc, roster, &ranks, &singles, tries)
+    enter_in_orders::<RothPeranson, R>(rt, alloc, roster, &ranks, &singles, tries)
 }
 
 // The match of the others once couples are set aside in the order in which the fewest are.
@@ -43,7 +41,7 @@ fn aside<R: Threads + Sync>(
 {
     let ranks = Ranks::build(rt, alloc, roster)?;
     let singles = singles(alloc, roster, &ranks)?;
-    enter_aside_in_orders(rt, alloc, roster, &singles, tries)
+    enter_aside_in_orders::<RothPeranson, R>(rt, alloc, roster, &singles, tries)
 }
 
 // Of the three couples D, A and E the first one stays unplaced. A is at p and q, and E at r and t.

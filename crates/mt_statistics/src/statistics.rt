@@ -2,23 +2,19 @@ ghost use Rattle.std.specs.Prelude.{◌≡◌, ◌<◌, length, map, IfOk};
 ghost use Rattle.mt_terms.specs.Lists.{below};
 ghost use Rattle.mt_terms.specs.Market.{applicants, IsAgentOf};
 ghost use Rattle.mt_terms.specs.Matching.{filled};
-ghost use Rattle.mt_terms.specs.Places.{ArePlaces};
 ghost use Rattle.mt_terms.specs.Text.{all_filled};
 ghost use Rattle.mt_terms.specs.declared.numbers.Agent.TheVariants.{Couple, Single};
-ghost use Rattle.mt_ranks.specs.Ranked.{ranked_of};
 ghost use Rattle.mt_verify.specs.Held.{held_option};
 ghost use Rattle.mt_statistics.specs.Counts.{choice_counts, choices_from, couples_with, empty_programs, full_programs, has_choice_from, has_nobody, is_from, is_full, is_unmatched_single, last_rank, open_at, open_posts, pair_counts, pairs_from, partly_filled_programs, placed_members, standing, unmatched_singles};
 
 use crate::counts::{ProgramCounts, Standing};
 use crate::held::held_counts;
 use mt_market::Roster;
-use mt_ranks::Ranks;
 use mt_report::{filled_counts, filled_total};
 use mt_terms::{Agent, AppNo, CoupleNo, Match, ProgNo};
 use mt_verify::MatchTables;
 use std::alloc::{AllocError, Global};
 use std::marker::Model;
-use std::thread::Threads;
 
 /// Whether there is a number, and it is this one or a larger one.
 fn is_from(least: u32, number: Option<u32>) -> bool
@@ -33,53 +29,45 @@ fn is_from(least: u32, number: Option<u32>) -> bool
 /// A match beside its market, ready to be counted.
 #[derive(Drop)]
 pub struct Statistics<'a> {
-    roster: &'a Roster,
-    matched: &'a Match,
     tables: MatchTables<'a>,
     filled: Vec<u32>,
 }
 
 impl<'a> Model for Statistics<'a> {
-    ghost use Rattle.mt_statistics.specs.Described.{Described};
-    ghost use Rattle.mt_statistics.specs.View.{AreTables, described};
+    ghost use Rattle.mt_verify.specs.Judged.{Judged};
+    ghost use Rattle.mt_statistics.specs.View.{AreCounted};
 
-    ghost Value = { Described };
+    ghost Value = { Judged };
 
-    ghost view = { described };
+    ghost view = { λ s. s.tables };
 
-    ghost invariant = { AreTables };
+    ghost invariant = { AreCounted };
 }
 
 impl<'a> Statistics<'a> {
-    /// The match beside its market. The only error is want of memory.
-    pub fn new<R: Threads + Sync>(
-        rt: &R,
-        alloc: Global,
-        roster: &'a Roster,
-        ranks: &'a Ranks<'a>,
-        matched: &'a Match,
-    ) -> Result<Self, AllocError>
-        requires ranks { ranks.now ≡ ranked_of roster.now.market }
-        requires places { ArePlaces roster.now.market matched.now.places }
-        ensures registered { IfOk result (λ s. s.registered ≡ roster.now) }
-        ensures places { IfOk result (λ s. s.places ≡ matched.now.places) }
+    /// The match of these tables. The only error is want of memory.
+    pub fn new(alloc: Global, tables: MatchTables<'a>) -> Result<Self, AllocError>
+        ensures { IfOk result (λ s. s ≡ tables.entry) }
     {
+        let roster = tables.roster();
         roster.is_of_a_file();
-        let tables = MatchTables::new(rt, alloc, roster, ranks, matched)?;
-        let filled = filled_counts(alloc, roster.programs() as usize, matched.places.as_slice())?;
-        Ok(Statistics {
-            roster,
-            matched,
-            tables,
-            filled,
-        })
+        let places = tables.matched().places.as_slice();
+        let filled = filled_counts(alloc, roster.programs() as usize, places)?;
+        Ok(Statistics { tables, filled })
     }
 
     /// The market, with its ids.
     pub fn roster(&self) -> &'a Roster
         ensures { result.now ≡ self.now.registered }
     {
-        self.roster
+        self.tables.roster()
+    }
+
+    /// The match.
+    fn matched(&self) -> &'a Match
+        ensures { result.now.places ≡ self.now.places }
+    {
+        self.tables.matched()
     }
 
     /// For each choice up to the largest that a single has, how many singles have it. The only error is want of memory.
@@ -87,7 +75,7 @@ impl<'a> Statistics<'a> {
         ensures { IfOk result (λ v. v.items
             ≡ choice_counts self.now.registered.market self.now.places) }
     {
-        self.roster.is_of_a_file();
+        self.roster().is_of_a_file();
         let held = self.held_choices(alloc)?;
         held_counts(alloc, &held)
     }
@@ -98,7 +86,7 @@ impl<'a> Statistics<'a> {
         ensures { IfOk result (λ v. v.items
             ≡ pair_counts self.now.registered.market self.now.places) }
     {
-        self.roster.is_of_a_file();
+        self.roster().is_of_a_file();
         let held = self.held_pairs(alloc)?;
         held_counts(alloc, &held)
     }
@@ -108,7 +96,7 @@ impl<'a> Statistics<'a> {
         ensures { result ≡ choices_from self.now.registered.market self.now.places choice }
     {
         let mut count = 0;
-        for number in 0..self.roster.applicants() {
+        for number in 0..self.roster().applicants() {
             if self.has_choice_from(AppNo(number), choice) {
                 count += 1;
             }
@@ -121,7 +109,7 @@ impl<'a> Statistics<'a> {
         ensures { result ≡ pairs_from self.now.registered.market self.now.places pair }
     {
         let mut count = 0;
-        for number in 0..self.roster.couples() {
+        for number in 0..self.roster().couples() {
             if is_from(pair, self.held_option(Agent::Couple(CoupleNo(number)))) {
                 count += 1;
             }
@@ -134,7 +122,7 @@ impl<'a> Statistics<'a> {
         ensures { result ≡ unmatched_singles self.now.registered.market self.now.places }
     {
         let mut count = 0;
-        for number in 0..self.roster.applicants() {
+        for number in 0..self.roster().applicants() {
             if self.is_unmatched_single(AppNo(number)) {
                 count += 1;
             }
@@ -147,7 +135,7 @@ impl<'a> Statistics<'a> {
         ensures { result ≡ couples_with self.now.registered.market self.now.places placed }
     {
         let mut count = 0;
-        for number in 0..self.roster.couples() {
+        for number in 0..self.roster().couples() {
             if self.placed_members(CoupleNo(number)) == placed {
                 count += 1;
             }
@@ -167,7 +155,7 @@ impl<'a> Statistics<'a> {
             partly_filled: 0,
             empty: 0,
         };
-        for number in 0..self.roster.programs() {
+        for number in 0..self.roster().programs() {
             let program = ProgNo(number);
             if self.is_full(program) {
                 counts.full += 1;
@@ -192,7 +180,7 @@ impl<'a> Statistics<'a> {
         ensures { result ≡ open_posts self.now.registered.market self.now.places }
     {
         let mut count = 0;
-        for number in 0..self.roster.programs() {
+        for number in 0..self.roster().programs() {
             count += u64::from(self.open_at(ProgNo(number)));
         }
         count
@@ -226,9 +214,9 @@ impl<'a> Statistics<'a> {
         ensures { result ≡ standing self.now.registered.market self.now.places program }
     {
         Standing {
-            quota: self.roster.quota(program),
+            quota: self.roster().quota(program),
             filled: self.filled(program),
-            listed: self.roster.program_list(program).len() as u64,
+            listed: self.roster().program_list(program).len() as u64,
             last: self.last_rank(program),
         }
     }
@@ -247,7 +235,7 @@ impl<'a> Statistics<'a> {
             v.items ≡ map (λ a. held_option m self.now.places (Single a)) (below (applicants m))) }
     {
         let mut held = Vec::new(alloc);
-        for number in 0..self.roster.applicants() {
+        for number in 0..self.roster().applicants() {
             held.push(self.held_option(Agent::Single(AppNo(number))))?;
         }
         Ok(held)
@@ -259,7 +247,7 @@ impl<'a> Statistics<'a> {
             v.items ≡ map (λ c. held_option m self.now.places (Couple c)) (below (length m.couples))) }
     {
         let mut held = Vec::new(alloc);
-        for number in 0..self.roster.couples() {
+        for number in 0..self.roster().couples() {
             held.push(self.held_option(Agent::Couple(CoupleNo(number))))?;
         }
         Ok(held)
@@ -270,7 +258,7 @@ impl<'a> Statistics<'a> {
         requires { applicant < applicants self.now.registered.market }
         ensures { result ≡ has_choice_from self.now.registered.market self.now.places choice applicant }
     {
-        match self.roster.agent_of(applicant) {
+        match self.roster().agent_of(applicant) {
             Agent::Single(_) => is_from(choice, self.held_option(Agent::Single(applicant))),
             Agent::Couple(_) => false,
         }
@@ -281,8 +269,8 @@ impl<'a> Statistics<'a> {
         requires { applicant < applicants self.now.registered.market }
         ensures { result ≡ is_unmatched_single self.now.registered.market self.now.places applicant }
     {
-        match self.roster.agent_of(applicant) {
-            Agent::Single(_) => self.matched.place(applicant).is_none(),
+        match self.roster().agent_of(applicant) {
+            Agent::Single(_) => self.matched().place(applicant).is_none(),
             Agent::Couple(_) => false,
         }
     }
@@ -292,9 +280,9 @@ impl<'a> Statistics<'a> {
         requires { couple < length self.now.registered.market.couples }
         ensures { result ≡ placed_members self.now.registered.market self.now.places couple }
     {
-        let (first, second) = self.roster.members(couple);
-        u32::from(self.matched.place(first).is_some())
-            + u32::from(self.matched.place(second).is_some())
+        let (first, second) = self.roster().members(couple);
+        u32::from(self.matched().place(first).is_some())
+            + u32::from(self.matched().place(second).is_some())
     }
 
     /// Whether a program has no open post.
@@ -302,7 +290,7 @@ impl<'a> Statistics<'a> {
         requires { program < length self.now.registered.market.programs }
         ensures { result ≡ is_full self.now.registered.market self.now.places program }
     {
-        self.roster.quota(program) <= self.filled(program)
+        self.roster().quota(program) <= self.filled(program)
     }
 
     /// Whether nobody is placed at a program.
@@ -318,7 +306,7 @@ impl<'a> Statistics<'a> {
         requires { program < length self.now.registered.market.programs }
         ensures { result ≡ open_at self.now.registered.market self.now.places program }
     {
-        self.roster
+        self.roster()
             .quota(program)
             .saturating_sub(self.filled(program))
     }

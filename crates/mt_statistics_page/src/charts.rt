@@ -1,5 +1,5 @@
-ghost use Rattle.std.specs.Prelude.{◌≡◌, ◌++◌, length, take, OnOk};
-ghost use Rattle.mt_statistics_page.specs.Charts.{choice_chart, choice_most, choice_rows, largest_shown, later_row, number_rows, pair_chart, pair_table, three_chart, three_largest, three_rows};
+ghost use Rattle.std.specs.Prelude.{◌≡◌, ◌++◌, take, OnOk};
+ghost use Rattle.mt_statistics_page.specs.Charts.{choice_chart, choice_most, largest_shown, later_row, number_rows, pair_chart, pair_table, three_chart, three_largest, three_rows};
 ghost use Rattle.mt_statistics_page.specs.declared.markup.TheConstants.{FIRST};
 
 use crate::markup::{CHOICES, FIRST, LATER, NO_PAIRS, PAIRS, TABLE_END};
@@ -44,22 +44,6 @@ fn push_numbers(text: &mut Vec<u8>, counts: &[u32], later: u32, most: u32) -> Re
     Ok(())
 }
 
-/// Adds the rows of the chart of choices.
-fn push_choice_rows(
-    text: &mut Vec<u8>,
-    counts: &[u32],
-    later: u32,
-    unmatched: u32,
-    most: u32,
-) -> Result<(), AllocError>
-    ensures ok { OnOk result (text.new.items
-        ≡ text.old.items ++ choice_rows counts.now later unmatched most) }
-{
-    push_numbers(text, counts, later, most)?;
-    push_bar_row(text, b"no place", unmatched, most)?;
-    Ok(())
-}
-
 /// The largest count of the chart of choices.
 fn choice_most(counts: &[u32], later: u32, unmatched: u32) -> u32
     ensures { result ≡ choice_most counts.now later unmatched }
@@ -79,7 +63,8 @@ pub(crate) fn push_choice_chart(
 {
     let most = choice_most(counts, later, unmatched);
     push_text(text, CHOICES)?;
-    push_choice_rows(text, counts, later, unmatched, most)?;
+    push_numbers(text, counts, later, most)?;
+    push_bar_row(text, b"no place", unmatched, most)?;
     push_text(text, TABLE_END)?;
     Ok(())
 }

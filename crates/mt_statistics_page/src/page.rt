@@ -1,5 +1,6 @@
 ghost use Rattle.std.specs.Prelude.{◌≡◌, ◌<◌, ◌++◌, length, IfOk, OnOk};
-ghost use Rattle.mt_statistics_page.specs.Page.{charts, choices, couple_charts, couples, first_totals, last_totals, members, open_programs, open_row, open_rows, open_table, pairs, program_row, programs, report_page, totals};
+ghost use Rattle.mt_statistics.specs.Counts.{pair_counts};
+ghost use Rattle.mt_statistics_page.specs.Page.{couples, first_totals, last_totals, members, open_programs, open_rows, open_table, program_row, programs, report_page, totals};
 
 use crate::charts::{ThreeCounts, push_choice_chart, push_pair_chart, push_three_chart};
 use crate::markup::{
@@ -48,20 +49,6 @@ fn push_totals(text: &mut Vec<u8>, statistics: &Statistics<'_>) -> Result<(), Al
     Ok(())
 }
 
-/// Adds the section of the choices.
-fn push_choices(
-    alloc: Global,
-    text: &mut Vec<u8>,
-    statistics: &Statistics<'_>,
-) -> Result<(), AllocError>
-    ensures ok { OnOk result (text.new.items ≡ text.old.items
-        ++ choices statistics.now.registered.market statistics.now.places) }
-{
-    let counts = statistics.choice_counts(alloc)?;
-    let later = statistics.choices_from(FIRST);
-    push_choice_chart(text, &counts, later, statistics.unmatched_singles())
-}
-
 /// Adds the chart of the couples.
 fn push_members(text: &mut Vec<u8>, statistics: &Statistics<'_>) -> Result<(), AllocError>
     ensures ok { OnOk result (text.new.items ≡ text.old.items
@@ -78,47 +65,22 @@ fn push_members(text: &mut Vec<u8>, statistics: &Statistics<'_>) -> Result<(), A
     push_three_chart(text, COUPLES, b"both", b"one", b"neither", counts)
 }
 
-/// Adds the chart of the pairs.
-fn push_pairs(
-    alloc: Global,
-    text: &mut Vec<u8>,
-    statistics: &Statistics<'_>,
-) -> Result<(), AllocError>
-    ensures ok { OnOk result (text.new.items ≡ text.old.items
-        ++ pairs statistics.now.registered.market statistics.now.places) }
-{
-    let counts = statistics.pair_counts(alloc)?;
-    let later = statistics.pairs_from(FIRST);
-    push_pair_chart(text, &counts, later)
-}
-
-/// Adds the charts of the couples and of their pairs.
-fn push_couple_charts(
-    alloc: Global,
-    text: &mut Vec<u8>,
-    statistics: &Statistics<'_>,
-) -> Result<(), AllocError>
-    ensures ok { OnOk result (text.new.items ≡ text.old.items
-        ++ couple_charts statistics.now.registered.market statistics.now.places) }
-{
-    push_members(text, statistics)?;
-    push_pairs(alloc, text, statistics)?;
-    Ok(())
-}
-
-/// Adds the sections of the couples.
+/// Adds the sections of the couples, with these counts of their pairs.
 fn push_couples(
-    alloc: Global,
     text: &mut Vec<u8>,
     statistics: &Statistics<'_>,
+    pairs: &[u32],
 ) -> Result<(), AllocError>
+    requires { pairs.now ≡ pair_counts statistics.now.registered.market statistics.now.places }
     ensures ok { OnOk result (text.new.items ≡ text.old.items
         ++ couples statistics.now.registered.market statistics.now.places) }
 {
     if statistics.roster().couples() == 0 {
         push_text(text, NO_COUPLES)
     } else {
-        push_couple_charts(alloc, text, statistics)
+        push_members(text, statistics)?;
+        push_pair_chart(text, pairs, statistics.pairs_from(FIRST))?;
+        Ok(())
     }
 }
 
@@ -150,29 +112,16 @@ fn push_program_row(
     push_standing(text, id, statistics.standing(program))
 }
 
-/// Adds the row of a program, if it has an open post.
-fn push_open_row(
-    text: &mut Vec<u8>,
-    statistics: &Statistics<'_>,
-    program: ProgNo,
-) -> Result<(), AllocError>
-    requires { program < length statistics.now.registered.market.programs }
-    ensures ok { OnOk result (text.new.items ≡ text.old.items
-        ++ open_row statistics.now.registered statistics.now.places program) }
-{
-    if statistics.is_full(program) {
-        return Ok(());
-    }
-    push_program_row(text, statistics, program)
-}
-
 /// Adds the rows of the programs with open posts.
 fn push_open_rows(text: &mut Vec<u8>, statistics: &Statistics<'_>) -> Result<(), AllocError>
     ensures ok { OnOk result (text.new.items ≡ text.old.items
         ++ open_rows statistics.now.registered statistics.now.places) }
 {
     for number in 0..statistics.roster().programs() {
-        push_open_row(text, statistics, ProgNo(number))?;
+        let program = ProgNo(number);
+        if !statistics.is_full(program) {
+            push_program_row(text, statistics, program)?;
+        }
     }
     Ok(())
 }
@@ -200,45 +149,23 @@ fn push_open(text: &mut Vec<u8>, statistics: &Statistics<'_>) -> Result<(), Allo
     }
 }
 
-/// Adds the sections with charts.
-fn push_charts(
-    alloc: Global,
-    text: &mut Vec<u8>,
-    statistics: &Statistics<'_>,
-) -> Result<(), AllocError>
-    ensures ok { OnOk result (text.new.items ≡ text.old.items
-        ++ charts statistics.now.registered.market statistics.now.places) }
-{
-    push_choices(alloc, text, statistics)?;
-    push_couples(alloc, text, statistics)?;
-    push_programs(text, statistics)?;
-    Ok(())
-}
-
-/// Adds the page.
-fn push_page(
-    alloc: Global,
-    text: &mut Vec<u8>,
-    statistics: &Statistics<'_>,
-) -> Result<(), AllocError>
-    ensures ok { OnOk result (text.new.items ≡ text.old.items
-        ++ report_page statistics.now.registered statistics.now.places) }
-{
-    push_text(text, HEAD)?;
-    push_totals(text, statistics)?;
-    push_charts(alloc, text, statistics)?;
-    push_open(text, statistics)?;
-    push_text(text, FOOT)?;
-    Ok(())
-}
-
 /// The page of a report: the numbers of a match as HTML that needs no other file. The page is well-formed XML, since an
 /// id has none of the bytes of markup. The error is want of memory.
 pub fn report_page(alloc: Global, statistics: &Statistics<'_>) -> Result<Vec<u8>, AllocError>
     ensures { IfOk result (λ v. v.items
         ≡ report_page statistics.now.registered statistics.now.places) }
 {
+    let choices = statistics.choice_counts(alloc)?;
+    let pairs = statistics.pair_counts(alloc)?;
+    let later = statistics.choices_from(FIRST);
+    let unmatched = statistics.unmatched_singles();
     let mut text = Vec::new(alloc);
-    push_page(alloc, &mut text, statistics)?;
+    push_text(&mut text, HEAD)?;
+    push_totals(&mut text, statistics)?;
+    push_choice_chart(&mut text, &choices, later, unmatched)?;
+    push_couples(&mut text, statistics, &pairs)?;
+    push_programs(&mut text, statistics)?;
+    push_open(&mut text, statistics)?;
+    push_text(&mut text, FOOT)?;
     Ok(text)
 }

@@ -21,11 +21,14 @@ abbrev pub singles_lines : Market → Places → Bytes
 singles_lines m places =
     counted_lines (codes "choice") (choice_counts m places) ++ line (codes "unmatched" ∷ decimal (unmatched_singles m places) ∷ [])
 
+-- the line of how many couples have both members placed, one and neither
+abbrev pub members_line : Market → Places → Bytes
+members_line m places =
+    line (codes "couples" ∷ decimal (couples_with m places 2) ∷ decimal (couples_with m places 1) ∷ decimal (couples_with m places 0) ∷ [])
+
 -- the lines of the couples: how many have both members, one and none placed, and how many have each pair
 abbrev pub couples_lines : Market → Places → Bytes
-couples_lines m places =
-    line (codes "couples" ∷ decimal (couples_with m places 2) ∷ decimal (couples_with m places 1) ∷ decimal (couples_with m places 0) ∷ [])
-    ++ counted_lines (codes "pair") (pair_counts m places)
+couples_lines m places = members_line m places ++ counted_lines (codes "pair") (pair_counts m places)
 
 -- the line of how many programs are full, partly filled and empty, and that of the filled and the open posts
 abbrev pub posts_lines : Market → Places → Bytes

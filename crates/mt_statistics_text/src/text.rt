@@ -1,41 +1,20 @@
-ghost use Rattle.std.specs.Prelude.{◌≡◌, ◌<◌, ◌++◌, length, IfOk, OnOk};
-ghost use Rattle.mt_statistics_text.specs.Text.{couples_lines, posts_lines, program_line, program_lines, report_text, singles_lines};
+ghost use Rattle.std.specs.Prelude.{◌≡◌, ◌++◌, IfOk, OnOk};
+ghost use Rattle.mt_statistics_text.specs.Text.{members_line, posts_lines, program_lines, report_text};
 
 use crate::line::{push_counts, push_line, push_standing};
 use mt_statistics::Statistics;
 use mt_terms::ProgNo;
 use std::alloc::{AllocError, Global};
 
-/// Adds the lines of the singles.
-fn push_singles(
-    alloc: Global,
-    text: &mut Vec<u8>,
-    statistics: &Statistics<'_>,
-) -> Result<(), AllocError>
+/// Adds the line of the couples: how many have both members placed, one and neither.
+fn push_members(text: &mut Vec<u8>, statistics: &Statistics<'_>) -> Result<(), AllocError>
     ensures ok { OnOk result (text.new.items ≡ text.old.items
-        ++ singles_lines statistics.now.registered.market statistics.now.places) }
+        ++ members_line statistics.now.registered.market statistics.now.places) }
 {
-    let counts = statistics.choice_counts(alloc)?;
-    let unmatched = u64::from(statistics.unmatched_singles());
-    push_counts(text, b"choice", &counts)?;
-    push_line(text, b"unmatched", &[unmatched])
-}
-
-/// Adds the lines of the couples.
-fn push_couples(
-    alloc: Global,
-    text: &mut Vec<u8>,
-    statistics: &Statistics<'_>,
-) -> Result<(), AllocError>
-    ensures ok { OnOk result (text.new.items ≡ text.old.items
-        ++ couples_lines statistics.now.registered.market statistics.now.places) }
-{
-    let counts = statistics.pair_counts(alloc)?;
     let both = u64::from(statistics.couples_with(2));
     let one = u64::from(statistics.couples_with(1));
     let neither = u64::from(statistics.couples_with(0));
-    push_line(text, b"couples", &[both, one, neither])?;
-    push_counts(text, b"pair", &counts)
+    push_line(text, b"couples", &[both, one, neither])
 }
 
 /// Adds the lines of the programs and of the posts at all of them together.
@@ -53,27 +32,15 @@ fn push_posts(text: &mut Vec<u8>, statistics: &Statistics<'_>) -> Result<(), All
     push_line(text, b"posts", &[filled, open])
 }
 
-/// Adds the line of a program.
-fn push_program(
-    text: &mut Vec<u8>,
-    statistics: &Statistics<'_>,
-    program: ProgNo,
-) -> Result<(), AllocError>
-    requires { program < length statistics.now.registered.market.programs }
-    ensures ok { OnOk result (text.new.items ≡ text.old.items
-        ++ program_line statistics.now.registered statistics.now.places program) }
-{
-    let id = statistics.roster().program_id(program);
-    push_standing(text, id, statistics.standing(program))
-}
-
 /// Adds the lines of all programs.
 fn push_programs(text: &mut Vec<u8>, statistics: &Statistics<'_>) -> Result<(), AllocError>
     ensures ok { OnOk result (text.new.items ≡ text.old.items
         ++ program_lines statistics.now.registered statistics.now.places) }
 {
     for number in 0..statistics.roster().programs() {
-        push_program(text, statistics, ProgNo(number))?;
+        let program = ProgNo(number);
+        let id = statistics.roster().program_id(program);
+        push_standing(text, id, statistics.standing(program))?;
     }
     Ok(())
 }
@@ -84,9 +51,14 @@ pub fn report_text(alloc: Global, statistics: &Statistics<'_>) -> Result<Vec<u8>
     ensures { IfOk result (λ v. v.items
         ≡ report_text statistics.now.registered statistics.now.places) }
 {
+    let choices = statistics.choice_counts(alloc)?;
+    let pairs = statistics.pair_counts(alloc)?;
+    let unmatched = u64::from(statistics.unmatched_singles());
     let mut text = Vec::new(alloc);
-    push_singles(alloc, &mut text, statistics)?;
-    push_couples(alloc, &mut text, statistics)?;
+    push_counts(&mut text, b"choice", &choices)?;
+    push_line(&mut text, b"unmatched", &[unmatched])?;
+    push_members(&mut text, statistics)?;
+    push_counts(&mut text, b"pair", &pairs)?;
     push_posts(&mut text, statistics)?;
     push_programs(&mut text, statistics)?;
     Ok(text)

@@ -1,19 +1,22 @@
 -- The first option with which an agent blocks, as a search along its list finds it.
-use Rattle.std.proofs.Common.{◌≡◌, ℕ, ◌<◌, Bool, ◌&&◌, ◌==◌, List, length, get_or, Option, Some, None, IsTrue, IsFalse, refl, ap, sym, ◌∙◌, ◌+◌, subst, below_more, is_some, unwrap_or, inl, inr}
-use Rattle.std.specs.List.{find, position}
+use Rattle.std.proofs.Common.{◌≡◌, ℕ, ◌<◌, Bool, true, false, not, ◌&&◌, ◌||◌, ◌==◌, List, length, get_or, Option, Some, None, IsTrue, IsFalse, refl, ap, sym, ◌∙◌, ◌+◌, subst, below_more, is_some, unwrap_or, inl, inr}
+use Rattle.std.specs.List.{find, list_any, position}
 use Rattle.std.specs.Option.{option_eq, option_map}
-use Rattle.std.proofs.lemmas.Bool.{cases_Bool}
+use Rattle.std.proofs.lemmas.Bool.{cases_Bool, eqb-true}
 use Rattle.std.proofs.lemmas.List.{get_or_read_under}
-use Rattle.mt_terms.specs.Market.{Market, Pair, list_of, couple_of, applicants, agent_of, agents, leads}
+use Rattle.mt_terms.specs.Market.{Market, Pair, program_of, list_of, couple_of, applicants, agent_of, agents, leads}
 use Rattle.mt_terms.specs.Matching.{Places, place_of, is_program, is_same_place, holds, better, single_placement, couple_placement}
-use Rattle.mt_terms.specs.Stability.{would_be_taken, blocks}
+use Rattle.mt_terms.specs.Stability.{is_listed, would_be_taken, blocks}
 use Rattle.mt_terms.specs.declared.numbers.Agent.{Agent}
 use Rattle.mt_terms.specs.declared.numbers.Agent.TheVariants.{Single, Couple}
-use Rattle.mt_terms.specs.Lists.{below}
-use Rattle.mt_verdict_laws.proofs.VerdictLemmas.{find-map-filter}
-use Rattle.mt_verify.specs.Blocking.{blocker, blocker_led_by, leads_blocker}
+use Rattle.mt_terms.specs.Lists.{below, has}
+use Rattle.mt_terms.specs.Verdict.{is_unlisted}
+use Rattle.std.proofs.lemmas.List.Folds.{list_any_at, list_any_none}
+use Rattle.std.proofs.lemmas.Grind.{get_or_default_zero}
+use Rattle.mt_verdict_laws.proofs.VerdictLemmas.{find-map-filter, leads-Single}
+use Rattle.mt_verify.specs.Blocking.{blocker, blocker_led_by, has_finding, leads_blocker}
 use Rattle.mt_verify.proofs.FindFacts.{NoneYet, passes_at, stops_at, none_passes, position_mapped, any_has_position, found_below}
-use Rattle.mt_verify.proofs.OptionFacts.{and-true}
+use Rattle.mt_verify.proofs.OptionFacts.{and-true, is_off-Single}
 use Rattle.mt_terms.proofs.AgentFacts.{holds_single, is_program_read}
 
 -- an element that was read of a list, at any default
@@ -153,12 +156,57 @@ module _ (m : Market) (places : Places) where
   pub no_blocking : find (leads_blocker m places) (below (applicants m)) ≡ None → find (blocks m places) (agents m) ≡ None
   no_blocking none = by_leader ∙ ap (option_map (agent_of m)) none
 
-  pub no_leader : find (leads_blocker m places) (below (applicants m)) ≡ None → option_map (blocker m places) (find (blocks m places) (agents m)) ≡ None
-  no_leader none = ap (option_map (blocker m places)) (no_blocking none)
-
   -- the agent that an applicant leads blocks where there is one to tell
   pub leads_blocker-is_some : (a : ℕ) → is_some (blocker_led_by m places a) ≡ leads_blocker m places a
   leads_blocker-is_some a = elim (cases_Bool (leads_blocker m places a)) [
     | inl here ↦ rw here refl
     | inr other ↦ rw other refl
   ]
+
+-- where a test says that nothing is there
+pub not_back : (x y : Bool) → x ≡ not y → y ≡ not x
+not_back x true h = ap not (sym h)
+not_back x false h = ap not (sym h)
+
+listed_there : (m : Market) (a p : ℕ) (place : Option ℕ) → is_program p place ≡ true → is_listed m a place ≡ has (program_of m p).ranking a
+listed_there m a p None h = absurd (cc)
+listed_there m a p (Some q) h = ap (λ (x : ℕ). has (program_of m x).ranking a) (eqb-true q p h)
+
+-- Below, an applicant is a single, and its list was gone through.
+module _ (m : Market) (places : Places) (a : ℕ) (alone : agent_of m a ≡ Single a) where
+  blocks_by : (o : Option ℕ) → position (would_be_taken m places) (better m places (Single a)) ≡ o → leads_blocker m places a ≡ is_some o
+  blocks_by o found = rw (leads-Single m a alone, alone) (any_has_position (would_be_taken m places) (better m places (Single a)) ∙ ap is_some found)
+
+  unlisted_by : (own : Bool) → list_any (λ p. is_program p (place_of places a)) (list_of m a) ≡ own
+      → is_unlisted m places a ≡ (not (own || not (is_some (place_of places a))) || not (is_listed m a (place_of places a)))
+  unlisted_by own is =
+      ap (λ (b : Bool). b || not (is_listed m a (place_of places a)))
+      (is_off-Single m places a a alone ∙ ap (λ (b : Bool). not (b || not (is_some (place_of places a)))) is)
+
+  -- A program before its place would take it.
+  pub found_if_taken : (k : ℕ) → position (would_be_taken m places) (better m places (Single a)) ≡ Some k → true ≡ has_finding m places a
+  found_if_taken k taken = sym (ap (λ (b : Bool). b || is_unlisted m places a) (blocks_by (Some k) taken))
+
+  -- None would, and its place is on its list.
+  pub found_at_own : (k p : ℕ) (b : Bool) → position (would_be_taken m places) (better m places (Single a)) ≡ None
+      → k < length (list_of m a) → p ≡ get_or (list_of m a) k 0 → IsTrue (holds places (single_placement a p)) → b ≡ has (program_of m p).ranking a
+      → not b ≡ has_finding m places a
+  found_at_own k p b none within read holding listed =
+      let here : is_program p (place_of places a) ≡ true = sym (holds_single p (place_of places a)) ∙ holding in
+      let own : list_any (λ q. is_program q (place_of places a)) (list_of m a) ≡ true =
+      list_any_at (λ q. is_program q (place_of places a)) (list_of m a) k 0 within (ap (λ q. is_program q (place_of places a)) (sym read) ∙ here) in
+      let unlisted : is_unlisted m places a ≡ not b = unlisted_by true own ∙ ap not (listed_there m a p (place_of places a) here ∙ sym listed) in
+      sym (ap (λ (x : Bool). x || is_unlisted m places a) (blocks_by None none) ∙ unlisted)
+
+  at_end : (place : Option ℕ) → place_of places a ≡ place → list_any (λ q. is_program q (place_of places a)) (list_of m a) ≡ false → is_unlisted m places a ≡ is_some place
+  at_end None there own = unlisted_by false own ∙ ap (λ (x : Option ℕ). not (not (is_some x)) || not (is_listed m a x)) there
+  at_end (Some p) there own = unlisted_by false own ∙ ap (λ (x : Option ℕ). not (not (is_some x)) || not (is_listed m a x)) there
+
+  -- None of its whole list would, and its place isn't on it.
+  pub found_at_end : position (would_be_taken m places) (better m places (Single a)) ≡ None
+      → list_any (λ q. is_program q (place_of places a)) (list_of m a) ≡ false → is_some (place_of places a) ≡ has_finding m places a
+  found_at_end none own = sym (ap (λ (x : Bool). x || is_unlisted m places a) (blocks_by None none) ∙ at_end (place_of places a) refl own)
+
+  pub no_own_program : NoProgramYet m places a (length (list_of m a)) → list_any (λ q. is_program q (place_of places a)) (list_of m a) ≡ false
+  no_own_program none = list_any_none (λ q. is_program q (place_of places a)) (list_of m a)
+      (λ k d within. ap (λ q. is_program q (place_of places a)) (get_or_default_zero (list_of m a) k d within) ∙ sym (holds_single (get_or (list_of m a) k 0) (place_of places a)) ∙ (none k within).0)

@@ -1,18 +1,18 @@
 -- A single's live entries stand in the order of its list.
-use Rattle.std.proofs.Common.{◌≡◌, ℕ, zero, suc, ◌+◌, ◌<◌, List, [], ◌∷◌, length, drop, get_or, map, filter, IsTrue, IsFalse, refl, sym, ap, subst, ◌∙◌, Option, Some, None, false, true, eqb, ◌==◌, nat_lt, take, arith}
-use Rattle.std.specs.List.{All, position}
+use Rattle.std.proofs.Common.{◌≡◌, ℕ, zero, suc, ◌+◌, ◌<◌, Bool, inl, inr, eq-eqb, List, [], ◌∷◌, length, drop, get_or, map, filter, IsTrue, IsFalse, refl, sym, ap, subst, ◌∙◌, Option, Some, None, false, true, eqb, arith}
+use Rattle.std.specs.List.{All, position, slice_get}
 use Rattle.std.specs.Option.{is_some}
 use Rattle.std.proofs.lemmas.List.{drop_more, get_or_read}
-use Rattle.std.proofs.lemmas.Bool.{both_ways}
-use Rattle.mt_terms.specs.Lists.{count, has}
+use Rattle.std.proofs.lemmas.Bool.{both_ways, cases_eq, false_from_ne_true, ne_eqb}
+use Rattle.mt_terms.specs.Lists.{has}
 use Rattle.mt_terms.specs.Market.{Market, program_of, list_of}
-use Rattle.mt_terms.specs.Matching.{Places, at, single_placement}
-use Rattle.mt_terms.specs.Stability.{would_be_taken}
+use Rattle.mt_terms.specs.Matching.{at}
 use Rattle.mt_terms.proofs.LiveFacts.{list_of-live_market}
 use Rattle.mt_ranks.specs.Ranked.{Ranked, IsEntry, ranked_entry, ranked_list, ranked_of, ranking_of, rank_of}
 use Rattle.mt_ranks.specs.declared.entries.Live.{Live}
 use Rattle.mt_ranks.proofs.Positions.{has-position}
-use Rattle.mt_verify.proofs.TakenFacts.{single_taken_ranked, single_not_taken}
+use Rattle.std.proofs.lemmas.Option.{slice_get_cases}
+use Rattle.mt_verify.specs.Blocking.{rank_if}
 
 -- Below, a list goes on from a place with an element.
 front_element : {X : Type 0} (xs : List X) (n : ℕ) (x : X) (rest : List X) → drop n xs ≡ x ∷ rest → (n < length xs) × ((d : X) → get_or xs n d ≡ x) × (drop (n + 1) xs ≡ rest)
@@ -64,23 +64,41 @@ module _ (m : Market) (a p next : ℕ) (r : Ranked) (entries : List Live) (befor
   is_entry : IsEntry r.market a entry
   is_entry = subst (IsEntry r.market a) (sym read) (are next entry within)
 
-  entry_rank : rank_of m p a ≡ Some entry.rank
+  pub entry_rank : rank_of m p a ≡ Some entry.rank
   entry_rank = ap (λ q. position (λ x. eqb x a) (ranking_of m q)) (sym same_program) ∙ ap (λ (x : Ranked). rank_of x.market entry.program a) (sym is) ∙ is_entry.rank.found
-
-  pub entry_listed : IsTrue (has (program_of m p).ranking a)
-  entry_listed = has-position (program_of m p).ranking a ∙ ap is_some entry_rank
-
-  -- the program would take it where fewer than quota of those there stand above the entry's rank
-  pub entry_taken : (places : Places) → a < length places
-      → would_be_taken m places (single_placement a p) ≡ nat_lt (count (at places p) (take (get_or entries next entry).rank (program_of m p).ranking)) (program_of m p).quota
-  entry_taken places placed =
-      single_taken_ranked m places a p entry.rank placed entry_rank ∙ ap (λ (x : Live). nat_lt (count (at places p) (take x.rank (program_of m p).ranking)) (program_of m p).quota) read
 
 none_from : (o : Option ℕ) → is_some o ≡ false → o ≡ None
 none_from None h = refl
 none_from (Some x) h = absurd (both_ways true h refl)
 
--- a program that doesn't list it wouldn't take it
-pub unlisted_not_taken : (m : Market) (places : Places) (a p : ℕ) → a < length places → IsFalse (has (program_of m p).ranking a) → IsFalse (would_be_taken m places (single_placement a p))
-unlisted_not_taken m places a p within off =
-    single_not_taken m places a p within (none_from (position (λ x. x == a) (program_of m p).ranking) (sym (has-position (program_of m p).ranking a) ∙ off))
+-- a program that doesn't list it has no rank for it
+no_rank : (m : Market) (p a : ℕ) → (IsTrue (has (program_of m p).ranking a) → ⊥) → None ≡ rank_of m p a
+no_rank m p a off = sym (none_from (rank_of m p a) (sym (has-position (program_of m p).ranking a) ∙ false_from_ne_true _ off))
+
+-- an entry that tells a rank is there
+pub rank_within : (entries : List Live) (n p rank : ℕ) → rank_if (slice_get entries n) p ≡ Some rank → n < length entries
+rank_within entries n p rank told = elim (slice_get_cases entries n).1 [
+  | inl w ↦ w.1
+  | inr past ↦ (let none : None ≡ Some rank = rw past.1 at told in absurd (cc))
+]
+
+-- Below, the next live entry is compared with the program at a place of the list. It is of that program if the program
+-- lists the applicant, and so it tells the rank there.
+module _ (m : Market) (a : ℕ) (r : Ranked) (entries : List Live) (is : r ≡ ranked_of m) (are : All (IsEntry r.market a) entries)
+    (next k p : ℕ) (left : AreLeft m a entries next k) (within : k < length (list_of m a)) (read : p ≡ get_or (list_of m a) k 0) where
+  pub rank_of_next : rank_if (slice_get entries next) p ≡ rank_of m p a
+  rank_of_next = elim (slice_get_cases entries next).1 [
+    | inl w ↦ rw w.2 (elim (cases_eq w.0.program p) [
+      | inl same ↦ rw (eq-eqb w.0.program p same) (sym (entry_rank m a p next r entries w.0 w.0 is are w.1 (sym w.3) (ap (λ (x : Live). x.program) w.3 ∙ same)))
+      | inr other ↦ rw (ne_eqb w.0.program p other)
+          (no_rank m p a (λ on. other (ap (λ (x : Live). x.program) (sym w.3) ∙ entry_program m a entries next k p left within read on w.0)))
+    ])
+    | inr past ↦ rw past.1 (no_rank m p a (λ on. absurd (omega (arith, past.0, entry_within m a entries next k p left within read on))))
+  ]
+
+  -- the entries that are left, once the program's rank was told
+  pub left_after_rank : (rank : ℕ) → rank_of m p a ≡ Some rank → AreLeft m a entries (next + 1) (k + 1)
+  left_after_rank rank here = left_listed m a entries next k p left within read (has-position (program_of m p).ranking a ∙ ap is_some here)
+
+  pub left_after_none : rank_of m p a ≡ None → AreLeft m a entries next (k + 1)
+  left_after_none none = left_unlisted m a entries next k p left within read (has-position (program_of m p).ranking a ∙ ap is_some none)

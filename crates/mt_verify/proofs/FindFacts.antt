@@ -44,6 +44,9 @@ found_in_range test low (suc n) k found = elim (cases_Bool (test low)) [
 pub found_below : (test : Set) (n k : ℕ) → find test (below n) ≡ Some k → (k < n) × IsTrue (test k)
 found_below test n k found = let is = found_in_range test 0 n k found in (omega (arith, is.0), is.1)
 
+some_found : {X : Type 0} (x : X) → Some x ≡ None → ⊥
+some_found x is = cc
+
 -- Below, threads search among the numbers below n. Each number that they ask at is one of them.
 pub asked_below : (P : ℕ → Type 0) (start end n : ℕ) → start ≡ 0 → end ≡ n → ((a : ℕ) → a < n → P a)
     → (k d : ℕ) → k < length (nat_range start end) → (p : Bor ℕ) → p.now ≡ get_or (nat_range start end) k d → P p.now
@@ -60,9 +63,17 @@ find_neither one other (x ∷ xs) none = elim (cases_Bool (one x)) [
     | inr neither ↦ (let rest = find_neither one other xs (rw (not_first, neither) at none) in (rw not_first rest.0, rw neither rest.1))
   ]
 ]
-  where
-    some_found : {X : Type 0} (x : X) → Some x ≡ None → ⊥
-    some_found x is = cc
+
+-- where none passes the other test, the first that passes one of the two passes the one
+pub find_without : {X : Type 0} (one other : X → Bool) (xs : List X) → find other xs ≡ None → find (λ x. one x || other x) xs ≡ find one xs
+find_without one other [] none = refl
+find_without one other (x ∷ xs) none = elim (cases_Bool (other x)) [
+  | inl here ↦ absurd (some_found x (rw here at none))
+  | inr not_here ↦ elim (cases_Bool (one x)) [
+    | inl first ↦ rw first refl
+    | inr not_first ↦ rw (not_first, not_here) (find_without one other xs (rw not_here at none))
+  ]
+]
 
 -- and they find the first that passes
 pub found_by_threads : (test : Set) (start end n : ℕ) (xs : List ℕ) (answers : List Bool) (r : Option ℕ) → start ≡ 0 → end ≡ n → xs ≡ nat_range start end

@@ -1,9 +1,8 @@
 -- Which option of its list an agent has.
-use Rattle.std.specs.Prelude.{ℕ, ◌<◌, ◌==◌, Option, Some, None, length, position}
-use Rattle.mt_terms.specs.Market.{Market, applicants, program_of}
+use Rattle.std.specs.Prelude.{ℕ, ◌==◌, Option, Some, None, position}
+use Rattle.mt_terms.specs.Market.{Market, program_of}
 use Rattle.mt_terms.specs.Matching.{Places, holds, options}
 use Rattle.mt_terms.specs.declared.numbers.Agent.{Agent}
-use Rattle.mt_terms.specs.declared.numbers.Agent.TheVariants.{Single, Couple}
 
 -- the number from 0 of the option that an agent has, if it has one of its list
 abbrev pub held_option : Market → Places → Agent → Option ℕ

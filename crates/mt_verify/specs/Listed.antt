@@ -1,8 +1,7 @@
 -- Places by the lists of singles and couples, and of programs.
-use Rattle.std.specs.Prelude.{◌≡◌, ℕ, Bool, not, ◌&&◌, ◌||◌, ◌==◌, List, length, map, Option, is_some, Vec}
+use Rattle.std.specs.Prelude.{◌≡◌, ℕ, Bool, not, ◌&&◌, ◌||◌, ◌==◌, List, map, Option, is_some, Vec}
 use Rattle.std.specs.Global.{Global}
 use Rattle.std.specs.List.{list_any}
-use Rattle.mt_terms.specs.Lists.{below}
 use Rattle.mt_terms.specs.Market.{Market, Pair, agent_of}
 use Rattle.mt_terms.specs.Matching.{Places, is_program, is_same_place, placed_ranks, ranks_by_program}
 use Rattle.mt_terms.specs.Stability.{has_own_option}

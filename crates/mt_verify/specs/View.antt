@@ -4,4 +4,4 @@ use Rattle.mt_verify.specs.declared.verifier.Verifier.{Verifier}
 
 -- the match that it judges, beside its market
 abbrev pub judged : Verifier → Judged
-judged v = record { market = v.roster.now.market; places = v.matched.now.places }
+judged v = record { registered = v.roster.now; places = v.matched.now.places }

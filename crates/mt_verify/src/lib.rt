@@ -17,7 +17,6 @@ mod verifier;
 
 pub use crate::prospect::Prospect;
 pub use crate::tables::MatchTables;
-use crate::verifier::Verifier;
 use mt_market::Roster;
 use mt_ranks::Ranks;
 use mt_terms::Match;
@@ -44,6 +43,7 @@ pub fn verify<R: Threads + Sync>(
     ensures verdict { IfOk result (λ v. v ≡ verdict_of roster.now.market matched.now.places) }
     ensures stable { IfOk result (TellsStable roster.now.market matched.now.places) }
 {
-    let verifier = Verifier::new(rt, alloc, roster, ranks, matched)?;
-    Ok(verifier.verdict(rt))
+    roster.is_of_a_file();
+    let tables = MatchTables::new(rt, alloc, roster, ranks, matched)?;
+    Ok(tables.verdict(rt))
 }

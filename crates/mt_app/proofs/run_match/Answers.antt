@@ -1,4 +1,7 @@
 use Rattle.mt_app.proofs.run_match.Goals as goal
 
 pub returns : goal.returns
-returns g c = rw c.new-tap.ensures.reader at c.run_tap.ensures
+returns g c = record {
+  answers = rw c.new-tap.ensures.reader at c.run_in_ways.ensures.answers;
+  entering = rw c.new-tap.ensures.reader at c.run_in_ways.ensures.entering;
+}

@@ -1,6 +1,6 @@
 //! The rank tables.
 use super::market::{agent_of, ranking, wishes};
-use mt_ranks::Live;
+use mt_ranks::PackedLive;
 use mt_roster::Roster;
 use mt_terms::{Agent, AppNo, ProgNo};
 
@@ -17,12 +17,13 @@ pub(crate) fn plain_rank(roster: &Roster, program: ProgNo, applicant: AppNo) -> 
 }
 
 /// Whether the live list is of those programs on the applicant's list that list it too, each with the plain rank.
-pub(crate) fn is_plain_live(roster: &Roster, live: &[Live], applicant: AppNo) -> bool {
+pub(crate) fn is_plain_live(roster: &Roster, live: &[PackedLive], applicant: AppNo) -> bool {
     let mut next = 0usize;
     for program in wishes(roster, applicant) {
         if let Some(rank) = plain_rank(roster, *program, applicant) {
             match live.get(next) {
-                Some(entry) if entry.program == *program && entry.rank == rank => {}
+                Some(entry)
+                    if entry.unpacked().program == *program && entry.unpacked().rank == rank => {}
                 _ => return false,
             }
             next = next.saturating_add(1);

@@ -38,5 +38,5 @@ named m programs applicants couples = record { market = m; names = record { prog
     ids line = fields_of (codes line)
 
 -- refused with this code, at this record, with this id
-abbrev pub refused : ℕ → ℕ → String → Result Registered Fault
+abbrev pub refused : {X : Type 0} → ℕ → ℕ → String → Result X Fault
 refused code row id = Err (record { code = code; row = row; id = codes id })

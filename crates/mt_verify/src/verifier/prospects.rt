@@ -11,10 +11,10 @@ use mt_terms::{AppNo, ProgNo};
 impl Verifier<'_> {
     /// How a single would fare at a program that it is sent to, or none if the program doesn't list it.
     pub(crate) fn single_prospect(&self, applicant: AppNo, program: ProgNo) -> Option<Prospect>
-        requires applicant { applicant < applicants (judged self.now).market }
-        requires program { program < length (judged self.now).market.programs }
+        requires applicant { applicant < applicants (judged self.now).registered.market }
+        requires program { program < length (judged self.now).registered.market.programs }
         ensures { let j = judged self.now in
-            result ≡ prospect j.market (send (single_placement applicant program) j.places) program applicant }
+            result ≡ prospect j.registered.market (send (single_placement applicant program) j.places) program applicant }
     {
         let rank = self.rank(program, applicant)?;
         let ahead = self.count_above(program, rank) as u32;
@@ -30,12 +30,12 @@ impl Verifier<'_> {
         partner: AppNo,
         partner_place: Option<ProgNo>,
     ) -> Option<Prospect>
-        requires member { member < applicants (judged self.now).market }
-        requires program { program < length (judged self.now).market.programs }
-        requires partner { partner < applicants (judged self.now).market }
+        requires member { member < applicants (judged self.now).registered.market }
+        requires program { program < length (judged self.now).registered.market.programs }
+        requires partner { partner < applicants (judged self.now).registered.market }
         requires apart { member ≢ partner }
         ensures { let j = judged self.now in let sent = couple_placement member partner (Some program, partner_place) in
-            result ≡ prospect j.market (send sent j.places) program member }
+            result ≡ prospect j.registered.market (send sent j.places) program member }
     {
         let rank = self.rank(program, member)?;
         let ahead = self.count_above_moved(program, rank, partner, partner_place) as u32;

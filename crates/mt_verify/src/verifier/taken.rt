@@ -12,7 +12,7 @@ use mt_terms::{AppNo, ProgNo};
 impl Verifier<'_> {
     /// How many of those placed at the program are above a rank on its list.
     pub(super) fn count_above(&self, program: ProgNo, rank: u32) -> usize
-        requires { program < length (judged self.now).market.programs }
+        requires { program < length (judged self.now).registered.market.programs }
         ensures { result ≡ count_above (judged self.now) program rank }
     {
         count_below(self.placed_at(program), rank)
@@ -20,8 +20,8 @@ impl Verifier<'_> {
 
     /// Whether the applicant is above a rank on the program's list.
     fn is_above(&self, program: ProgNo, applicant: AppNo, rank: u32) -> bool
-        requires program { program < length (judged self.now).market.programs }
-        requires applicant { applicant < applicants (judged self.now).market }
+        requires program { program < length (judged self.now).registered.market.programs }
+        requires applicant { applicant < applicants (judged self.now).registered.market }
         ensures { result ≡ has (front (judged self.now) program rank) applicant }
     {
         match self.rank(program, applicant) {
@@ -38,8 +38,8 @@ impl Verifier<'_> {
         applicant: AppNo,
         place: Option<ProgNo>,
     ) -> usize
-        requires program { program < length (judged self.now).market.programs }
-        requires applicant { applicant < applicants (judged self.now).market }
+        requires program { program < length (judged self.now).registered.market.programs }
+        requires applicant { applicant < applicants (judged self.now).registered.market }
         ensures { result ≡ count_above_moved (judged self.now) program rank applicant place }
     {
         let there = self.count_above(program, rank);
@@ -53,7 +53,7 @@ impl Verifier<'_> {
 
     /// Whether fewer of those placed at the program than its quota are above a rank on its list.
     pub(super) fn has_post(&self, program: ProgNo, rank: u32) -> bool
-        requires { program < length (judged self.now).market.programs }
+        requires { program < length (judged self.now).registered.market.programs }
         ensures { result ≡ has_post (judged self.now) program rank }
     {
         are_fewer_below(self.placed_at(program), rank, self.roster.quota(program))
@@ -68,8 +68,8 @@ impl Verifier<'_> {
         partner: AppNo,
         partner_place: Option<ProgNo>,
     ) -> bool
-        requires member { member < applicants (judged self.now).market }
-        requires partner { partner < applicants (judged self.now).market }
+        requires member { member < applicants (judged self.now).registered.market }
+        requires partner { partner < applicants (judged self.now).registered.market }
         requires apart { member ≢ partner }
         requires place { IsTrue (is_known (judged self.now) place) }
         ensures { result ≡ takes_member (judged self.now) member place partner partner_place }
@@ -93,10 +93,10 @@ impl Verifier<'_> {
         second: AppNo,
         pair: (Option<ProgNo>, Option<ProgNo>),
     ) -> bool
-        requires first { first < applicants (judged self.now).market }
-        requires second { second < applicants (judged self.now).market }
+        requires first { first < applicants (judged self.now).registered.market }
+        requires second { second < applicants (judged self.now).registered.market }
         requires apart { first ≢ second }
-        requires pair { IsTrue (is_pair_below (length (judged self.now).market.programs) pair) }
+        requires pair { IsTrue (is_pair_below (length (judged self.now).registered.market.programs) pair) }
         ensures { result ≡ takes_pair (judged self.now) first second pair }
     {
         self.takes_member(first, pair.0, second, pair.1)

@@ -1,6 +1,6 @@
 use Rattle.std.proofs.Common.{◌≡◌, None, arith, refl, subst}
 use Rattle.mt_terms.specs.Rounds.{stage}
-use Rattle.mt_couples.specs.Ended.{IfSpent}
+use Rattle.mt_entry.specs.Ended.{IfSpent}
 use Rattle.mt_round_laws.proofs.RoundsStage.{singles_fit}
 use Rattle.mt_answer.proofs.RefusalFacts.{no_memory}
 use Rattle.mt_answer.proofs.answer.with_couples.Goals as goal

@@ -1,5 +1,5 @@
 use Rattle.std.proofs.Common.{ap, length, arith, subst}
-use Rattle.mt_couples.specs.Ended.{IfSpent, IsSpent}
+use Rattle.mt_entry.specs.Ended.{IfSpent, IsSpent}
 use Rattle.mt_terms.specs.Best.{proposals}
 use Rattle.mt_terms.proofs.BelowFacts.{length-map_below}
 use Rattle.mt_answer.proofs.InWaysFacts.{entering_within}

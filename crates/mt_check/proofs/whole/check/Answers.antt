@@ -1,54 +1,31 @@
-use Rattle.std.proofs.Common.{◌≡◌, ℕ, List, ◌∙◌, ap, refl, arith}
+use Rattle.std.proofs.Common.{arith}
 use Rattle.mt_lists.specs.Tap.{bytes_left}
 use Rattle.mt_files.proofs.BothFacts.{none_failed}
-use Rattle.mt_files.proofs.NameFacts.{codes_large}
-use Rattle.mt_files.specs.declared.refused_file.Refused.{Refused}
-use Rattle.mt_check.specs.Text.{refused_line}
-use Rattle.mt_check.proofs.AnswerFacts.{judged_left, refused_answer}
+use Rattle.mt_files.proofs.FileFacts.{match_turn, memory_refused}
+use Rattle.mt_files.specs.declared.source.Source.TheVariants.{Match}
+use Rattle.mt_check.proofs.AnswerFacts.{answers_found, answers_refused, found_code}
 use Rattle.mt_check.proofs.whole.check.Goals as goal
 
-pub returns-in-Ok-clause-answers : goal.returns-in-Ok-clause-answers
-returns-in-Ok-clause-answers g c =
-    let small = c.in-Ok.ensures.code in
-    rw c.end.ensures.code (record {
-      text = c.in-Ok.found.text.items;
-      is_written = rw c.deref.ensures.value at c.end.ensures.written;
-      says = record {
-        judged = λ few.
-            judged_left (bytes_left g.R.Read.remaining c.args.market.now) (bytes_left g.S.Read.remaining c.args.matched.now) c.in-Ok.found.code c.in-Ok.found.text.items few
-            c.in-Ok.ensures.found;
-        refusal = λ large. absurd (omega arith);
-        in_turn = λ large. absurd (omega arith);
-        answer = λ m r. c.in-Ok.ensures.found;
-      };
-    })
+pub returns-in-Ok-judged-clause-answers : goal.returns-in-Ok-judged-clause-answers
+returns-in-Ok-judged-clause-answers g c =
+    answers_found _ _ _ _ _ c.end.result.code c.end.result.written c.end.result.whole c.in-Ok.files c.in-Ok.ensures.files c.in-Ok-judged.found c.in-Ok-judged.ensures
+    c.end.ensures.code _ c.deref.ensures.value c.end.ensures.written
 
-pub returns-in-Ok-clause-fault : goal.returns-in-Ok-clause-fault
-returns-in-Ok-clause-fault g c =
-    let small = c.in-Ok.ensures.code in
+pub returns-in-Ok-judged-clause-fault : goal.returns-in-Ok-judged-clause-fault
+returns-in-Ok-judged-clause-fault g c =
+    let small = found_code c.in-Ok.files.roster c.in-Ok.files.submitted c.in-Ok-judged.found c.in-Ok-judged.ensures in
     let code = c.end.ensures.code in
     none_failed _ c.in-Ok.ensures.fault (λ e. omega arith)
 
-pub returns-in-Err-clause-fault : goal.returns-in-Err-clause-fault
-returns-in-Err-clause-fault g c = rw c.end-in-Err.ensures.code c.in-Err.ensures.fault
+pub returns-in-Ok-clause-answers : goal.returns-in-Ok-clause-answers
+returns-in-Ok-clause-answers g c =
+    let market = bytes_left g.R.Read.remaining c.args.market.now in
+    let matched = bytes_left g.S.Read.remaining c.args.matched.now in
+    answers_refused market matched _ _ _ c.refuse.result.code c.refuse.result.written c.refuse.result.whole (record { source = Match; refusal = c.alone.result })
+    (memory_refused market matched c.alone.result c.alone.ensures.code c.alone.ensures.row c.alone.ensures.id) (match_turn market matched c.in-Ok.files c.in-Ok.ensures.files 0)
+    c.refuse.ensures.code c.refuse.ensures.written
 
-line_is : (e : Refused) (written line id : List ℕ) → written ≡ line → line ≡ refused_line e.source e.refusal.code e.refusal.row id → id ≡ e.refusal.id
-    → written ≡ refused_line e.source e.refusal.code e.refusal.row e.refusal.id
-line_is e written line id p q r = p ∙ q ∙ ap (refused_line e.source e.refusal.code e.refusal.row) r
-
-pub returns-in-Err-clause-answers : goal.returns-in-Err-clause-answers
-returns-in-Err-clause-answers g c =
-    let e = c.in-Err.field-0 in
-    let refused = c.in-Err.ensures.refused in
-    let large = codes_large e.source e.refusal.code refused.named.known in
-    let line = line_is e _ _ _ c.as_bytes-in-Err.ensures c.refused-line.ensures c.as_bytes.ensures.bytes in
-    rw c.end-in-Err.ensures.code (record {
-      text = refused_line e.source e.refusal.code e.refusal.row e.refusal.id;
-      is_written = rw line at c.end-in-Err.ensures.written;
-      says = record {
-        judged = λ small. absurd (omega arith);
-        refusal = λ _. record { file = e.source; row = e.refusal.row; id = e.refusal.id; named = refused.named; line = refl };
-        in_turn = λ _. c.in-Err.ensures.in_turn;
-        answer = λ m r. refused_answer (bytes_left g.R.Read.remaining c.args.market.now) (bytes_left g.S.Read.remaining c.args.matched.now) e (refused.fault m r);
-      };
-    })
+pub returns-clause-answers : goal.returns-clause-answers
+returns-clause-answers g c =
+    answers_refused _ _ _ _ _ c.refuse-in-Err.result.code c.refuse-in-Err.result.written c.refuse-in-Err.result.whole c.in-Err.field-0 c.in-Err.ensures.refused c.in-Err.ensures.in_turn
+    c.refuse-in-Err.ensures.code c.refuse-in-Err.ensures.written

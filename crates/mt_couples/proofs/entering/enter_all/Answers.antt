@@ -6,10 +6,10 @@ use Rattle.mt_terms.specs.Rounds.{after_rounds, stage as stage_of}
 use Rattle.mt_terms.specs.declared.numbers.Agent.TheVariants.{Couple}
 use Rattle.mt_round_laws.proofs.RoundsStage.{stage_is_stable_lem}
 use Rattle.mt_assignment.specs.Assigned.{Assigned}
-use Rattle.mt_couples.specs.Ended.{IfSpent, IsSpent}
-use Rattle.mt_couples.specs.declared.rounds.CoupleEnd.{CoupleEnd}
-use Rattle.mt_couples.specs.declared.rounds.CoupleEnd.TheVariants.{BudgetSpent, Memory}
-use Rattle.mt_couples.specs.declared.rounds.Spent.{Spent}
+use Rattle.mt_entry.specs.Ended.{IfSpent, IsSpent}
+use Rattle.mt_entry.specs.declared.ends.CoupleEnd.{CoupleEnd}
+use Rattle.mt_entry.specs.declared.ends.CoupleEnd.TheVariants.{BudgetSpent, Memory}
+use Rattle.mt_entry.specs.declared.ends.Spent.{Spent}
 use Rattle.mt_couples.proofs.EnteringFacts.{entering_all, entering_ends, entering_endless, entering_first, entering_more, entering_spent, leading_first, leading_more, none_enters, IsEntering, IsLeading}
 use Rattle.mt_couples.proofs.entering.enter_all.Goals as goal
 

@@ -8,10 +8,11 @@ use Rattle.mt_terms.specs.Stability.{fits}
 use Rattle.mt_terms.specs.Rounds.{after_entries, after_rounds}
 use Rattle.mt_terms.specs.declared.numbers.Agent.TheVariants.{Couple}
 use Rattle.mt_assignment.specs.Assigned.{Assigned}
-use Rattle.mt_couples.specs.Ended.{IfSpent, IsSpentEntering}
-use Rattle.mt_couples.specs.declared.rounds.CoupleEnd.{CoupleEnd}
-use Rattle.mt_couples.specs.declared.rounds.CoupleEnd.TheVariants.{BudgetSpent}
-use Rattle.mt_couples.specs.declared.rounds.Spent.{Spent}
+use Rattle.mt_entry.specs.Ended.{IfSpent}
+use Rattle.mt_couples.specs.Ended.{IsSpentEntering}
+use Rattle.mt_entry.specs.declared.ends.CoupleEnd.{CoupleEnd}
+use Rattle.mt_entry.specs.declared.ends.CoupleEnd.TheVariants.{BudgetSpent}
+use Rattle.mt_entry.specs.declared.ends.Spent.{Spent}
 use Rattle.mt_couples.specs.declared.rounds.Stage.{Stage}
 use Rattle.mt_couples.proofs.EnteringFacts.{entering_first, entering_more, IsEntering}
 use Rattle.mt_couples.proofs.entering.enter_from.Goals as goal

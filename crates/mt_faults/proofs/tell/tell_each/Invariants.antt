@@ -8,5 +8,5 @@ use Rattle.mt_faults.proofs.tell.tell_each.Given as goal
 abbrev pub invariant-loop-field : goal.invariant-loop-field
 invariant-loop-field g l =
     SoFar g.S.FaultSink.takes g.S.FaultSink.told g.S.FaultSink.stopped l.fn.sink l.sink
-    (at_record l.number (flat_map (tested l.wrong l.rules) (placed_left l.field-iterator)))
-    (at_record l.number (flat_map (tested l.wrong l.rules) (placed_left l.fn.fields)))
+    (at_record l.number (flat_map (tested l.test.wrong l.rules) (placed_left l.field-iterator)))
+    (at_record l.number (flat_map (tested l.test.wrong l.rules) (placed_left l.fn.test.fields)))

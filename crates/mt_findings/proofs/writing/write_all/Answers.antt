@@ -30,7 +30,7 @@ room start n none few = omega arith
 
 pub returns-in_err-write_unlisted-clause-given : goal.returns-in_err-write_unlisted-clause-given
 returns-in_err-write_unlisted-clause-given g c =
-    let r = c.args.explainer.now.registered in
+    let r = c.args.tables.now.registered in
     let places = c.args.submitted.now.places in
     given_broken g.W.Write.contents r c.from_residual.result _ _ _ _ _ _ (findings r.market c.args.submitted.now) c.from_residual.ensures.1 c.requires.page
     (failed_more g.W.Write.contents r _ _ _ _ (unlisted r.market places) _
@@ -38,7 +38,7 @@ returns-in_err-write_unlisted-clause-given g c =
 
 pub returns-in_err-write_over-clause-given : goal.returns-in_err-write_over-clause-given
 returns-in_err-write_over-clause-given g c =
-    let r = c.args.explainer.now.registered in
+    let r = c.args.tables.now.registered in
     let m = r.market in
     let s = c.args.submitted.now in
     let one = wrote_as g.W.Write.contents _ r refl _ _ _ _ _ (unlisted m s.places) (ap (unlisted m) (sym c.requires.places)) c.in_ok-write_unlisted.ensures.wrote in
@@ -48,7 +48,7 @@ returns-in_err-write_over-clause-given g c =
 
 pub returns-in_err-write_blocking-clause-given : goal.returns-in_err-write_blocking-clause-given
 returns-in_err-write_blocking-clause-given g c =
-    let r = c.args.explainer.now.registered in
+    let r = c.args.tables.now.registered in
     let m = r.market in
     let s = c.args.submitted.now in
     let one = wrote_as g.W.Write.contents _ r refl _ _ _ _ _ (unlisted m s.places) (ap (unlisted m) (sym c.requires.places)) c.in_ok-write_unlisted.ensures.wrote in
@@ -62,7 +62,7 @@ returns-in_err-write_blocking-clause-given g c =
 
 pub returns-in_err-write_differing-clause-given : goal.returns-in_err-write_differing-clause-given
 returns-in_err-write_differing-clause-given g c =
-    let r = c.args.explainer.now.registered in
+    let r = c.args.tables.now.registered in
     let m = r.market in
     let s = c.args.submitted.now in
     let one = wrote_as g.W.Write.contents _ r refl _ _ _ _ _ (unlisted m s.places) (ap (unlisted m) (sym c.requires.places)) c.in_ok-write_unlisted.ensures.wrote in
@@ -80,7 +80,7 @@ returns-in_err-write_differing-clause-given g c =
 
 pub write_over-requires-clause-count : goal.write_over-requires-clause-count
 write_over-requires-clause-count g c =
-    let r = c.args.explainer.now.registered in
+    let r = c.args.tables.now.registered in
     let m = r.market in
     let s = c.args.submitted.now in
     let one = wrote_as g.W.Write.contents _ r refl _ _ _ _ _ (unlisted m s.places) (ap (unlisted m) (sym c.requires.places)) c.in_ok-write_unlisted.ensures.wrote in
@@ -92,12 +92,12 @@ write_over-requires-clause-count g c =
 
 pub write_blocking-requires-clause-agents : goal.write_blocking-requires-clause-agents
 write_blocking-requires-clause-agents g c =
-    let r = c.args.explainer.now.registered in
+    let r = c.args.tables.now.registered in
     subst (λ (gs : List Agent). All (IsAgentOf r.market) gs) (sym c.requires.agents) (asked_numbered r (subst IsRegistration c.roster-roster.ensures c.is_of_a_file.ensures) [])
 
 pub write_blocking-requires-clause-count : goal.write_blocking-requires-clause-count
 write_blocking-requires-clause-count g c =
-    let r = c.args.explainer.now.registered in
+    let r = c.args.tables.now.registered in
     let m = r.market in
     let s = c.args.submitted.now in
     let one = wrote_as g.W.Write.contents _ r refl _ _ _ _ _ (unlisted m s.places) (ap (unlisted m) (sym c.requires.places)) c.in_ok-write_unlisted.ensures.wrote in
@@ -112,7 +112,7 @@ write_blocking-requires-clause-count g c =
 
 pub write_differing-requires-clause-count : goal.write_differing-requires-clause-count
 write_differing-requires-clause-count g c =
-    let r = c.args.explainer.now.registered in
+    let r = c.args.tables.now.registered in
     let m = r.market in
     let s = c.args.submitted.now in
     let one = wrote_as g.W.Write.contents _ r refl _ _ _ _ _ (unlisted m s.places) (ap (unlisted m) (sym c.requires.places)) c.in_ok-write_unlisted.ensures.wrote in
@@ -130,7 +130,7 @@ write_differing-requires-clause-count g c =
 
 pub returns-clause-given : goal.returns-clause-given
 returns-clause-given g c =
-    let r = c.args.explainer.now.registered in
+    let r = c.args.tables.now.registered in
     let m = r.market in
     let s = c.args.submitted.now in
     let one = wrote_as g.W.Write.contents _ r refl _ _ _ _ _ (unlisted m s.places) (ap (unlisted m) (sym c.requires.places)) c.in_ok-write_unlisted.ensures.wrote in

@@ -11,30 +11,30 @@ use Rattle.mt_findings.proofs.writing.write_blocking.Goals as goal
 
 pub write_blocking_by-requires-clause-agent : goal.write_blocking_by-requires-clause-agent
 write_blocking_by-requires-clause-agent g c =
-    let m = c.args.explainer.now.registered.market in
+    let m = c.args.tables.now.registered.market in
     subst (λ (agent : Agent). IsAgentOf m agent) (sym c.agent-item.is) (c.requires.agents c.loop-agent.agent-index c.agent-item.result c.loop-agent-test.true)
 
 pub write_blocking_by-requires-clause-count : goal.write_blocking_by-requires-clause-count
 write_blocking_by-requires-clause-count g c =
-    let e = c.args.explainer.now in
+    let e = c.args.tables.now in
     room_given (blocking_by e.registered.market e.places) c.args.agents.now c.loop-agent.agent-index c.agent-item.result c.loop-agent-test.true c.agent-item.is _ _
     c.loop-agent.invariant.counted c.requires.count
 
 pub returns-in_err-write_blocking_by-clause-failed : goal.returns-in_err-write_blocking_by-clause-failed
 returns-in_err-write_blocking_by-clause-failed g c =
-    let e = c.args.explainer.now in
+    let e = c.args.tables.now in
     on_err _
     (failed_given (blocking_by e.registered.market e.places) c.args.agents.now c.loop-agent.agent-index c.agent-item.result c.loop-agent-test.true c.agent-item.is
     g.W.Write.contents e.registered _ _ _ _ _ _ c.loop-agent.invariant c.in_err-write_blocking_by.ensures.failed)
 
 pub loop-agent-preserved : goal.loop-agent-preserved
 loop-agent-preserved g c =
-    let e = c.args.explainer.now in
+    let e = c.args.tables.now in
     wrote_given (blocking_by e.registered.market e.places) c.args.agents.now c.loop-agent.agent-index c.agent-item.result c.loop-agent-test.true c.agent-item.is
     g.W.Write.contents e.registered _ _ _ _ _ _ c.loop-agent.invariant c.in_ok-write_blocking_by.ensures.wrote
 
 pub returns-clause-wrote : goal.returns-clause-wrote
 returns-clause-wrote g c =
-    let e = c.args.explainer.now in
+    let e = c.args.tables.now in
     wrote_as g.W.Write.contents e.registered e.registered refl _ _ _ _ _ _
     (ap (flat_map (blocking_by e.registered.market e.places)) (take_all c.loop-agent.agent-index c.args.agents.now c.loop-agent-test.false)) c.loop-agent.invariant

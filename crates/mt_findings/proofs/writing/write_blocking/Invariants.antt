@@ -7,5 +7,5 @@ use Rattle.mt_findings.proofs.writing.write_blocking.Given as goal
 -- the lines of the agents so far
 abbrev pub invariant-loop-agent : goal.invariant-loop-agent
 invariant-loop-agent g l =
-    let r = l.explainer.registered in
-    Wrote g.W.Write.contents r l.fn.drain l.drain l.fn.lines l.lines (flat_map (blocking_by r.market l.explainer.places) (take l.agent-index l.agents))
+    let r = l.tables.registered in
+    Wrote g.W.Write.contents r l.fn.drain l.drain l.fn.lines l.lines (flat_map (blocking_by r.market l.tables.places) (take l.agent-index l.agents))

@@ -12,7 +12,7 @@ use Rattle.mt_findings.proofs.writing.write_blocking_by.Goals as goal
 
 pub write_if-requires-clause-there : goal.write_if-requires-clause-there
 write_if-requires-clause-there g c =
-    let e = c.args.explainer.now in
+    let e = c.args.tables.now in
     let agent = c.args.agent.now in
     omega (
       arith,
@@ -24,7 +24,7 @@ write_if-requires-clause-there g c =
 
 pub write_if-requires-clause-count : goal.write_if-requires-clause-count
 write_if-requires-clause-count g c =
-    let e = c.args.explainer.now in
+    let e = c.args.tables.now in
     let agent = c.args.agent.now in
     let i = c.loop-option.option in
     let n = length (better e.registered.market e.places agent) in
@@ -35,7 +35,7 @@ write_if-requires-clause-count g c =
 
 pub returns-in_err-write_if-clause-failed : goal.returns-in_err-write_if-clause-failed
 returns-in_err-write_if-clause-failed g c =
-    let e = c.args.explainer.now in
+    let e = c.args.tables.now in
     let agent = c.args.agent.now in
     let i = c.loop-option.option in
     let n = length (better e.registered.market e.places agent) in
@@ -47,7 +47,7 @@ returns-in_err-write_if-clause-failed g c =
 
 pub loop-option-preserved : goal.loop-option-preserved
 loop-option-preserved g c =
-    let e = c.args.explainer.now in
+    let e = c.args.tables.now in
     let agent = c.args.agent.now in
     let i = c.loop-option.option in
     let n = length (better e.registered.market e.places agent) in
@@ -58,6 +58,6 @@ loop-option-preserved g c =
 
 pub returns-clause-wrote : goal.returns-clause-wrote
 returns-clause-wrote g c =
-    let e = c.args.explainer.now in
+    let e = c.args.tables.now in
     let n = length (better e.registered.market e.places c.args.agent.now) in
     rw (← below_taken n c.loop-option.option (omega (arith, c.loop-option-test.false, c.better_options-option-end.ensures))) c.loop-option.invariant

@@ -10,6 +10,6 @@ use Rattle.mt_findings.proofs.writing.write_blocking_by.Given as goal
 -- the lines of the options so far
 abbrev pub invariant-loop-option : goal.invariant-loop-option
 invariant-loop-option g l =
-    let r = l.explainer.registered in
+    let r = l.tables.registered in
     Wrote g.W.Write.contents r l.fn.drain l.drain l.fn.lines l.lines
-    (map (λ k. Of (Blocks (record { agent = l.agent; option = k }))) (filter (is_taken r.market l.explainer.places l.agent) (take l.option (below (length (better r.market l.explainer.places l.agent))))))
+    (map (λ k. Of (Blocks (record { agent = l.agent; option = k }))) (filter (is_taken r.market l.tables.places l.agent) (take l.option (below (length (better r.market l.tables.places l.agent))))))

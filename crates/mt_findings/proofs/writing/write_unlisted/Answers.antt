@@ -10,7 +10,7 @@ use Rattle.mt_findings.proofs.writing.write_unlisted.Goals as goal
 
 pub write_if-requires-clause-count : goal.write_if-requires-clause-count
 write_if-requires-clause-count g c =
-    let e = c.args.explainer.now in
+    let e = c.args.tables.now in
     let i = c.loop-number.number in
     let n = applicants e.registered.market in
     let below_n : i < n = omega (arith, c.loop-number-test.true, c.applicants-number-end.ensures.count, ap (λ (r : Registered). applicants r.market) c.roster-roster.ensures) in
@@ -19,7 +19,7 @@ write_if-requires-clause-count g c =
 
 pub returns-in_err-write_if-clause-failed : goal.returns-in_err-write_if-clause-failed
 returns-in_err-write_if-clause-failed g c =
-    let e = c.args.explainer.now in
+    let e = c.args.tables.now in
     let i = c.loop-number.number in
     let n = applicants e.registered.market in
     let below_n : i < n = omega (arith, c.loop-number-test.true, c.applicants-number-end.ensures.count, ap (λ (r : Registered). applicants r.market) c.roster-roster.ensures) in
@@ -30,7 +30,7 @@ returns-in_err-write_if-clause-failed g c =
 
 pub loop-number-preserved : goal.loop-number-preserved
 loop-number-preserved g c =
-    let e = c.args.explainer.now in
+    let e = c.args.tables.now in
     let i = c.loop-number.number in
     let n = applicants e.registered.market in
     let below_n : i < n = omega (arith, c.loop-number-test.true, c.applicants-number-end.ensures.count, ap (λ (r : Registered). applicants r.market) c.roster-roster.ensures) in
@@ -40,6 +40,6 @@ loop-number-preserved g c =
 
 pub returns-clause-wrote : goal.returns-clause-wrote
 returns-clause-wrote g c =
-    let n = applicants c.args.explainer.now.registered.market in
+    let n = applicants c.args.tables.now.registered.market in
     rw (← below_taken n c.loop-number.number (omega (arith, c.loop-number-test.false, c.applicants-number-end.ensures.count, ap (λ (r : Registered). applicants r.market) c.roster-roster.ensures)))
     c.loop-number.invariant

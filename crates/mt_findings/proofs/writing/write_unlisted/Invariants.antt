@@ -10,5 +10,5 @@ use Rattle.mt_findings.proofs.writing.write_unlisted.Given as goal
 -- the lines of the applicants so far
 abbrev pub invariant-loop-number : goal.invariant-loop-number
 invariant-loop-number g l =
-    let r = l.explainer.registered in
-    Wrote g.W.Write.contents r l.fn.drain l.drain l.fn.lines l.lines (map (λ a. Of (Unlisted a)) (filter (is_unlisted r.market l.explainer.places) (take l.number (below (applicants r.market)))))
+    let r = l.tables.registered in
+    Wrote g.W.Write.contents r l.fn.drain l.drain l.fn.lines l.lines (map (λ a. Of (Unlisted a)) (filter (is_unlisted r.market l.tables.places) (take l.number (below (applicants r.market)))))

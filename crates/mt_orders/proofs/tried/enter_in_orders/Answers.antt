@@ -7,10 +7,13 @@ use Rattle.mt_orders.specs.Tried.{IsFirstEnd}
 use Rattle.mt_orders.proofs.TriedFacts.{first_is_stable, no_first, other_first, registration_first, spent_is}
 use Rattle.mt_orders.proofs.tried.enter_in_orders.Goals as goal
 
-pub enter_all-requires-clause-fits : goal.enter_all-requires-clause-fits
-enter_all-requires-clause-fits g c κs within =
+pub enter_all-requires-clause-market : goal.enter_all-requires-clause-market
+enter_all-requires-clause-market g c =
     let m = c.args.roster.now.market in
-    ap (fits m) c.in_ok-first.ensures ∙ singles_fit m c.is_of_a_file.ensures.well_formed c.args.singles.now.places c.requires.best.is_stable
+    record {
+      ranks = c.requires.ranks;
+      fitting = ap (fits m) c.in_ok-first.ensures ∙ singles_fit m c.is_of_a_file.ensures.well_formed c.args.singles.now.places c.requires.best.is_stable;
+    }
 
 pub returns-in-Ok-clause-first : goal.returns-in-Ok-clause-first
 returns-in-Ok-clause-first g c =

@@ -30,34 +30,29 @@ reordered-requires g c =
     let o = order_of_turn m c.deref.result.now c.turns.aside.items t.some (c.deref.ensures.value ∙ t.order_is) in
     order_of_some m [] c.deref.result.now o
 
-pub enter_from-requires-clause-ranks : goal.enter_from-requires-clause-ranks
-enter_from-requires-clause-ranks g c κs within =
+pub enter_from-requires-clause-market : goal.enter_from-requires-clause-market
+enter_from-requires-clause-market g c =
     let m = c.args.roster.now.market in
-    let t = c.turns.invariant.turn in
-    let o = order_of_turn m c.deref.result.now c.turns.aside.items t.some (c.deref.ensures.value ∙ t.order_is) in
-    c.in_ok-ranks.ensures ∙ sym (ranks_in_any_order_lem m c.deref.result.now c.is_of_a_file.ensures.well_formed o)
-    ∙ ap (λ (r : Registered). ranked_of r.market) (sym c.in_ok-market.ensures)
-
-pub enter_from-requires-clause-fits : goal.enter_from-requires-clause-fits
-enter_from-requires-clause-fits g c κs within =
-    let m = c.args.roster.now.market in
+    let wf = c.is_of_a_file.ensures.well_formed in
     let t = c.turns.invariant.turn in
     let o = order_of_turn m c.deref.result.now c.turns.aside.items t.some (c.deref.ensures.value ∙ t.order_is) in
     let places = c.turns.reached.matched.places in
-    ap (λ (r : Registered). fits r.market places) c.in_ok-market.ensures
-    ∙ fits_in_turn m c.is_of_a_file.ensures.well_formed c.deref.result.now o places ∙ t.fitting
+    record {
+      ranks = c.in_ok-ranks.ensures ∙ sym (ranks_in_any_order_lem m c.deref.result.now wf o) ∙ ap (λ (r : Registered). ranked_of r.market) (sym c.in_ok-market.ensures);
+      fitting = ap (λ (r : Registered). fits r.market places) c.in_ok-market.ensures ∙ fits_in_turn m wf c.deref.result.now o places ∙ t.fitting;
+    }
 
 pub overflow_sub-others : goal.overflow_sub-others
 overflow_sub-others g c =
     omega (arith, others_many c.args.roster.now.market c.turns.order.items c.turns.aside.items c.turns.invariant.turn.order_is)
 
 pub enter_from-requires-clause-order : goal.enter_from-requires-clause-order
-enter_from-requires-clause-order g c κs within =
+enter_from-requires-clause-order g c =
     let t = c.turns.invariant.turn in
     omega (arith, others_many c.args.roster.now.market c.turns.order.items c.turns.aside.items t.order_is, t.low)
 
 pub enter_from-requires-clause-couples : goal.enter_from-requires-clause-couples
-enter_from-requires-clause-couples g c κs within =
+enter_from-requires-clause-couples g c =
     let m = c.args.roster.now.market in
     omega (
       arith,

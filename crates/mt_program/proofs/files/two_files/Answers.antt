@@ -1,4 +1,4 @@
-use Rattle.std.proofs.Common.{◌≡◌, ◌∙◌, sym, ap, Some, None, inl, inr, codes, true}
+use Rattle.std.proofs.Common.{◌∙◌, sym, ap, Some, None, inl, inr, codes}
 use Rattle.std.proofs.lemmas.Bool.{and_parts}
 use Rattle.clap.specs.Words.{found_of, rows_of}
 use Rattle.mt_program.specs.CommandLine.{NameNoFilesIn, is_standard}

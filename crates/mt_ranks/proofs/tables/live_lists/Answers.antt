@@ -5,7 +5,7 @@ use Rattle.mt_terms.specs.Market.{list_of}
 use Rattle.mt_ranks.specs.Entries.{entries_among}
 use Rattle.mt_ranks.specs.Rows.{row_of}
 use Rattle.mt_ranks.specs.declared.entries.Live.{Live}
-use Rattle.mt_ranks.proofs.StampFacts.{never_stamped}
+use Rattle.mt_ranks.proofs.StampFacts.{never_stamped, never_long}
 use Rattle.mt_ranks.proofs.tables.live_lists.Goals as goal
 
 pub loop-place-init : goal.loop-place-init
@@ -13,6 +13,7 @@ loop-place-init c = record {
   listed = c.in_ok-lists.ensures;
   len = omega (arith, c.in_ok-stamps.ensures.len, c.in_ok-stamps.stamps.ok, c.programs.ensures.count);
   before = never_stamped c.in_ok-stamps.stamps.items c.programs.result (c.in_ok-stamps.ensures.items_if_clones_equal (λ y e. e));
+  short = never_long c.in_ok-stamps.stamps.items c.programs.result (c.in_ok-stamps.ensures.items_if_clones_equal (λ y e. e));
 }
 
 pub push_live-requires-clause-entries : goal.push_live-requires-clause-entries
@@ -27,6 +28,9 @@ push_live-requires-clause-list c p listed =
 pub push_live-requires-clause-earlier : goal.push_live-requires-clause-earlier
 push_live-requires-clause-earlier c = rw c.deref_mut.ensures.value c.loop-place.invariant.before
 
+pub push_live-requires-clause-short : goal.push_live-requires-clause-short
+push_live-requires-clause-short c = rw c.deref_mut.ensures.value c.loop-place.invariant.short
+
 pub loop-place-preserved : goal.loop-place-preserved
 loop-place-preserved c =
     let own : ℕ → List Live = λ k. entries_among (row_of c.args.rows.now k) (list_of c.args.roster.now.market (c.args.block.first + k)) in
@@ -39,4 +43,5 @@ loop-place-preserved c =
           ∙ sym (map-range_with_len_more own 0 c.loop-place.place c.loop-place.place (omega arith));
       len = rw written (same ∙ c.loop-place.invariant.len);
       before = rw written c.in_ok-push_live.ensures.before;
+      short = rw written c.in_ok-push_live.ensures.short;
     }

@@ -18,7 +18,8 @@ loop-rank-preserved c = elim c.match-place.branch [
   | in-Some w ↦
       let inside = w.in-Some.ensures.inside in
       let entry : Live = record { program = c.args.program; rank = c.loop-rank.rank } in
-      let filled : c.match-place.rows ≡ with_entry c.loop-rank.rows w.in-Some.place entry = w.rows-is ∙ w.push.ensures in
+      let filled : c.match-place.rows ≡ with_entry c.loop-rank.rows w.in-Some.place entry =
+      w.rows-is ∙ w.push.ensures ∙ ap (with_entry c.loop-rank.rows w.in-Some.place) w.of.ensures in
       record {
         len = omega (arith, ap (λ (f : Filling). length f.lists) filled, length-set c.loop-rank.rows.lists w.in-Some.place (row_of c.loop-rank.rows w.in-Some.place ++ entry ∷ []), c.loop-rank.invariant.len);
         sizes = ap (λ (f : Filling). f.sizes) filled ∙ c.loop-rank.invariant.sizes;

@@ -28,6 +28,9 @@ add_ranking-requires-clause-room c k w =
     (entered_room c.args.block.first c.loop-program.rows (rankings_of m) c.loop-program.program k c.args.block.size c.loop-program.invariant.entered c.loop-program.invariant.sizes
     (omega (arith, length-map m.programs Program.ranking)) c.loop-program.invariant.len w)
 
+pub add_ranking-requires-clause-program : goal.add_ranking-requires-clause-program
+add_ranking-requires-clause-program c = omega (arith, c.programs-program-end.ensures.registration.few_programs, c.programs-program-end.ensures.count)
+
 pub add_ranking-requires-clause-short : goal.add_ranking-requires-clause-short
 add_ranking-requires-clause-short c =
     let m = c.args.roster.now.market in

@@ -1,51 +1,57 @@
-use Rattle.std.proofs.Common.{◌≡◌, ℕ, List, ◌∙◌, ap, refl, arith}
+use Rattle.std.proofs.Common.{◌∙◌, arith}
 use Rattle.mt_lists.specs.Tap.{bytes_left}
-use Rattle.mt_files.proofs.NameFacts.{codes_large}
-use Rattle.mt_files.specs.declared.refused_file.Refused.{Refused}
-use Rattle.mt_reported.specs.Text.{refused_line}
 use Rattle.mt_files.proofs.BothFacts.{none_failed}
-use Rattle.mt_reported.proofs.AnswerFacts.{refused_answer, reported_left}
+use Rattle.mt_files.proofs.FileFacts.{match_turn, memory_refused}
+use Rattle.mt_files.specs.declared.source.Source.TheVariants.{Match}
+use Rattle.mt_reported.proofs.AnswerFacts.{answers_refused, answers_reported}
 use Rattle.mt_reported.proofs.whole.report.Goals as goal
+
+pub returns-in-Ok-text_of-clause-answers : goal.returns-in-Ok-text_of-clause-answers
+returns-in-Ok-text_of-clause-answers g c =
+    answers_reported c.args.form _ _ _ _ _ c.end.result.code c.end.result.written c.end.result.whole c.in-Ok.files c.in-Ok.ensures.files c.end.ensures.code _
+    (c.deref.ensures.value ∙ c.in-Ok-text_of.ensures) c.end.ensures.written
+
+pub returns-in-Ok-text_of-clause-uses : goal.returns-in-Ok-text_of-clause-uses
+returns-in-Ok-text_of-clause-uses g c =
+    let code = c.end.ensures.code in
+    record {
+      market_taken = c.in-Ok.ensures.market_tap;
+      match_taken = c.in-Ok.ensures.match_tap;
+      fault = none_failed _ c.in-Ok.ensures.fault (λ e. omega arith);
+      writer = c.end.ensures.failures;
+      flushed = c.end.ensures.flushed;
+    }
 
 pub returns-in-Ok-clause-answers : goal.returns-in-Ok-clause-answers
 returns-in-Ok-clause-answers g c =
-    rw c.end.ensures.code (record {
-      text = c.in-Ok.text.items;
-      is_written = rw c.deref.ensures.value at c.end.ensures.written;
-      says = record {
-        reported = λ none.
-            reported_left c.args.form (bytes_left g.R.Read.remaining c.args.market.now) (bytes_left g.S.Read.remaining c.args.matched.now) c.in-Ok.text.items c.in-Ok.ensures.text;
-        refusal = λ other. absurd (other refl);
-        in_turn = λ other. absurd (other refl);
-        answer = λ m r. c.in-Ok.ensures.text;
-      };
-    })
+    let market = bytes_left g.R.Read.remaining c.args.market.now in
+    let matched = bytes_left g.S.Read.remaining c.args.matched.now in
+    answers_refused c.args.form market matched _ _ _ c.refuse.result.code c.refuse.result.written c.refuse.result.whole (record { source = Match; refusal = c.alone.result })
+    (memory_refused market matched c.alone.result c.alone.ensures.code c.alone.ensures.row c.alone.ensures.id) (match_turn market matched c.in-Ok.files c.in-Ok.ensures.files 0)
+    c.refuse.ensures.code c.refuse.ensures.written
 
-pub returns-in-Ok-clause-fault : goal.returns-in-Ok-clause-fault
-returns-in-Ok-clause-fault g c =
-    let code = c.end.ensures.code in
-    none_failed _ c.in-Ok.ensures.fault (λ e. omega arith)
+pub returns-in-Ok-clause-uses : goal.returns-in-Ok-clause-uses
+returns-in-Ok-clause-uses g c =
+    let memory = c.alone.ensures.code in
+    let code = c.refuse.ensures.code in
+    record {
+      market_taken = c.in-Ok.ensures.market_tap;
+      match_taken = c.in-Ok.ensures.match_tap;
+      fault = none_failed _ c.in-Ok.ensures.fault (λ e. omega arith);
+      writer = c.refuse.ensures.writer;
+      flushed = c.refuse.ensures.flushed;
+    }
 
-pub returns-in-Err-clause-fault : goal.returns-in-Err-clause-fault
-returns-in-Err-clause-fault g c = rw c.end-in-Err.ensures.code c.in-Err.ensures.fault
+pub returns-clause-answers : goal.returns-clause-answers
+returns-clause-answers g c =
+    answers_refused c.args.form _ _ _ _ _ c.refuse-in-Err.result.code c.refuse-in-Err.result.written c.refuse-in-Err.result.whole c.in-Err.field-0 c.in-Err.ensures.refused
+    c.in-Err.ensures.in_turn c.refuse-in-Err.ensures.code c.refuse-in-Err.ensures.written
 
-line_is : (e : Refused) (written line id : List ℕ) → written ≡ line → line ≡ refused_line e.source e.refusal.code e.refusal.row id → id ≡ e.refusal.id
-    → written ≡ refused_line e.source e.refusal.code e.refusal.row e.refusal.id
-line_is e written line id p q r = p ∙ q ∙ ap (refused_line e.source e.refusal.code e.refusal.row) r
-
-pub returns-in-Err-clause-answers : goal.returns-in-Err-clause-answers
-returns-in-Err-clause-answers g c =
-    let e = c.in-Err.field-0 in
-    let refused = c.in-Err.ensures.refused in
-    let large = codes_large e.source e.refusal.code refused.named.known in
-    let line = line_is e _ _ _ c.as_bytes-in-Err.ensures c.refused-line.ensures c.as_bytes.ensures.bytes in
-    rw c.end-in-Err.ensures.code (record {
-      text = refused_line e.source e.refusal.code e.refusal.row e.refusal.id;
-      is_written = rw line at c.end-in-Err.ensures.written;
-      says = record {
-        reported = λ none. absurd (omega arith);
-        refusal = λ _. record { file = e.source; row = e.refusal.row; id = e.refusal.id; named = refused.named; line = refl };
-        in_turn = λ _. c.in-Err.ensures.in_turn;
-        answer = λ m r. refused_answer c.args.form (bytes_left g.R.Read.remaining c.args.market.now) (bytes_left g.S.Read.remaining c.args.matched.now) e (refused.fault m r);
-      };
-    })
+pub returns-clause-uses : goal.returns-clause-uses
+returns-clause-uses g c = record {
+  market_taken = c.in-Err.ensures.market_tap;
+  match_taken = c.in-Err.ensures.match_tap;
+  fault = rw c.refuse-in-Err.ensures.code c.in-Err.ensures.fault;
+  writer = c.refuse-in-Err.ensures.writer;
+  flushed = c.refuse-in-Err.ensures.flushed;
+}

@@ -13,22 +13,22 @@ overflow_add-posts c =
     omega (
       arith,
       c.quota.type_inv,
-      c.leaving.ensures,
+      c.movers_ahead-leaving.ensures.leaving,
       count-le-length (leaves c.args.self.now.places c.args.program front) c.args.sent.now,
       c.requires.sent.few,
     )
 
 -- who is at the program once everybody is sent
 counted : (c : goal.After-has_fewer_ahead)
-    → count (at (send c.args.sent.now c.args.self.now.places) c.args.program) (take c.args.rank (program_of c.args.self.now.market c.args.program).ranking) + c.leaving.result
-    ≡ count (at c.args.self.now.places c.args.program) (take c.args.rank (program_of c.args.self.now.market c.args.program).ranking) + c.coming-coming.result
+    → count (at (send c.args.sent.now c.args.self.now.places) c.args.program) (take c.args.rank (program_of c.args.self.now.market c.args.program).ranking) + c.movers_ahead-leaving.result.0
+    ≡ count (at c.args.self.now.places c.args.program) (take c.args.rank (program_of c.args.self.now.market c.args.program).ranking) + c.movers_ahead-leaving.result.1
 counted c =
     let ranking = (program_of c.args.self.now.market c.args.program).ranking in
     let assigned = c.has_fewer_ahead.ensures.assigned in
     omega (
       arith,
-      c.coming-coming.ensures,
-      c.leaving.ensures,
+      c.movers_ahead-leaving.ensures.coming,
+      c.movers_ahead-leaving.ensures.leaving,
       count_sent c.args.self.now.places c.args.program (take c.args.rank ranking) c.args.sent.now
           (distinct-take ranking c.args.rank (assigned.well_formed.rankings_distinct c.args.program)) c.requires.sent.distinct
           (λ a on. omega (arith, assigned.are_places.one_each, c.requires.sent.within a on)),

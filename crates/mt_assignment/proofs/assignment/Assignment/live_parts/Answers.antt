@@ -29,7 +29,8 @@ returns-then-eq-clause-better c =
     let a = c.args.single in
     let test = λ (e : Live). at s.places e.program a in
     let e = c.index-live-end.result in
-    let passes = at_place s.places e.program a c.in-Some.place c.place.result c.eq.result c.place.ensures c.in-Some.is c.eq.ensures ∙ c.if-eq.true in
+    let passes = at_place s.places e.program a c.in-Some.place c.place.result c.eq.result c.place.ensures c.in-Some.is
+    (c.eq.ensures ∙ ap (λ (x : Live). c.in-Some.place == x.program) c.unpacked.ensures) ∙ c.if-eq.true in
     c.split_at.ensures.front ∙ going_stops test c.live-live.result.now c.loop-end.end e c.loop-end-test.true c.index-live-end.is c.loop-end.invariant passes
     ∙ ap (until test) (seen c.self.inside.ranks.now c.self.inside.roster.now.market _ s a c.live-live.result.now c.live-live.ensures.list c.self.invariant.one_market refl c.self.view_is)
 
@@ -67,7 +68,8 @@ loop-end-preserved c =
     let a = c.args.single in
     let test = λ (e : Live). at s.places e.program a in
     let e = c.index-live-end.result in
-    let fails = at_place s.places e.program a c.in-Some.place c.place.result c.eq.result c.place.ensures c.in-Some.is c.eq.ensures ∙ c.if-eq.false in
+    let fails = at_place s.places e.program a c.in-Some.place c.place.result c.eq.result c.place.ensures c.in-Some.is
+    (c.eq.ensures ∙ ap (λ (x : Live). c.in-Some.place == x.program) c.unpacked.ensures) ∙ c.if-eq.false in
     going_more test c.live-live.result.now c.loop-end.end e c.loop-end-test.true c.index-live-end.is c.loop-end.invariant fails
 
 -- whoever has nothing wants all that it lists

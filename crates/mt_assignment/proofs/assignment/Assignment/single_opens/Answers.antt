@@ -14,10 +14,10 @@ loop-entry-init c =
     ∙ opens_live s c.better_live-entry-items.ensures.assigned c.args.single c.requires c.args.programs.now
 
 pub has_post-requires : goal.has_post-requires
-has_post-requires c = record {
+has_post-requires c = rw c.unpacked-entry.ensures (record {
   program = entry_known c.args.self.now c.better_live-entry-items.ensures.assigned c.args.single c.requires c.better_live-entry-items.result.now c.loop-entry.entry-index c.entry-item.result
       c.better_live-entry-items.ensures.list c.loop-entry-test.true c.entry-item.is;
-}
+})
 
 pub loop-entry-preserved : goal.loop-entry-preserved
 loop-entry-preserved c = grind (arith, common_steps)

@@ -22,9 +22,9 @@ pub enter-requires-clause-first_time : goal.enter-requires-clause-first_time
 enter-requires-clause-first_time c =
     let r = c.args.ranks.now in
     let a = c.args.applicant in
-    let entry = c.index-live-place.result in
+    let entry = c.unpacked-entry.result in
     let low : c.loop-place.place < length (live r.market a) = omega (arith, c.loop-place-test.true, c.requires.desk.within) in
-    let facts = entry_there r c.applicants.ensures.ranked a c.loop-place.place entry entry low (c.index-live-place.is ∙ ap (λ xs. get_or xs c.loop-place.place entry) c.live.ensures.list) in
+    let facts = entry_there r c.applicants.ensures.ranked a c.loop-place.place entry entry low (rw c.unpacked-entry.ensures (c.index-live-place.is ∙ ap (λ xs. get_or xs c.loop-place.place c.index-live-place.result) c.live.ensures.list)) in
     sym (received_by_rank r.market c.loop-place.self entry.program a entry.rank facts.1.is_rank)
     ∙ desk_received r.market _ _ a c.loop-place.place _ c.loop-place.invariant.shows entry.program
     ∙ has-take_before (live r.market a) c.loop-place.place entry.program (live_distinct r.market c.applicants.ensures.ranked.well_formed a) facts.0
@@ -36,9 +36,9 @@ loop-place-preserved c =
     let a = c.args.applicant in
     let t = c.loop-place.self in
     let old = floor_of m c.args.self.now in
-    let entry = c.index-live-place.result in
+    let entry = c.unpacked-entry.result in
     let low : c.loop-place.place < length (live m a) = omega (arith, c.loop-place-test.true, c.requires.desk.within) in
-    let facts = entry_there r c.applicants.ensures.ranked a c.loop-place.place entry entry low (c.index-live-place.is ∙ ap (λ xs. get_or xs c.loop-place.place entry) c.live.ensures.list) in
+    let facts = entry_there r c.applicants.ensures.ranked a c.loop-place.place entry entry low (rw c.unpacked-entry.ensures (c.index-live-place.is ∙ ap (λ xs. get_or xs c.loop-place.place c.index-live-place.result) c.live.ensures.list)) in
     let opened = c.loop-place.invariant.opened in
     let now = ap (floor_of m) c.enter.ensures.tables ∙ entered_floor m t a entry.program entry.rank opened facts.1 in
     record {
@@ -74,18 +74,18 @@ pub enter-requires-clause-program : goal.enter-requires-clause-program
 enter-requires-clause-program c =
     let r = c.args.ranks.now in
     let a = c.args.applicant in
-    let entry = c.index-live-place.result in
+    let entry = c.unpacked-entry.result in
     let low : c.loop-place.place < length (live r.market a) = omega (arith, c.loop-place-test.true, c.requires.desk.within) in
-    let facts = entry_there r c.applicants.ensures.ranked a c.loop-place.place entry entry low (c.index-live-place.is ∙ ap (λ xs. get_or xs c.loop-place.place entry) c.live.ensures.list) in
+    let facts = entry_there r c.applicants.ensures.ranked a c.loop-place.place entry entry low (rw c.unpacked-entry.ensures (c.index-live-place.is ∙ ap (λ xs. get_or xs c.loop-place.place c.index-live-place.result) c.live.ensures.list)) in
     omega (arith, facts.1.program, c.loop-place.invariant.opened.holds)
 
 pub enter-requires-clause-on_list : goal.enter-requires-clause-on_list
 enter-requires-clause-on_list c =
     let r = c.args.ranks.now in
     let a = c.args.applicant in
-    let entry = c.index-live-place.result in
+    let entry = c.unpacked-entry.result in
     let low : c.loop-place.place < length (live r.market a) = omega (arith, c.loop-place-test.true, c.requires.desk.within) in
-    let facts = entry_there r c.applicants.ensures.ranked a c.loop-place.place entry entry low (c.index-live-place.is ∙ ap (λ xs. get_or xs c.loop-place.place entry) c.live.ensures.list) in
+    let facts = entry_there r c.applicants.ensures.ranked a c.loop-place.place entry entry low (rw c.unpacked-entry.ensures (c.index-live-place.is ∙ ap (λ xs. get_or xs c.loop-place.place c.index-live-place.result) c.live.ensures.list)) in
     omega (arith, facts.1.is_rank.within, c.loop-place.invariant.opened.lists entry.program)
 
 pub bounds-live-place : goal.bounds-live-place

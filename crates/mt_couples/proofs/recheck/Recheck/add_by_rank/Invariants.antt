@@ -1,15 +1,13 @@
 use Rattle.std.proofs.Common.{◌≡◌, ◌-◌, ◌<◌, ℕ, true, length}
 use Rattle.mt_bits.specs.Members.{is_in}
-use Rattle.mt_assignment.specs.Assigned.{AreApplicantsOf}
-use Rattle.mt_couples.specs.Looking.{Keeps}
+use Rattle.mt_couples.specs.Looking.{Adds}
 use Rattle.mt_couples.proofs.LookFacts.{IsFoundAt}
 use Rattle.mt_couples.proofs.recheck.Recheck.add_by_rank.Given as goal
 
 abbrev pub invariant-loop-rank : goal.invariant-loop-rank
 invariant-loop-rank l = record {
-  within : AreApplicantsOf l.fn.self.assignment.now.market l.found.items;
-  keeps : Keeps l.initial.found.items l.found.items;
-  adds : (r : ℕ) → is_in l.ranks r ≡ true → r < l.next → IsFoundAt l.fn.self.assignment.now l.program l.found.items r;
+  adds : Adds l.fn.self.assignment.now.market l.initial.found.items l.found.items;
+  singles : (r : ℕ) → is_in l.ranks r ≡ true → r < l.next → IsFoundAt l.fn.self.assignment.now l.program l.found.items r;
 }
 
 abbrev pub decreases-loop-rank : goal.decreases-loop-rank

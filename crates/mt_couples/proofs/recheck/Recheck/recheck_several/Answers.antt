@@ -16,11 +16,11 @@ use Rattle.mt_couples.proofs.recheck.Recheck.recheck_several.Goals as goal
 
 pub ranks_of-requires-clause-program : goal.ranks_of-requires-clause-program
 ranks_of-requires-clause-program g c =
-    c.requires.programs c.program-item.result (has_read c.args.left.now c.loop-program.program-index c.program-item.result c.loop-program-test.true c.program-item.is)
+    c.requires.ready.programs c.program-item.result (has_read c.args.left.now c.loop-program.program-index c.program-item.result c.loop-program-test.true c.program-item.is)
 
 pub join_reopened-requires-clause-program : goal.join_reopened-requires-clause-program
 join_reopened-requires-clause-program g c =
-    c.requires.programs c.program-item.result (has_read c.args.left.now c.loop-program.program-index c.program-item.result c.loop-program-test.true c.program-item.is)
+    c.requires.ready.programs c.program-item.result (has_read c.args.left.now c.loop-program.program-index c.program-item.result c.loop-program-test.true c.program-item.is)
 
 pub join_reopened-requires-clause-ranks : goal.join_reopened-requires-clause-ranks
 join_reopened-requires-clause-ranks g c =

@@ -2,11 +2,12 @@
 use Rattle.std.proofs.Common.{◌∙◌, ap, arith, length}
 use Rattle.mt_assignment.specs.Assigned.{Assigned}
 use Rattle.mt_couples.proofs.EnteringFacts.{at_first}
-use Rattle.mt_couples.proofs.RoundFacts.{listed_of_fitting, places_of_fitting}
+use Rattle.mt_round_laws.proofs.PlacesFacts.{fits_are_places}
+use Rattle.mt_couples.proofs.RoundFacts.{listed_of_fitting}
 use Rattle.mt_couples.proofs.rounds.Stage.entered.Goals as goal
 
 pub new-requires-clause-places : goal.new-requires-clause-places
-new-requires-clause-places g c κs within = places_of_fitting c.args.roster.now.market c.args.matched.places c.is_of_a_file.ensures.well_formed c.requires.fits
+new-requires-clause-places g c κs within = fits_are_places c.args.roster.now.market c.is_of_a_file.ensures.well_formed c.args.matched.places c.requires.fits
 
 pub new-requires-clause-listed : goal.new-requires-clause-listed
 new-requires-clause-listed g c κs within = listed_of_fitting c.args.roster.now.market c.args.matched.places c.is_of_a_file.ensures.well_formed c.requires.fits

@@ -7,7 +7,8 @@ use Rattle.mt_terms.specs.declared.numbers.Agent.{Agent}
 use Rattle.mt_assignment.specs.Assigned.{Assigned}
 use Rattle.mt_stage_tables.specs.Waiting.{waiting_first, with_agents, Waiting}
 use Rattle.mt_couples.specs.Looking.{IsWatching}
-use Rattle.mt_couples.specs.Ended.{IfSpent, IsSpentFrom}
+use Rattle.mt_entry.specs.Ended.{IfSpent}
+use Rattle.mt_couples.specs.Ended.{IsSpentFrom}
 use Rattle.mt_couples.specs.Returning.{state_in}
 use Rattle.mt_couples.specs.Running.{work_of, IsRunning}
 use Rattle.mt_couples.specs.Staged.{state_of}

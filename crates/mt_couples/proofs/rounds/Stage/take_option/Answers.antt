@@ -40,34 +40,10 @@ pub join_moved-requires-clause-list : goal.join_moved-requires-clause-list
 join_moved-requires-clause-list g c =
     subst (λ (s : Assigned). IsListOf s.market c.args.self.now.waiting) (sym c.in_ok-moved.ensures.places) (rest_list _ _ (c.args.agent ∷ c.args.self.now.waiting.agents) c.requires.running.waiting)
 
-pub recheck_left-requires-clause-programs : goal.recheck_left-requires-clause-programs
-recheck_left-requires-clause-programs g c κs within = λ p on.
-    let programs = c.args.self.now.assignment.market.programs in
-    let is = c.deref-3.ensures.value ∙ c.in_ok-moved.ensures.left in
-    let kept = of_kept _ p (below (length programs)) (has_in p _ (ap (λ xs. has xs p) (sym is) ∙ on)) in
-    omega (arith, ap (λ (x : Assigned). length x.market.programs) c.in_ok-moved.ensures.places, of_below p (length programs) kept.0)
-
-pub recheck_left-requires-clause-list : goal.recheck_left-requires-clause-list
-recheck_left-requires-clause-list g c κs within =
-    let s = c.move_to.new.self in
-    joined_list s.market c.args.self.now.waiting c.join_moved.new.waiting (agents_of s c.deref-2.result.now ++ if_blocking s c.args.agent)
-    (subst (λ (x : Assigned). IsListOf x.market c.args.self.now.waiting) (sym c.in_ok-moved.ensures.places) (rest_list _ _ (c.args.agent ∷ c.args.self.now.waiting.agents) c.requires.running.waiting)) c.in_ok-join_moved.ensures
-
 -- the agents of who is displaced join, and the one that moved, by the match before the move
 moved_join : (s0 s1 : Assigned) (sent : Placement) (g : Agent) (old new : Waiting) (xs : List ℕ) → s1 ≡ moved s0 sent → xs ≡ displaced_by s0 sent → Joins old new (agents_of s1 xs ++ if_blocking s1 g)
     → Joins old new (agents_of s0 (displaced_by s0 sent) ++ if_blocking (moved s0 sent) g)
 moved_join s0 s1 sent g old new xs after displaced joins = joins ∙ ap₂ (λ (x : Assigned) ys. with_agents old (all_joined old.agents (agents_of x ys ++ if_blocking x g))) after displaced
-
-pub recheck_left-requires-clause-quiet : goal.recheck_left-requires-clause-quiet
-recheck_left-requires-clause-quiet g c κs within = λ so.
-    let s0 = c.args.self.now.assignment in
-    let after = c.in_ok-moved.ensures.places in
-    let left = c.deref-3.result.now in
-    let first = moved_join s0 c.move_to.new.self c.args.sent.now c.args.agent c.args.self.now.waiting c.join_moved.new.waiting c.deref-2.result.now after (c.deref-2.ensures.value ∙ c.in_ok-moved.ensures.displaced)
-    c.in_ok-join_moved.ensures in
-    subst (λ (x : Assigned). IsQuietBut c.args.self.now.last x left c.join_moved.new.waiting.agents) (sym after)
-    (subst (λ gs. IsQuietBut c.args.self.now.last (moved s0 c.args.sent.now) left gs) (sym (ap (λ (w : Waiting). w.agents) first))
-    (quiet_but_left c.requires.taking c.args.self.now.last c.args.self.now.waiting.agents left (c.requires.running.is_quiet so) (c.deref-3.ensures.value ∙ c.in_ok-moved.ensures.left)))
 
 pub follow_sent-requires : goal.follow_sent-requires
 follow_sent-requires g c =
@@ -134,20 +110,34 @@ index_mover-requires-clause-counted g c =
 in_front : (gs hs : List Agent) (h : Agent) → is_on gs h ≡ true → is_on (gs ++ hs) h ≡ true
 in_front gs hs h on = list_any-append (is_same_agent h) gs hs ∙ or_left (is_on gs h) (is_on hs h) on
 
-pub recheck_left-requires-clause-indexed : goal.recheck_left-requires-clause-indexed
-recheck_left-requires-clause-indexed g c κs within =
+pub recheck_left-requires-clause-ready : goal.recheck_left-requires-clause-ready
+recheck_left-requires-clause-ready g c κs within =
     let s0 = c.args.self.now.assignment in
     let s1 = c.move_to.new.self in
+    let programs = s0.market.programs in
     let old = c.args.self.now.waiting in
     let new = c.join_moved.new.waiting in
+    let after = c.in_ok-moved.ensures.places in
+    let left = c.deref-3.result.now in
+    let left_is = c.deref-3.ensures.value ∙ c.in_ok-moved.ensures.left in
     let itself = if_blocking (moved s0 c.args.sent.now) c.args.agent in
     let out = agents_of s0 (displaced_by s0 c.args.sent.now) in
-    let first = moved_join s0 s1 c.args.sent.now c.args.agent old new c.deref-2.result.now c.in_ok-moved.ensures.places (c.deref-2.ensures.value ∙ c.in_ok-moved.ensures.displaced) c.in_ok-join_moved.ensures in
-    (watching s0 s1 c.args.sent.now c.args.agent c.args.self.now.last old.agents new.agents c.args.self.now.watch c.follow_sent.new.self c.follow_displaced.new.self c.index_mover.new.self
-    c.deref.result.now c.requires.taking c.in_ok-moved.ensures.places c.requires.watched c.in_ok-follow_sent.ensures.singles c.in_ok-follow_displaced.ensures.singles c.in_ok-follow_sent.ensures.better
-    c.in_ok-follow_displaced.ensures.better (c.deref.ensures.value ∙ c.in_ok-moved.ensures.displaced) (c.in_ok-follow_displaced.ensures.couples ∙ c.in_ok-follow_sent.ensures.couples)
-    c.in_ok-index_mover.ensures.singles c.in_ok-index_mover.ensures.better c.in_ok-index_mover.ensures.named c.in_ok-index_mover.ensures.indexed
-    (λ h on. joins_keeps old new (out ++ itself) h first on) (λ h on. joins_adds old new (out ++ itself) h first (in_front out itself h on))).indexed
+    let first = moved_join s0 s1 c.args.sent.now c.args.agent old new c.deref-2.result.now after (c.deref-2.ensures.value ∙ c.in_ok-moved.ensures.displaced) c.in_ok-join_moved.ensures in
+    record {
+      programs = λ p on.
+          let kept = of_kept _ p (below (length programs)) (has_in p _ (ap (λ xs. has xs p) (sym left_is) ∙ on)) in
+          omega (arith, ap (λ (x : Assigned). length x.market.programs) after, of_below p (length programs) kept.0);
+      list = joined_list s1.market old new (agents_of s1 c.deref-2.result.now ++ if_blocking s1 c.args.agent)
+          (subst (λ (x : Assigned). IsListOf x.market old) (sym after) (rest_list _ _ (c.args.agent ∷ old.agents) c.requires.running.waiting)) c.in_ok-join_moved.ensures;
+      indexed = (watching s0 s1 c.args.sent.now c.args.agent c.args.self.now.last old.agents new.agents c.args.self.now.watch c.follow_sent.new.self c.follow_displaced.new.self c.index_mover.new.self
+          c.deref.result.now c.requires.taking after c.requires.watched c.in_ok-follow_sent.ensures.singles c.in_ok-follow_displaced.ensures.singles c.in_ok-follow_sent.ensures.better
+          c.in_ok-follow_displaced.ensures.better (c.deref.ensures.value ∙ c.in_ok-moved.ensures.displaced) (c.in_ok-follow_displaced.ensures.couples ∙ c.in_ok-follow_sent.ensures.couples)
+          c.in_ok-index_mover.ensures.singles c.in_ok-index_mover.ensures.better c.in_ok-index_mover.ensures.named c.in_ok-index_mover.ensures.indexed
+          (λ h on. joins_keeps old new (out ++ itself) h first on) (λ h on. joins_adds old new (out ++ itself) h first (in_front out itself h on))).indexed;
+      quiet = λ so. subst (λ (x : Assigned). IsQuietBut c.args.self.now.last x left new.agents) (sym after)
+          (subst (λ gs. IsQuietBut c.args.self.now.last (moved s0 c.args.sent.now) left gs) (sym (ap (λ (w : Waiting). w.agents) first))
+          (quiet_but_left c.requires.taking c.args.self.now.last old.agents left (c.requires.running.is_quiet so) left_is));
+    }
 
 pub returns : goal.returns
 returns g c =

@@ -15,7 +15,7 @@ returns c =
     ≡ (((((((((c.args.page.now ++ codes "couple") ++ codes ",") ++ id) ++ codes ",") ++ first) ++ codes ",") ++ second) ++ codes ",") ++ choice) ++ codes ",,,,\n" =
     rw (c.push-2.ensures.text, c.push_number.ensures.field, c.push_field-3.ensures.field, c.push_field-2.ensures.field, c.push_field.ensures.field, c.push.ensures.text) in
     let all = pushed ∙ couple_pieces c.args.page.now id first second choice in
-    let r = c.args.self.now.explainer.registered in
+    let r = c.args.self.now.tables.registered in
     let first_is : c.members-first.result.0 ≡ (couple_of r.market c.args.couple).first =
     c.members-first.ensures.first ∙ ap (λ (x : Registered). (couple_of x.market c.args.couple).first) c.roster.ensures in
     let second_is : c.members-first.result.1 ≡ (couple_of r.market c.args.couple).second =

@@ -1,12 +1,12 @@
 use Rattle.std.proofs.Common.{◌++◌, ◌∙◌, List, ℕ, ap, append_assoc, sym}
 use Rattle.std.proofs.lemmas.Grind.{flat_map-append}
-use Rattle.mt_explain.specs.Explained.{line_if}
+use Rattle.mt_explain.specs.Lines.{line_if}
 use Rattle.mt_explain_text.specs.Text.{above_line, above_lines}
 use Rattle.mt_explain_text.proofs.lines.AgentLines.push_lines.Goals as goal
 
 pub returns : goal.returns
 returns c =
-    let r = c.args.self.now.explainer.registered in
+    let r = c.args.self.now.tables.registered in
     let is_public = c.args.self.now.is_public in
     let one = line_if c.args.lines.now.0 in
     let other = line_if c.args.lines.now.1 in

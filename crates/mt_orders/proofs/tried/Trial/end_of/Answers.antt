@@ -18,19 +18,16 @@ reordered-requires g c =
     let o = numbered_is_order m c.args.number c.couples.result c.deref.result.now (c.deref.ensures.value ∙ c.in_ok-order.ensures) c.couples.ensures.count in
     order_of_some m [] c.deref.result.now o
 
-pub enter_all-requires-clause-ranks : goal.enter_all-requires-clause-ranks
-enter_all-requires-clause-ranks g c κs within =
+pub enter_all-requires-clause-market : goal.enter_all-requires-clause-market
+enter_all-requires-clause-market g c =
     let m = c.args.self.now.roster.now.market in
+    let wf = c.couples.ensures.registration.well_formed in
     let o = numbered_is_order m c.args.number c.couples.result c.deref.result.now (c.deref.ensures.value ∙ c.in_ok-order.ensures) c.couples.ensures.count in
-    c.requires.ranks ∙ sym (ranks_in_any_order_lem m c.deref.result.now c.couples.ensures.registration.well_formed o)
-    ∙ ap (λ (r : Registered). ranked_of r.market) (sym c.in_ok-market.ensures)
-
-pub enter_all-requires-clause-fits : goal.enter_all-requires-clause-fits
-enter_all-requires-clause-fits g c κs within =
-    let m = c.args.self.now.roster.now.market in
-    let o = numbered_is_order m c.args.number c.couples.result c.deref.result.now (c.deref.ensures.value ∙ c.in_ok-order.ensures) c.couples.ensures.count in
-    ap₂ (λ (r : Registered) (p : Places). fits r.market p) c.in_ok-market.ensures c.in_ok-singles.ensures
-    ∙ best_fits m c.couples.ensures.registration.well_formed c.deref.result.now (order_of_some m [] c.deref.result.now o) c.args.self.now.singles.now.places c.requires.best
+    record {
+      ranks = c.requires.ranks ∙ sym (ranks_in_any_order_lem m c.deref.result.now wf o) ∙ ap (λ (r : Registered). ranked_of r.market) (sym c.in_ok-market.ensures);
+      fitting = ap₂ (λ (r : Registered) (p : Places). fits r.market p) c.in_ok-market.ensures c.in_ok-singles.ensures
+          ∙ best_fits m wf c.deref.result.now (order_of_some m [] c.deref.result.now o) c.args.self.now.singles.now.places c.requires.best;
+    }
 
 pub returns-in-Ok : goal.returns-in-Ok
 returns-in-Ok g c =

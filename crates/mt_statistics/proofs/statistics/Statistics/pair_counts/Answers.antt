@@ -4,15 +4,15 @@ use Rattle.mt_terms.specs.Registration.Accepted.{IsRegistration}
 use Rattle.mt_terms.specs.declared.numbers.Agent.TheVariants.{Couple}
 use Rattle.mt_terms.proofs.BelowFacts.{length-map_below}
 use Rattle.mt_verify.specs.Held.{held_option}
-use Rattle.mt_statistics.specs.Described.{Described}
+use Rattle.mt_verify.specs.Judged.{Judged}
 use Rattle.mt_statistics.specs.Held.{held_counts}
 use Rattle.mt_statistics.proofs.HeldFacts.{pair_counts_are}
 use Rattle.mt_statistics.proofs.statistics.Statistics.pair_counts.Goals as goal
 
 pub held_counts-requires : goal.held_counts-requires
 held_counts-requires c =
-    let d : Described = c.args.self.now in
-    let registration : IsRegistration d.registered = subst (λ (x : Described). IsRegistration x.registered) c.self.view_is c.self.invariant.registration in
+    let d : Judged = c.args.self.now in
+    let registration : IsRegistration d.registered = subst IsRegistration c.roster.ensures c.is_of_a_file.ensures in
     omega (
       arith,
       ap length c.deref.ensures.value,
@@ -23,8 +23,8 @@ held_counts-requires c =
 
 pub returns : goal.returns
 returns c =
-    let d : Described = c.args.self.now in
-    let registration : IsRegistration d.registered = subst (λ (x : Described). IsRegistration x.registered) c.self.view_is c.self.invariant.registration in
+    let d : Judged = c.args.self.now in
+    let registration : IsRegistration d.registered = subst IsRegistration c.roster.ensures c.is_of_a_file.ensures in
     IfOk-weaker c.held_counts.result _ _
     (λ v is. is ∙ ap held_counts (c.deref.ensures.value ∙ c.in_ok-held.ensures) ∙ pair_counts_are d.registered.market d.places)
     c.held_counts.ensures

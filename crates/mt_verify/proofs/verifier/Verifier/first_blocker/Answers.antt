@@ -1,46 +1,23 @@
-use Rattle.std.proofs.Common.{◌<◌, sym, ap, ◌∙◌}
-use Rattle.rayon.specs.Lists.{range_start, range_end}
+use Rattle.std.proofs.Common.{sym, ◌∙◌}
+use Rattle.mt_terms.specs.Lists.{below}
 use Rattle.mt_terms.specs.Market.{applicants}
+use Rattle.mt_terms.specs.Verdict.{is_unlisted}
 use Rattle.mt_verify.specs.Blocking.{leads_blocker}
-use Rattle.mt_verify.proofs.BlockingFacts.{first_by_leader, no_leader}
-use Rattle.mt_verify.proofs.FindFacts.{asked_below, found_below, found_by_threads}
+use Rattle.mt_verify.proofs.BlockingFacts.{first_by_leader}
+use Rattle.mt_verify.proofs.FindFacts.{find_without, found_below}
 use Rattle.mt_verify.proofs.verifier.Verifier.first_blocker.Goals as goal
 
-pub find_first-requires-clause-items : goal.find_first-requires-clause-items
-find_first-requires-clause-items g c κs within =
-    let range = c.with_min_len.result.base in
-    let many = applicants c.args.self.now.roster.now.market in
-    asked_below (λ a. a < many) range.start range.end many (ap range_start c.with_min_len.ensures.base ∙ c.into_par_iter.ensures.0)
-    (ap range_end c.with_min_len.ensures.base ∙ c.into_par_iter.ensures.1 ∙ c.applicants.ensures.count) (λ a a_in. a_in)
-
 pub blocker_led_by-requires : goal.blocker_led_by-requires
-blocker_led_by-requires g c =
-    let self = c.args.self.now in
-    let found = c.find_first.ensures in
-    let range = c.with_min_len.result.base in
-    (found_below (leads_blocker self.roster.now.market self.matched.now.places) (applicants self.roster.now.market) c.in_ok-leader.leader
-    (sym (found_by_threads (leads_blocker self.roster.now.market self.matched.now.places) range.start range.end (applicants self.roster.now.market) found.0 found.1 c.find_first.result
-    (ap range_start c.with_min_len.ensures.base ∙ c.into_par_iter.ensures.0)
-    (ap range_end c.with_min_len.ensures.base ∙ c.into_par_iter.ensures.1 ∙ c.applicants.ensures.count) found.2 found.3 found.4) ∙ c.in_ok-leader.was)).0
-
-pub returns-in_err-leader : goal.returns-in_err-leader
-returns-in_err-leader g c =
-    let self = c.args.self.now in
-    let found = c.find_first.ensures in
-    let range = c.with_min_len.result.base in
-    c.from_residual.ensures
-    ∙ sym (no_leader self.roster.now.market self.matched.now.places
-    (sym (found_by_threads (leads_blocker self.roster.now.market self.matched.now.places) range.start range.end (applicants self.roster.now.market) found.0 found.1 c.find_first.result
-    (ap range_start c.with_min_len.ensures.base ∙ c.into_par_iter.ensures.0)
-    (ap range_end c.with_min_len.ensures.base ∙ c.into_par_iter.ensures.1 ∙ c.applicants.ensures.count) found.2 found.3 found.4) ∙ c.in_err-leader.was))
+blocker_led_by-requires c =
+    let m = c.args.self.now.roster.now.market in
+    let places = c.args.self.now.matched.now.places in
+    (found_below (leads_blocker m places) (applicants m) c.args.found
+    (sym (find_without (leads_blocker m places) (is_unlisted m places) (below (applicants m)) c.requires.listed) ∙ c.requires.found)).0
 
 pub returns : goal.returns
-returns g c =
-    let self = c.args.self.now in
-    let found = c.find_first.ensures in
-    let range = c.with_min_len.result.base in
+returns c =
+    let m = c.args.self.now.roster.now.market in
+    let places = c.args.self.now.matched.now.places in
     c.blocker_led_by.ensures
-    ∙ sym (first_by_leader self.roster.now.market self.matched.now.places c.in_ok-leader.leader
-    (sym (found_by_threads (leads_blocker self.roster.now.market self.matched.now.places) range.start range.end (applicants self.roster.now.market) found.0 found.1 c.find_first.result
-    (ap range_start c.with_min_len.ensures.base ∙ c.into_par_iter.ensures.0)
-    (ap range_end c.with_min_len.ensures.base ∙ c.into_par_iter.ensures.1 ∙ c.applicants.ensures.count) found.2 found.3 found.4) ∙ c.in_ok-leader.was))
+    ∙ sym (first_by_leader m places c.args.found
+    (sym (find_without (leads_blocker m places) (is_unlisted m places) (below (applicants m)) c.requires.listed) ∙ c.requires.found))

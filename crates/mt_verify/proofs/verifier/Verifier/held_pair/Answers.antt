@@ -1,4 +1,4 @@
-use Rattle.std.proofs.Common.{◌≡◌, ◌&&◌, ◌==◌, ◌<◌, ℕ, List, Option, Some, length, ap, sym, ◌∙◌, arith}
+use Rattle.std.proofs.Common.{◌&&◌, ◌==◌, length, ap, sym, ◌∙◌, arith}
 use Rattle.std.specs.List.{position}
 use Rattle.std.specs.Option.{option_eq}
 use Rattle.mt_terms.specs.Market.{Pair}

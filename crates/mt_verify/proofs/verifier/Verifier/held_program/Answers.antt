@@ -1,4 +1,4 @@
-use Rattle.std.proofs.Common.{◌≡◌, ◌==◌, ℕ, List, Option, Some, ap, sym, ◌∙◌, arith}
+use Rattle.std.proofs.Common.{◌==◌, Some, ap, sym, ◌∙◌}
 use Rattle.std.specs.List.{position}
 use Rattle.std.specs.Option.{option_eq}
 use Rattle.mt_verify.proofs.HeldFacts.{held_single}
