@@ -1,26 +1,28 @@
-ghost use Rattle.std.specs.Prelude.{◌≡◌, ◌==◌, ◌<◌, ◌++◌, [], ◌∷◌, length, slice_index_or, IfOk, OnOk, OnErr};
+ghost use Rattle.std.specs.Prelude.{◌≡◌, ◌==◌, ◌<◌, ◌≤◌, ◌++◌, [], ◌∷◌, length, slice_index_or, IfOk, OnOk, OnErr};
 ghost use Rattle.mt_flat.specs.FlatLists.{AreEnds, pieces, start_of, with_last};
 
 use std::alloc::{AllocError, Global};
 use std::marker::Model;
 
-/// Where the list with this number begins.
-fn start_of_list(ends: &[usize], number: usize) -> usize
-    requires { number < length ends.now }
-    ensures { result ≡ start_of 0 ends.now number }
+/// Where the list with this number begins and ends, among those that end at these ends.
+fn bounds<T>(items: &[T], ends: &[usize], number: usize) -> (usize, usize)
+    requires in_order { AreEnds 0 ends.now (length items.now) }
+    requires within { number < length ends.now }
+    ensures start { result.0 ≡ start_of 0 ends.now number }
+    ensures end { result.1 ≡ slice_index_or ends.now number 0 }
+    ensures order { (result.0 ≤ result.1) × (result.1 ≤ length items.now) }
 {
-    if number == 0 { 0 } else { ends[number - 1] }
+    let start = if number == 0 { 0 } else { ends[number - 1] };
+    (start, ends[number])
 }
 
 /// The list with this number, among those that end at these ends.
-#[tactic(auto, using(crate::proofs::FlatListsFacts::start_before_end))]
 fn piece<'a, T>(items: &'a [T], ends: &[usize], number: usize) -> &'a [T]
     requires in_order { AreEnds 0 ends.now (length items.now) }
     requires within { number < length ends.now }
     ensures { result.now ≡ slice_index_or (pieces 0 ends.now items.now) number [] }
 {
-    let start = start_of_list(ends, number);
-    let end = ends[number];
+    let (start, end) = bounds(items, ends, number);
     &items[start..end]
 }
 
