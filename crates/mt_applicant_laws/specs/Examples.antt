@@ -4,7 +4,7 @@ use Rattle.mt_terms.specs.Lists.{has, until}
 use Rattle.mt_terms.specs.Market.{Market, program_of}
 use Rattle.mt_terms.specs.Best.{IsBest, better_programs}
 use Rattle.mt_terms.specs.Rounds.{stage}
-use Rattle.mt_terms.specs.Examples.Markets.{chain, crossed, market, program, couple, both}
+use Rattle.mt_terms.specs.Examples.Markets.{chain, crossed, market, one_post, couple, both}
 use Rattle.mt_applicant_laws.specs.Changes.{with_list, with_program, with_quota}
 
 -- A lie that doesn't help: in the rejection chain the first applicant has its second wish. If it lists its first wish
@@ -17,7 +17,7 @@ pub record LieThatDoesNotHelp : Type 0 where
 -- that it wants least. If it lists the other one alone, it takes that one.
 pub record LieOfAProgram : Type 0 where
   pub honest : IsBest crossed (Some 0 ∷ Some 1 ∷ [])
-  pub lie : IsBest (with_program crossed 0 (program 1 (1 ∷ []))) (Some 1 ∷ Some 0 ∷ [])
+  pub lie : IsBest (with_program crossed 0 (one_post (1 ∷ []))) (Some 1 ∷ Some 0 ∷ [])
   pub gains : has (until (λ a. a == 0) (program_of crossed 0).ranking) 1 ≡ true
 
 -- Of two applicants that lie together one can gain while the other loses nothing. (Dubins and Freedman 1981 show that
@@ -49,7 +49,7 @@ pub record LongerListOfTheFirst : Type 0 where
 --     program,x,1,s,a    program,y,1,b,s    program,z,1,a,s,b    applicant,s,z,y,x    couple,c,a,b,x,z,z,y
 abbrev pub seat_left_open : Market
 seat_left_open =
-    market (program 1 (0 ∷ 1 ∷ []) ∷ program 1 (2 ∷ 0 ∷ []) ∷ program 1 (1 ∷ 0 ∷ 2 ∷ []) ∷ []) ((2 ∷ 1 ∷ 0 ∷ []) ∷ [] ∷ [] ∷ [])
+    market (one_post (0 ∷ 1 ∷ []) ∷ one_post (2 ∷ 0 ∷ []) ∷ one_post (1 ∷ 0 ∷ 2 ∷ []) ∷ []) ((2 ∷ 1 ∷ 0 ∷ []) ∷ [] ∷ [] ∷ [])
     (couple 1 2 (both 0 2 ∷ both 2 1 ∷ []) ∷ [])
 
 pub record LieBesideACouple : Type 0 where

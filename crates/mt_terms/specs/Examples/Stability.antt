@@ -99,5 +99,5 @@ pub record AllWellFormed : Type 0 where
 
 -- A list with a repeat, and a couple of one member, make no well-formed market.
 pub record IllFormed : Type 0 where
-  pub repeat : is_well_formed (Markets.market (Markets.program 1 (0 ∷ 0 ∷ []) ∷ []) ([] ∷ []) []) ≡ false
+  pub repeat : is_well_formed (Markets.market (Markets.one_post (0 ∷ 0 ∷ []) ∷ []) ([] ∷ []) []) ≡ false
   pub one_member : is_well_formed (Markets.market [] ([] ∷ []) (Markets.couple 0 0 [] ∷ [])) ≡ false
