@@ -7,7 +7,7 @@ use Rattle.mt_terms.specs.declared.verdict.Verdict.TheVariants.{Stable, Unlisted
 use Rattle.mt_report.specs.Drains.{IsWritten}
 use Rattle.mt_match_file.specs.Submitted.{Submitted}
 use Rattle.mt_files.specs.Answer as files
-use Rattle.mt_files.specs.Answer.{IsAnswerBy, answer_with}
+use Rattle.mt_files.specs.Answer.{IsAnswerBy}
 pub use Rattle.mt_files.specs.Answer.{Answer}
 use Rattle.mt_files.specs.Refusals.{IsInTurn, OfBoth}
 use Rattle.mt_files.specs.declared.source.Source.{Source}
@@ -20,7 +20,7 @@ use Rattle.mt_check.specs.declared.found.Found.{Found}
 
 -- A code and a line as the code has them. The code is 0 for a stable match, 1 for a finding, and else that of a refusal.
 abbrev pub answer_seen : Found → Answer
-answer_seen f = answer_with f.code f.text.items
+answer_seen f = record { code = f.code; text = f.text.items }
 
 -- the code of a finding: 0 if the match is stable and its counts fit it, and else 1
 abbrev pub finding_code : Finding → ℕ
@@ -32,7 +32,7 @@ finding_code (Differs row) = 1
 
 -- the answer that is a finding on a match which sets this number of couples aside, and that which is a fault of a file
 abbrev pub finding_answer : Registered → ℕ → Finding → Answer
-finding_answer r aside finding = answer_with (finding_code finding) (finding_line r aside finding)
+finding_answer r aside finding = record { code = finding_code finding; text = finding_line r aside finding }
 
 abbrev pub fault_answer : Source → Fault → Answer
 fault_answer = files.fault_answer (codes "check")

@@ -9,7 +9,7 @@ use Rattle.mt_order_laws.specs.Reordered.{set_aside_registered}
 use Rattle.mt_report.specs.Drains.{IsWritten}
 use Rattle.mt_match_file.specs.Submitted.{Submitted}
 use Rattle.mt_files.specs.Answer as files
-use Rattle.mt_files.specs.Answer.{IsAnswerBy, answer_with}
+use Rattle.mt_files.specs.Answer.{IsAnswerBy}
 pub use Rattle.mt_files.specs.Answer.{Answer}
 use Rattle.mt_files.specs.Refusals.{IsInTurn, OfBoth}
 use Rattle.mt_files.specs.declared.source.Source.{Source}
@@ -22,8 +22,8 @@ use Rattle.mt_explained.specs.declared.codes.TheConstants.{NO_SUCH_AGENT}
 
 -- the refusal of a word that names no agent, or the lines of the agents with code 0
 abbrev pub answer_by : Option Bytes → List ℕ → Answer
-answer_by (Some word) text = answer_with NO_SUCH_AGENT (unknown_line word)
-answer_by None text = answer_with 0 text
+answer_by (Some word) text = record { code = NO_SUCH_AGENT; text = unknown_line word }
+answer_by None text = record { code = 0; text = text }
 
 -- the answer to a market and the places of a match
 abbrev pub match_answer : Registered → Places → List Bytes → Bool → Answer

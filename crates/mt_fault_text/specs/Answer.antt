@@ -11,7 +11,6 @@ use Rattle.mt_report.specs.Drains.{IsWritten}
 use Rattle.mt_input.specs.Files.{market_in, of_bytes}
 use Rattle.mt_input.specs.Left.{OfLeft}
 use Rattle.mt_explained.specs.Answer.{Answer, IsGiven}
-use Rattle.mt_files.specs.Answer.{answer_with}
 use Rattle.mt_files.specs.Text.{is_code_of, refused_line}
 use Rattle.mt_files.specs.declared.source.Source.TheVariants.{Market}
 use Rattle.mt_fault_terms.specs.Faults.{FileFault, fault_alone}
@@ -29,11 +28,11 @@ faults_in bytes = faults_by (of_bytes (λ rows. Ok (faults_of rows)) bytes)
 
 -- the answer to the faults of a text, with this code
 abbrev pub faults_answer : ℕ → Bytes → List FileFault → Answer
-faults_answer code text faults = answer_with code (all_lines text faults)
+faults_answer code text faults = record { code = code; text = all_lines text faults }
 
 -- the answer to a text that is a market, or has a first fault and these faults
 abbrev pub answer_of : Bytes → Result Registered Fault → List FileFault → Answer
-answer_of text (Ok r) faults = answer_with 0 (accepted_line r)
+answer_of text (Ok r) faults = record { code = 0; text = accepted_line r }
 answer_of text (Err f) faults = faults_answer f.code text faults
 
 -- The answer to the bytes of a file: the numbers of its market if it is accepted, and otherwise all of its faults.
@@ -41,7 +40,7 @@ abbrev pub answer_to : List ℕ → Answer
 answer_to bytes = answer_of (without_mark bytes) (market_in bytes) (faults_in bytes)
 
 abbrev pub IsAnswer : List ℕ → ℕ → List ℕ → Type 0
-IsAnswer bytes code text = answer_to bytes ≡ answer_with code text
+IsAnswer bytes code text = answer_to bytes ≡ record { code = code; text = text }
 
 -- the refusal line for want of memory, or for a failed read
 abbrev pub refusal : ℕ → Bytes
@@ -54,18 +53,18 @@ code_in (Err f) = Some f.code
 
 -- the answer in want of memory
 abbrev pub no_memory : Answer
-no_memory = answer_with OUT_OF_MEMORY (refusal OUT_OF_MEMORY)
+no_memory = record { code = OUT_OF_MEMORY; text = refusal OUT_OF_MEMORY }
 
 -- the answer in want of memory, after the lines of the first faults in a text
 abbrev pub cut_answer : Bytes → List FileFault → Answer
-cut_answer text front = answer_with OUT_OF_MEMORY (fault_lines text front ++ refusal OUT_OF_MEMORY)
+cut_answer text front = record { code = OUT_OF_MEMORY; text = fault_lines text front ++ refusal OUT_OF_MEMORY }
 
 -- Memory ran out after the first of the faults of these bytes, or before them.
 pub record IsCutShort (bytes : List ℕ) (code : ℕ) (text : List ℕ) : Type 0 where
   pub front : List FileFault
   pub others : List FileFault
   pub all : front ++ others ≡ faults_in bytes
-  pub is_answer : cut_answer (without_mark bytes) front ≡ answer_with code text
+  pub is_answer : cut_answer (without_mark bytes) front ≡ record { code = code; text = text }
 
 -- What a text says with this code of the bytes that a reader had left. But for want of memory and a failed read, it is the answer
 -- to those bytes. Want of memory may cut the lines of faults short.

@@ -14,13 +14,9 @@ pub record Answer : Type 0 where
   pub code : ℕ
   pub text : List ℕ
 
--- an answer with this code and this text
-abbrev pub answer_with : ℕ → List ℕ → Answer
-answer_with code text = record { code = code; text = text }
-
 -- the answer to the fault of a file, by a line that begins with this word
 abbrev pub fault_answer : Bytes → Source → Fault → Answer
-fault_answer word file f = answer_with f.code (refused_line word file f.code f.row f.id)
+fault_answer word file f = record { code = f.code; text = refused_line word file f.code f.row f.id }
 
 -- the answer to a market and a match, by a rule for both, or to the fault of a file
 abbrev pub answer_of : Bytes → (Registered → Submitted → Answer) → Result (Registered × Submitted) (Source × Fault) → Answer
@@ -34,7 +30,7 @@ answer_to word rule market_bytes match_bytes = answer_of word rule (files_in mar
 
 -- a code and a text are the answer to the bytes of two files
 abbrev pub IsAnswerBy : (List ℕ → List ℕ → Answer) → List ℕ → List ℕ → ℕ → List ℕ → Type 0
-IsAnswerBy answer market_bytes match_bytes code text = answer market_bytes match_bytes ≡ answer_with code text
+IsAnswerBy answer market_bytes match_bytes code text = answer market_bytes match_bytes ≡ record { code = code; text = text }
 
 -- the bytes of two files have one answer
 abbrev pub OneAnswerBy : (List ℕ → List ℕ → Answer) → Type 0

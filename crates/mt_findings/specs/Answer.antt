@@ -5,7 +5,7 @@ use Rattle.mt_terms.specs.declared.codes.TheConstants.{OUT_OF_MEMORY, READ_FAULT
 use Rattle.mt_report.specs.Drains.{IsWritten}
 use Rattle.mt_match_file.specs.Submitted.{Submitted}
 use Rattle.mt_files.specs.Answer as files
-use Rattle.mt_files.specs.Answer.{Answer, IsAnswerBy, answer_with}
+use Rattle.mt_files.specs.Answer.{Answer, IsAnswerBy}
 use Rattle.mt_files.specs.Refusals.{IsInTurn, OfBoth}
 use Rattle.mt_check.specs.Findings.{judged}
 use Rattle.mt_check.specs.Headline.{IsRefusal}
@@ -21,7 +21,7 @@ number_code (suc n) = 1
 
 -- the answer that is some findings on a match which sets this number of couples aside
 abbrev pub found_answer : Registered → ℕ → List Finding → Answer
-found_answer r aside found = answer_with (number_code (length found)) (findings_text r aside found)
+found_answer r aside found = record { code = number_code (length found); text = findings_text r aside found }
 
 -- The answer to a market and a match: every finding in the market in which the couples that the match sets aside want
 -- nothing.

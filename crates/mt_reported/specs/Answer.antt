@@ -6,7 +6,7 @@ use Rattle.mt_terms.specs.declared.codes.TheConstants.{OUT_OF_MEMORY, READ_FAULT
 use Rattle.mt_report.specs.Drains.{IsWritten}
 use Rattle.mt_match_file.specs.Submitted.{Submitted}
 use Rattle.mt_files.specs.Answer as files
-use Rattle.mt_files.specs.Answer.{IsAnswerBy, answer_with}
+use Rattle.mt_files.specs.Answer.{IsAnswerBy}
 pub use Rattle.mt_files.specs.Answer.{Answer}
 use Rattle.mt_files.specs.Refusals.{IsInTurn, OfBoth}
 use Rattle.mt_files.specs.declared.source.Source.{Source}
@@ -19,7 +19,7 @@ fault_answer = files.fault_answer (codes "report")
 
 -- the answer to a market and a match: code 0 and the numbers of the match in this form
 abbrev pub report_answer : Form → Registered → Submitted → Answer
-report_answer form r submitted = answer_with 0 (text_in form r submitted.places)
+report_answer form r submitted = record { code = 0; text = text_in form r submitted.places }
 
 -- The answer to the bytes of a market and of a match: the numbers of the match in this form, or the first fault of the market, or
 -- else of the match.
