@@ -20,7 +20,7 @@ use Rattle.mt_check.specs.declared.found.Found.{Found}
 
 -- A code and a line as the code has them. The code is 0 for a stable match, 1 for a finding, and else that of a refusal.
 abbrev pub answer_seen : Found → Answer
-answer_seen f = record { code = f.code; text = f.text.items }
+answer_seen f = record { text = f.text.items; code = f.code }
 
 -- the code of a finding: 0 if the match is stable and its counts fit it, and else 1
 abbrev pub finding_code : Finding → ℕ
