@@ -7,8 +7,8 @@ use std::marker::Model;
 /// How many ranks a word has room for. A program lists at most 100,000 applicants.
 const RANKS: u32 = 1 << 17;
 
-/// An entry of a live list in one word, with the program above the rank. A market may have millions of entries, so half
-/// the room is half the time to fetch them.
+/// An entry of a live list in one word, with the program above the rank. A market may have millions of entries, and a
+/// word takes half the room of two numbers.
 #[derive(Clone, Copy)]
 pub struct PackedLive {
     word: u32,

@@ -1,4 +1,4 @@
-ghost use Rattle.std.specs.Prelude.{◌≡◌, ◌+◌, ◌<◌, ◌≤◌, ◌^◌, length, sum, slice_index, slice_index_or, [], IfOk};
+ghost use Rattle.std.specs.Prelude.{◌≡◌, ◌+◌, ◌<◌, ◌≤◌, ◌^◌, length, sum, slice_index_or, [], IfOk};
 ghost use Rattle.mt_ranks.specs.Rows.{parts, ArePartsOf, empty_rows, row_of, HasRoom, with_entry, starts_from};
 
 use crate::packed::PackedLive;
