@@ -7,7 +7,7 @@ use Rattle.mt_terms.specs.Registration.{market_of}
 use Rattle.mt_terms.specs.Registration.Ids.{Bytes, is_id, quota_of}
 use Rattle.mt_terms.specs.Registration.Numbering.{registered}
 use Rattle.mt_terms.specs.Registration.Records.{ApplicantRecord, ProgramRecord, Record, Rules, rules_of}
-use Rattle.mt_file_laws.specs.Faultless.{draft, drafts}
+use Rattle.mt_draft_laws.specs.Faultless.{draft, drafts}
 use Rattle.mt_drafts.specs.Drafts.{with_fields}
 use Rattle.mt_change_laws.specs.Changes.{ListChanged, QuotaChanged}
 use Rattle.mt_change_laws.specs.Laws.{OneListChanges, OneQuotaChanges}

@@ -9,8 +9,8 @@ use Rattle.mt_terms.specs.Registration.Numbering.{couple_in, lists_in, market_by
 use Rattle.mt_terms.specs.Registration.Records.{ApplicantRecord, CoupleRecord, Kind, OfApplicant, OfCouple, OfProgram, ProgramRecord, Record, WithdrawRecord}
 use Rattle.mt_terms.specs.Registration.Rows.{applicant_ids, applicants_of, own_id, remaining, withdrawn, withdrawn_id}
 use Rattle.mt_terms.specs.Text.{name_of}
-use Rattle.mt_file_laws.specs.Staying.{stays_without}
-use Rattle.mt_file_laws.proofs.StayingFacts.{remaining_is}
+use Rattle.mt_draft_laws.specs.Staying.{stays_without}
+use Rattle.mt_draft_laws.proofs.StayingFacts.{remaining_is}
 use Rattle.mt_applicant_laws.specs.Changes.{with_list, with_quota}
 use Rattle.mt_change_laws.specs.Changes.{ListChanged, QuotaChanged}
 

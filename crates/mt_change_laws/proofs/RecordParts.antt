@@ -9,7 +9,7 @@ use Rattle.mt_terms.specs.Registration.Ids.{Bytes}
 use Rattle.mt_terms.specs.Registration.Numbering.{registered}
 use Rattle.mt_terms.specs.Registration.Passes.{Numbered, contents, numbered_from}
 use Rattle.mt_terms.specs.Registration.Records.{Record, Rules, rules_of}
-use Rattle.mt_file_laws.specs.Faultless.{draft, drafts, faultless_market, is_faultless}
+use Rattle.mt_draft_laws.specs.Faultless.{draft, drafts, faultless_market, is_faultless}
 use Rattle.mt_file_laws.proofs.FaultlessFacts.{passes_agree}
 use Rattle.mt_drafts.specs.Drafts.{with_fields}
 use Rattle.mt_roster.proofs.ReadFacts.{contents-with_fields}

@@ -4,7 +4,7 @@ use Rattle.std.specs.Prelude.{option_map}
 use Rattle.mt_terms.specs.Registration.Ids.{Bytes}
 use Rattle.mt_terms.specs.Registration.Records.{Rules, Record, CoupleRecord, IdPair, are_ids, two_by_two, pair_of}
 use Rattle.mt_terms.specs.Lists.{by_twos}
-use Rattle.mt_file_laws.specs.Faultless.{couple_draft}
+use Rattle.mt_draft_laws.specs.Faultless.{couple_draft}
 use Rattle.mt_records.proofs.FieldFacts.{two_by_two-by_twos}
 
 module _ (rules : Rules) (all : List Bytes) (id a b : Bytes) (list : List Bytes) (is : all ≡ id ∷ a ∷ b ∷ list) where

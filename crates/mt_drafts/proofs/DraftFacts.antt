@@ -7,10 +7,10 @@ use Rattle.mt_terms.specs.Registration.Ids.{Bytes}
 use Rattle.mt_terms.specs.Registration.Records.{Rules, Record}
 use Rattle.mt_terms.specs.Registration.Passes.{are_too_many}
 use Rattle.mt_terms.specs.Registration.Numbering.{registered}
-use Rattle.mt_file_laws.specs.Faultless.{draft, drafts, is_faultless}
-use Rattle.mt_file_laws.proofs.IdFacts.{not_true}
-use Rattle.mt_file_laws.proofs.ApartFacts.{AreApart, apart_front}
-use Rattle.mt_file_laws.proofs.KnownFacts.{faultless_parts}
+use Rattle.mt_draft_laws.specs.Faultless.{draft, drafts, is_faultless}
+use Rattle.mt_record_laws.proofs.IdFacts.{not_true}
+use Rattle.mt_draft_laws.proofs.ApartFacts.{AreApart, apart_front}
+use Rattle.mt_draft_laws.proofs.KnownFacts.{faultless_parts}
 use Rattle.mt_drafts.specs.Drafts.{with_fields, HaveFault}
 
 -- too many of the first records are too many of all

@@ -7,7 +7,7 @@ use Rattle.mt_terms.specs.Registration.Records.{Record, OfProgram, OfCouple}
 use Rattle.mt_terms.specs.Registration.Rows.{own_id, applicants_of}
 use Rattle.mt_drafts.specs.declared.names.NameLists.{NameLists}
 use Rattle.mt_drafts.specs.Names.{singles_of, single_flags, AreNames, AddsNames}
-use Rattle.mt_file_laws.proofs.GrowthFacts.{ids_of-more, applicant_ids-more}
+use Rattle.mt_record_laws.proofs.GrowthFacts.{ids_of-more, applicant_ids-more}
 
 single_flags-more : (rs : List Record) (r : Record) → single_flags (rs ++ r ∷ []) ≡ single_flags rs ++ singles_of r
 single_flags-more rs r = flat_map-append singles_of rs (r ∷ []) ∙ ap (λ flags. single_flags rs ++ flags) (append-nil (singles_of r))

@@ -3,18 +3,17 @@ use Rattle.std.proofs.Common.{◌≡◌, ℕ, ◌+◌, ◌<◌, Bool, true, fals
 use Rattle.std.specs.Prelude.{bytes_eq, option_to_list}
 use Rattle.std.specs.Borrow.{Bor}
 use Rattle.std.specs.List.{list_all}
-use Rattle.std.proofs.lemmas.Bool.{and_parts}
+use Rattle.std.proofs.lemmas.Bool.{and_parts, and_from as both}
 use Rattle.std.proofs.lemmas.List.{append-nil, map-append, take_more, take-append-drop, drop_more}
 use Rattle.std.proofs.lemmas.List.Elements.{filter_map-append}
 use Rattle.std.proofs.lemmas.List.Folds.{list_all-append}
 use Rattle.mt_terms.specs.Registration.Ids.{Bytes, has_id, all_differ}
 use Rattle.mt_terms.specs.Registration.Records.{Record, ProgramRecord, ApplicantRecord, CoupleRecord, WithdrawRecord, Kind, OfProgram, OfApplicant, OfCouple}
 use Rattle.mt_terms.specs.Registration.Rows.{withdrawn_id, withdrawn, ids_of}
-use Rattle.mt_file_laws.specs.Faultless.{withdrawals_stand}
+use Rattle.mt_draft_laws.specs.Faultless.{withdrawals_stand}
 use Rattle.mt_terms.specs.Registration.Ids.{stands_once}
-use Rattle.mt_file_laws.proofs.IdFacts.{differ_parts, differ_push, not_true, or_left, or_right}
+use Rattle.mt_record_laws.proofs.IdFacts.{differ_parts, differ_push, not_true, or_left, or_right}
 use Rattle.mt_terms.proofs.IdFacts.{is_same, same_id}
-use Rattle.mt_file_laws.proofs.NumberingFacts.{both}
 use Rattle.mt_records.specs.declared.record.Kind as checked
 use Rattle.mt_records.specs.declared.record.Record.{Record as Checked}
 use Rattle.mt_records.specs.declared.record.Record.TheVariants as variants
@@ -27,7 +26,7 @@ use Rattle.mt_ids.specs.Seeds.{digest_of, with_fields}
 use Rattle.mt_ids.proofs.SeedFacts.{with_fields-append}
 use Rattle.std.specs.Hash.DefaultHasher as sip
 use Rattle.std.proofs.lemmas.Grind.{flat_map-append}
-use Rattle.mt_file_laws.proofs.GrowthFacts.{withdrawn-more}
+use Rattle.mt_record_laws.proofs.GrowthFacts.{withdrawn-more}
 
 -- an id that differs from all others is none of those before it
 differ_before : (xs : List Bytes) (y : Bytes) (ys : List Bytes) → all_differ bytes_eq (xs ++ y ∷ ys) ≡ true → has_id xs y ≡ false

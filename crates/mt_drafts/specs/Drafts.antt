@@ -1,6 +1,6 @@
 -- The records of rows before it is known whether one has a fault beside the others, or in its list.
 use Rattle.std.specs.Prelude.{◌≡◌, ◌-◌, ◌^◌, false, min, List, [], ◌∷◌, None, Some}
-use Rattle.mt_file_laws.specs.Faultless.{drafts, faultless_market}
+use Rattle.mt_draft_laws.specs.Faultless.{drafts, faultless_market}
 use Rattle.mt_terms.specs.Registration.Ids.{Bytes}
 use Rattle.mt_terms.specs.Registration.Passes.{are_too_many}
 use Rattle.mt_terms.specs.Registration.Records.{Rules, Record}

@@ -1,7 +1,7 @@
 -- What records withdraw, and who stays.
 use Rattle.std.specs.Prelude.{◌≡◌, ◌<◌, ◌^◌, Bool, true, List, [], ◌∷◌, flat_map, length}
-use Rattle.mt_file_laws.specs.Faultless.{withdrawals_stand}
-use Rattle.mt_file_laws.specs.Staying.{stays_without}
+use Rattle.mt_draft_laws.specs.Faultless.{withdrawals_stand}
+use Rattle.mt_draft_laws.specs.Staying.{stays_without}
 use Rattle.mt_terms.specs.Registration.Ids.{Bytes}
 use Rattle.mt_terms.specs.Registration.Records.{Kind, OfProgram, Record, WithdrawRecord}
 use Rattle.mt_terms.specs.Registration.Rows.{ids_of, applicant_ids, withdrawn}

@@ -2,7 +2,7 @@
 //! ids is an id, since those are.
 ghost use Rattle.std.specs.Prelude.{◌≡◌, option_map};
 ghost use Rattle.mt_lists.specs.Rows.{fields_left};
-ghost use Rattle.mt_file_laws.specs.Faultless.{program_draft, applicant_draft, couple_draft, draft};
+ghost use Rattle.mt_draft_laws.specs.Faultless.{program_draft, applicant_draft, couple_draft, draft};
 ghost use Rattle.mt_records.specs.Records.{record_seen};
 
 use mt_ids::{is_id, quota_of};

@@ -1,7 +1,7 @@
 //! What records withdraw, who stays, and the numbers of those that stay among themselves.
 ghost use Rattle.std.specs.Prelude.{◌≡◌, ◌<◌, ◌+◌, ◌++◌, ◌∷◌, [], ◌^◌, false, length, filter, IfOk, OnOk, MatchOption, if◌then◌else◌};
-ghost use Rattle.mt_file_laws.specs.Faultless.{withdrawals_stand};
-ghost use Rattle.mt_file_laws.specs.Staying.{new_numbers, program_flags, applicant_flags};
+ghost use Rattle.mt_draft_laws.specs.Faultless.{withdrawals_stand};
+ghost use Rattle.mt_draft_laws.specs.Staying.{new_numbers, program_flags, applicant_flags};
 ghost use Rattle.mt_terms.specs.Registration.Ids.{has_id};
 ghost use Rattle.mt_records.specs.Records.{all_seen, record_seen};
 ghost use Rattle.mt_drafts.specs.Registered.{KnowsIds};

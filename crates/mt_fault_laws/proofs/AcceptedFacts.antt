@@ -11,7 +11,7 @@ use Rattle.mt_terms.specs.Registration.Records.{Rules, Record, rules_of}
 use Rattle.mt_terms.specs.Registration.Passes.{Numbered, numbered_from, contents, first_of, and_then, unless, first_pass, second_pass}
 use Rattle.mt_terms.specs.Registration.Numbering.{registered}
 use Rattle.mt_terms.specs.Lists.{head}
-use Rattle.mt_file_laws.proofs.ApartFacts.{none_apart}
+use Rattle.mt_draft_laws.proofs.ApartFacts.{none_apart}
 use Rattle.mt_fault_terms.specs.Faults.{FileFault, fault_alone}
 use Rattle.mt_fault_terms.specs.OfFile.{all_parts, faults_under, faults_of_numbered, faults_of}
 use Rattle.mt_fault_laws.specs.Accepted.{is_of_first_pass, fault_of_match, IsNamed, NoFaultMeansAccepted, NamedFaultIsAmong}

@@ -15,8 +15,8 @@ use Rattle.mt_terms.specs.Registration.Faults.{Fault, RecordFault, record_fault,
 use Rattle.mt_terms.specs.Registration.Records.{Rules, Record, Kind, OfProgram, OfCouple, record_of}
 use Rattle.mt_terms.specs.Registration.Rows.{id_of, own_id, ids_of, withdrawn_id, withdrawn, applicants_of, applicant_ids, entries_of, entry_count}
 use Rattle.mt_terms.specs.Registration.Passes.{Numbered, contents, first_of, and_then, unless, at_record, registered_before, says_twice, are_too_many, first_conflict, first_pass, unknown_id}
-use Rattle.mt_file_laws.proofs.GrowthFacts.{applicant_ids-more, ids_of-more, withdrawn-more, entry_count-more}
-use Rattle.mt_file_laws.proofs.PassFacts.{contents_push}
+use Rattle.mt_record_laws.proofs.GrowthFacts.{applicant_ids-more, ids_of-more, withdrawn-more, entry_count-more}
+use Rattle.mt_record_laws.proofs.FirstPassFacts.{contents_push}
 use Rattle.mt_fault_terms.specs.Faults.{FieldFault, FileFault}
 use Rattle.mt_fault_terms.specs.Parts.{Parts, parts_of, own_ids, applicants_among, withdrawn_ids, entries_among, all_own_ids, all_applicants, all_withdrawn, all_entries}
 use Rattle.mt_fault_terms.specs.OfRecord.{id_among, own_faults, registered_faults, repeat_faults, passes, limit_faults, unknown_faults, first_faults}

@@ -14,11 +14,12 @@ use Rattle.mt_terms.specs.Registration.Faults.{RecordFault, Fault, record_fault}
 use Rattle.mt_terms.specs.Registration.Records.{Rules, Record, record_of}
 use Rattle.mt_terms.specs.Registration.Passes.{Numbered, contents, first_of, and_then, unless, at_record, registered_before, says_twice, are_too_many, first_conflict, next_record, first_pass, second_pass, unknown_id}
 use Rattle.mt_terms.specs.Registration.Numbering.{registered}
-use Rattle.mt_file_laws.specs.Faultless.{draft, drafts, is_faultless, faultless_market, PassesAgree}
-use Rattle.mt_file_laws.proofs.PassFacts.{kept_parts, contents_push}
-use Rattle.mt_file_laws.proofs.DraftFacts.{registers_ids, lists_ids, is_draft}
-use Rattle.mt_file_laws.proofs.ApartFacts.{lists_once, AreApart, none_apart, CanFollow, apart_more, can_follow, apart_front}
-use Rattle.mt_file_laws.proofs.KnownFacts.{is_known, allows_pairs, second-none, AreFaultless, faultless_parts, faultless_join, all_lists_ids, lists_allowed}
+use Rattle.mt_draft_laws.specs.Faultless.{draft, drafts, is_faultless, faultless_market}
+use Rattle.mt_file_laws.specs.Registration.{PassesAgree}
+use Rattle.mt_record_laws.proofs.FirstPassFacts.{kept_parts, contents_push}
+use Rattle.mt_draft_laws.proofs.DraftFacts.{registers_ids, lists_ids, is_draft}
+use Rattle.mt_draft_laws.proofs.ApartFacts.{lists_once, AreApart, none_apart, CanFollow, apart_more, can_follow, apart_front}
+use Rattle.mt_draft_laws.proofs.KnownFacts.{is_known, allows_pairs, second-none, AreFaultless, faultless_parts, faultless_join, all_lists_ids, lists_allowed}
 
 -- the records of rows, by the record of the first of them
 record HasFirst (rules : Rules) (row : List Bytes) (rows : List (List Bytes)) (rs : List Record) : Type 0 where

@@ -1,13 +1,7 @@
-pub mod ApartFacts
-pub mod DraftFacts
 pub mod FaultFacts
 pub mod FaultlessFacts
-pub mod GrowthFacts
-pub mod IdFacts
-pub mod KnownFacts
 pub mod NumberingFacts
 pub mod PassFacts
 pub mod RefusalLine
 pub mod RegisteredFacts
-pub mod StayingFacts
 pub mod VersionFacts

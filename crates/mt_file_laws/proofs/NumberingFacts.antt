@@ -13,10 +13,8 @@ use Rattle.mt_terms.specs.Registration.Passes.{are_too_many, is_same_pair}
 use Rattle.mt_terms.specs.Registration.Numbering.{is_none_or_in, names_only, pair_by_number, pairs_by_number}
 use Rattle.mt_terms.specs.Registration.Accepted.{is_none_or_below, is_pair_below, are_same_places}
 use Rattle.std.specs.Option.{option_eq, option_map}
-use Rattle.mt_file_laws.proofs.IdFacts.{Within, within_nil, within_cons, within_more}
+use Rattle.mt_record_laws.proofs.IdFacts.{Within, within_nil, within_cons, within_more}
 use Rattle.mt_terms.proofs.IdFacts.{number_below, same_number, is_same}
--- Crates above cite this lemma by this name.
-pub use Rattle.std.proofs.lemmas.Bool.{and_from as both}
 
 abbrev pub names_one : IdPair → Bool
 names_one p = is_some p.0 || is_some p.1

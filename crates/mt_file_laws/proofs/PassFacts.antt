@@ -2,13 +2,12 @@
 use Rattle.std.proofs.Common.{◌≡◌, ℕ, ◌≤◌, Bool, true, false, not, ◌&&◌, ◌||◌, List, [], ◌∷◌, ◌++◌, map, length, Option, Some, None, Result, Ok, Err, refl, arith, sym, subst, cond, nat_lt, nat_le}
 use Rattle.std.specs.Prelude.{if◌then◌else◌, codes, bytes_eq, is_some, option_map, ok_or}
 use Rattle.std.specs.Option.{option_map_or}
-use Rattle.std.specs.Bool.{then_some}
 use Rattle.std.specs.List.{list_all}
 use Rattle.std.specs.Char.{is_ascii_digit, digit_value}
 use Rattle.std.specs.Str.Parse.{digits_value}
 use Rattle.std.proofs.lemmas.Bool.{and_parts, and_from, or_parts, not-false}
 use Rattle.std.proofs.lemmas.Bool.Decides.{nat_tests}
-use Rattle.std.proofs.lemmas.List.{append-nil, append_assoc, map-append}
+use Rattle.std.proofs.lemmas.List.{append-nil, append_assoc}
 use Rattle.std.proofs.lemmas.List.Elements.{filter_map-append}
 use Rattle.std.proofs.lemmas.List.Folds.{list_all-append, list_any-append}
 use Rattle.std.proofs.lemmas.Grind.{flat_map-append}
@@ -17,13 +16,13 @@ use Rattle.mt_terms.specs.declared.limits.TheConstants.{LIMITS_2}
 use Rattle.mt_terms.specs.Registration.{market_of_numbered, market_under}
 use Rattle.mt_terms.specs.Registration.Ids.{Bytes, is_id, is_id_byte, is_dash, quota_of, has_id, all_differ}
 use Rattle.mt_terms.specs.Registration.Faults.{RecordFault, Fault, record_fault, fault_at}
-use Rattle.mt_terms.specs.declared.codes.TheConstants.{DUPLICATE_ID}
 use Rattle.mt_terms.specs.Registration.Records.{Record, ProgramRecord, ApplicantRecord, CoupleRecord, WithdrawRecord, Kind, OfProgram, OfApplicant, OfCouple, version_1, version_2, rules_of, are_ids, is_pair, pair_of, two_by_two, record_of, record_by_kind, program_record, applicant_record, couple_by_pairs, withdraw_by_kind, withdraw_record, kind_of}
 use Rattle.mt_terms.specs.Registration.Rows.{ids_of, applicant_ids, own_id, applicants_of, remaining}
 use Rattle.mt_terms.specs.Registration.Passes.{Numbered, numbered_from, contents, first_of, and_then, unless, at_record, are_too_many, says_twice, registered_before, first_conflict, next_record, first_pass, second_pass}
 use Rattle.mt_terms.specs.Registration.Numbering.{registered}
 use Rattle.mt_terms.specs.Registration.Accepted.{IsRegistration}
 use Rattle.mt_file_laws.specs.Registration.{AcceptedIsRegistration}
+use Rattle.mt_record_laws.proofs.FirstPassFacts.{kept_parts, not_found, contents_push}
 use Rattle.mt_file_laws.proofs.NumberingFacts.{AreSound, sound_within, is_good, names_one}
 use Rattle.mt_file_laws.proofs.RegisteredFacts.{registered_sound}
 use Rattle.mt_file_laws.proofs.VersionFacts.{market_of_either}
@@ -159,25 +158,13 @@ module _ (before : List Record) where
       by true e = good_withdrawal (kind_of f) fs r e
       by false e = good_kind (kind_of word) (f ∷ fs) r e k
 
--- a record that is added keeps the records sound
-pub kept_parts : (o : Option Bytes) (s t : Bool) (c d : RecordFault) (q r : Record)
-    → unless (first_of (option_map (record_fault DUPLICATE_ID) o ∷ then_some s c ∷ then_some t d ∷ [])) q ≡ Ok r
-    → (q ≡ r) × (o ≡ None) × (s ≡ false) × (t ≡ false)
-kept_parts (Some x) s t c d q r h = cc
-kept_parts None true t c d q r h = cc
-kept_parts None false true c d q r h = cc
-kept_parts None false false c d q r h = (cc, refl, refl, refl)
-
-pub not_found : (b : Bool) (x : Bytes) → cond b (Some x) None ≡ None → b ≡ false
-not_found true x h = cc
-not_found false x h = refl
-
 none_of : (o p q : Option Bytes) → first_of (o ∷ p ∷ q ∷ []) ≡ None → (o ≡ None) × (p ≡ None) × (q ≡ None)
 none_of (Some x) p q h = cc
 none_of None (Some x) q h = cc
 none_of None None (Some x) h = cc
 none_of None None None h = (refl, refl, refl)
 
+-- a record that is added keeps the records sound
 module _ (rs : List Record) (s : AreSound rs) where
   same_ids : (kind : Kind) (r : Record) → own_id kind r ≡ None → all_differ bytes_eq (ids_of kind rs) ≡ true → all_differ bytes_eq (ids_of kind (rs ++ r ∷ [])) ≡ true
   same_ids kind r n h = rw (filter_map-append, n, append-nil) h
@@ -247,9 +234,6 @@ module _ (rs : List Record) (s : AreSound rs) where
           let p : (q ≡ r) × (registered_before rs q ≡ None) × (says_twice rs q ≡ false) × (are_too_many LIMITS_2 (rs ++ q ∷ []) ≡ false) = kept_parts _ _ _ _ _ q r k in
           let t : AreSound (rs ++ q ∷ []) = sound_push q p.1 (good_record rs fs q i p.2) p.3 in
           subst (λ (z : Record). AreSound (rs ++ z ∷ [])) p.0 t
-
-pub contents_push : (before : List (Numbered Record)) (n : ℕ) (r : Record) → contents (before ++ (n, r) ∷ []) ≡ contents before ++ r ∷ []
-contents_push before n r = rw map-append refl
 
 -- so what the first pass gives is sound
 sound_pass : (before : List (Numbered Record)) (rows : List (Numbered (List Bytes))) (rs : List (Numbered Record)) → AreSound (contents before) → first_pass version_2 before rows ≡ Ok rs → AreSound (contents rs)

@@ -15,7 +15,7 @@ use Rattle.mt_terms.specs.Registration.Rows.{ids_of, applicant_ids, entries_of, 
 use Rattle.mt_terms.specs.Registration.Passes.{is_same_pair}
 use Rattle.mt_terms.specs.Registration.Numbering.{names_of, program_in, lists_in, couple_in, market_by, pairs_by_number}
 use Rattle.mt_terms.specs.Registration.Accepted.{is_pair_below, are_same_places, list_entries, IsRegistration}
-use Rattle.mt_file_laws.proofs.IdFacts.{numbers_distinct, numbers_below, numbers_short, itself, next_place}
+use Rattle.mt_record_laws.proofs.IdFacts.{numbers_distinct, numbers_below, numbers_short, itself, next_place}
 use Rattle.mt_terms.proofs.IdFacts.{number_below, same_number, same_id, is_same, differ_parts}
 use Rattle.mt_file_laws.proofs.NumberingFacts.{AreSound, is_good, names_one, at_each, pairs_below, pairs_differ, pairs_short, not_above}
 

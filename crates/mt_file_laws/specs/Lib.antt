@@ -1,5 +1,3 @@
-pub mod Faultless
 pub mod Faults
 pub mod Registration
-pub mod Staying
 pub mod Text

@@ -1,9 +1,13 @@
--- What holds of every file that is accepted.
+-- What holds of every file that is accepted. Those are the files without a fault.
 use Rattle.std.specs.Prelude.{◌≡◌, ℕ, List, [], ◌∷◌, ◌++◌, replicate, Ok, codes}
+use Rattle.std.specs.Result.{result_ok}
 use Rattle.mt_terms.specs.Market.{Registered}
-use Rattle.mt_terms.specs.Registration.{market_of}
+use Rattle.mt_terms.specs.Registration.{market_of, market_under}
 use Rattle.mt_terms.specs.Registration.Ids.{Bytes}
+use Rattle.mt_terms.specs.Registration.Records.{Rules}
+use Rattle.mt_terms.specs.Registration.Passes.{Numbered, contents}
 use Rattle.mt_terms.specs.Registration.Accepted.{IsRegistration}
+use Rattle.mt_draft_laws.specs.Faultless.{faultless_market}
 
 -- the market of an accepted file, with its names, is well formed and within the limits
 abbrev pub AcceptedIsRegistration : Type 0
@@ -18,3 +22,7 @@ abbrev pub VersionsAgree : Type 0
 VersionsAgree =
     (blanks : ℕ) (rows : List (List Bytes)) (r : Registered)
     → market_of (file_of (codes "1") blanks rows) ≡ Ok r → market_of (file_of (codes "2") blanks rows) ≡ Ok r
+
+-- the market of rows without a fault is the market of the two passes
+abbrev pub PassesAgree : Type 0
+PassesAgree = (rules : Rules) (rows : List (Numbered (List Bytes))) → result_ok (market_under rules rows) ≡ faultless_market rules (contents rows)

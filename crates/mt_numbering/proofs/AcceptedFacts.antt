@@ -6,7 +6,7 @@ use Rattle.mt_terms.specs.Registration.Ids.{Bytes}
 use Rattle.mt_terms.specs.Registration.Records.{Rules, Record}
 use Rattle.mt_terms.specs.Registration.Numbering.{registered}
 use Rattle.mt_terms.specs.Registration.Accepted.{IsRegistration}
-use Rattle.mt_file_laws.specs.Faultless.{ids_differ, is_faultless, faultless_market}
+use Rattle.mt_draft_laws.specs.Faultless.{ids_differ, is_faultless, faultless_market}
 use Rattle.mt_drafts.specs.declared.drafts.Drafts.{Drafts}
 use Rattle.mt_drafts.specs.declared.names.NameLists.{NameLists}
 use Rattle.mt_records.specs.declared.kinds.Kinds.{Kinds}

@@ -2,7 +2,7 @@
 use Rattle.std.proofs.Common.{◌≡◌, Bool, true, false, ◌&&◌, List, [], ◌∷◌, ℕ, Option, Some, None, refl, ap, subst}
 use Rattle.std.specs.Prelude.{filter, filter_map}
 use Rattle.std.specs.List.{list_all}
-use Rattle.mt_file_laws.specs.Faultless.{ranking_stands, list_stands, pairs_stand}
+use Rattle.mt_draft_laws.specs.Faultless.{ranking_stands, list_stands, pairs_stand}
 use Rattle.mt_terms.specs.Market.{Pair}
 use Rattle.mt_terms.specs.Registration.Ids.{stands_once}
 use Rattle.mt_terms.specs.Registration.Records.{Record, ProgramRecord, ApplicantRecord, CoupleRecord, WithdrawRecord}

@@ -3,7 +3,7 @@
 use Rattle.std.proofs.Common.{◌≡◌, ℕ, suc, ◌+◌, Bool, true, false, not, ◌&&◌, ◌||◌, List, [], ◌∷◌, length, get_or, Option, Some, None, refl, ap, ap₂, sym, subst, ◌∙◌, arith, cond, if◌then◌else◌}
 use Rattle.std.specs.Prelude.{filter, filter_map, flat_map, bytes_eq, MatchOption}
 use Rattle.std.specs.List.{list_all, cons_option}
-use Rattle.std.proofs.lemmas.Bool.{and_parts}
+use Rattle.std.proofs.lemmas.Bool.{and_parts, and_from as both}
 use Rattle.std.proofs.lemmas.List.{length-map}
 use Rattle.std.proofs.lemmas.List.Sums.{length-filter, count_by-le-length}
 use Rattle.mt_terms.specs.Market.{Pair}
@@ -12,12 +12,11 @@ use Rattle.mt_terms.specs.Registration.Records.{Rules, Record, ProgramRecord, Ap
 use Rattle.mt_terms.specs.Registration.Numbering.{pairs_by_number}
 use Rattle.mt_terms.specs.Registration.Passes.{are_too_many}
 use Rattle.mt_terms.specs.Registration.Rows.{ids_of, applicant_ids, withdrawn, remaining}
-use Rattle.mt_file_laws.specs.Faultless.{ids_differ, withdrawals_stand, ranking_stands, list_stands, pair_stands, pairs_stand, is_faultless}
-use Rattle.mt_file_laws.specs.Staying.{both_there, stays_without, flagged, new_numbers, program_flags, applicant_flags}
-use Rattle.mt_file_laws.proofs.IdFacts.{differ_parts, neither, itself, or_left, or_right, next_place}
+use Rattle.mt_draft_laws.specs.Faultless.{ids_differ, withdrawals_stand, ranking_stands, list_stands, pair_stands, pairs_stand, is_faultless}
+use Rattle.mt_draft_laws.specs.Staying.{both_there, stays_without, flagged, new_numbers, program_flags, applicant_flags}
+use Rattle.mt_record_laws.proofs.IdFacts.{differ_parts, neither, itself, or_left, or_right, next_place}
 use Rattle.mt_terms.proofs.IdFacts.{same_id}
-use Rattle.mt_file_laws.proofs.NumberingFacts.{both}
-use Rattle.mt_file_laws.proofs.StayingFacts.{remaining_is, program_ids_stay, applicant_ids_stay, length-program_flags, length-applicant_flags, length-new_numbers, new_number, numbers_stay, pairs_stay}
+use Rattle.mt_draft_laws.proofs.StayingFacts.{remaining_is, program_ids_stay, applicant_ids_stay, length-program_flags, length-applicant_flags, length-new_numbers, new_number, numbers_stay, pairs_stay}
 use Rattle.mt_drafts.specs.declared.names.NameLists.{NameLists}
 use Rattle.mt_numbering.specs.declared.entries.Entries.{Entries}
 use Rattle.mt_records.specs.declared.record.Record.{Record as Checked}

@@ -9,7 +9,7 @@ use Rattle.std.proofs.lemmas.Cmp.{eq_by_cmp_equiv}
 use Rattle.std.proofs.lemmas.List.{get_or_default}
 use Rattle.std.proofs.lemmas.List.Sorted.{IsPermutation-sym}
 use Rattle.std.proofs.lemmas.Map.Keys.{IsDistinct-head, IsDistinct-tail, IsDistinct-cons, IsDistinct-from_apart, IsDistinct-from_sorted, IsDistinct-IsPermutation, apart_from_distinct, sorted_from_all_adjacent}
-use Rattle.mt_file_laws.proofs.IdFacts.{neither, not_true}
+use Rattle.mt_record_laws.proofs.IdFacts.{neither, not_true}
 use Rattle.mt_terms.specs.Registration.Ids.{all_differ}
 
 -- no element stands twice, as std says it

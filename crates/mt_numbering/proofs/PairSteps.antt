@@ -5,9 +5,9 @@ use Rattle.std.specs.List.{list_all, list_any, cons_option}
 use Rattle.std.specs.Option.{option_eq}
 use Rattle.std.proofs.lemmas.Bool.Decides.{nat_tests}
 use Rattle.std.proofs.lemmas.List.{append_assoc}
-use Rattle.mt_file_laws.specs.Faultless.{is_allowed, pair_stands}
-use Rattle.mt_file_laws.specs.Staying.{new_pair}
-use Rattle.mt_file_laws.proofs.IdFacts.{not_true}
+use Rattle.mt_draft_laws.specs.Faultless.{is_allowed, pair_stands}
+use Rattle.mt_draft_laws.specs.Staying.{new_pair}
+use Rattle.mt_record_laws.proofs.IdFacts.{not_true}
 use Rattle.mt_terms.proofs.IdFacts.{number_below, same_number, same_id, is_same}
 use Rattle.mt_terms.specs.Market.{Pair}
 use Rattle.mt_terms.specs.Registration.Ids.{Bytes, has_id, number_of, all_differ}

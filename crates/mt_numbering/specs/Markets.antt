@@ -1,6 +1,6 @@
 -- What is known of records by the steps to their market.
 use Rattle.std.specs.Prelude.{◌≡◌, Bool, true, false, List, filter, filter_map, flat_map, Option, Some, None}
-use Rattle.mt_file_laws.specs.Faultless.{is_faultless, faultless_market, ids_differ}
+use Rattle.mt_draft_laws.specs.Faultless.{is_faultless, faultless_market, ids_differ}
 use Rattle.mt_terms.specs.Market.{Registered as Market}
 use Rattle.mt_terms.specs.Registration.Ids.{Bytes}
 use Rattle.mt_terms.specs.Registration.Records.{Rules, Record, OfProgram, OfCouple}

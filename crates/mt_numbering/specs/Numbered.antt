@@ -3,7 +3,7 @@ use Rattle.std.specs.Prelude.{ℕ, Bool, List, [], ◌∷◌, map, Option, Some,
 use Rattle.mt_terms.specs.Market.{Pair, Partners, Registered}
 use Rattle.mt_terms.specs.Registration.Ids.{Bytes, number_of, numbers_of}
 use Rattle.mt_terms.specs.Registration.Records.{Record, ProgramRecord, ApplicantRecord, CoupleRecord, IdPair}
-use Rattle.mt_file_laws.specs.Faultless.{pair_stands}
+use Rattle.mt_draft_laws.specs.Faultless.{pair_stands}
 use Rattle.mt_terms.specs.Registration.Numbering.{is_none_or_in, pair_by_number, pairs_by_number, names_of, market_by}
 
 -- the lists of programs, of applicants and of couples as the records have them, and whether each is kept: a couple's two

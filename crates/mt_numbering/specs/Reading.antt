@@ -1,8 +1,8 @@
 -- What the reading of records' lists gives, and of their couples' members.
 use Rattle.std.specs.Prelude.{◌≡◌, ℕ, ◌&&◌, Bool, true, false, List, [], ◌∷◌, filter, filter_map, flat_map, Option, Some, None, if◌then◌else◌}
 use Rattle.std.specs.List.{list_all}
-use Rattle.mt_file_laws.specs.Faultless.{ranking_stands, list_stands, pair_stands, pairs_stand}
-use Rattle.mt_file_laws.specs.Staying.{both_there, new_pair}
+use Rattle.mt_draft_laws.specs.Faultless.{ranking_stands, list_stands, pair_stands, pairs_stand}
+use Rattle.mt_draft_laws.specs.Staying.{both_there, new_pair}
 use Rattle.mt_terms.specs.Market.{Pair}
 use Rattle.mt_terms.specs.Registration.Ids.{Bytes, all_differ}
 use Rattle.mt_terms.specs.Registration.Records.{Record, CoupleRecord, IdPair}

@@ -2,7 +2,7 @@
 //! it is known whether any record has a fault. The passes over the records find which one, and what it is.
 ghost use Rattle.std.specs.Prelude.{◌≡◌, true, false, length, IfOk};
 ghost use Rattle.mt_lists.specs.Rows.{rows_left};
-ghost use Rattle.mt_file_laws.specs.Faultless.{faultless_market, is_faultless};
+ghost use Rattle.mt_draft_laws.specs.Faultless.{faultless_market, is_faultless};
 ghost use Rattle.mt_terms.specs.Registration.Accepted.{IsRegistration};
 ghost use Rattle.mt_terms.specs.Registration.Numbering.{registered};
 ghost use Rattle.mt_terms.specs.Registration.Passes.{are_too_many};

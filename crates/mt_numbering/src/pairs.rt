@@ -1,8 +1,8 @@
 //! Couples' lists of pairs read by the new numbers of programs.
 ghost use Rattle.std.specs.Prelude.{◌≡◌, ◌<◌, ⊤, true, length, option_to_list, IfOk, IfSome, OnOk};
 ghost use Rattle.std.specs.Option.{option_copied};
-ghost use Rattle.mt_file_laws.specs.Faultless.{is_allowed};
-ghost use Rattle.mt_file_laws.specs.Staying.{new_place, new_pair};
+ghost use Rattle.mt_draft_laws.specs.Faultless.{is_allowed};
+ghost use Rattle.mt_draft_laws.specs.Staying.{new_place, new_pair};
 ghost use Rattle.mt_records.specs.Fields.{pairs_left};
 ghost use Rattle.mt_id_lists.specs.Reading.{with_kept};
 ghost use Rattle.mt_numbering.specs.Numbered.{place_in, pair_in};

@@ -1,7 +1,7 @@
 -- Whether records are too many with one record more, by counts.
 use Rattle.std.proofs.Common.{◌≡◌, ℕ, ◌+◌, Bool, true, false, ◌||◌, nat_lt, List, [], ◌∷◌, ◌++◌, length, length-append, refl, ap, sym, ◌∙◌, arith}
 use Rattle.std.specs.Prelude.{option_to_list}
-use Rattle.mt_file_laws.proofs.GrowthFacts.{applicant_ids-more, ids_of-more, entry_count-more}
+use Rattle.mt_record_laws.proofs.GrowthFacts.{applicant_ids-more, ids_of-more, entry_count-more}
 use Rattle.mt_terms.specs.declared.limits.Limits.{Limits}
 use Rattle.mt_terms.specs.Registration.Records.{Record, OfProgram, OfCouple}
 use Rattle.mt_terms.specs.Registration.Rows.{own_id, ids_of, applicants_of, applicant_ids, entries_of, entry_count}

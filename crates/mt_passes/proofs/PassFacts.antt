@@ -1,7 +1,7 @@
 -- What is known of a record that the first pass takes.
 use Rattle.std.proofs.Common.{◌≡◌, ℕ, ◌+◌, ◌≤◌, false, nat_lt, List, [], ◌∷◌, ◌++◌, length, refl, ap, sym, ◌∙◌, Option, None, Some, Result, Ok, Err, arith}
 use Rattle.std.proofs.lemmas.Bool.Decides.{nat_tests}
-use Rattle.mt_file_laws.proofs.PassFacts.{kept_parts}
+use Rattle.mt_record_laws.proofs.FirstPassFacts.{kept_parts}
 use Rattle.mt_terms.specs.Registration.Ids.{Bytes}
 use Rattle.mt_records.specs.declared.first_fault.FirstFault.{FirstFault}
 use Rattle.mt_records.specs.declared.first_fault.FirstFault.TheVariants as refusals

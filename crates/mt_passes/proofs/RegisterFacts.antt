@@ -2,7 +2,7 @@
 use Rattle.std.proofs.Common.{subst, ◌≡◌, ◌+◌, Bool, true, false, ◌||◌, ◌||◌, List, [], ◌∷◌, ◌++◌, map, refl, ap, sym, ◌∙◌, None}
 use Rattle.std.specs.Prelude.{option_to_list, bytes_eq}
 use Rattle.std.proofs.lemmas.List.{map-append}
-use Rattle.mt_file_laws.proofs.GrowthFacts.{ids_of-more, applicant_ids-more, withdrawn-more, entry_count-more}
+use Rattle.mt_record_laws.proofs.GrowthFacts.{ids_of-more, applicant_ids-more, withdrawn-more, entry_count-more}
 use Rattle.mt_terms.specs.Registration.Ids.{Bytes, has_id}
 use Rattle.mt_terms.specs.Registration.Records.{Record, OfApplicant, ProgramRecord, ApplicantRecord, CoupleRecord, WithdrawRecord}
 use Rattle.mt_terms.specs.Registration.Rows.{own_id, ids_of, withdrawn, withdrawn_id, applicants_of, applicant_ids, entries_of, entry_count}
@@ -13,7 +13,7 @@ use Rattle.mt_passes.specs.declared.register.Register.{Register}
 use Rattle.mt_records.specs.Kinds.{ids_in}
 use Rattle.mt_passes.specs.Registers.{numbered_seen, contents_seen, AreFew, IsRegister, AddsRecord}
 use Rattle.std.proofs.lemmas.Bool.{false_from_ne_true, or_right}
-use Rattle.mt_file_laws.proofs.PassFacts.{not_found}
+use Rattle.mt_record_laws.proofs.FirstPassFacts.{not_found}
 
 -- a single is an applicant
 singles_within : (rs : List Record) (x : Bytes) → has_id (ids_of OfApplicant rs) x ≡ true → has_id (applicant_ids rs) x ≡ true

@@ -10,7 +10,7 @@ use Rattle.mt_terms.specs.Registration.Ids.{Bytes}
 use Rattle.mt_terms.specs.Registration.Records.{Rules, rules_of, version_1, version_2}
 use Rattle.mt_terms.specs.Registration.Passes.{Numbered, numbered_from, contents}
 use Rattle.mt_terms.specs.Market.{Registered}
-use Rattle.mt_file_laws.specs.Faultless.{faultless_market}
+use Rattle.mt_draft_laws.specs.Faultless.{faultless_market}
 use Rattle.mt_file_laws.proofs.FaultlessFacts.{accepts, passes_agree}
 use Rattle.mt_file_laws.proofs.PassFacts.{accepted_is_registration_lem}
 use Rattle.mt_lists.specs.Rows.{rows_left}

@@ -1,5 +1,5 @@
 use Rattle.std.proofs.Common.{◌≡◌, ◌≤◌, ◌+◌, ◌++◌, drop, length}
-use Rattle.mt_file_laws.specs.Staying.{new_numbers, applicant_flags}
+use Rattle.mt_draft_laws.specs.Staying.{new_numbers, applicant_flags}
 use Rattle.mt_terms.specs.Registration.Rows.{applicant_ids}
 use Rattle.mt_records.specs.Records.{all_seen}
 use Rattle.mt_drafts.specs.Withdrawals.{stays_after}

@@ -1,5 +1,5 @@
 use Rattle.std.proofs.Common.{◌≡◌, ◌≤◌, ◌+◌, ◌++◌, drop, length}
-use Rattle.mt_file_laws.specs.Staying.{new_numbers, program_flags}
+use Rattle.mt_draft_laws.specs.Staying.{new_numbers, program_flags}
 use Rattle.mt_terms.specs.Registration.Records.{OfProgram}
 use Rattle.mt_terms.specs.Registration.Rows.{ids_of}
 use Rattle.mt_records.specs.Records.{all_seen}

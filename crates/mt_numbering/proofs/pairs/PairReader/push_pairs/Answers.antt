@@ -4,7 +4,7 @@ use Rattle.std.specs.Option.{option_copied}
 use Rattle.std.proofs.lemmas.List.{append-nil}
 use Rattle.mt_terms.specs.Market.{Pair}
 use Rattle.mt_terms.specs.Registration.Ids.{all_differ}
-use Rattle.mt_file_laws.specs.Faultless.{pair_stands}
+use Rattle.mt_draft_laws.specs.Faultless.{pair_stands}
 use Rattle.mt_terms.specs.Registration.Numbering.{pair_by_number}
 use Rattle.mt_terms.specs.Registration.Records.{IdPair}
 use Rattle.mt_records.specs.Fields.{pairs_left}

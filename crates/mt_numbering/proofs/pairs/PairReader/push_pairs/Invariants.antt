@@ -1,6 +1,6 @@
 use Rattle.std.proofs.Common.{◌≡◌, ◌++◌, length, map}
 use Rattle.std.specs.List.{list_all}
-use Rattle.mt_file_laws.specs.Faultless.{pair_stands}
+use Rattle.mt_draft_laws.specs.Faultless.{pair_stands}
 use Rattle.mt_terms.specs.Registration.Numbering.{pair_by_number}
 use Rattle.mt_records.specs.Fields.{pairs_left}
 use Rattle.mt_id_lists.specs.Reading.{with_kept}

@@ -9,7 +9,7 @@ use Rattle.mt_terms.specs.Registration.Faults.{RecordFault, record_fault, record
 use Rattle.mt_terms.specs.declared.codes.TheConstants.{BAD_ID, BAD_QUOTA}
 use Rattle.mt_terms.specs.Registration.Records.{Rules, Record, ProgramRecord, ApplicantRecord, CoupleRecord, WithdrawRecord, Kind, OfProgram, OfApplicant, OfCouple, IdPair, kind_of, are_ids, is_pair, pair_of, two_by_two, record_of, record_by_kind, program_record, applicant_record, couple_by_pairs, couple_record, withdraw_by_kind, withdraw_record}
 use Rattle.mt_terms.specs.Registration.Rows.{ids_of, applicant_ids}
-use Rattle.mt_file_laws.specs.Faultless.{program_draft, applicant_draft, couple_draft, draft_by_kind, draft, is_allowed}
+use Rattle.mt_draft_laws.specs.Faultless.{program_draft, applicant_draft, couple_draft, draft_by_kind, draft, is_allowed}
 
 -- whether what a record registers are ids
 abbrev pub registers_ids : Rules → Record → Bool

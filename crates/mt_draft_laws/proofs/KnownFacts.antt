@@ -11,10 +11,10 @@ use Rattle.mt_terms.specs.Registration.Records.{Rules, Record, ProgramRecord, Ap
 use Rattle.mt_terms.specs.Registration.Rows.{ids_of, applicant_ids, withdrawn}
 use Rattle.mt_terms.specs.Registration.Passes.{Numbered, contents, first_of, first_not_in, unknown_id, named, are_too_many, is_same_pair}
 use Rattle.mt_terms.specs.Registration.Numbering.{is_none_or_in, names_only}
-use Rattle.mt_file_laws.specs.Faultless.{ids_differ, ranking_stands, list_stands, is_allowed, pair_stands, pairs_stand, withdrawals_stand, is_faultless}
+use Rattle.mt_draft_laws.specs.Faultless.{ids_differ, ranking_stands, list_stands, is_allowed, pair_stands, pairs_stand, withdrawals_stand, is_faultless}
 use Rattle.mt_terms.proofs.IdFacts.{same_id}
-use Rattle.mt_file_laws.proofs.ApartFacts.{withdrawn_once, lists_once, AreApart}
-use Rattle.mt_file_laws.proofs.DraftFacts.{lists_ids, registers_ids, is_none_or_id, is_id_pair, programs_ids, applicants_ids}
+use Rattle.mt_draft_laws.proofs.ApartFacts.{withdrawn_once, lists_once, AreApart}
+use Rattle.mt_draft_laws.proofs.DraftFacts.{lists_ids, registers_ids, is_none_or_id, is_id_pair, programs_ids, applicants_ids}
 
 -- a list none of whose ids is unknown
 first_not_in-none : (ids list : List Bytes) → is_none (first_not_in ids list) ≡ list_all (has_id ids) list

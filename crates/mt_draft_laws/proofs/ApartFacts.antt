@@ -13,9 +13,9 @@ use Rattle.mt_terms.specs.Registration.Ids.{Bytes, has_id, all_differ}
 use Rattle.mt_terms.specs.Registration.Records.{Record, ProgramRecord, ApplicantRecord, CoupleRecord, WithdrawRecord, OfProgram, OfApplicant, OfCouple}
 use Rattle.mt_terms.specs.Registration.Rows.{own_id, ids_of, withdrawn_id, withdrawn, applicants_of, applicant_ids, entries_of, entry_count}
 use Rattle.mt_terms.specs.Registration.Passes.{is_same_pair, registered_before, says_twice, are_too_many, first_of, first_in}
-use Rattle.mt_file_laws.specs.Faultless.{ids_differ}
-use Rattle.mt_file_laws.proofs.GrowthFacts.{applicant_ids-more, ids_of-more, withdrawn-more}
-use Rattle.mt_file_laws.proofs.IdFacts.{differ_join}
+use Rattle.mt_draft_laws.specs.Faultless.{ids_differ}
+use Rattle.mt_record_laws.proofs.GrowthFacts.{applicant_ids-more, ids_of-more, withdrawn-more}
+use Rattle.mt_record_laws.proofs.IdFacts.{differ_join}
 use Rattle.mt_terms.proofs.IdFacts.{differ_parts, bytes_eq_sym}
 
 -- whether nothing is withdrawn twice

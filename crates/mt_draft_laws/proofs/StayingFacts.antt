@@ -12,8 +12,8 @@ use Rattle.mt_terms.specs.Registration.Rows.{ids_of, applicant_ids, withdrawn, r
 use Rattle.mt_terms.specs.Registration.Passes.{is_same_pair}
 use Rattle.mt_terms.specs.Registration.Numbering.{is_none_or_in, names_only, pair_by_number, pairs_by_number}
 use Rattle.mt_terms.specs.Registration.Accepted.{are_same_places}
-use Rattle.mt_file_laws.specs.Staying.{flagged, new_numbers, new_place, new_pair, both_there, stays_without, program_flags, applicant_flags}
-use Rattle.mt_file_laws.proofs.IdFacts.{Within, within_nil, within_cons, within_more, next_place}
+use Rattle.mt_draft_laws.specs.Staying.{flagged, new_numbers, new_place, new_pair, both_there, stays_without, program_flags, applicant_flags}
+use Rattle.mt_record_laws.proofs.IdFacts.{Within, within_nil, within_cons, within_more, next_place}
 use Rattle.mt_terms.proofs.IdFacts.{same_id, is_same, same_number, differ_parts}
 
 -- a filter by a test that is the same for each kind of record

@@ -1,13 +1,12 @@
 -- Which files are accepted: those whose records, taken all together, have no fault. (This project's own format.)
-use Rattle.std.specs.Prelude.{◌≡◌, ◌&&◌, ◌||◌, Bool, true, not, List, [], ◌∷◌, map, Option, Some, None, is_some, option_map, option_and_then, codes, bytes_eq, if◌then◌else◌}
+use Rattle.std.specs.Prelude.{◌&&◌, ◌||◌, Bool, true, not, List, [], ◌∷◌, map, Option, Some, None, is_some, option_map, option_and_then, codes, bytes_eq, if◌then◌else◌}
 use Rattle.std.specs.List.{list_all}
 use Rattle.std.specs.Result.{result_ok}
 use Rattle.mt_terms.specs.Market.{Registered}
-use Rattle.mt_terms.specs.Registration.{market_under}
 use Rattle.mt_terms.specs.Registration.Ids.{Bytes, is_id, quota_of, all_differ, stands_once}
 use Rattle.mt_terms.specs.Registration.Records.{Rules, Kind, OfProgram, OfApplicant, OfCouple, Record, ProgramRecord, ApplicantRecord, CoupleRecord, IdPair, kind_of, are_ids, two_by_two, pair_of, withdraw_record}
 use Rattle.mt_terms.specs.Registration.Rows.{ids_of, withdrawn, applicant_ids}
-use Rattle.mt_terms.specs.Registration.Passes.{Numbered, contents, is_same_pair, are_too_many}
+use Rattle.mt_terms.specs.Registration.Passes.{is_same_pair, are_too_many}
 use Rattle.mt_terms.specs.Registration.Numbering.{names_only, registered}
 
 -- the record of a program and of a single, whose list may have anything in it
@@ -86,7 +85,3 @@ is_faultless rules rs =
 -- the market of rows, if they have no fault
 abbrev pub faultless_market : Rules → List (List Bytes) → Option Registered
 faultless_market rules rows = option_and_then (λ rs. if is_faultless rules rs then Some (registered rs) else None) (drafts rules rows)
-
--- the market of rows without a fault is the market of the two passes
-abbrev pub PassesAgree : Type 0
-PassesAgree = (rules : Rules) (rows : List (Numbered (List Bytes))) → result_ok (market_under rules rows) ≡ faultless_market rules (contents rows)

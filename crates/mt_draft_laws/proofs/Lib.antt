@@ -1,0 +1,4 @@
+pub mod ApartFacts
+pub mod DraftFacts
+pub mod KnownFacts
+pub mod StayingFacts

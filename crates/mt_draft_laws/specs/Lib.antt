@@ -1,0 +1,2 @@
+pub mod Faultless
+pub mod Staying

@@ -1,0 +1,3 @@
+pub mod FirstPassFacts
+pub mod GrowthFacts
+pub mod IdFacts
