@@ -15,7 +15,7 @@ CHECKS = {
     "cli PROGRAM": 8452,
     "cli": 8455,
     "controls": 49,
-    "edits_apply": 770,
+    "edits_apply": 773,
     "explain": 10098,
     "faults": 20037,
     "linear": 45,
@@ -31,7 +31,7 @@ CHECKS = {
     "seeds": 7,
     "threads": 66,
     "told": 311,
-    "words": 408,
+    "words": 426,
     "ways": 1551,
     "wrong_bodies --release": 58,
 }

@@ -1,10 +1,2 @@
-pub mod AskFacts
-pub mod EnteringFacts
-pub mod JoinFacts
-pub mod LookFacts
-pub mod IndexFacts
 pub mod OneFacts
-pub mod QuietFacts
-pub mod ReturningFacts
-pub mod RoundFacts
-pub mod WatchFacts
+pub mod StageFacts

@@ -8,10 +8,12 @@ use Rattle.mt_stage_tables.specs.Named.{row_at}
 use Rattle.mt_stage_tables.specs.Waiting.{Waiting}
 use Rattle.mt_stage_tables.specs.declared.couple_list.NamedPairs.{NamedPairs}
 use Rattle.mt_assignment.specs.Assigned.{AreProgramsOf}
-use Rattle.mt_couples.specs.Looking.{is_couple_reopened, AddsSingles, AreIndexed, HaveReopened}
-use Rattle.mt_couples.specs.Running.{is_reopened, IsQuietBut}
-use Rattle.mt_couples.specs.Waiting.{agents_of, blockers, blockers_of, if_blocking, IsListOf}
-use Rattle.mt_couples.specs.Watching.{Covers}
+use Rattle.mt_watch.specs.Found.{is_couple_reopened, AddsSingles, Covers}
+use Rattle.mt_watch.specs.Watching.{AreIndexed}
+use Rattle.mt_rounds.specs.Looking.{HaveReopened}
+use Rattle.mt_assignment.specs.Blocking.{is_reopened}
+use Rattle.mt_rounds.specs.Running.{IsQuietBut}
+use Rattle.mt_rounds.specs.Waiting.{agents_of, blockers, blockers_of, if_blocking, IsListOf}
 use Rattle.mt_couples.specs.declared.recheck.Recheck.{Recheck}
 
 -- the market of the match that is rechecked

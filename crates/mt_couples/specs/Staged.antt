@@ -10,10 +10,10 @@ use Rattle.mt_stage_tables.specs.Named.{AreNamed}
 use Rattle.mt_stage_tables.specs.Waiting.{nobody, waiting_first}
 use Rattle.mt_assignment.specs.Assigned.{assignment}
 use Rattle.mt_assignment.specs.Watched.{AreWatched}
-use Rattle.mt_couples.specs.Looking.{IsWatching}
-use Rattle.mt_couples.specs.Running.{singles_quiet, work_of, IsQuietBefore, IsRunning}
-use Rattle.mt_couples.specs.Waiting.{IsListOf, KeepsRoom}
-use Rattle.mt_couples.specs.Watching.{AreCounted, IsIndexed}
+use Rattle.mt_watch.specs.Watching.{IsWatching, AreCounted, IsIndexed}
+use Rattle.mt_assignment.specs.Blocking.{singles_quiet}
+use Rattle.mt_rounds.specs.Running.{work_of, IsQuietBefore, IsRunning}
+use Rattle.mt_rounds.specs.Waiting.{IsListOf, KeepsRoom}
 use Rattle.mt_couples.specs.declared.rounds.Stage.{Stage}
 
 -- the stage's match and its work list

@@ -3,9 +3,7 @@
 
 mod entering;
 mod recheck;
-mod returning;
 mod rounds;
-mod watch;
 
 pub use entering::{RothPeranson, enter_all, enter_from};
 pub use mt_entry::{CoupleEnd, Entered, Reached, Spent};

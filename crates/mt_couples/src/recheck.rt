@@ -1,4 +1,4 @@
-ghost use Rattle.std.specs.Prelude.{◌≡◌, ◌<◌, length, [], ◌∷◌, IfNone, IfOk, IfSome, IsFalse, IsTrue, OnOk};
+ghost use Rattle.std.specs.Prelude.{◌≡◌, ◌<◌, length, [], ◌∷◌, IfOk, IsFalse, IsTrue, OnOk};
 ghost use Rattle.std.specs.List.Sorted.{IsNonDecreasing};
 ghost use Rattle.mt_terms.specs.Rounds.{has_entered};
 ghost use Rattle.mt_terms.specs.WellFormed.{IsWellFormed};
@@ -7,15 +7,15 @@ ghost use Rattle.mt_bits.specs.Members.{is_in};
 ghost use Rattle.mt_stage_tables.specs.Named.{AreNamed};
 ghost use Rattle.mt_assignment.specs.Assigned.{AreApplicantsOf, AreProgramsOf};
 ghost use Rattle.mt_assignment.specs.Watched.{AreWatched};
-ghost use Rattle.mt_couples.specs.Looking.{has_wanted_post, Adds, AreClosedFrom, AreRanksOf, IsOpenFrom};
-ghost use Rattle.mt_couples.specs.Waiting.{Joins};
-ghost use Rattle.mt_couples.specs.Watching.{AreCounted};
+ghost use Rattle.mt_rounds.specs.Looking.{Adds, AreRanksOf};
+ghost use Rattle.mt_rounds.specs.Waiting.{Joins};
+ghost use Rattle.mt_watch.specs.Watching.{AreCounted};
 
-use crate::watch::Watch;
 use mt_assignment::Assignment;
 use mt_bits::RankRow;
 use mt_stage_tables::{NamedPairs, WorkList};
 use mt_terms::{Agent, AppNo, CoupleNo, ProgNo};
+use mt_watch::{Watch, first_with_post};
 use rayon::prelude::*;
 use std::alloc::{AllocError, Global};
 use std::thread::Threads;
@@ -61,36 +61,6 @@ fn has_entered(agent: &Agent, last: CoupleNo) -> bool
         Agent::Single(_) => true,
         Agent::Couple(couple) => couple.0 <= last.0,
     }
-}
-
-/// The first of these ranks on a program's list that isn't below a number, if the program has a post for it. If it has
-/// none for this rank, it has none for a later one.
-fn first_with_post(
-    assignment: &Assignment<'_>,
-    program: ProgNo,
-    ranks: &RankRow<'_>,
-    number: usize,
-) -> Option<u32>
-    requires { program < length assignment.now.market.programs }
-    ensures some { IfSome result (IsOpenFrom assignment.now program (is_in ranks.now) number) }
-    ensures none { IfNone result (AreClosedFrom assignment.now program (is_in ranks.now) number) }
-{
-    let rank = ranks.first_from(number)?;
-    let is_on_list = (rank as usize) < assignment.ranking(program).len();
-    if is_on_list && assignment.has_post(program, rank) {
-        Some(rank)
-    } else {
-        None
-    }
-}
-
-/// Whether the program has a post for a single that wants it more than what it has.
-pub(crate) fn has_wanted_post(assignment: &Assignment<'_>, watch: &Watch, program: ProgNo) -> bool
-    requires program { program < length assignment.now.market.programs }
-    requires watched { AreWatched assignment.now watch.now.singles }
-    ensures { result ≡ has_wanted_post assignment.now watch.now.singles program }
-{
-    first_with_post(assignment, program, &watch.singles(program), 0).is_some()
 }
 
 /// The ranks of these applicants on a program's list, in rising order.

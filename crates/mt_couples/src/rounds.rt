@@ -4,46 +4,19 @@ ghost use Rattle.mt_terms.specs.Stability.{fits};
 ghost use Rattle.mt_ranks.specs.Ranked.{ranked_of};
 ghost use Rattle.mt_assignment.specs.Assigned.{assignment, AreListed};
 ghost use Rattle.mt_assignment.specs.Moves.{IsTaking};
-ghost use Rattle.mt_assignment.specs.Watched.{AreWatched};
 ghost use Rattle.mt_entry.specs.Ended.{IfSpent};
-ghost use Rattle.mt_couples.specs.Looking.{has_wanted_post};
-ghost use Rattle.mt_couples.specs.Running.{singles_quiet};
 
-use crate::recheck::{Recheck, has_wanted_post};
-use crate::returning::Returning;
-use crate::watch::Watch;
+use crate::recheck::Recheck;
 use mt_assignment::{Assignment, no_ranks};
 use mt_entry::{CoupleEnd, Spent};
 use mt_market::Roster;
 use mt_ranks::Ranks;
+use mt_rounds::Returning;
 use mt_stage_tables::WorkList;
 use mt_terms::{Agent, AppNo, CoupleNo, Match, Places, ProgNo};
-use rayon::prelude::*;
+use mt_watch::{Watch, are_singles_quiet};
 use std::alloc::{AllocError, Global};
 use std::thread::Threads;
-
-/// From twice as many programs on, it is asked side by side whether they have a post for somebody who wants them more.
-/// With fewer that takes less time than the start of a thread.
-const LEAST_PROGRAMS: usize = 8192;
-
-/// Whether no single blocks: no program has a post for one that is watched there.
-fn are_singles_quiet<R: Threads + Sync>(rt: &R, assignment: &Assignment<'_>, watch: &Watch) -> bool
-    requires { AreWatched assignment.now watch.now.singles }
-    ensures { IsTrue result → IsTrue (singles_quiet assignment.now) }
-{
-    let wanted = (0..assignment.roster().programs())
-        .into_par_iter()
-        .with_min_len(LEAST_PROGRAMS)
-        .find_first(
-            rt,
-            |number: &u32| -> bool
-                requires { (number.now < length assignment.now.market.programs)
-                    × AreWatched assignment.now watch.now.singles }
-                ensures { result ≡ has_wanted_post assignment.entry.now watch.entry.now.singles number.now }
-            { has_wanted_post(assignment, watch, ProgNo(*number)) },
-        );
-    wanted.is_none()
-}
 
 /// The couples' stage: a match beside its market, the index of who may block in it, the agents that are to be rechecked,
 /// and the couple that entered last. A round that fails for want of memory leaves it half changed, and nobody uses it then.

@@ -10,7 +10,7 @@ use Rattle.mt_entry.specs.Ended.{IfSpent, IsSpent}
 use Rattle.mt_entry.specs.declared.ends.CoupleEnd.{CoupleEnd}
 use Rattle.mt_entry.specs.declared.ends.CoupleEnd.TheVariants.{BudgetSpent, Memory}
 use Rattle.mt_entry.specs.declared.ends.Spent.{Spent}
-use Rattle.mt_couples.proofs.EnteringFacts.{entering_all, entering_ends, entering_endless, entering_first, entering_more, entering_spent, leading_first, leading_more, none_enters, IsEntering, IsLeading}
+use Rattle.mt_rounds.proofs.EnteringFacts.{entering_all, entering_ends, entering_endless, entering_first, entering_more, entering_spent, leading_first, leading_more, none_enters, IsEntering, IsLeading}
 use Rattle.mt_couples.proofs.entering.enter_all.Goals as goal
 
 -- the error of a result is one of which this holds

@@ -14,7 +14,7 @@ use Rattle.mt_entry.specs.declared.ends.CoupleEnd.{CoupleEnd}
 use Rattle.mt_entry.specs.declared.ends.CoupleEnd.TheVariants.{BudgetSpent}
 use Rattle.mt_entry.specs.declared.ends.Spent.{Spent}
 use Rattle.mt_couples.specs.declared.rounds.Stage.{Stage}
-use Rattle.mt_couples.proofs.EnteringFacts.{entering_first, entering_more, IsEntering}
+use Rattle.mt_rounds.proofs.EnteringFacts.{entering_first, entering_more, IsEntering}
 use Rattle.mt_couples.proofs.entering.enter_from.Goals as goal
 
 -- the rounds of the couple don't end, as a market has them

@@ -1,6 +1,6 @@
 use Rattle.std.proofs.Common.{◌≡◌}
 use Rattle.mt_couples.specs.Staged.{IsBetweenEntries}
-use Rattle.mt_couples.proofs.EnteringFacts.{IsEntering}
+use Rattle.mt_rounds.proofs.EnteringFacts.{IsEntering}
 use Rattle.mt_couples.proofs.entering.enter_from.Given as goal
 
 abbrev pub invariant-loop-number : goal.invariant-loop-number

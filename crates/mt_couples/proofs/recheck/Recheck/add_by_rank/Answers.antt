@@ -7,8 +7,9 @@ use Rattle.mt_terms.specs.Market.{applicants, program_of}
 use Rattle.mt_terms.proofs.ListFacts.{has_front}
 use Rattle.mt_bits.specs.Members.{is_in}
 use Rattle.mt_assignment.proofs.MarketFacts.{read_within}
-use Rattle.mt_couples.specs.Looking.{Adds}
-use Rattle.mt_couples.proofs.LookFacts.{adds_one, at_rank, closed_at, found_at, found_below}
+use Rattle.mt_rounds.specs.Looking.{Adds}
+use Rattle.mt_rounds.proofs.LookFacts.{adds_one, closed_at, found_at, found_below}
+use Rattle.mt_assignment.proofs.RankFacts.{at_rank}
 use Rattle.mt_couples.proofs.recheck.Recheck.add_by_rank.Goals as goal
 
 pub loop-rank-preserved : goal.loop-rank-preserved

@@ -1,7 +1,7 @@
 use Rattle.std.proofs.Common.{◌≡◌, ◌-◌, ◌<◌, ℕ, true, length}
 use Rattle.mt_bits.specs.Members.{is_in}
-use Rattle.mt_couples.specs.Looking.{Adds}
-use Rattle.mt_couples.proofs.LookFacts.{IsFoundAt}
+use Rattle.mt_rounds.specs.Looking.{Adds}
+use Rattle.mt_rounds.proofs.LookFacts.{IsFoundAt}
 use Rattle.mt_couples.proofs.recheck.Recheck.add_by_rank.Given as goal
 
 abbrev pub invariant-loop-rank : goal.invariant-loop-rank

@@ -6,9 +6,12 @@ use Rattle.mt_round_laws.proofs.RoundsLists.{has_in}
 use Rattle.mt_stage_tables.proofs.FrontFacts.{each_next}
 use Rattle.mt_stage_tables.proofs.PlaceFacts.{has_read}
 use Rattle.mt_assignment.specs.Watched.{ranks_at}
-use Rattle.mt_couples.specs.Looking.{Adds, AddsSingles}
-use Rattle.mt_couples.proofs.WatchFacts.{index_of}
-use Rattle.mt_couples.proofs.LookFacts.{adds_more, adds_one, any_default, covers_one, found_both, reopened_in, reopened_within, watching_by, AreFound}
+use Rattle.mt_rounds.specs.Looking.{Adds}
+use Rattle.mt_watch.specs.Found.{AddsSingles}
+use Rattle.mt_assignment.proofs.RankFacts.{index_of, any_default}
+use Rattle.mt_rounds.proofs.LookFacts.{adds_more, adds_one, found_both, AreFound}
+use Rattle.mt_watch.proofs.FoundFacts.{covers_one}
+use Rattle.mt_couples.proofs.OneFacts.{reopened_in, reopened_within, watching_by}
 use Rattle.mt_couples.proofs.recheck.Recheck.add_reopened.Goals as goal
 
 pub members-first-requires : goal.members-first-requires

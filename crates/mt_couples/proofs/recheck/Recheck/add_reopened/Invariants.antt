@@ -1,6 +1,6 @@
 use Rattle.std.proofs.Common.{◌<◌, ℕ, get_or}
-use Rattle.mt_couples.specs.Looking.{Adds}
-use Rattle.mt_couples.proofs.LookFacts.{AreFound}
+use Rattle.mt_rounds.specs.Looking.{Adds}
+use Rattle.mt_rounds.proofs.LookFacts.{AreFound}
 use Rattle.mt_couples.proofs.recheck.Recheck.add_reopened.Given as goal
 
 abbrev pub invariant-loop-couple : goal.invariant-loop-couple

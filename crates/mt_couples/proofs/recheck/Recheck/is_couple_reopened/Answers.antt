@@ -1,6 +1,6 @@
 use Rattle.std.proofs.Common.{arith}
 use Rattle.mt_stage_tables.proofs.IndexFacts.{end_within}
-use Rattle.mt_couples.proofs.IndexFacts.{counted_within}
+use Rattle.mt_watch.proofs.IndexFacts.{counted_within}
 use Rattle.mt_couples.proofs.recheck.Recheck.is_couple_reopened.Goals as goal
 
 pub opens_between-requires-clause-end : goal.opens_between-requires-clause-end

@@ -6,8 +6,8 @@ use Rattle.mt_terms.specs.Rounds.{all_joined}
 use Rattle.mt_terms.specs.declared.numbers.Agent.{Agent}
 use Rattle.mt_stage_tables.specs.Waiting.{with_agents, Waiting}
 use Rattle.mt_assignment.specs.Assigned.{Assigned}
-use Rattle.mt_couples.specs.Waiting.{agents_of, if_blocking, Joins}
-use Rattle.mt_couples.proofs.JoinFacts.{all_joined-append, AreJoining, joining_list, joining_more, known_to, next_mapped}
+use Rattle.mt_rounds.specs.Waiting.{agents_of, if_blocking, Joins}
+use Rattle.mt_rounds.proofs.JoinFacts.{all_joined-append, AreJoining, joining_list, joining_more, known_to, next_mapped}
 use Rattle.mt_assignment.proofs.MarketFacts.{read_within}
 use Rattle.mt_couples.proofs.recheck.Recheck.join_moved.Goals as goal
 

@@ -1,6 +1,6 @@
 use Rattle.std.proofs.Common.{drop}
-use Rattle.mt_couples.specs.Waiting.{agents_of}
-use Rattle.mt_couples.proofs.JoinFacts.{AreJoining}
+use Rattle.mt_rounds.specs.Waiting.{agents_of}
+use Rattle.mt_rounds.proofs.JoinFacts.{AreJoining}
 use Rattle.mt_couples.proofs.recheck.Recheck.join_moved.Given as goal
 
 abbrev pub invariant-loop-applicant : goal.invariant-loop-applicant

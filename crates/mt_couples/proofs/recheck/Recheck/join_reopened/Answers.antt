@@ -4,11 +4,11 @@ use Rattle.mt_terms.specs.Market.{agent_of, applicants}
 use Rattle.mt_terms.specs.Rounds.{all_joined, is_on, joined}
 use Rattle.mt_round_laws.proofs.RoundsKeep.{on_joined}
 use Rattle.mt_stage_tables.specs.Waiting.{with_agents, Waiting}
-use Rattle.mt_couples.specs.Waiting.{agents_of, blockers}
-use Rattle.mt_couples.specs.Running.{is_reopened}
-use Rattle.mt_couples.proofs.QuietFacts.{blocking}
+use Rattle.mt_rounds.specs.Waiting.{agents_of, blockers}
+use Rattle.mt_assignment.specs.Blocking.{is_reopened}
+use Rattle.mt_rounds.proofs.QuietFacts.{blocking}
 use Rattle.mt_stage_tables.proofs.ListFacts.{drop_past}
-use Rattle.mt_couples.proofs.LookFacts.{none_between, passes_joined, passes_skipped, passing, Rest}
+use Rattle.mt_rounds.proofs.LookFacts.{none_between, passes_joined, passes_skipped, passing, Rest}
 use Rattle.mt_assignment.proofs.MarketFacts.{read_within}
 use Rattle.mt_stage_tables.proofs.OrderFacts.{has_at}
 use Rattle.mt_couples.proofs.recheck.Recheck.join_reopened.Goals as goal

@@ -1,7 +1,7 @@
 use Rattle.std.proofs.Common.{◌≡◌, ◌<◌, ◌≤◌, ℕ, true, drop, filter, length, get_or}
 use Rattle.mt_terms.specs.Rounds.{is_on}
-use Rattle.mt_couples.specs.Waiting.{agents_of, blockers}
-use Rattle.mt_couples.proofs.QuietFacts.{blocking, IsLooking}
+use Rattle.mt_rounds.specs.Waiting.{agents_of, blockers}
+use Rattle.mt_rounds.proofs.QuietFacts.{blocking, IsLooking}
 use Rattle.mt_terms.specs.declared.numbers.Agent.{Agent}
 use Rattle.mt_couples.proofs.recheck.Recheck.join_reopened.Given as goal
 

@@ -1,7 +1,7 @@
 use Rattle.std.proofs.Common.{◌≡◌, ◌∙◌, ◌++◌, ◌+◌, drop, ap, sym, subst}
 use Rattle.std.proofs.lemmas.List.{drop_more}
-use Rattle.mt_couples.specs.Waiting.{blockers, blockers_of}
-use Rattle.mt_couples.proofs.JoinFacts.{AreJoining, joining_list, joining_some}
+use Rattle.mt_rounds.specs.Waiting.{blockers, blockers_of}
+use Rattle.mt_rounds.proofs.JoinFacts.{AreJoining, joining_list, joining_some}
 use Rattle.mt_stage_tables.proofs.PlaceFacts.{has_read}
 use Rattle.mt_couples.proofs.recheck.Recheck.recheck_every_listed.Goals as goal
 

@@ -1,6 +1,6 @@
 use Rattle.std.proofs.Common.{drop}
-use Rattle.mt_couples.specs.Waiting.{blockers_of}
-use Rattle.mt_couples.proofs.JoinFacts.{AreJoining}
+use Rattle.mt_rounds.specs.Waiting.{blockers_of}
+use Rattle.mt_rounds.proofs.JoinFacts.{AreJoining}
 use Rattle.mt_couples.proofs.recheck.Recheck.recheck_every_listed.Given as goal
 
 abbrev pub invariant-loop-program : goal.invariant-loop-program

@@ -1,8 +1,8 @@
 use Rattle.std.proofs.Common.{◌&&◌, drop, filter}
 use Rattle.mt_terms.specs.Stability.{blocks}
 use Rattle.mt_terms.specs.Rounds.{has_entered}
-use Rattle.mt_couples.specs.Waiting.{agents_of, blockers}
-use Rattle.mt_couples.proofs.JoinFacts.{AreJoining}
+use Rattle.mt_rounds.specs.Waiting.{agents_of, blockers}
+use Rattle.mt_rounds.proofs.JoinFacts.{AreJoining}
 use Rattle.mt_couples.proofs.recheck.Recheck.recheck_listed.Given as goal
 
 abbrev pub invariant-loop-applicant : goal.invariant-loop-applicant

@@ -6,12 +6,12 @@ use Rattle.mt_terms.specs.declared.numbers.Agent.TheVariants.{Single}
 use Rattle.mt_round_laws.proofs.RoundsKeep.{on_joined}
 use Rattle.mt_round_laws.proofs.RoundsSets.{has_head}
 use Rattle.mt_stage_tables.specs.Waiting.{with_agents, Waiting}
-use Rattle.mt_couples.specs.Looking.{IsClosed, IsOpenFrom}
-use Rattle.mt_couples.specs.Waiting.{agents_of, blockers}
-use Rattle.mt_couples.proofs.JoinFacts.{joining_list}
-use Rattle.mt_couples.proofs.QuietFacts.{blocking}
+use Rattle.mt_watch.specs.Posts.{IsClosed, IsOpenFrom}
+use Rattle.mt_rounds.specs.Waiting.{agents_of, blockers}
+use Rattle.mt_rounds.proofs.JoinFacts.{joining_list}
+use Rattle.mt_rounds.proofs.QuietFacts.{blocking}
 use Rattle.mt_stage_tables.proofs.ListFacts.{drop_past}
-use Rattle.mt_couples.proofs.LookFacts.{Rest}
+use Rattle.mt_rounds.proofs.LookFacts.{Rest}
 use Rattle.mt_assignment.proofs.MarketFacts.{read_within}
 use Rattle.mt_couples.proofs.OneFacts.{no_couples, passes_last, passes_next}
 use Rattle.mt_couples.proofs.recheck.Recheck.recheck_one_watched.Goals as goal

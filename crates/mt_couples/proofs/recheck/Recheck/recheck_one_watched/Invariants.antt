@@ -1,8 +1,8 @@
 use Rattle.std.proofs.Common.{◌≡◌, ◌∷◌, ◌-◌, ◌≤◌, [], true, drop, filter, length}
 use Rattle.mt_terms.specs.Rounds.{is_on}
 use Rattle.mt_terms.specs.declared.numbers.Agent.{Agent}
-use Rattle.mt_couples.specs.Waiting.{agents_of, blockers}
-use Rattle.mt_couples.proofs.QuietFacts.{blocking, IsLooking}
+use Rattle.mt_rounds.specs.Waiting.{agents_of, blockers}
+use Rattle.mt_rounds.proofs.QuietFacts.{blocking, IsLooking}
 use Rattle.mt_couples.proofs.recheck.Recheck.recheck_one_watched.Given as goal
 
 abbrev pub invariant-loop-rank : goal.invariant-loop-rank

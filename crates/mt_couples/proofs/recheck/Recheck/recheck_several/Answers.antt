@@ -7,11 +7,11 @@ use Rattle.mt_terms.specs.Market.{agent_of}
 use Rattle.mt_terms.specs.Rounds.{is_on}
 use Rattle.mt_round_laws.proofs.RoundsKeep.{on_all_joined}
 use Rattle.mt_stage_tables.specs.Waiting.{Waiting}
-use Rattle.mt_couples.specs.Looking.{HaveReopened}
-use Rattle.mt_couples.specs.Waiting.{blockers, blockers_of}
+use Rattle.mt_rounds.specs.Looking.{HaveReopened}
+use Rattle.mt_rounds.specs.Waiting.{blockers, blockers_of}
 use Rattle.mt_stage_tables.proofs.PlaceFacts.{has_read}
-use Rattle.mt_couples.proofs.QuietFacts.{looking_some, IsLooking}
-use Rattle.mt_couples.proofs.LookFacts.{reopened_before}
+use Rattle.mt_rounds.proofs.QuietFacts.{looking_some, IsLooking}
+use Rattle.mt_rounds.proofs.LookFacts.{reopened_before}
 use Rattle.mt_couples.proofs.recheck.Recheck.recheck_several.Goals as goal
 
 pub ranks_of-requires-clause-program : goal.ranks_of-requires-clause-program

@@ -1,8 +1,8 @@
 use Rattle.std.proofs.Common.{◌≡◌, true, drop}
 use Rattle.mt_terms.specs.Rounds.{is_on}
 use Rattle.mt_terms.specs.declared.numbers.Agent.{Agent}
-use Rattle.mt_couples.specs.Waiting.{blockers_of}
-use Rattle.mt_couples.proofs.QuietFacts.{IsLooking}
+use Rattle.mt_rounds.specs.Waiting.{blockers_of}
+use Rattle.mt_rounds.proofs.QuietFacts.{IsLooking}
 use Rattle.mt_couples.proofs.recheck.Recheck.recheck_several.Given as goal
 
 abbrev pub invariant-loop-program : goal.invariant-loop-program

@@ -1,10 +1,10 @@
 use Rattle.std.proofs.Common.{◌≡◌, ◌∙◌, ◌++◌, ◌∷◌, [], ◌+◌, take, ap, sym, subst, inl, inr}
 use Rattle.std.proofs.lemmas.List.{take_more}
 use Rattle.mt_terms.specs.Lists.{has}
-use Rattle.mt_couples.specs.Watching.{Covers}
+use Rattle.mt_watch.specs.Found.{Covers}
 use Rattle.mt_stage_tables.proofs.PlaceFacts.{has_read}
 use Rattle.mt_stage_tables.proofs.GrowingFacts.{each_all, has_parts}
-use Rattle.mt_couples.proofs.LookFacts.{covers_all}
+use Rattle.mt_watch.proofs.FoundFacts.{covers_all}
 use Rattle.mt_couples.proofs.recheck.Recheck.reopened_applicants.Goals as goal
 
 pub add_reopened-requires-clause-program : goal.add_reopened-requires-clause-program

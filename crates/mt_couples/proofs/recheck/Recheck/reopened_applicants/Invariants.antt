@@ -1,7 +1,7 @@
 use Rattle.std.proofs.Common.{◌≡◌, ◌∷◌, [], ℕ, true, take}
 use Rattle.mt_terms.specs.Lists.{has}
 use Rattle.mt_assignment.specs.Assigned.{AreApplicantsOf}
-use Rattle.mt_couples.specs.Watching.{Covers}
+use Rattle.mt_watch.specs.Found.{Covers}
 use Rattle.mt_couples.proofs.recheck.Recheck.reopened_applicants.Given as goal
 
 abbrev pub invariant-loop-program : goal.invariant-loop-program

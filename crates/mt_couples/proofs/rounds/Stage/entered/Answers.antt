@@ -1,9 +1,9 @@
 -- Each couple that has entered is noted in turn, and nothing else changes.
 use Rattle.std.proofs.Common.{◌∙◌, ap, arith, length}
 use Rattle.mt_assignment.specs.Assigned.{Assigned}
-use Rattle.mt_couples.proofs.EnteringFacts.{at_first}
+use Rattle.mt_couples.proofs.StageFacts.{at_first}
 use Rattle.mt_round_laws.proofs.PlacesFacts.{fits_are_places}
-use Rattle.mt_couples.proofs.RoundFacts.{listed_of_fitting}
+use Rattle.mt_rounds.proofs.RoundFacts.{listed_of_fitting}
 use Rattle.mt_couples.proofs.rounds.Stage.entered.Goals as goal
 
 pub new-requires-clause-places : goal.new-requires-clause-places

@@ -4,15 +4,16 @@ use Rattle.std.proofs.Common.{◌≡◌, ◌∙◌, ◌∷◌, ◌+◌, ℕ, [],
 use Rattle.mt_terms.specs.WellFormed.{IsWellFormed}
 use Rattle.mt_terms.specs.Rounds.{after_rounds}
 use Rattle.mt_terms.specs.declared.numbers.Agent.TheVariants.{Couple}
-use Rattle.mt_couples.specs.Looking.{AreIndexed}
+use Rattle.mt_watch.specs.Watching.{AreIndexed}
 use Rattle.mt_entry.specs.Ended.{IfSpent}
 use Rattle.mt_couples.specs.Staged.{IsBetweenEntries, IsBetweenRounds, IsWatched}
 use Rattle.mt_couples.specs.declared.rounds.Stage.{Stage}
 use Rattle.mt_entry.specs.declared.ends.CoupleEnd.{CoupleEnd}
 use Rattle.mt_entry.specs.declared.ends.CoupleEnd.TheVariants.{BudgetSpent, Memory}
 use Rattle.mt_entry.specs.declared.ends.Spent.{Spent}
-use Rattle.mt_couples.proofs.JoinFacts.{joined_list, known_joins}
-use Rattle.mt_couples.proofs.EnteringFacts.{idle_before, next_waits, settled_between}
+use Rattle.mt_rounds.proofs.JoinFacts.{joined_list, known_joins}
+use Rattle.mt_rounds.proofs.EnteringFacts.{idle_before, next_waits}
+use Rattle.mt_couples.proofs.StageFacts.{settled_between}
 use Rattle.mt_couples.proofs.rounds.Stage.let_in.Goals as goal
 
 pub settle-requires-clause-running : goal.settle-requires-clause-running

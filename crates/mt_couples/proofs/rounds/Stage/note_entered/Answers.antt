@@ -1,6 +1,6 @@
 use Rattle.std.proofs.Common.{◌∙◌, refl, sym}
 use Rattle.std.proofs.lemmas.Bool.{false≢true}
-use Rattle.mt_couples.proofs.EnteringFacts.{noted}
+use Rattle.mt_couples.proofs.StageFacts.{noted}
 use Rattle.mt_couples.proofs.rounds.Stage.note_entered.Goals as goal
 
 pub returns-then-blocks-clause-entered : goal.returns-then-blocks-clause-entered

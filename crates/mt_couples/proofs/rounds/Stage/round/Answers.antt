@@ -3,7 +3,7 @@ use Rattle.std.proofs.Common.{◌∙◌, Some, sym, ap, ap₂, subst, arith}
 use Rattle.mt_terms.specs.Matching.{single_placement, couple_placement}
 use Rattle.mt_terms.specs.Rounds.{first_taken}
 use Rattle.mt_terms.specs.Market.{IsAgentOf}
-use Rattle.mt_couples.proofs.RoundFacts.{front_within, front_takes}
+use Rattle.mt_rounds.proofs.RoundFacts.{front_within, front_takes}
 use Rattle.mt_couples.proofs.rounds.Stage.round.Goals as goal
 
 pub first_program-requires : goal.first_program-requires

@@ -6,14 +6,14 @@ use Rattle.mt_terms.specs.Rounds.{after_rounds, round, round_of}
 use Rattle.mt_terms.specs.declared.numbers.Agent.{Agent}
 use Rattle.mt_assignment.specs.Assigned.{Assigned}
 use Rattle.mt_stage_tables.specs.Waiting.{waiting_first, with_agents, Waiting}
-use Rattle.mt_couples.specs.Looking.{IsWatching}
+use Rattle.mt_watch.specs.Watching.{IsWatching}
 use Rattle.mt_entry.specs.Ended.{IfSpent}
 use Rattle.mt_couples.specs.Ended.{IsSpentFrom}
-use Rattle.mt_couples.specs.Returning.{state_in}
-use Rattle.mt_couples.specs.Running.{work_of, IsRunning}
+use Rattle.mt_rounds.specs.Returning.{state_in}
+use Rattle.mt_rounds.specs.Running.{work_of, IsRunning}
 use Rattle.mt_couples.specs.Staged.{state_of}
-use Rattle.mt_couples.proofs.ReturningFacts.{kept_more, never_settles, reached_more}
-use Rattle.mt_couples.proofs.RoundFacts.{settling_more}
+use Rattle.mt_rounds.proofs.ReturningFacts.{kept_more, never_settles, reached_more}
+use Rattle.mt_rounds.proofs.RoundFacts.{settling_more}
 use Rattle.mt_couples.proofs.rounds.Stage.settle.Goals as goal
 
 -- a round that was made, as the definition has it

@@ -1,7 +1,7 @@
-use Rattle.mt_couples.specs.Returning.{state_in}
+use Rattle.mt_rounds.specs.Returning.{state_in}
 use Rattle.mt_couples.specs.Staged.{state_of, IsWatched, KeepsStage}
-use Rattle.mt_couples.proofs.ReturningFacts.{IsKeptOnWay, IsReached}
-use Rattle.mt_couples.proofs.RoundFacts.{IsSettling}
+use Rattle.mt_rounds.proofs.ReturningFacts.{IsKeptOnWay, IsReached}
+use Rattle.mt_rounds.proofs.RoundFacts.{IsSettling}
 use Rattle.mt_couples.proofs.rounds.Stage.settle.Given as goal
 
 abbrev pub invariant-loop-agent : goal.invariant-loop-agent

@@ -10,21 +10,20 @@ use Rattle.mt_terms.specs.declared.numbers.Agent.{Agent}
 use Rattle.mt_round_laws.proofs.RoundsLists.{has_in, of_kept, of_below}
 use Rattle.mt_stage_tables.specs.Waiting.{with_agents, Waiting}
 use Rattle.mt_assignment.specs.Assigned.{Assigned, AreSent}
-use Rattle.mt_couples.specs.Waiting.{agents_of, if_blocking, blockers_of, IsListOf, Joins}
+use Rattle.mt_rounds.specs.Waiting.{agents_of, if_blocking, blockers_of, IsListOf, Joins}
 use Rattle.mt_assignment.specs.Moves.{displaced_by, moved, IsTaking}
-use Rattle.mt_couples.specs.Running.{work_of, IsQuietBut}
-use Rattle.mt_couples.proofs.JoinFacts.{joined_list, joins_adds, joins_keeps, rest_list}
-use Rattle.mt_couples.proofs.QuietFacts.{quiet_but_left, waits_after}
+use Rattle.mt_rounds.specs.Running.{work_of, IsQuietBut}
+use Rattle.mt_rounds.proofs.JoinFacts.{joined_list, joins_adds, joins_keeps, rest_list}
+use Rattle.mt_rounds.proofs.QuietFacts.{quiet_but_left, waits_after}
 use Rattle.mt_terms.specs.WellFormed.{IsWellFormed}
-use Rattle.mt_couples.specs.Looking.{IsWatching}
+use Rattle.mt_watch.specs.Watching.{IsWatching, AreCounted, CountsAll, FollowsAll, IndexesAgent}
 use Rattle.mt_terms.specs.Matching.{Placement}
 use Rattle.mt_stage_tables.specs.Named.{indexed_count, AreNamed, Index}
-use Rattle.mt_couples.specs.declared.watch.Watch.{Watch}
-use Rattle.mt_couples.specs.Watching.{AreCounted, CountsAll, FollowsAll, IndexesAgent}
+use Rattle.mt_watch.specs.declared.watch.Watch.{Watch}
 use Rattle.mt_assignment.specs.Watched.{AreWatched}
-use Rattle.mt_couples.proofs.WatchFacts.{watched_after}
-use Rattle.mt_couples.proofs.IndexFacts.{counted_after, indexed_after}
-use Rattle.mt_couples.proofs.RoundFacts.{front_within}
+use Rattle.mt_watch.proofs.WatchFacts.{watched_after}
+use Rattle.mt_watch.proofs.IndexFacts.{counted_after, indexed_after}
+use Rattle.mt_rounds.proofs.RoundFacts.{front_within}
 use Rattle.mt_assignment.proofs.MoveFacts.{are_sent, displaced_within}
 use Rattle.mt_couples.proofs.rounds.Stage.take_option.Goals as goal
 

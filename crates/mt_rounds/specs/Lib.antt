@@ -1,0 +1,4 @@
+pub mod Looking
+pub mod Returning
+pub mod Running
+pub mod Waiting
