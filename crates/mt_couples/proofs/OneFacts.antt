@@ -1,4 +1,5 @@
--- Who joins if one program was left and no couple is reopened by it: the singles at the ranks that are watched there.
+-- Which couples the index finds at a program that was left, and who joins if it is the only one and the index finds none:
+-- the singles at the ranks that are watched there.
 use Rattle.std.proofs.Common.{◌≡◌, ◌∙◌, ℕ, ◌+◌, ◌-◌, ◌<◌, ◌≤◌, Bool, true, false, not, ◌&&◌, ◌==◌, List, [], ◌∷◌, length, get_or, Some, refl, ap, sym, subst, arith, vec_len, Vec, filter}
 use Rattle.std.proofs.lemmas.Bool.{and_parts, both_ways, eqb-true, false≢true, false_from_ne_true}
 use Rattle.std.proofs.lemmas.List.{nil_from_length}
