@@ -7,7 +7,7 @@ ghost use Rattle.mt_answer.specs.Answer.{IsAnswerOfMarket, IsEnteredFrom, IsPubl
 ghost use Rattle.mt_answer.specs.Refusals.{IsRefusalBy};
 
 use crate::singles::match_singles;
-use mt_couples::{CoupleEnd, enter_all};
+use mt_entry::{CoupleEnd, CouplesStage, RankedMarket};
 use mt_market::Roster;
 use mt_ranks::Ranks;
 use mt_report::published;
@@ -44,7 +44,7 @@ pub(crate) fn is_stable<T: Threads + Sync>(
 }
 
 /// The match once the couples have entered after a match of the singles.
-fn with_couples<T: Threads + Sync>(
+fn with_couples<S: CouplesStage + Sync, T: Threads + Sync>(
     rt: &T,
     alloc: Global,
     roster: &Roster,
@@ -58,7 +58,8 @@ fn with_couples<T: Threads + Sync>(
     ensures refused { IfErr result (IsRefusalBy (IsAnswerOfMarket roster.now budget)) }
 {
     roster.is_of_a_file();
-    match enter_all(rt, alloc, roster, ranks, singles, budget) {
+    let market = RankedMarket { roster, ranks };
+    match S::enter_all(rt, alloc, market, singles, budget) {
         Ok(entered) => Ok(entered.matched),
         Err(CoupleEnd::BudgetSpent(_)) => Err(Refusal::alone(BUDGET_SPENT)),
         Err(CoupleEnd::Memory) => Err(Refusal::alone(OUT_OF_MEMORY)),
@@ -86,34 +87,9 @@ pub(crate) fn publish<T: Threads + Sync>(
     Ok(Some(published(alloc, roster, matched, proposals)?))
 }
 
-/// The text of the market's match by its rank tables, once the singles are matched and the couples have entered.
-fn answer_by_ranks<T: Threads + Wait + Sync>(
-    rt: &T,
-    alloc: Global,
-    roster: &Roster,
-    ranks: &Ranks,
-    options: Options,
-) -> Result<Vec<u8>, Refusal>
-    requires ranks { ranks.now ≡ ranked_of roster.now.market }
-    requires workers { (1 ≤ options.workers) × (options.workers ≤ 64) }
-    ensures text { IfOk result (λ text. IsAnswerOfMarket roster.now options.budget 0 text.items) }
-    ensures refused { IfErr result (IsRefusalBy (IsAnswerOfMarket roster.now options.budget)) }
-{
-    roster.is_of_a_file();
-    let Ok(singles) = match_singles(rt, alloc, roster, ranks, options.workers) else {
-        return Err(Refusal::alone(OUT_OF_MEMORY));
-    };
-    let matched = with_couples(rt, alloc, roster, ranks, singles.matched, options.budget)?;
-    match publish(rt, alloc, roster, ranks, &matched, &singles.proposals) {
-        Ok(Some(text)) => Ok(text),
-        Ok(None) => unreachable!(),
-        Err(_) => Err(Refusal::alone(OUT_OF_MEMORY)),
-    }
-}
-
-/// The text of the market's match, which is stable. `workers` workers match the singles, and the couples enter within
-/// the budget. The error is a refusal: the budget is spent, or memory was refused.
-pub fn answer_to_market<T: Threads + Wait + Sync>(
+/// The text of the market's match, which is stable. `workers` workers match the singles, and the couples enter by the
+/// stage `S` within the budget. The error is a refusal: the budget is spent, or memory was refused.
+pub fn answer_to_market<S: CouplesStage + Sync, T: Threads + Wait + Sync>(
     rt: &T,
     alloc: Global,
     roster: &Roster,
@@ -123,8 +99,17 @@ pub fn answer_to_market<T: Threads + Wait + Sync>(
     ensures text { IfOk result (λ text. IsAnswerOfMarket roster.now options.budget 0 text.items) }
     ensures refused { IfErr result (IsRefusalBy (IsAnswerOfMarket roster.now options.budget)) }
 {
-    match Ranks::build(rt, alloc, roster) {
-        Ok(ranks) => answer_by_ranks(rt, alloc, roster, &ranks, options),
+    roster.is_of_a_file();
+    let Ok(ranks) = Ranks::build(rt, alloc, roster) else {
+        return Err(Refusal::alone(OUT_OF_MEMORY));
+    };
+    let Ok(singles) = match_singles(rt, alloc, roster, &ranks, options.workers) else {
+        return Err(Refusal::alone(OUT_OF_MEMORY));
+    };
+    let matched = with_couples::<S, T>(rt, alloc, roster, &ranks, singles.matched, options.budget)?;
+    match publish(rt, alloc, roster, &ranks, &matched, &singles.proposals) {
+        Ok(Some(text)) => Ok(text),
+        Ok(None) => unreachable!(),
         Err(_) => Err(Refusal::alone(OUT_OF_MEMORY)),
     }
 }

@@ -12,9 +12,8 @@ ghost use Rattle.mt_answer.specs.Ways.{IfUnanswered, IsAnswerInWays, IsAnswerOfN
 use crate::answer::{is_stable, publish};
 use crate::singles::match_singles;
 use crate::ways::{Answer, Entering, Unanswered, Ways};
-use mt_couples::RothPeranson;
 use mt_crew::Singles;
-use mt_entry::{CoupleEnd, Spent};
+use mt_entry::{CoupleEnd, CouplesStage, Spent};
 use mt_market::Roster;
 use mt_orders::{Aside, Tries, enter_aside_in_orders, enter_in_orders};
 use mt_ranks::Ranks;
@@ -57,7 +56,7 @@ fn is_stable_aside<T: Threads + Sync>(
 }
 
 /// The text of the match of the others, once couples are set aside in the order in which the fewest are.
-fn answer_aside<T: Threads + Sync>(
+fn answer_aside<S: CouplesStage + Sync, T: Threads + Sync>(
     rt: &T,
     alloc: Global,
     roster: &Roster,
@@ -72,13 +71,7 @@ fn answer_aside<T: Threads + Sync>(
         tries.budget tries.orders true a.code a.text.items) }
     ensures code { IfOk result (λ a. a.code ≡ SET_ASIDE) }
 {
-    let aside = enter_aside_in_orders::<RothPeranson, T>(
-        rt,
-        alloc,
-        roster,
-        &singles.matched,
-        tries,
-    )?;
+    let aside = enter_aside_in_orders::<S, T>(rt, alloc, roster, &singles.matched, tries)?;
     if !is_stable_aside(rt, alloc, roster, &aside)? {
         unreachable!();
     }
@@ -101,7 +94,7 @@ fn answer_aside<T: Threads + Sync>(
 /// the fewest are set aside. Their members stay unplaced.
 ///
 /// The errors are that the budget is spent in each order and no couple may be set aside, and want of memory.
-pub fn answer_in_ways<T: Threads + Wait + Sync>(
+pub fn answer_in_ways<S: CouplesStage + Sync, T: Threads + Wait + Sync>(
     rt: &T,
     alloc: Global,
     roster: &Roster,
@@ -124,7 +117,7 @@ pub fn answer_in_ways<T: Threads + Wait + Sync>(
         budget: options.budget,
         orders: ways.orders,
     };
-    match enter_in_orders::<RothPeranson, T>(rt, alloc, roster, &ranks, &singles.matched, tries) {
+    match enter_in_orders::<S, T>(rt, alloc, roster, &ranks, &singles.matched, tries) {
         Ok(matched) => match publish(rt, alloc, roster, &ranks, &matched, &singles.proposals)? {
             Some(text) => Ok(Answer { code: 0, text }),
             None => unreachable!(),
@@ -132,7 +125,7 @@ pub fn answer_in_ways<T: Threads + Wait + Sync>(
         Err(CoupleEnd::Memory) => Err(Unanswered::Memory),
         Err(CoupleEnd::BudgetSpent(spent)) => {
             if ways.set_aside {
-                Ok(answer_aside(rt, alloc, roster, &singles, tries)?)
+                Ok(answer_aside::<S, T>(rt, alloc, roster, &singles, tries)?)
             } else {
                 Err(Unanswered::BudgetSpent(entering(roster, spent)))
             }

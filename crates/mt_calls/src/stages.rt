@@ -4,7 +4,7 @@ ghost use Rattle.mt_terms.specs.Places.{ArePlaces};
 ghost use Rattle.mt_ranks.specs.Ranked.{ranked_of};
 
 use mt_answer::answer_to_market;
-use mt_couples::{CoupleEnd, enter_all};
+use mt_couples::{CoupleEnd, RothPeranson, enter_all};
 use mt_explain::{Why, option_lines};
 use mt_market::Roster;
 use mt_ranks::Ranks;
@@ -183,7 +183,7 @@ pub fn answers<T: Threads + Wait + Sync>(
 {
     let roster = roster_of(rt, alloc, TWO_COUPLES)?;
     let options = Options { workers, budget: 5 };
-    match answer_to_market(rt, alloc, &roster, options) {
+    match answer_to_market::<RothPeranson, T>(rt, alloc, &roster, options) {
         Ok(text) => Ok(text.as_slice() == TWO_COUPLES_TEXT),
         Err(refusal) if refusal.code == OUT_OF_MEMORY => Err(SampleError::Memory),
         Err(_) => Ok(false),

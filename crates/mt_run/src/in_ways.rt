@@ -11,6 +11,7 @@ ghost use Rattle.mt_run.specs.Unmatched.{code_of, IsUnmatchedBy};
 ghost use Rattle.mt_run.specs.Ways.{AnswersInWays, IsAnswerInTo, IsRefusalIn, NamesEntering};
 
 use mt_answer::{Answer, Entering, Unanswered, Ways, answer_in_ways};
+use mt_couples::RothPeranson;
 use mt_input::read_market;
 use mt_lists::Tap;
 use mt_report::{Drain, Ended, end, refused};
@@ -76,7 +77,7 @@ fn answer_to_input_in_ways<T: Threads + Wait + Sync, R: Read>(
     ensures tap { TakesFile R.remaining tap.old tap.new }
 {
     match read_market(rt, alloc, tap) {
-        Ok(roster) => match answer_in_ways(rt, alloc, &roster, options, ways) {
+        Ok(roster) => match answer_in_ways::<RothPeranson, T>(rt, alloc, &roster, options, ways) {
             Ok(answer) => Ok(answer),
             Err(unanswered) => Err(why_unmatched(unanswered)),
         },

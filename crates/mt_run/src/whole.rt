@@ -9,6 +9,7 @@ ghost use Rattle.mt_run.specs.Answer.{Answers, IsAnswerTo};
 ghost use Rattle.mt_run.specs.Refusals.{IsRefusalTo, PublishesSingles};
 
 use mt_answer::answer_to_market;
+use mt_couples::RothPeranson;
 use mt_input::read_market;
 use mt_lists::Tap;
 use mt_report::{Drain, Ended, end, refused};
@@ -35,7 +36,7 @@ fn answer_to_input<T: Threads + Wait + Sync, R: Read>(
     ensures tap { TakesFile R.remaining tap.old tap.new }
 {
     match read_market(rt, alloc, tap) {
-        Ok(roster) => answer_to_market(rt, alloc, &roster, options),
+        Ok(roster) => answer_to_market::<RothPeranson, T>(rt, alloc, &roster, options),
         Err(refusal) => Err(refusal),
     }
 }

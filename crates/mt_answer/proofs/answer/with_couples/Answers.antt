@@ -5,9 +5,12 @@ use Rattle.mt_round_laws.proofs.RoundsStage.{singles_fit}
 use Rattle.mt_answer.proofs.RefusalFacts.{no_memory}
 use Rattle.mt_answer.proofs.answer.with_couples.Goals as goal
 
-pub enter_all-requires-clause-fits : goal.enter_all-requires-clause-fits
-enter_all-requires-clause-fits g c κs within =
-    singles_fit c.args.roster.now.market c.is_of_a_file.ensures.well_formed c.args.singles.places c.requires.best.is_stable
+pub enter_all-requires-clause-market : goal.enter_all-requires-clause-market
+enter_all-requires-clause-market g c =
+    record {
+      ranks = c.requires.ranks;
+      fitting = singles_fit c.args.roster.now.market c.is_of_a_file.ensures.well_formed c.args.singles.places c.requires.best.is_stable;
+    }
 
 pub returns-in-Err-Memory-clause-refused : goal.returns-in-Err-Memory-clause-refused
 returns-in-Err-Memory-clause-refused g c = no_memory c.alone-in-Err-Memory.result c.alone-in-Err-Memory.ensures.named c.alone-in-Err-Memory.ensures.code
