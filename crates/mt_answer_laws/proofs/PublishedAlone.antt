@@ -9,8 +9,8 @@ use Rattle.mt_terms.specs.Text.{published}
 use Rattle.mt_answer.specs.Answer.{all_proposals}
 use Rattle.mt_input.specs.Files.{market_in}
 use Rattle.mt_input.proofs.MarketFacts.{registration_of}
-use Rattle.mt_run.specs.Answer.{IsAnswer}
-use Rattle.mt_run.proofs.HeadlineLemmas.{stage_of_singles}
+use Rattle.mt_run_laws.specs.Answer.{IsAnswer}
+use Rattle.mt_run_laws.proofs.HeadlineLemmas.{stage_of_singles}
 use Rattle.mt_text_laws.specs.Counts.{published_counts}
 use Rattle.mt_answer_laws.specs.TwoFiles.{Publishes}
 use Rattle.mt_answer_laws.proofs.CalledStable.{of_match}

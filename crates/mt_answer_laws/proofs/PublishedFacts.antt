@@ -17,8 +17,8 @@ use Rattle.mt_round_laws.proofs.RoundsStage.{stage_is_stable_lem}
 use Rattle.mt_answer.specs.Answer.{IsAnswerOfStage, IsAnswerOfMarket, all_proposals}
 use Rattle.mt_input.specs.Files.{market_in}
 use Rattle.mt_input.proofs.MarketFacts.{market_fault, registration_of}
-use Rattle.mt_run.specs.Answer.{IsAnswer, IsAnswerOfFault}
-use Rattle.mt_run.proofs.HeadlineLemmas.{not_zero, stage_of_singles}
+use Rattle.mt_run_laws.specs.Answer.{IsAnswer, IsAnswerOfFault}
+use Rattle.mt_run_laws.proofs.HeadlineLemmas.{not_zero, stage_of_singles}
 use Rattle.mt_text_laws.proofs.Bounds.{total_at_most}
 
 pub record PublishedOf (bytes text : List ℕ) : Type 0 where

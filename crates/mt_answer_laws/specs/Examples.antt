@@ -4,7 +4,7 @@ use Rattle.mt_terms.specs.Examples.Markets.{chain}
 use Rattle.mt_terms.specs.Examples.RegistrationText.{named}
 use Rattle.mt_terms.specs.Market.{Market, Registered}
 use Rattle.mt_applicant_laws.specs.Changes.{with_list, with_quota}
-use Rattle.mt_run.specs.Answer as run
+use Rattle.mt_run_laws.specs.Answer as run
 use Rattle.mt_check.specs.Answer.{answer_to}
 use Rattle.mt_check.specs.Text.{check_line, stable_line}
 use Rattle.mt_answer_laws.specs.TwoFiles.{DifferInList, DifferInQuota, Publishes}

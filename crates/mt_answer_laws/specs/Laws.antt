@@ -7,7 +7,7 @@ use Rattle.mt_terms.specs.Stability.{stable}
 use Rattle.mt_order_laws.specs.Reordered.{IsOrderOfSome, set_aside}
 use Rattle.mt_report.specs.Aside.{published_aside}
 use Rattle.mt_input.specs.Files.{market_in}
-use Rattle.mt_run.specs.Answer as run
+use Rattle.mt_run_laws.specs.Answer as run
 use Rattle.mt_check.specs.Answer.{answer_to}
 use Rattle.mt_check.specs.Text.{stable_line, stable_line_with}
 use Rattle.mt_answer_laws.specs.ReadBack.{IsReadBack}

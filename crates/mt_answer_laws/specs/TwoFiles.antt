@@ -4,7 +4,7 @@ use Rattle.mt_lists.specs.Records.{records_of}
 use Rattle.mt_terms.specs.Market.{Registered}
 use Rattle.mt_terms.specs.Matching.{Places}
 use Rattle.mt_terms.specs.Registration.Ids.{Bytes, quota_of}
-use Rattle.mt_run.specs.Answer as run
+use Rattle.mt_run_laws.specs.Answer as run
 use Rattle.mt_match_file.specs.declared.submitted_match.Counted.{Counted}
 use Rattle.mt_check.specs.Answer as check
 use Rattle.mt_input.specs.Files.{market_in}

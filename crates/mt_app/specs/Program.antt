@@ -3,7 +3,7 @@ use Rattle.std.specs.Prelude.{◌≡◌, ◌⊎◌, ℕ, true, List, [], ◌∷�
 use Rattle.mt_args.specs.CommandLine.{AsksForHelp, AsksForVersion, IsMisuse, is_set, is_taken}
 use Rattle.mt_terms.specs.Lists.{has}
 use Rattle.mt_answer.specs.declared.ways.Ways.{Ways}
-use Rattle.mt_run.specs.Ways.{AnswersInWays, NamesEntering}
+use Rattle.mt_run_laws.specs.Ways.{AnswersInWays, NamesEntering}
 use Rattle.mt_run.specs.declared.in_ways.EndedInWays.{EndedInWays}
 
 -- The program ran the match in the ways in which couples may enter. What it did to its writer answers what its reader had

@@ -1,5 +1,1 @@
-pub mod AnswerLemmas
-pub mod ExampleLemmas
-pub mod FaultFacts
-pub mod HeadlineLemmas
-pub mod WayFacts
+pub mod UnmatchedFacts

@@ -2,7 +2,6 @@
 #![tactic(auto)]
 
 mod in_ways;
-pub mod laws;
 mod whole;
 
 pub use in_ways::{EndedInWays, run_in_ways};

@@ -5,8 +5,8 @@ ghost use Rattle.mt_report.specs.Drains.{contents_of, failures_of, is_flushed};
 ghost use Rattle.mt_input.specs.Files.{most_bytes};
 ghost use Rattle.mt_input.specs.Left.{RisesAtMost, TakesFile};
 ghost use Rattle.mt_input.specs.Refusals.{code_of};
-ghost use Rattle.mt_run.specs.Answer.{Answers, IsAnswerTo};
-ghost use Rattle.mt_run.specs.Refusals.{IsRefusalTo, PublishesSingles};
+ghost use Rattle.mt_run_laws.specs.Answer.{Answers, IsAnswerTo};
+ghost use Rattle.mt_run_laws.specs.Refusals.{IsRefusalTo, PublishesSingles};
 
 use mt_answer::answer_to_market;
 use mt_couples::RothPeranson;

@@ -5,8 +5,8 @@ use Rattle.mt_terms.specs.Best.{IsBest}
 use Rattle.mt_terms.specs.Examples.Markets.{crossed}
 use Rattle.mt_terms.specs.Examples.RegistrationText.{file_1}
 use Rattle.mt_match_file.specs.declared.submitted_match.Count.TheVariants as count
-use Rattle.mt_run.specs.Answer.{IsAnswer}
-use Rattle.mt_run.specs.Examples.{crossed_file}
+use Rattle.mt_run_laws.specs.Answer.{IsAnswer}
+use Rattle.mt_run_laws.specs.Examples.{crossed_file}
 use Rattle.mt_answer_laws.specs.Examples.{crossed_bytes, programs_text}
 use Rattle.mt_answer_laws.specs.TwoFiles.{Publishes}
 use Rattle.mt_answer_laws.proofs.FileLawFacts.{accepted}

@@ -1,5 +1,6 @@
 use Rattle.mt_lists.specs.Tap.{bytes_left}
-use Rattle.mt_run.proofs.WayFacts.{market_refused_in, none_entering, unmatched_in}
+use Rattle.mt_run_laws.proofs.WayFacts.{market_refused_in, none_entering}
+use Rattle.mt_run.proofs.UnmatchedFacts.{unmatched_in}
 use Rattle.mt_run.proofs.in_ways.answer_to_input_in_ways.Goals as goal
 
 pub returns-in-Ok-clause-refused : goal.returns-in-Ok-clause-refused

@@ -2,8 +2,8 @@ use Rattle.std.proofs.Common.{◌≡◌, ◌∙◌, ap, refl}
 use Rattle.mt_lists.specs.Tap.{bytes_left}
 use Rattle.mt_terms.specs.Text.{refused}
 use Rattle.mt_answer.specs.Refusals.{line_of}
-use Rattle.mt_run.proofs.FaultFacts.{refusals_are_not_zero}
-use Rattle.mt_run.proofs.WayFacts.{neither, published_in_to, refusals_are_not_six}
+use Rattle.mt_run_laws.proofs.FaultFacts.{refusals_are_not_zero}
+use Rattle.mt_run_laws.proofs.WayFacts.{neither, published_in_to, refusals_are_not_six}
 use Rattle.mt_run.proofs.in_ways.run_in_ways.Goals as goal
 
 pub returns-in-Ok-clause-answers : goal.returns-in-Ok-clause-answers

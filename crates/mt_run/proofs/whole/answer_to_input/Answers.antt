@@ -1,5 +1,5 @@
 use Rattle.mt_lists.specs.Tap.{bytes_left}
-use Rattle.mt_run.proofs.FaultFacts.{market_refused, refusal_of_market, text_of_market}
+use Rattle.mt_run_laws.proofs.FaultFacts.{market_refused, refusal_of_market, text_of_market}
 use Rattle.mt_run.proofs.whole.answer_to_input.Goals as goal
 
 pub returns-in-Ok-clause-text : goal.returns-in-Ok-clause-text

@@ -2,8 +2,8 @@ use Rattle.std.proofs.Common.{◌≡◌, ◌∙◌, ap, refl}
 use Rattle.mt_lists.specs.Tap.{bytes_left}
 use Rattle.mt_terms.specs.Text.{refused}
 use Rattle.mt_answer.specs.Refusals.{line_of}
-use Rattle.mt_run.proofs.FaultFacts.{refusals_are_not_zero}
-use Rattle.mt_run.proofs.HeadlineLemmas.{published_to, publishes_singles}
+use Rattle.mt_run_laws.proofs.FaultFacts.{refusals_are_not_zero}
+use Rattle.mt_run_laws.proofs.HeadlineLemmas.{published_to, publishes_singles}
 use Rattle.mt_run.proofs.whole.run.Goals as goal
 
 pub returns-in-Ok-clause-answers : goal.returns-in-Ok-clause-answers

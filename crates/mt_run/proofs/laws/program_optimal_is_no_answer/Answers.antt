@@ -1,5 +1,0 @@
-use Rattle.mt_run.proofs.ExampleLemmas.{program_optimal_is_no_answer_lem}
-use Rattle.mt_run.proofs.laws.program_optimal_is_no_answer.Goals as goal
-
-pub returns : goal.returns
-returns c = program_optimal_is_no_answer_lem

@@ -1,5 +1,0 @@
-use Rattle.mt_run.proofs.HeadlineLemmas.{published_is_no_refusal_lem}
-use Rattle.mt_run.proofs.laws.published_is_no_refusal.Goals as goal
-
-pub returns : goal.returns
-returns c = published_is_no_refusal_lem

@@ -1,5 +1,0 @@
-use Rattle.mt_run.proofs.HeadlineLemmas.{refusal_is_one_record}
-use Rattle.mt_run.proofs.laws.refusal_is_one_record.Goals as goal
-
-pub returns : goal.returns
-returns c = refusal_is_one_record

@@ -1,0 +1,5 @@
+pub mod AnswerLemmas
+pub mod ExampleLemmas
+pub mod FaultFacts
+pub mod HeadlineLemmas
+pub mod WayFacts

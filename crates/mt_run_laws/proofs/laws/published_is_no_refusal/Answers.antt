@@ -1,0 +1,5 @@
+use Rattle.mt_run_laws.proofs.HeadlineLemmas.{published_is_no_refusal_lem}
+use Rattle.mt_run_laws.proofs.laws.published_is_no_refusal.Goals as goal
+
+pub returns : goal.returns
+returns c = published_is_no_refusal_lem
