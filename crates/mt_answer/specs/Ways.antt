@@ -1,10 +1,10 @@
 -- What a run writes for a market whose couples may enter in several orders, and may be set aside. This project's own rule.
-use Rattle.std.specs.Prelude.{◌≡◌, ◌≤◌, ℕ, Bool, true, false, List, Option, None, Some, IsFalse, IsTrue, ⊤}
+use Rattle.std.specs.Prelude.{◌≡◌, ◌≤◌, ℕ, Bool, true, false, List, [], Option, None, Some, IsFalse, IsTrue, ⊤}
 use Rattle.mt_terms.specs.Best.{IsBest}
 use Rattle.mt_terms.specs.Market.{Registered}
 use Rattle.mt_terms.specs.Matching.{Places}
 use Rattle.mt_terms.specs.Rounds.{stage}
-use Rattle.mt_terms.specs.Text.{name_of}
+use Rattle.mt_terms.specs.Text.{name_of, refused}
 use Rattle.mt_terms.specs.declared.codes.TheConstants.{BUDGET_SPENT}
 use Rattle.mt_order_laws.specs.Aside.{entering_at_end}
 use Rattle.mt_order_laws.specs.Orders.{first_order, in_order}
@@ -56,7 +56,7 @@ pub record IsEntering (r : Registered) (budget : ℕ) (e : Entering) : Type 0 wh
   pub all_made : IsFalse e.comes_back → e.rounds ≡ budget
   pub endless : IsTrue e.comes_back → (b : ℕ) → stage r.market best b ≡ None
 
--- what is so of the couple that was entering, if the budget was spent
-abbrev pub IfUnanswered : Unanswered → (Entering → Type 0) → Type 0
-IfUnanswered (BudgetSpent e) P = P e
-IfUnanswered Memory P = ⊤
+-- Why there is no match: no order ends within the budget, and this couple was entering. Nothing is said of want of memory.
+abbrev pub IsUnanswered : Registered → ℕ → Ways → Unanswered → Type 0
+IsUnanswered r budget ways (BudgetSpent e) = IsAnswerInWays r budget ways BUDGET_SPENT (refused BUDGET_SPENT 0 []) × IsEntering r budget e
+IsUnanswered r budget ways Memory = ⊤

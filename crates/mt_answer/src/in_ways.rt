@@ -1,13 +1,12 @@
-ghost use Rattle.std.specs.Prelude.{◌≡◌, ◌<◌, ◌≤◌, ◌⊎◌, [], ◌↔◌, length, true, IfErr, IfOk, IsTrue};
+ghost use Rattle.std.specs.Prelude.{◌≡◌, ◌<◌, ◌≤◌, ◌⊎◌, ◌↔◌, length, true, IfErr, IfOk, IsTrue};
 ghost use Rattle.mt_terms.specs.Best.{IsBest};
 ghost use Rattle.mt_terms.specs.Places.{ArePlaces};
 ghost use Rattle.mt_terms.specs.Stability.{stable};
-ghost use Rattle.mt_terms.specs.Text.{name_of, refused};
-ghost use Rattle.mt_terms.specs.declared.codes.TheConstants.{BUDGET_SPENT};
+ghost use Rattle.mt_terms.specs.Text.{name_of};
 ghost use Rattle.mt_report.specs.declared.ended.TheConstants.{SET_ASIDE};
 ghost use Rattle.mt_order_laws.specs.Reordered.{set_aside};
 ghost use Rattle.mt_answer.specs.Answer.{all_proposals};
-ghost use Rattle.mt_answer.specs.Ways.{IfUnanswered, IsAnswerInWays, IsAnswerOfNone, IsEntering};
+ghost use Rattle.mt_answer.specs.Ways.{IsAnswerInWays, IsAnswerOfNone, IsUnanswered};
 
 use crate::answer::{is_stable, publish};
 use crate::singles::match_singles;
@@ -106,9 +105,7 @@ pub fn answer_in_ways<S: CouplesStage + Sync, T: Threads + Wait + Sync>(
     ensures text { IfOk result (λ a.
         IsAnswerInWays roster.now options.budget ways a.code a.text.items) }
     ensures published { IfOk result (λ a. (a.code ≡ 0) ⊎ (a.code ≡ SET_ASIDE)) }
-    ensures spent { IfErr result (λ e. IfUnanswered e (λ _. IsAnswerInWays roster.now options.budget ways
-        BUDGET_SPENT (refused BUDGET_SPENT 0 []))) }
-    ensures entering { IfErr result (λ e. IfUnanswered e (IsEntering roster.now options.budget)) }
+    ensures unanswered { IfErr result (IsUnanswered roster.now options.budget ways) }
 {
     roster.is_of_a_file();
     let ranks = Ranks::build(rt, alloc, roster)?;

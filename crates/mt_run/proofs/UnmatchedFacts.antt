@@ -5,7 +5,7 @@ use Rattle.mt_terms.specs.Market.{Registered}
 use Rattle.mt_terms.specs.Text.{refused}
 use Rattle.mt_terms.specs.declared.refusal.Refusal.{Refusal}
 use Rattle.mt_answer.specs.Refusals.{line_of}
-use Rattle.mt_answer.specs.Ways.{IfUnanswered, IsAnswerInWays, IsEntering}
+use Rattle.mt_answer.specs.Ways.{IsUnanswered}
 use Rattle.mt_answer.specs.declared.ways.Unanswered.{Unanswered}
 use Rattle.mt_answer.specs.declared.ways.Unanswered.TheVariants.{BudgetSpent, Memory}
 use Rattle.mt_answer.specs.declared.ways.Ways.{Ways}
@@ -21,20 +21,20 @@ module _ (left : Option (List ℕ)) (budget : ℕ) (ways : Ways) (r : Registered
   line_is : (code : ℕ) (e : Refusal) → IsAlone code e → line_of e ≡ refused code 0 []
   line_is code e h = rw (h.same_code, h.no_row, h.no_id) refl
 
-  pub unmatched_in : (u : Unanswered) (n : Unmatched) → IsUnmatchedBy u n → IfUnanswered u (λ _. IsAnswerInWays r budget ways 41 (refused 41 0 []))
+  pub unmatched_in : (u : Unanswered) (n : Unmatched) → IsUnmatchedBy u n → IsUnanswered r budget ways u
       → IsRefusalIn left budget ways n.refusal
   unmatched_in (BudgetSpent e) n is h = record {
     named = is.0.named;
     answer = λ m read.
-        rw (line_is 41 n.refusal is.0, is.0.same_code) (text_in_market left budget ways r of 41 (refused 41 0 []) h);
+        rw (line_is 41 n.refusal is.0, is.0.same_code) (text_in_market left budget ways r of 41 (refused 41 0 []) h.0);
   }
   unmatched_in Memory n is h = record { named = is.0.named; answer = λ m read. absurd (m is.0.same_code) }
 
-  pub entering_in : (u : Unanswered) (n : Unmatched) → IsUnmatchedBy u n → IfUnanswered u (IsEntering r budget) → NamesEntering left budget n.refusal.code n.entering
+  pub entering_in : (u : Unanswered) (n : Unmatched) → IsUnmatchedBy u n → IsUnanswered r budget ways u → NamesEntering left budget n.refusal.code n.entering
   entering_in (BudgetSpent e) n is h = record {
     named = λ spent. ap is_some is.1;
     spent = λ some. is.0.same_code;
-    is_so = rw is.1 (of_left left (λ bytes market. (r, market, h)) of);
+    is_so = rw is.1 (of_left left (λ bytes market. (r, market, h.1)) of);
   }
   entering_in Memory n is h = record {
     named = λ spent. absurd (other spent);

@@ -5,7 +5,6 @@ ghost use Rattle.mt_report.specs.Drains.{contents_of, failures_of, is_flushed};
 ghost use Rattle.mt_report.specs.declared.ended.TheConstants.{SET_ASIDE};
 ghost use Rattle.mt_input.specs.Files.{most_bytes};
 ghost use Rattle.mt_input.specs.Left.{RisesAtMost, TakesFile};
-ghost use Rattle.mt_answer.specs.Ways.{IfUnanswered};
 ghost use Rattle.mt_run_laws.specs.Refusals.{PublishesSingles};
 ghost use Rattle.mt_run.specs.Unmatched.{code_of, IsUnmatchedBy};
 ghost use Rattle.mt_run_laws.specs.Ways.{AnswersInWays, IsAnswerInTo, IsRefusalIn, NamesEntering};
