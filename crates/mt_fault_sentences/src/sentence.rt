@@ -3,7 +3,7 @@ use crate::cursor::Cursor;
 use crate::shape::{tell_count, tell_kind};
 use crate::teller::Teller;
 use crate::version::tell_version;
-use mt_faults::Fault;
+use mt_fault_sink::Fault;
 use mt_ids::is_id;
 use mt_terms::codes::*;
 use mt_terms::{LIMITS, LIMITS_2};

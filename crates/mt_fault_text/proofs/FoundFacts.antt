@@ -4,9 +4,9 @@ use Rattle.std.specs.Prelude.{◌≢◌, OnErr, OnOk, is_ok}
 use Rattle.std.proofs.lemmas.Bool.{cases_eq, true≢false}
 use Rattle.mt_terms.specs.declared.codes.TheConstants.{OUT_OF_MEMORY}
 use Rattle.mt_fault_terms.specs.Faults.{FileFault}
-use Rattle.mt_faults.specs.Telling.{Tells}
-use Rattle.mt_faults.specs.declared.fault.FaultEnd.{FaultEnd}
-use Rattle.mt_faults.specs.declared.fault.FaultEnd.TheVariants.{Memory, Stopped as StoppedEnd}
+use Rattle.mt_fault_sink.specs.Telling.{Tells}
+use Rattle.mt_fault_sink.specs.declared.fault.FaultEnd.{FaultEnd}
+use Rattle.mt_fault_sink.specs.declared.fault.FaultEnd.TheVariants.{Memory, Stopped as StoppedEnd}
 use Rattle.mt_report.specs.Drains.{contents_of}
 use Rattle.mt_report.specs.declared.drain.Drain.{Drain}
 use Rattle.mt_explained.specs.Sending.{Breaks, Sends}

@@ -7,7 +7,7 @@ use crate::lines::write_fault;
 use crate::named::named_with;
 use mt_explain_text::Page;
 use mt_fault_sentences::{Cursor, Teller, tell_fault};
-use mt_faults::{Fault, FaultSink, Stop};
+use mt_fault_sink::{Fault, FaultSink, Stop};
 use mt_line_numbers::LineNumbers;
 use mt_report::Drain;
 use std::io::Write;
@@ -30,7 +30,7 @@ pub(crate) struct FaultLines<'a, 'd, 't, W: Write, E: Write> {
 }
 
 impl<'a, 'd, 't, W: Write, E: Write> FaultSink for FaultLines<'a, 'd, 't, W, E> {
-    ghost use Rattle.mt_faults.specs.Seen.{fault_seen};
+    ghost use Rattle.mt_fault_sink.specs.Seen.{fault_seen};
     ghost use Rattle.mt_fault_text.specs.Sinking.{CanTake, Stopped, Wrote};
     ghost use Rattle.mt_fault_text.specs.SinkLaws.{stopped_after, wrote_more, wrote_none};
 

@@ -11,7 +11,7 @@ ghost use Rattle.mt_input.specs.Files.{most_bytes};
 ghost use Rattle.mt_input.specs.Left.{TakesFile};
 ghost use Rattle.mt_files.specs.Text.{is_code_of};
 ghost use Rattle.mt_fault_terms.specs.Faults.{fault_alone};
-ghost use Rattle.mt_faults.specs.Seen.{fault_seen};
+ghost use Rattle.mt_fault_sink.specs.Seen.{fault_seen};
 ghost use Rattle.mt_fault_text.specs.Answer.{
   Answers,
   IsAnswerGiven,
@@ -34,7 +34,8 @@ use crate::sink::FaultLines;
 use mt_explain_text::Page;
 use mt_explained::{Outcome, Unwritten, make_room, send};
 use mt_fault_sentences::{Cursor, Teller, tell_alone, warn_of_none};
-use mt_faults::{Fault, find_faults};
+use mt_fault_sink::Fault;
+use mt_faults::find_faults;
 use mt_files::{Source, refused};
 use mt_input::bytes_of;
 use mt_line_numbers::LineNumbers;

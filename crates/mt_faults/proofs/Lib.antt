@@ -4,4 +4,3 @@ pub mod PartsFacts
 pub mod RecordFacts
 pub mod SearchFacts
 pub mod StandingFacts
-pub mod TellingFacts

@@ -10,13 +10,13 @@ use Rattle.mt_records.specs.Kinds.{ids_in}
 use Rattle.mt_fault_terms.specs.Faults.{fault_alone, placed_from}
 use Rattle.mt_fault_terms.specs.OfRecord.{passes, record_faults}
 use Rattle.mt_fault_terms.specs.Parts.{Parts, parts_by_kind, parts_of, unknown_parts, withdraw_parts, own_ids, withdrawn_ids, all_own_ids, all_applicants, all_withdrawn, all_entries}
+use Rattle.mt_fault_sink.specs.Telling.{at_record}
 use Rattle.mt_faults.specs.declared.before.Before.{Before}
 use Rattle.mt_faults.specs.declared.finder.Finder.{Finder}
 use Rattle.mt_faults.specs.declared.registry.Registry.{Registry}
 use Rattle.mt_faults.specs.NoKind.{is_of_no_kind}
 use Rattle.mt_faults.specs.Registered.{AddsAll, IsPassed, added, most, row_parts}
 use Rattle.mt_faults.specs.Standing.{IsBefore, Stands, row_faults}
-use Rattle.mt_faults.specs.Telling.{at_record}
 use Rattle.mt_faults.proofs.SearchFacts.{faults_some, row_some}
 use Rattle.mt_faults.proofs.StandingFacts.{adds_none, applicants-more, by_kind, entries-more, own_ids-more, withdrawn-more}
 

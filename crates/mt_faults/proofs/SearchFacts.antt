@@ -14,14 +14,14 @@ use Rattle.mt_fault_terms.specs.Faults.{FieldFault, FileFault, Placed, fault_alo
 use Rattle.mt_fault_terms.specs.OfFile.{all_parts, faults_after, faults_of_numbered, faults_under}
 use Rattle.mt_fault_terms.specs.OfRecord.{alone_at, bad_of_pair, is_id_field, is_place_field, pair_repeats_after, record_faults, repeats_after, shown_of_pair}
 use Rattle.mt_fault_terms.specs.Parts.{Parts, PlacedPair, ids_among, parts_of}
-use Rattle.mt_faults.specs.declared.fault.FaultEnd.{FaultEnd}
+use Rattle.mt_fault_sink.specs.declared.fault.FaultEnd.{FaultEnd}
+use Rattle.mt_fault_sink.specs.Telling.{Tells, at_record}
+use Rattle.mt_fault_sink.proofs.TellingFacts.{SoFar, ends_early, goes}
 use Rattle.mt_faults.specs.declared.finder.Finder.{Finder}
 use Rattle.mt_faults.specs.Registered.{row_parts}
 use Rattle.mt_faults.specs.Repeated.{repeated}
 use Rattle.mt_faults.specs.Standing.{Stands, row_faults}
-use Rattle.mt_faults.specs.Telling.{Tells, at_record}
 use Rattle.mt_faults.proofs.RecordFacts.{Alike, PairsAlike, bad_pair, fields_of, found_one}
-use Rattle.mt_faults.proofs.TellingFacts.{SoFar, ends_early, goes}
 
 -- faults of a record in two parts
 pub in_two : (n : ℕ) (whole some rest told : List FieldFault) → whole ≡ some ++ rest → told ≡ some → at_record n whole ≡ at_record n told ++ at_record n rest

@@ -3,5 +3,4 @@ pub mod Names
 pub mod NoKind
 pub mod Registered
 pub mod Repeated
-pub mod Telling
 pub mod Standing

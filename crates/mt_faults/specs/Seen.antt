@@ -1,4 +1,4 @@
--- How what is read of a record, and a fault of it, are seen as the definition's.
+-- How what is read of a record is seen as the definition's.
 use Rattle.std.specs.Prelude.{ℕ, ◌+◌, ◌&&◌, not, List, [], ◌∷◌, flat_map, take, Option, option_map, option_to_list, if◌then◌else◌}
 use Rattle.mt_lists.specs.Rows.{fields_left}
 use Rattle.mt_terms.specs.declared.codes.TheConstants.{BAD_ID}
@@ -9,7 +9,6 @@ use Rattle.mt_records.specs.Records.{kind_seen}
 use Rattle.mt_fault_terms.specs.Faults.{FieldFault, Placed, fault_alone, fault_of, placed_from}
 use Rattle.mt_fault_terms.specs.OfRecord.{is_id_field}
 use Rattle.mt_fault_terms.specs.Parts as model
-use Rattle.mt_faults.specs.declared.fault.Fault.{Fault}
 use Rattle.mt_faults.specs.declared.parts.Form.{Form}
 use Rattle.mt_faults.specs.declared.parts.Form.TheVariants as forms
 use Rattle.mt_faults.specs.declared.parts.FormFault.{FormFault}
@@ -20,17 +19,6 @@ use Rattle.mt_faults.specs.declared.placed.PlacedPairs.{PlacedPairs}
 use Rattle.mt_faults.specs.declared.tell.FieldTest.{FieldTest}
 use Rattle.mt_faults.specs.declared.tell.Wrong.{Wrong}
 use Rattle.mt_faults.specs.declared.tell.Wrong.TheVariants as wrongs
-
--- a fault with this code, field and id
-abbrev pub fault_with : ℕ → ℕ → Bytes → FieldFault
-fault_with code field id = record { code = code; field = field; id = id }
-
--- a fault without the field where its id stood first, which is for readers alone
-abbrev pub fault_seen : Fault → FieldFault
-fault_seen f = fault_with f.code f.field f.id.now
-
-abbrev pub faults_seen : Option Fault → List FieldFault
-faults_seen fault = option_to_list (option_map fault_seen fault)
 
 -- a field with its number
 abbrev pub field_seen : Field → Placed

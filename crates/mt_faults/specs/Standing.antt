@@ -7,10 +7,10 @@ use Rattle.mt_records.specs.Kinds.{ids_in}
 use Rattle.mt_fault_terms.specs.Faults.{FieldFault, FileFault}
 use Rattle.mt_fault_terms.specs.OfRecord.{found_among, record_faults}
 use Rattle.mt_fault_terms.specs.Parts.{Form, Registers, Withdraws, Parts, applicants_among, own_ids, all_own_ids, all_applicants, all_entries, all_withdrawn, parts_of}
+use Rattle.mt_fault_sink.specs.Telling.{at_record}
 use Rattle.mt_faults.specs.declared.before.Before.{Before}
 use Rattle.mt_faults.specs.declared.finder.Finder.{Finder}
 use Rattle.mt_faults.specs.Registered.{IsPassed, IsRegistry, added, most}
-use Rattle.mt_faults.specs.Telling.{at_record}
 
 -- These records stand before.
 pub record IsBefore (rules : Rules) (before : List Parts) (b : Before) : Type 0 where

@@ -1,10 +1,9 @@
 ghost use Rattle.mt_fault_terms.specs.OfFile.{faults_of};
-ghost use Rattle.mt_faults.specs.Telling.{Tells};
+ghost use Rattle.mt_fault_sink.specs.Telling.{Tells};
 
-use crate::fault::FaultEnd;
 use crate::rows::tell_rows;
-use crate::sink::FaultSink;
 use crate::tell::{fault_alone, tell};
+use mt_fault_sink::{FaultEnd, FaultSink};
 use mt_ids::Seed;
 use mt_lists::Rows;
 use mt_records::body_of;

@@ -3,21 +3,21 @@ ghost use Rattle.mt_terms.specs.declared.codes.TheConstants.{DUPLICATE_ID, TOO_M
 ghost use Rattle.mt_fault_terms.specs.OfRecord.{id_among, quota_faults, found_among, members_before, passes, own_faults, limit_faults, record_faults};
 ghost use Rattle.mt_fault_terms.specs.Parts as model;
 ghost use Rattle.mt_fault_terms.specs.Parts.{ids_among};
+ghost use Rattle.mt_fault_sink.specs.Seen.{fault_with, faults_seen};
+ghost use Rattle.mt_fault_sink.specs.Telling.{Tells, at_record};
 ghost use Rattle.mt_faults.specs.Registered.{most};
 ghost use Rattle.mt_faults.specs.Repeated.{repeats_in_list};
-ghost use Rattle.mt_faults.specs.Seen.{fault_with, faults_by_test, faults_seen, field_seen, form_faults, parts_seen, placed_left};
+ghost use Rattle.mt_faults.specs.Seen.{faults_by_test, field_seen, form_faults, parts_seen, placed_left};
 ghost use Rattle.mt_faults.specs.Standing.{AreCounted, Stands, own_again, withdrawn_again};
-ghost use Rattle.mt_faults.specs.Telling.{Tells, at_record};
 
 use crate::before::{Before, entries_of};
-use crate::fault::{Fault, FaultEnd};
 use crate::names::names_of;
 use crate::parts::{Form, FormFault, Parts};
 use crate::placed::{Field, Placed, PlacedPairs};
 use crate::registry::{Registry, is_before};
 use crate::repeats::{tell_pair_repeats, tell_repeats};
-use crate::sink::FaultSink;
 use crate::tell::{FieldTest, fault_alone, fault_of, is_id_field, tell, tell_bad_pairs, tell_each};
+use mt_fault_sink::{Fault, FaultEnd, FaultSink};
 use mt_ids::{Seed, quota_of};
 use mt_records::{Kind, Rules};
 use mt_terms::Limits;

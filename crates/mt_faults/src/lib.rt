@@ -3,7 +3,6 @@
 
 mod before;
 mod entries;
-mod fault;
 mod find;
 mod finder;
 mod names;
@@ -13,10 +12,7 @@ mod placed;
 mod registry;
 mod repeats;
 mod rows;
-mod sink;
 mod tell;
 mod unknown;
 
-pub use fault::{Fault, FaultEnd};
 pub use find::find_faults;
-pub use sink::{FaultSink, Stop};

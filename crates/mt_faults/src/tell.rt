@@ -2,14 +2,14 @@ ghost use Rattle.std.specs.Prelude.{◌≡◌, [], ◌∷◌, flat_map, take, if
 ghost use Rattle.mt_fault_terms.specs.Faults.{fault_alone, fault_of};
 ghost use Rattle.mt_fault_terms.specs.OfRecord.{bad_of_pair, alone_at, found_among, is_id_field, is_place_field, missing_among};
 ghost use Rattle.mt_terms.specs.declared.codes.TheConstants.{BAD_ID};
+ghost use Rattle.mt_fault_sink.specs.Seen.{faults_seen};
+ghost use Rattle.mt_fault_sink.specs.Telling.{Tells, at_record};
 ghost use Rattle.mt_faults.specs.declared.tell.Wrong.TheVariants.{NoId};
-ghost use Rattle.mt_faults.specs.Seen.{faults_by_test, faults_seen, field_seen, pairs_left, placed_left, tested};
-ghost use Rattle.mt_faults.specs.Telling.{Tells, at_record};
+ghost use Rattle.mt_faults.specs.Seen.{faults_by_test, field_seen, pairs_left, placed_left, tested};
 
-use crate::fault::{Fault, FaultEnd};
 use crate::placed::{Field, Placed, PlacedPairs};
 use crate::registry::is_before;
-use crate::sink::FaultSink;
+use mt_fault_sink::{Fault, FaultEnd, FaultSink};
 use mt_ids::{IdTable, is_dash, is_id};
 use mt_records::Rules;
 use mt_terms::codes::BAD_ID;

@@ -1,6 +1,7 @@
 //! All faults of a file by example: the record, the code, the field and the id of each, in the order of the file.
 use crate::expect::holds_for;
-use mt_faults::{Fault, FaultEnd, FaultSink, Stop, find_faults};
+use mt_fault_sink::{Fault, FaultEnd, FaultSink, Stop};
+use mt_faults::find_faults;
 use mt_ids::{Seed, add_field};
 use mt_lists::records;
 use std::alloc::Global;

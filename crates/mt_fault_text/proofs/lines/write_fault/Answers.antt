@@ -2,8 +2,8 @@ use Rattle.std.proofs.Common.{◌≡◌, ◌∙◌, ◌++◌, ℕ, List, ap, sub
 use Rattle.std.specs.Prelude.{decimal}
 use Rattle.mt_terms.specs.Text.{id_text, name_among, refusals}
 use Rattle.mt_explained.specs.Sending.{Breaks, Sends}
-use Rattle.mt_faults.specs.Seen.{fault_seen}
-use Rattle.mt_faults.specs.declared.fault.Fault.{Fault}
+use Rattle.mt_fault_sink.specs.Seen.{fault_seen}
+use Rattle.mt_fault_sink.specs.declared.fault.Fault.{Fault}
 use Rattle.mt_fault_text.specs.Pieces.{fault_end, fault_front}
 use Rattle.mt_fault_text.specs.Text.{fault_line_at}
 use Rattle.mt_fault_text.proofs.LineFacts.{line_pieces}

@@ -3,8 +3,8 @@ use Rattle.std.specs.Prelude.{codes, decimal}
 use Rattle.mt_terms.specs.Text.{id_text, line}
 use Rattle.mt_explained.specs.Sending.{Sends}
 use Rattle.mt_explained.proofs.SendingFacts.{breaks_in, on_err, sends_then}
-use Rattle.mt_faults.specs.Seen.{fault_seen}
-use Rattle.mt_faults.specs.declared.fault.Fault.{Fault}
+use Rattle.mt_fault_sink.specs.Seen.{fault_seen}
+use Rattle.mt_fault_sink.specs.declared.fault.Fault.{Fault}
 use Rattle.mt_fault_text.specs.Pieces.{fault_end}
 use Rattle.mt_fault_text.proofs.LineFacts.{head_pieces, id_pieces, shown_id}
 use Rattle.mt_fault_text.proofs.PageFacts.{on_err_then, on_ok_then, put_after, sends_on}

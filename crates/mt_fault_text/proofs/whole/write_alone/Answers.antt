@@ -1,6 +1,6 @@
 use Rattle.std.proofs.Common.{◌≡◌, ℕ, ap, subst}
 use Rattle.mt_fault_terms.specs.Faults.{FieldFault, fault_alone}
-use Rattle.mt_faults.specs.Seen.{fault_seen}
+use Rattle.mt_fault_sink.specs.Seen.{fault_seen}
 use Rattle.mt_explained.specs.Sending.{Breaks, Sends}
 use Rattle.mt_explained.proofs.SendingFacts.{breaks_after, breaks_more, on_err, sends_then}
 use Rattle.mt_fault_text.specs.Text.{count_line, fault_line_at}

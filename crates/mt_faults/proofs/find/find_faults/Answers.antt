@@ -1,9 +1,9 @@
 use Rattle.std.proofs.Common.{ap, sym, ◌∙◌}
 use Rattle.mt_lists.specs.Rows.{rows_left}
 use Rattle.mt_terms.specs.Registration.Passes.{numbered_from}
-use Rattle.mt_faults.specs.Telling.{at_record}
+use Rattle.mt_fault_sink.specs.Telling.{at_record}
+use Rattle.mt_fault_sink.proofs.TellingFacts.{told_as}
 use Rattle.mt_faults.proofs.SearchFacts.{faults_there, only_fault}
-use Rattle.mt_faults.proofs.TellingFacts.{told_as}
 use Rattle.mt_faults.proofs.find.find_faults.Goals as goal
 
 pub returns-in-Ok : goal.returns-in-Ok

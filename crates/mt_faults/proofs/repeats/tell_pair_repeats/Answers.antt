@@ -5,11 +5,12 @@ use Rattle.std.proofs.lemmas.Result.{err_from_is_err_and}
 use Rattle.mt_terms.specs.Registration.Passes.{is_same_pair}
 use Rattle.mt_fault_terms.specs.OfRecord.{pair_repeats_after}
 use Rattle.mt_fault_terms.specs.Parts.{PlacedPair}
-use Rattle.mt_faults.specs.Seen.{faults_seen, field_seen, pairs_left}
-use Rattle.mt_faults.specs.Telling.{at_record}
+use Rattle.mt_fault_sink.specs.Seen.{faults_seen}
+use Rattle.mt_fault_sink.specs.Telling.{at_record}
+use Rattle.mt_fault_sink.proofs.TellingFacts.{Laws, all_told, ends_early, goes, memory_ends, starts_as}
+use Rattle.mt_faults.specs.Seen.{field_seen, pairs_left}
 use Rattle.mt_faults.proofs.RecordFacts.{fields_of, pairs_alike_more}
 use Rattle.mt_faults.proofs.SearchFacts.{in_two, repeated_pair_is}
-use Rattle.mt_faults.proofs.TellingFacts.{Laws, all_told, ends_early, goes, memory_ends, starts_as}
 use Rattle.mt_faults.proofs.repeats.tell_pair_repeats.Goals as goal
 
 pub loop-first-init : goal.loop-first-init

@@ -1,7 +1,7 @@
 use Rattle.std.proofs.Common.{[]}
 use Rattle.mt_fault_terms.specs.OfRecord.{pair_repeats_after}
+use Rattle.mt_fault_sink.specs.Telling.{at_record}
 use Rattle.mt_faults.specs.Seen.{pairs_left}
-use Rattle.mt_faults.specs.Telling.{at_record}
 use Rattle.mt_faults.proofs.SearchFacts.{PairRepeats}
 use Rattle.mt_faults.proofs.repeats.tell_pair_repeats.Given as goal
 

@@ -1,10 +1,11 @@
 use Rattle.std.proofs.Common.{ap, sym, ◌∙◌, Err}
 use Rattle.std.proofs.lemmas.Result.{err_from_is_err_and}
+use Rattle.mt_fault_sink.specs.Seen.{faults_seen}
+use Rattle.mt_fault_sink.specs.Telling.{at_record}
+use Rattle.mt_fault_sink.proofs.TellingFacts.{Laws, all_told, memory_ends, starts, told_as}
 use Rattle.mt_faults.specs.Repeated.{repeated}
-use Rattle.mt_faults.specs.Seen.{faults_seen, field_seen}
-use Rattle.mt_faults.specs.Telling.{at_record}
+use Rattle.mt_faults.specs.Seen.{field_seen}
 use Rattle.mt_faults.proofs.SearchFacts.{repeated_id, repeated_none}
-use Rattle.mt_faults.proofs.TellingFacts.{Laws, all_told, memory_ends, starts, told_as}
 use Rattle.mt_faults.proofs.repeats.tell_repeat.Goals as goal
 
 pub returns-then-not-is_id_field-clause-tells : goal.returns-then-not-is_id_field-clause-tells

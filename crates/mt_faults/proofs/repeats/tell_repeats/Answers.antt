@@ -2,12 +2,12 @@ use Rattle.std.proofs.Common.{ap, sym, ◌∙◌, Err, ◌++◌, ◌∷◌, [], 
 use Rattle.std.proofs.lemmas.Result.{err_from_is_err_and}
 use Rattle.mt_terms.specs.Registration.Ids.{has_id}
 use Rattle.mt_fault_terms.specs.OfRecord.{repeats_after}
+use Rattle.mt_fault_sink.specs.Telling.{at_record}
+use Rattle.mt_fault_sink.proofs.TellingFacts.{Laws, all_told, ends_early, goes, starts_as}
 use Rattle.mt_faults.specs.Repeated.{repeated}
 use Rattle.mt_faults.specs.Seen.{field_seen, placed_left}
-use Rattle.mt_faults.specs.Telling.{at_record}
 use Rattle.mt_faults.proofs.RecordFacts.{alike_by}
 use Rattle.mt_faults.proofs.SearchFacts.{in_two, repeated_is}
-use Rattle.mt_faults.proofs.TellingFacts.{Laws, all_told, ends_early, goes, starts_as}
 use Rattle.mt_faults.proofs.repeats.tell_repeats.Goals as goal
 
 pub loop-field-init : goal.loop-field-init

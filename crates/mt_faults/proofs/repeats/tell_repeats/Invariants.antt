@@ -1,7 +1,7 @@
 use Rattle.std.proofs.Common.{[]}
 use Rattle.mt_fault_terms.specs.OfRecord.{repeats_after}
+use Rattle.mt_fault_sink.specs.Telling.{at_record}
 use Rattle.mt_faults.specs.Seen.{placed_left}
-use Rattle.mt_faults.specs.Telling.{at_record}
 use Rattle.mt_faults.proofs.SearchFacts.{Repeats}
 use Rattle.mt_faults.proofs.repeats.tell_repeats.Given as goal
 

@@ -5,10 +5,10 @@ use Rattle.mt_lists.specs.Rows.{rows_left}
 use Rattle.mt_terms.specs.Registration.Passes.{numbered_from}
 use Rattle.mt_terms.specs.Registration.Records.{Rules}
 use Rattle.mt_fault_terms.specs.OfFile.{all_parts, faults_after}
+use Rattle.mt_fault_sink.proofs.TellingFacts.{Laws, ends_early, goes, starts_as}
 use Rattle.mt_faults.specs.Registered.{row_parts}
 use Rattle.mt_faults.specs.Standing.{Stands, row_faults}
 use Rattle.mt_faults.proofs.SearchFacts.{numbered_faults, numbered_parts}
-use Rattle.mt_faults.proofs.TellingFacts.{Laws, ends_early, goes, starts_as}
 use Rattle.mt_faults.proofs.rows.tell_rows.Goals as goal
 
 pub loop-row-init : goal.loop-row-init

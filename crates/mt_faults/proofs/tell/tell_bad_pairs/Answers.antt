@@ -4,10 +4,11 @@ use Rattle.std.proofs.lemmas.Result.{err_from_is_err_and}
 use Rattle.mt_terms.specs.declared.codes.TheConstants.{BAD_ID}
 use Rattle.mt_fault_terms.specs.Faults.{fault_alone}
 use Rattle.mt_fault_terms.specs.OfRecord.{alone_at, bad_of_pair, is_place_field}
-use Rattle.mt_faults.specs.Seen.{faults_seen, field_seen, pairs_left}
-use Rattle.mt_faults.specs.Telling.{at_record}
+use Rattle.mt_fault_sink.specs.Seen.{faults_seen}
+use Rattle.mt_fault_sink.specs.Telling.{at_record}
+use Rattle.mt_fault_sink.proofs.TellingFacts.{Laws, all_told, ends_early, goes, starts_as}
+use Rattle.mt_faults.specs.Seen.{field_seen, pairs_left}
 use Rattle.mt_faults.proofs.SearchFacts.{bad_pair_next, in_two}
-use Rattle.mt_faults.proofs.TellingFacts.{Laws, all_told, ends_early, goes, starts_as}
 use Rattle.mt_faults.proofs.tell.tell_bad_pairs.Goals as goal
 
 pub loop-first-init : goal.loop-first-init

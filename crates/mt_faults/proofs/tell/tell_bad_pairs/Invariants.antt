@@ -1,9 +1,9 @@
 use Rattle.std.specs.Prelude.{flat_map}
 use Rattle.mt_terms.specs.declared.codes.TheConstants.{BAD_ID}
 use Rattle.mt_fault_terms.specs.OfRecord.{alone_at, bad_of_pair}
+use Rattle.mt_fault_sink.specs.Telling.{at_record}
+use Rattle.mt_fault_sink.proofs.TellingFacts.{SoFar}
 use Rattle.mt_faults.specs.Seen.{pairs_left}
-use Rattle.mt_faults.specs.Telling.{at_record}
-use Rattle.mt_faults.proofs.TellingFacts.{SoFar}
 use Rattle.mt_faults.proofs.tell.tell_bad_pairs.Given as goal
 
 -- the faults of the pairs that have yet to come are left

@@ -1,10 +1,11 @@
 use Rattle.std.proofs.Common.{ap, sym, ◌∙◌, Err}
 use Rattle.std.specs.Prelude.{flat_map}
 use Rattle.std.proofs.lemmas.Result.{err_from_is_err_and}
-use Rattle.mt_faults.specs.Seen.{faults_seen, field_seen, placed_left, tested}
-use Rattle.mt_faults.specs.Telling.{at_record}
+use Rattle.mt_fault_sink.specs.Seen.{faults_seen}
+use Rattle.mt_fault_sink.specs.Telling.{at_record}
+use Rattle.mt_fault_sink.proofs.TellingFacts.{Laws, all_told, ends_early, goes, starts_as}
+use Rattle.mt_faults.specs.Seen.{field_seen, placed_left, tested}
 use Rattle.mt_faults.proofs.SearchFacts.{next_of}
-use Rattle.mt_faults.proofs.TellingFacts.{Laws, all_told, ends_early, goes, starts_as}
 use Rattle.mt_faults.proofs.tell.tell_each.Goals as goal
 
 pub loop-field-init : goal.loop-field-init

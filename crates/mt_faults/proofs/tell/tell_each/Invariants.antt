@@ -1,7 +1,7 @@
 use Rattle.std.specs.Prelude.{flat_map}
+use Rattle.mt_fault_sink.specs.Telling.{at_record}
+use Rattle.mt_fault_sink.proofs.TellingFacts.{SoFar}
 use Rattle.mt_faults.specs.Seen.{placed_left, tested}
-use Rattle.mt_faults.specs.Telling.{at_record}
-use Rattle.mt_faults.proofs.TellingFacts.{SoFar}
 use Rattle.mt_faults.proofs.tell.tell_each.Given as goal
 
 -- the faults of the fields that have yet to come are left

@@ -1,17 +1,18 @@
 use Rattle.std.proofs.Common.{List, ap, sym, ◌∙◌, Err, ◌++◌, refl}
 use Rattle.std.proofs.lemmas.Result.{err_from_is_err_and}
 use Rattle.mt_fault_terms.specs.Faults.{FieldFault}
-use Rattle.mt_faults.specs.Telling.{at_record}
+use Rattle.mt_fault_sink.specs.Telling.{at_record}
+use Rattle.mt_fault_sink.proofs.TellingFacts.{Laws, ends_early, finishes, goes, starts}
 use Rattle.mt_faults.proofs.SearchFacts.{in_two}
-use Rattle.mt_faults.proofs.TellingFacts.{Laws, ends_early, finishes, goes, starts}
 use Rattle.std.proofs.Common.{length, [], ◌∷◌, min}
 use Rattle.std.proofs.lemmas.List.{append-nil}
 use Rattle.mt_terms.specs.declared.limits.Limits.{Limits}
 use Rattle.mt_terms.specs.Registration.Records.{OfProgram, OfCouple}
 use Rattle.mt_fault_terms.specs.OfRecord.{id_among, limit_faults, passes}
 use Rattle.mt_fault_terms.specs.Parts.{all_applicants, all_entries, all_own_ids, applicants_among, entries_among, own_ids}
+use Rattle.mt_fault_sink.specs.Seen.{faults_seen}
 use Rattle.mt_faults.specs.Registered.{most}
-use Rattle.mt_faults.specs.Seen.{faults_seen, parts_seen}
+use Rattle.mt_faults.specs.Seen.{parts_seen}
 use Rattle.mt_faults.proofs.RecordFacts.{limit_told, limits_in_turn, over}
 use Rattle.mt_faults.proofs.finder.Finder.tell_limits.Goals as goal
 

@@ -3,10 +3,11 @@ use Rattle.std.proofs.lemmas.Result.{err_from_is_err_and}
 use Rattle.mt_terms.specs.declared.codes.TheConstants.{DUPLICATE_ID}
 use Rattle.mt_terms.specs.Lists.{head}
 use Rattle.mt_fault_terms.specs.OfRecord.{found_among, members_before}
-use Rattle.mt_faults.specs.Seen.{faults_by_test, faults_seen, field_seen, placed_left}
-use Rattle.mt_faults.specs.Telling.{at_record}
+use Rattle.mt_fault_sink.specs.Seen.{faults_seen}
+use Rattle.mt_fault_sink.specs.Telling.{at_record}
+use Rattle.mt_fault_sink.proofs.TellingFacts.{Laws, finishes, goes, starts, starts_as}
+use Rattle.mt_faults.specs.Seen.{faults_by_test, field_seen, placed_left}
 use Rattle.mt_faults.proofs.SearchFacts.{ends_at, in_two}
-use Rattle.mt_faults.proofs.TellingFacts.{Laws, finishes, goes, starts, starts_as}
 use Rattle.mt_faults.proofs.RecordFacts.{members_in_turn, members_next, members_two, two_fields}
 use Rattle.mt_faults.proofs.finder.Finder.tell_members.Goals as goal
 

@@ -1,14 +1,15 @@
 use Rattle.std.proofs.Common.{List, ap, ◌∙◌, Err, ◌++◌, refl}
 use Rattle.std.proofs.lemmas.Result.{err_from_is_err_and}
 use Rattle.mt_fault_terms.specs.Faults.{FieldFault}
-use Rattle.mt_faults.specs.Telling.{at_record}
+use Rattle.mt_fault_sink.specs.Telling.{at_record}
+use Rattle.mt_fault_sink.proofs.TellingFacts.{Laws, ends_early, finishes, goes, starts}
 use Rattle.mt_faults.proofs.SearchFacts.{in_two}
-use Rattle.mt_faults.proofs.TellingFacts.{Laws, ends_early, finishes, goes, starts}
 use Rattle.std.specs.Prelude.{flat_map}
 use Rattle.mt_terms.specs.declared.codes.TheConstants.{BAD_ID}
 use Rattle.mt_fault_terms.specs.OfRecord.{alone_at, bad_of_pair, own_faults, quota_faults}
+use Rattle.mt_fault_sink.specs.Seen.{faults_seen}
 use Rattle.mt_faults.specs.declared.tell.Wrong.TheVariants as wrongs
-use Rattle.mt_faults.specs.Seen.{faults_by_test, faults_seen, parts_seen, tested}
+use Rattle.mt_faults.specs.Seen.{faults_by_test, parts_seen, tested}
 use Rattle.mt_faults.proofs.RecordFacts.{own_in_turn}
 use Rattle.mt_faults.proofs.finder.Finder.tell_own.Goals as goal
 

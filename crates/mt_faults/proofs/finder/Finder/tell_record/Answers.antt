@@ -2,15 +2,15 @@ use Rattle.std.proofs.Common.{◌++◌, Err, ap, ◌∙◌, refl, take}
 use Rattle.std.proofs.lemmas.Result.{err_from_is_err_and}
 use Rattle.mt_fault_terms.specs.OfRecord.{limit_faults, members_before, own_faults, record_faults, unknown_faults}
 use Rattle.mt_fault_terms.specs.Parts.{all_applicants}
+use Rattle.mt_fault_sink.specs.Telling.{at_record}
+use Rattle.mt_fault_sink.proofs.TellingFacts.{Laws, finishes, starts_as}
 use Rattle.mt_faults.specs.Names.{members_of}
 use Rattle.mt_faults.specs.Repeated.{repeats_in_list}
 use Rattle.mt_faults.specs.Seen.{faults_by_test, parts_seen, placed_left}
 use Rattle.mt_faults.specs.Standing.{own_again, withdrawn_again}
-use Rattle.mt_faults.specs.Telling.{at_record}
 use Rattle.mt_faults.proofs.RecordFacts.{from_limits, from_members, from_own, from_repeats, from_withdrawn, members_few, members_told, record_in_turn}
 use Rattle.mt_faults.proofs.SearchFacts.{ends_at, tells_next}
 use Rattle.mt_faults.proofs.StandingFacts.{is_applicant_before}
-use Rattle.mt_faults.proofs.TellingFacts.{Laws, finishes, starts_as}
 use Rattle.mt_faults.proofs.finder.Finder.tell_record.Goals as goal
 
 pub tell_members-requires-clause-few : goal.tell_members-requires-clause-few

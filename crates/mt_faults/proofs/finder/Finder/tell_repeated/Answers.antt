@@ -1,11 +1,11 @@
 use Rattle.std.proofs.Common.{[], Err, ap, ◌∙◌, refl}
 use Rattle.std.proofs.lemmas.Result.{err_from_is_err_and}
 use Rattle.mt_fault_terms.specs.OfRecord.{pair_repeats_after, repeats_after}
+use Rattle.mt_fault_sink.specs.Telling.{at_record}
+use Rattle.mt_fault_sink.proofs.TellingFacts.{Laws, finishes, starts}
 use Rattle.mt_faults.specs.Repeated.{repeats_in_list}
 use Rattle.mt_faults.specs.Seen.{parts_seen}
-use Rattle.mt_faults.specs.Telling.{at_record}
 use Rattle.mt_faults.proofs.SearchFacts.{ends_at, tells_next}
-use Rattle.mt_faults.proofs.TellingFacts.{Laws, finishes, starts}
 use Rattle.mt_faults.proofs.finder.Finder.tell_repeated.Goals as goal
 
 pub returns-in_err-tell_repeats : goal.returns-in_err-tell_repeats

@@ -4,14 +4,14 @@ use Rattle.std.proofs.lemmas.List.{append_assoc, append-nil}
 use Rattle.std.proofs.lemmas.Result.{err_from_is_err_and}
 use Rattle.mt_fault_terms.specs.OfRecord.{record_faults}
 use Rattle.mt_fault_terms.specs.Parts.{Parts, parts_of}
+use Rattle.mt_fault_sink.specs.Telling.{at_record}
+use Rattle.mt_fault_sink.proofs.TellingFacts.{Laws, all_told, ends_early, goes, memory_ends, starts, told_as}
 use Rattle.mt_faults.specs.NoKind.{is_of_no_kind}
 use Rattle.mt_faults.specs.Registered.{IsRegistry}
 use Rattle.mt_faults.specs.Seen.{parts_seen}
 use Rattle.mt_faults.specs.Standing.{IsBefore, row_faults}
-use Rattle.mt_faults.specs.Telling.{at_record}
 use Rattle.mt_faults.proofs.NoKindFacts.{on_ok_always, stands_no_kind, told_no_kind}
 use Rattle.mt_faults.proofs.SearchFacts.{faults_some, row_some}
-use Rattle.mt_faults.proofs.TellingFacts.{Laws, all_told, ends_early, goes, memory_ends, starts, told_as}
 use Rattle.mt_faults.proofs.finder.Finder.tell_row.Goals as goal
 
 pub returns-in_err-tell_record-clause-tells : goal.returns-in_err-tell_record-clause-tells

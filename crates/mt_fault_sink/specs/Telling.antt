@@ -1,8 +1,8 @@
 -- What a sink takes of the faults of a file.
 use Rattle.std.specs.Prelude.{◌≡◌, ℕ, List, ◌++◌, map, Result, Ok, Err}
 use Rattle.mt_fault_terms.specs.Faults.{FieldFault, FileFault}
-use Rattle.mt_faults.specs.declared.fault.FaultEnd.{FaultEnd}
-use Rattle.mt_faults.specs.declared.fault.FaultEnd.TheVariants as ends
+use Rattle.mt_fault_sink.specs.declared.fault.FaultEnd.{FaultEnd}
+use Rattle.mt_fault_sink.specs.declared.fault.FaultEnd.TheVariants as ends
 
 -- faults of the record with a number
 abbrev pub at_record : ℕ → List FieldFault → List FileFault

@@ -3,9 +3,9 @@
 use Rattle.std.proofs.Common.{◌≡◌, List, [], ◌++◌, Result, Ok, Err, refl, ap, sym, ◌∙◌, subst}
 use Rattle.std.proofs.lemmas.List.{append_assoc, append-nil}
 use Rattle.mt_fault_terms.specs.Faults.{FileFault}
-use Rattle.mt_faults.specs.declared.fault.FaultEnd.{FaultEnd}
-use Rattle.mt_faults.specs.declared.fault.FaultEnd.TheVariants as ends
-use Rattle.mt_faults.specs.Telling.{Tells}
+use Rattle.mt_fault_sink.specs.declared.fault.FaultEnd.{FaultEnd}
+use Rattle.mt_fault_sink.specs.declared.fault.FaultEnd.TheVariants as ends
+use Rattle.mt_fault_sink.specs.Telling.{Tells}
 
 -- a sink's laws
 pub record Laws {S : Type 0} (takes : S → Type 0) (told stopped : S → S → List FileFault → Type 0) : Type 0 where

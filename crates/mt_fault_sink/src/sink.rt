@@ -1,6 +1,6 @@
 ghost use Rattle.std.specs.Prelude.{◌≡◌, List, [], ◌∷◌, ◌++◌, OnErr, OnOk};
 ghost use Rattle.mt_fault_terms.specs.Faults.{FileFault};
-ghost use Rattle.mt_faults.specs.Seen.{fault_seen};
+ghost use Rattle.mt_fault_sink.specs.Seen.{fault_seen};
 
 use crate::fault::Fault;
 

@@ -1,5 +1,5 @@
 ghost use Rattle.std.specs.Prelude.{◌≡◌};
-ghost use Rattle.mt_faults.specs.declared.fault.FaultEnd.TheVariants.{Memory};
+ghost use Rattle.mt_fault_sink.specs.declared.fault.FaultEnd.TheVariants.{Memory};
 
 use std::alloc::AllocError;
 
