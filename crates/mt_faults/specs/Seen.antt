@@ -1,9 +1,9 @@
 -- How what is read of a record is seen as the definition's.
-use Rattle.std.specs.Prelude.{ℕ, ◌+◌, ◌&&◌, not, List, [], ◌∷◌, flat_map, take, Option, option_map, option_to_list, if◌then◌else◌}
+use Rattle.std.specs.Prelude.{◌+◌, ◌&&◌, not, List, [], ◌∷◌, flat_map, take, Option, option_map, option_to_list, if◌then◌else◌}
 use Rattle.mt_lists.specs.Rows.{fields_left}
 use Rattle.mt_terms.specs.declared.codes.TheConstants.{BAD_ID}
 use Rattle.mt_terms.specs.Lists.{by_twos}
-use Rattle.mt_terms.specs.Registration.Ids.{Bytes, has_id}
+use Rattle.mt_terms.specs.Registration.Ids.{has_id}
 use Rattle.mt_terms.specs.Registration.Records.{Rules}
 use Rattle.mt_records.specs.Records.{kind_seen}
 use Rattle.mt_fault_terms.specs.Faults.{FieldFault, Placed, fault_alone, fault_of, placed_from}
