@@ -1,11 +1,11 @@
 ghost use Rattle.std.specs.Prelude.{◌≡◌, ◌+◌, ◌≤◌, ◌++◌, codes, length};
-ghost use Rattle.mt_explain_text.specs.declared.page.TheConstants.{PAGE_LEN};
+ghost use Rattle.mt_pages.specs.declared.page.TheConstants.{PAGE_LEN};
 ghost use Rattle.mt_explain.specs.Lines.{why};
 ghost use Rattle.mt_explain_text.specs.Text.{ahead_of, number_of, number_text, rank_of, told_text, why_text};
 
-use crate::page::Page;
 use itoa::Buffer;
 use mt_explain::{Line, Why};
+use mt_pages::Page;
 
 /// The number from 1 of a position from 0.
 pub(crate) fn number_of(position: Option<u32>) -> Option<u64>

@@ -3,7 +3,5 @@
 
 mod fields;
 mod lines;
-mod page;
 
 pub use lines::AgentLines;
-pub use page::{LINE_LEN, PAGE_LEN, Page};

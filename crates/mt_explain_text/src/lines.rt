@@ -6,12 +6,12 @@ ghost use Rattle.mt_terms.specs.declared.numbers.Agent.TheVariants.{Couple, Sing
 ghost use Rattle.mt_explain.specs.Lines.{both_lines, line_if, option_lines};
 ghost use Rattle.mt_explain_text.specs.Text.{above_line, above_lines, agent_id, own_line};
 ghost use Rattle.mt_explain_text.specs.Here.{IsHere};
-ghost use Rattle.mt_explain_text.specs.declared.page.TheConstants.{LINE_LEN, PAGE_LEN};
+ghost use Rattle.mt_pages.specs.declared.page.TheConstants.{LINE_LEN, PAGE_LEN};
 
 use crate::fields::{ahead_of, number_of, push_number, push_told, rank_of, why_field};
-use crate::page::Page;
 use mt_explain::{Line, OptionLines, option_lines};
 use mt_market::Roster;
+use mt_pages::Page;
 use mt_terms::{Agent, AppNo, CoupleNo, ProgNo};
 use mt_verify::MatchTables;
 

@@ -1,4 +1,4 @@
-pub mod SendingFacts
+pub mod GivenFacts
 pub mod LineFacts
 pub mod AskedFacts
 pub mod AnswerFacts

@@ -9,7 +9,7 @@ use Rattle.mt_order_laws.specs.Reordered.{set_aside_registered}
 use Rattle.mt_report.specs.Drains.{IsWritten}
 use Rattle.mt_match_file.specs.Submitted.{Submitted}
 use Rattle.mt_files.specs.Answer as files
-use Rattle.mt_files.specs.Answer.{IsAnswerBy}
+use Rattle.mt_files.specs.Answer.{IsAnswerBy, IsGiven}
 pub use Rattle.mt_files.specs.Answer.{Answer}
 use Rattle.mt_files.specs.Refusals.{IsInTurn, OfBoth}
 use Rattle.mt_files.specs.declared.source.Source.{Source}
@@ -61,12 +61,6 @@ pub record Answers (ids : List Bytes) (is_public : Bool) (market matched : Optio
   pub written : ℕ
   pub is_written : IsWritten text old new written whole
   pub says : Says ids is_public market matched reads code text
-
--- an answer was written, or its first bytes
-pub record IsGiven (answer : Answer) (old new : Option (List ℕ)) (code : ℕ) (whole : Bool) : Type 0 where
-  pub is_code : code ≡ answer.code
-  pub written : ℕ
-  pub is_written : IsWritten answer.text old new written whole
 
 -- the answer that the files have in want of memory
 abbrev pub memory_answer : Answer

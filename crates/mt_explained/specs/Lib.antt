@@ -4,5 +4,4 @@ pub mod Answer
 pub mod Found
 pub mod Headline
 pub mod Laws
-pub mod Sending
 pub mod View

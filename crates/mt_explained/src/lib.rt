@@ -6,12 +6,10 @@ mod asked;
 pub mod codes;
 mod ids;
 pub mod laws;
-mod outcome;
 mod sending;
 mod whole;
 
 pub use agents::all_agents;
 pub use asked::Asked;
-pub use outcome::Outcome;
-pub use sending::{Unwritten, make_room, send};
+pub use mt_pages::Outcome;
 pub use whole::{explain, judged, refuse_file};

@@ -1,4 +1,4 @@
-use mt_explain_text::Page;
+use mt_pages::Page;
 use mt_report::{Drain, put_all};
 use std::alloc::{AllocError, Global};
 use std::io::Write;

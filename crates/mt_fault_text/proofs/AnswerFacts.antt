@@ -5,9 +5,9 @@ use Rattle.std.specs.Prelude.{OnErr, OnOk, is_ok}
 use Rattle.std.specs.Io.KnownBytes.{Appends}
 use Rattle.std.proofs.lemmas.List.{append-nil, take_all}
 use Rattle.mt_report.specs.Drains.{IsWritten}
-use Rattle.mt_explained.specs.Answer.{IsGiven}
-use Rattle.mt_explained.specs.Sending.{Breaks, Sends}
-use Rattle.mt_explained.proofs.SendingFacts.{breaks_after, breaks_more, sends_put, sends_then, sent_front}
+use Rattle.mt_files.specs.Answer.{IsGiven}
+use Rattle.mt_pages.specs.Sending.{Breaks, Sends}
+use Rattle.mt_pages.proofs.SendingFacts.{breaks_after, breaks_more, sends_put, sends_then, sent_front}
 use Rattle.mt_line_numbers.specs.Records.{line_of_record}
 use Rattle.mt_fault_terms.specs.Faults.{FileFault, fault_alone}
 use Rattle.mt_fault_text.specs.Answer.{AreListed, IsCutGiven, faults_answer, lines_alone, refusal}

@@ -9,7 +9,7 @@ use Rattle.mt_fault_sink.specs.declared.fault.FaultEnd.{FaultEnd}
 use Rattle.mt_fault_sink.specs.declared.fault.FaultEnd.TheVariants.{Memory, Stopped as StoppedEnd}
 use Rattle.mt_report.specs.Drains.{contents_of}
 use Rattle.mt_report.specs.declared.drain.Drain.{Drain}
-use Rattle.mt_explained.specs.Sending.{Breaks, Sends}
+use Rattle.mt_pages.specs.Sending.{Breaks, Sends}
 use Rattle.mt_fault_text.specs.Answer.{AreListed, refusal}
 use Rattle.mt_fault_text.specs.Text.{count_line, fault_lines}
 use Rattle.mt_fault_text.proofs.AnswerFacts.{cut_broken, given_broken, listed_front, listed_whole}

@@ -4,8 +4,8 @@ use Rattle.std.specs.Prelude.{OnErr, OnOk, is_err}
 use Rattle.std.proofs.lemmas.Bool.{true≢false}
 use Rattle.std.proofs.lemmas.List.{append-nil}
 use Rattle.mt_report.specs.Drains.{IsWritten}
-use Rattle.mt_explained.specs.Sending.{Breaks, Sends}
-use Rattle.mt_explained.proofs.SendingFacts.{breaks_after, sends_put, sends_then}
+use Rattle.mt_pages.specs.Sending.{Breaks, Sends}
+use Rattle.mt_pages.proofs.SendingFacts.{breaks_after, sends_put, sends_then}
 
 -- bytes were put on the page
 pub put_on : (a : Option (List ℕ)) (p q more : List ℕ) → q ≡ p ++ more → Sends a a p q more

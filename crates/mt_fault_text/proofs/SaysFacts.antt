@@ -17,7 +17,7 @@ use Rattle.mt_input.specs.Left.{AreRead}
 use Rattle.mt_input.specs.Refusals.{CannotRead, fault_of}
 use Rattle.mt_input.proofs.LeftFacts.{cannot_read, of_left, some_left}
 use Rattle.mt_input.proofs.MarketFacts.{market_fault}
-use Rattle.mt_explained.specs.Answer.{Answer, IsGiven}
+use Rattle.mt_files.specs.Answer.{Answer, IsGiven}
 use Rattle.mt_files.specs.Text.{is_code_of}
 use Rattle.mt_files.specs.declared.source.Source.TheVariants.{Market}
 use Rattle.mt_files.proofs.NameFacts.{market_named}

@@ -10,7 +10,7 @@ use Rattle.mt_terms.specs.declared.codes.TheConstants.{OUT_OF_MEMORY, READ_FAULT
 use Rattle.mt_report.specs.Drains.{IsWritten}
 use Rattle.mt_input.specs.Files.{market_in, of_bytes}
 use Rattle.mt_input.specs.Left.{OfLeft}
-use Rattle.mt_explained.specs.Answer.{Answer, IsGiven}
+use Rattle.mt_files.specs.Answer.{Answer, IsGiven}
 use Rattle.mt_files.specs.Text.{is_code_of, refused_line}
 use Rattle.mt_files.specs.declared.source.Source.TheVariants.{Market}
 use Rattle.mt_fault_terms.specs.Faults.{FileFault, fault_alone}

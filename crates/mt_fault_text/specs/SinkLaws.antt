@@ -5,8 +5,8 @@ use Rattle.std.proofs.lemmas.Grind.{flat_map-append}
 use Rattle.std.proofs.lemmas.List.{append-nil}
 use Rattle.std.proofs.Math.Nat.{add-zero, add_assoc}
 use Rattle.mt_report.specs.Drains.{contents_of}
-use Rattle.mt_explained.specs.Sending.{Breaks, Sends}
-use Rattle.mt_explained.proofs.SendingFacts.{breaks_after, sends_put, sends_then}
+use Rattle.mt_pages.specs.Sending.{Breaks, Sends}
+use Rattle.mt_pages.proofs.SendingFacts.{breaks_after, sends_put, sends_then}
 use Rattle.mt_fault_terms.specs.Faults.{FileFault}
 use Rattle.mt_fault_text.specs.Named.{named_after, named_with}
 use Rattle.mt_fault_text.specs.Sinking.{Failed, IsFull, Stopped, Wrote}

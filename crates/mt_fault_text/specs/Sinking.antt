@@ -1,7 +1,7 @@
 -- What the sink of faults did between two of its states.
 use Rattle.std.specs.Prelude.{◌≡◌, ◌⊎◌, ℕ, ◌+◌, ◌<◌, ◌^◌, false, true, List, ◌++◌, length, Option}
 use Rattle.mt_report.specs.Drains.{contents_of, failures_of}
-use Rattle.mt_explained.specs.Sending.{Breaks, Sends}
+use Rattle.mt_pages.specs.Sending.{Breaks, Sends}
 use Rattle.mt_fault_terms.specs.Faults.{FileFault}
 use Rattle.mt_fault_text.specs.Named.{named_after}
 use Rattle.mt_fault_text.specs.Text.{fault_lines}

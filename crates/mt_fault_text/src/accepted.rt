@@ -1,13 +1,13 @@
 ghost use Rattle.std.specs.Prelude.{◌≡◌, ◌≤◌, ◌+◌, ◌++◌, [], length, sum_by, OnErr, OnOk};
-ghost use Rattle.mt_explain_text.specs.declared.page.TheConstants.{PAGE_LEN};
+ghost use Rattle.mt_pages.specs.declared.page.TheConstants.{PAGE_LEN};
 ghost use Rattle.mt_terms.specs.Market.{Partners, Program, applicants};
 ghost use Rattle.mt_terms.specs.Registration.Accepted.{list_entries};
 ghost use Rattle.mt_fault_text.specs.Text.{accepted_line};
 
 use crate::front::push_number;
 use crate::mutual::mutual_entries;
-use mt_explain_text::Page;
 use mt_market::Roster;
+use mt_pages::Page;
 use mt_terms::{AppNo, CoupleNo, ProgNo};
 use std::alloc::{AllocError, Global};
 use std::thread::Threads;

@@ -1,10 +1,10 @@
 ghost use Rattle.std.specs.Prelude.{◌≡◌, [], ◌∷◌, ◌+◌, ◌≤◌, ◌++◌, codes, decimal, length, IfOk};
-ghost use Rattle.mt_explain_text.specs.declared.page.TheConstants.{PAGE_LEN};
+ghost use Rattle.mt_pages.specs.declared.page.TheConstants.{PAGE_LEN};
 ghost use Rattle.mt_terms.specs.Text.{name_among, refusals};
 ghost use Rattle.mt_fault_text.specs.Pieces.{code_front, fault_front, record_front};
 
 use itoa::Buffer;
-use mt_explain_text::Page;
+use mt_pages::Page;
 use mt_report::code_name;
 use mt_terms::codes;
 use std::alloc::{AllocError, Global};

@@ -1,15 +1,14 @@
 ghost use Rattle.std.specs.Prelude.{◌≡◌, ◌+◌, ◌<◌, ◌≤◌, ◌++◌, ◌^◌, length, OnErr, OnOk};
 ghost use Rattle.mt_report.specs.Drains.{contents_of, failures_of};
 ghost use Rattle.mt_fault_sink.specs.Seen.{fault_seen};
-ghost use Rattle.mt_explained.specs.Sending.{Breaks, Sends};
+ghost use Rattle.mt_pages.specs.Sending.{Breaks, Sends};
 ghost use Rattle.mt_fault_text.specs.Pieces.{fault_end};
 ghost use Rattle.mt_fault_text.specs.Text.{fault_line_at};
 
 use crate::front::{Front, push_digits};
 use crate::sending::write;
-use mt_explain_text::Page;
-use mt_explained::{Unwritten, make_room};
 use mt_fault_sink::Fault;
+use mt_pages::{Page, Unwritten, make_room};
 use mt_report::Drain;
 use std::io::Write;
 

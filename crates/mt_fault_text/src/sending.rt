@@ -1,9 +1,8 @@
 ghost use Rattle.std.specs.Prelude.{◌≡◌, ◌+◌, ◌<◌, ◌^◌, [], OnErr, OnOk};
 ghost use Rattle.mt_report.specs.Drains.{contents_of, failures_of};
-ghost use Rattle.mt_explained.specs.Sending.{Breaks, Sends};
+ghost use Rattle.mt_pages.specs.Sending.{Breaks, Sends};
 
-use mt_explain_text::Page;
-use mt_explained::{Unwritten, send};
+use mt_pages::{Page, Unwritten, send};
 use mt_report::{Drain, put_all};
 use std::io::Write;
 

@@ -5,10 +5,10 @@ ghost use Rattle.mt_report.specs.Drains.{contents_of, failures_of};
 use crate::front::Front;
 use crate::lines::write_fault;
 use crate::named::named_with;
-use mt_explain_text::Page;
 use mt_fault_sentences::{Cursor, Teller, tell_fault};
 use mt_fault_sink::{Fault, FaultSink, Stop};
 use mt_line_numbers::LineNumbers;
+use mt_pages::Page;
 use mt_report::Drain;
 use std::io::Write;
 

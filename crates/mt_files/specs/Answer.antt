@@ -1,9 +1,10 @@
 -- The answer of a program to the bytes of a market and of a match: a code and a text. A fault of a file is answered by
 -- its refusal line.
-use Rattle.std.specs.Prelude.{◌≡◌, ℕ, List, Result, Ok, Err}
+use Rattle.std.specs.Prelude.{◌≡◌, ℕ, Bool, List, Option, Result, Ok, Err}
 use Rattle.mt_terms.specs.Market.{Registered}
 use Rattle.mt_terms.specs.Registration.Faults.{Fault}
 use Rattle.mt_terms.specs.Registration.Ids.{Bytes}
+use Rattle.mt_report.specs.Drains.{IsWritten}
 use Rattle.mt_match_file.specs.Submitted.{Submitted}
 use Rattle.mt_files.specs.Files.{files_in}
 use Rattle.mt_files.specs.Text.{refused_line}
@@ -13,6 +14,12 @@ use Rattle.mt_files.specs.declared.source.Source.{Source}
 pub record Answer : Type 0 where
   pub code : ℕ
   pub text : List ℕ
+
+-- an answer was written, or its first bytes
+pub record IsGiven (answer : Answer) (old new : Option (List ℕ)) (code : ℕ) (whole : Bool) : Type 0 where
+  pub is_code : code ≡ answer.code
+  pub written : ℕ
+  pub is_written : IsWritten answer.text old new written whole
 
 -- the answer to the fault of a file, by a line that begins with this word
 abbrev pub fault_answer : Bytes → Source → Fault → Answer

@@ -16,7 +16,7 @@ use Rattle.mt_input.proofs.LeftFacts.{of_left}
 use Rattle.mt_input.proofs.MarketFacts.{registration_of}
 use Rattle.mt_input.specs.Refusals.{fault_of}
 use Rattle.mt_files.specs.Answer as answers
-use Rattle.mt_files.specs.Answer.{Answer}
+use Rattle.mt_files.specs.Answer.{Answer, IsGiven}
 use Rattle.mt_files.specs.Files.{files_by, files_in, submitted_in, with_match}
 use Rattle.mt_files.specs.Refusals.{AreFilesIn, IsInTurn, IsNamedRefusalOf, IsRefused, OfBoth}
 use Rattle.mt_files.specs.declared.files.Files.{Files}
@@ -32,7 +32,7 @@ use Rattle.mt_check.specs.Findings.{judged}
 use Rattle.mt_check.specs.Text.{finding_line, refused_line, stable_line_with}
 use Rattle.mt_check.specs.declared.finding.Finding.{Finding}
 use Rattle.mt_check.specs.declared.finding.Finding.TheVariants.{Of, Differs}
-use Rattle.mt_explained.specs.Answer.{IsGiven, IsGivenOrMemory, fault_answer, memory_answer}
+use Rattle.mt_explained.specs.Answer.{IsGivenOrMemory, fault_answer, memory_answer}
 use Rattle.mt_findings.specs.Answer.{Answers, IsAnswer, findings_answer, found_answer, number_code}
 use Rattle.mt_findings.specs.Findings.{findings, first_of}
 use Rattle.mt_findings.specs.Headline.{AreFound}

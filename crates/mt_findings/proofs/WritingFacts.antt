@@ -10,9 +10,9 @@ use Rattle.mt_report.specs.Drains.{contents_of}
 use Rattle.mt_report.specs.declared.drain.Drain.{Drain}
 use Rattle.mt_check.specs.Text.{finding_line}
 use Rattle.mt_check.specs.declared.finding.Finding.{Finding}
-use Rattle.mt_explained.specs.Answer.{IsGiven}
-use Rattle.mt_explained.specs.Sending.{Breaks, Sends}
-use Rattle.mt_explained.proofs.SendingFacts.{breaks_after, breaks_more, sends_put, sends_then, sent_front, sent_whole}
+use Rattle.mt_files.specs.Answer.{IsGiven}
+use Rattle.mt_pages.specs.Sending.{Breaks, Sends}
+use Rattle.mt_pages.proofs.SendingFacts.{breaks_after, breaks_more, sends_put, sends_then, sent_front, sent_whole}
 use Rattle.mt_findings.specs.Answer.{found_answer, number_code}
 use Rattle.mt_findings.specs.Text.{finding_lines, last_line}
 use Rattle.mt_findings.specs.Writing.{Failed, Wrote}

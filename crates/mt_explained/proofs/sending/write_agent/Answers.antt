@@ -4,7 +4,7 @@ use Rattle.mt_terms.proofs.ListFacts.{until-le}
 use Rattle.mt_explain.proofs.OptionFacts.{front_has}
 use Rattle.mt_explained.proofs.LineFacts.{option_text, rest_after, so_far, so_far_more, so_far_split}
 use Rattle.mt_explain_text.specs.Text.{agent_text}
-use Rattle.mt_explained.proofs.SendingFacts.{cut_before, cut_in, on_err, sends_step}
+use Rattle.mt_pages.proofs.SendingFacts.{cut_before, cut_in, on_err, sends_step}
 use Rattle.mt_explained.proofs.sending.write_agent.Goals as goal
 
 pub returns-in_err-make_room-clause-cut : goal.returns-in_err-make_room-clause-cut

@@ -1,5 +1,5 @@
 use Rattle.mt_explain_text.specs.View.{is_public_of, places_of, registered_of}
-use Rattle.mt_explained.specs.Sending.{IsSent}
+use Rattle.mt_pages.specs.Sending.{IsSent}
 use Rattle.mt_explained.proofs.LineFacts.{so_far}
 use Rattle.mt_explained.proofs.sending.write_agent.Given as goal
 

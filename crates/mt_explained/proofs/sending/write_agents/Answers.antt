@@ -2,8 +2,8 @@ use Rattle.std.proofs.Common.{◌≡◌, ◌+◌, ◌++◌, ◌∙◌, take, dro
 use Rattle.mt_terms.specs.declared.numbers.Agent.{Agent}
 use Rattle.mt_explain_text.specs.Text.{agent_text, agents_text}
 use Rattle.mt_explained.proofs.LineFacts.{agents_more, agents_rest}
-use Rattle.mt_explained.proofs.SendingFacts.{cut_in, on_err, sends_then}
-use Rattle.mt_explained.specs.Sending.{Sends}
+use Rattle.mt_pages.proofs.SendingFacts.{cut_in, on_err, sends_then}
+use Rattle.mt_pages.specs.Sending.{Sends}
 use Rattle.mt_explained.proofs.sending.write_agents.Goals as goal
 
 pub returns-in_err-write_agent-clause-cut : goal.returns-in_err-write_agent-clause-cut

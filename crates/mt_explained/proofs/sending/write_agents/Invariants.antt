@@ -1,7 +1,7 @@
 use Rattle.std.proofs.Common.{take}
 use Rattle.mt_explain_text.specs.Text.{agents_text}
 use Rattle.mt_explain_text.specs.View.{is_public_of, places_of, registered_of}
-use Rattle.mt_explained.specs.Sending.{IsSent}
+use Rattle.mt_pages.specs.Sending.{IsSent}
 use Rattle.mt_explained.proofs.sending.write_agents.Given as goal
 
 -- the lines of the agents so far

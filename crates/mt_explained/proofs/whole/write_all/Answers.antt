@@ -1,4 +1,4 @@
-use Rattle.mt_explained.proofs.SendingFacts.{given_by}
+use Rattle.mt_explained.proofs.GivenFacts.{given_by}
 use Rattle.mt_explained.proofs.whole.write_all.Goals as goal
 
 pub returns-clause-given : goal.returns-clause-given

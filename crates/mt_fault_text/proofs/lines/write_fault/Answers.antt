@@ -1,7 +1,7 @@
 use Rattle.std.proofs.Common.{◌≡◌, ◌∙◌, ◌++◌, ℕ, List, ap, subst}
 use Rattle.std.specs.Prelude.{decimal}
 use Rattle.mt_terms.specs.Text.{id_text, name_among, refusals}
-use Rattle.mt_explained.specs.Sending.{Breaks, Sends}
+use Rattle.mt_pages.specs.Sending.{Breaks, Sends}
 use Rattle.mt_fault_sink.specs.Seen.{fault_seen}
 use Rattle.mt_fault_sink.specs.declared.fault.Fault.{Fault}
 use Rattle.mt_fault_text.specs.Pieces.{fault_end, fault_front}

@@ -1,8 +1,8 @@
 use Rattle.std.proofs.Common.{◌≡◌, ◌∙◌, ◌++◌, ◌∷◌, [], ℕ, List, ap, sym, subst, append_assoc}
 use Rattle.std.specs.Prelude.{codes, decimal}
 use Rattle.mt_terms.specs.Text.{id_text, line}
-use Rattle.mt_explained.specs.Sending.{Sends}
-use Rattle.mt_explained.proofs.SendingFacts.{breaks_in, on_err, sends_then}
+use Rattle.mt_pages.specs.Sending.{Sends}
+use Rattle.mt_pages.proofs.SendingFacts.{breaks_in, on_err, sends_then}
 use Rattle.mt_fault_sink.specs.Seen.{fault_seen}
 use Rattle.mt_fault_sink.specs.declared.fault.Fault.{Fault}
 use Rattle.mt_fault_text.specs.Pieces.{fault_end}

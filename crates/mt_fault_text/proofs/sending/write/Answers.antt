@@ -1,4 +1,4 @@
-use Rattle.mt_explained.proofs.SendingFacts.{breaks_after, sends_then}
+use Rattle.mt_pages.proofs.SendingFacts.{breaks_after, sends_then}
 use Rattle.mt_fault_text.proofs.PageFacts.{on_err_then, on_ok_then}
 use Rattle.mt_fault_text.proofs.sending.write.Goals as goal
 

@@ -1,6 +1,6 @@
 use Rattle.std.proofs.Common.{◌≡◌, ◌∙◌, subst}
 use Rattle.mt_terms.specs.declared.codes.TheConstants.{OUT_OF_MEMORY}
-use Rattle.mt_explained.specs.Sending.{Sends}
+use Rattle.mt_pages.specs.Sending.{Sends}
 use Rattle.mt_fault_text.specs.Answer.{refusal}
 use Rattle.mt_fault_text.proofs.PageFacts.{ended_err, ended_ok}
 use Rattle.mt_fault_text.proofs.whole.cut_short.Goals as goal

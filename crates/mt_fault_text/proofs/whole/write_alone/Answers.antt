@@ -1,8 +1,8 @@
 use Rattle.std.proofs.Common.{◌≡◌, ℕ, ap, subst}
 use Rattle.mt_fault_terms.specs.Faults.{FieldFault, fault_alone}
 use Rattle.mt_fault_sink.specs.Seen.{fault_seen}
-use Rattle.mt_explained.specs.Sending.{Breaks, Sends}
-use Rattle.mt_explained.proofs.SendingFacts.{breaks_after, breaks_more, on_err, sends_then}
+use Rattle.mt_pages.specs.Sending.{Breaks, Sends}
+use Rattle.mt_pages.proofs.SendingFacts.{breaks_after, breaks_more, on_err, sends_then}
 use Rattle.mt_fault_text.specs.Text.{count_line, fault_line_at}
 use Rattle.mt_fault_text.proofs.PageFacts.{on_err_then, on_ok_then}
 use Rattle.mt_fault_text.proofs.whole.write_alone.Goals as goal

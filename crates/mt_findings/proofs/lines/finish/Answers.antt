@@ -1,5 +1,5 @@
 use Rattle.std.proofs.Common.{[]}
-use Rattle.mt_explained.proofs.SendingFacts.{breaks_more, on_err}
+use Rattle.mt_pages.proofs.SendingFacts.{breaks_more, on_err}
 use Rattle.mt_findings.specs.Text.{last_line}
 use Rattle.mt_findings.proofs.WritingFacts.{broken_last, sent_last}
 use Rattle.mt_findings.proofs.lines.finish.Goals as goal

@@ -3,7 +3,7 @@ use Rattle.std.specs.List.{flat_map}
 use Rattle.std.proofs.lemmas.List.{take_all}
 use Rattle.mt_terms.specs.declared.numbers.Agent.{Agent}
 use Rattle.mt_terms.specs.Market.{IsAgentOf}
-use Rattle.mt_explained.proofs.SendingFacts.{on_err}
+use Rattle.mt_pages.proofs.SendingFacts.{on_err}
 use Rattle.mt_findings.specs.Findings.{blocking_by}
 use Rattle.mt_findings.proofs.LoopFacts.{failed_given, room_given, wrote_given}
 use Rattle.mt_findings.proofs.WritingFacts.{wrote_as}

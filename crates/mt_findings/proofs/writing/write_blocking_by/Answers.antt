@@ -5,7 +5,7 @@ use Rattle.mt_terms.specs.Matching.{better, holds, options}
 use Rattle.mt_terms.specs.declared.verdict.Verdict.TheVariants.{Blocks}
 use Rattle.mt_terms.proofs.ListFacts.{until-le}
 use Rattle.mt_check.specs.declared.finding.Finding.TheVariants.{Of}
-use Rattle.mt_explained.proofs.SendingFacts.{on_err}
+use Rattle.mt_pages.proofs.SendingFacts.{on_err}
 use Rattle.mt_findings.specs.Findings.{is_taken}
 use Rattle.mt_findings.proofs.LoopFacts.{below_place, below_taken, failed_in, room_in, wrote_in}
 use Rattle.mt_findings.proofs.writing.write_blocking_by.Goals as goal

@@ -4,7 +4,7 @@ use Rattle.mt_match_file.specs.declared.submitted_match.Counted.{Counted}
 use Rattle.mt_check.specs.Findings.{fits_count}
 use Rattle.mt_check.specs.View.{market_of, places_of}
 use Rattle.mt_check.specs.declared.finding.Finding.TheVariants.{Differs}
-use Rattle.mt_explained.proofs.SendingFacts.{on_err}
+use Rattle.mt_pages.proofs.SendingFacts.{on_err}
 use Rattle.mt_findings.specs.Findings.{differing_of}
 use Rattle.mt_findings.proofs.LoopFacts.{failed_in, room_in, wrote_in}
 use Rattle.mt_findings.proofs.WritingFacts.{wrote_as}

@@ -1,7 +1,7 @@
 use Rattle.std.proofs.Common.{ℕ, ap, inl, refl, subst, sym, ◌∙◌}
 use Rattle.std.proofs.lemmas.List.{append-nil}
 use Rattle.mt_fault_sink.specs.Seen.{fault_seen}
-use Rattle.mt_explained.specs.Sending.{Breaks}
+use Rattle.mt_pages.specs.Sending.{Breaks}
 use Rattle.mt_fault_text.specs.Text.{fault_line, fault_line_at}
 use Rattle.mt_fault_text.proofs.PageFacts.{on_failed}
 use Rattle.mt_fault_text.proofs.sink.FaultLinesFaultSink.put.Goals as goal

@@ -3,10 +3,10 @@ ghost use Rattle.mt_report.specs.Status.{status_of};
 
 use mt_report::Ended;
 
-/// How an explanation ended.
+/// How the answer of a program ended.
 #[derive(Clone, Copy, Debug, PartialEq, Eq)]
 pub struct Outcome {
-    /// 0 for the lines of agents, otherwise the code of the refusal line.
+    /// The code of the answer.
     pub code: u16,
     /// Whether the whole text was written. If it wasn't, the writer failed.
     pub whole: bool,

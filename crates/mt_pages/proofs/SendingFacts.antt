@@ -1,14 +1,13 @@
 -- Steps of a text on its way to a writer, one after another.
 use Rattle.std.proofs.Common.{◌≡◌, ℕ, zero, suc, ◌+◌, ◌≤◌, Bool, true, false, List, [], ◌∷◌, ◌++◌, length, take, Option, None, Some, Result, Ok, Err, refl, sym, ap, ◌∙◌, subst, append_assoc, arith, length-append}
-use Rattle.std.specs.Prelude.{OnErr, OnOk, is_ok}
+use Rattle.std.specs.Prelude.{OnErr}
 use Rattle.std.specs.Io.KnownBytes.{Appends}
 use Rattle.std.proofs.lemmas.Bool.{true≢false}
 use Rattle.std.proofs.lemmas.List.{append-nil, take_all}
 use Rattle.mt_report.specs.Drains.{IsWritten, contents_of, failures_of}
 use Rattle.mt_report.proofs.AppendsFacts.{Appends-then}
-use Rattle.mt_explained.specs.Answer.{IsGiven}
 use Rattle.mt_report.specs.declared.drain.Drain.{Drain}
-use Rattle.mt_explained.specs.Sending.{Breaks, IsCut, IsSent, Sends}
+use Rattle.mt_pages.specs.Sending.{Breaks, IsCut, IsSent, Sends}
 
 Appends-nothing : (a : Option (List ℕ)) → Appends a a []
 Appends-nothing None = tt
@@ -126,13 +125,3 @@ sent_front a b text broken = record { appended = broken.appended; within = broke
 pub on_err : {X E P : Type 0} (result : Result X E) → P → OnErr result P
 on_err (Ok x) h = tt
 on_err (Err e) h = h
-
--- a text was put on an empty page and sent, and then the end of it
-pub given_by : {X E : Type 0} (result : Result X E) (a b c : Option (List ℕ)) (p q r text : List ℕ) → p ≡ [] → Sends a b p q text
-    → OnOk result (Sends b c q r []) → OnOk result (r ≡ []) → OnErr result (Breaks b c q []) → IsGiven (record { code = 0; text = text }) a c 0 (is_ok result)
-given_by (Ok x) a b c p q r text empty first second none broken =
-    record { is_code = refl; written = length text; is_written = sent_whole a b c q r text (subst (λ (w : List ℕ). Sends a b w q text) empty first) second none }
-given_by (Err e) a b c p q r text empty first second none broken =
-    let start : Sends a b [] q text = subst (λ (w : List ℕ). Sends a b w q text) empty first in
-    let cut : Breaks a c [] text = subst (Breaks a c []) (append-nil text) (breaks_after a b c [] q text [] start broken) in
-    record { is_code = refl; written = cut.written; is_written = sent_front a c text cut }

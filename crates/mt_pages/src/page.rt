@@ -1,5 +1,5 @@
 ghost use Rattle.std.specs.Prelude.{◌≡◌, ◌+◌, ◌-◌, ◌≤◌, ◌++◌, [], codes, length, nat_le, IfOk};
-ghost use Rattle.mt_explain_text.specs.declared.page.TheConstants.{PAGE_LEN};
+ghost use Rattle.mt_pages.specs.declared.page.TheConstants.{PAGE_LEN};
 
 use std::alloc::{AllocError, Global};
 use std::marker::Model;
@@ -19,7 +19,7 @@ pub struct Page {
 
 impl Model for Page {
     ghost use Rattle.std.specs.Prelude.{ℕ, ◌≡◌, ◌≤◌, List, length, take};
-    ghost use Rattle.mt_explain_text.specs.declared.page.TheConstants.{PAGE_LEN};
+    ghost use Rattle.mt_pages.specs.declared.page.TheConstants.{PAGE_LEN};
 
     ghost Value = { List ℕ };
 

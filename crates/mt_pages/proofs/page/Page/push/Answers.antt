@@ -1,6 +1,6 @@
 use Rattle.std.proofs.Common.{arith}
 use Rattle.std.proofs.lemmas.Grind.{common_steps}
-use Rattle.mt_explain_text.proofs.page.Page.push.Goals as goal
+use Rattle.mt_pages.proofs.page.Page.push.Goals as goal
 
 pub returns : goal.returns
 returns c = grind (arith, common_steps)
