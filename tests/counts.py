@@ -15,7 +15,7 @@ CHECKS = {
     "cli PROGRAM": 8452,
     "cli": 8455,
     "controls": 49,
-    "edits_apply": 773,
+    "edits_apply": 775,
     "explain": 10098,
     "faults": 20037,
     "linear": 45,
@@ -31,9 +31,9 @@ CHECKS = {
     "seeds": 7,
     "threads": 66,
     "told": 311,
-    "words": 426,
+    "words": 427,
     "ways": 1551,
-    "wrong_bodies --release": 58,
+    "wrong_bodies --release": 60,
 }
 # The sweeps of the forms of tests/memory, by the number of workers and whether all requests from one on are refused.
 SWEEPS = {

@@ -23,13 +23,16 @@ use Rattle.mt_files.proofs.BothFacts.{of_both}
 use Rattle.mt_files.proofs.NameFacts.{codes_large, market_named, match_named}
 use Rattle.mt_check.specs.declared.found.Found.{Found}
 use Rattle.mt_files.specs.Answer as answers
-use Rattle.mt_check.specs.Answer.{Answer, Answers, IsAnswer, answer_seen, fault_answer, finding_answer, finding_code, judged_answer}
-use Rattle.mt_check.specs.Findings.{finding_of, judged}
-use Rattle.mt_check.specs.Headline.{IsJudged, IsRefusal}
+use Rattle.mt_judged.specs.Answer.{fault_answer, finding_answer, judged_answer}
+use Rattle.mt_judged.specs.Refusals.{IsRefusal}
+use Rattle.mt_judged.specs.Text.{refused_line}
+use Rattle.mt_check.specs.Answer.{Answer, Answers, IsAnswer, answer_seen}
+use Rattle.mt_finding.specs.Findings.{finding_code, finding_of, judged}
+use Rattle.mt_check.specs.Headline.{IsJudged}
 use Rattle.mt_check.specs.Laws.{AnswersAreSo, JudgedByAllLists}
-use Rattle.mt_check.specs.declared.finding.Finding.{Finding}
-use Rattle.mt_check.specs.Text.{finding_line, refused_line}
-use Rattle.mt_check.proofs.FindingFacts.{code_small, finding_says, stable_ends, stable_line_is}
+use Rattle.mt_finding.specs.declared.finding.Finding.{Finding}
+use Rattle.mt_finding.specs.Text.{finding_line}
+use Rattle.mt_finding.proofs.FindingFacts.{code_small, finding_says, stable_ends, stable_line_is}
 
 -- with no couple set aside, the market is as it was
 pub none_aside_registered : (r : Registered) → set_aside_registered [] r ≡ r

@@ -1,16 +1,13 @@
 -- The headline in its own words: what the line of a check says of the bytes of its two files.
 use Rattle.std.specs.Prelude.{◌≡◌, ◌↔◌, ℕ, List, length, None, Ok, IsTrue}
 use Rattle.mt_terms.specs.Market.{Registered}
-use Rattle.mt_terms.specs.Registration.Ids.{Bytes}
 use Rattle.mt_terms.specs.Stability.{stable}
 use Rattle.mt_match_file.specs.Submitted.{Submitted}
 use Rattle.mt_input.specs.Files.{IsMarketOf}
 use Rattle.mt_files.specs.Files.{submitted_in}
-use Rattle.mt_files.specs.Refusals.{IsNamedRefusalOf}
-use Rattle.mt_files.specs.declared.source.Source.{Source}
-use Rattle.mt_check.specs.Findings.{FindingSays, first_differing, judged}
-use Rattle.mt_check.specs.Text.{finding_line, refused_line, stable_line_with}
-use Rattle.mt_check.specs.declared.finding.Finding.{Finding}
+use Rattle.mt_finding.specs.Findings.{FindingSays, first_differing, judged}
+use Rattle.mt_finding.specs.Text.{finding_line, stable_line_with}
+use Rattle.mt_finding.specs.declared.finding.Finding.{Finding}
 
 -- The bytes are a market and a match of its applicants, and the line says what is so of that match. The line is that
 -- of a stable match exactly if the match is stable by the market's lists and no record has other counts. Otherwise it
@@ -27,11 +24,3 @@ pub record IsJudged (market_bytes match_bytes : List ℕ) (code : ℕ) (text : L
   pub stable : (text ≡ stable_line_with (length submitted.aside))
       ↔ (IsTrue (stable (judged registered submitted).market submitted.places) × (first_differing registered.market submitted ≡ None))
   pub ends : (code ≡ 0) ↔ (text ≡ stable_line_with (length submitted.aside))
-
--- one named refusal line
-pub record IsRefusal (code : ℕ) (text : List ℕ) : Type 0 where
-  pub file : Source
-  pub row : ℕ
-  pub id : Bytes
-  pub named : IsNamedRefusalOf file code row id
-  pub line : text ≡ refused_line file code row id

@@ -1,6 +1,3 @@
-pub mod Text
-pub mod Findings
 pub mod Headline
 pub mod Answer
-pub mod View
 pub mod Laws

@@ -1,9 +1,8 @@
 ghost use Rattle.std.specs.Prelude.{◌≡◌, IfOk};
 ghost use Rattle.mt_terms.specs.Places.{ArePlaces};
-ghost use Rattle.mt_check.specs.Findings.{finding_of};
+ghost use Rattle.mt_finding.specs.Findings.{finding_of};
 
-use crate::counts::first_differing;
-use crate::finding::Finding;
+use mt_finding::{Finding, first_differing};
 use mt_market::Roster;
 use mt_match_file::SubmittedMatch;
 use mt_ranks::Ranks;

@@ -1,16 +1,12 @@
 //! Whether a match is stable, whatever program made it: the bytes of a market and of a match in, one line out.
 #![tactic(auto)]
 
-mod counts;
-mod finding;
 mod found;
 mod judging;
 pub mod laws;
 mod text;
 mod whole;
 
-pub use counts::Tally;
-pub use finding::Finding;
 pub use mt_files::{Source, refused};
 pub use mt_report::Ended;
 pub use whole::check;

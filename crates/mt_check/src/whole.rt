@@ -5,8 +5,9 @@ ghost use Rattle.mt_terms.specs.declared.codes.TheConstants.{READ_FAULT};
 ghost use Rattle.mt_report.specs.Drains.{contents_of, failures_of, is_flushed};
 ghost use Rattle.mt_input.specs.Files.{most_bytes};
 ghost use Rattle.mt_input.specs.Left.{TakesFile};
-ghost use Rattle.mt_check.specs.Answer.{Answers, answer_seen, finding_answer, judged_answer};
-ghost use Rattle.mt_check.specs.Findings.{finding_of};
+ghost use Rattle.mt_judged.specs.Answer.{finding_answer, judged_answer};
+ghost use Rattle.mt_check.specs.Answer.{Answers, answer_seen};
+ghost use Rattle.mt_finding.specs.Findings.{finding_of};
 
 use crate::found::Found;
 use crate::judging::judge;

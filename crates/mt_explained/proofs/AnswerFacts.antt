@@ -1,14 +1,14 @@
 -- What an answer says: the lines are so, or the refusal is named.
 use Rattle.std.proofs.Common.{◌≡◌, ◌≢◌, ℕ, ◌<◌, Bool, List, [], Option, Some, None, Result, Ok, Err, refl, sym, ap, ◌∙◌, subst, inl, inr, arith}
 use Rattle.std.specs.Prelude.{codes}
-use Rattle.mt_terms.specs.Market.{Market, Registered}
+use Rattle.mt_terms.specs.Market.{Registered}
 use Rattle.mt_terms.specs.Matching.{Places}
 use Rattle.mt_terms.specs.Places.{ArePlaces}
 use Rattle.mt_terms.specs.Registration.Accepted.{IsRegistration}
 use Rattle.mt_terms.specs.Registration.Faults.{Fault}
 use Rattle.mt_terms.specs.Registration.Ids.{Bytes}
 use Rattle.mt_order_laws.specs.Reordered.{set_aside_registered}
-use Rattle.mt_order_laws.proofs.FormedFacts.{none_aside_lem, places_aside}
+use Rattle.mt_order_laws.proofs.FormedFacts.{places_aside}
 use Rattle.mt_order_laws.proofs.RegistrationFacts.{registration_aside_lem}
 use Rattle.mt_match_file.specs.Submitted.{Submitted, submitted_by}
 use Rattle.mt_match_file.proofs.PlaceFacts.{tells_places_lem}
@@ -30,19 +30,17 @@ use Rattle.mt_explain.proofs.LawFacts.{each_better_option_once_lem, open_if_bloc
 use Rattle.mt_explain_text.specs.Text.{agents_text}
 use Rattle.mt_explained.specs.Asked.{agents_asked, first_unknown}
 use Rattle.mt_files.specs.Answer as answers
-use Rattle.mt_explained.specs.Answer.{Answer, Answers, IsAnswer, IsGiven, IsGivenOrMemory, answer_by, fault_answer, match_answer, memory_answer, submitted_answer}
+use Rattle.mt_files.specs.Answer.{IsGiven}
+use Rattle.mt_judged.specs.Answer.{IsGivenOrMemory, fault_answer, memory_answer}
+use Rattle.mt_judged.specs.Text.{refused_line}
+use Rattle.mt_judged.proofs.AsideFacts.{none_aside_registered}
+use Rattle.mt_explained.specs.Answer.{Answer, Answers, IsAnswer, answer_by, match_answer, submitted_answer}
 use Rattle.mt_explained.specs.Headline.{IsExplained, IsUnknown, LinesAreSo}
 use Rattle.mt_explained.specs.Laws.{ExplainedByAllLists}
-use Rattle.mt_explained.specs.Text.{refused_line}
 
 -- the answer to a market and a match, or to the fault of a file
 abbrev answer_of : List Bytes → Bool → Result (Registered × Submitted) (Source × Fault) → Answer
 answer_of ids is_public = answers.answer_of (codes "check") (submitted_answer ids is_public)
-
--- with no couple set aside, the market is as it was
-pub none_aside_registered : (r : Registered) (aside : List ℕ) → aside ≡ [] → set_aside_registered aside r ≡ r
-none_aside_registered r aside none =
-    ap (λ (xs : List ℕ). set_aside_registered xs r) none ∙ ap (λ (m : Market). record { market = m; names = r.names }) (none_aside_lem r.market)
 
 pub explained_by_all_lists_lem : ExplainedByAllLists
 explained_by_all_lists_lem r submitted ids is_public none =

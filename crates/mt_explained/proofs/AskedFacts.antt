@@ -1,33 +1,19 @@
 -- The agents that are asked for are agents of the market.
-use Rattle.std.proofs.Common.{◌≡◌, ℕ, zero, suc, ◌+◌, ◌<◌, ◌≤◌, Bool, true, false, List, [], ◌∷◌, ◌++◌, length, map, filter, get_or, take, drop, Option, Some, None, IfSome, refl, sym, ap, ◌∙◌, inl, inr, arith}
+use Rattle.std.proofs.Common.{◌≡◌, ℕ, ◌+◌, ◌<◌, Bool, List, [], ◌∷◌, ◌++◌, length, map, get_or, take, drop, Option, Some, None, IfSome, refl, sym, ap, ◌∙◌, inl, inr, arith}
 use Rattle.std.specs.Prelude.{String, bytes_eq, filter_map, find, is_some, not, position, string_bytes}
 use Rattle.std.specs.Global.{Global}
-use Rattle.std.specs.List.{All, cons_option, range_with_len}
+use Rattle.std.specs.List.{All, cons_option}
 use Rattle.std.proofs.lemmas.Bool.{cases_Bool}
-use Rattle.std.proofs.lemmas.List.{append-nil, drop_more, map-append, take-append-drop, take_more}
-use Rattle.std.proofs.lemmas.List.Elements.{All-cons, filter-append, filter_map-append}
+use Rattle.std.proofs.lemmas.List.{drop_more, map-append, take-append-drop, take_more}
+use Rattle.std.proofs.lemmas.List.Elements.{All-cons, filter_map-append}
 use Rattle.mt_ids.proofs.IdFacts.{found_below}
-use Rattle.mt_terms.specs.Lists.{Set, below}
-use Rattle.mt_terms.specs.Market.{Market, Registered, agent_of, applicants, leads, IsAgentOf}
+use Rattle.mt_terms.specs.Market.{Registered, applicants, IsAgentOf}
 use Rattle.mt_terms.specs.Registration.Accepted.{IsRegistration}
 use Rattle.mt_terms.specs.Registration.Ids.{Bytes}
 use Rattle.mt_terms.specs.declared.numbers.Agent.{Agent}
 use Rattle.mt_explain.proofs.LawFacts.{agent_numbered}
-use Rattle.mt_terms.proofs.BelowFacts.{below_more}
+use Rattle.mt_judged.proofs.AgentFacts.{agents_numbered}
 use Rattle.mt_explained.specs.Asked.{agent_by, agent_named, agents_asked, first_unknown}
-
-all_none : {X : Type 0} (P : X → Type 0) → All P []
-all_none P = λ i d h. absurd (omega arith)
-
--- the agents of a range of applicants
-among_range : (m : Market) (keep : Set) (low n : ℕ) → low + n ≤ applicants m → All (IsAgentOf m) (map (agent_of m) (filter keep (range_with_len low n)))
-among_range m keep low zero h = all_none (IsAgentOf m)
-among_range m keep low (suc n) h =
-    let later = among_range m keep (low + 1) n (omega arith) in
-    elim (cases_Bool (keep low)) [
-      | inl kept ↦ rw kept (All-cons (IsAgentOf m) (agent_of m low) (map (agent_of m) (filter keep (range_with_len (low + 1) n))) (agent_numbered m low (omega arith)) later)
-      | inr dropped ↦ rw dropped later
-    ]
 
 position_below : (ids : List Bytes) (id : Bytes) → IfSome (position (bytes_eq id) ids) (λ n. n < length ids)
 position_below ids id = go (position (bytes_eq id) ids) refl
@@ -58,38 +44,12 @@ module _ (r : Registered) (registration : IsRegistration r) where
   with_option (Some g) gs h all = All-cons (IsAgentOf r.market) g gs h all
 
   all_named : (ids : List Bytes) → All (IsAgentOf r.market) (filter_map (agent_named r) ids)
-  all_named [] = all_none (IsAgentOf r.market)
+  all_named [] = λ i d h. absurd (omega arith)
   all_named (id ∷ ids) = with_option (agent_named r id) (filter_map (agent_named r) ids) (named_numbered id) (all_named ids)
 
   pub asked_numbered : (ids : List Bytes) → All (IsAgentOf r.market) (agents_asked r ids)
-  asked_numbered [] = among_range r.market (leads r.market) 0 (applicants r.market) (omega arith)
+  asked_numbered [] = agents_numbered r.market
   asked_numbered (id ∷ ids) = all_named (id ∷ ids)
-
--- the agents of one applicant more
-module _ (m : Market) (n : ℕ) where
-  so_many : ℕ → List Agent
-  so_many k = map (agent_of m) (filter (leads m) (below k))
-
-  agents_next : so_many (n + 1) ≡ so_many n ++ map (agent_of m) (filter (leads m) (n ∷ []))
-  unfolding so_many
-  agents_next =
-      ap (λ (xs : List ℕ). map (agent_of m) (filter (leads m) xs)) (below_more n)
-      ∙ ap (map (agent_of m)) (filter-append (leads m) (below n) (n ∷ []))
-      ∙ map-append (agent_of m) (filter (leads m) (below n)) (filter (leads m) (n ∷ []))
-
-  pub agents_with : (gs : List Agent) → leads m n ≡ true → gs ≡ map (agent_of m) (filter (leads m) (below n))
-      → gs ++ agent_of m n ∷ [] ≡ map (agent_of m) (filter (leads m) (below (n + 1)))
-  unfolding so_many
-  agents_with gs leading is =
-      let one : map (agent_of m) (filter (leads m) (n ∷ [])) ≡ agent_of m n ∷ [] = rw leading refl in
-      ap (λ (xs : List Agent). xs ++ agent_of m n ∷ []) is ∙ sym (agents_next ∙ ap (λ (xs : List Agent). map (agent_of m) (filter (leads m) (below n)) ++ xs) one)
-
-  pub agents_without : (gs : List Agent) → leads m n ≡ false → gs ≡ map (agent_of m) (filter (leads m) (below n))
-      → gs ≡ map (agent_of m) (filter (leads m) (below (n + 1)))
-  unfolding so_many
-  agents_without gs following is =
-      let none : map (agent_of m) (filter (leads m) (n ∷ [])) ≡ [] = rw following refl in
-      is ∙ sym (agents_next ∙ ap (λ (xs : List Agent). map (agent_of m) (filter (leads m) (below n)) ++ xs) none ∙ append-nil (map (agent_of m) (filter (leads m) (below n))))
 
 -- a search after elements that don't pass
 find_after : {X : Type 0} (test : X → Bool) (xs ys : List X) → find test xs ≡ None → find test (xs ++ ys) ≡ find test ys

@@ -1,19 +1,16 @@
 -- The answer to the bytes of a market and of a match, and what an explanation did.
-use Rattle.std.specs.Prelude.{◌≡◌, ◌≢◌, ◌⊎◌, ℕ, Bool, List, [], Option, Some, None, codes}
+use Rattle.std.specs.Prelude.{◌≡◌, ◌≢◌, ℕ, Bool, List, Option, Some, None, codes}
 use Rattle.mt_terms.specs.Market.{Registered}
 use Rattle.mt_terms.specs.Matching.{Places}
-use Rattle.mt_terms.specs.Registration.Faults.{Fault}
 use Rattle.mt_terms.specs.Registration.Ids.{Bytes}
 use Rattle.mt_terms.specs.declared.codes.TheConstants.{OUT_OF_MEMORY, READ_FAULT}
 use Rattle.mt_order_laws.specs.Reordered.{set_aside_registered}
 use Rattle.mt_report.specs.Drains.{IsWritten}
 use Rattle.mt_match_file.specs.Submitted.{Submitted}
 use Rattle.mt_files.specs.Answer as files
-use Rattle.mt_files.specs.Answer.{IsAnswerBy, IsGiven}
+use Rattle.mt_files.specs.Answer.{IsAnswerBy}
 pub use Rattle.mt_files.specs.Answer.{Answer}
 use Rattle.mt_files.specs.Refusals.{IsInTurn, OfBoth}
-use Rattle.mt_files.specs.declared.source.Source.{Source}
-use Rattle.mt_files.specs.declared.source.Source.TheVariants.{Match}
 use Rattle.mt_explain_text.specs.Text.{agents_text}
 use Rattle.mt_explained.specs.Asked.{agents_asked, first_unknown}
 use Rattle.mt_explained.specs.Headline.{IsExplained, IsRefusal}
@@ -32,10 +29,6 @@ match_answer r places ids is_public = answer_by (first_unknown r ids) (agents_te
 -- The answer to a market and a match: that in the market in which the couples that the match sets aside want nothing.
 abbrev pub submitted_answer : List Bytes → Bool → Registered → Submitted → Answer
 submitted_answer ids is_public r submitted = match_answer (set_aside_registered submitted.aside r) submitted.places ids is_public
-
--- the answer to the fault of a file
-abbrev pub fault_answer : Source → Fault → Answer
-fault_answer = files.fault_answer (codes "check")
 
 -- The answer to the bytes of a market and of a match. It is the lines of the agents asked for, the refusal of a word that
 -- names none, or a fault: the first one of the market, or else of the match.
@@ -61,11 +54,3 @@ pub record Answers (ids : List Bytes) (is_public : Bool) (market matched : Optio
   pub written : ℕ
   pub is_written : IsWritten text old new written whole
   pub says : Says ids is_public market matched reads code text
-
--- the answer that the files have in want of memory
-abbrev pub memory_answer : Answer
-memory_answer = fault_answer Match (record { code = OUT_OF_MEMORY; row = 0; id = [] })
-
--- This answer was written, or its first bytes. If memory ran out, it was the refusal line for that.
-abbrev pub IsGivenOrMemory : Answer → Option (List ℕ) → Option (List ℕ) → ℕ → Bool → Type 0
-IsGivenOrMemory answer old new code whole = IsGiven answer old new code whole ⊎ IsGiven memory_answer old new code whole

@@ -1,11 +1,11 @@
-ghost use Rattle.std.specs.Prelude.{◌≡◌, ◌<◌, map, IfOk, string_bytes};
-ghost use Rattle.mt_terms.specs.Market.{agents, applicants, leads};
+ghost use Rattle.std.specs.Prelude.{map, IfOk, string_bytes};
 ghost use Rattle.mt_explained.specs.Found.{AreAsked, AreNamed};
 ghost use Rattle.mt_explained.specs.View.{market_of};
 
 use crate::ids::AgentIds;
+use mt_judged::all_agents;
 use mt_market::Roster;
-use mt_terms::{Agent, AppNo};
+use mt_terms::Agent;
 use std::alloc::{AllocError, Global};
 
 /// The agents to explain, or the word that names none.
@@ -15,31 +15,6 @@ pub(crate) enum Found<'a> {
     Agents(Vec<Agent>),
     /// The first word that names no agent.
     Unknown(&'a str),
-}
-
-/// Whether an applicant is a single, or the first member of its couple.
-fn leads(roster: &Roster, applicant: AppNo) -> bool
-    requires { applicant < applicants roster.now.market }
-    ensures { result ≡ leads roster.now.market applicant }
-{
-    match roster.agent_of(applicant) {
-        Agent::Single(_) => true,
-        Agent::Couple(couple) => roster.members(couple).0 == applicant,
-    }
-}
-
-/// All agents of the market, in the order of registration.
-pub fn all_agents(alloc: Global, roster: &Roster) -> Result<Vec<Agent>, AllocError>
-    ensures { IfOk result (λ v. v.items ≡ agents roster.now.market) }
-{
-    let mut agents = Vec::new(alloc);
-    for number in 0..roster.applicants() {
-        let applicant = AppNo(number);
-        if leads(roster, applicant) {
-            agents.push(roster.agent_of(applicant))?;
-        }
-    }
-    Ok(agents)
 }
 
 /// The agents that some words name, in their order, or the first word that names none.

@@ -9,7 +9,6 @@ pub mod laws;
 mod sending;
 mod whole;
 
-pub use agents::all_agents;
 pub use asked::Asked;
 pub use mt_pages::Outcome;
-pub use whole::{explain, judged, refuse_file};
+pub use whole::explain;

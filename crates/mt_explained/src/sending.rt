@@ -1,4 +1,4 @@
-ghost use Rattle.std.specs.Prelude.{◌≡◌, ◌+◌, ◌<◌, ◌^◌, All, OnErr, OnOk};
+ghost use Rattle.std.specs.Prelude.{◌+◌, ◌<◌, ◌^◌, All, OnErr, OnOk};
 ghost use Rattle.mt_report.specs.Drains.{failures_of};
 ghost use Rattle.mt_terms.specs.Market.{IsAgentOf};
 ghost use Rattle.mt_explain_text.specs.Text.{agent_text, agents_text};

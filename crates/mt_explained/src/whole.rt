@@ -3,15 +3,14 @@ ghost use Rattle.mt_lists.specs.Tap.{bytes_left, reads_of};
 ghost use Rattle.mt_terms.specs.Places.{ArePlaces};
 ghost use Rattle.mt_match_file.specs.Submitted.{shown};
 ghost use Rattle.mt_terms.specs.Market.{IsAgentOf};
-ghost use Rattle.mt_order_laws.specs.Reordered.{set_aside_registered};
 ghost use Rattle.mt_report.specs.Drains.{contents_of, failures_of, is_flushed};
 ghost use Rattle.mt_input.specs.Files.{most_bytes};
-ghost use Rattle.mt_input.specs.Refusals.{fault_of};
-ghost use Rattle.mt_files.specs.Refusals.{IsNamedRefusalOf};
 ghost use Rattle.mt_files.specs.Uses.{UsesFiles};
 ghost use Rattle.mt_explain_text.specs.Text.{agents_text};
 ghost use Rattle.mt_explain_text.specs.View.{is_public_of, places_of, registered_of};
-ghost use Rattle.mt_explained.specs.Answer.{Answers, IsGiven, IsGivenOrMemory, fault_answer, match_answer, submitted_answer};
+ghost use Rattle.mt_files.specs.Answer.{IsGiven};
+ghost use Rattle.mt_judged.specs.Answer.{IsGivenOrMemory};
+ghost use Rattle.mt_explained.specs.Answer.{Answers, match_answer, submitted_answer};
 ghost use Rattle.mt_explained.specs.Text.{unknown_line};
 ghost use Rattle.mt_explained.specs.View.{ids_of};
 
@@ -21,12 +20,12 @@ use crate::codes::NO_SUCH_AGENT;
 use crate::sending::write_agents;
 use itoa::Buffer;
 use mt_explain_text::AgentLines;
-use mt_files::{FileRefusalLine, Files, Refused, Source, read_files, refusal_line, refuse};
+use mt_files::{FileRefusalLine, Files, Refused, Source, read_files, refusal_line};
 use mt_ids::is_id;
+use mt_judged::{judged, refuse_file};
 use mt_lists::Tap;
 use mt_pages::{Outcome, Page, Unwritten, send};
 use mt_ranks::Ranks;
-use mt_reordered::set_aside;
 use mt_report::{Drain, id_or_dash, put_all};
 use mt_terms::codes::OUT_OF_MEMORY;
 use mt_terms::{Agent, LIMITS_2, Refusal};
@@ -134,24 +133,6 @@ fn write_lines<T: Threads + Sync, W: Write>(
     Ok(Outcome { code: 0, whole })
 }
 
-/// The files with the market in which the match is judged: the couples that it sets aside want nothing.
-pub fn judged(alloc: Global, files: Files) -> Result<Files, AllocError>
-    ensures roster { IfOk result (λ judged. judged.roster
-        ≡ set_aside_registered files.submitted.aside files.roster) }
-    ensures submitted { IfOk result (λ judged. judged.submitted ≡ files.submitted) }
-{
-    let Files { roster, submitted } = files;
-    let aside = submitted.aside();
-    if aside.is_empty() {
-        return Ok(Files { roster, submitted });
-    }
-    let others = set_aside(alloc, &roster, aside)?;
-    Ok(Files {
-        roster: others,
-        submitted,
-    })
-}
-
 /// Writes the answer to the places of a match by all lists of its market. The error is want of memory, and then nothing
 /// is written.
 fn explain_places<T: Threads + Sync, W: Write>(
@@ -202,23 +183,6 @@ fn explain_match<T: Threads + Sync, W: Write>(
 {
     let files = judged(alloc, files)?;
     explain_places(rt, alloc, &files, asked, drain)
-}
-
-/// Writes the refusal line of a file.
-pub fn refuse_file<W: Write>(drain: &mut Drain<W>, file: Source, refusal: &Refusal) -> Outcome
-    requires named { IsNamedRefusalOf file refusal.now.code refusal.now.row refusal.now.id }
-    requires failures { failures_of drain.old + 1 < 2 ^ 64 }
-    ensures given { IsGiven (fault_answer file (fault_of refusal.now))
-        (contents_of W.contents drain.old) (contents_of W.contents drain.new) result.code result.whole }
-    ensures writer { failures_of drain.new
-        ≡ failures_of drain.old + (if result.whole then 0 else 1) }
-    ensures flushed { IsTrue result.whole → IsTrue (is_flushed drain.new) }
-{
-    let ended = refuse(drain, b"check", file, refusal);
-    Outcome {
-        code: ended.code,
-        whole: ended.whole,
-    }
 }
 
 /// Writes the answer to a market and a match, or the refusal line for want of memory.

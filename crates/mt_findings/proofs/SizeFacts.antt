@@ -1,5 +1,5 @@
 -- There are fewer findings than a count has room for, by the limits of a market.
-use Rattle.std.proofs.Common.{◌^◌, ◌<◌, ◌≤◌, Bool, not, List, [], ◌++◌, map, filter, length, get_or, refl, arith, length-append}
+use Rattle.std.proofs.Common.{◌^◌, ◌<◌, ◌≤◌, Bool, not, List, ◌++◌, map, filter, length, get_or, refl, arith, length-append}
 use Rattle.std.specs.List.{All}
 use Rattle.std.proofs.lemmas.List.{length-map}
 use Rattle.std.proofs.lemmas.List.Concat.{length-flat_map}
@@ -18,9 +18,9 @@ use Rattle.mt_order_laws.proofs.OrderLists.{length_below}
 use Rattle.mt_verify.proofs.MarketFacts.{few_listed, few_pairs}
 use Rattle.mt_match_file.specs.Submitted.{Submitted}
 use Rattle.mt_match_file.specs.declared.submitted_match.Counted.{Counted}
-use Rattle.mt_check.specs.Findings.{fits_count}
-use Rattle.mt_check.specs.declared.finding.Finding.TheVariants.{Of, Differs}
-use Rattle.mt_explained.proofs.AskedFacts.{asked_numbered}
+use Rattle.mt_finding.specs.Findings.{fits_count}
+use Rattle.mt_finding.specs.declared.finding.Finding.TheVariants.{Of, Differs}
+use Rattle.mt_judged.proofs.AgentFacts.{agents_numbered}
 use Rattle.mt_findings.specs.Findings.{blocking, blocking_by, differing_of, findings, is_taken, over, unlisted}
 
 -- no more pass a test than there are
@@ -51,7 +51,7 @@ module _ (r : Registered) (registration : IsRegistration r) where
   few_blocking : (places : Places) → length (blocking r.market places) ≤ 800000000000
   few_blocking places =
       let each : All (λ (g : Agent). length (blocking_by r.market places g) ≤ 8000000) (agents r.market) =
-      λ i g within. few_blocking_by places (get_or (agents r.market) i g) (asked_numbered r registration [] i g within) in
+      λ i g within. few_blocking_by places (get_or (agents r.market) i g) (agents_numbered r.market i g within) in
       omega (arith, length-flat_map (blocking_by r.market places) (agents r.market), sum_by-le (λ (g : Agent). length (blocking_by r.market places g)) 8000000 (agents r.market) each, few_agents)
 
   pub few_findings : (submitted : Submitted) → length submitted.counts ≤ 2 ^ 63 → length (findings r.market submitted) < 2 ^ 64

@@ -5,15 +5,15 @@ ghost use Rattle.mt_report.specs.Drains.{contents_of, failures_of, is_flushed};
 ghost use Rattle.mt_input.specs.Files.{most_bytes};
 ghost use Rattle.mt_files.specs.Uses.{UsesFiles};
 ghost use Rattle.mt_files.specs.Answer.{IsGiven};
-ghost use Rattle.mt_explained.specs.Answer.{IsGivenOrMemory};
+ghost use Rattle.mt_judged.specs.Answer.{IsGivenOrMemory};
 ghost use Rattle.mt_findings.specs.Answer.{Answers, findings_answer, found_answer, number_code};
 ghost use Rattle.mt_findings.specs.Findings.{findings};
 
 use crate::lines::FindingLines;
 use crate::writing::write_all;
-use mt_check::Tally;
-use mt_explained::{all_agents, judged, refuse_file};
 use mt_files::{Files, Refused, Source, read_files};
+use mt_finding::Tally;
+use mt_judged::{all_agents, judged, refuse_file};
 use mt_lists::Tap;
 use mt_match_file::SubmittedMatch;
 use mt_pages::Outcome;

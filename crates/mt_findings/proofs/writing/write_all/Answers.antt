@@ -3,12 +3,11 @@ use Rattle.std.specs.List.{All, flat_map}
 use Rattle.std.proofs.lemmas.List.{append-nil}
 use Rattle.mt_terms.specs.Market.{Market, IsAgentOf}
 use Rattle.mt_terms.specs.Matching.{Places}
-use Rattle.mt_terms.specs.Registration.Accepted.{IsRegistration}
 use Rattle.mt_terms.specs.declared.numbers.Agent.{Agent}
 use Rattle.mt_match_file.specs.declared.submitted_match.Counted.{Counted}
-use Rattle.mt_check.specs.View.{market_of, places_of}
-use Rattle.mt_check.specs.declared.finding.Finding.{Finding}
-use Rattle.mt_explained.proofs.AskedFacts.{asked_numbered}
+use Rattle.mt_finding.specs.View.{market_of, places_of}
+use Rattle.mt_finding.specs.declared.finding.Finding.{Finding}
+use Rattle.mt_judged.proofs.AgentFacts.{agents_numbered}
 use Rattle.mt_findings.specs.Findings.{blocking, blocking_by, differing_of, findings, over, unlisted}
 use Rattle.mt_findings.proofs.WritingFacts.{failed_as, failed_more, failed_then, failed_within, given_all, given_broken, room_for, wrote_as, wrote_then}
 use Rattle.mt_findings.proofs.writing.write_all.Goals as goal
@@ -93,7 +92,7 @@ write_over-requires-clause-count g c =
 pub write_blocking-requires-clause-agents : goal.write_blocking-requires-clause-agents
 write_blocking-requires-clause-agents g c =
     let r = c.args.tables.now.registered in
-    subst (λ (gs : List Agent). All (IsAgentOf r.market) gs) (sym c.requires.agents) (asked_numbered r (subst IsRegistration c.roster-roster.ensures c.is_of_a_file.ensures) [])
+    subst (λ (gs : List Agent). All (IsAgentOf r.market) gs) (sym c.requires.agents) (agents_numbered r.market)
 
 pub write_blocking-requires-clause-count : goal.write_blocking-requires-clause-count
 write_blocking-requires-clause-count g c =

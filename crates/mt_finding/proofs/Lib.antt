@@ -1,0 +1,3 @@
+pub mod CountFacts
+pub mod FindingFacts
+pub mod OptionFacts

@@ -1,0 +1,2 @@
+pub mod AgentFacts
+pub mod AsideFacts
