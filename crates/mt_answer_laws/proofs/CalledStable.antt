@@ -22,10 +22,10 @@ use Rattle.mt_input.specs.Files.{market_in}
 use Rattle.mt_input.proofs.MarketFacts.{registration_of}
 use Rattle.mt_files.specs.Files.{submitted_in}
 use Rattle.mt_check.specs.Answer.{Answer, answer_to, finding_answer, judged_answer}
-use Rattle.mt_finding.specs.Findings.{finding_of, first_differing_of, fits_count, judged}
-use Rattle.mt_finding.specs.Text.{finding_line, stable_line, stable_line_with}
+use Rattle.mt_first_finding.specs.Findings.{finding_of, first_differing_of, fits_count, judged}
+use Rattle.mt_first_finding.specs.Text.{finding_line, stable_line, stable_line_with}
 use Rattle.mt_check.proofs.AnswerFacts.{judged_by_all_lists_lem}
-use Rattle.mt_finding.proofs.FindingFacts.{stable_line_is}
+use Rattle.mt_first_finding.proofs.FindingFacts.{stable_line_is}
 use Rattle.mt_text_laws.specs.Counts.{counts_aside, counts_from, published_counts, totals_count}
 use Rattle.mt_text_laws.proofs.TextFacts.{published_aside_is_read_lem, published_is_read_lem}
 use Rattle.mt_answer_laws.specs.Laws.{PublishedAsideIsJudged, PublishedIsCalledStable, PublishedIsReadBack}

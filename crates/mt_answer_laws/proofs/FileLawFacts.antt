@@ -21,8 +21,8 @@ use Rattle.mt_input.proofs.MarketFacts.{market_of_rows, registration_of}
 use Rattle.mt_match_file.specs.Submitted.{Submitted}
 use Rattle.mt_files.specs.Files.{submitted_in}
 use Rattle.mt_check.proofs.AnswerFacts.{answers_are_so_lem, by_all_lists}
-use Rattle.mt_finding.specs.Findings.{judged}
-use Rattle.mt_finding.specs.Text.{stable_line, stable_line_with}
+use Rattle.mt_first_finding.specs.Findings.{judged}
+use Rattle.mt_first_finding.specs.Text.{stable_line, stable_line_with}
 use Rattle.mt_applicant_laws.specs.Changes.{HasAtLeast, with_list}
 use Rattle.mt_applicant_laws.proofs.EasierMarkets.{more_posts_hurt_none_lem, one_less_hurts_no_other_lem}
 use Rattle.mt_applicant_laws.proofs.ListChanges.{no_stable_match_gives_more_lem}

@@ -6,7 +6,7 @@ use Rattle.mt_terms.specs.Market.{Market, Registered}
 use Rattle.mt_applicant_laws.specs.Changes.{with_list, with_quota}
 use Rattle.mt_run_laws.specs.Answer as run
 use Rattle.mt_check.specs.Answer.{answer_to}
-use Rattle.mt_finding.specs.Text.{check_line, stable_line}
+use Rattle.mt_first_finding.specs.Text.{check_line, stable_line}
 use Rattle.mt_answer_laws.specs.TwoFiles.{DifferInList, DifferInQuota, Publishes}
 
 -- two programs and two applicants of crossed wishes

@@ -9,7 +9,7 @@ use Rattle.mt_report.specs.Aside.{published_aside}
 use Rattle.mt_input.specs.Files.{market_in}
 use Rattle.mt_run_laws.specs.Answer as run
 use Rattle.mt_check.specs.Answer.{answer_to}
-use Rattle.mt_finding.specs.Text.{stable_line, stable_line_with}
+use Rattle.mt_first_finding.specs.Text.{stable_line, stable_line_with}
 use Rattle.mt_answer_laws.specs.ReadBack.{IsReadBack}
 
 -- What is published for a file is called stable for that file: the answer of a check is the line `check,1,stable`, with

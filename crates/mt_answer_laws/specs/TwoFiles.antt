@@ -9,7 +9,7 @@ use Rattle.mt_match_file.specs.declared.submitted_match.Counted.{Counted}
 use Rattle.mt_check.specs.Answer as check
 use Rattle.mt_input.specs.Files.{market_in}
 use Rattle.mt_files.specs.Files.{submitted_in}
-use Rattle.mt_finding.specs.Text.{stable_line}
+use Rattle.mt_first_finding.specs.Text.{stable_line}
 
 -- the records of two files are the same, but for the list of one applicant's record
 pub record DifferInList (bytes other_bytes : List ℕ) (id : Bytes) (list other : List Bytes) : Type 0 where

@@ -27,12 +27,12 @@ use Rattle.mt_judged.specs.Answer.{fault_answer, finding_answer, judged_answer}
 use Rattle.mt_judged.specs.Refusals.{IsRefusal}
 use Rattle.mt_judged.specs.Text.{refused_line}
 use Rattle.mt_check.specs.Answer.{Answer, Answers, IsAnswer, answer_seen}
-use Rattle.mt_finding.specs.Findings.{finding_code, finding_of, judged}
+use Rattle.mt_first_finding.specs.Findings.{finding_code, finding_of, judged}
 use Rattle.mt_check.specs.Headline.{IsJudged}
 use Rattle.mt_check.specs.Laws.{AnswersAreSo, JudgedByAllLists}
-use Rattle.mt_finding.specs.declared.finding.Finding.{Finding}
-use Rattle.mt_finding.specs.Text.{finding_line}
-use Rattle.mt_finding.proofs.FindingFacts.{code_small, finding_says, stable_ends, stable_line_is}
+use Rattle.mt_first_finding.specs.declared.finding.Finding.{Finding}
+use Rattle.mt_first_finding.specs.Text.{finding_line}
+use Rattle.mt_first_finding.proofs.FindingFacts.{code_small, finding_says, stable_ends, stable_line_is}
 
 -- with no couple set aside, the market is as it was
 pub none_aside_registered : (r : Registered) → set_aside_registered [] r ≡ r

@@ -4,7 +4,7 @@ use Rattle.std.specs.Prelude.{codes}
 use Rattle.std.specs.List.{flat_map}
 use Rattle.std.proofs.lemmas.Grind.{flat_map-append}
 use Rattle.std.proofs.lemmas.List.{append-nil, map-append, take_more}
-use Rattle.mt_finding.specs.Text.{check_line}
+use Rattle.mt_first_finding.specs.Text.{check_line}
 use Rattle.mt_report.proofs.LineFacts.{after_comma, joined}
 
 -- a line by its fields, each after a comma

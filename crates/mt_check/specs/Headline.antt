@@ -5,9 +5,9 @@ use Rattle.mt_terms.specs.Stability.{stable}
 use Rattle.mt_match_file.specs.Submitted.{Submitted}
 use Rattle.mt_input.specs.Files.{IsMarketOf}
 use Rattle.mt_files.specs.Files.{submitted_in}
-use Rattle.mt_finding.specs.Findings.{FindingSays, first_differing, judged}
-use Rattle.mt_finding.specs.Text.{finding_line, stable_line_with}
-use Rattle.mt_finding.specs.declared.finding.Finding.{Finding}
+use Rattle.mt_first_finding.specs.Findings.{FindingSays, first_differing, judged}
+use Rattle.mt_first_finding.specs.Text.{finding_line, stable_line_with}
+use Rattle.mt_first_finding.specs.declared.finding.Finding.{Finding}
 
 -- The bytes are a market and a match of its applicants, and the line says what is so of that match. The line is that
 -- of a stable match exactly if the match is stable by the market's lists and no record has other counts. Otherwise it

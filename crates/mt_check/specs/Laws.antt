@@ -4,7 +4,7 @@ use Rattle.mt_terms.specs.Market.{Registered}
 use Rattle.mt_match_file.specs.Submitted.{Submitted}
 use Rattle.mt_files.specs.Answer.{OneAnswerBy}
 use Rattle.mt_check.specs.Answer.{IsAnswer, answer_to, finding_answer, judged_answer}
-use Rattle.mt_finding.specs.Findings.{finding_of}
+use Rattle.mt_first_finding.specs.Findings.{finding_of}
 use Rattle.mt_judged.specs.Refusals.{IsRefusal}
 use Rattle.mt_check.specs.Headline.{IsJudged}
 

@@ -1,8 +1,8 @@
 ghost use Rattle.std.specs.Prelude.{◌≡◌, IfOk};
 ghost use Rattle.mt_terms.specs.Places.{ArePlaces};
-ghost use Rattle.mt_finding.specs.Findings.{finding_of};
+ghost use Rattle.mt_first_finding.specs.Findings.{finding_of};
 
-use mt_finding::{Finding, first_differing};
+use mt_first_finding::{Finding, first_differing};
 use mt_market::Roster;
 use mt_match_file::SubmittedMatch;
 use mt_ranks::Ranks;

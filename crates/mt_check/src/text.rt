@@ -2,12 +2,12 @@ ghost use Rattle.std.specs.Prelude.{◌≡◌, ◌<◌, map, length, IfOk, IfSom
 ghost use Rattle.mt_terms.specs.Matching.{options};
 ghost use Rattle.mt_terms.specs.Text.{place_text};
 ghost use Rattle.mt_terms.specs.declared.verdict.Verdict.TheVariants.{Blocks};
-ghost use Rattle.mt_finding.specs.Findings.{IsThere};
-ghost use Rattle.mt_finding.specs.Text.{check_line, finding_line, stable_line_with};
-ghost use Rattle.mt_finding.specs.declared.finding.Finding.TheVariants.{Of};
+ghost use Rattle.mt_first_finding.specs.Findings.{IsThere};
+ghost use Rattle.mt_first_finding.specs.Text.{check_line, finding_line, stable_line_with};
+ghost use Rattle.mt_first_finding.specs.declared.finding.Finding.TheVariants.{Of};
 
 use itoa::Buffer;
-use mt_finding::Finding;
+use mt_first_finding::Finding;
 use mt_market::Roster;
 use mt_terms::{Agent, Blocker, ProgNo, Verdict};
 use std::alloc::{AllocError, Global};

@@ -7,7 +7,7 @@ ghost use Rattle.mt_input.specs.Files.{most_bytes};
 ghost use Rattle.mt_input.specs.Left.{TakesFile};
 ghost use Rattle.mt_judged.specs.Answer.{finding_answer, judged_answer};
 ghost use Rattle.mt_check.specs.Answer.{Answers, answer_seen};
-ghost use Rattle.mt_finding.specs.Findings.{finding_of};
+ghost use Rattle.mt_first_finding.specs.Findings.{finding_of};
 
 use crate::found::Found;
 use crate::judging::judge;

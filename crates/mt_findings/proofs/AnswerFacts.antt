@@ -28,10 +28,10 @@ use Rattle.mt_files.proofs.FileFacts.{market_there}
 use Rattle.mt_files.proofs.NameFacts.{alone_named, codes_large, market_named, match_named}
 use Rattle.mt_judged.specs.Answer.{IsGivenOrMemory, fault_answer, finding_answer, judged_answer, memory_answer}
 use Rattle.mt_judged.specs.Text.{refused_line}
-use Rattle.mt_finding.specs.Findings.{finding_code, judged}
-use Rattle.mt_finding.specs.Text.{finding_line, stable_line_with}
-use Rattle.mt_finding.specs.declared.finding.Finding.{Finding}
-use Rattle.mt_finding.specs.declared.finding.Finding.TheVariants.{Of, Differs}
+use Rattle.mt_first_finding.specs.Findings.{finding_code, judged}
+use Rattle.mt_first_finding.specs.Text.{finding_line, stable_line_with}
+use Rattle.mt_first_finding.specs.declared.finding.Finding.{Finding}
+use Rattle.mt_first_finding.specs.declared.finding.Finding.TheVariants.{Of, Differs}
 use Rattle.mt_findings.specs.Answer.{Answers, IsAnswer, findings_answer, found_answer, number_code}
 use Rattle.mt_findings.specs.Findings.{findings, first_of}
 use Rattle.mt_findings.specs.Headline.{AreFound}

@@ -18,10 +18,10 @@ use Rattle.mt_verdict_laws.proofs.VerdictLemmas.{position_from_any, stable_verdi
 use Rattle.mt_verify.proofs.FindFacts.{find_first, find_none}
 use Rattle.mt_match_file.specs.Submitted.{Submitted}
 use Rattle.mt_match_file.specs.declared.submitted_match.Counted.{Counted}
-use Rattle.mt_finding.specs.Findings.{FindingSays, finding_by, finding_code, finding_of, first_differing, fits_count}
-use Rattle.mt_finding.specs.declared.finding.Finding.{Finding}
-use Rattle.mt_finding.specs.declared.finding.Finding.TheVariants.{Of, Differs}
-use Rattle.mt_finding.proofs.FindingFacts.{finding_says}
+use Rattle.mt_first_finding.specs.Findings.{FindingSays, finding_by, finding_code, finding_of, first_differing, fits_count}
+use Rattle.mt_first_finding.specs.declared.finding.Finding.{Finding}
+use Rattle.mt_first_finding.specs.declared.finding.Finding.TheVariants.{Of, Differs}
+use Rattle.mt_first_finding.proofs.FindingFacts.{finding_says}
 use Rattle.mt_findings.specs.Findings.{blocking, blocking_by, differing_of, findings, first_of, is_taken, over, unlisted}
 use Rattle.mt_findings.specs.Headline.{FindingsAreSo}
 use Rattle.mt_findings.specs.Laws.{EachBlockingOption, FirstIsNamed, NoneIfStable}

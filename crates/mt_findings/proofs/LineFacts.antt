@@ -9,8 +9,8 @@ use Rattle.mt_terms.specs.Text.{name_of}
 use Rattle.mt_terms.specs.declared.numbers.Agent.TheVariants.{Single}
 use Rattle.mt_terms.specs.declared.verdict.Verdict.TheVariants.{Blocks}
 use Rattle.mt_explain.proofs.OptionFacts.{single_option}
-use Rattle.mt_finding.specs.Text.{check_line, finding_line, option_fields}
-use Rattle.mt_finding.specs.declared.finding.Finding.TheVariants.{Of}
+use Rattle.mt_first_finding.specs.Text.{check_line, finding_line, option_fields}
+use Rattle.mt_first_finding.specs.declared.finding.Finding.TheVariants.{Of}
 
 pub one_piece : (text front field : List ℕ) → (((text ++ front) ++ codes ",") ++ field) ++ codes "\n" ≡ text ++ (front ++ (codes "," ++ (field ++ codes "\n")))
 one_piece text front field = simp append_assoc

@@ -8,7 +8,7 @@ use Rattle.mt_terms.specs.Lists.{below}
 use Rattle.mt_terms.specs.Market.{Registered}
 use Rattle.mt_order_laws.proofs.OrderLists.{length_below}
 use Rattle.mt_report.specs.declared.drain.Drain.{Drain}
-use Rattle.mt_finding.specs.declared.finding.Finding.{Finding}
+use Rattle.mt_first_finding.specs.declared.finding.Finding.{Finding}
 use Rattle.mt_findings.specs.Writing.{Failed, Wrote, if_so}
 use Rattle.mt_findings.specs.declared.lines.FindingLines.{FindingLines}
 use Rattle.mt_findings.proofs.ListFacts.{passing_around, passing_more}

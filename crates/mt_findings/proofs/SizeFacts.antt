@@ -18,8 +18,8 @@ use Rattle.mt_order_laws.proofs.OrderLists.{length_below}
 use Rattle.mt_verify.proofs.MarketFacts.{few_listed, few_pairs}
 use Rattle.mt_match_file.specs.Submitted.{Submitted}
 use Rattle.mt_match_file.specs.declared.submitted_match.Counted.{Counted}
-use Rattle.mt_finding.specs.Findings.{fits_count}
-use Rattle.mt_finding.specs.declared.finding.Finding.TheVariants.{Of, Differs}
+use Rattle.mt_first_finding.specs.Findings.{fits_count}
+use Rattle.mt_first_finding.specs.declared.finding.Finding.TheVariants.{Of, Differs}
 use Rattle.mt_judged.proofs.AgentFacts.{agents_numbered}
 use Rattle.mt_findings.specs.Findings.{blocking, blocking_by, differing_of, findings, is_taken, over, unlisted}
 

@@ -8,8 +8,8 @@ use Rattle.std.proofs.Math.Nat.{add-zero, add_assoc}
 use Rattle.mt_terms.specs.Market.{Registered}
 use Rattle.mt_report.specs.Drains.{contents_of}
 use Rattle.mt_report.specs.declared.drain.Drain.{Drain}
-use Rattle.mt_finding.specs.Text.{finding_line}
-use Rattle.mt_finding.specs.declared.finding.Finding.{Finding}
+use Rattle.mt_first_finding.specs.Text.{finding_line}
+use Rattle.mt_first_finding.specs.declared.finding.Finding.{Finding}
 use Rattle.mt_files.specs.Answer.{IsGiven}
 use Rattle.mt_pages.specs.Sending.{Breaks, Sends}
 use Rattle.mt_pages.proofs.SendingFacts.{breaks_after, breaks_more, sends_put, sends_then, sent_front, sent_whole}

@@ -7,9 +7,9 @@ use Rattle.mt_match_file.specs.Submitted.{Submitted}
 use Rattle.mt_files.specs.Answer as files
 use Rattle.mt_files.specs.Answer.{Answer, IsAnswerBy}
 use Rattle.mt_files.specs.Refusals.{IsInTurn, OfBoth}
-use Rattle.mt_finding.specs.Findings.{judged}
+use Rattle.mt_first_finding.specs.Findings.{judged}
 use Rattle.mt_judged.specs.Refusals.{IsRefusal}
-use Rattle.mt_finding.specs.declared.finding.Finding.{Finding}
+use Rattle.mt_first_finding.specs.declared.finding.Finding.{Finding}
 use Rattle.mt_findings.specs.Findings.{findings}
 use Rattle.mt_findings.specs.Headline.{AreFound}
 use Rattle.mt_findings.specs.Text.{findings_text}

@@ -10,9 +10,9 @@ use Rattle.mt_terms.specs.declared.numbers.Agent.{Agent}
 use Rattle.mt_terms.specs.declared.verdict.Verdict.TheVariants.{Stable, Unlisted, Over, Blocks}
 use Rattle.mt_match_file.specs.Submitted.{Submitted}
 use Rattle.mt_match_file.specs.declared.submitted_match.Counted.{Counted}
-use Rattle.mt_finding.specs.Findings.{fits_count}
-use Rattle.mt_finding.specs.declared.finding.Finding.{Finding}
-use Rattle.mt_finding.specs.declared.finding.Finding.TheVariants.{Of, Differs}
+use Rattle.mt_first_finding.specs.Findings.{fits_count}
+use Rattle.mt_first_finding.specs.declared.finding.Finding.{Finding}
+use Rattle.mt_first_finding.specs.declared.finding.Finding.TheVariants.{Of, Differs}
 
 -- the applicants whose places aren't allowed, by number
 abbrev pub unlisted : Market → Places → List Finding

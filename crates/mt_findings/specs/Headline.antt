@@ -8,7 +8,7 @@ use Rattle.mt_terms.specs.declared.numbers.Agent.{Agent}
 use Rattle.mt_match_file.specs.Submitted.{Submitted}
 use Rattle.mt_input.specs.Files.{IsMarketOf}
 use Rattle.mt_files.specs.Files.{submitted_in}
-use Rattle.mt_finding.specs.Findings.{finding_of, first_differing, judged}
+use Rattle.mt_first_finding.specs.Findings.{finding_of, first_differing, judged}
 use Rattle.mt_findings.specs.Findings.{blocking_options, findings, first_of, is_taken}
 use Rattle.mt_findings.specs.Text.{findings_text}
 

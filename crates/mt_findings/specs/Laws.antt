@@ -8,7 +8,7 @@ use Rattle.mt_terms.specs.WellFormed.{IsWellFormed}
 use Rattle.mt_terms.specs.declared.numbers.Agent.{Agent}
 use Rattle.mt_match_file.specs.Submitted.{Submitted}
 use Rattle.mt_judged.specs.Answer as plain
-use Rattle.mt_finding.specs.Findings.{finding_of, first_differing}
+use Rattle.mt_first_finding.specs.Findings.{finding_of, first_differing}
 use Rattle.mt_findings.specs.Answer.{answer_to}
 use Rattle.mt_findings.specs.Findings.{blocking_options, findings, first_of, is_taken}
 

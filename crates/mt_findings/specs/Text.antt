@@ -3,8 +3,8 @@ use Rattle.std.specs.Prelude.{ℕ, zero, suc, List, [], ◌∷◌, ◌++◌, len
 use Rattle.std.specs.List.{flat_map}
 use Rattle.mt_terms.specs.Market.{Registered}
 use Rattle.mt_terms.specs.Registration.Ids.{Bytes}
-use Rattle.mt_finding.specs.Text.{check_line, finding_line, stable_line_with}
-use Rattle.mt_finding.specs.declared.finding.Finding.{Finding}
+use Rattle.mt_first_finding.specs.Text.{check_line, finding_line, stable_line_with}
+use Rattle.mt_first_finding.specs.declared.finding.Finding.{Finding}
 
 -- the line of how many findings there are
 abbrev pub number_line : ℕ → Bytes

@@ -3,7 +3,7 @@ use Rattle.std.specs.Prelude.{◌≡◌, ℕ, ◌+◌, ◌<◌, Bool, List, [], 
 use Rattle.mt_terms.specs.Market.{Registered}
 use Rattle.mt_report.specs.Drains.{contents_of, failures_of}
 use Rattle.mt_report.specs.declared.drain.Drain.{Drain}
-use Rattle.mt_finding.specs.declared.finding.Finding.{Finding}
+use Rattle.mt_first_finding.specs.declared.finding.Finding.{Finding}
 use Rattle.mt_pages.specs.Sending.{Breaks, Sends}
 use Rattle.mt_findings.specs.Text.{finding_lines}
 use Rattle.mt_findings.specs.declared.lines.FindingLines.{FindingLines}

@@ -3,10 +3,10 @@ ghost use Rattle.mt_terms.specs.Market.{applicants, members, IsAgentOf};
 ghost use Rattle.mt_terms.specs.Matching.{none_placed, place_of};
 ghost use Rattle.mt_terms.specs.Stability.{has_own_option, is_listed};
 ghost use Rattle.mt_terms.specs.Verdict.{is_over, is_unlisted, lowest_number};
-ghost use Rattle.mt_finding.specs.Findings.{fits_count};
-ghost use Rattle.mt_finding.specs.View.{market_of, places_of};
+ghost use Rattle.mt_first_finding.specs.Findings.{fits_count};
+ghost use Rattle.mt_first_finding.specs.View.{market_of, places_of};
 
-use mt_finding::Tally;
+use mt_first_finding::Tally;
 use mt_market::Roster;
 use mt_match_file::Counted;
 use mt_terms::{Agent, AppNo, ProgNo};

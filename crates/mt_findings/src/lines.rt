@@ -1,12 +1,12 @@
 ghost use Rattle.std.specs.Prelude.{◌≡◌, ◌+◌, ◌<◌, ◌^◌, [], ◌∷◌, IfOk, IsTrue, OnErr, OnOk, length};
 ghost use Rattle.mt_report.specs.Drains.{contents_of, failures_of, is_flushed};
-ghost use Rattle.mt_finding.specs.Findings.{IsThere};
+ghost use Rattle.mt_first_finding.specs.Findings.{IsThere};
 ghost use Rattle.mt_pages.specs.Sending.{Breaks, Sends};
 ghost use Rattle.mt_findings.specs.Text.{last_line};
 ghost use Rattle.mt_findings.specs.Writing.{Failed, Wrote, if_so};
 
 use crate::pushing::{push_finding, push_last};
-use mt_finding::Finding;
+use mt_first_finding::Finding;
 use mt_market::Roster;
 use mt_pages::{Page, Unwritten, make_room, send};
 use mt_report::Drain;

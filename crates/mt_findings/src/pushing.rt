@@ -4,14 +4,14 @@ ghost use Rattle.mt_terms.specs.Matching.{options};
 ghost use Rattle.mt_terms.specs.Text.{name_of, place_text};
 ghost use Rattle.mt_terms.specs.declared.numbers.Agent.TheVariants.{Couple, Single};
 ghost use Rattle.mt_terms.specs.declared.verdict.Verdict.TheVariants.{Blocks};
-ghost use Rattle.mt_finding.specs.Findings.{IsThere};
-ghost use Rattle.mt_finding.specs.Text.{finding_line, stable_line_with};
-ghost use Rattle.mt_finding.specs.declared.finding.Finding.TheVariants.{Of};
+ghost use Rattle.mt_first_finding.specs.Findings.{IsThere};
+ghost use Rattle.mt_first_finding.specs.Text.{finding_line, stable_line_with};
+ghost use Rattle.mt_first_finding.specs.declared.finding.Finding.TheVariants.{Of};
 ghost use Rattle.mt_pages.specs.declared.page.TheConstants.{LINE_LEN, PAGE_LEN};
 ghost use Rattle.mt_findings.specs.Text.{last_line};
 
 use itoa::Buffer;
-use mt_finding::Finding;
+use mt_first_finding::Finding;
 use mt_market::Roster;
 use mt_pages::{LINE_LEN, PAGE_LEN, Page};
 use mt_terms::{Agent, AppNo, Blocker, CoupleNo, ProgNo, Verdict};

@@ -12,7 +12,7 @@ ghost use Rattle.mt_findings.specs.Findings.{findings};
 use crate::lines::FindingLines;
 use crate::writing::write_all;
 use mt_files::{Files, Refused, Source, read_files};
-use mt_finding::Tally;
+use mt_first_finding::Tally;
 use mt_judged::{all_agents, judged, refuse_file};
 use mt_lists::Tap;
 use mt_match_file::SubmittedMatch;

@@ -2,7 +2,7 @@ ghost use Rattle.std.specs.Prelude.{◌≡◌, ◌+◌, ◌<◌, ◌^◌, [], Al
 ghost use Rattle.std.specs.List.{flat_map};
 ghost use Rattle.mt_terms.specs.Market.{agents, IsAgentOf};
 ghost use Rattle.mt_report.specs.Drains.{contents_of, failures_of, is_flushed};
-ghost use Rattle.mt_finding.specs.View.{market_of, places_of};
+ghost use Rattle.mt_first_finding.specs.View.{market_of, places_of};
 ghost use Rattle.mt_files.specs.Answer.{IsGiven};
 ghost use Rattle.mt_findings.specs.Answer.{found_answer, number_code};
 ghost use Rattle.mt_findings.specs.Findings.{blocking_by, differing_of, findings, over, unlisted};
@@ -11,7 +11,7 @@ ghost use Rattle.mt_findings.specs.Writing.{Failed, Wrote};
 use crate::allowed::{differs, is_over, is_unlisted};
 use crate::lines::{FindingLines, finish, write_if};
 use crate::taken::is_taken;
-use mt_finding::{Finding, Tally};
+use mt_first_finding::{Finding, Tally};
 use mt_market::Roster;
 use mt_match_file::{Counted, SubmittedMatch};
 use mt_pages::Unwritten;

@@ -4,9 +4,9 @@ use Rattle.mt_terms.specs.Market.{Registered}
 use Rattle.mt_terms.specs.Registration.Faults.{Fault}
 use Rattle.mt_terms.specs.declared.codes.TheConstants.{OUT_OF_MEMORY}
 use Rattle.mt_match_file.specs.Submitted.{Submitted}
-use Rattle.mt_finding.specs.Findings.{finding_code, finding_of, judged}
-use Rattle.mt_finding.specs.Text.{finding_line}
-use Rattle.mt_finding.specs.declared.finding.Finding.{Finding}
+use Rattle.mt_first_finding.specs.Findings.{finding_code, finding_of, judged}
+use Rattle.mt_first_finding.specs.Text.{finding_line}
+use Rattle.mt_first_finding.specs.declared.finding.Finding.{Finding}
 use Rattle.mt_files.specs.Answer as files
 use Rattle.mt_files.specs.Answer.{Answer, IsGiven}
 use Rattle.mt_files.specs.declared.source.Source.{Source}

@@ -1,7 +1,7 @@
 use Rattle.std.proofs.Common.{◌∙◌, arith}
 use Rattle.std.proofs.lemmas.Grind.{common_steps}
 use Rattle.std.proofs.lemmas.Result.{IfOk-weaker}
-use Rattle.mt_finding.proofs.OptionFacts.{couple_line, couple_there, in_list, in_pairs, program_below, programs_below, single_there}
+use Rattle.mt_first_finding.proofs.OptionFacts.{couple_line, couple_there, in_list, in_pairs, program_below, programs_below, single_there}
 use Rattle.mt_check.proofs.text.blocker_line.Goals as goal
 
 pub place_id-place-requires : goal.place_id-place-requires

@@ -1,7 +1,7 @@
 use Rattle.std.proofs.Common.{subst, sym}
-use Rattle.mt_finding.specs.Findings.{IsThere}
-use Rattle.mt_finding.specs.declared.finding.Finding.{Finding}
-use Rattle.mt_finding.proofs.FindingFacts.{finding_there}
+use Rattle.mt_first_finding.specs.Findings.{IsThere}
+use Rattle.mt_first_finding.specs.declared.finding.Finding.{Finding}
+use Rattle.mt_first_finding.proofs.FindingFacts.{finding_there}
 use Rattle.mt_check.proofs.whole.found.Goals as goal
 
 pub finding_line-requires : goal.finding_line-requires

@@ -1,7 +1,7 @@
 use Rattle.std.proofs.Common.{◌≡◌, ◌++◌, ◌∙◌, refl, ap, ℕ, List}
 use Rattle.std.specs.Prelude.{codes}
 use Rattle.mt_terms.specs.declared.numbers.Agent.TheVariants.{Couple}
-use Rattle.mt_finding.proofs.OptionFacts.{couple_line, couple_there, in_pairs, programs_below}
+use Rattle.mt_first_finding.proofs.OptionFacts.{couple_line, couple_there, in_pairs, programs_below}
 use Rattle.mt_findings.proofs.LineFacts.{couple_pieces}
 use Rattle.mt_findings.proofs.pushing.push_couple.Goals as goal
 

@@ -2,8 +2,8 @@ use Rattle.std.proofs.Common.{◌≡◌, ◌++◌, ◌∷◌, [], ◌∙◌, ref
 use Rattle.std.specs.Prelude.{codes}
 use Rattle.mt_terms.specs.Text.{name_of}
 use Rattle.mt_terms.specs.declared.numbers.Agent.TheVariants.{Single}
-use Rattle.mt_finding.specs.Text.{check_line}
-use Rattle.mt_finding.proofs.OptionFacts.{in_list, program_below, single_there}
+use Rattle.mt_first_finding.specs.Text.{check_line}
+use Rattle.mt_first_finding.proofs.OptionFacts.{in_list, program_below, single_there}
 use Rattle.mt_findings.proofs.LineFacts.{single_line, single_pieces}
 use Rattle.mt_findings.proofs.pushing.push_single.Goals as goal
 

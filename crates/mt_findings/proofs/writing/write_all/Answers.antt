@@ -5,8 +5,8 @@ use Rattle.mt_terms.specs.Market.{Market, IsAgentOf}
 use Rattle.mt_terms.specs.Matching.{Places}
 use Rattle.mt_terms.specs.declared.numbers.Agent.{Agent}
 use Rattle.mt_match_file.specs.declared.submitted_match.Counted.{Counted}
-use Rattle.mt_finding.specs.View.{market_of, places_of}
-use Rattle.mt_finding.specs.declared.finding.Finding.{Finding}
+use Rattle.mt_first_finding.specs.View.{market_of, places_of}
+use Rattle.mt_first_finding.specs.declared.finding.Finding.{Finding}
 use Rattle.mt_judged.proofs.AgentFacts.{agents_numbered}
 use Rattle.mt_findings.specs.Findings.{blocking, blocking_by, differing_of, findings, over, unlisted}
 use Rattle.mt_findings.proofs.WritingFacts.{failed_as, failed_more, failed_then, failed_within, given_all, given_broken, room_for, wrote_as, wrote_then}

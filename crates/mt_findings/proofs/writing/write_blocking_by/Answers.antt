@@ -4,7 +4,7 @@ use Rattle.mt_terms.specs.Market.{Registered}
 use Rattle.mt_terms.specs.Matching.{better, holds, options}
 use Rattle.mt_terms.specs.declared.verdict.Verdict.TheVariants.{Blocks}
 use Rattle.mt_terms.proofs.ListFacts.{until-le}
-use Rattle.mt_finding.specs.declared.finding.Finding.TheVariants.{Of}
+use Rattle.mt_first_finding.specs.declared.finding.Finding.TheVariants.{Of}
 use Rattle.mt_pages.proofs.SendingFacts.{on_err}
 use Rattle.mt_findings.specs.Findings.{is_taken}
 use Rattle.mt_findings.proofs.LoopFacts.{below_place, below_taken, failed_in, room_in, wrote_in}

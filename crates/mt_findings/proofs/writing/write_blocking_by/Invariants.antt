@@ -2,7 +2,7 @@ use Rattle.std.proofs.Common.{filter, length, map, take}
 use Rattle.mt_terms.specs.Lists.{below}
 use Rattle.mt_terms.specs.Matching.{better}
 use Rattle.mt_terms.specs.declared.verdict.Verdict.TheVariants.{Blocks}
-use Rattle.mt_finding.specs.declared.finding.Finding.TheVariants.{Of}
+use Rattle.mt_first_finding.specs.declared.finding.Finding.TheVariants.{Of}
 use Rattle.mt_findings.specs.Findings.{is_taken}
 use Rattle.mt_findings.specs.Writing.{Wrote}
 use Rattle.mt_findings.proofs.writing.write_blocking_by.Given as goal

@@ -1,9 +1,9 @@
 use Rattle.std.proofs.Common.{not, refl, ap}
 use Rattle.std.proofs.lemmas.List.{take_all}
 use Rattle.mt_match_file.specs.declared.submitted_match.Counted.{Counted}
-use Rattle.mt_finding.specs.Findings.{fits_count}
-use Rattle.mt_finding.specs.View.{market_of, places_of}
-use Rattle.mt_finding.specs.declared.finding.Finding.TheVariants.{Differs}
+use Rattle.mt_first_finding.specs.Findings.{fits_count}
+use Rattle.mt_first_finding.specs.View.{market_of, places_of}
+use Rattle.mt_first_finding.specs.declared.finding.Finding.TheVariants.{Differs}
 use Rattle.mt_pages.proofs.SendingFacts.{on_err}
 use Rattle.mt_findings.specs.Findings.{differing_of}
 use Rattle.mt_findings.proofs.LoopFacts.{failed_in, room_in, wrote_in}

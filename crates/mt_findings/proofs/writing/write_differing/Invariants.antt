@@ -1,5 +1,5 @@
 use Rattle.std.proofs.Common.{take}
-use Rattle.mt_finding.specs.View.{market_of, places_of}
+use Rattle.mt_first_finding.specs.View.{market_of, places_of}
 use Rattle.mt_findings.specs.Findings.{differing_of}
 use Rattle.mt_findings.specs.Writing.{Wrote}
 use Rattle.mt_findings.proofs.writing.write_differing.Given as goal

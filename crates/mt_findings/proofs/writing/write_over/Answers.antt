@@ -3,8 +3,8 @@ use Rattle.mt_terms.specs.Lists.{below}
 use Rattle.mt_terms.specs.Market.{Market}
 use Rattle.mt_terms.specs.Verdict.{is_over}
 use Rattle.mt_terms.specs.declared.verdict.Verdict.TheVariants.{Over}
-use Rattle.mt_finding.specs.View.{market_of, places_of}
-use Rattle.mt_finding.specs.declared.finding.Finding.TheVariants.{Of}
+use Rattle.mt_first_finding.specs.View.{market_of, places_of}
+use Rattle.mt_first_finding.specs.declared.finding.Finding.TheVariants.{Of}
 use Rattle.mt_pages.proofs.SendingFacts.{on_err}
 use Rattle.mt_findings.proofs.LoopFacts.{below_place, below_taken, failed_in, room_in, wrote_in}
 use Rattle.mt_findings.proofs.writing.write_over.Goals as goal

@@ -2,8 +2,8 @@ use Rattle.std.proofs.Common.{filter, length, map, take}
 use Rattle.mt_terms.specs.Lists.{below}
 use Rattle.mt_terms.specs.Verdict.{is_over}
 use Rattle.mt_terms.specs.declared.verdict.Verdict.TheVariants.{Over}
-use Rattle.mt_finding.specs.View.{market_of, places_of}
-use Rattle.mt_finding.specs.declared.finding.Finding.TheVariants.{Of}
+use Rattle.mt_first_finding.specs.View.{market_of, places_of}
+use Rattle.mt_first_finding.specs.declared.finding.Finding.TheVariants.{Of}
 use Rattle.mt_findings.specs.Writing.{Wrote}
 use Rattle.mt_findings.proofs.writing.write_over.Given as goal
 

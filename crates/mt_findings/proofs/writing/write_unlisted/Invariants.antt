@@ -3,7 +3,7 @@ use Rattle.mt_terms.specs.Lists.{below}
 use Rattle.mt_terms.specs.Market.{applicants}
 use Rattle.mt_terms.specs.Verdict.{is_unlisted}
 use Rattle.mt_terms.specs.declared.verdict.Verdict.TheVariants.{Unlisted}
-use Rattle.mt_finding.specs.declared.finding.Finding.TheVariants.{Of}
+use Rattle.mt_first_finding.specs.declared.finding.Finding.TheVariants.{Of}
 use Rattle.mt_findings.specs.Writing.{Wrote}
 use Rattle.mt_findings.proofs.writing.write_unlisted.Given as goal
 

@@ -2,7 +2,7 @@ ghost use Rattle.std.specs.Prelude.{◌≡◌, ◌<◌, ◌-◌, length, IfOk};
 ghost use Rattle.mt_terms.specs.Matching.{filled, filled_counts};
 ghost use Rattle.mt_terms.specs.Places.{ArePlaces};
 ghost use Rattle.mt_terms.specs.Registration.Accepted.{IsRegistration};
-ghost use Rattle.mt_finding.specs.Findings.{first_differing};
+ghost use Rattle.mt_first_finding.specs.Findings.{first_differing};
 ghost use Rattle.mt_terms.specs.Text.{all_filled, positions, unmatched};
 
 use mt_market::Roster;
@@ -28,8 +28,8 @@ pub struct Tally<'a> {
 }
 
 impl<'a> Tally<'a> {
-    ghost use Rattle.mt_finding.specs.Findings.{first_differing_of, fits_count};
-    ghost use Rattle.mt_finding.specs.View.{market_of, places_of};
+    ghost use Rattle.mt_first_finding.specs.Findings.{first_differing_of, fits_count};
+    ghost use Rattle.mt_first_finding.specs.View.{market_of, places_of};
 
     /// The counts of a match.
     pub fn of(alloc: Global, roster: &'a Roster, matched: &'a Match) -> Result<Self, AllocError>

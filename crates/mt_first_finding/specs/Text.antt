@@ -7,8 +7,8 @@ use Rattle.mt_terms.specs.Text.{line, name_of, place_text}
 use Rattle.mt_terms.specs.declared.numbers.Agent.{Agent}
 use Rattle.mt_terms.specs.declared.numbers.Agent.TheVariants.{Single, Couple}
 use Rattle.mt_terms.specs.declared.verdict.Verdict.TheVariants.{Stable, Unlisted, Over, Blocks}
-use Rattle.mt_finding.specs.declared.finding.Finding.{Finding}
-use Rattle.mt_finding.specs.declared.finding.Finding.TheVariants.{Of, Differs}
+use Rattle.mt_first_finding.specs.declared.finding.Finding.{Finding}
+use Rattle.mt_first_finding.specs.declared.finding.Finding.TheVariants.{Of, Differs}
 
 -- a line of a check: its word and the version of the format, and then these fields
 abbrev pub check_line : List Bytes → Bytes

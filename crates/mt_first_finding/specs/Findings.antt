@@ -13,8 +13,8 @@ use Rattle.mt_match_file.specs.Submitted.{Submitted}
 use Rattle.mt_match_file.specs.declared.submitted_match.Count.{Count}
 use Rattle.mt_match_file.specs.declared.submitted_match.Count.TheVariants as count
 use Rattle.mt_match_file.specs.declared.submitted_match.Counted.{Counted}
-use Rattle.mt_finding.specs.declared.finding.Finding.{Finding}
-use Rattle.mt_finding.specs.declared.finding.Finding.TheVariants.{Of, Differs}
+use Rattle.mt_first_finding.specs.declared.finding.Finding.{Finding}
+use Rattle.mt_first_finding.specs.declared.finding.Finding.TheVariants.{Of, Differs}
 
 -- The market in which a match is judged, with its ids. It is that of the file, but the couples that the match sets
 -- aside want nothing.

@@ -5,7 +5,7 @@ use Rattle.mt_terms.specs.Matching.{Places, filled}
 use Rattle.mt_terms.specs.Text.{all_filled, unmatched}
 use Rattle.mt_terms.proofs.BelowFacts.{length-map_below, map_below_at}
 use Rattle.mt_terms.proofs.Totals.{total_below-same}
-use Rattle.mt_finding.proofs.counts.Tally.of.Goals as goal
+use Rattle.mt_first_finding.proofs.counts.Tally.of.Goals as goal
 
 pub filled_total-requires : goal.filled_total-requires
 filled_total-requires c =

@@ -13,10 +13,10 @@ use Rattle.mt_terms.specs.declared.verdict.Verdict.TheVariants.{Stable, Unlisted
 use Rattle.mt_match_file.specs.Submitted.{Submitted}
 use Rattle.mt_verdict_laws.specs.Verdict.{VerdictSays}
 use Rattle.mt_verdict_laws.proofs.VerdictLemmas.{stable_verdict_lem, verdict_in_words_lem}
-use Rattle.mt_finding.specs.Findings.{FindingSays, IsThere, finding_by, finding_code, finding_of, first_differing}
-use Rattle.mt_finding.specs.Text.{finding_line, stable_line_with}
-use Rattle.mt_finding.specs.declared.finding.Finding.{Finding}
-use Rattle.mt_finding.specs.declared.finding.Finding.TheVariants.{Of, Differs}
+use Rattle.mt_first_finding.specs.Findings.{FindingSays, IsThere, finding_by, finding_code, finding_of, first_differing}
+use Rattle.mt_first_finding.specs.Text.{finding_line, stable_line_with}
+use Rattle.mt_first_finding.specs.declared.finding.Finding.{Finding}
+use Rattle.mt_first_finding.specs.declared.finding.Finding.TheVariants.{Of, Differs}
 
 by_verdict : (m : Market) (submitted : Submitted) (v : Verdict) (differing : Option ℕ) → VerdictSays m submitted.places v → first_differing m submitted ≡ differing → FindingSays m submitted (finding_by v differing)
 by_verdict m submitted Stable None says is = (says, is)

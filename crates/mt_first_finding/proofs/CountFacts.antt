@@ -4,7 +4,7 @@ use Rattle.std.proofs.lemmas.List.{drop_more}
 use Rattle.mt_terms.specs.Market.{Market}
 use Rattle.mt_terms.specs.Matching.{Places}
 use Rattle.mt_match_file.specs.declared.submitted_match.Counted.{Counted}
-use Rattle.mt_finding.specs.Findings.{first_differing_of, fits_count}
+use Rattle.mt_first_finding.specs.Findings.{first_differing_of, fits_count}
 
 module _ (m : Market) (places : Places) (counts : List Counted) (i : ℕ) (x : Counted) (within : i < length counts) (is : x ≡ get_or counts i x) where
   here : drop i counts ≡ x ∷ drop (i + 1) counts

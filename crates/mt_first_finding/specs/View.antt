@@ -1,7 +1,7 @@
 -- How what the code holds is seen in the terms of the definitions.
 use Rattle.mt_terms.specs.Market.{Market}
 use Rattle.mt_terms.specs.Matching.{Places}
-use Rattle.mt_finding.specs.declared.counts.Tally.{Tally}
+use Rattle.mt_first_finding.specs.declared.counts.Tally.{Tally}
 
 -- the market whose counts these are
 abbrev pub market_of : Tally → Market

@@ -1,7 +1,7 @@
 use Rattle.std.proofs.Common.{◌≡◌, drop}
-use Rattle.mt_finding.specs.Findings.{first_differing_of}
-use Rattle.mt_finding.specs.View.{market_of, places_of}
-use Rattle.mt_finding.proofs.counts.Tally.first_differing.Given as goal
+use Rattle.mt_first_finding.specs.Findings.{first_differing_of}
+use Rattle.mt_first_finding.specs.View.{market_of, places_of}
+use Rattle.mt_first_finding.proofs.counts.Tally.first_differing.Given as goal
 
 -- the records that are left decide
 abbrev pub invariant-loop-counted : goal.invariant-loop-counted

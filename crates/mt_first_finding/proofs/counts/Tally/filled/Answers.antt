@@ -2,7 +2,7 @@ use Rattle.std.proofs.Common.{◌<◌, arith, ap, refl, ◌∙◌, length, get_o
 use Rattle.std.proofs.lemmas.List.{get_or_read_under}
 use Rattle.mt_terms.specs.Matching.{filled}
 use Rattle.mt_terms.proofs.BelowFacts.{length-map_below, map_below_at}
-use Rattle.mt_finding.proofs.counts.Tally.filled.Goals as goal
+use Rattle.mt_first_finding.proofs.counts.Tally.filled.Goals as goal
 
 pub index-requires-2 : goal.index-requires-2
 index-requires-2 c =

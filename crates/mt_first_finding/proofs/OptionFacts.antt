@@ -16,8 +16,8 @@ use Rattle.mt_terms.specs.declared.numbers.Agent.{Agent}
 use Rattle.mt_terms.specs.declared.verdict.Verdict.TheVariants.{Blocks}
 use Rattle.mt_terms.specs.declared.numbers.Agent.TheVariants.{Couple, Single}
 use Rattle.mt_terms.proofs.ListFacts.{passes_at}
-use Rattle.mt_finding.specs.Text.{check_line, finding_line, option_fields}
-use Rattle.mt_finding.specs.declared.finding.Finding.TheVariants.{Of}
+use Rattle.mt_first_finding.specs.Text.{check_line, finding_line, option_fields}
+use Rattle.mt_first_finding.specs.declared.finding.Finding.TheVariants.{Of}
 
 -- what stands at a place of a list, the list has
 pub at_has : (xs : List ℕ) (i x : ℕ) → x ≡ get_or xs i x → i < length xs → has xs x ≡ true

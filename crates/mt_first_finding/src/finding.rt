@@ -1,5 +1,5 @@
 ghost use Rattle.std.specs.Prelude.{◌≡◌};
-ghost use Rattle.mt_finding.specs.Findings.{finding_code};
+ghost use Rattle.mt_first_finding.specs.Findings.{finding_code};
 
 use mt_terms::Verdict;
 
