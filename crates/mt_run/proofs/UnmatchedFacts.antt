@@ -1,6 +1,5 @@
--- Why a market has no match is the refusal of its bytes, and names the couple that was entering.
-use Rattle.std.proofs.Common.{◌≡◌, ℕ, List, [], Option, refl, sym, ap, ◌∙◌, arith, is_some}
-use Rattle.std.proofs.lemmas.Bool.{true≢false}
+-- Why a market has no match is the refusal of its bytes.
+use Rattle.std.proofs.Common.{◌≡◌, ℕ, List, [], Option, refl}
 use Rattle.mt_terms.specs.Market.{Registered}
 use Rattle.mt_terms.specs.Text.{refused}
 use Rattle.mt_terms.specs.declared.refusal.Refusal.{Refusal}
@@ -11,8 +10,7 @@ use Rattle.mt_answer.specs.declared.ways.Unanswered.TheVariants.{BudgetSpent, Me
 use Rattle.mt_answer.specs.declared.ways.Ways.{Ways}
 use Rattle.mt_input.specs.Files.{IsMarketOf}
 use Rattle.mt_input.specs.Left.{OfLeft}
-use Rattle.mt_input.proofs.LeftFacts.{of_left}
-use Rattle.mt_run_laws.specs.Ways.{IsRefusalIn, NamesEntering}
+use Rattle.mt_run_laws.specs.Ways.{IsRefusalIn}
 use Rattle.mt_run_laws.proofs.WayFacts.{text_in_market}
 use Rattle.mt_run.specs.Unmatched.{IsAlone, IsUnmatchedBy}
 use Rattle.mt_run.specs.declared.in_ways.Unmatched.{Unmatched}
@@ -29,18 +27,3 @@ module _ (left : Option (List ℕ)) (budget : ℕ) (ways : Ways) (r : Registered
         rw (line_is 41 n.refusal is.0, is.0.same_code) (text_in_market left budget ways r of 41 (refused 41 0 []) h.0);
   }
   unmatched_in Memory n is h = record { named = is.0.named; answer = λ m read. absurd (m is.0.same_code) }
-
-  pub entering_in : (u : Unanswered) (n : Unmatched) → IsUnmatchedBy u n → IsUnanswered r budget ways u → NamesEntering left budget n.refusal.code n.entering
-  entering_in (BudgetSpent e) n is h = record {
-    named = λ spent. ap is_some is.1;
-    spent = λ some. is.0.same_code;
-    is_so = rw is.1 (of_left left (λ bytes market. (r, market, h.1)) of);
-  }
-  entering_in Memory n is h = record {
-    named = λ spent. absurd (other spent);
-    spent = λ some. absurd (true≢false (sym some ∙ ap is_some is.1));
-    is_so = rw is.1 tt;
-  }
-    where
-      other : n.refusal.code ≡ 41 → ⊥
-      other spent = let same : n.refusal.code ≡ 30 = is.0.same_code in omega arith
