@@ -5,23 +5,22 @@ ghost use Rattle.mt_ids.specs.Seeds.{seed_of};
 ghost use Rattle.mt_ids.specs.Sets.{with_id};
 
 use crate::seed::{Seed, add_field};
-use crate::words::{MOST_IN_PAIR, MOST_IN_WORD, pair_of, place_word, word_of};
-use indexmap::{IndexMap, IndexSet};
+use crate::words::{MOST_IN_PAIR, MOST_IN_WORD, pair_of, word_of};
 use mt_flat::FlatLists;
 use std::alloc::{AllocError, Global};
+use std::collections::HashMap;
 use std::hash::DefaultHasher;
 use std::marker::Model;
 
 /// Ids in the order in which they came, each of them once.
 pub(crate) struct IdSet<'a> {
     ids: Vec<&'a [u8]>,
-    // The words of the ids, in their order. Nothing else is read to find a short id, so it takes little room in the
-    // caches. A longer id has its place here.
-    words: IndexSet<u64, Seed>,
+    // The places of ids that have words.
+    words: HashMap<u64, usize, Seed>,
     // The places of ids that have pairs of words.
-    pairs: IndexMap<(u64, u64), usize, Seed>,
+    pairs: HashMap<(u64, u64), usize, Seed>,
     // The places of longer ids.
-    long: IndexMap<&'a [u8], usize, Seed>,
+    long: HashMap<&'a [u8], usize, Seed>,
 }
 
 impl Drop for IdSet<'_> {
@@ -36,9 +35,8 @@ impl Drop for IdSet<'_> {
 }
 
 impl<'a> Model for IdSet<'a> {
-    ghost use Rattle.std.specs.Prelude.{map, bytes_eq};
-    ghost use Rattle.indexmap.specs.IndexMap.{get_by};
-    ghost use Rattle.indexmap.specs.IndexSet.{hasher_of};
+    ghost use Rattle.std.specs.Prelude.{map, bytes_eq, nat_eq};
+    ghost use Rattle.std.specs.HashMap.{get_by, hasher_of};
     ghost use Rattle.mt_ids.specs.Sets.{SeededIds, FindsIds};
     ghost use Rattle.mt_ids.specs.Words.{pair_eq};
 
@@ -46,7 +44,7 @@ impl<'a> Model for IdSet<'a> {
 
     ghost view = { λ s. record { ids = map (λ id. id.now) s.ids.items; seed = hasher_of s.words } };
 
-    ghost invariant = { λ s. FindsIds (map (λ id. id.now) s.ids.items) s.words.keys
+    ghost invariant = { λ s. FindsIds (map (λ id. id.now) s.ids.items) (λ word. get_by (nat_eq word) s.words)
         (λ pair. get_by (pair_eq pair) s.pairs) (λ id. get_by (λ key. bytes_eq id key.now) s.long) };
 }
 
@@ -58,9 +56,9 @@ impl<'a> IdSet<'a> {
     {
         IdSet {
             ids: Vec::new(alloc),
-            words: IndexSet::with_hasher(alloc, seed),
-            pairs: IndexMap::with_hasher(alloc, seed),
-            long: IndexMap::with_hasher(alloc, seed),
+            words: HashMap::with_hasher(alloc, seed),
+            pairs: HashMap::with_hasher(alloc, seed),
+            long: HashMap::with_hasher(alloc, seed),
         }
     }
 
@@ -75,9 +73,9 @@ impl<'a> IdSet<'a> {
     {
         Ok(IdSet {
             ids: Vec::with_capacity(alloc, capacity)?,
-            words: IndexSet::with_capacity_and_hasher(alloc, capacity, seed)?,
-            pairs: IndexMap::with_hasher(alloc, seed),
-            long: IndexMap::with_hasher(alloc, seed),
+            words: HashMap::with_capacity_and_hasher(alloc, capacity, seed)?,
+            pairs: HashMap::with_hasher(alloc, seed),
+            long: HashMap::with_hasher(alloc, seed),
         })
     }
 
@@ -95,7 +93,7 @@ impl<'a> IdSet<'a> {
         ensures { result ≡ position (bytes_eq id.now) self.now.ids }
     {
         if id.len() <= MOST_IN_WORD {
-            self.words.get_index_of(&word_of(id))
+            self.words.get(&word_of(id)).copied()
         } else {
             self.longer_place(id)
         }
@@ -120,38 +118,18 @@ impl<'a> IdSet<'a> {
         ensures err { OnErr result (self.new.ids ≡ self.old.ids) }
         ensures seed { self.new.seed ≡ self.old.seed }
     {
-        if id.len() <= MOST_IN_WORD {
-            self.ids.reserve(1)?;
-            let is_new = self.words.insert(word_of(id))?;
-            if is_new {
-                self.ids.push_reserved(id);
-            }
-            Ok(is_new)
-        } else {
-            self.add_longer(id)
-        }
-    }
-
-    /// Adds an id that has no word, as `add` does.
-    fn add_longer(&mut self, id: &'a [u8]) -> Result<bool, AllocError>
-        requires { 7 < length id.now }
-        ensures added { IfOk result (λ added. added ≡ not (has_id self.old.ids id.now)) }
-        ensures ids { IfOk result (λ _. self.new.ids ≡ with_id self.old.ids id.now) }
-        ensures err { OnErr result (self.new.ids ≡ self.old.ids) }
-        ensures seed { self.new.seed ≡ self.old.seed }
-    {
-        if self.longer_place(id).is_some() {
+        if self.place(id).is_some() {
             return Ok(false);
         }
         let place = self.ids.len();
         self.ids.reserve(1)?;
-        self.words.reserve(1)?;
-        if id.len() <= MOST_IN_PAIR {
+        if id.len() <= MOST_IN_WORD {
+            self.words.insert(word_of(id), place)?;
+        } else if id.len() <= MOST_IN_PAIR {
             self.pairs.insert(pair_of(id), place)?;
         } else {
             self.long.insert(id, place)?;
         }
-        self.words.insert(place_word(place))?;
         self.ids.push_reserved(id);
         Ok(true)
     }
