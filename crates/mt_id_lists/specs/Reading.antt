@@ -2,7 +2,7 @@
 -- it isn't kept.
 use Rattle.std.specs.Prelude.{◌≡◌, Bool, true, false, List, [], ◌∷◌, ◌++◌, flat_map, fold, Option, Some, None, is_some, if◌then◌else◌}
 use Rattle.std.specs.Borrow.{Bor}
-use Rattle.std.specs.List.{list_all}
+use Rattle.std.specs.List.{AllZip, list_all}
 use Rattle.mt_flat.specs.FlatLists.{with_last}
 use Rattle.mt_lists.specs.Rows.{fields_left}
 use Rattle.mt_lists.specs.declared.row.Fields.{Fields}
@@ -23,6 +23,12 @@ ReadsOne stands read list old new false = stands list ≡ false
 abbrev pub ReadsAll : {L X : Type 0} → (L → Bool) → (L → List (List X)) → List L → Option (List (List X)) → Type 0
 ReadsAll stands read lists (Some new) = (list_all stands lists ≡ true) × (new ≡ flat_map read lists)
 ReadsAll stands read lists None = list_all stands lists ≡ false
+
+-- Lists are those of chunks one after another, each of which was read.
+pub record AreReadInChunks {L X : Type 0} (stands : L → Bool) (read : L → List (List X)) (lists : List L) (done : List (Option (List (List X)))) : Type 0 where
+  pub chunks : List (List L)
+  pub whole : flat_map (λ chunk. chunk) chunks ≡ lists
+  pub each : AllZip (ReadsAll stands read) chunks done
 
 -- the lists of a chunk that was read
 abbrev pub lists_in : {X : Type 0} → Option (List (List X)) → List (List X)

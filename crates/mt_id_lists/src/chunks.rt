@@ -1,8 +1,6 @@
 //! Lists read in chunks side by side.
 ghost use Rattle.std.specs.Prelude.{◌≡◌, ◌++◌, ◌<◌, flat_map, IfOk, OnOk};
-ghost use Rattle.std.specs.List.{AllZip};
-ghost use Rattle.rayon.specs.Lists.{chunks_of};
-ghost use Rattle.mt_id_lists.specs.Reading.{Joins, ReadsAll};
+ghost use Rattle.mt_id_lists.specs.Reading.{AreReadInChunks, Joins, ReadsAll};
 
 use crate::reader::ListReader;
 use mt_flat::{ChunkedLists, FlatLists};
@@ -84,8 +82,8 @@ fn read_chunks<R: Threads + Sync, L: Sync, M: Drop + Send + Sync, S: ListReader<
     size: usize,
 ) -> Result<Vec<Option<FlatLists<S::Item>>>, AllocError>
     requires { 0 < size }
-    ensures { IfOk result (λ chunks. AllZip (ReadsAll (S.stands reader.now) (S.read reader.now))
-        (chunks_of size lists.now) chunks.items) }
+    ensures { IfOk result (λ chunks. AreReadInChunks (S.stands reader.now) (S.read reader.now)
+        lists.now chunks.items) }
 {
     lists
         .par_chunks(size)
