@@ -1,13 +1,19 @@
 -- Sets of ids, and what finds them.
-use Rattle.std.specs.Prelude.{ℕ, ◌≡◌, ◌<◌, ◌≤◌, List, [], ◌∷◌, ◌++◌, Option, length, position, bytes_eq, if◌then◌else◌}
+use Rattle.std.specs.Prelude.{ℕ, ◌≡◌, ◌<◌, ◌≤◌, List, [], ◌∷◌, ◌++◌, Option, length, position, bytes_eq, ◌==◌, option_map, if◌then◌else◌}
+use Rattle.std.specs.List.{find}
 use Rattle.mt_terms.specs.Registration.Ids.{Bytes, has_id}
 use Rattle.mt_ids.specs.Words.{AreBytes, word_of, pair_of}
+use Rattle.mt_ids.specs.declared.placed.PlacedWord.{PlacedWord}
 use Rattle.mt_ids.specs.declared.seed.Seed.{Seed}
 
 -- ids in the order in which they came, and the seed of the tables that find them
 pub record SeededIds : Type 0 where
   pub ids : List Bytes
   pub seed : Seed
+
+-- the place that stands with a word
+abbrev pub place_of : List PlacedWord → ℕ → Option ℕ
+place_of words word = option_map (λ w. w.place) (find (λ w. word == w.word) words)
 
 -- Words find the short ids, pairs of words those of eight to fifteen bytes, and their bytes the long ones.
 pub record FindsIds (ids : List Bytes) (by_word : ℕ → Option ℕ) (by_pair : ℕ × ℕ → Option ℕ) (by_bytes : Bytes → Option ℕ) : Type 0 where

@@ -1,22 +1,24 @@
 //! Ids, each of them once, which words find where they are short.
-ghost use Rattle.std.specs.Prelude.{◌≡◌, ◌<◌, ◌^◌, [], not, is_some, length, position, bytes_eq, IfOk, IfSome, OnErr};
+ghost use Rattle.std.specs.Prelude.{◌≡◌, ◌<◌, ◌≤◌, ◌^◌, ℕ, List, [], not, is_some, length, position, bytes_eq, IfOk, IfSome, OnErr};
 ghost use Rattle.mt_terms.specs.Registration.Ids.{has_id, all_differ};
 ghost use Rattle.mt_ids.specs.Seeds.{seed_of};
 ghost use Rattle.mt_ids.specs.Sets.{with_id};
+ghost use Rattle.mt_ids.specs.Words.{IsWordOf};
 
+use crate::placed::PlacedWord;
 use crate::seed::{Seed, add_field};
 use crate::words::{MOST_IN_PAIR, MOST_IN_WORD, pair_of, word_of};
 use mt_flat::FlatLists;
 use std::alloc::{AllocError, Global};
-use std::collections::HashMap;
+use std::collections::{HashMap, HashSet};
 use std::hash::DefaultHasher;
 use std::marker::Model;
 
 /// Ids in the order in which they came, each of them once.
 pub(crate) struct IdSet<'a> {
     ids: Vec<&'a [u8]>,
-    // The places of ids that have words.
-    words: HashMap<u64, usize, Seed>,
+    // The words of ids that have one, with their places.
+    words: HashSet<PlacedWord, Seed>,
     // The places of ids that have pairs of words.
     pairs: HashMap<(u64, u64), usize, Seed>,
     // The places of longer ids.
@@ -35,16 +37,17 @@ impl Drop for IdSet<'_> {
 }
 
 impl<'a> Model for IdSet<'a> {
-    ghost use Rattle.std.specs.Prelude.{map, bytes_eq, nat_eq};
-    ghost use Rattle.std.specs.HashMap.{get_by, hasher_of};
-    ghost use Rattle.mt_ids.specs.Sets.{SeededIds, FindsIds};
+    ghost use Rattle.std.specs.Prelude.{map, bytes_eq};
+    ghost use Rattle.std.specs.HashMap.{get_by};
+    ghost use Rattle.std.specs.HashSet.{hasher_of};
+    ghost use Rattle.mt_ids.specs.Sets.{SeededIds, FindsIds, place_of};
     ghost use Rattle.mt_ids.specs.Words.{pair_eq};
 
     ghost Value = { SeededIds };
 
     ghost view = { λ s. record { ids = map (λ id. id.now) s.ids.items; seed = hasher_of s.words } };
 
-    ghost invariant = { λ s. FindsIds (map (λ id. id.now) s.ids.items) (λ word. get_by (nat_eq word) s.words)
+    ghost invariant = { λ s. FindsIds (map (λ id. id.now) s.ids.items) (place_of s.words.keys)
         (λ pair. get_by (pair_eq pair) s.pairs) (λ id. get_by (λ key. bytes_eq id key.now) s.long) };
 }
 
@@ -56,7 +59,7 @@ impl<'a> IdSet<'a> {
     {
         IdSet {
             ids: Vec::new(alloc),
-            words: HashMap::with_hasher(alloc, seed),
+            words: HashSet::with_hasher(alloc, seed),
             pairs: HashMap::with_hasher(alloc, seed),
             long: HashMap::with_hasher(alloc, seed),
         }
@@ -73,7 +76,7 @@ impl<'a> IdSet<'a> {
     {
         Ok(IdSet {
             ids: Vec::with_capacity(alloc, capacity)?,
-            words: HashMap::with_capacity_and_hasher(alloc, capacity, seed)?,
+            words: HashSet::with_capacity_and_hasher(alloc, capacity, seed)?,
             pairs: HashMap::with_hasher(alloc, seed),
             long: HashMap::with_hasher(alloc, seed),
         })
@@ -93,9 +96,20 @@ impl<'a> IdSet<'a> {
         ensures { result ≡ position (bytes_eq id.now) self.now.ids }
     {
         if id.len() <= MOST_IN_WORD {
-            self.words.get(&word_of(id)).copied()
+            self.place_of_word(word_of(id))
         } else {
             self.longer_place(id)
+        }
+    }
+
+    /// The place of the id that has this word, if it is one of them.
+    #[inline(always)]
+    fn place_of_word(&self, word: u64) -> Option<usize>
+        ensures { (id : List ℕ) → IsWordOf id word → length id ≤ 7 → result ≡ position (bytes_eq id) self.now.ids }
+    {
+        match self.words.get(&PlacedWord { word, place: 0 }) {
+            Some(found) => Some(found.place),
+            None => None,
         }
     }
 
@@ -124,7 +138,10 @@ impl<'a> IdSet<'a> {
         let place = self.ids.len();
         self.ids.reserve(1)?;
         if id.len() <= MOST_IN_WORD {
-            self.words.insert(word_of(id), place)?;
+            self.words.insert(PlacedWord {
+                word: word_of(id),
+                place,
+            })?;
         } else if id.len() <= MOST_IN_PAIR {
             self.pairs.insert(pair_of(id), place)?;
         } else {

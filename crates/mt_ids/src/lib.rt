@@ -4,6 +4,7 @@
 mod id_set;
 mod id_table;
 mod ids;
+mod placed;
 mod seed;
 mod words;
 

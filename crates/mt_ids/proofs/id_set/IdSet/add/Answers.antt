@@ -5,8 +5,10 @@ use Rattle.std.specs.HashMap.{get_by}
 use Rattle.std.specs.Prelude.{bytes_eq}
 use Rattle.mt_terms.specs.Registration.Ids.{Bytes, has_id}
 use Rattle.mt_ids.specs.declared.id_set.IdSet.TheInside.{Inside}
-use Rattle.mt_ids.specs.Sets.{SeededIds, FindsIds}
+use Rattle.mt_ids.specs.Sets.{SeededIds, FindsIds, place_of}
 use Rattle.mt_ids.specs.Words.{pair_eq}
+use Rattle.mt_ids.proofs.IdFacts.{missing}
+use Rattle.mt_ids.proofs.PlacedFacts.{put}
 use Rattle.mt_ids.proofs.SetFacts.{ids_of, ids_with, with_short, with_middle, with_long, with_new, with_old, is_some-position}
 use Rattle.mt_ids.proofs.id_set.IdSet.add.Goals.{then-id-le-MOST_IN_WORD+in_ok-insert, else-id-le-MOST_IN_WORD+then-id-le-MOST_IN_PAIR+in_ok-insert-2, else-id-le-MOST_IN_WORD+else-id-le-MOST_IN_PAIR+in_ok-insert-3}
 use Rattle.mt_ids.proofs.id_set.IdSet.add.Goals as goal
@@ -25,7 +27,7 @@ returns-then-is_some-clause-ids c =
 
 -- the tables of a set find these ids
 abbrev Finds : List Bytes → Inside → Type 0
-Finds ids s = FindsIds ids (λ word. get_by (nat_eq word) s.words) (λ pair. get_by (pair_eq pair) s.pairs) (λ id. get_by (λ (key : Bor Bytes). bytes_eq id key.now) s.long)
+Finds ids s = FindsIds ids (place_of s.words.keys) (λ pair. get_by (pair_eq pair) s.pairs) (λ id. get_by (λ (key : Bor Bytes). bytes_eq id key.now) s.long)
 
 pub invariant_of-self-2 : goal.invariant_of-self-2
 invariant_of-self-2 c =
@@ -41,10 +43,11 @@ invariant_of-self-2 c =
           let is = w.self-inside-is in
           let added = ids_with held.ids.items _ _ id (ap (λ (s : Inside). s.ids.items) is ∙ c.in_ok-reserve.ensures.items) c.push_reserved.ensures.items in
           let word = w.word_of.ensures in
+          let none = ap (place_of held.words.keys) word.0 ∙ c.self.invariant.short id.now word.1 w.if-id-le-MOST_IN_WORD.true ∙ missing ids id.now new in
           subst (λ ids. Finds ids t) (sym added)
           (with_short ids _ _ _ c.self.invariant id.now new word.1 w.if-id-le-MOST_IN_WORD.true _ _ _
-          (λ q. ap (λ (s : Inside). get_by (nat_eq q) s.words) is ∙ w.in_ok-insert.ensures.updates.0 q
-          ∙ ap₂ (λ x n. cond (nat_eq x q) (Some n) (get_by (nat_eq q) held.words)) word.0 place)
+          (λ q. ap (λ (s : Inside). place_of s.words.keys q) is ∙ put held.words w.insert.new.self _ _ none w.in_ok-insert.ensures.added w.in_ok-insert.ensures.keys w.in_ok-insert.ensures.unique q
+          ∙ ap₂ (λ x n. cond (nat_eq x q) (Some n) (place_of held.words.keys q)) word.0 place)
           (λ p. ap (λ (s : Inside). get_by (pair_eq p) s.pairs) is)
           (λ i. ap (λ (s : Inside). get_by (λ (key : Bor Bytes). bytes_eq i key.now) s.long) is))
       | else-id-le-MOST_IN_WORD+then-id-le-MOST_IN_PAIR+in_ok-insert-2 w ↦
@@ -53,7 +56,7 @@ invariant_of-self-2 c =
           let pair = w.pair_of.ensures in
           subst (λ ids. Finds ids t) (sym added)
           (with_middle ids _ _ _ c.self.invariant id.now new pair.1 w.if-id-le-MOST_IN_WORD.false w.if-id-le-MOST_IN_PAIR.true _ _ _
-          (λ q. ap (λ (s : Inside). get_by (nat_eq q) s.words) is)
+          (λ q. ap (λ (s : Inside). place_of s.words.keys q) is)
           (λ p. ap (λ (s : Inside). get_by (pair_eq p) s.pairs) is ∙ w.in_ok-insert-2.ensures.updates.0 p
           ∙ ap₂ (λ q n. cond (pair_eq q p) (Some n) (get_by (pair_eq p) held.pairs)) pair.0 place)
           (λ i. ap (λ (s : Inside). get_by (λ (key : Bor Bytes). bytes_eq i key.now) s.long) is))
@@ -62,7 +65,7 @@ invariant_of-self-2 c =
           let added = ids_with held.ids.items _ _ id (ap (λ (s : Inside). s.ids.items) is ∙ c.in_ok-reserve.ensures.items) c.push_reserved.ensures.items in
           subst (λ ids. Finds ids t) (sym added)
           (with_long ids _ _ _ c.self.invariant id.now new w.if-id-le-MOST_IN_PAIR.false _ _ _
-          (λ q. ap (λ (s : Inside). get_by (nat_eq q) s.words) is)
+          (λ q. ap (λ (s : Inside). place_of s.words.keys q) is)
           (λ p. ap (λ (s : Inside). get_by (pair_eq p) s.pairs) is)
           (λ i. ap (λ (s : Inside). get_by (λ (key : Bor Bytes). bytes_eq i key.now) s.long) is ∙ w.in_ok-insert-3.ensures.updates.0 (record { ref_ptr = id.ref_ptr; now = i })
           ∙ ap (λ n. cond (bytes_eq id.now i) (Some n) (get_by (λ (key : Bor Bytes). bytes_eq i key.now) held.long)) place))
