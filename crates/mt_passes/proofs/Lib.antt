@@ -1,5 +1,6 @@
 pub mod CountFacts
 pub mod FaultFacts
+pub mod PairFacts
 pub mod PassFacts
 pub mod RegisterFacts
 pub mod RepeatFacts

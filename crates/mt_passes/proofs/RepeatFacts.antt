@@ -1,16 +1,15 @@
 -- Whether an element stands twice in a list, by the elements before each.
-use Rattle.std.proofs.Common.{◌≡◌, Bool, true, false, not, ◌&&◌, ◌||◌, List, [], ◌∷◌, ◌++◌, map, position, Some, None, Option, Bor, refl, ap, sym, ◌∙◌, subst, inl, inr, ◌⊎◌, if◌then◌else◌}
+use Rattle.std.proofs.Common.{◌≡◌, Bool, true, false, not, ◌&&◌, ◌||◌, List, [], ◌∷◌, ◌++◌, Some, None, Option, Bor, refl, ap, sym, ◌∙◌, subst, inl, inr, ◌⊎◌, if◌then◌else◌}
 use Rattle.std.specs.Prelude.{bytes_eq}
-use Rattle.std.specs.List.{list_any, position_or_len}
+use Rattle.std.specs.List.{list_any}
 use Rattle.std.specs.Option.{option_copied, option_eq, unwrap_or}
 use Rattle.std.proofs.lemmas.Bool.{and_parts, false_from_ne_true, or_right, or_parts}
-use Rattle.std.proofs.lemmas.List.{append_assoc, length-map, map-append}
+use Rattle.std.proofs.lemmas.List.{append_assoc}
 use Rattle.std.proofs.lemmas.List.Folds.{list_any-append}
 use Rattle.mt_terms.proofs.IdFacts.{same_id, is_same}
 use Rattle.mt_terms.specs.Registration.Ids.{Bytes, all_differ}
 use Rattle.mt_terms.specs.Registration.Records.{IdPair}
 use Rattle.mt_terms.specs.Registration.Passes.{is_same_pair}
-use Rattle.mt_records.specs.Fields.{pair_seen}
 
 -- a test that says whether two elements are equal
 abbrev pub Tests : {X : Type 0} → (X → X → Bool) → Type 0
@@ -49,7 +48,7 @@ abbrev pub SeesEach : {X : Type 0} → (X → X → Bool) → List X → List X 
 SeesEach same seen left whole = (all_differ same seen ≡ true) × (seen ++ left ≡ whole)
 
 module _ {X : Type 0} (same : X → X → Bool) (tests : Tests same) where
-  symmetric : (x y : X) → same x y ≡ false → same y x ≡ false
+  pub symmetric : (x y : X) → same x y ≡ false → same y x ≡ false
   symmetric x y h = false_from_ne_true _ (λ k. let e : same x y ≡ true = (tests x y).1 (sym ((tests y x).0 k)) in cc)
 
   itself : (x : X) → same x x ≡ true
@@ -101,47 +100,6 @@ module _ {X : Type 0} (same : X → X → Bool) (tests : Tests same) where
         by true e k is = cc
         by false e k is =
             subst (λ (xs : List X). SeesEach same xs left whole) (sym is) (differ_push seen x e sees.0, append_assoc seen (x ∷ []) left ∙ sees.1)
-
--- keys, each of which stands for an element
-module _ {K X : Type 0} (seen : K → X) (same : X → X → Bool) (alike : K → K → Bool) (agree : (j k : K) → alike j k ≡ same (seen j) (seen k)) where
-  pub list_any-seen : (keys : List K) (k : K) → list_any (same (seen k)) (map seen keys) ≡ list_any (alike k) keys
-  list_any-seen [] k = refl
-  list_any-seen (j ∷ js) k = rw (agree k j, list_any-seen js k) refl
-
-  pub add-seen : (keys : List K) (k : K)
-      → map seen (if list_any (alike k) keys then keys else keys ++ k ∷ [])
-      ≡ (if list_any (same (seen k)) (map seen keys) then map seen keys else map seen keys ++ seen k ∷ [])
-  add-seen keys k = rw (list_any-seen keys k) (by (list_any (alike k) keys))
-    where
-      by : (b : Bool) → map seen (if b then keys else keys ++ k ∷ []) ≡ (if b then map seen keys else map seen keys ++ seen k ∷ [])
-      by true = refl
-      by false = rw map-append refl
-
-  place-seen : (keys : List K) (k : K) → position_or_len (same (seen k)) (map seen keys) ≡ position_or_len (alike k) keys
-  place-seen [] k = refl
-  place-seen (j ∷ js) k = rw (agree k j, place-seen js k) refl
-
-  pub position-seen : (keys : List K) (k : K) → position (same (seen k)) (map seen keys) ≡ position (alike k) keys
-  position-seen keys k = rw (place-seen keys k, length-map) refl
-
--- places and pairs of borrowed ids
-abbrev pub Place : Type 0
-Place = Option (Bor Bytes)
-
-abbrev pub place_alike : Place → Place → Bool
-place_alike o u = option_eq (λ (x y : Bor Bytes). bytes_eq x.now y.now) o u
-
-pub place_agree : (o u : Place) → place_alike o u ≡ option_eq bytes_eq (option_copied o) (option_copied u)
-place_agree None None = refl
-place_agree None (Some y) = refl
-place_agree (Some x) None = refl
-place_agree (Some x) (Some y) = refl
-
-abbrev pub pair_alike : Place × Place → Place × Place → Bool
-pair_alike p q = place_alike p.0 q.0 && place_alike p.1 q.1
-
-pub pair_agree : (p q : Place × Place) → pair_alike p q ≡ is_same_pair (pair_seen p) (pair_seen q)
-pair_agree p q = rw (place_agree p.0 q.0, place_agree p.1 q.1) refl
 
 -- what is lent of an optional id, or another one
 pub lent_or : (o : Option (Bor Bytes)) (d : Bor Bytes) → (unwrap_or o d).now ≡ unwrap_or (option_copied o) d.now

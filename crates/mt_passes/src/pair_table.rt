@@ -3,29 +3,41 @@ ghost use Rattle.std.specs.List.{list_any};
 ghost use Rattle.mt_terms.specs.Registration.Passes.{is_same_pair};
 ghost use Rattle.mt_records.specs.Fields.{pair_seen};
 
-use indexmap::IndexSet;
 use mt_ids::Seed;
 use std::alloc::{AllocError, Global};
+use std::collections::HashMap;
 use std::marker::Model;
 
 /// Pairs in the order in which they came, each of them once.
 pub struct PairTable<'a> {
-    pairs: IndexSet<(Option<&'a [u8]>, Option<&'a [u8]>), Seed>,
+    pairs: Vec<(Option<&'a [u8]>, Option<&'a [u8]>)>,
+    // The place of each pair.
+    places: HashMap<(Option<&'a [u8]>, Option<&'a [u8]>), usize, Seed>,
 }
 
 impl Drop for PairTable<'_> {
     fn drop(self) {
-        let PairTable { pairs: _ } = self;
+        let PairTable {
+            pairs: _,
+            places: _,
+        } = self;
     }
 }
 
 impl<'a> Model for PairTable<'a> {
-    ghost use Rattle.std.specs.Prelude.{List, ℕ, Option, map};
-    ghost use Rattle.std.specs.Option.{option_copied};
+    ghost use Rattle.std.specs.Prelude.{◌≡◌, List, ℕ, Option, map, position};
+    ghost use Rattle.std.specs.Borrow.{Bor};
+    ghost use Rattle.std.specs.HashMap.{get_by};
+    ghost use Rattle.mt_terms.specs.Registration.Passes.{is_same_pair};
+    ghost use Rattle.mt_records.specs.Fields.{pair_seen};
 
     ghost Value = { List (Option (List ℕ) × Option (List ℕ)) };
 
-    ghost view = { λ table. map (λ p. (option_copied p.0, option_copied p.1)) table.pairs.keys };
+    ghost view = { λ table. map pair_seen table.pairs.items };
+
+    ghost invariant = { λ table. (pair : Option (Bor (List ℕ)) × Option (Bor (List ℕ))) →
+        get_by (λ key. is_same_pair (pair_seen pair) (pair_seen key)) table.places
+        ≡ position (is_same_pair (pair_seen pair)) (map pair_seen table.pairs.items) };
 }
 
 impl<'a> PairTable<'a> {
@@ -34,7 +46,8 @@ impl<'a> PairTable<'a> {
         ensures { result ≡ [] }
     {
         PairTable {
-            pairs: IndexSet::with_hasher(alloc, seed),
+            pairs: Vec::new(alloc),
+            places: HashMap::with_hasher(alloc, seed),
         }
     }
 
@@ -43,7 +56,8 @@ impl<'a> PairTable<'a> {
         ensures { IfOk result (λ table. table ≡ []) }
     {
         Ok(PairTable {
-            pairs: IndexSet::with_capacity_and_hasher(alloc, capacity, seed)?,
+            pairs: Vec::with_capacity(alloc, capacity)?,
+            places: HashMap::with_capacity_and_hasher(alloc, capacity, seed)?,
         })
     }
 
@@ -56,13 +70,21 @@ impl<'a> PairTable<'a> {
             ≡ (if list_any (is_same_pair p) self.old then self.old else self.old ++ p ∷ [])) }
         ensures err { OnErr result (self.new ≡ self.old) }
     {
-        Ok(self.pairs.insert(pair)?)
+        if self.place(pair).is_some() {
+            return Ok(false);
+        }
+        let place = self.pairs.len();
+        // Room comes first, so that want of memory leaves no place of a pair that isn't in the table.
+        self.pairs.reserve(1)?;
+        self.places.insert(pair, place)?;
+        self.pairs.push_reserved(pair);
+        Ok(true)
     }
 
     /// The place of a pair from 0, if it is one of them.
     pub fn place(&self, pair: (Option<&'a [u8]>, Option<&'a [u8]>)) -> Option<usize>
         ensures { result ≡ position (is_same_pair (pair_seen pair.entry)) self.now }
     {
-        self.pairs.get_index_of(&pair)
+        self.places.get(&pair).copied()
     }
 }
