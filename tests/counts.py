@@ -15,7 +15,7 @@ CHECKS = {
     "cli PROGRAM": 8452,
     "cli": 8455,
     "controls": 49,
-    "edits_apply": 775,
+    "edits_apply": 777,
     "explain": 10098,
     "faults": 20037,
     "linear": 45,
