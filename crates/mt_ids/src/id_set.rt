@@ -105,7 +105,8 @@ impl<'a> IdSet<'a> {
     /// The place of the id that has this word, if it is one of them.
     #[inline(always)]
     fn place_of_word(&self, word: u64) -> Option<usize>
-        ensures { (id : List ℕ) → IsWordOf id word → length id ≤ 7 → result ≡ position (bytes_eq id) self.now.ids }
+        ensures { (id : List ℕ) → IsWordOf id word → length id ≤ 7
+            → result ≡ position (bytes_eq id) self.now.ids }
     {
         match self.words.get(&PlacedWord { word, place: 0 }) {
             Some(found) => Some(found.place),
@@ -138,10 +139,8 @@ impl<'a> IdSet<'a> {
         let place = self.ids.len();
         self.ids.reserve(1)?;
         if id.len() <= MOST_IN_WORD {
-            self.words.insert(PlacedWord {
-                word: word_of(id),
-                place,
-            })?;
+            let word = word_of(id);
+            self.words.insert(PlacedWord { word, place })?;
         } else if id.len() <= MOST_IN_PAIR {
             self.pairs.insert(pair_of(id), place)?;
         } else {

@@ -42,7 +42,7 @@ invariant_of-self-2 c =
       | then-id-le-MOST_IN_WORD+in_ok-insert w ↦
           let is = w.self-inside-is in
           let added = ids_with held.ids.items _ _ id (ap (λ (s : Inside). s.ids.items) is ∙ c.in_ok-reserve.ensures.items) c.push_reserved.ensures.items in
-          let word = w.word_of.ensures in
+          let word = w.word_of-word.ensures in
           let none = ap (place_of held.words.keys) word.0 ∙ c.self.invariant.short id.now word.1 w.if-id-le-MOST_IN_WORD.true ∙ missing ids id.now new in
           subst (λ ids. Finds ids t) (sym added)
           (with_short ids _ _ _ c.self.invariant id.now new word.1 w.if-id-le-MOST_IN_WORD.true _ _ _
