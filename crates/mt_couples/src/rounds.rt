@@ -61,7 +61,7 @@ impl<'a> Stage<'a> {
         let mut watched = no_ranks(alloc, roster)?;
         let assignment = Assignment::new(alloc, roster, ranks, singles, &mut watched)?;
         let watch = Watch::new(alloc, &assignment, watched)?;
-        let waiting = WorkList::new(alloc, roster.applicants(), roster.couples());
+        let waiting = WorkList::new(alloc, roster.applicants(), roster.couples())?;
         let quiet = are_singles_quiet(rt, &assignment, &watch);
         Ok(Stage {
             assignment,

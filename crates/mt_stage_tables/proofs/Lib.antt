@@ -1,3 +1,4 @@
+pub mod FlagFacts
 pub mod FrontFacts
 pub mod GrowingFacts
 pub mod ListFacts

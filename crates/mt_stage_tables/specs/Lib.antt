@@ -1,3 +1,4 @@
+pub mod Flags
 pub mod Named
 pub mod Indexing
 pub mod Programs

@@ -1,22 +1,28 @@
 -- What the fields of the sets mean.
-use Rattle.std.specs.Prelude.{◌≤◌, ◌++◌, ℕ, List, drop}
+use Rattle.std.specs.Prelude.{◌≡◌, ℕ, List, length}
 use Rattle.std.specs.List.Sorted.{IsStrictlySortedBy}
 use Rattle.std.specs.Ordering.{nat_cmp}
+use Rattle.mt_terms.specs.Rounds.{is_on}
+use Rattle.mt_terms.specs.declared.numbers.Agent.{Agent}
+use Rattle.mt_stage_tables.specs.Flags.{Flags, is_flagged}
 use Rattle.mt_stage_tables.specs.Named.{Index}
-use Rattle.indexmap.specs.IndexSet.{index_set_len}
 use Rattle.mt_stage_tables.specs.Waiting.{Waiting, WaitOnce}
 use Rattle.mt_stage_tables.specs.declared.pair_index.PairIndex.TheInside.{Inside as Pairs}
 use Rattle.mt_stage_tables.specs.declared.program_set.ProgramSet.TheInside.{Inside as Programs}
+use Rattle.mt_stage_tables.specs.declared.work_list.AgentFlags.TheInside.{Inside as AgentFlags}
 use Rattle.mt_stage_tables.specs.declared.work_list.WorkList.TheInside.{Inside as Queue}
 
--- Those in front that aren't taken yet wait before those that joined since.
-abbrev pub waiting_in : Queue → Waiting
-waiting_in w = record { applicants = w.applicants; couples = w.couples; agents = drop w.taken w.front.keys ++ w.back.keys }
+abbrev pub flags_in : AgentFlags → Flags
+flags_in f = record { applicants = f.applicants.items; couples = f.couples.items }
 
--- Each agent waits once.
-pub record IsWorkList (w : Queue) : Type 0 where
-  pub waiting : WaitOnce w.applicants w.couples (drop w.taken w.front.keys ++ w.back.keys)
-  pub taken : w.taken ≤ index_set_len w.front
+-- There are as many applicants and couples as flags.
+abbrev pub waiting_in : Queue → Waiting
+waiting_in w = record { applicants = length w.flags.applicants; couples = length w.flags.couples; agents = w.agents.items }
+
+-- Each agent waits once, and its flag says whether it waits.
+pub record IsWorkList (f : Flags) (agents : List Agent) : Type 0 where
+  pub waiting : WaitOnce (length f.applicants) (length f.couples) agents
+  pub flags : (g : Agent) → is_flagged f g ≡ is_on agents g
 
 abbrev pub programs_in : Programs → List ℕ
 programs_in s = s.programs.items

@@ -1,36 +1,88 @@
-ghost use Rattle.std.specs.Prelude.{◌≡◌, ◌++◌, [], drop, IfNone, IfSome, OnOk};
+ghost use Rattle.std.specs.Prelude.{◌≡◌, ◌++◌, [], IfNone, IfOk, IfSome, OnOk, length};
 ghost use Rattle.mt_terms.specs.Rounds.{is_on, joined};
-ghost use Rattle.mt_stage_tables.specs.Waiting.{nobody, waiting_first, with_agents, IsKnown};
+ghost use Rattle.mt_stage_tables.specs.Flags.{flagged, is_flagged, no_flags};
+ghost use Rattle.mt_stage_tables.specs.Waiting.{nobody, waiting_first, with_agents, IsKnown, IsWithin};
 
-use indexmap::IndexSet;
 use mt_terms::Agent;
 use std::alloc::{AllocError, Global};
+use std::collections::VecDeque;
 use std::marker::Model;
-use std::mem::swap;
+
+/// A flag for each applicant and for each couple.
+struct AgentFlags {
+    applicants: Vec<bool>,
+    couples: Vec<bool>,
+}
+
+impl Drop for AgentFlags {
+    fn drop(self) {
+        let AgentFlags {
+            applicants: _,
+            couples: _,
+        } = self;
+    }
+}
+
+impl Model for AgentFlags {
+    ghost use Rattle.mt_stage_tables.specs.Flags.{Flags};
+
+    ghost Value = { Flags };
+
+    ghost use Rattle.mt_stage_tables.specs.View.{flags_in};
+
+    ghost view = { flags_in };
+}
+
+impl AgentFlags {
+    /// Flags of which none is set. The error is want of memory.
+    fn new(alloc: Global, applicants: u32, couples: u32) -> Result<Self, AllocError>
+        ensures { IfOk result (λ f. f ≡ no_flags applicants couples) }
+    {
+        Ok(AgentFlags {
+            applicants: vec![in alloc; false; applicants as usize]?,
+            couples: vec![in alloc; false; couples as usize]?,
+        })
+    }
+
+    /// Whether the agent's flag is set. An agent without a flag counts as one whose flag isn't set.
+    fn get(&self, agent: &Agent) -> bool
+        ensures { result ≡ is_flagged self.now agent.now }
+    {
+        let flag = match agent {
+            Agent::Single(applicant) => self.applicants.get(applicant.index()),
+            Agent::Couple(couple) => self.couples.get(couple.index()),
+        };
+        flag.copied().unwrap_or(false)
+    }
+
+    /// Sets or clears the agent's flag.
+    fn set(&mut self, agent: &Agent, flag: bool)
+        requires { IsWithin (length self.old.applicants) (length self.old.couples) agent.now }
+        ensures { self.new ≡ flagged self.old agent.now flag }
+    {
+        match agent {
+            Agent::Single(applicant) => self.applicants[applicant.index()] = flag,
+            Agent::Couple(couple) => self.couples[couple.index()] = flag,
+        }
+    }
+}
 
 /// The agents that are to be rechecked, first in first out, each at most once.
 ///
-/// Agents are read from one ordered set. An agent that is taken stays in it, passed over, until all are. A new agent is put
-/// at the end of a second set, which then takes the place of the first. Both grow as agents join, since few wait mostly.
-///
-/// The sets hash with the fixed seed of `indexmap`. A file's author chooses who waits, but keys are only numbers of agents.
+/// A file's author chooses who waits, and could make a search of the queue slow. So each agent has a flag that says whether
+/// it waits. The queue grows as agents join, since few wait mostly.
 pub struct WorkList {
-    applicants: u32,
-    couples: u32,
-    front: IndexSet<Agent>,
-    /// How many of the front are taken, from the first on.
-    taken: usize,
-    back: IndexSet<Agent>,
+    /// The agents that wait, in order.
+    agents: VecDeque<Agent>,
+    /// Which agents wait.
+    flags: AgentFlags,
 }
 
 impl Drop for WorkList {
     fn drop(self) {
         let WorkList {
-            applicants: _,
-            couples: _,
-            front: _,
-            taken: _,
-            back: _,
+            agents: _,
+            flags: _,
         } = self;
     }
 }
@@ -44,48 +96,32 @@ impl Model for WorkList {
 
     ghost view = { waiting_in };
 
-    ghost invariant = { IsWorkList };
-}
-
-/// Whether an agent is in a set, at this index or a later one.
-fn is_beyond(agents: &IndexSet<Agent>, first: usize, agent: &Agent) -> bool
-    ensures { result ≡ is_on (drop first agents.now.keys) agent.now }
-{
-    if first >= agents.len() {
-        return false;
-    }
-    match agents.get_index_of(agent) {
-        Some(index) => first <= index,
-        None => false,
-    }
+    ghost invariant = { λ w. IsWorkList w.flags w.agents.items };
 }
 
 impl WorkList {
-    /// An empty work list for this many applicants and couples.
-    pub fn new(alloc: Global, applicants: u32, couples: u32) -> Self
-        ensures { result ≡ nobody applicants couples }
+    /// An empty work list for this many applicants and couples. The error is want of memory.
+    pub fn new(alloc: Global, applicants: u32, couples: u32) -> Result<Self, AllocError>
+        ensures { IfOk result (λ w. w ≡ nobody applicants couples) }
     {
-        WorkList {
-            applicants,
-            couples,
-            front: IndexSet::new(alloc),
-            taken: 0,
-            back: IndexSet::new(alloc),
-        }
+        Ok(WorkList {
+            agents: VecDeque::new(alloc),
+            flags: AgentFlags::new(alloc, applicants, couples)?,
+        })
     }
 
     /// Whether the agent waits.
     pub fn is_waiting(&self, agent: &Agent) -> bool
         ensures { result ≡ is_on self.now.agents agent.now }
     {
-        is_beyond(&self.front, self.taken, agent) || is_beyond(&self.back, 0, agent)
+        self.flags.get(agent)
     }
 
     /// The agents that wait, in order, in two parts.
     pub fn parts(&self) -> (&[Agent], &[Agent])
         ensures { self.now.agents ≡ result.0.now ++ result.1.now }
     {
-        (&self.front.as_slice()[self.taken..], self.back.as_slice())
+        self.agents.as_slices()
     }
 
     /// Takes the agent at the front. There is none if nobody waits.
@@ -94,13 +130,8 @@ impl WorkList {
         ensures empty { IfNone result (self.old.agents ≡ []) }
         ensures still_empty { IfNone result (self.new ≡ self.old) }
     {
-        if self.taken == self.front.len() {
-            self.front.truncate(0);
-            swap(&mut self.front, &mut self.back);
-            self.taken = 0;
-        }
-        let agent = *self.front.get_index(self.taken)?;
-        self.taken += 1;
+        let agent = self.agents.pop_front()?;
+        self.flags.set(&agent, false);
         Some(agent)
     }
 
@@ -110,7 +141,8 @@ impl WorkList {
         ensures { OnOk result (self.new ≡ with_agents self.old (joined self.old.agents agent)) }
     {
         if !self.is_waiting(&agent) {
-            let _added = self.back.insert(agent)?;
+            self.agents.push_back(agent)?;
+            self.flags.set(&agent, true);
         }
         Ok(())
     }

@@ -5,7 +5,7 @@ use Rattle.mt_couples.proofs.rounds.Stage.new.Goals as goal
 pub returns : goal.returns
 returns g c = record {
   assigned = c.in_ok-assignment.ensures.assignment;
-  nobody_waits = c.new-waiting.ensures ∙ ap₂ nobody c.applicants.ensures.count c.couples.ensures.count;
+  nobody_waits = c.in_ok-waiting.ensures ∙ ap₂ nobody c.applicants.ensures.count c.couples.ensures.count;
   watched = c.in_ok-watch.ensures.watched;
   named = c.in_ok-watch.ensures.named;
   counted = c.in_ok-watch.ensures.counted;
