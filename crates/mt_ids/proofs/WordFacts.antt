@@ -1,12 +1,12 @@
 -- The words of ids: what they are made of, and that they tell ids apart.
-use Rattle.std.proofs.Common.{◌≡◌, ℕ, zero, suc, ◌+◌, ◌-◌, ◌*◌, ◌/◌, ◌%◌, ◌^◌, ◌<◌, ◌≤◌, true, length, refl, get_or, arith, ⊎_elim, subst, subst₂, sym, ap, ap₂, ◌∙◌, bit_or, mod-eq_of_lt, le-leb, ext_get_or, nat_eq}
+use Rattle.std.proofs.Common.{◌≡◌, ℕ, zero, suc, ◌+◌, ◌-◌, ◌*◌, ◌/◌, ◌%◌, ◌^◌, ◌<◌, ◌≤◌, true, false, length, refl, get_or, arith, ⊎_elim, subst, subst₂, sym, ap, ap₂, ◌∙◌, bit_or, mod-eq_of_lt, le-leb, ext_get_or, nat_eq}
 use Rattle.std.specs.Int.Bits.{or_shifted_r}
 use Rattle.std.specs.Prelude.{bytes_eq}
-use Rattle.std.proofs.lemmas.Bool.{cases_lt, eq-eqb, eqb-true, and_parts}
+use Rattle.std.proofs.lemmas.Bool.{cases_lt, eq-eqb, eqb-true, and_parts, false_from_ne_true}
 use Rattle.std.proofs.lemmas.Bool.Decides.{nat_tests, same_from_decides}
 use Rattle.std.proofs.lemmas.Slice.Eq.{bytes_eq-Decides}
 use Rattle.mt_terms.specs.Registration.Ids.{Bytes}
-use Rattle.mt_ids.specs.Words.{AreBytes, four_from, seven_from, bytes_of, word_of, pair_of, pair_eq}
+use Rattle.mt_ids.specs.Words.{AreBytes, four_from, seven_from, bytes_of, word_of, place_word, pair_of, pair_eq}
 
 -- a number shifted by 32 bits, above one of so many bits
 pub above_32 : (a b : ℕ) → a < 2 ^ 32 → b < 2 ^ 32 → bit_or a (b * 2 ^ 32 % 2 ^ 64) ≡ a + b * 2 ^ 32
@@ -157,3 +157,13 @@ module _ (xs ys : Bytes) (bx : AreBytes xs) (by : AreBytes ys) where
 
       alike : xs ≡ ys → pair_eq (pair_of xs) (pair_of ys) ≡ true
       alike e = rw (eq-eqb (pair_of xs).0 (pair_of ys).0 (ap (λ id. (pair_of id).0) e), eq-eqb (pair_of xs).1 (pair_of ys).1 (ap (λ id. (pair_of id).1) e)) refl
+
+-- a place is no word, and no other place
+pub no_word : (place : ℕ) (id : Bytes) → AreBytes id → length id ≤ 7 → nat_eq (place_word place) (word_of id) ≡ false
+no_word place id b m = false_from_ne_true _ (λ t. let e = eqb-true _ _ t in omega (arith, e, bytes_below id b))
+
+pub no_place : (place : ℕ) (id : Bytes) → AreBytes id → length id ≤ 7 → nat_eq (word_of id) (place_word place) ≡ false
+no_place place id b m = false_from_ne_true _ (λ t. let e = eqb-true _ _ t in omega (arith, e, bytes_below id b))
+
+pub other_place : (place place' : ℕ) → place' < place → nat_eq (place_word place) (place_word place') ≡ false
+other_place place place' h = false_from_ne_true _ (λ t. let e = eqb-true _ _ t in omega (arith, e))

@@ -1,9 +1,8 @@
 -- Sets of ids, and what finds them.
-use Rattle.std.specs.Prelude.{ℕ, ◌≡◌, ◌<◌, ◌≤◌, List, [], ◌∷◌, ◌++◌, Option, length, position, bytes_eq, ◌==◌, option_map, if◌then◌else◌}
-use Rattle.std.specs.List.{find}
+use Rattle.std.specs.Prelude.{ℕ, ◌≡◌, ◌<◌, ◌≤◌, false, List, [], ◌∷◌, ◌++◌, Option, length, nat_eq, position, bytes_eq, if◌then◌else◌}
+use Rattle.std.specs.List.{list_any}
 use Rattle.mt_terms.specs.Registration.Ids.{Bytes, has_id}
-use Rattle.mt_ids.specs.Words.{AreBytes, word_of, pair_of}
-use Rattle.mt_ids.specs.declared.placed.PlacedWord.{PlacedWord}
+use Rattle.mt_ids.specs.Words.{AreBytes, word_of, place_word, pair_of}
 use Rattle.mt_ids.specs.declared.seed.Seed.{Seed}
 
 -- ids in the order in which they came, and the seed of the tables that find them
@@ -11,13 +10,12 @@ pub record SeededIds : Type 0 where
   pub ids : List Bytes
   pub seed : Seed
 
--- the place that stands with a word
-abbrev pub place_of : List PlacedWord → ℕ → Option ℕ
-place_of words word = option_map (λ w. w.place) (find (λ w. word == w.word) words)
-
--- Words find the short ids, pairs of words those of eight to fifteen bytes, and their bytes the long ones.
-pub record FindsIds (ids : List Bytes) (by_word : ℕ → Option ℕ) (by_pair : ℕ × ℕ → Option ℕ) (by_bytes : Bytes → Option ℕ) : Type 0 where
-  pub short : (id : Bytes) → AreBytes id → length id ≤ 7 → by_word (word_of id) ≡ position (bytes_eq id) ids
+-- Words find the short ids, pairs of words those of eight to fifteen bytes, and their bytes the long ones. No later
+-- place is among the words.
+pub record FindsIds (ids : List Bytes) (words : List ℕ) (by_pair : ℕ × ℕ → Option ℕ) (by_bytes : Bytes → Option ℕ) : Type 0 where
+  pub as_many : length words ≡ length ids
+  pub unused : (place : ℕ) → length ids ≤ place → list_any (nat_eq (place_word place)) words ≡ false
+  pub short : (id : Bytes) → AreBytes id → length id ≤ 7 → position (nat_eq (word_of id)) words ≡ position (bytes_eq id) ids
   pub middle : (id : Bytes) → AreBytes id → 7 < length id → length id ≤ 15 → by_pair (pair_of id) ≡ position (bytes_eq id) ids
   pub long : (id : Bytes) → 15 < length id → by_bytes id ≡ position (bytes_eq id) ids
 

@@ -29,6 +29,10 @@ word_of id = bytes_of id + length id * 2 ^ 56
 abbrev pub IsWordOf : Bytes → ℕ → Type 0
 IsWordOf id word = (word ≡ word_of id) × AreBytes id
 
+-- what stands for the word of a longer id: its place, below a length that no word has
+abbrev pub place_word : ℕ → ℕ
+place_word place = place + 8 * 2 ^ 56
+
 -- the pair of an id of eight to fifteen bytes: its first eight, and its last seven below its length
 abbrev pub pair_of : Bytes → ℕ × ℕ
 pair_of id = (four_from id 0 + four_from id 4 * 2 ^ 32, seven_from id (length id - 7) + length id * 2 ^ 56)

@@ -1,28 +1,27 @@
 //! Ids, each of them once, which words find where they are short.
-ghost use Rattle.std.specs.Prelude.{◌≡◌, ◌<◌, ◌≤◌, ◌^◌, ℕ, List, [], not, is_some, length, position, bytes_eq, IfOk, IfSome, OnErr};
+ghost use Rattle.std.specs.Prelude.{◌≡◌, ◌<◌, ◌^◌, [], not, is_some, length, position, bytes_eq, IfOk, IfSome, OnErr};
 ghost use Rattle.mt_terms.specs.Registration.Ids.{has_id, all_differ};
 ghost use Rattle.mt_ids.specs.Seeds.{seed_of};
 ghost use Rattle.mt_ids.specs.Sets.{with_id};
-ghost use Rattle.mt_ids.specs.Words.{IsWordOf};
 
-use crate::placed::PlacedWord;
 use crate::seed::{Seed, add_field};
-use crate::words::{MOST_IN_PAIR, MOST_IN_WORD, pair_of, word_of};
+use crate::words::{MOST_IN_PAIR, MOST_IN_WORD, pair_of, place_word, word_of};
+use indexmap::{IndexMap, IndexSet};
 use mt_flat::FlatLists;
 use std::alloc::{AllocError, Global};
-use std::collections::{HashMap, HashSet};
 use std::hash::DefaultHasher;
 use std::marker::Model;
 
 /// Ids in the order in which they came, each of them once.
 pub(crate) struct IdSet<'a> {
     ids: Vec<&'a [u8]>,
-    // The words of ids that have one, with their places.
-    words: HashSet<PlacedWord, Seed>,
+    // The words of the ids, in their order. Nothing else is read to find a short id, so it takes little room in the
+    // caches. A longer id has its place here.
+    words: IndexSet<u64, Seed>,
     // The places of ids that have pairs of words.
-    pairs: HashMap<(u64, u64), usize, Seed>,
+    pairs: IndexMap<(u64, u64), usize, Seed>,
     // The places of longer ids.
-    long: HashMap<&'a [u8], usize, Seed>,
+    long: IndexMap<&'a [u8], usize, Seed>,
 }
 
 impl Drop for IdSet<'_> {
@@ -38,16 +37,16 @@ impl Drop for IdSet<'_> {
 
 impl<'a> Model for IdSet<'a> {
     ghost use Rattle.std.specs.Prelude.{map, bytes_eq};
-    ghost use Rattle.std.specs.HashMap.{get_by};
-    ghost use Rattle.std.specs.HashSet.{hasher_of};
-    ghost use Rattle.mt_ids.specs.Sets.{SeededIds, FindsIds, place_of};
+    ghost use Rattle.indexmap.specs.IndexMap.{get_by};
+    ghost use Rattle.indexmap.specs.IndexSet.{hasher_of};
+    ghost use Rattle.mt_ids.specs.Sets.{SeededIds, FindsIds};
     ghost use Rattle.mt_ids.specs.Words.{pair_eq};
 
     ghost Value = { SeededIds };
 
     ghost view = { λ s. record { ids = map (λ id. id.now) s.ids.items; seed = hasher_of s.words } };
 
-    ghost invariant = { λ s. FindsIds (map (λ id. id.now) s.ids.items) (place_of s.words.keys)
+    ghost invariant = { λ s. FindsIds (map (λ id. id.now) s.ids.items) s.words.keys
         (λ pair. get_by (pair_eq pair) s.pairs) (λ id. get_by (λ key. bytes_eq id key.now) s.long) };
 }
 
@@ -59,9 +58,9 @@ impl<'a> IdSet<'a> {
     {
         IdSet {
             ids: Vec::new(alloc),
-            words: HashSet::with_hasher(alloc, seed),
-            pairs: HashMap::with_hasher(alloc, seed),
-            long: HashMap::with_hasher(alloc, seed),
+            words: IndexSet::with_hasher(alloc, seed),
+            pairs: IndexMap::with_hasher(alloc, seed),
+            long: IndexMap::with_hasher(alloc, seed),
         }
     }
 
@@ -76,9 +75,9 @@ impl<'a> IdSet<'a> {
     {
         Ok(IdSet {
             ids: Vec::with_capacity(alloc, capacity)?,
-            words: HashSet::with_capacity_and_hasher(alloc, capacity, seed)?,
-            pairs: HashMap::with_hasher(alloc, seed),
-            long: HashMap::with_hasher(alloc, seed),
+            words: IndexSet::with_capacity_and_hasher(alloc, capacity, seed)?,
+            pairs: IndexMap::with_hasher(alloc, seed),
+            long: IndexMap::with_hasher(alloc, seed),
         })
     }
 
@@ -96,21 +95,9 @@ impl<'a> IdSet<'a> {
         ensures { result ≡ position (bytes_eq id.now) self.now.ids }
     {
         if id.len() <= MOST_IN_WORD {
-            self.place_of_word(word_of(id))
+            self.words.get_index_of(&word_of(id))
         } else {
             self.longer_place(id)
-        }
-    }
-
-    /// The place of the id that has this word, if it is one of them.
-    #[inline(always)]
-    fn place_of_word(&self, word: u64) -> Option<usize>
-        ensures { (id : List ℕ) → IsWordOf id word → length id ≤ 7
-            → result ≡ position (bytes_eq id) self.now.ids }
-    {
-        match self.words.get(&PlacedWord { word, place: 0 }) {
-            Some(found) => Some(found.place),
-            None => None,
         }
     }
 
@@ -133,19 +120,38 @@ impl<'a> IdSet<'a> {
         ensures err { OnErr result (self.new.ids ≡ self.old.ids) }
         ensures seed { self.new.seed ≡ self.old.seed }
     {
-        if self.place(id).is_some() {
+        if id.len() <= MOST_IN_WORD {
+            self.ids.reserve(1)?;
+            let is_new = self.words.insert(word_of(id))?;
+            if is_new {
+                self.ids.push_reserved(id);
+            }
+            Ok(is_new)
+        } else {
+            self.add_longer(id)
+        }
+    }
+
+    /// Adds an id that has no word, as `add` does.
+    fn add_longer(&mut self, id: &'a [u8]) -> Result<bool, AllocError>
+        requires { 7 < length id.now }
+        ensures added { IfOk result (λ added. added ≡ not (has_id self.old.ids id.now)) }
+        ensures ids { IfOk result (λ _. self.new.ids ≡ with_id self.old.ids id.now) }
+        ensures err { OnErr result (self.new.ids ≡ self.old.ids) }
+        ensures seed { self.new.seed ≡ self.old.seed }
+    {
+        if self.longer_place(id).is_some() {
             return Ok(false);
         }
         let place = self.ids.len();
         self.ids.reserve(1)?;
-        if id.len() <= MOST_IN_WORD {
-            let word = word_of(id);
-            self.words.insert(PlacedWord { word, place })?;
-        } else if id.len() <= MOST_IN_PAIR {
+        self.words.reserve(1)?;
+        if id.len() <= MOST_IN_PAIR {
             self.pairs.insert(pair_of(id), place)?;
         } else {
             self.long.insert(id, place)?;
         }
+        self.words.insert(place_word(place))?;
         self.ids.push_reserved(id);
         Ok(true)
     }

@@ -4,7 +4,6 @@
 mod id_set;
 mod id_table;
 mod ids;
-mod placed;
 mod seed;
 mod words;
 

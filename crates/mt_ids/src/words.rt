@@ -1,6 +1,6 @@
 //! Ids as numbers, which tables compare in place of their bytes.
 ghost use Rattle.std.specs.Prelude.{◌≡◌, ◌<◌, ◌≤◌, ◌+◌, ◌^◌, length};
-ghost use Rattle.mt_ids.specs.Words.{four_from, seven_from, bytes_of, IsWordOf, IsPairOf};
+ghost use Rattle.mt_ids.specs.Words.{four_from, seven_from, bytes_of, place_word, IsWordOf, IsPairOf};
 
 /// The most bytes of an id that has a word.
 pub(crate) const MOST_IN_WORD: usize = 7;
@@ -48,6 +48,14 @@ pub(crate) fn word_of(id: &[u8]) -> u64
     ensures { IsWordOf id.now result }
 {
     bytes_of(id) | (id.len() as u64) << 56
+}
+
+/// What stands for the word of a longer id: its place, below a length that no word has.
+pub(crate) fn place_word(place: usize) -> u64
+    requires { place < 2 ^ 63 }
+    ensures { result ≡ place_word place }
+{
+    place as u64 + (8 << 56)
 }
 
 /// The pair of words of an id of eight to fifteen bytes: no other such id has it.

@@ -1,5 +1,5 @@
 use Rattle.std.proofs.Common.{◌∙◌, ap}
-use Rattle.std.specs.HashMap.{get_by}
+use Rattle.indexmap.specs.IndexMap.{get_by}
 use Rattle.std.specs.Prelude.{bytes_eq, position}
 use Rattle.mt_ids.specs.Sets.{SeededIds}
 use Rattle.mt_ids.specs.Words.{pair_eq}

@@ -1,0 +1,81 @@
+use Rattle.std.proofs.Common.{◌≡◌, ◌∙◌, List, [], ◌∷◌, ◌++◌, Bor, not, false, true, ap, sym, subst₂, is_some, position, arith, cond, Some, ap₂}
+use Rattle.std.proofs.lemmas.List.{length-map}
+use Rattle.indexmap.specs.IndexMap.{get_by}
+use Rattle.indexmap.specs.IndexSet.{spare}
+use Rattle.mt_ids.specs.declared.id_set.IdSet.TheInside.{Inside}
+use Rattle.std.specs.Prelude.{bytes_eq}
+use Rattle.mt_terms.specs.Registration.Ids.{Bytes, has_id}
+use Rattle.mt_ids.specs.Sets.{SeededIds, FindsIds}
+use Rattle.mt_ids.specs.Words.{pair_eq}
+use Rattle.mt_ids.proofs.SetFacts.{ids_of, ids_with, with_middle, with_long, with_place, with_new, with_old, is_some-position}
+use Rattle.mt_ids.proofs.id_set.IdSet.add_longer.Goals.{then-id-le-MOST_IN_PAIR+in_ok-insert, else-id-le-MOST_IN_PAIR+in_ok-insert-2}
+use Rattle.mt_ids.proofs.id_set.IdSet.add_longer.Goals as goal
+
+-- whether the id is one of these, as its look-up says
+looked_up : (ids : List Bytes) (id : Bytes) (found : _) (said b : _) → found ≡ position (bytes_eq id) ids → said ≡ is_some found → said ≡ b → has_id ids id ≡ b
+looked_up ids id found said b is says at = sym (is_some-position (bytes_eq id) ids) ∙ ap is_some (sym is) ∙ sym says ∙ at
+
+pub returns-then-is_some-clause-added : goal.returns-then-is_some-clause-added
+returns-then-is_some-clause-added c =
+    ap not (sym (looked_up c.args.self.now.ids c.args.id.now _ _ true c.longer_place.ensures c.is_some.ensures c.if-is_some.true))
+
+pub returns-then-is_some-clause-ids : goal.returns-then-is_some-clause-ids
+returns-then-is_some-clause-ids c =
+    with_old c.args.self.now.ids c.args.id.now (looked_up c.args.self.now.ids c.args.id.now _ _ true c.longer_place.ensures c.is_some.ensures c.if-is_some.true)
+
+pub invariant_of-self-in_err-insert-3 : goal.invariant_of-self-in_err-insert-3
+invariant_of-self-in_err-insert-3 c =
+    elim c.if-id-le-MOST_IN_PAIR.branch [
+      | then-id-le-MOST_IN_PAIR+in_ok-insert w ↦
+          let room = ap (λ (s : Inside). spare s.words) w.self-inside-is in
+          let fits : false ≡ true = c.in_err-insert-3.ensures.succeeds (omega (arith, room, c.in_ok-reserve-2.ensures.ok)) in
+          absurd (let none : ⊥ = cc in none)
+      | else-id-le-MOST_IN_PAIR+in_ok-insert-2 w ↦
+          let room = ap (λ (s : Inside). spare s.words) w.self-inside-is in
+          let fits : false ≡ true = c.in_err-insert-3.ensures.succeeds (omega (arith, room, c.in_ok-reserve-2.ensures.ok)) in
+          absurd (let none : ⊥ = cc in none)
+    ]
+
+pub invariant_of-self-2 : goal.invariant_of-self-2
+invariant_of-self-2 c =
+    let id = c.args.id in
+    let held = c.self.inside in
+    let ids = ids_of held.ids.items in
+    let place = c.len-place.ensures ∙ held.ids.ok.0 ∙ sym (length-map held.ids.items (λ (id : Bor Bytes). id.now)) in
+    let new = ap (λ (s : SeededIds). has_id s.ids id.now) c.self.view_is
+    ∙ looked_up c.args.self.now.ids id.now _ _ false c.longer_place.ensures c.is_some.ensures c.if-is_some.false in
+    elim c.if-id-le-MOST_IN_PAIR.branch [
+      | then-id-le-MOST_IN_PAIR+in_ok-insert w ↦
+          let is = w.self-inside-is in
+          let added = ids_with held.ids.items _ _ id (ap (λ (s : Inside). s.ids.items) is ∙ c.in_ok-reserve.ensures.items) c.push_reserved.ensures.items in
+          let words = with_place ids held.words.keys _ _ c.self.invariant id.now _ _ _ _ (ap (λ (s : Inside). s.words.keys) is ∙ c.in_ok-reserve-2.ensures.keys) c.place_word.ensures place c.in_ok-insert-3.ensures.keys in
+          let pair = w.pair_of.ensures in
+          subst₂ (λ ids words. FindsIds ids words (λ pair. get_by (pair_eq pair) c.if-id-le-MOST_IN_PAIR.self-inside.pairs) (λ id. get_by (λ (key : Bor Bytes). bytes_eq id key.now) c.if-id-le-MOST_IN_PAIR.self-inside.long)) (sym added) (sym words)
+          (with_middle ids held.words.keys _ _ c.self.invariant id.now pair.1 c.requires w.if-id-le-MOST_IN_PAIR.true new _ _
+          (λ p. ap (λ (s : Inside). get_by (pair_eq p) s.pairs) is ∙ w.in_ok-insert.ensures.updates.0 p
+          ∙ ap₂ (λ q n. cond (pair_eq q p) (Some n) (get_by (pair_eq p) held.pairs)) pair.0 place)
+          (λ i. ap (λ (s : Inside). get_by (λ (key : Bor Bytes). bytes_eq i key.now) s.long) is))
+      | else-id-le-MOST_IN_PAIR+in_ok-insert-2 w ↦
+          let is = w.self-inside-is in
+          let added = ids_with held.ids.items _ _ id (ap (λ (s : Inside). s.ids.items) is ∙ c.in_ok-reserve.ensures.items) c.push_reserved.ensures.items in
+          let words = with_place ids held.words.keys _ _ c.self.invariant id.now _ _ _ _ (ap (λ (s : Inside). s.words.keys) is ∙ c.in_ok-reserve-2.ensures.keys) c.place_word.ensures place c.in_ok-insert-3.ensures.keys in
+          subst₂ (λ ids words. FindsIds ids words (λ pair. get_by (pair_eq pair) c.if-id-le-MOST_IN_PAIR.self-inside.pairs) (λ id. get_by (λ (key : Bor Bytes). bytes_eq id key.now) c.if-id-le-MOST_IN_PAIR.self-inside.long)) (sym added) (sym words)
+          (with_long ids held.words.keys _ _ c.self.invariant id.now w.if-id-le-MOST_IN_PAIR.false new _ _
+          (λ p. ap (λ (s : Inside). get_by (pair_eq p) s.pairs) is)
+          (λ i. ap (λ (s : Inside). get_by (λ (key : Bor Bytes). bytes_eq i key.now) s.long) is ∙ w.in_ok-insert-2.ensures.updates.0 (record { ref_ptr = id.ref_ptr; now = i })
+          ∙ ap (λ n. cond (bytes_eq id.now i) (Some n) (get_by (λ (key : Bor Bytes). bytes_eq i key.now) held.long)) place))
+    ]
+
+pub returns-clause-added : goal.returns-clause-added
+returns-clause-added c =
+    ap not (sym (looked_up c.args.self.now.ids c.args.id.now _ _ false c.longer_place.ensures c.is_some.ensures c.if-is_some.false))
+
+pub returns-clause-ids : goal.returns-clause-ids
+returns-clause-ids c =
+    let id = c.args.id in
+    let new = looked_up c.args.self.now.ids id.now _ _ false c.longer_place.ensures c.is_some.ensures c.if-is_some.false in
+    let same : c.if-id-le-MOST_IN_PAIR.self-inside.ids.items ≡ c.self.inside.ids.items = elim c.if-id-le-MOST_IN_PAIR.branch [
+      | then-id-le-MOST_IN_PAIR+in_ok-insert w ↦ ap (λ (s : Inside). s.ids.items) w.self-inside-is ∙ c.in_ok-reserve.ensures.items
+      | else-id-le-MOST_IN_PAIR+in_ok-insert-2 w ↦ ap (λ (s : Inside). s.ids.items) w.self-inside-is ∙ c.in_ok-reserve.ensures.items
+    ] in
+    ids_with c.self.inside.ids.items _ _ id same c.push_reserved.ensures.items ∙ ap (λ (s : SeededIds). s.ids ++ id.now ∷ []) c.self.view_is ∙ with_new c.args.self.now.ids id.now new
