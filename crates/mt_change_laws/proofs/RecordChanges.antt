@@ -1,6 +1,6 @@
 -- The markets of records that differ in one of them. Either both of these are withdrawn, and the markets are the same, or
 -- both stay, and the market differs where they stand.
-use Rattle.std.proofs.Common.{◌≡◌, ℕ, suc, ◌<◌, Bool, true, false, List, [], ◌∷◌, ◌++◌, ◌⊎◌, inl, inr, length, get_or, set, Option, refl, sym, ap, ◌∙◌, subst, arith, length-append, filter, filter_map, flat_map}
+use Rattle.std.proofs.Common.{◌≡◌, ℕ, suc, Bool, true, false, List, [], ◌∷◌, ◌++◌, ◌⊎◌, inl, inr, length, get_or, set, Option, refl, sym, ap, ◌∙◌, subst, arith, length-append, filter, filter_map, flat_map}
 use Rattle.std.proofs.lemmas.List.Concat.{flat_map-append}
 use Rattle.std.proofs.lemmas.List.Elements.{filter-append, filter_map-append}
 use Rattle.mt_terms.specs.Market.{Names, Program, Registered, program_of}

@@ -3,12 +3,12 @@
 use Rattle.std.specs.Prelude.{ℕ, ◌+◌, Bool, List, [], ◌∷◌, ◌++◌, Option, Some, None, codes, decimal, option_map, if◌then◌else◌}
 use Rattle.std.specs.List.{flat_map}
 use Rattle.mt_terms.specs.Market.{Names, Registered, couple_of}
-use Rattle.mt_terms.specs.Matching.{Places, Placement, place_of}
+use Rattle.mt_terms.specs.Matching.{Places, place_of}
 use Rattle.mt_terms.specs.Registration.Ids.{Bytes}
 use Rattle.mt_terms.specs.Text.{line, name_of, place_text}
 use Rattle.mt_terms.specs.declared.numbers.Agent.{Agent}
 use Rattle.mt_terms.specs.declared.numbers.Agent.TheVariants.{Couple, Single}
-use Rattle.mt_explain.specs.Lines.{explanation, option_lines, why}
+use Rattle.mt_explain.specs.Lines.{explanation, why}
 use Rattle.mt_explain.specs.declared.line.Line.{Line}
 use Rattle.mt_explain.specs.declared.line.Why.{Why}
 use Rattle.mt_explain.specs.declared.line.Why.TheVariants.{Full, Open, Unlisted}

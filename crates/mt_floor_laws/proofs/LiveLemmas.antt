@@ -1,14 +1,14 @@
 -- The singles' market with live lists alone has the stable matches of the market.
-use Rattle.std.proofs.Common.{◌≡◌, ℕ, ◌&&◌, Bool, true, false, List, [], ◌∷◌, filter, length, IsTrue, refl, sym, ap, ◌∙◌, inl, inr, arith}
+use Rattle.std.proofs.Common.{◌≡◌, ℕ, ◌&&◌, Bool, true, false, List, [], ◌∷◌, filter, IsTrue, refl, sym, ap, ◌∙◌, inl, inr, arith}
 use Rattle.std.proofs.lemmas.Bool.{both_ways, cases_Bool, and_left, false_from_ne_true}
 use Rattle.std.proofs.lemmas.Bool.Decides.{nat_tests}
-use Rattle.mt_terms.specs.Lists.{Set, has, until, through, total_below, count_below}
-use Rattle.mt_terms.specs.Market.{Market, applicants, program_of, list_of, live, live_entries, singles_market, live_market}
+use Rattle.mt_terms.specs.Lists.{Set, has, until, through, count_below}
+use Rattle.mt_terms.specs.Market.{Market, applicants, program_of, list_of, singles_market, live_market}
 use Rattle.mt_terms.specs.Matching.{Places, at}
 use Rattle.mt_terms.specs.Stability.{stable}
 use Rattle.mt_terms.specs.Best.{IsExcluded, IsBest, better_programs, proposed_to, proposals}
 use Rattle.mt_floor_laws.specs.Live.{LiveMarketAgrees}
-use Rattle.mt_terms.proofs.Totals.{total_below-same, count_below-same}
+use Rattle.mt_terms.proofs.Totals.{count_below-same}
 use Rattle.mt_stability_laws.proofs.SinglesFacts.{stable_facts, stable_from_facts}
 use Rattle.mt_terms.proofs.ListFacts.{has-filter}
 use Rattle.mt_terms.proofs.LiveFacts.{live_parts, applicants-live_market, list_of-live_market, live-live_market, live_entries-live_market, live_well_formed}

@@ -1,6 +1,6 @@
 -- How often each number is among those that agents have, summed agent by agent. A couple's member has no list, so it
 -- has no choice.
-use Rattle.std.proofs.Common.{◌≡◌, ℕ, zero, suc, ◌+◌, ◌-◌, ◌<◌, ◌≤◌, Bool, true, false, ◌&&◌, List, [], ◌∷◌, ◌++◌, map, length, get_or, max, Option, Some, None, eqb, IsTrue, refl, sym, ap, ap₂, ◌∙◌, inl, inr, arith, add-one, if◌then◌else◌}
+use Rattle.std.proofs.Common.{◌≡◌, ℕ, zero, suc, ◌+◌, ◌-◌, ◌<◌, ◌≤◌, Bool, true, false, ◌&&◌, List, [], ◌∷◌, ◌++◌, map, length, get_or, max, Option, Some, None, IsTrue, refl, sym, ap, ap₂, ◌∙◌, inl, inr, arith, if◌then◌else◌}
 use Rattle.std.specs.List.{position}
 use Rattle.std.proofs.Math.Path.{fun_ext}
 use Rattle.std.proofs.lemmas.Bool.{cases_lt, eqb-true, true≢false}

@@ -1,4 +1,4 @@
-use Rattle.std.proofs.Common.{◌∙◌, ◌≤◌, List, [], map, ap, sym, subst, arith}
+use Rattle.std.proofs.Common.{◌∙◌, List, map, ap, sym, subst, arith}
 use Rattle.mt_terms.specs.Registration.Passes.{contents}
 use Rattle.mt_terms.specs.Registration.Records.{Record}
 use Rattle.mt_terms.specs.Registration.Rows.{ids_of, withdrawn, applicant_ids, entry_count}
