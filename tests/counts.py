@@ -14,7 +14,7 @@ CHECKS = {
     # tests/cli with the path of a program, where bin/nrmatch isn't run.
     "cli PROGRAM": 8452,
     "cli": 8455,
-    "controls": 49,
+    "controls": 50,
     "edits_apply": 772,
     "explain": 10098,
     "faults": 20037,
@@ -24,15 +24,15 @@ CHECKS = {
     "memory --check": 123,
     "memory --explain": 126,
     "memory --report": 126,
-    "must_fail": 37,
     "pages": 328,
     "python": 54,
     "report": 10055,
     "seeds": 7,
     "threads": 66,
     "told": 311,
-    "words": 426,
+    "words": 415,
     "ways": 1551,
+    "wrong_bodies --gate": 35,
     "wrong_bodies --release": 63,
 }
 # The sweeps of the forms of tests/memory, by the number of workers and whether all requests from one on are refused.

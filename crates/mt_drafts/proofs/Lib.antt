@@ -1,5 +1,3 @@
 pub mod NameFacts
 pub mod DraftFacts
-pub mod FilterFacts
-pub mod WithdrawalFacts
 pub mod CoupleFacts

@@ -1,4 +1,2 @@
 pub mod Names
 pub mod Drafts
-pub mod Registered
-pub mod Withdrawals

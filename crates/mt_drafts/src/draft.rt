@@ -5,11 +5,9 @@ ghost use Rattle.mt_lists.specs.Rows.{fields_left};
 ghost use Rattle.mt_draft_laws.specs.Faultless.{program_draft, applicant_draft, couple_draft, draft};
 ghost use Rattle.mt_records.specs.Records.{record_seen};
 
-use mt_ids::{is_id, quota_of};
+use mt_ids::{Kind, is_id, quota_of};
 use mt_lists::Fields;
-use mt_records::{
-    CoupleFields, Kind, Record, Rules, kind_of, names_are_ids, withdraw_record, withdraws,
-};
+use mt_records::{CoupleFields, Record, Rules, kind_of, names_are_ids, withdraw_record, withdraws};
 
 /// A program by the fields after its first, if nothing is at fault beside its list.
 fn program_draft<'a>(rules: &Rules, fields: Fields<'a>) -> Option<Record<'a>>

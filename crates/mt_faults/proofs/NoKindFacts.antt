@@ -6,7 +6,7 @@ use Rattle.std.proofs.lemmas.List.{append-nil}
 use Rattle.mt_terms.specs.declared.codes.TheConstants.{UNKNOWN_KIND}
 use Rattle.mt_terms.specs.Registration.Ids.{Bytes}
 use Rattle.mt_terms.specs.Registration.Records.{Rules, Kind, OfProgram, OfCouple, kind_of}
-use Rattle.mt_records.specs.Kinds.{ids_in}
+use Rattle.mt_ids.specs.Kinds.{ids_in}
 use Rattle.mt_fault_terms.specs.Faults.{fault_alone, placed_from}
 use Rattle.mt_fault_terms.specs.OfRecord.{passes, record_faults}
 use Rattle.mt_fault_terms.specs.Parts.{Parts, parts_by_kind, parts_of, unknown_parts, withdraw_parts, own_ids, withdrawn_ids, all_own_ids, all_applicants, all_withdrawn, all_entries}

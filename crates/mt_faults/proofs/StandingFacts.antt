@@ -7,7 +7,7 @@ use Rattle.std.proofs.lemmas.Grind.{flat_map-append}
 use Rattle.mt_terms.specs.Registration.Ids.{Bytes, has_id}
 use Rattle.mt_terms.specs.Registration.Passes.{numbered_from}
 use Rattle.mt_terms.specs.Registration.Records.{Rules, Kind, OfProgram, OfApplicant, OfCouple}
-use Rattle.mt_records.specs.Kinds.{ids_in}
+use Rattle.mt_ids.specs.Kinds.{ids_in}
 use Rattle.mt_fault_terms.specs.OfFile.{all_parts}
 use Rattle.mt_fault_terms.specs.Parts.{Parts, own_ids, applicants_among, withdrawn_ids, entries_among, all_own_ids, all_applicants, all_withdrawn, all_entries, parts_of}
 use Rattle.mt_faults.specs.declared.before.Before.{Before}

@@ -2,7 +2,7 @@
 use Rattle.std.specs.Prelude.{◌≡◌, ℕ, ◌+◌, ◌-◌, ◌^◌, ◌||◌, List, [], ◌∷◌, ◌++◌, length, min, nat_le, take, if◌then◌else◌}
 use Rattle.mt_terms.specs.Registration.Ids.{Bytes, has_id}
 use Rattle.mt_terms.specs.Registration.Records.{Rules, Kind}
-use Rattle.mt_records.specs.Kinds.{ids_in}
+use Rattle.mt_ids.specs.Kinds.{ids_in}
 use Rattle.mt_fault_terms.specs.Parts.{Parts, own_ids, applicants_among, all_own_ids, all_applicants, parts_of}
 use Rattle.mt_faults.specs.declared.before.Passed.{Passed}
 use Rattle.mt_faults.specs.declared.registry.Registry.{Registry}

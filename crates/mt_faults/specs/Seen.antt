@@ -5,7 +5,7 @@ use Rattle.mt_terms.specs.declared.codes.TheConstants.{BAD_ID}
 use Rattle.mt_terms.specs.Lists.{by_twos}
 use Rattle.mt_terms.specs.Registration.Ids.{has_id}
 use Rattle.mt_terms.specs.Registration.Records.{Rules}
-use Rattle.mt_records.specs.Records.{kind_seen}
+use Rattle.mt_ids.specs.Kinds.{kind_seen}
 use Rattle.mt_fault_terms.specs.Faults.{FieldFault, Placed, fault_alone, fault_of, placed_from}
 use Rattle.mt_fault_terms.specs.OfRecord.{is_id_field}
 use Rattle.mt_fault_terms.specs.Parts as model

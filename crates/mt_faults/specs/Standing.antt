@@ -3,7 +3,7 @@ use Rattle.std.specs.Prelude.{◌≡◌, ℕ, List, [], ◌∷◌, ◌++◌, len
 use Rattle.mt_terms.specs.declared.codes.TheConstants.{DUPLICATE_ENTRY, DUPLICATE_ID}
 use Rattle.mt_terms.specs.Registration.Ids.{Bytes}
 use Rattle.mt_terms.specs.Registration.Records.{Rules, Kind, OfProgram, OfApplicant, OfCouple}
-use Rattle.mt_records.specs.Kinds.{ids_in}
+use Rattle.mt_ids.specs.Kinds.{ids_in}
 use Rattle.mt_fault_terms.specs.Faults.{FieldFault, FileFault}
 use Rattle.mt_fault_terms.specs.OfRecord.{found_among, record_faults}
 use Rattle.mt_fault_terms.specs.Parts.{Form, Registers, Withdraws, Parts, applicants_among, own_ids, all_own_ids, all_applicants, all_entries, all_withdrawn, parts_of}

@@ -10,8 +10,8 @@ use crate::parts::Parts;
 use crate::placed::{Field, Placed};
 use crate::registry::{Registry, add_ids, seen_with};
 use crate::tell::is_id_field;
-use mt_ids::{IdTable, Seed};
-use mt_records::{Kinds, Rules};
+use mt_ids::{IdTable, Kinds, Seed};
+use mt_records::Rules;
 use std::alloc::{AllocError, Global};
 
 /// The registrations in a table that stand before a record.

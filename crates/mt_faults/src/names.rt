@@ -3,7 +3,7 @@ ghost use Rattle.mt_faults.specs.Seen.{parts_seen};
 
 use crate::parts::{Form, Parts};
 use crate::placed::Placed;
-use mt_records::Kind;
+use mt_ids::Kind;
 
 /// The fields of a record that name what it registers or withdraws, of each kind. Some of them may be no ids.
 #[derive(Clone, Copy)]

@@ -1,14 +1,15 @@
 ghost use Rattle.std.specs.Prelude.{◌≡◌, ◌≤◌, ◌||◌, [], length, option_map};
 ghost use Rattle.mt_lists.specs.Rows.{fields_left};
-ghost use Rattle.mt_records.specs.Records.{kind_seen};
+ghost use Rattle.mt_ids.specs.Kinds.{kind_seen};
 ghost use Rattle.mt_fault_terms.specs.Parts.{miscounted, unknown_parts, program_parts, applicant_parts, couple_parts, withdrawal_parts, withdraw_parts, parts_by_kind, parts_of};
 ghost use Rattle.mt_faults.specs.Names.{members_of};
 ghost use Rattle.mt_faults.specs.NoKind.{is_of_no_kind, names_no_kind};
 ghost use Rattle.mt_faults.specs.Seen.{form_faults, parts_seen, placed_left};
 
 use crate::placed::{Field, Placed};
+use mt_ids::Kind;
 use mt_lists::Fields;
-use mt_records::{Kind, Rules, kind_of, withdraws};
+use mt_records::{Rules, kind_of, withdraws};
 use mt_terms::codes::{FIELD_COUNT, UNKNOWN_KIND};
 
 /// Whether a record registers something of a kind, withdraws it, or neither.

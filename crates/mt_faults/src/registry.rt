@@ -11,9 +11,9 @@ use crate::names::names_of;
 use crate::parts::{Parts, is_of_no_kind, parts_of};
 use crate::placed::{Field, Placed};
 use crate::tell::is_id_field;
-use mt_ids::{IdTable, Seed};
+use mt_ids::{IdTable, Kinds, Seed};
 use mt_lists::{Row, RowsIter};
-use mt_records::{Kinds, Rules};
+use mt_records::Rules;
 use std::alloc::{AllocError, Global};
 
 /// The ids that all records of a file register, each once, in the order in which they come.

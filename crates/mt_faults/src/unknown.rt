@@ -7,7 +7,7 @@ ghost use Rattle.mt_faults.specs.Standing.{Stands};
 use crate::finder::Finder;
 use crate::parts::{Form, Parts};
 use crate::tell::FieldTest;
-use mt_records::Kind;
+use mt_ids::Kind;
 use mt_terms::codes::{NOT_REGISTERED, UNKNOWN_APPLICANT, UNKNOWN_PROGRAM};
 
 impl<'a> Finder<'a> {

@@ -1,3 +1,4 @@
+pub mod Kinds
 pub mod Seeds
 pub mod Sets
 pub mod Words

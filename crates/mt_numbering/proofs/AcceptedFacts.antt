@@ -9,11 +9,11 @@ use Rattle.mt_terms.specs.Registration.Accepted.{IsRegistration}
 use Rattle.mt_draft_laws.specs.Faultless.{ids_differ, is_faultless, faultless_market}
 use Rattle.mt_drafts.specs.declared.drafts.Drafts.{Drafts}
 use Rattle.mt_drafts.specs.declared.names.NameLists.{NameLists}
-use Rattle.mt_records.specs.declared.kinds.Kinds.{Kinds}
+use Rattle.mt_ids.specs.declared.kinds.Kinds.{Kinds}
 use Rattle.mt_drafts.specs.Drafts.{drafted, with_fields, AreDraftsOf, HaveFault}
 use Rattle.mt_drafts.specs.Names.{AreNames}
 use Rattle.mt_numbering.specs.Markets.{AcceptsRegistrations, AreIdsOfRecords, IsMarketOf}
-use Rattle.mt_drafts.specs.Registered.{names_differ, AreIdsOf}
+use Rattle.mt_numbering.specs.Registered.{names_differ, AreIdsOf}
 
 -- the ids that records register, found by their names
 module _ (rs : List Record) (names : NameLists) (are : AreNames rs names) where

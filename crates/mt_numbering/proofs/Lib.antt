@@ -1,3 +1,5 @@
+pub mod FilterFacts
+pub mod WithdrawalFacts
 pub mod NeighbourFacts
 pub mod EntryFacts
 pub mod PairSteps

@@ -20,7 +20,7 @@ use Rattle.mt_draft_laws.proofs.StayingFacts.{remaining_is, program_ids_stay, ap
 use Rattle.mt_drafts.specs.declared.names.NameLists.{NameLists}
 use Rattle.mt_numbering.specs.declared.entries.Entries.{Entries}
 use Rattle.mt_records.specs.declared.record.Record.{Record as Checked}
-use Rattle.mt_records.specs.declared.kinds.Kinds.{Kinds}
+use Rattle.mt_ids.specs.declared.kinds.Kinds.{Kinds}
 use Rattle.mt_records.specs.Records.{record_seen, all_seen}
 use Rattle.mt_drafts.specs.Names.{single_flags, AreNames}
 use Rattle.mt_numbering.specs.Markets.{AreIdsOfRecords, AreEntries, GivesEntries, Remains}
@@ -28,8 +28,8 @@ use Rattle.mt_numbering.specs.Numbered.{program_lists, applicant_lists, couple_l
 use Rattle.mt_numbering.specs.Reading.{pairs_by, pairs_read, lists_stand, members_by, ReadsEntries}
 use Rattle.mt_id_lists.specs.Numbering.{Numbering, number_by, numbers_by}
 use Rattle.mt_id_lists.specs.Reading.{ids_read}
-use Rattle.mt_drafts.specs.Registered.{is_registered}
-use Rattle.mt_drafts.specs.Withdrawals.{stays_after, Stand}
+use Rattle.mt_numbering.specs.Registered.{is_registered}
+use Rattle.mt_numbering.specs.Withdrawals.{stays_after, Stand}
 use Rattle.mt_numbering.proofs.PairSteps.{all_only}
 
 -- there is a flag for each applicant whether it is a single

@@ -1,3 +1,5 @@
+pub mod Registered
+pub mod Withdrawals
 pub mod Numbered
 pub mod Reading
 pub mod Markets

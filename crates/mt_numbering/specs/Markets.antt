@@ -7,7 +7,7 @@ use Rattle.mt_terms.specs.Registration.Records.{Rules, Record, OfProgram, OfCoup
 use Rattle.mt_terms.specs.Registration.Rows.{ids_of, applicant_ids, remaining}
 use Rattle.mt_terms.specs.Registration.Numbering.{registered}
 use Rattle.mt_terms.specs.Registration.Accepted.{IsRegistration}
-use Rattle.mt_records.specs.declared.kinds.Kinds.{Kinds}
+use Rattle.mt_ids.specs.declared.kinds.Kinds.{Kinds}
 use Rattle.mt_numbering.specs.declared.entries.Entries.{Entries}
 use Rattle.mt_numbering.specs.Numbered.{members_in, ranking_in, lists_by, pairs_in}
 use Rattle.mt_numbering.specs.Reading.{lists_stand}

@@ -10,7 +10,7 @@ use Rattle.mt_terms.specs.Registration.Passes.{is_same_pair}
 use Rattle.mt_terms.specs.Registration.Numbering.{pair_by_number}
 use Rattle.mt_records.specs.Fields.{pairs_left}
 use Rattle.mt_records.specs.Records.{all_seen}
-use Rattle.mt_drafts.specs.Withdrawals.{stays_after}
+use Rattle.mt_numbering.specs.Withdrawals.{stays_after}
 use Rattle.mt_id_lists.specs.Numbering.{Numbering, number_by}
 use Rattle.mt_id_lists.specs.Reading.{ids_read, with_kept}
 use Rattle.mt_numbering.specs.declared.entries.Entries.{Entries}

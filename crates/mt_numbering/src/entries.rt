@@ -3,14 +3,15 @@ ghost use Rattle.std.specs.Prelude.{◌≡◌, filter, filter_map, IfOk};
 ghost use Rattle.mt_id_lists.specs.Reading.{ids_read, ids_stand, ReadsAll};
 ghost use Rattle.mt_records.specs.Records.{all_seen};
 ghost use Rattle.mt_numbering.specs.Reading.{lists_of_applicants, lists_of_couples, lists_of_programs, members_by, pairs_read, pairs_stand_in, ReadsEntries};
-ghost use Rattle.mt_drafts.specs.Withdrawals.{stays_after};
+ghost use Rattle.mt_numbering.specs.Withdrawals.{stays_after};
 
 use crate::listed::RecordLists;
 use crate::pairs::PairReader;
-use mt_drafts::stays;
+use crate::withdrawals::stays;
 use mt_id_lists::{Numbered, read_lists};
+use mt_ids::Kinds;
 use mt_market::ChunkedLists;
-use mt_records::{Kinds, Record};
+use mt_records::Record;
 use mt_terms::{AppNo, ProgNo};
 use std::alloc::{AllocError, Global};
 use std::thread::Threads;

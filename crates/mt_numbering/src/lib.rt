@@ -1,11 +1,14 @@
-//! The market of rows without a fault, by numbers: each entry of each list is looked up once.
+//! The market of rows without a fault, by numbers: which records stay where others withdraw them, and each entry of each
+//! list, looked up once.
 #![tactic(auto)]
 
 mod duplicates;
 mod entries;
+mod id_tables;
 mod listed;
 mod market;
 mod pairs;
 mod tables;
+mod withdrawals;
 
 pub use market::faultless_market;

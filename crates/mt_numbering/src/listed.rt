@@ -4,10 +4,11 @@ ghost use Rattle.mt_id_lists.specs.Reading.{ids_in, list_seen};
 ghost use Rattle.mt_numbering.specs.Reading.{lists_of_applicants, lists_of_couples, lists_of_programs, pair_list_seen};
 
 use crate::pairs::PairList;
-use mt_drafts::stays;
+use crate::withdrawals::stays;
 use mt_id_lists::IdList;
+use mt_ids::Kinds;
 use mt_lists::Fields;
-use mt_records::{Kinds, Record, push};
+use mt_records::{Record, push};
 use std::alloc::{AllocError, Global};
 
 /// Adds a list to be read, of these fields or of none.

@@ -11,20 +11,20 @@ ghost use Rattle.mt_drafts.specs.Names.{AreNames};
 ghost use Rattle.mt_numbering.specs.Markets.{AcceptsRegistrations, AreEntries, AreIdsOfRecords, GivesEntries, IsMarketOf, Remains};
 ghost use Rattle.mt_records.specs.Records.{all_seen};
 ghost use Rattle.mt_numbering.specs.Numbered.{registered_by_all};
-ghost use Rattle.mt_drafts.specs.Withdrawals.{stays_after, HaveFewApplicants, HaveFewPrograms};
+ghost use Rattle.mt_numbering.specs.Withdrawals.{stays_after, HaveFewApplicants, HaveFewPrograms};
 ghost use Rattle.mt_records.specs.Limits.{AreBounded};
 
 use crate::entries::{Entries, read_entries};
+use crate::id_tables::{registered, take_table};
 use crate::pairs::PairReader;
 use crate::tables::{agents, quotas};
-use mt_drafts::{
-    Drafts, NameLists, applicant_numbers, drafts_of, program_numbers, registered, retain_staying,
-    take_table, withdrawn,
-};
+use crate::withdrawals::{applicant_numbers, program_numbers, retain_staying, withdrawn};
+use mt_drafts::{Drafts, NameLists, drafts_of};
 use mt_id_lists::Numbered;
+use mt_ids::Kinds;
 use mt_lists::RowsIter;
 use mt_market::{Roster, Tables};
-use mt_records::{Kinds, Record, Rules};
+use mt_records::{Record, Rules};
 use std::alloc::{AllocError, Global};
 use std::thread::Threads;
 

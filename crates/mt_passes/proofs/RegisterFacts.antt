@@ -10,7 +10,7 @@ use Rattle.mt_terms.specs.Registration.Passes.{registered_before, contents}
 use Rattle.mt_passes.specs.declared.register.Numbered as declared
 use Rattle.mt_records.specs.Records.{record_seen}
 use Rattle.mt_passes.specs.declared.register.Register.{Register}
-use Rattle.mt_records.specs.Kinds.{ids_in}
+use Rattle.mt_ids.specs.Kinds.{ids_in}
 use Rattle.mt_passes.specs.Registers.{numbered_seen, contents_seen, AreFew, IsRegister, AddsRecord}
 use Rattle.std.proofs.lemmas.Bool.{false_from_ne_true, or_right}
 use Rattle.mt_record_laws.proofs.FirstPassFacts.{not_found}

@@ -8,7 +8,7 @@ use Rattle.mt_terms.specs.declared.limits.TheConstants.{LIMITS_2}
 use Rattle.mt_passes.specs.declared.register.Numbered as declared
 use Rattle.mt_passes.specs.declared.register.Register.{Register}
 use Rattle.mt_records.specs.Records.{record_seen}
-use Rattle.mt_records.specs.Kinds.{ids_in}
+use Rattle.mt_ids.specs.Kinds.{ids_in}
 
 abbrev pub numbered_seen : declared.Numbered → Numbered model.Record
 numbered_seen n = (n.row, record_seen n.record)

@@ -7,9 +7,9 @@ ghost use Rattle.mt_ids.specs.Seeds.{seed_of};
 ghost use Rattle.mt_passes.specs.Registers.{records_seen, contents_seen, withdraws_twice, AreFew, IsRegister, AddsRecord};
 
 use crate::repeats::{add_fields, has_repeat, has_repeated_pair};
-use mt_ids::{IdTable, Seed};
+use mt_ids::{IdTable, Kind, Kinds, Seed};
 use mt_lists::RowsIter;
-use mt_records::{Kind, Kinds, Record, RecordFault, Rules, are_over, push};
+use mt_records::{Record, RecordFault, Rules, are_over, push};
 use mt_terms::Limits;
 use mt_terms::codes::{DUPLICATE_ENTRY, DUPLICATE_ID, TOO_MANY};
 use std::alloc::{AllocError, Global};

@@ -1,3 +1,2 @@
 pub mod BodyFacts
 pub mod FieldFacts
-pub mod KindFacts

@@ -1,20 +1,13 @@
 -- How the records that are parsed from rows are seen as those of the definition.
 use Rattle.std.specs.Prelude.{List, Result, Ok, Err, map}
+use Rattle.mt_ids.specs.Kinds.{kind_seen}
 use Rattle.mt_lists.specs.Rows.{fields_left}
 use Rattle.mt_terms.specs.Registration.Faults as faults
 use Rattle.mt_terms.specs.Registration.Records as model
 use Rattle.mt_records.specs.Fields.{members_in, pairs_after}
-use Rattle.mt_records.specs.declared.record.Kind.{Kind}
-use Rattle.mt_records.specs.declared.record.Kind.TheVariants as kinds
 use Rattle.mt_records.specs.declared.record.Record.{Record}
 use Rattle.mt_records.specs.declared.record.Record.TheVariants as records
 use Rattle.mt_records.specs.declared.record.RecordFault.{RecordFault}
-
--- a kind of records, as the definition's kind
-abbrev pub kind_seen : Kind → model.Kind
-kind_seen kinds.Program = model.OfProgram
-kind_seen kinds.Applicant = model.OfApplicant
-kind_seen kinds.Couple = model.OfCouple
 
 -- a record that was read, as the definition's record
 abbrev pub record_seen : Record → model.Record

@@ -6,21 +6,14 @@ ghost use Rattle.mt_terms.specs.Registration.Records.{OfProgram, OfCouple};
 ghost use Rattle.mt_terms.specs.Registration.Rows.{id_of, own_id, applicants_of, entries_of};
 ghost use Rattle.mt_terms.specs.Lists.{by_twos};
 ghost use Rattle.mt_records.specs.Fields.{members_in, pairs_after};
-ghost use Rattle.mt_records.specs.Records.{kind_seen, record_seen, record_fault_seen, read_seen};
+ghost use Rattle.mt_ids.specs.Kinds.{kind_seen};
+ghost use Rattle.mt_records.specs.Records.{record_seen, record_fault_seen, read_seen};
 
 use crate::fields::{CoupleFields, are_ids, are_pairs};
 use crate::rules::Rules;
-use mt_ids::{is_id, quota_of};
+use mt_ids::{Kind, is_id, quota_of};
 use mt_lists::Fields;
 use mt_terms::codes::{BAD_ID, BAD_QUOTA, FIELD_COUNT, UNKNOWN_KIND};
-
-/// What is registered under an id of its own.
-#[derive(Clone, Copy, PartialEq, Eq)]
-pub enum Kind {
-    Program,
-    Applicant,
-    Couple,
-}
 
 /// A parsed record. Its ids lie in the row. There is one record for each row of a file, so a couple's members are
 /// only found among its fields when they are asked for. A variant with both ids would make each record larger by

@@ -2,7 +2,7 @@ use Rattle.std.proofs.Common.{◌≡◌, ◌++◌, drop}
 use Rattle.std.specs.Prelude.{filter, filter_map}
 use Rattle.mt_records.specs.Records.{all_seen}
 use Rattle.mt_numbering.specs.Reading.{members_by}
-use Rattle.mt_drafts.specs.Withdrawals.{stays_after}
+use Rattle.mt_numbering.specs.Withdrawals.{stays_after}
 use Rattle.mt_numbering.proofs.entries.members.Given as goal
 
 abbrev pub invariant-loop-one : goal.invariant-loop-one

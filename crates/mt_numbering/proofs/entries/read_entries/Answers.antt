@@ -1,5 +1,5 @@
 use Rattle.mt_records.specs.Records.{all_seen}
-use Rattle.mt_drafts.specs.Withdrawals.{stays_after}
+use Rattle.mt_numbering.specs.Withdrawals.{stays_after}
 use Rattle.mt_numbering.proofs.EntryFacts.{rankings_fail, lists_fail, couples_fail, all_read}
 use Rattle.mt_numbering.proofs.entries.read_entries.Goals as goal
 

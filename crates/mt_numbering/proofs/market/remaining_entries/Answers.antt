@@ -5,7 +5,7 @@ use Rattle.mt_terms.specs.Registration.Rows.{ids_of}
 use Rattle.mt_records.specs.declared.record.Record.{Record as Checked}
 use Rattle.mt_numbering.specs.Markets.{GivesEntries}
 use Rattle.mt_records.specs.Records.{all_seen}
-use Rattle.mt_drafts.specs.Withdrawals.{stays_after}
+use Rattle.mt_numbering.specs.Withdrawals.{stays_after}
 use Rattle.mt_numbering.proofs.AcceptedFacts.{ids_found}
 use Rattle.mt_numbering.proofs.MarketFacts.{knows_ids, length-singles, remains, stand_found}
 use Rattle.mt_numbering.proofs.market.remaining_entries.Goals as goal

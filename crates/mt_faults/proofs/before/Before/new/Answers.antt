@@ -1,5 +1,5 @@
 use Rattle.std.proofs.Common.{rules}
-use Rattle.mt_records.proofs.KindFacts.{none_of_kinds}
+use Rattle.mt_ids.proofs.KindFacts.{none_of_kinds}
 use Rattle.mt_faults.proofs.before.Before.new.Goals as goal
 
 pub returns : goal.returns

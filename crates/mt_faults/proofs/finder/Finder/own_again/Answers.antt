@@ -1,6 +1,6 @@
 use Rattle.std.proofs.Common.{ap, ◌∙◌, take}
 use Rattle.mt_terms.specs.declared.codes.TheConstants.{DUPLICATE_ID}
-use Rattle.mt_records.specs.Records.{kind_seen}
+use Rattle.mt_ids.specs.Kinds.{kind_seen}
 use Rattle.mt_fault_terms.specs.OfRecord.{found_among}
 use Rattle.mt_fault_terms.specs.Parts.{Registers}
 use Rattle.mt_faults.specs.Seen.{form_seen, parts_seen}

@@ -2,7 +2,7 @@ use Rattle.std.proofs.Common.{ap, ◌∙◌, take, ◌*◌, ◌/◌}
 use Rattle.mt_terms.specs.declared.codes.TheConstants.{UNKNOWN_PROGRAM}
 use Rattle.mt_terms.specs.Registration.Ids.{has_id}
 use Rattle.mt_terms.specs.Registration.Records.{OfProgram}
-use Rattle.mt_records.specs.Records.{kind_seen}
+use Rattle.mt_ids.specs.Kinds.{kind_seen}
 use Rattle.mt_fault_terms.specs.OfRecord.{missing_among}
 use Rattle.mt_fault_terms.specs.Parts.{Registers}
 use Rattle.mt_faults.specs.Seen.{form_seen, parts_seen, placed_left}

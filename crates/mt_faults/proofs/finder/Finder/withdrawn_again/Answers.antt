@@ -1,6 +1,6 @@
 use Rattle.std.proofs.Common.{◌≡◌, ap, ◌∙◌, take, length}
 use Rattle.mt_terms.specs.Registration.Ids.{Bytes, has_id}
-use Rattle.mt_records.specs.Records.{kind_seen}
+use Rattle.mt_ids.specs.Kinds.{kind_seen}
 use Rattle.mt_fault_terms.specs.Parts.{all_withdrawn}
 use Rattle.mt_faults.specs.Seen.{form_seen, parts_seen}
 use Rattle.mt_faults.proofs.RecordFacts.{withdrawn_is}

@@ -1,5 +1,5 @@
 use Rattle.std.proofs.Common.{ap, ◌∙◌}
-use Rattle.mt_records.specs.Records.{kind_seen}
+use Rattle.mt_ids.specs.Kinds.{kind_seen}
 use Rattle.mt_fault_terms.specs.Parts.{Registers}
 use Rattle.mt_faults.specs.Seen.{form_seen, parts_seen}
 use Rattle.mt_faults.proofs.PartsFacts.{members_couple}

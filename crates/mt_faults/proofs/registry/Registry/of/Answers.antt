@@ -3,8 +3,8 @@ use Rattle.mt_lists.specs.Rows.{rows_left}
 use Rattle.mt_terms.specs.Registration.Passes.{numbered_from}
 use Rattle.mt_fault_terms.specs.OfFile.{all_parts}
 use Rattle.mt_fault_terms.specs.Parts.{all_own_ids, all_applicants}
-use Rattle.mt_records.proofs.KindFacts.{none_of_kinds}
-use Rattle.mt_records.specs.Kinds.{ids_in}
+use Rattle.mt_ids.proofs.KindFacts.{none_of_kinds}
+use Rattle.mt_ids.specs.Kinds.{ids_in}
 use Rattle.mt_faults.specs.Registered.{added, row_parts}
 use Rattle.mt_faults.proofs.SearchFacts.{numbered_parts}
 use Rattle.mt_faults.proofs.StandingFacts.{adds_own, adds_applicants, renumbered}

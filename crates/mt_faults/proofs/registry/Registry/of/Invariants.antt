@@ -2,7 +2,7 @@ use Rattle.std.proofs.Common.{◌≡◌, []}
 use Rattle.mt_lists.specs.Rows.{rows_left}
 use Rattle.mt_terms.specs.Registration.Passes.{numbered_from}
 use Rattle.mt_terms.specs.Registration.Records.{Kind}
-use Rattle.mt_records.specs.Kinds.{ids_in}
+use Rattle.mt_ids.specs.Kinds.{ids_in}
 use Rattle.mt_fault_terms.specs.OfFile.{all_parts}
 use Rattle.mt_fault_terms.specs.Parts.{all_own_ids, all_applicants}
 use Rattle.mt_faults.specs.Registered.{added}

@@ -2,7 +2,7 @@ use Rattle.std.proofs.Common.{◌≡◌, ◌++◌, drop, map}
 use Rattle.mt_records.specs.Records.{all_seen}
 use Rattle.mt_numbering.specs.Numbered.{couple_lists}
 use Rattle.mt_numbering.specs.Reading.{lists_of_couples, pair_list_seen}
-use Rattle.mt_drafts.specs.Withdrawals.{stays_after}
+use Rattle.mt_numbering.specs.Withdrawals.{stays_after}
 use Rattle.mt_numbering.proofs.listed.RecordLists.of_couples.Given as goal
 
 abbrev pub invariant-loop-one : goal.invariant-loop-one

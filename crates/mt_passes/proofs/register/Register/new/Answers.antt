@@ -2,7 +2,7 @@ use Rattle.std.proofs.Common.{◌∙◌, List, map, ap, sym, subst, arith}
 use Rattle.mt_terms.specs.Registration.Passes.{contents}
 use Rattle.mt_terms.specs.Registration.Records.{Record}
 use Rattle.mt_terms.specs.Registration.Rows.{ids_of, withdrawn, applicant_ids, entry_count}
-use Rattle.mt_records.proofs.KindFacts.{none_of_kinds}
+use Rattle.mt_ids.proofs.KindFacts.{none_of_kinds}
 use Rattle.mt_passes.specs.declared.register.Numbered as declared
 use Rattle.mt_passes.specs.Registers.{numbered_seen, AreFew}
 use Rattle.mt_passes.proofs.register.Register.new.Goals as goal

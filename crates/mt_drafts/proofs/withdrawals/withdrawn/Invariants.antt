@@ -1,7 +1,0 @@
-use Rattle.std.proofs.Common.{take}
-use Rattle.mt_records.specs.Records.{all_seen}
-use Rattle.mt_drafts.proofs.WithdrawalFacts.{AreWithdrawn}
-use Rattle.mt_drafts.proofs.withdrawals.withdrawn.Given as goal
-
-abbrev pub invariant-loop-one : goal.invariant-loop-one
-invariant-loop-one l = AreWithdrawn (all_seen l.records) (all_seen (take l.one-index l.records)) l.withdrawn

@@ -1,0 +1,35 @@
+-- What records withdraw, and who stays.
+use Rattle.std.specs.Prelude.{◌≡◌, ◌<◌, ◌^◌, Bool, true, List, [], ◌∷◌, flat_map, length}
+use Rattle.mt_draft_laws.specs.Faultless.{withdrawals_stand}
+use Rattle.mt_draft_laws.specs.Staying.{stays_without}
+use Rattle.mt_terms.specs.Registration.Ids.{Bytes}
+use Rattle.mt_terms.specs.Registration.Records.{Kind, OfProgram, Record, WithdrawRecord}
+use Rattle.mt_terms.specs.Registration.Rows.{ids_of, applicant_ids, withdrawn}
+use Rattle.mt_ids.specs.declared.kinds.Kinds.{Kinds}
+use Rattle.mt_ids.specs.Kinds.{ids_in}
+
+-- whether a record stays where these ids are withdrawn
+abbrev pub stays_after : Kinds → Record → Bool
+stays_after w r = stays_without w.programs w.applicants w.couples r
+
+-- the id that a record withdraws, if it withdraws one
+abbrev pub withdrawn_by : Record → List Bytes
+withdrawn_by (WithdrawRecord kind id) = id ∷ []
+withdrawn_by _ = []
+
+-- the ids that records withdraw, of all kinds, in the order of the records
+abbrev pub withdrawn_ids : List Record → List Bytes
+withdrawn_ids records = flat_map withdrawn_by records
+
+-- Each id that the records withdraw is registered, none is withdrawn twice, and they are these.
+pub record Stand (rs : List Record) (w : Kinds) : Type 0 where
+  pub stand : withdrawals_stand rs ≡ true
+  pub withdrawn : (kind : Kind) → ids_in w kind ≡ withdrawn kind rs
+
+-- The records register fewer programs than 2 ^ 31, so that each can have a number.
+abbrev pub HaveFewPrograms : List Record → Type 0
+HaveFewPrograms rs = length (ids_of OfProgram rs) < 2 ^ 31
+
+-- the same of the applicants that records register
+abbrev pub HaveFewApplicants : List Record → Type 0
+HaveFewApplicants rs = length (applicant_ids rs) < 2 ^ 31

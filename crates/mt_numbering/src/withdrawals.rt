@@ -1,0 +1,152 @@
+//! What records withdraw, who stays, and the numbers of those that stay among themselves.
+ghost use Rattle.std.specs.Prelude.{◌≡◌, ◌<◌, ◌+◌, ◌++◌, ◌∷◌, [], ◌^◌, false, length, filter, IfOk, OnOk, MatchOption, if◌then◌else◌};
+ghost use Rattle.mt_draft_laws.specs.Faultless.{withdrawals_stand};
+ghost use Rattle.mt_draft_laws.specs.Staying.{new_numbers, program_flags, applicant_flags};
+ghost use Rattle.mt_terms.specs.Registration.Ids.{has_id};
+ghost use Rattle.mt_records.specs.Records.{all_seen, record_seen};
+ghost use Rattle.mt_numbering.specs.Registered.{KnowsIds};
+ghost use Rattle.mt_numbering.specs.Withdrawals.{stays_after, withdrawn_ids, HaveFewApplicants, HaveFewPrograms, Stand};
+ghost use Rattle.mt_ids.specs.Seeds.{seed_of};
+
+use crate::id_tables::is_registered;
+use mt_ids::{IdTable, Kinds, Seed, add_field};
+use mt_records::{Record, push};
+use mt_terms::{AppNo, ProgNo};
+use std::alloc::{AllocError, Global};
+use std::hash::DefaultHasher;
+
+/// The seed of tables of what these records withdraw.
+fn seed_of(records: &[Record<'_>]) -> Seed
+    ensures { result ≡ seed_of (withdrawn_ids (all_seen records.now)) }
+{
+    let mut digest = DefaultHasher::new();
+    for one in records {
+        if let Record::Withdraw { id, .. } = one {
+            add_field(&mut digest, id);
+        }
+    }
+    Seed::of(&digest)
+}
+
+/// The ids that records withdraw, if each is registered and none is withdrawn twice. `singles` says for each applicant
+/// whether it is a single.
+pub(crate) fn withdrawn<'a>(
+    alloc: Global,
+    registered: &Kinds<'_>,
+    singles: &[bool],
+    records: &[Record<'a>],
+) -> Result<Option<Kinds<'a>>, AllocError>
+    requires long { length singles.now ≡ length registered.now.applicants }
+    requires known { KnowsIds registered.now singles.now records.now }
+    ensures { IfOk result (λ found. MatchOption found
+        (withdrawals_stand (all_seen records.now) ≡ false) (Stand (all_seen records.now))) }
+{
+    let mut withdrawn = Kinds::new(alloc, seed_of(records));
+    for one in records {
+        if let Record::Withdraw { kind, id } = one {
+            if !is_registered(registered, singles, *kind, id) || !withdrawn.add(*kind, id)? {
+                return Ok(None);
+            }
+        }
+    }
+    Ok(Some(withdrawn))
+}
+
+/// Whether an id is one of these. Where there are none, it isn't hashed.
+fn is_among(ids: &IdTable<'_>, id: &[u8]) -> bool
+    ensures { result ≡ has_id ids.now id.now }
+{
+    ids.len() > 0 && ids.contains(id)
+}
+
+/// Whether a record stays where these ids are withdrawn. A withdrawal itself doesn't.
+pub(crate) fn stays(withdrawn: &Kinds<'_>, one: &Record<'_>) -> bool
+    ensures { result ≡ stays_after withdrawn.now (record_seen one.now) }
+{
+    match one {
+        Record::Program { id, .. } => !is_among(&withdrawn.programs, id),
+        Record::Applicant { id, .. } => !is_among(&withdrawn.applicants, id),
+        Record::Couple { id, .. } => !is_among(&withdrawn.couples, id),
+        Record::Withdraw { .. } => false,
+    }
+}
+
+/// Takes those records out that don't stay where these ids are withdrawn.
+pub(crate) fn retain_staying(withdrawn: &Kinds<'_>, records: &mut Vec<Record<'_>>)
+    ensures { all_seen records.new.items
+        ≡ filter (stays_after withdrawn.now) (all_seen records.old.items) }
+{
+    records.retain(|one| stays(withdrawn, one));
+}
+
+/// For each program the number that it has among those that stay, if it stays.
+pub(crate) fn program_numbers(
+    alloc: Global,
+    withdrawn: &Kinds<'_>,
+    records: &[Record<'_>],
+) -> Result<Vec<Option<ProgNo>>, AllocError>
+    requires { HaveFewPrograms (all_seen records.now) }
+    ensures { IfOk result (λ v. v.items
+        ≡ new_numbers 0 (program_flags (stays_after withdrawn.now) (all_seen records.now))) }
+{
+    let mut numbers = Vec::new(alloc);
+    let mut next = 0;
+    for one in records {
+        if let Record::Program { .. } = one {
+            if stays(withdrawn, one) {
+                numbers.push(Some(ProgNo(next)))?;
+                next += 1;
+            } else {
+                numbers.push(None)?;
+            }
+        }
+    }
+    Ok(numbers)
+}
+
+/// Adds the next number, where an applicant stays, or that it has none.
+fn push_number(
+    numbers: &mut Vec<Option<AppNo>>,
+    next: &mut u32,
+    stays: bool,
+) -> Result<(), AllocError>
+    requires { next.old + 1 < 2 ^ 32 }
+    ensures numbers { OnOk result
+        (numbers.new.items ≡ numbers.old.items ++ new_numbers next.old (stays ∷ [])) }
+    ensures next { OnOk result (next.new ≡ next.old + (if stays then 1 else 0)) }
+{
+    if stays {
+        numbers.push(Some(AppNo(*next)))?;
+        *next += 1;
+    } else {
+        numbers.push(None)?;
+    }
+    Ok(())
+}
+
+/// For each applicant the number that it has among those that stay, if it stays. A couple's two members stay or go
+/// together.
+pub(crate) fn applicant_numbers(
+    alloc: Global,
+    withdrawn: &Kinds<'_>,
+    records: &[Record<'_>],
+) -> Result<Vec<Option<AppNo>>, AllocError>
+    requires { HaveFewApplicants (all_seen records.now) }
+    ensures { IfOk result (λ v. v.items
+        ≡ new_numbers 0 (applicant_flags (stays_after withdrawn.now) (all_seen records.now))) }
+{
+    let mut numbers = Vec::new(alloc);
+    let mut next = 0;
+    for one in records {
+        let stays = stays(withdrawn, one);
+        match one {
+            Record::Applicant { .. } => push_number(&mut numbers, &mut next, stays)?,
+            Record::Couple { .. } => {
+                push_number(&mut numbers, &mut next, stays)?;
+                push_number(&mut numbers, &mut next, stays)?;
+            }
+            Record::Program { .. } | Record::Withdraw { .. } => {}
+        }
+    }
+    Ok(numbers)
+}
