@@ -1,13 +1,9 @@
 -- What the reading of lists by numbers gives: each list stands or not, and is read as a list of numbers, or as none if
 -- it isn't kept.
 use Rattle.std.specs.Prelude.{◌≡◌, Bool, true, false, List, [], ◌∷◌, ◌++◌, flat_map, fold, Option, Some, None, is_some, if◌then◌else◌}
-use Rattle.std.specs.Borrow.{Bor}
 use Rattle.std.specs.List.{AllZip, list_all}
 use Rattle.mt_flat.specs.FlatLists.{with_last}
-use Rattle.mt_lists.specs.Rows.{fields_left}
-use Rattle.mt_lists.specs.declared.row.Fields.{Fields}
 use Rattle.mt_terms.specs.Registration.Ids.{Bytes, stands_once}
-use Rattle.mt_id_lists.specs.declared.numbered.IdList.{IdList}
 use Rattle.mt_id_lists.specs.Numbering.{Numbering, numbers_by}
 
 -- lists with more elements at the end of the last one
@@ -39,14 +35,6 @@ lists_in (Some lists) = lists
 abbrev pub Joins : {X : Type 0} → List (Option (List (List X))) → Option (List (List X)) → Type 0
 Joins chunks (Some new) = (list_all is_some chunks ≡ true) × (new ≡ flat_map lists_in chunks)
 Joins chunks None = list_all is_some chunks ≡ false
-
--- a list of fields as a list of ids, and whether it is kept
-abbrev pub ids_in : Option (Bor Fields) → List Bytes
-ids_in None = []
-ids_in (Some fields) = fields_left fields.now
-
-abbrev pub list_seen : IdList → Bool × List Bytes
-list_seen list = (list.kept, ids_in list.fields)
 
 -- whether a list names none but these ids, and none twice
 abbrev pub ids_stand : {X : Type 0} → Numbering X → Bool × List Bytes → Bool

@@ -1,5 +1,6 @@
 pub mod Registered
 pub mod Withdrawals
+pub mod IdLists
 pub mod Numbered
 pub mod Reading
 pub mod Markets

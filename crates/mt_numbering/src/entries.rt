@@ -6,9 +6,10 @@ ghost use Rattle.mt_numbering.specs.Reading.{lists_of_applicants, lists_of_coupl
 ghost use Rattle.mt_numbering.specs.Withdrawals.{stays_after};
 
 use crate::listed::RecordLists;
+use crate::numbered::Numbered;
 use crate::pairs::PairReader;
 use crate::withdrawals::stays;
-use mt_id_lists::{Numbered, read_lists};
+use mt_id_lists::read_lists;
 use mt_ids::Kinds;
 use mt_market::ChunkedLists;
 use mt_records::Record;

@@ -7,6 +7,7 @@ mod entries;
 mod id_tables;
 mod listed;
 mod market;
+mod numbered;
 mod pairs;
 mod tables;
 mod withdrawals;

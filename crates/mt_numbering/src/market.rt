@@ -16,11 +16,11 @@ ghost use Rattle.mt_records.specs.Limits.{AreBounded};
 
 use crate::entries::{Entries, read_entries};
 use crate::id_tables::{registered, take_table};
+use crate::numbered::Numbered;
 use crate::pairs::PairReader;
 use crate::tables::{agents, quotas};
 use crate::withdrawals::{applicant_numbers, program_numbers, retain_staying, withdrawn};
 use mt_drafts::{Drafts, NameLists, drafts_of};
-use mt_id_lists::Numbered;
 use mt_ids::Kinds;
 use mt_lists::RowsIter;
 use mt_market::{Roster, Tables};

@@ -9,7 +9,8 @@ ghost use Rattle.mt_numbering.specs.Numbered.{place_in, pair_in};
 ghost use Rattle.mt_numbering.specs.Reading.{ReadsPairs};
 
 use crate::duplicates::has_duplicate;
-use mt_id_lists::{ListReader, Numbered, begin_list};
+use crate::numbered::{Numbered, begin_list};
+use mt_id_lists::ListReader;
 use mt_market::FlatLists;
 use mt_records::Pairs;
 use mt_terms::ProgNo;

@@ -4,7 +4,7 @@ use Rattle.mt_terms.specs.Registration.Ids.{stands_once}
 use Rattle.mt_id_lists.specs.Numbering.{numbers_by}
 use Rattle.mt_id_lists.specs.Reading.{with_kept}
 use Rattle.mt_id_lists.proofs.MetFacts.{stands_from}
-use Rattle.mt_id_lists.proofs.numbered.Numbered.push_ids.Given as goal
+use Rattle.mt_numbering.proofs.numbered.Numbered.push_ids.Given as goal
 
 abbrev pub invariant-loop-id : goal.invariant-loop-id
 invariant-loop-id g l = record {

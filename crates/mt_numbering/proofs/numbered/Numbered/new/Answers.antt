@@ -1,6 +1,6 @@
 use Rattle.std.proofs.Common.{subst}
 use Rattle.mt_id_lists.specs.Numbering.{AreInPlace}
-use Rattle.mt_id_lists.proofs.numbered.Numbered.new.Goals as goal
+use Rattle.mt_numbering.proofs.numbered.Numbered.new.Goals as goal
 
 pub invariant_of-result : goal.invariant_of-result
 invariant_of-result g c =

@@ -4,17 +4,15 @@ ghost use Rattle.mt_id_lists.specs.Met.{IsNoneMet};
 ghost use Rattle.mt_id_lists.specs.Numbering.{number_by, AreInPlace};
 ghost use Rattle.mt_id_lists.specs.Reading.{with_kept, ReadsIds};
 
-use crate::met::Met;
-use crate::number::Number;
-use crate::reader::ListReader;
 use mt_flat::FlatLists;
+use mt_id_lists::{ListReader, Met, Number};
 use mt_ids::IdTable;
 use mt_lists::Fields;
 use std::alloc::{AllocError, Global};
 use std::marker::Model;
 
 /// Ids, and the new number of each that has one.
-pub struct Numbered<'a, T: Number> {
+pub(crate) struct Numbered<'a, T: Number> {
     ids: IdTable<'a>,
     numbers: Vec<Option<T>>,
     // The first ids, as many as this, have their places as numbers. So those aren't looked up in the vector, which
@@ -46,14 +44,14 @@ impl<'a, T: Number> Model for Numbered<'a, T> {
 
 /// A list of ids to be read. The ids of a list that isn't kept are looked up, and that is all.
 #[derive(Clone, Copy)]
-pub struct IdList<'r, 'a> {
+pub(crate) struct IdList<'r, 'a> {
     /// The ids, if there are any.
-    pub fields: Option<&'r Fields<'a>>,
-    pub kept: bool,
+    pub(crate) fields: Option<&'r Fields<'a>>,
+    pub(crate) kept: bool,
 }
 
 /// Begins a list at the end of these, if it is kept.
-pub fn begin_list<T>(lists: &mut FlatLists<T>, kept: bool) -> Result<(), AllocError>
+pub(crate) fn begin_list<T>(lists: &mut FlatLists<T>, kept: bool) -> Result<(), AllocError>
     ensures { OnOk result (lists.new ≡ lists.old ++ (if kept then [] ∷ [] else [])) }
 {
     if kept {
@@ -79,7 +77,7 @@ fn count_in_place<T: Number>(numbers: &[Option<T>]) -> usize
 
 impl<'a, T: Number> Numbered<'a, T> {
     /// These ids, with a number for each that has one.
-    pub fn new(ids: IdTable<'a>, numbers: Vec<Option<T>>) -> Self
+    pub(crate) fn new(ids: IdTable<'a>, numbers: Vec<Option<T>>) -> Self
         requires { length numbers.items ≡ length ids }
         ensures ids { result.ids ≡ ids.entry }
         ensures numbers { result.numbers ≡ numbers.items }
@@ -93,21 +91,21 @@ impl<'a, T: Number> Numbered<'a, T> {
     }
 
     /// How many ids there are.
-    pub fn len(&self) -> usize
+    pub(crate) fn len(&self) -> usize
         ensures { result ≡ length self.now.ids }
     {
         self.ids.len()
     }
 
     /// The place of an id, from 0, if it is one of these.
-    pub fn place(&self, id: &[u8]) -> Option<usize>
+    pub(crate) fn place(&self, id: &[u8]) -> Option<usize>
         ensures { result ≡ position (bytes_eq id.now) self.now.ids }
     {
         self.ids.number(id)
     }
 
     /// The new number of the id at a place, if it has one.
-    pub fn number_at(&self, place: usize) -> Option<T>
+    pub(crate) fn number_at(&self, place: usize) -> Option<T>
         requires { place < length self.now.ids }
         ensures { result ≡ slice_index_or self.now.numbers place None }
     {
@@ -119,7 +117,7 @@ impl<'a, T: Number> Numbered<'a, T> {
     }
 
     /// The new number of an id, if it is one of these and has one.
-    pub fn number(&self, id: &[u8]) -> Option<T>
+    pub(crate) fn number(&self, id: &[u8]) -> Option<T>
         ensures { result ≡ number_by self.now id.now }
     {
         self.numbers[self.ids.number(id)?]
@@ -178,7 +176,8 @@ impl<'a, T: Number> Numbered<'a, T> {
 impl<'r, 'a, 'n, T: Number + Send + Sync> ListReader<IdList<'r, 'a>, Met> for Numbered<'n, T> {
     ghost use Rattle.std.specs.Prelude.{◌≡◌, length};
     ghost use Rattle.mt_lists.specs.Rows.{fields_left};
-    ghost use Rattle.mt_id_lists.specs.Reading.{list_seen, ids_stand, ids_read};
+    ghost use Rattle.mt_id_lists.specs.Reading.{ids_stand, ids_read};
+    ghost use Rattle.mt_numbering.specs.IdLists.{list_seen};
 
     type Item = T;
 

@@ -7,7 +7,7 @@ use Rattle.mt_id_lists.specs.Numbering.{numbers_by}
 use Rattle.mt_id_lists.specs.Reading.{with_kept}
 use Rattle.mt_id_lists.proofs.MetFacts.{stands_from, stands_from-once, stands_from-missing, stands_from-again, stands_from-new}
 use Rattle.mt_id_lists.proofs.ReadingSteps.{numbers-more}
-use Rattle.mt_id_lists.proofs.numbered.Numbered.push_ids.Goals as goal
+use Rattle.mt_numbering.proofs.numbered.Numbered.push_ids.Goals as goal
 
 pub loop-id-init : goal.loop-id-init
 loop-id-init g c =

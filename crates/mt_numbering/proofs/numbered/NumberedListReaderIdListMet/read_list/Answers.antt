@@ -1,9 +1,10 @@
 use Rattle.std.proofs.Common.{ap}
 use Rattle.std.proofs.lemmas.Result.{IfOk-weaker}
 use Rattle.mt_lists.specs.Rows.{fields_left}
-use Rattle.mt_id_lists.specs.Reading.{ids_in, list_seen, ids_stand, ids_read}
+use Rattle.mt_id_lists.specs.Reading.{ids_stand, ids_read}
+use Rattle.mt_numbering.specs.IdLists.{ids_in, list_seen}
 use Rattle.mt_id_lists.proofs.ReadingSteps.{ids_are_read, one_seen}
-use Rattle.mt_id_lists.proofs.numbered.NumberedListReaderIdListMet.read_list.Goals as goal
+use Rattle.mt_numbering.proofs.numbered.NumberedListReaderIdListMet.read_list.Goals as goal
 
 pub returns-in_ok-begin-in-Some-clause-reads : goal.returns-in_ok-begin-in-Some-clause-reads
 returns-in_ok-begin-in-Some-clause-reads g c =
