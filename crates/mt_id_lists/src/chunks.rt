@@ -1,11 +1,11 @@
-//! Lists read in chunks side by side.
-ghost use Rattle.std.specs.Prelude.{◌≡◌, ◌++◌, ◌<◌, flat_map, IfOk, OnOk};
+//! Lists in chunks, and the chunks joined.
+ghost use Rattle.std.specs.Prelude.{◌<◌, IfOk};
 ghost use Rattle.mt_id_lists.specs.Reading.{AreReadInChunks, Joins, ReadsAll};
 
+use crate::parallel::read_chunks;
 use crate::reader::ListReader;
 use mt_flat::{ChunkedLists, FlatLists};
 use rayon::current_num_threads;
-use rayon::prelude::*;
 use std::alloc::{AllocError, Global};
 use std::thread::Threads;
 
@@ -27,18 +27,6 @@ fn are_long<L, M: Drop + Send + Sync, S: ListReader<L, M> + Sync>(reader: &S, li
     false
 }
 
-/// How many entries lists have.
-fn entries_of<L, M: Drop + Send + Sync, S: ListReader<L, M> + Sync>(
-    reader: &S,
-    lists: &[L],
-) -> usize {
-    let mut entries: usize = 0;
-    for list in lists {
-        entries = entries.saturating_add(reader.entries(list));
-    }
-    entries
-}
-
 /// How many lists a chunk has: there are two chunks for each processor, but one alone if the lists are short, or if
 /// there is only one processor.
 fn chunk_size<R: Threads>(rt: &R, count: usize, are_long: bool) -> usize
@@ -53,48 +41,6 @@ fn chunk_size<R: Threads>(rt: &R, count: usize, are_long: bool) -> usize
     } else {
         count.div_ceil(processors * 2).max(1)
     }
-}
-
-/// A chunk of lists by numbers, if each stands.
-fn read_chunk<L, M: Drop + Send + Sync, S: ListReader<L, M> + Sync>(
-    alloc: Global,
-    reader: &S,
-    lists: &[L],
-) -> Result<Option<FlatLists<S::Item>>, AllocError>
-    ensures { IfOk result (ReadsAll (S.stands reader.now) (S.read reader.now) lists.now) }
-{
-    let mut read = FlatLists::with_capacity(alloc, lists.len(), entries_of(reader, lists))?;
-    let mut met = reader.new_met(alloc)?;
-    for list in lists {
-        if !reader.read_list(alloc, &mut read, &mut met, list)? {
-            return Ok(None);
-        }
-    }
-    Ok(Some(read))
-}
-
-/// The lists in chunks of this size, each read by itself.
-fn read_chunks<R: Threads + Sync, L: Sync, M: Drop + Send + Sync, S: ListReader<L, M> + Sync>(
-    rt: &R,
-    alloc: Global,
-    reader: &S,
-    lists: &[L],
-    size: usize,
-) -> Result<Vec<Option<FlatLists<S::Item>>>, AllocError>
-    requires { 0 < size }
-    ensures { IfOk result (λ chunks. AreReadInChunks (S.stands reader.now) (S.read reader.now)
-        lists.now chunks.items) }
-{
-    lists
-        .par_chunks(size)
-        .with_min_len(1)
-        .map(
-            |chunk: &[L]| -> Result<Option<FlatLists<S::Item>>, AllocError>
-                ensures { IfOk result
-                    (ReadsAll (S.stands reader.entry.now) (S.read reader.entry.now) chunk.entry.now) }
-            { read_chunk(alloc, reader, chunk) },
-        )
-        .collect::<Result<Vec<Option<FlatLists<S::Item>>>, AllocError>>(rt, alloc)?
 }
 
 /// The lists of chunks one after another, if each was read.

@@ -4,6 +4,7 @@
 mod chunks;
 mod met;
 mod number;
+mod parallel;
 mod reader;
 
 pub use chunks::read_lists;

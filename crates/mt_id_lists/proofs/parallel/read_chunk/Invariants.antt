@@ -1,6 +1,6 @@
 use Rattle.std.proofs.Common.{drop}
 use Rattle.mt_id_lists.proofs.ReadingSteps.{AreReadTo}
-use Rattle.mt_id_lists.proofs.chunks.read_chunk.Given as goal
+use Rattle.mt_id_lists.proofs.parallel.read_chunk.Given as goal
 
 abbrev pub invariant-loop-list : goal.invariant-loop-list
 invariant-loop-list g l = record {

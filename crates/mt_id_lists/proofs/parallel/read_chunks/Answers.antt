@@ -5,7 +5,7 @@ use Rattle.rayon.proofs.ToStd.{chunks_of-concat}
 use Rattle.rayon.specs.Lists.{chunks_of, chunks_size, chunks_slice, min_len_base}
 use Rattle.mt_id_lists.specs.Reading.{AreReadInChunks, ReadsAll}
 use Rattle.mt_id_lists.proofs.ChunkFacts.{chunks_by_threads}
-use Rattle.mt_id_lists.proofs.chunks.read_chunks.Goals as goal
+use Rattle.mt_id_lists.proofs.parallel.read_chunks.Goals as goal
 
 pub returns : goal.returns
 returns g c =
