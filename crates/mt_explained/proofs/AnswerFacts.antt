@@ -28,7 +28,8 @@ use Rattle.mt_files.proofs.FileFacts.{market_there}
 use Rattle.mt_files.proofs.NameFacts.{alone_named, codes_large, market_named, match_named}
 use Rattle.mt_explain.proofs.LawFacts.{each_better_option_once_lem, open_if_blocks_lem, open_if_taken_lem, stable_if_none_open_lem}
 use Rattle.mt_explain_text.specs.Text.{agents_text}
-use Rattle.mt_explained.specs.Asked.{agents_asked, first_unknown}
+use Rattle.mt_match_file.specs.Agents.{first_unknown}
+use Rattle.mt_explained.specs.Asked.{agents_asked}
 use Rattle.mt_files.specs.Answer as answers
 use Rattle.mt_files.specs.Answer.{IsGiven}
 use Rattle.mt_judged.specs.Answer.{IsGivenOrMemory, fault_answer, memory_answer}

@@ -12,7 +12,8 @@ use Rattle.mt_files.specs.Answer.{IsAnswerBy}
 pub use Rattle.mt_files.specs.Answer.{Answer}
 use Rattle.mt_files.specs.Refusals.{IsInTurn, OfBoth}
 use Rattle.mt_explain_text.specs.Text.{agents_text}
-use Rattle.mt_explained.specs.Asked.{agents_asked, first_unknown}
+use Rattle.mt_match_file.specs.Agents.{first_unknown}
+use Rattle.mt_explained.specs.Asked.{agents_asked}
 use Rattle.mt_explained.specs.Headline.{IsExplained, IsRefusal}
 use Rattle.mt_explained.specs.Text.{unknown_line}
 use Rattle.mt_explained.specs.declared.codes.TheConstants.{NO_SUCH_AGENT}

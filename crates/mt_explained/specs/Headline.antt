@@ -15,7 +15,8 @@ use Rattle.mt_files.specs.declared.source.Source.{Source}
 use Rattle.mt_files.specs.declared.source.Source.TheVariants.{Match}
 use Rattle.mt_explain.specs.Lines.{explanation, has_open_option, is_open, lines_of, option_lines}
 use Rattle.mt_explain_text.specs.Text.{agents_text}
-use Rattle.mt_explained.specs.Asked.{agents_asked, first_unknown}
+use Rattle.mt_match_file.specs.Agents.{first_unknown}
+use Rattle.mt_explained.specs.Asked.{agents_asked}
 use Rattle.mt_judged.specs.Text.{refused_line}
 use Rattle.mt_explained.specs.Text.{unknown_line}
 use Rattle.mt_explained.specs.declared.codes.TheConstants.{NO_SUCH_AGENT}

@@ -1,13 +1,7 @@
 -- How what the code holds is seen in the terms of the definitions.
 use Rattle.std.specs.Prelude.{List, map, string_bytes}
-use Rattle.mt_terms.specs.Market.{Registered}
 use Rattle.mt_terms.specs.Registration.Ids.{Bytes}
 use Rattle.mt_explained.specs.declared.asked.Asked.{Asked}
-use Rattle.mt_explained.specs.declared.ids.AgentIds.{AgentIds}
-
--- the market whose ids these are
-abbrev pub market_of : AgentIds → Registered
-market_of ids = ids.roster.now
 
 -- the ids that are asked for, each as its bytes
 abbrev pub ids_of : Asked → List Bytes

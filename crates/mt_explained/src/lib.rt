@@ -4,7 +4,6 @@
 mod agents;
 mod asked;
 pub mod codes;
-mod ids;
 pub mod laws;
 mod sending;
 mod whole;

@@ -14,7 +14,7 @@ ghost use Rattle.mt_explained.specs.Answer.{Answers, match_answer, submitted_ans
 ghost use Rattle.mt_explained.specs.Text.{unknown_line};
 ghost use Rattle.mt_explained.specs.View.{ids_of};
 
-use crate::agents::{Found, agents_asked};
+use crate::agents::agents_asked;
 use crate::asked::Asked;
 use crate::codes::NO_SUCH_AGENT;
 use crate::sending::write_agents;
@@ -24,6 +24,7 @@ use mt_files::{FileRefusalLine, Files, Refused, Source, read_files, refusal_line
 use mt_ids::is_id;
 use mt_judged::{judged, refuse_file};
 use mt_lists::Tap;
+use mt_match_file::NamedAgents;
 use mt_pages::{Outcome, Page, Unwritten, send};
 use mt_ranks::Ranks;
 use mt_report::{Drain, id_or_dash, put_all};
@@ -154,11 +155,18 @@ fn explain_places<T: Threads + Sync, W: Write>(
 {
     files.roster.is_of_a_file();
     match agents_asked(alloc, &files.roster, asked.ids)? {
-        Found::Unknown(word) => {
+        NamedAgents::Unknown(word) => {
             let line = unknown_line(word.as_bytes());
             Ok(write_refusal(drain, NO_SUCH_AGENT, line.as_bytes()))
         }
-        Found::Agents(agents) => write_lines(rt, alloc, files, &agents, asked.is_public, drain),
+        NamedAgents::Agents(agents) => write_lines(
+            rt,
+            alloc,
+            files,
+            &agents,
+            asked.is_public,
+            drain,
+        ),
     }
 }
 

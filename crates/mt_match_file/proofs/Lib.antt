@@ -1,3 +1,4 @@
 pub mod FaultFacts
 pub mod PlaceFacts
 pub mod ReadingFacts
+pub mod AgentFacts

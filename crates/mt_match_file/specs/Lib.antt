@@ -5,3 +5,4 @@ pub mod View
 pub mod Reading
 pub mod Laws
 pub mod Examples
+pub mod Agents

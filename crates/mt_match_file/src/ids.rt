@@ -1,11 +1,12 @@
 ghost use Rattle.std.specs.Prelude.{◌≡◌, ◌<◌, position, bytes_eq, IfOk};
 ghost use Rattle.mt_terms.specs.Registration.Accepted.{IsRegistration};
+ghost use Rattle.mt_match_file.specs.Agents.{agent_named};
 ghost use Rattle.mt_match_file.specs.Submitted.{place_named};
 ghost use Rattle.mt_ids.specs.Seeds.{seed_of};
 
 use mt_ids::{IdTable, Seed, add_field, is_dash};
 use mt_market::Roster;
-use mt_terms::{AppNo, CoupleNo, ProgNo};
+use mt_terms::{Agent, AppNo, CoupleNo, ProgNo};
 use std::alloc::{AllocError, Global};
 use std::hash::DefaultHasher;
 
@@ -58,7 +59,7 @@ fn program_ids(alloc: Global, roster: &Roster) -> Result<IdTable<'_>, AllocError
 }
 
 /// The ids of the applicants of a market, in order of registration. The error is want of memory.
-pub fn applicant_ids(alloc: Global, roster: &Roster) -> Result<IdTable<'_>, AllocError>
+fn applicant_ids(alloc: Global, roster: &Roster) -> Result<IdTable<'_>, AllocError>
     ensures { IfOk result (λ table. table ≡ roster.entry.now.names.applicants) }
 {
     let mut table = IdTable::with_capacity(
@@ -73,7 +74,7 @@ pub fn applicant_ids(alloc: Global, roster: &Roster) -> Result<IdTable<'_>, Allo
 }
 
 /// The ids of the couples of a market, in order of registration. The error is want of memory.
-pub fn couple_ids(alloc: Global, roster: &Roster) -> Result<IdTable<'_>, AllocError>
+fn couple_ids(alloc: Global, roster: &Roster) -> Result<IdTable<'_>, AllocError>
     ensures { IfOk result (λ table. table ≡ roster.entry.now.names.couples) }
 {
     let mut table = IdTable::with_capacity(alloc, roster.couples() as usize, couples_seed(roster))?;
@@ -151,6 +152,16 @@ impl<'a> Ids<'a> {
     {
         let number = self.couples.number(id)?;
         Some(CoupleNo(number as u32))
+    }
+
+    /// The agent with an id: that of the applicant with it, or else the couple with it.
+    pub(crate) fn agent(&self, id: &[u8]) -> Option<Agent>
+        ensures { result ≡ agent_named (market_of self.now) id.now }
+    {
+        match self.applicant(id) {
+            Some(applicant) => Some(self.roster.agent_of(applicant)),
+            None => self.couple(id).map(Agent::Couple),
+        }
     }
 
     /// The place that a field names: a program by its id, or none by `-`.

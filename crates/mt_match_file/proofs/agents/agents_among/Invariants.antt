@@ -1,8 +1,8 @@
 use Rattle.std.proofs.Common.{◌≡◌, None, map, string_bytes, take}
 use Rattle.std.specs.Prelude.{filter_map}
-use Rattle.mt_explained.specs.Asked.{agent_named, first_unknown}
-use Rattle.mt_explained.specs.View.{market_of}
-use Rattle.mt_explained.proofs.agents.named_agents.Given as goal
+use Rattle.mt_match_file.specs.Agents.{agent_named, first_unknown}
+use Rattle.mt_match_file.specs.View.{market_of}
+use Rattle.mt_match_file.proofs.agents.agents_among.Given as goal
 
 -- the words so far name these agents
 abbrev pub invariant-loop-word : goal.invariant-loop-word

@@ -2,9 +2,9 @@ use Rattle.std.proofs.Common.{◌≡◌, ◌∙◌, Some, None, List, ap, sym, m
 use Rattle.std.specs.Prelude.{String, filter_map}
 use Rattle.std.specs.Global.{Global}
 use Rattle.std.proofs.lemmas.List.{take_all}
-use Rattle.mt_explained.specs.Asked.{agent_named, first_unknown}
-use Rattle.mt_explained.proofs.AskedFacts.{known_more, named_more, unknown_here}
-use Rattle.mt_explained.proofs.agents.named_agents.Goals as goal
+use Rattle.mt_match_file.specs.Agents.{agent_named, first_unknown}
+use Rattle.mt_match_file.proofs.AgentFacts.{known_more, named_more, unknown_here}
+use Rattle.mt_match_file.proofs.agents.agents_among.Goals as goal
 
 pub returns-in-None : goal.returns-in-None
 returns-in-None c =
