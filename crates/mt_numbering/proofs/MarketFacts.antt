@@ -1,9 +1,10 @@
 -- The steps from records to their market: what is registered, what stands among those that stay and those that leave,
 -- and the lists of those that stay by their own numbers.
-use Rattle.std.proofs.Common.{◌≡◌, ℕ, suc, ◌+◌, Bool, true, false, not, ◌&&◌, ◌||◌, List, [], ◌∷◌, length, get_or, Option, Some, None, refl, ap, ap₂, sym, subst, ◌∙◌, arith, cond, if◌then◌else◌}
+use Rattle.std.proofs.Common.{◌≡◌, ℕ, suc, ◌+◌, ◌<◌, ◌≤◌, ◌^◌, nat_lt, Bool, true, false, not, ◌&&◌, ◌||◌, List, [], ◌∷◌, length, get_or, Option, Some, None, refl, ap, ap₂, sym, subst, ◌∙◌, arith, cond, if◌then◌else◌}
 use Rattle.std.specs.Prelude.{filter, filter_map, flat_map, bytes_eq, MatchOption}
 use Rattle.std.specs.List.{list_all, cons_option}
-use Rattle.std.proofs.lemmas.Bool.{and_parts, and_from as both}
+use Rattle.std.proofs.lemmas.Bool.{and_parts, and_from as both, or_parts}
+use Rattle.std.proofs.lemmas.Bool.Decides.{nat_tests}
 use Rattle.std.proofs.lemmas.List.{length-map}
 use Rattle.std.proofs.lemmas.List.Sums.{length-filter, count_by-le-length}
 use Rattle.mt_terms.specs.Market.{Pair}
@@ -11,7 +12,9 @@ use Rattle.mt_terms.specs.Registration.Ids.{Bytes, has_id, number_of, numbers_of
 use Rattle.mt_terms.specs.Registration.Records.{Rules, Record, ProgramRecord, ApplicantRecord, CoupleRecord, WithdrawRecord, Kind, OfProgram, OfApplicant, OfCouple}
 use Rattle.mt_terms.specs.Registration.Numbering.{pairs_by_number}
 use Rattle.mt_terms.specs.Registration.Passes.{are_too_many}
-use Rattle.mt_terms.specs.Registration.Rows.{ids_of, applicant_ids, withdrawn, remaining}
+use Rattle.mt_terms.specs.Registration.Rows.{entry_count, ids_of, applicant_ids, withdrawn, remaining}
+use Rattle.mt_terms.specs.declared.limits.Limits.{Limits}
+use Rattle.mt_terms.specs.declared.limits.TheConstants.{LIMITS_2}
 use Rattle.mt_draft_laws.specs.Faultless.{ids_differ, withdrawals_stand, ranking_stands, list_stands, pair_stands, pairs_stand, is_faultless}
 use Rattle.mt_draft_laws.specs.Staying.{both_there, stays_without, flagged, new_numbers, program_flags, applicant_flags}
 use Rattle.mt_record_laws.proofs.IdFacts.{differ_parts, neither, itself, or_left, or_right, next_place}
@@ -21,7 +24,9 @@ use Rattle.mt_drafts.specs.declared.names.NameLists.{NameLists}
 use Rattle.mt_numbering.specs.declared.entries.Entries.{Entries}
 use Rattle.mt_records.specs.declared.record.Record.{Record as Checked}
 use Rattle.mt_ids.specs.declared.kinds.Kinds.{Kinds}
+use Rattle.mt_records.specs.Limits.{AreBounded}
 use Rattle.mt_records.specs.Records.{record_seen, all_seen}
+use Rattle.mt_numbering.specs.Withdrawals.{HaveFewApplicants, HaveFewPrograms}
 use Rattle.mt_drafts.specs.Names.{single_flags, AreNames}
 use Rattle.mt_numbering.specs.Markets.{AreIdsOfRecords, AreEntries, GivesEntries, Remains}
 use Rattle.mt_numbering.specs.Numbered.{program_lists, applicant_lists, couple_lists, ranking_in, lists_by, members_in, pairs_in}
@@ -331,3 +336,19 @@ stand_found given records None w e h is = cc
 stand_found given records (Some v) w e h is =
     let same : v ≡ w = cc in
     subst (λ (k : Kinds). Stand (all_seen records) k) same (subst (λ (xs : List Checked). Stand (all_seen xs) v) e h)
+
+below_limit : (limit most n : ℕ) → limit ≤ most → most < 2 ^ 31 → nat_lt limit n ≡ false → n < 2 ^ 31
+below_limit limit most n a b h = grind (arith, nat_tests)
+
+-- records that keep to limits have few programs and few applicants
+pub have_few : (limits : Limits) (rs : List Record) → AreBounded limits → are_too_many limits rs ≡ false → HaveFewPrograms rs × HaveFewApplicants rs
+have_few limits rs bounded few =
+    let programs = nat_lt limits.programs (length (ids_of OfProgram rs)) in
+    let couples = nat_lt limits.couples (length (ids_of OfCouple rs)) in
+    let applicants = nat_lt limits.applicants (length (applicant_ids rs)) in
+    let p = or_parts (applicants || programs || couples) (nat_lt limits.entries (entry_count rs)) few in
+    let q = or_parts (applicants || programs) couples p.0 in
+    let t = or_parts applicants programs q.0 in (
+      below_limit limits.programs LIMITS_2.programs (length (ids_of OfProgram rs)) bounded.programs (omega arith) t.1,
+      below_limit limits.applicants LIMITS_2.applicants (length (applicant_ids rs)) bounded.applicants (omega arith) t.0,
+    )

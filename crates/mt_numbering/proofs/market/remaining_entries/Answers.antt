@@ -3,11 +3,11 @@ use Rattle.mt_terms.specs.Registration.Ids.{has_id}
 use Rattle.mt_terms.specs.Registration.Records.{Rules}
 use Rattle.mt_terms.specs.Registration.Rows.{ids_of}
 use Rattle.mt_records.specs.declared.record.Record.{Record as Checked}
-use Rattle.mt_numbering.specs.Markets.{GivesEntries}
+use Rattle.mt_numbering.specs.Markets.{AreIdsOfRecords, GivesEntries}
 use Rattle.mt_records.specs.Records.{all_seen}
-use Rattle.mt_numbering.specs.Withdrawals.{stays_after}
+use Rattle.mt_numbering.specs.Withdrawals.{HaveFewApplicants, HaveFewPrograms, stays_after}
 use Rattle.mt_numbering.proofs.AcceptedFacts.{ids_found}
-use Rattle.mt_numbering.proofs.MarketFacts.{knows_ids, length-singles, remains, stand_found}
+use Rattle.mt_numbering.proofs.MarketFacts.{have_few, knows_ids, length-singles, remains, stand_found}
 use Rattle.mt_numbering.proofs.market.remaining_entries.Goals as goal
 
 pub withdrawn-requires-clause-long : goal.withdrawn-requires-clause-long
@@ -22,6 +22,21 @@ withdrawn-requires-clause-known g c = λ kind id.
     let are = ids_found rs c.args.names.now c.requires.names _ c.in-Some.ids c.in_ok-ids.ensures c.in-Some.is in
     knows_ids rs c.in-Some.ids are c.deref.result.now (c.deref.ensures.value ∙ c.requires.names.singles) kind id
     ∙ ap (λ (xs : List Checked). has_id (ids_of kind (all_seen xs)) id) (sym c.deref-2.ensures.value)
+
+pub entries_by_number-requires-clause-programs : goal.entries_by_number-requires-clause-programs
+entries_by_number-requires-clause-programs g c = λ κs within.
+    subst (λ (xs : List Checked). HaveFewPrograms (all_seen xs)) (sym c.deref-3.ensures.value)
+    (have_few c.args.rules.now.limits (all_seen c.args.records.now.items) c.requires.limits c.requires.few).0
+
+pub entries_by_number-requires-clause-applicants : goal.entries_by_number-requires-clause-applicants
+entries_by_number-requires-clause-applicants g c = λ κs within.
+    subst (λ (xs : List Checked). HaveFewApplicants (all_seen xs)) (sym c.deref-3.ensures.value)
+    (have_few c.args.rules.now.limits (all_seen c.args.records.now.items) c.requires.limits c.requires.few).1
+
+pub entries_by_number-requires-clause-ids : goal.entries_by_number-requires-clause-ids
+entries_by_number-requires-clause-ids g c = λ κs within.
+    subst (λ (xs : List Checked). AreIdsOfRecords (all_seen xs) c.in-Some.ids) (sym c.deref-3.ensures.value)
+    (ids_found (all_seen c.args.records.now.items) c.args.names.now c.requires.names _ c.in-Some.ids c.in_ok-ids.ensures c.in-Some.is)
 
 pub returns : goal.returns
 returns g c =
