@@ -1,5 +1,5 @@
 -- Sets of ids, as their words find them: what one id more changes.
-use Rattle.std.proofs.Common.{◌≡◌, not, ℕ, suc, ◌+◌, ◌<◌, ◌≤◌, Bool, true, false, ◌||◌, List, [], ◌∷◌, ◌++◌, length, position, Option, Some, None, is_some, refl, sym, ap, ◌∙◌, arith, map, Bor, cond, if◌then◌else◌, nat_eq}
+use Rattle.std.proofs.Common.{◌≡◌, not, ℕ, suc, ◌+◌, ◌<◌, ◌≤◌, Bool, true, false, ◌||◌, List, [], ◌∷◌, ◌++◌, length, position, Option, Some, None, is_some, Result, Ok, Err, OnErr, refl, sym, ap, ◌∙◌, arith, map, Bor, cond, if◌then◌else◌, nat_eq}
 use Rattle.std.specs.Prelude.{bytes_eq}
 use Rattle.std.specs.List.{list_any, position_from}
 use Rattle.std.proofs.lemmas.Bool.{false_from_ne_true}
@@ -80,6 +80,19 @@ longer_differs x y n h k = false_from_ne_true _ (λ t. let e = ap length (same_i
 
 shorter_differs : (x y : Bytes) (n : ℕ) → length y ≤ n → n < length x → bytes_eq x y ≡ false
 shorter_differs x y n h k = false_from_ne_true _ (λ t. let e = ap length (same_id x y t) in omega (arith, e))
+
+-- what a refused growth leaves
+pub kept : (held items : List (Bor Bytes)) (words keys : List ℕ) (by_pair by_pair' : ℕ × ℕ → Option ℕ) (by_bytes by_bytes' : Bytes → Option ℕ) → FindsIds (ids_of held) words by_pair by_bytes
+    → items ≡ held → keys ≡ words → by_pair' ≡ by_pair → by_bytes' ≡ by_bytes → FindsIds (ids_of items) keys by_pair' by_bytes'
+kept held items words keys p p' b b' finds i k e f = rw (i, k, e, f) finds
+
+pub none_yet : FindsIds [] [] (λ pair. None) (λ id. None)
+none_yet = record { as_many = refl; unused = λ place m. refl; short = λ id b m. refl; middle = λ id b m m'. refl; long = λ id m. refl }
+
+-- what is so of any end is so of an error
+pub on_err : {T E : Type 0} (r : Result T E) {X : Type 0} → X → OnErr r X
+on_err (Ok v) x = tt
+on_err (Err e) x = x
 
 module _ (ids : List Bytes) (words : List ℕ) (by_pair : ℕ × ℕ → Option ℕ) (by_bytes : Bytes → Option ℕ) (finds : FindsIds ids words by_pair by_bytes)
     (x : Bytes) where

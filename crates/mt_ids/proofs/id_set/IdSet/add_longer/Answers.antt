@@ -1,13 +1,15 @@
-use Rattle.std.proofs.Common.{◌≡◌, ◌∙◌, List, [], ◌∷◌, ◌++◌, Bor, not, false, true, ap, sym, subst₂, is_some, position, arith, cond, Some, ap₂}
+use Rattle.std.proofs.Common.{◌≡◌, refl, ◌∙◌, List, [], ◌∷◌, ◌++◌, Bor, not, false, true, ap, sym, subst₂, is_some, position, arith, cond, Some, ap₂}
 use Rattle.std.proofs.lemmas.List.{length-map}
 use Rattle.indexmap.specs.IndexMap.{get_by}
-use Rattle.indexmap.specs.IndexSet.{spare}
+use Rattle.std.specs.Map.{lookup}
+use Rattle.indexmap.specs.IndexSet.{spare, hasher_of}
 use Rattle.mt_ids.specs.declared.id_set.IdSet.TheInside.{Inside}
 use Rattle.std.specs.Prelude.{bytes_eq}
+use Rattle.std.specs.Vec.{vec_len, vec_capacity}
 use Rattle.mt_terms.specs.Registration.Ids.{Bytes, has_id}
 use Rattle.mt_ids.specs.Sets.{SeededIds, FindsIds}
 use Rattle.mt_ids.specs.Words.{pair_eq}
-use Rattle.mt_ids.proofs.SetFacts.{ids_of, ids_with, with_middle, with_long, with_place, with_new, with_old, is_some-position}
+use Rattle.mt_ids.proofs.SetFacts.{ids_of, ids_with, with_middle, with_long, with_place, with_new, with_old, is_some-position, kept, on_err}
 use Rattle.mt_ids.proofs.id_set.IdSet.add_longer.Goals.{then-id-le-MOST_IN_PAIR+in_ok-insert, else-id-le-MOST_IN_PAIR+in_ok-insert-2}
 use Rattle.mt_ids.proofs.id_set.IdSet.add_longer.Goals as goal
 
@@ -79,3 +81,79 @@ returns-clause-ids c =
       | else-id-le-MOST_IN_PAIR+in_ok-insert-2 w ↦ ap (λ (s : Inside). s.ids.items) w.self-inside-is ∙ c.in_ok-reserve.ensures.items
     ] in
     ids_with c.self.inside.ids.items _ _ id same c.push_reserved.ensures.items ∙ ap (λ (s : SeededIds). s.ids ++ id.now ∷ []) c.self.view_is ∙ with_new c.args.self.now.ids id.now new
+
+pub invariant_of-self : goal.invariant_of-self
+invariant_of-self c = kept c.self.inside.ids.items _ _ _ _ _ _ _ c.self.invariant c.in_err-reserve.ensures.items refl refl refl
+
+pub invariant_of-self-in_err-reserve-2 : goal.invariant_of-self-in_err-reserve-2
+invariant_of-self-in_err-reserve-2 c = kept c.self.inside.ids.items _ _ _ _ _ _ _ c.self.invariant c.in_ok-reserve.ensures.items c.in_err-reserve-2.ensures.keys refl refl
+
+pub returns-in_err-reserve-clause-err : goal.returns-in_err-reserve-clause-err
+returns-in_err-reserve-clause-err c = on_err c.from_residual.result (ap ids_of c.in_err-reserve.ensures.items ∙ ap (λ (s : SeededIds). s.ids) c.self.view_is)
+
+pub returns-in_err-reserve-clause-seed : goal.returns-in_err-reserve-clause-seed
+returns-in_err-reserve-clause-seed c = ap (λ (s : SeededIds). s.seed) c.self.view_is
+
+pub push_reserved-requires : goal.push_reserved-requires
+push_reserved-requires c =
+    let r = c.in_ok-reserve.ensures in
+    elim c.if-id-le-MOST_IN_PAIR.branch [
+      | then-id-le-MOST_IN_PAIR+in_ok-insert w ↦ omega (arith, r.len, r.ok, r.capacity, ap (λ (s : Inside). vec_len s.ids) w.self-inside-is, ap (λ (s : Inside). vec_capacity s.ids) w.self-inside-is)
+      | else-id-le-MOST_IN_PAIR+in_ok-insert-2 w ↦ omega (arith, r.len, r.ok, r.capacity, ap (λ (s : Inside). vec_len s.ids) w.self-inside-is, ap (λ (s : Inside). vec_capacity s.ids) w.self-inside-is)
+    ]
+
+pub place_word-requires : goal.place_word-requires
+place_word-requires c = omega (arith, c.len-place.ensures, c.self.inside.ids.ok, c.self.inside.ids.small)
+
+pub invariant_of-self-in_err-insert : goal.invariant_of-self-in_err-insert
+invariant_of-self-in_err-insert c =
+    kept c.self.inside.ids.items _ _ _ _ _ _ _ c.self.invariant c.in_ok-reserve.ensures.items c.in_ok-reserve-2.ensures.keys (ap (λ es. λ pair. lookup (pair_eq pair) es) c.in_err-insert.ensures.err) refl
+
+pub invariant_of-self-in_err-insert-2 : goal.invariant_of-self-in_err-insert-2
+invariant_of-self-in_err-insert-2 c =
+    kept c.self.inside.ids.items _ _ _ _ _ _ _ c.self.invariant c.in_ok-reserve.ensures.items c.in_ok-reserve-2.ensures.keys refl (ap (λ es. λ id. lookup (λ (key : Bor Bytes). bytes_eq id key.now) es) c.in_err-insert-2.ensures.err)
+
+pub returns-in_err-insert-clause-err : goal.returns-in_err-insert-clause-err
+returns-in_err-insert-clause-err c = on_err c.from_residual-in_err-insert.result (ap ids_of c.in_ok-reserve.ensures.items ∙ ap (λ (s : SeededIds). s.ids) c.self.view_is)
+
+pub returns-in_err-insert-clause-seed : goal.returns-in_err-insert-clause-seed
+returns-in_err-insert-clause-seed c = c.in_ok-reserve-2.ensures.room.1 ∙ ap (λ (s : SeededIds). s.seed) c.self.view_is
+
+pub returns-in_err-insert-2-clause-err : goal.returns-in_err-insert-2-clause-err
+returns-in_err-insert-2-clause-err c = on_err c.from_residual-in_err-insert-2.result (ap ids_of c.in_ok-reserve.ensures.items ∙ ap (λ (s : SeededIds). s.ids) c.self.view_is)
+
+pub returns-in_err-insert-2-clause-seed : goal.returns-in_err-insert-2-clause-seed
+returns-in_err-insert-2-clause-seed c = c.in_ok-reserve-2.ensures.room.1 ∙ ap (λ (s : SeededIds). s.seed) c.self.view_is
+
+pub returns-in_err-reserve-2-clause-err : goal.returns-in_err-reserve-2-clause-err
+returns-in_err-reserve-2-clause-err c = on_err c.from_residual-in_err-reserve-2.result (ap ids_of c.in_ok-reserve.ensures.items ∙ ap (λ (s : SeededIds). s.ids) c.self.view_is)
+
+pub returns-in_err-reserve-2-clause-seed : goal.returns-in_err-reserve-2-clause-seed
+returns-in_err-reserve-2-clause-seed c = c.in_err-reserve-2.ensures.room.1 ∙ ap (λ (s : SeededIds). s.seed) c.self.view_is
+
+same_words : (c : goal.After-from_residual-in_err-insert-3) → c.if-id-le-MOST_IN_PAIR.self-inside.ids.items ≡ c.self.inside.ids.items
+same_words c = elim c.if-id-le-MOST_IN_PAIR.branch [
+  | then-id-le-MOST_IN_PAIR+in_ok-insert w ↦ ap (λ (s : Inside). s.ids.items) w.self-inside-is ∙ c.in_ok-reserve.ensures.items
+  | else-id-le-MOST_IN_PAIR+in_ok-insert-2 w ↦ ap (λ (s : Inside). s.ids.items) w.self-inside-is ∙ c.in_ok-reserve.ensures.items
+]
+
+pub returns-in_err-insert-3-clause-err : goal.returns-in_err-insert-3-clause-err
+returns-in_err-insert-3-clause-err c = on_err c.from_residual-in_err-insert-3.result (ap ids_of (same_words c) ∙ ap (λ (s : SeededIds). s.ids) c.self.view_is)
+
+pub returns-in_err-insert-3-clause-seed : goal.returns-in_err-insert-3-clause-seed
+returns-in_err-insert-3-clause-seed c =
+    let h = c.in_err-insert-3.ensures.hasher in
+    let kept : hasher_of c.if-id-le-MOST_IN_PAIR.self-inside.words ≡ hasher_of c.reserve-2.new.self = elim c.if-id-le-MOST_IN_PAIR.branch [
+      | then-id-le-MOST_IN_PAIR+in_ok-insert w ↦ ap (λ (s : Inside). hasher_of s.words) w.self-inside-is
+      | else-id-le-MOST_IN_PAIR+in_ok-insert-2 w ↦ ap (λ (s : Inside). hasher_of s.words) w.self-inside-is
+    ] in
+    h ∙ kept ∙ c.in_ok-reserve-2.ensures.room.1 ∙ ap (λ (s : SeededIds). s.seed) c.self.view_is
+
+pub returns-clause-seed : goal.returns-clause-seed
+returns-clause-seed c =
+    let h = c.in_ok-insert-3.ensures.hasher in
+    let kept : hasher_of c.if-id-le-MOST_IN_PAIR.self-inside.words ≡ hasher_of c.reserve-2.new.self = elim c.if-id-le-MOST_IN_PAIR.branch [
+      | then-id-le-MOST_IN_PAIR+in_ok-insert w ↦ ap (λ (s : Inside). hasher_of s.words) w.self-inside-is
+      | else-id-le-MOST_IN_PAIR+in_ok-insert-2 w ↦ ap (λ (s : Inside). hasher_of s.words) w.self-inside-is
+    ] in
+    h ∙ kept ∙ c.in_ok-reserve-2.ensures.room.1 ∙ ap (λ (s : SeededIds). s.seed) c.self.view_is
