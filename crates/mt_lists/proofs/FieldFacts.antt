@@ -6,6 +6,7 @@ use Rattle.std.proofs.Math.Seq.{take-length}
 use Rattle.std.proofs.lemmas.Bool.{cases_Bool, eqb-true, or_parts}
 use Rattle.std.proofs.lemmas.Bool.Decides.{nat_tests}
 use Rattle.std.proofs.lemmas.List.Recursion.{is_count_by}
+use Rattle.std.proofs.lemmas.List.Sums.{count_by-le-length, sum_by-take-drop}
 use Rattle.std.proofs.lemmas.List.{append-nil, drop_more, reverse-append, take-append-drop, take-append-le}
 use Rattle.mt_lists.specs.Lines.{fields_of_line, fields_of_trimmed, is_comma, split_from}
 use Rattle.mt_lists.specs.Records.{is_empty_field, without_trailing_empty}
@@ -175,3 +176,11 @@ next-comma c rest = elim (cases_Bool (c == 44)) [
 
 pub fields-count : (line : List ℕ) → count_by (is_byte 44) line + 1 ≡ length (fields_of_line line)
 fields-count line = omega (arith, is_count_by commas_in (is_byte 44) no-comma next-comma line, some-field line)
+
+-- a line in two parts has the commas of both
+pub commas-parts : (line front rest : List ℕ) (n : ℕ) → front ≡ take n line → rest ≡ drop n line → count_by (is_byte 44) front + count_by (is_byte 44) rest ≡ count_by (is_byte 44) line
+commas-parts line front rest n first last = rw (first, last) (sum_by-take-drop (λ b. cond (is_byte 44 b) 1 0) line n)
+
+-- and no more than bytes
+pub commas-few : (line : List ℕ) → count_by (is_byte 44) line ≤ length line
+commas-few line = count_by-le-length (is_byte 44) line

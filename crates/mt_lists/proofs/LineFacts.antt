@@ -4,6 +4,7 @@ use Rattle.std.specs.List.{list_any}
 use Rattle.std.proofs.Math.Seq.{take-length}
 use Rattle.std.proofs.lemmas.Bool.{cases_Bool, false_from_ne_true, or_parts}
 use Rattle.std.proofs.lemmas.Bool.Decides.{nat_tests}
+use Rattle.std.proofs.lemmas.List.Folds.{list_any-append}
 use Rattle.std.proofs.lemmas.List.{append-nil, drop_more, length-map, take-append-drop}
 use Rattle.csv.specs.declared.parser.State.TheVariants as st
 use Rattle.csv.specs.Reading.{default_config, records}
@@ -199,3 +200,9 @@ rows-nothing (c ∷ rest) none = absurd (omega (arith, none))
 pub rows-within : (text : List ℕ) → length (rows_of text) ≤ length text
 unfolding rows_of
 rows-within text = rw (length-map (records default_config text) without_trailing_empty) (records-within text)
+
+-- what no byte of a text is, no byte of its end is
+pub none_after : (p : ℕ → Bool) (n : ℕ) (text rest : List ℕ) → rest ≡ drop n text → list_any p text ≡ false → list_any p rest ≡ false
+none_after p n text rest is none =
+    let parts = sym (list_any-append p (take n text) (drop n text)) ∙ ap (list_any p) (take-append-drop n text) ∙ none in
+    ap (list_any p) is ∙ (or_parts _ _ parts).1

@@ -1,8 +1,9 @@
 -- The fields of a row by their places, and those that stay without the empty ones at its end.
-use Rattle.std.proofs.Common.{◌≡◌, ◌≤◌, ◌<◌, ◌-◌, ℕ, zero, suc, List, [], ◌∷◌, length, get_or, slice_get, take, true, false, Option, Some, None, Bor, refl, arith, rules}
+use Rattle.std.proofs.Common.{◌≡◌, ◌≤◌, ◌<◌, ◌-◌, ℕ, zero, suc, List, [], ◌∷◌, ◌++◌, ◌+◌, length, get_or, slice_get, take, true, false, Option, Some, None, Bor, refl, sym, arith, rules}
 use Rattle.std.specs.Option.{IsSome, option_copied}
 use Rattle.std.proofs.lemmas.Option.{slice_get-get_or}
 use Rattle.std.specs.List.{suffix_len}
+use Rattle.std.proofs.lemmas.List.{take_more}
 use Rattle.std.proofs.lemmas.List.Sums.{suffix_len_is}
 use Rattle.csv.specs.Records.{field_at}
 use Rattle.mt_lists.specs.Records.{is_empty_field, without_trailing_empty}
@@ -28,3 +29,8 @@ kept_are fields n le empty last =
 pub field_there : (fields : List (List ℕ)) (i : ℕ) (found : Option (Bor (List ℕ))) → option_copied found ≡ slice_get fields i → i < length fields → IsSome found
 field_there fields i None e lt = absurd (cc (slice_get-get_or fields i [] lt))
 field_there fields i (Some field) e lt = search rules
+
+-- one field more
+pub row_more : (fields row new : List (List ℕ)) (field : List ℕ) (i : ℕ) → i < length fields → row ≡ take i fields → field ≡ get_or fields i [] → new ≡ row ++ field ∷ []
+    → new ≡ take (i + 1) fields
+row_more fields row new field i within so_far is more = rw (more, so_far, is) (sym (take_more fields i [] within))

@@ -1,4 +1,4 @@
-use Rattle.std.proofs.Common.{◌≡◌, ◌∙◌, ◌++◌, ◌∷◌, [], true, rules, inr, arith}
+use Rattle.std.proofs.Common.{◌≡◌, ◌∙◌, ◌++◌, ◌∷◌, [], true, inr, sym, ap, arith}
 use Rattle.std.specs.Result.{is_ok}
 use Rattle.csv.specs.Records.{fields_of}
 use Rattle.mt_lists.specs.Records.{without_trailing_empty}
@@ -29,7 +29,7 @@ loop-rows-preserved c =
     let read = c.in_ok-read_record.ensures in
     let trimmed = was_ok _ _ _ _ c.map_err.ensures.cases c.map_err.ensures.variant c.in_ok-row.was in
     let row : c.in_ok-row.row ≡ without_trailing_empty (fields_of c.read_record.new.raw) = rw trimmed at c.trimmed_row.ensures in
-    let good : is_ok c.push.result ≡ true = search rules in
+    let good : is_ok c.push.result ≡ true = sym c.map_err-in-loop-rows.ensures.variant ∙ ap is_ok c.in_ok-map_err.was in
     let items : c.push.new.self.items ≡ c.loop-rows.rows.items ++ without_trailing_empty (fields_of c.read_record.new.raw) ∷ [] = rw (good, row) at c.push.ensures.items in
     rw items ((one_row_more c.args.text.now c.loop-rows.reader c.read_record.new.reader c.loop-rows.rows.items _ c.loop-rows.invariant (rw c.if-branch.true at read.reads) read.first read.still_flexible).0)
 
@@ -39,3 +39,9 @@ returns-clause-rows c =
 
 pub returns-in_err-map_err-clause-memory : goal.returns-in_err-map_err-clause-memory
 returns-in_err-map_err-clause-memory c = grind arith
+
+pub read_record-requires-clause-plain : goal.read_record-requires-clause-plain
+read_record-requires-clause-plain c = c.loop-rows.invariant.trim
+
+pub read_record-requires-clause-ready : goal.read_record-requires-clause-ready
+read_record-requires-clause-ready c = c.loop-rows.invariant.ready

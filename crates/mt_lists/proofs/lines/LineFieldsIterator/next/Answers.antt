@@ -22,3 +22,17 @@ pub returns-in-None-clause-goes : goal.returns-in-None-clause-goes
 returns-in-None-clause-goes c =
     let steps : line_fields_left c.args.self.now ≡ c.in_ok-rest.rest.now ∷ [] = returns-in-None-clause-steps c in
     record { on = λ finite. (tt, tt, field-fewer _ _ _ steps); keeps = tt; rests = λ finite. tt }
+
+pub split_at-requires : goal.split_at-requires
+split_at-requires c = omega (arith, c.in-Some.ensures.0.high)
+
+pub overflow_add-at : goal.overflow_add-at
+overflow_add-at c = omega (arith, c.in-Some.ensures.0.high)
+
+pub split_at-requires-in-Some : goal.split_at-requires-in-Some
+split_at-requires-in-Some c = omega (arith, c.in-Some.ensures.0.high)
+
+pub returns-in_err-rest-clause-steps : goal.returns-in_err-rest-clause-steps
+returns-in_err-rest-clause-steps c =
+    let none = ap fields_in c.in_err-rest.was in
+    rw c.from_residual.ensures (none, none)
