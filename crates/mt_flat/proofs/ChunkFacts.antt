@@ -1,9 +1,9 @@
 -- What the places of lists in chunks say of them.
-use Rattle.std.proofs.Common.{◌≡◌, ℕ, zero, suc, ◌+◌, ◌<◌, ◌≤◌, List, [], ◌∷◌, ◌++◌, map, take, length, get_or, refl, sym, ap, ap₂, subst, ◌∙◌, arith}
+use Rattle.std.proofs.Common.{◌≡◌, ℕ, zero, suc, ◌+◌, ◌<◌, ◌≤◌, List, [], ◌∷◌, ◌++◌, map, take, length, get_or, refl, sym, ap, ap₂, subst, subst₂, ◌∙◌, arith}
 use Rattle.std.specs.Prelude.{All}
 use Rattle.std.proofs.Math.Seq.{take-suc}
-use Rattle.std.proofs.lemmas.List.{get_or_append_left, get_or_push, length_push, map-append, take_all}
-use Rattle.std.proofs.lemmas.List.Elements.{All-append, All-head, All-nil, All-push, All-tail, All-weaker}
+use Rattle.std.proofs.lemmas.List.{get_or-map, get_or_append_left, get_or_push, get_or_read, length-map, length_push, map-append, take_all}
+use Rattle.std.proofs.lemmas.List.Elements.{All-append, All-get_or, All-head, All-nil, All-push, All-tail, All-weaker}
 use Rattle.mt_flat.specs.ChunkedLists.{list_at, places_of, IsWithin}
 use Rattle.mt_flat.specs.declared.chunked_lists.Place.{Place}
 
@@ -25,7 +25,7 @@ module _ {X : Type 0} (chunks : List (List (List X))) (chunk : List (List X)) wh
   place_kept : (p : Place) → IsWithin chunks p → IsWithin more p
   place_kept p h = (omega (arith, length_push chunks chunk, h.0), subst (λ c. p.number < length c) (sym (at_old p.chunk h.0)) h.1)
 
-  pub places_kept : (places : List Place) → All (IsWithin chunks) places → All (IsWithin more) places
+  places_kept : (places : List Place) → All (IsWithin chunks) places → All (IsWithin more) places
   places_kept places h = All-weaker (IsWithin chunks) (IsWithin more) place_kept places h
 
   pub lists_kept : (places : List Place) → All (IsWithin chunks) places → map (list_at more) places ≡ map (list_at chunks) places
@@ -50,11 +50,46 @@ module _ {X : Type 0} (chunks : List (List (List X))) (chunk : List (List X)) wh
       ∙ sym (take-suc chunk n [] (omega arith))
 
   -- Below, the places of all its lists are added.
-  pub places_more : (places : List Place) → All (IsWithin chunks) places → All (IsWithin more) (places ++ places_of (length chunks) (length chunk))
+  places_more : (places : List Place) → All (IsWithin chunks) places → All (IsWithin more) (places ++ places_of (length chunks) (length chunk))
   places_more places h =
       All-append (IsWithin more) places (places_of (length chunks) (length chunk)) (places_kept places h) (new_within (length chunk) (omega arith))
 
-  pub lists_more : (places : List Place) → All (IsWithin chunks) places → map (list_at more) (places ++ places_of (length chunks) (length chunk)) ≡ map (list_at chunks) places ++ chunk
+  lists_more : (places : List Place) → All (IsWithin chunks) places → map (list_at more) (places ++ places_of (length chunks) (length chunk)) ≡ map (list_at chunks) places ++ chunk
   lists_more places h =
       map-append (list_at more) places (places_of (length chunks) (length chunk))
       ∙ ap₂ (λ (old : List (List X)) (new : List (List X)). old ++ new) (lists_kept places h) (new_lists (length chunk) (omega arith) ∙ take_all (length chunk) chunk (omega arith))
+
+  pub places_after : (places all : List Place) (cs : List (List (List X))) → All (IsWithin chunks) places → all ≡ places ++ places_of (length chunks) (length chunk) → cs ≡ more → All (IsWithin cs) all
+  places_after places all cs h added pushed = subst₂ (λ (ks : List (List (List X))) ps. All (IsWithin ks) ps) (sym pushed) (sym added) (places_more places h)
+
+  pub lists_after : (places all : List Place) (cs : List (List (List X))) (lists : List (List X)) → All (IsWithin chunks) places → all ≡ places ++ places_of (length chunks) (length chunk) → cs ≡ more
+      → map (list_at chunks) places ≡ lists → map (list_at cs) all ≡ lists ++ chunk
+  lists_after places all cs lists h added pushed are =
+      ap₂ (λ (ks : List (List (List X))) ps. map (list_at ks) ps) pushed added ∙ lists_more places h ∙ ap (λ (ls : List (List X)). ls ++ chunk) are
+
+  pub places_before : (places all : List Place) (cs : List (List (List X))) → All (IsWithin chunks) places → all ≡ places → cs ≡ more → All (IsWithin cs) all
+  places_before places all cs h same pushed = subst₂ (λ (ks : List (List (List X))) ps. All (IsWithin ks) ps) (sym pushed) (sym same) (places_kept places h)
+
+-- Below, the list of a number is looked up by its place.
+module _ {X : Type 0} (chunks : List (List (List X))) (places : List Place) (lists : List (List X)) (are : map (list_at chunks) places ≡ lists) where
+  pub list_count : length places ≡ length lists
+  list_count = sym (length-map places (list_at chunks)) ∙ ap (λ (ls : List (List X)). length ls) are
+
+  module _ (within : All (IsWithin chunks) places) (k : ℕ) (low : k < length lists) (p : Place) (is : p ≡ get_or places k p) where
+    low_place : k < length places
+    low_place = omega (arith, list_count)
+
+    pub place_within : IsWithin chunks p
+    place_within = subst (IsWithin chunks) (sym is) (All-get_or (IsWithin chunks) places k p low_place within)
+
+    module _ (chunk : List (List X)) (is_chunk : chunk ≡ get_or chunks p.chunk chunk) where
+      chunk_is : chunk ≡ get_or chunks p.chunk []
+      chunk_is = get_or_read chunks p.chunk chunk place_within.0 is_chunk []
+
+      pub number_within : p.number < length chunk
+      number_within = subst (λ (c : List (List X)). p.number < length c) (sym chunk_is) place_within.1
+
+      pub list_is : get_or chunk p.number [] ≡ get_or lists k []
+      list_is =
+          ap (λ (c : List (List X)). get_or c p.number []) chunk_is ∙ ap (list_at chunks) is
+          ∙ sym (get_or-map (list_at chunks) places k p [] low_place) ∙ ap (λ (ls : List (List X)). get_or ls k []) are

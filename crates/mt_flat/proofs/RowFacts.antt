@@ -1,9 +1,9 @@
 -- GrowingLists in one list, as elements and spans change.
-use Rattle.std.proofs.Common.{◌≡◌, ◌≢◌, ◌∙◌, ℕ, zero, suc, ◌+◌, ◌-◌, ◌<◌, ◌≤◌, ◌⊎◌, inl, inr, List, [], ◌∷◌, ◌++◌, map, take, drop, length, get_or, set, refl, ap, sym, subst, arith, length-append, Result, Ok, Err, OnErr}
+use Rattle.std.proofs.Common.{◌≡◌, ◌≢◌, ◌∙◌, ℕ, zero, suc, ◌+◌, ◌-◌, ◌<◌, ◌≤◌, ◌⊎◌, inl, inr, List, [], ◌∷◌, ◌++◌, map, take, drop, length, get_or, set, refl, ap, ap₂, sym, subst, arith, length-append, replicate, Result, Ok, Err, OnErr}
 use Rattle.std.specs.Prelude.{slice_range}
 use Rattle.std.proofs.lemmas.Bool.{cases_eq, cases_lt}
 use Rattle.std.proofs.lemmas.Grind.{common_steps}
-use Rattle.std.proofs.lemmas.List.{drop_at, drop-set-add, drop-set-lt, get_or-map, get_or-set_other, get_or-set_same, get_or_append_left, get_or_push, length-map, length-set, length_push, same_lists, take-set-le}
+use Rattle.std.proofs.lemmas.List.{drop_at, drop-set-add, drop-set-lt, get_or-map, get_or-set_other, get_or-set_same, get_or_append_left, get_or_push, length-map, length-set, length_push, map_push, same_lists, take_all, take-set-le}
 use Rattle.std.proofs.lemmas.List.Edits.{between_more}
 use Rattle.std.proofs.lemmas.Slice.{between_to_end}
 use Rattle.mt_flat.specs.GrowingLists.{row_in, span_at, AreApart, AreSpans, IsSpan}
@@ -168,3 +168,59 @@ spans_more n m spans w are behind is = record {
 
     at_end : (j : ℕ) → j < length (spans ++ w ∷ []) → length spans ≤ j → span_at (spans ++ w ∷ []) j ≡ w
     at_end j h high = get_or_push spans w _ j (omega (arith, length_push spans w))
+
+-- copies of an element were added
+pub resized : {X : Type 0} (xs ys : List X) (x : X) (size end count : ℕ) → ys ≡ take end xs ++ replicate (end - size) x → size ≡ length xs → end ≡ size + count → ys ≡ xs ++ replicate count x
+resized {X} xs ys x size end count is size_is end_is =
+    let many : end - size ≡ count = omega arith in
+    is ∙ ap₂ (λ (zs : List X) n. zs ++ replicate n x) (take_all end xs (omega arith)) many
+
+-- Below, elements were added behind all rows.
+module _ {X : Type 0} (xs new ys : List X) (spans : List Span) (are : AreSpans (length xs) spans) (is : ys ≡ xs ++ new) where
+  pub row_more : (j : ℕ) → j < length spans → row_in ys (span_at spans j) ≡ row_in xs (span_at spans j)
+  row_more j h =
+      let here = are.each j h in
+      ap (λ zs. row_in zs (span_at spans j)) is
+      ∙ range_append xs new (span_at spans j).start (span_at spans j).end here.ordered (let a = here.roomy in let b = here.within in omega arith)
+
+  rows_more : map (row_in ys) spans ≡ map (row_in xs) spans
+  rows_more = rows_kept xs ys spans row_more
+
+  pub rows_as_before : (all : List Span) (rows : List (List X)) → map (row_in xs) spans ≡ rows → all ≡ spans → map (row_in ys) all ≡ rows
+  rows_as_before all rows seen same = ap (map (row_in ys)) same ∙ rows_more ∙ seen
+
+  -- They are a row of their own.
+  pub row_pushed : (w : Span) (all : List Span) (rows : List (List X)) → map (row_in xs) spans ≡ rows → all ≡ spans ++ w ∷ [] → w.start ≡ length xs → w.end ≡ length ys
+      → map (row_in ys) all ≡ rows ++ new ∷ []
+  row_pushed w all rows seen more start end =
+      ap (map (row_in ys)) more ∙ map_push (row_in ys) spans w
+      ∙ ap₂ (λ (rs : List (List X)) (r : List X). rs ++ r ∷ []) (rows_more ∙ seen) (ap (λ zs. row_in zs w) is ∙ range_last xs new w.start w.end start (end ∙ ap length is))
+
+  more : length xs ≤ length ys
+  more = omega (arith, ap length is, length-append xs new)
+
+  pub spans_as_before : (all : List Span) → all ≡ spans → AreSpans (length ys) all
+  spans_as_before all same = subst (AreSpans (length ys)) (sym same) (spans_grown (length xs) (length ys) spans are more)
+
+  pub spans_pushed : (w : Span) (all : List Span) → all ≡ spans ++ w ∷ [] → w.start ≡ length xs → w.end ≡ length ys → w.limit ≡ w.end → AreSpans (length ys) all
+  spans_pushed w all added start end limit =
+      subst (AreSpans (length ys)) (sym added)
+      (spans_more (length xs) (length ys) spans w are (omega arith) (record { ordered = omega (arith, more); roomy = omega arith; within = omega arith }))
+
+-- a row within its room has one element more
+pub row_grown : {X : Type 0} (xs : List X) (spans : List Span) (rows : List (List X)) (k : ℕ) (x : X) (old w : Span) (end : ℕ)
+    → map (row_in xs) spans ≡ rows → AreSpans (length xs) spans → k < length spans → old ≡ span_at spans k → w ≡ span_at spans k → old.end < old.limit → end ≡ old.end + 1
+    → map (row_in (set xs old.end x)) (set spans k (record { start = w.start; end = end; limit = w.limit })) ≡ set rows k (get_or rows k [] ++ x ∷ [])
+row_grown {X} xs spans rows k x old w end seen are many read again room next =
+    let is = are.each k many in
+    let row = get_or rows k [] ++ x ∷ [] in
+    let row_is : get_or rows k [] ≡ row_in xs old = sym (ap (λ (rs : List (List X)). get_or rs k []) seen) ∙ row_at xs spans k many ∙ ap (row_in xs) (sym read) in
+    let low : (span_at spans k).start ≤ old.end = omega (arith, is.ordered, ap Span.end read) in
+    let high : old.end < (span_at spans k).limit = omega (arith, ap Span.limit read) in
+    ap (λ n. map (row_in (set xs old.end x)) (set spans k (record { start = w.start; end = n; limit = w.limit }))) next
+    ∙ ap (λ (v : Span). map (row_in (set xs old.end x)) (set spans k (record { start = v.start; end = old.end + 1; limit = v.limit }))) (again ∙ sym read)
+    ∙ rows_changed xs (set xs old.end x) spans k (record { start = old.start; end = old.end + 1; limit = old.limit }) row many
+    (range_push xs x old.start old.end (omega (arith, ap Span.start read)) (omega (arith, is.within)) ∙ ap (λ r. r ++ x ∷ []) (sym row_is))
+    (λ j h ne.
+    range_set_other xs old.end x (span_at spans j).start (span_at spans j).end (are.each j h).ordered (clear_of (length xs) spans j k old.end are h many ne low high))
+    ∙ ap (λ (rs : List (List X)). set rs k row) seen

@@ -1,5 +1,5 @@
-use Rattle.std.proofs.Common.{◌≡◌, ◌∙◌, ℕ, ◌-◌, ◌≤◌, List, ◌∷◌, [], ◌++◌, append_assoc, ap, arith, length, length-append, replicate, take}
-use Rattle.std.proofs.lemmas.List.{take_all}
+use Rattle.std.proofs.Common.{◌≡◌, ◌∙◌, ℕ, ◌+◌, ◌<◌, ◌≤◌, min, List, ◌∷◌, [], ◌++◌, append_assoc, ap, arith, length, length-append, sym, take}
+use Rattle.std.proofs.lemmas.List.{append-nil, take_all}
 use Rattle.mt_flat.specs.GrowingLists.{row_in, Extends, IsMoved}
 use Rattle.mt_flat.specs.declared.growing_lists.Span.{Span}
 use Rattle.mt_flat.proofs.RowFacts.{range_end}
@@ -51,26 +51,37 @@ returns-in_err-resize-clause-keeps g c = record {
       ∙ added c.args.items.now.items (row_in c.args.items.now.items c.args.span) c.extend_from_within.new.self.items c.push.new.self.items c.args.item c.in_ok-extend_from_within.ensures.items c.in_ok-push.ensures.items;
 }
 
+-- the limit is no less than what is there
+enough : {X : Type 0} → (zs : List X) (size end room limit : ℕ) → size ≡ length zs → end ≡ size → end < 18446744073709551616 → limit ≡ min (end + room) 18446744073709551615 → length zs ≤ limit
+enough zs size end room limit size_is end_is low limit_is = omega arith
+
+with_row : (g : _) (c : goal.In_ok-resize g) → c.push.new.self.items ≡ c.args.items.now.items ++ (row_in c.args.items.now.items c.args.span ++ c.args.item ∷ [])
+with_row g c =
+    added c.args.items.now.items (row_in c.args.items.now.items c.args.span) c.extend_from_within.new.self.items c.push.new.self.items c.args.item c.in_ok-extend_from_within.ensures.items c.in_ok-push.ensures.items
+
+fits : (g : _) (c : goal.In_ok-resize g) → length c.push.new.self.items ≤ c.saturating_add-limit.result
+fits g c =
+    enough c.push.new.self.items c.push.new.self.len c.len-end.result c.max.result c.saturating_add-limit.result c.push.new.self.ok.0 c.len-end.ensures c.len-end.type_inv c.saturating_add-limit.ensures
+
 pub returns-clause-keeps : goal.returns-clause-keeps
 returns-clause-keeps g c =
-    let xs = c.args.items.now.items in
-    let zs = c.push.new.self.items in
-    let more = replicate (c.saturating_add-limit.result - c.push.new.self.len) c.args.item in
-    let row = row_in xs c.args.span ++ c.args.item ∷ [] in
-    let is : zs ≡ xs ++ row = added xs (row_in xs c.args.span) c.extend_from_within.new.self.items zs c.args.item c.in_ok-extend_from_within.ensures.items c.in_ok-push.ensures.items in
-    let resized : c.resize.new.self.items ≡ take c.saturating_add-limit.result zs ++ more = c.in_ok-resize.ensures.items in
-    let fits : length zs ≤ c.saturating_add-limit.result = omega arith in
-    extended xs row zs c.resize.new.self.items more c.saturating_add-limit.result is resized fits
+    extended c.args.items.now.items _ c.push.new.self.items c.resize.new.self.items _ c.saturating_add-limit.result (with_row g c) c.in_ok-resize.ensures.items (fits g c)
 
 pub returns-clause-moved : goal.returns-clause-moved
 returns-clause-moved g c =
-    let xs = c.args.items.now.items in
-    let zs = c.push.new.self.items in
-    let more = replicate (c.saturating_add-limit.result - c.push.new.self.len) c.args.item in
-    let row = row_in xs c.args.span ++ c.args.item ∷ [] in
-    let is : zs ≡ xs ++ row = added xs (row_in xs c.args.span) c.extend_from_within.new.self.items zs c.args.item c.in_ok-extend_from_within.ensures.items c.in_ok-push.ensures.items in
-    let resized : c.resize.new.self.items ≡ take c.saturating_add-limit.result zs ++ more = c.in_ok-resize.ensures.items in
-    let fits : length zs ≤ c.saturating_add-limit.result = omega arith in
-    is_moved xs zs c.resize.new.self.items more c.args.item c.saturating_add-limit.result c.args.span
-    (record { start = c.in_ok-short_place.field-0; end = c.in_ok-short_place-2.field-0; limit = c.in_ok-short_place-3.field-0 }) is resized
-    (omega (arith, c.in_ok-resize.ensures.len)) fits (omega (arith, c.in_ok-short_place.ensures.ok)) (omega (arith, c.in_ok-short_place-2.ensures.ok)) c.in_ok-short_place-3.ensures.ok
+    is_moved c.args.items.now.items c.push.new.self.items c.resize.new.self.items _ c.args.item c.saturating_add-limit.result c.args.span
+    (record { start = c.in_ok-short_place.field-0; end = c.in_ok-short_place-2.field-0; limit = c.in_ok-short_place-3.field-0 }) (with_row g c)
+    c.in_ok-resize.ensures.items (sym c.resize.new.self.ok.0 ∙ c.in_ok-resize.ensures.len) (fits g c) (c.in_ok-short_place.ensures.ok ∙ c.len-start.ensures ∙ c.args.items.now.ok.0)
+    (c.in_ok-short_place-2.ensures.ok ∙ c.len-end.ensures ∙ c.push.new.self.ok.0) c.in_ok-short_place-3.ensures.ok
+
+pub returns-in_err-extend_from_within-clause-keeps : goal.returns-in_err-extend_from_within-clause-keeps
+returns-in_err-extend_from_within-clause-keeps g c = record { rest = []; is = c.in_err-extend_from_within.ensures.items ∙ sym (append-nil c.args.items.now.items) }
+
+pub returns-in_err-push-clause-keeps : goal.returns-in_err-push-clause-keeps
+returns-in_err-push-clause-keeps g c = record { rest = row_in c.args.items.now.items c.args.span; is = c.in_err-push.ensures.items ∙ c.in_ok-extend_from_within.ensures.items }
+
+pub overflow_sub-end : goal.overflow_sub-end
+overflow_sub-end g c = omega (arith, c.len-start.ensures, c.len-end.ensures, c.in_ok-extend_from_within.ensures.len, c.in_ok-push.ensures.len)
+
+pub extend_from_within-requires : goal.extend_from_within-requires
+extend_from_within-requires g c = record { start_le_end = c.requires.ordered; in_bounds = omega (arith, c.requires.roomy, c.requires.within); not_exhausted = tt }

@@ -1,65 +1,9 @@
-use Rattle.std.proofs.Common.{◌≡◌, ◌∙◌, ℕ, ◌+◌, ◌<◌, List, ◌++◌, ◌∷◌, [], inl, length, get_or, set, map, ap, sym, subst, arith, length-append}
+use Rattle.std.proofs.Common.{◌≡◌, ◌∙◌, ℕ, ◌<◌, List, ◌++◌, ◌∷◌, [], inl, length, get_or, set, map, ap, refl, sym, subst, arith, length-append}
 use Rattle.std.proofs.lemmas.List.{get_or_read, length-set}
 use Rattle.mt_flat.specs.GrowingLists.{row_in, span_at, AreApart, AreSpans, IsSpan}
 use Rattle.mt_flat.specs.declared.growing_lists.Span.{Span}
-use Rattle.mt_flat.proofs.RowFacts.{clear_of, on_err, range_append, range_push, range_set_other, row_at, row_count, rows_changed, rows_kept, spans_changed, spans_grown}
+use Rattle.mt_flat.proofs.RowFacts.{on_err, row_at, row_count, row_grown, row_more, rows_changed, rows_as_before, spans_changed, spans_grown}
 use Rattle.mt_flat.proofs.growing_lists.GrowingLists.push.Goals as goal
-
-pub returns-in_err-self-inside-clause-err : goal.returns-in_err-self-inside-clause-err
-returns-in_err-self-inside-clause-err g c =
-    let xs = c.self.inside.items.items in
-    let spans = c.self.inside.spans.items in
-    on_err c.from_residual.result
-    (rows_kept xs c.moved.new.items.items spans (λ j h.
-    let here = c.self.invariant.each j h in
-    ap (λ ys. row_in ys (span_at spans j)) c.moved.ensures.keeps.is
-    ∙ range_append xs c.moved.ensures.keeps.rest (span_at spans j).start (span_at spans j).end here.ordered (let a = here.roomy in let b = here.within in omega arith))
-    ∙ c.self.view_is)
-
-pub returns-then-span-clause-ok : goal.returns-then-span-clause-ok
-returns-then-span-clause-ok g c =
-    let xs = c.self.inside.items.items in
-    let spans = c.self.inside.spans.items in
-    let k = c.args.number in
-    let old = c.index-span.result.now in
-    let x = c.args.item in
-    let none : Span = record { start = 0; end = 0; limit = 0 } in
-    let many : k < length spans = omega (arith, row_count xs spans c.args.self.now c.self.view_is) in
-    let read : old ≡ span_at spans k = get_or_read spans k old many c.index-span.ensures none in
-    let again : c.index_mut-then-span.result.now ≡ span_at spans k = get_or_read spans k c.index_mut-then-span.result.now many c.index_mut-then-span.ensures.value none in
-    let row_is : get_or c.args.self.now k [] ≡ row_in xs old =
-    sym (ap (λ rows. get_or rows k []) c.self.view_is) ∙ row_at xs spans k many ∙ ap (row_in xs) (sym read) in
-    let row = get_or c.args.self.now k [] ++ x ∷ [] in
-    let is = c.self.invariant.each k many in
-    ap (λ n. map (row_in (set xs old.end x)) (set spans k (record { start = c.index_mut-then-span.result.now.start; end = n; limit = c.index_mut-then-span.result.now.limit }))) c.next_end.ensures
-    ∙ ap (λ (w : Span). map (row_in (set xs old.end x)) (set spans k (record { start = w.start; end = old.end + 1; limit = w.limit }))) (again ∙ sym read)
-    ∙ rows_changed xs (set xs old.end x) spans k (record { start = old.start; end = old.end + 1; limit = old.limit }) row many
-    (range_push xs x old.start old.end (omega (arith, is.ordered, ap Span.start read, ap Span.end read)) (omega (arith, c.if-span.true, is.within, ap Span.limit read)) ∙ ap (λ r. r ++ x ∷ []) (sym row_is))
-    (λ j h ne.
-    range_set_other xs old.end x (span_at spans j).start (span_at spans j).end (c.self.invariant.each j h).ordered
-    (clear_of (length xs) spans j k old.end c.self.invariant h many ne (omega (arith, is.ordered, ap Span.start read, ap Span.end read)) (omega (arith, c.if-span.true, ap Span.limit read))))
-    ∙ ap (λ rows. set rows k row) c.self.view_is
-
-pub returns-in_ok-self-inside-clause-ok : goal.returns-in_ok-self-inside-clause-ok
-returns-in_ok-self-inside-clause-ok g c =
-    let xs = c.self.inside.items.items in
-    let spans = c.self.inside.spans.items in
-    let k = c.args.number in
-    let old = c.index-span.result.now in
-    let x = c.args.item in
-    let none : Span = record { start = 0; end = 0; limit = 0 } in
-    let many : k < length spans = omega (arith, row_count xs spans c.args.self.now c.self.view_is) in
-    let read : old ≡ span_at spans k = get_or_read spans k old many c.index-span.ensures none in
-    let row_is : get_or c.args.self.now k [] ≡ row_in xs old =
-    sym (ap (λ rows. get_or rows k []) c.self.view_is) ∙ row_at xs spans k many ∙ ap (row_in xs) (sym read) in
-    let row = get_or c.args.self.now k [] ++ x ∷ [] in
-    rows_changed xs c.moved.new.items.items spans k c.in_ok-self-inside.field-0 row many
-    (c.in_ok-self-inside.ensures.moved.row ∙ ap (λ r. r ++ x ∷ []) (sym row_is))
-    (λ j h ne.
-    let here = c.self.invariant.each j h in
-    ap (λ ys. row_in ys (span_at spans j)) c.moved.ensures.keeps.is
-    ∙ range_append xs c.moved.ensures.keeps.rest (span_at spans j).start (span_at spans j).end here.ordered (let a = here.roomy in let b = here.within in omega arith))
-    ∙ ap (λ rows. set rows k row) c.self.view_is
 
 -- the span that was read
 span_read : {X : Type 0} → (xs : List X) (spans : List Span) (rows : List (List X)) (k : ℕ) (w : Span) → map (row_in xs) spans ≡ rows → k < length rows → w ≡ get_or spans k w → w ≡ span_at spans k
@@ -69,6 +13,40 @@ is_read : {X : Type 0} → (xs : List X) (spans : List Span) (rows : List (List 
     → IsSpan (length xs) w
 is_read xs spans rows k w are within each is =
     subst (IsSpan (length xs)) (sym (span_read xs spans rows k w are within is)) (each.each k (omega (arith, row_count xs spans rows are)))
+
+pub returns-in_err-self-inside-clause-err : goal.returns-in_err-self-inside-clause-err
+returns-in_err-self-inside-clause-err g c =
+    let keeps = c.moved.ensures.keeps in
+    on_err c.from_residual.result
+    (rows_as_before c.self.inside.items.items keeps.rest c.moved.new.items.items c.self.inside.spans.items c.self.invariant keeps.is c.self.inside.spans.items c.args.self.now c.self.view_is refl)
+
+pub returns-then-span-clause-ok : goal.returns-then-span-clause-ok
+returns-then-span-clause-ok g c =
+    let xs = c.self.inside.items.items in
+    let spans = c.self.inside.spans.items in
+    let rows = c.args.self.now in
+    let k = c.args.number in
+    let old = c.index-span.result.now in
+    let w = c.index_mut-then-span.result.now in
+    row_grown xs spans rows k c.args.item old w c.next_end.result c.self.view_is c.self.invariant (omega (arith, row_count xs spans rows c.self.view_is))
+    (span_read xs spans rows k old c.self.view_is c.requires c.index-span.ensures) (span_read xs spans rows k w c.self.view_is c.requires c.index_mut-then-span.ensures.value)
+    c.if-span.true c.next_end.ensures
+
+pub returns-in_ok-self-inside-clause-ok : goal.returns-in_ok-self-inside-clause-ok
+returns-in_ok-self-inside-clause-ok g c =
+    let xs = c.self.inside.items.items in
+    let spans = c.self.inside.spans.items in
+    let rows = c.args.self.now in
+    let k = c.args.number in
+    let old = c.index-span.result.now in
+    let many : k < length spans = omega (arith, row_count xs spans rows c.self.view_is) in
+    let read : old ≡ span_at spans k = span_read xs spans rows k old c.self.view_is c.requires c.index-span.ensures in
+    let row_is : get_or rows k [] ≡ row_in xs old = sym (ap (λ rs. get_or rs k []) c.self.view_is) ∙ row_at xs spans k many ∙ ap (row_in xs) (sym read) in
+    let row = get_or rows k [] ++ c.args.item ∷ [] in
+    rows_changed xs c.moved.new.items.items spans k c.in_ok-self-inside.field-0 row many
+    (c.in_ok-self-inside.ensures.moved.row ∙ ap (λ r. r ++ c.args.item ∷ []) (sym row_is))
+    (λ j h ne. row_more xs c.moved.ensures.keeps.rest c.moved.new.items.items spans c.self.invariant c.moved.ensures.keeps.is j h)
+    ∙ ap (λ rs. set rs k row) c.self.view_is
 
 pub index-span-requires : goal.index-span-requires
 index-span-requires g c = omega (arith, row_count c.self.inside.items.items c.self.inside.spans.items c.args.self.now c.self.view_is)
