@@ -1,7 +1,7 @@
 use crate::numbers::AppNo;
 
 /// What can happen next while the singles are matched.
-#[derive(Clone, Copy, Debug, PartialEq, Eq)]
+#[derive(Clone, Copy, Debug)]
 pub enum Event {
     /// The applicant proposes to the next program on its live list.
     Propose(AppNo),

@@ -1,5 +1,5 @@
 /// What an input may hold at most.
-#[derive(Clone, Copy, Debug, PartialEq, Eq)]
+#[derive(Clone, Copy)]
 pub struct Limits {
     /// Bytes of the input.
     pub bytes: usize,

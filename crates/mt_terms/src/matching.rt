@@ -4,7 +4,7 @@ use crate::numbers::{AppNo, ProgNo};
 use std::marker::Model;
 
 /// One place for each applicant, by number: a program, or none.
-#[derive(Debug, Drop)]
+#[derive(Drop)]
 pub struct Places {
     places: Vec<Option<ProgNo>>,
 }
@@ -39,7 +39,7 @@ impl Places {
 }
 
 /// A match: where each applicant is placed.
-#[derive(Debug, Drop)]
+#[derive(Drop)]
 pub struct Match {
     /// One place for each applicant, by number.
     pub places: Places,

@@ -3,7 +3,7 @@ ghost use Rattle.std.specs.Prelude.{◌≡◌, ℕ};
 use std::marker::Model;
 
 /// An applicant's number, by order of registration from 0. A couple's members are applicants too.
-#[derive(Clone, Copy, Debug, PartialEq, Eq, PartialOrd, Ord, Hash)]
+#[derive(Clone, Copy, Debug, PartialEq, Eq)]
 pub struct AppNo(pub u32);
 
 impl Model for AppNo {
@@ -24,7 +24,7 @@ impl AppNo {
 }
 
 /// A program's number, by order of registration from 0.
-#[derive(Clone, Copy, Debug, PartialEq, Eq, PartialOrd, Ord, Hash)]
+#[derive(Clone, Copy, Debug, PartialEq, Eq)]
 pub struct ProgNo(pub u32);
 
 impl Model for ProgNo {
@@ -45,7 +45,7 @@ impl ProgNo {
 }
 
 /// A couple's number, by order of registration from 0.
-#[derive(Clone, Copy, Debug, PartialEq, Eq, PartialOrd, Ord, Hash)]
+#[derive(Clone, Copy, Debug, PartialEq, Eq)]
 pub struct CoupleNo(pub u32);
 
 impl Model for CoupleNo {
@@ -66,7 +66,7 @@ impl CoupleNo {
 }
 
 /// Who ranks options: an applicant with a list of its own, or a couple with a list of pairs.
-#[derive(Clone, Copy, Debug, PartialEq, Eq, PartialOrd, Ord, Hash)]
+#[derive(Clone, Copy, Debug, PartialEq, Eq)]
 pub enum Agent {
     Single(AppNo),
     Couple(CoupleNo),
