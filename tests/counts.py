@@ -14,7 +14,7 @@ CHECKS = {
     # tests/cli with the path of a program, where bin/nrmatch isn't run.
     "cli PROGRAM": 8452,
     "cli": 8455,
-    "controls": 50,
+    "controls": 51,
     "edits_apply": 772,
     "explain": 10098,
     "faults": 20037,
@@ -30,6 +30,7 @@ CHECKS = {
     "seeds": 7,
     "threads": 66,
     "told": 311,
+    "units": 65,
     "words": 415,
     "ways": 1551,
     "wrong_bodies --gate": 35,
