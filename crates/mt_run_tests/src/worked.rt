@@ -386,7 +386,7 @@ fn do_large_markets_give_the_plain_answers(rt: HostRuntime) -> Result<(), AllocE
     let text = waiting_singles_text(alloc)?;
     let known = Known {
         of: "waiting singles",
-        rounds: 3_005,
+        rounds: 1_005,
         text: text.as_bytes(),
         matches: 1,
     };
