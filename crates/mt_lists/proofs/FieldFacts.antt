@@ -178,7 +178,8 @@ pub fields-count : (line : List ℕ) → count_by (is_byte 44) line + 1 ≡ leng
 fields-count line = omega (arith, is_count_by commas_in (is_byte 44) no-comma next-comma line, some-field line)
 
 -- a line in two parts has the commas of both
-pub commas-parts : (line front rest : List ℕ) (n : ℕ) → front ≡ take n line → rest ≡ drop n line → count_by (is_byte 44) front + count_by (is_byte 44) rest ≡ count_by (is_byte 44) line
+pub commas-parts : (line front rest : List ℕ) (n : ℕ) → front ≡ take n line → rest ≡ drop n line
+    → count_by (is_byte 44) front + count_by (is_byte 44) rest ≡ count_by (is_byte 44) line
 commas-parts line front rest n first last = rw (first, last) (sum_by-take-drop (λ b. cond (is_byte 44 b) 1 0) line n)
 
 -- and no more than bytes

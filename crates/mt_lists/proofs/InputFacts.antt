@@ -36,15 +36,18 @@ pub loses_none : (limit : ℕ) (a : Option (List ℕ)) → LosesAtMost (limit + 
 loses_none limit a = record { front = []; lost = Consumes-nil a; within = omega arith }
 
 -- a failed read loses no more than what came before it
-pub loses_before : (limit : ℕ) (a b c : Option (List ℕ)) (bytes : List ℕ) → Consumes a b bytes → Keeps b c → length bytes ≤ limit → LosesAtMost (limit + 1) a c
-loses_before limit a b c bytes front kept within = record { front = bytes; lost = Consumes-kept a b c bytes front kept; within = omega arith }
+pub loses_before : (limit : ℕ) (a b c : Option (List ℕ)) (bytes : List ℕ) → Consumes a b bytes → Keeps b c → length bytes ≤ limit
+    → LosesAtMost (limit + 1) a c
+loses_before limit a b c bytes front kept within =
+    record { front = bytes; lost = Consumes-kept a b c bytes front kept; within = omega arith }
 
 -- the reads after one more, against the bytes that came before it
 pub turns_more : (old mid new size : ℕ) → mid ≤ old + size → new ≡ mid + 1 → new ≤ old + size + 1
 turns_more old mid new size most one = omega arith
 
 -- the reads after one more, against the limit
-pub reads_more : (old mid new size limit : ℕ) → old ≤ mid → mid ≤ old + size → size ≤ limit → new ≡ mid + 1 → (old ≤ new) × (new ≤ old + limit + 1)
+pub reads_more : (old mid new size limit : ℕ) → old ≤ mid → mid ≤ old + size → size ≤ limit → new ≡ mid + 1
+    → (old ≤ new) × (new ≤ old + limit + 1)
 reads_more old mid new size limit least most within one = (omega arith, omega arith)
 
 -- the failures after a read that did not fail, and after one that did
@@ -55,11 +58,13 @@ pub failures_more : (old mid new : ℕ) → mid ≡ old → new ≡ mid + 1 → 
 failures_more old mid new none one = (omega arith, omega arith)
 
 -- no answer of a fault, and no failure
-pub no_fault : (Fault : Type 0) (old mid new : ℕ) → (Fault → ⊥) → mid ≡ old → new ≡ mid + 0 → Fault ↔ (old < new)
+pub no_fault : (Fault : Type 0) (old mid new : ℕ) → (Fault → ⊥) → mid ≡ old → new ≡ mid + 0
+    → Fault ↔ (old < new)
 no_fault Fault old mid new not none same = (λ fault. absurd (not fault), λ less. absurd (omega arith))
 
 -- an answer of a fault, and a failure
-pub one_fault : (Fault : Type 0) (old mid new : ℕ) → Fault → mid ≡ old → new ≡ mid + 1 → Fault ↔ (old < new)
+pub one_fault : (Fault : Type 0) (old mid new : ℕ) → Fault → mid ≡ old → new ≡ mid + 1
+    → Fault ↔ (old < new)
 one_fault Fault old mid new is none one = (λ fault. omega arith, λ less. is)
 
 -- these answers are none of a fault

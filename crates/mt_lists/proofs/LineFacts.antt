@@ -202,7 +202,8 @@ unfolding rows_of
 rows-within text = rw (length-map (records default_config text) without_trailing_empty) (records-within text)
 
 -- what no byte of a text is, no byte of its end is
-pub none_after : (p : ℕ → Bool) (n : ℕ) (text rest : List ℕ) → rest ≡ drop n text → list_any p text ≡ false → list_any p rest ≡ false
+pub none_after : (p : ℕ → Bool) (n : ℕ) (text rest : List ℕ) → rest ≡ drop n text → list_any p text ≡ false
+    → list_any p rest ≡ false
 none_after p n text rest is none =
     let parts = sym (list_any-append p (take n text) (drop n text)) ∙ ap (list_any p) (take-append-drop n text) ∙ none in
     ap (list_any p) is ∙ (or_parts _ _ parts).1

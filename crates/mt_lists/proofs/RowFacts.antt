@@ -31,6 +31,7 @@ field_there fields i None e lt = absurd (cc (slice_get-get_or fields i [] lt))
 field_there fields i (Some field) e lt = search rules
 
 -- one field more
-pub row_more : (fields row new : List (List ℕ)) (field : List ℕ) (i : ℕ) → i < length fields → row ≡ take i fields → field ≡ get_or fields i [] → new ≡ row ++ field ∷ []
+pub row_more : (fields row new : List (List ℕ)) (field : List ℕ) (i : ℕ) → i < length fields → row ≡ take i fields
+    → field ≡ get_or fields i [] → new ≡ row ++ field ∷ []
     → new ≡ take (i + 1) fields
 row_more fields row new field i within so_far is more = rw (more, so_far, is) (sym (take_more fields i [] within))

@@ -68,7 +68,8 @@ read-requires g c =
     omega (arith, so_far.reads, so_far.within, c.requires)
 
 pub returns-in-Err-clause-fault : goal.returns-in-Err-clause-fault
-returns-in-Err-clause-fault g c = one_fault _ _ _ _ refl c.loop-came.invariant.0.failures c.in-Err.ensures.failures
+returns-in-Err-clause-fault g c =
+    one_fault _ _ _ _ refl c.loop-came.invariant.0.failures c.in-Err.ensures.failures
 
 pub returns-in-Err-clause-taken : goal.returns-in-Err-clause-taken
 returns-in-Err-clause-taken g c =
@@ -81,7 +82,8 @@ returns-in-Err-clause-reads g c =
     reads_more _ _ _ _ _ so_far.earlier so_far.reads so_far.within c.read.ensures.reads
 
 pub returns-in-Err-clause-failures : goal.returns-in-Err-clause-failures
-returns-in-Err-clause-failures g c = failures_more _ _ _ c.loop-came.invariant.0.failures c.in-Err.ensures.failures
+returns-in-Err-clause-failures g c =
+    failures_more _ _ _ c.loop-came.invariant.0.failures c.in-Err.ensures.failures
 
 pub returns-then-came-eq0-clause-within : goal.returns-then-came-eq0-clause-within
 returns-then-came-eq0-clause-within g c = c.loop-came.invariant.0.within
@@ -93,10 +95,12 @@ returns-then-came-eq0-clause-taken g c =
     ended_within c.args.limit _ _ _ c.loop-came.bytes.items (take c.in-Ok-read.came c.read.new.buf) so_far.taken c.in-Ok-read.ensures.bytes.0 so_far.within (omega arith)
 
 pub returns-then-came-eq0-clause-turns : goal.returns-then-came-eq0-clause-turns
-returns-then-came-eq0-clause-turns g c = turns_more _ _ _ _ c.loop-came.invariant.0.reads c.read.ensures.reads
+returns-then-came-eq0-clause-turns g c =
+    turns_more _ _ _ _ c.loop-came.invariant.0.reads c.read.ensures.reads
 
 pub returns-then-came-eq0-clause-fault : goal.returns-then-came-eq0-clause-fault
-returns-then-came-eq0-clause-fault g c = no_fault _ _ _ _ (read_whole c.loop-came.bytes) c.loop-came.invariant.0.failures c.in-Ok-read.ensures.failures
+returns-then-came-eq0-clause-fault g c =
+    no_fault _ _ _ _ (read_whole c.loop-came.bytes) c.loop-came.invariant.0.failures c.in-Ok-read.ensures.failures
 
 pub returns-then-came-eq0-clause-reads : goal.returns-then-came-eq0-clause-reads
 returns-then-came-eq0-clause-reads g c =
@@ -104,10 +108,12 @@ returns-then-came-eq0-clause-reads g c =
     reads_more _ _ _ _ _ so_far.earlier so_far.reads so_far.within c.read.ensures.reads
 
 pub returns-then-came-eq0-clause-failures : goal.returns-then-came-eq0-clause-failures
-returns-then-came-eq0-clause-failures g c = failures_same _ _ _ c.loop-came.invariant.0.failures c.in-Ok-read.ensures.failures
+returns-then-came-eq0-clause-failures g c =
+    failures_same _ _ _ c.loop-came.invariant.0.failures c.in-Ok-read.ensures.failures
 
 pub returns-then-came-room-clause-fault : goal.returns-then-came-room-clause-fault
-returns-then-came-room-clause-fault g c = no_fault _ _ _ _ too_large c.loop-came.invariant.0.failures c.in-Ok-read.ensures.failures
+returns-then-came-room-clause-fault g c =
+    no_fault _ _ _ _ too_large c.loop-came.invariant.0.failures c.in-Ok-read.ensures.failures
 
 pub returns-then-came-room-clause-reads : goal.returns-then-came-room-clause-reads
 returns-then-came-room-clause-reads g c =
@@ -115,10 +121,12 @@ returns-then-came-room-clause-reads g c =
     reads_more _ _ _ _ _ so_far.earlier so_far.reads so_far.within c.read.ensures.reads
 
 pub returns-then-came-room-clause-failures : goal.returns-then-came-room-clause-failures
-returns-then-came-room-clause-failures g c = failures_same _ _ _ c.loop-came.invariant.0.failures c.in-Ok-read.ensures.failures
+returns-then-came-room-clause-failures g c =
+    failures_same _ _ _ c.loop-came.invariant.0.failures c.in-Ok-read.ensures.failures
 
 pub returns-then-is_err-clause-fault : goal.returns-then-is_err-clause-fault
-returns-then-is_err-clause-fault g c = no_fault _ _ _ _ no_memory c.loop-came.invariant.0.failures c.in-Ok-read.ensures.failures
+returns-then-is_err-clause-fault g c =
+    no_fault _ _ _ _ no_memory c.loop-came.invariant.0.failures c.in-Ok-read.ensures.failures
 
 pub returns-then-is_err-clause-reads : goal.returns-then-is_err-clause-reads
 returns-then-is_err-clause-reads g c =
@@ -126,4 +134,5 @@ returns-then-is_err-clause-reads g c =
     reads_more _ _ _ _ _ so_far.earlier so_far.reads so_far.within c.read.ensures.reads
 
 pub returns-then-is_err-clause-failures : goal.returns-then-is_err-clause-failures
-returns-then-is_err-clause-failures g c = failures_same _ _ _ c.loop-came.invariant.0.failures c.in-Ok-read.ensures.failures
+returns-then-is_err-clause-failures g c =
+    failures_same _ _ _ c.loop-came.invariant.0.failures c.in-Ok-read.ensures.failures

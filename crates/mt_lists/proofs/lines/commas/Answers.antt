@@ -18,7 +18,9 @@ loop-left-preserved c =
     omega (arith, c.from-count.ensures, c.commas_of.ensures, c.loop-left.invariant, parts)
 
 pub overflow_add-result : goal.overflow_add-result
-overflow_add-result c = omega (arith, c.from.ensures, c.commas_of-2.ensures, c.loop-left.invariant, commas-few c.args.line.now)
+overflow_add-result c =
+    omega (arith, c.from.ensures, c.commas_of-2.ensures, c.loop-left.invariant, commas-few c.args.line.now)
 
 pub returns-clause-few : goal.returns-clause-few
-returns-clause-few c = omega (arith, c.from.ensures, c.commas_of-2.ensures, c.loop-left.invariant, commas-few c.args.line.now)
+returns-clause-few c =
+    omega (arith, c.from.ensures, c.commas_of-2.ensures, c.loop-left.invariant, commas-few c.args.line.now)

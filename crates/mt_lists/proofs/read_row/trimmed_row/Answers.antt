@@ -1,4 +1,4 @@
-use Rattle.std.proofs.Common.{◌≡◌, ◌∙◌, ℕ, take, ap, arith}
+use Rattle.std.proofs.Common.{◌≡◌, ◌∙◌, ◌<◌, ℕ, length, take, ap, arith}
 use Rattle.csv.specs.Records.{fields_of}
 use Rattle.mt_lists.proofs.RowFacts.{row_more}
 use Rattle.mt_lists.proofs.read_row.trimmed_row.Goals as goal
@@ -8,7 +8,8 @@ field-requires c = omega (arith, c.loop-i-test.true, c.kept_fields-kept.ensures.
 
 pub loop-i-preserved : goal.loop-i-preserved
 loop-i-preserved c =
-    row_more (fields_of c.args.raw.now) c.loop-i.row _ _ c.loop-i.i (omega (arith, c.loop-i-test.true, c.kept_fields-kept.ensures.within)) c.loop-i.invariant c.field.ensures c.in_ok-push_list.ensures.ok
+    let within : c.loop-i.i < length (fields_of c.args.raw.now) = omega (arith, c.loop-i-test.true, c.kept_fields-kept.ensures.within) in
+    row_more (fields_of c.args.raw.now) c.loop-i.row _ _ c.loop-i.i within c.loop-i.invariant c.field.ensures c.in_ok-push_list.ensures.ok
 
 pub returns : goal.returns
 returns c =
