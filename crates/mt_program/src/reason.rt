@@ -1,6 +1,6 @@
-ghost use Rattle.std.specs.Prelude.{◌+◌, ◌<◌, ◌^◌};
-ghost use Rattle.std.specs.Prelude.{◌≤◌};
-ghost use Rattle.mt_report.specs.Drains.{failures_of};
+ghost use Rattle.std.specs.Prelude.{◌+◌, ◌<◌, ◌≤◌, ◌^◌};
+ghost use Rattle.mt_program.specs.Reasons.{SaysReason, SaysReasonFor};
+ghost use Rattle.mt_report.specs.Drains.{contents_of, failures_of};
 
 use crate::input::Input;
 use mt_report::{Drain, put_all};
@@ -25,7 +25,9 @@ fn say_why<W: Write>(
     error: &io::Error,
 )
     requires { failures_of drain.old + 1 < 2 ^ 64 }
-    ensures { failures_of drain.new ≤ failures_of drain.old + 1 }
+    ensures says { SaysReason program.now path.now
+        (contents_of W.contents drain.old) (contents_of W.contents drain.new) }
+    ensures failures { failures_of drain.new ≤ failures_of drain.old + 1 }
 {
     let Ok(said) = format!(in alloc; "{error}") else {
         return;
@@ -40,7 +42,9 @@ fn say_why<W: Write>(
 /// and the system's words. If there is no memory for the line, it says nothing. The writer fails once, at the most.
 pub fn say_unopened<W: Write>(drain: &mut Drain<W>, alloc: Global, program: &str, input: &Input<'_>)
     requires { failures_of drain.old + 1 < 2 ^ 64 }
-    ensures { failures_of drain.new ≤ failures_of drain.old + 1 }
+    ensures says { SaysReasonFor input.now.unopened program.now input.now.path.now
+        (contents_of W.contents drain.old) (contents_of W.contents drain.new) }
+    ensures failures { failures_of drain.new ≤ failures_of drain.old + 1 }
 {
     if let Some(error) = input.unopened() {
         say_why(drain, alloc, program, input.path(), &error);
