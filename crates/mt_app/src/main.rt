@@ -1,8 +1,6 @@
 //! The program `nrmatch`: the residency match of one CSV file.
 #![tactic(auto)]
 
-mod spent;
-
 ghost use Rattle.std.specs.Prelude.{◌≡◌, ◌+◌, ◌<◌, ◌≤◌, ◌^◌, []};
 ghost use Rattle.mt_app.specs.Program.{IsExitFor, IsRun};
 ghost use Rattle.mt_program.specs.CommandLine.{texts_of};
@@ -12,12 +10,12 @@ ghost use Rattle.mt_terms.specs.declared.codes.TheConstants.{OUT_OF_MEMORY};
 ghost use Rattle.mt_report.specs.Drains.{contents_of, failures_of};
 ghost use Rattle.mt_report.specs.Status.{status_of};
 
-use crate::spent::say_spent;
 use mt_args::{AskEnd, Asked, asked};
 use mt_lists::Tap;
 use mt_program::{Input, MISUSE, NO_MEMORY, UNWRITTEN, say_unopened, tell, tell_unasked, words_of};
 use mt_report::{Drain, refused};
 use mt_run::{EndedInWays, Options, Ways, run_in_ways};
+use mt_spent::say_spent;
 use mt_terms::codes::OUT_OF_MEMORY;
 use std::alloc::Global;
 use std::io::{Read, Write};
@@ -56,7 +54,7 @@ fn status_told<W: Write>(
     ensures { result ≡ status_of ended.now.ended.code ended.now.ended.whole }
 {
     if let Some(entering) = &ended.entering {
-        say_spent(err, alloc, entering, options, ways);
+        say_spent(err, alloc, entering, options.budget, ways.orders);
     }
     ended.ended.status()
 }
