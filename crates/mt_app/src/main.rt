@@ -2,7 +2,7 @@
 #![tactic(auto)]
 
 ghost use Rattle.std.specs.Prelude.{◌≡◌, ◌+◌, ◌<◌, ◌≤◌, ◌^◌, []};
-ghost use Rattle.mt_app.specs.Program.{IsExitFor, IsRun};
+ghost use Rattle.mt_app.specs.Program.{IsExitFor, IsRun, SaysEntering};
 ghost use Rattle.mt_program.specs.CommandLine.{texts_of};
 ghost use Rattle.mt_program.specs.Told.{IsTold};
 ghost use Rattle.mt_terms.specs.Text.{refused as refused_text};
@@ -51,7 +51,9 @@ fn status_told<W: Write>(
     ways: Ways,
 ) -> u8
     requires { failures_of err.old + 1 < 2 ^ 64 }
-    ensures { result ≡ status_of ended.now.ended.code ended.now.ended.whole }
+    ensures status { result ≡ status_of ended.now.ended.code ended.now.ended.whole }
+    ensures says { SaysEntering ended.now.entering options.budget ways.orders
+        (contents_of W.contents err.old) (contents_of W.contents err.new) }
 {
     if let Some(entering) = &ended.entering {
         say_spent(err, alloc, entering, options.budget, ways.orders);
