@@ -14,7 +14,7 @@ CHECKS = {
     # tests/cli with the path of a program, where bin/nrmatch isn't run.
     "cli PROGRAM": 8452,
     "cli": 8455,
-    "controls": 51,
+    "controls": 52,
     "edits_apply": 784,
     "explain": 10098,
     "faults": 20037,

@@ -104,8 +104,13 @@ def pairs_of(edit):
 
 def changed_texts(edit, folder):
     """The texts of the files that an edit changes, and the functions in whose bodies it does: none for all."""
+    return joined_texts([edit], folder)
+
+
+def joined_texts(edits, folder):
+    """As `changed_texts`, of several edits that are made in one copy."""
     texts, before, functions = {}, {}, []
-    for path, old, new in pairs_of(edit):
+    for path, old, new in [pair for edit in edits for pair in pairs_of(edit)]:
         if path not in texts:
             texts[path] = before[path] = text_of(f"{folder}/{path}", path)
         times = texts[path].count(old)
@@ -116,6 +121,46 @@ def changed_texts(edit, folder):
     if texts == before:
         raise BadEdit("it changes nothing")
     return texts, [] if None in functions else sorted(set(functions))
+
+
+def bodies_of(edit, folder):
+    """The functions whose bodies an edit changes, each by its file and its name. Empty if it changes anything else, but for
+    the answers of these functions.
+    """
+    pairs = pairs_of(edit)
+    bodies = {(path, body_at(f"{folder}/{path}", path, old)) for path, old, _ in pairs if path.startswith("src/")}
+    others = [path for path, _, _ in pairs if not path.startswith("src/")]
+    is_clean = all(name for _, name in bodies) and all(any(are_answers(path, body) for body in bodies) for path in others)
+    return bodies if is_clean else set()
+
+
+def body_at(file, path, old):
+    """The name of the function whose body has this text, or None."""
+    text = text_of(file, path)
+    name = function_at(path, text, text.find(old)) if old in text else None
+    if name is None:
+        return None
+    lines = text[: text.index(old)].split("\n")
+    first = max(at for at, line in enumerate(lines) if FUNCTION.match(line))
+    # The line that opens the body is the first that ends in a brace.
+    return name if any(line.endswith("{") for line in lines[first:-1]) else None
+
+
+def are_answers(path, body):
+    """Whether a proof file has the answers of a function, which is named by its file and its name."""
+    file, name = body
+    inner = file.removeprefix("src/").removesuffix(".rt")
+    module = "" if inner in ("lib", "main") else f"{inner}/"
+    return path.startswith(f"proofs/{module}") and path.endswith(f"/{name}/Answers.antt")
+
+
+def is_place_of(path, line, body, texts):
+    """Whether a line of a file is in a function, or in its answers."""
+    file, name = body
+    if path != file:
+        return are_answers(path, body)
+    above = "\n".join(texts[file].split("\n")[:line])
+    return function_at(path, above, len(above)) == name
 
 
 def text_of(file, path):
