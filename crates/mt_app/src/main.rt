@@ -64,8 +64,7 @@ fn status_told<W: Write>(
 /// Writes the refusal of a run for which there is no memory, and gives the exit status.
 fn refuse<W: Write>(drain: &mut Drain<W>) -> u8
     requires { failures_of drain.old + 1 < 2 ^ 64 }
-    ensures { IsTold (refused_text OUT_OF_MEMORY 0 []) 4 5
-        (contents_of W.contents drain.old) (contents_of W.contents drain.new) result }
+    ensures { IsTold W.contents drain.old drain.new (refused_text OUT_OF_MEMORY 0 []) 4 5 result }
 {
     let line = refused(OUT_OF_MEMORY, 0, b"");
     tell(drain, line.as_bytes(), NO_MEMORY, UNWRITTEN)

@@ -19,23 +19,33 @@ pub fn faults_in_order()
 pub fn faults_of_one_record()
     ensures program { faults_of (file_1 ("program,p!,x,a!,b,b" ∷ [])) ≡ faults_of_program }
     ensures couple { faults_of (file_2 couple_at_fault) ≡ faults_of_couple }
-    ensures half_a_pair_in_version_1 { faults_of (file_1 ("program,x,1" ∷ "couple,c,a,b,x,-" ∷ [])) ≡ found 3 BAD_ID 6 "" ∷ [] }
+    ensures half_a_pair_in_version_1 { faults_of (file_1 ("program,x,1" ∷ "couple,c,a,b,x,-" ∷ []))
+        ≡ found 3 BAD_ID 6 "" ∷ [] }
     ensures withdrawal_in_version_1 { faults_of (file_1 ("withdraw,program,x" ∷ [])) ≡ found 2 UNKNOWN_KIND 1 "" ∷ [] }
-    ensures withdrawal_of_no_kind { faults_of (file_2 ("withdraw,post,x" ∷ "withdraw" ∷ [])) ≡ found 2 UNKNOWN_KIND 2 "" ∷ found 3 FIELD_COUNT 0 "" ∷ [] }
-    ensures withdrawn_twice { faults_of (file_2 ("program,x,1" ∷ "withdraw,program,x" ∷ "withdraw,program,x" ∷ [])) ≡ found 4 DUPLICATE_ENTRY 3 "x" ∷ [] }
+    ensures withdrawal_of_no_kind { faults_of (file_2 ("withdraw,post,x" ∷ "withdraw" ∷ []))
+        ≡ found 2 UNKNOWN_KIND 2 "" ∷ found 3 FIELD_COUNT 0 "" ∷ [] }
+    ensures withdrawn_twice { faults_of (file_2 ("program,x,1" ∷ "withdraw,program,x" ∷ "withdraw,program,x" ∷ []))
+        ≡ found 4 DUPLICATE_ENTRY 3 "x" ∷ [] }
 {}
 
 /// A record at fault registers its ids, so nobody who lists one of them is at fault. Registered twice, an id is at fault
 /// once more.
 pub fn ids_of_records_at_fault()
-    ensures listed { faults_of (file_2 registered_at_fault_file) ≡ found 2 BAD_QUOTA 3 "p" ∷ found 4 FIELD_COUNT 0 "" ∷ [] }
-    ensures again { faults_of (file_1 ("program,p" ∷ "program,p,1" ∷ [])) ≡ found 2 FIELD_COUNT 0 "" ∷ found 3 DUPLICATE_ID 2 "p" ∷ [] }
+    ensures listed { faults_of (file_2 registered_at_fault_file)
+        ≡ found 2 BAD_QUOTA 3 "p" ∷ found 4 FIELD_COUNT 0 "" ∷ [] }
+    ensures again { faults_of (file_1 ("program,p" ∷ "program,p,1" ∷ []))
+        ≡ found 2 FIELD_COUNT 0 "" ∷ found 3 DUPLICATE_ID 2 "p" ∷ [] }
 {}
 
 /// A limit is passed once, by the record that passes it. An id that is registered again counts again.
 pub fn limits_passed()
     ensures reached { faults_within small full_file ≡ [] }
-    ensures programs { faults_within small ("program,p1,0" ∷ "program,p2,0" ∷ "program,p3,0" ∷ "program,p4,0" ∷ []) ≡ found 4 TOO_MANY 0 "p3" ∷ [] }
-    ensures members { faults_within small ("applicant,s" ∷ "couple,c,a,b" ∷ "couple,d,e,f" ∷ "applicant,g" ∷ []) ≡ found 4 TOO_MANY 0 "d" ∷ [] }
-    ensures again { faults_within small ("program,p,0" ∷ "program,p,0" ∷ "program,p,0" ∷ []) ≡ found 3 DUPLICATE_ID 2 "p" ∷ found 4 DUPLICATE_ID 2 "p" ∷ found 4 TOO_MANY 0 "p" ∷ [] }
+    ensures programs { faults_within small
+        ("program,p1,0" ∷ "program,p2,0" ∷ "program,p3,0" ∷ "program,p4,0" ∷ [])
+        ≡ found 4 TOO_MANY 0 "p3" ∷ [] }
+    ensures members { faults_within small
+        ("applicant,s" ∷ "couple,c,a,b" ∷ "couple,d,e,f" ∷ "applicant,g" ∷ [])
+        ≡ found 4 TOO_MANY 0 "d" ∷ [] }
+    ensures again { faults_within small ("program,p,0" ∷ "program,p,0" ∷ "program,p,0" ∷ [])
+        ≡ found 3 DUPLICATE_ID 2 "p" ∷ found 4 DUPLICATE_ID 2 "p" ∷ found 4 TOO_MANY 0 "p" ∷ [] }
 {}

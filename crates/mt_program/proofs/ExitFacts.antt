@@ -7,6 +7,7 @@ use Rattle.std.proofs.lemmas.Bool.Decides.{nat_tests}
 use Rattle.clap.specs.Words.{App, Text, fault_of}
 use Rattle.mt_terms.specs.Lists.{has}
 use Rattle.mt_report.specs.Status.{status_of}
+use Rattle.mt_report.specs.declared.drain.Drain.{Drain}
 use Rattle.mt_program.specs.CommandLine.{AskToBeTold}
 use Rattle.mt_program.specs.Exit.{IsExitOf}
 use Rattle.mt_program.specs.Unasked.{IsStatusFor, IsToldFor, IsUnaskedBy}
@@ -44,11 +45,11 @@ same : (a status : ℕ) (whole : Bool) → status ≡ (if whole then a else a) �
 same a status true is = is
 same a status false is = is
 
-pub status_by_told : (unasked : Unasked) (line : List ℕ) (out out_new err err_new : Option (List ℕ)) (status : ℕ)
-    → IsToldFor unasked line out out_new err err_new status → IsStatusFor unasked status
-status_by_told (Told text) line out out_new err err_new status is = either 0 5 status is.0.whole is.0.is_status
-status_by_told (Misuse text) line out out_new err err_new status is = same 64 status is.0.whole is.0.is_status
-status_by_told Memory line out out_new err err_new status is = either 4 5 status is.0.whole is.0.is_status
+module _ {O E : Type 0} (of_out : O → Option (List ℕ)) (of_err : E → Option (List ℕ)) (line : List ℕ) (out out_new : Drain O) (err err_new : Drain E) where
+  pub status_by_told : (unasked : Unasked) (status : ℕ) → IsToldFor of_out of_err unasked line out out_new err err_new status → IsStatusFor unasked status
+  status_by_told (Told text) status is = either 0 5 status is.0.whole is.0.is_status
+  status_by_told (Misuse text) status is = same 64 status is.0.whole is.0.is_status
+  status_by_told Memory status is = either 4 5 status is.0.whole is.0.is_status
 
 module _ (app : App) (own : List ℕ) (misuse : Type 0) (words : List Text) (are : AreOwn own) where
   done_exit : (fault_of app words ≡ []) ⊎ AskToBeTold app words → IsExitOf app own misuse words 0

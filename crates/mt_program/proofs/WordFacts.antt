@@ -1,5 +1,5 @@
 -- What words ask for, by the matches of a command or by its error.
-use Rattle.std.proofs.Common.{◌≡◌, ◌∙◌, true, false, Bor, List, Option, Result, Ok, Err, IfErr, sym, ap, subst, inl, inr}
+use Rattle.std.proofs.Common.{◌≡◌, ◌∙◌, true, Bor, List, Option, Result, Ok, Err, IfErr, sym, ap, subst, inl, inr}
 use Rattle.std.proofs.lemmas.Slice.Eq.{bytes_eq-Decides}
 use Rattle.std.specs.Prelude.{IsErrAnd, codes, option_map}
 use Rattle.clap.specs.Kinds.{HasKind, IsAmong}
@@ -10,7 +10,7 @@ use Rattle.clap.specs.declared.parser.matches.Found.{Found}
 use Rattle.clap.specs.declared.error.Error.{Error}
 use Rattle.clap.specs.declared.error.kind.ErrorKind.{ErrorKind}
 use Rattle.mt_program.specs.CommandLine.{AreMisuse, AreRefused, NameNoFilesIn, is_standard}
-use Rattle.mt_program.specs.Unasked.{IsEndOf, IsMisuseBy, IsUnaskedBy, is_told}
+use Rattle.mt_program.specs.Unasked.{IsEndOf, IsMisuseBy, IsMisuseWith, IsUnaskedBy}
 use Rattle.mt_program.specs.declared.unasked.Unasked.{Unasked}
 use Rattle.mt_program.specs.declared.unasked.Unasked.TheVariants.{Told, Misuse, Memory}
 
@@ -44,10 +44,10 @@ pub named_in : (f : Found) (id : Text) (o v : Option (Bor Text)) → option_map 
 named_in f id o v read is = sym (first_value-rows f id) ∙ sym read ∙ ap (option_map (λ (s : Bor Text). s.now)) is
 
 -- words that are misuse for a reason of their own
-pub misuse_by : (wrong : Type 0) (unasked : Unasked) → is_told unasked ≡ false → wrong → IsMisuseBy wrong unasked
-misuse_by wrong (Told text) other h = cc
-misuse_by wrong (Misuse text) other h = h
-misuse_by wrong Memory other h = tt
+pub misuse_by : (text : Text) (wrong : Type 0) (unasked : Unasked) → IsMisuseWith text unasked → wrong → IsMisuseBy wrong unasked
+misuse_by text wrong (Told said) none h = none
+misuse_by text wrong (Misuse said) is h = h
+misuse_by text wrong Memory is h = tt
 
 -- want of memory says nothing of the words
 pub unasked_by_memory : {T : Type 0} (app : App) (misuse : Type 0) (words : List Text) (result : Result T Unasked) → IsErrAnd result (λ e. e ≡ Memory)

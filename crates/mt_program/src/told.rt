@@ -1,7 +1,7 @@
-ghost use Rattle.std.specs.Prelude.{◌≡◌, ◌+◌, ◌<◌, ◌^◌, IfErr, false};
-ghost use Rattle.mt_report.specs.Drains.{contents_of, failures_of};
+ghost use Rattle.std.specs.Prelude.{◌+◌, ◌<◌, ◌^◌, IfErr};
+ghost use Rattle.mt_report.specs.Drains.{failures_of};
 ghost use Rattle.mt_program.specs.Told.{IsTold};
-ghost use Rattle.mt_program.specs.Unasked.{is_told};
+ghost use Rattle.mt_program.specs.Unasked.{IsMisuseWith, not_utf8};
 
 use crate::unasked::{Unasked, misuse};
 use mt_report::{Drain, put_all};
@@ -32,7 +32,7 @@ fn read_words(rt: &HostRuntime) -> io::Result<Vec<String>> {
 
 /// What is answered to std's error: want of memory, or a word that is no text.
 fn unreadable(alloc: Global, error: &io::Error) -> Unasked
-    ensures { is_told result ≡ false }
+    ensures { IsMisuseWith not_utf8 result }
 {
     if error.kind() == ErrorKind::OutOfMemory {
         return Unasked::Memory;
@@ -43,7 +43,7 @@ fn unreadable(alloc: Global, error: &io::Error) -> Unasked
 // No clause can say which words these are, since std says nothing of what it gives.
 /// The words after the program's name. The error is misuse, of a word that is not UTF-8, or want of memory.
 pub fn words_of(rt: &HostRuntime) -> Result<Vec<String>, Unasked>
-    ensures { IfErr result (λ e. is_told e ≡ false) }
+    ensures { IfErr result (IsMisuseWith not_utf8) }
 {
     match read_words(rt) {
         Ok(words) => Ok(words),
@@ -51,11 +51,10 @@ pub fn words_of(rt: &HostRuntime) -> Result<Vec<String>, Unasked>
     }
 }
 
-/// Writes a text, and gives the one exit status if it was wholly written, and the other if it wasn't.
+/// Writes a text, and gives the one exit status if it was wholly written, and the other if the writer failed.
 pub fn tell<W: Write>(drain: &mut Drain<W>, text: &[u8], done: u8, undone: u8) -> u8
     requires { failures_of drain.old + 1 < 2 ^ 64 }
-    ensures { IsTold text.now done undone (contents_of W.contents drain.old)
-        (contents_of W.contents drain.new) result }
+    ensures { IsTold W.contents drain.old drain.new text.now done undone result }
 {
     let wrote = put_all(drain, text);
     if wrote.whole { done } else { undone }

@@ -1,6 +1,6 @@
-ghost use Rattle.std.specs.Prelude.{◌≡◌, ◌+◌, ◌<◌, ◌^◌, false};
-ghost use Rattle.mt_report.specs.Drains.{contents_of, failures_of};
-ghost use Rattle.mt_program.specs.Unasked.{IsToldFor, is_told};
+ghost use Rattle.std.specs.Prelude.{◌≡◌, ◌+◌, ◌<◌, ◌^◌};
+ghost use Rattle.mt_report.specs.Drains.{failures_of};
+ghost use Rattle.mt_program.specs.Unasked.{IsMisuseWith, IsToldFor};
 
 use crate::told::{MISUSE, NO_MEMORY, UNWRITTEN, tell};
 use mt_report::Drain;
@@ -30,7 +30,7 @@ impl From<AllocError> for Unasked {
 
 /// Misuse with this text, or want of memory.
 pub fn misuse(alloc: Global, text: &str) -> Unasked
-    ensures { is_told result ≡ false }
+    ensures { IsMisuseWith text.now result }
 {
     match String::from_str(alloc, text) {
         Ok(text) => Unasked::Misuse(text),
@@ -47,9 +47,8 @@ pub fn tell_unasked<O: Write, E: Write>(
 ) -> u8
     requires out { failures_of out.old + 1 < 2 ^ 64 }
     requires err { failures_of err.old + 1 < 2 ^ 64 }
-    ensures { IsToldFor unasked.now line.now
-        (contents_of O.contents out.old) (contents_of O.contents out.new)
-        (contents_of E.contents err.old) (contents_of E.contents err.new) result }
+    ensures { IsToldFor O.contents E.contents unasked.now line.now
+        out.old out.new err.old err.new result }
 {
     match unasked {
         Unasked::Told(text) => tell(out, text.as_bytes(), 0, UNWRITTEN),

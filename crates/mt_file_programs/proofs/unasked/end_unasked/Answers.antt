@@ -2,4 +2,4 @@ use Rattle.mt_program.proofs.ExitFacts.{status_by_told}
 use Rattle.mt_file_programs.proofs.unasked.end_unasked.Goals as goal
 
 pub returns : goal.returns
-returns c = status_by_told c.args.unasked.now _ _ _ _ _ c.tell_unasked.result c.tell_unasked.ensures
+returns c = status_by_told _ _ _ _ _ _ _ c.args.unasked.now c.tell_unasked.result c.tell_unasked.ensures

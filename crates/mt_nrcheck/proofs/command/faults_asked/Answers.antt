@@ -6,7 +6,7 @@ use Rattle.mt_nrcheck.proofs.command.faults_asked.Goals as goal
 
 pub returns-in_default-clause-unasked : goal.returns-in_default-clause-unasked
 returns-in_default-clause-unasked c =
-    misuse_by (NameNoFiles (rows_of (found_of c.args.matches.now))) c.misuse.result c.misuse.ensures
+    misuse_by _ (NameNoFiles (rows_of (found_of c.args.matches.now))) c.misuse.result c.misuse.ensures
     (inl (named_in (found_of c.args.matches.now) (codes "MARKET") c.get_str.result None c.get_str.ensures c.in_default.is))
 
 pub returns-clause-request : goal.returns-clause-request

@@ -7,18 +7,18 @@ use Rattle.mt_program.proofs.files.two_files.Goals as goal
 
 pub returns-in_default-clause-unasked : goal.returns-in_default-clause-unasked
 returns-in_default-clause-unasked c =
-    misuse_by (NameNoFilesIn (rows_of (found_of c.args.matches.now))) c.misuse.result c.misuse.ensures
+    misuse_by _ (NameNoFilesIn (rows_of (found_of c.args.matches.now))) c.misuse.result c.misuse.ensures
     (inl (named_in (found_of c.args.matches.now) (codes "MARKET") c.get_str.result None c.get_str.ensures c.in_default.is))
 
 pub returns-in_default-get_str-clause-unasked : goal.returns-in_default-get_str-clause-unasked
 returns-in_default-get_str-clause-unasked c =
-    misuse_by (NameNoFilesIn (rows_of (found_of c.args.matches.now))) c.misuse-in_default-get_str.result c.misuse-in_default-get_str.ensures
+    misuse_by _ (NameNoFilesIn (rows_of (found_of c.args.matches.now))) c.misuse-in_default-get_str.result c.misuse-in_default-get_str.ensures
     (inr (inl (named_in (found_of c.args.matches.now) (codes "MATCH") c.get_str-2.result None c.get_str-2.ensures c.in_default-get_str.is)))
 
 pub returns-then-are_standard-clause-unasked : goal.returns-then-are_standard-clause-unasked
 returns-then-are_standard-clause-unasked c =
     let both = and_parts (is_standard c.in-Some.market.now) (is_standard c.in-Some-get_str.matched.now) (sym c.are_standard.ensures ∙ c.if-are_standard.true) in
-    misuse_by (NameNoFilesIn (rows_of (found_of c.args.matches.now))) c.misuse-then-are_standard.result c.misuse-then-are_standard.ensures
+    misuse_by _ (NameNoFilesIn (rows_of (found_of c.args.matches.now))) c.misuse-then-are_standard.result c.misuse-then-are_standard.ensures
     (inr (inr (
       named_in (found_of c.args.matches.now) (codes "MARKET") c.get_str.result (Some c.in-Some.market) c.get_str.ensures c.in-Some.is ∙ ap Some (standard_is c.in-Some.market.now both.0),
       named_in (found_of c.args.matches.now) (codes "MATCH") c.get_str-2.result (Some c.in-Some-get_str.matched) c.get_str-2.ensures c.in-Some-get_str.is
