@@ -1,5 +1,5 @@
 -- What the program does with a reader and a writer, and how it ends.
-use Rattle.std.specs.Prelude.{◌≡◌, ◌⊎◌, ℕ, true, List, [], ◌∷◌, Option, None, Some, codes, IsTrue}
+use Rattle.std.specs.Prelude.{◌≡◌, ◌⊎◌, ℕ, Bool, true, List, [], ◌∷◌, Option, None, Some, codes, IsTrue}
 use Rattle.mt_args.specs.CommandLine.{AsksForHelp, AsksForVersion, IsMisuse, is_set, is_taken}
 use Rattle.mt_terms.specs.Lists.{has}
 use Rattle.mt_answer.specs.declared.ways.Entering.{Entering}
@@ -28,3 +28,7 @@ pub record IsExitFor (words : List (List ℕ)) (status : ℕ) : Type 0 where
   pub taken : IsTrue (has (2 ∷ 3 ∷ 6 ∷ []) status) → is_taken words ≡ true
   pub aside : status ≡ 6 → is_set (codes "set-aside") words ≡ true
   pub done : status ≡ 0 → (is_taken words ≡ true) ⊎ AsksForHelp words ⊎ AsksForVersion words
+
+-- what an exit status says of a run for words that the command takes, and that have `--set-aside` if couples may be set aside
+abbrev pub IsExitOfRun : (set_aside : Bool) → ℕ → Type 0
+IsExitOfRun set_aside status = (words : List (List ℕ)) → is_taken words ≡ true → set_aside ≡ is_set (codes "set-aside") words → IsExitFor words status

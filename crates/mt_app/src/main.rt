@@ -2,7 +2,7 @@
 #![tactic(auto)]
 
 ghost use Rattle.std.specs.Prelude.{◌≡◌, ◌+◌, ◌<◌, ◌≤◌, ◌^◌, []};
-ghost use Rattle.mt_app.specs.Program.{IsExitFor, IsRun, SaysEntering};
+ghost use Rattle.mt_app.specs.Program.{IsExitFor, IsExitOfRun, IsRun, SaysEntering};
 ghost use Rattle.mt_program.specs.CommandLine.{texts_of};
 ghost use Rattle.mt_program.specs.Told.{IsTold};
 ghost use Rattle.mt_terms.specs.Text.{refused as refused_text};
@@ -78,15 +78,36 @@ fn word_of(file: &Option<String>) -> &str {
     }
 }
 
+/// Matches the file that a word names, and gives the exit status. Standard error gets why the file can't be opened, and which
+/// couple was entering at a spent budget.
+fn match_file<T: Threads + Wait + Sync>(
+    rt: &HostRuntime,
+    crew: &T,
+    word: &str,
+    options: Options,
+    ways: Ways,
+) -> u8
+    requires workers { (1 ≤ options.workers) × (options.workers ≤ 64) }
+    requires orders { (1 ≤ ways.orders) × (ways.orders ≤ 1000) }
+    ensures { IsExitOfRun ways.set_aside result }
+{
+    let alloc = rt.alloc();
+    let mut out = Drain::new(rt.stdout());
+    let mut input = Input::at(rt, word);
+    let ended = run_match(crew, alloc, &mut input, &mut out, options, ways);
+    let mut err = Drain::new(rt.stderr());
+    say_unopened(&mut err, alloc, "nrmatch", &input);
+    status_told(&mut err, alloc, &ended, options, ways)
+}
+
 /// Does what the words ask for, and gives the exit status. `crew` is `rt` too: only `main` may take it for a handle that
 /// starts threads and waits for them.
 fn obey<T: Threads + Wait + Sync>(rt: &HostRuntime, crew: &T, words: &[String]) -> u8
     ensures { IsExitFor (texts_of words.now) result }
 {
-    let alloc = rt.alloc();
     let mut out = Drain::new(rt.stdout());
     let mut err = Drain::new(rt.stderr());
-    match asked(alloc, words) {
+    match asked(rt.alloc(), words) {
         Ok(
             Asked::Run {
                 file,
@@ -94,13 +115,13 @@ fn obey<T: Threads + Wait + Sync>(rt: &HostRuntime, crew: &T, words: &[String]) 
                 orders,
                 set_aside,
             },
-        ) => {
-            let ways = Ways { orders, set_aside };
-            let mut input = Input::at(rt, word_of(&file));
-            let ended = run_match(crew, alloc, &mut input, &mut out, options, ways);
-            say_unopened(&mut err, alloc, "nrmatch", &input);
-            status_told(&mut err, alloc, &ended, options, ways)
-        }
+        ) => match_file(
+            rt,
+            crew,
+            word_of(&file),
+            options,
+            Ways { orders, set_aside },
+        ),
         Ok(Asked::Help(text) | Asked::Version(text)) => {
             tell(&mut out, text.as_bytes(), 0, UNWRITTEN)
         }
