@@ -3,6 +3,7 @@
 ghost use Rattle.std.specs.Prelude.{◌≡◌};
 ghost use Rattle.mt_ids.specs.Seeds.{seed_by, with_field};
 
+use crate::words::{MOST_IN_PAIR, MOST_IN_WORD, pair_of, word_of};
 use std::hash::{BuildHasher, DefaultHasher, FoldHasher, Hasher};
 
 /// What makes the hashers of a table.
@@ -34,10 +35,20 @@ impl BuildHasher for Seed {
     }
 }
 
-/// Adds a field to a digest, with its length. So the same bytes, parted in another way, give another digest.
+/// Adds a field to a digest, with its length. So the same bytes, parted in another way, give another digest. A short field
+/// is one or two numbers, since bytes that don't come eight by eight take longer.
+#[tactic(auto, unfolding(crate::specs::Seeds::with_field))]
 pub fn add_field(digest: &mut DefaultHasher, field: &[u8])
     ensures { digest.new ≡ with_field digest.old field.now }
 {
-    digest.write_usize(field.len());
-    digest.write(field);
+    if field.len() <= MOST_IN_WORD {
+        digest.write_u64(word_of(field));
+    } else if field.len() <= MOST_IN_PAIR {
+        let (first, last) = pair_of(field);
+        digest.write_u64(last);
+        digest.write_u64(first);
+    } else {
+        digest.write_usize(field.len());
+        digest.write(field);
+    }
 }
