@@ -15,7 +15,7 @@ CHECKS = {
     "cli PROGRAM": 8452,
     "cli": 8455,
     "controls": 52,
-    "edits_apply": 784,
+    "edits_apply": 788,
     "explain": 10098,
     "faults": 20037,
     "linear": 45,

@@ -17,10 +17,19 @@ fn hashed(first: &[u8], second: &[u8]) -> u64 {
 #[test]
 fn bytes_parted_otherwise_give_another_seed(rt: HostRuntime) {
     let seen = hashed(b"ab", b"c");
+    let longer = hashed(b"abcdefgh", b"ijklmnopqrstuvwxyz");
     let are_same = [
         seen == hashed(b"ab", b"c"),
         seen == hashed(b"ab", b"d"),
         seen == hashed(b"a", b"bc"),
+        longer == hashed(b"abcdefgh", b"ijklmnopqrstuvwxyz"),
+        longer == hashed(b"abcdefgh", b"ijklmnopqrstuvwxyy"),
+        longer == hashed(b"abcdefg", b"hijklmnopqrstuvwxyz"),
+        longer == hashed(b"abcdefghi", b"jklmnopqrstuvwxyz"),
     ];
-    same(&rt, are_same, [true, false, false]);
+    same(
+        &rt,
+        are_same,
+        [true, false, false, true, false, false, false],
+    );
 }
