@@ -31,7 +31,7 @@ CHECKS = {
     "threads": 66,
     "told": 311,
     "units": 65,
-    "words": 418,
+    "words": 419,
     "ways": 1551,
     "wrong_bodies --gate": 35,
     "wrong_bodies --release": 65,
