@@ -35,7 +35,7 @@ impl<'r, 'a> RecordLists<'r, 'a> {
     pub(crate) fn of_programs(&self, alloc: Global) -> Result<Vec<IdList<'r, 'a>>, AllocError>
         ensures { IfOk result (λ lists. map list_seen lists.items ≡ lists_of_programs self.now) }
     {
-        let mut lists = Vec::new(alloc);
+        let mut lists = Vec::with_capacity(alloc, self.records.len())?;
         for one in self.records {
             if let Record::Program { list, .. } = one {
                 push_list(&mut lists, Some(list), stays(self.withdrawn, one))?;
@@ -48,7 +48,7 @@ impl<'r, 'a> RecordLists<'r, 'a> {
     pub(crate) fn of_applicants(&self, alloc: Global) -> Result<Vec<IdList<'r, 'a>>, AllocError>
         ensures { IfOk result (λ lists. map list_seen lists.items ≡ lists_of_applicants self.now) }
     {
-        let mut lists = Vec::new(alloc);
+        let mut lists = Vec::with_capacity(alloc, self.records.len())?;
         for one in self.records {
             let kept = stays(self.withdrawn, one);
             match one {

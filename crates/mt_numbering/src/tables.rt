@@ -27,7 +27,7 @@ fn singles(alloc: Global, count: usize) -> Result<Vec<Agent>, AllocError>
     requires { count < 2 ^ 32 }
     ensures { IfOk result (λ agents. agents.items ≡ map (agent_from [] 0) (below count)) }
 {
-    let mut agents = Vec::new(alloc);
+    let mut agents = Vec::with_capacity(alloc, count)?;
     for number in 0..count {
         agents.push(Agent::Single(AppNo(number as u32)))?;
     }

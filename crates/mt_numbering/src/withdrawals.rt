@@ -89,7 +89,7 @@ pub(crate) fn program_numbers(
     ensures { IfOk result (λ v. v.items
         ≡ new_numbers 0 (program_flags (stays_after withdrawn.now) (all_seen records.now))) }
 {
-    let mut numbers = Vec::new(alloc);
+    let mut numbers = Vec::with_capacity(alloc, records.len())?;
     let mut next = 0;
     for one in records {
         if let Record::Program { .. } = one {
@@ -135,7 +135,7 @@ pub(crate) fn applicant_numbers(
     ensures { IfOk result (λ v. v.items
         ≡ new_numbers 0 (applicant_flags (stays_after withdrawn.now) (all_seen records.now))) }
 {
-    let mut numbers = Vec::new(alloc);
+    let mut numbers = Vec::with_capacity(alloc, records.len())?;
     let mut next = 0;
     for one in records {
         let stays = stays(withdrawn, one);
