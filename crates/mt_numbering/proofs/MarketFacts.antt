@@ -1,7 +1,8 @@
 -- The steps from records to their market: what is registered, what stands among those that stay and those that leave,
 -- and the lists of those that stay by their own numbers.
 use Rattle.std.proofs.Common.{◌≡◌, ℕ, suc, ◌+◌, ◌<◌, ◌≤◌, ◌^◌, nat_lt, Bool, true, false, not, ◌&&◌, ◌||◌, List, [], ◌∷◌, length, get_or, Option, Some, None, refl, ap, ap₂, sym, subst, ◌∙◌, arith, cond, if◌then◌else◌}
-use Rattle.std.specs.Prelude.{filter, filter_map, flat_map, bytes_eq, MatchOption}
+use Rattle.std.specs.Prelude.{filter, filter_map, flat_map, bytes_eq, is_some, IfSome, MatchOption, Result, Ok, IfOk}
+use Rattle.std.specs.declared.alloc.AllocError.{AllocError}
 use Rattle.std.specs.List.{list_all, cons_option}
 use Rattle.std.proofs.lemmas.Bool.{and_parts, and_from as both, or_parts}
 use Rattle.std.proofs.lemmas.Bool.Decides.{nat_tests}
@@ -30,11 +31,16 @@ use Rattle.mt_numbering.specs.Withdrawals.{HaveFewApplicants, HaveFewPrograms}
 use Rattle.mt_drafts.specs.Names.{single_flags, AreNames}
 use Rattle.mt_numbering.specs.Markets.{AreIdsOfRecords, AreEntries, GivesEntries, Remains}
 use Rattle.mt_numbering.specs.Numbered.{program_lists, applicant_lists, couple_lists, ranking_in, lists_by, members_in, pairs_in}
-use Rattle.mt_numbering.specs.Reading.{pairs_by, pairs_read, lists_stand, members_by, ReadsEntries}
+use Rattle.mt_numbering.specs.Reading.{pairs_by, pairs_read, pairs_stand_in, lists_stand, members_by}
 use Rattle.mt_id_lists.specs.Numbering.{Numbering, number_by, numbers_by}
-use Rattle.mt_id_lists.specs.Reading.{ids_read}
+use Rattle.mt_id_lists.specs.Reading.{ids_read, ids_stand, ReadsAll}
 use Rattle.mt_numbering.specs.Registered.{is_registered}
-use Rattle.mt_numbering.specs.Withdrawals.{stays_after, Stand}
+use Rattle.mt_numbering.specs.Withdrawals.{are_once, are_registered, stays_after, AreWithdrawn}
+use Rattle.mt_numbering.specs.Sides.{applicants_stand, programs_stand, GivesByApplicants, GivesByPrograms}
+use Rattle.mt_numbering.specs.declared.entries.ByApplicants.{ByApplicants}
+use Rattle.mt_numbering.specs.declared.entries.ByPrograms.{ByPrograms}
+use Rattle.mt_numbering.proofs.EntryFacts.{rankings_stand, choices_stand, couples_stand}
+use Rattle.mt_records.proofs.FieldFacts.{right_fails}
 use Rattle.mt_numbering.proofs.PairSteps.{all_only}
 
 -- there is a flag for each applicant whether it is a single
@@ -97,15 +103,25 @@ module _ (rs : List Record) (ids : Kinds) (are : AreIdsOfRecords rs ids) where
   pub length-singles : (singles : List Bool) → singles ≡ single_flags rs → length singles ≡ length ids.applicants
   length-singles singles flags = ap length flags ∙ length-single_flags rs ∙ sym (ap length are.applicants)
 
--- records have no fault among them where their ids differ, their withdrawals stand, and their lists do
-pub faultless_by_steps : (rules : Rules) (rs : List Record) → are_too_many rules.limits rs ≡ false
-    → is_faultless rules rs ≡ (ids_differ rs && withdrawals_stand rs && lists_stand rules.half_pairs (ids_of OfProgram rs) (applicant_ids rs) rs)
-faultless_by_steps rules rs few =
-    by (ids_differ rs) (withdrawals_stand rs) (list_all (ranking_stands (applicant_ids rs)) rs) (list_all (list_stands (ids_of OfProgram rs)) rs) (list_all (pairs_stand rules.half_pairs (ids_of OfProgram rs)) rs)
-    (are_too_many rules.limits rs) few
+-- withdrawals stand where what is withdrawn is registered, and withdrawn once
+withdrawals_are : (rs : List Record) → withdrawals_stand rs ≡ (are_once rs && are_registered rs)
+withdrawals_are rs =
+    by (list_all (has_id (ids_of OfProgram rs)) (withdrawn OfProgram rs)) (all_differ bytes_eq (withdrawn OfProgram rs))
+    (list_all (has_id (ids_of OfApplicant rs)) (withdrawn OfApplicant rs)) (all_differ bytes_eq (withdrawn OfApplicant rs))
+    (list_all (has_id (ids_of OfCouple rs)) (withdrawn OfCouple rs)) (all_differ bytes_eq (withdrawn OfCouple rs))
   where
-    by : (i w r l p t : Bool) → t ≡ false → (i && w && r && l && p && not t) ≡ (i && w && (r && l && p))
-    by i w r l p t n = grind arith
+    by : (k o l p m q : Bool) → ((k && o) && (l && p) && (m && q)) ≡ ((o && p && q) && (k && l && m))
+    by k o l p m q = grind arith
+
+-- records have no fault among them where their ids differ, their lists stand, and their withdrawals do
+faultless_by_steps : (rules : Rules) (rs : List Record) → are_too_many rules.limits rs ≡ false
+    → is_faultless rules rs ≡ ((ids_differ rs && lists_stand rules.half_pairs (ids_of OfProgram rs) (applicant_ids rs) rs) && (are_once rs && are_registered rs))
+faultless_by_steps rules rs few =
+    by (ids_differ rs) (withdrawals_stand rs) (are_once rs && are_registered rs) (list_all (ranking_stands (applicant_ids rs)) rs) (list_all (list_stands (ids_of OfProgram rs)) rs)
+    (list_all (pairs_stand rules.half_pairs (ids_of OfProgram rs)) rs) (are_too_many rules.limits rs) (withdrawals_are rs) few
+  where
+    by : (i w v r l p t : Bool) → w ≡ v → t ≡ false → (i && w && r && l && p && not t) ≡ ((i && (r && l && p)) && v)
+    by i w v r l p t e n = grind arith
 
 -- a record that stays or not, of which a table has nothing
 module _ (stays : Record → Bool) where
@@ -221,8 +237,8 @@ module _ (flags : List Bool) (ids : List Bytes) (differ : all_differ bytes_eq id
   members_stay (WithdrawRecord kind id ∷ rs) h = members_stay rs h
 
 -- the records that stay where these are all that is withdrawn
-pub remaining_are : (rs : List Record) (w : Kinds) → Stand rs w → filter (stays_after w) rs ≡ remaining rs
-remaining_are rs w stand = by w.programs w.applicants w.couples (stand.withdrawn OfProgram) (stand.withdrawn OfApplicant) (stand.withdrawn OfCouple)
+pub remaining_are : (rs : List Record) (w : Kinds) → AreWithdrawn rs w → filter (stays_after w) rs ≡ remaining rs
+remaining_are rs w are = by w.programs w.applicants w.couples (are.withdrawn OfProgram) (are.withdrawn OfApplicant) (are.withdrawn OfCouple)
   where
     by : (p a c : List Bytes) → p ≡ withdrawn OfProgram rs → a ≡ withdrawn OfApplicant rs → c ≡ withdrawn OfCouple rs → filter (stays_without p a c) rs ≡ remaining rs
     by p a c e f g = rw (e, f, g) (remaining_is rs)
@@ -247,25 +263,37 @@ names_stay records count staying names counted stay are all =
 
 -- a fault among records, by the step that finds it
 module _ (rules : Rules) (rs : List Record) (few : are_too_many rules.limits rs ≡ false) where
-  pub not_standing : withdrawals_stand rs ≡ false → is_faultless rules rs ≡ false
-  not_standing h = faultless_by_steps rules rs few ∙ by (ids_differ rs) (withdrawals_stand rs) _ h
+  abbrev all_stand : Bool
+  all_stand = ids_differ rs && lists_stand rules.half_pairs (ids_of OfProgram rs) (applicant_ids rs) rs
+
+  pub not_standing : all_stand ≡ false → is_faultless rules rs ≡ false
+  not_standing h = faultless_by_steps rules rs few ∙ by all_stand (are_once rs && are_registered rs) h
     where
-      by : (a b c : Bool) → b ≡ false → (a && b && c) ≡ false
+      by : (a b : Bool) → a ≡ false → (a && b) ≡ false
+      by a b e = rw e refl
+
+  pub not_once : are_once rs ≡ false → is_faultless rules rs ≡ false
+  not_once h = faultless_by_steps rules rs few ∙ by all_stand (are_once rs) (are_registered rs) h
+    where
+      by : (a b c : Bool) → b ≡ false → (a && (b && c)) ≡ false
       by true b c e = rw e refl
       by false b c e = refl
 
-  -- what remains of the records, by what their lists say
-  pub remains : (ids : Kinds) → AreIdsOfRecords rs ids → (w : Kinds) → Stand rs w
-      → (left : List Record) → left ≡ filter (stays_after w) rs → (o : Option Entries) → GivesEntries rules.half_pairs (stays_after w) rs o → Remains rules rs left o
-  remains ids are w stand left is None gives = faultless_by_steps rules rs few ∙ by (ids_differ rs && withdrawals_stand rs) _ gives
+  pub not_registered : are_registered rs ≡ false → is_faultless rules rs ≡ false
+  not_registered h = faultless_by_steps rules rs few ∙ by all_stand (are_once rs) (are_registered rs) h
     where
-      by : (a b : Bool) → b ≡ false → (a && b) ≡ false
-      by true b e = e
-      by false b e = refl
-  remains ids are w stand left is (Some e) gives = (
-    faultless_by_steps rules rs few ∙ both _ _ (both _ _ are.differ stand.stand) gives.0,
-    is ∙ remaining_are rs w stand,
-    subst (λ (zs : List Record). AreEntries zs e) (sym is) gives.1,
+      by : (a b c : Bool) → c ≡ false → (a && (b && c)) ≡ false
+      by true true c e = e
+      by true false c e = refl
+      by false b c e = refl
+
+  -- what remains of the records, by what their lists say
+  pub remains : (w : Kinds) → AreWithdrawn rs w → are_registered rs ≡ true → (left : List Record) → left ≡ filter (stays_after w) rs
+      → (e : Kinds × Entries) → GivesEntries rules.half_pairs (stays_after w) rs (Some e) → Remains rules rs left (Some e.1)
+  remains w are known left is e gives = (
+    faultless_by_steps rules rs few ∙ both _ _ (both _ _ gives.1.differ gives.0) (both _ _ are.once known),
+    is ∙ remaining_are rs w are,
+    subst (λ (zs : List Record). AreEntries zs e.1) (sym is) gives.2,
   )
 
 -- what was found of the records that remain
@@ -273,69 +301,174 @@ pub remains_found : (rules : Rules) (rs left : List Record) (o : Option Entries)
     → (is_faultless rules rs ≡ true) × (left ≡ remaining rs) × AreEntries left e
 remains_found rules rs left o e h is = subst (Remains rules rs left) is h
 
--- Below, records have these ids, and the new numbers are those of the records that stay.
-module _ (rs : List Record) (ids : Kinds) (are : AreIdsOfRecords rs ids) (w : Kinds) where
-  abbrev stay : List Record
-  stay = filter (stays_after w) rs
+-- Below, the new numbers of applicants are those of the records that stay.
+module _ (stays : Record → Bool) (rs : List Record) where
+  module _ (n : Numbering ℕ) (ids : n.ids ≡ applicant_ids rs) where
+    among_applicants : list_all (ids_stand n) (program_lists stays rs) ≡ list_all (ranking_stands (applicant_ids rs)) rs
+    among_applicants = sym (rankings_stand n stays rs) ∙ ap (λ (xs : List Bytes). list_all (ranking_stands xs) rs) ids
 
-  abbrev program_stays : List Bool
-  program_stays = program_flags (stays_after w) rs
+    abbrev Rankings : Option (List (List ℕ)) → Type 0
+    Rankings o = ReadsAll (ids_stand n) (ids_read n) (program_lists stays rs) o
 
-  abbrev applicant_stays : List Bool
-  applicant_stays = applicant_flags (stays_after w) rs
+    pub rankings_fail : (o : Option (List (List ℕ))) → o ≡ None → Rankings o → applicants_stand rs ≡ false
+    rankings_fail o is reads =
+        let fail : list_all (ids_stand n) (program_lists stays rs) ≡ false = subst Rankings is reads in
+        right_fails (all_differ bytes_eq (applicant_ids rs)) _ (sym among_applicants ∙ fail)
 
-  pub long_programs : (numbers : List (Option ℕ)) → numbers ≡ new_numbers 0 program_stays → length numbers ≡ length ids.programs
-  long_programs numbers new = ap length new ∙ length-new_numbers 0 program_stays ∙ length-program_flags (stays_after w) rs ∙ sym (ap length are.programs)
-
-  pub long_applicants : (numbers : List (Option ℕ)) → numbers ≡ new_numbers 0 applicant_stays → length numbers ≡ length ids.applicants
-  long_applicants numbers new = ap length new ∙ length-new_numbers 0 applicant_stays ∙ length-applicant_flags (stays_after w) rs ∙ sym (ap length are.applicants)
-
-  module _ (programs applicants : Numbering ℕ) (p_ids : programs.ids ≡ ids.programs) (p_numbers : programs.numbers ≡ new_numbers 0 program_stays)
-      (a_ids : applicants.ids ≡ ids.applicants) (a_numbers : applicants.numbers ≡ new_numbers 0 applicant_stays) where
-    programs_are : programs ≡ anew program_stays (ids_of OfProgram rs) (programs_differ rs ids are)
-    programs_are = λ i. record { ids = (p_ids ∙ are.programs) i; numbers = p_numbers i }
-
-    applicants_are : applicants ≡ anew applicant_stays (applicant_ids rs) (applicants_differ rs ids are)
-    applicants_are = λ i. record { ids = (a_ids ∙ are.applicants) i; numbers = a_numbers i }
-
-    stand_is : (half_pairs : Bool) → lists_stand half_pairs programs.ids applicants.ids rs ≡ lists_stand half_pairs (ids_of OfProgram rs) (applicant_ids rs) rs
-    stand_is half_pairs = ap₂ (λ (ps xs : List Bytes). lists_stand half_pairs ps xs rs) (p_ids ∙ are.programs) (a_ids ∙ are.applicants)
-
-    pub entries_given : (half_pairs : Bool) (o : Option Entries) → ReadsEntries half_pairs programs applicants (stays_after w) rs o → GivesEntries half_pairs (stays_after w) rs o
-    entries_given half_pairs None reads = sym (stand_is half_pairs) ∙ reads
-    entries_given half_pairs (Some e) reads =
-        let all : lists_stand half_pairs (ids_of OfProgram rs) (applicant_ids rs) rs ≡ true = sym (stand_is half_pairs) ∙ reads.0 in
-        let p = and_parts (list_all (ranking_stands (applicant_ids rs)) rs && list_all (list_stands (ids_of OfProgram rs)) rs) _ all in
-        let q = and_parts (list_all (ranking_stands (applicant_ids rs)) rs) _ p.0 in
-        let p_flagged : flagged program_stays (ids_of OfProgram rs) ≡ ids_of OfProgram stay = sym (program_ids_stay (stays_after w) rs) in
-        let a_flagged : flagged applicant_stays (applicant_ids rs) ≡ applicant_ids stay = sym (applicant_ids_stay (stays_after w) rs) in
-        let p_differ = programs_differ rs ids are in
-        let a_differ = applicants_differ rs ids are in
+    pub given_by_applicants : n.numbers ≡ new_numbers 0 (applicant_flags stays rs) → all_differ bytes_eq (applicant_ids rs) ≡ true
+        → (b : ByApplicants) → b.ids ≡ n.ids → (o : Option (List (List ℕ))) → o ≡ Some b.rankings → Rankings o
+        → b.members.items ≡ filter_map (members_by n) (filter stays rs) → GivesByApplicants stays rs (Some b)
+    given_by_applicants numbers differ b same o is reads members =
+        let read : Rankings (Some b.rankings) = subst Rankings is reads in
+        let all : list_all (ranking_stands (applicant_ids rs)) rs ≡ true = sym among_applicants ∙ read.0 in
+        let flags = applicant_flags stays rs in
+        let stay = filter stays rs in
+        let are : n ≡ anew flags (applicant_ids rs) differ = λ i. record { ids = ids i; numbers = numbers i } in
+        let left : flagged flags (applicant_ids rs) ≡ applicant_ids stay = sym (applicant_ids_stay stays rs) in
         let among : list_all (has_id (applicant_ids stay)) (applicant_ids stay) ≡ true = all_pass [] [] refl (has_id (applicant_ids stay)) (applicant_ids stay) (λ id h. h) in (
-          all,
+          both _ _ differ all,
           record {
-            rankings = reads.1.rankings ∙ ap (λ (n : Numbering ℕ). flat_map (ids_read n) (program_lists (stays_after w) rs)) applicants_are
-                ∙ rankings_stay applicant_stays (applicant_ids rs) a_differ (stays_after w) rs q.0
-                ∙ ap (λ (xs : List Bytes). filter_map (ranking_in xs) stay) a_flagged;
-            lists = reads.1.lists ∙ ap (λ (n : Numbering ℕ). flat_map (ids_read n) (applicant_lists (stays_after w) rs)) programs_are
-                ∙ lists_stay program_stays (ids_of OfProgram rs) p_differ (stays_after w) rs q.1
-                ∙ ap (λ (xs : List Bytes). flat_map (lists_by xs) stay) p_flagged;
-            pairs = reads.1.pairs ∙ ap (λ (n : Numbering ℕ). flat_map (pairs_read n) (couple_lists (stays_after w) rs)) programs_are
-                ∙ all_pairs_stay program_stays (ids_of OfProgram rs) p_differ (stays_after w) half_pairs rs p.1
-                ∙ ap (λ (xs : List Bytes). filter_map (pairs_in xs) stay) p_flagged;
-            members = reads.1.members ∙ ap (λ (n : Numbering ℕ). filter_map (members_by n) stay) applicants_are
-                ∙ members_stay applicant_stays (applicant_ids rs) a_differ stay (ap (λ (xs : List Bytes). list_all (has_id xs) (applicant_ids stay)) a_flagged ∙ among)
-                ∙ ap (λ (xs : List Bytes). filter_map (members_in xs) stay) a_flagged;
+            ids = same ∙ ids;
+            rankings = read.1 ∙ ap (λ (m : Numbering ℕ). flat_map (ids_read m) (program_lists stays rs)) are
+                ∙ rankings_stay flags (applicant_ids rs) differ stays rs all
+                ∙ ap (λ (xs : List Bytes). filter_map (ranking_in xs) stay) left;
+            members = members ∙ ap (λ (m : Numbering ℕ). filter_map (members_by m) stay) are
+                ∙ members_stay flags (applicant_ids rs) differ stay (ap (λ (xs : List Bytes). list_all (has_id xs) (applicant_ids stay)) left ∙ among)
+                ∙ ap (λ (xs : List Bytes). filter_map (members_in xs) stay) left;
           },
         )
 
+  -- the same of programs
+  module _ (half_pairs : Bool) (n : Numbering ℕ) (ids : n.ids ≡ ids_of OfProgram rs) where
+    among_programs : list_all (ids_stand n) (applicant_lists stays rs) ≡ list_all (list_stands (ids_of OfProgram rs)) rs
+    among_programs = sym (choices_stand n stays rs) ∙ ap (λ (xs : List Bytes). list_all (list_stands xs) rs) ids
+
+    pairs_among : list_all (pairs_stand_in half_pairs n) (couple_lists stays rs) ≡ list_all (pairs_stand half_pairs (ids_of OfProgram rs)) rs
+    pairs_among = sym (couples_stand n stays half_pairs rs) ∙ ap (λ (xs : List Bytes). list_all (pairs_stand half_pairs xs) rs) ids
+
+    abbrev Lists : Option (List (List ℕ)) → Type 0
+    Lists o = ReadsAll (ids_stand n) (ids_read n) (applicant_lists stays rs) o
+
+    abbrev Couples : Option (List (List Pair)) → Type 0
+    Couples o = ReadsAll (pairs_stand_in half_pairs n) (pairs_read n) (couple_lists stays rs) o
+
+    pub choices_fail : (o : Option (List (List ℕ))) → o ≡ None → Lists o → programs_stand half_pairs rs ≡ false
+    choices_fail o is reads =
+        let h : list_all (ids_stand n) (applicant_lists stays rs) ≡ false = subst Lists is reads in
+        by (all_differ bytes_eq (ids_of OfProgram rs)) (list_all (list_stands (ids_of OfProgram rs)) rs) (list_all (pairs_stand half_pairs (ids_of OfProgram rs)) rs) (sym among_programs ∙ h)
+      where
+        by : (a b c : Bool) → b ≡ false → (a && b && c) ≡ false
+        by true b c e = rw e refl
+        by false b c e = refl
+
+    pub pairs_fail : (o : Option (List (List Pair))) → o ≡ None → Couples o → programs_stand half_pairs rs ≡ false
+    pairs_fail o is reads =
+        let h : list_all (pairs_stand_in half_pairs n) (couple_lists stays rs) ≡ false = subst Couples is reads in
+        by (all_differ bytes_eq (ids_of OfProgram rs)) (list_all (list_stands (ids_of OfProgram rs)) rs) (list_all (pairs_stand half_pairs (ids_of OfProgram rs)) rs) (sym pairs_among ∙ h)
+      where
+        by : (a b c : Bool) → c ≡ false → (a && b && c) ≡ false
+        by true true c e = e
+        by true false c e = refl
+        by false b c e = refl
+
+    pub given_by_programs : n.numbers ≡ new_numbers 0 (program_flags stays rs) → all_differ bytes_eq (ids_of OfProgram rs) ≡ true
+        → (b : ByPrograms) → b.ids ≡ n.ids → (o : Option (List (List ℕ))) → o ≡ Some b.lists → Lists o → (q : Option (List (List Pair))) → q ≡ Some b.pairs → Couples q
+        → GivesByPrograms half_pairs stays rs (Some b)
+    given_by_programs numbers differ b same o is lists q so pairs =
+        let read : Lists (Some b.lists) = subst Lists is lists in
+        let both_read : Couples (Some b.pairs) = subst Couples so pairs in
+        let all : list_all (list_stands (ids_of OfProgram rs)) rs ≡ true = sym among_programs ∙ read.0 in
+        let each : list_all (pairs_stand half_pairs (ids_of OfProgram rs)) rs ≡ true = sym pairs_among ∙ both_read.0 in
+        let flags = program_flags stays rs in
+        let stay = filter stays rs in
+        let are : n ≡ anew flags (ids_of OfProgram rs) differ = λ i. record { ids = ids i; numbers = numbers i } in
+        let left : flagged flags (ids_of OfProgram rs) ≡ ids_of OfProgram stay = sym (program_ids_stay stays rs) in (
+          both _ _ (both _ _ differ all) each,
+          record {
+            ids = same ∙ ids;
+            lists = read.1 ∙ ap (λ (m : Numbering ℕ). flat_map (ids_read m) (applicant_lists stays rs)) are
+                ∙ lists_stay flags (ids_of OfProgram rs) differ stays rs all
+                ∙ ap (λ (xs : List Bytes). flat_map (lists_by xs) stay) left;
+            pairs = both_read.1 ∙ ap (λ (m : Numbering ℕ). flat_map (pairs_read m) (couple_lists stays rs)) are
+                ∙ all_pairs_stay flags (ids_of OfProgram rs) differ stays half_pairs rs each
+                ∙ ap (λ (xs : List Bytes). filter_map (pairs_in xs) stay) left;
+          },
+        )
+
+-- what is known of a result that is no error
+pub given : {T : Type 0} (P : Option T → Type 0) (r : Result (Option T) AllocError) (o p : Option T) → r ≡ Ok o → o ≡ p → IfOk r P → P p
+given P r o p was is gives = subst (λ x. IfOk x P) (was ∙ ap Ok is) gives
+
+-- what both give
+module _ (half_pairs : Bool) (stays : Record → Bool) (rs : List Record) where
+  abbrev stand : Bool
+  stand = ids_differ rs && lists_stand half_pairs (ids_of OfProgram rs) (applicant_ids rs) rs
+
+  stand_by : stand ≡ ((applicants_stand rs && programs_stand half_pairs rs) && all_differ bytes_eq (ids_of OfCouple rs))
+  stand_by =
+      by (all_differ bytes_eq (ids_of OfProgram rs)) (all_differ bytes_eq (applicant_ids rs)) (all_differ bytes_eq (ids_of OfCouple rs)) (list_all (ranking_stands (applicant_ids rs)) rs)
+      (list_all (list_stands (ids_of OfProgram rs)) rs) (list_all (pairs_stand half_pairs (ids_of OfProgram rs)) rs)
+    where
+      by : (p a c r l q : Bool) → ((p && a && c) && (r && l && q)) ≡ (((a && r) && (p && l && q)) && c)
+      by p a c r l q = grind arith
+
+  pub couples_fail : all_differ bytes_eq (ids_of OfCouple rs) ≡ false → stand ≡ false
+  couples_fail h = stand_by ∙ right_fails (applicants_stand rs && programs_stand half_pairs rs) _ h
+
+  pub applicants_fail : applicants_stand rs ≡ false → stand ≡ false
+  applicants_fail h = stand_by ∙ rw h refl
+
+  pub programs_fail : programs_stand half_pairs rs ≡ false → stand ≡ false
+  programs_fail h = stand_by ∙ by (applicants_stand rs) (programs_stand half_pairs rs) (all_differ bytes_eq (ids_of OfCouple rs)) h
+    where
+      by : (a b c : Bool) → b ≡ false → ((a && b) && c) ≡ false
+      by true b c e = rw e refl
+      by false b c e = refl
+
+  pub given_by_both : (a : ByApplicants) (b : ByPrograms) → GivesByApplicants stays rs (Some a) → GivesByPrograms half_pairs stays rs (Some b)
+      → (e : Kinds × Entries) → e.0.applicants ≡ a.ids → e.0.programs ≡ b.ids → e.0.couples ≡ ids_of OfCouple rs → all_differ bytes_eq (ids_of OfCouple rs) ≡ true
+      → e.1.rankings ≡ a.rankings → e.1.members.items ≡ a.members.items → e.1.lists ≡ b.lists → e.1.pairs ≡ b.pairs → GivesEntries half_pairs stays rs (Some e)
+  given_by_both a b first second e applicants programs couples differ rankings members lists pairs =
+      let all : stand ≡ true = stand_by ∙ both _ _ (both _ _ first.0 second.0) differ in
+      let parts = and_parts (ids_differ rs) _ all in (
+        parts.1,
+        record { programs = programs ∙ second.1.ids; applicants = applicants ∙ first.1.ids; couples = couples; differ = parts.0 },
+        record { rankings = rankings ∙ first.1.rankings; lists = lists ∙ second.1.lists; pairs = pairs ∙ second.1.pairs; members = members ∙ first.1.members },
+      )
+
+-- the ids that a table was made of, if they differ
+pub table_found : (names all : List Bytes) (o : Option (List Bytes)) (ids : List Bytes) → names ≡ all → IfSome o (λ table. table ≡ names) → is_some o ≡ all_differ bytes_eq names → o ≡ Some ids
+    → (ids ≡ all) × (all_differ bytes_eq all ≡ true)
+table_found names all None ids same found differ is = cc
+table_found names all (Some table) ids same found differ is =
+    let one : table ≡ ids = cc in (sym one ∙ found ∙ same, ap (all_differ bytes_eq) (sym same) ∙ sym differ)
+
+pub table_missing : (names all : List Bytes) (o : Option (List Bytes)) → names ≡ all → is_some o ≡ all_differ bytes_eq names → o ≡ None → all_differ bytes_eq all ≡ false
+table_missing names all o same differ is = ap (all_differ bytes_eq) (sym same) ∙ sym differ ∙ ap is_some is
+
+-- there is a new number, or none, for each id
+pub long_programs : (stays : Record → Bool) (rs : List Record) (ids : List Bytes) (numbers : List (Option ℕ)) → ids ≡ ids_of OfProgram rs
+    → numbers ≡ new_numbers 0 (program_flags stays rs) → length numbers ≡ length ids
+long_programs stays rs ids numbers are new = ap length new ∙ length-new_numbers 0 (program_flags stays rs) ∙ length-program_flags stays rs ∙ sym (ap length are)
+
+pub long_applicants : (stays : Record → Bool) (rs : List Record) (ids : List Bytes) (numbers : List (Option ℕ)) → ids ≡ applicant_ids rs
+    → numbers ≡ new_numbers 0 (applicant_flags stays rs) → length numbers ≡ length ids
+long_applicants stays rs ids numbers are new = ap length new ∙ length-new_numbers 0 (applicant_flags stays rs) ∙ length-applicant_flags stays rs ∙ sym (ap length are)
+
 -- what the steps found
-pub stand_found : (given records : List Checked) (o : Option Kinds) (w : Kinds) → given ≡ records
-    → MatchOption o (withdrawals_stand (all_seen given) ≡ false) (Stand (all_seen given)) → o ≡ Some w → Stand (all_seen records) w
-stand_found given records None w e h is = cc
-stand_found given records (Some v) w e h is =
+pub once_found : (given records : List Checked) (o : Option Kinds) (w : Kinds) → given ≡ records
+    → MatchOption o (are_once (all_seen given) ≡ false) (AreWithdrawn (all_seen given)) → o ≡ Some w → AreWithdrawn (all_seen records) w
+once_found given records None w e h is = cc
+once_found given records (Some v) w e h is =
     let same : v ≡ w = cc in
-    subst (λ (k : Kinds). Stand (all_seen records) k) same (subst (λ (xs : List Checked). Stand (all_seen xs) v) e h)
+    subst (λ (k : Kinds). AreWithdrawn (all_seen records) k) same (subst (λ (xs : List Checked). AreWithdrawn (all_seen xs) v) e h)
+
+pub read_found : (given records : List Checked) (inside rules : Rules) (w : Kinds) (o p : Option (Kinds × Entries)) → given ≡ records → inside ≡ rules → o ≡ p
+    → GivesEntries inside.half_pairs (stays_after w) (all_seen given) o → GivesEntries rules.half_pairs (stays_after w) (all_seen records) p
+read_found given records inside rules w o p e f is gives =
+    subst (GivesEntries rules.half_pairs (stays_after w) (all_seen records)) is
+    (subst (λ (q : Rules). GivesEntries q.half_pairs (stays_after w) (all_seen records) o) f
+    (subst (λ (xs : List Checked). GivesEntries inside.half_pairs (stays_after w) (all_seen xs) o) e gives))
 
 below_limit : (limit most n : ℕ) → limit ≤ most → most < 2 ^ 31 → nat_lt limit n ≡ false → n < 2 ^ 31
 below_limit limit most n a b h = grind (arith, nat_tests)

@@ -1,5 +1,5 @@
 -- What records withdraw, record by record, and the new numbers of those that stay.
-use Rattle.std.proofs.Common.{◌≡◌, ℕ, ◌+◌, ◌<◌, Bool, true, false, not, ◌&&◌, List, [], ◌∷◌, ◌++◌, length, take, drop, get_or, refl, ap, sym, ◌∙◌}
+use Rattle.std.proofs.Common.{◌≡◌, ℕ, ◌+◌, ◌<◌, Bool, true, false, not, ◌&&◌, List, [], ◌∷◌, ◌++◌, length, take, drop, get_or, refl, ap, sym, subst, ◌∙◌}
 use Rattle.std.specs.Prelude.{bytes_eq, option_to_list}
 use Rattle.std.specs.Borrow.{Bor}
 use Rattle.std.specs.List.{list_all}
@@ -10,8 +10,6 @@ use Rattle.std.proofs.lemmas.List.Folds.{list_all-append}
 use Rattle.mt_terms.specs.Registration.Ids.{Bytes, has_id, all_differ}
 use Rattle.mt_terms.specs.Registration.Records.{Record, ProgramRecord, ApplicantRecord, CoupleRecord, WithdrawRecord, Kind, OfProgram, OfApplicant, OfCouple}
 use Rattle.mt_terms.specs.Registration.Rows.{withdrawn_id, withdrawn, ids_of}
-use Rattle.mt_draft_laws.specs.Faultless.{withdrawals_stand}
-use Rattle.mt_terms.specs.Registration.Ids.{stands_once}
 use Rattle.mt_record_laws.proofs.IdFacts.{differ_parts, differ_push, not_true, or_left, or_right}
 use Rattle.mt_terms.proofs.IdFacts.{is_same, same_id}
 use Rattle.mt_ids.specs.declared.kinds.Kind as checked
@@ -21,7 +19,7 @@ use Rattle.mt_ids.specs.declared.kinds.Kinds.{Kinds}
 use Rattle.mt_records.specs.Records.{all_seen, record_seen}
 use Rattle.mt_ids.specs.Kinds.{ids_in, under, AddsId}
 use Rattle.mt_records.proofs.FieldFacts.{right_fails}
-use Rattle.mt_numbering.specs.Withdrawals.{Stand, withdrawn_by, withdrawn_ids}
+use Rattle.mt_numbering.specs.Withdrawals.{are_once, are_registered, withdrawn_by, withdrawn_ids, AreWithdrawn}
 use Rattle.mt_ids.specs.Seeds.{digest_of, with_fields}
 use Rattle.mt_ids.proofs.SeedFacts.{with_fields-append}
 use Rattle.std.specs.Hash.DefaultHasher as sip
@@ -51,34 +49,30 @@ seen_split records i d h =
     ∙ ap (λ (rest : List Checked). all_seen (take i records ++ rest)) (sym (drop_more records i d h))
     ∙ ap all_seen (take-append-drop i records)
 
--- a list that names an id that is none of these, or one twice, doesn't stand
-unlisted : (ids xs : List Bytes) (x : Bytes) (ys : List Bytes) → has_id ids x ≡ false → stands_once ids (xs ++ x ∷ ys) ≡ false
+-- a list that names an id that is none of these, and a list that has one twice
+unlisted : (ids xs : List Bytes) (x : Bytes) (ys : List Bytes) → has_id ids x ≡ false → list_all (has_id ids) (xs ++ x ∷ ys) ≡ false
 unlisted ids xs x ys n =
     not_true _
     (λ h.
-    let p : (list_all (has_id ids) (xs ++ x ∷ ys) ≡ true) × (all_differ bytes_eq (xs ++ x ∷ ys) ≡ true) = and_parts (list_all (has_id ids) (xs ++ x ∷ ys)) _ h in
-    let q : (list_all (has_id ids) xs ≡ true) × (list_all (has_id ids) (x ∷ ys) ≡ true) = and_parts (list_all (has_id ids) xs) _ (sym (list_all-append (has_id ids) xs (x ∷ ys)) ∙ p.0) in
+    let q : (list_all (has_id ids) xs ≡ true) × (list_all (has_id ids) (x ∷ ys) ≡ true) = and_parts (list_all (has_id ids) xs) _ (sym (list_all-append (has_id ids) xs (x ∷ ys)) ∙ h) in
     let r : (has_id ids x ≡ true) × (list_all (has_id ids) ys ≡ true) = and_parts (has_id ids x) _ q.1 in
     cc (n, r.0))
 
-listed_twice : (ids xs : List Bytes) (x : Bytes) (ys : List Bytes) → has_id xs x ≡ true → stands_once ids (xs ++ x ∷ ys) ≡ false
-listed_twice ids xs x ys t =
+listed_twice : (xs : List Bytes) (x : Bytes) (ys : List Bytes) → has_id xs x ≡ true → all_differ bytes_eq (xs ++ x ∷ ys) ≡ false
+listed_twice xs x ys t =
     not_true _
     (λ h.
-    let p : (list_all (has_id ids) (xs ++ x ∷ ys) ≡ true) × (all_differ bytes_eq (xs ++ x ∷ ys) ≡ true) = and_parts (list_all (has_id ids) (xs ++ x ∷ ys)) _ h in
-    let n : has_id xs x ≡ false = differ_before xs x ys p.1 in
+    let n : has_id xs x ≡ false = differ_before xs x ys h in
     cc (n, t))
 
--- one that stands still does with another of these ids at its end
-stands_push : (ids xs : List Bytes) (x : Bytes) → stands_once ids xs ≡ true → has_id ids x ≡ true → has_id xs x ≡ false → stands_once ids (xs ++ x ∷ []) ≡ true
-stands_push ids xs x h k n =
-    let p : (list_all (has_id ids) xs ≡ true) × (all_differ bytes_eq xs ≡ true) = and_parts (list_all (has_id ids) xs) _ h in
-    both _ _ (list_all-append (has_id ids) xs (x ∷ []) ∙ both _ _ p.0 (both _ _ k refl)) (differ_push xs x n p.1)
-
--- Of the records so far each withdrawn id is one that all records register, none is withdrawn twice, and they are these.
-pub record AreWithdrawn (all before : List Record) (w : Kinds) : Type 0 where
-  pub stand : (kind : Kind) → stands_once (ids_of kind all) (withdrawn kind before) ≡ true
+-- Of the records so far no id is withdrawn twice, and those that are withdrawn are these.
+pub record AreSoFar (before : List Record) (w : Kinds) : Type 0 where
+  pub once : (kind : Kind) → all_differ bytes_eq (withdrawn kind before) ≡ true
   pub ids : (kind : Kind) → ids_in w kind ≡ withdrawn kind before
+
+-- Of the records so far each withdrawn id is one that all records register.
+abbrev pub AreKnown : List Record → List Record → Type 0
+AreKnown all before = (kind : Kind) → list_all (has_id (ids_of kind all)) (withdrawn kind before) ≡ true
 
 -- a record that is no withdrawal adds nothing
 abbrev pub is_withdrawal : Record → Bool
@@ -118,14 +112,17 @@ withdraws_none (CoupleRecord id a b pairs) OfApplicant h = refl
 withdraws_none (CoupleRecord id a b pairs) OfCouple h = refl
 withdraws_none (WithdrawRecord k id) kind h = cc
 
-pub still_withdrawn : (all before : List Record) (w : Kinds) (r : Record) → AreWithdrawn all before w → is_withdrawal r ≡ false → AreWithdrawn all (before ++ r ∷ []) w
-still_withdrawn all before w r are n = record {
-  stand = λ kind. ap (stands_once (ids_of kind all)) (same kind) ∙ are.stand kind;
-  ids = λ kind. are.ids kind ∙ sym (same kind);
+same_withdrawn : (before : List Record) (r : Record) (kind : Kind) → is_withdrawal r ≡ false → withdrawn kind (before ++ r ∷ []) ≡ withdrawn kind before
+same_withdrawn before r kind n = withdrawn-more before r kind ∙ ap (λ (ids : List Bytes). withdrawn kind before ++ ids) (withdraws_none r kind n) ∙ append-nil (withdrawn kind before)
+
+pub still_withdrawn : (before : List Record) (w : Kinds) (r : Record) → AreSoFar before w → is_withdrawal r ≡ false → AreSoFar (before ++ r ∷ []) w
+still_withdrawn before w r are n = record {
+  once = λ kind. ap (all_differ bytes_eq) (same_withdrawn before r kind n) ∙ are.once kind;
+  ids = λ kind. are.ids kind ∙ sym (same_withdrawn before r kind n);
 }
-  where
-    same : (kind : Kind) → withdrawn kind (before ++ r ∷ []) ≡ withdrawn kind before
-    same kind = withdrawn-more before r kind ∙ ap (λ (ids : List Bytes). withdrawn kind before ++ ids) (withdraws_none r kind n) ∙ append-nil (withdrawn kind before)
+
+pub still_known : (all before : List Record) (r : Record) → AreKnown all before → is_withdrawal r ≡ false → AreKnown all (before ++ r ∷ [])
+still_known all before r are n = λ kind. ap (list_all (has_id (ids_of kind all))) (same_withdrawn before r kind n) ∙ are kind
 
 -- what a withdrawal adds
 withdraws_one : (kind k : Kind) (id : Bytes) → option_to_list (withdrawn_id k (WithdrawRecord kind id)) ≡ under kind id k
@@ -139,35 +136,42 @@ withdraws_one OfCouple OfProgram id = refl
 withdraws_one OfCouple OfApplicant id = refl
 withdraws_one OfCouple OfCouple id = refl
 
-stands_more : (ids xs : Kind → List Bytes) (id : Bytes) (kind k : Kind) → stands_once (ids k) (xs k) ≡ true → has_id (ids kind) id ≡ true → has_id (xs kind) id ≡ false
-    → stands_once (ids k) (xs k ++ under kind id k) ≡ true
-stands_more ids xs id OfProgram OfProgram h i n = stands_push (ids OfProgram) (xs OfProgram) id h i n
-stands_more ids xs id OfProgram OfApplicant h i n = ap (stands_once (ids OfApplicant)) (append-nil (xs OfApplicant)) ∙ h
-stands_more ids xs id OfProgram OfCouple h i n = ap (stands_once (ids OfCouple)) (append-nil (xs OfCouple)) ∙ h
-stands_more ids xs id OfApplicant OfProgram h i n = ap (stands_once (ids OfProgram)) (append-nil (xs OfProgram)) ∙ h
-stands_more ids xs id OfApplicant OfApplicant h i n = stands_push (ids OfApplicant) (xs OfApplicant) id h i n
-stands_more ids xs id OfApplicant OfCouple h i n = ap (stands_once (ids OfCouple)) (append-nil (xs OfCouple)) ∙ h
-stands_more ids xs id OfCouple OfProgram h i n = ap (stands_once (ids OfProgram)) (append-nil (xs OfProgram)) ∙ h
-stands_more ids xs id OfCouple OfApplicant h i n = ap (stands_once (ids OfApplicant)) (append-nil (xs OfApplicant)) ∙ h
-stands_more ids xs id OfCouple OfCouple h i n = stands_push (ids OfCouple) (xs OfCouple) id h i n
+one_more : (before : List Record) (kind : Kind) (id : Bytes) (k : Kind) → withdrawn k (before ++ WithdrawRecord kind id ∷ []) ≡ withdrawn k before ++ under kind id k
+one_more before kind id k = withdrawn-more before (WithdrawRecord kind id) k ∙ ap (λ (ids : List Bytes). withdrawn k before ++ ids) (withdraws_one kind k id)
 
-pub one_withdrawn : (all before : List Record) (w more : Kinds) (kind : Kind) (id : Bytes) → AreWithdrawn all before w
-    → has_id (ids_of kind all) id ≡ true → has_id (ids_in w kind) id ≡ false → AddsId w more kind id → AreWithdrawn all (before ++ WithdrawRecord kind id ∷ []) more
-one_withdrawn all before w more kind id are i n adds = record {
-  stand = λ k.
-      ap (stands_once (ids_of k all)) (one_more k)
-      ∙ stands_more (λ x. ids_of x all) (λ x. withdrawn x before) id kind k (are.stand k) i (ap (λ (ids : List Bytes). has_id ids id) (sym (are.ids kind)) ∙ n);
-  ids = λ k. adds k ∙ ap (λ (ids : List Bytes). ids ++ under kind id k) (are.ids k) ∙ sym (one_more k);
+-- what holds of the ids of each kind still does with one of its kind at their end
+with_one : (P : Kind → List Bytes → Type 0) (xs : Kind → List Bytes) (kind : Kind) (id : Bytes) → ((k : Kind) → P k (xs k)) → P kind (xs kind ++ id ∷ []) → (k : Kind) → P k (xs k ++ under kind id k)
+with_one P xs OfProgram id all one OfProgram = one
+with_one P xs OfProgram id all one OfApplicant = subst (P OfApplicant) (sym (append-nil (xs OfApplicant))) (all OfApplicant)
+with_one P xs OfProgram id all one OfCouple = subst (P OfCouple) (sym (append-nil (xs OfCouple))) (all OfCouple)
+with_one P xs OfApplicant id all one OfProgram = subst (P OfProgram) (sym (append-nil (xs OfProgram))) (all OfProgram)
+with_one P xs OfApplicant id all one OfApplicant = one
+with_one P xs OfApplicant id all one OfCouple = subst (P OfCouple) (sym (append-nil (xs OfCouple))) (all OfCouple)
+with_one P xs OfCouple id all one OfProgram = subst (P OfProgram) (sym (append-nil (xs OfProgram))) (all OfProgram)
+with_one P xs OfCouple id all one OfApplicant = subst (P OfApplicant) (sym (append-nil (xs OfApplicant))) (all OfApplicant)
+with_one P xs OfCouple id all one OfCouple = one
+
+pub one_withdrawn : (before : List Record) (w more : Kinds) (kind : Kind) (id : Bytes) → AreSoFar before w
+    → has_id (ids_in w kind) id ≡ false → AddsId w more kind id → AreSoFar (before ++ WithdrawRecord kind id ∷ []) more
+one_withdrawn before w more kind id are n adds = record {
+  once = λ k.
+      ap (all_differ bytes_eq) (one_more before kind id k)
+      ∙ with_one (λ k xs. all_differ bytes_eq xs ≡ true) (λ x. withdrawn x before) kind id are.once
+      (differ_push (withdrawn kind before) id (ap (λ (ids : List Bytes). has_id ids id) (sym (are.ids kind)) ∙ n) (are.once kind)) k;
+  ids = λ k. adds k ∙ ap (λ (ids : List Bytes). ids ++ under kind id k) (are.ids k) ∙ sym (one_more before kind id k);
 }
-  where
-    one_more : (k : Kind) → withdrawn k (before ++ WithdrawRecord kind id ∷ []) ≡ withdrawn k before ++ under kind id k
-    one_more k = withdrawn-more before (WithdrawRecord kind id) k ∙ ap (λ (ids : List Bytes). withdrawn k before ++ ids) (withdraws_one kind k id)
 
--- withdrawals don't stand where those of some kind don't
-kind_fails : (rs : List Record) (kind : Kind) → stands_once (ids_of kind rs) (withdrawn kind rs) ≡ false → withdrawals_stand rs ≡ false
-kind_fails rs OfProgram h = rw h refl
-kind_fails rs OfApplicant h = rw (right_fails (stands_once (ids_of OfProgram rs) (withdrawn OfProgram rs)) _ h) refl
-kind_fails rs OfCouple h = right_fails (stands_once (ids_of OfProgram rs) (withdrawn OfProgram rs) && stands_once (ids_of OfApplicant rs) (withdrawn OfApplicant rs)) _ h
+pub one_known : (all before : List Record) (kind : Kind) (id : Bytes) → AreKnown all before → has_id (ids_of kind all) id ≡ true → AreKnown all (before ++ WithdrawRecord kind id ∷ [])
+one_known all before kind id are i = λ k.
+    ap (list_all (has_id (ids_of k all))) (one_more before kind id k)
+    ∙ with_one (λ k xs. list_all (has_id (ids_of k all)) xs ≡ true) (λ x. withdrawn x before) kind id are
+    (list_all-append (has_id (ids_of kind all)) (withdrawn kind before) (id ∷ []) ∙ both _ _ (are kind) (both _ _ i refl)) k
+
+-- a test of all kinds fails where that of some kind does
+kind_fails : (test : Kind → Bool) (kind : Kind) → test kind ≡ false → (test OfProgram && test OfApplicant && test OfCouple) ≡ false
+kind_fails test OfProgram h = rw h refl
+kind_fails test OfApplicant h = rw (right_fails (test OfProgram) _ h) refl
+kind_fails test OfCouple h = right_fails (test OfProgram && test OfApplicant) _ h
 
 -- Below, one of all records is a withdrawal.
 module _ (all before after : List Record) (kind : Kind) (id : Bytes) (are : before ++ WithdrawRecord kind id ∷ after ≡ all) where
@@ -180,18 +184,23 @@ module _ (all before after : List Record) (kind : Kind) (id : Bytes) (are : befo
       by OfCouple = refl
 
   -- of an id that is not registered
-  pub unregistered : has_id (ids_of kind all) id ≡ false → withdrawals_stand all ≡ false
+  pub unregistered : has_id (ids_of kind all) id ≡ false → are_registered all ≡ false
   unregistered n =
-      kind_fails all kind (ap (stands_once (ids_of kind all)) withdrawn_all ∙ unlisted (ids_of kind all) (withdrawn kind before) id (withdrawn kind after) n)
+      kind_fails (λ k. list_all (has_id (ids_of k all)) (withdrawn k all)) kind
+      (ap (list_all (has_id (ids_of kind all))) withdrawn_all ∙ unlisted (ids_of kind all) (withdrawn kind before) id (withdrawn kind after) n)
 
   -- of one that was withdrawn before
-  pub withdrawn_twice : has_id (withdrawn kind before) id ≡ true → withdrawals_stand all ≡ false
+  pub withdrawn_twice : has_id (withdrawn kind before) id ≡ true → are_once all ≡ false
   withdrawn_twice t =
-      kind_fails all kind (ap (stands_once (ids_of kind all)) withdrawn_all ∙ listed_twice (ids_of kind all) (withdrawn kind before) id (withdrawn kind after) t)
+      kind_fails (λ k. all_differ bytes_eq (withdrawn k all)) kind
+      (ap (all_differ bytes_eq) withdrawn_all ∙ listed_twice (withdrawn kind before) id (withdrawn kind after) t)
 
 -- what all records withdraw
-pub all_withdrawn : (all : List Record) (w : Kinds) → AreWithdrawn all all w → Stand all w
-all_withdrawn all w are = record { stand = rw (are.stand OfProgram, are.stand OfApplicant, are.stand OfCouple) refl; withdrawn = are.ids }
+pub all_withdrawn : (all : List Record) (w : Kinds) → AreSoFar all w → AreWithdrawn all w
+all_withdrawn all w are = record { once = rw (are.once OfProgram, are.once OfApplicant, are.once OfCouple) refl; withdrawn = are.ids }
+
+pub all_known : (all : List Record) → AreKnown all all → are_registered all ≡ true
+all_known all are = rw (are OfProgram, are OfApplicant, are OfCouple) refl
 
 -- a Bool by its opposite
 pub was_true : (b : Bool) → not b ≡ false → b ≡ true

@@ -3,4 +3,5 @@ pub mod Withdrawals
 pub mod IdLists
 pub mod Numbered
 pub mod Reading
+pub mod Sides
 pub mod Markets

@@ -1,5 +1,5 @@
 -- What is known of records by the steps to their market.
-use Rattle.std.specs.Prelude.{◌≡◌, Bool, true, false, List, filter, filter_map, flat_map, Option, Some, None}
+use Rattle.std.specs.Prelude.{◌≡◌, ◌&&◌, Bool, true, false, List, filter, filter_map, flat_map, Option, Some, None}
 use Rattle.mt_draft_laws.specs.Faultless.{is_faultless, faultless_market, ids_differ}
 use Rattle.mt_terms.specs.Market.{Registered as Market}
 use Rattle.mt_terms.specs.Registration.Ids.{Bytes}
@@ -26,11 +26,12 @@ pub record AreEntries (rs : List Record) (e : Entries) : Type 0 where
   pub pairs : e.pairs ≡ filter_map (pairs_in (ids_of OfProgram rs)) rs
   pub members : e.members.items ≡ filter_map (members_in (applicant_ids rs)) rs
 
--- The lists of all records stand, and this is what the records that stay say; or a list doesn't stand.
-abbrev pub GivesEntries : Bool → (Record → Bool) → List Record → Option Entries → Type 0
+-- No id is registered twice and all lists stand, and this is what the records that stay say; or an id is, or a list
+-- doesn't stand.
+abbrev pub GivesEntries : Bool → (Record → Bool) → List Record → Option (Kinds × Entries) → Type 0
 GivesEntries half_pairs stays rs (Some e) =
-    (lists_stand half_pairs (ids_of OfProgram rs) (applicant_ids rs) rs ≡ true) × AreEntries (filter stays rs) e
-GivesEntries half_pairs stays rs None = lists_stand half_pairs (ids_of OfProgram rs) (applicant_ids rs) rs ≡ false
+    (lists_stand half_pairs (ids_of OfProgram rs) (applicant_ids rs) rs ≡ true) × AreIdsOfRecords rs e.0 × AreEntries (filter stays rs) e.1
+GivesEntries half_pairs stays rs None = (ids_differ rs && lists_stand half_pairs (ids_of OfProgram rs) (applicant_ids rs) rs) ≡ false
 
 -- These records have no fault among them, and this is what those that remain of them say; or they have a fault.
 abbrev pub Remains : Rules → List Record → List Record → Option Entries → Type 0

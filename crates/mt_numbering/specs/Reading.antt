@@ -1,5 +1,5 @@
 -- What the reading of records' lists gives, and of their couples' members.
-use Rattle.std.specs.Prelude.{◌≡◌, ℕ, ◌&&◌, Bool, true, false, List, [], ◌∷◌, filter, filter_map, flat_map, Option, Some, None, if◌then◌else◌}
+use Rattle.std.specs.Prelude.{◌≡◌, ℕ, ◌&&◌, Bool, true, false, List, [], ◌∷◌, filter_map, Option, None, if◌then◌else◌}
 use Rattle.std.specs.List.{list_all}
 use Rattle.mt_draft_laws.specs.Faultless.{ranking_stands, list_stands, pair_stands, pairs_stand}
 use Rattle.mt_draft_laws.specs.Staying.{both_there, new_pair}
@@ -12,8 +12,7 @@ use Rattle.mt_records.specs.Fields.{pairs_left}
 use Rattle.mt_records.specs.Records.{all_seen}
 use Rattle.mt_numbering.specs.Withdrawals.{stays_after}
 use Rattle.mt_id_lists.specs.Numbering.{Numbering, number_by}
-use Rattle.mt_id_lists.specs.Reading.{ids_read, with_kept}
-use Rattle.mt_numbering.specs.declared.entries.Entries.{Entries}
+use Rattle.mt_id_lists.specs.Reading.{with_kept}
 use Rattle.mt_numbering.specs.declared.listed.RecordLists.{RecordLists}
 use Rattle.mt_numbering.specs.declared.pairs.PairList.{PairList}
 use Rattle.mt_numbering.specs.Numbered.{program_lists, applicant_lists, couple_lists}
@@ -61,16 +60,3 @@ lists_stand half_pairs programs applicants rs =
 abbrev pub members_by : Numbering ℕ → Record → Option (ℕ × ℕ)
 members_by n (CoupleRecord id a b pairs) = both_there (number_by n a) (number_by n b)
 members_by n _ = None
-
--- What the lists of the records that stay say by new numbers, and their couples' members.
-pub record AreRead (programs applicants : Numbering ℕ) (stays : Record → Bool) (rs : List Record) (e : Entries) : Type 0 where
-  pub rankings : e.rankings ≡ flat_map (ids_read applicants) (program_lists stays rs)
-  pub lists : e.lists ≡ flat_map (ids_read programs) (applicant_lists stays rs)
-  pub pairs : e.pairs ≡ flat_map (pairs_read programs) (couple_lists stays rs)
-  pub members : e.members.items ≡ filter_map (members_by applicants) (filter stays rs)
-
--- The lists of all records stand, and were read; or one doesn't stand.
-abbrev pub ReadsEntries : Bool → Numbering ℕ → Numbering ℕ → (Record → Bool) → List Record → Option Entries → Type 0
-ReadsEntries half_pairs programs applicants stays rs (Some e) =
-    (lists_stand half_pairs programs.ids applicants.ids rs ≡ true) × AreRead programs applicants stays rs e
-ReadsEntries half_pairs programs applicants stays rs None = lists_stand half_pairs programs.ids applicants.ids rs ≡ false

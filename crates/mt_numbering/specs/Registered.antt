@@ -1,23 +1,11 @@
 -- The ids of records by number.
-use Rattle.std.specs.Prelude.{◌≡◌, Bool, true, false, ◌&&◌, List, slice_index_or, bytes_eq}
-use Rattle.mt_terms.specs.Registration.Ids.{Bytes, has_id, all_differ, number_of}
+use Rattle.std.specs.Prelude.{◌≡◌, Bool, false, ◌&&◌, List, slice_index_or}
+use Rattle.mt_terms.specs.Registration.Ids.{Bytes, has_id, number_of}
 use Rattle.mt_terms.specs.Registration.Records.{Kind, OfProgram, OfApplicant, OfCouple}
 use Rattle.mt_terms.specs.Registration.Rows.{ids_of}
-use Rattle.mt_drafts.specs.declared.names.NameLists.{NameLists}
 use Rattle.mt_records.specs.declared.record.Record.{Record as Checked}
 use Rattle.mt_ids.specs.declared.kinds.Kinds.{Kinds}
 use Rattle.mt_records.specs.Records.{all_seen}
-
--- whether no id is registered twice
-abbrev pub names_differ : NameLists → Bool
-names_differ n = all_differ bytes_eq n.programs && all_differ bytes_eq n.applicants && all_differ bytes_eq n.couples
-
--- The ids are these, and none is registered twice.
-pub record AreIdsOf (n : NameLists) (ids : Kinds) : Type 0 where
-  pub programs : ids.programs ≡ n.programs
-  pub applicants : ids.applicants ≡ n.applicants
-  pub couples : ids.couples ≡ n.couples
-  pub differ : names_differ n ≡ true
 
 -- whether a program, a single or a couple has this id
 abbrev pub is_registered : Kinds → List Bool → Kind → Bytes → Bool

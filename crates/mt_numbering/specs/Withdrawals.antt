@@ -1,9 +1,9 @@
 -- What records withdraw, and who stays.
-use Rattle.std.specs.Prelude.{◌≡◌, ◌<◌, ◌^◌, Bool, true, List, [], ◌∷◌, flat_map, length}
-use Rattle.mt_draft_laws.specs.Faultless.{withdrawals_stand}
+use Rattle.std.specs.Prelude.{◌≡◌, ◌<◌, ◌^◌, ◌&&◌, Bool, true, List, [], ◌∷◌, bytes_eq, flat_map, length}
+use Rattle.std.specs.List.{list_all}
 use Rattle.mt_draft_laws.specs.Staying.{stays_without}
-use Rattle.mt_terms.specs.Registration.Ids.{Bytes}
-use Rattle.mt_terms.specs.Registration.Records.{Kind, OfProgram, Record, WithdrawRecord}
+use Rattle.mt_terms.specs.Registration.Ids.{Bytes, all_differ, has_id}
+use Rattle.mt_terms.specs.Registration.Records.{Kind, OfProgram, OfApplicant, OfCouple, Record, WithdrawRecord}
 use Rattle.mt_terms.specs.Registration.Rows.{ids_of, applicant_ids, withdrawn}
 use Rattle.mt_ids.specs.declared.kinds.Kinds.{Kinds}
 use Rattle.mt_ids.specs.Kinds.{ids_in}
@@ -21,9 +21,20 @@ withdrawn_by _ = []
 abbrev pub withdrawn_ids : List Record → List Bytes
 withdrawn_ids records = flat_map withdrawn_by records
 
--- Each id that the records withdraw is registered, none is withdrawn twice, and they are these.
-pub record Stand (rs : List Record) (w : Kinds) : Type 0 where
-  pub stand : withdrawals_stand rs ≡ true
+-- whether no id is withdrawn twice
+abbrev pub are_once : List Record → Bool
+are_once rs =
+    all_differ bytes_eq (withdrawn OfProgram rs) && all_differ bytes_eq (withdrawn OfApplicant rs) && all_differ bytes_eq (withdrawn OfCouple rs)
+
+-- whether each id that is withdrawn is registered
+abbrev pub are_registered : List Record → Bool
+are_registered rs =
+    list_all (has_id (ids_of OfProgram rs)) (withdrawn OfProgram rs) && list_all (has_id (ids_of OfApplicant rs)) (withdrawn OfApplicant rs)
+    && list_all (has_id (ids_of OfCouple rs)) (withdrawn OfCouple rs)
+
+-- None of the ids that the records withdraw is withdrawn twice, and they are these.
+pub record AreWithdrawn (rs : List Record) (w : Kinds) : Type 0 where
+  pub once : are_once rs ≡ true
   pub withdrawn : (kind : Kind) → ids_in w kind ≡ withdrawn kind rs
 
 -- The records register fewer programs than 2 ^ 31, so that each can have a number.

@@ -2,20 +2,26 @@
 ghost use Rattle.std.specs.Prelude.{◌≡◌, filter, filter_map, IfOk};
 ghost use Rattle.mt_id_lists.specs.Reading.{ids_read, ids_stand, ReadsAll};
 ghost use Rattle.mt_records.specs.Records.{all_seen};
-ghost use Rattle.mt_numbering.specs.Reading.{lists_of_applicants, lists_of_couples, lists_of_programs, members_by, pairs_read, pairs_stand_in, ReadsEntries};
-ghost use Rattle.mt_numbering.specs.Withdrawals.{stays_after};
+ghost use Rattle.mt_terms.specs.Registration.Records.{OfProgram};
+ghost use Rattle.mt_terms.specs.Registration.Rows.{applicant_ids, ids_of};
+ghost use Rattle.mt_numbering.specs.Reading.{lists_of_applicants, lists_of_couples, lists_of_programs, members_by, pairs_read, pairs_stand_in};
+ghost use Rattle.mt_drafts.specs.Names.{AreNames};
+ghost use Rattle.mt_numbering.specs.Markets.{GivesEntries};
+ghost use Rattle.mt_numbering.specs.Sides.{GivesByApplicants, GivesByPrograms};
+ghost use Rattle.mt_numbering.specs.Withdrawals.{stays_after, HaveFewApplicants, HaveFewPrograms};
 
 use crate::listed::RecordLists;
 use crate::numbered::Numbered;
 use crate::pairs::PairReader;
-use crate::withdrawals::stays;
+use crate::withdrawals::{applicant_numbers, program_numbers, stays};
+use mt_drafts::NameLists;
 use mt_id_lists::read_lists;
-use mt_ids::Kinds;
+use mt_ids::{IdTable, Kinds};
 use mt_market::ChunkedLists;
 use mt_records::Record;
 use mt_terms::{AppNo, ProgNo};
 use std::alloc::{AllocError, Global};
-use std::thread::Threads;
+use std::thread::{Threads, join};
 
 /// What the lists of records that remain say by new numbers, and their couples' members.
 #[derive(Drop)]
@@ -25,6 +31,27 @@ pub(crate) struct Entries {
     pub(crate) pairs: ChunkedLists<(Option<ProgNo>, Option<ProgNo>)>,
     pub(crate) members: Vec<(AppNo, AppNo)>,
 }
+
+/// The ids of all applicants, and what the records that remain say by the new numbers of applicants: the programs'
+/// lists, and the couples' members.
+#[derive(Drop)]
+pub(crate) struct ByApplicants<'n> {
+    pub(crate) ids: IdTable<'n>,
+    pub(crate) rankings: ChunkedLists<AppNo>,
+    pub(crate) members: Vec<(AppNo, AppNo)>,
+}
+
+/// The ids of all programs, and what the records that remain say by the new numbers of programs: the applicants' lists,
+/// and the couples' pairs.
+#[derive(Drop)]
+pub(crate) struct ByPrograms<'n> {
+    pub(crate) ids: IdTable<'n>,
+    pub(crate) lists: ChunkedLists<ProgNo>,
+    pub(crate) pairs: ChunkedLists<(Option<ProgNo>, Option<ProgNo>)>,
+}
+
+/// The fewest records that are worth a thread.
+const FEWEST: usize = 4096;
 
 /// The programs' lists by numbers, if each names applicants alone, and none twice.
 fn rankings<R: Threads + Sync>(
@@ -95,35 +122,145 @@ fn members(
     Ok(members)
 }
 
-/// What the lists of records say by new numbers, if all stand. The table of applicants is dropped before the lists of
-/// programs are looked up, as those don't need it.
-pub(crate) fn read_entries<R: Threads + Sync>(
+/// What records say by applicants, if no two applicants have one id and each program's list stands.
+fn by_applicants<'n, R: Threads + Sync>(
     rt: &R,
     alloc: Global,
-    reader: &PairReader<'_, '_>,
-    applicants: Numbered<'_, AppNo>,
-    withdrawn: &Kinds<'_>,
-    records: &[Record<'_>],
-) -> Result<Option<Entries>, AllocError>
-    ensures { IfOk result (ReadsEntries reader.now.half_pairs reader.now.programs.now
-        applicants.entry (stays_after withdrawn.now) (all_seen records.now)) }
+    names: &'n NameLists,
+    listed: &RecordLists<'_, '_>,
+) -> Result<Option<ByApplicants<'n>>, AllocError>
+    requires names { names.now.applicants ≡ applicant_ids (all_seen listed.now.records.now) }
+    requires few { HaveFewApplicants (all_seen listed.now.records.now) }
+    ensures { IfOk result (GivesByApplicants (stays_after listed.now.withdrawn.now)
+        (all_seen listed.now.records.now)) }
 {
-    let members = members(alloc, &applicants, withdrawn, records)?;
-    let listed = RecordLists { withdrawn, records };
-    let Some(rankings) = rankings(rt, alloc, &applicants, &listed)? else {
+    // Most of the time goes into finding ids. Those that a look-up fetches are nearer side by side than in the rows.
+    let Some(ids) = IdTable::of(alloc, &names.applicants)? else {
         return Ok(None);
     };
-    drop(applicants);
-    let Some(lists) = choices(rt, alloc, reader.programs, &listed)? else {
+    let numbers = applicant_numbers(alloc, listed.withdrawn, listed.records)?;
+    let applicants = Numbered::new(ids, numbers);
+    let Some(rankings) = rankings(rt, alloc, &applicants, listed)? else {
         return Ok(None);
     };
-    let Some(pairs) = pairs(rt, alloc, reader, &listed)? else {
-        return Ok(None);
-    };
-    Ok(Some(Entries {
+    let members = members(alloc, &applicants, listed.withdrawn, listed.records)?;
+    Ok(Some(ByApplicants {
+        ids: applicants.into_ids(),
         rankings,
-        lists,
-        pairs,
         members,
     }))
+}
+
+/// What records say by programs, if no two programs have one id, and each applicant's list and each pair stands.
+fn by_programs<'n, R: Threads + Sync>(
+    rt: &R,
+    alloc: Global,
+    names: &'n NameLists,
+    half_pairs: bool,
+    listed: &RecordLists<'_, '_>,
+) -> Result<Option<ByPrograms<'n>>, AllocError>
+    requires names { names.now.programs ≡ ids_of OfProgram (all_seen listed.now.records.now) }
+    requires few { HaveFewPrograms (all_seen listed.now.records.now) }
+    ensures { IfOk result (GivesByPrograms half_pairs (stays_after listed.now.withdrawn.now)
+        (all_seen listed.now.records.now)) }
+{
+    let Some(ids) = IdTable::of(alloc, &names.programs)? else {
+        return Ok(None);
+    };
+    let numbers = program_numbers(alloc, listed.withdrawn, listed.records)?;
+    let programs = Numbered::new(ids, numbers);
+    let Some(lists) = choices(rt, alloc, &programs, listed)? else {
+        return Ok(None);
+    };
+    let reader = PairReader {
+        programs: &programs,
+        half_pairs,
+    };
+    let Some(pairs) = pairs(rt, alloc, &reader, listed)? else {
+        return Ok(None);
+    };
+    Ok(Some(ByPrograms {
+        ids: programs.into_ids(),
+        lists,
+        pairs,
+    }))
+}
+
+/// What records say by applicants, and what they say by programs, side by side if there are many records.
+fn by_both<'n, R: Threads + Sync>(
+    rt: &R,
+    alloc: Global,
+    names: &'n NameLists,
+    half_pairs: bool,
+    listed: &RecordLists<'_, '_>,
+) -> (
+    Result<Option<ByApplicants<'n>>, AllocError>,
+    Result<Option<ByPrograms<'n>>, AllocError>,
+)
+    requires applicants { names.now.applicants ≡ applicant_ids (all_seen listed.now.records.now) }
+    requires programs { names.now.programs ≡ ids_of OfProgram (all_seen listed.now.records.now) }
+    requires few_applicants { HaveFewApplicants (all_seen listed.now.records.now) }
+    requires few_programs { HaveFewPrograms (all_seen listed.now.records.now) }
+    ensures applicants { IfOk result.0 (GivesByApplicants (stays_after listed.now.withdrawn.now)
+        (all_seen listed.now.records.now)) }
+    ensures programs { IfOk result.1 (GivesByPrograms half_pairs (stays_after listed.now.withdrawn.now)
+        (all_seen listed.now.records.now)) }
+{
+    let one = || -> Result<Option<ByApplicants<'_>>, AllocError>
+        requires { (names.now.applicants ≡ applicant_ids (all_seen listed.now.records.now))
+            × HaveFewApplicants (all_seen listed.now.records.now) }
+        ensures { IfOk result (GivesByApplicants (stays_after listed.entry.now.withdrawn.now)
+            (all_seen listed.entry.now.records.now)) }
+    { by_applicants(rt, alloc, names, listed) };
+    let other = || -> Result<Option<ByPrograms<'_>>, AllocError>
+        requires { (names.now.programs ≡ ids_of OfProgram (all_seen listed.now.records.now))
+            × HaveFewPrograms (all_seen listed.now.records.now) }
+        ensures { IfOk result (GivesByPrograms half_pairs (stays_after listed.entry.now.withdrawn.now)
+            (all_seen listed.entry.now.records.now)) }
+    { by_programs(rt, alloc, names, half_pairs, listed) };
+    if listed.records.len() < FEWEST {
+        (one(), other())
+    } else {
+        join(rt, one, other)
+    }
+}
+
+/// The ids of each kind, and what the lists of records say by new numbers, if no id is registered twice and all lists
+/// stand.
+pub(crate) fn read_entries<'n, R: Threads + Sync>(
+    rt: &R,
+    alloc: Global,
+    names: &'n NameLists,
+    half_pairs: bool,
+    withdrawn: &Kinds<'_>,
+    records: &[Record<'_>],
+) -> Result<Option<(Kinds<'n>, Entries)>, AllocError>
+    requires names { AreNames (all_seen records.now) names.now }
+    requires few_applicants { HaveFewApplicants (all_seen records.now) }
+    requires few_programs { HaveFewPrograms (all_seen records.now) }
+    ensures { IfOk result (GivesEntries half_pairs (stays_after withdrawn.now) (all_seen records.now)) }
+{
+    let listed = RecordLists { withdrawn, records };
+    let Some(couples) = IdTable::of(alloc, &names.couples)? else {
+        return Ok(None);
+    };
+    let (by_applicants, by_programs) = by_both(rt, alloc, names, half_pairs, &listed);
+    let Some(by_applicants) = by_applicants? else {
+        return Ok(None);
+    };
+    let Some(by_programs) = by_programs? else {
+        return Ok(None);
+    };
+    let ids = Kinds {
+        programs: by_programs.ids,
+        applicants: by_applicants.ids,
+        couples,
+    };
+    let entries = Entries {
+        rankings: by_applicants.rankings,
+        lists: by_programs.lists,
+        pairs: by_programs.pairs,
+        members: by_applicants.members,
+    };
+    Ok(Some((ids, entries)))
 }

@@ -4,7 +4,6 @@
 
 mod duplicates;
 mod entries;
-mod id_tables;
 mod listed;
 mod market;
 mod numbered;

@@ -8,51 +8,20 @@ ghost use Rattle.mt_terms.specs.Registration.Numbering.{registered};
 ghost use Rattle.mt_terms.specs.Registration.Passes.{are_too_many};
 ghost use Rattle.mt_drafts.specs.Drafts.{drafted, with_fields, AreDrafts};
 ghost use Rattle.mt_drafts.specs.Names.{AreNames};
-ghost use Rattle.mt_numbering.specs.Markets.{AcceptsRegistrations, AreEntries, AreIdsOfRecords, GivesEntries, IsMarketOf, Remains};
+ghost use Rattle.mt_numbering.specs.Markets.{AcceptsRegistrations, AreEntries, IsMarketOf, Remains};
 ghost use Rattle.mt_records.specs.Records.{all_seen};
 ghost use Rattle.mt_numbering.specs.Numbered.{registered_by_all};
-ghost use Rattle.mt_numbering.specs.Withdrawals.{stays_after, HaveFewApplicants, HaveFewPrograms};
 ghost use Rattle.mt_records.specs.Limits.{AreBounded};
 
 use crate::entries::{Entries, read_entries};
-use crate::id_tables::{registered, take_table};
-use crate::numbered::Numbered;
-use crate::pairs::PairReader;
 use crate::tables::{agents, quotas};
-use crate::withdrawals::{applicant_numbers, program_numbers, retain_staying, withdrawn};
+use crate::withdrawals::{are_registered, retain_staying, withdrawn};
 use mt_drafts::{Drafts, NameLists, drafts_of};
-use mt_ids::Kinds;
 use mt_lists::RowsIter;
 use mt_market::{Roster, Tables};
 use mt_records::{Record, Rules};
 use std::alloc::{AllocError, Global};
 use std::thread::Threads;
-
-/// What the lists of records say by the numbers of those that stay where these ids are withdrawn, if all lists stand.
-fn entries_by_number<R: Threads + Sync>(
-    rt: &R,
-    alloc: Global,
-    half_pairs: bool,
-    ids: &mut Kinds<'_>,
-    withdrawn: &Kinds<'_>,
-    records: &[Record<'_>],
-) -> Result<Option<Entries>, AllocError>
-    requires programs { HaveFewPrograms (all_seen records.now) }
-    requires applicants { HaveFewApplicants (all_seen records.now) }
-    requires ids { AreIdsOfRecords (all_seen records.now) ids.old }
-    ensures { IfOk result
-        (GivesEntries half_pairs (stays_after withdrawn.now) (all_seen records.now)) }
-{
-    let numbers = program_numbers(alloc, withdrawn, records)?;
-    let programs = Numbered::new(take_table(alloc, &mut ids.programs), numbers);
-    let numbers = applicant_numbers(alloc, withdrawn, records)?;
-    let applicants = Numbered::new(take_table(alloc, &mut ids.applicants), numbers);
-    let reader = PairReader {
-        programs: &programs,
-        half_pairs,
-    };
-    read_entries(rt, alloc, &reader, applicants, withdrawn, records)
-}
 
 /// What the records that remain say by their own numbers, if all records have no fault among them. Those that don't
 /// remain are taken out.
@@ -69,15 +38,18 @@ fn remaining_entries<R: Threads + Sync>(
     ensures { IfOk result
         (Remains rules.now (all_seen records.old.items) (all_seen records.new.items)) }
 {
-    let Some(mut ids) = registered(alloc, names)? else {
+    let Some(withdrawn) = withdrawn(alloc, records)? else {
         return Ok(None);
     };
-    let Some(withdrawn) = withdrawn(alloc, &ids, &names.singles, records)? else {
+    let read = read_entries(rt, alloc, names, rules.half_pairs, &withdrawn, records)?;
+    let Some((ids, entries)) = read else {
         return Ok(None);
     };
-    let entries = entries_by_number(rt, alloc, rules.half_pairs, &mut ids, &withdrawn, records)?;
+    if !are_registered(&ids, &names.singles, records) {
+        return Ok(None);
+    }
     retain_staying(&withdrawn, records);
-    Ok(entries)
+    Ok(Some(entries))
 }
 
 /// The names of the records that remain. If none of the records is withdrawn, these are the names of all.

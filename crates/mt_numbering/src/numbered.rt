@@ -90,6 +90,18 @@ impl<'a, T: Number> Numbered<'a, T> {
         }
     }
 
+    /// The ids, without their numbers.
+    pub(crate) fn into_ids(self) -> IdTable<'a>
+        ensures { result ≡ self.entry.ids }
+    {
+        let Numbered {
+            ids,
+            numbers: _,
+            in_place: _,
+        } = self;
+        ids
+    }
+
     /// How many ids there are.
     pub(crate) fn len(&self) -> usize
         ensures { result ≡ length self.now.ids }

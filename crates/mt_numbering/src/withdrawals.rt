@@ -1,15 +1,14 @@
 //! What records withdraw, who stays, and the numbers of those that stay among themselves.
 ghost use Rattle.std.specs.Prelude.{◌≡◌, ◌<◌, ◌+◌, ◌++◌, ◌∷◌, [], ◌^◌, false, length, filter, IfOk, OnOk, MatchOption, if◌then◌else◌};
-ghost use Rattle.mt_draft_laws.specs.Faultless.{withdrawals_stand};
 ghost use Rattle.mt_draft_laws.specs.Staying.{new_numbers, program_flags, applicant_flags};
 ghost use Rattle.mt_terms.specs.Registration.Ids.{has_id};
 ghost use Rattle.mt_records.specs.Records.{all_seen, record_seen};
-ghost use Rattle.mt_numbering.specs.Registered.{KnowsIds};
-ghost use Rattle.mt_numbering.specs.Withdrawals.{stays_after, withdrawn_ids, HaveFewApplicants, HaveFewPrograms, Stand};
+ghost use Rattle.mt_numbering.specs.Registered.{is_registered, KnowsIds};
+ghost use Rattle.mt_numbering.specs.Withdrawals.{are_once, are_registered, stays_after, withdrawn_ids, AreWithdrawn, HaveFewApplicants, HaveFewPrograms};
+ghost use Rattle.mt_ids.specs.Kinds.{kind_seen};
 ghost use Rattle.mt_ids.specs.Seeds.{seed_of};
 
-use crate::id_tables::is_registered;
-use mt_ids::{IdTable, Kinds, Seed, add_field};
+use mt_ids::{IdTable, Kind, Kinds, Seed, add_field};
 use mt_records::{Record, push};
 use mt_terms::{AppNo, ProgNo};
 use std::alloc::{AllocError, Global};
@@ -28,28 +27,54 @@ fn seed_of(records: &[Record<'_>]) -> Seed
     Seed::of(&digest)
 }
 
-/// The ids that records withdraw, if each is registered and none is withdrawn twice. `singles` says for each applicant
-/// whether it is a single.
+/// The ids that records withdraw, if none is withdrawn twice.
 pub(crate) fn withdrawn<'a>(
     alloc: Global,
-    registered: &Kinds<'_>,
-    singles: &[bool],
     records: &[Record<'a>],
 ) -> Result<Option<Kinds<'a>>, AllocError>
-    requires long { length singles.now ≡ length registered.now.applicants }
-    requires known { KnowsIds registered.now singles.now records.now }
-    ensures { IfOk result (λ found. MatchOption found
-        (withdrawals_stand (all_seen records.now) ≡ false) (Stand (all_seen records.now))) }
+    ensures { IfOk result (λ found. MatchOption found (are_once (all_seen records.now) ≡ false)
+        (AreWithdrawn (all_seen records.now))) }
 {
     let mut withdrawn = Kinds::new(alloc, seed_of(records));
     for one in records {
         if let Record::Withdraw { kind, id } = one {
-            if !is_registered(registered, singles, *kind, id) || !withdrawn.add(*kind, id)? {
+            if !withdrawn.add(*kind, id)? {
                 return Ok(None);
             }
         }
     }
     Ok(Some(withdrawn))
+}
+
+/// Whether a program, a single or a couple has this id. `singles` says for each applicant whether it is a single.
+fn is_registered(ids: &Kinds<'_>, singles: &[bool], kind: Kind, id: &[u8]) -> bool
+    requires { length singles.now ≡ length ids.now.applicants }
+    ensures { result ≡ is_registered ids.now singles.now (kind_seen kind) id.now }
+{
+    match kind {
+        Kind::Program => ids.programs.contains(id),
+        Kind::Applicant => match ids.applicants.number(id) {
+            Some(number) => singles[number],
+            None => false,
+        },
+        Kind::Couple => ids.couples.contains(id),
+    }
+}
+
+/// Whether each id that records withdraw is registered.
+pub(crate) fn are_registered(ids: &Kinds<'_>, singles: &[bool], records: &[Record<'_>]) -> bool
+    requires long { length singles.now ≡ length ids.now.applicants }
+    requires known { KnowsIds ids.now singles.now records.now }
+    ensures { result ≡ are_registered (all_seen records.now) }
+{
+    for one in records {
+        if let Record::Withdraw { kind, id } = one {
+            if !is_registered(ids, singles, *kind, id) {
+                return false;
+            }
+        }
+    }
+    true
 }
 
 /// Whether an id is one of these. Where there are none, it isn't hashed.

@@ -1,7 +1,7 @@
 use Rattle.std.proofs.Common.{take}
 use Rattle.mt_records.specs.Records.{all_seen}
-use Rattle.mt_numbering.proofs.WithdrawalFacts.{AreWithdrawn}
+use Rattle.mt_numbering.proofs.WithdrawalFacts.{AreSoFar}
 use Rattle.mt_numbering.proofs.withdrawals.withdrawn.Given as goal
 
 abbrev pub invariant-loop-one : goal.invariant-loop-one
-invariant-loop-one l = AreWithdrawn (all_seen l.records) (all_seen (take l.one-index l.records)) l.withdrawn
+invariant-loop-one l = AreSoFar (all_seen (take l.one-index l.records)) l.withdrawn
