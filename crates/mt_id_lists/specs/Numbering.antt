@@ -1,15 +1,11 @@
 -- Ids, and the new numbers of those that have one.
-use Rattle.std.specs.Prelude.{◌≡◌, ℕ, ◌<◌, ◌^◌, List, filter_map, slice_index_or, Option, None, Some}
+use Rattle.std.specs.Prelude.{ℕ, List, filter_map, slice_index_or, Option, None}
 use Rattle.mt_terms.specs.Registration.Ids.{Bytes, number_of}
 
 -- ids, and the new number of each, if it has one
 pub record Numbering (X : Type 0) : Type 0 where
   pub ids : List Bytes
   pub numbers : List (Option X)
-
--- The first ids, as many as this, have their places as new numbers.
-abbrev pub AreInPlace : {X : Type 0} → (ℕ → X) → ℕ → List (Option X) → Type 0
-AreInPlace at count numbers = (k : ℕ) → k < count → (slice_index_or numbers k None ≡ Some (at k)) × (k < 2 ^ 32)
 
 -- the new number of an id, if it has one
 abbrev pub number_by : {X : Type 0} → Numbering X → Bytes → Option X

@@ -1,4 +1,4 @@
-ghost use Rattle.std.specs.Prelude.{◌≡◌, ◌<◌, ◌^◌, ℕ, IsTrue};
+ghost use Rattle.std.specs.Prelude.{◌≡◌, ◌<◌, ◌^◌, ℕ};
 
 use mt_terms::{AppNo, ProgNo};
 
@@ -10,10 +10,6 @@ pub trait Number: Copy + Drop {
     fn at(place: usize) -> Self
         requires { place < 2 ^ 32 }
         ensures { result ≡ at place };
-
-    /// Whether the number is this place.
-    fn is_at(self, place: usize) -> bool
-        ensures { IsTrue result → (self ≡ at place) × (place < 2 ^ 32) };
 }
 
 impl Number for AppNo {
@@ -22,10 +18,6 @@ impl Number for AppNo {
     fn at(place: usize) -> Self {
         AppNo(place as u32)
     }
-
-    fn is_at(self, place: usize) -> bool {
-        self.index() == place
-    }
 }
 
 impl Number for ProgNo {
@@ -33,9 +25,5 @@ impl Number for ProgNo {
 
     fn at(place: usize) -> Self {
         ProgNo(place as u32)
-    }
-
-    fn is_at(self, place: usize) -> bool {
-        self.index() == place
     }
 }

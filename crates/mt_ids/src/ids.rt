@@ -8,7 +8,7 @@ ghost use Rattle.mt_terms.specs.Registration.Ids.{is_id_byte, is_id, is_dash, qu
 fn may_stand(byte: u8) -> bool
     ensures { result ≡ is_id_byte byte }
 {
-    byte.is_ascii_alphanumeric() || byte == b'.' || byte == b'_' || byte == b':' || byte == b'-'
+    matches!(byte, b'a'..=b'z' | b'0'..=b':' | b'A'..=b'Z' | b'-' | b'.' | b'_')
 }
 
 /// Whether a field is the single `-`.

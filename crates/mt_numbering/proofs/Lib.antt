@@ -1,6 +1,7 @@
 pub mod FilterFacts
 pub mod WithdrawalFacts
 pub mod NeighbourFacts
+pub mod NumberFacts
 pub mod EntryFacts
 pub mod PairSteps
 pub mod NumberingTables

@@ -1,6 +1,7 @@
 -- What records withdraw, record by record, and the new numbers of those that stay.
-use Rattle.std.proofs.Common.{◌≡◌, ℕ, ◌+◌, ◌<◌, Bool, true, false, not, ◌&&◌, List, [], ◌∷◌, ◌++◌, length, take, drop, get_or, refl, ap, sym, subst, ◌∙◌}
-use Rattle.std.specs.Prelude.{bytes_eq, option_to_list}
+use Rattle.std.proofs.Common.{◌≡◌, ℕ, ◌+◌, ◌<◌, Bool, true, false, not, ◌&&◌, List, [], ◌∷◌, ◌++◌, length, take, drop, get_or, refl, ap, ap₂, sym, subst, ◌∙◌}
+use Rattle.std.specs.Prelude.{bytes_eq, map, option_to_list, Option, Some}
+use Rattle.std.specs.List.{range_with_len}
 use Rattle.std.specs.Borrow.{Bor}
 use Rattle.std.specs.List.{list_all}
 use Rattle.std.proofs.lemmas.Bool.{and_parts, and_from as both}
@@ -9,7 +10,7 @@ use Rattle.std.proofs.lemmas.List.Elements.{filter_map-append}
 use Rattle.std.proofs.lemmas.List.Folds.{list_all-append}
 use Rattle.mt_terms.specs.Registration.Ids.{Bytes, has_id, all_differ}
 use Rattle.mt_terms.specs.Registration.Records.{Record, ProgramRecord, ApplicantRecord, CoupleRecord, WithdrawRecord, Kind, OfProgram, OfApplicant, OfCouple}
-use Rattle.mt_terms.specs.Registration.Rows.{withdrawn_id, withdrawn, ids_of}
+use Rattle.mt_terms.specs.Registration.Rows.{withdrawn_id, withdrawn, ids_of, applicant_ids}
 use Rattle.mt_record_laws.proofs.IdFacts.{differ_parts, differ_push, not_true, or_left, or_right}
 use Rattle.mt_terms.proofs.IdFacts.{is_same, same_id}
 use Rattle.mt_ids.specs.declared.kinds.Kind as checked
@@ -19,7 +20,9 @@ use Rattle.mt_ids.specs.declared.kinds.Kinds.{Kinds}
 use Rattle.mt_records.specs.Records.{all_seen, record_seen}
 use Rattle.mt_ids.specs.Kinds.{ids_in, under, AddsId}
 use Rattle.mt_records.proofs.FieldFacts.{right_fails}
-use Rattle.mt_numbering.specs.Withdrawals.{are_once, are_registered, withdrawn_by, withdrawn_ids, AreWithdrawn}
+use Rattle.mt_terms.specs.Lists.{below}
+use Rattle.mt_draft_laws.specs.Staying.{stays_without, new_numbers, program_flags, applicant_flags}
+use Rattle.mt_numbering.specs.Withdrawals.{are_once, are_registered, stays_after, withdrawn_by, withdrawn_ids, AreWithdrawn}
 use Rattle.mt_ids.specs.Seeds.{digest_of, with_fields}
 use Rattle.mt_ids.proofs.SeedFacts.{with_fields-append}
 use Rattle.std.specs.Hash.DefaultHasher as sip
@@ -48,6 +51,11 @@ seen_split records i d h =
     sym (map-append record_seen (take i records) (get_or records i d ∷ drop (i + 1) records))
     ∙ ap (λ (rest : List Checked). all_seen (take i records ++ rest)) (sym (drop_more records i d h))
     ∙ ap all_seen (take-append-drop i records)
+
+-- a list without elements
+nil_of : (xs : List Bytes) → length xs ≡ 0 → xs ≡ []
+nil_of [] h = refl
+nil_of (x ∷ xs) h = cc
 
 -- a list that names an id that is none of these, and a list that has one twice
 unlisted : (ids xs : List Bytes) (x : Bytes) (ys : List Bytes) → has_id ids x ≡ false → list_all (has_id ids) (xs ++ x ∷ ys) ≡ false
@@ -201,6 +209,34 @@ all_withdrawn all w are = record { once = rw (are.once OfProgram, are.once OfApp
 
 pub all_known : (all : List Record) → AreKnown all all → are_registered all ≡ true
 all_known all are = rw (are OfProgram, are OfApplicant, are OfCouple) refl
+
+-- where no program is withdrawn, the new numbers of programs are their places
+programs_from : (n : ℕ) (a c : List Bytes) (rs : List Record) → new_numbers n (program_flags (stays_without [] a c) rs) ≡ map Some (range_with_len n (length (ids_of OfProgram rs)))
+programs_from n a c [] = refl
+programs_from n a c (ProgramRecord id quota list ∷ rs) = ap (λ (ks : List (Option ℕ)). Some n ∷ ks) (programs_from (n + 1) a c rs)
+programs_from n a c (ApplicantRecord id list ∷ rs) = programs_from n a c rs
+programs_from n a c (CoupleRecord id first second pairs ∷ rs) = programs_from n a c rs
+programs_from n a c (WithdrawRecord kind id ∷ rs) = programs_from n a c rs
+
+pub programs_in_place : (w : Kinds) (rs : List Record) → length w.programs ≡ 0
+    → map Some (below (length (ids_of OfProgram rs))) ≡ new_numbers 0 (program_flags (stays_after w) rs)
+programs_in_place w rs none =
+    sym (programs_from 0 w.applicants w.couples rs)
+    ∙ ap (λ (p : List Bytes). new_numbers 0 (program_flags (stays_without p w.applicants w.couples) rs)) (sym (nil_of w.programs none))
+
+-- the same of applicants, where no single and no couple is withdrawn
+applicants_from : (n : ℕ) (p : List Bytes) (rs : List Record) → new_numbers n (applicant_flags (stays_without p [] []) rs) ≡ map Some (range_with_len n (length (applicant_ids rs)))
+applicants_from n p [] = refl
+applicants_from n p (ProgramRecord id quota list ∷ rs) = applicants_from n p rs
+applicants_from n p (ApplicantRecord id list ∷ rs) = ap (λ (ks : List (Option ℕ)). Some n ∷ ks) (applicants_from (n + 1) p rs)
+applicants_from n p (CoupleRecord id first second pairs ∷ rs) = ap (λ (ks : List (Option ℕ)). Some n ∷ Some (n + 1) ∷ ks) (applicants_from (n + 1 + 1) p rs)
+applicants_from n p (WithdrawRecord kind id ∷ rs) = applicants_from n p rs
+
+pub applicants_in_place : (w : Kinds) (rs : List Record) → length w.applicants ≡ 0 → length w.couples ≡ 0
+    → map Some (below (length (applicant_ids rs))) ≡ new_numbers 0 (applicant_flags (stays_after w) rs)
+applicants_in_place w rs singles couples =
+    sym (applicants_from 0 w.programs rs)
+    ∙ ap₂ (λ (a c : List Bytes). new_numbers 0 (applicant_flags (stays_without w.programs a c) rs)) (sym (nil_of w.applicants singles)) (sym (nil_of w.couples couples))
 
 -- a Bool by its opposite
 pub was_true : (b : Bool) → not b ≡ false → b ≡ true

@@ -13,7 +13,7 @@ ghost use Rattle.mt_numbering.specs.Withdrawals.{stays_after, HaveFewApplicants,
 use crate::listed::RecordLists;
 use crate::numbered::Numbered;
 use crate::pairs::PairReader;
-use crate::withdrawals::{applicant_numbers, program_numbers, stays};
+use crate::withdrawals::{numbered_applicants, numbered_programs, stays};
 use mt_drafts::NameLists;
 use mt_id_lists::read_lists;
 use mt_ids::{IdTable, Kinds};
@@ -138,8 +138,7 @@ fn by_applicants<'n, R: Threads + Sync>(
     let Some(ids) = IdTable::of(alloc, &names.applicants)? else {
         return Ok(None);
     };
-    let numbers = applicant_numbers(alloc, listed.withdrawn, listed.records)?;
-    let applicants = Numbered::new(ids, numbers);
+    let applicants = numbered_applicants(alloc, ids, listed.withdrawn, listed.records)?;
     let Some(rankings) = rankings(rt, alloc, &applicants, listed)? else {
         return Ok(None);
     };
@@ -167,8 +166,7 @@ fn by_programs<'n, R: Threads + Sync>(
     let Some(ids) = IdTable::of(alloc, &names.programs)? else {
         return Ok(None);
     };
-    let numbers = program_numbers(alloc, listed.withdrawn, listed.records)?;
-    let programs = Numbered::new(ids, numbers);
+    let programs = numbered_programs(alloc, ids, listed.withdrawn, listed.records)?;
     let Some(lists) = choices(rt, alloc, &programs, listed)? else {
         return Ok(None);
     };

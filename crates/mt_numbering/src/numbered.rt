@@ -1,7 +1,8 @@
-ghost use Rattle.std.specs.Prelude.{◌≡◌, ◌<◌, ◌++◌, [], ◌∷◌, true, None, option_to_list, bytes_eq, length, position, slice_index_or, IfOk, OnOk, if◌then◌else◌};
+ghost use Rattle.std.specs.Prelude.{◌≡◌, ◌<◌, ◌^◌, ◌++◌, [], ◌∷◌, true, None, Some, map, option_to_list, bytes_eq, length, position, slice_index_or, IfOk, OnOk, if◌then◌else◌};
 ghost use Rattle.mt_lists.specs.Rows.{fields_left};
 ghost use Rattle.mt_id_lists.specs.Met.{IsNoneMet};
-ghost use Rattle.mt_id_lists.specs.Numbering.{number_by, AreInPlace};
+ghost use Rattle.mt_id_lists.specs.Numbering.{number_by};
+ghost use Rattle.mt_terms.specs.Lists.{below};
 ghost use Rattle.mt_id_lists.specs.Reading.{with_kept, ReadsIds};
 
 use mt_flat::FlatLists;
@@ -14,32 +15,27 @@ use std::marker::Model;
 /// Ids, and the new number of each that has one.
 pub(crate) struct Numbered<'a, T: Number> {
     ids: IdTable<'a>,
-    numbers: Vec<Option<T>>,
-    // The first ids, as many as this, have their places as numbers. So those aren't looked up in the vector, which
-    // would take room in the caches.
-    in_place: usize,
+    // None if each id has its place as its number, as in a file that withdraws nothing. A vector of them would take room
+    // in the caches.
+    numbers: Option<Vec<Option<T>>>,
 }
 
 impl<T: Number> Drop for Numbered<'_, T> {
     fn drop(self) {
-        let Numbered {
-            ids: _,
-            numbers: _,
-            in_place: _,
-        } = self;
+        let Numbered { ids: _, numbers: _ } = self;
     }
 }
 
 impl<'a, T: Number> Model for Numbered<'a, T> {
-    ghost use Rattle.std.specs.Prelude.{◌≡◌, length};
-    ghost use Rattle.mt_id_lists.specs.Numbering.{AreInPlace, Numbering};
+    ghost use Rattle.std.specs.Prelude.{length};
+    ghost use Rattle.mt_id_lists.specs.Numbering.{Numbering};
+    ghost use Rattle.mt_numbering.specs.IdLists.{numbers_seen, AreFor};
 
     ghost Value = { Numbering T };
 
-    ghost view = { λ n. record { ids = n.ids; numbers = n.numbers.items } };
+    ghost view = { λ n. record { ids = n.ids; numbers = numbers_seen T.at (length n.ids) n.numbers } };
 
-    ghost invariant = { λ n. (length n.numbers.items ≡ length n.ids)
-        × AreInPlace T.at n.in_place n.numbers.items };
+    ghost invariant = { λ n. AreFor (length n.ids) n.numbers };
 }
 
 /// A list of ids to be read. The ids of a list that isn't kept are looked up, and that is all.
@@ -60,21 +56,6 @@ pub(crate) fn begin_list<T>(lists: &mut FlatLists<T>, kept: bool) -> Result<(), 
     Ok(())
 }
 
-/// How many of the first ids have their places as new numbers.
-fn count_in_place<T: Number>(numbers: &[Option<T>]) -> usize
-    ensures { AreInPlace T.at result numbers.now }
-{
-    for place in 0..numbers.len() {
-        let Some(number) = numbers[place] else {
-            return place;
-        };
-        if !number.is_at(place) {
-            return place;
-        }
-    }
-    numbers.len()
-}
-
 impl<'a, T: Number> Numbered<'a, T> {
     /// These ids, with a number for each that has one.
     pub(crate) fn new(ids: IdTable<'a>, numbers: Vec<Option<T>>) -> Self
@@ -82,23 +63,26 @@ impl<'a, T: Number> Numbered<'a, T> {
         ensures ids { result.ids ≡ ids.entry }
         ensures numbers { result.numbers ≡ numbers.items }
     {
-        let in_place = count_in_place(&numbers);
         Numbered {
             ids,
-            numbers,
-            in_place,
+            numbers: Some(numbers),
         }
+    }
+
+    /// These ids, each with its place as its number.
+    pub(crate) fn in_place(ids: IdTable<'a>) -> Self
+        requires { length ids < 2 ^ 32 }
+        ensures ids { result.ids ≡ ids.entry }
+        ensures numbers { result.numbers ≡ map (λ k. Some (T.at k)) (below (length ids.entry)) }
+    {
+        Numbered { ids, numbers: None }
     }
 
     /// The ids, without their numbers.
     pub(crate) fn into_ids(self) -> IdTable<'a>
         ensures { result ≡ self.entry.ids }
     {
-        let Numbered {
-            ids,
-            numbers: _,
-            in_place: _,
-        } = self;
+        let Numbered { ids, numbers: _ } = self;
         ids
     }
 
@@ -121,10 +105,9 @@ impl<'a, T: Number> Numbered<'a, T> {
         requires { place < length self.now.ids }
         ensures { result ≡ slice_index_or self.now.numbers place None }
     {
-        if place < self.in_place {
-            Some(T::at(place))
-        } else {
-            self.numbers[place]
+        match &self.numbers {
+            Some(numbers) => numbers[place],
+            None => Some(T::at(place)),
         }
     }
 
@@ -132,7 +115,8 @@ impl<'a, T: Number> Numbered<'a, T> {
     pub(crate) fn number(&self, id: &[u8]) -> Option<T>
         ensures { result ≡ number_by self.now id.now }
     {
-        self.numbers[self.ids.number(id)?]
+        let place = self.ids.number(id)?;
+        self.number_at(place)
     }
 
     /// Adds the new number of the id at a place to the last of these lists, if it has one and the list is kept.

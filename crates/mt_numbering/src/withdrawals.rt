@@ -7,7 +7,10 @@ ghost use Rattle.mt_numbering.specs.Registered.{is_registered, KnowsIds};
 ghost use Rattle.mt_numbering.specs.Withdrawals.{are_once, are_registered, stays_after, withdrawn_ids, AreWithdrawn, HaveFewApplicants, HaveFewPrograms};
 ghost use Rattle.mt_ids.specs.Kinds.{kind_seen};
 ghost use Rattle.mt_ids.specs.Seeds.{seed_of};
+ghost use Rattle.mt_terms.specs.Registration.Records.{OfProgram};
+ghost use Rattle.mt_terms.specs.Registration.Rows.{applicant_ids, ids_of};
 
+use crate::numbered::Numbered;
 use mt_ids::{IdTable, Kind, Kinds, Seed, add_field};
 use mt_records::{Record, push};
 use mt_terms::{AppNo, ProgNo};
@@ -105,7 +108,7 @@ pub(crate) fn retain_staying(withdrawn: &Kinds<'_>, records: &mut Vec<Record<'_>
 }
 
 /// For each program the number that it has among those that stay, if it stays.
-pub(crate) fn program_numbers(
+fn program_numbers(
     alloc: Global,
     withdrawn: &Kinds<'_>,
     records: &[Record<'_>],
@@ -151,7 +154,7 @@ fn push_number(
 
 /// For each applicant the number that it has among those that stay, if it stays. A couple's two members stay or go
 /// together.
-pub(crate) fn applicant_numbers(
+fn applicant_numbers(
     alloc: Global,
     withdrawn: &Kinds<'_>,
     records: &[Record<'_>],
@@ -174,4 +177,44 @@ pub(crate) fn applicant_numbers(
         }
     }
     Ok(numbers)
+}
+
+/// The programs by their numbers among those that stay.
+pub(crate) fn numbered_programs<'n>(
+    alloc: Global,
+    ids: IdTable<'n>,
+    withdrawn: &Kinds<'_>,
+    records: &[Record<'_>],
+) -> Result<Numbered<'n, ProgNo>, AllocError>
+    requires few { HaveFewPrograms (all_seen records.now) }
+    requires ids { ids ≡ ids_of OfProgram (all_seen records.now) }
+    ensures ids { IfOk result (λ n. n.ids ≡ ids.entry) }
+    ensures numbers { IfOk result (λ n. n.numbers
+        ≡ new_numbers 0 (program_flags (stays_after withdrawn.now) (all_seen records.now))) }
+{
+    if withdrawn.programs.len() == 0 {
+        return Ok(Numbered::in_place(ids));
+    }
+    let numbers = program_numbers(alloc, withdrawn, records)?;
+    Ok(Numbered::new(ids, numbers))
+}
+
+/// The applicants by their numbers among those that stay.
+pub(crate) fn numbered_applicants<'n>(
+    alloc: Global,
+    ids: IdTable<'n>,
+    withdrawn: &Kinds<'_>,
+    records: &[Record<'_>],
+) -> Result<Numbered<'n, AppNo>, AllocError>
+    requires few { HaveFewApplicants (all_seen records.now) }
+    requires ids { ids ≡ applicant_ids (all_seen records.now) }
+    ensures ids { IfOk result (λ n. n.ids ≡ ids.entry) }
+    ensures numbers { IfOk result (λ n. n.numbers
+        ≡ new_numbers 0 (applicant_flags (stays_after withdrawn.now) (all_seen records.now))) }
+{
+    if withdrawn.applicants.len() == 0 && withdrawn.couples.len() == 0 {
+        return Ok(Numbered::in_place(ids));
+    }
+    let numbers = applicant_numbers(alloc, withdrawn, records)?;
+    Ok(Numbered::new(ids, numbers))
 }
