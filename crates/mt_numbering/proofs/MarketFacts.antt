@@ -456,12 +456,8 @@ pub long_applicants : (stays : Record → Bool) (rs : List Record) (ids : List B
 long_applicants stays rs ids numbers are new = ap length new ∙ length-new_numbers 0 (applicant_flags stays rs) ∙ length-applicant_flags stays rs ∙ sym (ap length are)
 
 -- what the steps found
-pub once_found : (given records : List Checked) (o : Option Kinds) (w : Kinds) → given ≡ records
-    → MatchOption o (are_once (all_seen given) ≡ false) (AreWithdrawn (all_seen given)) → o ≡ Some w → AreWithdrawn (all_seen records) w
-once_found given records None w e h is = cc
-once_found given records (Some v) w e h is =
-    let same : v ≡ w = cc in
-    subst (λ (k : Kinds). AreWithdrawn (all_seen records) k) same (subst (λ (xs : List Checked). AreWithdrawn (all_seen xs) v) e h)
+pub once_found : (ws : List Checked) (o : Option Kinds) (w : Kinds) → MatchOption o (are_once (all_seen ws) ≡ false) (AreWithdrawn (all_seen ws)) → o ≡ Some w → AreWithdrawn (all_seen ws) w
+once_found ws o w h is = subst (λ (x : Option Kinds). MatchOption x (are_once (all_seen ws) ≡ false) (AreWithdrawn (all_seen ws))) is h
 
 pub read_found : (given records : List Checked) (inside rules : Rules) (w : Kinds) (o p : Option (Kinds × Entries)) → given ≡ records → inside ≡ rules → o ≡ p
     → GivesEntries inside.half_pairs (stays_after w) (all_seen given) o → GivesEntries rules.half_pairs (stays_after w) (all_seen records) p

@@ -1,10 +1,11 @@
 -- What records withdraw, record by record, and the new numbers of those that stay.
-use Rattle.std.proofs.Common.{◌≡◌, ℕ, ◌+◌, ◌<◌, Bool, true, false, not, ◌&&◌, List, [], ◌∷◌, ◌++◌, length, take, drop, get_or, refl, ap, ap₂, sym, subst, ◌∙◌}
-use Rattle.std.specs.Prelude.{bytes_eq, map, option_to_list, Option, Some}
+use Rattle.std.proofs.Common.{◌≡◌, ℕ, ◌+◌, ◌-◌, ◌<◌, ◌≤◌, ◌==◌, Bool, true, false, not, ◌&&◌, ◌||◌, List, [], ◌∷◌, ◌++◌, length, take, drop, get_or, refl, ap, ap₂, sym, subst, ◌∙◌, arith, cond}
+use Rattle.std.specs.Prelude.{bytes_eq, filter, if◌then◌else◌, map, option_to_list, Option, Some}
 use Rattle.std.specs.List.{range_with_len}
 use Rattle.std.specs.Borrow.{Bor}
-use Rattle.std.specs.List.{list_all}
+use Rattle.std.specs.List.{list_all, list_any}
 use Rattle.std.proofs.lemmas.Bool.{and_parts, and_from as both}
+use Rattle.std.proofs.lemmas.Bool.Decides.{nat_tests}
 use Rattle.std.proofs.lemmas.List.{append-nil, map-append, take_more, take-append-drop, drop_more}
 use Rattle.std.proofs.lemmas.List.Elements.{filter_map-append}
 use Rattle.std.proofs.lemmas.List.Folds.{list_all-append}
@@ -22,7 +23,7 @@ use Rattle.mt_ids.specs.Kinds.{ids_in, under, AddsId}
 use Rattle.mt_records.proofs.FieldFacts.{right_fails}
 use Rattle.mt_terms.specs.Lists.{below}
 use Rattle.mt_draft_laws.specs.Staying.{stays_without, new_numbers, program_flags, applicant_flags}
-use Rattle.mt_numbering.specs.Withdrawals.{are_once, are_registered, stays_after, withdrawn_by, withdrawn_ids, AreWithdrawn}
+use Rattle.mt_numbering.specs.Withdrawals.{are_once, are_known, is_withdrawal, stays_after, withdrawn_by, withdrawn_ids, AreWithdrawn}
 use Rattle.mt_ids.specs.Seeds.{digest_of, with_fields}
 use Rattle.mt_ids.proofs.SeedFacts.{with_fields-append}
 use Rattle.std.specs.Hash.DefaultHasher as sip
@@ -53,17 +54,17 @@ seen_split records i d h =
     ∙ ap all_seen (take-append-drop i records)
 
 -- a list without elements
-nil_of : (xs : List Bytes) → length xs ≡ 0 → xs ≡ []
+nil_of : {X : Type 0} (xs : List X) → length xs ≡ 0 → xs ≡ []
 nil_of [] h = refl
 nil_of (x ∷ xs) h = cc
 
--- a list that names an id that is none of these, and a list that has one twice
-unlisted : (ids xs : List Bytes) (x : Bytes) (ys : List Bytes) → has_id ids x ≡ false → list_all (has_id ids) (xs ++ x ∷ ys) ≡ false
-unlisted ids xs x ys n =
+-- a list with an id that fails a test, and a list that has one twice
+unlisted : (test : Bytes → Bool) (xs : List Bytes) (x : Bytes) (ys : List Bytes) → test x ≡ false → list_all test (xs ++ x ∷ ys) ≡ false
+unlisted test xs x ys n =
     not_true _
     (λ h.
-    let q : (list_all (has_id ids) xs ≡ true) × (list_all (has_id ids) (x ∷ ys) ≡ true) = and_parts (list_all (has_id ids) xs) _ (sym (list_all-append (has_id ids) xs (x ∷ ys)) ∙ h) in
-    let r : (has_id ids x ≡ true) × (list_all (has_id ids) ys ≡ true) = and_parts (has_id ids x) _ q.1 in
+    let q : (list_all test xs ≡ true) × (list_all test (x ∷ ys) ≡ true) = and_parts (list_all test xs) _ (sym (list_all-append test xs (x ∷ ys)) ∙ h) in
+    let r : (test x ≡ true) × (list_all test ys ≡ true) = and_parts (test x) _ q.1 in
     cc (n, r.0))
 
 listed_twice : (xs : List Bytes) (x : Bytes) (ys : List Bytes) → has_id xs x ≡ true → all_differ bytes_eq (xs ++ x ∷ ys) ≡ false
@@ -78,15 +79,11 @@ pub record AreSoFar (before : List Record) (w : Kinds) : Type 0 where
   pub once : (kind : Kind) → all_differ bytes_eq (withdrawn kind before) ≡ true
   pub ids : (kind : Kind) → ids_in w kind ≡ withdrawn kind before
 
--- Of the records so far each withdrawn id is one that all records register.
-abbrev pub AreKnown : List Record → List Record → Type 0
-AreKnown all before = (kind : Kind) → list_all (has_id (ids_of kind all)) (withdrawn kind before) ≡ true
+-- Of the records so far each withdrawn id passes the test of its kind.
+abbrev pub AreKnown : (Kind → Bytes → Bool) → List Record → Type 0
+AreKnown knows before = (kind : Kind) → list_all (knows kind) (withdrawn kind before) ≡ true
 
 -- a record that is no withdrawal adds nothing
-abbrev pub is_withdrawal : Record → Bool
-is_withdrawal (WithdrawRecord kind id) = true
-is_withdrawal _ = false
-
 pub no_withdrawal : (r : Checked) → ((kind : checked.Kind) (id : Bor Bytes) → r ≡ variants.Withdraw kind id → ⊥) → is_withdrawal (record_seen r) ≡ false
 no_withdrawal (variants.Program id quota list) h = refl
 no_withdrawal (variants.Applicant id list) h = refl
@@ -129,8 +126,8 @@ still_withdrawn before w r are n = record {
   ids = λ kind. are.ids kind ∙ sym (same_withdrawn before r kind n);
 }
 
-pub still_known : (all before : List Record) (r : Record) → AreKnown all before → is_withdrawal r ≡ false → AreKnown all (before ++ r ∷ [])
-still_known all before r are n = λ kind. ap (list_all (has_id (ids_of kind all))) (same_withdrawn before r kind n) ∙ are kind
+pub still_known : (knows : Kind → Bytes → Bool) (before : List Record) (r : Record) → AreKnown knows before → is_withdrawal r ≡ false → AreKnown knows (before ++ r ∷ [])
+still_known knows before r are n = λ kind. ap (list_all (knows kind)) (same_withdrawn before r kind n) ∙ are kind
 
 -- what a withdrawal adds
 withdraws_one : (kind k : Kind) (id : Bytes) → option_to_list (withdrawn_id k (WithdrawRecord kind id)) ≡ under kind id k
@@ -169,11 +166,11 @@ one_withdrawn before w more kind id are n adds = record {
   ids = λ k. adds k ∙ ap (λ (ids : List Bytes). ids ++ under kind id k) (are.ids k) ∙ sym (one_more before kind id k);
 }
 
-pub one_known : (all before : List Record) (kind : Kind) (id : Bytes) → AreKnown all before → has_id (ids_of kind all) id ≡ true → AreKnown all (before ++ WithdrawRecord kind id ∷ [])
-one_known all before kind id are i = λ k.
-    ap (list_all (has_id (ids_of k all))) (one_more before kind id k)
-    ∙ with_one (λ k xs. list_all (has_id (ids_of k all)) xs ≡ true) (λ x. withdrawn x before) kind id are
-    (list_all-append (has_id (ids_of kind all)) (withdrawn kind before) (id ∷ []) ∙ both _ _ (are kind) (both _ _ i refl)) k
+pub one_known : (knows : Kind → Bytes → Bool) (before : List Record) (kind : Kind) (id : Bytes) → AreKnown knows before → knows kind id ≡ true → AreKnown knows (before ++ WithdrawRecord kind id ∷ [])
+one_known knows before kind id are i = λ k.
+    ap (list_all (knows k)) (one_more before kind id k)
+    ∙ with_one (λ k xs. list_all (knows k) xs ≡ true) (λ x. withdrawn x before) kind id are
+    (list_all-append (knows kind) (withdrawn kind before) (id ∷ []) ∙ both _ _ (are kind) (both _ _ i refl)) k
 
 -- a test of all kinds fails where that of some kind does
 kind_fails : (test : Kind → Bool) (kind : Kind) → test kind ≡ false → (test OfProgram && test OfApplicant && test OfCouple) ≡ false
@@ -191,11 +188,11 @@ module _ (all before after : List Record) (kind : Kind) (id : Bytes) (are : befo
       by OfApplicant = refl
       by OfCouple = refl
 
-  -- of an id that is not registered
-  pub unregistered : has_id (ids_of kind all) id ≡ false → are_registered all ≡ false
-  unregistered n =
-      kind_fails (λ k. list_all (has_id (ids_of k all)) (withdrawn k all)) kind
-      (ap (list_all (has_id (ids_of kind all))) withdrawn_all ∙ unlisted (ids_of kind all) (withdrawn kind before) id (withdrawn kind after) n)
+  -- of an id that fails the test of its kind
+  pub unknown : (knows : Kind → Bytes → Bool) → knows kind id ≡ false → are_known knows all ≡ false
+  unknown knows n =
+      kind_fails (λ k. list_all (knows k) (withdrawn k all)) kind
+      (ap (list_all (knows kind)) withdrawn_all ∙ unlisted (knows kind) (withdrawn kind before) id (withdrawn kind after) n)
 
   -- of one that was withdrawn before
   pub withdrawn_twice : has_id (withdrawn kind before) id ≡ true → are_once all ≡ false
@@ -207,8 +204,115 @@ module _ (all before after : List Record) (kind : Kind) (id : Bytes) (are : befo
 pub all_withdrawn : (all : List Record) (w : Kinds) → AreSoFar all w → AreWithdrawn all w
 all_withdrawn all w are = record { once = rw (are.once OfProgram, are.once OfApplicant, are.once OfCouple) refl; withdrawn = are.ids }
 
-pub all_known : (all : List Record) → AreKnown all all → are_registered all ≡ true
-all_known all are = rw (are OfProgram, are OfApplicant, are OfCouple) refl
+pub all_known : (knows : Kind → Bytes → Bool) (all : List Record) → AreKnown knows all → are_known knows all ≡ true
+all_known knows all are = rw (are OfProgram, are OfApplicant, are OfCouple) refl
+
+-- two tests that agree
+pub known_by : (knows is : Kind → Bytes → Bool) → ((kind : Kind) (id : Bytes) → knows kind id ≡ is kind id) → (rs : List Record) → are_known knows rs ≡ are_known is rs
+known_by knows is same rs = let e : knows ≡ is = λ i kind id. same kind id i in ap (λ test. are_known test rs) e
+
+-- how many records there are of each sort
+parts : (rs : List Record) → length rs + length (ids_of OfCouple rs) ≡ length (ids_of OfProgram rs) + length (applicant_ids rs) + length (filter is_withdrawal rs)
+parts [] = refl
+parts (ProgramRecord id quota list ∷ rs) = omega (arith, parts rs)
+parts (ApplicantRecord id list ∷ rs) = omega (arith, parts rs)
+parts (CoupleRecord id a b pairs ∷ rs) = omega (arith, parts rs)
+parts (WithdrawRecord kind id ∷ rs) = omega (arith, parts rs)
+
+pub fewer_couples : (rs : List Record) → length (ids_of OfCouple rs) ≤ length (applicant_ids rs)
+fewer_couples [] = omega arith
+fewer_couples (ProgramRecord id quota list ∷ rs) = fewer_couples rs
+fewer_couples (ApplicantRecord id list ∷ rs) = omega (arith, fewer_couples rs)
+fewer_couples (CoupleRecord id a b pairs ∷ rs) = omega (arith, fewer_couples rs)
+fewer_couples (WithdrawRecord kind id ∷ rs) = fewer_couples rs
+
+any_by_count : {X : Type 0} (p : X → Bool) (xs : List X) → (length (filter p xs) ≡ 0 → list_any p xs ≡ false) × ((length (filter p xs) ≡ 0 → ⊥) → list_any p xs ≡ true)
+any_by_count p [] = ((λ h. refl), λ h. absurd (h refl))
+any_by_count p (x ∷ xs) = by (p x) (any_by_count p xs)
+  where
+    by : (b : Bool) → (length (filter p xs) ≡ 0 → list_any p xs ≡ false) × ((length (filter p xs) ≡ 0 → ⊥) → list_any p xs ≡ true)
+        → (length (cond b (x ∷ filter p xs) (filter p xs)) ≡ 0 → (b || list_any p xs) ≡ false) × ((length (cond b (x ∷ filter p xs) (filter p xs)) ≡ 0 → ⊥) → (b || list_any p xs) ≡ true)
+    by true ih = ((λ h. absurd (omega (arith, h))), λ h. refl)
+    by false ih = ih
+
+module _ (rs : List Record) where
+  abbrev registering : ℕ
+  registering = length (ids_of OfProgram rs) + (length (applicant_ids rs) - length (ids_of OfCouple rs))
+
+  pub within_all : registering ≤ length rs
+  within_all = omega (arith, parts rs, fewer_couples rs)
+
+  pub none_withdraws : length rs ≡ registering → list_any is_withdrawal rs ≡ false
+  none_withdraws h = (any_by_count is_withdrawal rs).0 (omega (arith, h, parts rs, fewer_couples rs))
+
+  pub one_withdraws : (length rs ≡ registering → ⊥) → list_any is_withdrawal rs ≡ true
+  one_withdraws h = (any_by_count is_withdrawal rs).1 (λ z. h (omega (arith, z, parts rs, fewer_couples rs)))
+
+-- records none of which withdraws
+nothing_withdrawn : (rs : List Record) (kind : Kind) → list_any is_withdrawal rs ≡ false → withdrawn kind rs ≡ []
+nothing_withdrawn [] kind h = refl
+nothing_withdrawn (ProgramRecord id quota list ∷ rs) OfProgram h = nothing_withdrawn rs OfProgram h
+nothing_withdrawn (ProgramRecord id quota list ∷ rs) OfApplicant h = nothing_withdrawn rs OfApplicant h
+nothing_withdrawn (ProgramRecord id quota list ∷ rs) OfCouple h = nothing_withdrawn rs OfCouple h
+nothing_withdrawn (ApplicantRecord id list ∷ rs) OfProgram h = nothing_withdrawn rs OfProgram h
+nothing_withdrawn (ApplicantRecord id list ∷ rs) OfApplicant h = nothing_withdrawn rs OfApplicant h
+nothing_withdrawn (ApplicantRecord id list ∷ rs) OfCouple h = nothing_withdrawn rs OfCouple h
+nothing_withdrawn (CoupleRecord id a b pairs ∷ rs) OfProgram h = nothing_withdrawn rs OfProgram h
+nothing_withdrawn (CoupleRecord id a b pairs ∷ rs) OfApplicant h = nothing_withdrawn rs OfApplicant h
+nothing_withdrawn (CoupleRecord id a b pairs ∷ rs) OfCouple h = nothing_withdrawn rs OfCouple h
+nothing_withdrawn (WithdrawRecord k id ∷ rs) kind h = cc
+
+all_stay : (rs : List Record) → list_any is_withdrawal rs ≡ false → filter (stays_without [] [] []) rs ≡ rs
+all_stay [] h = refl
+all_stay (ProgramRecord id quota list ∷ rs) h = ap (λ (xs : List Record). ProgramRecord id quota list ∷ xs) (all_stay rs h)
+all_stay (ApplicantRecord id list ∷ rs) h = ap (λ (xs : List Record). ApplicantRecord id list ∷ xs) (all_stay rs h)
+all_stay (CoupleRecord id a b pairs ∷ rs) h = ap (λ (xs : List Record). CoupleRecord id a b pairs ∷ xs) (all_stay rs h)
+all_stay (WithdrawRecord k id ∷ rs) h = cc
+
+-- the length of an empty list, by the test
+pub no_length : (n : ℕ) (b : Bool) → b ≡ (n == 0) → b ≡ true → n ≡ 0
+no_length n b e t = grind (arith, nat_tests)
+
+-- These are the records, or none of them if none withdraws.
+abbrev pub AreWithdrawing : List Checked → List Checked → Type 0
+AreWithdrawing records ws = ws ≡ (if list_any is_withdrawal (all_seen records) then records else [])
+
+pub found_withdrawing : (given records ws : List Checked) → given ≡ records → AreWithdrawing given ws → AreWithdrawing records ws
+found_withdrawing given records ws e are = subst (λ (xs : List Checked). AreWithdrawing xs ws) e are
+
+module _ (records ws : List Checked) (are : AreWithdrawing records ws) where
+  pub same_withdrawals : (kind : Kind) → withdrawn kind (all_seen ws) ≡ withdrawn kind (all_seen records)
+  same_withdrawals kind = ap (λ (xs : List Checked). withdrawn kind (all_seen xs)) are ∙ by (list_any is_withdrawal (all_seen records)) (nothing_withdrawn (all_seen records) kind)
+    where
+      by : (b : Bool) → (b ≡ false → withdrawn kind (all_seen records) ≡ []) → withdrawn kind (all_seen (if b then records else [])) ≡ withdrawn kind (all_seen records)
+      by true none = refl
+      by false none = nothing_withdrawn [] kind refl ∙ sym (none refl)
+
+  pub same_once : are_once (all_seen ws) ≡ are_once (all_seen records)
+  same_once =
+      let e : (λ (kind : Kind). withdrawn kind (all_seen ws)) ≡ (λ (kind : Kind). withdrawn kind (all_seen records)) = λ i kind. same_withdrawals kind i in
+      ap (λ (w : Kind → List Bytes). all_differ bytes_eq (w OfProgram) && all_differ bytes_eq (w OfApplicant) && all_differ bytes_eq (w OfCouple)) e
+
+  pub same_known : (knows : Kind → Bytes → Bool) → are_known knows (all_seen ws) ≡ are_known knows (all_seen records)
+  same_known knows =
+      let e : (λ (kind : Kind). withdrawn kind (all_seen ws)) ≡ (λ (kind : Kind). withdrawn kind (all_seen records)) = λ i kind. same_withdrawals kind i in
+      ap (λ (w : Kind → List Bytes). list_all (knows OfProgram) (w OfProgram) && list_all (knows OfApplicant) (w OfApplicant) && list_all (knows OfCouple) (w OfCouple)) e
+
+  pub withdrawn_of_all : (w : Kinds) → AreWithdrawn (all_seen ws) w → AreWithdrawn (all_seen records) w
+  withdrawn_of_all w them = record { once = sym same_once ∙ them.once; withdrawn = λ kind. them.withdrawn kind ∙ same_withdrawals kind }
+
+  -- where there are none of them, all records stay
+  pub stay_all : length ws ≡ 0 → (w : Kinds) → AreWithdrawn (all_seen ws) w → all_seen records ≡ filter (stays_after w) (all_seen records)
+  stay_all none w them = by (list_any is_withdrawal (all_seen records)) refl are
+    where
+      by : (b : Bool) → list_any is_withdrawal (all_seen records) ≡ b → ws ≡ (if b then records else []) → all_seen records ≡ filter (stays_after w) (all_seen records)
+      by true some same = let gone : records ≡ [] = nil_of records (ap length (sym same) ∙ none) in rw gone refl
+      by false nobody same =
+          let empty : (kind : Kind) → ids_in w kind ≡ [] = λ kind. them.withdrawn kind ∙ ap (λ (xs : List Checked). withdrawn kind (all_seen xs)) same ∙ nothing_withdrawn [] kind refl in
+          let p : w.programs ≡ [] = empty OfProgram in
+          let a : w.applicants ≡ [] = empty OfApplicant in
+          let c : w.couples ≡ [] = empty OfCouple in
+          rw (p, a, c) (sym (all_stay (all_seen records) nobody))
 
 -- where no program is withdrawn, the new numbers of programs are their places
 programs_from : (n : ℕ) (a c : List Bytes) (rs : List Record) → new_numbers n (program_flags (stays_without [] a c) rs) ≡ map Some (range_with_len n (length (ids_of OfProgram rs)))

@@ -15,7 +15,7 @@ ghost use Rattle.mt_records.specs.Limits.{AreBounded};
 
 use crate::entries::{Entries, read_entries};
 use crate::tables::{agents, quotas};
-use crate::withdrawals::{are_registered, retain_staying, withdrawn};
+use crate::withdrawals::{are_registered, retain_staying, withdrawing, withdrawn};
 use mt_drafts::{Drafts, NameLists, drafts_of};
 use mt_lists::RowsIter;
 use mt_market::{Roster, Tables};
@@ -38,17 +38,20 @@ fn remaining_entries<R: Threads + Sync>(
     ensures { IfOk result
         (Remains rules.now (all_seen records.old.items) (all_seen records.new.items)) }
 {
-    let Some(withdrawn) = withdrawn(alloc, records)? else {
+    let withdrawing = withdrawing(names, records);
+    let Some(withdrawn) = withdrawn(alloc, withdrawing)? else {
         return Ok(None);
     };
     let read = read_entries(rt, alloc, names, rules.half_pairs, &withdrawn, records)?;
     let Some((ids, entries)) = read else {
         return Ok(None);
     };
-    if !are_registered(&ids, &names.singles, records) {
+    if !are_registered(&ids, &names.singles, withdrawing) {
         return Ok(None);
     }
-    retain_staying(&withdrawn, records);
+    if !withdrawing.is_empty() {
+        retain_staying(&withdrawn, records);
+    }
     Ok(Some(entries))
 }
 

@@ -2,15 +2,18 @@
 ghost use Rattle.std.specs.Prelude.{◌≡◌, ◌<◌, ◌+◌, ◌++◌, ◌∷◌, [], ◌^◌, false, length, filter, IfOk, OnOk, MatchOption, if◌then◌else◌};
 ghost use Rattle.mt_draft_laws.specs.Staying.{new_numbers, program_flags, applicant_flags};
 ghost use Rattle.mt_terms.specs.Registration.Ids.{has_id};
+ghost use Rattle.std.specs.List.{list_any};
+ghost use Rattle.mt_drafts.specs.Names.{AreNames};
 ghost use Rattle.mt_records.specs.Records.{all_seen, record_seen};
-ghost use Rattle.mt_numbering.specs.Registered.{is_registered, KnowsIds};
-ghost use Rattle.mt_numbering.specs.Withdrawals.{are_once, are_registered, stays_after, withdrawn_ids, AreWithdrawn, HaveFewApplicants, HaveFewPrograms};
+ghost use Rattle.mt_numbering.specs.Registered.{is_registered};
+ghost use Rattle.mt_numbering.specs.Withdrawals.{are_known, are_once, is_withdrawal, stays_after, withdrawn_ids, AreWithdrawn, HaveFewApplicants, HaveFewPrograms};
 ghost use Rattle.mt_ids.specs.Kinds.{kind_seen};
 ghost use Rattle.mt_ids.specs.Seeds.{seed_of};
 ghost use Rattle.mt_terms.specs.Registration.Records.{OfProgram};
 ghost use Rattle.mt_terms.specs.Registration.Rows.{applicant_ids, ids_of};
 
 use crate::numbered::Numbered;
+use mt_drafts::NameLists;
 use mt_ids::{IdTable, Kind, Kinds, Seed, add_field};
 use mt_records::{Record, push};
 use mt_terms::{AppNo, ProgNo};
@@ -28,6 +31,20 @@ fn seed_of(records: &[Record<'_>]) -> Seed
         }
     }
     Seed::of(&digest)
+}
+
+/// The records, or none of them if none withdraws. So those of most files aren't looked through for withdrawals.
+pub(crate) fn withdrawing<'r, 'a>(names: &NameLists, records: &'r [Record<'a>]) -> &'r [Record<'a>]
+    requires { AreNames (all_seen records.now) names.now }
+    ensures { result.now ≡ (if list_any is_withdrawal (all_seen records.now) then records.now else []) }
+{
+    // A couple's record registers two applicants, and a withdrawal nothing.
+    let agents = names.applicants.len() - names.couples.len();
+    if records.len() - names.programs.len() == agents {
+        &[]
+    } else {
+        records
+    }
 }
 
 /// The ids that records withdraw, if none is withdrawn twice.
@@ -66,9 +83,8 @@ fn is_registered(ids: &Kinds<'_>, singles: &[bool], kind: Kind, id: &[u8]) -> bo
 
 /// Whether each id that records withdraw is registered.
 pub(crate) fn are_registered(ids: &Kinds<'_>, singles: &[bool], records: &[Record<'_>]) -> bool
-    requires long { length singles.now ≡ length ids.now.applicants }
-    requires known { KnowsIds ids.now singles.now records.now }
-    ensures { result ≡ are_registered (all_seen records.now) }
+    requires { length singles.now ≡ length ids.now.applicants }
+    ensures { result ≡ are_known (is_registered ids.now singles.now) (all_seen records.now) }
 {
     for one in records {
         if let Record::Withdraw { kind, id } = one {

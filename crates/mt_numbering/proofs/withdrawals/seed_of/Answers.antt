@@ -4,9 +4,10 @@ use Rattle.std.specs.declared.hash.DefaultHasher.{DefaultHasher}
 use Rattle.mt_terms.specs.Registration.Records.{WithdrawRecord}
 use Rattle.mt_ids.specs.Seeds.{digest_of, seed_by, with_field}
 use Rattle.mt_records.specs.declared.record.Record.{Record as Checked}
+use Rattle.mt_numbering.specs.Withdrawals.{is_withdrawal}
 use Rattle.mt_records.specs.Records.{record_seen, all_seen}
 use Rattle.mt_numbering.specs.Withdrawals.{withdrawn_ids}
-use Rattle.mt_numbering.proofs.WithdrawalFacts.{digest_with, digest_without, is_withdrawal, no_withdrawal, seen_more}
+use Rattle.mt_numbering.proofs.WithdrawalFacts.{digest_with, digest_without, no_withdrawal, seen_more}
 use Rattle.mt_numbering.proofs.withdrawals.seed_of.Goals.{in-Withdraw, in_default}
 use Rattle.mt_numbering.proofs.withdrawals.seed_of.Goals as goal
 

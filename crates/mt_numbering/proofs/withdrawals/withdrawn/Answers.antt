@@ -5,8 +5,9 @@ use Rattle.mt_terms.specs.Registration.Records.{Record, WithdrawRecord}
 use Rattle.mt_records.specs.declared.record.Record.{Record as Checked}
 use Rattle.mt_ids.proofs.KindFacts.{none_of_kinds}
 use Rattle.mt_ids.specs.Kinds.{kind_seen}
+use Rattle.mt_numbering.specs.Withdrawals.{is_withdrawal}
 use Rattle.mt_records.specs.Records.{all_seen, record_seen}
-use Rattle.mt_numbering.proofs.WithdrawalFacts.{AreSoFar, seen_more, seen_split, is_withdrawal, no_withdrawal, still_withdrawn, one_withdrawn, withdrawn_twice, all_withdrawn, was_true, was_false}
+use Rattle.mt_numbering.proofs.WithdrawalFacts.{AreSoFar, seen_more, seen_split, no_withdrawal, still_withdrawn, one_withdrawn, withdrawn_twice, all_withdrawn, was_true, was_false}
 use Rattle.mt_numbering.proofs.withdrawals.withdrawn.Goals.{in-Withdraw+in_ok-add+else-not-branch, in_default}
 use Rattle.mt_numbering.proofs.withdrawals.withdrawn.Goals as goal
 
