@@ -1,9 +1,6 @@
 pub mod FilterFacts
 pub mod WithdrawalFacts
-pub mod NeighbourFacts
-pub mod NumberFacts
 pub mod EntryFacts
-pub mod PairSteps
 pub mod NumberingTables
 pub mod MarketFacts
 pub mod AcceptedFacts

@@ -1,6 +1,5 @@
 pub mod Registered
 pub mod Withdrawals
-pub mod IdLists
 pub mod Numbered
 pub mod Reading
 pub mod Sides

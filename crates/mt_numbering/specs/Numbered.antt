@@ -1,10 +1,9 @@
 -- What each table of a roster has from each record, by the ids of programs and of applicants.
-use Rattle.std.specs.Prelude.{ℕ, Bool, List, [], ◌∷◌, map, Option, Some, None, option_map, filter_map, flat_map, if◌then◌else◌}
+use Rattle.std.specs.Prelude.{ℕ, Bool, List, [], ◌∷◌, map, Option, Some, None, filter_map, flat_map}
 use Rattle.mt_terms.specs.Market.{Pair, Partners, Registered}
 use Rattle.mt_terms.specs.Registration.Ids.{Bytes, number_of, numbers_of}
 use Rattle.mt_terms.specs.Registration.Records.{Record, ProgramRecord, ApplicantRecord, CoupleRecord, IdPair}
-use Rattle.mt_draft_laws.specs.Faultless.{pair_stands}
-use Rattle.mt_terms.specs.Registration.Numbering.{is_none_or_in, pair_by_number, pairs_by_number, names_of, market_by}
+use Rattle.mt_terms.specs.Registration.Numbering.{pairs_by_number, names_of, market_by}
 
 -- the lists of programs, of applicants and of couples as the records have them, and whether each is kept: a couple's two
 -- members have empty ones
@@ -29,14 +28,6 @@ couple_lists stays records = filter_map list_of records
     list_of : Record → Option (Bool × List IdPair)
     list_of (CoupleRecord id a b pairs) = Some (stays (CoupleRecord id a b pairs), pairs)
     list_of _ = None
-
--- where a pair sends a member, by number, if it names none but these programs
-abbrev pub place_in : List Bytes → Option Bytes → Option (Option ℕ)
-place_in programs place = if is_none_or_in programs place then Some (option_map (number_of programs) place) else None
-
--- a pair by numbers, if it is allowed and names none but these programs
-abbrev pub pair_in : Bool → List Bytes → IdPair → Option Pair
-pair_in half_pairs programs pair = if pair_stands half_pairs programs pair then Some (pair_by_number programs pair) else None
 
 -- a program's quota and its list
 abbrev pub quota_in : Record → Option ℕ

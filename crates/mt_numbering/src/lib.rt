@@ -2,12 +2,9 @@
 //! list, looked up once.
 #![tactic(auto)]
 
-mod duplicates;
 mod entries;
 mod listed;
 mod market;
-mod numbered;
-mod pairs;
 mod tables;
 mod withdrawals;
 

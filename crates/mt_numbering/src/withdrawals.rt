@@ -12,9 +12,9 @@ ghost use Rattle.mt_ids.specs.Seeds.{seed_of};
 ghost use Rattle.mt_terms.specs.Registration.Records.{OfProgram};
 ghost use Rattle.mt_terms.specs.Registration.Rows.{applicant_ids, ids_of};
 
-use crate::numbered::Numbered;
 use mt_drafts::NameLists;
 use mt_ids::{IdTable, Kind, Kinds, Seed, add_field};
+use mt_numbered::Numbered;
 use mt_records::{Record, push};
 use mt_terms::{AppNo, ProgNo};
 use std::alloc::{AllocError, Global};

@@ -1,7 +1,7 @@
 use Rattle.std.proofs.lemmas.Result.{IfOk-weaker}
 use Rattle.mt_id_lists.proofs.ReadingSteps.{all_seen}
 use Rattle.mt_id_lists.specs.Reading.{ids_stand, ids_read}
-use Rattle.mt_numbering.specs.IdLists.{list_seen}
+use Rattle.mt_numbered.specs.IdLists.{list_seen}
 use Rattle.mt_numbering.proofs.entries.choices.Goals as goal
 
 pub returns : goal.returns

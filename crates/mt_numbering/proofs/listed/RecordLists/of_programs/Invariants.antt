@@ -1,5 +1,5 @@
 use Rattle.std.proofs.Common.{◌≡◌, ◌++◌, drop, map}
-use Rattle.mt_numbering.specs.IdLists.{list_seen}
+use Rattle.mt_numbered.specs.IdLists.{list_seen}
 use Rattle.mt_records.specs.Records.{all_seen}
 use Rattle.mt_numbering.specs.Numbered.{program_lists}
 use Rattle.mt_numbering.specs.Reading.{lists_of_programs}

@@ -1,0 +1,3 @@
+pub mod NumberFacts
+pub mod NeighbourFacts
+pub mod PairSteps
