@@ -139,10 +139,10 @@ fn by_applicants<'n, R: Threads + Sync>(
         return Ok(None);
     };
     let applicants = numbered_applicants(alloc, ids, listed.withdrawn, listed.records)?;
+    let members = members(alloc, &applicants, listed.withdrawn, listed.records)?;
     let Some(rankings) = rankings(rt, alloc, &applicants, listed)? else {
         return Ok(None);
     };
-    let members = members(alloc, &applicants, listed.withdrawn, listed.records)?;
     Ok(Some(ByApplicants {
         ids: applicants.into_ids(),
         rankings,
@@ -178,9 +178,9 @@ fn by_programs<'n, R: Threads + Sync>(
         return Ok(None);
     };
     Ok(Some(ByPrograms {
-        ids: programs.into_ids(),
         lists,
         pairs,
+        ids: programs.into_ids(),
     }))
 }
 
