@@ -20,6 +20,7 @@ use mt_market::ChunkedLists;
 use mt_numbered::{Numbered, PairReader};
 use mt_records::Record;
 use mt_terms::{AppNo, ProgNo};
+use rayon::current_num_threads;
 use std::alloc::{AllocError, Global};
 use std::thread::{Threads, join};
 
@@ -184,7 +185,8 @@ fn by_programs<'n, R: Threads + Sync>(
     }))
 }
 
-/// What records say by applicants, and what they say by programs, side by side if there are many records.
+/// What records say by applicants, and what they say by programs, side by side if there are many records and more than
+/// one processor.
 fn by_both<'n, R: Threads + Sync>(
     rt: &R,
     alloc: Global,
@@ -216,7 +218,7 @@ fn by_both<'n, R: Threads + Sync>(
         ensures { IfOk result (GivesByPrograms half_pairs (stays_after listed.entry.now.withdrawn.now)
             (all_seen listed.entry.now.records.now)) }
     { by_programs(rt, alloc, names, half_pairs, listed) };
-    if listed.records.len() < FEWEST {
+    if listed.records.len() < FEWEST || current_num_threads(rt) == 1 {
         (one(), other())
     } else {
         join(rt, one, other)
