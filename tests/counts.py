@@ -34,7 +34,7 @@ CHECKS = {
     "words": 420,
     "ways": 1551,
     "wrong_bodies --gate": 35,
-    "wrong_bodies --release": 65,
+    "wrong_bodies --release": 66,
 }
 # The sweeps of the forms of tests/memory, by the number of workers and whether all requests from one on are refused.
 SWEEPS = {
