@@ -16,7 +16,7 @@ Shapes:
            programs without a post as --list.
 
 With --withdraw every program is withdrawn. With --names the ids are the lines of a file, as tests/collide.c makes.
-With --digits the number of an id has at least so many digits, as ids of services often do: `a00000007`. A cycle has
+With --digits the number of an id has at least this number of digits, as ids of services often do: `a00000007`. A cycle has
 ids of its own.
 """
 import argparse

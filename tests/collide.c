@@ -17,7 +17,7 @@
 
 static const char DIGITS[] = "0123456789ABCDEFGHIJKLMNOPQRSTUVWXYZabcdefghijklmnopqrstuvwxyz";
 static const uint64_t FIXED_SEED = 0x243f6a8885a308d3, MULTIPLIER = 0x9e3779b97f4a7c15;
-/* LOAD entries at least share one of the places that are told apart. */
+/* LOAD entries at least share one of the places that differ. */
 enum { LENGTH = 8, LOAD = 9 };
 
 static long wanted, found;
@@ -25,7 +25,7 @@ static uint32_t groups = 1;
 static int is_by_bytes;
 static char id[LENGTH + 1];
 
-/* The state after a word, or after a piece of so many bytes. */
+/* The state after a word, or after a piece of some bytes. */
 static uint64_t after(uint64_t state, uint64_t word, unsigned length) {
     unsigned __int128 product = (unsigned __int128)(state ^ word) * (MULTIPLIER ^ 2 * length);
     return (uint64_t)product ^ (uint64_t)(product >> 64);

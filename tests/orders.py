@@ -39,7 +39,7 @@ class Pcg32:
 
 
 def order_of(number, couples):
-    """The order of so many couples with a number, from 1: the first is that of registration, the others are shuffles."""
+    """The order of couples that has a number, from 1: the first is that of registration, the others are shuffles."""
     order = [*range(couples)]
     if number == 1:
         return order
@@ -101,7 +101,7 @@ def entered(singles, order, budget):
 
 
 def first_order(singles, budget, orders):
-    """The first of so many orders in which the rounds end, with its match, or None."""
+    """The first of this number of orders in which the rounds end, with its match, or None."""
     couples = len(couples_of(singles.market))
     for number in range(1, orders + 1):
         matching, _ = entered(singles, order_of(number, couples), budget)
@@ -122,7 +122,7 @@ def aside_in_turn(singles, order, budget):
 
 
 def fewest_aside(singles, budget, orders):
-    """The couples that are set aside, and the match of the others, in the first of so many orders with the fewest."""
+    """The couples that are set aside, and the match of the others, in the first of this number of orders with the fewest."""
     couples = len(couples_of(singles.market))
     found = (aside_in_turn(singles, order_of(number, couples), budget) for number in range(1, orders + 1))
     return min(found, key=lambda one: len(one[0]))
@@ -178,7 +178,7 @@ def complaint(text, budget, couple=r"[\w.:-]+", where=""):
 
 
 def random_rows(source, applicants, share, posts):
-    """The records of a market of so many applicants, a share of them in couples, with so many posts for each."""
+    """The records of a market with this number of applicants, a share of them in couples, and of posts for each."""
     names = [f"a{number}" for number in range(applicants)]
     programs = [f"P{number}" for number in range(max(2, applicants // 3))]
     rows = [["program", name, "0", *source.sample(names, source.randint(1, applicants))] for name in programs]
@@ -238,7 +238,7 @@ def compare(source, budget=2000):
 
 
 def main(markets):
-    """Tries so many random markets."""
+    """Tries this number of random markets."""
     source = random.Random(1)
     seen = collections.Counter(compare(source) for _ in range(markets))
     for (ends, aside, fewest), count in sorted(seen.items()):

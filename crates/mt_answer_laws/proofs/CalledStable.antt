@@ -92,7 +92,7 @@ published_is_read_back_lem bytes budget text h =
       same_places = refl;
     }
 
--- what is told of a text with couples set aside, and how it is judged
+-- what a text with couples set aside is called, and how it is judged
 module _ (bytes : List ℕ) (r : Registered) (of_market : market_in bytes ≡ Ok r) (places : Places) (in_market : ArePlaces r.market places) (received : List ℕ)
     (few : (p : ℕ) → slice_index_or received p 0 ≤ applicants r.market) (aside : List ℕ) (some : IsOrderOfSome r.market aside) where
   abbrev text_aside : List ℕ

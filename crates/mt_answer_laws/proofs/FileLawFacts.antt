@@ -61,7 +61,7 @@ no_list : (m : Market) (a : ℕ) (places other : Places) → list_of m a ≡ [] 
 no_list m a places other none p there = rw none refl
 
 module _ (r s : Registered) (places other : Places) (registration : IsRegistration r) (best : IsBest r.market places) where
-  -- where the other match is stable
+  -- if the other match is stable
   gains_nothing : IsTrue (stable (singles_market s.market) other) → (id : Bytes) (list : List Bytes) → (s.market ≡ r.market) ⊎ ListChanged r s id list
       → (a : ℕ) → name_of r.names.applicants a ≡ id → HasAtLeast r.market a places other
   gains_nothing is_stable id list (inl same) a named =
@@ -75,7 +75,7 @@ module _ (r s : Registered) (places other : Places) (registration : IsRegistrati
     | inr high ↦ no_list r.market a places other (get_or_past r.market.lists a [] (omega (arith, registration.applicant_names.one_each)))
   ]
 
-  -- where it is the best one
+  -- if it is the best one
   same_market : IsBest r.market other → (a : ℕ) → HasAtLeast r.market a other places
   same_market other_best a = best_is_at_least_lem r.market other places other_best best.is_stable a
 

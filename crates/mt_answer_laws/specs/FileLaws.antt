@@ -1,4 +1,4 @@
--- What a change of one record of a file does to its applicants, where no couple is entered. Two files with one
+-- What a change of one record of a file does to its applicants, if no couple is entered. Two files with one
 -- difference name the same programs and applicants, each by the same number.
 use Rattle.std.specs.Prelude.{◌≡◌, ◌≢◌, ℕ, ◌≤◌, List, []}
 use Rattle.mt_terms.specs.Market.{Registered}

@@ -1,5 +1,5 @@
 -- `clap`'s test that a simple command takes the words and its list of the kinds of error agree: the test passes exactly
--- where the list is empty, and where it fails the list has one kind. Of a command without subcommands.
+-- if the list is empty, and if it fails the list has one kind. Of a command without subcommands.
 use Rattle.std.proofs.Common.{◌≡◌, ◌∙◌, ℕ, zero, suc, Bool, true, false, not, ◌&&◌, ◌||◌, ◌==◌, nat_lt, nat_le, List, [], ◌∷◌, length, Option, Some, None, refl, ap, arith, drop, is_some}
 use Rattle.std.specs.Prelude.{if◌then◌else◌, encode_utf8, slice_get}
 use Rattle.std.specs.Option.{option_map_or}
@@ -22,7 +22,7 @@ use Rattle.clap.specs.declared.builder.action.ArgAction.{ArgAction}
 use Rattle.clap.specs.declared.builder.action.ArgAction.TheVariants.{Set, Append, SetTrue, SetFalse, Count, Help, HelpShort, HelpLong, Version}
 use Rattle.clap.specs.declared.error.kind.ErrorKind.{ErrorKind}
 
--- the test passes exactly where there is no kind, and where it fails there is one
+-- the test passes if and only if there is no kind, and if it fails there is one
 pub data Agrees : Bool → Kinds → Type 0 where
   passes : Agrees true []
   fails : (k : ErrorKind) → Agrees false (k ∷ [])

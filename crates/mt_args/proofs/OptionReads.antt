@@ -53,7 +53,7 @@ later x xs id has other = go has.0 has.1 has.2
     go zero lt at = let bad : bytes_eq x.0.now id ≡ true = at x in cc
     go (suc i) lt at = (i, omega arith, at)
 
--- the first entry with an id, where there is one
+-- the first entry with an id, if there is one
 entry_found : (P : Entry → Type 0) (xs : List Entry) (id : Text) → All P xs → HasIn xs id
     → (e : Entry) × (find (λ x. bytes_eq x.0.now id) xs ≡ Some e) × (e.0.now ≡ id) × P e
 entry_found P [] id all has = absurd (omega (arith, has.1))

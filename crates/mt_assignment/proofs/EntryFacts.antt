@@ -41,7 +41,7 @@ one_at_rank m p a b r of_a of_b =
     let xs = (program_of m p).ranking in
     sym (eqb-true (get_or xs r 0) a (position-Some (λ x. x == a) xs r 0 of_a).1) ∙ eqb-true (get_or xs r 0) b (position-Some (λ x. x == b) xs r 0 of_b).1
 
--- whoever isn't watched anew is watched as before
+-- an agent that isn't watched anew is watched as before
 pub watched_still : (s : Assigned) (old new : List (List Bool)) (xs : List ℕ) (a : ℕ) → KeepsOthers s.market old new xs → has xs a ≡ false → IsWatched s old a → IsWatched s new a
 watched_still s old new xs a keeps other is p r known ranked = keeps a p r other known ranked ∙ is p r known ranked
 
@@ -66,7 +66,7 @@ module _ (s : Assigned) (ok : IsAssigned s) (a : ℕ) (within : a < applicants s
       let rank = rank_there (program_of m w.0).ranking a listed in
       subst (λ (x : Live). rank_of m x.program a ≡ Some x.rank) w.2 (rank.1 ∙ ap Some (sym (ap (λ o. unwrap_or o 0) rank.1)))
 
-  -- it is watched at a program by one of its better entries where it wants that more than what it has
+  -- it is watched at a program by one of its better entries if it wants that more than what it has
   pub entry_wanted : (p r : ℕ) → rank_of s.market p a ≡ Some r → is_entry (better_entries s a) p r ≡ has (wanted s a) p
   entry_wanted p r ranked = same_tests _ _ there back
     where

@@ -25,7 +25,7 @@ use Rattle.mt_round_laws.proofs.SentCounts.{comes, leaves, count_sent, in_read}
 use Rattle.mt_assignment.proofs.SentFacts.{sent_there}
 use Rattle.mt_terms.proofs.AgentFacts.{holds_single}
 
--- where what stops is kept, a filter keeps what stands before it
+-- if what stops is kept, a filter keeps what stands before it
 until-filter : {X : Type 0} (test keep : X → Bool) (xs : List X) → ((x : X) → test x ≡ true → keep x ≡ true) → until test (filter keep xs) ≡ filter keep (until test xs)
 until-filter {X} test keep [] h = refl
 until-filter {X} test keep (x ∷ xs) h = by_head (test x) (keep x) refl refl (until-filter test keep xs h)
@@ -55,7 +55,7 @@ find-map test f (x ∷ xs) = elim (cases_Bool (test (f x))) [ inl t ↦ rw t ref
 pub better_couple : (s : Assigned) (c : ℕ) → better s.market s.places (Couple c) ≡ map (pair_of s c) (better_pairs s c)
 better_couple s c = until-map (holds s.places) (pair_of s c) (couple_of s.market c).pairs
 
--- Below, of the programs of a list those that are kept have an entry each, and one is taken where its entry passes.
+-- Below, of the programs of a list those that are kept have an entry each, and one is taken if its entry passes.
 module _ (taken keep : ℕ → Bool) (post : Live → Bool) (entry : ℕ → Live) (named : (q : ℕ) → (entry q).program ≡ q) where
   first_kept : (xs : List ℕ) → ((q : ℕ) → In q xs → taken q ≡ (keep q && post (entry q)))
       → find taken xs ≡ option_map (λ (e : Live). e.program) (find post (map entry (filter keep xs)))
@@ -111,7 +111,7 @@ module _ (s : Assigned) (ok : IsAssigned s) (a : ℕ) (within : a < applicants s
     few = omega arith;
   }
 
-  -- a program takes the single where it lists it and has a post for its rank
+  -- a program takes the single if it lists it and has a post for its rank
   takes_listed : (q : ℕ) → In q (wanted s a) → takes_it q ≡ (lists_it q && passes (ranked_entry s.market a q))
   takes_listed q i = by_rank (rank_of s.market q a) refl
     where

@@ -114,7 +114,7 @@ module _ {m : Market} {old : Places} {g : Agent} {sent : Placement} (taking : Is
       leaver p a (mv.agent.within a (option_member m g sent mv.option a w.0.1 w.1)) parts.0 (ap (is_program p) there.1 ∙ elsewhere)
       (and_left (at moved p a) _ (ap (is_program p) there.0 ∙ elsewhere))
 
-  -- a program that a member of a displaced applicant's agent leaves, where it was chosen
+  -- a program that a member of a displaced applicant's agent leaves, if it was chosen
   by_partners : (p : ℕ) → list_any (is_kept_at m moved p) (all_members m (displaced m moved sent)) ≡ true → is_left m (move_of m old sent) p ≡ true
   by_partners p h =
       let mv = is_move in
@@ -131,7 +131,7 @@ module _ {m : Market} {old : Places} {g : Agent} {sent : Placement} (taking : Is
       leaver p a (of_h.within a member) (was_before mv a p (apart mv.agent of_h other a member) parts.0) (at_none new p a (goes_out m old sent h out a member))
       (and_right (at moved p a) _ (not_from_true _ parts.1))
 
-  -- whoever leaves a program is one of these
+  -- an applicant that leaves a program is one of these
   leavers : (p : ℕ) → is_left m (move_of m old sent) p ≡ true → (is_left_by_movers old sent p || list_any (is_kept_at m moved p) (all_members m (displaced m moved sent))) ≡ true
   leavers p h =
       let mv = is_move in
@@ -168,7 +168,7 @@ module _ {m : Market} {old : Places} {g : Agent} {sent : Placement} (taking : Is
   pub left_is : (p : ℕ) → (is_left_by_movers old sent p || list_any (is_kept_at m moved p) (all_members m (displaced m moved sent))) ≡ is_left m (move_of m old sent) p
   left_is p = same_tests _ _ (λ h. elim (or_cases (is_left_by_movers old sent p) _ h) [ inl x ↦ by_movers p x | inr x ↦ by_partners p x ]) (leavers p)
 
-  -- whoever leaves a program was there, so it is one of the market
+  -- an applicant that leaves a program was there, so it is one of the market
   pub left_within : (p : ℕ) → is_left m (move_of m old sent) p ≡ true → p < length m.programs
   left_within p h =
       let mv = is_move in

@@ -49,7 +49,7 @@ program_sent_to (t ∷ sent) (suc i) s p within read is = later t.1 (program_sen
     later None h = h
     later (Some q) h = or_right (q == p) _ h
 
--- where an applicant is at a program that chooses it, that is the one program where it is kept
+-- if an applicant is at a program that chooses it, that is the one program where it is kept
 pub kept_there : (m : Market) (places : Places) (a q p : ℕ) → Some q ≡ place_of places a → choice (program_of m q) (at places q) a ≡ true → (q == p) ≡ is_kept_at m places p a
 kept_there m places a q p there chosen =
     let here : at places p a ≡ (q == p) = ap (is_program p) (sym there) in

@@ -63,7 +63,7 @@ bit_there words number start word from r low same =
     ∙ ap (λ i. bit_at (get_or words (start / 64) 0) i == 1) place
     ∙ ap (λ j. bit_at (get_or words j 0) (r % 64) == 1) (sym same)
 
--- where the word is 0, no bit is set before the next one
+-- if the word is 0, no bit is set before the next one
 pub none_after : (words : List ℕ) (number start word : ℕ) → IsWordFrom words number start word → word ≡ 0
     → (r : ℕ) → number ≤ r → r < 64 * (start / 64 + 1) → flag words r ≡ false
 none_after words number start word from empty r low high = elim (cases_lt r start) [
@@ -73,7 +73,7 @@ none_after words number start word from empty r low high = elim (cases_lt r star
       sym (bit_there words number start word from r here same) ∙ ap (λ w. bit_at w (r - start) == 1) empty ∙ ap (λ b. b == 1) (bit_at-zero (r - start)))
 ]
 
--- where the word is 0, the next one is looked at
+-- if the word is 0, the next one is looked at
 pub word_after : (words : List ℕ) (number start word next : ℕ) → IsWordFrom words number start word → word ≡ 0 → start / 64 + 1 < length words
     → next ≡ get_or words (start / 64 + 1) 0 → next < 2 ^ 64 → IsWordFrom words number (64 * (start / 64 + 1)) next
 word_after words number start word next from empty within read below =
@@ -90,7 +90,7 @@ word_after words number start word next from empty within read below =
     unshifted : (n : ℕ) → n ≡ n / 2 ^ 0
     unshifted n = omega arith
 
--- where it isn't, its lowest bit is the first that is set, and within the words
+-- if it isn't, its lowest bit is the first that is set, and within the words
 pub first_in_word : (words : List ℕ) (number start word : ℕ) → IsWordFrom words number start word → word ≢ 0
     → IsFirstFrom (flag words) number (start + trailing_zeros w64 word) × (start + trailing_zeros w64 word < 64 * length words)
 first_in_word words number start word from some =
@@ -116,7 +116,7 @@ first_in_word words number start word from some =
     } in
     (first, (let w = from.within in omega arith))
 
--- the same of the words as a list, and where no bit is set from a number on
+-- the same of the words as a list, and if no bit is set from a number on
 pub first_told : (words : List ℕ) (number r : ℕ) → IsFirstFrom (flag words) number r → IsFirstFrom (is_in (flags words (64 * length words))) number r
 first_told words number r is = record {
   not_below = is.not_below;

@@ -121,7 +121,7 @@ rank_less rows k rank within reaches = record {
           ∙ sym (ap (λ (b : Bool). not (b && rank == r) && flag (words_of rows j) r) (ne_eqb k j (λ e. other (sym e))))
     ]
 
--- where its word isn't there, it is no bit
+-- if its word isn't there, it is no bit
 pub rank_none : (rows : List (List ℕ)) (k rank : ℕ) → length (words_of rows k) ≤ rank / 64 → TakesRank (map told_by rows) (map told_by rows) k rank
 rank_none rows k rank past = record {
   as_many = refl;

@@ -58,7 +58,7 @@ settled_uses m k (suc left) places (g ∷ ws) r e =
 through : {X Y : Type 0} (f : X → Option Y) (o : Option X) (x : X) → o ≡ Some x → option_and_then f o ≡ f x
 through f o x e = rw e refl
 
--- a chain of two gives nothing where the first gives nothing
+-- a chain of two gives nothing if the first gives nothing
 through_none : {X Y : Type 0} (f : X → Option Y) (o : Option X) → o ≡ None → option_and_then f o ≡ None
 through_none f o e = rw e refl
 

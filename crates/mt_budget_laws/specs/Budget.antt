@@ -13,7 +13,7 @@ use Rattle.mt_round_laws.specs.Rounds.{OfEveryEnd}
 abbrev pub StageRounds : Type 0
 StageRounds = (m : Market) (places : Places) → OfEveryEnd m places (NeedsRounds m places)
 
--- where the partner withdraws: the single back in its post, beside the second couple
+-- if the partner withdraws: the single back in its post, beside the second couple
 abbrev pub single_back : Places
 single_back = Some 0 ∷ None ∷ None ∷ Some 0 ∷ Some 1 ∷ []
 

@@ -35,11 +35,11 @@ ReturningStageNeverEnds =
     → (before : ℕ) → ComesBack m k (state_after m k before (state r.0 (Couple k ∷ [])))
     → (b : ℕ) → stage m places b ≡ None
 
--- where the partner withdraws: the match once the second couple has moved
+-- if the partner withdraws: the match once the second couple has moved
 abbrev pub second_moved : Places
 second_moved = None ∷ None ∷ None ∷ Some 0 ∷ Some 1 ∷ []
 
--- In the unstable market all is as before after four rounds, and no budget is enough. Where the partner withdraws, the
+-- In the unstable market all is as before after four rounds, and no budget is enough. If the partner withdraws, the
 -- match is the same after one round, with another work list. There the rounds end.
 pub record ReturningInExamples : Type 0 where
   pub back : state_after unstable 0 4 (state (Some 0 ∷ None ∷ None ∷ []) (Couple 0 ∷ [])) ≡ state (Some 0 ∷ None ∷ None ∷ []) (Couple 0 ∷ [])

@@ -58,14 +58,14 @@ count_is m wf t o p =
     count_is_size (program_of m p) ((floor_of m t).received p) (hold_of t p) (applicants m) (wf.rankings_distinct p) (is_holding_of m t p (wf.rankings_distinct p) o)
     (received_listed m t p) (λ a on. wf.rankings_within p a (received_listed m t p a on))
 
--- a rank is held exactly where the applicant that has it is
+-- a rank is held if and only if the applicant that has it is
 pub held_by_rank : (m : Market) (t : Tables) (p a r : ℕ) → IsTrue (is_distinct (program_of m p).ranking) → IsOpenedWith m t
     → IsRank (program_of m p).ranking a r → held (hold_of t p) r ≡ model.held_set m (floor_of m t) p a
 held_by_rank m t p a r d o is =
     held_is_choice (program_of m p) ((floor_of m t).received p) (hold_of t p) d (is_holding_of m t p d o) r is.within
     ∙ ap (choice (program_of m p) ((floor_of m t).received p)) is.stands
 
--- a rank is received on the floor exactly where the applicant that has it is
+-- a rank is received on the floor if and only if the applicant that has it is
 pub received_by_rank : (m : Market) (t : Tables) (p a r : ℕ) → IsRank (program_of m p).ranking a r → (floor_of m t).received p a ≡ has_received (hold_of t p) r
 unfolding floor_of
 received_by_rank m t p a r is = received_at_rank (program_of m p) (hold_of t p) a r is.found
@@ -112,7 +112,7 @@ pub record CanEnter (m : Market) (a p r : ℕ) : Type 0 where
   pub distinct : IsTrue (is_distinct (program_of m p).ranking)
   pub is_rank : IsRank (program_of m p).ranking a r
 
--- after a proposal the applicant's rank is held exactly where the program chooses it
+-- after a proposal the applicant's rank is held if and only if the program chooses it
 chosen_by_rank : (m : Market) (t : Tables) (a p r : ℕ) → IsOpenedWith m t → CanEnter m a p r
     → held (receive (hold_of t p) r) r ≡ choice (program_of m p) (receives_one (floor_of m t) p a) a
 chosen_by_rank m t a p r o can =

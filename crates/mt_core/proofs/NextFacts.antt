@@ -47,7 +47,7 @@ entry_facts m a (Some p) entry e = subst (λ (x : Live). (Some p ≡ Some x.prog
     inj : {x y : Live} → Some x ≡ Some y → x ≡ y
     inj h = cc
 
--- an element of a list's image, where the list has one
+-- an element of a list's image, if the list has one
 get_or-map_some : {X : Type 0} (f : ℕ → X) (xs : List ℕ) (k p : ℕ) (d : X) → slice_get xs k ≡ Some p → get_or (map f xs) k d ≡ f p
 get_or-map_some f [] k p d e = cc
 get_or-map_some f (x ∷ xs) zero p d e = ap f (inj e)
@@ -107,7 +107,7 @@ last_entry_facts r is f a entry e =
     let facts = entry_facts r.market a (last_proposed_to r.market f a) entry e in
     (facts.0, subst (λ (n : ℕ). CanEnter r.market a entry.program n) facts.1 (entry_can_enter r is a entry.program (last_on_live r.market f a entry.program facts.0)))
 
--- there is no entry where there is no program
+-- there is no entry if there is no program
 pub no_entry : (m : Market) (a : ℕ) (o : Option ℕ) → option_map (ranked_entry m a) o ≡ None → o ≡ None
 no_entry m a None e = refl
 no_entry m a (Some p) e = absurd (some_none e)

@@ -14,7 +14,7 @@ use Rattle.mt_terms.specs.declared.events.Reply.TheVariants.{Kept, KeptInstead, 
 use Rattle.mt_floor_laws.proofs.FloorEvents.{noticed, noticed_same, noticed_other, made_same, made_other, standing_other, next_facts, IsNext, get_some, event_keeps_recorded_lem}
 use Rattle.mt_core.specs.Ends.{IsReached, IsStep, AreSettled, AreSettledBut}
 
--- whether an applicant is settled, where it stands and where it doesn't
+-- whether an applicant is settled, if it stands and if it doesn't
 settled_standing : (m : Market) (f : Floor) (a : ℕ) → IsTrue (f.standing a) → is_settled m f a ≡ is_held_by m f a (last_proposed_to m f a)
 settled_standing m f a e = rw e refl
 
@@ -180,7 +180,7 @@ none_next_settled m f a r none held_if =
         none_some : {x : ℕ} → None ≡ Some x → ⊥
         none_some k = cc
 
--- where the reply says that no proposal was due, the applicant is settled
+-- if the reply says that no proposal was due, the applicant is settled
 pub not_due_settled : (m : Market) (f h : Floor) (a : ℕ) (reply : Reply) → IsStep m f h a reply → IsRecorded m f → (reply ≡ Noticed) ⊎ (reply ≡ NotDue) → IsTrue (is_settled m h a)
 not_due_settled m f h a reply is r not_due =
     subst (λ (x : Floor). IsTrue (is_settled m x a)) (sym is.floor) (by_next (next_entry m g a) refl not_due)
@@ -193,7 +193,7 @@ not_due_settled m f h a reply is r not_due =
     by_next (Some p) e (inl said) = absurd (due_reply_noticed m g a p (ap (reply_of_proposal m g a) (sym e) ∙ sym is.reply ∙ said))
     by_next (Some p) e (inr said) = absurd (due_reply m g a p (ap (reply_of_proposal m g a) (sym e) ∙ sym is.reply ∙ said))
 
--- all are settled where the applicant is and nobody was displaced
+-- all are settled if the applicant is and nobody was displaced
 pub step_settled : (m : Market) (f h : Floor) (a n : ℕ) (reply : Reply) → IsStep m f h a reply → AreSettledBut m f n a
     → IsTrue (is_settled m h a) → ((b : ℕ) → reply ≢ KeptInstead b) → AreSettled m h n
 step_settled m f h a n reply is settled done nobody b low =
@@ -202,7 +202,7 @@ step_settled m f h a n reply is settled done nobody b low =
       | inr other ↦ others_settled m f h a n reply is settled b low other (nobody b)
     ]
 
--- all but the displaced one are settled where the applicant is
+-- all but the displaced one are settled if the applicant is
 pub step_displaced : (m : Market) (f h : Floor) (a d n : ℕ) (reply : Reply) → IsStep m f h a reply → reply ≡ KeptInstead d → AreSettledBut m f n a → AreSettledBut m h n d
 step_displaced m f h a d n reply is named settled b low other =
     elim (cases_eq b a) [
@@ -219,14 +219,14 @@ step_displaced m f h a d n reply is named settled b low other =
     not_not_due : KeptInstead d ≢ NotDue
     not_not_due e = cc
 
--- all but the applicant are settled where it is refused
+-- all but the applicant are settled if it is refused
 pub step_refused : (m : Market) (f h : Floor) (a n : ℕ) (reply : Reply) → IsStep m f h a reply → reply ≡ Refused → AreSettledBut m f n a → AreSettledBut m h n a
 step_refused m f h a n reply is refused settled b low other = others_settled m f h a n reply is settled b low other (λ e. not_named (sym refused ∙ e))
   where
     not_named : Refused ≢ KeptInstead b
     not_named e = cc
 
--- all are settled where the applicant is kept and nobody is displaced
+-- all are settled if the applicant is kept and nobody is displaced
 pub step_kept : (m : Market) (f h : Floor) (a n : ℕ) (reply : Reply) → IsStep m f h a reply → reply ≡ Kept → AreSettledBut m f n a → AreSettled m h n
 step_kept m f h a n reply is kept settled =
     step_settled m f h a n reply is settled (reply_settled m f h a reply is (λ e. not_refused (sym kept ∙ e)) (λ e. not_not_due (sym kept ∙ e))) (λ b e. nobody b (sym kept ∙ e))
@@ -244,7 +244,7 @@ step_kept m f h a n reply is kept settled =
 abbrev pub IsNoProposal : Reply → Type 0
 IsNoProposal reply = (reply ≡ Noticed) ⊎ (reply ≡ NotDue)
 
--- all are settled where no proposal is due
+-- all are settled if no proposal is due
 pub step_not_due : (m : Market) (f h : Floor) (a n : ℕ) (reply : Reply) → IsStep m f h a reply → IsRecorded m f → IsNoProposal reply → AreSettledBut m f n a → AreSettled m h n
 step_not_due m f h a n reply is r not_due settled =
     step_settled m f h a n reply is settled (not_due_settled m f h a reply is r not_due) (nobody not_due)
@@ -300,7 +300,7 @@ named_in_market m wf f a d = by_next (next_entry m f a)
 pub named_applicant : (m : Market) → IsWellFormed m → (f h : Floor) (a d : ℕ) (reply : Reply) → IsStep m f h a reply → reply ≡ KeptInstead d → d < applicants m
 named_applicant m wf f h a d reply is named = named_in_market m wf (after m f (Notice a)) a d (sym is.reply ∙ named)
 
--- a step makes one proposal, or none where none is due
+-- a step makes one proposal, or none if none is due
 pub step_reached : (m : Market) (f h : Floor) (a : ℕ) (reply : Reply) → IsStep m f h a reply → reply ≢ NotDue → IsReached m f h 1
 step_reached m f h a reply is due = record {
   events = Notice a ∷ Propose a ∷ [];

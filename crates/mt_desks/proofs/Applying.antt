@@ -105,7 +105,7 @@ proposed m d v e w f answer free due desk same got replied parts = record {
       received = λ b. ap (λ t. (if t then (receives_one f p a) else f.received w.program) b) (eq-eqb w.program p same) ∙ ap (λ (s : Set). s b) (set_after m d v w f got parts);
     }
 
--- a door in step has received whoever stands there
+-- a door in step has received each applicant that stands there
 received_last : (m : Market) (d : DeskView) (v : DoorView) → d.standing ≡ true → IsDue m d v → 0 < d.made → IsInStep m d v → received_at m v d.applicant ≡ true
 received_last m d v stands due some in_step =
     let k = d.made - 1 in
@@ -122,7 +122,7 @@ set_stays m d v w got has_it = fun_ext (λ b. got b ∙ by_test b (b == d.applic
     by_test b true e = sym (ap (received_at m v) (eqb-true b d.applicant e) ∙ has_it)
     by_test b false e = refl
 
--- the floor after a notice that is due where the applicant isn't held
+-- the floor after a notice that is due if the applicant isn't held
 noticed_at : (m : Market) (d : DeskView) (w : DoorView) (f : Floor) (h : Bool) → f.made d.applicant ≡ d.made → f.standing d.applicant ≡ true → ((b : ℕ) → f.received w.program b ≡ received_at m w b)
     → HasParts m (record d { standing = h }) w (if not h then (record f { standing = without f.standing d.applicant }) else f)
 noticed_at m d w f true made stands got = record { made = made; standing = stands; received = got }

@@ -20,7 +20,7 @@ entry_comes m d v keeps due = record {
       (has-until-get (λ x. x == v.program) (live m d.applicant) (passed_count d.made d.standing) v.program q due.entry (eq-eqb v.program v.program refl) h);
 }
 
--- with one program more, all that are passed are excluded where the old ones are and that one is
+-- with one program more, all that are passed are excluded if the old ones are and that one is
 passed_more : (m : Market) (a k p : ℕ) → slice_get (live m a) k ≡ Some p → ((q : ℕ) → IsTrue (has (take k (live m a)) q) → IsExcluded m a q) → IsExcluded m a p
     → (q : ℕ) → IsTrue (has (take (suc k) (live m a)) q) → IsExcluded m a q
 passed_more m a k p at old out q h =
@@ -78,7 +78,7 @@ desk_learns m d p keeps stands at out = record {
 pub first_comes : (m : Market) (a p : ℕ) → slice_get (live m a) 0 ≡ Some p → AllAboveExcluded m a p
 first_comes m a p at q h = absurd (false≢true (has-until-get (λ x. x == p) (live m a) 0 p q at (eq-eqb p p refl) h))
 
--- whoever has proposed to its whole live list and stands nowhere is excluded everywhere on it
+-- an applicant that has proposed to its whole live list and stands nowhere is excluded everywhere on it
 pub all_passed : (m : Market) (a made : ℕ) → IsRow m a made false → made ≡ length (live m a) → (p : ℕ) → IsTrue (has (live m a) p) → IsExcluded m a p
 all_passed m a made row all p h = passed_by m a (made - 0) (length (live m a)) (omega (arith, all)) row.passed_excluded p (ap (λ xs. has xs p) (take-length (live m a)) ∙ h)
 

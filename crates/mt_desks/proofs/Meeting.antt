@@ -24,7 +24,7 @@ use Rattle.mt_hold.proofs.Lists.{held_is_choice}
 use Rattle.mt_desks.specs.Parts.{DoorView, IsComer, IsDoor, received_at, held_at}
 use Rattle.mt_desks.specs.Steps.{ShowsExcluded, is_kept}
 
--- An applicant that may come to a door, where it has this rank.
+-- An applicant that may come to a door, if it has this rank.
 pub record Comes (m : Market) (v : DoorView) (a r : ℕ) : Type 0 where
   pub well_formed : IsWellFormed m
   pub door : IsDoor m v
@@ -75,7 +75,7 @@ door_receives m v a r comes = record {
 pub fallen : (m : Market) → IsWellFormed m → (v : DoorView) → IsDoor m v → (b : ℕ) → IsTrue (received_at m v b) → IsFalse (held_at m v b) → IsExcluded m b v.program
 fallen m wf v door = exclusion_lem m wf v.program (received_at m v) (λ b on. (live_parts m b v.program (door.comers b on).is_live).1) (λ b q on h. (door.comers b on).above_excluded q h)
 
--- whoever is found passes the test
+-- an applicant that is found passes the test
 find_passes : (test : Set) (xs : List ℕ) (b : ℕ) → find test xs ≡ Some b → IsTrue (test b)
 find_passes test [] b e = cc
 find_passes test (x ∷ xs) b e = elim (cases_Bool (test x)) [
@@ -134,7 +134,7 @@ shows m wf v w a door same got = by_choice (choice p (with_one set a) a) refl (f
     by_choice true chosen (Some b) e = let parts = and_parts (choice p set b) (not (choice p (with_one set a) b)) (find_passes falls p.ranking b e) in out b (there b parts.0) (off (choice p (with_one set a) b) parts.1)
     by_choice false refused o e = out a here refused
 
--- who comes again changes nothing, and is kept where it is held
+-- who comes again changes nothing, and is kept if it is held
 pub reply_again : (p : Program) (set : Set) (a : ℕ) → IsTrue (set a) → (if choice p set a then Kept else Refused) ≡ reply_to p set a
 reply_again p set a has_it =
     ap (λ o. if choice p set a then (kept_reply o) else Refused) (sym (nothing_found same p.ranking (none_from_each same p.ranking (λ b h. x_and_not (choice p set b)))))

@@ -166,7 +166,7 @@ pub record CanFollow (limits : Limits) (before : List Record) (r : Record) : Typ
   pub once : says_twice before r ≡ false
   pub few : are_too_many limits (before ++ r ∷ []) ≡ false
 
--- with such a record more, records stay apart, and its list has nothing twice; where that is so, it is such a record
+-- with such a record more, records stay apart, and its list has nothing twice; if that is so, it is such a record
 module _ (limits : Limits) (before : List Record) (r : Record) where
   pub apart_more : AreApart limits before → CanFollow limits before r → AreApart limits (before ++ r ∷ []) × (lists_once r ≡ true)
   apart_more apart follows =

@@ -84,7 +84,7 @@ module _ (rules : Rules) where
       by true false i l = unlisted (ApplicantRecord id list) _ (and_from _ _ i refl) l
       by false c i l = no_draft _
 
-  -- two fields are a pair where the places that they write are
+  -- two fields are a pair if the places that they write are
   dash_no_id : (field : Bytes) → is_dash field ≡ true → is_id rules.limits.id_bytes field ≡ false
   dash_no_id field h = rw h (by _)
     where

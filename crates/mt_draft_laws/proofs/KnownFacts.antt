@@ -65,7 +65,7 @@ abbrev pub withdraws_known : List Record → Record → Bool
 withdraws_known all (WithdrawRecord kind id) = has_id (ids_of kind all) id
 withdraws_known all _ = true
 
--- the second pass finds nothing where each record does
+-- the second pass finds nothing if each record does
 pub second-none : (unknown : Record → Option RecordFault) (ns : List (Numbered Record))
     → is_none (first_of (map (λ r. option_map (fault_at r.0) (unknown r.1)) ns)) ≡ list_all (λ r. is_none (unknown r)) (contents ns)
 second-none unknown [] = refl
@@ -157,7 +157,7 @@ list_all-same : (p q : Record → Bool) → ((r : Record) → p r ≡ q r) → (
 list_all-same p q f [] = refl
 list_all-same p q f (r ∷ rs) = rw (f r, list_all-same p q f rs) refl
 
--- Records have no fault among them where they are apart and each of them names registered ids alone, and none twice, and all
+-- Records have no fault among them if they are apart and each of them names registered ids alone, and none twice, and all
 -- pairs are allowed.
 module _ (rs : List Record) (half_pairs : Bool) where
   abbrev each_ranking : Bool
@@ -256,7 +256,7 @@ passed_by_all p ids (x ∷ xs) a h =
     let q : (has_id ids x ≡ true) × (list_all (has_id ids) xs ≡ true) = and_parts (has_id ids x) _ h in
     and_from _ _ (passed_by_one p ids x a q.0) (passed_by_all p ids xs a q.1)
 
--- lists of registered ids have ids alone, where what is registered are ids, and pairs that are allowed have such places
+-- lists of registered ids have ids alone, if what is registered are ids, and pairs that are allowed have such places
 place_is_id : (rules : Rules) (ids : List Bytes) (o : Option Bytes) → list_all (is_id rules.limits.id_bytes) ids ≡ true → is_none_or_in ids o ≡ true → is_none_or_id rules o ≡ true
 place_is_id rules ids None a h = refl
 place_is_id rules ids (Some id) a h = passed_by_one _ ids id a h

@@ -147,7 +147,7 @@ module _ (flags : List Bool) (ids : List Bytes) (differ : all_differ bytes_eq id
       → numbers_of (flagged flags ids) (id ∷ rest) ≡ numbers_of (flagged flags ids) rest
   numbers_stay-none id rest h e = number_stays id rest h ∙ ap (λ (o : Option ℕ). cons_option o (numbers_of (flagged flags ids) rest)) e
 
-  -- a list of listed ids by the numbers of those that stay: whoever has no new number leaves it
+  -- a list of listed ids by the numbers of those that stay: an id that has no new number leaves it
   pub numbers_stay : (list : List Bytes) → list_all (has_id ids) list ≡ true
       → numbers_of (flagged flags ids) list ≡ filter_map (λ id. get_or (new_numbers 0 flags) (number_of ids id) None) list
   numbers_stay [] h = refl
@@ -204,7 +204,7 @@ module _ (flags : List Bool) (ids : List Bytes) (differ : all_differ bytes_eq id
       let q : (names_only ids p ≡ true) × (list_all (names_only ids) rest ≡ true) = and_parts (names_only ids p) _ h in
       pair_stays p rest q.0 ∙ ap (λ (ps : List Pair). cons_option (new_pair (new_numbers 0 flags) (pair_by_number ids p)) ps) (pairs_stay rest q.1)
 
--- what stands for the elements of a list differs where they do, if a test of each agrees on them
+-- what stands for the elements of a list differs if they do, if a test of each agrees on them
 module _ {X Y : Type 0} (f : X → Y) (of_these : X → Bool) (here : Y → Y → Bool) (there : X → X → Bool)
     (agree : (x y : X) → of_these x ≡ true → of_these y ≡ true → here (f x) (f y) ≡ there x y) where
   any_map : (x : X) (xs : List X) → of_these x ≡ true → list_all of_these xs ≡ true → list_any (here (f x)) (map f xs) ≡ list_any (there x) xs
@@ -220,7 +220,7 @@ module _ {X Y : Type 0} (f : X → Y) (of_these : X → Bool) (here : Y → Y �
       rw (any_map x xs p.0 p.1, differ_map xs p.1) refl
 
 module _ (ids : List Bytes) where
-  -- two listed ids have one number where they are one
+  -- two listed ids have one number if they are one
   ids_agree : (x y : Bytes) → has_id ids x ≡ true → has_id ids y ≡ true → (number_of ids x == number_of ids y) ≡ bytes_eq x y
   ids_agree x y h k = by (bytes_eq x y) refl
     where
@@ -233,7 +233,7 @@ module _ (ids : List Bytes) where
           let i : bytes_eq x y ≡ true = is_same x y (same_number ids x y h k s) in
           cc)
 
-  -- listed ids differ where their numbers do
+  -- listed ids differ if their numbers do
   pub differ_by_number : (list : List Bytes) → list_all (has_id ids) list ≡ true → all_differ ◌==◌ (map (number_of ids) list) ≡ all_differ bytes_eq list
   differ_by_number list h = differ_map (number_of ids) (has_id ids) ◌==◌ bytes_eq ids_agree list h
 
@@ -250,6 +250,6 @@ module _ (ids : List Bytes) where
       let b : (is_none_or_in ids q.0 ≡ true) × (is_none_or_in ids q.1 ≡ true) = and_parts (is_none_or_in ids q.0) _ k in
       rw (places_agree p.0 q.0 a.0 b.0, places_agree p.1 q.1 a.1 b.1) refl
 
-  -- pairs of listed ids differ where they do by numbers
+  -- pairs of listed ids differ if they do by numbers
   pub pairs_differ_by_number : (pairs : List IdPair) → list_all (names_only ids) pairs ≡ true → all_differ are_same_places (map (pair_by_number ids) pairs) ≡ all_differ is_same_pair pairs
   pairs_differ_by_number pairs h = differ_map (pair_by_number ids) (names_only ids) are_same_places is_same_pair pairs_agree pairs h

@@ -44,7 +44,7 @@ module _ (rules : Rules) where
       subst (λ (rs : List Record). GoesOn all rs rest) (sym more)
       (one_more all front row rest r some (ap (draft rules) (sym same) ∙ d) (subst (λ (rows : List (List Bytes)). GoesOn all front rows) next on))
 
-  -- all rows have a fault where the first of them have too many records
+  -- all rows have a fault if the first of them have too many records
   abbrev market : List Record → Option Registered
   market rs = if is_faultless rules rs then Some (registered rs) else None
 

@@ -60,7 +60,7 @@ impl<'a> Drafts<'a> {
     }
 }
 
-/// The records of rows, where none has a fault of its own, and they have no more than the version takes.
+/// The records of rows, if none has a fault of its own, and they have no more than the version takes.
 pub fn drafts_of<'a>(
     alloc: Global,
     rules: &Rules,

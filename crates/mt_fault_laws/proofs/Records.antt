@@ -103,13 +103,13 @@ module _ (rules : Rules) where
   all_true true false c h k l = cc
   all_true false b c h k l = cc
 
-  -- an id that is found among ids that have it where others do
+  -- an id that is found among ids that have it if others do
   found_agrees : (code : ℕ) (ids others : List Bytes) (field : Placed) → an_id rules field.1 ≡ true → has_id others field.1 ≡ has_id ids field.1
       → Leads Shows (option_map (record_fault code) (first_in ids (field.1 ∷ []))) (found_among rules code others (field ∷ []))
   found_agrees code ids others field h e =
       subst (λ (b : Bool). Leads Shows (option_map (record_fault code) (cond b (Some field.1) None)) (found_among rules code others (field ∷ []))) e (found_leads rules code others field h)
 
-  -- ids that are missing where others are
+  -- ids that are missing if others are
   missing_agrees : (code : ℕ) (ids others : List Bytes) (fields : List Placed) → others ≡ ids → list_all (an_id rules) (contents fields) ≡ true
       → Leads Shows (option_map (record_fault code) (first_not_in ids (contents fields))) (missing_among rules code others fields)
   missing_agrees code ids others fields e h =

@@ -43,7 +43,7 @@ front_is_first n c (fault ∷ firsts) others rest h k =
 abbrev pub second_fault : List Record → List (Numbered Record) → Option Fault
 second_fault all records = first_of (map (λ r. option_map (fault_at r.0) (unknown_id all r.1)) records)
 
--- what is so where the first pass takes all records
+-- what is so if the first pass takes all records
 pub record IsPassed (rules : Rules) (ps : List Parts) (before : List (Numbered Record)) (rows : List (Numbered (List Bytes))) (given : List (Numbered Record)) : Type 0 where
   pub more : List (Numbered Record)
   pub all : given ≡ before ++ more
@@ -87,7 +87,7 @@ module _ (rules : Rules) where
         ∙ sym (entry_count-more rs r);
   }
 
-  -- a limit that is passed with a record, where it isn't before
+  -- a limit that is passed with a record, if it isn't before
   one_limit : (limit was more total : ℕ) → total ≡ was + more → nat_lt limit was ≡ false → passes limit was more ≡ nat_lt limit total
   one_limit limit was more total e h = ap (λ (b : Bool). b && nat_lt limit (was + more)) (at_most limit was h) ∙ ap (nat_lt limit) (sym e)
     where

@@ -10,7 +10,7 @@ use Rattle.mt_terms.specs.Registration.Passes.{first_of}
 use Rattle.mt_fault_terms.specs.Faults.{FileFault}
 use Rattle.mt_fault_terms.specs.OfFile.{faults_of}
 
--- a file has no fault exactly where it is accepted
+-- a file has no fault if and only if it is accepted
 abbrev pub NoFaultMeansAccepted : Type 0
 NoFaultMeansAccepted =
     (rows : List (List Bytes)) → (faults_of rows ≡ [] → (r : Registered) × (market_of rows ≡ Ok r)) × ((r : Registered) → market_of rows ≡ Ok r → faults_of rows ≡ [])

@@ -20,7 +20,7 @@ UnreadRecordsHaveFaults =
     (rules : Rules) (before : Rows) (n : ℕ) (fields : List Bytes) (after : Rows) (named : RecordFault) → record_of rules fields ≡ Err named
     → (fault : FieldFault) × (fault.code ≡ named.0) × Contains (faults_under rules (before ++ (n, fields) ∷ after)) (n, fault)
 
--- that a field has its fault, where it names something that no record registers
+-- that a field has its fault, if it names something that no record registers
 pub record HaveFaults (rules : Rules) (all : List Parts) (parts : Parts) (field : Placed) (found : FieldFault → Type 0) : Type 0 where
   pub of_program : parts.form ≡ Registers OfProgram → Contains parts.list field → IsFalse (has_id (all_applicants rules all) field.1) → found (fault_of UNKNOWN_APPLICANT field)
   pub of_applicant : parts.form ≡ Registers OfApplicant → Contains parts.list field → IsFalse (has_id (all_own_ids rules OfProgram all) field.1) → found (fault_of UNKNOWN_PROGRAM field)

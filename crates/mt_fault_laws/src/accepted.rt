@@ -1,6 +1,6 @@
 ghost use Rattle.mt_fault_laws.specs.Accepted.{NamedFaultIsAmong, NoFaultMeansAccepted};
 
-/// A file has no fault exactly where it is accepted.
+/// A file has no fault if and only if it is accepted.
 pub fn no_fault_means_accepted()
     ensures { NoFaultMeansAccepted }
 {}

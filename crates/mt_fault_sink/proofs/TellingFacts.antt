@@ -1,4 +1,4 @@
--- What a sink was told in turn, and how the search ended.
+-- What a sink got in turn, and how the search ended.
 -- Each step adds its faults by the sink's laws. An early end leaves the rest untold.
 use Rattle.std.proofs.Common.{◌≡◌, List, [], ◌++◌, Result, Ok, Err, refl, ap, sym, ◌∙◌, subst}
 use Rattle.std.proofs.lemmas.List.{append_assoc, append-nil}
@@ -13,7 +13,7 @@ pub record Laws {S : Type 0} (takes : S → Type 0) (told stopped : S → S → 
   pub more : (a b c : S) (some next : List FileFault) → told a b some → told b c next → told a c (some ++ next)
   pub stops : (a b c : S) (some next : List FileFault) → told a b some → stopped b c next → stopped a c (some ++ next)
 
--- Of all faults a sink was told some, and these are left.
+-- A sink got some of all faults, and these are left.
 pub record SoFar {S : Type 0} (takes : S → Type 0) (told stopped : S → S → List FileFault → Type 0) (a b : S) (left whole : List FileFault) : Type 0 where
   pub laws : Laws takes told stopped
   pub takes_more : takes b

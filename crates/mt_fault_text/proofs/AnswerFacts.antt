@@ -50,7 +50,7 @@ given_broken code a b text some others faults all breaks =
     let whole : Breaks a b [] (all_lines text faults) = subst (Breaks a b []) same more in
     record { is_code = refl; written = whole.written; is_written = sent_front a b (all_lines text faults) whole }
 
--- the same where memory ran out too
+-- the same if memory ran out too
 pub cut_broken : (a b : Option (List ℕ)) (text : List ℕ) (some others faults : List FileFault) → some ++ others ≡ faults
     → Breaks a b [] (fault_lines text some) → IsCutGiven text faults a b OUT_OF_MEMORY false
 cut_broken a b text some others faults all breaks =

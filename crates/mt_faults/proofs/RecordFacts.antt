@@ -1,4 +1,4 @@
--- The faults of one record in the order in which they are told.
+-- The faults of one record in the order in which a sink gets them.
 -- A test of one field gives its faults, and the lists of faults are regrouped from the first on.
 use Rattle.std.proofs.Common.{◌≡◌, ℕ, ◌≤◌, Bool, true, false, not, ◌&&◌, ◌||◌, cond, List, [], ◌∷◌, ◌++◌, length, take, drop, map, filter, Bor, Some, refl, ap, ap₂, sym, ◌∙◌, arith, if◌then◌else◌}
 use Rattle.std.specs.Prelude.{bytes_eq, flat_map}
@@ -152,7 +152,7 @@ pairs_alike_more table new before fields alike is other =
     by true h = one (is_same_pair other (pair_of fields)) refl h
     by false h = list_any-append (is_same_pair other) table (pair_of fields ∷ [])
 
--- the fault of a limit, as it is told
+-- the fault of a limit, as a sink gets it
 abbrev pub over : Bool → Bytes → List FieldFault
 over is_passed id = if is_passed then record { code = TOO_MANY; field = 0; id = id } ∷ [] else []
 
@@ -226,7 +226,7 @@ module _ (rules : Rules) (before : List Parts) (p : Parts) where
       by (Withdraws kind) e = rw e refl
       by Unknown e = rw e refl
 
--- the members of a couple, as they are told, and how many they are
+-- the members of a couple, as a sink gets them, and their number
 pub members_told : (known : List Bytes) (rules : Rules) (before : List Parts) (p : Parts) (fields : List Placed) → fields ≡ members_of p → ((id : Bytes) → has_id known id ≡ has_id (all_applicants rules before) id)
     → members_before rules known fields ≡ members_before rules (all_applicants rules before) (members_of p)
 members_told known rules before p fields is alike = ap (members_before rules known) is ∙ members_alike rules known (all_applicants rules before) alike (members_of p)

@@ -1,5 +1,5 @@
 -- What each loop of the search keeps, and how one turn changes it.
--- A sink was told the faults of what is done. What is left decides the others.
+-- A sink got the faults of what is done. What is left decides the others.
 use Rattle.std.proofs.Common.{◌≡◌, ℕ, ◌+◌, Bool, true, false, ◌&&◌, List, [], ◌∷◌, ◌++◌, cond, length, Option, Some, None, Ok, Err, refl, ap, sym, ap₂, ◌∙◌, if◌then◌else◌}
 use Rattle.std.specs.Prelude.{flat_map, Result}
 use Rattle.std.specs.Option.{option_map_or}
@@ -28,7 +28,7 @@ pub in_two : (n : ℕ) (whole some rest told : List FieldFault) → whole ≡ so
 in_two n whole some rest told w t = ap (at_record n) (w ∙ ap (λ fs. fs ++ rest) (sym t)) ∙ map-append (λ (fault : FieldFault). (n, fault)) told rest
 
 module _ {S : Type 0} {takes : S → Type 0} {told stopped : S → S → List FileFault → Type 0} where
-  -- the next faults of a record are told, or the search ends at one of them
+  -- a sink gets the next faults of a record, or the search ends at one of them
   pub tells_next : {a b : S} {whole : List FileFault} (n : ℕ) (c : S) (some rest given : List FieldFault) → SoFar takes told stopped a b (at_record n (some ++ rest)) whole
       → takes c × told b c (at_record n given) → given ≡ some → SoFar takes told stopped a c (at_record n rest) whole
   tells_next n c some rest given s t same = goes c (at_record n given) (at_record n rest) s t (in_two n (some ++ rest) some rest given refl same)
@@ -76,7 +76,7 @@ module _ {S : Type 0} (takes : S → Type 0) (told stopped : S → S → List Fi
     pub rest : all ≡ before ++ all_parts rules left
     pub so_far : SoFar takes told stopped a b (faults_after rules all before left) whole
 
--- a repeated entry, as it is told
+-- a repeated entry, as a sink gets it
 pub repeated_is : (rules : Rules) (table before : List Bytes) (x : Placed) → Alike rules table before
     → (rest : List Placed) → repeats_after rules before (x ∷ rest) ≡ repeated rules table x ++ repeats_after rules (before ++ x.1 ∷ []) rest
 repeated_is rules table before x alike rest =
@@ -92,7 +92,7 @@ repeated_none rules table x h = ap (λ b. if b && has_id table x.1 then fault_of
 pub repeated_id : (rules : Rules) (table : List Bytes) (x : Placed) → is_id_field rules x ≡ true → repeated rules table x ≡ (if has_id table x.1 then fault_of DUPLICATE_ENTRY x ∷ [] else [])
 repeated_id rules table x h = ap (λ b. if b && has_id table x.1 then fault_of DUPLICATE_ENTRY x ∷ [] else []) h
 
--- a repeated pair, as it is told
+-- a repeated pair, as a sink gets it
 pub repeated_pair_is : (rules : Rules) (table : List IdPair) (before : List (Bytes × Bytes)) (x : PlacedPair) (first : Bool) (fs : List FieldFault) → PairsAlike table before
     → first ≡ list_any (is_same_pair (pair_of (fields_of x))) table
     → fs ≡ (if is_pair rules (fields_of x) && first then record { code = DUPLICATE_ENTRY; field = x.0.0; id = shown_of_pair x } ∷ [] else [])
@@ -111,7 +111,7 @@ pub numbered_faults : (rules : Rules) (all before : List Parts) (n : ℕ) (row :
 numbered_faults rules all before n [] rows = ap (λ ps. faults_after rules all ps (numbered_from (n + 1) rows)) (sym (append-nil before))
 numbered_faults rules all before n (word ∷ fields) rows = refl
 
--- the bad fields of the next pair, as they are told
+-- the bad fields of the next pair, as a sink gets them
 pub bad_pair_next : (rules : Rules) (all rest : List PlacedPair) (pair : PlacedPair) (one two : List FieldFault) → all ≡ pair ∷ rest
     → one ≡ (if is_place_field rules pair.0 pair.1 then [] else fault_alone BAD_ID pair.0.0 ∷ []) → two ≡ (if is_place_field rules pair.1 pair.0 then [] else fault_alone BAD_ID pair.1.0 ∷ [])
     → alone_at BAD_ID (flat_map (bad_of_pair rules) all) ≡ one ++ (two ++ alone_at BAD_ID (flat_map (bad_of_pair rules) rest))
@@ -140,7 +140,7 @@ faults_there rules rest (row ∷ rows) h = by (rules_of row.1) h
     by None k = cc
     by (Some r) k = let same : (rules, rest) ≡ (r, rows) = cc in ap (λ (x : Rules × List (Numbered (List Bytes))). faults_under x.0 x.1) (sym same)
 
--- where no record names a version, that is the only fault
+-- if no record names a version, that is the only fault
 pub only_fault : (records : List (Numbered (List Bytes))) (n : ℕ) → body_in records ≡ Err n → faults_of_numbered records ≡ (n, fault_alone NO_VERSION 0) ∷ []
 only_fault [] n h = let e : 0 ≡ n = cc in ap (λ (k : ℕ). (k, fault_alone NO_VERSION 0) ∷ []) e
 only_fault (row ∷ rows) n h = by (rules_of row.1) h

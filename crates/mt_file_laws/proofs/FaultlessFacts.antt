@@ -29,7 +29,7 @@ record HasFirst (rules : Rules) (row : List Bytes) (rows : List (List Bytes)) (r
   others : drafts rules rows ≡ Some rest
   all : first ∷ rest ≡ rs
 
--- the records of rows, where the first pass gives these
+-- the records of rows, if the first pass gives these
 record PassGives (rules : Rules) (before : List Record) (rows : List (List Bytes)) (given : List Record) : Type 0 where
   records : List Record
   drafted : drafts rules rows ≡ Some records

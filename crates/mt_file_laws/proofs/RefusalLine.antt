@@ -74,7 +74,7 @@ module _ (c : ℕ) (small : c < 48) (no_id : is_id_byte c ≡ false) where
       third true false r s k = cc
       third false q r s k = cc
 
-  -- where another byte joins fields without this one, the whole has none
+  -- if another byte joins fields without this one, the whole has none
   join_lacks : (d : ℕ) → (d == c) ≡ false → (fields : List (List ℕ)) → lacking fields ≡ true → lacks (join_with_byte d fields) ≡ true
   join_lacks d other [] h = refl
   join_lacks d other (f ∷ []) h = (and_parts (lacks f) true h).0

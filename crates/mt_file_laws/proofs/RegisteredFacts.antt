@@ -176,7 +176,7 @@ module _ (N : Names) (d : Partners) where
       two_members rs c (differ_parts b (applicant_ids rs) (differ_parts a (b ∷ applicant_ids rs) f).1).1 (and_parts (has_id N.applicants b) _ (and_parts (has_id N.applicants a) _ k).1).1 (omega arith)
   two_members (WithdrawRecord kind id ∷ rs) c f k h = two_members rs c f k h
 
--- whoever is on a list of listed ids is listed
+-- an id on a list of listed ids is listed
 all_listed : (ids xs : List Bytes) (x : Bytes) → list_all (has_id ids) xs ≡ true → has_id xs x ≡ true → has_id ids x ≡ true
 all_listed ids [] x h k = cc
 all_listed ids (y ∷ ys) x h k = by (bytes_eq x y) (same_id x y) (and_parts (has_id ids y) _ h) (all_listed ids ys x) k

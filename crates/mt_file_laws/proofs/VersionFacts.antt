@@ -106,7 +106,7 @@ too_many_of_either rs h =
     (no_more (entry_count rs))
     h
 
--- what comes of a result comes of another that gives the same where there is no fault
+-- two results lead to the same if they give the same without a fault
 module _ {X Y E : Type 0} where
   keeps_next : (o p : Result X E) (next more : X → Result Y E) (y : Y) → ((x : X) → o ≡ Ok x → p ≡ Ok x) → ((x : X) → next x ≡ Ok y → more x ≡ Ok y)
       → and_then o next ≡ Ok y → and_then p more ≡ Ok y

@@ -74,7 +74,7 @@ module _ {W : Type 0} (contents : W → Option (List ℕ)) (q r : Registered) (m
   pub failed_as : Failed contents q d e a b some → Failed contents r d e a b found
   failed_as failed = subst (Failed contents r d e a b) same (subst (λ (x : Registered). Failed contents x d e a b some) market failed)
 
--- a count has room for what comes next, where it has room for all
+-- a count has room for what comes next, if it has room for all
 pub room_for : (count start : ℕ) (some more rest all : List Finding) → count ≡ start + length some → some ++ (more ++ rest) ≡ all → start + length all < 2 ^ 64
     → count + length more < 2 ^ 64
 room_for count start some more rest all counted is few =
@@ -86,7 +86,7 @@ code_of_some : (n : ℕ) → 0 < n → 1 ≡ number_code n
 code_of_some zero some = absurd (omega arith)
 code_of_some (suc n) some = refl
 
--- the code is that of all findings also where the writer failed
+-- the code is that of all findings also if the writer failed
 pub same_code : (n k : ℕ) → 0 < n → 0 < k → number_code n ≡ number_code k
 same_code n k some other = sym (code_of_some n some) ∙ code_of_some k other
 

@@ -82,7 +82,7 @@ line_is_stable r n (Differs row) h = absurd (other_word n (finding_line r n (Dif
 pub stable_ends : (r : Registered) (n : ℕ) (f : Finding) → (finding_code f ≡ 0) ↔ (finding_line r n f ≡ stable_line_with n)
 stable_ends r n f = (λ zero. ap (finding_line r n) (zero_is_stable f zero), λ line. ap finding_code (line_is_stable r n f line))
 
--- the line is that of a stable match exactly where the match is stable and its counts fit
+-- the line is that of a stable match if and only if the match is stable and its counts fit
 pub stable_line_is : (r : Registered) (n : ℕ) → IsWellFormed r.market → (submitted : Submitted) → length submitted.places ≡ applicants r.market
     → (finding_line r n (finding_of r.market submitted) ≡ stable_line_with n) ↔ (IsTrue (stable r.market submitted.places) × (first_differing r.market submitted ≡ None))
 stable_line_is r n h submitted one_each = (

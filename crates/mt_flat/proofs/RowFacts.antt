@@ -1,4 +1,4 @@
--- GrowingLists in one list, as elements and spans change.
+-- Rows in one list, as elements and spans change.
 use Rattle.std.proofs.Common.{◌≡◌, ◌≢◌, ◌∙◌, ℕ, zero, suc, ◌+◌, ◌-◌, ◌<◌, ◌≤◌, ◌⊎◌, inl, inr, List, [], ◌∷◌, ◌++◌, map, take, drop, length, get_or, set, refl, ap, ap₂, sym, subst, arith, length-append, replicate, Result, Ok, Err, OnErr}
 use Rattle.std.specs.Prelude.{slice_range}
 use Rattle.std.proofs.lemmas.Bool.{cases_eq, cases_lt}
@@ -9,7 +9,7 @@ use Rattle.std.proofs.lemmas.Slice.{between_to_end}
 use Rattle.mt_flat.specs.GrowingLists.{row_in, span_at, AreApart, AreSpans, IsSpan}
 use Rattle.mt_flat.specs.declared.growing_lists.Span.{Span}
 
--- what holds in any case holds where nothing was added
+-- what holds in any case holds if nothing was added
 pub on_err : {T E : Type 0} {P : Type 0} (r : Result T E) → P → OnErr r P
 on_err (Ok x) holds = tt
 on_err (Err e) holds = holds

@@ -16,7 +16,7 @@ struct Span {
     limit: u32,
 }
 
-/// GrowingLists that grow side by side in one vector, each within room of its own. A row without room is moved to the end of
+/// Lists that grow side by side in one vector, each within room of its own. A row without room is moved to the end of
 /// the vector, and has room for as many elements again there. The vector doesn't grow beyond places of 32 bits.
 pub struct GrowingLists<T> {
     items: Vec<T>,

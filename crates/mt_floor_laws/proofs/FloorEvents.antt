@@ -26,7 +26,7 @@ front_count : (b : Bool) (n : ℕ) → n - 1 ≤ n - (if b then 1 else 0)
 front_count true n = omega arith
 front_count false n = omega arith
 
--- whoever has passed a program has tried it
+-- an applicant that has passed a program has tried it
 pub tried_from_passed : (m : Market) (f : Floor) (a p : ℕ) → IsTrue (has (passed_programs m f a) p) → IsTrue (has (proposed_to_on m f a) p)
 tried_from_passed m f a p h = has-take-le (live m a) _ (f.made a) p (passed_count (f.standing a) (f.made a)) h
 
@@ -180,7 +180,7 @@ passed_if_refused m f a p q n free on =
 is_received : (m : Market) (f : Floor) (a p : ℕ) → IsTrue ((proposed_at m f a p).received p a)
 is_received m f a p = received_same m f a p p ∙ or_right _ _ (eq-eqb p p refl)
 
--- after a proposal, the program holds its applicant where this one stands
+-- after a proposal, the program holds its applicant if this one stands
 held_same : (m : Market) (f : Floor) (a p : ℕ) → held_set m (proposed_at m f a p) p a ≡ (proposed_at m f a p).standing a
 held_same m f a p = ap (λ (set : Set). choice (program_of m p) set a) (received_there m f a p) ∙ sym (standing_same m f a p)
 

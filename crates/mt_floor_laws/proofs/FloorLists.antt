@@ -41,13 +41,13 @@ has-take_before [] k p d e = cc
 has-take_before (x ∷ xs) zero p d e = refl
 has-take_before (x ∷ xs) (suc k) p d e = grind (arith, nat_tests, has-take_before xs k p, has-get xs k p)
 
--- the front before the first element that passes, where the element at a place passes
+-- the front before the first element that passes, if the element at a place passes
 pub has-until-get : (test : Set) (xs : List ℕ) (k p q : ℕ) → slice_get xs k ≡ Some p → IsTrue (test p) → IsTrue (has (until test xs) q) → IsTrue (has (take k xs) q)
 has-until-get test [] k p q e pass before = absurd (both_ways false refl before)
 has-until-get test (x ∷ xs) zero p q e pass before = grind (arith, nat_tests)
 has-until-get test (x ∷ xs) (suc k) p q e pass before = grind (arith, nat_tests, has-until-get test xs k p q)
 
--- the front up to the first element that passes, where that is the one at this place
+-- the front up to the first element that passes, if that is the one at this place
 pub through-get : (test : Set) (xs : List ℕ) (k p : ℕ) → slice_get xs k ≡ Some p → IsTrue (test p)
     → ((q : ℕ) → IsTrue (has (take k xs) q) → IsFalse (test q)) → through test xs ≡ take (suc k) xs
 through-get test [] k p e pass none = cc
@@ -57,7 +57,7 @@ through-get test (x ∷ xs) (suc k) p e pass none =
     let rest : through test xs ≡ take (suc k) xs = through-get test xs k p e pass (λ q h. none q (or_right _ _ h)) in
     grind (arith, nat_tests)
 
--- the whole list, where none passes
+-- the whole list, if none passes
 pub through_none : (test : Set) (xs : List ℕ) → ((q : ℕ) → IsTrue (has xs q) → IsFalse (test q)) → through test xs ≡ xs
 through_none test [] none = refl
 through_none test (x ∷ xs) none =

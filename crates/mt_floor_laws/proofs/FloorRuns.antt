@@ -21,8 +21,8 @@ use Rattle.mt_floor_laws.proofs.FloorLists.{has-get}
 use Rattle.mt_floor_laws.proofs.FloorEvents.{IsNext, next_facts, IsDropped, noticed, after_due, after_not_due, made_same, made_other, standing_other, noticed_same, noticed_other, within_get, get_some, event_keeps_recorded_lem, events_keep_strict_lem}
 use Rattle.mt_floor_laws.proofs.FloorBest.{applicant_from_live, strict_best_lem}
 
--- what an applicant with so many live entries and proposals has yet to do: twice the entries left, and one
--- where it stands
+-- what an applicant with these numbers of live entries and proposals has yet to do: twice the entries left, and one
+-- if it stands
 abbrev yet_to_do : ℕ → ℕ → Bool → ℕ
 yet_to_do entries made stands = 2 * (entries - made) + (if stands then 1 else 0)
 
@@ -42,7 +42,7 @@ less_after_proposal n made made' b s h more free = grind (arith, nat_tests)
 less_after_notice : (n made : ℕ) (b s : Bool) → IsTrue b → IsFalse s → yet_to_do n made s < yet_to_do n made b
 less_after_notice n made b s stands free = grind (arith, nat_tests)
 
--- the weight falls where one applicant has less to do
+-- the weight falls if one applicant has less to do
 weight_less : (m : Market) (f g : Floor) (a p : ℕ) → IsTrue (has (live m a) p) → left_to_do m g a < left_to_do m f a
     → ((b : ℕ) → b ≢ a → left_to_do m g b ≡ left_to_do m f b) → weight m g < weight m f
 weight_less m f g a p on less same =

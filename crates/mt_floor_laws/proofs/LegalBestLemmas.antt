@@ -31,7 +31,7 @@ on_live m b st a q h =
     has-filter (λ r. has (program_of m r).ranking a) (list_of m a) q
     ∙ and_from (has (program_of m q).ranking a) (has (list_of m a) q) (st.listed a q h) (st.on_list a q h)
 
--- the first of two, where the test passes, and the second, where it fails
+-- the first of two, if the test passes, and the second, if it fails
 if-first : (s x y : Bool) → IsTrue s → IsTrue (if s then x else y) → IsTrue x
 if-first s x y passes h = grind arith
 
@@ -42,7 +42,7 @@ if-none : (s : Bool) (o : Option ℕ) (p : ℕ) → (if s then None else o) ≡ 
 if-none true o p h = cc
 if-none false o p h = h
 
--- whoever doesn't stand and has made all has passed all
+-- an applicant that doesn't stand and has made all has passed all
 all_passed : (s : Bool) (k l : ℕ) → IsFalse s → IsTrue (k == l) → l ≤ k - (if s then 1 else 0)
 all_passed s k l fails h = grind (arith, nat_tests)
 
@@ -95,7 +95,7 @@ module _ (m : Market) (w : IsWellFormed m) (f : Floor) (legal : IsLegal m f) whe
     settled : (a : ℕ) → a < applicants m → IsTrue (is_settled m f a)
     settled a within = each_below (is_settled m f) (applicants m) quiet a within
 
-    -- whoever is at a program in the result stands where it proposed last, and that is this program
+    -- an applicant at a program in the result stands where it proposed last, and that is this program
     result_stands : (p a : ℕ) → IsTrue (at places p a) → (a < applicants m) × IsTrue (f.standing a) × (last_proposed_to m f a ≡ Some p)
     result_stands p a h =
         elim (cases_lt a (applicants m)) [
@@ -105,23 +105,23 @@ module _ (m : Market) (w : IsWellFormed m) (f : Floor) (legal : IsLegal m f) whe
           | inr past ↦ absurd (both_ways (at places p a) (ap (is_program p) (get_or_past places a None (omega (arith, result.one_each)))) h)
         ]
 
-    -- whoever stands is held where it proposed last
+    -- an applicant that stands is held where it proposed last
     standing_held : (a : ℕ) → a < applicants m → IsTrue (f.standing a) → IsTrue (is_held_by m f a (last_proposed_to m f a))
     standing_held a within stands = if-first (f.standing a) (is_held_by m f a (last_proposed_to m f a)) (f.made a == length (live m a)) stands (settled a within)
 
-    -- whoever doesn't stand has passed its whole live list
+    -- an applicant that doesn't stand has passed its whole live list
     passed_all : (a : ℕ) → a < applicants m → IsFalse (f.standing a) → passed_programs m f a ≡ live m a
     passed_all a within walks =
         let used = if-second (f.standing a) (is_held_by m f a (last_proposed_to m f a)) (f.made a == length (live m a)) walks (settled a within) in
         take_all (f.made a - (if f.standing a then 1 else 0)) (live m a) (all_passed (f.standing a) (f.made a) (length (live m a)) walks used)
 
-    -- whoever is at a program in the result is held there
+    -- an applicant at a program in the result is held there
     result_held : (p a : ℕ) → IsTrue (at places p a) → IsTrue (held_set m f p a)
     result_held p a h =
         let stands = result_stands p a h in
         ap (is_held_by m f a) (sym stands.2) ∙ standing_held a stands.0 stands.1
 
-    -- whoever the best match places is placed in the result
+    -- an applicant that the best match places is placed in the result
     best_placed : (b : Places) → IsBest m b → (a : ℕ) → a < applicants m → IsTrue (is_some (place_of b a)) → IsTrue (is_some (place_of places a))
     best_placed b best a within h =
         ap is_some (result.each_place a within)
@@ -161,7 +161,7 @@ module _ (m : Market) (w : IsWellFormed m) (f : Floor) (legal : IsLegal m f) whe
         (w.rankings_within p a (choice_facts (program_of m p) (f.received p) a h).is_listed)
         ∙ h
 
-    -- whoever stands has not passed where it proposed last
+    -- an applicant that stands has not passed where it proposed last
     not_passed_last : (a p : ℕ) → IsTrue (f.standing a) → last_proposed_to m f a ≡ Some p → IsFalse (has (passed_programs m f a) p)
     not_passed_last a p stands last =
         ap (λ (s : Bool). has (take (f.made a - (if s then 1 else 0)) (live m a)) p) stands

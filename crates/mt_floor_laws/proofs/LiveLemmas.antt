@@ -14,7 +14,7 @@ use Rattle.mt_terms.proofs.ListFacts.{has-filter}
 use Rattle.mt_terms.proofs.LiveFacts.{live_parts, applicants-live_market, list_of-live_market, live-live_market, live_entries-live_market, live_well_formed}
 use Rattle.mt_floor_laws.proofs.FloorLists.{has-until-filter}
 
--- the front of a filtered list has just what passes of the list's front, where the front ends at what passes
+-- the front of a filtered list has just what passes of the list's front, if the front ends at what passes
 until-filter_back : (test kept : Set) (xs : List ℕ) (q : ℕ) → ((x : ℕ) → IsTrue (test x) → IsTrue (kept x)) → IsTrue (has (until test (filter kept xs)) q) → IsTrue (has (until test xs) q)
 until-filter_back test kept [] q passes before = before
 until-filter_back test kept (x ∷ xs) q passes before = grind (arith, nat_tests, until-filter_back test kept xs q passes, passes x)
@@ -26,7 +26,7 @@ better_if_live m places a p listed on =
     until-filter_back (λ q. at places q a) (λ q. has (program_of m q).ranking a) (list_of m a) p listed
     (ap (λ xs. has (until (λ q. at places q a) xs) p) (sym (list_of-live_market m a)) ∙ on)
 
--- and what it wants more in the market it wants more in the live market, where the program lists it
+-- and what it wants more in the market it wants more in the live market, if the program lists it
 live_if_better : (m : Market) (places : Places) (a p : ℕ) → IsTrue (has (program_of m p).ranking a)
     → IsTrue (has (better_programs m places a) p) → IsTrue (has (better_programs (live_market m) places a) p)
 live_if_better m places a p listed on =

@@ -19,11 +19,11 @@ use Rattle.mt_terms.proofs.Totals.{total_below-mono, total_below-tight, count_be
 use Rattle.mt_stability_laws.proofs.Seats.{filled_by_applicant, placed_count, above-le-count}
 use Rattle.mt_terms.proofs.AgentFacts.{place_is}
 
--- whoever is at a program has it as its place
+-- an applicant at a program has it as its place
 pub place_at : (places : Places) (p a : ℕ) → IsTrue (at places p a) → place_of places a ≡ Some p
 place_at places p a h = place_is p (place_of places a) h
 
--- whoever is placed is at a program
+-- an applicant that is placed is at a program
 pub somewhere : (places : Places) (a : ℕ) → IsTrue (is_some (place_of places a)) → (p : ℕ) × IsTrue (at places p a)
 somewhere places a h = of_place (place_of places a) h
   where
@@ -31,7 +31,7 @@ somewhere places a h = of_place (place_of places a) h
     of_place None h = absurd (false≢true h)
     of_place (Some p) h = (p, eq-eqb p p refl)
 
--- whoever is unplaced wants each program of its list more
+-- an applicant that is unplaced wants each program of its list more
 better_than_none : (m : Market) (places : Places) (a : ℕ) → IsFalse (is_some (place_of places a)) → better_programs m places a ≡ list_of m a
 better_than_none m places a h = ap (λ (o : Option ℕ). until (λ p. is_program p o) (list_of m a)) (no_place (place_of places a) h) ∙ until_nobody (list_of m a)
   where
@@ -39,7 +39,7 @@ better_than_none m places a h = ap (λ (o : Option ℕ). until (λ p. is_program
     no_place None h = refl
     no_place (Some p) h = absurd (false≢true (sym h))
 
--- whoever is placed wants the programs above its place more
+-- an applicant that is placed wants the programs above its place more
 better_than_place : (m : Market) (places : Places) (a p : ℕ) → IsTrue (at places p a) → better_programs m places a ≡ until (λ q. q == p) (list_of m a)
 better_than_place m places a p h = ap (λ (o : Option ℕ). until (λ q. is_program q o) (list_of m a)) (place_at places p a h) ∙ until_eqb_sym (list_of m a) p
 
@@ -86,19 +86,19 @@ module _ (m : Market) (w : IsWellFormed m) (b : Places) (best : IsBest m b) (n :
   of_n : IsStableForSingles m n
   of_n = stable_facts m n n_stable
 
-  -- whoever isn't at its best place in a stable match wants that place more
+  -- an applicant that isn't at its best place in a stable match wants that place more
   wants_best_place : (a p : ℕ) → IsTrue (at b p a) → IsFalse (at n p a) → IsTrue (has (better_programs m n a) p)
   wants_best_place a p at_b not_n = true_from_ne_false (has (better_programs m n a) p) (λ unwanted.
       let (q, at_q, above_p) = passes_before (λ q. at n q a) (list_of m a) p (of_b.on_list a p at_b) unwanted not_n in
       both_ways (has (better_programs m b a) q) (best_is_at_least_lem m b n best n_stable a q at_q) (rw (better_than_place m b a p at_b) above_p))
 
-  -- whoever is placed in a stable match is placed in the best one
+  -- an applicant that is placed in a stable match is placed in the best one
   placed_in_best : (a : ℕ) → IsTrue (is_some (place_of n a)) → IsTrue (is_some (place_of b a))
   placed_in_best a h = true_from_ne_false (is_some (place_of b a)) (λ unplaced.
       let (q, at_q) = somewhere n a h in
       both_ways (has (better_programs m b a) q) (best_is_at_least_lem m b n best n_stable a q at_q) (rw (better_than_none m b a unplaced) (of_n.on_list a q at_q)))
 
-  -- whoever the best match places at a program with a free post in a stable match is there in that match
+  -- an applicant that the best match places at a program with a free post in a stable match is there in that match
   stays_where_free : (p : ℕ) → filled n p < (program_of m p).quota → (a : ℕ) → IsTrue (at b p a) → IsTrue (at n p a)
   stays_where_free p free a h = true_from_ne_false (at n p a) (λ elsewhere.
       both_ways (choice (program_of m p) (with_one (at n p) a) a)

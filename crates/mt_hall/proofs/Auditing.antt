@@ -8,12 +8,12 @@ use Rattle.mt_terms.proofs.Totals.{total_below-same}
 use Rattle.mt_hall.specs.Audits.{made_in}
 use Rattle.mt_hall.specs.declared.audit.Row.{Row}
 
--- what holds of whatever was found holds where nothing was
+-- what holds of whatever was found holds if nothing was
 pub if_none : {A : Type 0} (o : Option A) (P : Type 0) → P → IfNone o P
 if_none None P p = p
 if_none (Some x) P p = tt
 
--- with a row written, so many more proposals were made
+-- with a row written, this number of proposals more was made
 pub rows_more : (rows : List Row) (i : ℕ) (row : Row) → i < length rows → total_below (made_in (set rows i row)) (i + 1) ≡ row.made + total_below (made_in rows) i
 rows_more rows i row low =
     let none : Row = record { made = 0; standing = false } in
@@ -34,7 +34,7 @@ too_many f xs i left number d low rest less =
     let within = sum_by_more_le f xs i d low in
     sym (ne_eqb (sum_by f xs) number (λ e. absurd (omega (arith, within, rest, less, e))))
 
--- what holds where nothing was found gives what follows from it there; where something was found there is nothing to show
+-- what holds if nothing was found gives what follows from it there; if something was found there is nothing to show
 pub if_none_then : {A P Q : Type 0} (o : Option A) → (P → Q) → IfNone o P → IfNone o Q
 if_none_then None f p = f p
 if_none_then (Some x) f p = tt

@@ -24,7 +24,7 @@ count-flags words n = omega (arith, from 0 n, ap (count_below (flag words)) at_z
         next : a + 1 + n ≡ a + suc n
         next = omega arith
 
--- what is held, where the received ranks are kept as bits
+-- what is held, if the received ranks are kept as bits
 pub held-flags : (quota n : ℕ) (words : List ℕ) (rank : ℕ) → held (record { quota = quota; received = flags words n }) rank ≡ chosen quota n (flag words) rank
 held-flags quota n words rank =
     held-chosen (record { quota = quota; received = flags words n }) (flag words) (λ k h. get_or-flags words n k (omega (arith, length-flags words n))) rank

@@ -70,7 +70,7 @@ settled_end quota n s r end Refused new e low out settled =
       | inr last ↦ rw last.1 (end_moved quota n s r end r e low out settled.over last.0.below last.0)
     ]
 
--- Refused exactly where the rank isn't before the new end
+-- Refused if and only if the rank isn't before the new end
 refused_by_end : (quota n : ℕ) (s : Set) (r end : ℕ) (result : Taken) (new : ℕ) → IsEnd quota n s end → r < n → s r ≡ false
     → IsSettled (with_one s r) quota (count_below (with_one s r) n) r end result new → (result ≡ Refused) ↔ (new ≤ r)
 refused_by_end quota n s r end Kept new e low out settled =
@@ -90,7 +90,7 @@ refused_exactly quota n s r end result new e low out settled =
     let by = refused_by_end quota n s r end result new e low out settled in
     rw (chosen-ended quota n (with_one s r) new r after) (grind (arith, nat_tests, with_one_same s r, by))
 
--- A rank is named exactly where it was before the end, and the end moved to it or past it.
+-- A rank is named if and only if it was before the end, and the end moved to it or past it.
 dropped_by_end : (quota n : ℕ) (s : Set) (r end : ℕ) (result : Taken) (new : ℕ) → r < n → s r ≡ false
     → IsSettled (with_one s r) quota (count_below (with_one s r) n) r end result new
     → (other : ℕ) → (result ≡ KeptInstead other) ↔ ((s other ≡ true) × (other < end) × (new ≤ other))
@@ -114,7 +114,7 @@ dropped_by_end quota n s r end Refused new low out settled other = (
   ],
 )
 
--- another rank is named exactly where it was chosen and is no longer
+-- another rank is named if and only if it was chosen and is no longer
 pub dropped_exactly : (quota n : ℕ) (s : Set) (r end : ℕ) (result : Taken) (new : ℕ) → IsEnd quota n s end → r < n → s r ≡ false
     → IsSettled (with_one s r) quota (count_below (with_one s r) n) r end result new
     → (other : ℕ) → (result ≡ KeptInstead other) ↔ ((chosen quota n s other ≡ true) × (chosen quota n (with_one s r) other ≡ false))

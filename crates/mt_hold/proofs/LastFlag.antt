@@ -43,7 +43,7 @@ none_from words end at word is zero k past low =
       | inr ne ↦ is.none_after k (omega arith) low
     ]
 
--- where some flag is set below the end, a word of zeros isn't the first
+-- if some flag is set below the end, a word of zeros isn't the first
 pub not_first : (words : List ℕ) (end at word : ℕ) → IsWordBelow words end at word → word ≡ 0 → 0 < count_below (flag words) end → 0 < at
 not_first words end at word is zero some =
     elim (cases_lt 0 at) [

@@ -33,7 +33,7 @@ above-at s flags (x ∷ xs) j (suc k) d same h =
     e : j + 1 + k ≡ j + suc k
     e = omega arith
 
--- who stands at a rank is chosen exactly where the rank is
+-- who stands at a rank is chosen if and only if the rank is
 choice-at : (p : Program) (s flags : Set) → IsTrue (is_distinct p.ranking) → ((k : ℕ) → k < length p.ranking → flags k ≡ s (get_or p.ranking k 0))
     → (k : ℕ) → k < length p.ranking → choice p s (get_or p.ranking k 0) ≡ chosen p.quota (length p.ranking) flags k
 choice-at p s flags d same k h =

@@ -38,7 +38,7 @@ holding_of_received p h d quota listed = record {
   received = λ k low. sym (ap (λ r. option_map_or (has_received h) r false) (ranked_at p.ranking k d low));
 }
 
--- a rank is received exactly where the applicant that has it is
+-- a rank is received if and only if the applicant that has it is
 pub received_at_rank : (p : Program) (h : Holding) (a r : ℕ) → position (λ x. x == a) p.ranking ≡ Some r → received_from p h a ≡ has_received h r
 received_at_rank p h a r found = ap (λ o. option_map_or (has_received h) o false) found
 

@@ -16,7 +16,7 @@ use Rattle.mt_hold.proofs.Chosen.{held-chosen, IsChosen-from}
 use Rattle.mt_hold.proofs.Lists.{held_is_choice, receive_adds_one}
 use Rattle.mt_hold.proofs.ReceivedFacts.{ranked_within, ranked_there}
 
--- the first element that passes, where none does, and where the one at a place does
+-- the first element that passes, if none does, and if the one at a place does
 find_none : (test : ℕ → Bool) (xs : List ℕ) → ((k : ℕ) → k < length xs → IsFalse (test (get_or xs k 0))) → find test xs ≡ None
 find_none test [] none = refl
 find_none test (x ∷ xs) none = rw (none 0 (omega arith)) (find_none test xs (λ k h. none (suc k) (omega arith)))
@@ -39,7 +39,7 @@ pub record MayReceive (p : Program) (set : Set) (h : Holding) (a r : ℕ) : Type
   pub holding : IsHoldingOf p set h
   pub found : position (λ x. x == a) p.ranking ≡ Some r
 
--- after a proposal a rank is held exactly where the program chooses the applicant that has it
+-- after a proposal a rank is held if and only if the program chooses the applicant that has it
 pub held_after : (p : Program) (set : Set) (h : Holding) (a r : ℕ) → MayReceive p set h a r → (k : ℕ) → k < length p.ranking
     → held (receive h r) k ≡ choice p (with_one set a) (get_or p.ranking k 0)
 held_after p set h a r may k low =
@@ -55,13 +55,13 @@ held_within p h k listed on =
 abbrev falls_out : Program → Set → ℕ → ℕ → Bool
 falls_out p set a b = choice p set b && not (choice p (with_one set a) b)
 
--- it is told by ranks
+-- ranks decide it
 falls_out_at : (p : Program) (set : Set) (h : Holding) (a r : ℕ) → MayReceive p set h a r → (k : ℕ) → k < length p.ranking
     → falls_out p set a (get_or p.ranking k 0) ≡ (held h k && not (held (receive h r) k))
 falls_out_at p set h a r may k low =
     ap₂ (λ x y. x && not y) (sym (held_is_choice p set h may.distinct may.holding k low)) (sym (held_after p set h a r may k low))
 
--- whoever isn't the one that the answer names doesn't fall out
+-- an applicant that the answer doesn't name doesn't fall out
 stays_in : (p : Program) (set : Set) (h : Holding) (a r : ℕ) (answer : Taken) → MayReceive p set h a r → IsAnswer h r answer
     → (k : ℕ) → k < length p.ranking → answer ≢ KeptInstead k → IsFalse (falls_out p set a (get_or p.ranking k 0))
 stays_in p set h a r answer may is k low other =
@@ -72,7 +72,7 @@ stays_in p set h a r answer may is k low other =
     by_cases true true ex ey = refl
     by_cases true false ex ey = absurd (other ((is.dropped k).1 (ex, ey)))
 
--- the proposing applicant's rank is held after the proposal exactly where the program chooses the applicant
+-- the proposing applicant's rank is held after the proposal if and only if the program chooses the applicant
 pub proposer_held : (p : Program) (set : Set) (h : Holding) (a r : ℕ) → MayReceive p set h a r → held (receive h r) r ≡ choice p (with_one set a) a
 proposer_held p set h a r may = held_after p set h a r may r (ranked_within p.ranking a r may.found) ∙ ap (choice p (with_one set a)) (ranked_there p.ranking a r may.found)
 
@@ -85,7 +85,7 @@ chosen_if_kept p set h a r answer may is kept =
       | inr out ↦ absurd (kept (is.refused.1 out))
     ]
 
--- nobody falls out where the answer names nobody, and else the applicant whose rank it names
+-- nobody falls out if the answer names nobody, and else the applicant whose rank it names
 none_dropped : (p : Program) (set : Set) (h : Holding) (a r : ℕ) → MayReceive p set h a r → IsAnswer h r Kept → find (falls_out p set a) p.ranking ≡ None
 none_dropped p set h a r may is = find_none (falls_out p set a) p.ranking (λ k low. stays_in p set h a r Kept may is k low not_named)
   where

@@ -66,7 +66,7 @@ module _ {L X : Type 0} (stands : L → Bool) (read : L → List (List X)) where
       flat_map-both [] ys = refl
       flat_map-both (x ∷ xs) ys = ap (λ (l : List (List X)). read x ++ l) (flat_map-both xs ys) ∙ sym (append_assoc (read x) (flat_map read xs) (flat_map read ys))
 
-  -- the lists are read where their chunks are joined
+  -- the lists are read if their chunks are joined
   pub lists_read : (lists : List L) (chunks : List (List L)) (done : List (Option (List (List X)))) (new : Option (List (List X)))
       → AreChunks chunks done → flat_map (λ c. c) chunks ≡ lists → Joins done new → ReadsAll stands read lists new
   lists_read lists chunks done None are whole joins = sym (ap (list_all stands) whole) ∙ sym (chunks_read chunks done are).0 ∙ joins

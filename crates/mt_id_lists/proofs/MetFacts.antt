@@ -1,4 +1,4 @@
--- A list stands where each id is one of these and is met for the first time.
+-- A list stands if each id is one of these and is met for the first time.
 use Rattle.std.proofs.Common.{◌≡◌, ℕ, ◌<◌, Bool, true, false, not, ◌&&◌, ◌||◌, ◌==◌, List, [], ◌∷◌, length, get_or, set, refl, ap, ◌∙◌, arith, if◌then◌else◌}
 use Rattle.std.specs.Prelude.{bytes_eq}
 use Rattle.std.specs.List.{list_all}
@@ -60,7 +60,7 @@ module _ (ids : List Bytes) where
       by true i ih r = rw (new_set met x y long h i, ih r) (join (bytes_eq x y) (has_id ys x) (is_new met y) (list_all (is_new met) ys))
       by false i ih r = cc
 
-  -- a list stands where it does by its ids, and none was met before
+  -- a list stands if it does by its ids, and none was met before
   stands_from-is : (met : List Bool) (list : List Bytes) → length met ≡ length ids → stands_from met list ≡ (stands_once ids list && list_all (is_new met) list)
   stands_from-is met [] long = refl
   stands_from-is met (x ∷ xs) long =
@@ -88,7 +88,7 @@ module _ (ids : List Bytes) where
       by true false h k ih = rw ih (none (is_new met x))
       by false c h k ih = refl
 
-  -- where none was met, each is new
+  -- if none was met, each is new
   all_new : (met : List Bool) (list : List Bytes) → length met ≡ length ids → IsNoneMet met → list_all (has_id ids) list ≡ true → list_all (is_new met) list ≡ true
   all_new met [] long none h = refl
   all_new met (x ∷ xs) long none h = by (has_id ids x) refl (all_new met xs long none) h

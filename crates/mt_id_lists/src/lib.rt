@@ -1,4 +1,4 @@
-//! Lists read by numbers, in chunks side by side where they are long. What reads a list is a parameter.
+//! Lists read by numbers, in chunks side by side if they are long. What reads a list is a parameter.
 #![tactic(auto)]
 
 mod chunks;

@@ -19,7 +19,7 @@ are_digits (c ∷ cs) h =
     let p : (is_ascii_digit c ≡ true) × (list_all is_ascii_digit cs ≡ true) = and_parts (is_ascii_digit c) _ h in
     (omega (arith, is_digit_small c p.0), are_digits cs p.1)
 
--- at most so many digits
+-- at most this number of digits
 pub value_small : (ds : List ℕ) (most : ℕ) → list_all is_ascii_digit ds ≡ true → length ds ≤ most → digits_value 10 ds < 10 ^ most
 value_small ds most h k =
     let bound : 10 ^ length ds ≤ 10 ^ most = pow-le-pow_right (let some : 0 < 10 = omega arith in some) k in

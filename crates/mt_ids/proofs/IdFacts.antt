@@ -13,7 +13,7 @@ none_at x [] i h k = absurd (omega arith)
 none_at x (y ∷ ys) zero h k = (or_parts (bytes_eq x y) (has_id ys x) h).0
 none_at x (y ∷ ys) (suc i) h k = none_at x ys i (or_parts (bytes_eq x y) (has_id ys x) h).1 (omega arith)
 
--- where ids differ, each is none of those before it
+-- if ids differ, each is none of those before it
 pub new_at : (xs : List Bytes) (i : ℕ) → all_differ bytes_eq xs ≡ true → i < length xs → has_id (take i xs) (get_or xs i []) ≡ false
 new_at [] i h k = absurd (omega arith)
 new_at (x ∷ xs) zero h k = refl
@@ -22,7 +22,7 @@ new_at (x ∷ xs) (suc i) h k =
     let other : bytes_eq (get_or xs i []) x ≡ false = differs x (get_or xs i []) (none_at x xs i parts.0 (omega arith)) in
     rw (other, new_at xs i parts.1 (omega arith)) refl
 
--- A table has the first so many of some ids, which differ.
+-- A table has this number of the first of some ids, which differ.
 abbrev pub HasFirst : List Bytes → List Bytes → ℕ → Type 0
 HasFirst ids table i = (table ≡ take i ids) × (all_differ bytes_eq table ≡ true)
 
@@ -48,7 +48,7 @@ module _ (ids table : List Bytes) (i : ℕ) (id : Bytes) (first : HasFirst ids t
           let all = ap₂ (λ (xs : List Bytes) (x : Bytes). xs ++ x ∷ []) first.0 at ∙ sym (take_more ids i [] within) in
           subst (λ (xs : List Bytes). HasFirst ids xs (i + 1)) (sym is) (all, differ_push table id e first.1)
 
--- an id has a number where it is one of these
+-- an id has a number if it is one of these
 number_there : (ids : List Bytes) (id : Bytes) → nat_lt (number_of ids id) (length ids) ≡ has_id ids id
 number_there [] id = refl
 number_there (y ∷ ys) id = by (bytes_eq id y) (number_there ys id)

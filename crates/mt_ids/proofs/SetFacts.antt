@@ -13,7 +13,7 @@ use Rattle.mt_ids.specs.Sets.{FindsIds, with_id}
 use Rattle.mt_ids.proofs.IdFacts.{missing}
 use Rattle.mt_ids.proofs.WordFacts.{word_tells, pair_tells, no_word, no_place, other_place}
 
--- the answer of a search, where one element more stands at the end
+-- the answer of a search, if one element more stands at the end
 abbrev or_end : Option ℕ → Bool → ℕ → Option ℕ
 or_end (Some i) b n = Some i
 or_end None b n = cond b (Some n) None
@@ -44,7 +44,7 @@ some_from p (y ∷ ys) i = by (p y) (some_from p ys (i + 1))
     by true e = refl
     by false e = e
 
--- where a search finds something, something passes
+-- if a search finds something, something passes
 pub is_some-position : {X : Type 0} (p : X → Bool) (xs : List X) → is_some (position p xs) ≡ list_any p xs
 is_some-position p xs = ap is_some (position_from-zero p xs) ∙ some_from p xs 0
 
@@ -96,7 +96,7 @@ on_err (Err e) x = x
 
 module _ (ids : List Bytes) (words : List ℕ) (by_pair : ℕ × ℕ → Option ℕ) (by_bytes : Bytes → Option ℕ) (finds : FindsIds ids words by_pair by_bytes)
     (x : Bytes) where
-  -- a short id is new where its word is
+  -- a short id is new if its word is
   pub new_word : (word : ℕ) (is_new : Bool) → IsWordOf x word → length x ≤ 7 → is_new ≡ not (list_any (nat_eq word) words) → is_new ≡ not (has_id ids x)
   new_word word is_new is m said =
       said ∙ ap not (ap (λ w. list_any (nat_eq w) words) is.0 ∙ sym (is_some-position (nat_eq (word_of x)) words) ∙ ap is_some (finds.short x is.1 m)

@@ -8,7 +8,7 @@ use Rattle.std.proofs.lemmas.Slice.Eq.{bytes_eq-Decides}
 use Rattle.mt_terms.specs.Registration.Ids.{Bytes}
 use Rattle.mt_ids.specs.Words.{AreBytes, four_from, seven_from, bytes_of, word_of, place_word, pair_of, pair_eq}
 
--- a number shifted by 32 bits, above one of so many bits
+-- a number shifted by 32 bits, above one of this number of bits
 pub above_32 : (a b : ℕ) → a < 2 ^ 32 → b < 2 ^ 32 → bit_or a (b * 2 ^ 32 % 2 ^ 64) ≡ a + b * 2 ^ 32
 above_32 a b h k =
     let fits : b * 2 ^ 32 < 2 ^ 64 = omega arith in
@@ -142,7 +142,7 @@ module _ (xs ys : Bytes) (bx : AreBytes xs) (by : AreBytes ys) where
       ext_get_or 0 xs ys parts.1 (λ i k. ⊎_elim (λ low. ⊎_elim (same_four 0 first.0 i (omega arith)) (λ more. same_four 4 first.1 i more low) (cases_lt i 4))
       (λ high. same_seven (length xs - 7) parts.1 (omega arith) (omega arith) last i (omega arith) k) (cases_lt i 8))
 
-  -- words of short ids are the same where the ids are, and so are pairs
+  -- words of short ids are the same if the ids are, and so are pairs
   pub word_tells : length xs ≤ 7 → nat_eq (word_of xs) (word_of ys) ≡ bytes_eq xs ys
   word_tells m = same_from_decides (nat_eq (word_of xs) (word_of ys)) (bytes_eq xs ys)
       (λ t. same_by_word m (eqb-true _ _ t), λ e. eq-eqb _ _ (ap word_of e)) (bytes_eq-Decides xs ys)

@@ -1,4 +1,4 @@
-//! Ids, each of them once, which words find where they are short.
+//! Ids, each of them once. Words find those that are short.
 ghost use Rattle.std.specs.Prelude.{◌≡◌, ◌<◌, ◌^◌, [], not, is_some, length, position, bytes_eq, IfOk, IfSome, OnErr};
 ghost use Rattle.mt_terms.specs.Registration.Ids.{has_id, all_differ};
 ghost use Rattle.mt_ids.specs.Seeds.{seed_of};

@@ -17,7 +17,7 @@ use Rattle.mt_line_numbers.specs.Records.{after_record, after_records, first_rec
 use Rattle.mt_line_numbers.proofs.EndFacts.{without-nothing, without-plain}
 use Rattle.mt_line_numbers.proofs.ScanFacts.{left_from-nothing, left_from-start}
 
--- where no record has begun, csv reads as from the start
+-- if no record has begun, csv reads as from the start
 idle_reads : (s : State) (text : List ℕ) → ends_at_end s ≡ false → next_record default_config s [] [] text ≡ next_record default_config st.StartRecord [] [] text
 unfolding next_record
 idle_reads st.StartRecord text idle = refl

@@ -128,7 +128,7 @@ split-some field (b ∷ rest) =
     some : (f : List ℕ) (fs : List (List ℕ)) → (length (f ∷ fs) == 0) ≡ false
     some f fs = grind (arith, nat_tests)
 
--- a line that has lost the commas at its end has no field exactly where it has no byte
+-- a line that has lost the commas at its end has no field if and only if it has no byte
 pub trimmed-empty : (line : List ℕ) → (length line == 0) ≡ (length (fields_of_trimmed line) == 0)
 trimmed-empty [] = refl
 trimmed-empty (b ∷ rest) =

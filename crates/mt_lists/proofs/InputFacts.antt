@@ -9,7 +9,7 @@ use Rattle.mt_lists.specs.declared.input.ReadEnd.TheVariants as end
 use Rattle.mt_lists.specs.declared.tap.Tap.{Tap}
 use Rattle.mt_lists.specs.Tap.{LosesAtMost, bytes_left, failures_of, reads_of}
 
--- what a tap did where these bytes came, within the limit, and no read failed
+-- what a tap did if these bytes came, within the limit, and no read failed
 pub record ReadSoFar {R : Type 0} (remaining : R → Option (List ℕ)) (old new : Tap R) (limit : ℕ) (bytes : List ℕ) : Type 0 where
   pub taken : Consumes (bytes_left remaining old) (bytes_left remaining new) bytes
   pub within : length bytes ≤ limit
@@ -31,7 +31,7 @@ asked_len asked room piece buf same asks big =
     let shorter = length-take asked piece in
     omega arith
 
--- nothing is lost where nothing was read
+-- nothing is lost if nothing was read
 pub loses_none : (limit : ℕ) (a : Option (List ℕ)) → LosesAtMost (limit + 1) a a
 loses_none limit a = record { front = []; lost = Consumes-nil a; within = omega arith }
 

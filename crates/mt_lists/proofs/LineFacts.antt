@@ -152,7 +152,7 @@ none_before p (c ∷ rest) (suc at) h =
     let here : p c ≡ false = false_from_ne_true (p c) (h 0 (omega arith)) in
     rw here (none_before p rest at (λ k lt. h (suc k) (omega arith)))
 
--- where no byte of a text passes it, none does
+-- if no byte of a text passes it, none does
 pub none_at_all : (p : ℕ → Bool) (text : List ℕ) → ((k : ℕ) → k < length text → p (get_or text k 0) ≡ true → ⊥) → list_any p text ≡ false
 none_at_all p text h = rw (take-length text) at (none_before p text (length text) h)
 

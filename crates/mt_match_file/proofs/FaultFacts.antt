@@ -14,7 +14,7 @@ use Rattle.mt_match_file.specs.declared.line.Line.{Line}
 use Rattle.mt_match_file.specs.declared.line.Line.TheVariants.{Aside, Counts, Head, Place}
 use Rattle.mt_match_file.specs.declared.submitted_match.Count.TheVariants as count
 
--- a result that is no fault, or a fault that is told by its code and an id
+-- a result that is no fault, or a fault with its code and an id
 abbrev is_named : ℕ → Bytes → Bool
 is_named code id = has fault_codes code && is_none_or_id id
 

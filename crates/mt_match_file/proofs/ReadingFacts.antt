@@ -42,7 +42,7 @@ module _ (names : Names) (old new : SoFar) (n : ℕ) (fields : List Bytes) where
   reads_fault c (errors.Fault f) is submitted rest = rw is (ap Err (sym submitted))
   reads_fault c errors.Memory is submitted rest = absurd submitted
 
--- what is told of all applicants
+-- what a file says of all applicants
 pub match_is : (names : Names) (s : SoFar) (o : Option ℕ) (submitted : Submitted) → o ≡ None → submitted.places ≡ map (λ place. unwrap_or place None) s.places → submitted.counts ≡ s.counts
     → submitted.aside ≡ s.aside → match_of names s o ≡ Ok submitted
 match_is names s o submitted none places counts aside =
@@ -50,7 +50,7 @@ match_is names s o submitted none places counts aside =
     λ i. record { places = places i; counts = counts i; aside = aside i } in
     ap (match_of names s) none ∙ ap Ok (sym whole)
 
--- a match that is told has places of the market
+-- a match that a file gives has places of the market
 pub places_are : (r : Registered) → IsRegistration r → (rows : List (List Bytes)) (s : SoFar)
     → all_read r.names (nothing_read (applicants r.market)) (numbered_from 1 rows) ≡ Ok s
     → (result : Result Submitted MatchError) → Gives result (match_of r.names s (first_unplaced s)) → IfOk result (λ submitted. ArePlaces r.market submitted.places)

@@ -21,7 +21,8 @@ use std::alloc::{AllocError, Global};
 
 const ABOUT: &str = "\
 With MATCH: whether a residency match is stable by the rank order lists of a
-market, whoever made it. Without MATCH: all faults of the market's file.
+market. Any program may have made it. Without MATCH: all faults of the
+market's file.
 
 Writes CSV to standard output. With MATCH it is one line: that the match is
 stable, or the first finding against it, or why it can't be judged. With --all

@@ -12,7 +12,7 @@ use std::alloc::{AllocError, Global};
 
 const ABOUT: &str = "\
 Why the applicants and couples of a residency match have what they have, by
-the rank order lists of a market, whoever made the match.
+the rank order lists of a market. Any program may have made the match.
 
 Writes CSV to standard output: a line for what each of them has, and one for
 each program of an option that it wants more, with why it isn't there.";

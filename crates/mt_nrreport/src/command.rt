@@ -12,8 +12,8 @@ use mt_reported::Form;
 use std::alloc::{AllocError, Global};
 
 const ABOUT: &str = "\
-The numbers of a residency match by the rank order lists of a market,
-whoever made it.
+The numbers of a residency match by the rank order lists of a market. Any
+program may have made the match.
 
 Writes lines of CSV to standard output: counts of choices, couples, programs
 and posts, and a line for each program, or one line why there are none.";

@@ -41,7 +41,7 @@ module _ {X : Type 0} (same : X → X → Bool) where
       let next : get_or xs (i - 1 + 1) x ≡ y = ap (λ (j : ℕ). get_or xs j x) back ∙ get_or_default xs i x y within ∙ sym here in
       next_to_itself xs (i - 1) x (omega arith) (ap (λ (z : X). same z (get_or xs (i - 1 + 1) x)) (sym before) ∙ ap (same x) next ∙ h)
 
--- Elements are the same where neither is less.
+-- Elements are the same if neither is less.
 module _ {X : Type 0} {R : X → X → Ordering} (total : IsTotalOrder R) (same : X → X → Bool) (ties : (x y : X) → same x y ≡ eq_by_cmp R x y) where
   flips : (x y : X) → same x y ≡ same y x
   flips x y = let equal = eq_by_cmp_equiv total in ties x y ∙ equal.symm x y ∙ sym (ties y x)

@@ -1,4 +1,4 @@
--- The numbers of ids: those of a vector, or the places of the ids where there is none.
+-- The numbers of ids: those of a vector, or the places of the ids if there is none.
 use Rattle.std.proofs.Common.{◌≡◌, ℕ, ◌+◌, ◌<◌, ◌≤◌, ◌^◌, Bool, true, false, not, ◌||◌, List, [], ◌∷◌, length, get_or, Option, Some, None, Vec, ap, sym, subst, ◌∙◌, arith, cond}
 use Rattle.std.specs.Prelude.{bytes_eq}
 use Rattle.std.specs.Global.{Global}

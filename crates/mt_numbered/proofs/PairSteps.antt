@@ -100,7 +100,7 @@ pairs_are_added n half_pairs false list old begun new true begins reads = (reads
 abbrev pub is_same_numbers : Pair → Pair → Bool
 is_same_numbers p q = option_eq nat_eq p.0 q.0 && option_eq nat_eq p.1 q.1
 
--- elements by what they are seen as, of which two are alike just where the elements are the same
+-- elements by what they are seen as, of which two are alike if and only if the elements are the same
 module _ {X Y : Type 0} (seen : X → Y) (ok : X → Bool) (same : X → X → Bool) (alike : Y → Y → Bool)
     (agree : (x y : X) → ok x ≡ true → ok y ≡ true → alike (seen x) (seen y) ≡ same x y) where
   any_alike : (x : X) (xs : List X) → ok x ≡ true → list_all ok xs ≡ true → list_any (alike (seen x)) (map seen xs) ≡ list_any (same x) xs
@@ -111,7 +111,7 @@ module _ {X Y : Type 0} (seen : X → Y) (ok : X → Bool) (same : X → X → B
   differ_alike [] all = refl
   differ_alike (x ∷ xs) all = let parts = both (ok x) (list_all ok xs) all in rw (any_alike x xs parts.0 parts.1, differ_alike xs parts.1) refl
 
--- ids and pairs are the same where their numbers are
+-- ids and pairs are the same if their numbers are
 module _ (ids : List Bytes) where
   ids_agree : (x y : Bytes) → has_id ids x ≡ true → has_id ids y ≡ true → nat_eq (number_of ids x) (number_of ids y) ≡ bytes_eq x y
   ids_agree x y h k = by (bytes_eq x y) refl

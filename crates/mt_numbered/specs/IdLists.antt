@@ -17,12 +17,12 @@ ids_in (Some fields) = fields_left fields.now
 abbrev pub list_seen : IdList → Bool × List Bytes
 list_seen list = (list.kept, ids_in list.fields)
 
--- the new numbers of so many ids: those of a vector, or their places where there is none
+-- the new numbers of a count of ids: those of a vector, or their places if there is none
 abbrev pub numbers_seen : {X : Type 0} → (ℕ → X) → ℕ → Option (Vec (Option X) Global) → List (Option X)
 numbers_seen at count (Some numbers) = numbers.items
 numbers_seen at count None = map (λ k. Some (at k)) (below count)
 
--- There is a number, or none, for each of so many ids.
+-- There is a number, or none, for each of a count of ids.
 abbrev pub AreFor : {X : Type 0} → ℕ → Option (Vec (Option X) Global) → Type 0
 AreFor count (Some numbers) = length numbers.items ≡ count
 AreFor count None = count < 2 ^ 32

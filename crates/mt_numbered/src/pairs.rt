@@ -47,7 +47,7 @@ fn place(programs: &Numbered<'_, ProgNo>, place: Option<&[u8]>) -> Option<Option
     Some(Some(place))
 }
 
-/// Whether a pair has a place for each member, or where half pairs are allowed for one of them.
+/// Whether a pair has a place for each member, or if half pairs are allowed for one of them.
 fn is_allowed(half_pairs: bool, first: Option<&[u8]>, second: Option<&[u8]>) -> bool
     ensures { result
         ≡ is_allowed half_pairs (option_copied first.entry, option_copied second.entry) }

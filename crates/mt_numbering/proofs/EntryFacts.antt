@@ -1,4 +1,4 @@
--- Where the lists of records stand, by the lists that are read.
+-- Whether the lists of records stand, by the lists that are read.
 use Rattle.std.proofs.Common.{◌≡◌, Bool, ◌&&◌, List, [], ◌∷◌, ℕ, refl, ap}
 use Rattle.std.specs.List.{list_all}
 use Rattle.mt_draft_laws.specs.Faultless.{ranking_stands, list_stands, pairs_stand}

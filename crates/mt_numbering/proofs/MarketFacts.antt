@@ -104,7 +104,7 @@ module _ (rs : List Record) (ids : Kinds) (are : AreIdsOfRecords rs ids) where
   pub length-singles : (singles : List Bool) → singles ≡ single_flags rs → length singles ≡ length ids.applicants
   length-singles singles flags = ap length flags ∙ length-single_flags rs ∙ sym (ap length are.applicants)
 
--- withdrawals stand where what is withdrawn is registered, and withdrawn once
+-- withdrawals stand if what is withdrawn is registered, and withdrawn once
 withdrawals_are : (rs : List Record) → withdrawals_stand rs ≡ (are_once rs && are_registered rs)
 withdrawals_are rs =
     by (list_all (has_id (ids_of OfProgram rs)) (withdrawn OfProgram rs)) (all_differ bytes_eq (withdrawn OfProgram rs))
@@ -114,7 +114,7 @@ withdrawals_are rs =
     by : (k o l p m q : Bool) → ((k && o) && (l && p) && (m && q)) ≡ ((o && p && q) && (k && l && m))
     by k o l p m q = grind arith
 
--- records have no fault among them where their ids differ, their lists stand, and their withdrawals do
+-- records have no fault among them if their ids differ, their lists stand, and their withdrawals do
 faultless_by_steps : (rules : Rules) (rs : List Record) → are_too_many rules.limits rs ≡ false
     → is_faultless rules rs ≡ ((ids_differ rs && lists_stand rules.half_pairs (ids_of OfProgram rs) (applicant_ids rs) rs) && (are_once rs && are_registered rs))
 faultless_by_steps rules rs few =
@@ -237,7 +237,7 @@ module _ (flags : List Bool) (ids : List Bytes) (differ : all_differ bytes_eq id
       ap₂ (λ (m : Option (ℕ × ℕ)) (ms : List (ℕ × ℕ)). cons_option m ms) (ap₂ both_there (new_at a p.0) (new_at b q.0)) (members_stay rs q.1)
   members_stay (WithdrawRecord kind id ∷ rs) h = members_stay rs h
 
--- the records that stay where these are all that is withdrawn
+-- the records that stay if these are all that is withdrawn
 pub remaining_are : (rs : List Record) (w : Kinds) → AreWithdrawn rs w → filter (stays_after w) rs ≡ remaining rs
 remaining_are rs w are = by w.programs w.applicants w.couples (are.withdrawn OfProgram) (are.withdrawn OfApplicant) (are.withdrawn OfCouple)
   where
@@ -254,7 +254,7 @@ all_kept p (x ∷ xs) h = by (p x) (all_kept p xs) h
     by true rest same = ap (λ ys. x ∷ ys) (rest (omega (arith, same)))
     by false rest less = absurd (omega (arith, less, length-filter p xs, count_by-le-length p xs))
 
--- the names of all records are those of the records that stay, where all stay
+-- the names of all records are those of the records that stay, if all stay
 pub names_stay : (records : List Checked) (count : ℕ) (staying : List Checked) (names : NameLists) → count ≡ length records
     → all_seen staying ≡ remaining (all_seen records) → AreNames (all_seen records) names → length staying ≡ count → AreNames (all_seen staying) names
 names_stay records count staying names counted stay are all =

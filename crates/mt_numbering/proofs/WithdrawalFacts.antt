@@ -172,7 +172,7 @@ one_known knows before kind id are i = λ k.
     ∙ with_one (λ k xs. list_all (knows k) xs ≡ true) (λ x. withdrawn x before) kind id are
     (list_all-append (knows kind) (withdrawn kind before) (id ∷ []) ∙ both _ _ (are kind) (both _ _ i refl)) k
 
--- a test of all kinds fails where that of some kind does
+-- a test of all kinds fails if that of some kind does
 kind_fails : (test : Kind → Bool) (kind : Kind) → test kind ≡ false → (test OfProgram && test OfApplicant && test OfCouple) ≡ false
 kind_fails test OfProgram h = rw h refl
 kind_fails test OfApplicant h = rw (right_fails (test OfProgram) _ h) refl
@@ -301,7 +301,7 @@ module _ (records ws : List Checked) (are : AreWithdrawing records ws) where
   pub withdrawn_of_all : (w : Kinds) → AreWithdrawn (all_seen ws) w → AreWithdrawn (all_seen records) w
   withdrawn_of_all w them = record { once = sym same_once ∙ them.once; withdrawn = λ kind. them.withdrawn kind ∙ same_withdrawals kind }
 
-  -- where there are none of them, all records stay
+  -- if there are none of them, all records stay
   pub stay_all : length ws ≡ 0 → (w : Kinds) → AreWithdrawn (all_seen ws) w → all_seen records ≡ filter (stays_after w) (all_seen records)
   stay_all none w them = by (list_any is_withdrawal (all_seen records)) refl are
     where
@@ -314,7 +314,7 @@ module _ (records ws : List Checked) (are : AreWithdrawing records ws) where
           let c : w.couples ≡ [] = empty OfCouple in
           rw (p, a, c) (sym (all_stay (all_seen records) nobody))
 
--- where no program is withdrawn, the new numbers of programs are their places
+-- if no program is withdrawn, the new numbers of programs are their places
 programs_from : (n : ℕ) (a c : List Bytes) (rs : List Record) → new_numbers n (program_flags (stays_without [] a c) rs) ≡ map Some (range_with_len n (length (ids_of OfProgram rs)))
 programs_from n a c [] = refl
 programs_from n a c (ProgramRecord id quota list ∷ rs) = ap (λ (ks : List (Option ℕ)). Some n ∷ ks) (programs_from (n + 1) a c rs)
@@ -328,7 +328,7 @@ programs_in_place w rs none =
     sym (programs_from 0 w.applicants w.couples rs)
     ∙ ap (λ (p : List Bytes). new_numbers 0 (program_flags (stays_without p w.applicants w.couples) rs)) (sym (nil_of w.programs none))
 
--- the same of applicants, where no single and no couple is withdrawn
+-- the same of applicants, if no single and no couple is withdrawn
 applicants_from : (n : ℕ) (p : List Bytes) (rs : List Record) → new_numbers n (applicant_flags (stays_without p [] []) rs) ≡ map Some (range_with_len n (length (applicant_ids rs)))
 applicants_from n p [] = refl
 applicants_from n p (ProgramRecord id quota list ∷ rs) = applicants_from n p rs

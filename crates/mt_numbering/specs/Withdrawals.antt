@@ -8,7 +8,7 @@ use Rattle.mt_terms.specs.Registration.Rows.{ids_of, applicant_ids, withdrawn}
 use Rattle.mt_ids.specs.declared.kinds.Kinds.{Kinds}
 use Rattle.mt_ids.specs.Kinds.{ids_in}
 
--- whether a record stays where these ids are withdrawn
+-- whether a record stays if these ids are withdrawn
 abbrev pub stays_after : Kinds → Record → Bool
 stays_after w r = stays_without w.programs w.applicants w.couples r
 

@@ -1,4 +1,4 @@
-//! The market of rows without a fault, by numbers: which records stay where others withdraw them, and each entry of each
+//! The market of rows without a fault, by numbers: which records stay if others withdraw some, and each entry of each
 //! list, looked up once.
 #![tactic(auto)]
 

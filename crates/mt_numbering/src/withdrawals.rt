@@ -96,14 +96,14 @@ pub(crate) fn are_registered(ids: &Kinds<'_>, singles: &[bool], records: &[Recor
     true
 }
 
-/// Whether an id is one of these. Where there are none, it isn't hashed.
+/// Whether an id is one of these. If there are none, it isn't hashed.
 fn is_among(ids: &IdTable<'_>, id: &[u8]) -> bool
     ensures { result ≡ has_id ids.now id.now }
 {
     ids.len() > 0 && ids.contains(id)
 }
 
-/// Whether a record stays where these ids are withdrawn. A withdrawal itself doesn't.
+/// Whether a record stays if these ids are withdrawn. A withdrawal itself doesn't.
 pub(crate) fn stays(withdrawn: &Kinds<'_>, one: &Record<'_>) -> bool
     ensures { result ≡ stays_after withdrawn.now (record_seen one.now) }
 {
@@ -115,7 +115,7 @@ pub(crate) fn stays(withdrawn: &Kinds<'_>, one: &Record<'_>) -> bool
     }
 }
 
-/// Takes those records out that don't stay where these ids are withdrawn.
+/// Takes those records out that don't stay if these ids are withdrawn.
 pub(crate) fn retain_staying(withdrawn: &Kinds<'_>, records: &mut Vec<Record<'_>>)
     ensures { all_seen records.new.items
         ≡ filter (stays_after withdrawn.now) (all_seen records.old.items) }
@@ -148,7 +148,7 @@ fn program_numbers(
     Ok(numbers)
 }
 
-/// Adds the next number, where an applicant stays, or that it has none.
+/// Adds the next number if an applicant stays, or else that it has none.
 fn push_number(
     numbers: &mut Vec<Option<AppNo>>,
     next: &mut u32,

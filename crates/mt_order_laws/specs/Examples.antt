@@ -8,7 +8,7 @@ use Rattle.mt_order_laws.specs.Orders.{order_of, first_order}
 use Rattle.mt_order_laws.specs.Aside.{entering_at_end, market_of_others, aside_in_turn}
 
 -- The first orders of five couples. In the market of three couples the third one's entry makes the others begin again.
--- If it enters first, three rounds are enough where the order of registration needs five.
+-- If it enters first, three rounds are enough, and the order of registration needs five.
 pub record OrdersInExamples : Type 0 where
   pub first : order_of 1 5 ≡ 0 ∷ 1 ∷ 2 ∷ 3 ∷ 4 ∷ []
   pub second : order_of 2 5 ≡ 3 ∷ 1 ∷ 4 ∷ 0 ∷ 2 ∷ []

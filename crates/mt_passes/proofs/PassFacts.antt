@@ -64,7 +64,7 @@ few_more rules before r bound few =
       entries = not_above _ _ _ bound.entries p.1;
     }
 
--- a row is read, where it has a field
+-- a row is read, if it has a field
 pub reads_row : {Y : Type 0} (rules : Rules) (old new : Register) (n : ℕ) (row : List Bytes) (result : Result Y FirstFault)
     → (length row ≡ 0 → ⊥) → Reads rules old new (n, row) result → ReadsRow rules old new n row result
 reads_row rules old new n [] result some r = absurd (some refl)
@@ -72,12 +72,12 @@ reads_row rules old new n (word ∷ fields) (Ok y) some r = (r.0, λ rest. r.1 (
 reads_row rules old new n (word ∷ fields) (Err (refusals.Fault f)) some r = λ rest. r (numbered_from (n + 1) rest)
 reads_row rules old new n (word ∷ fields) (Err refusals.Memory) some r = λ rest. tt
 
--- and passed over, where it has none
+-- and passed over, if it has none
 pub skips_row : {Y : Type 0} (rules : Rules) (old : Register) (n : ℕ) (row : List Bytes) (y : Y) → length row ≡ 0 → IsRegister old → ReadsRow rules old old n row (Ok y)
 skips_row rules old n [] y none r = (r, λ rest. refl)
 skips_row rules old n (word ∷ fields) y none r = absurd (omega (arith, none))
 
--- the pass ends where a row is refused
+-- the pass ends if a row is refused
 pub pass_ends : (e : FirstFault) (here whole : Result (List (Numbered Record)) Fault) → Refuses e here → here ≡ whole → Refuses e whole
 pass_ends (refusals.Fault f) here whole r h = sym h ∙ r
 pass_ends refusals.Memory here whole r h = tt

@@ -50,7 +50,7 @@ counted_more counts start xs i x inv h at w a v =
           omega (arith, inv a within, get_or-set_other counts x a (get_or counts x 0 + 1) 0 ne, count_elsewhere xs i a h (λ e. ne (sym e ∙ sym (get_or_read xs i x h at 0))))
     ]
 
--- the number of a list's elements that equal a is one at most where they are distinct
+-- the number of a list's elements that equal a is one at most if they are distinct
 no_more : (xs : List ℕ) (a : ℕ) → has xs a ≡ false → count (λ x. eqb x a) xs ≡ 0
 no_more [] a h = refl
 no_more (x ∷ xs) a h =

@@ -28,7 +28,7 @@ rankings_distinct m w p = rw (ranking_at m p) (w.rankings_distinct p)
 pub rank_among-own : (m : Market) (a p : ℕ) → rank_among (own_entries m a) p ≡ rank_of m p a
 rank_among-own m a p = rank_among-entries (rankings_of m) a p ∙ ap (position (λ x. x == a)) (ranking_at m p)
 
--- one program more, where the rest is known
+-- one program more, if the rest is known
 found_more : (m : Market) (a p : ℕ) (ps : List ℕ) (o : Option ℕ) → rank_of m p a ≡ o
     → entries_among (own_entries m a) ps ≡ map (ranked_entry m a) (filter (λ q. has (program_of m q).ranking a) ps)
     → entries_among (own_entries m a) (p ∷ ps) ≡ map (ranked_entry m a) (filter (λ q. has (program_of m q).ranking a) (p ∷ ps))

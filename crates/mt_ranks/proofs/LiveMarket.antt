@@ -1,4 +1,4 @@
--- The rank tables of a well-formed market are ranked, where the market is as small as an input may be.
+-- The rank tables of a well-formed market are ranked, if the market is as small as an input may be.
 use Rattle.std.proofs.Common.{◌≡◌, ◌==◌, ℕ, suc, ◌+◌, ◌^◌, ◌<◌, ◌≤◌, List, [], ◌∷◌, true, false, Option, Some, None, eqb, map, filter, length, get_or, unwrap_or, refl, sym, ap, ◌∙◌, inl, inr, arith}
 use Rattle.std.specs.Option.{is_some}
 use Rattle.std.specs.List.{position}

@@ -91,7 +91,7 @@ has-position_from i (x ∷ xs) a =
       | inr other ↦ rw other (has-position_from (i + 1) xs a)
     ]
 
--- a list has a number exactly where the number has a position on it
+-- a list has a number if and only if the number has a position on it
 pub has-position : (xs : List ℕ) (a : ℕ) → has xs a ≡ is_some (position (λ x. x == a) xs)
 has-position xs a = has-position_from 0 xs a ∙ ap is_some (sym (position_from-zero (λ x. eqb x a) xs))
 

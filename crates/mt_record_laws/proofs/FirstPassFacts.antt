@@ -9,7 +9,7 @@ use Rattle.mt_terms.specs.Registration.Faults.{RecordFault, record_fault}
 use Rattle.mt_terms.specs.Registration.Records.{Record}
 use Rattle.mt_terms.specs.Registration.Passes.{Numbered, contents, first_of, unless}
 
--- a record is taken where no id is registered before, nothing is said twice, and no limit is passed
+-- a record is taken if no id is registered before, nothing is said twice, and no limit is passed
 pub kept_parts : (o : Option Bytes) (s t : Bool) (c d : RecordFault) (q r : Record)
     → unless (first_of (option_map (record_fault DUPLICATE_ID) o ∷ then_some s c ∷ then_some t d ∷ [])) q ≡ Ok r
     → (q ≡ r) × (o ≡ None) × (s ≡ false) × (t ≡ false)
@@ -18,7 +18,7 @@ kept_parts None true t c d q r h = cc
 kept_parts None false true c d q r h = cc
 kept_parts None false false c d q r h = (cc, refl, refl, refl)
 
--- where a test that gives an id gives none, it is false
+-- if a test that gives an id gives none, it is false
 pub not_found : (b : Bool) (x : Bytes) → cond b (Some x) None ≡ None → b ≡ false
 not_found true x h = cc
 not_found false x h = refl

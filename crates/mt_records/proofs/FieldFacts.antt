@@ -17,7 +17,7 @@ length-by_twos (x ∷ y ∷ xs) = omega (arith, length-by_twos xs)
 pub places_long : (xs : List Bytes) → length (map pair_of (by_twos xs)) ≡ length xs / 2
 places_long xs = length-map (by_twos xs) pair_of ∙ length-by_twos xs
 
--- two by two where their number is even, and else not
+-- two by two if their number is even, and else not
 abbrev ByParity : List Bytes → Type 0
 ByParity xs = (length xs % 2 ≡ 0 → two_by_two xs ≡ Some (by_twos xs)) × (length xs % 2 ≡ 1 → two_by_two xs ≡ None)
 
@@ -42,7 +42,7 @@ module _ (rules : Rules) (id a b : Bytes) (fields : List Bytes) where
         → couple_by_pairs rules id a b (two_by_two fields) ≡ Err (record_fault_alone BAD_ID)
     couple_is_refused bad = ap (couple_by_pairs rules id a b) ((two_by_two-by_twos fields).0 h) ∙ rw bad refl
 
--- both of two tests don't pass where one of them fails
+-- both of two tests don't pass if one of them fails
 pub left_fails : (b c : Bool) → b ≡ false → (b && c) ≡ false
 left_fails true c h = cc
 left_fails false c h = refl

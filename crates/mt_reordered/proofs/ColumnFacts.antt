@@ -20,6 +20,6 @@ by_number d xs =
     ext_get_or d (map (λ k. get_or xs k d) (below (length xs))) xs long
     (λ k l. let here : k < length xs = omega (arith, long) in map_below_at (λ k. get_or xs k d) (length xs) k d here)
 
--- the same of so many rows as there are
+-- the same of as many rows as there are
 pub rows_are : {X : Type 0} (d : X) (xs rows : List X) (n : ℕ) → rows ≡ map (λ k. get_or xs k d) (below n) → n ≡ length xs → rows ≡ xs
 rows_are d xs rows n is many = is ∙ ap (λ j. map (λ k. get_or xs k d) (below j)) many ∙ by_number d xs

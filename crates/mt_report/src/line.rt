@@ -16,7 +16,7 @@ pub fn write_line(buffer: &mut [u8], first: &[u8], fields: &[&[u8]]) -> usize
     put(buffer, end, b"\n")
 }
 
-// Writes bytes at a place of a buffer, where there is room for them. It gives the place after them.
+// Writes bytes at a place of a buffer, which has room for them. It gives the place after them.
 fn put(buffer: &mut [u8], at: usize, bytes: &[u8]) -> usize
     requires { at + length bytes.now ≤ length buffer.old }
     ensures end { result ≡ at + length bytes.now }

@@ -26,7 +26,7 @@ contents-with_fields n [] = refl
 contents-with_fields n ([] ∷ rows) = contents-with_fields (n + 1) rows
 contents-with_fields n ((word ∷ fields) ∷ rows) = ap (λ (rs : List (List Bytes)). (word ∷ fields) ∷ rs) (contents-with_fields (n + 1) rows)
 
--- by the rules of a version the market is that of rows without a fault, where they have none, and else there is a fault
+-- by the rules of a version the market is that of rows without a fault, if they have none, and else there is a fault
 module _ (rules : Rules) (n : ℕ) (rows : List (List Bytes)) where
   same_rows : faultless_market rules (contents (numbered_from n rows)) ≡ faultless_market rules (with_fields rows)
   same_rows = ap (faultless_market rules) (contents-with_fields n rows)
@@ -70,7 +70,7 @@ module _ (rules : Rules) (rest : List (Numbered (List Bytes))) where
   limits_there [] h = cc
   limits_there (row ∷ rows) h = bounded row.1 rules (of_version rows (rules_of row.1) row.0 h).0
 
--- where no record names a version there is no market
+-- if no record names a version there is no market
 pub no_version : (records : List (Numbered (List Bytes))) (n : ℕ) → body_in records ≡ Err n
     → market_of_numbered records ≡ Err (fault_at n (record_fault_alone NO_VERSION))
 no_version [] n h = ap (λ (k : ℕ). Err (fault_at k (record_fault_alone NO_VERSION))) cc

@@ -80,7 +80,7 @@ pub fn roster<R: Threads + Sync>(
 }
 
 /// The market of a file's records, if they have no fault. The error is want of memory. Records are as those of
-/// `roster`, which finds the first fault too and takes longer where there is one.
+/// `roster`, which finds the first fault too and takes longer if there is one.
 pub fn faultless_roster<R: Threads + Sync>(
     rt: &R,
     alloc: Global,

@@ -81,7 +81,7 @@ fitting_facts m wf places h = record { one_each = one_each; own = own; listed = 
       | inr past ↦ rw (program_past m p past) (omega arith)
     ]
 
--- where an applicant is placed its program lists it
+-- if an applicant is placed its program lists it
 listed_place : (m : Market) (places : Places) → IsFitting m places → (a : ℕ) (v : Option ℕ) → place_of places a ≡ v → is_listed m a v ≡ true
 listed_place m places f a None e = refl
 listed_place m places f a (Some p) e = f.listed a p (at_some places p a e)
@@ -102,7 +102,7 @@ fits_from m wf places f =
         let few = f.within p in
         le-leb (filled places p) (program_of m p).quota (omega arith)
 
--- an option is held alike where the agent's members have the same places
+-- an option is held alike if the agent's members have the same places
 same_holds : (m : Market) (P Q : Places) (g : Agent) → ((a : ℕ) → has (members m g) a ≡ true → place_of P a ≡ place_of Q a)
     → (o : Placement) → In o (options m g) → holds P o ≡ holds Q o
 same_holds m P Q g h o i = holds_same P Q o (λ a j. h a (subst (λ xs. has xs a ≡ true) (option_movers m g o i) j))

@@ -51,7 +51,7 @@ found_first {X} p x (y ∷ xs) e = elim (cases_Bool (p y)) [ inl t ↦ here t | 
     later : In x xs × (p x ≡ true) → In x (y ∷ xs) × (p x ≡ true)
     later w = (inr w.0, w.1)
 
--- where nothing is found nothing passes
+-- if nothing is found nothing passes
 pub found_none : {X : Type 0} (p : X → Bool) (xs : List X) → find p xs ≡ None → list_any p xs ≡ false
 found_none p [] e = refl
 found_none {X} p (y ∷ xs) e = elim (cases_Bool (p y)) [
@@ -64,11 +64,11 @@ no_place : (v : Option ℕ) → not (is_some v) ≡ true → v ≡ None
 no_place None h = refl
 no_place (Some p) h = absurd (false≢true h)
 
--- where none of a list is placed, each is unplaced
+-- if none of a list is placed, each is unplaced
 pub is_unplaced : (places : Places) (xs : List ℕ) (a : ℕ) → none_placed places xs ≡ true → has xs a ≡ true → place_of places a ≡ None
 is_unplaced places xs a h i = no_place (place_of places a) (each _ a xs h (has_in a xs i))
 
--- where each of a list is unplaced, none of it is placed
+-- if each of a list is unplaced, none of it is placed
 pub are_unplaced : (places : Places) (xs : List ℕ) → ((a : ℕ) → has xs a ≡ true → place_of places a ≡ None) → none_placed places xs ≡ true
 are_unplaced places xs h = all_pass _ xs (λ a i. rw (h a (in_has a xs i)) refl)
 
@@ -77,7 +77,7 @@ not_mover : (k : ℕ) (g h : Agent) → has_entered k g ≡ true → has_entered
 not_mover k g h entered out = false_from_ne_true (is_same_agent h g) (λ same.
     both_ways (has_entered k h) out (ap (has_entered k) (same_agent h g same) ∙ entered))
 
--- the agent that moved, where it blocks
+-- the agent that moved, if it blocks
 abbrev mover_again : Market → Places → Agent → Placement → List Agent
 mover_again m old g sent = if blocks m (match_after m old sent) g then (g ∷ []) else []
 
@@ -89,7 +89,7 @@ reopened m k old sent = flat_map (blocking_on_list m k (match_after m old sent))
 abbrev looked_at : Market → ℕ → Places → Agent → Placement → List Agent
 looked_at m k old g sent = rechecked m k g sent (move_of m old sent)
 
--- the agent of an applicant of a left program's list is looked at where it has entered and blocks
+-- the agent of an applicant of a left program's list is looked at if it has entered and blocks
 in_reopened : (m : Market) (k : ℕ) (old : Places) (sent : Placement) (p a : ℕ) → is_left m (move_of m old sent) p ≡ true
     → has (program_of m p).ranking a ≡ true → has_entered k (agent_of m a) ≡ true → blocks m (match_after m old sent) (agent_of m a) ≡ true
     → In (agent_of m a) (reopened m k old sent)
@@ -183,7 +183,7 @@ module _ {m : Market} {old : Places} {g : Agent} {sent : Placement} (mv : IsMove
       unseen (subst (λ x. In x (reopened m k old sent)) is
       (in_reopened m k old sent by.program b by.at_opened listed (ap (has_entered k) is ∙ entered) (ap (blocks m (match_after m old sent)) is ∙ blocking))))
 
-  -- Where no entered agent blocked that was not on the list, none does that is on it neither before nor now.
+  -- If no entered agent blocked that was not on the list, none does that is on it neither before nor now.
   pub quiet_after : (k : ℕ) (ws : List Agent)
       → ((h : Agent) → is_on (agents m) h ≡ true → has_entered k h ≡ true → is_on (g ∷ ws) h ≡ false → blocks m old h ≡ false)
       → (h : Agent) → IsAgent m h → has_entered k h ≡ true → is_on ws h ≡ false → (In h (looked_at m k old g sent) → ⊥)

@@ -22,18 +22,18 @@ finds p x [] h e = absurd h
 finds p x (y ∷ ys) (inl same) e = or_left (p y) (list_any p ys) (ap p same ∙ e)
 finds p x (y ∷ ys) (inr h) e = or_right (p y) (list_any p ys) (finds p x ys h e)
 
--- where every element passes, each does
+-- if every element passes, each does
 pub each : {X : Type 0} (p : X → Bool) (x : X) (xs : List X) → list_all p xs ≡ true → In x xs → p x ≡ true
 each p x [] h i = absurd i
 each p x (y ∷ ys) h (inl same) = ap p (sym same) ∙ (and_parts (p y) (list_all p ys) h).0
 each p x (y ∷ ys) h (inr i) = each p x ys (and_parts (p y) (list_all p ys) h).1 i
 
--- where each element passes, every element does
+-- if each element passes, every element does
 pub all_pass : {X : Type 0} (p : X → Bool) (xs : List X) → ((x : X) → In x xs → p x ≡ true) → list_all p xs ≡ true
 all_pass p [] h = refl
 all_pass p (x ∷ xs) h = and_from (p x) (list_all p xs) (h x (inl refl)) (all_pass p xs (λ y i. h y (inr i)))
 
--- where not every element passes, one fails
+-- if not every element passes, one fails
 pub fails_at : {X : Type 0} (p : X → Bool) (xs : List X) → list_all p xs ≡ false → (x : X) × In x xs × (p x ≡ false)
 fails_at p [] h = absurd (false≢true (sym h))
 fails_at {X} p (x ∷ xs) h =

@@ -1,4 +1,4 @@
--- What a round does to the match: an agent takes an option that would be taken, and whoever is displaced goes.
+-- What a round does to the match: an agent takes an option that would be taken, and each agent that it displaces goes.
 use Rattle.std.proofs.Common.{◌≡◌, ℕ, ◌≤◌, Bool, true, false, not, List, [], ◌∷◌, map, filter, Option, Some, None, ◌⊎◌, inl, inr, refl, ap, sym, ◌∙◌, arith, subst, flat_map}
 use Rattle.std.specs.List.{list_any}
 use Rattle.std.proofs.lemmas.Bool.{cases_Bool, and_parts, and_from, or_left, or_right, true_from_ne_false, false_from_ne_true, not-true, not_from_false, both_ways}

@@ -34,7 +34,7 @@ pub length-send : (sent : Placement) (places : Places) → length (send sent pla
 length-send [] places = refl
 length-send (s ∷ sent) places = length-send sent (slice_set places s.0 s.1) ∙ length-set places s.0 s.1
 
--- also where some are taken out
+-- also if some are taken out
 pub length-unplaced : (xs : List ℕ) (places : Places) → length (unplaced xs places) ≡ length places
 length-unplaced [] places = refl
 length-unplaced (x ∷ xs) places = length-unplaced xs (slice_set places x None) ∙ length-set places x None
@@ -108,7 +108,7 @@ pub is_same_place_refl : (v : Option ℕ) → is_same_place v v ≡ true
 is_same_place_refl None = refl
 is_same_place_refl (Some p) = eq-eqb p p refl
 
--- where everybody at a program is on a list, as many are there as of that list
+-- if everybody at a program is on a list, as many are there as of that list
 pub filled_is_count : (xs : List ℕ) (places : Places) (p : ℕ) → is_distinct xs ≡ true → ((a : ℕ) → has xs a ≡ true → a < length places)
     → ((a : ℕ) → at places p a ≡ true → has xs a ≡ true) → filled places p ≡ count (at places p) xs
 filled_is_count xs places p d within on_list =

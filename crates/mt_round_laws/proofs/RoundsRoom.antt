@@ -61,7 +61,7 @@ module _ {m : Market} {old : Places} {g : Agent} {sent : Placement} (mv : IsMove
   ]
 
   -- At a program that nobody left, an agent that neither moved nor was displaced would be taken after the move
-  -- only where it would have been taken before.
+  -- only if it would have been taken before.
   pub taken_before : (h : Agent) → IsAgent m h → is_displaced m old sent h ≡ false → is_same_agent h g ≡ false
       → (o : Placement) → In o (options m h) → (b p : ℕ) → In (b, Some p) o
       → is_left m (move_of m old sent) p ≡ false

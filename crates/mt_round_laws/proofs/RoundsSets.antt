@@ -25,7 +25,7 @@ count_within s t (x ∷ xs) h =
     let head = h x (has_head x xs) in
     grind (arith, rest, head)
 
--- Where each of the old who is gone was refused of those who would be there, and whoever is chosen of them is
+-- If each of the old who is gone was refused of those who would be there, and each that is chosen of them is
 -- there now, no fewer stand above anybody than before.
 pub no_fewer_above : (p : Program) (old would new : Set) → is_distinct p.ranking ≡ true → count old p.ranking ≤ p.quota
     → ((a : ℕ) → old a ≡ true → new a ≡ false → (would a ≡ true) × (choice p would a ≡ false)) → ((a : ℕ) → choice p would a ≡ true → new a ≡ true)

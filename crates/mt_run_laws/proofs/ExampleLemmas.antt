@@ -24,7 +24,7 @@ none_better (suc (suc a)) p h = cc
 first_wishes : IsBest crossed (Some 0 ∷ Some 1 ∷ [])
 first_wishes = record { is_stable = refl; none_better = none_better }
 
--- the texts of the two matches differ where the first applicant's place is told
+-- the texts of the two matches differ at the first applicant's place
 texts_differ : (received other : List ℕ)
     → published crossed crossed_file.names (Some 1 ∷ Some 0 ∷ []) received ≡ published crossed crossed_file.names (Some 0 ∷ Some 1 ∷ []) other → ⊥
 texts_differ received other e = true≢false (ap (λ (text : List ℕ). slice_index_or text 32 0 == 50) e)

@@ -20,7 +20,7 @@ choice_facts p set a h =
     let first = and_parts (has p.ranking a) (set a) parts.0 in
     record { is_listed = first.0; is_member = first.1; has_few_above = ltb-true _ _ parts.1 }
 
--- the test of a choice passes where those facts hold
+-- the test of a choice passes if those facts hold
 pub choice_from_facts : (p : Program) (set : Set) (a : ℕ) → IsChosenFrom p set a → IsTrue (choice p set a)
 choice_from_facts p set a h = and_from _ _ (and_from _ _ h.is_listed h.is_member) (lt-ltb _ _ h.has_few_above)
 

@@ -47,7 +47,7 @@ has_better m places facts b p on_list chosen not_there =
     let r = passes_before (λ q. at places q b) (list_of m b) p on_list not_better not_there in
     (r.0, r.1, until-filter (λ q. has (program_of m q).ranking b) (list_of m b) p r.0 r.2 (facts.listed b r.0 r.1))
 
--- Where quota or more of a set are above an applicant that is at the program in a stable match, one of the
+-- If quota or more of a set are above an applicant that is at the program in a stable match, one of the
 -- set isn't there and would be chosen: fewer of those there are above the applicant.
 pub record LeftOut (m : Market) (places : Places) (p : ℕ) (set : Set) : Type 0 where
   pub single : ℕ
@@ -86,7 +86,7 @@ exclusion_by_quota_lem m well p set on_lists rest_excluded a full places is_stab
     let r = has_better m places facts left.single p (on_lists left.single left.is_member) left.is_chosen left.is_elsewhere in
     both_ways _ (rest_excluded left.single r.0 left.is_member r.2 places is_stable) r.1
 
--- of such a set, whoever isn't chosen is excluded: it isn't listed, or has quota or more of the set above it
+-- of such a set, an applicant that isn't chosen is excluded: it isn't listed, or has quota or more of the set above it
 pub exclusion_lem : Exclusion
 exclusion_lem m well p set on_lists rest_excluded a in_set not_chosen places is_stable = elim (cases_lt (above set (program_of m p).ranking a) (program_of m p).quota) [
   | inl few ↦ false_from_ne_true _ (λ there. both_ways _ not_chosen (choice_from_facts (program_of m p) set a (record {

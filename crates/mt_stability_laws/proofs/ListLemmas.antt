@@ -9,13 +9,13 @@ use Rattle.mt_terms.proofs.ListFacts.{with_one-other}
 use Rattle.mt_terms.proofs.AgentFacts.{eqb_sym}
 pub use Rattle.mt_terms.proofs.ListFacts.{count_agree}
 
--- all numbers of a range pass where each of them does
+-- all numbers of a range pass if each of them does
 all_in_range : (test : Set) (a n : ℕ) → ((k : ℕ) → a ≤ k → k < a + n → IsTrue (test k)) → IsTrue (list_all test (range_with_len a n))
 all_in_range test a zero h = refl
 all_in_range test a (suc n) h =
     and_from _ _ (h a (omega arith) (omega arith)) (all_in_range test (a + 1) n (λ k low high. h k (omega arith) (omega arith)))
 
--- each number of a range passes where all of it does
+-- each number of a range passes if all of it does
 each_in_range : (test : Set) (a n : ℕ) → IsTrue (list_all test (range_with_len a n)) → (k : ℕ) → a ≤ k → k < a + n → IsTrue (test k)
 each_in_range test a zero h k low high = absurd (omega arith)
 each_in_range test a (suc n) h k low high =
@@ -25,11 +25,11 @@ each_in_range test a (suc n) h k low high =
       | inr later ↦ each_in_range test (a + 1) n parts.1 k (omega arith) (omega arith)
     ]
 
--- all numbers below n pass where each of them does
+-- all numbers below n pass if each of them does
 pub all_below : (test : Set) (n : ℕ) → ((k : ℕ) → k < n → IsTrue (test k)) → IsTrue (list_all test (below n))
 all_below test n h = all_in_range test 0 n (λ k low high. h k (omega arith))
 
--- each number below n passes where all of them do
+-- each number below n passes if all of them do
 pub each_below : (test : Set) (n : ℕ) → IsTrue (list_all test (below n)) → (k : ℕ) → k < n → IsTrue (test k)
 each_below test n h k k_below = each_in_range test 0 n h k (omega arith) (omega arith)
 
@@ -45,33 +45,33 @@ pub list_any-not : {X : Type 0} (test : X → Bool) (xs : List X) → list_any t
 list_any-not test [] = refl
 list_any-not test (x ∷ xs) = grind (arith, list_any-not test xs)
 
--- none of the numbers below n passes where each of them fails
+-- none of the numbers below n passes if each of them fails
 pub none_below : (test : Set) (n : ℕ) → ((k : ℕ) → k < n → IsFalse (test k)) → IsFalse (list_any test (below n))
 none_below test n h =
     list_any-not test (below n)
     ∙ not_from_true _ (all_below (λ k. not (test k)) n (λ k k_below. not_from_false _ (h k k_below)))
 
--- each number below n fails where none of them passes
+-- each number below n fails if none of them passes
 pub each_fails_below : (test : Set) (n : ℕ) → IsFalse (list_any test (below n)) → (k : ℕ) → k < n → IsFalse (test k)
 each_fails_below test n h k k_below =
     not-true _ (each_below (λ i. not (test i)) n (not-false _ (sym (list_any-not test (below n)) ∙ h)) k k_below)
 
--- whoever is on a list passes where all of the list pass
+-- a number on a list passes if all of the list pass
 pub each_has : (test : Set) (xs : List ℕ) (a : ℕ) → IsTrue (list_all test xs) → IsTrue (has xs a) → IsTrue (test a)
 each_has test [] a all on = absurd (both_ways false refl on)
 each_has test (x ∷ xs) a all on = grind (arith, nat_tests, each_has test xs a)
 
--- all of a list pass where whoever is on it does
+-- all of a list pass if each number on it does
 pub all_from_has : (test : Set) (xs : List ℕ) → ((a : ℕ) → IsTrue (has xs a) → IsTrue (test a)) → IsTrue (list_all test xs)
 all_from_has test [] h = refl
 all_from_has test (x ∷ xs) h = and_from _ _ (h x (or_left _ _ (eq-eqb x x refl))) (all_from_has test xs (λ a on. h a (or_right _ _ on)))
 
--- nobody on a list passes where none of the list does
+-- nobody on a list passes if none of the list does
 pub none_has : (test : Set) (xs : List ℕ) (a : ℕ) → IsFalse (list_any test xs) → IsTrue (has xs a) → IsFalse (test a)
 none_has test [] a none on = absurd (both_ways false refl on)
 none_has test (x ∷ xs) a none on = grind (arith, nat_tests, none_has test xs a)
 
--- none of a list passes where nobody on it does
+-- none of a list passes if nobody on it does
 pub none_from_each : (test : Set) (xs : List ℕ) → ((a : ℕ) → IsTrue (has xs a) → IsFalse (test a)) → IsFalse (list_any test xs)
 none_from_each test [] h = refl
 none_from_each test (x ∷ xs) h = or_from _ _ (h x (grind (arith, nat_tests))) (none_from_each test xs (λ a on. h a (or_right _ _ on)))
@@ -111,7 +111,7 @@ pub count_has : (set : Set) (xs : List ℕ) (b : ℕ) → IsTrue (has xs b) → 
 count_has set [] b on in_set = absurd (both_ways false refl on)
 count_has set (x ∷ xs) b on in_set = grind (arith, nat_tests, count_has set xs b)
 
--- where a list has fewer of t than of s, some member of s on it is not of t
+-- if a list has fewer of t than of s, some member of s on it is not of t
 pub one_not_of : (s t : Set) (xs : List ℕ) → count t xs < count s xs → (b : ℕ) × IsTrue (has xs b) × IsTrue (s b) × IsFalse (t b)
 one_not_of s t [] fewer = absurd (omega arith)
 one_not_of s t (x ∷ xs) fewer =
@@ -135,7 +135,7 @@ pub until-itself : (xs : List ℕ) (a : ℕ) → IsFalse (has (until (λ x. x ==
 until-itself [] a = refl
 until-itself (x ∷ xs) a = grind (arith, nat_tests, until-itself xs a)
 
--- whoever stands above another one has no more above it
+-- a number above another one has no more above it
 pub above-le : (set : Set) (xs : List ℕ) (a b : ℕ) → IsTrue (has (until (λ x. x == a) xs) b) → above set xs b ≤ above set xs a
 above-le set [] a b higher = omega arith
 above-le set (x ∷ xs) a b higher = grind (arith, nat_tests, above-le set xs a b)
@@ -151,7 +151,7 @@ pub one_higher : (xs : List ℕ) (a b : ℕ) → a ≢ b → IsTrue (has xs a) �
 one_higher [] a b apart on_a on_b = absurd (both_ways false refl on_a)
 one_higher (x ∷ xs) a b apart on_a on_b = grind (arith, nat_tests, one_higher xs a b)
 
--- where nobody passes, all of a list stands before the first that does
+-- if nobody passes, all of a list stands before the first that does
 pub until_nobody : (xs : List ℕ) → until (λ x. false) xs ≡ xs
 until_nobody [] = refl
 until_nobody (x ∷ xs) = ap (λ ys. x ∷ ys) (until_nobody xs)
@@ -173,7 +173,7 @@ until-filter test (x ∷ xs) p q on passes = elim (cases_Bool (test x)) [
 until_later : (xs : List ℕ) (x p q : ℕ) → IsFalse (x == p) → IsTrue (has (until (λ y. y == p) xs) q) → IsTrue (has (until (λ y. y == p) (x ∷ xs)) q)
 until_later xs x p q other higher = rw other (or_right _ _ higher)
 
--- where an element of a list isn't before the first that passes, and doesn't pass, one before it does
+-- if an element of a list isn't before the first that passes, and doesn't pass, one before it does
 pub passes_before : (test : Set) (xs : List ℕ) (p : ℕ) → IsTrue (has xs p) → IsFalse (has (until test xs) p) → IsFalse (test p)
     → (q : ℕ) × IsTrue (test q) × IsTrue (has (until (λ x. x == p) xs) q)
 passes_before test [] p on none fails = absurd (both_ways false refl on)
@@ -194,7 +194,7 @@ above-with_one set xs b =
     count_agree (with_one set b) set (until (λ x. x == b) xs)
     (λ c higher. with_one-other set b c (λ same. both_ways _ (until-itself xs b) (subst (λ (d : ℕ). IsTrue (has (until (λ x. x == b) xs) d)) same higher)))
 
--- one less passes where one that does is replaced by one that doesn't
+-- one less passes if one that does is replaced by one that doesn't
 pub count-slice_set : {X : Type 0} (test : X → Bool) (xs : List X) (i : ℕ) (y d : X) → i < length xs → IsTrue (test (slice_index_or xs i d)) → IsFalse (test y)
     → count test (slice_set xs i y) + 1 ≡ count test xs
 count-slice_set test [] i y d i_in was isn't = absurd (omega arith)

@@ -63,7 +63,7 @@ not_head x xs a d h =
 split_members : (set rest : Set) (x a : ℕ) → (((x == a) || rest a) && set a) ≡ (((x == a) && set a) || (rest a && set a))
 split_members set rest x a = grind (arith, nat_tests)
 
--- a number counts once where it is in the set
+-- a number counts once if it is in the set
 count_below-at : (set : Set) (x n : ℕ) → x < n → count_below (λ a. (x == a) && set a) n ≡ one_in set x
 count_below-at set x n l =
     elim (cases_Bool (set x)) [

@@ -24,20 +24,20 @@ use Rattle.mt_stability_laws.proofs.TakenLemmas.{single_taken_lem}
 pub agents-singles_market : (m : Market) → agents (singles_market m) ≡ map Single (below (applicants m))
 agents-singles_market m = ap (map Single) (filter_all (below (applicants m)))
 
--- a test of all agents, where every applicant is an agent
+-- a test of all agents, if every applicant is an agent
 list_all-agents : (m : Market) (test : Agent → Bool) → list_all test (agents (singles_market m)) ≡ list_all (λ a. test (Single a)) (below (applicants m))
 list_all-agents m test = ap (list_all test) (agents-singles_market m) ∙ list_all-map test Single (below (applicants m))
 
--- a test of some agent, where every applicant is an agent
+-- a test of some agent, if every applicant is an agent
 list_any-agents : (m : Market) (test : Agent → Bool) → list_any test (agents (singles_market m)) ≡ list_any (λ a. test (Single a)) (below (applicants m))
 list_any-agents m test = ap (list_any test) (agents-singles_market m) ∙ list_any-map test Single (below (applicants m))
 
--- a single has an option where it is at the option's program
+-- a single has an option if it is at the option's program
 holds-single_placement_at : (places : Places) (a p : ℕ) (place : Option ℕ) → (is_same_place place (Some p) && true) ≡ is_program p place
 holds-single_placement_at places a p None = refl
 holds-single_placement_at places a p (Some q) = grind (arith, nat_tests)
 
--- a single's options hold where it is at their programs
+-- a single's options hold if it is at their programs
 holds-single_placement : (places : Places) (a : ℕ) → ◌≡◌ {A = Set} (λ p. holds places (single_placement a p)) (λ p. at places p a)
 holds-single_placement places a = fun_ext λ p. holds-single_placement_at places a p (place_of places a)
 
@@ -54,14 +54,14 @@ blocks-Single m places a a_in =
     ∙ list_any-map (would_be_taken (singles_market m) places) (single_placement a) (better_programs m places a)
     ∙ ap (λ test. list_any test (better_programs m places a)) (fun_ext λ p. single_taken_lem (singles_market m) places a p a_in)
 
--- a single has an option of its own where it is nowhere, or at a program of its list
+-- a single has an option of its own if it is nowhere, or at a program of its list
 has_own_option-Single : (m : Market) (places : Places) (a : ℕ)
     → has_own_option (singles_market m) places (Single a) ≡ (list_any (λ p. at places p a) (list_of m a) || none_placed places (a ∷ []))
 has_own_option-Single m places a =
     ap (λ b. b || none_placed places (a ∷ []))
     (list_any-map (holds places) (single_placement a) (list_of m a) ∙ ap (λ test. list_any test (list_of m a)) (holds-single_placement places a))
 
--- where such an option is asked for, a placed single's program is on its list
+-- if such an option is asked for, a placed single's program is on its list
 own_option_has : (xs : List ℕ) (p : ℕ) (place : Option ℕ) → IsTrue (list_any (λ q. is_program q place) xs || (not (is_some place) && true))
     → IsTrue (is_program p place) → IsTrue (has xs p)
 own_option_has xs p None own there = absurd (both_ways false refl there)
@@ -89,7 +89,7 @@ listed_at : (m : Market) (a p : ℕ) (place : Option ℕ) → IsTrue (is_listed 
 listed_at m a p None listed there = absurd (both_ways false refl there)
 listed_at m a p (Some q) listed there = subst (λ (r : ℕ). IsTrue (has (program_of m r).ranking a)) (eqb-true q p there) listed
 
--- a single's place is listed where its program lists it
+-- a single's place is listed if its program lists it
 is_listed_from : (m : Market) (a : ℕ) (place : Option ℕ) → ((p : ℕ) → IsTrue (is_program p place) → IsTrue (has (program_of m p).ranking a))
     → IsTrue (is_listed (singles_market m) a place)
 is_listed_from m a None h = refl

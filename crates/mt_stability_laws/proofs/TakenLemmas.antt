@@ -27,7 +27,7 @@ at_moved places a p b place a_in = elim (cases_eq b a) [
   | inr other ↦ rw (ne_eqb b a other) (at-slice_set_other places a b p place other)
 ]
 
--- the same where two applicants were moved
+-- the same if two applicants were moved
 at_moved_both : (places : Places) (a b p c : ℕ) (s t : Option ℕ) → a < length places → b < length places
     → at (slice_set (slice_set places a s) b t) p c ≡ (if c == b then is_program p t else (if c == a then is_program p s else at places p c))
 at_moved_both places a b p c s t a_in b_in =
@@ -47,7 +47,7 @@ and-true : (b : Bool) → (b && true) ≡ b
 and-true true = refl
 and-true false = refl
 
--- a single would be taken where the program chooses it from those there and itself
+-- a single would be taken if the program chooses it from those there and itself
 pub single_taken_lem : SingleTaken
 single_taken_lem m places a p a_in = and-true _ ∙ ap (λ (set : Set). choice (program_of m p) set a) (at-slice_set places a p a_in)
 
@@ -56,7 +56,7 @@ at-taken_out : (places : Places) (a b p c : ℕ) → a < length places → b < l
     → at (taken_out places a b) p c ≡ (if c == b then false else (if c == a then false else at places p c))
 at-taken_out places a b p c a_in b_in = at_moved_both places a b p c None None a_in b_in
 
--- who is at the first member's program, the couple taken out first, where the second is sent elsewhere
+-- who is at the first member's program, the couple taken out first, if the second is sent elsewhere
 at_first : (places : Places) (a b p : ℕ) (t : Option ℕ) → a < length places → b < length places → a ≢ b → IsFalse (is_program p t)
     → at (send (couple_placement a b (Some p, t)) places) p ≡ with_one (at (taken_out places a b) p) a
 at_first places a b p t a_in b_in apart elsewhere = fun_ext λ c.
@@ -68,7 +68,7 @@ at_first places a b p t a_in b_in apart elsewhere = fun_ext λ c.
         → (if c == b then is_program p t else (if c == a then p == p else was)) ≡ ((c == a) || (if c == b then false else (if c == a then false else was)))
     tests c was = rw elsewhere (grind (arith, nat_tests))
 
--- who is at the second member's program, the couple taken out first, where the first is sent elsewhere
+-- who is at the second member's program, the couple taken out first, if the first is sent elsewhere
 at_second : (places : Places) (a b p : ℕ) (s : Option ℕ) → a < length places → b < length places → IsFalse (is_program p s)
     → at (send (couple_placement a b (s, Some p)) places) p ≡ with_one (at (taken_out places a b) p) b
 at_second places a b p s a_in b_in elsewhere = fun_ext λ c.
@@ -92,26 +92,26 @@ at_both places a b p a_in b_in = fun_ext λ c.
         → (if c == b then p == p else (if c == a then p == p else was)) ≡ ((c == b) || ((c == a) || (if c == b then false else (if c == a then false else was))))
     tests c was = grind (arith, nat_tests)
 
--- two tests pass together where each does
+-- two tests pass together if each does
 both_tests : (x y u v : Bool) → x ≡ u → y ≡ v → IsTrue (x && (y && true)) ↔ (IsTrue u × IsTrue v)
 both_tests x y u v x_is_u y_is_v =
     rw (x_is_u, y_is_v) ((λ h. let parts = and_parts u (v && true) h in (parts.0, sym (and-true v) ∙ parts.1)), (λ h. and_from u (v && true) h.0 (and-true v ∙ h.1)))
 
--- a couple would be taken at two programs where each chooses its member, the couple taken out first
+-- a couple would be taken at two programs if each chooses its member, the couple taken out first
 pub pair_taken_lem : PairTaken
 pair_taken_lem m places a b x y a_in b_in apart other =
     both_tests _ _ _ _
     (ap (λ (set : Set). choice (program_of m x) set a) (at_first places a b x (Some y) a_in b_in apart (ne_eqb y x (λ same. other (sym same)))))
     (ap (λ (set : Set). choice (program_of m y) set b) (at_second places a b y (Some x) a_in b_in (ne_eqb x y other)))
 
--- a couple would be taken at one program where it chooses both members, the couple taken out first
+-- a couple would be taken at one program if it chooses both members, the couple taken out first
 pub same_program_taken_lem : SameProgramTaken
 same_program_taken_lem m places a b x a_in b_in =
     both_tests _ _ _ _
     (ap (λ (set : Set). choice (program_of m x) set a) (at_both places a b x a_in b_in))
     (ap (λ (set : Set). choice (program_of m x) set b) (at_both places a b x a_in b_in))
 
--- a couple of which one member stays unplaced would be taken where the other one's program chooses it
+-- a couple of which one member stays unplaced would be taken if the other one's program chooses it
 pub first_alone_taken_lem : FirstAloneTaken
 first_alone_taken_lem m places a b x a_in b_in apart =
     and-true _ ∙ ap (λ (set : Set). choice (program_of m x) set a) (at_first places a b x None a_in b_in apart refl)

@@ -16,7 +16,7 @@ all_at test [] k d all at_default = at_default
 all_at test (x ∷ xs) zero d all at_default = (and_parts (test x) (list_all test xs) all).0
 all_at test (x ∷ xs) (suc k) d all at_default = all_at test xs k d (and_parts (test x) (list_all test xs) all).1 at_default
 
--- all elements pass where each does at its index
+-- all elements pass if each does at its index
 all_from_indexes : {X : Type 0} (test : X → Bool) (xs : List X) (d : X) → ((k : ℕ) → IsTrue (test (get_or xs k d))) → IsTrue (list_all test xs)
 all_from_indexes test [] d h = refl
 all_from_indexes test (x ∷ xs) d h = and_from _ _ (h 0) (all_from_indexes test xs d (λ k. h (suc k)))

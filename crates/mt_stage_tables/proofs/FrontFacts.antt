@@ -17,7 +17,7 @@ each_next P xs i x d within read before here j low = elim (cases_lt j i) [
   | inr now ↦ (let e : i ≡ j = omega arith in subst (λ n. P (get_or xs n d)) e (subst P (read ∙ read_any xs i x d within) here))
 ]
 
--- what stands at a place of a list's front stands there on the list
+-- what is at a place of a list's front is at that place of the list
 pub until_front : {X : Type 0} (test : X → Bool) (xs : List X) (i : ℕ) (d : X) → i < length (until test xs) → (i < length xs) × (get_or (until test xs) i d ≡ get_or xs i d)
 until_front {X} test [] i d within = absurd (omega arith)
 until_front {X} test (x ∷ xs) i d within = by_head (test x) refl i within (until_front test xs)

@@ -32,7 +32,7 @@ below_rest k ks sorted = down ks (sorted_head nat_cmp k ks sorted)
       | inr later ↦ down xs h.1 p later
     ]
 
--- where none of a list passes, none is counted
+-- if none of a list passes, none is counted
 pub count_nobody : (test : ℕ → Bool) (xs : List ℕ) → ((p : ℕ) → has xs p ≡ true → test p ≡ false) → count test xs ≡ 0
 count_nobody test [] h = refl
 count_nobody test (x ∷ xs) h =

@@ -37,6 +37,6 @@ until_at (x ∷ xs) (suc i) d distinct within =
     false_from_ne_true _ (λ same. both_ways (has xs x) (not-true _ parts.0) (subst (λ a. IsTrue (has xs a)) (sym (eqb-true x (get_or xs i d) same)) on)) in
     rw other (ap (λ ys. x ∷ ys) (until_at xs i d parts.1 (omega arith)))
 
--- what is told of who is at a program, where an applicant's place was read
+-- who is at a program, by an applicant's place that was read
 pub at_read : (places : Places) (p a : ℕ) (place : Option ℕ) (b : Bool) → place ≡ place_of places a → b ≡ option_eq ◌==◌ place (Some p) → at places p a ≡ b
 at_read places p a place b read told = ap (is_program p) (sym read) ∙ sym (is_program_read p place) ∙ sym told

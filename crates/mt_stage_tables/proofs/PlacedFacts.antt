@@ -1,4 +1,4 @@
--- The ranks of those that are placed at each program, as they are found: the applicants are gone through in order.
+-- The ranks of those that are placed at each program, as they are found: the applicants are read in order.
 use Rattle.std.proofs.Common.{◌≡◌, ◌≢◌, ℕ, ◌+◌, ◌<◌, Bool, true, false, ◌&&◌, ◌||◌, ◌==◌, List, [], ◌∷◌, take, length, get_or, Some, None, refl, ap, sym, ◌∙◌, inl, inr, arith, subst, ne_eqb}
 use mathlib.Core.Path.{fun_ext}
 use Rattle.std.specs.List.{position}
@@ -42,7 +42,7 @@ same_placed m s t table have same = record {
   each = λ p r known. have.each p r known ∙ ap (λ xs. has xs r) (sym (same p));
 }
 
--- Below, the applicants before i have been gone through, and it is i's turn.
+-- Below, the applicants before i have been read, and it is i's turn.
 module _ (m : Market) (places : Places) (i : ℕ) (i_in : i < length places) where
   not_yet : (p : ℕ) → at (take i places) p i ≡ false
   not_yet p = ap (is_program p) (get_or_past (take i places) i None (let l = length-take-le i places (omega arith) in omega arith))

@@ -161,7 +161,7 @@ refused_step f ranks refused y i quota c c' true is_out stands rest more is = el
       rw (out, none) (ap₂ ◌∷◌ (sym stands) (rest ∙ ap (λ n. map f (drop n ranks)) none'))
 ]
 
--- Below, those that are refused: whoever has quota of the set above it.
+-- Below, those that are refused: each that has quota of the set above it.
 module _ (set : Set) (quota : ℕ) (all : List ℕ) (once : is_distinct all ≡ true) where
   refused_from : (i : ℕ) (ys : List ℕ) → length ys + i ≡ length all → ((k : ℕ) → k < length ys → get_or ys k 0 ≡ get_or all (i + k) 0)
       → filter (is_refused (program_with quota all) set) ys ≡ map (λ r. get_or all r 0) (drop (quota - count set (take i all)) (ranks_from i set ys))

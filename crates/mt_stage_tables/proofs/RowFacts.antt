@@ -1,4 +1,4 @@
--- The ranks of a set, as they are gone through in rising order.
+-- The ranks of a set, as they are read in rising order.
 use Rattle.std.proofs.Common.{◌≡◌, ◌∙◌, ℕ, ◌+◌, ◌<◌, ◌≤◌, Bool, true, false, ◌||◌, ◌==◌, List, [], ◌∷◌, ◌++◌, refl, ap, sym, subst, inl, inr, arith}
 use Rattle.std.specs.List.Sorted.{IsStrictlySortedBy}
 use Rattle.std.specs.Ordering.{nat_cmp}
@@ -22,7 +22,7 @@ sorted_push (x ∷ xs) k sorted below = (
   sorted_push xs k sorted.1 (λ r on. below r (or_right (x == r) _ on)),
 )
 
--- So far the ranks of a set below a number were gone through.
+-- So far the ranks of a set below a number were read.
 pub record HasFront (told : List Bool) (next : ℕ) (ranks : List ℕ) : Type 0 where
   pub sorted : IsStrictlySortedBy nat_cmp ranks
   pub below : (r : ℕ) → has ranks r ≡ true → r < next

@@ -11,7 +11,7 @@ use Rattle.mt_terms.specs.contracts.numbers.AgentPartialEq.TheImpl.{eq-value}
 use Rattle.mt_terms.proofs.AgentFacts.{is_same_agent_refl, same_agent}
 use Rattle.mt_stage_tables.specs.Waiting.{IsWithin, WaitOnce}
 
--- whoever stands on a list is of a kind
+-- each agent on a list is of a kind
 abbrev pub AreWithin : ℕ → ℕ → List Agent → Type 0
 AreWithin n c gs = (g : Agent) → IsTrue (is_on gs g) → IsWithin n c g
 

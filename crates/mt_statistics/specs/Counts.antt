@@ -110,7 +110,7 @@ standing m places p =
     let program = program_of m p in
     record { quota = program.quota; filled = filled places p; listed = length program.ranking; last = last_rank m places p }
 
--- the largest value of a function below n, where each value is at least 0
+-- the largest value of a function below n, or 0 if there is none
 abbrev pub greatest_below : (ℕ → ℕ) → ℕ → ℕ
 greatest_below f zero = 0
 greatest_below f (suc n) = max (f n) (greatest_below f n)

@@ -11,7 +11,7 @@ use Rattle.std.proofs.lemmas.List.Quantifiers.{position-Some}
 use Rattle.mt_terms.specs.Lists.{Set, has, until, count, is_distinct, with_one}
 use Rattle.mt_terms.specs.Matching.{ranks_from}
 
--- whoever else is in a set with one more is in the set
+-- another number that is in a set with one more is in the set
 pub with_one-other : (set : Set) (a b : ℕ) → b ≢ a → with_one set a b ≡ set b
 with_one-other set a b other = ap (λ (r : Bool). r || set b) (ne_eqb b a other)
 
@@ -20,7 +20,7 @@ pub has-filter : (test : Set) (xs : List ℕ) (a : ℕ) → has (filter test xs)
 has-filter test [] a = grind (arith, nat_tests)
 has-filter test (x ∷ xs) a = grind (arith, nat_tests, has-filter test xs a)
 
--- a filtered list has no repeats where the list has none
+-- a filtered list has no repeats if the list has none
 pub distinct-filter : (test : Set) (xs : List ℕ) → IsTrue (is_distinct xs) → IsTrue (is_distinct (filter test xs))
 distinct-filter test [] h = refl
 distinct-filter test (x ∷ xs) h = grind (arith, nat_tests, has-filter test xs x, distinct-filter test xs)

@@ -44,7 +44,7 @@ live_entries-live_market m =
     ap (total_below (λ a. length (live (live_market m) a))) (applicants-live_market m)
     ∙ total_below-same (λ a. length (live (live_market m) a)) (λ a. length (live m a)) (applicants m) (λ a low. ap length (live-live_market m a))
 
--- it is well formed where the market is
+-- it is well formed if the market is
 pub live_well_formed : (m : Market) → IsWellFormed m → IsWellFormed (live_market m)
 live_well_formed m wf = record {
   lists_distinct = λ a. rw (list_of-live_market m a) (live_distinct m wf a);

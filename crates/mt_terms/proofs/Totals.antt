@@ -36,7 +36,7 @@ total_below-same f g (suc n) h =
     let rest : total_below f n ≡ total_below g n = total_below-same f g n (λ k l. h k (omega arith)) in
     cc
 
--- where each term is at most the other one and the sum at least the other sum, the terms are equal
+-- if each term is at most the other one and the sum at least the other sum, the terms are equal
 pub total_below-tight : (f g : ℕ → ℕ) (n : ℕ) → ((k : ℕ) → k < n → f k ≤ g k) → total_below g n ≤ total_below f n → (k : ℕ) → k < n → f k ≡ g k
 total_below-tight f g zero h s k l = omega arith
 total_below-tight f g (suc n) h s k l =

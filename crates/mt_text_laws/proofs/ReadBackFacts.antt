@@ -20,7 +20,7 @@ use Rattle.mt_match_file.specs.declared.submitted_match.Counted.{Counted}
 use Rattle.mt_text_laws.specs.Counts.{counts_aside, counts_from, totals_count}
 use Rattle.mt_text_laws.proofs.PublishedRows.{AreTellable, IsTellable, applicant_fields, aside_fields, head_fields, id_at, id_no_dash, program_fields, rows_with, totals_fields}
 
--- an id has the number of its place, where ids differ
+-- an id has the number of its place, if ids differ
 pub own_number : (ids : List Bytes) (i : ℕ) → all_differ bytes_eq ids ≡ true → i < length ids → position_or_len (bytes_eq (get_or ids i [])) ids ≡ i
 own_number [] i h lt = absurd (omega arith)
 own_number (x ∷ xs) zero h lt = rw (is_same x x refl) refl

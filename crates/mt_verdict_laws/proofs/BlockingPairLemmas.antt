@@ -20,7 +20,7 @@ count-until-le : (set test : Set) (xs : List ℕ) → count set (until test xs) 
 count-until-le set test [] = omega arith
 count-until-le set test (x ∷ xs) = grind (arith, nat_tests, count-until-le set test xs)
 
--- whoever stands before the first that passes doesn't pass
+-- a number before the first that passes doesn't pass
 until-fails : (test : Set) (xs : List ℕ) (p : ℕ) → IsTrue (has (until test xs) p) → IsFalse (test p)
 until-fails test [] p on = absurd (both_ways _ refl on)
 until-fails test (x ∷ xs) p on = elim (cases_Bool (test x)) [
@@ -48,7 +48,7 @@ one_of set (x ∷ xs) some = elim (cases_Bool (set x)) [
 in_front : (x : ℕ) (xs : List ℕ) (b a : ℕ) → IsFalse (x == b) → IsTrue ((x == a) || has (until (λ y. y == b) xs) a) → IsTrue (has (until (λ y. y == b) (x ∷ xs)) a)
 in_front x xs b a other h = rw other h
 
--- where not all of a set stand above somebody who isn't of it, it stands above one of the set
+-- if not all of a set stand above somebody who isn't of it, it stands above one of the set
 one_below : (set : Set) (xs : List ℕ) (a : ℕ) → IsTrue (is_distinct xs) → IsTrue (has xs a) → IsFalse (set a) → above set xs a < count set xs
     → (b : ℕ) × IsTrue (has xs b) × IsTrue (set b) × IsTrue (has (until (λ x. x == b) xs) a)
 one_below set [] a distinct on not_in some = absurd (omega arith)
@@ -69,11 +69,11 @@ one_below set (x ∷ xs) a distinct on not_in some =
           (r.0, or_right _ _ r.1, r.2, in_front x xs r.0 a (apart r.0 r.1) (or_right _ _ r.3))
     ]
 
--- whoever is on a list and isn't its first is on the rest of it
+-- a number on a list that isn't its first is on the rest of it
 still_on : (x : ℕ) (xs : List ℕ) (b : ℕ) → b ≢ x → IsTrue (has (x ∷ xs) b) → IsTrue (has xs b)
 still_on x xs b other on = elim (or_cases (x == b) (has xs b) on) [ inl same ↦ absurd (other (sym (eqb-true x b same))) | inr later ↦ later ]
 
--- where a list has all those at a program, no more are there than on the list
+-- if a list has all those at a program, no more are there than on the list
 filled-le : (places : Places) (p : ℕ) (xs : List ℕ) → ((b : ℕ) → IsTrue (at places p b) → IsTrue (has xs b)) → filled places p ≤ count (at places p) xs
 filled-le places p [] all =
     let none : filled places p ≡ 0 = count_none (is_program p) places None (λ b b_in. false_from_ne_true _ (λ there. both_ways _ refl (all b there))) in

@@ -140,7 +140,7 @@ module _ (m : Market) (h : IsWellFormed m) where
         ]
       ]
 
--- a place is allowed where the agent whose number this is has an option of its own, and the program lists
+-- a place is allowed if the agent whose number this is has an option of its own, and the program lists
 -- the applicant
 pub allowed_parts : (m : Market) (places : Places) (a : ℕ) → IsFalse (is_unlisted m places a)
     → IsTrue (is_listed m a (place_of places a)) × (lowest_number m (agent_of m a) ≡ a → IsTrue (has_own_option m places (agent_of m a)))
@@ -177,7 +177,7 @@ fitting_parts m places h =
 pub fits_from_parts : (m : Market) (places : Places) → length places ≡ applicants m → FittingParts m places → IsTrue (fits m places)
 fits_from_parts m places one_each h = and_from _ _ (and_from _ _ (and_from _ _ (eq-eqb _ _ one_each) h.own_options) h.listed) h.within
 
--- A match fits where every place is allowed, and no program has more than its quota.
+-- A match fits if every place is allowed, and no program has more than its quota.
 pub record IsInOrder (m : Market) (places : Places) : Type 0 where
   pub all_listed : (a : ℕ) → a < applicants m → IsFalse (is_unlisted m places a)
   pub none_over : (p : ℕ) → p < length m.programs → IsFalse (is_over m places p)
@@ -215,7 +215,7 @@ until_at stop (x ∷ xs) (suc k) d h = elim (cases_Bool (stop x)) [
       (omega (arith, r.0), rw other r.1, r.2)
 ]
 
--- a test that something passes has a first place where it passes
+-- a test that something passes has a first place if it passes
 pub position_from_any : {X : Type 0} (test : X → Bool) (xs : List X) → IsTrue (list_any test xs) → position test xs ≡ Some (unwrap_or (position test xs) 0)
 position_from_any test xs some = let low : position_or_len test xs < length xs = place test xs some in rw (lt-ltb _ _ low) refl
   where

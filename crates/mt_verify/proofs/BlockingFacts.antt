@@ -23,7 +23,7 @@ use Rattle.mt_terms.proofs.AgentFacts.{holds_single, is_program_read}
 pub element_read : {X : Type 0} (items list : List X) (k : ℕ) (x d : X) → x ≡ get_or items k x → items ≡ list → k < length items → x ≡ get_or list k d
 element_read items list k x d read are within = get_or_read_under items k (length items) x d read within refl ∙ ap (λ xs. get_or xs k d) are
 
--- a single has a program where the place that was read is the program
+-- a single has a program if the place that was read is the program
 pub holds_program : (places : Places) (a p : ℕ) (place : Option ℕ) → place ≡ place_of places a → holds places (single_placement a p) ≡ option_eq ◌==◌ place (Some p)
 holds_program places a p place read = holds_single p (place_of places a) ∙ ap (is_program p) (sym read) ∙ sym (is_program_read p place)
 
@@ -33,7 +33,7 @@ same_place_read None (Some q) = refl
 same_place_read (Some p) None = refl
 same_place_read (Some p) (Some q) = refl
 
--- and a couple has a pair where both places are its
+-- and a couple has a pair if both places are its
 pub holds_pair : (places : Places) (a b : ℕ) (pair : Pair) (s t : Option ℕ) → s ≡ place_of places a → t ≡ place_of places b
     → holds places (couple_placement a b pair) ≡ (option_eq ◌==◌ s pair.0 && option_eq ◌==◌ t pair.1)
 holds_pair places a b pair s t s_read t_read =
@@ -49,7 +49,7 @@ pub taken_read : (m : Market) (places : Places) (a b s t : ℕ) (pair : Pair) �
 taken_read m places a b s t pair first second =
     ap (λ (x : ℕ). would_be_taken m places (couple_placement x b pair)) first ∙ ap (λ (x : ℕ). would_be_taken m places (couple_placement s x pair)) second
 
--- Below, a single's list is gone through.
+-- Below, a single's list is searched.
 module _ (m : Market) (places : Places) (a : ℕ) where
   -- no program so far is the single's own or would take it
   abbrev pub NoProgramYet : ℕ → Type 0
@@ -80,7 +80,7 @@ module _ (m : Market) (places : Places) (a : ℕ) where
       position_mapped (holds places) (would_be_taken m places) (single_placement a) (list_of m a)
       ∙ none_passes (λ q. holds places (single_placement a q)) (λ q. would_be_taken m places (single_placement a q)) (list_of m a) 0 none
 
--- Below, a couple's list is gone through.
+-- Below, a couple's list is searched.
 module _ (m : Market) (places : Places) (c : ℕ) where
   abbrev placement : Pair → List (ℕ × Option ℕ)
   placement pair = couple_placement (couple_of m c).first (couple_of m c).second pair
@@ -121,7 +121,7 @@ module _ (m : Market) (places : Places) (c : ℕ) where
       position_mapped (holds places) (would_be_taken m places) placement (couple_of m c).pairs
       ∙ none_passes (λ x. holds places (placement x)) (λ x. would_be_taken m places (placement x)) (couple_of m c).pairs (None, None) none
 
--- Below, an applicant's agent was read, and its list gone through.
+-- Below, an applicant's agent was read, and its list searched.
 module _ (m : Market) (places : Places) (a : ℕ) (g : Agent) (is : agent_of m a ≡ g) where
   -- the agent blocks with the first option that the search found
   pub led_and_blocks : IsTrue (leads m a) → (k : ℕ) → position (would_be_taken m places) (better m places g) ≡ Some k
@@ -130,7 +130,7 @@ module _ (m : Market) (places : Places) (a : ℕ) (g : Agent) (is : agent_of m a
       let blocking : IsTrue (blocks m places g) = any_has_position (would_be_taken m places) (better m places g) ∙ ap is_some found in
       rw (leading, is, blocking) (ap (λ (o : Option ℕ). Some (record { agent = g; option = unwrap_or o 0 })) found)
 
-  -- it doesn't where the search found none
+  -- it doesn't if the search found none
   pub led_not_blocking : position (would_be_taken m places) (better m places g) ≡ None → blocker_led_by m places a ≡ None
   led_not_blocking none =
       let not_blocking : IsFalse (blocks m places g) = any_has_position (would_be_taken m places) (better m places g) ∙ ap is_some none in
@@ -156,14 +156,14 @@ module _ (m : Market) (places : Places) where
   pub no_blocking : find (leads_blocker m places) (below (applicants m)) ≡ None → find (blocks m places) (agents m) ≡ None
   no_blocking none = by_leader ∙ ap (option_map (agent_of m)) none
 
-  -- the agent that an applicant leads blocks where there is one to tell
+  -- the agent that an applicant leads blocks if there is one to tell
   pub leads_blocker-is_some : (a : ℕ) → is_some (blocker_led_by m places a) ≡ leads_blocker m places a
   leads_blocker-is_some a = elim (cases_Bool (leads_blocker m places a)) [
     | inl here ↦ rw here refl
     | inr other ↦ rw other refl
   ]
 
--- where a test says that nothing is there
+-- if a test says that nothing is there
 pub not_back : (x y : Bool) → x ≡ not y → y ≡ not x
 not_back x true h = ap not (sym h)
 not_back x false h = ap not (sym h)
@@ -172,7 +172,7 @@ listed_there : (m : Market) (a p : ℕ) (place : Option ℕ) → is_program p pl
 listed_there m a p None h = absurd (cc)
 listed_there m a p (Some q) h = ap (λ (x : ℕ). has (program_of m x).ranking a) (eqb-true q p h)
 
--- Below, an applicant is a single, and its list was gone through.
+-- Below, an applicant is a single, and its list was searched.
 module _ (m : Market) (places : Places) (a : ℕ) (alone : agent_of m a ≡ Single a) where
   blocks_by : (o : Option ℕ) → position (would_be_taken m places) (better m places (Single a)) ≡ o → leads_blocker m places a ≡ is_some o
   blocks_by o found = rw (leads-Single m a alone, alone) (any_has_position (would_be_taken m places) (better m places (Single a)) ∙ ap is_some found)

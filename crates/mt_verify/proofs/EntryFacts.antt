@@ -96,7 +96,7 @@ module _ (m : Market) (a : ℕ) (r : Ranked) (entries : List Live) (is : r ≡ r
     | inr past ↦ rw past.1 (no_rank m p a (λ on. absurd (omega (arith, past.0, entry_within m a entries next k p left within read on))))
   ]
 
-  -- the entries that are left, once the program's rank was told
+  -- the entries that are left, once the program's rank was given
   pub left_after_rank : (rank : ℕ) → rank_of m p a ≡ Some rank → AreLeft m a entries (next + 1) (k + 1)
   left_after_rank rank here = left_listed m a entries next k p left within read (has-position (program_of m p).ranking a ∙ ap is_some here)
 

@@ -25,7 +25,7 @@ none_below : (x : ℕ) (xs : List ℕ) (rank d : ℕ) → IsNonDecreasing (x ∷
 none_below x xs rank d up high =
     count_none (λ r. nat_lt r rank) (x ∷ xs) d (λ j i. not_below (get_or (x ∷ xs) j d) rank (omega (arith, up 0 j d (omega arith) i, high)))
 
--- no more than k are below where the one at k isn't
+-- no more than k are below if the one at k isn't
 pub fewer_at : (xs : List ℕ) (k rank d : ℕ) → IsNonDecreasing xs → k < length xs → nat_lt (count (λ r. nat_lt r rank) xs) (k + 1) ≡ nat_le rank (get_or xs k d)
 fewer_at [] k rank d up w = absurd (omega arith)
 fewer_at (x ∷ xs) zero rank d up w = elim (cases_lt x rank) as (λ o. nat_lt (count (λ r. nat_lt r rank) (x ∷ xs)) 1 ≡ nat_le rank x) [

@@ -53,7 +53,7 @@ pub asked_below : (P : ℕ → Type 0) (start end n : ℕ) → start ≡ 0 → e
 asked_below P start end n from to each k d within p read =
     subst P (sym read) (nat_range-All P start end (λ i low high. each i (omega arith)) k d within)
 
--- where none passes one of two tests, none passes the one, and none the other
+-- if none passes one of two tests, none passes the one, and none the other
 pub find_neither : {X : Type 0} (one other : X → Bool) (xs : List X) → find (λ x. one x || other x) xs ≡ None → (find one xs ≡ None) × (find other xs ≡ None)
 find_neither one other [] none = (refl, refl)
 find_neither one other (x ∷ xs) none = elim (cases_Bool (one x)) [
@@ -64,7 +64,7 @@ find_neither one other (x ∷ xs) none = elim (cases_Bool (one x)) [
   ]
 ]
 
--- where none passes the other test, the first that passes one of the two passes the one
+-- if none passes the other test, the first that passes one of the two passes the one
 pub find_without : {X : Type 0} (one other : X → Bool) (xs : List X) → find other xs ≡ None → find (λ x. one x || other x) xs ≡ find one xs
 find_without one other [] none = refl
 find_without one other (x ∷ xs) none = elim (cases_Bool (other x)) [
@@ -135,7 +135,7 @@ pub position_mapped : {X Y : Type 0} (stop test : X → Bool) (f : Y → X) (ys 
     → position test (until stop (map f ys)) ≡ position (λ y. test (f y)) (until (λ y. stop (f y)) ys)
 position_mapped stop test f ys = ap (position test) (until-map stop f ys) ∙ position-map test f (until (λ y. stop (f y)) ys)
 
--- something passes where a first place does
+-- something passes if a first place does
 pub any_has_position : {X : Type 0} (test : X → Bool) (xs : List X) → list_any test xs ≡ is_some (position test xs)
 any_has_position test [] = refl
 any_has_position test (x ∷ xs) = elim (cases_Bool (test x)) [

@@ -30,16 +30,16 @@ pub few_pairs : (r : Registered) → IsRegistration r → (c : ℕ) → c < leng
 few_pairs r h c within =
     omega (arith, h.few_entries, get_or-le-sum_by (λ (x : Partners). length x.pairs) r.market.couples c (record { first = 0; second = 0; pairs = [] }) within)
 
--- where an applicant's place was read, it is there
+-- if an applicant's place was read, it is there
 pub at_place : (places : Places) (a p : ℕ) (place : Option ℕ) → place ≡ place_of places a → place ≡ Some p → IsTrue (at places p a)
 at_place places a p place read is = ap (is_program p) (sym read ∙ is) ∙ eq-eqb p p refl
 
--- who is at a program is on its list, where its place is allowed
+-- who is at a program is on its list, if its place is allowed
 listed_there : (m : Market) (a p : ℕ) (place : Option ℕ) → IsTrue (is_listed m a place) → IsTrue (is_program p place) → IsTrue (has (program_of m p).ranking a)
 listed_there m a p None listed there = absurd (both_ways false refl there)
 listed_there m a p (Some q) listed there = subst (λ (r : ℕ). IsTrue (has (program_of m r).ranking a)) (eqb-true q p there) listed
 
--- where all places are allowed, as many are placed at a program as are placed on its list
+-- if all places are allowed, as many are placed at a program as are placed on its list
 pub filled_ranks : (m : Market) (places : Places) → IsWellFormed m → ArePlaces m places → ((a : ℕ) → a < applicants m → IsFalse (is_unlisted m places a))
     → (p : ℕ) → length (placed_ranks m places p) ≡ filled places p
 filled_ranks m places formed are listed p =

@@ -1,4 +1,4 @@
--- A program's choice by ranks, and how many stand above a rank where somebody was moved.
+-- A program's choice by ranks, and how many stand above a rank if somebody was moved.
 use Rattle.std.proofs.Common.{◌≡◌, ◌≢◌, ℕ, ◌+◌, ◌<◌, ◌≤◌, Bool, true, false, not, ◌==◌, nat_lt, List, [], ◌∷◌, length, take, Option, Some, None, is_some, IsTrue, IsFalse, refl, ap, sym, ◌∙◌, subst, inl, inr, arith, eq-eqb, ne_eqb, if◌then◌else◌, slice_set, get_or-set_same, get_or-set_other, length-set}
 use mir.Val.{bool_byte}
 use Rattle.std.specs.List.{position}
@@ -15,7 +15,7 @@ use Rattle.mt_ranks.proofs.Positions.{has-position}
 use Rattle.mt_verify.specs.Moved.{at_moved}
 use Rattle.mt_terms.proofs.ListFacts.{until_position, has-from_take}
 
--- who is of the set, and has this rank, is chosen where fewer than quota of the set stand above that rank
+-- who is of the set, and has this rank, is chosen if fewer than quota of the set stand above that rank
 pub choice_ranked : (q : Program) (set : Set) (a k : ℕ) → position (λ x. x == a) q.ranking ≡ Some k → IsTrue (set a)
     → choice q set a ≡ nat_lt (count set (take k q.ranking)) q.quota
 choice_ranked q set a k at here =
@@ -45,12 +45,12 @@ one_if_le false = omega arith
 
 -- Two sets that agree but for one number.
 module _ (s t : Set) (b : ℕ) (agree : (c : ℕ) → c ≢ b → s c ≡ t c) where
-  -- count the same where it isn't
+  -- count the same if it isn't
   count_without : (xs : List ℕ) → IsFalse (has xs b) → count s xs ≡ count t xs
   count_without xs off =
       count_agree s t xs (λ c on. agree c (λ same. both_ways _ off (subst (λ (x : ℕ). IsTrue (has xs x)) same on)))
 
-  -- and differ by it where it is, once
+  -- and differ by it if it is, once
   count_with : (xs : List ℕ) → IsTrue (is_distinct xs) → IsTrue (has xs b) → count s xs + one_if (t b) ≡ count t xs + one_if (s b)
   count_with [] distinct on = absurd (both_ways false refl on)
   count_with (x ∷ xs) distinct on =
@@ -66,14 +66,14 @@ module _ (s t : Set) (b : ℕ) (agree : (c : ℕ) → c ≢ b → s c ≡ t c) w
             rw (agree x other) (omega arith)
       ]
 
--- those at a program where somebody was moved, and those there now, agree but for that one
+-- those at a program if somebody was moved, and those there now, agree but for that one
 moved_others : (places : Places) (a p : ℕ) (place : Option ℕ) → (c : ℕ) → c ≢ a → at_moved places a place p c ≡ at places p c
 moved_others places a p place c other = rw (ne_eqb c a other) refl
 
 moved_itself : (places : Places) (a p : ℕ) (place : Option ℕ) → at_moved places a place p a ≡ is_program p place
 moved_itself places a p place = rw (eq-eqb a a refl) refl
 
--- so where it stands on a front of the program's list, it counts there where it was moved to, and no more
+-- so if it stands on a front of the program's list, it counts there where it was moved to, and no more
 -- where it was
 pub count_moved : (places : Places) (a p : ℕ) (place : Option ℕ) (front : List ℕ) → IsTrue (is_distinct front) → IsTrue (has front a)
     → count (at_moved places a place p) front + one_if (at places p a) ≡ count (at places p) front + one_if (is_program p place)
@@ -91,7 +91,7 @@ one_counts set front a on = elim (cases_Bool (set a)) [
   | inr other ↦ rw other (omega arith)
 ]
 
--- a single would be taken where fewer than quota of those there stand above it
+-- a single would be taken if fewer than quota of those there stand above it
 pub single_taken_ranked : (m : Market) (places : Places) (a p k : ℕ) → a < length places → position (λ x. x == a) (program_of m p).ranking ≡ Some k
     → would_be_taken m places (single_placement a p) ≡ nat_lt (count (at places p) (take k (program_of m p).ranking)) (program_of m p).quota
 single_taken_ranked m places a p k a_in is_at =
@@ -123,7 +123,7 @@ module _ (places : Places) (a b p : ℕ) (t : Option ℕ) (a_in : a < length pla
         (ap (is_program p) (get_or-set_other (slice_set places a (Some p)) b c t None apart_too ∙ get_or-set_other places a c (Some p) None other))
   ]
 
-  -- so it is chosen where fewer than quota of those stand above it
+  -- so it is chosen if fewer than quota of those stand above it
   pub member_ranked : (m : Market) (k : ℕ) → position (λ x. x == a) (program_of m p).ranking ≡ Some k
       → is_chosen m (send (couple_placement a b (Some p, t)) places) a (Some p) ≡ nat_lt (count (at_moved places b t p) (take k (program_of m p).ranking)) (program_of m p).quota
   member_ranked m k is_at =

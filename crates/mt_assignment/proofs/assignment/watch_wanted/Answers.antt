@@ -8,7 +8,7 @@ use Rattle.mt_ranks.specs.declared.entries.Live.{Live}
 use Rattle.mt_assignment.specs.Watched.{Watches}
 use Rattle.mt_assignment.proofs.assignment.watch_wanted.Goals as goal
 
--- what was gone through is all that comes before
+-- what was read is all that comes before
 all_before : (test : Live → Bool) (xs : List Live) (i : ℕ) → length xs ≤ i → take i xs ++ until test (drop i xs) ≡ until test xs → take i xs ≡ until test xs
 all_before test xs i past so_far = sym (append-nil (take i xs)) ∙ ap (λ ys. take i xs ++ until test ys) (sym (drop_all i xs past)) ∙ so_far
 

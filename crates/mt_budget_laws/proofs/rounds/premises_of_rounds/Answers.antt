@@ -23,7 +23,7 @@ none_wanted (suc (suc (suc zero))) p h = false≢true h
 none_wanted (suc (suc (suc (suc zero)))) p h = false≢true h
 none_wanted (suc (suc (suc (suc (suc a))))) p h = false≢true h
 
--- what holds of each of three agents holds of whoever is on their list
+-- what holds of each of three agents holds of each agent on their list
 each_of_three : (P : Agent → Type 0) (f g h : Agent) → P f → P g → P h → (x : Agent) → In x (f ∷ g ∷ h ∷ []) → P x
 each_of_three P f g h first second third x (inl e) = subst P e first
 each_of_three P f g h first second third x (inr (inl e)) = subst P e second

@@ -14,7 +14,7 @@ use Rattle.mt_desks.proofs.Applying.{desk_moves, noticed, proposed, stands_if_ke
 use Rattle.mt_desks.proofs.Keeping.{entry_comes, desk_proposes}
 use Rattle.mt_desks.proofs.steps.step.Goals as goal
 
--- what is due where the desk doesn't stand: its next entry, of which there is one, and a credit for it
+-- what is due if the desk doesn't stand: its next entry, of which there is one, and a credit for it
 at_made : (m : Market) (d : DeskView) (v : DoorView) → d.standing ≡ false → IsDue m d v → slice_get (live m d.applicant) d.made ≡ Some v.program
 at_made m d v free due =
     let passed : passed_count d.made d.standing ≡ d.made = ap (passed_count d.made) free ∙ omega arith in

@@ -11,7 +11,7 @@ use Rattle.mt_assignment.proofs.LiveFacts.{find-map, better_couple}
 use Rattle.mt_stage_tables.proofs.FrontFacts.{until_take}
 use Rattle.mt_assignment.proofs.assignment.Assignment.first_pair.Goals as goal
 
--- the pairs that are gone through are the better ones
+-- the pairs that are searched are the better ones
 front : (c : goal.After-couple_list) → take c.args.better c.couple_list.result.now ≡ better_pairs c.args.self.now c.args.couple
 front c =
     let s = c.args.self.now in

@@ -19,7 +19,7 @@ seen : (r : Ranked) (m : Market) (t s : Assigned) (a : ℕ) (live : List Live) �
 seen r m t s a live read one inside is =
     read ∙ ap (λ (x : Ranked). ranked_list x.market a) one ∙ ap (λ (n : Market). ranked_list (live_market n) a) (sym inside) ∙ ap (λ (x : Assigned). ranked_list (live_market x.market) a) is
 
--- whether an applicant is at a program, where its place was read
+-- whether an applicant is at a program, if its place was read
 at_place : (places : Places) (p a q : ℕ) (place : Option ℕ) (b : Bool) → place ≡ place_of places a → place ≡ Some q → b ≡ (q == p) → at places p a ≡ b
 at_place places p a q place b read is told = ap (is_program p) (sym read ∙ is) ∙ sym told
 
@@ -72,7 +72,7 @@ loop-end-preserved c =
     (c.eq.ensures ∙ ap (λ (x : Live). c.in-Some.place == x.program) c.unpacked.ensures) ∙ c.if-eq.false in
     going_more test c.live-live.result.now c.loop-end.end e c.loop-end-test.true c.index-live-end.is c.loop-end.invariant fails
 
--- whoever has nothing wants all that it lists
+-- an agent that has nothing wants all that it lists
 pub returns-in_default-clause-better : goal.returns-in_default-clause-better
 returns-in_default-clause-better c =
     let s = c.args.self.now in

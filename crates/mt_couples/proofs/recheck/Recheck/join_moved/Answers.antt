@@ -40,7 +40,7 @@ loop-applicant-preserved c =
 pub loop-applicant-init : goal.loop-applicant-init
 loop-applicant-init c = refl
 
--- the agent that moved joins after the displaced, where it blocks
+-- the agent that moved joins after the displaced, if it blocks
 mover_joins : (s : Assigned) (g : Agent) (b : Bool) (start now new : Waiting) (xs : List ℕ) (i : ℕ) → length xs ≤ i → AreJoining start now (agents_of s (drop i xs)) (agents_of s xs)
     → b ≡ blocks s.market s.places g → Joins now new (if b then (g ∷ []) else []) → Joins start new (agents_of s xs ++ if_blocking s g)
 mover_joins s g b start now new xs i past joining is last =

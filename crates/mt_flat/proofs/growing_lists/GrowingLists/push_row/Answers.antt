@@ -4,7 +4,7 @@ use Rattle.mt_flat.specs.GrowingLists.{row_in, AreSpans}
 use Rattle.mt_flat.proofs.RowFacts.{on_err, resized, row_pushed, rows_as_before, spans_as_before, spans_pushed}
 use Rattle.mt_flat.proofs.growing_lists.GrowingLists.push_row.Goals as goal
 
--- the elements where the row was not pushed, and where it was
+-- the elements if the row was not pushed, and if it was
 with_copies : (g : _) (c : goal.After-from_residual-in_err-push g) → c.resize.new.self.items ≡ c.self.inside.items.items ++ replicate c.args.count c.args.item
 with_copies g c =
     resized c.self.inside.items.items c.resize.new.self.items c.args.item (vec_len c.self.inside.items) c.in-Some.end c.args.count c.in_ok-resize.ensures.items c.self.inside.items.ok.0 (omega (arith, c.in-Some.ensures))

@@ -30,7 +30,7 @@ made_to_program true None = refl
 made_to_program true (Some b) = refl
 made_to_program false other = refl
 
--- the pass has one proposal more where the desk doesn't stand, and then the reply is one to a proposal
+-- the pass has one proposal more if the desk doesn't stand, and then the reply is one to a proposal
 passed : (stands held : Bool) (reply other : Reply) (old mid new : PassView) (p q a b : ℕ) → reply ≡ (if stands then (if held then NotDue else Noticed) else other) → is_of_proposal other ≡ true
     → mid ≡ old → new ≡ (if stands then mid else one_more mid p a) → p ≡ q → a ≡ b → new ≡ (if is_of_proposal reply then one_more old q b else old)
 passed true true reply other old mid new p q a b said made same is there who = rw said (is ∙ same)
@@ -39,7 +39,7 @@ passed false held reply other old mid new p q a b said made same is there who =
     let proposed : is_of_proposal reply ≡ true = ap is_of_proposal said ∙ made in
     rw proposed (is ∙ ap (λ s. one_more s p a) same ∙ ap (λ k. one_more old k a) there ∙ ap (λ k. one_more old q k) who)
 
--- what a reply shows, where the parts' numbers are those that were asked for
+-- what a reply shows, if the parts' numbers are those that were asked for
 shows_at : (m : Market) (reply : Reply) (a b p q : ℕ) → a ≡ b → p ≡ q → Shows m a p reply → Shows m b q reply
 shows_at m reply a b p q who there shown = subst (λ k. Shows m k q reply) who (subst (λ k. Shows m a k reply) there shown)
 
