@@ -219,7 +219,9 @@ fn by_both<'n, R: Threads + Sync>(
             (all_seen listed.entry.now.records.now)) }
     { by_programs(rt, alloc, names, half_pairs, listed) };
     if listed.records.len() < FEWEST || current_num_threads(rt) == 1 {
-        (one(), other())
+        // The table of programs is made first, as it is the smaller one, and is kept while the other lists are read.
+        let second = other();
+        (one(), second)
     } else {
         join(rt, one, other)
     }
