@@ -12,23 +12,35 @@ use std::alloc::{AllocError, Global};
 /// As many bytes as the line of an applicant or a program takes at most if ids are short.
 const LINE_LEN: usize = 32;
 
+/// Adds a few bytes. For these a loop takes less time than the call that copies a slice.
+#[inline(always)]
+fn push_bytes(text: &mut Vec<u8>, bytes: &[u8]) -> Result<(), AllocError>
+    ensures { OnOk result (text.new.items ≡ text.old.items ++ bytes.now) }
+{
+    text.reserve(bytes.len())?;
+    for byte in bytes {
+        text.push_reserved(*byte);
+    }
+    Ok(())
+}
+
 /// Adds a comma and a number.
 fn push_number(text: &mut Vec<u8>, number: u64) -> Result<(), AllocError>
     ensures ok { OnOk result (text.new.items ≡ text.old.items ++ codes "," ++ decimal number) }
 {
     let mut digits = Buffer::new();
     text.push(b',')?;
-    text.extend_from_slice(digits.format(number).as_bytes())
+    push_bytes(text, digits.format(number).as_bytes())
 }
 
 /// Adds the line of an applicant.
 fn push_applicant(text: &mut Vec<u8>, id: &[u8], place: &[u8]) -> Result<(), AllocError>
     ensures ok { OnOk result (text.new.items ≡ text.old.items ++ place_line id.now place.now) }
 {
-    text.extend_from_slice(b"applicant,")?;
-    text.extend_from_slice(id)?;
+    push_bytes(text, b"applicant,")?;
+    push_bytes(text, id)?;
     text.push(b',')?;
-    text.extend_from_slice(place)?;
+    push_bytes(text, place)?;
     text.push(b'\n')?;
     Ok(())
 }
@@ -44,8 +56,8 @@ fn push_program(
     ensures ok { OnOk result (text.new.items
         ≡ text.old.items ++ counts_line id.now quota filled received) }
 {
-    text.extend_from_slice(b"program,")?;
-    text.extend_from_slice(id)?;
+    push_bytes(text, b"program,")?;
+    push_bytes(text, id)?;
     push_number(text, u64::from(quota))?;
     push_number(text, u64::from(filled))?;
     push_number(text, u64::from(received))?;
