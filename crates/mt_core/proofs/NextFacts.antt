@@ -1,6 +1,7 @@
 -- A proposal that is due can be made.
 use Rattle.std.proofs.Common.{◌≡◌, ◌==◌, ℕ, zero, suc, List, [], ◌∷◌, map, get_or, sym, ◌-◌, ◌<◌, length, Bool, true, false, cond, Option, Some, None, IsTrue, IsFalse, slice_get, take, ne_eqb, refl, ap, ◌∙◌, arith, subst}
 use Rattle.std.proofs.lemmas.Bool.Decides.{nat_tests}
+use Rattle.std.proofs.lemmas.Option.{slice_get-map}
 use Rattle.std.specs.Option.{option_map, unwrap_or}
 use Rattle.mt_terms.specs.Lists.{has}
 use Rattle.mt_terms.specs.Market.{Market, list_of, live}
@@ -12,6 +13,8 @@ use Rattle.mt_floor_laws.proofs.FloorBest.{applicant_from_live}
 use Rattle.mt_ranks.specs.Ranked.{Ranked, IsRanked, rank_of, ranked_entry, ranked_list}
 use Rattle.mt_ranks.specs.declared.entries.Live.{Live}
 use Rattle.mt_ranks.proofs.LiveMarket.{live_few}
+use Rattle.mt_core.specs.Entries.{next_in}
+use Rattle.mt_core.specs.Floors.{Tables, floor_of}
 use Rattle.mt_core.proofs.FloorTables.{CanEnter}
 
 -- an entry of a live list can be proposed to
@@ -73,6 +76,20 @@ pub next_entry_facts : (r : Ranked) → IsRanked r → (f : Floor) → IsRecorde
 next_entry_facts r is f recorded a entry e =
     let facts = entry_facts r.market a (next_entry r.market f a) entry e in
     (facts.0, subst (λ (n : ℕ). IsFirstTime r.market f a entry.program n) facts.1 (first_time_facts r is f recorded a entry.program facts.0))
+
+-- the next entry of a live list is that of the program which the applicant would propose to next
+pub next_by_list : (r : Ranked) → IsRanked r → (t : Tables) (list : List Live) (a : ℕ) → list ≡ ranked_list r.market a
+    → next_in r.market t list a ≡ option_map (ranked_entry r.market a) (next_entry r.market (floor_of r.market t) a)
+next_by_list r is t list a on =
+    let m = r.market in
+    let k = (floor_of m t).made a in
+    by ((floor_of m t).standing a) (slice_get list k) (slice_get (live m a) k)
+    (ap (λ xs. slice_get xs k) on ∙ slice_get-map (ranked_entry m a) (list_of m a) k ∙ ap (λ xs. option_map (ranked_entry m a) (slice_get xs k)) (sym (is.all_live a)))
+  where
+    by : (b : Bool) (o : Option Live) (p : Option ℕ) → o ≡ option_map (ranked_entry r.market a) p
+        → cond b None o ≡ option_map (ranked_entry r.market a) (cond b None p)
+    by true o p e = refl
+    by false o p e = e
 
 -- the program that an applicant proposed to last is on its live list
 pub last_on_live : (m : Market) (f : Floor) (a p : ℕ) → last_proposed_to m f a ≡ Some p → IsTrue (has (live m a) p)

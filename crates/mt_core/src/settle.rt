@@ -2,13 +2,13 @@ ghost use Rattle.std.specs.Prelude.{◌≡◌, ℕ, ◌+◌, ◌*◌, ◌≤◌,
 ghost use Rattle.mt_terms.specs.Market.{applicants, live_entries};
 ghost use Rattle.mt_terms.specs.Floor.{IsRecorded, is_quiet};
 ghost use Rattle.mt_terms.specs.Floor.{proposals_made};
-ghost use Rattle.mt_ranks.specs.Ranked.{IsRanked};
+ghost use Rattle.mt_ranks.specs.Ranked.{IsRanked, ranked_list};
 ghost use Rattle.mt_core.specs.Floors.{floor_of, IsOpenedWith};
 ghost use Rattle.mt_core.specs.Calls.{due_count_on, IsAfterAll, IsLedOn, IsOneStepOn, Settles, StaysLegal, StaysStrict};
 
 use crate::floor::Floor;
 use crate::step::{apply, notice, propose};
-use mt_ranks::Ranks;
+use mt_ranks::{PackedLive, Ranks};
 use mt_terms::{AppNo, Event, Reply};
 
 /// Makes the events in order, each if it is due by then, and says how many were.
@@ -32,17 +32,18 @@ pub fn run(floor: &mut Floor, ranks: &Ranks, events: &[Event]) -> u64
     due
 }
 
-/// The applicant learns whether it is held no longer, and then proposes if it doesn't stand.
-fn go_on(floor: &mut Floor, ranks: &Ranks, applicant: AppNo) -> Reply
+/// The applicant learns whether it is held no longer, and then proposes along its live list if it doesn't stand.
+fn go_on(floor: &mut Floor, ranks: &Ranks, list: &[PackedLive], applicant: AppNo) -> Reply
     requires opened { IsOpenedWith ranks.now.market floor.old }
     requires recorded { IsRecorded ranks.now.market (floor_of ranks.now.market floor.old) }
     requires ranked { IsRanked ranks.now }
     requires applicant { applicant < applicants ranks.now.market }
+    requires list { list.now ≡ ranked_list ranks.now.market applicant }
     ensures step { IsOneStepOn ranks.now.market floor.old floor.new applicant result }
     ensures opened { IsOpenedWith ranks.now.market floor.new }
 {
     notice(floor, ranks, applicant);
-    propose(floor, ranks, applicant)
+    propose(floor, ranks, list, applicant)
 }
 
 /// Makes the applicant's events, those of each applicant that it displaces, and so on. It settles one applicant at a
@@ -59,10 +60,14 @@ fn settle(floor: &mut Floor, ranks: &Ranks, first: AppNo) -> u64
 {
     let mut proposals = 0;
     let mut applicant = first;
+    let mut list = ranks.live(first);
     loop {
-        match go_on(floor, ranks, applicant) {
+        match go_on(floor, ranks, list, applicant) {
             Reply::Kept => return proposals + 1,
-            Reply::KeptInstead(displaced) => applicant = displaced,
+            Reply::KeptInstead(displaced) => {
+                applicant = displaced;
+                list = ranks.live(displaced);
+            }
             Reply::Refused => {}
             Reply::Noticed | Reply::NotDue => return proposals,
         }

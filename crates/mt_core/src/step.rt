@@ -1,16 +1,16 @@
 ghost use Rattle.std.specs.Prelude.{◌≡◌, ◌<◌, length};
-ghost use Rattle.mt_terms.specs.Market.{applicants, program_of};
-ghost use Rattle.mt_terms.specs.Floor.{last_proposed_to, next_entry, is_held_by, IsRecorded, reply_of};
-ghost use Rattle.mt_ranks.specs.Ranked.{IsRanked};
+ghost use Rattle.mt_terms.specs.Market.{Market, applicants, program_of};
+ghost use Rattle.mt_terms.specs.Floor.{last_proposed_to, is_held_by, IsRecorded, reply_of};
+ghost use Rattle.mt_ranks.specs.Ranked.{IsRanked, ranked_list};
 ghost use Rattle.mt_core.specs.Calls.{is_due_on, IsAfter, StaysLegal, StaysStrict};
 ghost use Rattle.mt_core.specs.Ends.{NamesDisplaced};
-ghost use Rattle.mt_core.specs.Entries.{entry_of, live_entry};
+ghost use Rattle.mt_core.specs.Entries.{entry_of, live_entry, next_in};
 ghost use Rattle.mt_core.specs.Floors.{floor_of, IsOpenedWith};
 ghost use Rattle.mt_hold.specs.Replies.{reply_from, IsAnswerOn};
 
 use crate::floor::{Floor, made};
 use mt_hold::Taken;
-use mt_ranks::{Live, Ranks};
+use mt_ranks::{Live, PackedLive, Ranks};
 use mt_terms::{AppNo, Event, ProgNo, Reply};
 
 /// The entry at a place of the applicant's live list.
@@ -35,18 +35,17 @@ pub(crate) fn last_proposed_to(floor: &Floor, ranks: &Ranks, applicant: AppNo) -
     entry_at(ranks, applicant, place)
 }
 
-/// The entry that the applicant would propose to next: none while it stands.
-fn next_entry(floor: &Floor, ranks: &Ranks, applicant: AppNo) -> Option<Live>
-    requires opened { IsOpenedWith ranks.now.market floor.now }
-    requires ranked { IsRanked ranks.now }
-    requires applicant { applicant < applicants ranks.now.market }
-    ensures { let m = ranks.now.market in
-        result ≡ entry_of m applicant (next_entry m (floor_of m floor.now) applicant) }
+/// The entry of its live list that the applicant would propose to next: none while it stands.
+fn next_entry(floor: &Floor, list: &[PackedLive], applicant: AppNo) -> Option<Live>
+    requires made { applicant < length floor.now.made }
+    requires standing { applicant < length floor.now.standing }
+    ensures { (m : Market) → result ≡ next_in m floor.now list.now applicant }
 {
     if floor.stands(applicant) {
         return None;
     }
-    entry_at(ranks, applicant, made(floor, applicant))
+    let entry = list.get(made(floor, applicant) as usize)?;
+    Some(entry.unpacked())
 }
 
 /// Whether the program that the applicant proposed to last holds it.
@@ -113,11 +112,17 @@ fn reply_at(ranks: &Ranks, program: ProgNo, taken: Taken) -> Reply
 }
 
 /// The applicant proposes to the next program on its live list, if there is one.
-pub(crate) fn propose(floor: &mut Floor, ranks: &Ranks, applicant: AppNo) -> Reply
+pub(crate) fn propose(
+    floor: &mut Floor,
+    ranks: &Ranks,
+    list: &[PackedLive],
+    applicant: AppNo,
+) -> Reply
     requires opened { IsOpenedWith ranks.now.market floor.old }
     requires recorded { IsRecorded ranks.now.market (floor_of ranks.now.market floor.old) }
     requires ranked { IsRanked ranks.now }
     requires applicant { applicant < applicants ranks.now.market }
+    requires list { list.now ≡ ranked_list ranks.now.market applicant }
     ensures floor { IsAfter ranks.now.market floor.old floor.new (Event.Propose applicant) }
     ensures reply { let m = ranks.now.market in
         result ≡ reply_of m (floor_of m floor.old) (Event.Propose applicant) }
@@ -128,7 +133,7 @@ pub(crate) fn propose(floor: &mut Floor, ranks: &Ranks, applicant: AppNo) -> Rep
         NamesDisplaced m (floor_of m floor.old) (floor_of m floor.new) result }
     ensures opened { IsOpenedWith ranks.now.market floor.new }
 {
-    let Some(entry) = next_entry(floor, ranks, applicant) else {
+    let Some(entry) = next_entry(floor, list, applicant) else {
         return Reply::NotDue;
     };
     let taken = floor.enter(applicant, entry.program, entry.rank);
@@ -150,7 +155,9 @@ pub fn apply(floor: &mut Floor, ranks: &Ranks, event: Event) -> Reply
 {
     let applicants = ranks.applicants();
     match event {
-        Event::Propose(applicant) if applicant.0 < applicants => propose(floor, ranks, applicant),
+        Event::Propose(applicant) if applicant.0 < applicants => {
+            propose(floor, ranks, ranks.live(applicant), applicant)
+        }
         Event::Notice(applicant) if applicant.0 < applicants => notice(floor, ranks, applicant),
         _ => Reply::NotDue,
     }

@@ -80,6 +80,12 @@ returns-in-Noticed-clause-settled c n settled =
     step_not_due m (floor_of m c.loop-displaced.floor) (floor_of m c.go_on.new.floor) c.loop-displaced.applicant n c.go_on.result c.go_on.ensures.step c.loop-displaced.invariant.recorded c.in-Noticed.is
     (c.loop-displaced.invariant.settled n settled)
 
+pub live-list-requires-in-KeptInstead : goal.live-list-requires-in-KeptInstead
+live-list-requires-in-KeptInstead c =
+    let m = c.args.ranks.now.market in
+    named_applicant m c.requires.ranked.well_formed (floor_of m c.loop-displaced.floor) (floor_of m c.go_on.new.floor) c.loop-displaced.applicant c.in-KeptInstead.displaced c.go_on.result c.go_on.ensures.step
+    c.in-KeptInstead.is
+
 -- at the end of a turn somebody was displaced, or the applicant was refused, by a proposal
 proposed : (c : Joined-go_on) → c.go_on.result ≢ NotDue
 proposed c = elim c.match-go_on.branch [
@@ -110,6 +116,10 @@ loop-displaced-preserved c =
       applicant = elim c.match-go_on.branch [
         | in-KeptInstead w ↦ rw w.applicant-is (named_applicant m c.requires.ranked.well_formed f h a w.in-KeptInstead.displaced reply c.go_on.ensures.step w.in-KeptInstead.is)
         | in-Refused w ↦ rw w.applicant-is c.loop-displaced.invariant.applicant
+      ];
+      list = elim c.match-go_on.branch [
+        | in-KeptInstead w ↦ rw (w.applicant-is, w.list-is) w.live-list-in-KeptInstead.ensures.list
+        | in-Refused w ↦ rw (w.applicant-is, w.list-is) c.loop-displaced.invariant.list
       ];
       reached = so_far b 1 on;
       settled = λ n settled. elim c.match-go_on.branch [

@@ -1,4 +1,4 @@
-use Rattle.std.proofs.Common.{◌≡◌, ℕ, List, sym, ap, ◌∙◌, subst, arith, Some}
+use Rattle.std.proofs.Common.{◌≡◌, ℕ, List, sym, ap, ◌∙◌, subst, arith, Some, None}
 use Rattle.mt_terms.specs.Market.{program_of}
 use Rattle.mt_terms.specs.Floor as model
 use Rattle.mt_terms.specs.declared.events.Reply.TheVariants.{NotDue}
@@ -7,11 +7,11 @@ use Rattle.mt_hold.specs.declared.holding.Taken.TheVariants as taken
 use Rattle.mt_core.specs.Floors.{IsOpenedWith, Tables, floor_of, hold_of}
 use Rattle.mt_hold.specs.Replies.{reply_from}
 use Rattle.mt_core.proofs.FloorTables.{made_of, received_by_rank, entered_floor, entered_opened}
-use Rattle.mt_core.proofs.NextFacts.{next_entry_facts, IsFirstTime}
+use Rattle.mt_core.proofs.NextFacts.{next_entry_facts, next_by_list, no_entry, IsFirstTime}
 use Rattle.mt_core.proofs.ReplyFacts.{displaced_is, may_receive}
 use Rattle.mt_hold.proofs.ReplyFacts.{reply_is, held_within}
 use Rattle.mt_core.proofs.step.propose.Goals as goal
-use Rattle.mt_core.proofs.step.propose.Goals.{In-Some}
+use Rattle.mt_core.proofs.step.propose.Goals.{In-Some, After-next_entry}
 
 -- what became of a proposal is never that it isn't due
 reply_differs : (ranking : List ℕ) (t : Taken) → reply_from ranking t ≡ NotDue → ⊥
@@ -24,7 +24,29 @@ entry_is : (c : In-Some) → (model.next_entry c.args.ranks.now.market (floor_of
     × IsFirstTime c.args.ranks.now.market (floor_of c.args.ranks.now.market c.args.floor.now) c.args.applicant c.in-Some.entry.program c.in-Some.entry.rank
 entry_is c =
     let r = c.args.ranks.now in
-    next_entry_facts r c.requires.ranked (floor_of r.market c.args.floor.now) c.requires.recorded c.args.applicant c.in-Some.entry (sym c.next_entry.ensures ∙ c.in-Some.is)
+    let t = c.args.floor.now in
+    let a = c.args.applicant in
+    next_entry_facts r c.requires.ranked (floor_of r.market t) c.requires.recorded a c.in-Some.entry
+    (sym (next_by_list r c.requires.ranked t c.args.list.now a c.requires.list) ∙ sym (c.next_entry.ensures r.market) ∙ c.in-Some.is)
+
+-- no proposal is due without a next entry
+none_next : (c : After-next_entry) → c.next_entry.result ≡ None → model.next_entry c.args.ranks.now.market (floor_of c.args.ranks.now.market c.args.floor.now) c.args.applicant ≡ None
+none_next c none =
+    let r = c.args.ranks.now in
+    let t = c.args.floor.now in
+    let a = c.args.applicant in
+    no_entry r.market a (model.next_entry r.market (floor_of r.market t) a)
+    (sym (next_by_list r c.requires.ranked t c.args.list.now a c.requires.list) ∙ sym (c.next_entry.ensures r.market) ∙ none)
+
+pub returns-in_default-clause-floor : goal.returns-in_default-clause-floor
+returns-in_default-clause-floor c =
+    let m = c.args.ranks.now.market in
+    ap (model.after_proposal m (floor_of m c.args.floor.now) c.args.applicant) (sym (none_next (goal.at.returns-in_default-clause-floor c).After-next_entry c.in_default.is))
+
+pub returns-in_default-clause-reply : goal.returns-in_default-clause-reply
+returns-in_default-clause-reply c =
+    let m = c.args.ranks.now.market in
+    ap (model.reply_of_proposal m (floor_of m c.args.floor.now) c.args.applicant) (sym (none_next (goal.at.returns-in_default-clause-reply c).After-next_entry c.in_default.is))
 
 pub enter-taken-requires-clause-program : goal.enter-taken-requires-clause-program
 enter-taken-requires-clause-program c = omega (arith, (entry_is (goal.at.enter-taken-requires-clause-program c).In-Some).1.can.program, c.requires.opened.holds)
