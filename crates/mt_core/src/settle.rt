@@ -32,7 +32,7 @@ pub fn run(floor: &mut Floor, ranks: &Ranks, events: &[Event]) -> u64
     due
 }
 
-/// The applicant learns whether it is held no longer, and then proposes along its live list if it doesn't stand.
+/// The applicant learns whether it is held no longer, and then proposes if it doesn't stand.
 fn go_on(floor: &mut Floor, ranks: &Ranks, list: &[PackedLive], applicant: AppNo) -> Reply
     requires opened { IsOpenedWith ranks.now.market floor.old }
     requires recorded { IsRecorded ranks.now.market (floor_of ranks.now.market floor.old) }
