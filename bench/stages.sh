@@ -16,12 +16,13 @@
 # $BENCH_SCRATCH, or nrmatch-bench in the folder for temporary files.
 #
 # `build` proves nothing. `rt try` compiles without optimising, so its LLVM module is compiled a second time here, at
-# the level of a proved build. `rt try` puts checks in that a proved build has none of, and with them the couples' stage
-# takes half as long again, and more: so they are taken out of the module, as in a proved build, where the compiler may
-# take for granted what they look for. `build checks` leaves them in. The hints on inlining that the sources give, which
-# `rt try` leaves out, are written in (bench/hints.py): without them the couples' stage takes up to twice its time. Without them a program does anything at all where
-# one would have stopped it, so what isn't tried with them isn't measured without. `prove` takes some minutes where the
-# layers are proved in this checkout, and a quarter of an hour from nothing.
+# the level of a proved build. `rt try` puts checks in that a proved build has none of, and leaves out the hints on
+# inlining that the sources give. With the checks the couples' stage takes half as long again, and more. Without the
+# hints it takes up to twice its time. So the hints are written in (bench/hints.py), and the checks are taken out. The
+# compiler then takes what they look for as given, as it does in a proved build. Where a check would have stopped the
+# program, it may now do anything at all. So what isn't tried with the checks isn't measured without them. `build
+# checks` leaves them in. `prove` takes some minutes where the layers are proved in this checkout, and a quarter of an
+# hour from nothing.
 set -euo pipefail
 top=$(cd "$(dirname "${BASH_SOURCE[0]}")/.." && pwd)
 scratch=${BENCH_SCRATCH:-${TMPDIR:-/tmp}/nrmatch-bench}
