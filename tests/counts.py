@@ -12,14 +12,14 @@ CHECKS = {
     "bytes": 6088,
     "check": 24737,
     # tests/cli with the path of a program, where bin/nrmatch isn't run.
-    "cli PROGRAM": 8452,
-    "cli": 8455,
+    "cli PROGRAM": 8456,
+    "cli": 8459,
     "controls": 52,
     "edits_apply": 793,
     "explain": 10098,
     "faults": 20037,
     "linear": 45,
-    "memory": 472,
+    "memory": 252,
     "memory --calls": 15,
     "memory --check": 123,
     "memory --explain": 126,
@@ -28,7 +28,7 @@ CHECKS = {
     "python": 54,
     "report": 10055,
     "seeds": 7,
-    "threads": 66,
+    "threads": 90,
     "told": 311,
     "units": 65,
     "words": 420,
@@ -38,7 +38,7 @@ CHECKS = {
 }
 # The sweeps of the forms of tests/memory, by the number of workers and whether all requests from one on are refused.
 SWEEPS = {
-    "memory": {(1, False): 75, (1, True): 75, (4, False): 75, (4, True): 75},
+    "memory": {(1, False): 76, (1, True): 76, (4, False): 1, (4, True): 1},
     "memory --calls": {(1, False): 1, (1, True): 1, (2, False): 1, (2, True): 1},
     "memory --check": {(1, False): 38, (1, True): 38},
     "memory --explain": {(1, False): 39, (1, True): 39},

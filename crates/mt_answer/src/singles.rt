@@ -10,8 +10,12 @@ use std::alloc::{AllocError, Global};
 use std::sync::Wait;
 use std::thread::Threads;
 
-/// What workers make of the rank tables: this number of them, or as many as there are programs if that is less. A program
-/// serves one worker at a time, so more would only wait. One worker has no need of locks.
+/// How many programs there are for each worker, at least. A program serves one worker at a time. So with fewer of them
+/// one worker makes nearly all proposals, and the others wait.
+const PROGRAMS_FOR_EACH: u32 = 16;
+
+/// What workers make of the rank tables: this number of them, or as many as there are programs for. One worker has no
+/// need of locks, so a small market starts no thread.
 fn made_by<T: Threads + Wait + Sync>(
     rt: &T,
     alloc: Global,
@@ -23,7 +27,7 @@ fn made_by<T: Threads + Wait + Sync>(
     ensures proposals { IfOk result (λ s. s.proposals.items
         ≡ map (proposals ranks.now.market s.matched.places) (below (length ranks.now.market.programs))) }
 {
-    let workers = workers.min(ranks.programs());
+    let workers = workers.min(ranks.programs() / PROGRAMS_FOR_EACH);
     if workers <= 1 {
         work_alone(alloc, ranks)
     } else {
