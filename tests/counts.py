@@ -12,8 +12,8 @@ CHECKS = {
     "bytes": 6088,
     "check": 24737,
     # tests/cli with the path of a program, where bin/nrmatch isn't run.
-    "cli PROGRAM": 8456,
-    "cli": 8459,
+    "cli PROGRAM": 8236,
+    "cli": 8239,
     "controls": 52,
     "edits_apply": 793,
     "explain": 10098,
