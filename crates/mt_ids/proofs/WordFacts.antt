@@ -1,12 +1,13 @@
--- The words of ids: what they are made of, and that they tell ids apart.
-use Rattle.std.proofs.Common.{◌≡◌, ℕ, zero, suc, ◌+◌, ◌-◌, ◌*◌, ◌/◌, ◌%◌, ◌^◌, ◌<◌, ◌≤◌, true, false, length, refl, get_or, arith, ⊎_elim, subst, subst₂, sym, ap, ap₂, ◌∙◌, bit_or, mod-eq_of_lt, le-leb, ext_get_or, nat_eq}
+-- The words of ids: what they are made of, that they tell ids apart, and which id a word has.
+use Rattle.std.proofs.Common.{◌≡◌, ℕ, zero, suc, ◌+◌, ◌-◌, ◌*◌, ◌/◌, ◌%◌, ◌^◌, ◌<◌, ◌≤◌, true, false, true≢false, List, [], ◌∷◌, ◌++◌, length, take, drop, nat_lt, refl, get_or, arith, ⊎_elim, subst, subst₂, sym, ap, ap₂, ◌∙◌, bit_or, mod-eq_of_lt, le-leb, ext_get_or, nat_eq}
 use Rattle.std.specs.Int.Bits.{or_shifted_r}
 use Rattle.std.specs.Prelude.{bytes_eq}
-use Rattle.std.proofs.lemmas.Bool.{cases_lt, eq-eqb, eqb-true, and_parts, false_from_ne_true}
+use Rattle.std.proofs.lemmas.Bool.{cases_lt, eq-eqb, eqb-true, lt-ltb, and_parts, false_from_ne_true}
 use Rattle.std.proofs.lemmas.Bool.Decides.{nat_tests, same_from_decides}
 use Rattle.std.proofs.lemmas.Slice.Eq.{bytes_eq-Decides}
 use Rattle.mt_terms.specs.Registration.Ids.{Bytes}
-use Rattle.mt_ids.specs.Words.{AreBytes, four_from, seven_from, bytes_of, word_of, place_word, pair_of, pair_eq}
+use Rattle.std.proofs.lemmas.List.{get_or_append_left, get_or_push}
+use Rattle.mt_ids.specs.Words.{AreBytes, four_from, seven_from, bytes_of, word_of, place_word, bytes_in, id_in, pair_of, pair_eq}
 
 -- a number shifted by 32 bits, above one of this number of bits
 pub above_32 : (a b : ℕ) → a < 2 ^ 32 → b < 2 ^ 32 → bit_or a (b * 2 ^ 32 % 2 ^ 64) ≡ a + b * 2 ^ 32
@@ -167,3 +168,58 @@ no_place place id b m = false_from_ne_true _ (λ t. let e = eqb-true _ _ t in om
 
 pub other_place : (place place' : ℕ) → place' < place → nat_eq (place_word place) (place_word place') ≡ false
 other_place place place' h = false_from_ne_true _ (λ t. let e = eqb-true _ _ t in omega (arith, e))
+
+-- what a number writes, by its length and its bytes
+written : (word n a b c d e f g : ℕ) → word / 2 ^ 56 ≡ n → word % 256 ≡ a → word / 2 ^ 8 % 256 ≡ b → word / 2 ^ 16 % 256 ≡ c → word / 2 ^ 24 % 256 ≡ d
+    → word / 2 ^ 32 % 256 ≡ e → word / 2 ^ 40 % 256 ≡ f → word / 2 ^ 48 % 256 ≡ g → bytes_in word ≡ take n (a ∷ b ∷ c ∷ d ∷ []) ++ drop (7 - n) (e ∷ f ∷ g ∷ [])
+unfolding bytes_in
+written word n a b c d e f g l h i j k p q r = rw (l, h, i, j, k, p, q, r) refl
+
+-- what seven bytes write, the last three of them read with one before them, and what three write
+seven_written : (n a b c d p q r s : ℕ) → a < 256 → b < 256 → c < 256 → d < 256 → p < 256 → q < 256 → r < 256 → s < 256
+    → bytes_in (a + b * 256 + c * 65536 + d * 16777216 + (p + q * 256 + r * 65536 + s * 16777216) / 256 * 2 ^ 32 + n * 2 ^ 56) ≡ take n (a ∷ b ∷ c ∷ d ∷ []) ++ drop (7 - n) (q ∷ r ∷ s ∷ [])
+seven_written n a b c d p q r s ha hb hc hd hp hq hr hs =
+    written _ n a b c d q r s (omega arith) (omega arith) (omega arith) (omega arith) (omega arith) (omega arith) (omega arith) (omega arith)
+
+three_written : (n a b c : ℕ) → a < 256 → b < 256 → c < 256 → bytes_in (a + b * 256 + c * 65536 + n * 2 ^ 56) ≡ take n (a ∷ b ∷ c ∷ 0 ∷ []) ++ drop (7 - n) (0 ∷ 0 ∷ 0 ∷ [])
+three_written n a b c ha hb hc = written _ n a b c 0 0 0 0 (omega arith) (omega arith) (omega arith) (omega arith) (omega arith) (omega arith) (omega arith) (omega arith)
+
+-- the word of a short id writes it
+word_writes : (id : Bytes) → AreBytes id → length id ≤ 7 → bytes_in (word_of id) ≡ id
+unfolding bytes_of four_from
+word_writes [] h m = written 0 0 0 0 0 0 0 0 0 refl refl refl refl refl refl refl refl
+word_writes (a ∷ []) h m = three_written 1 a a a (h 0) (h 0) (h 0)
+word_writes (a ∷ b ∷ []) h m = three_written 2 a b b (h 0) (h 1) (h 1)
+word_writes (a ∷ b ∷ c ∷ []) h m = three_written 3 a b c (h 0) (h 1) (h 2)
+word_writes (a ∷ b ∷ c ∷ d ∷ []) h m = seven_written 4 a b c d a b c d (h 0) (h 1) (h 2) (h 3) (h 0) (h 1) (h 2) (h 3)
+word_writes (a ∷ b ∷ c ∷ d ∷ e ∷ []) h m = seven_written 5 a b c d b c d e (h 0) (h 1) (h 2) (h 3) (h 1) (h 2) (h 3) (h 4)
+word_writes (a ∷ b ∷ c ∷ d ∷ e ∷ f ∷ []) h m = seven_written 6 a b c d c d e f (h 0) (h 1) (h 2) (h 3) (h 2) (h 3) (h 4) (h 5)
+word_writes (a ∷ b ∷ c ∷ d ∷ e ∷ f ∷ g ∷ []) h m = seven_written 7 a b c d d e f g (h 0) (h 1) (h 2) (h 3) (h 3) (h 4) (h 5) (h 6)
+word_writes (a ∷ b ∷ c ∷ d ∷ e ∷ f ∷ g ∷ i ∷ id) h m = absurd (omega arith)
+
+-- so it is the id of its word
+pub id_in-word : (longer : List Bytes) (id : Bytes) → AreBytes id → length id ≤ 7 → id_in longer (word_of id) ≡ id
+unfolding id_in
+id_in-word longer id b m =
+    let below : word_of id < place_word 0 = omega (arith, bytes_below id b) in
+    rw (lt-ltb (word_of id) (place_word 0) below) (word_writes id b m)
+
+-- the id of a place
+id_in-place : (longer : List Bytes) (place : ℕ) → id_in longer (place_word place) ≡ get_or longer place []
+unfolding id_in
+id_in-place longer place =
+    let past : nat_lt (place_word place) (place_word 0) ≡ false = grind (arith, nat_tests) in
+    let at : place_word place - place_word 0 ≡ place = omega arith in
+    rw (past, at) refl
+
+-- The longer id at the end is that of the place after the others. Other words are ids as before.
+pub id_in-last : (longer : List Bytes) (x : Bytes) → id_in (longer ++ x ∷ []) (place_word (length longer)) ≡ x
+id_in-last longer x = id_in-place (longer ++ x ∷ []) (length longer) ∙ get_or_push longer x [] (length longer) refl
+
+pub id_in-still : (longer : List Bytes) (x : Bytes) (word : ℕ) → ((place : ℕ) → length longer ≤ place → nat_eq (place_word place) word ≡ false) → id_in (longer ++ x ∷ []) word ≡ id_in longer word
+unfolding id_in
+id_in-still longer x word other = ⊎_elim (λ short. rw (lt-ltb word (place_word 0) short) refl)
+    (λ past. ⊎_elim (λ within. rw (get_or_append_left longer (x ∷ []) [] (word - place_word 0) within) refl)
+    (λ over. absurd (let same : nat_eq (place_word (word - place_word 0)) word ≡ true = eq-eqb _ _ (omega arith) in
+    let none : ⊥ = true≢false (sym same ∙ other (word - place_word 0) over) in none))
+    (cases_lt (word - place_word 0) (length longer))) (cases_lt word (place_word 0))

@@ -10,11 +10,10 @@ pub record SeededIds : Type 0 where
   pub ids : List Bytes
   pub seed : Seed
 
--- Words find the short ids, pairs of words those of eight to fifteen bytes, and their bytes the long ones. No later
--- place is among the words.
-pub record FindsIds (ids : List Bytes) (words : List ℕ) (by_pair : ℕ × ℕ → Option ℕ) (by_bytes : Bytes → Option ℕ) : Type 0 where
-  pub as_many : length words ≡ length ids
-  pub unused : (place : ℕ) → length ids ≤ place → list_any (nat_eq (place_word place)) words ≡ false
+-- Words find the short ids, pairs of words those of eight to fifteen bytes, and their bytes the long ones. No place past
+-- the longer ids is among the words.
+pub record FindsIds (ids longer : List Bytes) (words : List ℕ) (by_pair : ℕ × ℕ → Option ℕ) (by_bytes : Bytes → Option ℕ) : Type 0 where
+  pub unused : (place : ℕ) → length longer ≤ place → list_any (nat_eq (place_word place)) words ≡ false
   pub short : (id : Bytes) → AreBytes id → length id ≤ 7 → position (nat_eq (word_of id)) words ≡ position (bytes_eq id) ids
   pub middle : (id : Bytes) → AreBytes id → 7 < length id → length id ≤ 15 → by_pair (pair_of id) ≡ position (bytes_eq id) ids
   pub long : (id : Bytes) → 15 < length id → by_bytes id ≡ position (bytes_eq id) ids

@@ -1,5 +1,6 @@
 -- Ids as numbers: a short id is one word, and a longer one of at most fifteen bytes a pair of them.
-use Rattle.std.specs.Prelude.{◌≡◌, ℕ, ◌+◌, ◌-◌, ◌*◌, ◌/◌, ◌^◌, ◌<◌, Bool, ◌&&◌, length, nat_eq, nat_le, nat_lt, slice_index, if◌then◌else◌}
+use Rattle.std.specs.Prelude.{◌≡◌, ℕ, ◌+◌, ◌-◌, ◌*◌, ◌/◌, ◌%◌, ◌^◌, ◌<◌, Bool, ◌&&◌, nat_eq, nat_le, nat_lt, if◌then◌else◌}
+use Rattle.std.specs.Prelude.{List, [], ◌∷◌, ◌++◌, length, take, drop, map, get_or, slice_index}
 use Rattle.mt_terms.specs.Registration.Ids.{Bytes}
 
 -- whether the numbers of a list are bytes
@@ -29,9 +30,26 @@ word_of id = bytes_of id + length id * 2 ^ 56
 abbrev pub IsWordOf : Bytes → ℕ → Type 0
 IsWordOf id word = (word ≡ word_of id) × AreBytes id
 
--- what stands for the word of a longer id: its place, below a length that no word has
+-- what stands for the word of a longer id: its place among the longer ones, below a length that no word has
 abbrev pub place_word : ℕ → ℕ
 place_word place = place + 8 * 2 ^ 56
+
+-- The bytes of the short id of a word, as many as the length above them says. The first four are the word's lowest. Any
+-- others are the last of the three right below the length.
+unfoldable pub bytes_in : ℕ → Bytes
+bytes_in word =
+    let n = word / 2 ^ 56 in
+    take n (word % 256 ∷ word / 2 ^ 8 % 256 ∷ word / 2 ^ 16 % 256 ∷ word / 2 ^ 24 % 256 ∷ [])
+    ++ drop (7 - n) (word / 2 ^ 32 % 256 ∷ word / 2 ^ 40 % 256 ∷ word / 2 ^ 48 % 256 ∷ [])
+
+-- The id of a word, where these are the longer ids. A word below that of place 0 has its id's bytes. Any other has a
+-- place among the longer ids.
+unfoldable pub id_in : List Bytes → ℕ → Bytes
+id_in longer word = if nat_lt word (place_word 0) then bytes_in word else get_or longer (word - place_word 0) []
+
+-- the ids of words
+abbrev pub ids_in : List Bytes → List ℕ → List Bytes
+ids_in longer words = map (id_in longer) words
 
 -- the pair of an id of eight to fifteen bytes: its first eight, and its last seven below its length
 abbrev pub pair_of : Bytes → ℕ × ℕ

@@ -14,10 +14,11 @@ use std::marker::Model;
 
 /// Ids in the order in which they came, each of them once.
 pub(crate) struct IdSet<'a> {
-    ids: Vec<&'a [u8]>,
-    // The words of the ids, in their order. Nothing else is read to find a short id, so it takes little room in the
-    // caches. A longer id has its place here.
+    // The words of the ids, in their order. Nothing else is kept of a short id, so it takes little room in the caches.
+    // A longer id has its place among the longer ones here.
     words: IndexSet<u64, Seed>,
+    // The ids that have no word, in their order.
+    longer: Vec<&'a [u8]>,
     // The places of ids that have pairs of words.
     pairs: IndexMap<(u64, u64), usize, Seed>,
     // The places of longer ids.
@@ -27,8 +28,8 @@ pub(crate) struct IdSet<'a> {
 impl Drop for IdSet<'_> {
     fn drop(self) {
         let IdSet {
-            ids: _,
             words: _,
+            longer: _,
             pairs: _,
             long: _,
         } = self;
@@ -40,13 +41,17 @@ impl<'a> Model for IdSet<'a> {
     ghost use Rattle.indexmap.specs.IndexMap.{get_by};
     ghost use Rattle.indexmap.specs.IndexSet.{hasher_of};
     ghost use Rattle.mt_ids.specs.Sets.{SeededIds, FindsIds};
-    ghost use Rattle.mt_ids.specs.Words.{pair_eq};
+    ghost use Rattle.mt_ids.specs.Words.{ids_in, pair_eq};
 
     ghost Value = { SeededIds };
 
-    ghost view = { λ s. record { ids = map (λ id. id.now) s.ids.items; seed = hasher_of s.words } };
+    ghost view = { λ s. record {
+      ids = ids_in (map (λ id. id.now) s.longer.items) s.words.keys;
+      seed = hasher_of s.words;
+    } };
 
-    ghost invariant = { λ s. FindsIds (map (λ id. id.now) s.ids.items) s.words.keys
+    ghost invariant = { λ s. let longer = map (λ id. id.now) s.longer.items in
+        FindsIds (ids_in longer s.words.keys) longer s.words.keys
         (λ pair. get_by (pair_eq pair) s.pairs) (λ id. get_by (λ key. bytes_eq id key.now) s.long) };
 }
 
@@ -57,8 +62,8 @@ impl<'a> IdSet<'a> {
         ensures seed { result.seed ≡ seed }
     {
         IdSet {
-            ids: Vec::new(alloc),
             words: IndexSet::with_hasher(alloc, seed),
+            longer: Vec::new(alloc),
             pairs: IndexMap::with_hasher(alloc, seed),
             long: IndexMap::with_hasher(alloc, seed),
         }
@@ -74,8 +79,8 @@ impl<'a> IdSet<'a> {
         ensures seed { IfOk result (λ set. set.seed ≡ seed) }
     {
         Ok(IdSet {
-            ids: Vec::with_capacity(alloc, capacity)?,
             words: IndexSet::with_capacity_and_hasher(alloc, capacity, seed)?,
+            longer: Vec::new(alloc),
             pairs: IndexMap::with_hasher(alloc, seed),
             long: IndexMap::with_hasher(alloc, seed),
         })
@@ -86,7 +91,7 @@ impl<'a> IdSet<'a> {
         ensures len { result ≡ length self.now.ids }
         ensures small { result < 2 ^ 63 }
     {
-        self.ids.len()
+        self.words.len()
     }
 
     /// The place of an id, from 0, if it is one of them.
@@ -121,11 +126,7 @@ impl<'a> IdSet<'a> {
         ensures seed { self.new.seed ≡ self.old.seed }
     {
         if id.len() <= MOST_IN_WORD {
-            self.ids.reserve(1)?;
             let is_new = self.words.insert(word_of(id))?;
-            if is_new {
-                self.ids.push_reserved(id);
-            }
             Ok(is_new)
         } else {
             self.add_longer(id)
@@ -143,16 +144,16 @@ impl<'a> IdSet<'a> {
         if self.longer_place(id).is_some() {
             return Ok(false);
         }
-        let place = self.ids.len();
-        self.ids.reserve(1)?;
+        let place = self.words.len();
+        self.longer.reserve(1)?;
         self.words.reserve(1)?;
         if id.len() <= MOST_IN_PAIR {
             self.pairs.insert(pair_of(id), place)?;
         } else {
             self.long.insert(id, place)?;
         }
-        self.words.insert(place_word(place))?;
-        self.ids.push_reserved(id);
+        self.words.insert(place_word(self.longer.len()))?;
+        self.longer.push_reserved(id);
         Ok(true)
     }
 }

@@ -50,7 +50,7 @@ pub(crate) fn word_of(id: &[u8]) -> u64
     bytes_of(id) | (id.len() as u64) << 56
 }
 
-/// What stands for the word of a longer id: its place, below a length that no word has.
+/// What stands for the word of a longer id: its place among the longer ones, below a length that no word has.
 pub(crate) fn place_word(place: usize) -> u64
     requires { place < 2 ^ 63 }
     ensures { result ≡ place_word place }
