@@ -4,6 +4,7 @@ ghost use Rattle.mt_terms.specs.Market.{applicants};
 
 mod faults;
 mod limits;
+mod long_lists;
 mod markets;
 mod withdrawals;
 

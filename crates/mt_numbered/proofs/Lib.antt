@@ -1,3 +1,4 @@
 pub mod NumberFacts
 pub mod NeighbourFacts
 pub mod PairSteps
+pub mod PieceFacts

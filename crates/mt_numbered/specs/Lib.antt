@@ -1,2 +1,4 @@
 pub mod IdLists
 pub mod Pairs
+pub mod Pieces
+pub mod Places

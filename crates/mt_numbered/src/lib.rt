@@ -4,6 +4,8 @@
 mod duplicates;
 mod numbered;
 mod pairs;
+mod pieces;
 
 pub use numbered::{IdList, Numbered};
 pub use pairs::{FoundPairs, PairList, PairReader};
+pub use pieces::read_id_lists;

@@ -120,7 +120,7 @@ impl<'a, T: Number> Numbered<'a, T> {
     }
 
     /// Adds the new number of the id at a place to the last of these lists, if it has one and the list is kept.
-    fn push_number(
+    pub(crate) fn push_number(
         &self,
         lists: &mut FlatLists<T>,
         kept: bool,

@@ -17,7 +17,7 @@ use mt_drafts::NameLists;
 use mt_id_lists::read_lists;
 use mt_ids::{IdTable, Kinds};
 use mt_market::ChunkedLists;
-use mt_numbered::{Numbered, PairReader};
+use mt_numbered::{Numbered, PairReader, read_id_lists};
 use mt_records::Record;
 use mt_terms::{AppNo, ProgNo};
 use rayon::current_num_threads;
@@ -65,7 +65,7 @@ fn rankings<R: Threads + Sync>(
         (lists_of_programs listed.now)) }
 {
     let lists = listed.of_programs(alloc)?;
-    read_lists(rt, alloc, applicants, lists)
+    read_id_lists(rt, alloc, applicants, lists)
 }
 
 /// The applicants' lists by numbers, if each names programs alone, and none twice.

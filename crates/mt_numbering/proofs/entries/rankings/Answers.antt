@@ -5,4 +5,4 @@ use Rattle.mt_numbered.specs.IdLists.{list_seen}
 use Rattle.mt_numbering.proofs.entries.rankings.Goals as goal
 
 pub returns : goal.returns
-returns g c = IfOk-weaker c.read_lists.result _ _ (λ o reads. all_seen list_seen (ids_stand c.args.applicants.now) (ids_read c.args.applicants.now) _ _ o c.in_ok-lists.ensures reads) c.read_lists.ensures
+returns g c = IfOk-weaker c.read_id_lists.result _ _ (λ o reads. all_seen list_seen (ids_stand c.args.applicants.now) (ids_read c.args.applicants.now) _ _ o c.in_ok-lists.ensures reads) c.read_id_lists.ensures

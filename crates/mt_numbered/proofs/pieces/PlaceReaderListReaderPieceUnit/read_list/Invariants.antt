@@ -1,0 +1,14 @@
+use Rattle.std.proofs.Common.{◌≡◌, ◌<◌, ◌++◌, length, map, take}
+use Rattle.std.specs.List.{list_all}
+use Rattle.mt_lists.specs.Rows.{fields_left}
+use Rattle.mt_terms.specs.Registration.Ids.{has_id, number_of}
+use Rattle.mt_id_lists.specs.Reading.{with_more}
+use Rattle.mt_numbered.specs.Pieces.{piece_read, piece_stands}
+use Rattle.mt_numbered.proofs.pieces.PlaceReaderListReaderPieceUnit.read_list.Given as goal
+
+abbrev pub invariant-loop-id : goal.invariant-loop-id
+invariant-loop-id g l = record {
+  begun : 0 < length l.lists;
+  stands : list_all (has_id l.self) (take l.left (fields_left l.id-iterator)) ≡ piece_stands l.self l.piece;
+  rest : with_more l.lists (map (number_of l.self) (take l.left (fields_left l.id-iterator))) ≡ l.fn.lists ++ piece_read l.self l.piece;
+}
