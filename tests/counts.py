@@ -15,7 +15,7 @@ CHECKS = {
     "cli PROGRAM": 8236,
     "cli": 8239,
     "controls": 53,
-    "edits_apply": 802,
+    "edits_apply": 803,
     "explain": 10098,
     "faults": 20037,
     "linear": 45,
@@ -34,7 +34,7 @@ CHECKS = {
     "words": 423,
     "ways": 1670,
     "wrong_bodies --gate": 35,
-    "wrong_bodies --release": 66,
+    "wrong_bodies --release": 67,
 }
 # The sweeps of the forms of tests/memory, by the number of workers and whether all requests from one on are refused.
 SWEEPS = {

@@ -1,4 +1,2 @@
 pub mod NumberFacts
-pub mod NeighbourFacts
-pub mod PairSteps
 pub mod PieceFacts

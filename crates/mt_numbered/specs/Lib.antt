@@ -1,4 +1,3 @@
 pub mod IdLists
-pub mod Pairs
 pub mod Pieces
 pub mod Places

@@ -47,7 +47,7 @@ pub struct IdList<'r, 'a> {
 }
 
 /// Begins a list at the end of these, if it is kept.
-pub(crate) fn begin_list<T>(lists: &mut FlatLists<T>, kept: bool) -> Result<(), AllocError>
+pub fn begin_list<T>(lists: &mut FlatLists<T>, kept: bool) -> Result<(), AllocError>
     ensures { OnOk result (lists.new ≡ lists.old ++ (if kept then [] ∷ [] else [])) }
 {
     if kept {
@@ -94,14 +94,14 @@ impl<'a, T: Number> Numbered<'a, T> {
     }
 
     /// The place of an id, from 0, if it is one of these.
-    pub(crate) fn place(&self, id: &[u8]) -> Option<usize>
+    pub fn place(&self, id: &[u8]) -> Option<usize>
         ensures { result ≡ position (bytes_eq id.now) self.now.ids }
     {
         self.ids.number(id)
     }
 
     /// The new number of the id at a place, if it has one.
-    pub(crate) fn number_at(&self, place: usize) -> Option<T>
+    pub fn number_at(&self, place: usize) -> Option<T>
         requires { place < length self.now.ids }
         ensures { result ≡ slice_index_or self.now.numbers place None }
     {

@@ -7,7 +7,7 @@ use Rattle.mt_terms.specs.Registration.Records.{Record, ProgramRecord, Applicant
 use Rattle.mt_id_lists.specs.Numbering.{Numbering}
 use Rattle.mt_id_lists.specs.Reading.{ids_stand}
 use Rattle.mt_numbering.specs.Numbered.{program_lists, applicant_lists, couple_lists}
-use Rattle.mt_numbered.specs.Pairs.{pairs_once, pairs_stand_in}
+use Rattle.mt_pair_lists.specs.Pairs.{pairs_once, pairs_stand_in}
 
 module _ (n : Numbering ℕ) (stays : Record → Bool) where
   pub rankings_stand : (rs : List Record) → list_all (ranking_stands n.ids) rs ≡ list_all (ids_stand n) (program_lists stays rs)

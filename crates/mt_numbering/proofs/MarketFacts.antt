@@ -32,7 +32,7 @@ use Rattle.mt_drafts.specs.Names.{single_flags, AreNames}
 use Rattle.mt_numbering.specs.Markets.{AreIdsOfRecords, AreEntries, GivesEntries, Remains}
 use Rattle.mt_numbering.specs.Numbered.{program_lists, applicant_lists, couple_lists, ranking_in, lists_by, members_in, pairs_in}
 use Rattle.mt_numbering.specs.Reading.{lists_stand, members_by}
-use Rattle.mt_numbered.specs.Pairs.{pairs_by, pairs_read, pairs_stand_in}
+use Rattle.mt_pair_lists.specs.Pairs.{pairs_by, pairs_read, pairs_stand_in}
 use Rattle.mt_id_lists.specs.Numbering.{Numbering, number_by, numbers_by}
 use Rattle.mt_id_lists.specs.Reading.{ids_read, ids_stand, ReadsAll}
 use Rattle.mt_numbering.specs.Registered.{is_registered}
@@ -42,7 +42,7 @@ use Rattle.mt_numbering.specs.declared.entries.ByApplicants.{ByApplicants}
 use Rattle.mt_numbering.specs.declared.entries.ByPrograms.{ByPrograms}
 use Rattle.mt_numbering.proofs.EntryFacts.{rankings_stand, choices_stand, couples_stand}
 use Rattle.mt_records.proofs.FieldFacts.{right_fails}
-use Rattle.mt_numbered.proofs.PairSteps.{all_only}
+use Rattle.mt_pair_lists.proofs.PairSteps.{all_only}
 
 -- there is a flag for each applicant whether it is a single
 pub length-single_flags : (rs : List Record) → length (single_flags rs) ≡ length (applicant_ids rs)

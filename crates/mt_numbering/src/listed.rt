@@ -2,12 +2,13 @@
 ghost use Rattle.std.specs.Prelude.{◌≡◌, ◌++◌, ◌∷◌, [], map, IfOk, OnOk};
 ghost use Rattle.mt_numbered.specs.IdLists.{ids_in, list_seen};
 ghost use Rattle.mt_numbering.specs.Reading.{lists_of_applicants, lists_of_couples, lists_of_programs};
-ghost use Rattle.mt_numbered.specs.Pairs.{pair_list_seen};
+ghost use Rattle.mt_pair_lists.specs.Pairs.{pair_list_seen};
 
 use crate::withdrawals::stays;
 use mt_ids::Kinds;
 use mt_lists::Fields;
-use mt_numbered::{IdList, PairList};
+use mt_numbered::IdList;
+use mt_pair_lists::PairList;
 use mt_records::{Record, push};
 use std::alloc::{AllocError, Global};
 

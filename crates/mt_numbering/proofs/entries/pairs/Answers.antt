@@ -1,6 +1,6 @@
 use Rattle.std.proofs.lemmas.Result.{IfOk-weaker}
 use Rattle.mt_id_lists.proofs.ReadingSteps.{all_seen}
-use Rattle.mt_numbered.specs.Pairs.{pair_list_seen, pairs_stand_in, pairs_read}
+use Rattle.mt_pair_lists.specs.Pairs.{pair_list_seen, pairs_stand_in, pairs_read}
 use Rattle.mt_numbering.proofs.entries.pairs.Goals as goal
 
 pub returns : goal.returns

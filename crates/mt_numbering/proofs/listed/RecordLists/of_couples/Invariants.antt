@@ -2,7 +2,7 @@ use Rattle.std.proofs.Common.{◌≡◌, ◌++◌, drop, map}
 use Rattle.mt_records.specs.Records.{all_seen}
 use Rattle.mt_numbering.specs.Numbered.{couple_lists}
 use Rattle.mt_numbering.specs.Reading.{lists_of_couples}
-use Rattle.mt_numbered.specs.Pairs.{pair_list_seen}
+use Rattle.mt_pair_lists.specs.Pairs.{pair_list_seen}
 use Rattle.mt_numbering.specs.Withdrawals.{stays_after}
 use Rattle.mt_numbering.proofs.listed.RecordLists.of_couples.Given as goal
 

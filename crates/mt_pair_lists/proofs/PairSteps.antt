@@ -14,10 +14,10 @@ use Rattle.mt_terms.specs.Registration.Ids.{Bytes, has_id, number_of, all_differ
 use Rattle.mt_terms.specs.Registration.Records.{IdPair}
 use Rattle.mt_terms.specs.Registration.Passes.{is_same_pair}
 use Rattle.mt_terms.specs.Registration.Numbering.{is_none_or_in, names_only, pair_by_number}
-use Rattle.mt_numbered.specs.Pairs.{pair_in}
+use Rattle.mt_pair_lists.specs.Pairs.{pair_in}
 use Rattle.mt_id_lists.specs.Numbering.{Numbering}
 use Rattle.mt_id_lists.specs.Reading.{with_more, with_kept}
-use Rattle.mt_numbered.specs.Pairs.{pairs_by, pairs_read, pairs_stand_in, ReadsPairs}
+use Rattle.mt_pair_lists.specs.Pairs.{pairs_by, pairs_read, pairs_stand_in, ReadsPairs}
 use Rattle.mt_id_lists.specs.Reading.{ReadsOne}
 use Rattle.mt_id_lists.proofs.ListFacts.{with_more-begun}
 use Rattle.mt_id_lists.proofs.ReadingSteps.{both}

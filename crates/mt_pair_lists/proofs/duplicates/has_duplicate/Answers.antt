@@ -1,6 +1,6 @@
 use Rattle.std.proofs.Common.{not, sym, ap, ◌∙◌}
-use Rattle.mt_numbered.proofs.NeighbourFacts.{differ_in_any_order}
-use Rattle.mt_numbered.proofs.duplicates.has_duplicate.Goals as goal
+use Rattle.mt_pair_lists.proofs.NeighbourFacts.{differ_in_any_order}
+use Rattle.mt_pair_lists.proofs.duplicates.has_duplicate.Goals as goal
 
 pub returns : goal.returns
 returns g c =

@@ -5,13 +5,13 @@ ghost use Rattle.mt_draft_laws.specs.Faultless.{is_allowed};
 ghost use Rattle.mt_draft_laws.specs.Staying.{new_place, new_pair};
 ghost use Rattle.mt_records.specs.Fields.{pairs_left};
 ghost use Rattle.mt_id_lists.specs.Reading.{with_kept};
-ghost use Rattle.mt_numbered.specs.Pairs.{place_in, pair_in};
-ghost use Rattle.mt_numbered.specs.Pairs.{ReadsPairs};
+ghost use Rattle.mt_pair_lists.specs.Pairs.{place_in, pair_in};
+ghost use Rattle.mt_pair_lists.specs.Pairs.{ReadsPairs};
 
 use crate::duplicates::has_duplicate;
-use crate::numbered::{Numbered, begin_list};
 use mt_flat::FlatLists;
 use mt_id_lists::ListReader;
+use mt_numbered::{Numbered, begin_list};
 use mt_records::Pairs;
 use mt_terms::ProgNo;
 use std::alloc::{AllocError, Global};
@@ -154,7 +154,7 @@ impl<'n, 'a> PairReader<'n, 'a> {
 impl<'n, 'a, 'l> ListReader<PairList<'l>, FoundPairs> for PairReader<'n, 'a> {
     ghost use Rattle.std.specs.Prelude.{◌*◌, length, ⊤};
     ghost use Rattle.mt_records.specs.Fields.{pairs_left};
-    ghost use Rattle.mt_numbered.specs.Pairs.{pair_list_seen, pairs_read, pairs_stand_in};
+    ghost use Rattle.mt_pair_lists.specs.Pairs.{pair_list_seen, pairs_read, pairs_stand_in};
 
     type Item = (Option<ProgNo>, Option<ProgNo>);
 

@@ -1,7 +1,7 @@
 use Rattle.std.proofs.Common.{not, sym, ap, ◌∙◌, arith}
 use Rattle.std.proofs.lemmas.Grind.{elements}
-use Rattle.mt_numbered.proofs.NeighbourFacts.{same_before, differ_in_order}
-use Rattle.mt_numbered.proofs.duplicates.has_equal_neighbours.Goals as goal
+use Rattle.mt_pair_lists.proofs.NeighbourFacts.{same_before, differ_in_order}
+use Rattle.mt_pair_lists.proofs.duplicates.has_equal_neighbours.Goals as goal
 
 pub returns-then-eq : goal.returns-then-eq
 returns-then-eq g c =

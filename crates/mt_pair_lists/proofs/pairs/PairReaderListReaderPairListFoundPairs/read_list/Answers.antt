@@ -2,9 +2,9 @@ use Rattle.std.proofs.Common.{refl}
 use Rattle.std.proofs.lemmas.Result.{IfOk-weaker}
 use Rattle.mt_records.specs.Fields.{pairs_left}
 use Rattle.mt_id_lists.proofs.ReadingSteps.{one_seen}
-use Rattle.mt_numbered.specs.Pairs.{pair_list_seen, pairs_read, pairs_stand_in}
-use Rattle.mt_numbered.proofs.PairSteps.{pairs_are_added}
-use Rattle.mt_numbered.proofs.pairs.PairReaderListReaderPairListFoundPairs.read_list.Goals as goal
+use Rattle.mt_pair_lists.specs.Pairs.{pair_list_seen, pairs_read, pairs_stand_in}
+use Rattle.mt_pair_lists.proofs.PairSteps.{pairs_are_added}
+use Rattle.mt_pair_lists.proofs.pairs.PairReaderListReaderPairListFoundPairs.read_list.Goals as goal
 
 pub returns-clause-reads : goal.returns-clause-reads
 returns-clause-reads c =

@@ -1,6 +1,6 @@
 use Rattle.std.proofs.Common.{refl, sym, ◌∙◌}
 use Rattle.mt_ids.proofs.IdFacts.{found_id, missing_id}
-use Rattle.mt_numbered.proofs.pairs.place.Goals as goal
+use Rattle.mt_pair_lists.proofs.pairs.place.Goals as goal
 
 pub returns-in_err-place : goal.returns-in_err-place
 returns-in_err-place c =

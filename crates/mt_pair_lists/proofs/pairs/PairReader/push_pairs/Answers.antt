@@ -9,9 +9,9 @@ use Rattle.mt_terms.specs.Registration.Numbering.{pair_by_number}
 use Rattle.mt_terms.specs.Registration.Records.{IdPair}
 use Rattle.mt_records.specs.Fields.{pairs_left}
 use Rattle.mt_id_lists.specs.Reading.{with_kept}
-use Rattle.mt_numbered.specs.Pairs.{pairs_by}
-use Rattle.mt_numbered.proofs.PairSteps.{found_pair, is_same_numbers, no_pairs-more, numbers-more, pairs_by-more, pairs_are_read}
-use Rattle.mt_numbered.proofs.pairs.PairReader.push_pairs.Goals as goal
+use Rattle.mt_pair_lists.specs.Pairs.{pairs_by}
+use Rattle.mt_pair_lists.proofs.PairSteps.{found_pair, is_same_numbers, no_pairs-more, numbers-more, pairs_by-more, pairs_are_read}
+use Rattle.mt_pair_lists.proofs.pairs.PairReader.push_pairs.Goals as goal
 
 pub push_pair-requires-clause-first : goal.push_pair-requires-clause-first
 push_pair-requires-clause-first c =

@@ -4,8 +4,8 @@ use Rattle.mt_draft_laws.specs.Faultless.{pair_stands}
 use Rattle.mt_terms.specs.Registration.Numbering.{pair_by_number}
 use Rattle.mt_records.specs.Fields.{pairs_left}
 use Rattle.mt_id_lists.specs.Reading.{with_kept}
-use Rattle.mt_numbered.specs.Pairs.{pairs_by}
-use Rattle.mt_numbered.proofs.pairs.PairReader.push_pairs.Given as goal
+use Rattle.mt_pair_lists.specs.Pairs.{pairs_by}
+use Rattle.mt_pair_lists.proofs.pairs.PairReader.push_pairs.Given as goal
 
 abbrev pub invariant-loop-first : goal.invariant-loop-first
 invariant-loop-first l = record {

@@ -11,7 +11,7 @@ use Rattle.mt_terms.specs.Registration.Numbering.{is_none_or_in, pair_by_number}
 use Rattle.mt_records.specs.Fields.{pairs_left}
 use Rattle.mt_id_lists.specs.Numbering.{Numbering}
 use Rattle.mt_id_lists.specs.Reading.{with_kept}
-use Rattle.mt_numbered.specs.declared.pairs.PairList.{PairList}
+use Rattle.mt_pair_lists.specs.declared.pairs.PairList.{PairList}
 
 -- where a pair sends a member, by number, if it names none but these programs
 abbrev pub place_in : List Bytes → Option Bytes → Option (Option ℕ)

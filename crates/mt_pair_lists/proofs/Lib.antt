@@ -1,0 +1,2 @@
+pub mod NeighbourFacts
+pub mod PairSteps
