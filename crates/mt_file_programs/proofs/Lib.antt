@@ -1,1 +1,4 @@
+pub mod ExitFacts
+pub mod WordFacts
+pub mod AskedFacts
 pub mod CodeFacts

@@ -1,1 +1,4 @@
+pub mod CommandLine
+pub mod Unasked
+pub mod Exit
 pub mod Status

@@ -1,12 +1,19 @@
-//! What the programs over two files share: the line for want of memory, the statuses of the codes of files, and why a file
-//! couldn't be opened. They also share what is written for words that ask for no run.
+//! What the programs over files share: their arguments and the files that these name, the line for want of memory, the
+//! statuses of the codes of files, and why a file couldn't be opened. They also share what is written for words that ask
+//! for no run.
 #![tactic(auto)]
 
+mod arguments;
+mod files;
+mod matching;
 mod memory;
 mod status;
 mod unasked;
 mod unopened;
 
+pub use arguments::{MARKET_HELP, MATCH_HELP, file_arg, flag_arg, two_files_command};
+pub use files::{TwoFiles, named_files, two_files};
+pub use matching::{is_given, matches_of};
 pub use memory::no_memory;
 pub use status::exit_status;
 pub use unasked::end_unasked;

@@ -2,8 +2,8 @@
 use Rattle.std.proofs.Common.{◌≡◌, ◌∙◌, List, [], None, Result, Ok, Err, ap, subst, inl, inr}
 use Rattle.std.specs.Prelude.{IfErr, IfOk, codes}
 use Rattle.clap.specs.Words.{App, Row, Text, fault_of, first_of, matches_of}
-use Rattle.mt_program.specs.CommandLine.{AreRefused, NameNoFilesIn}
-use Rattle.mt_program.specs.Unasked.{IsMisuseBy, IsUnaskedBy}
+use Rattle.mt_file_programs.specs.CommandLine.{AreRefused, NameNoFilesIn}
+use Rattle.mt_file_programs.specs.Unasked.{IsMisuseBy, IsUnaskedBy}
 use Rattle.mt_program.specs.declared.unasked.Unasked.{Unasked}
 use Rattle.mt_program.specs.declared.unasked.Unasked.TheVariants.{Memory, Misuse, Told}
 use Rattle.mt_nrcheck.specs.CommandLine.{AreMisuse, AskForCheck, AskForFaults, IsAskedBy, NameNoFiles, nrcheck}

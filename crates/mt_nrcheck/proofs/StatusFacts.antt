@@ -1,7 +1,7 @@
 -- What the status of a check says of the words, by its code.
 use Rattle.std.proofs.Common.{ℕ, Bool, true, false, [], ◌∷◌, ◌≡◌, List, Option, arith, refl}
 use Rattle.clap.specs.Words.{Text, fault_of}
-use Rattle.mt_program.proofs.ExitFacts.{AreOwn, exit_of_run, files_code}
+use Rattle.mt_file_programs.proofs.ExitFacts.{AreOwn, exit_of_run, files_code}
 use Rattle.mt_file_programs.proofs.CodeFacts.{refused_code}
 use Rattle.mt_files.specs.declared.source.Source.TheVariants.{Market}
 use Rattle.mt_nrcheck.specs.CommandLine.{AreMisuse, nrcheck}

@@ -2,7 +2,8 @@
 -- words ask for.
 use Rattle.std.specs.Prelude.{◌≡◌, ◌⊎◌, true, false, List, [], Some, None, codes, string_bytes}
 use Rattle.clap.specs.Words.{App, Row, Text, fault_of, first_of, matches_of, with_rule}
-use Rattle.mt_program.specs.CommandLine.{AreRefused, NameFilesIn, file_rule, flag_rule, is_given_in, plain_app}
+use Rattle.mt_file_programs.specs.CommandLine.{AreRefused, NameFilesIn, file_rule, flag_rule, is_given_in}
+use Rattle.mt_program.specs.CommandLine.{plain_app}
 use Rattle.mt_nrcheck.specs.declared.command.Request.{Request}
 use Rattle.mt_nrcheck.specs.declared.command.Request.TheVariants.{Check, Faults}
 

@@ -5,7 +5,7 @@ use Rattle.mt_check.specs.Answer.{Answers}
 use Rattle.mt_fault_text.specs.Answer as faults
 use Rattle.mt_findings.specs.Answer as full
 use Rattle.mt_report.specs.Status.{status_of}
-use Rattle.mt_program.specs.Exit.{IsExitOf}
+use Rattle.mt_file_programs.specs.Exit.{IsExitOf}
 use Rattle.mt_nrcheck.specs.CommandLine.{AreMisuse, nrcheck}
 
 -- The program checked a match: what it did to its writer answers what its readers had left, and it ends with the status

@@ -9,14 +9,15 @@ ghost use Rattle.mt_nrcheck.specs.CommandLine.{
   nrcheck,
 };
 ghost use Rattle.mt_program.specs.CommandLine.{texts_of};
-ghost use Rattle.mt_program.specs.Unasked.{IsMisuseBy, IsUnaskedBy};
+ghost use Rattle.mt_file_programs.specs.Unasked.{IsMisuseBy, IsUnaskedBy};
 ghost use Rattle.std.specs.Prelude.{codes};
 
 use clap::{ArgMatches, Command};
-use mt_program::{
-    MARKET_HELP, MATCH_HELP, TwoFiles, Unasked, after_match_records, file_arg, flag_arg, is_given,
-    matches_of, misuse, plain_command, two_files,
+use mt_file_programs::{
+    MARKET_HELP, MATCH_HELP, TwoFiles, after_match_records, file_arg, flag_arg, is_given,
+    matches_of, two_files,
 };
+use mt_program::{Unasked, misuse, plain_command};
 use std::alloc::{AllocError, Global};
 
 const ABOUT: &str = "\

@@ -1,8 +1,8 @@
 -- What the status of an explanation says of the words, by its code.
 use Rattle.std.proofs.Common.{◌≡◌, ◌≢◌, ℕ, ◌<◌, Bool, [], ◌∷◌, List, Option, refl, sym, subst, inl, inr, arith}
 use Rattle.clap.specs.Words.{Text, fault_of}
-use Rattle.mt_program.specs.CommandLine.{AreMisuse}
-use Rattle.mt_program.proofs.ExitFacts.{AreOwn, IsFilesCode, exit_of_run, files_code}
+use Rattle.mt_file_programs.specs.CommandLine.{AreMisuse}
+use Rattle.mt_file_programs.proofs.ExitFacts.{AreOwn, IsFilesCode, exit_of_run, files_code}
 use Rattle.mt_file_programs.proofs.CodeFacts.{refused_code}
 use Rattle.mt_files.proofs.NameFacts.{codes_large}
 use Rattle.mt_explained.specs.Headline.{IsRefusal}

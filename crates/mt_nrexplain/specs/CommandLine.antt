@@ -3,7 +3,7 @@
 use Rattle.std.specs.Prelude.{◌≡◌, List, [], Some, codes, map, string_bytes, unwrap_or}
 use Rattle.clap.specs.Words.{App, Row, Rule, Text, all_of, matches_of, new_rule, with_rule}
 use Rattle.clap.specs.declared.builder.action.ArgAction.TheVariants.{Append}
-use Rattle.mt_program.specs.CommandLine.{NameFiles, flag_rule, is_given_in, two_files_app}
+use Rattle.mt_file_programs.specs.CommandLine.{NameFiles, flag_rule, is_given_in, two_files_app}
 use Rattle.mt_nrexplain.specs.declared.command.Request.{Request}
 
 -- `[ID..]`, any number of ids

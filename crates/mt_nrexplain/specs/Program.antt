@@ -3,8 +3,8 @@ use Rattle.std.specs.Prelude.{◌≡◌, ℕ, Bool, List, [], ◌∷◌, Option}
 use Rattle.clap.specs.Words.{Text}
 use Rattle.mt_explained.specs.Answer.{Answers}
 use Rattle.mt_report.specs.Status.{status_of}
-use Rattle.mt_program.specs.CommandLine.{AreMisuse}
-use Rattle.mt_program.specs.Exit.{IsExitOf}
+use Rattle.mt_file_programs.specs.CommandLine.{AreMisuse}
+use Rattle.mt_file_programs.specs.Exit.{IsExitOf}
 use Rattle.mt_nrexplain.specs.CommandLine.{nrexplain}
 
 -- The program explained a match: what it did to its writer answers what its readers had left, and it ends with the status

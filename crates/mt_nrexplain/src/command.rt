@@ -1,13 +1,15 @@
 ghost use Rattle.std.specs.Prelude.{◌≡◌, IfErr, IfOk, false, map, string_bytes};
 ghost use Rattle.clap.specs.Words.{app_of, found_of, rows_of, rule_of};
 ghost use Rattle.mt_nrexplain.specs.CommandLine.{IsAskedBy, id_rule, ids_in, nrexplain};
-ghost use Rattle.mt_program.specs.CommandLine.{AreMisuse, texts_of};
-ghost use Rattle.mt_program.specs.Unasked.{IsUnaskedBy};
+ghost use Rattle.mt_file_programs.specs.CommandLine.{AreMisuse};
+ghost use Rattle.mt_program.specs.CommandLine.{texts_of};
+ghost use Rattle.mt_file_programs.specs.Unasked.{IsUnaskedBy};
 
 use clap::{Arg, ArgAction, ArgMatches, Command};
-use mt_program::{
-    TwoFiles, Unasked, after_match_records, flag_arg, is_given, named_files, two_files_command,
+use mt_file_programs::{
+    TwoFiles, after_match_records, flag_arg, is_given, named_files, two_files_command,
 };
+use mt_program::Unasked;
 use std::alloc::{AllocError, Global};
 
 const ABOUT: &str = "\

@@ -2,7 +2,7 @@
 -- words ask for.
 use Rattle.std.specs.Prelude.{◌≡◌, Bool, List, codes, if◌then◌else◌, string_bytes}
 use Rattle.clap.specs.Words.{App, Text, matches_of, with_rule}
-use Rattle.mt_program.specs.CommandLine.{NameFiles, flag_rule, is_given_in, two_files_app}
+use Rattle.mt_file_programs.specs.CommandLine.{NameFiles, flag_rule, is_given_in, two_files_app}
 use Rattle.mt_reported.specs.declared.form.Form.{Form}
 use Rattle.mt_reported.specs.declared.form.Form.TheVariants.{Lines, Page}
 use Rattle.mt_nrreport.specs.declared.command.Request.{Request}

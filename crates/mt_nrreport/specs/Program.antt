@@ -4,8 +4,8 @@ use Rattle.clap.specs.Words.{Text}
 use Rattle.mt_reported.specs.Answer.{Answers}
 use Rattle.mt_reported.specs.declared.form.Form.{Form}
 use Rattle.mt_report.specs.Status.{status_of}
-use Rattle.mt_program.specs.CommandLine.{AreMisuse}
-use Rattle.mt_program.specs.Exit.{IsExitOf}
+use Rattle.mt_file_programs.specs.CommandLine.{AreMisuse}
+use Rattle.mt_file_programs.specs.Exit.{IsExitOf}
 use Rattle.mt_nrreport.specs.CommandLine.{nrreport}
 
 -- The program reported on a match in this form: what it did to its writer answers what its readers had left, and it ends with the status

@@ -1,13 +1,15 @@
 ghost use Rattle.std.specs.Prelude.{◌≡◌, IfErr, IfOk};
 ghost use Rattle.clap.specs.Words.{app_of};
 ghost use Rattle.mt_nrreport.specs.CommandLine.{IsAskedBy, form_by, nrreport};
-ghost use Rattle.mt_program.specs.CommandLine.{AreMisuse, texts_of};
-ghost use Rattle.mt_program.specs.Unasked.{IsUnaskedBy};
+ghost use Rattle.mt_file_programs.specs.CommandLine.{AreMisuse};
+ghost use Rattle.mt_program.specs.CommandLine.{texts_of};
+ghost use Rattle.mt_file_programs.specs.Unasked.{IsUnaskedBy};
 
 use clap::Command;
-use mt_program::{
-    TwoFiles, Unasked, after_match_records, flag_arg, is_given, named_files, two_files_command,
+use mt_file_programs::{
+    TwoFiles, after_match_records, flag_arg, is_given, named_files, two_files_command,
 };
+use mt_program::Unasked;
 use mt_reported::Form;
 use std::alloc::{AllocError, Global};
 

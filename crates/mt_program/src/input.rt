@@ -1,6 +1,6 @@
 ghost use Rattle.std.specs.Prelude.{◌≡◌, None};
 
-use crate::files::is_standard;
+use crate::paths::is_standard;
 use std::fs::File;
 use std::io::{self, Error, Read};
 

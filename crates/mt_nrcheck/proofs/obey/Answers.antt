@@ -1,5 +1,5 @@
 use Rattle.mt_program.specs.CommandLine.{texts_of}
-use Rattle.mt_program.proofs.ExitFacts.{exit_of_unasked}
+use Rattle.mt_file_programs.proofs.ExitFacts.{exit_of_unasked}
 use Rattle.mt_nrcheck.specs.CommandLine.{AreMisuse, nrcheck}
 use Rattle.mt_nrcheck.proofs.StatusFacts.{own}
 use Rattle.mt_nrcheck.proofs.obey.Goals as goal

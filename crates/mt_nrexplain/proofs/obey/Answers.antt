@@ -1,5 +1,6 @@
-use Rattle.mt_program.specs.CommandLine.{AreMisuse, texts_of}
-use Rattle.mt_program.proofs.ExitFacts.{exit_of_unasked}
+use Rattle.mt_file_programs.specs.CommandLine.{AreMisuse}
+use Rattle.mt_program.specs.CommandLine.{texts_of}
+use Rattle.mt_file_programs.proofs.ExitFacts.{exit_of_unasked}
 use Rattle.mt_nrexplain.specs.CommandLine.{nrexplain}
 use Rattle.mt_nrexplain.proofs.StatusFacts.{exit_of_explanation, own}
 use Rattle.mt_nrexplain.proofs.obey.Goals as goal

@@ -1,4 +1,4 @@
-use Rattle.mt_program.proofs.ExitFacts.{status_by_told}
+use Rattle.mt_file_programs.proofs.ExitFacts.{status_by_told}
 use Rattle.mt_file_programs.proofs.unasked.end_unasked.Goals as goal
 
 pub returns : goal.returns

@@ -2,8 +2,8 @@ use Rattle.std.proofs.Common.{◌≡◌, ◌∙◌, None, Some, ap, codes, refl,
 use Rattle.clap.proofs.OnLiterals.{clap_on_literals}
 use Rattle.clap.specs.Words.{app_of, found_of, is_simple_and_free, rows_of}
 use Rattle.mt_program.specs.CommandLine.{texts_of}
-use Rattle.mt_program.specs.Unasked.{IsUnaskedBy}
-use Rattle.mt_program.proofs.WordFacts.{named_in, passed_on, unasked_by_memory}
+use Rattle.mt_file_programs.specs.Unasked.{IsUnaskedBy}
+use Rattle.mt_file_programs.proofs.WordFacts.{named_in, passed_on, unasked_by_memory}
 use Rattle.mt_nrcheck.specs.CommandLine.{AreMisuse, nrcheck}
 use Rattle.mt_nrcheck.proofs.AskedFacts.{check_named, faults_named, refused, unnamed}
 use Rattle.mt_nrcheck.proofs.command.asked.Goals as goal

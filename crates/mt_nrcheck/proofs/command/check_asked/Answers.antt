@@ -1,6 +1,6 @@
-use Rattle.mt_program.proofs.WordFacts.{passed_on}
+use Rattle.mt_file_programs.proofs.WordFacts.{passed_on}
 use Rattle.clap.specs.Words.{found_of, rows_of}
-use Rattle.mt_program.specs.Unasked.{IsMisuseBy}
+use Rattle.mt_file_programs.specs.Unasked.{IsMisuseBy}
 use Rattle.mt_nrcheck.specs.CommandLine.{NameNoFiles}
 use Rattle.mt_nrcheck.proofs.AskedFacts.{misuse_of_files}
 use Rattle.mt_nrcheck.proofs.command.check_asked.Goals as goal

@@ -1,6 +1,6 @@
 use Rattle.std.proofs.Common.{◌∙◌, sym, ap, Some, None, inl, codes}
 use Rattle.clap.specs.Words.{found_of, rows_of}
-use Rattle.mt_program.proofs.WordFacts.{misuse_by, named_in}
+use Rattle.mt_file_programs.proofs.WordFacts.{misuse_by, named_in}
 use Rattle.mt_nrcheck.specs.CommandLine.{NameNoFiles}
 use Rattle.mt_nrcheck.proofs.command.faults_asked.Goals as goal
 

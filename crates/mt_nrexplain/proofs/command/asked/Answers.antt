@@ -1,10 +1,11 @@
 use Rattle.std.proofs.Common.{◌≡◌, ◌∙◌, ap, codes, refl, true}
 use Rattle.clap.proofs.OnLiterals.{clap_on_literals}
 use Rattle.clap.specs.Words.{app_of, is_simple_and_free}
-use Rattle.mt_program.specs.CommandLine.{AreMisuse, is_given_in, texts_of}
-use Rattle.mt_program.specs.Unasked.{IsUnaskedBy}
-use Rattle.mt_program.proofs.AskedFacts.{files_are, rows_are, unasked_is}
-use Rattle.mt_program.proofs.WordFacts.{passed_on, unasked_by_memory}
+use Rattle.mt_file_programs.specs.CommandLine.{AreMisuse, is_given_in}
+use Rattle.mt_program.specs.CommandLine.{texts_of}
+use Rattle.mt_file_programs.specs.Unasked.{IsUnaskedBy}
+use Rattle.mt_file_programs.proofs.AskedFacts.{files_are, rows_are, unasked_is}
+use Rattle.mt_file_programs.proofs.WordFacts.{passed_on, unasked_by_memory}
 use Rattle.mt_nrexplain.specs.CommandLine.{ids_in, nrexplain}
 use Rattle.mt_nrexplain.proofs.command.asked.Goals as goal
 

@@ -1,8 +1,8 @@
 use Rattle.std.proofs.Common.{◌∙◌, Some, None, ap, sym}
 use Rattle.clap.specs.Words.{found_of}
-use Rattle.mt_program.specs.CommandLine.{says_true}
-use Rattle.mt_program.proofs.WordFacts.{named_in}
-use Rattle.mt_program.proofs.matching.is_given.Goals as goal
+use Rattle.mt_file_programs.specs.CommandLine.{says_true}
+use Rattle.mt_file_programs.proofs.WordFacts.{named_in}
+use Rattle.mt_file_programs.proofs.matching.is_given.Goals as goal
 
 pub returns-in-Some : goal.returns-in-Some
 returns-in-Some c =

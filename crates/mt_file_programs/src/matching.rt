@@ -2,12 +2,13 @@ ghost use Rattle.std.specs.Prelude.{◌≡◌, ◌≢◌, [], IfErr, IfOk, true}
 ghost use Rattle.clap.specs.Kinds.{FailsBy};
 ghost use Rattle.clap.specs.Words.{app_of, fault_of, found_of, is_simple_and_free, kind_of, matches_of, rows_of};
 ghost use Rattle.clap.specs.declared.error.kind.ErrorKind.TheVariants.{DisplayHelp, DisplayVersion, OutOfMemory};
-ghost use Rattle.mt_program.specs.CommandLine.{AreRefused, is_given_in, texts_of};
-ghost use Rattle.mt_program.specs.Unasked.{IsEndOf, IsUnaskedBy};
+ghost use Rattle.mt_file_programs.specs.CommandLine.{AreRefused, is_given_in};
+ghost use Rattle.mt_file_programs.specs.Unasked.{IsEndOf, IsUnaskedBy};
+ghost use Rattle.mt_program.specs.CommandLine.{texts_of};
 
-use crate::unasked::Unasked;
 use clap::error::ErrorKind;
 use clap::{ArgMatches, Command, Error};
+use mt_program::Unasked;
 use std::alloc::Global;
 
 /// What a command reads of its words, by `clap`'s definition of a simple command. The error is `clap`'s text of help, of

@@ -3,8 +3,8 @@ use Rattle.clap.specs.Words.{app_of, is_simple}
 use Rattle.clap.specs.Faults.{is_free_app}
 use Rattle.clap.specs.Simple.{built}
 use Rattle.mt_program.specs.CommandLine.{texts_of}
-use Rattle.mt_program.proofs.WordFacts.{unasked_by_kind}
-use Rattle.mt_program.proofs.matching.matches_of.Goals as goal
+use Rattle.mt_file_programs.proofs.WordFacts.{unasked_by_kind}
+use Rattle.mt_file_programs.proofs.matching.matches_of.Goals as goal
 
 pub returns-in-Ok-clause-rows : goal.returns-in-Ok-clause-rows
 returns-in-Ok-clause-rows c =

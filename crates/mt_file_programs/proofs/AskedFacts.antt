@@ -1,8 +1,8 @@
 -- What a program's words ask for: the facts of a command that was made, as facts of its definition.
 use Rattle.std.proofs.Common.{◌≡◌, ◌∙◌, List, ap, subst}
 use Rattle.clap.specs.Words.{App, Row, Text, matches_of}
-use Rattle.mt_program.specs.CommandLine.{AreMisuse, NameFiles}
-use Rattle.mt_program.specs.Unasked.{IsUnaskedBy}
+use Rattle.mt_file_programs.specs.CommandLine.{AreMisuse, NameFiles}
+use Rattle.mt_file_programs.specs.Unasked.{IsUnaskedBy}
 use Rattle.mt_program.specs.declared.unasked.Unasked.{Unasked}
 
 module _ (app made : App) (is : made ≡ app) (words : List Text) where

@@ -8,9 +8,10 @@ use Rattle.clap.specs.Words.{App, Text, fault_of}
 use Rattle.mt_terms.specs.Lists.{has}
 use Rattle.mt_report.specs.Status.{status_of}
 use Rattle.mt_report.specs.declared.drain.Drain.{Drain}
-use Rattle.mt_program.specs.CommandLine.{AskToBeTold}
-use Rattle.mt_program.specs.Exit.{IsExitOf}
-use Rattle.mt_program.specs.Unasked.{IsStatusFor, IsToldFor, IsUnaskedBy}
+use Rattle.mt_file_programs.specs.CommandLine.{AskToBeTold}
+use Rattle.mt_file_programs.specs.Exit.{IsExitOf}
+use Rattle.mt_file_programs.specs.Unasked.{IsUnaskedBy}
+use Rattle.mt_program.specs.Unasked.{IsStatusFor, IsToldFor}
 use Rattle.mt_program.specs.declared.unasked.Unasked.{Unasked}
 use Rattle.mt_program.specs.declared.unasked.Unasked.TheVariants.{Told, Misuse, Memory}
 

@@ -9,8 +9,10 @@ use Rattle.clap.proofs.WalkLemmas.{first_value-rows}
 use Rattle.clap.specs.declared.parser.matches.Found.{Found}
 use Rattle.clap.specs.declared.error.Error.{Error}
 use Rattle.clap.specs.declared.error.kind.ErrorKind.{ErrorKind}
-use Rattle.mt_program.specs.CommandLine.{AreMisuse, AreRefused, NameNoFilesIn, is_standard}
-use Rattle.mt_program.specs.Unasked.{IsEndOf, IsMisuseBy, IsMisuseWith, IsUnaskedBy}
+use Rattle.mt_file_programs.specs.CommandLine.{AreMisuse, AreRefused, NameNoFilesIn}
+use Rattle.mt_program.specs.CommandLine.{is_standard}
+use Rattle.mt_file_programs.specs.Unasked.{IsEndOf, IsMisuseBy, IsUnaskedBy}
+use Rattle.mt_program.specs.Unasked.{IsMisuseWith}
 use Rattle.mt_program.specs.declared.unasked.Unasked.{Unasked}
 use Rattle.mt_program.specs.declared.unasked.Unasked.TheVariants.{Told, Misuse, Memory}
 

@@ -2,7 +2,7 @@
 use Rattle.std.specs.Prelude.{◌≡◌, ◌⊎◌, ℕ, List, [], ◌∷◌, IsTrue}
 use Rattle.clap.specs.Words.{App, Text, fault_of}
 use Rattle.mt_terms.specs.Lists.{has}
-use Rattle.mt_program.specs.CommandLine.{AskToBeTold}
+use Rattle.mt_file_programs.specs.CommandLine.{AskToBeTold}
 
 -- Status 64 says that the words are misuse. A status of the program's own says that the command takes them. Status 0
 -- says that it takes them, or that they ask for help or the version. Statuses 4 and 5 say nothing of them.

@@ -1,20 +1,12 @@
 ghost use Rattle.std.specs.Prelude.{◌≡◌, ◌&&◌, IfErr, IfOk, string_bytes, true};
-ghost use Rattle.std.specs.Option.{option_copied};
 ghost use Rattle.clap.specs.Words.{app_of, found_of, is_simple_and_free, matches_of, rows_of};
-ghost use Rattle.mt_program.specs.CommandLine.{
-  AreMisuse,
-  NameFiles,
-  NameFilesIn,
-  NameNoFilesIn,
-  is_standard,
-  path_by,
-  texts_of,
-};
-ghost use Rattle.mt_program.specs.Unasked.{IsMisuseBy, IsUnaskedBy};
+ghost use Rattle.mt_file_programs.specs.CommandLine.{AreMisuse, NameFiles, NameFilesIn, NameNoFilesIn};
+ghost use Rattle.mt_file_programs.specs.Unasked.{IsMisuseBy, IsUnaskedBy};
+ghost use Rattle.mt_program.specs.CommandLine.{is_standard, texts_of};
 
 use crate::matching::matches_of;
-use crate::unasked::{Unasked, misuse};
 use clap::{ArgMatches, Command};
+use mt_program::{Unasked, is_standard, misuse};
 use std::alloc::{AllocError, Global};
 
 /// The words for the two files of a program. `-` means standard input, for one of them at most.
@@ -31,23 +23,6 @@ const NO_FILES: &str = "error: two files are needed, MARKET and MATCH\n";
 
 /// What is written if both files are standard input.
 const ONE_INPUT: &str = "error: MARKET and MATCH can't both be standard input (-)\n";
-
-/// Whether a word for a file means standard input.
-pub fn is_standard(word: &str) -> bool
-    ensures { result ≡ is_standard word.now }
-{
-    word == "-"
-}
-
-/// The path of the file that a word means, or nothing for standard input.
-pub fn path_by(word: Option<&str>) -> Option<&str>
-    ensures { option_copied result ≡ path_by (option_copied word.entry) }
-{
-    match word {
-        Some(word) if !is_standard(word) => Some(word),
-        _ => None,
-    }
-}
 
 /// Whether both of two words for files mean standard input.
 fn are_standard(market: &str, matched: &str) -> bool

@@ -1,9 +1,9 @@
 ghost use Rattle.std.specs.Prelude.{◌≡◌, IfOk, false};
 ghost use Rattle.clap.specs.Words.{app_of, rule_of};
-ghost use Rattle.mt_program.specs.CommandLine.{file_rule, flag_rule, two_files_app};
+ghost use Rattle.mt_file_programs.specs.CommandLine.{file_rule, flag_rule, two_files_app};
 
-use crate::command::plain_command;
 use clap::{Arg, ArgAction, Command};
+use mt_program::plain_command;
 use std::alloc::{AllocError, Global};
 
 /// The help of MARKET.

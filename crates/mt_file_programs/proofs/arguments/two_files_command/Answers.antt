@@ -1,7 +1,7 @@
 use Rattle.std.proofs.Common.{◌∙◌, ap₂}
 use Rattle.std.proofs.lemmas.Result.{IfOk-weaker}
 use Rattle.clap.specs.Words.{with_rule}
-use Rattle.mt_program.proofs.arguments.two_files_command.Goals as goal
+use Rattle.mt_file_programs.proofs.arguments.two_files_command.Goals as goal
 
 pub returns : goal.returns
 returns c =

@@ -1,9 +1,10 @@
 use Rattle.std.proofs.Common.{List, string_bytes, subst}
 use Rattle.clap.specs.Words.{Row, app_of, found_of, rows_of}
-use Rattle.mt_program.specs.CommandLine.{AreMisuse, NameFilesIn, texts_of}
-use Rattle.mt_program.specs.Unasked.{IsUnaskedBy}
-use Rattle.mt_program.proofs.WordFacts.{misuse_by_named, misuse_by_refusal, passed_on}
-use Rattle.mt_program.proofs.files.named_files.Goals as goal
+use Rattle.mt_file_programs.specs.CommandLine.{AreMisuse, NameFilesIn}
+use Rattle.mt_program.specs.CommandLine.{texts_of}
+use Rattle.mt_file_programs.specs.Unasked.{IsUnaskedBy}
+use Rattle.mt_file_programs.proofs.WordFacts.{misuse_by_named, misuse_by_refusal, passed_on}
+use Rattle.mt_file_programs.proofs.files.named_files.Goals as goal
 
 pub returns-in_err-matches-clause-unasked : goal.returns-in_err-matches-clause-unasked
 returns-in_err-matches-clause-unasked c =

@@ -1,9 +1,10 @@
 use Rattle.std.proofs.Common.{◌∙◌, sym, ap, Some, None, inl, inr, codes}
 use Rattle.std.proofs.lemmas.Bool.{and_parts}
 use Rattle.clap.specs.Words.{found_of, rows_of}
-use Rattle.mt_program.specs.CommandLine.{NameNoFilesIn, is_standard}
-use Rattle.mt_program.proofs.WordFacts.{misuse_by, named_in, standard_is}
-use Rattle.mt_program.proofs.files.two_files.Goals as goal
+use Rattle.mt_file_programs.specs.CommandLine.{NameNoFilesIn}
+use Rattle.mt_program.specs.CommandLine.{is_standard}
+use Rattle.mt_file_programs.proofs.WordFacts.{misuse_by, named_in, standard_is}
+use Rattle.mt_file_programs.proofs.files.two_files.Goals as goal
 
 pub returns-in_default-clause-unasked : goal.returns-in_default-clause-unasked
 returns-in_default-clause-unasked c =

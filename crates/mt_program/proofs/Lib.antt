@@ -1,3 +1,0 @@
-pub mod ExitFacts
-pub mod WordFacts
-pub mod AskedFacts
