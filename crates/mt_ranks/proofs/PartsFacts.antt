@@ -1,12 +1,13 @@
 -- Rank tables in parts, each of a block of applicants.
-use Rattle.std.proofs.Common.{◌≡◌, ℕ, zero, suc, ◌+◌, ◌-◌, ◌*◌, ◌<◌, ◌≤◌, ◌^◌, List, [], ◌∷◌, map, length, get_or, min, sum, drop, slice_range, sym, ap, subst, ◌∙◌, inl, inr, arith}
+use Rattle.std.proofs.Common.{◌≡◌, ℕ, zero, suc, ◌+◌, ◌-◌, ◌*◌, ◌<◌, ◌≤◌, ◌^◌, ◌++◌, List, [], ◌∷◌, map, length, get_or, min, sum, drop, slice_range, sym, ap, subst, ◌∙◌, inl, inr, arith}
 use Rattle.std.specs.Global.{Global}
-use Rattle.std.specs.List.{AllZip, Contains, range_with_len}
+use Rattle.std.specs.List.{range_with_len}
 use Rattle.std.specs.Prelude.{Result, Ok, Err, IfOk, MatchResult, Vec}
 use Rattle.std.specs.declared.alloc.AllocError.{AllocError}
 use Rattle.std.proofs.lemmas.Bool.{cases_lt}
 use Rattle.std.proofs.lemmas.Bool.Decides.{nat_tests}
-use Rattle.std.proofs.lemmas.List.{get_or_past, get_or-take, get_or-drop}
+use Rattle.std.proofs.Math.Seq.{get_or-append_seam}
+use Rattle.std.proofs.lemmas.List.{get_or_append_left, get_or_past, get_or-take, get_or-drop, length-append}
 use Rattle.std.proofs.lemmas.List.FromFn.{get_or-map-range_with_len, length-map-range_with_len, fill_by_all}
 use Rattle.std.proofs.lemmas.List.Sums.{sum_by-take-le, sum_by-take-drop}
 use Rattle.rayon.specs.Numbers.{nat_range}
@@ -14,7 +15,7 @@ use Rattle.mt_terms.specs.Lists.{below}
 use Rattle.mt_terms.specs.Market.{Market, applicants, list_of}
 use Rattle.mt_terms.specs.WellFormed.{IsWellFormed}
 use Rattle.mt_ranks.specs.Entries.{own_entries, rankings_of, entries_among, times_listed, all_times, ListedTimes, AscendFrom}
-use Rattle.mt_ranks.specs.Parts.{block_first, block_size, block_of, place_of, part_of, live_among, row_among, IsPart, AreParts, HaveApplicant}
+use Rattle.mt_ranks.specs.Parts.{block_first, block_size, block_of, place_of, part_of, live_among, row_among, IsPart, AreFirstParts, AreParts, HaveApplicant}
 use Rattle.mt_ranks.specs.Rows.{Filling, row_of}
 use Rattle.mt_ranks.specs.declared.entries.Live.{Live}
 use Rattle.mt_ranks.specs.declared.tables.Part.{Part}
@@ -51,33 +52,17 @@ block_ascends m rows from size k w h =
       | inr past ↦ rw (h, get_or_past (map own (below size)) k [] (omega (arith, length-map-range_with_len own 0 size))) tt
     ]
 
--- Below, threads make a part for each number of a range.
-part_made : (P : ℕ → Part → Type 0) (low n : ℕ) (made : List Part) → AllZip (λ k (r : Result Part AllocError). IfOk r (P k)) (range_with_len low n) (map Ok made)
-    → (k : ℕ) → k < n → (k < length made) × P (low + k) (part_of made k)
-part_made P low zero made each k w = absurd (omega arith)
-part_made P low (suc n) [] each k w = absurd each
-part_made P low (suc n) (part ∷ made) each zero w = let same : low ≡ low + 0 = omega arith in (omega arith, subst (λ j. P j part) same each.0)
-part_made P low (suc n) (part ∷ made) each (suc k) w =
-    let same : low + 1 + k ≡ low + suc k = omega arith in
-    let rest = part_made P (low + 1) n made each.1 k (omega arith) in
-    (omega (arith, rest.0), subst (λ j. P j (part_of made k)) same rest.1)
-
-pub parts_by_threads : (m : Market) (size start end n : ℕ) (ns : List ℕ) (made : List (Result Part AllocError)) (r : Result (Vec Part Global) AllocError)
-    → start ≡ 0 → end ≡ n → n ≡ 4 → ns ≡ nat_range start end
-    → AllZip (λ k (r : Result Part AllocError). IfOk r (IsPart m size k)) ns made
-    → MatchResult r (λ v. (vs : List Part) × (made ≡ map Ok vs) × (v.items ≡ vs)) (λ e. Contains made (Err e))
-    → IfOk r (λ v. AreParts m size v.items)
-parts_by_threads m size start end n ns made (Err e) from to enough are each is = tt
-parts_by_threads m size start end n ns made (Ok v) from to enough are each is =
-    let Made : List ℕ → List (Result Part AllocError) → Type 0 = λ ks rs. AllZip (λ k (r : Result Part AllocError). IfOk r (IsPart m size k)) ks rs in
-    let whole : end - start ≡ n = omega arith in
-    let range : ns ≡ range_with_len 0 n = are ∙ ap (λ a. range_with_len a (end - start)) from ∙ ap (range_with_len 0) whole in
-    let all : Made (range_with_len 0 n) (map Ok v.items) = subst (λ rs. Made (range_with_len 0 n) rs) (is.1 ∙ ap (map Ok) (sym is.2)) (subst (λ ks. Made ks made) range each) in
+-- a part after the first ones
+pub part_pushed : (m : Market) (size count : ℕ) (parts : List Part) (part : Part) → AreFirstParts m size count parts → IsPart m size count part → AreFirstParts m size (count + 1) (parts ++ part ∷ [])
+part_pushed m size count parts part are is =
     record {
-      enough = λ number h. (part_made (IsPart m size) 0 n v.items all number (omega (arith, h, enough))).0;
-      each = λ number h.
-          let same : 0 + number ≡ number = omega arith in
-          subst (λ j. IsPart m size j (part_of v.items number)) same (part_made (IsPart m size) 0 n v.items all number (omega (arith, h, enough))).1;
+      len = omega (arith, length-append parts (part ∷ []), are.len);
+      each = λ number below. elim (cases_lt number count) as (λ o. IsPart m size number (part_of (parts ++ part ∷ []) number)) [
+        | inl within ↦ rw (get_or_append_left parts (part ∷ []) (part_of [] 0) number (omega (arith, are.len))) (are.each number within)
+        | inr past ↦
+            let same : number ≡ count = omega arith in
+            rw (same, ← are.len, get_or-append_seam parts part [] (part_of [] 0)) (rw are.len is)
+      ];
     }
 
 -- An applicant's block is one of the four, begins at the applicant or before it, and ends after it.
@@ -127,7 +112,7 @@ module _ (m : Market) (size : ℕ) (parts : List Part) (are : AreParts m size pa
       let rows = (part_of parts number).rows in
       record {
         small = small;
-        part = are.enough number (block_below size a);
+        part = omega (arith, are.len, block_below size a);
         within = block_before size a;
         list = omega (arith, in_block, ap length own_part.lists, length-map-range_with_len (λ k. entries_among (row_of rows k) (list_of m (first + k))) 0 (block_size size number (applicants m)));
         row = omega (arith, in_block, ap length own_part.rows, length-map-range_with_len (λ k. own_entries m (first + k)) 0 (block_size size number (applicants m)));

@@ -25,10 +25,14 @@ pub record IsPart (m : Market) (size number : ℕ) (part : Part) : Type 0 where
 abbrev pub part_of : List Part → ℕ → Part
 part_of parts number = slice_index_or parts number (record { rows = empty_rows []; lists = [] })
 
+-- the first parts of a market's tables, as many as `count`
+pub record AreFirstParts (m : Market) (size count : ℕ) (parts : List Part) : Type 0 where
+  pub len : length parts ≡ count
+  pub each : (number : ℕ) → number < count → IsPart m size number (part_of parts number)
+
 -- all parts of a market's tables
-pub record AreParts (m : Market) (size : ℕ) (parts : List Part) : Type 0 where
-  pub enough : (number : ℕ) → number < BLOCKS → number < length parts
-  pub each : (number : ℕ) → number < BLOCKS → IsPart m size number (part_of parts number)
+abbrev pub AreParts : Market → ℕ → List Part → Type 0
+AreParts m size parts = AreFirstParts m size BLOCKS parts
 
 -- Below, an applicant is looked up in its block: the number of the block, and the applicant's place there.
 abbrev pub block_of : ℕ → ℕ → ℕ

@@ -4,7 +4,7 @@ ghost use Rattle.mt_terms.specs.Market.{applicants, program_of};
 ghost use Rattle.mt_ranks.specs.Entries.{AscendFrom, all_times};
 ghost use Rattle.mt_ranks.specs.Ranked.{IsRank, IsEntry, IsRanked, is_single_agent, rank_of, ranked_list, ranked_of, ranking_of};
 ghost use Rattle.mt_ranks.specs.Stamps.{ProgramsWithin};
-ghost use Rattle.mt_ranks.specs.Parts.{live_among, row_among, AreParts, HaveApplicant, IsPart};
+ghost use Rattle.mt_ranks.specs.Parts.{live_among, row_among, AreFirstParts, AreParts, HaveApplicant, IsPart};
 ghost use Rattle.mt_ranks.specs.Rows.{listed_rows, row_of};
 
 use crate::blocks::{BLOCKS, Block, block_of, block_size};
@@ -15,8 +15,7 @@ use crate::stamps::RankStamp;
 use crate::transpose::{listed, of_block, transpose};
 use mt_market::{FlatLists, Roster};
 use mt_terms::{Agent, AppNo, ProgNo};
-use rayon::current_num_threads;
-use rayon::prelude::*;
+use rayon::{current_num_threads, join};
 use std::alloc::{AllocError, Global};
 use std::marker::Model;
 use std::thread::Threads;
@@ -115,17 +114,70 @@ fn part_numbered(
     Ok(Part { rows, lists })
 }
 
-/// How many blocks a thread makes at least: all of them if the programs list the applicants with few entries in all.
-/// `times` says how often they list each.
-fn least_blocks(times: &[usize]) -> usize {
+/// Whether the programs list the applicants with enough entries for threads. `times` says how often they list each.
+fn are_many(times: &[usize]) -> bool {
     let mut entries: usize = 0;
     for count in times {
         entries = entries.saturating_add(*count);
     }
-    if entries < FEWEST { BLOCKS } else { 1 }
+    entries >= FEWEST
 }
 
-/// The tables of all blocks of this size, made side by side.
+/// The tables of all blocks of this size, made in turn.
+fn parts_in_turn(
+    alloc: Global,
+    roster: &Roster,
+    times: &[usize],
+    size: usize,
+) -> Result<Vec<Part>, AllocError>
+    requires times { times.now ≡ all_times roster.now.market }
+    requires few { sum times.now < 2 ^ 64 }
+    ensures { IfOk result (λ v. AreParts roster.now.market size v.items) }
+{
+    let mut parts = Vec::new(alloc);
+    for number in 0..BLOCKS {
+        parts.push(part_numbered(alloc, roster, times, size, number)?)?;
+    }
+    Ok(parts)
+}
+
+/// The tables of the first `count` blocks of this size. This thread starts one for each block but the first, which it
+/// makes itself. No new thread starts another: Linux may keep that one waiting on the processor of its starter.
+#[cycle(parts)]
+fn parts_below<R: Threads + Sync>(
+    rt: &R,
+    alloc: Global,
+    roster: &Roster,
+    times: &[usize],
+    size: usize,
+    count: usize,
+) -> Result<Vec<Part>, AllocError>
+    requires some { 0 < count }
+    requires times { times.now ≡ all_times roster.now.market }
+    requires few { sum times.now < 2 ^ 64 }
+    ensures { IfOk result (λ v. AreFirstParts roster.now.market size count v.items) }
+{
+    let last = count - 1;
+    if last == 0 {
+        let mut parts = Vec::new(alloc);
+        parts.push(part_numbered(alloc, roster, times, size, last)?)?;
+        return Ok(parts);
+    }
+    let one = || -> Result<Part, AllocError>
+        requires { (times.now ≡ all_times roster.now.market) × (sum times.now < 2 ^ 64) }
+        ensures { IfOk result (IsPart roster.entry.now.market size last) }
+    { part_numbered(alloc, roster, times, size, last) };
+    let others = || -> Result<Vec<Part>, AllocError>
+        requires { (0 < last) × (times.now ≡ all_times roster.now.market) × (sum times.now < 2 ^ 64) }
+        ensures { IfOk result (λ v. AreFirstParts roster.entry.now.market size last v.items) }
+    { parts_below(rt, alloc, roster, times, size, last) };
+    let (part, parts) = join(rt, one, others);
+    let mut parts = parts?;
+    parts.push(part?)?;
+    Ok(parts)
+}
+
+/// The tables of all blocks of this size, made side by side if the programs' lists are long.
 fn all_parts<R: Threads + Sync>(
     rt: &R,
     alloc: Global,
@@ -135,17 +187,11 @@ fn all_parts<R: Threads + Sync>(
     ensures { IfOk result (λ v. AreParts roster.now.market size v.items) }
 {
     let times = listed(alloc, roster)?;
-    let times = times.as_slice();
-    (0..BLOCKS)
-        .into_par_iter()
-        .with_min_len(least_blocks(times))
-        .map(
-            |number: usize| -> Result<Part, AllocError>
-                requires { (times.now ≡ all_times roster.now.market) × (sum times.now < 2 ^ 64) }
-                ensures { IfOk result (IsPart roster.entry.now.market size number) }
-            { part_numbered(alloc, roster, times, size, number) },
-        )
-        .collect::<Result<Vec<Part>, AllocError>>(rt, alloc)?
+    if are_many(&times) && current_num_threads(rt) > 1 {
+        parts_below(rt, alloc, roster, &times, size, BLOCKS)
+    } else {
+        parts_in_turn(alloc, roster, &times, size)
+    }
 }
 
 /// The live list of an applicant, among the tables of all blocks of this size.
