@@ -2,7 +2,7 @@
 use Rattle.std.specs.Prelude.{◌≡◌, ◌&&◌, Bool, true, false, List, filter, filter_map, flat_map, Option, Some, None, bytes_eq}
 use Rattle.std.specs.List.{list_all}
 use Rattle.mt_draft_laws.specs.Faultless.{ranking_stands, list_stands, pairs_stand}
-use Rattle.mt_terms.specs.Registration.Ids.{all_differ}
+use Rattle.mt_terms.specs.Registration.Ids.{Bytes, all_differ}
 use Rattle.mt_terms.specs.Registration.Records.{Record, OfProgram}
 use Rattle.mt_terms.specs.Registration.Rows.{ids_of, applicant_ids}
 use Rattle.mt_numbering.specs.declared.entries.ByApplicants.{ByApplicants}
@@ -39,3 +39,8 @@ GivesByApplicants stays rs None = applicants_stand rs ≡ false
 abbrev pub GivesByPrograms : Bool → (Record → Bool) → List Record → Option ByPrograms → Type 0
 GivesByPrograms half_pairs stays rs (Some b) = (programs_stand half_pairs rs ≡ true) × AreByPrograms stays rs b
 GivesByPrograms half_pairs stays rs None = programs_stand half_pairs rs ≡ false
+
+-- These ids differ, and the table has them in their order; or two are the same.
+abbrev pub IsTableOf : List Bytes → Option (List Bytes) → Type 0
+IsTableOf names (Some ids) = (all_differ bytes_eq names ≡ true) × (ids ≡ names)
+IsTableOf names None = all_differ bytes_eq names ≡ false

@@ -8,7 +8,7 @@ ghost use Rattle.mt_numbering.specs.Reading.{lists_of_applicants, lists_of_coupl
 ghost use Rattle.mt_pair_lists.specs.Pairs.{pairs_read, pairs_stand_in};
 ghost use Rattle.mt_drafts.specs.Names.{AreNames};
 ghost use Rattle.mt_numbering.specs.Markets.{GivesEntries};
-ghost use Rattle.mt_numbering.specs.Sides.{GivesByApplicants, GivesByPrograms};
+ghost use Rattle.mt_numbering.specs.Sides.{GivesByApplicants, GivesByPrograms, IsTableOf};
 ghost use Rattle.mt_numbering.specs.Withdrawals.{stays_after, HaveFewApplicants, HaveFewPrograms};
 
 use crate::listed::RecordLists;
@@ -186,8 +186,7 @@ fn by_programs<'n, R: Threads + Sync>(
     }))
 }
 
-/// What records say by applicants, and what they say by programs, side by side if there are many records and more than
-/// one processor.
+/// What records say by applicants, and what they say by programs, side by side.
 fn by_both<'n, R: Threads + Sync>(
     rt: &R,
     alloc: Global,
@@ -219,12 +218,62 @@ fn by_both<'n, R: Threads + Sync>(
         ensures { IfOk result (GivesByPrograms half_pairs (stays_after listed.entry.now.withdrawn.now)
             (all_seen listed.entry.now.records.now)) }
     { by_programs(rt, alloc, names, half_pairs, listed) };
+    join(rt, one, other)
+}
+
+/// The table of the couples' ids, and what records say by applicants and by programs.
+type ByKind<'n> = (
+    Result<Option<IdTable<'n>>, AllocError>,
+    (
+        Result<Option<ByApplicants<'n>>, AllocError>,
+        Result<Option<ByPrograms<'n>>, AllocError>,
+    ),
+);
+
+/// The table of the couples' ids, if they differ, and what records say by applicants and by programs: side by side if
+/// there are many records and more than one processor.
+fn by_kind<'n, R: Threads + Sync>(
+    rt: &R,
+    alloc: Global,
+    names: &'n NameLists,
+    half_pairs: bool,
+    listed: &RecordLists<'_, '_>,
+) -> ByKind<'n>
+    requires applicants { names.now.applicants ≡ applicant_ids (all_seen listed.now.records.now) }
+    requires programs { names.now.programs ≡ ids_of OfProgram (all_seen listed.now.records.now) }
+    requires few_applicants { HaveFewApplicants (all_seen listed.now.records.now) }
+    requires few_programs { HaveFewPrograms (all_seen listed.now.records.now) }
+    ensures couples { IfOk result.0 (IsTableOf names.now.couples) }
+    ensures applicants { IfOk result.1.0 (GivesByApplicants (stays_after listed.now.withdrawn.now)
+        (all_seen listed.now.records.now)) }
+    ensures programs { IfOk result.1.1 (GivesByPrograms half_pairs (stays_after listed.now.withdrawn.now)
+        (all_seen listed.now.records.now)) }
+{
+    let couples = || -> Result<Option<IdTable<'_>>, AllocError>
+        ensures { IfOk result (IsTableOf names.entry.now.couples) }
+    { IdTable::of(alloc, &names.couples) };
+    let both = || -> (
+        Result<Option<ByApplicants<'_>>, AllocError>,
+        Result<Option<ByPrograms<'_>>, AllocError>,
+    )
+        requires { (names.now.applicants ≡ applicant_ids (all_seen listed.now.records.now))
+            × (names.now.programs ≡ ids_of OfProgram (all_seen listed.now.records.now))
+            × HaveFewApplicants (all_seen listed.now.records.now)
+            × HaveFewPrograms (all_seen listed.now.records.now) }
+        ensures { IfOk result.0 (GivesByApplicants (stays_after listed.entry.now.withdrawn.now)
+            (all_seen listed.entry.now.records.now))
+            × IfOk result.1 (GivesByPrograms half_pairs (stays_after listed.entry.now.withdrawn.now)
+            (all_seen listed.entry.now.records.now)) }
+    { by_both(rt, alloc, names, half_pairs, listed) };
     if listed.records.len() < FEWEST || current_num_threads(rt) == 1 {
+        let couples = couples();
         // The table of programs is made first, as it is the smaller one, and is kept while the other lists are read.
-        let second = other();
-        (one(), second)
+        let programs = by_programs(rt, alloc, names, half_pairs, listed);
+        (couples, (by_applicants(rt, alloc, names, listed), programs))
     } else {
-        join(rt, one, other)
+        // Linux may keep the first thread that a young process starts waiting on the processor of its starter. So the
+        // couples' ids have that thread, as they are the fewest.
+        join(rt, couples, both)
     }
 }
 
@@ -244,10 +293,10 @@ pub(crate) fn read_entries<'n, R: Threads + Sync>(
     ensures { IfOk result (GivesEntries half_pairs (stays_after withdrawn.now) (all_seen records.now)) }
 {
     let listed = RecordLists { withdrawn, records };
-    let Some(couples) = IdTable::of(alloc, &names.couples)? else {
+    let (couples, (by_applicants, by_programs)) = by_kind(rt, alloc, names, half_pairs, &listed);
+    let Some(couples) = couples? else {
         return Ok(None);
     };
-    let (by_applicants, by_programs) = by_both(rt, alloc, names, half_pairs, &listed);
     let Some(by_applicants) = by_applicants? else {
         return Ok(None);
     };
